@@ -1,0 +1,9 @@
+pub mod Classes
+pub mod Lists
+pub mod ModeLemmas
+pub mod RightsLemmas
+pub mod TextLemmas
+pub mod Reading
+pub mod Unmasked
+pub mod Shown
+pub mod Distinct

@@ -1,0 +1,47 @@
+-- Three letters name one set of rights.
+use Rattle.std.proofs.Common.{◌≡◌, ℕ, ◌+◌, ◌<◌, List, ◌∷◌, zero, suc, refl, arith, ap, sym, ◌∙◌}
+use Rattle.std.specs.Prelude.{◌==◌, if◌then◌else◌}
+use Rattle.std.specs.Int.Bits.{and_self}
+use Rattle.std.proofs.lemmas.Nat.{and_comm, and_assoc}
+use Rattle.std.proofs.Common.{true, ◌-◌, eq-eqb}
+use Rattle.sn_acl.specs.declared.modes.Mode.{Mode}
+use Rattle.sn_acl.specs.Modes.{IsWithin, common_mode, mode_without}
+use Rattle.sn_acl.specs.Rights.{permissions_text, contains, common, without}
+
+-- the number of the rights that three letters name
+abbrev rights_in : List ℕ → ℕ
+rights_in (r ∷ w ∷ x ∷ more) = (if r == 114 then 4 else 0) + ((if w == 119 then 2 else 0) + (if x == 120 then 1 else 0))
+rights_in _ = 0
+
+rights_in-text : (p : ℕ) → p < 8 → rights_in (permissions_text p) ≡ p
+rights_in-text zero = λ _. refl
+rights_in-text (suc zero) = λ _. refl
+rights_in-text (suc (suc zero)) = λ _. refl
+rights_in-text (suc (suc (suc zero))) = λ _. refl
+rights_in-text (suc (suc (suc (suc zero)))) = λ _. refl
+rights_in-text (suc (suc (suc (suc (suc zero))))) = λ _. refl
+rights_in-text (suc (suc (suc (suc (suc (suc zero)))))) = λ _. refl
+rights_in-text (suc (suc (suc (suc (suc (suc (suc zero))))))) = λ _. refl
+rights_in-text (suc (suc (suc (suc (suc (suc (suc (suc p)))))))) = λ small. absurd (omega arith)
+
+pub permissions_text-injective : (p q : ℕ) → p < 8 → q < 8 → permissions_text p ≡ permissions_text q → p ≡ q
+permissions_text-injective p q small small' same = sym (rights_in-text p small) ∙ (ap rights_in same ∙ rights_in-text q small')
+
+-- what is in two sets is in each of them, and what is left of a set is in it
+pub common-right : (a b : ℕ) → contains b (common a b) ≡ true
+common-right a b = eq-eqb _ _ (rw (and_comm a b, ← and_assoc a b b, and_self b) refl)
+
+pub common-left : (a b : ℕ) → contains a (common a b) ≡ true
+common-left a b = eq-eqb _ _ (rw (← and_assoc b a a, and_self a) refl)
+
+pub without-left : (a b : ℕ) → contains a (without a b) ≡ true
+without-left a b = common-left a (255 - b)
+
+pub common_mode-right : (a b : Mode) → IsWithin (common_mode a b) b
+common_mode-right a b = record { owner = common-right a.owner b.owner; group = common-right a.group b.group; other = common-right a.other b.other }
+
+pub common_mode-left : (a b : Mode) → IsWithin (common_mode a b) a
+common_mode-left a b = record { owner = common-left a.owner b.owner; group = common-left a.group b.group; other = common-left a.other b.other }
+
+pub mode_without-left : (a b : Mode) → IsWithin (mode_without a b) a
+mode_without-left a b = record { owner = without-left a.owner b.owner; group = without-left a.group b.group; other = without-left a.other b.other }

@@ -1,0 +1,10 @@
+pub mod Rights
+pub mod Entries
+pub mod AccessList
+pub mod Credential
+pub mod Access
+pub mod Modes
+pub mod Matching
+pub mod Inheritance
+pub mod Text
+pub mod Laws

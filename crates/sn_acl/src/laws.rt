@@ -1,0 +1,32 @@
+//! Laws that a reader of acl(5) expects of the definitions. The functions do nothing: their clauses are the laws.
+ghost use Rattle.std.specs.Prelude.{ℕ, ◌≡◌, ◌<◌, List, length};
+ghost use Rattle.sn_acl.specs.declared.entries.Entry.{Entry};
+ghost use Rattle.sn_acl.specs.declared.modes.Mode.{Mode};
+ghost use Rattle.sn_acl.specs.AccessList.{IsValid};
+ghost use Rattle.sn_acl.specs.Credential.{Credential};
+ghost use Rattle.sn_acl.specs.Access.{class_of};
+ghost use Rattle.sn_acl.specs.Laws.{IsOneClass, IsGrantedByMode, IsNarrowedByMask, HasDistinctTags};
+
+/// A caller has one class and only one, which has an entry.
+pub fn class_is_one()
+    ensures one { (cred : Credential) (owner group : ℕ) (entries : List Entry) → IsValid entries → IsOneClass cred owner group entries }
+    ensures filled { (cred : Credential) (owner group : ℕ) (entries : List Entry) → IsValid entries
+        → 0 < length (class_of cred owner group entries).members }
+{}
+
+/// Without named entries, the mode's own bits decide for every caller but the user 0.
+pub fn mode_decides()
+    ensures { (cred : Credential) (owner group : ℕ) (mode : Mode) (want : ℕ) → (cred.uid ≡ 0 → ⊥)
+        → IsGrantedByMode cred owner group mode want }
+{}
+
+/// The MASK never widens what is granted.
+pub fn mask_narrows()
+    ensures { (cred : Credential) (owner group : ℕ) (entries : List Entry) (want : ℕ)
+        → IsNarrowedByMask cred owner group entries want }
+{}
+
+/// No tag stands twice in a valid ACL.
+pub fn tags_are_distinct()
+    ensures { (entries : List Entry) → IsValid entries → HasDistinctTags entries }
+{}

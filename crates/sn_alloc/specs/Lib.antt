@@ -1,0 +1,2 @@
+pub mod BlockAllocator
+pub mod Taking

@@ -1,0 +1,22 @@
+//! The allocator: takes free blocks of a map, one after another.
+//!
+//! A `BlockAllocator` is seen as a `Taking` of `specs/Taking.antt`: the words of the map, the first
+//! block of the data area, the blocks taken so far, where the next search begins, how many words the
+//! searches looked at, and for how many more blocks there is room. A search goes on where the last one
+//! stopped, so no word is looked at twice, and a block is never taken twice. The map stays as it was
+//! given: its words change when the blocks come to be reached by a root.
+//!
+//! ```text
+//! let mut allocator = BlockAllocator::new(alloc, map, 70);
+//! allocator.reserve(2)?;
+//! let block = allocator.take()?;
+//! let (map, taken) = allocator.into_parts();
+//! ```
+#![tactic(auto)]
+
+mod block_allocator;
+
+pub use block_allocator::{BlockAllocator, Full};
+
+#[cfg(test)]
+mod tests;

@@ -1,0 +1,89 @@
+ghost use Rattle.std.specs.Prelude.{◌≡◌};
+ghost use Rattle.sn_bin.specs.Fault.{status_of, fault_of};
+
+use clap::error::ErrorKind;
+use sn_model::{End, MountFault};
+use sn_script::ScriptFault;
+use std::alloc::AllocError;
+use std::io;
+use std::io::Write;
+use thiserror::Error;
+
+/// Why the program ends without having done all that was asked. The text is the line on standard
+/// error, behind `snapfs: `.
+#[derive(Clone, Copy, Debug, PartialEq, Eq, Error)]
+pub enum Fault {
+    #[error("usage")]
+    Usage,
+    #[error(transparent)]
+    Script(ScriptFault),
+    /// The script can't be read, or standard output can't be written.
+    #[error("file")]
+    File,
+    #[error("memory")]
+    Memory,
+    /// The mount found no memory.
+    #[error("M5")]
+    MountMemory,
+}
+
+impl Fault {
+    /// The exit status: 2 for words that are no command, else 1.
+    pub fn status(self) -> u8
+        ensures { result ≡ status_of self }
+    {
+        match self {
+            Fault::Usage => 2,
+            _ => 1,
+        }
+    }
+
+    /// What an end of a run other than a clean one comes to.
+    pub fn of_end(end: End) -> Result<(), Fault>
+        ensures { result ≡ fault_of end }
+    {
+        match end {
+            End::Clean => Ok(()),
+            End::Memory => Err(Fault::Memory),
+            End::Mount(MountFault::Memory) => Err(Fault::MountMemory),
+        }
+    }
+}
+
+/// Writes the fault's line, and gives the exit status, which also holds where the line can't be written.
+pub fn tell<W: Write>(fault: Fault, err: &mut W) -> u8
+    ensures { result ≡ status_of fault }
+{
+    let _ = writeln!(err, "snapfs: {fault}");
+    fault.status()
+}
+
+impl From<AllocError> for Fault {
+    fn from(_error: AllocError) -> Fault {
+        Fault::Memory
+    }
+}
+
+impl From<io::Error> for Fault {
+    fn from(error: io::Error) -> Fault {
+        match error.kind() {
+            io::ErrorKind::OutOfMemory => Fault::Memory,
+            _ => Fault::File,
+        }
+    }
+}
+
+impl From<clap::Error> for Fault {
+    fn from(error: clap::Error) -> Fault {
+        match error.kind() {
+            ErrorKind::OutOfMemory => Fault::Memory,
+            _ => Fault::Usage,
+        }
+    }
+}
+
+impl From<ScriptFault> for Fault {
+    fn from(fault: ScriptFault) -> Fault {
+        Fault::Script(fault)
+    }
+}

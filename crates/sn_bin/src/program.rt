@@ -1,0 +1,73 @@
+ghost use Rattle.std.specs.Prelude.{ℕ, List, ◌≤◌, OnOk};
+ghost use Rattle.std.specs.List.{flat_map};
+ghost use Rattle.std.specs.Io.KnownBytes.{Appends};
+ghost use Rattle.sn_script.specs.Replies.{reply_line};
+ghost use Rattle.sn_bin.specs.Answers.{IsAnswer};
+
+use crate::command::{Task, parse};
+use crate::fault::{Fault, tell};
+use sn_core::run_plain;
+use sn_model::Reply;
+use sn_script::{SCRIPT_MAX, print_replies, read_script};
+use std::alloc::Global;
+use std::convert::AsStr;
+use std::fs;
+use std::io::{Read, Write};
+use std::rt::Files;
+
+/// A script's bytes, and no more than one byte past the most that a script may have.
+fn read_file<R: Files + AllocGlobal>(rt: &R, path: &str) -> Result<Vec<u8>, Fault> {
+    let mut bytes = Vec::new(rt.alloc());
+    fs::open(rt, path)?
+        .take(SCRIPT_MAX as u64 + 1)
+        .read_to_end(&mut bytes)?;
+    Ok(bytes)
+}
+
+fn write_replies<W: Write>(alloc: Global, replies: &[Reply], out: &mut W) -> Result<(), Fault>
+    ensures { OnOk result (Appends (W.contents out.old) (W.contents out.new) (flat_map reply_line replies.now)) }
+{
+    let text = print_replies(alloc, replies)?;
+    out.write_all(text.as_slice())?;
+    out.flush()?;
+    Ok(())
+}
+
+/// Answers a script. The replies are written also where the run doesn't end well, and its fault goes
+/// before one of writing.
+pub fn answer<W: Write>(alloc: Global, script: &[u8], out: &mut W) -> Result<(), Fault>
+    // What is written for a script is what the machine may answer to it, and nothing else.
+    ensures answered { OnOk result ((text : List ℕ) × IsAnswer script.now text × Appends (W.contents out.old) (W.contents out.new) text) }
+{
+    let events = read_script(alloc, script)?;
+    let (replies, end) = run_plain(alloc, events.as_slice());
+    let written = write_replies(alloc, replies.as_slice(), out);
+    Fault::of_end(end)?;
+    written
+}
+
+fn execute<R: Files + AllocGlobal, W: Write, S: AsStr>(
+    rt: &R,
+    words: &[S],
+    out: &mut W,
+) -> Result<(), Fault> {
+    let Task::Run { script, .. } = parse(rt.alloc(), words)?;
+    let script = read_file(rt, script)?;
+    answer(rt.alloc(), script.as_slice(), out)
+}
+
+/// Does what the words ask for, and gives the exit status: 0 where it was done, 2 for words that are no
+/// command, else 1. A fault is told by a line on standard error.
+pub fn program<R: Files + AllocGlobal, W: Write, E: Write, S: AsStr>(
+    rt: &R,
+    words: &[S],
+    out: &mut W,
+    err: &mut E,
+) -> u8
+    ensures { result ≤ 2 }
+{
+    match execute(rt, words, out) {
+        Ok(()) => 0,
+        Err(fault) => tell(fault, err),
+    }
+}

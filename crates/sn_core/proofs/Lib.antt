@@ -1,0 +1,3 @@
+pub mod MapLemmas
+pub mod PlainLemmas
+pub mod StepLemmas

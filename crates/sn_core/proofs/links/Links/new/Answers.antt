@@ -1,0 +1,10 @@
+use Rattle.std.proofs.Common.{rules, refl, ap}
+use Rattle.std.specs.Ordering.{nat_cmp}
+use Rattle.sn_model.specs.Tree.{link_cmp}
+use Rattle.sn_core.specs.Maps.{seen_by}
+use Rattle.sn_core.specs.Plain.{links_of, node_of}
+use Rattle.sn_core.proofs.links.Links.new.Goals as goal
+
+pub returns : goal.returns
+unfolding links_of
+returns c = ap (seen_by link_cmp (λ number. number)) c.new.ensures.empty

@@ -1,0 +1,22 @@
+use Rattle.std.proofs.Common.{rules, refl, ap, sym, ◌∙◌}
+use Rattle.std.specs.Cmp.{nat_cmp_total}
+use Rattle.std.specs.Ordering.{nat_cmp}
+use Rattle.std.specs.Option.{option_map}
+use Rattle.std.proofs.lemmas.Map.Lookups.{exact_unsigned}
+use Rattle.std.proofs.lemmas.Result.{err_from_is_err_and}
+use Rattle.sn_model.specs.Tree.{link_cmp}
+use Rattle.sn_core.specs.Plain.{nodes_of, node_of}
+use Rattle.sn_core.specs.Maps.{seen_by}
+use Rattle.sn_model.proofs.LinkLemmas.{links_total, exact_links}
+use Rattle.sn_core.proofs.MapLemmas.{insert-seen_by}
+use Rattle.sn_core.proofs.nodes.Nodes.insert.Goals as goal
+
+pub returns-in_err-insert-clause-err : goal.returns-in_err-insert-clause-err
+unfolding nodes_of
+returns-in_err-insert-clause-err c =
+    let p = err_from_is_err_and c.from_residual.result c.from_residual.ensures.1 in
+    rw (p.1) (ap (seen_by nat_cmp node_of) c.in_err-insert.ensures.err)
+
+pub returns-clause-ok : goal.returns-clause-ok
+unfolding nodes_of
+returns-clause-ok c = insert-seen_by nat_cmp node_of nat_cmp_total exact_unsigned c.args.self.now.map.entries c.insert.new.self.entries c.args.number c.args.node c.in_ok-insert.ensures.updates.0

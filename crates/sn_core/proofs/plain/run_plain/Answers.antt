@@ -1,0 +1,9 @@
+use Rattle.std.proofs.Common.{subst}
+use Rattle.sn_model.specs.Steps.{Run}
+use Rattle.sn_model.specs.World.{World}
+use Rattle.sn_core.specs.Plain.{world_of}
+use Rattle.sn_core.proofs.plain.run_plain.Goals as goal
+
+pub returns-clause-clean : goal.returns-clause-clean
+returns-clause-clean c = λ _.
+    (world_of c.answer.new.world, subst (λ (w : World). Run w c.args.events.now c.answer.new.replies.items (world_of c.answer.new.world)) c.in-Ok-new.ensures.world c.answer.ensures)

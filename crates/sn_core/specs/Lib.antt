@@ -1,0 +1,4 @@
+pub mod Gives
+pub mod Maps
+pub mod Plain
+pub mod Served

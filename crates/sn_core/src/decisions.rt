@@ -1,0 +1,108 @@
+ghost use Rattle.std.specs.Prelude.{◌≡◌, ◌<◌, IfOk, OnOk, None};
+ghost use Rattle.std.specs.FinMap as map;
+ghost use Rattle.sn_model.specs.Calls.{mkdir_outcome, stat_outcome, new_directory, status_of, number_of};
+ghost use Rattle.sn_model.specs.declared.session.Session.{Session};
+ghost use Rattle.sn_model.specs.Calls.{Makes, Tells};
+ghost use Rattle.sn_model.specs.Tree.{viewed};
+ghost use Rattle.sn_core.specs.Gives.{Gives};
+ghost use Rattle.sn_core.specs.Plain.{IsPlainTree, node_of, tree_of};
+
+use crate::checks::{found, live, not_present, prefix, writable_parent};
+use crate::error::CallError;
+use crate::nodes::Directory;
+use crate::tree::PlainTree;
+use crate::view::PlainView;
+use sn_acl::{Acl, Mode, inherit};
+use sn_model::{Errno, Link, Refusal, Session, Status, Word};
+use sn_walk::{Attributes, Object, Path, attributes_of};
+use std::alloc::Global;
+
+/// A directory that a session makes in a directory.
+fn inherited(
+    caller: &Session,
+    mode: Mode,
+    parent: &Attributes,
+    default_acl: Option<Acl>,
+) -> Directory
+    ensures { node_of result ≡ new_directory caller.now mode parent.now default_acl }
+{
+    let acls = inherit(default_acl.as_ref(), mode, caller.umask, true);
+    Directory {
+        owner: caller.cred.uid(),
+        group: if parent.set_gid {
+            parent.group
+        } else {
+            caller.cred.gid()
+        },
+        set_gid: parent.set_gid,
+        sticky: false,
+        acl: acls.access,
+        default_acl: acls.default,
+    }
+}
+
+/// What mkdir comes to: a name that isn't there yet, and the directory that gets it.
+pub(crate) fn mkdir(
+    alloc: Global,
+    tree: &PlainTree,
+    caller: &Session,
+    path: &Path<'_>,
+    mode: Mode,
+) -> Result<(Link, Directory), CallError>
+    requires { IsPlainTree tree.now }
+    ensures exact { Gives (λ m. Makes m.0.directory m.0.name (node_of m.1)) result (mkdir_outcome (tree_of tree.now) caller.now path.now mode) }
+    ensures room { OnOk result (tree.now.unused < 65536) }
+    ensures absent { IfOk result (λ m. map.get (tree_of tree.now).links m.0 ≡ None) }
+{
+    let walked = prefix(alloc, tree, &caller.cred, 1, path)?;
+    let (parent, place) = not_present(walked)?;
+    let directory = live(parent)?;
+    let attributes = writable_parent(tree, &caller.cred, 1, place, directory)?;
+    tree.has_room(directory)?;
+    let name = Word::new(alloc, path.last().unwrap_or(b""))?;
+    let node = inherited(caller, mode, &attributes, tree.default_acl(directory));
+    Ok((Link { directory, name }, node))
+}
+
+/// The number of an object. That of the directory of snapshots is 1.
+fn number_of(object: Object) -> u16
+    ensures { result ≡ number_of object }
+{
+    match object {
+        Object::Node(number) => number,
+        Object::Hidden => 1,
+    }
+}
+
+fn status_of(number: u16, a: &Attributes) -> Status
+    ensures { result ≡ status_of number a.now }
+{
+    Status {
+        kind: a.kind,
+        set_gid: a.set_gid,
+        sticky: a.sticky,
+        mode: a.acl.mode(),
+        links: a.links,
+        owner: a.owner,
+        group: a.group,
+        size: a.size,
+        number,
+    }
+}
+
+/// What stat comes to.
+pub(crate) fn stat(
+    alloc: Global,
+    tree: &PlainTree,
+    caller: &Session,
+    path: &Path<'_>,
+) -> Result<Status, CallError>
+    ensures { Gives Tells result (stat_outcome (tree_of tree.now) caller.now path.now) }
+{
+    let walked = prefix(alloc, tree, &caller.cred, 1, path)?;
+    let object = found(walked)?;
+    match attributes_of(&mut PlainView { alloc, tree }, object)? {
+        Some(attributes) => Ok(status_of(number_of(object), &attributes)),
+        None => Err(CallError::Refused(Refusal::plain(Errno::Enoent))),
+    }
+}

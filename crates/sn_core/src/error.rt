@@ -1,0 +1,28 @@
+ghost use Rattle.std.specs.Prelude.{◌≡◌};
+ghost use Rattle.sn_core.specs.declared.error.CallError.TheVariants.{Memory, Refused};
+
+use sn_model::{Errno, Refusal, Reply};
+use std::alloc::AllocError;
+
+/// Why a call isn't done.
+#[derive(Debug, Drop)]
+pub(crate) enum CallError {
+    Refused(Refusal),
+    Memory,
+}
+
+impl From<Refusal> for CallError {
+    ghost from_gives = { λ refusal e. e ≡ Refused refusal };
+
+    fn from(refusal: Refusal) -> CallError {
+        CallError::Refused(refusal)
+    }
+}
+
+impl From<AllocError> for CallError {
+    ghost from_gives = { λ _ e. e ≡ Memory };
+
+    fn from(_error: AllocError) -> CallError {
+        CallError::Memory
+    }
+}

@@ -1,0 +1,50 @@
+ghost use Rattle.std.specs.Prelude.{◌≡◌, ◌≢◌, ◌≤◌, [], IfOk, length, vec_capacity};
+ghost use Rattle.sn_core.specs.Plain.{IsPlainWorld, world_of};
+ghost use Rattle.sn_model.specs.Steps.{Run};
+ghost use Rattle.sn_model.specs.World.{World, new_world};
+
+use crate::world::PlainWorld;
+use sn_model::{End, Event, MountFault, Reply};
+use std::alloc::{AllocError, Global};
+
+/// Room for the replies to so many events.
+fn room_for(alloc: Global, count: usize) -> Result<Vec<Reply>, AllocError>
+    ensures { IfOk result (λ v. (v.items ≡ []) × (count ≤ vec_capacity v)) }
+{
+    Vec::with_capacity(alloc, count)
+}
+
+/// Answers events in their order, into a list that has room for the replies.
+fn answer(alloc: Global, world: &mut PlainWorld, events: &[Event], replies: &mut Vec<Reply>)
+    requires sound { IsPlainWorld world.old }
+    requires empty { replies.old.items ≡ [] }
+    requires room { length events.now ≤ vec_capacity replies.old }
+    ensures { Run (world_of world.old) events.now replies.new.items (world_of world.new) }
+{
+    for event in events {
+        let reply = world.answer(alloc, event);
+        replies.push_reserved(reply);
+    }
+}
+
+/// Answers events in their order, from an empty root directory (0:0, mode 0755) on, with nobody
+/// logged in. Each event has one reply.
+///
+/// The room for the replies is looked for first, and then that for the tree and the sessions:
+/// without either nothing is done.
+pub fn run_plain(alloc: Global, events: &[Event]) -> (Vec<Reply>, End)
+    ensures clean { result.1 ≡ End.Clean → (last : World) × Run new_world events.now result.0.items last }
+    ensures nothing { result.1 ≢ End.Clean → result.0.items ≡ [] }
+{
+    let Ok(mut replies) = room_for(alloc, events.len()) else {
+        return (Vec::new(alloc), End::Memory);
+    };
+    let Ok(mut world) = PlainWorld::new(alloc) else {
+        return (Vec::new(alloc), End::Mount(MountFault::Memory));
+    };
+    answer(alloc, &mut world, events, &mut replies);
+    (replies, End::Clean)
+}
+
+#[cfg(test)]
+mod tests;

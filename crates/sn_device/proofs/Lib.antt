@@ -1,0 +1,8 @@
+pub mod CallLemmas
+pub mod CrashLemmas
+pub mod DiskLemmas
+pub mod FillLemmas
+pub mod JournalLemmas
+pub mod MemoryLemmas
+pub mod SectorLemmas
+pub mod StatusLemmas

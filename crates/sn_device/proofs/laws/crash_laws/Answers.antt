@@ -1,0 +1,26 @@
+use Rattle.std.proofs.Common.{arith}
+use Rattle.sn_device.proofs.DiskLemmas.{CrashSince-now, CrashSince_clock, CrashSince-next, CrashSince-added, MayLeave-written, MayLeave-torn, MayLeave-synced, MayLeave-settled}
+use Rattle.sn_device.proofs.CrashLemmas.{CrashSince-touched}
+use Rattle.sn_device.specs.Sectors.{Run}
+use Rattle.sn_device.proofs.laws.crash_laws.Goals as goal
+
+pub returns-clause-now_counts : goal.returns-clause-now_counts
+returns-clause-now_counts c = CrashSince-now
+
+pub returns-clause-only_now : goal.returns-clause-only_now
+returns-clause-only_now c = CrashSince_clock
+
+pub returns-clause-call_adds : goal.returns-clause-call_adds
+returns-clause-call_adds c d m t f before = (CrashSince-next d m t f before, CrashSince-added d m t f before)
+
+pub returns-clause-write_tears : goal.returns-clause-write_tears
+returns-clause-write_tears c at bytes m f = (λ left. (MayLeave-written at bytes m f left, left.whole), MayLeave-torn at bytes m f)
+
+pub returns-clause-sync_settles : goal.returns-clause-sync_settles
+returns-clause-sync_settles c m f whole = (MayLeave-synced m f, MayLeave-settled m f whole)
+
+pub returns-clause-run_tears : goal.returns-clause-run_tears
+returns-clause-run_tears c at n old new f = CrashSince-touched (Run at n) old new f
+
+pub returns-clause-clock_moves_on : goal.returns-clause-clock_moves_on
+returns-clause-clock_moves_on c d m = omega arith

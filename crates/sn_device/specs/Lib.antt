@@ -1,0 +1,12 @@
+pub mod Crash
+pub mod Device
+pub mod Disk
+pub mod Fill
+pub mod Journal
+pub mod Laws
+pub mod Memory
+pub mod MemoryLaws
+pub mod Plan
+pub mod Sectors
+pub mod Status
+pub mod Undo

@@ -1,0 +1,13 @@
+//! The laws that the definitions of `specs/` keep.
+ghost use Rattle.sn_device.specs.Laws.{NowCounts, OnlyNow, ClockMovesOn, CallAdds, WriteTears, SyncSettles, RunTears};
+
+/// What a crash may leave, as laws over all disks. It does nothing: its contract is what it is for.
+pub fn crash_laws()
+    ensures now_counts { NowCounts }
+    ensures only_now { OnlyNow }
+    ensures clock_moves_on { ClockMovesOn }
+    ensures call_adds { CallAdds }
+    ensures write_tears { WriteTears }
+    ensures sync_settles { SyncSettles }
+    ensures run_tears { RunTears }
+{}

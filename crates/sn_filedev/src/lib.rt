@@ -1,0 +1,25 @@
+//! A device over a file. It is safe on every file and under every failure, and its counts and its
+//! end are those of the trait. It doesn't tell its bytes: no clause can say what a file holds,
+//! nor what a crash leaves of it.
+//!
+//! What it does beyond that is tested. Neighbouring sectors written one after the other go to the
+//! file in one call of the system, at most 128 of them. They go there at a sync, at a write
+//! elsewhere and before a read of their block, and an error then is the fault of that call. What
+//! a call couldn't hand over stays gathered and is handed over again, so that nothing written
+//! after a sync reaches the file ahead of what was written before it. A read fetches the block of
+//! eight sectors around it once.
+//!
+//! ```text
+//! let mut device = FileDevice::create(rt.alloc(), &rt, "image", 256)?;
+//! device.write(15, &sector)?;
+//! device.sync()?;
+//! ```
+#![tactic(auto)]
+
+mod block;
+mod file;
+mod gathered;
+#[cfg(test)]
+mod tests;
+
+pub use file::FileDevice;

@@ -1,0 +1,69 @@
+-- What a root body's head says of the bytes behind it.
+use Rattle.std.proofs.Common.{◌≡◌, ℕ, ◌-◌, ◌*◌, ◌≤◌, Bool, true, false, cond, ◌&&◌, eqb, List, [], ◌++◌, length, Option, Some, None, refl, sym, ap, ◌∙◌, append_assoc, arith}
+use Rattle.std.specs.Prelude.{nat_le}
+use Rattle.std.proofs.lemmas.Bool.{eqb-true, leb-true}
+use Rattle.std.proofs.lemmas.List.{append-nil}
+use Rattle.sn_layout.specs.declared.limits.Limits.{Limits}
+use Rattle.sn_layout.specs.declared.root.Head.{Head}
+use Rattle.sn_layout.specs.declared.root.RootBody.{RootBody}
+use Rattle.sn_layout.specs.Bytes.{zeros}
+use Rattle.sn_layout.specs.Limits.{limits_of, version_1}
+use Rattle.sn_layout.specs.Snapshot.{snapshots_bytes, are_rising, are_within, are_distinct}
+use Rattle.sn_layout.specs.RootBody.{IsHead, IsRootBody, head_of, head_bytes, root_body_bytes}
+
+chosen : {A : Type 0} (b : Bool) (x y : A) → cond b (Some x) None ≡ Some y → (b ≡ true) × (x ≡ y)
+chosen true x y e = (refl, cc)
+chosen false x y e = absurd cc
+
+-- the limits of a version are those of their own version
+pub known : (version : ℕ) (limits : Limits) → limits_of version ≡ Some limits → (limits.version ≡ version) × (limits ≡ version_1)
+known version limits e =
+    let c = chosen (eqb version 1) version_1 limits e in
+    let one = eqb-true version 1 c.0 in
+    (ap (λ (l : Limits). l.version) (sym c.1) ∙ sym one, sym c.1)
+
+both : (a b : Bool) → (a && b) ≡ true → (a ≡ true) × (b ≡ true)
+both true b e = (refl, e)
+both false b e = absurd cc
+
+pub few : (body : RootBody) → IsRootBody body → length body.snapshots ≤ 20
+few body fits =
+    let version = known body.limits.version body.limits fits.version in
+    let most : body.limits.snapshots ≡ 20 = ap (λ (l : Limits). l.snapshots) version.1 in
+    let list = body.snapshots in
+    let most-is = body.limits.snapshots in
+    let third = both (nat_le (length list) most-is && are_rising 0 list && are_within most-is list) (are_distinct list) fits.snapshots.held in
+    let second = both (nat_le (length list) most-is && are_rising 0 list) (are_within most-is list) third.0 in
+    let first = both (nat_le (length list) most-is) (are_rising 0 list) second.0 in
+    let count = leb-true (length body.snapshots) body.limits.snapshots first.0 in
+    omega arith
+
+pub head_fits : (body : RootBody) → IsRootBody body → IsHead (head_of body)
+head_fits body fits =
+    let version = known body.limits.version body.limits fits.version in
+    let one : body.limits.version ≡ 1 = ap (λ (l : Limits). l.version) version.1 in
+    let count = few body fits in
+    record {
+      version = omega arith;
+      generation = omega (arith, fits.generation.most);
+      epoch = omega (arith, fits.epoch.most);
+      count = omega arith;
+      inode_file = fits.inode_file;
+    }
+
+-- a block that spells a body is read as its head, and then come its snapshots
+pub head_read : (body : RootBody) (block reader left : List ℕ) (read : Option Head)
+    → ((head : Head) (rest : List ℕ) → IsHead head → reader ≡ head_bytes head ++ rest → (read ≡ Some head) × (left ≡ rest))
+    → IsRootBody body → reader ≡ block → block ≡ root_body_bytes body
+    → (read ≡ Some (head_of body)) × (left ≡ snapshots_bytes body.snapshots ++ zeros (3472 - 112 * length body.snapshots))
+head_read body block reader left read only fits same e =
+    only (head_of body) (snapshots_bytes body.snapshots ++ zeros (3472 - 112 * length body.snapshots)) (head_fits body fits)
+    (same ∙ e ∙ append_assoc (head_bytes (head_of body)) (snapshots_bytes body.snapshots) (zeros (3472 - 112 * length body.snapshots)))
+
+-- what was read part by part is the body's spelling
+pub body_is : (body : RootBody) (block a b c : List ℕ) → block ≡ head_bytes (head_of body) ++ a → a ≡ snapshots_bytes body.snapshots ++ b → b ≡ zeros (3472 - 112 * length body.snapshots) ++ c → c ≡ [] → block ≡ root_body_bytes body
+body_is body block a b c first second third none =
+    let blank : b ≡ zeros (3472 - 112 * length body.snapshots) = third ∙ ap (λ (r : List ℕ). zeros (3472 - 112 * length body.snapshots) ++ r) none ∙ append-nil (zeros (3472 - 112 * length body.snapshots)) in
+    first
+    ∙ ap (λ (r : List ℕ). head_bytes (head_of body) ++ r) (second ∙ ap (λ (r : List ℕ). snapshots_bytes body.snapshots ++ r) blank)
+    ∙ sym (append_assoc (head_bytes (head_of body)) (snapshots_bytes body.snapshots) (zeros (3472 - 112 * length body.snapshots)))

@@ -1,0 +1,9 @@
+use Rattle.std.proofs.Common.{◌≡◌, ◌+◌, ◌*◌, ◌++◌, take}
+use Rattle.sn_layout.specs.Bytes.{numbers_bytes}
+use Rattle.sn_layout.proofs.writer.put_u32s.Given as goal
+
+abbrev pub invariant-loop-number : goal.invariant-loop-number
+invariant-loop-number l = record {
+  next : l.next ≡ l.at + 4 * l.number-index;
+  front : take l.next l.block ≡ take l.at l.initial.block ++ numbers_bytes 4 (take l.number-index l.numbers);
+}

@@ -1,0 +1,44 @@
+use Rattle.std.specs.Prelude.{ℕ, ◌-◌, ◌<◌, Bool, true, not, ◌&&◌, List, [], ◌∷◌, ◌++◌, length, IsTrue, nat_lt, nat_le}
+use Rattle.std.specs.List.{flat_map, AllByRecursion, list_any, list_all}
+use Rattle.std.specs.Str.{bytes_eq}
+use Rattle.sn_layout.specs.declared.limits.Limits.{Limits}
+use Rattle.sn_layout.specs.declared.snapshot.Snapshot.{Snapshot}
+use Rattle.sn_layout.specs.Bytes.{zeros}
+use Rattle.sn_layout.specs.BlockTree.{IsBlockTree, tree_bytes}
+use Rattle.sn_layout.specs.SnapshotName.{is_snapshot_name}
+
+-- a bit, a name and a tree that fit their fields
+pub record IsSnapshot (snapshot : Snapshot) : Type 0 where
+  pub bit : snapshot.bit < 256
+  pub name : IsTrue (is_snapshot_name snapshot.name)
+  pub tree : IsBlockTree snapshot.tree
+
+-- the name has room for 31 bytes behind its length, and the tree begins at 40
+abbrev pub snapshot_bytes : Snapshot → List ℕ
+snapshot_bytes s = (s.bit ∷ length s.name ∷ s.name) ++ zeros (38 - length s.name) ++ tree_bytes s.tree
+
+abbrev pub snapshots_bytes : List Snapshot → List ℕ
+snapshots_bytes snapshots = flat_map snapshot_bytes snapshots
+
+-- each bit is above the one before it
+abbrev pub are_rising : ℕ → List Snapshot → Bool
+are_rising before [] = true
+are_rising before (s ∷ more) = nat_lt before s.bit && are_rising s.bit more
+
+-- no bit is above the largest
+abbrev pub are_within : ℕ → List Snapshot → Bool
+are_within largest snapshots = list_all (λ s. nat_le s.bit largest) snapshots
+
+-- no two have one name
+abbrev pub are_distinct : List Snapshot → Bool
+are_distinct [] = true
+are_distinct (s ∷ more) = not (list_any (λ other. bytes_eq s.name other.name) more) && are_distinct more
+
+-- a disk of this version can hold them: not too many, by rising bit from 1 up, with different names
+abbrev pub are_held : Limits → List Snapshot → Bool
+are_held limits snapshots = nat_le (length snapshots) limits.snapshots && are_rising 0 snapshots && are_within limits.snapshots snapshots && are_distinct snapshots
+
+-- the snapshots of a root body
+pub record AreSnapshots (limits : Limits) (snapshots : List Snapshot) : Type 0 where
+  pub each : AllByRecursion IsSnapshot snapshots
+  pub held : IsTrue (are_held limits snapshots)

@@ -1,0 +1,45 @@
+//! How a disk is spelled, both ways: where its parts lie, its superblock and its root bodies.
+//!
+//! Each value has one spelling, a definition in `specs/` such as `superblock_bytes` or
+//! `root_body_bytes`. `encode` writes exactly it into a lent block, whatever stood there, and
+//! `decode` answers a value exactly where a block is the spelling of one: `found` says that the
+//! block is the value's spelling, and `only` that a block which is a value's spelling is read as
+//! that value. No call takes memory.
+//!
+//! The way through: `places` (areas of a disk), `superblock`, `tree` (a root of blocks), `name`,
+//! `snapshot` and `snapshots`, `root`. `limits` has the numbers that a version of the format fixes.
+//! `reader` and `writer` are for the crates that spell more: a `Reader` is seen as the bytes that
+//! are left, and each `put_` call writes behind what the one before it wrote.
+//!
+//! ```text
+//! let superblock = Superblock::decode(&block)?;
+//! let map = superblock.places.range(Area::MapCopy(Slot::A));
+//! ```
+#![tactic(auto)]
+
+mod block;
+mod limits;
+mod name;
+mod places;
+mod reader;
+mod root;
+mod snapshot;
+mod snapshots;
+mod superblock;
+mod tree;
+mod writer;
+
+pub use block::{BLOCK_SIZE, Block, SECTORS_PER_BLOCK};
+pub use limits::Limits;
+pub use name::{SNAPSHOT_NAME_MAX, SnapshotName};
+pub use places::{Area, LARGEST_DISK, LogHalf, Places, SMALLEST_DISK, Slot};
+pub use reader::Reader;
+pub use root::{LARGEST_AGE, RootBody};
+pub use snapshot::Snapshot;
+pub use snapshots::{SNAPSHOT_ROOM, Snapshots};
+pub use superblock::Superblock;
+pub use tree::{BlockTree, POINTERS};
+pub use writer::{put_bytes, put_u8, put_u16, put_u32, put_u32s, put_u64, put_zeros};
+
+#[cfg(test)]
+mod tests;

@@ -1,0 +1,153 @@
+ghost use Rattle.std.specs.Prelude.{◌≡◌, ℕ, ◌+◌, ◌*◌, ◌<◌, ◌≤◌, List, [], ◌∷◌, ◌++◌, length, remove, slice_index_or, Some, IfSome, IsTrue, ◌↔◌};
+ghost use Rattle.std.specs.List.{AllByRecursion, list_any};
+ghost use Rattle.std.specs.Str.{bytes_eq};
+ghost use Rattle.sn_layout.specs.Bytes.{Puts};
+ghost use Rattle.sn_layout.specs.Snapshot.{IsSnapshot, snapshots_bytes};
+ghost use Rattle.sn_layout.specs.Snapshot as lists;
+ghost use Rattle.sn_layout.specs.declared.snapshot.Snapshot.{Snapshot as TheSnapshot};
+
+use crate::{Limits, Reader, Snapshot};
+use arrayvec::ArrayVec;
+use std::marker::Model;
+
+/// The snapshots that a root body has room for. The limits of its version may allow fewer.
+pub const SNAPSHOT_ROOM: usize = 31;
+
+/// The snapshots of a root body. It takes no memory.
+#[derive(Debug, PartialEq, Eq, Drop)]
+pub struct Snapshots {
+    list: ArrayVec<Snapshot, SNAPSHOT_ROOM>,
+}
+
+impl Model for Snapshots {
+    ghost use Rattle.std.specs.Prelude.{List, length, ◌≤◌};
+    ghost use Rattle.sn_layout.specs.declared.snapshot.Snapshot.{Snapshot};
+
+    ghost Value = { List Snapshot };
+
+    ghost view = { λ s. s.list.items };
+
+    ghost invariant = { λ s. length s.list.items ≤ 31 };
+
+    ghost inverse = { λ list. record { list = record { items = list } } };
+}
+
+impl Snapshots {
+    pub fn new() -> Self
+        ensures { result ≡ [] }
+    {
+        Snapshots {
+            list: ArrayVec::new(),
+        }
+    }
+
+    pub fn as_slice(&self) -> &[Snapshot]
+        ensures value { result.now ≡ self.now }
+        ensures room { length self.now ≤ 31 }
+    {
+        self.list.as_slice()
+    }
+
+    pub fn push(&mut self, snapshot: Snapshot)
+        requires { length self.old < 31 }
+        ensures { self.new ≡ self.old ++ snapshot ∷ [] }
+    {
+        self.list.push(snapshot);
+    }
+
+    /// Removes and returns one of them.
+    pub fn remove(&mut self, index: usize) -> Snapshot
+        requires { index < length self.old }
+        ensures removed { result ≡ slice_index_or self.old index result }
+        ensures others { self.new ≡ remove self.old index }
+    {
+        self.list.remove(index)
+    }
+
+    /// Whether a disk of this version can hold them: not too many, by rising bit from 1 up, with
+    /// different names.
+    pub(crate) fn are_held(&self, limits: &Limits) -> bool
+        ensures { result ≡ lists.are_held limits.now self.now }
+    {
+        let list = self.as_slice();
+        list.len() <= limits.snapshots as usize
+            && are_rising(list)
+            && are_within(limits.snapshots, list)
+            && are_distinct(list)
+    }
+}
+
+impl Default for Snapshots {
+    ghost is_default = { λ snapshots. snapshots ≡ [] };
+
+    fn default() -> Self {
+        Snapshots::new()
+    }
+}
+
+fn are_rising(snapshots: &[Snapshot]) -> bool
+    ensures { result ≡ lists.are_rising 0 snapshots.now }
+{
+    let mut before = 0;
+    for snapshot in snapshots {
+        if snapshot.bit <= before {
+            return false;
+        }
+        before = snapshot.bit;
+    }
+    true
+}
+
+fn are_within(largest: u8, snapshots: &[Snapshot]) -> bool
+    ensures { result ≡ lists.are_within largest snapshots.now }
+{
+    snapshots.iter().all(|snapshot| snapshot.bit <= largest)
+}
+
+fn has_name(snapshots: &[Snapshot], name: &[u8]) -> bool
+    ensures { result ≡ list_any (λ other. bytes_eq name.now other.name) snapshots.now }
+{
+    snapshots.iter().any(|other| name == other.name.as_bytes())
+}
+
+fn are_distinct(snapshots: &[Snapshot]) -> bool
+    ensures { result ≡ lists.are_distinct snapshots.now }
+{
+    for (i, snapshot) in snapshots.iter().enumerate() {
+        if has_name(&snapshots[i + 1..], snapshot.name.as_bytes()) {
+            return false;
+        }
+    }
+    true
+}
+
+/// Writes them one after the other at a place of a block, and answers the place after them.
+pub(crate) fn put_snapshots(block: &mut [u8], at: usize, snapshots: &[Snapshot]) -> usize
+    requires { at + 112 * length snapshots.now ≤ length block.old }
+    ensures bytes { Puts block.old block.new at result (snapshots_bytes snapshots.now) }
+    ensures next { result ≡ at + 112 * length snapshots.now }
+{
+    let mut next = at;
+    for snapshot in snapshots {
+        next = snapshot.put(block, next);
+    }
+    next
+}
+
+/// Reads so many, one after the other.
+pub(crate) fn read_snapshots(reader: &mut Reader<'_>, count: usize) -> Option<Snapshots>
+    requires count { count ≤ 31 }
+    requires room { 112 * count ≤ length reader.old }
+    ensures fits { IfSome result (λ all. (length all ≡ count) × AllByRecursion IsSnapshot all) }
+    ensures read { IfSome result (λ all. reader.old ≡ snapshots_bytes all ++ reader.new) }
+    ensures only { (all : List TheSnapshot) (rest : List ℕ) → length all ≡ count → AllByRecursion IsSnapshot all
+        → reader.old ≡ snapshots_bytes all ++ rest → (result ≡ Some all) × (reader.new ≡ rest) }
+    ensures left { IfSome result (λ _. length reader.new + 112 * count ≡ length reader.old) }
+{
+    let mut all = Snapshots::new();
+    for _ in 0..count {
+        let snapshot = Snapshot::read(reader)?;
+        all.push(snapshot);
+    }
+    Some(all)
+}

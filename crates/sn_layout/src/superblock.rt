@@ -1,0 +1,46 @@
+//! | offset | field |
+//! |---|---|
+//! | 0 | `SNAPFSYS` |
+//! | 8 | number of blocks u32 |
+//! | 12 | zeros |
+ghost use Rattle.std.specs.Prelude.{◌≡◌, Some, IfSome};
+
+use crate::{Block, Places, Reader, put_bytes, put_u32, put_zeros};
+
+const MAGIC: [u8; 8] = *b"SNAPFSYS";
+
+/// What the first block says of its disk.
+#[derive(Clone, Copy, Debug, PartialEq, Eq)]
+pub struct Superblock {
+    pub places: Places,
+}
+
+impl Superblock {
+    ghost use Rattle.sn_layout.specs.Superblock.{superblock_bytes};
+    ghost use Rattle.sn_layout.specs.Places.{IsDiskSize};
+    ghost use Rattle.sn_layout.specs.declared.superblock.Superblock.{Superblock as TheSuperblock};
+
+    pub fn encode(&self, block: &mut Block)
+        ensures { block.new ≡ superblock_bytes self.now }
+    {
+        let at = put_bytes(block, 0, &MAGIC);
+        let at = put_u32(block, at, self.places.blocks());
+        put_zeros(block, at, 4084);
+    }
+
+    /// The superblock that the block spells.
+    pub fn decode(block: &Block) -> Option<Self>
+        ensures found { IfSome result (λ superblock. IsDiskSize superblock.places × (block.now ≡ superblock_bytes superblock)) }
+        ensures only { (superblock : TheSuperblock) → IsDiskSize superblock.places → block.now ≡ superblock_bytes superblock → result ≡ Some superblock }
+    {
+        let mut reader = Reader::new(block);
+        if !reader.are(&MAGIC) {
+            return None;
+        }
+        let places = Places::new(reader.u32())?;
+        if !reader.are_zeros(4084) {
+            return None;
+        }
+        Some(Superblock { places })
+    }
+}

@@ -1,0 +1,5 @@
+pub mod Numbers
+pub mod Heads
+pub mod EntryLists
+pub mod AclLists
+pub mod Links

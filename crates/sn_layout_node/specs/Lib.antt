@@ -1,0 +1,6 @@
+pub mod AclBlock
+pub mod AclEntry
+pub mod Directory
+pub mod DirectoryEntry
+pub mod Indirect
+pub mod Inode

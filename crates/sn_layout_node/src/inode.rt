@@ -1,0 +1,148 @@
+//! | offset | field of an inode's record, 128 bytes in all |
+//! |---|---|
+//! | 0 | kind u8: 1 a file, 2 a directory; 0 and 127 zeros more is unused |
+//! | 1 | S_ISGID in bit 0, S_ISVTX in bit 1, u8 |
+//! | 2 | what USER_OBJ, GROUP_OBJ and OTHER grant, three bits each, u16 |
+//! | 4 | links u16, at most 32,767; 1 for a directory |
+//! | 6 | zeros |
+//! | 8 | owner u32 |
+//! | 12 | group u32 |
+//! | 16 | size u64, in bytes |
+//! | 24 | ACL block u32, 0 for none |
+//! | 28 | zeros |
+//! | 64 | a file's bytes, if at most 64, and then zeros; else 16 pointers u32 |
+ghost use Rattle.std.specs.Prelude.{◌≡◌, ◌↔◌, List, length, Some, IfSome, IsTrue};
+ghost use Rattle.sn_walk.specs.declared.view.Kind.{Kind as TheKind};
+ghost use Rattle.sn_layout.specs.Bytes.{zeros};
+ghost use Rattle.sn_layout_node.specs.Inode.{are_links};
+
+use crate::Content;
+use crate::head::Head;
+use sn_acl::Mode;
+use sn_layout::{Limits, Reader, put_zeros};
+use sn_walk::Kind;
+
+/// The bytes of an inode's record.
+pub const INODE_SIZE: usize = 128;
+
+/// The most names of a file.
+pub const LINKS_MAX: u16 = 32_767;
+
+/// A file or a directory, but for the bytes that lie in blocks.
+#[derive(Debug, PartialEq, Eq, Drop)]
+pub struct Inode {
+    pub kind: Kind,
+    /// S_ISGID.
+    pub set_gid: bool,
+    /// S_ISVTX.
+    pub sticky: bool,
+    /// What the entries USER_OBJ, GROUP_OBJ and OTHER of the access ACL grant.
+    pub objects: Mode,
+    /// How many names a file has. A directory has 1.
+    pub links: u16,
+    pub owner: u32,
+    pub group: u32,
+    /// The block of the other entries and of the default ACL, 0 where there are none.
+    pub acl_block: u32,
+    pub content: Content,
+}
+
+fn are_links(kind: Kind, links: u16) -> bool
+    ensures { result ≡ are_links kind links }
+{
+    match kind {
+        Kind::File => links <= LINKS_MAX,
+        Kind::Directory => links == 1,
+    }
+}
+
+impl Inode {
+    ghost use Rattle.sn_layout_node.specs.Inode.{IsInode, inode_bytes};
+    ghost use Rattle.sn_layout_node.specs.declared.inode.Inode.{Inode as TheInode};
+
+    fn encode(&self, bytes: &mut [u8])
+        requires { length bytes.old ≡ 128 }
+        ensures { bytes.new ≡ inode_bytes self.now }
+    {
+        let head = Head {
+            kind: self.kind,
+            set_gid: self.set_gid,
+            sticky: self.sticky,
+            objects: self.objects,
+            links: self.links,
+            owner: self.owner,
+            group: self.group,
+            size: self.content.size(),
+            acl_block: self.acl_block,
+        };
+        let at = head.put(bytes);
+        self.content.put(bytes, at);
+    }
+
+    fn decode(limits: &Limits, bytes: &[u8]) -> Option<Self>
+        requires { length bytes.now ≡ 128 }
+        ensures found { IfSome result (λ inode. IsInode limits.now inode × (bytes.now ≡ inode_bytes inode)) }
+        ensures only { (inode : TheInode) → IsInode limits.now inode → bytes.now ≡ inode_bytes inode → result ≡ Some inode }
+    {
+        let mut reader = Reader::new(bytes);
+        let head = Head::read(&mut reader)?;
+        if !are_links(head.kind, head.links) {
+            return None;
+        }
+        let content = Content::read(limits, head.kind, head.size, &mut reader)?;
+        Some(Inode {
+            kind: head.kind,
+            set_gid: head.set_gid,
+            sticky: head.sticky,
+            objects: head.objects,
+            links: head.links,
+            owner: head.owner,
+            group: head.group,
+            acl_block: head.acl_block,
+            content,
+        })
+    }
+}
+
+/// A record of the inode file.
+#[derive(Debug, PartialEq, Eq, Drop)]
+pub enum InodeRecord {
+    Unused,
+    Used(Inode),
+}
+
+fn is_blank(bytes: &[u8]) -> bool
+    ensures { IsTrue result ↔ (bytes.now ≡ zeros (length bytes.now)) }
+{
+    Reader::new(bytes).are_zeros(bytes.len())
+}
+
+impl InodeRecord {
+    ghost use Rattle.sn_layout_node.specs.Inode.{IsRecord, record_bytes};
+    ghost use Rattle.sn_layout_node.specs.declared.inode.InodeRecord.{InodeRecord as TheRecord};
+
+    pub fn encode(&self, bytes: &mut [u8])
+        requires { length bytes.old ≡ 128 }
+        ensures { bytes.new ≡ record_bytes self.now }
+    {
+        match self {
+            InodeRecord::Unused => {
+                put_zeros(bytes, 0, INODE_SIZE);
+            }
+            InodeRecord::Used(inode) => inode.encode(bytes),
+        }
+    }
+
+    /// The record that the bytes spell under the limits of a version.
+    pub fn decode(limits: &Limits, bytes: &[u8]) -> Option<Self>
+        requires { length bytes.now ≡ 128 }
+        ensures found { IfSome result (λ r. IsRecord limits.now r × (bytes.now ≡ record_bytes r)) }
+        ensures only { (r : TheRecord) → IsRecord limits.now r → bytes.now ≡ record_bytes r → result ≡ Some r }
+    {
+        if is_blank(bytes) {
+            return Some(InodeRecord::Unused);
+        }
+        let inode = Inode::decode(limits, bytes)?;
+        Some(InodeRecord::Used(inode))
+    }
+}

@@ -1,0 +1,147 @@
+-- A new directory keeps the tree of directories.
+use Rattle.std.proofs.Common.{◌≡◌, ◌≢◌, ℕ, zero, suc, ◌+◌, ◌≤◌, ◌<◌, Bool, true, false, cond, List, [], ◌∷◌, Option, Some, None, Result, Ok, Err, refl, sym, ap, subst, ◌∙◌, ◌⊎◌, inl, inr}
+use Rattle.std.specs.Prelude.{IsSomeAnd, unwrap_or}
+use Rattle.std.specs.Option.{is_some, is_none, option_map}
+use Rattle.std.specs.declared.cmp.Ordering.{Ordering}
+use Rattle.std.specs.Ordering.{nat_cmp, eq_by_cmp}
+use Rattle.std.specs.Cmp.{IsTotalOrder, nat_cmp_total, eq_by_cmp_equiv}
+use Rattle.std.proofs.lemmas.Bool.{true≢false}
+use Rattle.std.proofs.lemmas.Map.Views.{tells_apart}
+use Rattle.std.specs.FinMap as map
+use Rattle.std.proofs.lemmas.Map.Lookups.{CmpEqualImpliesEq, exact_unsigned}
+use Rattle.sn_acl.specs.declared.modes.Mode.{Mode}
+use Rattle.sn_acl.specs.declared.entries.Entry.{Entry}
+use Rattle.sn_acl.specs.Access.{denial_of}
+use Rattle.sn_acl.specs.Credential.{Credential}
+use Rattle.sn_walk.specs.declared.view.Kind.{Kind}
+use Rattle.sn_walk.specs.declared.view.Kind.TheVariants.{File, Directory}
+use Rattle.sn_walk.specs.declared.view.Attributes.{Attributes}
+use Rattle.sn_walk.specs.declared.view.Object.{Object}
+use Rattle.sn_walk.specs.declared.view.Object.TheVariants.{Hidden}
+use Rattle.sn_model.specs.declared.link.Link.{Link}
+use Rattle.sn_model.specs.declared.reply.Refusal.{Refusal}
+use Rattle.sn_model.specs.Tree.{Tree, Node, link_to, unused_from, least_unused, with_node}
+use Rattle.sn_model.specs.Laws.{Reaches, root, below, HasKind, IsHierarchy}
+use Rattle.sn_model.proofs.LinkLemmas.{exact_links, links_total, get_inserted, get_other}
+
+-- two keys of an exact order are one or two
+pub same_or_apart : {K : Type 0} {R : K → K → Ordering} → IsTotalOrder R → CmpEqualImpliesEq R → (a b : K) → (a ≡ b) ⊎ (a ≢ b)
+same_or_apart {K} {R} o exact a b = decided (eq_by_cmp R a b) refl
+  where
+    decided : (t : Bool) → eq_by_cmp R a b ≡ t → (a ≡ b) ⊎ (a ≢ b)
+    decided true e = inl (tells_apart exact a b e)
+    decided false e = inr (λ same. absurd (true≢false (sym ((eq_by_cmp_equiv o).refl a) ∙ ap (eq_by_cmp R a) same ∙ e)))
+
+-- the unused number has no node, and isn't below the first
+found_unused : (nodes : map.FinMap nat_cmp Node) (first more number : ℕ) → unused_from nodes first more ≡ Some number → map.get nodes number ≡ None
+unfolding unused_from
+found_unused nodes first zero number e = cc
+found_unused nodes first (suc more) number e = looked (map.get nodes first) refl (found_unused nodes (first + 1) more number) e
+  where
+    looked : (o : Option Node) → map.get nodes first ≡ o → (unused_from nodes (first + 1) more ≡ Some number → map.get nodes number ≡ None) → cond (is_some (map.get nodes first)) (unused_from nodes (first + 1) more) (Some first) ≡ Some number → map.get nodes number ≡ None
+    looked None a further h =
+        let here : Some first ≡ Some number = rw a at h in
+        let same : first ≡ number = cc in
+        ap (map.get nodes) (sym same) ∙ a
+    looked (Some n) a further h = further (rw a at h)
+
+pub least_is_unused : (tree : Tree) (number : ℕ) → least_unused tree ≡ Some number → map.get tree.nodes number ≡ None
+unfolding least_unused
+least_is_unused tree number e = found_unused tree.nodes 2 65534 number e
+
+-- what is there isn't what isn't
+has_not_none : (o : Option Node) (P : Node → Type 0) → IsSomeAnd o P → o ≢ None
+has_not_none None P h e = h
+has_not_none (Some n) P h e = cc
+
+some_not_none : {A : Type 0} (o : Option A) (x : A) → o ≡ Some x → o ≢ None
+some_not_none o x e f = let never : Some x ≡ None = sym e ∙ f in cc
+
+is_some_not_none : {A : Type 0} (o : Option A) → is_some o ≡ true → o ≢ None
+is_some_not_none None e f = true≢false (sym e)
+is_some_not_none (Some x) e f = cc
+
+module _ (tree : Tree) (number : ℕ) (link : Link) (node : Node) (whole : IsHierarchy tree) (unused : map.get tree.nodes number ≡ None) (absent : map.get tree.links link ≡ None) (parent : HasKind tree link.directory Directory) where
+  abbrev made : Tree
+  made = with_node tree number link node
+
+  -- a node that is there isn't the new one
+  apart_node : (n : ℕ) → map.get tree.nodes n ≢ None → n ≢ number
+  apart_node n h same = h (ap (map.get tree.nodes) same ∙ unused)
+
+  node_stays : (n : ℕ) → n ≢ number → map.get made.nodes n ≡ map.get tree.nodes n
+  node_stays n apart = get_other nat_cmp_total exact_unsigned tree.nodes number node n apart
+
+  kind_stays : (n : ℕ) (kind : Kind) → HasKind tree n kind → HasKind made n kind
+  kind_stays n kind h = subst (λ (o : Option Node). IsSomeAnd o (λ x. x.kind ≡ kind)) (sym (node_stays n (apart_node n (has_not_none _ _ h)))) h
+
+  kind_was : (n : ℕ) (kind : Kind) → n ≢ number → HasKind made n kind → HasKind tree n kind
+  kind_was n kind apart h = subst (λ (o : Option Node). IsSomeAnd o (λ x. x.kind ≡ kind)) (node_stays n apart) h
+
+  link_stays : (l : Link) → l ≢ link → map.get made.links l ≡ map.get tree.links l
+  link_stays l apart = get_other links_total exact_links tree.links link number l apart
+
+  -- a name of the new tree is the new one, or one of the old
+  named : (l : Link) (n : ℕ) → map.get made.links l ≡ Some n → ((l ≡ link) × (n ≡ number)) ⊎ (map.get tree.links l ≡ Some n)
+  named l n e = told (same_or_apart links_total exact_links l link)
+    where
+      told : (l ≡ link) ⊎ (l ≢ link) → ((l ≡ link) × (n ≡ number)) ⊎ (map.get tree.links l ≡ Some n)
+      told (inl same) =
+          let both : Some n ≡ Some number = sym e ∙ ap (map.get made.links) same ∙ get_inserted links_total tree.links link number in
+          inl (same, cc)
+      told (inr apart) = inr (sym (link_stays l apart) ∙ e)
+
+  -- an old name leads to an old node
+  leads_apart : (l : Link) (n : ℕ) → map.get tree.links l ≡ Some n → n ≢ number
+  leads_apart l n e = apart_node n (is_some_not_none _ (whole.leads l n e))
+
+  reach_stays : (n : ℕ) → Reaches tree n → Reaches made n
+  reach_stays n root = root
+  reach_stays n (below d name n' r e) = below d name _ (reach_stays d r) (link_stays (link_to d name) (λ same. some_not_none _ _ e (ap (map.get tree.links) same ∙ absent)) ∙ e)
+
+  unnamed_made : (l : Link) → map.get made.links l ≢ Some 2
+  unnamed_made l e = told (named l 2 e)
+    where
+      told : ((l ≡ link) × (2 ≡ number)) ⊎ (map.get tree.links l ≡ Some 2) → ⊥
+      told (inl h) = has_not_none _ _ whole.root (ap (map.get tree.nodes) h.1 ∙ unused)
+      told (inr h) = whole.unnamed l h
+
+  held_made : (l : Link) (n : ℕ) → map.get made.links l ≡ Some n → HasKind made l.directory Directory
+  held_made l n e = told (named l n e)
+    where
+      told : ((l ≡ link) × (n ≡ number)) ⊎ (map.get tree.links l ≡ Some n) → HasKind made l.directory Directory
+      told (inl h) = subst (λ (m : Link). HasKind made m.directory Directory) (sym h.0) (kind_stays link.directory Directory parent)
+      told (inr h) = kind_stays l.directory Directory (whole.held l n h)
+
+  leads_made : (l : Link) (n : ℕ) → map.get made.links l ≡ Some n → is_some (map.get made.nodes n) ≡ true
+  leads_made l n e = told (named l n e)
+    where
+      told : ((l ≡ link) × (n ≡ number)) ⊎ (map.get tree.links l ≡ Some n) → is_some (map.get made.nodes n) ≡ true
+      told (inl h) = ap is_some (ap (map.get made.nodes) h.1 ∙ get_inserted nat_cmp_total tree.nodes number node)
+      told (inr h) = ap is_some (node_stays n (leads_apart l n h)) ∙ whole.leads l n h
+
+  once_made : (a b : Link) (n : ℕ) → HasKind made n Directory → map.get made.links a ≡ Some n → map.get made.links b ≡ Some n → a ≡ b
+  once_made a b n kind ea eb = told (named a n ea) (named b n eb)
+    where
+      told : ((a ≡ link) × (n ≡ number)) ⊎ (map.get tree.links a ≡ Some n) → ((b ≡ link) × (n ≡ number)) ⊎ (map.get tree.links b ≡ Some n) → a ≡ b
+      told (inl h) (inl k) = h.0 ∙ sym k.0
+      told (inl h) (inr k) = absurd (leads_apart b n k h.1)
+      told (inr h) (inl k) = absurd (leads_apart a n h k.1)
+      told (inr h) (inr k) = whole.once a b n (kind_was n Directory (leads_apart a n h) kind) h k
+
+  reached_made : (n : ℕ) → HasKind made n Directory → Reaches made n
+  reached_made n kind = told (same_or_apart nat_cmp_total exact_unsigned n number)
+    where
+      told : (n ≡ number) ⊎ (n ≢ number) → Reaches made n
+      told (inl same) = subst (λ (m : ℕ). Reaches made m) (sym same) (below link.directory link.name number (reach_stays link.directory (whole.reached link.directory parent)) (get_inserted links_total tree.links link number))
+      told (inr apart) = reach_stays n (whole.reached n (kind_was n Directory apart kind))
+
+  pub hierarchy_made : IsHierarchy (with_node tree number link node)
+  hierarchy_made = record {
+    root = kind_stays 2 Directory whole.root;
+    unnamed = unnamed_made;
+    held = held_made;
+    leads = leads_made;
+    once = once_made;
+    reached = reached_made;
+  }

@@ -1,0 +1,4 @@
+pub mod DecisionLemmas
+pub mod HierarchyLemmas
+pub mod LinkLemmas
+pub mod StepLemmas

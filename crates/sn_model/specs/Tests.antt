@@ -1,0 +1,152 @@
+-- The tests that calls are made of, in the words of the table of calls. A test refuses, or hands on what it found.
+use Rattle.std.specs.Prelude.{◌≡◌, ℕ, ◌+◌, ◌*◌, ◌/◌, ◌%◌, Bool, true, false, nat_lt, nat_le, List, [], ◌∷◌, Option, None, Some, Result, Ok, Err, slice_get, is_none, if◌then◌else◌}
+use Rattle.sn_acl.specs.declared.entries.Tag.{Tag}
+use Rattle.sn_acl.specs.declared.entries.Entry.{Entry}
+use Rattle.sn_acl.specs.declared.modes.Mode.{Mode}
+use Rattle.sn_acl.specs.Credential.{Credential}
+use Rattle.sn_acl.specs.Access.{denial_of}
+use Rattle.sn_walk.specs.declared.path.PathFault.{PathFault}
+use Rattle.sn_walk.specs.declared.path.PathFault.TheVariants.{Misspelt, TooLong}
+use Rattle.sn_walk.specs.declared.view.Attributes.{Attributes}
+use Rattle.sn_walk.specs.declared.view.Object.{Object}
+use Rattle.sn_walk.specs.declared.view.Object.TheVariants as object
+use Rattle.sn_walk.specs.declared.view.TheConstants.{ROOT_NUMBER}
+use Rattle.sn_walk.specs.declared.walking.Obstacle.{Obstacle}
+use Rattle.sn_walk.specs.declared.walking.Obstacle.TheVariants.{NotADirectory, Denied, Missing}
+use Rattle.sn_walk.specs.declared.walking.WalkRefusal.{WalkRefusal}
+use Rattle.sn_walk.specs.declared.walking.Walked.{Walked}
+use Rattle.sn_walk.specs.declared.walking.Walked.TheVariants.{Root, Name}
+use Rattle.sn_walk.specs.Paths.{parsed}
+use Rattle.sn_walk.specs.Views.{attributes_at}
+use Rattle.sn_walk.specs.Walks.{walk_of}
+use Rattle.sn_model.specs.declared.reply.Access.{Access}
+use Rattle.sn_model.specs.declared.reply.Errno.{Errno}
+use Rattle.sn_model.specs.declared.reply.Errno.TheVariants.{Eacces, Enoent, Enotdir, Eexist, Einval, Enametoolong, Erofs, Ebusy, Ebadf, Elimit}
+use Rattle.sn_model.specs.declared.reply.Rule.{Rule}
+use Rattle.sn_model.specs.declared.reply.Rule.TheVariants as rule
+use Rattle.sn_model.specs.declared.reply.Denial.{Denial}
+use Rattle.sn_model.specs.declared.reply.Refusal.{Refusal}
+use Rattle.sn_model.specs.Tree.{Tree, viewed, names_in, least_unused}
+use Rattle.sn_model.specs.declared.session.Session.{Session}
+use Rattle.sn_model.specs.World.{World}
+
+infixl 10 ◌>>=◌
+abbrev pub ◌>>=◌ : {A B : Type 0} → Result A Refusal → (A → Result B Refusal) → Result B Refusal
+(Ok x) >>= f = f x
+(Err e) >>= f = Err e
+
+-- a refusal that isn't for lack of a right
+abbrev pub plain : Errno → Refusal
+plain errno = record { errno = errno; denial = None }
+
+abbrev pub search : Access
+search = record { read = false; write = false; execute = true }
+
+abbrev pub write : Access
+write = record { read = false; write = true; execute = false }
+
+-- the rights that an access needs: read is 4, write 2, execute 1
+abbrev pub rights_of : Access → ℕ
+rights_of want = (if want.read then 4 else 0) + (if want.write then 2 else 0) + (if want.execute then 1 else 0)
+
+-- EACCES: the entry with this tag denies the access wanted at a place of a path
+abbrev pub denied : ℕ → ℕ → Access → Tag → Refusal
+denied path place want tag = record { errno = Eacces; denial = Some (record { path = path; place = place; want = want; rule = rule.Entry tag }) }
+
+-- the session's place: its number is 0 to 63
+abbrev pub flat : {A : Type 0} → Option (Option A) → Option A
+flat None = None
+flat (Some o) = o
+
+abbrev pub session_at : World → ℕ → Result (Option Session) Refusal
+session_at world session = if nat_lt session 64 then Ok (flat (slice_get world.sessions session)) else Err (plain Einval)
+
+abbrev pub is_open : Option Session → Result Session Refusal
+is_open None = Err (plain Ebadf)
+is_open (Some session) = Ok session
+
+abbrev pub is_free : Option Session → Result (Unit {0}) Refusal
+is_free None = Ok tt
+is_free (Some session) = Err (plain Ebusy)
+
+abbrev pub logged_in : World → ℕ → Result Session Refusal
+logged_in world session = session_at world session >>= is_open
+
+abbrev pub logged_out : World → ℕ → Result (Unit {0}) Refusal
+logged_out world session = session_at world session >>= is_free
+
+-- an argument that is a path
+abbrev pub path_errno : PathFault → Errno
+path_errno Misspelt = Einval
+path_errno TooLong = Enametoolong
+
+abbrev pub read_path : Result (List (List ℕ)) PathFault → Result (List (List ℕ)) Refusal
+read_path (Ok names) = Ok names
+read_path (Err fault) = Err (plain (path_errno fault))
+
+abbrev pub path_argument : List ℕ → Result (List (List ℕ)) Refusal
+path_argument word = read_path (parsed word)
+
+-- an argument that is the mode of a new object
+abbrev pub mode_from_bits : ℕ → Mode
+mode_from_bits bits = record { owner = bits / 64; group = bits / 8 % 8; other = bits % 8 }
+
+abbrev pub new_mode_argument : ℕ → Result Mode Refusal
+new_mode_argument bits = if nat_lt bits 512 then Ok (mode_from_bits bits) else Err (plain Einval)
+
+-- a walk's refusal, as one of a call's first or second path
+abbrev pub obstacle_refusal : ℕ → ℕ → Obstacle → Refusal
+obstacle_refusal path place NotADirectory = plain Enotdir
+obstacle_refusal path place (Denied tag) = denied path place search tag
+obstacle_refusal path place Missing = plain Enoent
+
+abbrev pub walked : ℕ → Result Walked WalkRefusal → Result Walked Refusal
+walked path (Ok w) = Ok w
+walked path (Err r) = Err (obstacle_refusal path r.place r.obstacle)
+
+-- Prefix: each place before the last is a directory that grants search and has the next name
+abbrev pub prefix : Tree → Credential → ℕ → List (List ℕ) → Result Walked Refusal
+prefix tree cred path names = walked path (walk_of (viewed tree) cred names)
+
+-- Full: Prefix, and the last name is there too
+abbrev pub existing : Option Object → Result Object Refusal
+existing None = Err (plain Enoent)
+existing (Some found) = Ok found
+
+abbrev pub found : Walked → Result Object Refusal
+found Root = Ok (object.Node ROOT_NUMBER)
+found (Name directory place last) = existing last
+
+abbrev pub full : Tree → Credential → ℕ → List (List ℕ) → Result Object Refusal
+full tree cred path names = prefix tree cred path names >>= found
+
+-- the directory and the place of a name that isn't there yet
+abbrev pub vacant : Object → ℕ → Option Object → Result (Object × ℕ) Refusal
+vacant directory place None = Ok (directory, place)
+vacant directory place (Some found) = Err (plain Eexist)
+
+abbrev pub not_present : Walked → Result (Object × ℕ) Refusal
+not_present Root = Err (plain Eexist)
+not_present (Name directory place last) = vacant directory place last
+
+-- live: the name's directory is in the live tree
+abbrev pub live : Object → Result ℕ Refusal
+live (object.Node number) = Ok number
+live object.Hidden = Err (plain Erofs)
+
+-- an access is asked of what is at a place
+abbrev pub unless_denied : ℕ → ℕ → Access → Option Entry → Result (Unit {0}) Refusal
+unless_denied path place want None = Ok tt
+unless_denied path place want (Some entry) = Err (denied path place want entry.tag)
+
+abbrev pub granted : Credential → ℕ → ℕ → Access → Option Attributes → Result Attributes Refusal
+granted cred path place want None = Err (plain Enoent)
+granted cred path place want (Some a) = unless_denied path place want (denial_of cred a.owner a.group a.acl (rights_of want)) >>= (λ _. Ok a)
+
+-- w(p): write is asked of the directory of a path's last name
+abbrev pub writable_parent : Tree → Credential → ℕ → ℕ → ℕ → Result Attributes Refusal
+writable_parent tree cred path place directory = granted cred path place write (attributes_at (viewed tree) (object.Node directory))
+
+-- a directory may get one more name, of a new node
+abbrev pub has_room : Tree → ℕ → Result (Unit {0}) Refusal
+has_room tree directory = if is_none (least_unused tree) then Err (plain Elimit) else (if nat_le 65535 (names_in tree directory) then Err (plain Elimit) else Ok tt)

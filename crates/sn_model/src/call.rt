@@ -1,0 +1,19 @@
+use crate::{Groups, Word};
+
+/// What a session asks for.
+#[derive(Debug, Drop)]
+pub enum Call {
+    /// Opens the session, with a credential and the umask 0022.
+    Login { uid: u32, gid: u32, groups: Groups },
+    /// POSIX.1-2017 mkdir(): makes a directory. A mode over 0777 is refused.
+    Mkdir { path: Word, mode: u16 },
+    /// POSIX.1-2017 stat().
+    Stat { path: Word },
+}
+
+/// One line of a script.
+#[derive(Debug, Drop)]
+pub enum Event {
+    /// A call of the session with this number.
+    Call { session: u32, call: Call },
+}

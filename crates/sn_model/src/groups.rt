@@ -1,0 +1,40 @@
+ghost use Rattle.std.specs.Prelude.{◌≡◌, ◌≤◌, IfOk, length};
+
+use sn_acl::MAX_GROUPS;
+use std::alloc::{AllocError, Global};
+use std::marker::Model;
+
+/// The supplementary groups that a login names, in its order: 32 at the most.
+#[derive(Debug, Drop)]
+pub struct Groups {
+    numbers: Vec<u32>,
+}
+
+impl Model for Groups {
+    ghost use Rattle.std.specs.Prelude.{ℕ, ◌≤◌, List, vec_len};
+    ghost use Rattle.sn_acl.specs.declared.credential.TheConstants.{MAX_GROUPS};
+
+    ghost Value = { List ℕ };
+
+    ghost view = { λ g. g.numbers.items };
+
+    ghost invariant = { λ g. vec_len g.numbers ≤ MAX_GROUPS };
+}
+
+impl Groups {
+    pub fn new(alloc: Global, numbers: &[u32]) -> Result<Groups, AllocError>
+        requires { length numbers.now ≤ MAX_GROUPS }
+        ensures { IfOk result (λ groups. groups ≡ numbers.now) }
+    {
+        Ok(Groups {
+            numbers: Vec::from_slice(alloc, numbers)?,
+        })
+    }
+
+    pub fn as_slice(&self) -> &[u32]
+        ensures numbers { result.now ≡ self.now }
+        ensures few { length self.now ≤ MAX_GROUPS }
+    {
+        self.numbers.as_slice()
+    }
+}

@@ -1,0 +1,8 @@
+use crate::Word;
+
+/// A name of a directory.
+#[derive(Debug, Drop, PartialEq, Eq, PartialOrd, Ord)]
+pub struct Link {
+    pub directory: u16,
+    pub name: Word,
+}

@@ -1,0 +1,8 @@
+pub mod Options
+pub mod Numbers
+pub mod Parts
+pub mod Bytes
+pub mod FieldLaws
+pub mod LineLaws
+pub mod ScriptLaws
+pub mod Printed

@@ -1,0 +1,34 @@
+-- The line of an event: its words, with a space between each two, and a line feed.
+use Rattle.std.specs.Prelude.{ℕ, ◌^◌, ◌<◌, ◌≤◌, List, [], ◌∷◌, ◌++◌, length, IsTrue, codes, decimal}
+use Rattle.std.specs.List.{AllByRecursion, join_with_byte}
+use Rattle.sn_acl.specs.declared.credential.TheConstants.{MAX_GROUPS}
+use Rattle.sn_model.specs.declared.call.Call.{Call}
+use Rattle.sn_model.specs.declared.call.Call.TheVariants as call
+use Rattle.sn_model.specs.declared.call.Event.{Event}
+use Rattle.sn_model.specs.declared.call.Event.TheVariants as event
+use Rattle.sn_script.specs.Fields.{numbers_word, octal, is_word}
+
+abbrev pub name_of : Call → List ℕ
+name_of (call.Login uid gid groups) = codes "login"
+name_of (call.Mkdir path mode) = codes "mkdir"
+name_of (call.Stat path) = codes "stat"
+
+abbrev pub arguments_of : Call → List (List ℕ)
+arguments_of (call.Login uid gid groups) = decimal uid ∷ decimal gid ∷ numbers_word groups ∷ []
+arguments_of (call.Mkdir path mode) = path ∷ octal mode ∷ []
+arguments_of (call.Stat path) = path ∷ []
+
+abbrev pub words_of : Event → List (List ℕ)
+words_of (event.Call session c) = decimal session ∷ name_of c ∷ arguments_of c
+
+abbrev pub line_of : Event → List ℕ
+line_of e = join_with_byte 32 (words_of e) ++ 10 ∷ []
+
+-- the calls that have a line: numbers have 32 bits, modes four octal digits, and a path is any word
+abbrev pub IsCall : Call → Type 0
+IsCall (call.Login uid gid groups) = (uid < 2 ^ 32) × (gid < 2 ^ 32) × AllByRecursion (λ n. n < 2 ^ 32) groups × (length groups ≤ MAX_GROUPS)
+IsCall (call.Mkdir path mode) = IsTrue (is_word path) × (mode < 4096)
+IsCall (call.Stat path) = IsTrue (is_word path)
+
+abbrev pub IsEvent : Event → Type 0
+IsEvent (event.Call session c) = (session < 2 ^ 32) × IsCall c

@@ -1,0 +1,96 @@
+-- What the words of a line say, from left to right.
+use Rattle.std.specs.Prelude.{◌≡◌, ℕ, ◌+◌, ◌-◌, ◌*◌, ◌^◌, ◌&&◌, nat_le, nat_lt, List, [], ◌∷◌, length, Option, Some, None, Result, Ok, Err, if◌then◌else◌, codes, decimal}
+use Rattle.std.specs.Str.{bytes_eq}
+use Rattle.std.specs.Str.Parse.{digits_value}
+use Rattle.sn_acl.specs.declared.credential.TheConstants.{MAX_GROUPS}
+use Rattle.sn_model.specs.declared.call.Call.{Call}
+use Rattle.sn_model.specs.declared.call.Call.TheVariants as call
+use Rattle.sn_model.specs.declared.call.Event.{Event}
+use Rattle.sn_model.specs.declared.call.Event.TheVariants as event
+use Rattle.sn_script.specs.declared.fault.LineFault.{LineFault}
+use Rattle.sn_script.specs.declared.fault.LineFault.TheVariants.{Bad, Memory}
+use Rattle.sn_script.specs.declared.line.TheConstants.{MAX_WORDS}
+use Rattle.sn_script.specs.Fields.{is_word, parts}
+
+infixl 10 ◌>>=◌
+abbrev pub ◌>>=◌ : {A B : Type 0} → Option A → (A → Option B) → Option B
+(Some x) >>= f = f x
+None >>= f = None
+
+-- what a function returned, seen by view, is what reading gives, unless memory ran out
+abbrev pub Gives : {X Y : Type 0} → (X → Y) → Result X LineFault → Option Y → Type 0
+Gives view (Ok x) read = read ≡ Some (view x)
+Gives view (Err Bad) read = read ≡ None
+Gives view (Err Memory) read = Unit {0}
+
+-- a decimal number below a limit, without leading zeros
+unfoldable pub number_below : ℕ → List ℕ → Option ℕ
+number_below limit word = let n = digits_value 10 word in
+    if bytes_eq word (decimal n) && nat_lt n limit then Some n else None
+
+abbrev pub octal_digit_of : ℕ → Option ℕ
+octal_digit_of b = if nat_le 48 b && nat_le b 55 then Some (b - 48) else None
+
+-- four octal digits
+unfoldable pub octal_of : List ℕ → Option ℕ
+octal_of (a ∷ b ∷ c ∷ d ∷ []) = do
+  i ← octal_digit_of a
+  j ← octal_digit_of b
+  k ← octal_digit_of c
+  l ← octal_digit_of d
+  Some (512 * i + 64 * j + 8 * k + l)
+octal_of _ = None
+
+unfoldable pub numbers_of : List (List ℕ) → Option (List ℕ)
+numbers_of [] = Some []
+numbers_of (word ∷ words) = do
+  n ← number_below (2 ^ 32) word
+  ns ← numbers_of words
+  Some (n ∷ ns)
+
+-- a dash for none, or numbers joined by commas
+unfoldable pub groups_of : List ℕ → Option (List ℕ)
+groups_of word =
+    if bytes_eq word (codes "-") then Some [] else
+    if nat_le (length (parts 44 word)) MAX_GROUPS then numbers_of (parts 44 word) else None
+
+abbrev pub word_of : List ℕ → Option (List ℕ)
+word_of bytes = if is_word bytes then Some bytes else None
+
+unfoldable pub login_of : List (List ℕ) → Option Call
+login_of (uid ∷ gid ∷ groups ∷ []) = do
+  u ← number_below (2 ^ 32) uid
+  g ← number_below (2 ^ 32) gid
+  others ← groups_of groups
+  Some (call.Login u g others)
+login_of _ = None
+
+unfoldable pub mkdir_of : List (List ℕ) → Option Call
+mkdir_of (path ∷ mode ∷ []) = do
+  p ← word_of path
+  m ← octal_of mode
+  Some (call.Mkdir p m)
+mkdir_of _ = None
+
+unfoldable pub stat_of : List (List ℕ) → Option Call
+stat_of (path ∷ []) = do
+  p ← word_of path
+  Some (call.Stat p)
+stat_of _ = None
+
+unfoldable pub call_of : List ℕ → List (List ℕ) → Option Call
+call_of name arguments =
+    if bytes_eq name (codes "login") then login_of arguments else
+    if bytes_eq name (codes "mkdir") then mkdir_of arguments else
+    if bytes_eq name (codes "stat") then stat_of arguments else None
+
+unfoldable pub event_of : List (List ℕ) → Option Event
+event_of (session ∷ name ∷ arguments) = do
+  s ← number_below (2 ^ 32) session
+  c ← call_of name arguments
+  Some (event.Call s c)
+event_of _ = None
+
+-- a line without its end
+unfoldable pub line_event : List ℕ → Option Event
+line_event line = if nat_le (length (parts 32 line)) MAX_WORDS then event_of (parts 32 line) else None

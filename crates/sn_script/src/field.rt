@@ -1,0 +1,106 @@
+ghost use Rattle.std.specs.Prelude.{◌≡◌, ◌^◌, ◌≤◌, ◌∷◌, [], map, length};
+ghost use Rattle.std.specs.Char.{is_ascii_graphic};
+ghost use Rattle.std.specs.List.{list_all};
+ghost use Rattle.sn_acl.specs.declared.credential.TheConstants.{MAX_GROUPS};
+ghost use Rattle.sn_script.specs.Fields.{is_word};
+ghost use Rattle.sn_script.specs.Reading.{Gives, number_below, octal_digit_of, octal_of, numbers_of, groups_of, word_of};
+
+use crate::cut::parts;
+use crate::fault::LineFault;
+use arrayvec::ArrayVec;
+use itoa::Buffer;
+use sn_acl::MAX_GROUPS;
+use sn_model::{Groups, Word};
+use std::alloc::Global;
+
+/// A decimal number without leading zeros.
+pub(crate) fn number(word: &[u8]) -> Result<u32, LineFault>
+    ensures { Gives (λ n. n) result (number_below (2 ^ 32) word.now) }
+{
+    let Ok(text) = str::from_utf8(word) else {
+        return Err(LineFault::Bad);
+    };
+    let Ok(number) = text.parse::<u32>() else {
+        return Err(LineFault::Bad);
+    };
+    let mut buffer = Buffer::new();
+    if buffer.format(number).as_bytes() == word {
+        Ok(number)
+    } else {
+        Err(LineFault::Bad)
+    }
+}
+
+fn octal_digit(byte: u8) -> Result<u16, LineFault>
+    ensures { Gives (λ n. n) result (octal_digit_of byte) }
+{
+    if b'0' <= byte && byte <= b'7' {
+        Ok(u16::from(byte - b'0'))
+    } else {
+        Err(LineFault::Bad)
+    }
+}
+
+/// Four octal digits.
+#[tactic(auto, unfolding(crate::specs::Reading::octal_of))]
+pub(crate) fn octal(word: &[u8]) -> Result<u16, LineFault>
+    ensures { Gives (λ n. n) result (octal_of word.now) }
+{
+    let &[first, second, third, fourth] = word else {
+        return Err(LineFault::Bad);
+    };
+    let first = octal_digit(first)?;
+    let second = octal_digit(second)?;
+    let third = octal_digit(third)?;
+    let fourth = octal_digit(fourth)?;
+    Ok(512 * first + 64 * second + 8 * third + fourth)
+}
+
+/// A word of printable bytes.
+pub(crate) fn word(alloc: Global, bytes: &[u8]) -> Result<Word, LineFault>
+    ensures { Gives (λ w. w) result (word_of bytes.now) }
+{
+    if is_word(bytes) {
+        Ok(Word::new(alloc, bytes)?)
+    } else {
+        Err(LineFault::Bad)
+    }
+}
+
+fn is_word(bytes: &[u8]) -> bool
+    ensures { result ≡ is_word bytes.now }
+{
+    !bytes.is_empty() && is_graphic(bytes)
+}
+
+fn is_graphic(bytes: &[u8]) -> bool
+    ensures { result ≡ list_all is_ascii_graphic bytes.now }
+{
+    bytes.iter().all(|byte| byte.is_ascii_graphic())
+}
+
+fn numbers(words: &[&[u8]]) -> Result<ArrayVec<u32, MAX_GROUPS>, LineFault>
+    requires { length words.now ≤ MAX_GROUPS }
+    ensures { Gives (λ ns. ns.items) result (numbers_of (map (λ w. w.now) words.now)) }
+{
+    let mut numbers = ArrayVec::new();
+    for word in words {
+        numbers.push(number(word)?);
+    }
+    Ok(numbers)
+}
+
+/// Group numbers joined by commas, or a dash for none.
+#[tactic(auto, unfolding(crate::specs::Reading::groups_of))]
+pub(crate) fn groups(alloc: Global, word: &[u8]) -> Result<Groups, LineFault>
+    ensures { Gives (λ g. g) result (groups_of word.now) }
+{
+    if let b"-" = word {
+        return Ok(Groups::new(alloc, &[])?);
+    }
+    let Some(words) = parts::<MAX_GROUPS>(word, b',') else {
+        return Err(LineFault::Bad);
+    };
+    let numbers = numbers(words.as_slice())?;
+    Ok(Groups::new(alloc, numbers.as_slice())?)
+}

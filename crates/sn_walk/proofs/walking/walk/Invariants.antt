@@ -1,0 +1,15 @@
+use Rattle.std.proofs.Common.{◌≡◌, ℕ, ◌+◌, ◌≤◌, List, length}
+use Rattle.sn_walk.specs.declared.path.TheConstants.{PATH_MAX}
+use Rattle.sn_walk.specs.Walks.{walk_of, walk_from}
+use Rattle.sn_walk.proofs.walking.walk.Given as goal
+
+-- the rest of the walk is the walk
+abbrev pub invariant-loop-next : goal.invariant-loop-next
+invariant-loop-next g l = record {
+  same : g.T.TreeView.shows l.view ≡ g.T.TreeView.shows l.fn.view;
+  rest : walk_from (g.T.TreeView.shows l.fn.view) l.cred l.place l.directory l.name l.rest ≡ walk_of (g.T.TreeView.shows l.fn.view) l.cred l.path;
+  short : l.place + length l.rest ≤ PATH_MAX;
+}
+
+abbrev pub decreases-loop-next : goal.decreases-loop-next
+decreases-loop-next g l = length l.rest

@@ -1,0 +1,28 @@
+//! Paths, and the walk from a path to what it names (POSIX.1-2017, 4.13 Pathname Resolution).
+//!
+//! A path is parsed first, with no tree at hand: [`Path::parse`] takes a word of a call and answers
+//! the path, which borrows the word's bytes, or what is wrong in it. Clauses see a path as the list
+//! of its names. A tree is whatever implements [`TreeView`]; clauses see it as the two look-ups that
+//! it shows. [`walk`] follows a path's names through a tree for a caller, and answers where they
+//! lead, or the first test that fails, with its place.
+//!
+//! Begin with `specs/Paths` and `specs/Walks`, which say what `parse` and `walk` answer.
+//!
+//! ```text
+//! let path = Path::parse(b"/home/ada")?;
+//! match walk(&mut view, &cred, &path)? {
+//!     Walked::Name { object: Some(object), .. } => attributes_of(&mut view, object),
+//!     ..
+//! }
+//! ```
+#![tactic(auto)]
+
+mod name;
+mod path;
+mod view;
+mod walking;
+
+pub use name::{NAME_MAX, is_name};
+pub use path::{PATH_MAX, Path, PathFault};
+pub use view::{Attributes, Kind, Object, ROOT, ROOT_NUMBER, TreeView};
+pub use walking::{Obstacle, WalkError, WalkRefusal, Walked, attributes_of, child_of, walk};
