@@ -1,6 +1,6 @@
 -- From what the layers say to what the program's text is.
-use Rattle.std.proofs.Common.{◌≡◌, ℕ, List, Result, Ok, Err, refl, ap, subst}
-use Rattle.std.specs.Prelude.{OnOk}
+use Rattle.std.proofs.Common.{◌≡◌, ◌∙◌, ℕ, List, Result, Ok, Err, inl, inr, refl, ap, subst}
+use Rattle.std.specs.Prelude.{◌⊎◌, OnOk, IsErrAnd}
 use Rattle.std.specs.List.{flat_map}
 use Rattle.sn_model.specs.declared.call.Event.{Event}
 use Rattle.sn_model.specs.declared.reply.End.{End}
@@ -12,6 +12,10 @@ use Rattle.sn_script.specs.Replies.{reply_line}
 use Rattle.sn_script.specs.Scripts.{IsScript}
 use Rattle.sn_bin.specs.Answers.{IsAnswer}
 use Rattle.sn_bin.specs.Fault.{fault_of}
+use Rattle.sn_bin.specs.declared.fault.Fault.{Fault}
+use Rattle.sn_bin.specs.declared.fault.Fault.TheVariants as fault
+use Rattle.sn_script.specs.declared.fault.ScriptFault.{ScriptFault}
+use Rattle.sn_script.specs.declared.fault.ScriptFault.TheVariants as reading
 
 pub clean_end : (e : End) (x : Unit {0}) → fault_of e ≡ Ok x → e ≡ Clean
 clean_end Clean x h = refl
@@ -32,3 +36,10 @@ answers script read given replies shown last same kept is run = record {
 pub on_ok : {T E P Q : Type 0} (r : Result T E) → (P → Q) → OnOk r P → OnOk r Q
 on_ok (Ok x) f h = f h
 on_ok (Err e) f h = h
+
+-- the fault of a script, as the program tells it
+pub script_fault : (r : Result (Unit {0}) Fault) (why : ScriptFault) (n : ℕ) → IsErrAnd r (λ given. given ≡ fault.Script why)
+    → (why ≡ reading.Line n) ⊎ (why ≡ reading.Memory) → IsErrAnd r (λ given. (given ≡ fault.Script (reading.Line n)) ⊎ (given ≡ fault.Script reading.Memory))
+script_fault (Ok x) why n p q = absurd p
+script_fault (Err e) why n p (inl q) = inl (p ∙ ap fault.Script q)
+script_fault (Err e) why n p (inr q) = inr (p ∙ ap fault.Script q)

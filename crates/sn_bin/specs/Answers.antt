@@ -1,5 +1,7 @@
 -- What the program makes of a script.
 use Rattle.std.specs.Prelude.{◌≡◌, ℕ, List}
+use Rattle.std.specs.declared.option.Option.{Option}
+use Rattle.std.specs.Io.KnownBytes.{Appends}
 use Rattle.std.specs.List.{flat_map}
 use Rattle.sn_model.specs.declared.call.Event.{Event}
 use Rattle.sn_model.specs.declared.reply.Reply.{Reply}
@@ -16,3 +18,7 @@ pub record IsAnswer (script text : List ℕ) : Type 0 where
   pub read : IsScript events script
   pub run : Run new_world events replies last
   pub printed : text ≡ flat_map reply_line replies
+
+-- what the output had, and then the answer to a script
+abbrev pub HasAnswered : Option (List ℕ) → Option (List ℕ) → Type 0
+HasAnswered old new = (script text : List ℕ) × IsAnswer script text × Appends old new text

@@ -1,5 +1,5 @@
 -- What a fault says to the shell, and the fault that a run ends with.
-use Rattle.std.specs.Prelude.{ℕ, Result, Ok, Err}
+use Rattle.std.specs.Prelude.{ℕ, ◌≡◌, ◌⊎◌, Result, Ok, Err}
 use Rattle.sn_model.specs.declared.reply.End.{End}
 use Rattle.sn_model.specs.declared.reply.End.TheVariants as end
 use Rattle.sn_model.specs.declared.reply.MountFault.{MountFault}
@@ -19,3 +19,11 @@ abbrev pub fault_of : End → Result (Unit {0}) Fault
 fault_of end.Clean = Ok tt
 fault_of end.Memory = Err fault.Memory
 fault_of (end.Mount m) = Err (mount_fault m)
+
+-- a file or an output failed, or memory did on the way
+abbrev pub IsOfFile : Fault → Type 0
+IsOfFile given = (given ≡ fault.File) ⊎ (given ≡ fault.Memory)
+
+-- the words are no command, or there was no memory to read them
+abbrev pub IsOfWords : Fault → Type 0
+IsOfWords given = (given ≡ fault.Usage) ⊎ (given ≡ fault.Memory)

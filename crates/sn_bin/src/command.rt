@@ -1,3 +1,6 @@
+ghost use Rattle.std.specs.Prelude.{IfErr};
+ghost use Rattle.sn_bin.specs.Fault.{IsOfWords};
+
 use crate::fault::Fault;
 use clap::{Arg, Command};
 use std::alloc::Global;
@@ -11,7 +14,9 @@ pub enum Task<'a> {
 }
 
 /// The commands that there are.
-fn commands<'a>(alloc: Global) -> Result<Command<'a>, Fault> {
+fn commands<'a>(alloc: Global) -> Result<Command<'a>, Fault>
+    ensures { IfErr result IsOfWords }
+{
     let run = Command::new(alloc, "run")
         .arg(Arg::new(alloc, "IMAGE").required(true))?
         .arg(Arg::new(alloc, "SCRIPT").required(true))?;
@@ -23,7 +28,9 @@ fn commands<'a>(alloc: Global) -> Result<Command<'a>, Fault> {
 }
 
 /// What the words ask for. An empty word, or one that begins with a dash, fits no command.
-pub fn parse<'a, S: AsStr>(alloc: Global, words: &'a [S]) -> Result<Task<'a>, Fault> {
+pub fn parse<'a, S: AsStr>(alloc: Global, words: &'a [S]) -> Result<Task<'a>, Fault>
+    ensures { IfErr result IsOfWords }
+{
     for word in words {
         if word.as_str().is_empty() || word.as_str().starts_with('-') {
             return Err(Fault::Usage);

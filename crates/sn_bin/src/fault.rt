@@ -1,5 +1,6 @@
 ghost use Rattle.std.specs.Prelude.{◌≡◌};
-ghost use Rattle.sn_bin.specs.Fault.{status_of, fault_of};
+ghost use Rattle.sn_bin.specs.Fault.{status_of, fault_of, IsOfFile, IsOfWords};
+ghost use Rattle.sn_bin.specs.declared.fault.Fault.TheVariants as fault;
 
 use clap::error::ErrorKind;
 use sn_model::{End, MountFault};
@@ -59,12 +60,16 @@ pub fn tell<W: Write>(fault: Fault, err: &mut W) -> u8
 }
 
 impl From<AllocError> for Fault {
+    ghost from_gives = { λ _ given. given ≡ fault.Memory };
+
     fn from(_error: AllocError) -> Fault {
         Fault::Memory
     }
 }
 
 impl From<io::Error> for Fault {
+    ghost from_gives = { λ _ given. IsOfFile given };
+
     fn from(error: io::Error) -> Fault {
         match error.kind() {
             io::ErrorKind::OutOfMemory => Fault::Memory,
@@ -74,6 +79,8 @@ impl From<io::Error> for Fault {
 }
 
 impl From<clap::Error> for Fault {
+    ghost from_gives = { λ _ given. IsOfWords given };
+
     fn from(error: clap::Error) -> Fault {
         match error.kind() {
             ErrorKind::OutOfMemory => Fault::Memory,
@@ -83,6 +90,8 @@ impl From<clap::Error> for Fault {
 }
 
 impl From<ScriptFault> for Fault {
+    ghost from_gives = { λ script given. given ≡ fault.Script script };
+
     fn from(fault: ScriptFault) -> Fault {
         Fault::Script(fault)
     }

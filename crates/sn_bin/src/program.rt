@@ -1,8 +1,13 @@
-ghost use Rattle.std.specs.Prelude.{ℕ, List, ◌≤◌, OnOk};
+ghost use Rattle.std.specs.Prelude.{◌≡◌, ◌≢◌, ℕ, ◌+◌, ◌<◌, ◌≤◌, ◌⊎◌, ◌↔◌, List, length, OnOk, IfErr, IsErrOf, IsErrAnd};
 ghost use Rattle.std.specs.List.{flat_map};
 ghost use Rattle.std.specs.Io.KnownBytes.{Appends};
 ghost use Rattle.sn_script.specs.Replies.{reply_line};
-ghost use Rattle.sn_bin.specs.Answers.{IsAnswer};
+ghost use Rattle.sn_script.specs.Scripts.{IsFirstBad};
+ghost use Rattle.sn_script.specs.declared.fault.ScriptFault.{ScriptFault};
+ghost use Rattle.sn_script.specs.declared.fault.ScriptFault.TheVariants as reading;
+ghost use Rattle.sn_bin.specs.Answers.{IsAnswer, HasAnswered};
+ghost use Rattle.sn_bin.specs.Fault.{IsOfFile};
+ghost use Rattle.sn_bin.specs.declared.fault.Fault.TheVariants as fault;
 
 use crate::command::{Task, parse};
 use crate::fault::{Fault, tell};
@@ -25,7 +30,8 @@ fn read_file<R: Files + AllocGlobal>(rt: &R, path: &str) -> Result<Vec<u8>, Faul
 }
 
 fn write_replies<W: Write>(alloc: Global, replies: &[Reply], out: &mut W) -> Result<(), Fault>
-    ensures { OnOk result (Appends (W.contents out.old) (W.contents out.new) (flat_map reply_line replies.now)) }
+    ensures written { OnOk result (Appends (W.contents out.old) (W.contents out.new) (flat_map reply_line replies.now)) }
+    ensures faults { IfErr result IsOfFile }
 {
     let text = print_replies(alloc, replies)?;
     out.write_all(text.as_slice())?;
@@ -38,6 +44,16 @@ fn write_replies<W: Write>(alloc: Global, replies: &[Reply], out: &mut W) -> Res
 pub fn answer<W: Write>(alloc: Global, script: &[u8], out: &mut W) -> Result<(), Fault>
     // What is written for a script is what the machine may answer to it, and nothing else.
     ensures answered { OnOk result ((text : List ℕ) × IsAnswer script.now text × Appends (W.contents out.old) (W.contents out.new) text) }
+
+    // A fault of the script names its first bad line, or 0 where it is too long, and nothing is written.
+    ensures long { IsErrOf result (fault.Script (reading.Line 0)) ↔ (SCRIPT_MAX < length script.now) }
+    ensures bad { (n : ℕ) → IsErrOf result (fault.Script (reading.Line (n + 1))) → IsFirstBad script.now (n + 1) }
+    ensures first { (n : ℕ) → IsFirstBad script.now n → length script.now ≤ SCRIPT_MAX
+        → IsErrAnd result (λ why. (why ≡ fault.Script (reading.Line n)) ⊎ (why ≡ fault.Script reading.Memory)) }
+    ensures unread { (why : ScriptFault) → IsErrOf result (fault.Script why) → out.new ≡ out.old }
+
+    // The words are no matter of a script.
+    ensures words { IfErr result (λ why. why ≢ fault.Usage) }
 {
     let events = read_script(alloc, script)?;
     let (replies, end) = run_plain(alloc, events.as_slice());
@@ -50,7 +66,10 @@ fn execute<R: Files + AllocGlobal, W: Write, S: AsStr>(
     rt: &R,
     words: &[S],
     out: &mut W,
-) -> Result<(), Fault> {
+) -> Result<(), Fault>
+    ensures answered { OnOk result (HasAnswered (W.contents out.old) (W.contents out.new)) }
+    ensures words { IsErrOf result fault.Usage → out.new ≡ out.old }
+{
     let Task::Run { script, .. } = parse(rt.alloc(), words)?;
     let script = read_file(rt, script)?;
     answer(rt.alloc(), script.as_slice(), out)
@@ -64,7 +83,10 @@ pub fn program<R: Files + AllocGlobal, W: Write, E: Write, S: AsStr>(
     out: &mut W,
     err: &mut E,
 ) -> u8
-    ensures { result ≤ 2 }
+    // What was written is an answer to some script: which bytes the file gave can't be said here.
+    ensures answered { result ≡ 0 → HasAnswered (W.contents out.old) (W.contents out.new) }
+    ensures words { result ≡ 2 → out.new ≡ out.old }
+    ensures status { result ≤ 2 }
 {
     match execute(rt, words, out) {
         Ok(()) => 0,
