@@ -1,5 +1,5 @@
 use crate::{Device, Fault, Fill, MemDevice, Sector, journal};
-use std::alloc::{AllocError, Global};
+use std::alloc::Global;
 use std::process::Abort;
 use std::test::Fail;
 
@@ -29,11 +29,20 @@ fn faults_of_calls(device: &mut MemDevice) -> [bool; 6] {
     [first, sync, second, third, read, last]
 }
 
+// The same, where memory wasn't refused.
+fn told_faults(device: &mut MemDevice) -> Result<[bool; 6], Fault> {
+    let faults = faults_of_calls(device);
+    if device.status().is_spent {
+        return Err(Fault);
+    }
+    Ok(faults)
+}
+
 // What a crash leaves in sectors 0, 1 and 2 after those calls, where so many writes succeed.
-fn left_after(alloc: Global, writes: u64, fill: Fill) -> Result<Option<[Sector; 3]>, AllocError> {
+fn left_after(alloc: Global, writes: u64, fill: Fill) -> Result<Option<[Sector; 3]>, Fail> {
     let mut device = MemDevice::new(alloc, 3)?;
     device.stop_at(writes);
-    let _ = faults_of_calls(&mut device);
+    let _ = told_faults(&mut device)?;
     let crashed = device.crash(fill);
     if let [a, b, c] = crashed.contents() {
         return Ok(Some([*a, *b, *c]));
@@ -65,7 +74,7 @@ fn each_call_fails_in_turn(rt: HostRuntime) -> Result<(), Fail> {
     for k in 1..8 {
         let mut device = MemDevice::new(rt.alloc(), 3)?;
         device.fail_at(k);
-        let faults = faults_of_calls(&mut device);
+        let faults = told_faults(&mut device)?;
         let mut wanted = [false; 6];
         if let Some(fault) = wanted.get_mut(k as usize - 1) {
             *fault = true;
@@ -81,7 +90,7 @@ fn a_stop_is_for_good(rt: HostRuntime) -> Result<(), Fail> {
     let mut device = MemDevice::new(rt.alloc(), 3)?;
     device.stop_at(2);
     assert_eq!(rt;
-        faults_of_calls(&mut device),
+        told_faults(&mut device)?,
         [false, false, false, true, true, true]
     );
     assert_eq!(rt; device.failures(), 3);
