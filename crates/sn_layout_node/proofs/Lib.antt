@@ -3,3 +3,4 @@ pub mod Heads
 pub mod EntryLists
 pub mod AclLists
 pub mod Links
+pub mod Changes

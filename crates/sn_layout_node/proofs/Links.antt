@@ -9,13 +9,16 @@ use Rattle.byteorder.specs.Endian.{little_number}
 use Rattle.byteorder.specs.Numbers.{little_number-reads_back}
 use Rattle.sn_layout.specs.Bytes.{number_bytes, zeros}
 use Rattle.sn_layout.proofs.Fields.{true_false, length-number_bytes, length-zeros}
-use Rattle.sn_layout_node.specs.Directory.{Link, IsLink, AreLinks, AreLinkBytes, link_bytes, links_bytes, links_within, links_of, directory_bytes, begins_link}
+use Rattle.sn_layout_node.specs.Directory.{Link, IsLink, AreLinks, AreLinkBytes, link_bytes, links_bytes, links_within, links_of, directory_bytes, begins_link, BeginsWithLink}
 
 pub length-link : (link : Link) → length (link_bytes link) ≡ length link.name + 3
 length-link link = omega (arith, length-append (number_bytes 2 link.number) (length link.name ∷ link.name), length-number_bytes 2 link.number)
 
 pub length-links : (link : Link) (links : List Link) → length (links_bytes (link ∷ links)) ≡ length link.name + 3 + length (links_bytes links)
 length-links link links = omega (arith, length-append (link_bytes link) (links_bytes links), length-link link)
+
+pub link_flat : (link : Link) (rest : List ℕ) → link_bytes link ++ rest ≡ number_bytes 2 link.number ++ (length link.name ∷ (link.name ++ rest))
+link_flat link rest = append_assoc (number_bytes 2 link.number) (length link.name ∷ link.name) rest
 
 -- links are read as they were written
 within_links : (n : ℕ) (links : List Link) → AllByRecursion IsLink links → length (links_bytes links) ≤ n → links_within n (links_bytes links) ≡ links
@@ -85,23 +88,29 @@ next_left old new n P some only begins (link ∷ more, each, e) =
     let found = only link (links_bytes more ++ zeros n) each.0 (e ∙ append_assoc (link_bytes link) (links_bytes more) (zeros n)) in
     ((more, each.1, found.1), found.2)
 
+pub begins_with : (left : List ℕ) (n : ℕ) → begins_link left ≡ true → AreLeft left n → BeginsWithLink left
+begins_with left n begins ([], each, e) = true_false (begins_link left) begins (ap begins_link e ∙ begins_zeros n)
+begins_with left n begins (link ∷ more, each, e) = (link, links_bytes more ++ zeros n, each.0, e ∙ append_assoc (link_bytes link) (links_bytes more) (zeros n))
+
 -- no link is left
 pub none_left : (left : List ℕ) (n : ℕ) → begins_link left ≡ false → AreLeft left n → left ≡ zeros n
 none_left left n ends ([], each, e) = e
 none_left left n ends (link ∷ more, each, e) =
     true_false (begins_link left) (ap begins_link (e ∙ append_assoc (link_bytes link) (links_bytes more) (zeros n)) ∙ begins_first link (links_bytes more ++ zeros n) each.0) ends
 
-each_more : (links : List Link) (link : Link) → AllByRecursion IsLink links → IsLink link → AllByRecursion IsLink (links ++ link ∷ [])
+pub each_more : (links : List Link) (link : Link) → AllByRecursion IsLink links → IsLink link → AllByRecursion IsLink (links ++ link ∷ [])
 each_more [] link each fits = (fits, tt)
 each_more (l ∷ links) link each fits = (each.0, each_more links link each.1 fits)
 
+pub links_more : (links : List Link) (link : Link) → links_bytes (links ++ link ∷ []) ≡ links_bytes links ++ link_bytes link
+links_more links link = flat_map-append link_bytes links (link ∷ []) ∙ ap (λ (r : List ℕ). links_bytes links ++ r) (append-nil (link_bytes link))
+
 pub read_more : (bytes old new : List ℕ) (link : Link) → AreRead bytes old → IsLink link → old ≡ link_bytes link ++ new → AreRead bytes new
-read_more bytes old new link (links, each, e) fits next =
-    let more : links_bytes (links ++ link ∷ []) ≡ links_bytes links ++ link_bytes link = flat_map-append link_bytes links (link ∷ []) ∙ ap (λ (r : List ℕ). links_bytes links ++ r) (append-nil (link_bytes link)) in (
-      links ++ link ∷ [],
-      each_more links link each fits,
-      e ∙ ap (λ (r : List ℕ). links_bytes links ++ r) next ∙ sym (append_assoc (links_bytes links) (link_bytes link) new) ∙ ap (λ (r : List ℕ). r ++ new) (sym more),
-    )
+read_more bytes old new link (links, each, e) fits next = (
+  links ++ link ∷ [],
+  each_more links link each fits,
+  e ∙ ap (λ (r : List ℕ). links_bytes links ++ r) next ∙ sym (append_assoc (links_bytes links) (link_bytes link) new) ∙ ap (λ (r : List ℕ). r ++ new) (sym (links_more links link)),
+)
 
 -- what was read are link bytes, and behind them is what is left
 pub read_front : (bytes left : List ℕ) (n : ℕ) → length bytes ≡ 4096 → length left ≡ n → AreRead bytes left → AreLinkBytes (take (4096 - n) bytes)

@@ -32,6 +32,15 @@ pub record AreLinks (links : List Link) : Type 0 where
 abbrev pub directory_bytes : List Link → List ℕ
 directory_bytes links = links_bytes links ++ zeros (4096 - length (links_bytes links))
 
+-- a block of these links
+pub record Spells (block : List ℕ) (links : List Link) : Type 0 where
+  pub fit : AreLinks links
+  pub bytes : block ≡ directory_bytes links
+
+-- the block is one of some links
+abbrev pub IsDirectoryBlock : List ℕ → Type 0
+IsDirectoryBlock block = (links : List Link) × Spells block links
+
 -- at most n links, read from the front of bytes that are nothing but links
 unfoldable pub links_within : ℕ → List ℕ → List Link
 links_within zero bytes = []
@@ -53,6 +62,14 @@ abbrev pub number_of : List ℕ → List Link → Option ℕ
 number_of name [] = None
 number_of name (link ∷ links) = if bytes_eq link.name name then Some link.number else number_of name links
 
+-- the links but the first of a name
+abbrev pub without : List ℕ → List Link → List Link
+without name [] = []
+without name (link ∷ links) = if bytes_eq link.name name then links else (link ∷ without name links)
+
 -- the bytes begin with a number that is not 0
 abbrev pub begins_link : List ℕ → Bool
 begins_link bytes = nat_le 2 (length bytes) && not (little_number 2 bytes == 0)
+
+abbrev pub BeginsWithLink : List ℕ → Type 0
+BeginsWithLink bytes = (link : Link) × (rest : List ℕ) × IsLink link × (bytes ≡ link_bytes link ++ rest)

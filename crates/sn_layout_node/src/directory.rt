@@ -5,12 +5,12 @@
 //! | 0 | number u16, from 2 up |
 //! | 2 | length of the name u8, 1 to 255 |
 //! | 3 | name |
-ghost use Rattle.std.specs.Prelude.{◌∷◌, ◌≡◌, ℕ, ◌+◌, ◌-◌, ◌<◌, ◌≤◌, List, ◌++◌, length, take, drop, Some, IfSome, IsSome};
-ghost use Rattle.sn_layout.specs.Bytes.{zeros};
-ghost use Rattle.sn_layout_node.specs.Directory.{Link, IsLink, AreLinks, AreLinkBytes, link_bytes, links_bytes, directory_bytes, begins_link, links_of, number_of};
+ghost use Rattle.std.specs.Prelude.{[], ◌∷◌, ◌≡◌, ◌↔◌, ℕ, ◌+◌, ◌-◌, ◌<◌, ◌≤◌, List, ◌++◌, length, take, drop, false, Some, IfSome, IsNone, IsSome, IsTrue};
+ghost use Rattle.sn_layout.specs.Bytes.{Puts, zeros};
+ghost use Rattle.sn_layout_node.specs.Directory.{Link, IsLink, AreLinks, AreLinkBytes, Spells, IsDirectoryBlock, link_bytes, links_bytes, directory_bytes, begins_link, links_of, number_of, without, BeginsWithLink};
 
 use byteorder::{ByteOrder, LittleEndian};
-use sn_layout::{BLOCK_SIZE, Block, Reader};
+use sn_layout::{BLOCK_SIZE, Block, Reader, put_bytes, put_u8, put_u16, put_zeros};
 use sn_walk::is_name;
 use std::marker::Model;
 
@@ -98,6 +98,83 @@ fn number_of(links: &[u8], name: &[u8]) -> Option<u16>
     None
 }
 
+// Reads past a link.
+fn skip_link(reader: &mut Reader<'_>)
+    requires { BeginsWithLink reader.old }
+    ensures only { (link : Link) (rest : List ℕ) → IsLink link → reader.old ≡ link_bytes link ++ rest → reader.new ≡ rest }
+    ensures shorter { length reader.new < length reader.old }
+{
+    reader.bytes(2);
+    let count = reader.u8() as usize;
+    reader.bytes(count);
+}
+
+// How many bytes at the front of a directory block are links.
+fn links_size(block: &[u8]) -> usize
+    requires { IsDirectoryBlock block.now }
+    ensures { (links : List Link) → Spells block.now links → result ≡ length (links_bytes links) }
+{
+    let mut reader = Reader::new(block);
+    while begins_link(reader.rest()) {
+        skip_link(&mut reader);
+    }
+    BLOCK_SIZE - reader.remaining()
+}
+
+fn put_link(block: &mut [u8], at: usize, name: &[u8], number: u16) -> usize
+    requires name { length name.now < 256 }
+    requires room { at + 3 + length name.now ≤ length block.old }
+    ensures bytes { Puts block.old block.new at result (link_bytes (record { number = number; name = name.now })) }
+    ensures next { result ≡ at + 3 + length name.now }
+{
+    let at = put_u16(block, at, number);
+    let at = put_u8(block, at, name.len() as u8);
+    put_bytes(block, at, name)
+}
+
+// A link among others: its number, and which bytes it is.
+#[derive(Clone, Copy)]
+struct Place {
+    number: u16,
+    start: usize,
+    end: usize,
+}
+
+fn place_of(links: &[u8], name: &[u8]) -> Option<Place>
+    requires { AreLinkBytes links.now }
+    ensures found { IfSome result (λ place. number_of name.now (links_of links.now) ≡ Some place.number) }
+    ensures within { IfSome result (λ place. (place.start ≤ place.end) × (place.end ≤ length links.now)) }
+    ensures others { IfSome result (λ place. links_bytes (without name.now (links_of links.now)) ≡ take place.start links.now ++ drop place.end links.now) }
+    ensures none { IsNone result → (number_of name.now (links_of links.now) ≡ None) × (without name.now (links_of links.now) ≡ links_of links.now) }
+{
+    let mut reader = Reader::new(links);
+    while reader.remaining() > 0 {
+        let start = links.len() - reader.remaining();
+        let link = next_link(&mut reader);
+        if link.name == name {
+            return Some(Place {
+                number: link.number,
+                start,
+                end: links.len() - reader.remaining(),
+            });
+        }
+    }
+    None
+}
+
+// Takes a part out of so many bytes at the front of a block, and leaves zeros behind the others.
+fn take_out(block: &mut [u8], start: usize, end: usize, size: usize)
+    requires block { length block.old ≡ 4096 }
+    requires start { start ≤ end }
+    requires end { end ≤ size }
+    requires size { size ≤ 4096 }
+    ensures { block.new ≡ take start block.old ++ drop end (take size block.old) ++ zeros (4096 - (start + (size - end))) }
+{
+    block.copy_within(end..size, start);
+    let kept = start + (size - end);
+    put_zeros(block, kept, BLOCK_SIZE - kept);
+}
+
 /// The names of a directory block, which are read where they stand.
 #[derive(Drop)]
 pub struct DirectoryBlock<'a> {
@@ -118,8 +195,8 @@ impl<'a> Model for DirectoryBlock<'a> {
 impl<'a> DirectoryBlock<'a> {
     /// The names that the block spells. That no name stands twice in a directory is not tested here.
     pub fn decode(block: &'a Block) -> Option<Self>
-        ensures found { IfSome result (λ links. AreLinks links × (block.now ≡ directory_bytes links)) }
-        ensures only { (links : List Link) → AreLinks links → block.now ≡ directory_bytes links → result ≡ Some links }
+        ensures found { IfSome result (λ links. Spells block.now links) }
+        ensures only { (links : List Link) → Spells block.now links → result ≡ Some links }
     {
         let bytes = &block[..];
         let end = links_end(bytes)?;
@@ -140,6 +217,48 @@ impl<'a> DirectoryBlock<'a> {
         ensures { result ≡ self.now }
     {
         Entries::over(self.links)
+    }
+
+    /// Makes the block one of no names, whatever stood there.
+    pub fn clear(block: &mut Block)
+        ensures { Spells block.new [] }
+    {
+        put_zeros(block, 0, BLOCK_SIZE);
+    }
+
+    /// Puts a name with its number behind the others. `false` where the block has no room for it,
+    /// and nothing is changed. That the name doesn't stand there yet is not tested here.
+    pub fn insert(block: &mut Block, name: &[u8], number: u16) -> bool
+        requires block { IsDirectoryBlock block.old }
+        requires link { IsLink (record { number = number; name = name.now }) }
+        ensures room { (links : List Link) → Spells block.old links
+            → (IsTrue result ↔ AreLinks (links ++ record { number = number; name = name.now } ∷ [])) }
+        ensures inserted { (links : List Link) → Spells block.old links → IsTrue result
+            → Spells block.new (links ++ record { number = number; name = name.now } ∷ []) }
+        ensures full { result ≡ false → block.new ≡ block.old }
+        ensures still { IsDirectoryBlock block.new }
+    {
+        let size = links_size(&block[..]);
+        if name.len() + 3 > BLOCK_SIZE - size {
+            return false;
+        }
+        let size = put_link(block, size, name, number);
+        put_zeros(block, size, BLOCK_SIZE - size);
+        true
+    }
+
+    /// Takes out a name, and answers its number. `None` where there is no such name, and nothing is
+    /// changed.
+    pub fn remove(block: &mut Block, name: &[u8]) -> Option<u16>
+        requires { IsDirectoryBlock block.old }
+        ensures number { (links : List Link) → Spells block.old links → result ≡ number_of name.now links }
+        ensures removed { (links : List Link) → Spells block.old links → Spells block.new (without name.now links) }
+        ensures still { IsDirectoryBlock block.new }
+    {
+        let size = links_size(&block[..]);
+        let place = place_of(&block[..size], name)?;
+        take_out(block, place.start, place.end, size);
+        Some(place.number)
     }
 }
 

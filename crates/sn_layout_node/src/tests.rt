@@ -1,8 +1,8 @@
 //! Blocks and records whose bytes were laid out by hand.
 use super::*;
 use sn_acl::{Acl, Entry, Mode, Permissions, Tag};
-use sn_layout::{BLOCK_SIZE, BlockTree, Limits, Reader};
-use sn_walk::Kind;
+use sn_layout::{BLOCK_SIZE, Block, BlockTree, Limits, Reader};
+use sn_walk::{Kind, is_name};
 use std::test::Fail;
 
 fn root_record() -> [u8; INODE_SIZE] {
@@ -231,5 +231,133 @@ fn names(rt: HostRuntime) -> Result<(), Fail> {
         // Byte 4 as 0 makes 65,280 of the number, which is one.
         assert_eq!(rt; decoded.is_some(), at == 4, "byte {at} as {byte}");
     }
+    Ok(())
+}
+
+#[test]
+fn names_in_order(rt: HostRuntime) -> Result<(), Fail> {
+    let block = two_names();
+    let names = DirectoryBlock::decode(&block).ok_or("a directory block")?;
+    let mut entries = names.entries();
+    let first = entries.next().ok_or("a first name")?;
+    assert_eq!(rt; first.number, 3);
+    assert_eq!(rt; first.name, b"f".as_slice());
+    let second = entries.next().ok_or("a second name")?;
+    assert_eq!(rt; second.number, 65_535);
+    assert_eq!(rt; second.name, b"dir".as_slice());
+    assert!(rt; entries.next().is_none());
+    Ok(())
+}
+
+fn insert(block: &mut Block, name: &[u8], number: u16) -> Result<bool, Fail> {
+    if DirectoryBlock::decode(block).is_none() || number < 2 || !is_name(name) {
+        return Err("no block, or no entry".into());
+    }
+    Ok(DirectoryBlock::insert(block, name, number))
+}
+
+fn remove(block: &mut Block, name: &[u8]) -> Result<Option<u16>, Fail> {
+    if DirectoryBlock::decode(block).is_none() {
+        return Err("no block".into());
+    }
+    Ok(DirectoryBlock::remove(block, name))
+}
+
+#[test]
+fn first_names_of_a_block(rt: HostRuntime) -> Result<(), Fail> {
+    let mut block = [0xa5; BLOCK_SIZE];
+    DirectoryBlock::clear(&mut block);
+    assert!(rt; block == [0; BLOCK_SIZE]);
+    assert!(rt; insert(&mut block, b"f", 3)?);
+    assert!(rt; insert(&mut block, b"dir", 65_535)?);
+    assert!(rt; block == two_names());
+    assert_eq!(rt; remove(&mut block, b"di")?, None);
+    assert!(rt; block == two_names());
+    assert_eq!(rt; remove(&mut block, b"f")?, Some(3));
+    let bytes = &block[..];
+    assert_eq!(rt;
+        &bytes[..8],
+        [0xff, 0xff, 3, b'd', b'i', b'r', 0, 0].as_slice()
+    );
+    assert_eq!(rt; remove(&mut block, b"dir")?, Some(65_535));
+    assert!(rt; block == [0; BLOCK_SIZE]);
+    Ok(())
+}
+
+// The name of a place below 400.
+fn name_at(place: usize) -> [u8; 7] {
+    let digit = |n: usize| b'0' + (n % 10) as u8;
+    [
+        b'n',
+        digit(place / 100),
+        digit(place / 10),
+        digit(place),
+        b'-',
+        b'-',
+        b'-',
+    ]
+}
+
+// 400 names of 7 bytes, of which inode 2 has the first, and one may be gone.
+fn names_without(gone: usize) -> [u8; BLOCK_SIZE] {
+    let mut block = [0; BLOCK_SIZE];
+    let mut at = 0;
+    for place in 0..400 {
+        if place != gone && at <= 4000 {
+            block[at] = ((place + 2) % 256) as u8;
+            block[at + 1] = ((place + 2) / 256) as u8;
+            block[at + 2] = 7;
+            block[at + 3..at + 10].copy_from_slice(&name_at(place));
+            at += 10;
+        }
+    }
+    block
+}
+
+#[test]
+fn four_hundred_names(rt: HostRuntime) -> Result<(), Fail> {
+    let block = names_without(400);
+    let names = DirectoryBlock::decode(&block).ok_or("a directory block")?;
+    assert_eq!(rt; names.find(b"n000---"), Some(2));
+    assert_eq!(rt; names.find(b"n399---"), Some(401));
+    assert_eq!(rt; names.find(b"n400---"), None);
+    let mut place = 0;
+    for entry in names.entries() {
+        assert!(rt; place < 400);
+        assert_eq!(rt; usize::from(entry.number), place + 2);
+        assert_eq!(rt; entry.name, name_at(place).as_slice());
+        place += 1;
+    }
+    assert_eq!(rt; place, 400);
+    Ok(())
+}
+
+#[test]
+fn one_of_four_hundred_names_removed(rt: HostRuntime) -> Result<(), Fail> {
+    for (gone, number) in [(0, 2), (1, 3), (200, 202), (398, 400), (399, 401)] {
+        let mut block = names_without(400);
+        assert_eq!(rt; remove(&mut block, &name_at(gone))?, Some(number));
+        assert!(rt; block == names_without(gone), "without {gone}");
+    }
+    Ok(())
+}
+
+#[test]
+fn insert_up_to_the_last_byte(rt: HostRuntime) -> Result<(), Fail> {
+    let full = [b'z'; 94];
+    let mut block = names_without(400);
+    assert!(rt; !insert(&mut block, &full, 500)?);
+    assert!(rt; block == names_without(400));
+    assert!(rt; insert(&mut block, &full[..93], 500)?);
+    let mut wanted = names_without(400);
+    wanted[4000] = 0xf4;
+    wanted[4001] = 1;
+    wanted[4002] = 93;
+    wanted[4003..].fill(b'z');
+    assert!(rt; block == wanted);
+    assert!(rt; !insert(&mut block, b"a", 501)?);
+    assert!(rt; block == wanted);
+    assert_eq!(rt; remove(&mut block, &full[..93])?, Some(500));
+    assert!(rt; block == names_without(400));
     Ok(())
 }
