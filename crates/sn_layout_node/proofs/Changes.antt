@@ -1,13 +1,11 @@
 -- A directory block after a change.
-use Rattle.std.proofs.Common.{◌≡◌, ℕ, ◌+◌, ◌-◌, ◌≤◌, Bool, true, false, Option, Some, None, List, [], ◌∷◌, ◌++◌, length, take, drop, refl, sym, ap, subst, ◌∙◌, append_assoc, length-append, arith}
-use Rattle.std.specs.Prelude.{if◌then◌else◌}
+use Rattle.std.proofs.Common.{◌≡◌, ℕ, ◌+◌, ◌-◌, ◌≤◌, Bool, true, false, Some, None, List, [], ◌∷◌, ◌++◌, length, take, drop, refl, sym, ap, subst, ◌∙◌, append_assoc, length-append, arith}
 use Rattle.std.specs.Str.{bytes_eq}
 use Rattle.std.specs.List.{AllByRecursion}
 use Rattle.std.proofs.lemmas.List.{take_at, drop_at, take_all, take-append-drop, take-append-le, length-take-le, length-drop}
 use Rattle.std.proofs.lemmas.Slice.{between_is}
 use Rattle.std.proofs.Math.Seq.{paste}
-use Rattle.sn_layout.specs.Bytes.{zeros, Puts}
-use Rattle.sn_layout.proofs.Fields.{length-zeros}
+use Rattle.sn_layout.specs.Bytes.{zeros}
 use Rattle.sn_layout_node.specs.Directory.{Link, IsLink, AreLinkBytes, Spells, link_bytes, links_bytes, links_of, number_of, without}
 use Rattle.sn_layout_node.proofs.Links.{length-link, each_more, links_more, links_of-bytes}
 

@@ -1,15 +1,15 @@
 -- The links of a directory block.
-use Rattle.std.proofs.Common.{◌≡◌, ℕ, zero, suc, ◌+◌, ◌-◌, ◌^◌, ◌<◌, ◌≤◌, Bool, true, false, not, ◌&&◌, Option, None, Some, List, [], ◌∷◌, ◌++◌, length, take, drop, get_or, refl, sym, ap, subst, ◌∙◌, append_assoc, length-append, arith}
+use Rattle.std.proofs.Common.{◌≡◌, ℕ, zero, suc, ◌+◌, ◌-◌, ◌^◌, ◌<◌, ◌≤◌, Bool, true, false, ◌&&◌, Option, None, Some, List, [], ◌∷◌, ◌++◌, length, take, drop, refl, sym, ap, subst, ◌∙◌, append_assoc, length-append, arith}
 use Rattle.std.specs.Prelude.{IsSome, nat_le, ◌==◌}
-use Rattle.std.specs.List.{flat_map, AllByRecursion}
+use Rattle.std.specs.List.{AllByRecursion}
 use Rattle.std.proofs.lemmas.Bool.{le-leb, ne_eqb}
 use Rattle.std.proofs.lemmas.Grind.{flat_map-append}
 use Rattle.std.proofs.lemmas.List.{append-nil, take_at, drop_at}
 use Rattle.byteorder.specs.Endian.{little_number}
 use Rattle.byteorder.specs.Numbers.{little_number-reads_back}
 use Rattle.sn_layout.specs.Bytes.{number_bytes, zeros}
-use Rattle.sn_layout.proofs.Fields.{true_false, length-number_bytes, length-zeros}
-use Rattle.sn_layout_node.specs.Directory.{Link, IsLink, AreLinks, AreLinkBytes, link_bytes, links_bytes, links_within, links_of, directory_bytes, begins_link, BeginsWithLink}
+use Rattle.sn_layout.proofs.Fields.{true_false, length-number_bytes}
+use Rattle.sn_layout_node.specs.Directory.{Link, IsLink, AreLinkBytes, link_bytes, links_bytes, links_within, links_of, begins_link, BeginsWithLink}
 
 pub length-link : (link : Link) → length (link_bytes link) ≡ length link.name + 3
 length-link link = omega (arith, length-append (number_bytes 2 link.number) (length link.name ∷ link.name), length-number_bytes 2 link.number)

@@ -1,7 +1,5 @@
-use Rattle.std.proofs.Common.{◌≡◌, ◌++◌, ◌-◌, List, length}
-use Rattle.std.specs.List.{AllByRecursion}
-use Rattle.sn_layout.specs.Bytes.{zeros}
-use Rattle.sn_layout_node.specs.Directory.{Link, IsLink, AreLinks, links_bytes, directory_bytes}
+use Rattle.std.proofs.Common.{◌≡◌, ◌-◌, List, length}
+use Rattle.sn_layout_node.specs.Directory.{Link, AreLinks, links_bytes, directory_bytes}
 use Rattle.sn_layout_node.proofs.Links.{AreRead, AreLeft}
 use Rattle.sn_layout_node.proofs.directory.links_end.Given as goal
 

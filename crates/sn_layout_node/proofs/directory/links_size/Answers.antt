@@ -1,5 +1,4 @@
-use Rattle.std.proofs.Common.{◌≡◌, ◌∙◌, ◌-◌, length, sym, ap, arith}
-use Rattle.sn_layout.specs.Bytes.{zeros}
+use Rattle.std.proofs.Common.{◌∙◌, ◌-◌, length, sym, ap, arith}
 use Rattle.sn_layout.proofs.Fields.{length-zeros}
 use Rattle.sn_layout_node.specs.Directory.{links_bytes, begins_link}
 use Rattle.sn_layout_node.proofs.Links.{begins_with, next_left, none_left}

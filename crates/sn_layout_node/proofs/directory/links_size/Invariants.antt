@@ -1,4 +1,4 @@
-use Rattle.std.proofs.Common.{◌≡◌, ◌-◌, List, length}
+use Rattle.std.proofs.Common.{◌-◌, List, length}
 use Rattle.sn_layout_node.specs.Directory.{Link, Spells, links_bytes}
 use Rattle.sn_layout_node.proofs.Links.{AreLeft}
 use Rattle.sn_layout_node.proofs.directory.links_size.Given as goal

@@ -1,4 +1,4 @@
-use Rattle.std.proofs.Common.{◌≡◌, ◌∙◌, ◌∷◌, ◌++◌, List, ℕ, length, refl, sym, ap, subst, arith, length-append}
+use Rattle.std.proofs.Common.{◌≡◌, ◌∙◌, ◌∷◌, List, ℕ, length, sym, ap, subst, arith, length-append}
 use Rattle.sn_layout_node.specs.Directory.{Link, AreLinkBytes, links_bytes, links_of}
 use Rattle.sn_layout_node.proofs.Links.{first_link, first_long, are_link_bytes, links_of-bytes}
 use Rattle.sn_layout_node.proofs.directory.next_link.Goals as goal

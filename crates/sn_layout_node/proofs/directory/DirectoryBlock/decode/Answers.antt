@@ -1,4 +1,4 @@
-use Rattle.std.proofs.Common.{◌≡◌, ◌∙◌, ◌-◌, ◌++◌, List, ℕ, Some, length, take, refl, sym, ap, arith}
+use Rattle.std.proofs.Common.{◌≡◌, ◌∙◌, ◌-◌, Some, length, take, sym, ap}
 use Rattle.std.proofs.lemmas.List.{take_at}
 use Rattle.sn_layout.specs.Bytes.{zeros}
 use Rattle.sn_layout.proofs.Fields.{some_some}

@@ -1,4 +1,4 @@
-use Rattle.std.proofs.Common.{[], ◌∷◌, ◌++◌, ap, arith}
+use Rattle.std.proofs.Common.{[], ◌∷◌, ◌++◌, arith}
 use Rattle.sn_layout_node.specs.Directory.{Link}
 use Rattle.sn_layout_node.proofs.Changes.{added, length-more}
 use Rattle.sn_layout_node.proofs.directory.DirectoryBlock.insert.Goals as goal
