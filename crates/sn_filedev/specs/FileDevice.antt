@@ -2,11 +2,21 @@
 use Rattle.std.specs.Prelude.{[]}
 use Rattle.sn_device.specs.Disk.{Disk}
 use Rattle.sn_device.specs.declared.status.Status.{Status}
+use Rattle.sn_filedev.specs.declared.block.Block.{Block}
 use Rattle.sn_filedev.specs.declared.file.FileDevice.{FileDevice}
+use Rattle.sn_filedev.specs.declared.gathered.Gathered.{Gathered}
 
 -- its ghost member `status`
 abbrev pub status_of : {F : Type 0} → FileDevice F → Status
 status_of d = d.status
+
+-- the block that was read last
+abbrev pub block_of : {F : Type 0} → FileDevice F → Block
+block_of d = d.block
+
+-- the sectors that wait to be handed to the file
+abbrev pub gathered_of : {F : Type 0} → FileDevice F → Gathered
+gathered_of d = d.gathered
 
 -- in the place of what is on a device that doesn't tell its bytes
 abbrev pub untold : Disk

@@ -1,1 +1,4 @@
+pub mod Block
 pub mod FileDevice
+pub mod Gathered
+pub mod Runs

@@ -44,7 +44,7 @@ impl Block {
         ensures ok { OnOk result (self.new.number ≡ Some number) }
         ensures err { OnErr result (self.new.number ≡ None) }
     {
-        self.number = None;
+        self.forget();
         let bytes = &mut self.bytes[..sectors as usize * SECTOR_SIZE];
         file.read_exact_at(bytes, number * 4096)?;
         self.number = Some(number);

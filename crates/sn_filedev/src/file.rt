@@ -1,6 +1,10 @@
 //! A device over a file.
-ghost use Rattle.std.specs.Prelude.{◌≡◌, ◌*◌, ◌+◌, ◌<◌, ◌^◌, false, IfOk};
-ghost use Rattle.sn_device.specs.Status.{uncalled};
+ghost use Rattle.std.specs.Prelude.{◌≡◌, ◌≢◌, ◌⊎◌, ◌*◌, ◌+◌, ◌/◌, ◌<◌, ◌^◌, [], false, Some, length, IsTrue, IsErr, IfOk, OnOk, OnErr};
+ghost use Rattle.std.specs.Option.{ForSome};
+ghost use Rattle.sn_device.specs.Status.{uncalled, one_write, one_sync, Counts, CountsOrEnds};
+ghost use Rattle.sn_filedev.specs.Runs.{IsApart};
+ghost use Rattle.sn_filedev.specs.Gathered.{Gathers};
+ghost use Rattle.sn_filedev.specs.Block.{Shows};
 ghost use Rattle.std.proofs.lemmas.Bool.{false≢true};
 
 use crate::block::{BLOCK_SECTORS, Block};
@@ -19,9 +23,13 @@ pub struct FileDevice<F: FileExt + OpenFile> {
     file: F,
     status: Status,
     gathered: Gathered,
-    // None of its sectors is gathered.
     block: Block,
+    // The file's own sync failed. The system may have dropped what it couldn't write, and a later
+    // sync of the file wouldn't tell.
+    is_lost: bool,
     ghost within: { status.sectors * 512 < 2 ^ 64 },
+    // No sector of the block is gathered, so what is read of it was written last.
+    ghost apart: { ForSome block.number (IsApart gathered.first (length gathered.bytes.items / 512)) },
 }
 
 impl<F: FileExt + OpenFile + Drop> FileDevice<F> {
@@ -77,12 +85,20 @@ impl<F: FileExt + OpenFile + Drop> FileDevice<F> {
             status: Status::new(sectors),
             gathered,
             block: Block::new(),
+            is_lost: false,
         }
     }
 
     // Hands what was gathered to the file. Where that fails it stays gathered.
     fn flush(&mut self) -> io::Result<()>
         ensures status { self.new.status ≡ self.old.status }
+        ensures block { self.new.block ≡ self.old.block }
+        ensures lost { self.new.is_lost ≡ self.old.is_lost }
+        ensures empty { OnOk result (self.new.gathered.bytes.items ≡ []) }
+        ensures failed { OnErr result (self.new.gathered.bytes.items ≢ []) }
+        ensures first { OnErr result (self.new.gathered.first ≡ self.old.gathered.first) }
+        ensures bytes { OnErr result
+            (self.new.gathered.bytes.items ≡ self.old.gathered.bytes.items) }
     {
         if !self.gathered.is_empty() {
             let offset = self.gathered.offset();
@@ -92,16 +108,17 @@ impl<F: FileExt + OpenFile + Drop> FileDevice<F> {
         Ok(())
     }
 
-    // Reads the block of a sector, unless it is here.
+    // Reads the block of a sector, unless it is the one that was read last.
     fn fetch(&mut self, at: u64) -> io::Result<()>
         requires { at < self.old.status.sectors }
         ensures status { self.new.status ≡ self.old.status }
+        ensures here { OnOk result (self.new.block.number ≡ Some (at / 8)) }
     {
         let number = at / BLOCK_SECTORS;
         if !self.block.is(number) {
             let first = number * BLOCK_SECTORS;
             let count = BLOCK_SECTORS.min(self.status.sectors - first);
-            if self.gathered.overlaps(first, first + count) {
+            if self.gathered.overlaps(first, first + BLOCK_SECTORS) {
                 self.flush()?;
             }
             self.block.read(&self.file, number, count)?;
@@ -112,6 +129,7 @@ impl<F: FileExt + OpenFile + Drop> FileDevice<F> {
     fn gather(&mut self, at: u64, sector: &Sector) -> io::Result<()>
         requires { at < self.old.status.sectors }
         ensures status { self.new.status ≡ self.old.status }
+        ensures gathered { OnOk result (Gathers at sector.now self.old.gathered self.new.gathered) }
     {
         if self.block.is(at / BLOCK_SECTORS) {
             self.block.forget();
@@ -125,16 +143,26 @@ impl<F: FileExt + OpenFile + Drop> FileDevice<F> {
         Ok(())
     }
 
+    // Hands what was gathered to the file, and has it stored.
     fn settle(&mut self) -> io::Result<()>
         ensures status { self.new.status ≡ self.old.status }
+        ensures empty { OnOk result (self.new.gathered.bytes.items ≡ []) }
+        ensures failed { OnErr result
+            ((self.new.gathered.bytes.items ≢ []) ⊎ IsTrue self.new.is_lost) }
+        ensures lost { IsTrue self.old.is_lost → IsErr result × IsTrue self.new.is_lost }
     {
         self.flush()?;
-        self.file.sync_data()
+        if self.is_lost {
+            return Err(io::ErrorKind::Other.into());
+        }
+        let stored = self.file.sync_data();
+        self.is_lost = stored.is_err();
+        stored
     }
 }
 
 impl<F: FileExt + OpenFile + Drop> Device for FileDevice<F> {
-    ghost use Rattle.sn_filedev.specs.FileDevice.{untold, status_of};
+    ghost use Rattle.sn_filedev.specs.FileDevice.{untold, status_of, block_of, gathered_of};
 
     ghost tells_bytes = { false };
 
@@ -152,7 +180,15 @@ impl<F: FileExt + OpenFile + Drop> Device for FileDevice<F> {
         self.status
     }
 
-    fn read(&mut self, at: u64, sector: &mut [u8; 512]) -> Result<(), Fault> {
+    fn read(&mut self, at: u64, sector: &mut [u8; 512]) -> Result<(), Fault>
+        requires { at < (status_of self.old).sectors }
+        ensures counts { Counts (λ s. s) result (status_of self.old) (status_of self.new) }
+        ensures sectors { (status_of self.new).sectors ≡ (status_of self.old).sectors }
+        ensures unread { OnErr result (sector.new ≡ sector.old) }
+
+        // It gives what the block of the sector had when it was read.
+        ensures shown { OnOk result (Shows (block_of self.new) at sector.new) }
+    {
         if self.status.has_ended() {
             return Err(Fault);
         }
@@ -164,7 +200,15 @@ impl<F: FileExt + OpenFile + Drop> Device for FileDevice<F> {
         Ok(())
     }
 
-    fn write(&mut self, at: u64, sector: &[u8; 512]) -> Result<(), Fault> {
+    fn write(&mut self, at: u64, sector: &[u8; 512]) -> Result<(), Fault>
+        requires { at < (status_of self.old).sectors }
+        ensures counts { CountsOrEnds one_write result (status_of self.old) (status_of self.new) }
+        ensures sectors { (status_of self.new).sectors ≡ (status_of self.old).sectors }
+
+        // Where it succeeds, its bytes wait to be handed to the file.
+        ensures waits { OnOk result
+            (Gathers at sector.now (gathered_of self.old) (gathered_of self.new)) }
+    {
         if self.status.has_ended() {
             return Err(Fault);
         }
@@ -176,7 +220,13 @@ impl<F: FileExt + OpenFile + Drop> Device for FileDevice<F> {
         Ok(())
     }
 
-    fn sync(&mut self) -> Result<(), Fault> {
+    fn sync(&mut self) -> Result<(), Fault>
+        ensures counts { CountsOrEnds one_sync result (status_of self.old) (status_of self.new) }
+        ensures sectors { (status_of self.new).sectors ≡ (status_of self.old).sectors }
+
+        // Where it succeeds, no write waits any more.
+        ensures none_waits { OnOk result ((gathered_of self.new).bytes.items ≡ []) }
+    {
         if self.status.has_ended() {
             return Err(Fault);
         }

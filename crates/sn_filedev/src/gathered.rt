@@ -1,5 +1,5 @@
 //! Sectors that were written one after the other and are to go to the file in one call.
-ghost use Rattle.std.specs.Prelude.{◌≡◌, ◌≢◌, ◌+◌, ◌*◌, ◌/◌, ◌<◌, ◌≤◌, ◌^◌, [], ◌++◌, IsTrue, IfOk, OnOk, OnErr, ◌↔◌, length};
+ghost use Rattle.std.specs.Prelude.{◌≡◌, ◌≢◌, ◌+◌, ◌*◌, ◌/◌, ◌%◌, ◌<◌, ◌≤◌, ◌^◌, [], ◌++◌, IsTrue, IfOk, OnOk, OnErr, ◌↔◌, length};
 
 use sn_device::{SECTOR_SIZE, Sector};
 use std::alloc::{AllocError, Global};
@@ -13,6 +13,7 @@ pub struct Gathered {
     pub first: u64,
     pub bytes: Vec<u8>,
     ghost within: { first * 512 + length bytes.items < 2 ^ 64 },
+    ghost whole: { length bytes.items % 512 ≡ 0 },
 }
 
 impl Gathered {
@@ -51,10 +52,11 @@ impl Gathered {
     pub fn begin(&mut self, at: u64, sector: &Sector) -> Result<(), AllocError>
         requires { at * 512 + 512 < 2 ^ 64 }
         ensures ok { OnOk result ((self.new.first ≡ at) × (self.new.bytes.items ≡ sector.now)) }
+        ensures err { OnErr result (self.new.bytes.items ≡ []) }
     {
-        self.bytes.clear();
+        self.clear();
         self.first = at;
-        self.bytes.extend_from_slice(sector)
+        self.push(sector)
     }
 
     /// Adds the sector that follows.

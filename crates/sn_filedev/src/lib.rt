@@ -2,12 +2,16 @@
 //! end are those of the trait. It doesn't tell its bytes: no clause can say what a file holds,
 //! nor what a crash leaves of it.
 //!
-//! What it does beyond that is tested. Neighbouring sectors written one after the other go to the
-//! file in one call of the system, at most 128 of them. They go there at a sync, at a write
-//! elsewhere and before a read of their block, and an error then is the fault of that call. What
-//! a call couldn't hand over stays gathered and is handed over again, so that nothing written
-//! after a sync reaches the file ahead of what was written before it. A read fetches the block of
-//! eight sectors around it once.
+//! Neighbouring sectors written one after the other go to the file in one call of the system, at
+//! most 128 of them. They go there at a sync, at a write elsewhere and before a read of their
+//! block, and an error then is the fault of that call. What a call couldn't hand over stays gathered
+//! and is handed over again, so that nothing written after a sync reaches the file ahead of what was
+//! written before it. A read fetches the block of eight sectors around it once. After a failed sync
+//! of the file no later one succeeds, since the system may have dropped what it couldn't store.
+//!
+//! Of this it is proved that a write which succeeds is gathered, that after a sync which succeeds
+//! none is left, and that a read gives its sector as the block around it had it when it was read, of
+//! which no sector is gathered. That nothing is let go before the file took it is tested.
 //!
 //! ```text
 //! let mut device = FileDevice::create(rt.alloc(), &rt, "image", 256)?;

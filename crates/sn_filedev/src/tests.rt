@@ -202,6 +202,23 @@ fn nothing_is_lost_by_a_flush_that_failed(rt: HostRuntime) -> Result<(), Fail> {
     Ok(())
 }
 
+// The system may have dropped what it couldn't write, though its next sync succeeds.
+#[test]
+fn no_sync_succeeds_after_one_that_failed(rt: HostRuntime) -> Result<(), Fail> {
+    let memory = Memory {
+        fails_at: 2,
+        ..Memory::new(0)
+    };
+    let mut device = FileDevice::new(rt.alloc(), Fake(&memory))?;
+    assert_eq!(rt; device.sectors(), 12);
+    device.write(1, &ONES)?;
+    assert!(rt; device.sync().is_err());
+    device.write(2, &TWOS)?;
+    assert!(rt; device.sync().is_err());
+    assert_eq!(rt; device.failures(), 2);
+    Ok(())
+}
+
 #[test]
 fn short_calls_are_made_whole(rt: HostRuntime) -> Result<(), Fail> {
     let memory = Memory {
