@@ -1,4 +1,4 @@
-use Rattle.std.proofs.Common.{arith, cond, length, ◌≡◌, ℕ, ◌+◌, List, [], ◌∷◌, Option, Some, None, Result, Ok, Err, refl, sym, ap, ◌∙◌, subst}
+use Rattle.std.proofs.Common.{arith, cond, ◌≡◌, ℕ, ◌+◌, List, [], ◌∷◌, Option, Some, None, Result, Ok, Err, refl, sym, ap, ◌∙◌, subst}
 use Rattle.sn_acl.specs.Credential.{Credential}
 use Rattle.std.specs.Prelude.{IsSomeAnd}
 use Rattle.sn_acl.specs.Access.{denial_of}
@@ -13,7 +13,6 @@ use Rattle.sn_walk.specs.declared.walking.WalkError.TheVariants.{Refused, Fault}
 use Rattle.sn_walk.specs.declared.walking.Walked.{Walked}
 use Rattle.sn_walk.specs.declared.walking.Walked.TheVariants.{Root, Name}
 use Rattle.sn_walk.specs.Views.{ViewedTree}
-use Rattle.sn_walk.specs.Paths.{last_after}
 use Rattle.sn_walk.specs.Views.{attributes_at, child_of, is_directory}
 use Rattle.sn_walk.specs.Walks.{◌>>=◌, EndsAfter, EndsAt, Fails, admitted, passed, present, refusal, searched, walk_from, walk_of}
 

@@ -6,6 +6,10 @@ use Rattle.sn_walk.specs.declared.name.TheConstants.{NAME_MAX}
 abbrev pub is_name_byte : ℕ → Bool
 is_name_byte b = nat_lt 0x20 b && nat_lt b 0x7f && not (b == 47)
 
+-- a byte that no name has
+abbrev pub is_other_byte : ℕ → Bool
+is_other_byte b = not (is_name_byte b)
+
 -- the names that POSIX keeps for a directory itself and for its parent
 abbrev pub is_dots : List ℕ → Bool
 is_dots [] = false

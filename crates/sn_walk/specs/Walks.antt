@@ -1,11 +1,11 @@
-use Rattle.std.specs.Prelude.{◌≡◌, ℕ, ◌+◌, Bool, List, [], ◌∷◌, length, Option, None, Some, Result, Ok, Err, IsSomeAnd, if◌then◌else◌}
+use Rattle.std.specs.Prelude.{◌≡◌, ℕ, ◌+◌, List, [], ◌∷◌, length, Option, None, Some, Result, Ok, Err, IsSomeAnd, if◌then◌else◌}
 use Rattle.sn_acl.specs.declared.entries.Entry.{Entry}
 use Rattle.sn_acl.specs.Credential.{Credential}
 use Rattle.sn_acl.specs.Access.{denial_of}
 use Rattle.sn_walk.specs.declared.view.Kind.TheVariants.{Directory}
 use Rattle.sn_walk.specs.declared.view.Attributes.{Attributes}
 use Rattle.sn_walk.specs.declared.view.Object.{Object}
-use Rattle.sn_walk.specs.declared.view.Object.TheVariants.{Node, Hidden}
+use Rattle.sn_walk.specs.declared.view.Object.TheVariants.{Node}
 use Rattle.sn_walk.specs.declared.view.TheConstants.{ROOT_NUMBER}
 use Rattle.sn_walk.specs.declared.walking.Obstacle.{Obstacle}
 use Rattle.sn_walk.specs.declared.walking.Obstacle.TheVariants.{NotADirectory, Denied, Missing}

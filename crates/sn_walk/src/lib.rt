@@ -22,7 +22,7 @@ mod path;
 mod view;
 mod walking;
 
-pub use name::{NAME_MAX, is_name};
+pub use name::{NAME_MAX, begins_with_name, is_name};
 pub use path::{PATH_MAX, Path, PathFault};
 pub use view::{Attributes, Kind, Object, ROOT, ROOT_NUMBER, TreeView};
 pub use walking::{Obstacle, WalkError, WalkRefusal, Walked, attributes_of, child_of, walk};

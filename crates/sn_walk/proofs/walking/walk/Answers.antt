@@ -1,6 +1,6 @@
-use Rattle.std.proofs.Common.{◌≡◌, ◌∙◌, sym, ap, subst, arith, length, ◌≤◌, ◌+◌, ◌∷◌, [], Option, Some, Result, Ok}
+use Rattle.std.proofs.Common.{◌∙◌, sym, ap, subst, arith, length, Option, Result, Ok}
 use Rattle.std.proofs.lemmas.Result.{err_from_is_err_and}
-use Rattle.sn_walk.specs.Walks.{Fails, passed, walk_from}
+use Rattle.sn_walk.specs.Walks.{Fails, walk_from}
 use Rattle.sn_walk.specs.declared.view.Object.{Object}
 use Rattle.sn_walk.specs.declared.walking.WalkRefusal.{WalkRefusal}
 use Rattle.sn_walk.specs.declared.walking.Walked.{Walked}

@@ -1,4 +1,4 @@
-use Rattle.std.proofs.Common.{◌≡◌, ℕ, ◌+◌, ◌≤◌, List, length}
+use Rattle.std.proofs.Common.{◌≡◌, ◌+◌, ◌≤◌, length}
 use Rattle.sn_walk.specs.declared.path.TheConstants.{PATH_MAX}
 use Rattle.sn_walk.specs.Walks.{walk_of, walk_from}
 use Rattle.sn_walk.proofs.walking.walk.Given as goal

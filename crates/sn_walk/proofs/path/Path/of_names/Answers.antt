@@ -1,6 +1,6 @@
 use Rattle.sn_walk.proofs.PieceLemmas.{all_names, few_pieces}
 use Rattle.sn_walk.specs.declared.path.TheConstants.{PATH_MAX}
-use Rattle.std.proofs.Common.{◌≡◌, ◌∙◌, sym, true}
+use Rattle.std.proofs.Common.{◌≡◌, true}
 use Rattle.std.specs.List.{list_all}
 use Rattle.sn_walk.specs.Names.{is_name_spelled, has_name_length}
 use Rattle.sn_walk.specs.Paths.{pieces}
