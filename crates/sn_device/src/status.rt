@@ -38,6 +38,7 @@ impl Status {
         self.is_spent || self.failures == u64::MAX || self.writes >= u64::MAX - self.syncs
     }
 
+    /// Counts a call that is answered with a fault, beside the count of the call itself.
     pub fn count_failure(&mut self)
         requires { self.old.failures + 1 < 2 ^ 64 }
         ensures { self.new ≡ one_failure self.old }
@@ -45,6 +46,7 @@ impl Status {
         self.failures += 1;
     }
 
+    /// Counts a write, failed or not.
     pub fn count_write(&mut self)
         requires { has_ended self.old ≡ false }
         ensures { self.new ≡ one_write self.old }
@@ -52,6 +54,7 @@ impl Status {
         self.writes += 1;
     }
 
+    /// Counts a sync, failed or not.
     pub fn count_sync(&mut self)
         requires { has_ended self.old ≡ false }
         ensures { self.new ≡ one_sync self.old }
@@ -59,6 +62,7 @@ impl Status {
         self.syncs += 1;
     }
 
+    /// The device has come to its end: what it keeps of its calls couldn't grow.
     pub fn spend(&mut self)
         ensures { self.new ≡ spent self.old }
     {

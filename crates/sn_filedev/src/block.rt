@@ -30,7 +30,7 @@ impl Block {
         self.number == Some(number)
     }
 
-    /// A sector of this block is to change in the file.
+    /// It is no block from now on, as where a sector of it is to change in the file.
     pub fn forget(&mut self)
         ensures { self.new.number ≡ None }
     {

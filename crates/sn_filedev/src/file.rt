@@ -35,7 +35,8 @@ pub struct FileDevice<F: FileExt + OpenFile> {
 impl<F: FileExt + OpenFile + Drop> FileDevice<F> {
     ghost use Rattle.sn_filedev.specs.FileDevice.{status_of};
 
-    /// A device over a file that is open for reading and writing, of its whole sectors.
+    /// A device over a file that is open for reading and writing, of its whole sectors. An error is
+    /// want of memory or the file's, and changes nothing in the file.
     pub fn new(alloc: Global, file: F) -> io::Result<Self>
         ensures uncalled { IfOk result (λ d. status_of d ≡ uncalled (status_of d).sectors) }
     {
@@ -44,7 +45,8 @@ impl<F: FileExt + OpenFile + Drop> FileDevice<F> {
         Ok(FileDevice::over(file, gathered, sectors))
     }
 
-    /// A device over the file at a path, which has to be there.
+    /// A device over the file at a path, which has to be there. An error is want of memory or the
+    /// file's, and changes nothing in the file.
     pub fn open<R: Files<File = F>, P: AsPath>(
         alloc: Global,
         files: &R,
@@ -58,7 +60,7 @@ impl<F: FileExt + OpenFile + Drop> FileDevice<F> {
     }
 
     /// A device over a new file of so many blocks of 4,096 bytes, all of them zeros, in the place
-    /// of one that is there.
+    /// of one that is there. Want of memory leaves that one; an error of the file may leave it empty.
     pub fn create<R: Files<File = F>, P: AsPath>(
         alloc: Global,
         files: &R,

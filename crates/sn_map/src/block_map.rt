@@ -60,6 +60,7 @@ impl Map {
         self.words.len() as u32
     }
 
+    /// Whether the map has no block at all.
     pub fn is_empty(&self) -> bool
         ensures { IsTrue result ↔ (self.now ≡ []) }
     {
@@ -81,6 +82,7 @@ impl Map {
         self.words()[block as usize]
     }
 
+    /// Sets the word of a block.
     pub fn set_word(&mut self, block: u32, word: u32)
         requires { block < length self.old }
         ensures { self.new ≡ slice_set self.old block word }
