@@ -9,7 +9,10 @@ use Rattle.sn_acl.specs.declared.entries.Entry.{Entry}
 use Rattle.sn_acl.specs.Entries.{is_user_obj, is_group_obj, is_mask, is_other, is_named, qualifier_of}
 use Rattle.sn_acl.specs.AccessList.{IsValid, count_of, is_entry}
 use Rattle.sn_layout_node.specs.AclEntry.{IsEntry}
-use Rattle.sn_layout_node.specs.AclBlock.{blank, users_in, with_objects, IsNamedPart, IsDefault, default_entries}
+use Rattle.sn_layout_node.specs.AclBlock.{users_in, with_objects, IsNamedPart, IsDefault, default_entries}
+
+abbrev blank : Tag → Entry
+blank tag = record { tag = tag; permissions = 0 }
 
 abbrev total : List Entry → ℕ
 total es = count_of is_user_obj es + count_of is_group_obj es + count_of is_other es + count_of is_mask es + count_of is_named es

@@ -4,3 +4,4 @@ pub mod EntryLists
 pub mod AclLists
 pub mod Links
 pub mod Changes
+pub mod Joining

@@ -3,6 +3,7 @@ use Rattle.std.specs.Prelude.{ℕ, ◌+◌, ◌-◌, ◌*◌, ◌<◌, Bool, tru
 use Rattle.sn_acl.specs.declared.entries.Tag.{Tag}
 use Rattle.sn_acl.specs.declared.entries.Tag.TheVariants.{UserObj, User, GroupObj, Other}
 use Rattle.sn_acl.specs.declared.entries.Entry.{Entry}
+use Rattle.sn_acl.specs.declared.modes.Mode.{Mode}
 use Rattle.sn_acl.specs.AccessList.{IsValid}
 use Rattle.sn_layout.specs.Bytes.{zeros}
 use Rattle.sn_layout_node.specs.AclEntry.{entries_bytes}
@@ -16,13 +17,14 @@ is_user _ = false
 abbrev pub users_in : List Entry → ℕ
 users_in named = length (take_while (λ e. is_user e.tag) named)
 
--- an entry that grants nothing
-abbrev pub blank : Tag → Entry
-blank tag = record { tag = tag; permissions = 0 }
-
 -- entries of users, groups and the MASK with the three that mode bits show put where they belong
+abbrev pub joined : Mode → List Entry → List Entry
+joined mode named =
+    ((record { tag = UserObj; permissions = mode.owner } ∷ take (users_in named) named) ++ (record { tag = GroupObj; permissions = mode.group } ∷ drop (users_in named) named)) ++ record { tag = Other; permissions = mode.other } ∷ []
+
+-- the same where the mode bits grant nothing
 abbrev pub with_objects : List Entry → List Entry
-with_objects named = ((blank UserObj ∷ take (users_in named) named) ++ (blank GroupObj ∷ drop (users_in named) named)) ++ blank Other ∷ []
+with_objects named = joined (record { owner = 0; group = 0; other = 0 }) named
 
 -- entries that are a valid access ACL together with those that mode bits show
 abbrev pub IsNamedPart : List Entry → Type 0

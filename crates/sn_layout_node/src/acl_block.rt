@@ -11,11 +11,12 @@ ghost use Rattle.sn_acl.specs.AccessList.{IsValid};
 ghost use Rattle.sn_acl.specs.declared.entries.Tag.TheVariants.{UserObj, GroupObj, Other};
 ghost use Rattle.sn_acl.specs.declared.entries.Entry.{Entry as TheEntry};
 ghost use Rattle.sn_layout_node.specs.AclEntry.{IsEntry};
-ghost use Rattle.sn_layout_node.specs.AclBlock.{blank, with_objects, users_in, IsNamedPart, IsDefault, default_entries, lists_bytes};
+ghost use Rattle.sn_layout_node.specs.AclBlock.{joined, with_objects, users_in, IsNamedPart, IsDefault, default_entries, lists_bytes};
 
 use crate::acl_entries::{put_entries, read_entries};
+use crate::head::fitting;
 use arrayvec::ArrayVec;
-use sn_acl::{Acl, Entry, MAX_ENTRIES, Permissions, Tag};
+use sn_acl::{Acl, Entry, MAX_ENTRIES, Mode, Permissions, Tag};
 use sn_layout::{BLOCK_SIZE, Block, Reader, put_u8, put_zeros};
 use std::marker::Model;
 
@@ -44,14 +45,11 @@ impl Model for NamedEntries {
     ghost inverse = { λ entries. record { entries = record { items = entries } } };
 }
 
-fn blank(tag: Tag) -> Entry
-    ensures { result ≡ blank tag }
-{
-    Entry {
-        tag,
-        permissions: Permissions::NONE,
-    }
-}
+const NO_RIGHTS: Mode = Mode {
+    owner: Permissions::NONE,
+    group: Permissions::NONE,
+    other: Permissions::NONE,
+};
 
 fn push_all(list: &mut ArrayVec<Entry, MAX_ENTRIES>, entries: &[Entry])
     requires { length list.old.items + length entries.now ≤ 36 }
@@ -76,18 +74,34 @@ fn users_in(named: &[Entry]) -> usize
     count
 }
 
+fn joined(objects: Mode, named: &[Entry]) -> ArrayVec<Entry, MAX_ENTRIES>
+    requires { length named.now ≤ 33 }
+    ensures { result.items ≡ joined objects named.now }
+{
+    let users = users_in(named);
+    let mut entries = ArrayVec::new();
+    entries.push(Entry {
+        tag: Tag::UserObj,
+        permissions: objects.owner,
+    });
+    push_all(&mut entries, &named[..users]);
+    entries.push(Entry {
+        tag: Tag::GroupObj,
+        permissions: objects.group,
+    });
+    push_all(&mut entries, &named[users..]);
+    entries.push(Entry {
+        tag: Tag::Other,
+        permissions: objects.other,
+    });
+    entries
+}
+
 fn with_objects(named: &[Entry]) -> ArrayVec<Entry, MAX_ENTRIES>
     requires { length named.now ≤ 33 }
     ensures { result.items ≡ with_objects named.now }
 {
-    let users = users_in(named);
-    let mut entries = ArrayVec::new();
-    entries.push(blank(Tag::UserObj));
-    push_all(&mut entries, &named[..users]);
-    entries.push(blank(Tag::GroupObj));
-    push_all(&mut entries, &named[users..]);
-    entries.push(blank(Tag::Other));
-    entries
+    joined(NO_RIGHTS, named)
 }
 
 fn kept(entries: &[Entry]) -> ArrayVec<Entry, MAX_ENTRIES>
@@ -112,12 +126,55 @@ impl NamedEntries {
         })
     }
 
+    /// The access ACL of an inode that keeps these entries in its ACL block, and in its mode bits
+    /// what USER_OBJ, GROUP_OBJ and OTHER grant.
+    pub fn join(&self, objects: Mode) -> Acl
+        ensures { result ≡ joined objects self.now }
+    {
+        let entries = joined(fitting(objects), self.as_slice());
+        match Acl::from_entries(entries.as_slice()) {
+            Some(acl) => acl,
+            None => unreachable!(),
+        }
+    }
+
     pub fn as_slice(&self) -> &[Entry]
         ensures value { result.now ≡ self.now }
         ensures valid { IsNamedPart self.now }
         ensures room { length self.now ≤ 33 }
     {
         self.entries.as_slice()
+    }
+}
+
+/// An access ACL as an inode keeps it.
+#[derive(Debug, PartialEq, Eq, Drop)]
+pub struct AclParts {
+    /// What USER_OBJ, GROUP_OBJ and OTHER grant, which its mode bits hold.
+    pub objects: Mode,
+    /// The other entries, which its ACL block holds.
+    pub access: NamedEntries,
+}
+
+impl AclParts {
+    pub fn of(acl: &Acl) -> Self
+        ensures { acl.now ≡ joined result.objects result.access }
+    {
+        let entries = acl.entries();
+        let users = users_in(&entries[1..]);
+        let last = entries.len() - 1;
+        let objects = Mode {
+            owner: entries[0].permissions,
+            group: entries[1 + users].permissions,
+            other: entries[last].permissions,
+        };
+        let mut named = ArrayVec::new();
+        push_all(&mut named, &entries[1..1 + users]);
+        push_all(&mut named, &entries[2 + users..last]);
+        AclParts {
+            objects,
+            access: NamedEntries { entries: named },
+        }
     }
 }
 

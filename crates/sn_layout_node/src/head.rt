@@ -67,7 +67,7 @@ fn flags_of(number: u8) -> Option<(bool, bool)>
 }
 
 // The mode, of which each three bits are below 8 by their type.
-fn fitting(mode: Mode) -> Mode
+pub(crate) fn fitting(mode: Mode) -> Mode
     ensures same { result ≡ mode }
     ensures fits { IsMode mode }
 {

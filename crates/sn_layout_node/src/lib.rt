@@ -26,7 +26,7 @@ mod head;
 mod indirect;
 mod inode;
 
-pub use acl_block::{AclBlock, NAMED_MAX, NamedEntries};
+pub use acl_block::{AclBlock, AclParts, NAMED_MAX, NamedEntries};
 pub use acl_entries::{ENTRY_SIZE, put_entries, read_entries};
 pub use content::{Content, INLINE_MAX, InlineBytes};
 pub use directory::{DirectoryBlock, DirectoryEntry, Entries};

@@ -174,6 +174,32 @@ fn default_acl(rt: HostRuntime) -> Result<(), Fail> {
 }
 
 #[test]
+fn access_acl_in_two_parts(rt: HostRuntime) -> Result<(), Fail> {
+    let text = b"u::rwx,u:1001:rw-,g::r-x,g:50:r--,m::rwx,o::r--";
+    let acl = Acl::parse(text).ok_or("an ACL")?;
+    let parts = AclParts::of(&acl);
+    assert_eq!(rt; parts.objects.bits(), 0o754);
+    let mut block = [0xa5; BLOCK_SIZE];
+    let joined = parts.access.join(parts.objects);
+    assert!(rt; joined == acl);
+    let acls = AclBlock {
+        access: parts.access,
+        default: None,
+    };
+    acls.encode(&mut block);
+    let bytes = &block[..];
+    assert_eq!(rt;
+        &bytes[..16],
+        [3, 0, 0, 0, 0, 0, 0, 0, 2, 6, 0, 0, 0xe9, 3, 0, 0].as_slice()
+    );
+    assert_eq!(rt;
+        &bytes[16..32],
+        [4, 4, 0, 0, 50, 0, 0, 0, 5, 7, 0, 0, 0, 0, 0, 0].as_slice()
+    );
+    Ok(())
+}
+
+#[test]
 fn list_of_entries(rt: HostRuntime) -> Result<(), Fail> {
     let mut bytes = [0; 8];
     let entry = Entry {
