@@ -1,5 +1,5 @@
 -- What a call comes to once its tests have passed.
-use Rattle.std.proofs.Common.{◌≡◌, ℕ, List, [], ◌∷◌, ◌++◌, Result, Ok, Err, refl, subst}
+use Rattle.std.proofs.Common.{◌≡◌, ℕ, List, [], ◌∷◌, ◌++◌, Ok, refl, subst}
 use Rattle.sn_acl.specs.declared.modes.Mode.{Mode}
 use Rattle.sn_model.specs.declared.call.Call.TheVariants.{Mkdir}
 use Rattle.sn_model.specs.declared.session.Session.{Session}

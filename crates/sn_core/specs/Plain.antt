@@ -1,9 +1,8 @@
 -- What the maps in memory stand for.
-use Rattle.std.specs.Prelude.{◌≡◌, ℕ, ◌+◌, ◌<◌, ◌≤◌, Option, None, [], true, is_some, vec_len}
+use Rattle.std.specs.Prelude.{◌≡◌, ℕ, ◌+◌, ◌<◌, ◌≤◌, None, [], true, is_some, vec_len}
 use Rattle.std.specs.Ordering.{nat_cmp}
 use Rattle.std.specs.FinMap as map
 use Rattle.sn_walk.specs.declared.view.Kind.TheVariants as kind
-use Rattle.sn_model.specs.declared.session.Session.{Session}
 use Rattle.sn_model.specs.Tree.{Node, Tree, link_cmp}
 use Rattle.sn_model.specs.World.{World}
 use Rattle.sn_core.specs.Maps.{seen_by}

@@ -10,24 +10,35 @@ ghost use Rattle.sn_core.specs.Plain.{IsPlainTree, node_of, tree_of};
 use crate::checks::{found, live, not_present, prefix, writable_parent};
 use crate::error::CallError;
 use crate::nodes::Directory;
+use crate::stored::StoredAcl;
 use crate::tree::PlainTree;
 use crate::view::PlainView;
 use sn_acl::{Acl, Mode, inherit};
 use sn_model::{Errno, Link, Refusal, Session, Status, Word};
 use sn_walk::{Attributes, Object, Path, attributes_of};
-use std::alloc::Global;
+use std::alloc::{AllocError, Global};
+
+fn stored(alloc: Global, acl: Option<Acl>) -> Result<Option<StoredAcl>, AllocError>
+    ensures { IfOk result (λ kept. kept ≡ acl) }
+{
+    match acl {
+        Some(acl) => Ok(Some(StoredAcl::new(alloc, &acl)?)),
+        None => Ok(None),
+    }
+}
 
 /// A directory that a session makes in a directory.
 fn inherited(
+    alloc: Global,
     caller: &Session,
     mode: Mode,
     parent: &Attributes,
     default_acl: Option<Acl>,
-) -> Directory
-    ensures { node_of result ≡ new_directory caller.now mode parent.now default_acl }
+) -> Result<Directory, AllocError>
+    ensures { IfOk result (λ made. node_of made ≡ new_directory caller.now mode parent.now default_acl) }
 {
     let acls = inherit(default_acl.as_ref(), mode, caller.umask, true);
-    Directory {
+    Ok(Directory {
         owner: caller.cred.uid(),
         group: if parent.set_gid {
             parent.group
@@ -36,9 +47,9 @@ fn inherited(
         },
         set_gid: parent.set_gid,
         sticky: false,
-        acl: acls.access,
-        default_acl: acls.default,
-    }
+        acl: StoredAcl::new(alloc, &acls.access)?,
+        default_acl: stored(alloc, acls.default)?,
+    })
 }
 
 /// What mkdir comes to: a name that isn't there yet, and the directory that gets it.
@@ -60,7 +71,8 @@ pub(crate) fn mkdir(
     let attributes = writable_parent(tree, &caller.cred, 1, place, directory)?;
     tree.has_room(directory)?;
     let name = Word::new(alloc, path.last().unwrap_or(b""))?;
-    let node = inherited(caller, mode, &attributes, tree.default_acl(directory));
+    let default_acl = tree.default_acl(directory);
+    let node = inherited(alloc, caller, mode, &attributes, default_acl)?;
     Ok((Link { directory, name }, node))
 }
 

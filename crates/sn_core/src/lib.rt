@@ -17,6 +17,7 @@ mod error;
 mod links;
 mod nodes;
 mod plain;
+mod stored;
 mod tree;
 mod view;
 mod world;

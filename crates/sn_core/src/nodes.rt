@@ -2,7 +2,7 @@ ghost use Rattle.std.specs.Prelude.{◌≡◌, ℕ, OnOk, OnErr, Some, None};
 ghost use Rattle.std.specs.Option.{option_map, option_copied, option_and_then};
 ghost use Rattle.std.specs.FinMap as map;
 
-use sn_acl::Acl;
+use crate::stored::StoredAcl;
 use sn_walk::{Attributes, Kind};
 use std::alloc::{AllocError, Global};
 use std::collections::BTreeMap;
@@ -14,8 +14,8 @@ pub(crate) struct Directory {
     pub group: u32,
     pub set_gid: bool,
     pub sticky: bool,
-    pub acl: Acl,
-    pub default_acl: Option<Acl>,
+    pub acl: StoredAcl,
+    pub default_acl: Option<StoredAcl>,
 }
 
 impl Directory {
@@ -31,7 +31,7 @@ impl Directory {
             sticky: self.sticky,
             owner: self.owner,
             group: self.group,
-            acl: self.acl.copy(),
+            acl: self.acl.to_acl(),
             links: 1,
             size: 0,
         }

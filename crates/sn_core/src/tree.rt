@@ -8,6 +8,7 @@ ghost use Rattle.sn_model.specs.World.{new_root, new_tree};
 
 use crate::links::Links;
 use crate::nodes::{Directory, Nodes};
+use crate::stored::StoredAcl;
 use sn_acl::{Acl, Mode, Permissions};
 use sn_model::{Errno, Link, Refusal};
 use sn_walk::{Attributes, Kind, ROOT_NUMBER};
@@ -23,22 +24,23 @@ pub(crate) struct PlainTree {
 }
 
 /// The root directory of a new tree: 0:0, mode 0755.
-fn new_root() -> Directory
-    ensures { node_of result ≡ new_root }
+fn new_root(alloc: Global) -> Result<Directory, AllocError>
+    ensures { IfOk result (λ root. node_of root ≡ new_root) }
 {
     let others = Permissions::ALL.difference(Permissions::WRITE);
-    Directory {
+    let acl = Acl::from_mode(Mode {
+        owner: Permissions::ALL,
+        group: others,
+        other: others,
+    });
+    Ok(Directory {
         owner: 0,
         group: 0,
         set_gid: false,
         sticky: false,
-        acl: Acl::from_mode(Mode {
-            owner: Permissions::ALL,
-            group: others,
-            other: others,
-        }),
+        acl: StoredAcl::new(alloc, &acl)?,
         default_acl: None,
-    }
+    })
 }
 
 impl PlainTree {
@@ -50,7 +52,7 @@ impl PlainTree {
         ensures sound { IfOk result IsPlainTree }
     {
         let mut nodes = Nodes::new(alloc);
-        nodes.insert(ROOT_NUMBER, new_root())?;
+        nodes.insert(ROOT_NUMBER, new_root(alloc)?)?;
         Ok(PlainTree {
             nodes,
             links: Links::new(alloc),
@@ -70,7 +72,7 @@ impl PlainTree {
     {
         match &self.nodes.get(number)?.default_acl {
             None => None,
-            Some(acl) => Some(acl.copy()),
+            Some(acl) => Some(acl.to_acl()),
         }
     }
 

@@ -1,8 +1,6 @@
 use Rattle.std.proofs.Common.{◌≡◌, ◌∙◌, ◌+◌, ◌++◌, ◌∷◌, [], ap, sym, take, rules}
 use Rattle.std.proofs.lemmas.List.{take_more}
 use Rattle.sn_model.specs.declared.call.Event.{Event}
-use Rattle.sn_model.specs.Steps.{EventStep}
-use Rattle.sn_core.specs.Plain.{world_of}
 use Rattle.sn_core.proofs.StepLemmas.{run_more}
 use Rattle.sn_core.proofs.plain.answer.Goals as goal
 

@@ -1,11 +1,8 @@
-use Rattle.std.proofs.Common.{rules, refl, ap, sym, ◌∙◌}
-use Rattle.std.specs.Cmp.{nat_cmp_total}
-use Rattle.std.specs.Ordering.{nat_cmp}
-use Rattle.std.specs.Option.{option_map}
+use Rattle.std.proofs.Common.{sym, ◌∙◌}
 use Rattle.sn_model.specs.Tree.{link_cmp}
-use Rattle.sn_core.specs.Plain.{links_of, node_of}
+use Rattle.sn_core.specs.Plain.{links_of}
 use Rattle.sn_model.proofs.LinkLemmas.{links_total}
-use Rattle.sn_core.proofs.MapLemmas.{get-seen_by, get-seen_plain}
+use Rattle.sn_core.proofs.MapLemmas.{get-seen_plain}
 use Rattle.sn_core.proofs.links.Links.get.Goals as goal
 
 pub returns : goal.returns

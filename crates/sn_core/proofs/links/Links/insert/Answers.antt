@@ -1,11 +1,7 @@
-use Rattle.std.proofs.Common.{rules, refl, ap, sym, ◌∙◌}
-use Rattle.std.specs.Cmp.{nat_cmp_total}
-use Rattle.std.specs.Ordering.{nat_cmp}
-use Rattle.std.specs.Option.{option_map}
-use Rattle.std.proofs.lemmas.Map.Lookups.{exact_unsigned}
+use Rattle.std.proofs.Common.{ap}
 use Rattle.std.proofs.lemmas.Result.{err_from_is_err_and}
 use Rattle.sn_model.specs.Tree.{link_cmp}
-use Rattle.sn_core.specs.Plain.{links_of, node_of}
+use Rattle.sn_core.specs.Plain.{links_of}
 use Rattle.sn_core.specs.Maps.{seen_by}
 use Rattle.sn_model.proofs.LinkLemmas.{links_total, exact_links}
 use Rattle.sn_core.proofs.MapLemmas.{insert-seen_by}

@@ -1,8 +1,7 @@
-use Rattle.std.proofs.Common.{rules, refl, ap}
-use Rattle.std.specs.Ordering.{nat_cmp}
+use Rattle.std.proofs.Common.{ap}
 use Rattle.sn_model.specs.Tree.{link_cmp}
 use Rattle.sn_core.specs.Maps.{seen_by}
-use Rattle.sn_core.specs.Plain.{links_of, node_of}
+use Rattle.sn_core.specs.Plain.{links_of}
 use Rattle.sn_core.proofs.links.Links.new.Goals as goal
 
 pub returns : goal.returns

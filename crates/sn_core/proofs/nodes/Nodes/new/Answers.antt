@@ -1,6 +1,5 @@
-use Rattle.std.proofs.Common.{rules, refl, ap}
+use Rattle.std.proofs.Common.{ap}
 use Rattle.std.specs.Ordering.{nat_cmp}
-use Rattle.sn_model.specs.Tree.{link_cmp}
 use Rattle.sn_core.specs.Maps.{seen_by}
 use Rattle.sn_core.specs.Plain.{nodes_of, node_of}
 use Rattle.sn_core.proofs.nodes.Nodes.new.Goals as goal

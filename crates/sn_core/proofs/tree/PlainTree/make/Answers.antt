@@ -3,8 +3,8 @@ use Rattle.std.specs.Ordering.{nat_cmp}
 use Rattle.std.specs.Cmp.{nat_cmp_total}
 use Rattle.std.specs.FinMap as map
 use Rattle.std.proofs.lemmas.Map.Lookups.{exact_unsigned}
-use Rattle.sn_model.specs.Tree.{Node, link_cmp}
-use Rattle.sn_core.specs.Plain.{IsPlain, nodes_of, links_of, node_of}
+use Rattle.sn_model.specs.Tree.{Node}
+use Rattle.sn_core.specs.Plain.{nodes_of, links_of, node_of}
 use Rattle.sn_core.proofs.MapLemmas.{remove-insert}
 use Rattle.sn_core.proofs.PlainLemmas.{plain_made}
 use Rattle.sn_core.proofs.tree.PlainTree.make.Goals as goal
