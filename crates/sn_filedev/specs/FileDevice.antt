@@ -1,5 +1,5 @@
 -- What a device over a file shows.
-use Rattle.std.specs.Prelude.{[]}
+use Rattle.std.specs.Prelude.{[], Bool}
 use Rattle.sn_device.specs.Disk.{Disk}
 use Rattle.sn_device.specs.declared.status.Status.{Status}
 use Rattle.sn_filedev.specs.declared.block.Block.{Block}
@@ -17,6 +17,10 @@ block_of d = d.block
 -- the sectors that wait to be handed to the file
 abbrev pub gathered_of : {F : Type 0} → FileDevice F → Gathered
 gathered_of d = d.gathered
+
+-- the file failed a sync, after which none succeeds
+abbrev pub is_lost : {F : Type 0} → FileDevice F → Bool
+is_lost d = d.is_lost
 
 -- in the place of what is on a device that doesn't tell its bytes
 abbrev pub untold : Disk

@@ -114,6 +114,7 @@ impl<F: FileExt + OpenFile + Drop> FileDevice<F> {
     fn fetch(&mut self, at: u64) -> io::Result<()>
         requires { at < self.old.status.sectors }
         ensures status { self.new.status ≡ self.old.status }
+        ensures lost { self.new.is_lost ≡ self.old.is_lost }
         ensures here { OnOk result (self.new.block.number ≡ Some (at / 8)) }
     {
         let number = at / BLOCK_SECTORS;
@@ -131,6 +132,7 @@ impl<F: FileExt + OpenFile + Drop> FileDevice<F> {
     fn gather(&mut self, at: u64, sector: &Sector) -> io::Result<()>
         requires { at < self.old.status.sectors }
         ensures status { self.new.status ≡ self.old.status }
+        ensures lost { self.new.is_lost ≡ self.old.is_lost }
         ensures gathered { OnOk result (Gathers at sector.now self.old.gathered self.new.gathered) }
     {
         if self.block.is(at / BLOCK_SECTORS) {
@@ -164,7 +166,7 @@ impl<F: FileExt + OpenFile + Drop> FileDevice<F> {
 }
 
 impl<F: FileExt + OpenFile + Drop> Device for FileDevice<F> {
-    ghost use Rattle.sn_filedev.specs.FileDevice.{untold, status_of, block_of, gathered_of};
+    ghost use Rattle.sn_filedev.specs.FileDevice.{untold, status_of, block_of, gathered_of, is_lost};
 
     ghost tells_bytes = { false };
 
@@ -187,6 +189,7 @@ impl<F: FileExt + OpenFile + Drop> Device for FileDevice<F> {
         ensures counts { Counts (λ s. s) result (status_of self.old) (status_of self.new) }
         ensures sectors { (status_of self.new).sectors ≡ (status_of self.old).sectors }
         ensures unread { OnErr result (sector.new ≡ sector.old) }
+        ensures lost { is_lost self.new ≡ is_lost self.old }
 
         // It gives what the block of the sector had when it was read.
         ensures shown { OnOk result (Shows (block_of self.new) at sector.new) }
@@ -206,6 +209,7 @@ impl<F: FileExt + OpenFile + Drop> Device for FileDevice<F> {
         requires { at < (status_of self.old).sectors }
         ensures counts { CountsOrEnds one_write result (status_of self.old) (status_of self.new) }
         ensures sectors { (status_of self.new).sectors ≡ (status_of self.old).sectors }
+        ensures lost { is_lost self.new ≡ is_lost self.old }
 
         // Where it succeeds, its bytes wait to be handed to the file.
         ensures waits { OnOk result
@@ -226,8 +230,9 @@ impl<F: FileExt + OpenFile + Drop> Device for FileDevice<F> {
         ensures counts { CountsOrEnds one_sync result (status_of self.old) (status_of self.new) }
         ensures sectors { (status_of self.new).sectors ≡ (status_of self.old).sectors }
 
-        // Where it succeeds, no write waits any more.
+        // Where it succeeds, no write waits any more. After one that the file failed none does.
         ensures none_waits { OnOk result ((gathered_of self.new).bytes.items ≡ []) }
+        ensures lost { IsTrue (is_lost self.old) → IsErr result × IsTrue (is_lost self.new) }
     {
         if self.status.has_ended() {
             return Err(Fault);
