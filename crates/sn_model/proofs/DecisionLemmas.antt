@@ -1,13 +1,12 @@
 -- What a call that makes a node has found.
 use Rattle.std.proofs.Common.{◌≡◌, ◌≢◌, ℕ, Bool, true, false, cond, List, [], ◌∷◌, Option, Some, None, Result, Ok, Err, refl, sym, ap, subst, ◌∙◌, ◌⊎◌, inl, inr}
-use Rattle.std.specs.Prelude.{IsSomeAnd, unwrap_or}
+use Rattle.std.specs.Prelude.{IsSomeAnd}
 use Rattle.std.specs.Option.{option_map}
 use Rattle.std.specs.Ordering.{nat_cmp}
 use Rattle.std.specs.Cmp.{nat_cmp_total}
 use Rattle.std.proofs.lemmas.Map.Lookups.{exact_unsigned}
 use Rattle.std.specs.FinMap as map
 use Rattle.sn_acl.specs.declared.modes.Mode.{Mode}
-use Rattle.sn_acl.specs.declared.entries.Entry.{Entry}
 use Rattle.sn_walk.specs.declared.view.Kind.TheVariants.{Directory}
 use Rattle.sn_walk.specs.declared.view.Attributes.{Attributes}
 use Rattle.sn_walk.specs.declared.view.Object.{Object}
@@ -15,22 +14,21 @@ use Rattle.sn_walk.specs.declared.view.Object.TheVariants as object
 use Rattle.sn_walk.specs.declared.walking.WalkRefusal.{WalkRefusal}
 use Rattle.sn_walk.specs.declared.walking.Walked.{Walked}
 use Rattle.sn_walk.specs.declared.walking.Walked.TheVariants.{Root, Name}
-use Rattle.sn_walk.specs.Paths.{last_after, last_of}
+use Rattle.sn_walk.specs.Paths.{last_after}
 use Rattle.sn_walk.specs.Views.{attributes_at, child_of, is_hidden_name}
 use Rattle.sn_walk.specs.Walks.{EndsAt, walk_of}
 use Rattle.sn_walk.proofs.WalkLemmas.{ends_at}
 use Rattle.sn_model.specs.declared.call.Call.{Call}
-use Rattle.sn_model.specs.declared.call.Call.TheVariants as call
 use Rattle.sn_model.specs.declared.reply.Refusal.{Refusal}
 use Rattle.sn_model.specs.declared.reply.Reply.{Reply}
 use Rattle.sn_model.specs.declared.session.Session.{Session}
-use Rattle.sn_model.specs.Tree.{Tree, Node, attributes_of, link_cmp, link_to, least_unused, viewed}
+use Rattle.sn_model.specs.Tree.{Tree, Node, attributes_of, link_cmp, link_to, viewed}
 use Rattle.sn_model.specs.declared.link.Link.{Link}
 use Rattle.sn_model.specs.declared.call.Event.{Event}
 use Rattle.sn_model.specs.declared.call.Event.TheVariants as event
 use Rattle.sn_model.specs.World.{World, new_root, new_tree, new_world}
-use Rattle.sn_model.specs.Tests.{◌>>=◌, prefix, walked, not_present, vacant, live, writable_parent, has_room, logged_in, logged_out, path_argument, new_mode_argument, full}
-use Rattle.sn_model.specs.Calls.{Ready, Outcome, Opens, Makes, Tells, Login, Mkdir, Stat, ready, outcome_of, mkdir_outcome, stat_outcome, told, status_of, number_of, new_directory, new_session, last_name}
+use Rattle.sn_model.specs.Tests.{◌>>=◌, prefix, walked, not_present, vacant, live, writable_parent, has_room, full}
+use Rattle.sn_model.specs.Calls.{Ready, Outcome, Opens, Makes, Tells, Login, Mkdir, Stat, ready, outcome_of, mkdir_outcome, stat_outcome, told, status_of, number_of, new_directory, last_name}
 use Rattle.sn_model.specs.Laws.{HasKind, IsHierarchy, Reaches, root}
 use Rattle.sn_model.specs.Steps.{Becomes, EventStep, Run, Step, decision}
 use Rattle.sn_model.proofs.HierarchyLemmas.{hierarchy_made, least_is_unused, same_or_apart}

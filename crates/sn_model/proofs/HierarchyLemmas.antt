@@ -1,7 +1,7 @@
 -- A new directory keeps the tree of directories.
-use Rattle.std.proofs.Common.{◌≡◌, ◌≢◌, ℕ, zero, suc, ◌+◌, ◌≤◌, ◌<◌, Bool, true, false, cond, List, [], ◌∷◌, Option, Some, None, Result, Ok, Err, refl, sym, ap, subst, ◌∙◌, ◌⊎◌, inl, inr}
-use Rattle.std.specs.Prelude.{IsSomeAnd, unwrap_or}
-use Rattle.std.specs.Option.{is_some, is_none, option_map}
+use Rattle.std.proofs.Common.{◌≡◌, ◌≢◌, ℕ, zero, suc, ◌+◌, Bool, true, false, cond, Option, Some, None, refl, sym, ap, subst, ◌∙◌, ◌⊎◌, inl, inr}
+use Rattle.std.specs.Prelude.{IsSomeAnd}
+use Rattle.std.specs.Option.{is_some}
 use Rattle.std.specs.declared.cmp.Ordering.{Ordering}
 use Rattle.std.specs.Ordering.{nat_cmp, eq_by_cmp}
 use Rattle.std.specs.Cmp.{IsTotalOrder, nat_cmp_total, eq_by_cmp_equiv}
@@ -9,17 +9,9 @@ use Rattle.std.proofs.lemmas.Bool.{true≢false}
 use Rattle.std.proofs.lemmas.Map.Views.{tells_apart}
 use Rattle.std.specs.FinMap as map
 use Rattle.std.proofs.lemmas.Map.Lookups.{CmpEqualImpliesEq, exact_unsigned}
-use Rattle.sn_acl.specs.declared.modes.Mode.{Mode}
-use Rattle.sn_acl.specs.declared.entries.Entry.{Entry}
-use Rattle.sn_acl.specs.Access.{denial_of}
-use Rattle.sn_acl.specs.Credential.{Credential}
 use Rattle.sn_walk.specs.declared.view.Kind.{Kind}
-use Rattle.sn_walk.specs.declared.view.Kind.TheVariants.{File, Directory}
-use Rattle.sn_walk.specs.declared.view.Attributes.{Attributes}
-use Rattle.sn_walk.specs.declared.view.Object.{Object}
-use Rattle.sn_walk.specs.declared.view.Object.TheVariants.{Hidden}
+use Rattle.sn_walk.specs.declared.view.Kind.TheVariants.{Directory}
 use Rattle.sn_model.specs.declared.link.Link.{Link}
-use Rattle.sn_model.specs.declared.reply.Refusal.{Refusal}
 use Rattle.sn_model.specs.Tree.{Tree, Node, link_to, unused_from, least_unused, with_node}
 use Rattle.sn_model.specs.Laws.{Reaches, root, below, HasKind, IsHierarchy}
 use Rattle.sn_model.proofs.LinkLemmas.{exact_links, links_total, get_inserted, get_other}

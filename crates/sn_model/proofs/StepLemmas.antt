@@ -2,7 +2,7 @@
 use Rattle.std.proofs.Common.{◌≡◌, ℕ, Result, Ok, Err, inl, inr}
 use Rattle.sn_model.specs.declared.call.Call.{Call}
 use Rattle.sn_model.specs.declared.reply.Refusal.{Refusal}
-use Rattle.sn_model.specs.declared.reply.Reply.TheVariants.{Done, Status, Refused}
+use Rattle.sn_model.specs.declared.reply.Reply.TheVariants.{Refused}
 use Rattle.sn_model.specs.Calls.{Outcome, Opens, Makes, Tells}
 use Rattle.sn_model.specs.World.{World}
 use Rattle.sn_model.specs.Steps.{Becomes, Step, decision}

@@ -1,8 +1,7 @@
 -- Each call as the list of its tests, in their order, with what it comes to where all pass.
-use Rattle.std.specs.Prelude.{◌≡◌, ℕ, Bool, true, false, List, [], ◌∷◌, Option, None, Some, Result, Ok, Err, unwrap_or, if◌then◌else◌}
+use Rattle.std.specs.Prelude.{ℕ, true, false, List, [], Option, None, Some, Result, Ok, Err, unwrap_or, if◌then◌else◌}
 use Rattle.sn_acl.specs.declared.entries.Entry.{Entry}
 use Rattle.sn_acl.specs.declared.modes.Mode.{Mode}
-use Rattle.sn_acl.specs.Credential.{Credential}
 use Rattle.sn_acl.specs.Modes.{mode_of}
 use Rattle.sn_acl.specs.Inheritance.{inherited_access, inherited_default}
 use Rattle.sn_walk.specs.declared.view.Kind.TheVariants.{Directory}

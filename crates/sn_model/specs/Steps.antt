@@ -1,5 +1,5 @@
 -- The machine: what a call may answer, and the world that it leaves.
-use Rattle.std.specs.Prelude.{◌≡◌, ◌⊎◌, ℕ, List, [], ◌∷◌, Option, None, Some, Result, Ok, Err, IsOk, slice_set}
+use Rattle.std.specs.Prelude.{◌≡◌, ◌⊎◌, ℕ, List, [], ◌∷◌, Some, Result, Ok, Err, IsOk, slice_set}
 use Rattle.sn_model.specs.declared.call.Call.{Call}
 use Rattle.sn_model.specs.declared.call.Call.TheVariants as call
 use Rattle.sn_model.specs.declared.call.Event.{Event}
@@ -8,7 +8,7 @@ use Rattle.sn_model.specs.declared.reply.Errno.TheVariants.{Enomem}
 use Rattle.sn_model.specs.declared.reply.Refusal.{Refusal}
 use Rattle.sn_model.specs.declared.reply.Reply.{Reply}
 use Rattle.sn_model.specs.declared.reply.Reply.TheVariants.{Done, Status, Refused}
-use Rattle.sn_model.specs.Tree.{Tree, Node, link_to, least_unused, with_node}
+use Rattle.sn_model.specs.Tree.{Tree, link_to, least_unused, with_node}
 use Rattle.sn_model.specs.declared.session.Session.{Session}
 use Rattle.sn_model.specs.World.{World}
 use Rattle.sn_model.specs.Tests.{◌>>=◌, plain}

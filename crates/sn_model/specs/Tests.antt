@@ -1,5 +1,5 @@
 -- The tests that calls are made of, in the words of the table of calls. A test refuses, or hands on what it found.
-use Rattle.std.specs.Prelude.{◌≡◌, ℕ, ◌+◌, ◌*◌, ◌/◌, ◌%◌, Bool, true, false, nat_lt, nat_le, List, [], ◌∷◌, Option, None, Some, Result, Ok, Err, slice_get, is_none, if◌then◌else◌}
+use Rattle.std.specs.Prelude.{ℕ, ◌+◌, ◌/◌, ◌%◌, true, false, nat_lt, nat_le, List, Option, None, Some, Result, Ok, Err, slice_get, is_none, if◌then◌else◌}
 use Rattle.sn_acl.specs.declared.entries.Tag.{Tag}
 use Rattle.sn_acl.specs.declared.entries.Entry.{Entry}
 use Rattle.sn_acl.specs.declared.modes.Mode.{Mode}
@@ -22,9 +22,7 @@ use Rattle.sn_walk.specs.Walks.{walk_of}
 use Rattle.sn_model.specs.declared.reply.Access.{Access}
 use Rattle.sn_model.specs.declared.reply.Errno.{Errno}
 use Rattle.sn_model.specs.declared.reply.Errno.TheVariants.{Eacces, Enoent, Enotdir, Eexist, Einval, Enametoolong, Erofs, Ebusy, Ebadf, Elimit}
-use Rattle.sn_model.specs.declared.reply.Rule.{Rule}
 use Rattle.sn_model.specs.declared.reply.Rule.TheVariants as rule
-use Rattle.sn_model.specs.declared.reply.Denial.{Denial}
 use Rattle.sn_model.specs.declared.reply.Refusal.{Refusal}
 use Rattle.sn_model.specs.Tree.{Tree, viewed, names_in, least_unused}
 use Rattle.sn_model.specs.declared.session.Session.{Session}

@@ -1,5 +1,5 @@
 -- The name tree. A tree is two finite maps: from a number to its node, and from a directory and a name to the number that the name stands for.
-use Rattle.std.specs.Prelude.{◌≡◌, ℕ, zero, suc, ◌+◌, Bool, ◌==◌, List, [], ◌∷◌, length, Option, None, Some, count_by, if◌then◌else◌}
+use Rattle.std.specs.Prelude.{ℕ, zero, suc, ◌+◌, Bool, ◌==◌, List, length, Option, None, Some, count_by, if◌then◌else◌}
 use Rattle.std.specs.declared.cmp.Ordering.{Ordering}
 use Rattle.std.specs.Ordering.{nat_cmp, ordering_then}
 use Rattle.std.specs.Option.{option_map, option_and_then, is_some}

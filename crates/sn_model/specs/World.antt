@@ -1,5 +1,5 @@
 -- The world that calls see: the live tree, the frozen trees by snapshot name, who is logged in, and what is open.
-use Rattle.std.specs.Prelude.{◌≡◌, ℕ, Bool, true, false, List, [], ◌∷◌, Option, None, Some, replicate}
+use Rattle.std.specs.Prelude.{ℕ, Bool, false, List, [], Option, None, replicate}
 use Rattle.std.specs.declared.cmp.Ordering.{Ordering}
 use Rattle.std.specs.Ordering.{nat_cmp, ordering_then}
 use Rattle.std.specs.Cmp.Lexicographic.{slice_cmp}
@@ -7,7 +7,7 @@ use Rattle.std.specs.FinMap as map
 use Rattle.sn_acl.specs.Modes.{three_entries}
 use Rattle.sn_walk.specs.declared.view.Kind.TheVariants.{Directory}
 use Rattle.sn_model.specs.declared.session.Session.{Session}
-use Rattle.sn_model.specs.Tree.{Node, Tree, link_cmp}
+use Rattle.sn_model.specs.Tree.{Node, Tree}
 
 -- which tree an open file is in: the live one, or that of a snapshot
 pub data Home : Type 0 where
