@@ -1,3 +1,4 @@
 pub mod Fields
 pub mod Reading
 pub mod Roots
+pub mod Words

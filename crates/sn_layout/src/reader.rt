@@ -31,10 +31,25 @@ fn are_equal(bytes: &[u8], wanted: &[u8]) -> bool
     bytes == wanted
 }
 
-fn are_all_zero(bytes: &[u8]) -> bool
+fn are_few_zero(bytes: &[u8]) -> bool
     ensures { IsTrue result ↔ All (λ byte. byte ≡ 0) bytes.now }
 {
     bytes.iter().all(|byte| *byte == 0)
+}
+
+// Eight bytes are tested at once, since most of a block may be zeros.
+fn are_all_zero(bytes: &[u8]) -> bool
+    ensures { IsTrue result ↔ All (λ byte. byte ≡ 0) bytes.now }
+{
+    let mut rest = bytes;
+    'words: while rest.len() >= 8 {
+        let (word, others) = rest.split_at(8);
+        if u64_of(word) != 0 {
+            return false;
+        }
+        rest = others;
+    }
+    are_few_zero(rest)
 }
 
 /// Reads one field of a block after the other. Callers see it as the bytes that are left.

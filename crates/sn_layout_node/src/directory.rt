@@ -11,7 +11,7 @@ ghost use Rattle.sn_layout_node.specs.Directory.{Link, IsLink, AreLinks, AreLink
 
 use byteorder::{ByteOrder, LittleEndian};
 use sn_layout::{BLOCK_SIZE, Block, Reader, put_bytes, put_u8, put_u16, put_zeros};
-use sn_walk::is_name;
+use sn_walk::begins_with_name;
 use std::marker::Model;
 
 /// A name in a directory, lent from its block.
@@ -44,10 +44,10 @@ fn read_link<'a>(reader: &mut Reader<'a>) -> Option<DirectoryEntry<'a>>
     if number < 2 || count > reader.remaining() {
         return None;
     }
-    let name = reader.bytes(count);
-    if !is_name(name) {
+    if !begins_with_name(reader.rest(), count) {
         return None;
     }
+    let name = reader.bytes(count);
     Some(DirectoryEntry { number, name })
 }
 
