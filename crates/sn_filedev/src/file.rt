@@ -230,7 +230,7 @@ impl<F: FileExt + OpenFile + Drop> Device for FileDevice<F> {
         ensures counts { CountsOrEnds one_sync result (status_of self.old) (status_of self.new) }
         ensures sectors { (status_of self.new).sectors ≡ (status_of self.old).sectors }
 
-        // Where it succeeds, no write waits any more. After one that the file failed none does.
+        // Where it succeeds, no write waits any more. After a sync that the file failed none succeeds.
         ensures none_waits { OnOk result ((gathered_of self.new).bytes.items ≡ []) }
         ensures lost { IsTrue (is_lost self.old) → IsErr result × IsTrue (is_lost self.new) }
     {
