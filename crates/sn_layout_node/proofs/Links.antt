@@ -1,8 +1,8 @@
 -- The links of a directory block.
 use Rattle.std.proofs.Common.{◌≡◌, ℕ, zero, suc, ◌+◌, ◌-◌, ◌^◌, ◌<◌, ◌≤◌, Bool, true, false, ◌&&◌, Option, None, Some, List, [], ◌∷◌, ◌++◌, length, take, drop, refl, sym, ap, subst, ◌∙◌, append_assoc, length-append, arith}
-use Rattle.std.specs.Prelude.{IsSome, nat_le, ◌==◌}
+use Rattle.std.specs.Prelude.{IsSome, nat_le}
 use Rattle.std.specs.List.{AllByRecursion}
-use Rattle.std.proofs.lemmas.Bool.{le-leb, ne_eqb}
+use Rattle.std.proofs.lemmas.Bool.{le-leb, leb-true}
 use Rattle.std.proofs.lemmas.Grind.{flat_map-append}
 use Rattle.std.proofs.lemmas.List.{append-nil, take_at, drop_at}
 use Rattle.byteorder.specs.Endian.{little_number}
@@ -58,9 +58,6 @@ number_again : (n : ℕ) (rest : List ℕ) → n < 256 ^ 2 → little_number 2 (
 unfolding number_bytes
 number_again n rest fits = little_number-reads_back 2 n rest fits
 
-not_zero : (n : ℕ) → 2 ≤ n → (n == 0) ≡ false
-not_zero n le = ne_eqb n 0 (λ h. omega arith)
-
 no_test : (b : Bool) → (b && false) ≡ false
 no_test true = refl
 no_test false = refl
@@ -69,15 +66,28 @@ begins_zeros : (n : ℕ) → begins_link (zeros n) ≡ false
 unfolding zeros
 begins_zeros zero = refl
 begins_zeros (suc zero) = refl
-begins_zeros (suc (suc n)) = no_test (nat_le 2 (length (zeros (suc (suc n)))))
+begins_zeros (suc (suc n)) = no_test (nat_le 3 (length (zeros (suc (suc n)))))
 
 begins_first : (link : Link) (rest : List ℕ) → IsLink link → begins_link (link_bytes link ++ rest) ≡ true
 begins_first link rest fits =
-    let long : nat_le 2 (length (link_bytes link ++ rest)) ≡ true = le-leb 2 (length (link_bytes link ++ rest)) (omega (arith, length-append (link_bytes link) rest, length-link link)) in
+    let long : nat_le 3 (length (link_bytes link ++ rest)) ≡ true = le-leb 3 (length (link_bytes link ++ rest)) (omega (arith, length-append (link_bytes link) rest, length-link link)) in
     let flat : link_bytes link ++ rest ≡ number_bytes 2 link.number ++ (length link.name ∷ link.name ++ rest) = append_assoc (number_bytes 2 link.number) (length link.name ∷ link.name) rest in
     let number : little_number 2 (link_bytes link ++ rest) ≡ link.number = ap (little_number 2) flat ∙ number_again link.number (length link.name ∷ link.name ++ rest) fits.most in
-    let some : (little_number 2 (link_bytes link ++ rest) == 0) ≡ false = ap (λ (n : ℕ). n == 0) number ∙ not_zero link.number fits.least in
+    let some : nat_le 2 (little_number 2 (link_bytes link ++ rest)) ≡ true = ap (nat_le 2) number ∙ le-leb 2 link.number fits.least in
     rw (long, some) refl
+
+-- what the test says
+both_true : (a b : Bool) → (a && b) ≡ true → (a ≡ true) × (b ≡ true)
+both_true true b e = (refl, e)
+both_true false b e = absurd cc
+
+pub begins_long : (bytes : List ℕ) → begins_link bytes ≡ true → 3 ≤ length bytes
+begins_long bytes e = leb-true 3 (length bytes) (both_true (nat_le 3 (length bytes)) (nat_le 2 (little_number 2 bytes)) e).0
+
+pub begins_least : (old new : List ℕ) (n : ℕ) → begins_link old ≡ true → n < 256 ^ 2 → old ≡ number_bytes 2 n ++ new → 2 ≤ n
+begins_least old new n e fits spelled =
+    let least = leb-true 2 (little_number 2 old) (both_true (nat_le 3 (length old)) (nat_le 2 (little_number 2 old)) e).1 in
+    omega (arith, ap (little_number 2) spelled ∙ number_again n new fits)
 
 -- one link more was read, whatever is left
 pub next_left : (old new : List ℕ) (n : ℕ) (P : Link → Type 0) (some : Type 0)

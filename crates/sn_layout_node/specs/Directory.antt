@@ -67,9 +67,9 @@ abbrev pub without : List ℕ → List Link → List Link
 without name [] = []
 without name (link ∷ links) = if bytes_eq link.name name then links else (link ∷ without name links)
 
--- the bytes begin with a number that is not 0
+-- the bytes begin with a number that a link can have, and a length
 abbrev pub begins_link : List ℕ → Bool
-begins_link bytes = nat_le 2 (length bytes) && not (little_number 2 bytes == 0)
+begins_link bytes = nat_le 3 (length bytes) && nat_le 2 (little_number 2 bytes)
 
 abbrev pub BeginsWithLink : List ℕ → Type 0
 BeginsWithLink bytes = (link : Link) × (rest : List ℕ) × IsLink link × (bytes ≡ link_bytes link ++ rest)

@@ -5,7 +5,7 @@
 //! | 0 | number u16, from 2 up |
 //! | 2 | length of the name u8, 1 to 255 |
 //! | 3 | name |
-ghost use Rattle.std.specs.Prelude.{[], ◌∷◌, ◌≡◌, ◌↔◌, ℕ, ◌+◌, ◌-◌, ◌<◌, ◌≤◌, List, ◌++◌, length, take, drop, false, Some, IfSome, IsNone, IsSome, IsTrue};
+ghost use Rattle.std.specs.Prelude.{[], ◌∷◌, ◌≡◌, ◌↔◌, ℕ, ◌+◌, ◌-◌, ◌<◌, ◌≤◌, List, ◌++◌, length, take, drop, false, true, Some, IfSome, IsNone, IsSome, IsTrue};
 ghost use Rattle.sn_layout.specs.Bytes.{Puts, zeros};
 ghost use Rattle.sn_layout_node.specs.Directory.{Link, IsLink, AreLinks, AreLinkBytes, Spells, IsDirectoryBlock, link_bytes, links_bytes, directory_bytes, begins_link, links_of, number_of, without, BeginsWithLink};
 
@@ -25,10 +25,11 @@ pub struct DirectoryEntry<'a> {
 fn begins_link(bytes: &[u8]) -> bool
     ensures { result ≡ begins_link bytes.now }
 {
-    bytes.len() >= 2 && LittleEndian::read_u16(bytes) != 0
+    bytes.len() >= 3 && LittleEndian::read_u16(bytes) >= 2
 }
 
 fn read_link<'a>(reader: &mut Reader<'a>) -> Option<DirectoryEntry<'a>>
+    requires { begins_link reader.old ≡ true }
     ensures found { IfSome result (λ e. IsLink (record { number = e.number; name = e.name.now })
         × (reader.old ≡ link_bytes (record { number = e.number; name = e.name.now }) ++ reader.new)) }
     ensures only { (link : Link) (rest : List ℕ) → IsLink link → reader.old ≡ link_bytes link ++ rest
@@ -36,12 +37,9 @@ fn read_link<'a>(reader: &mut Reader<'a>) -> Option<DirectoryEntry<'a>>
     ensures left { length reader.new ≤ length reader.old }
     ensures shorter { IfSome result (λ e. length reader.new < length reader.old) }
 {
-    if reader.remaining() < 3 {
-        return None;
-    }
     let number = reader.u16();
     let count = reader.u8() as usize;
-    if number < 2 || count > reader.remaining() {
+    if count > reader.remaining() {
         return None;
     }
     if !begins_with_name(reader.rest(), count) {
