@@ -1,4 +1,4 @@
-ghost use Rattle.std.specs.Prelude.{◌≡◌, ◌≤◌, length, map, take};
+ghost use Rattle.std.specs.Prelude.{◌≡◌, ◌≤◌, ◌&&◌, ◌==◌, not, length, map, take};
 ghost use Rattle.std.specs.List.{list_all};
 ghost use Rattle.std.specs.Simd.Lanes.{mask_l};
 ghost use Rattle.sn_walk.specs.Names as names;
@@ -25,6 +25,12 @@ fn is_dots(name: &[u8]) -> bool
         [a, b] => *a == b'.' && *b == b'.',
         _ => false,
     }
+}
+
+fn is_neither_empty_nor_dots(name: &[u8]) -> bool
+    ensures { result ≡ (not (length name.now == 0) && not (names.is_dots name.now)) }
+{
+    !name.is_empty() && !is_dots(name)
 }
 
 // Bit i says whether byte i is none of a name.
@@ -80,7 +86,7 @@ fn has_name_bytes(name: &[u8]) -> bool
 pub(crate) fn is_name_spelled(name: &[u8]) -> bool
     ensures { result ≡ names.is_name_spelled name.now }
 {
-    !name.is_empty() && !is_dots(name) && has_name_bytes(name)
+    is_neither_empty_nor_dots(name) && has_name_bytes(name)
 }
 
 pub(crate) fn has_name_length(name: &[u8]) -> bool
@@ -103,5 +109,7 @@ pub fn begins_with_name(bytes: &[u8], count: usize) -> bool
     ensures { result ≡ names.is_name (take count bytes.now) }
 {
     let name = &bytes[..count];
-    count > 0 && count <= NAME_MAX && !is_dots(name) && begins_with_name_bytes(bytes, count)
+    (count > 2 || is_neither_empty_nor_dots(name))
+        && count <= NAME_MAX
+        && begins_with_name_bytes(bytes, count)
 }

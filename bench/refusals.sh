@@ -1,0 +1,105 @@
+#!/bin/bash
+# Refuses each allocation of a run of the program in turn, and looks at what it answers. Run by hand: it wants
+# gcc, since the refusals come from a small library that stands before the C library's malloc.
+#
+# A run with one refusal may end with status 1, `snapfs: memory` or `snapfs: M5`, and the first replies of the
+# run without it. Else one reply at the most is `err ENOMEM`; a directory that wasn't made by that call is made
+# by the next one, which is the same; and all other replies stay.
+set -eu
+top=$(cd "$(dirname "$0")/.." && pwd)
+work=$(mktemp -d)
+trap 'rm -rf "$work"' EXIT
+"$top/snapfs" run none /dev/null
+program=$top/crates/sn_bin/out/sn_bin
+
+cat > "$work/refuse.c" <<'C'
+#define _GNU_SOURCE
+#include <dlfcn.h>
+#include <errno.h>
+#include <fcntl.h>
+#include <stdlib.h>
+#include <unistd.h>
+
+static long count, refused = -1;
+
+static int refuses(void) {
+    if (refused < 0) {
+        const char *at = getenv("REFUSED");
+        refused = at ? atol(at) : 0;
+    }
+    if (++count != refused)
+        return 0;
+    const char *mark = getenv("REFUSED_MARK");
+    if (mark)
+        close(open(mark, O_CREAT | O_WRONLY, 0600));
+    errno = ENOMEM;
+    return 1;
+}
+
+#define REAL(name) static __typeof__(&name) real; if (!real) real = (__typeof__(&name))dlsym(RTLD_NEXT, #name)
+
+void *malloc(size_t size) { REAL(malloc); return refuses() ? NULL : real(size); }
+void *realloc(void *old, size_t size) { REAL(realloc); return refuses() ? NULL : real(old, size); }
+void *aligned_alloc(size_t to, size_t size) { REAL(aligned_alloc); return refuses() ? NULL : real(to, size); }
+int posix_memalign(void **at, size_t to, size_t size) {
+    REAL(posix_memalign);
+    return refuses() ? ENOMEM : real(at, to, size);
+}
+extern void *__libc_calloc(size_t, size_t);
+void *calloc(size_t n, size_t size) { return refuses() ? NULL : __libc_calloc(n, size); }
+C
+gcc -O1 -shared -fPIC -o "$work/refuse.so" "$work/refuse.c" -ldl
+
+# Each mkdir stands twice, so that the second one tells whether the first was done.
+cat > "$work/script" <<'S'
+0 login 0 0 -
+0 mkdir /a 0777
+0 mkdir /a 0777
+0 mkdir /a/b 0700
+0 mkdir /a/b 0700
+0 stat /a/b
+0 stat /.snapshot
+1 login 1001 100 50,60,70
+1 stat /a/b/c
+1 mkdir /a/b/c 0755
+1 stat /a/none
+1 mkdir /c 0755
+0 mkdir /a/c 1777
+0 mkdir /a/a-name-that-is-longer-than-most-names-are 0755
+0 mkdir /a/a-name-that-is-longer-than-most-names-are 0755
+0 stat /a/a-name-that-is-longer-than-most-names-are
+S
+"$program" run none "$work/script" > "$work/whole"
+
+# honest STATUS: whether the run's outputs are such as they may be
+honest() {
+    awk -v status="$1" -v err="$(cat "$work/err")" '
+        NR == FNR { whole[NR] = $0; lines = NR; next }
+        {
+            seen = FNR
+            if ($0 == "err ENOMEM" && !wants) {
+                wants = 1
+                if (whole[FNR] == "ok") whole[FNR + 1] = "ok"
+            } else if ($0 != whole[FNR]) bad = 1
+        }
+        END {
+            if (status == 0) exit bad || seen != lines || err != ""
+            exit bad || status != 1 || (err != "snapfs: memory" && err != "snapfs: M5")
+        }' "$work/whole" "$work/out"
+}
+
+answered=0 ended=0 at=1
+while :; do
+    status=0
+    REFUSED=$at REFUSED_MARK=$work/mark LD_PRELOAD=$work/refuse.so "$program" run none "$work/script" \
+        > "$work/out" 2> "$work/err" || status=$?
+    [ -e "$work/mark" ] || break
+    rm "$work/mark"
+    if ! honest "$status"; then
+        echo "allocation $at refused: status $status" && cat "$work/out" "$work/err"
+        exit 1
+    fi
+    if [ "$status" = 0 ]; then answered=$((answered + 1)); else ended=$((ended + 1)); fi
+    at=$((at + 1))
+done
+echo "$((at - 1)) allocations refused in turn: $answered runs went on, $ended ended for memory"
