@@ -1,8 +1,8 @@
 -- Numbers, zeros and lists at the front of bytes.
-use Rattle.std.proofs.Common.{◌≡◌, ℕ, zero, suc, ◌+◌, ◌*◌, ◌^◌, ◌<◌, ◌≤◌, Bool, true, false, Option, Some, None, List, [], ◌∷◌, ◌++◌, length, take, drop, get_or, All, refl, sym, ap, ◌∙◌, append_assoc, length-append, arith}
+use Rattle.std.proofs.Common.{◌≡◌, ℕ, zero, suc, ◌+◌, ◌-◌, ◌*◌, ◌^◌, ◌<◌, ◌≤◌, Bool, true, false, Option, Some, None, List, [], ◌∷◌, ◌++◌, length, take, drop, get_or, All, refl, sym, ap, ◌∙◌, append_assoc, length-append, arith}
 use Rattle.std.specs.Int.{w16, w32, w64, from_le_bytes}
 use Rattle.std.proofs.lemmas.Nat.{le_bytes_2, le_bytes_4, le_bytes_8}
-use Rattle.std.proofs.lemmas.List.{append-nil, take_at, drop_at, length-replicate, length-take-le}
+use Rattle.std.proofs.lemmas.List.{append-nil, take_at, drop_at, length-replicate, length-take-le, length-drop, drop-drop, drop-append-le, take-append-drop}
 use Rattle.std.proofs.lemmas.Grind.{flat_map-append}
 use Rattle.std.proofs.lemmas.List.Concat.{flat_map-cons}
 use Rattle.byteorder.specs.Endian.{little_number}
@@ -118,13 +118,26 @@ numbers_more n xs x = flat_map-append (number_bytes n) xs (x ∷ []) ∙ ap (λ 
 
 -- ---- writing
 
--- what was put into a part of a block that begins at a place
-pub puts_part : (block bytes buf more : List ℕ) (at k next : ℕ) → at ≤ length block → next ≡ at + length bytes → buf ≡ bytes ++ more → Puts block (put_mid at k block buf) at next bytes
-puts_part block bytes buf more at k next within len e =
+-- what stands behind a place stands behind each later one
+pub behind : (a b : List ℕ) (next n : ℕ) → next ≤ n → drop next a ≡ drop next b → drop n a ≡ drop n b
+behind a b next n le e =
+    let same : next + (n - next) ≡ n = omega arith in
+    ap (λ (k : ℕ). drop k a) (sym same) ∙ sym (drop-drop (n - next) next a) ∙ ap (drop (n - next)) e ∙ drop-drop (n - next) next b ∙ ap (λ (k : ℕ). drop k b) same
+
+-- what was put at the front of a part of a block that begins at a place
+pub puts_part : (block bytes buf : List ℕ) (at k m next : ℕ) → at + k ≤ length block → m ≤ k → length bytes ≡ m → next ≡ at + m → buf ≡ bytes ++ drop m (take k (drop at block)) → Puts block (put_mid at k block buf) at next bytes
+puts_part block bytes buf at k m next within fits len moved e =
+    let part = take k (drop at block) in
     let after = drop k (drop at block) in
+    let more = drop m part in
     let flat : take at block ++ ((bytes ++ more) ++ after) ≡ (take at block ++ bytes) ++ (more ++ after) = ap (λ (r : List ℕ). take at block ++ r) (append_assoc bytes more after) ∙ sym (append_assoc (take at block) bytes (more ++ after)) in
-    let long : length (take at block ++ bytes) ≡ next = omega (arith, length-append (take at block) bytes, length-take-le at block within) in
+    let long : length (take at block ++ bytes) ≡ next = omega (arith, length-append (take at block) bytes, length-take-le at block (omega arith)) in
+    let count : length part ≡ k = length-take-le k (drop at block) (omega (arith, length-drop at block)) in
+    let old : drop next block ≡ more ++ after =
+    ap (λ (n : ℕ). drop n block) moved ∙ sym (drop-drop m at block) ∙ ap (drop m) (sym (take-append-drop k (drop at block))) ∙ drop-append-le m part after (omega (arith, count)) in
+    let new : drop next (take at block ++ ((bytes ++ more) ++ after)) ≡ more ++ after = ap (drop next) flat ∙ drop_at (take at block ++ bytes) (more ++ after) next long in
     record {
       front = rw e (ap (take next) flat ∙ take_at (take at block ++ bytes) (more ++ after) next long);
-      moved = len;
+      moved = omega arith;
+      back = λ n le. rw e (behind (take at block ++ ((bytes ++ more) ++ after)) block next n le (new ∙ sym old));
     }

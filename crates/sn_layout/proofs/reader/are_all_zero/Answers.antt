@@ -1,4 +1,4 @@
-use Rattle.std.proofs.Common.{◌≡◌, ◌++◌, ◌∙◌, sym, ap, List, ℕ, take, drop, arith}
+use Rattle.std.proofs.Common.{◌≡◌, ◌++◌, sym, List, ℕ, take, drop, arith}
 use Rattle.std.proofs.lemmas.List.{take-append-drop}
 use Rattle.sn_layout.proofs.Words.{word_more, others_zero, first_zero}
 use Rattle.sn_layout.proofs.reader.are_all_zero.Goals as goal

@@ -1,4 +1,4 @@
-use Rattle.std.proofs.Common.{◌≡◌, ◌∙◌, ◌∷◌, ◌++◌, ◌≤◌, List, ℕ, length, take, refl, sym, ap, arith}
+use Rattle.std.proofs.Common.{◌≡◌, ◌∙◌, ◌∷◌, ◌++◌, List, ℕ, length, take, refl, sym, ap, arith}
 use Rattle.std.proofs.lemmas.List.{take_at}
 use Rattle.sn_walk.specs.Names.{is_name}
 use Rattle.sn_layout.specs.Bytes.{number_bytes}

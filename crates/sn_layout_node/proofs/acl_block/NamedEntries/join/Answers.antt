@@ -1,6 +1,5 @@
-use Rattle.std.proofs.Common.{List, sym, ap, subst, refl, ◌∙◌}
+use Rattle.std.proofs.Common.{List, sym, subst, refl, ◌∙◌}
 use Rattle.sn_acl.specs.declared.entries.Entry.{Entry}
-use Rattle.sn_acl.specs.declared.modes.Mode.{Mode}
 use Rattle.sn_acl.specs.AccessList.{IsValid}
 use Rattle.sn_layout_node.specs.Inode.{IsMode}
 use Rattle.sn_layout_node.specs.AclBlock.{with_objects}
