@@ -17,7 +17,8 @@ done
 echo 'layout_bench: sn_acl sn_walk sn_layout sn_layout_node' >> "$work/crates.txt"
 cp "$top/HANDLES" "$work/"
 
-cat > "$work/crates/layout_bench/src/main.rt" <<'RT'//! How long the codecs take, each beside a copy of a block. Each call changes a byte or a number first, so
+cat > "$work/crates/layout_bench/src/main.rt" <<'RT'
+//! How long the codecs take, each beside a copy of a block. Each call changes a byte or a number first, so
 //! that none can be left out.
 #![tactic(auto)]
 ghost use Rattle.std.specs.Prelude.{◌≡◌, length};
