@@ -1,4 +1,10 @@
+ghost use Rattle.std.specs.Prelude.{◌≡◌, ◌↔◌};
+ghost use Rattle.clap.specs.Values.{kind_of};
+ghost use Rattle.clap.specs.declared.error.ErrorKind.TheVariants as kind;
+ghost use Rattle.sn_command.specs.declared.fault.WordsFault.TheVariants as fault;
+
 use clap::error::ErrorKind;
+use std::alloc::AllocError;
 use thiserror::Error;
 
 /// Why words are no task.
@@ -12,6 +18,8 @@ pub enum WordsFault {
 }
 
 impl From<clap::Error> for WordsFault {
+    ghost from_gives = { λ error given. (given ≡ fault.Memory) ↔ (kind_of error ≡ kind.OutOfMemory) };
+
     fn from(error: clap::Error) -> WordsFault {
         match error.kind() {
             ErrorKind::OutOfMemory => WordsFault::Memory,
@@ -20,8 +28,10 @@ impl From<clap::Error> for WordsFault {
     }
 }
 
-impl From<std::alloc::AllocError> for WordsFault {
-    fn from(_error: std::alloc::AllocError) -> WordsFault {
+impl From<AllocError> for WordsFault {
+    ghost from_gives = { λ _ given. given ≡ fault.Memory };
+
+    fn from(_error: AllocError) -> WordsFault {
         WordsFault::Memory
     }
 }
