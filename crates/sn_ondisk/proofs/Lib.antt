@@ -1,0 +1,4 @@
+pub mod AppendLemmas
+pub mod LogLemmas
+pub mod RootLemmas
+pub mod ShownLemmas

@@ -1,0 +1,34 @@
+//! The laws that the definitions of `specs/` keep.
+ghost use Rattle.sn_ondisk.specs.GateLaws.{GateAddsOneOrNone, OpenGateAddsOne, AppendAddsOneOrNone, ClearingStops, ClearingKeepsTheRecords, ClosingKeepsTheRoot, BodyKeepsTheRoot, OpeningChangesTheRootOrNot, OpenRootIsNewest, OpeningShowsEither};
+ghost use Rattle.sn_ondisk.specs.Footprints.{BlocksDependOnTheirSectors, RootsDependOnTheirBlock, NewestDependsOnTheRoots, RecordsDependOnTheirBody, ReadyDependsOnItsSectors, ReplaysDependOnTheHalf, ShownDependsOnRootsAndLog};
+
+/// What the write of a record's gate, or of the sector that clears a place, does to a log half,
+/// whether it was done or torn.
+pub fn log_gate_laws()
+    ensures adds_one_or_none { GateAddsOneOrNone }
+    ensures open_adds_one { OpenGateAddsOne }
+    ensures append { AppendAddsOneOrNone }
+    ensures clearing_stops { ClearingStops }
+    ensures clearing_keeps { ClearingKeepsTheRecords }
+{}
+
+/// What the write of a slot's gate, or of the body behind a closed one, does to the newest root and
+/// to what the disk shows, whether it was done or torn.
+pub fn root_gate_laws()
+    ensures closing { ClosingKeepsTheRoot }
+    ensures body { BodyKeepsTheRoot }
+    ensures opening { OpeningChangesTheRootOrNot }
+    ensures opened { OpenRootIsNewest }
+    ensures shows { OpeningShowsEither }
+{}
+
+/// The sectors that each reading depends on.
+pub fn footprints()
+    ensures blocks { BlocksDependOnTheirSectors }
+    ensures roots { RootsDependOnTheirBlock }
+    ensures newest { NewestDependsOnTheRoots }
+    ensures records { RecordsDependOnTheirBody }
+    ensures ready { ReadyDependsOnItsSectors }
+    ensures replays { ReplaysDependOnTheHalf }
+    ensures shown { ShownDependsOnRootsAndLog }
+{}
