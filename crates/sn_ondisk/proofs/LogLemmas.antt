@@ -1,22 +1,11 @@
 -- What stands in a log half, carried over changes of other sectors and over the write of a gate.
-use Rattle.std.proofs.Common.{◌≡◌, ◌⊎◌, inl, inr, ⊎_elim, ℕ, zero, suc, ◌+◌, ◌<◌, ◌≤◌, ◌==◌, ◌||◌, if◌then◌else◌, Bool, true, false, List, [], ◌∷◌, ◌++◌, length, slice_index, take, refl, sym, ◌∙◌, ap, subst, arith}
+use Rattle.std.proofs.Common.{◌≡◌, ◌⊎◌, inl, inr, ⊎_elim, ℕ, ◌+◌, ◌<◌, ◌≤◌, ◌==◌, ◌||◌, if◌then◌else◌, Bool, true, false, List, [], ◌∷◌, ◌++◌, length, slice_index, take, refl, sym, ◌∙◌, ap, subst, arith}
 use Rattle.std.specs.Prelude.{nat_le}
 use Rattle.std.proofs.lemmas.Bool.{cases_eq, cases_lt, eqb-true, eqb-false, leb-true}
 use Rattle.sn_device.specs.Sectors.{Contents, sector_at, AgreesOutside, Single}
-use Rattle.sn_ondisk.specs.Blocks.{bytes_at}
 use Rattle.sn_ondisk.specs.Gates.{gate_at, IsOpen, IsClosed}
+use Rattle.sn_ondisk.proofs.BlockLemmas.{AreSame, bytes_at-same}
 use Rattle.sn_ondisk.specs.LogHalf.{HasRecord, Leads, Stops, ReplaysTo, IsReady, place_after, body_sectors, cleared_sector}
-
--- the two contents have the same sectors from one up to another
-abbrev pub AreSame : Contents → Contents → ℕ → ℕ → Type 0
-AreSame c d from to = (i : ℕ) → from ≤ i → i < to → sector_at d i ≡ sector_at c i
-
-pub bytes_at-same : (c d : Contents) (at n : ℕ) → AreSame c d at (at + n) → bytes_at d at n ≡ bytes_at c at n
-unfolding bytes_at
-bytes_at-same c d at zero same = refl
-bytes_at-same c d at (suc n) same =
-    ap (λ s. s ++ bytes_at d (at + 1) n) (same at (omega arith) (omega arith))
-    ∙ ap (λ rest. sector_at c at ++ rest) (bytes_at-same c d (at + 1) n (λ i from to. same i (omega (arith, from)) (omega (arith, to))))
 
 pub gate-same : (c d : Contents) (at : ℕ) → sector_at d at ≡ sector_at c at → gate_at d at ≡ gate_at c at
 gate-same c d at same = ap (λ s. slice_index s 0) same

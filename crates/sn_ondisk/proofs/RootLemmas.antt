@@ -8,7 +8,8 @@ use Rattle.sn_layout.specs.declared.root.RootBody.{RootBody}
 use Rattle.sn_ondisk.specs.Blocks.{InBlock}
 use Rattle.sn_ondisk.specs.Gates.{gate_at, IsOpen, IsClosed}
 use Rattle.sn_ondisk.specs.Roots.{gate_of, body_block, other_slot, HasRoot, IsOlder, IsNewest}
-use Rattle.sn_ondisk.proofs.LogLemmas.{AreSame, bytes_at-same, gate-same, closed-same}
+use Rattle.sn_ondisk.proofs.BlockLemmas.{AreSame, bytes_at-same}
+use Rattle.sn_ondisk.proofs.LogLemmas.{gate-same, closed-same}
 
 pub body_from : (slot : Slot) → 8 ≤ 8 * body_block slot
 body_from A = omega arith

@@ -1,5 +1,6 @@
--- The contents of a disk as bytes and blocks.
-use Rattle.std.specs.Prelude.{ℕ, zero, suc, ◌+◌, ◌*◌, ◌/◌, List, [], ◌++◌, Contains}
+-- The contents of a disk as bytes, blocks and numbers.
+use Rattle.std.specs.Prelude.{ℕ, zero, suc, ◌+◌, ◌*◌, ◌/◌, List, [], ◌∷◌, ◌++◌, drop, Contains}
+use Rattle.byteorder.specs.Endian.{little_number}
 use Rattle.sn_device.specs.Sectors.{Contents, sector_at, Run}
 
 -- the bytes of n sectors from one on
@@ -18,3 +19,8 @@ InBlock block = Run (8 * block) 8
 -- the sectors of these blocks
 abbrev pub InBlocks : List ℕ → ℕ → Type 0
 InBlocks blocks sector = Contains blocks (sector / 8)
+
+-- the first n numbers of four bytes each, the lowest byte first
+unfoldable pub numbers_in : ℕ → List ℕ → List ℕ
+numbers_in zero bytes = []
+numbers_in (suc n) bytes = little_number 4 bytes ∷ numbers_in n (drop 4 bytes)

@@ -3,5 +3,9 @@ pub mod Footprints
 pub mod GateLaws
 pub mod Gates
 pub mod LogHalf
+pub mod MapCopy
+pub mod MapLaws
 pub mod Roots
 pub mod Shown
+pub mod TreeLaws
+pub mod Trees

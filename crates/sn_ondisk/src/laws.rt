@@ -1,5 +1,7 @@
 //! The laws that the definitions of `specs/` keep.
 ghost use Rattle.sn_ondisk.specs.GateLaws.{GateAddsOneOrNone, OpenGateAddsOne, AppendAddsOneOrNone, ClearingStops, ClearingKeepsTheRecords, ClosingKeepsTheRoot, BodyKeepsTheRoot, OpeningChangesTheRootOrNot, OpenRootIsNewest, OpeningShowsEither};
+ghost use Rattle.sn_ondisk.specs.TreeLaws.{TreesDependOnTheirReach, TreesDependOnTheirSectors, ReachHasEveryPointer, ReachHasNoHole, EntriesAreTheirLevel, BytesAreOfTheirBlock};
+ghost use Rattle.sn_ondisk.specs.MapLaws.{WordsAreThoseSpelled, MapIsOne, MapsDependOnTheirSectors, WordsDependOnTheirSectors};
 ghost use Rattle.sn_ondisk.specs.Footprints.{BlocksDependOnTheirSectors, RootsDependOnTheirBlock, NewestDependsOnTheRoots, RecordsDependOnTheirBody, ReadyDependsOnItsSectors, ReplaysDependOnTheHalf, ShownDependsOnRootsAndLog};
 
 /// What the write of a record's gate, or of the sector that clears a place, does to a log half,
@@ -31,4 +33,22 @@ pub fn footprints()
     ensures ready { ReadyDependsOnItsSectors }
     ensures replays { ReplaysDependOnTheHalf }
     ensures shown { ShownDependsOnRootsAndLog }
+{}
+
+/// What a block tree names and holds, and on which blocks that depends.
+pub fn tree_laws()
+    ensures depends { TreesDependOnTheirReach }
+    ensures sectors { TreesDependOnTheirSectors }
+    ensures every { ReachHasEveryPointer }
+    ensures no_hole { ReachHasNoHole }
+    ensures entries { EntriesAreTheirLevel }
+    ensures bytes { BytesAreOfTheirBlock }
+{}
+
+/// What a slot's copy of the block map holds, and on which sectors that depends.
+pub fn map_laws()
+    ensures words { WordsAreThoseSpelled }
+    ensures one { MapIsOne }
+    ensures depends { MapsDependOnTheirSectors }
+    ensures word_depends { WordsDependOnTheirSectors }
 {}

@@ -1,5 +1,6 @@
 use Rattle.std.proofs.Common.{◌*◌, ◌∙◌, arith}
-use Rattle.sn_ondisk.proofs.LogLemmas.{bytes_at-same, HasRecord-same, ready-same, ReplaysTo-same}
+use Rattle.sn_ondisk.proofs.BlockLemmas.{bytes_at-same}
+use Rattle.sn_ondisk.proofs.LogLemmas.{HasRecord-same, ready-same, ReplaysTo-same}
 use Rattle.sn_ondisk.proofs.RootLemmas.{HasRoot-same, IsNewest-same}
 use Rattle.sn_ondisk.proofs.ShownLemmas.{shown_depends}
 use Rattle.sn_ondisk.proofs.laws.footprints.Goals as goal
