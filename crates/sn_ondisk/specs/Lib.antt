@@ -5,6 +5,7 @@ pub mod Gates
 pub mod LogHalf
 pub mod MapCopy
 pub mod MapLaws
+pub mod OneAnswer
 pub mod Roots
 pub mod Shown
 pub mod TreeLaws

@@ -1,5 +1,6 @@
 //! The laws that the definitions of `specs/` keep.
 ghost use Rattle.sn_ondisk.specs.GateLaws.{GateAddsOneOrNone, OpenGateAddsOne, AppendAddsOneOrNone, ClearingStops, ClearingKeepsTheRecords, ClosingKeepsTheRoot, BodyKeepsTheRoot, OpeningChangesTheRootOrNot, OpenRootIsNewest, OpeningShowsEither};
+ghost use Rattle.sn_ondisk.specs.OneAnswer.{RecordIsOne, ReadyIsReplayed, ReplayIsOne};
 ghost use Rattle.sn_ondisk.specs.TreeLaws.{TreesDependOnTheirReach, TreesDependOnTheirSectors, ReachHasEveryPointer, ReachHasNoHole, EntriesAreTheirLevel, BytesAreOfTheirBlock};
 ghost use Rattle.sn_ondisk.specs.MapLaws.{WordsAreThoseSpelled, MapIsOne, MapsDependOnTheirSectors, WordsDependOnTheirSectors};
 ghost use Rattle.sn_ondisk.specs.Footprints.{BlocksDependOnTheirSectors, RootsDependOnTheirBlock, NewestDependsOnTheRoots, RecordsDependOnTheirBody, ReadyDependsOnItsSectors, ReplaysDependOnTheHalf, ShownDependsOnRootsAndLog};
@@ -51,4 +52,11 @@ pub fn map_laws()
     ensures one { MapIsOne }
     ensures depends { MapsDependOnTheirSectors }
     ensures word_depends { WordsDependOnTheirSectors }
+{}
+
+/// Each reading of a log half has one answer.
+pub fn log_is_one()
+    ensures record { RecordIsOne }
+    ensures ready { ReadyIsReplayed }
+    ensures replay { ReplayIsOne }
 {}

@@ -3,4 +3,4 @@
 
 mod laws;
 
-pub use laws::{footprints, log_gate_laws, map_laws, root_gate_laws, tree_laws};
+pub use laws::{footprints, log_gate_laws, log_is_one, map_laws, root_gate_laws, tree_laws};
