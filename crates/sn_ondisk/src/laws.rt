@@ -1,0 +1,62 @@
+//! The laws that the definitions of `specs/` keep.
+ghost use Rattle.sn_ondisk.specs.GateLaws.{GateAddsOneOrNone, OpenGateAddsOne, AppendAddsOneOrNone, ClearingStops, ClearingKeepsTheRecords, ClosingKeepsTheRoot, BodyKeepsTheRoot, OpeningChangesTheRootOrNot, OpenRootIsNewest, OpeningShowsEither};
+ghost use Rattle.sn_ondisk.specs.OneAnswer.{RecordIsOne, ReadyIsReplayed, ReplayIsOne};
+ghost use Rattle.sn_ondisk.specs.TreeLaws.{TreesDependOnTheirReach, TreesDependOnTheirSectors, ReachHasEveryPointer, ReachHasNoHole, EntriesAreTheirLevel, BytesAreOfTheirBlock};
+ghost use Rattle.sn_ondisk.specs.MapLaws.{WordsAreThoseSpelled, MapIsOne, MapsDependOnTheirSectors, WordsDependOnTheirSectors};
+ghost use Rattle.sn_ondisk.specs.Footprints.{BlocksDependOnTheirSectors, RootsDependOnTheirBlock, NewestDependsOnTheRoots, RecordsDependOnTheirBody, ReadyDependsOnItsSectors, ReplaysDependOnTheHalf, ShownDependsOnRootsAndLog};
+
+/// What the write of a record's gate, or of the sector that clears a place, does to a log half,
+/// whether it was done or torn.
+pub fn log_gate_laws()
+    ensures adds_one_or_none { GateAddsOneOrNone }
+    ensures open_adds_one { OpenGateAddsOne }
+    ensures append { AppendAddsOneOrNone }
+    ensures clearing_stops { ClearingStops }
+    ensures clearing_keeps { ClearingKeepsTheRecords }
+{}
+
+/// What the write of a slot's gate, or of the body behind a closed one, does to the newest root and
+/// to what the disk shows, whether it was done or torn.
+pub fn root_gate_laws()
+    ensures closing { ClosingKeepsTheRoot }
+    ensures body { BodyKeepsTheRoot }
+    ensures opening { OpeningChangesTheRootOrNot }
+    ensures opened { OpenRootIsNewest }
+    ensures shows { OpeningShowsEither }
+{}
+
+/// The sectors that each reading depends on.
+pub fn footprints()
+    ensures blocks { BlocksDependOnTheirSectors }
+    ensures roots { RootsDependOnTheirBlock }
+    ensures newest { NewestDependsOnTheRoots }
+    ensures records { RecordsDependOnTheirBody }
+    ensures ready { ReadyDependsOnItsSectors }
+    ensures replays { ReplaysDependOnTheHalf }
+    ensures shown { ShownDependsOnRootsAndLog }
+{}
+
+/// What a block tree names and holds, and on which blocks that depends.
+pub fn tree_laws()
+    ensures depends { TreesDependOnTheirReach }
+    ensures sectors { TreesDependOnTheirSectors }
+    ensures every { ReachHasEveryPointer }
+    ensures no_hole { ReachHasNoHole }
+    ensures entries { EntriesAreTheirLevel }
+    ensures bytes { BytesAreOfTheirBlock }
+{}
+
+/// What a slot's copy of the block map holds, and on which sectors that depends.
+pub fn map_laws()
+    ensures words { WordsAreThoseSpelled }
+    ensures one { MapIsOne }
+    ensures depends { MapsDependOnTheirSectors }
+    ensures word_depends { WordsDependOnTheirSectors }
+{}
+
+/// Each reading of a log half has one answer.
+pub fn log_is_one()
+    ensures record { RecordIsOne }
+    ensures ready { ReadyIsReplayed }
+    ensures replay { ReplayIsOne }
+{}

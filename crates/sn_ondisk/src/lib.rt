@@ -1,0 +1,6 @@
+//! What the sectors of a disk mean.
+#![tactic(auto)]
+
+mod laws;
+
+pub use laws::{footprints, log_gate_laws, log_is_one, map_laws, root_gate_laws, tree_laws};
