@@ -10,11 +10,11 @@ work=$(mktemp -d)
 trap 'rm -rf "$work"' EXIT
 
 mkdir -p "$work/crates/layout_bench/src"
-for crate in sn_acl sn_walk sn_layout sn_layout_node; do
+for crate in sn_acl sn_walk sn_layout sn_layout_acl sn_layout_node; do
     cp -r "$top/crates/$crate" "$work/crates/"
     grep "^$crate:" "$top/crates.txt" >> "$work/crates.txt"
 done
-echo 'layout_bench: sn_acl sn_walk sn_layout sn_layout_node' >> "$work/crates.txt"
+echo 'layout_bench: sn_acl sn_walk sn_layout sn_layout_acl sn_layout_node' >> "$work/crates.txt"
 cp "$top/HANDLES" "$work/"
 
 cat > "$work/crates/layout_bench/src/main.rt" <<'RT'
@@ -25,7 +25,8 @@ ghost use Rattle.std.specs.Prelude.{◌≡◌, length};
 
 use sn_acl::{Acl, Entry, Mode, Permissions, Tag};
 use sn_layout::{Block, BlockTree, Limits, Places, RootBody, Snapshot, SnapshotName, Snapshots, Superblock};
-use sn_layout_node::{AclBlock, Content, DirectoryBlock, IndirectBlock, Inode, InodeRecord, NamedEntries};
+use sn_layout_acl::{AclBlock, NamedEntries};
+use sn_layout_node::{Content, DirectoryBlock, IndirectBlock, Inode, InodeRecord};
 use sn_walk::Kind;
 use std::alloc::{AllocError, Global};
 use std::io;

@@ -2,6 +2,7 @@
 use super::*;
 use sn_acl::{Acl, Entry, Mode, Permissions, Tag};
 use sn_layout::{BLOCK_SIZE, Block, BlockTree, Limits, Reader};
+use sn_layout_acl::{AclBlock, AclParts, NamedEntries, put_entries, read_entries};
 use sn_walk::{Kind, is_name};
 use std::test::Fail;
 
