@@ -134,7 +134,9 @@ fn decode_inode(desk: &mut Desk, turn: u32) -> usize {
 #[inline(never)]
 fn encode_acls(desk: &mut Desk, turn: u32) -> usize {
     desk.acls_bytes[0] = (turn % 256) as u8;
-    desk.acls.encode(&mut desk.acls_bytes);
+    if desk.acls.count() > 0 {
+        desk.acls.encode(&mut desk.acls_bytes);
+    }
     usize::from(desk.acls_bytes[0])
 }
 

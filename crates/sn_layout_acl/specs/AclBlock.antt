@@ -43,11 +43,24 @@ IsDefault (Some entries) = IsValid entries
 abbrev pub lists_bytes : List Entry → List Entry → List ℕ
 lists_bytes access default = (length access ∷ length default ∷ []) ++ zeros 6 ++ entries_bytes access ++ entries_bytes default ++ zeros (4088 - 8 * (length access + length default))
 
+-- two valid lists, either of which may be empty
+pub record AreAcls (acls : AclBlock) : Type 0 where
+  pub access : IsNamedPart acls.access
+  pub default : IsDefault acls.default
+
+-- how many entries both lists have
+abbrev pub entries_in : AclBlock → ℕ
+entries_in acls = length acls.access + length (default_entries acls.default)
+
+-- the numbers of the entries, and then the entries, as a log record has them
+abbrev pub acls_bytes : AclBlock → List ℕ
+acls_bytes acls = (length acls.access ∷ length (default_entries acls.default) ∷ []) ++ entries_bytes acls.access ++ entries_bytes (default_entries acls.default)
+
 -- two valid lists, of which one is not empty
 pub record IsAclBlock (block : AclBlock) : Type 0 where
   pub access : IsNamedPart block.access
   pub default : IsDefault block.default
-  pub some : 0 < length block.access + length (default_entries block.default)
+  pub some : 0 < entries_in block
 
 abbrev pub acl_block_bytes : AclBlock → List ℕ
 acl_block_bytes block = lists_bytes block.access (default_entries block.default)

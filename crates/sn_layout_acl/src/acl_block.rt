@@ -10,10 +10,12 @@ ghost use Rattle.std.specs.List.{AllByRecursion};
 ghost use Rattle.sn_acl.specs.AccessList.{IsValid};
 ghost use Rattle.sn_acl.specs.declared.entries.Tag.TheVariants.{UserObj, GroupObj, Other};
 ghost use Rattle.sn_acl.specs.declared.entries.Entry.{Entry as TheEntry};
-ghost use Rattle.sn_layout_acl.specs.AclEntry.{IsEntry};
-ghost use Rattle.sn_layout_acl.specs.AclBlock.{joined, with_objects, users_in, IsNamedPart, IsDefault, default_entries, lists_bytes};
+ghost use Rattle.sn_layout.specs.Bytes.{Puts};
+ghost use Rattle.sn_layout_acl.specs.AclEntry.{IsEntry, entries_bytes};
+ghost use Rattle.sn_layout_acl.specs.AclBlock.{joined, with_objects, users_in, IsNamedPart, IsDefault, AreAcls, default_entries, lists_bytes};
+ghost use Rattle.sn_layout_acl.specs.declared.acl_block.AclBlock.{AclBlock as TheAclBlock};
 
-use crate::acl_entries::{put_entries, read_entries};
+use crate::acl_entries::{ENTRY_SIZE, put_entries, read_entries};
 use crate::mode::fitting;
 use arrayvec::ArrayVec;
 use sn_acl::{Acl, Entry, MAX_ENTRIES, Mode, Permissions, Tag};
@@ -189,6 +191,7 @@ pub struct AclBlock {
 
 fn entries_of(default: &Option<Acl>) -> &[Entry]
     ensures value { result.now ≡ default_entries default.now }
+    ensures valid { IsDefault default.now }
     ensures room { length result.now ≤ 36 }
 {
     match default {
@@ -216,6 +219,23 @@ struct Lists {
     default: ArrayVec<Entry, MAX_ENTRIES>,
 }
 
+// Reads so many entries of the one list, and then so many of the other.
+fn read_both(reader: &mut Reader<'_>, access: usize, default: usize) -> Option<Lists>
+    requires access { access ≤ 33 }
+    requires default { default ≤ 36 }
+    requires room { 8 * (access + default) ≤ length reader.old }
+    ensures counts { IfSome result (λ lists. (length lists.access.items ≡ access) × (length lists.default.items ≡ default)) }
+    ensures read { IfSome result (λ lists. reader.old ≡ entries_bytes lists.access.items ++ (entries_bytes lists.default.items ++ reader.new)) }
+    ensures only { (a d : List TheEntry) (rest : List ℕ) → length a ≡ access → length d ≡ default → AllByRecursion IsEntry a
+        → AllByRecursion IsEntry d → reader.old ≡ entries_bytes a ++ (entries_bytes d ++ rest)
+        → (result ≡ Some (record { access = record { items = a }; default = record { items = d } })) × (reader.new ≡ rest) }
+    ensures left { IfSome result (λ _. length reader.new + 8 * (access + default) ≡ length reader.old) }
+{
+    let access = read_entries(reader, access)?;
+    let default = read_entries(reader, default)?;
+    Some(Lists { access, default })
+}
+
 fn read_lists(block: &Block) -> Option<Lists>
     ensures found { IfSome result (λ lists. (length lists.access.items ≤ 33) × (block.now ≡ lists_bytes lists.access.items lists.default.items)) }
     ensures only { (access default : List TheEntry) → length access ≤ 33 → length default ≤ 36 → AllByRecursion IsEntry access
@@ -229,20 +249,41 @@ fn read_lists(block: &Block) -> Option<Lists>
         return None;
     }
     let blank = 4088 - 8 * (access + default);
-    let access = read_entries(&mut reader, access)?;
-    let default = read_entries(&mut reader, default)?;
+    let lists = read_both(&mut reader, access, default)?;
     if !reader.are_zeros(blank) {
         return None;
     }
-    Some(Lists { access, default })
+    Some(lists)
+}
+
+// The ACLs that the lists are.
+fn acls_of(lists: &Lists) -> Option<AclBlock>
+    requires { length lists.now.access.items ≤ 33 }
+    ensures found { IfSome result (λ acls. AreAcls acls × (lists.now.access.items ≡ acls.access) × (lists.now.default.items ≡ default_entries acls.default)) }
+    ensures only { (acls : TheAclBlock) → AreAcls acls → lists.now.access.items ≡ acls.access
+        → lists.now.default.items ≡ default_entries acls.default → result ≡ Some acls }
+{
+    let access = NamedEntries::from_entries(lists.access.as_slice())?;
+    let default = default_of(lists.default.as_slice())?;
+    Some(AclBlock { access, default })
 }
 
 impl AclBlock {
-    ghost use Rattle.sn_layout_acl.specs.AclBlock.{IsAclBlock, acl_block_bytes};
-    ghost use Rattle.sn_layout_acl.specs.declared.acl_block.AclBlock.{AclBlock as TheAclBlock};
+    ghost use Rattle.sn_layout_acl.specs.AclBlock.{IsAclBlock, acl_block_bytes, acls_bytes, entries_in};
 
+    /// How many entries both lists have.
+    pub fn count(&self) -> usize
+        ensures value { result ≡ entries_in self.now }
+        ensures most { result ≤ 69 }
+    {
+        self.access.as_slice().len() + entries_of(&self.default).len()
+    }
+
+    /// Writes the whole block, whatever stood there. An inode whose lists are both empty has none.
     pub fn encode(&self, block: &mut Block)
-        ensures { block.new ≡ acl_block_bytes self.now }
+        requires { 0 < entries_in self.now }
+        ensures fits { IsAclBlock self.now }
+        ensures bytes { block.new ≡ acl_block_bytes self.now }
     {
         let access = self.access.as_slice();
         let default = entries_of(&self.default);
@@ -263,8 +304,40 @@ impl AclBlock {
         if lists.access.is_empty() && lists.default.is_empty() {
             return None;
         }
-        let access = NamedEntries::from_entries(lists.access.as_slice())?;
-        let default = default_of(lists.default.as_slice())?;
-        Some(AclBlock { access, default })
+        acls_of(&lists)
+    }
+
+    /// Writes both lists as a log record has them, either of which may be empty: their numbers of
+    /// entries u8, and then the entries. Answers the place after them.
+    pub fn put_lists(&self, block: &mut [u8], at: usize) -> usize
+        requires { at + 2 + 8 * entries_in self.now ≤ length block.old }
+        ensures bytes { Puts block.old block.new at result (acls_bytes self.now) }
+        ensures next { result ≡ at + 2 + 8 * entries_in self.now }
+    {
+        let access = self.access.as_slice();
+        let default = entries_of(&self.default);
+        let at = put_u8(block, at, access.len() as u8);
+        let at = put_u8(block, at, default.len() as u8);
+        let at = put_entries(block, at, access);
+        put_entries(block, at, default)
+    }
+
+    /// Reads both lists as a log record has them. `None` where the bytes end before they do or are
+    /// none; how far the reader has come then is open.
+    pub fn read_lists(reader: &mut Reader<'_>) -> Option<Self>
+        ensures found { IfSome result (λ acls. AreAcls acls × (reader.old ≡ acls_bytes acls ++ reader.new)) }
+        ensures only { (acls : TheAclBlock) (rest : List ℕ) → AreAcls acls → reader.old ≡ acls_bytes acls ++ rest
+            → (result ≡ Some acls) × (reader.new ≡ rest) }
+    {
+        let access = reader.try_u8()? as usize;
+        let default = reader.try_u8()? as usize;
+        if access > NAMED_MAX
+            || default > MAX_ENTRIES
+            || reader.remaining() < ENTRY_SIZE * (access + default)
+        {
+            return None;
+        }
+        let lists = read_both(reader, access, default)?;
+        acls_of(&lists)
     }
 }

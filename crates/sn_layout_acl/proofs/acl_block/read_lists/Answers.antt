@@ -16,8 +16,7 @@ returns-then-not-are_zeros-2-clause-only c = λ access default few-access few-de
     let first = c.u8-access.ensures.only (length access) _ (c.new-reader.ensures ∙ e ∙ flat access default) in
     let second = c.u8-default.ensures.only (length default) _ first.1 in
     let blank = c.are_zeros.ensures.only _ second.1 in
-    let one = c.read_entries.ensures.only access _ (sym first.0) each-access blank.1 in
-    let two = c.read_entries-2.ensures.only default _ (sym second.0) each-default one.1 in
+    let both = c.read_both.ensures.only access default _ (sym first.0) (sym second.0) each-access each-default blank.1 in
     let count : length access + length default ≡ c.u8-access.result + c.u8-default.result = omega (arith, first.0, second.0) in
-    let last = c.are_zeros-2.ensures.only [] (two.1 ∙ ap (λ (n : ℕ). zeros (4088 - 8 * n)) count ∙ sym (append-nil (zeros (4088 - 8 * (c.u8-access.result + c.u8-default.result))))) in
+    let last = c.are_zeros-2.ensures.only [] (both.1 ∙ ap (λ (n : ℕ). zeros (4088 - 8 * n)) count ∙ sym (append-nil (zeros (4088 - 8 * (c.u8-access.result + c.u8-default.result))))) in
     true_false c.are_zeros-2.result last.0 c.if-not-are_zeros-2.true

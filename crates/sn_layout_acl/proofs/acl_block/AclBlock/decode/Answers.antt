@@ -1,8 +1,8 @@
-use Rattle.std.proofs.Common.{◌∙◌, refl, sym, ap, subst}
+use Rattle.std.proofs.Common.{ap}
 use Rattle.sn_layout.proofs.Fields.{some_none, some_some}
 use Rattle.sn_layout_acl.specs.declared.acl_block.AclBlock.{AclBlock}
 use Rattle.sn_layout_acl.specs.declared.acl_block.Lists.{Lists}
-use Rattle.sn_layout_acl.specs.AclBlock.{IsNamedPart, default_entries}
+use Rattle.sn_layout_acl.specs.AclBlock.{default_entries}
 use Rattle.sn_layout_acl.proofs.AclLists.{named_short, named_entries, default_short, default_each}
 use Rattle.sn_layout_acl.proofs.acl_block.AclBlock.decode.Goals as goal
 
@@ -15,28 +15,10 @@ returns-in_err-lists-clause-only c = λ acls fits e.
     let lists = c.read_lists.ensures.only acls.access (default_entries acls.default) (named_short acls.access fits.access) (default_short acls.default fits.default) (named_entries acls.access fits.access) (default_each acls.default fits.default) e in
     some_none c.read_lists.result (lists_of acls) lists c.in_err-lists.was
 
-pub returns-in_err-access-clause-only : goal.returns-in_err-access-clause-only
-returns-in_err-access-clause-only c = λ acls fits e.
-    let lists = c.read_lists.ensures.only acls.access (default_entries acls.default) (named_short acls.access fits.access) (default_short acls.default fits.default) (named_entries acls.access fits.access) (default_each acls.default fits.default) e in
-    let same = some_some c.read_lists.result c.in_ok-lists.lists (lists_of acls) c.in_ok-lists.was lists in
-    let access = c.as_slice.ensures.value ∙ ap (λ (l : Lists). l.access.items) same in
-    absurd (c.in_err-access.ensures.refused refl (subst IsNamedPart (sym access) fits.access))
-
-pub returns-in_err-default-clause-only : goal.returns-in_err-default-clause-only
-returns-in_err-default-clause-only c = λ acls fits e.
-    let lists = c.read_lists.ensures.only acls.access (default_entries acls.default) (named_short acls.access fits.access) (default_short acls.default fits.default) (named_entries acls.access fits.access) (default_each acls.default fits.default) e in
-    let same = some_some c.read_lists.result c.in_ok-lists.lists (lists_of acls) c.in_ok-lists.was lists in
-    let entries = c.as_slice-2.ensures.value ∙ ap (λ (l : Lists). l.default.items) same in
-    let default = c.default_of.ensures.only acls.default fits.default entries in
-    some_none c.default_of.result acls.default default c.in_err-default.was
-
 pub returns-clause-only : goal.returns-clause-only
 returns-clause-only c = λ acls fits e.
     let lists = c.read_lists.ensures.only acls.access (default_entries acls.default) (named_short acls.access fits.access) (default_short acls.default fits.default) (named_entries acls.access fits.access) (default_each acls.default fits.default) e in
     let same = some_some c.read_lists.result c.in_ok-lists.lists (lists_of acls) c.in_ok-lists.was lists in
-    let access = c.as_slice.ensures.value ∙ ap (λ (l : Lists). l.access.items) same in
-    let entries = c.as_slice-2.ensures.value ∙ ap (λ (l : Lists). l.default.items) same in
-    let default = c.default_of.ensures.only acls.default fits.default entries in
-    let same-access = c.in_ok-access.ensures.found.1 ∙ access in
-    let same-default = some_some c.default_of.result c.in_ok-default.default acls.default c.in_ok-default.was default in
-    rw (same-access, same-default) refl
+    let access = ap (λ (l : Lists). l.access.items) same in
+    let entries = ap (λ (l : Lists). l.default.items) same in
+    c.acls_of.ensures.only acls (record { access = fits.access; default = fits.default }) access entries
