@@ -1,6 +1,8 @@
 pub mod BlockTree
 pub mod Bytes
+pub mod Gate
 pub mod Limits
+pub mod MapCopy
 pub mod Places
 pub mod RootBody
 pub mod Snapshot
