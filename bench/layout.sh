@@ -24,7 +24,7 @@ cat > "$work/crates/layout_bench/src/main.rt" <<'RT'
 ghost use Rattle.std.specs.Prelude.{◌≡◌, length};
 
 use sn_acl::{Acl, Entry, Mode, Permissions, Tag};
-use sn_layout::{Block, BlockTree, Limits, Places, RootBody, Snapshot, SnapshotName, Snapshots, Superblock};
+use sn_layout::{Block, BlockTree, Limits, Places, Pointers, RootBody, Snapshot, SnapshotName, Snapshots, Superblock};
 use sn_layout_acl::{AclBlock, NamedEntries};
 use sn_layout_node::{Content, DirectoryBlock, IndirectBlock, Inode, InodeRecord};
 use sn_walk::Kind;
@@ -340,7 +340,7 @@ fn values(alloc: Global) -> Result<Option<Desk>, AllocError> {
     directory_bytes.copy_from_slice(names.as_slice());
     let tree = BlockTree {
         size: 40_000,
-        pointers: [7, 8, 9, 10, 11, 12, 13, 14, 15, 16, 0, 0, 0, 0, 0, 0],
+        pointers: Pointers::new(&[7, 8, 9, 10, 11, 12, 13, 14, 15, 16, 0, 0, 0, 0, 0, 0]),
     };
     Ok(Some(Desk {
         root: RootBody {

@@ -4,6 +4,7 @@ pub mod Gate
 pub mod Limits
 pub mod MapCopy
 pub mod Places
+pub mod Pointers
 pub mod RootBody
 pub mod Snapshot
 pub mod SnapshotName

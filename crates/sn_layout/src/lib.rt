@@ -23,6 +23,7 @@ mod limits;
 mod map_copy;
 mod name;
 mod places;
+mod pointers;
 mod reader;
 mod root;
 mod snapshot;
@@ -37,12 +38,13 @@ pub use limits::Limits;
 pub use map_copy::{WORDS_PER_BLOCK, put_map_words, read_map_words};
 pub use name::{SNAPSHOT_NAME_MAX, SnapshotName};
 pub use places::{Area, LARGEST_DISK, LogHalf, Places, SMALLEST_DISK, Slot};
+pub use pointers::{POINTERS, Pointers};
 pub use reader::Reader;
 pub use root::{LARGEST_AGE, RootBody};
 pub use snapshot::Snapshot;
 pub use snapshots::{SNAPSHOT_ROOM, Snapshots};
 pub use superblock::Superblock;
-pub use tree::{BlockTree, POINTERS};
+pub use tree::BlockTree;
 pub use writer::{put_bytes, put_u8, put_u16, put_u32, put_u32s, put_u64, put_zeros};
 
 #[cfg(test)]
