@@ -10,11 +10,11 @@ work=$(mktemp -d)
 trap 'rm -rf "$work"' EXIT
 
 mkdir -p "$work/crates/layout_bench/src"
-for crate in sn_acl sn_walk sn_layout sn_layout_node; do
+for crate in sn_acl sn_walk sn_layout sn_layout_acl sn_layout_node; do
     cp -r "$top/crates/$crate" "$work/crates/"
     grep "^$crate:" "$top/crates.txt" >> "$work/crates.txt"
 done
-echo 'layout_bench: sn_acl sn_walk sn_layout sn_layout_node' >> "$work/crates.txt"
+echo 'layout_bench: sn_acl sn_walk sn_layout sn_layout_acl sn_layout_node' >> "$work/crates.txt"
 cp "$top/HANDLES" "$work/"
 
 cat > "$work/crates/layout_bench/src/main.rt" <<'RT'
@@ -24,8 +24,9 @@ cat > "$work/crates/layout_bench/src/main.rt" <<'RT'
 ghost use Rattle.std.specs.Prelude.{◌≡◌, length};
 
 use sn_acl::{Acl, Entry, Mode, Permissions, Tag};
-use sn_layout::{Block, BlockTree, Limits, Places, RootBody, Snapshot, SnapshotName, Snapshots, Superblock};
-use sn_layout_node::{AclBlock, Content, DirectoryBlock, IndirectBlock, Inode, InodeRecord, NamedEntries};
+use sn_layout::{Block, BlockTree, Limits, Places, Pointers, RootBody, Snapshot, SnapshotName, Snapshots, Superblock};
+use sn_layout_acl::{AclBlock, NamedEntries};
+use sn_layout_node::{Content, DirectoryBlock, IndirectBlock, Inode, InodeRecord};
 use sn_walk::Kind;
 use std::alloc::{AllocError, Global};
 use std::io;
@@ -133,7 +134,9 @@ fn decode_inode(desk: &mut Desk, turn: u32) -> usize {
 #[inline(never)]
 fn encode_acls(desk: &mut Desk, turn: u32) -> usize {
     desk.acls_bytes[0] = (turn % 256) as u8;
-    desk.acls.encode(&mut desk.acls_bytes);
+    if desk.acls.count() > 0 {
+        desk.acls.encode(&mut desk.acls_bytes);
+    }
     usize::from(desk.acls_bytes[0])
 }
 
@@ -337,7 +340,7 @@ fn values(alloc: Global) -> Result<Option<Desk>, AllocError> {
     directory_bytes.copy_from_slice(names.as_slice());
     let tree = BlockTree {
         size: 40_000,
-        pointers: [7, 8, 9, 10, 11, 12, 13, 14, 15, 16, 0, 0, 0, 0, 0, 0],
+        pointers: Pointers::new(&[7, 8, 9, 10, 11, 12, 13, 14, 15, 16, 0, 0, 0, 0, 0, 0]),
     };
     Ok(Some(Desk {
         root: RootBody {

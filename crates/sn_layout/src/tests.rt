@@ -52,7 +52,7 @@ fn first_root(rt: HostRuntime) -> Result<(), Fail> {
         epoch: 1,
         inode_file: BlockTree {
             size: 4096,
-            pointers,
+            pointers: Pointers::new(&pointers),
         },
         snapshots: Snapshots::new(),
     };

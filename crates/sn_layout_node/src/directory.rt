@@ -6,12 +6,13 @@
 //! | 2 | length of the name u8, 1 to 255 |
 //! | 3 | name |
 ghost use Rattle.std.specs.Prelude.{[], ◌∷◌, ◌≡◌, ◌↔◌, ℕ, ◌+◌, ◌-◌, ◌<◌, ◌≤◌, List, ◌++◌, length, take, drop, false, true, Some, IfSome, IsNone, IsSome, IsTrue};
+ghost use Rattle.sn_walk.specs.Names.{is_name};
 ghost use Rattle.sn_layout.specs.Bytes.{Puts, zeros};
 ghost use Rattle.sn_layout_node.specs.Directory.{Link, IsLink, AreLinks, AreLinkBytes, Spells, IsDirectoryBlock, link_bytes, links_bytes, directory_bytes, begins_link, links_of, number_of, without, BeginsWithLink};
 
+use crate::name::{put_name, read_name};
 use byteorder::{ByteOrder, LittleEndian};
-use sn_layout::{BLOCK_SIZE, Block, Reader, put_bytes, put_u8, put_u16, put_zeros};
-use sn_walk::begins_with_name;
+use sn_layout::{BLOCK_SIZE, Block, Reader, put_u16, put_zeros};
 use std::marker::Model;
 
 /// A name in a directory, lent from its block.
@@ -38,14 +39,7 @@ fn read_link<'a>(reader: &mut Reader<'a>) -> Option<DirectoryEntry<'a>>
     ensures shorter { IfSome result (λ e. length reader.new < length reader.old) }
 {
     let number = reader.u16();
-    let count = reader.u8() as usize;
-    if count > reader.remaining() {
-        return None;
-    }
-    if !begins_with_name(reader.rest(), count) {
-        return None;
-    }
-    let name = reader.bytes(count);
+    let name = read_name(reader)?;
     Some(DirectoryEntry { number, name })
 }
 
@@ -120,14 +114,13 @@ fn links_size(block: &[u8]) -> usize
 }
 
 fn put_link(block: &mut [u8], at: usize, name: &[u8], number: u16) -> usize
-    requires name { length name.now < 256 }
+    requires name { IsTrue (is_name name.now) }
     requires room { at + 3 + length name.now ≤ length block.old }
     ensures bytes { Puts block.old block.new at result (link_bytes (record { number = number; name = name.now })) }
     ensures next { result ≡ at + 3 + length name.now }
 {
     let at = put_u16(block, at, number);
-    let at = put_u8(block, at, name.len() as u8);
-    put_bytes(block, at, name)
+    put_name(block, at, name)
 }
 
 // A link among others: its number, and which bytes it is.
