@@ -29,10 +29,10 @@ use Rattle.sn_model.specs.declared.call.Event.TheVariants as event
 use Rattle.sn_model.specs.World.{World, new_root, new_tree, new_world}
 use Rattle.sn_model.specs.Tests.{◌>>=◌, prefix, walked, not_present, vacant, live, writable_parent, has_room, full}
 use Rattle.sn_model.specs.Calls.{Ready, Outcome, Opens, Makes, Tells, Login, Mkdir, Stat, ready, outcome_of, mkdir_outcome, stat_outcome, told, status_of, number_of, new_directory, last_name}
-use Rattle.sn_model.specs.Laws.{HasKind, IsHierarchy, Reaches, root}
+use Rattle.sn_model.specs.NameTree.{HasKind, IsHierarchy, Reaches, root}
 use Rattle.sn_model.specs.Steps.{Becomes, EventStep, Run, Step, decision}
-use Rattle.sn_model.proofs.HierarchyLemmas.{hierarchy_made, least_is_unused, same_or_apart}
-use Rattle.sn_model.proofs.LinkLemmas.{get_inserted, get_other}
+use Rattle.sn_model.proofs.HierarchyLemmas.{hierarchy_made, least_is_unused}
+use Rattle.sn_model.proofs.MapLemmas.{same_or_apart, get_inserted, get_other}
 
 bind_ok : {A B : Type 0} (r : Result A Refusal) (f : A → Result B Refusal) (y : B) → (r >>= f) ≡ Ok y → (x : A) × (r ≡ Ok x) × (f x ≡ Ok y)
 bind_ok (Ok x) f y e = (x, refl, e)

@@ -1,3 +1,4 @@
+ghost use Rattle.sn_model.specs.ChangeLaws.{ChangesKeepCovers, ChangesKeepTheTree, CoveredSettleAlike, CoversItself, CoversJoin, DroppingKeepsCovers, DroppingKeepsTheTree, ListsJoin, ListsKeepCovers, ListsKeepTheTree, TestIsBelow};
 ghost use Rattle.sn_model.specs.Laws.{MakesOneMore, RefusalsChangeNothing, RunsKeepTheHierarchy};
 
 /// Whatever a call is refused for, the world stays as it was.
@@ -14,4 +15,61 @@ pub fn makes_one_more()
 /// from the root.
 pub fn runs_keep_the_hierarchy()
     ensures { RunsKeepTheHierarchy }
+{}
+
+/// What a change makes of the live tree, replay makes too: a change that the live tree takes is one
+/// that a tree which covers it takes, and it still covers.
+pub fn changes_keep_covers()
+    ensures { ChangesKeepCovers }
+{}
+
+/// Files without names that are dropped from the live tree alone stay covered.
+pub fn dropping_keeps_covers()
+    ensures { DroppingKeepsCovers }
+{}
+
+/// Settled, a tree and one that covers it are equal.
+pub fn covered_settle_alike()
+    ensures { CoveredSettleAlike }
+{}
+
+/// In a hierarchy the test of a rename finds a directory below another, and nothing else.
+pub fn test_is_below()
+    ensures { TestIsBelow }
+{}
+
+/// A change that applies to a name tree gives a name tree: directories form a tree, nodes, names and
+/// their counts keep the limits.
+pub fn changes_keep_the_tree()
+    ensures { ChangesKeepTheTree }
+{}
+
+/// Files without names that are dropped leave a name tree.
+pub fn dropping_keeps_the_tree()
+    ensures { DroppingKeepsTheTree }
+{}
+
+/// The same for a list of changes.
+pub fn lists_keep_the_tree()
+    ensures { ListsKeepTheTree }
+{}
+
+/// What a list of changes makes of the live tree, replay makes too.
+pub fn lists_keep_covers()
+    ensures { ListsKeepCovers }
+{}
+
+/// A list of changes and one behind it are applied as one list.
+pub fn lists_join()
+    ensures { ListsJoin }
+{}
+
+/// A tree covers itself.
+pub fn covers_itself()
+    ensures { CoversItself }
+{}
+
+/// What covers a cover covers.
+pub fn covers_join()
+    ensures { CoversJoin }
 {}
