@@ -32,6 +32,3 @@ pub use content::{Content, INLINE_MAX, InlineBytes};
 pub use directory::{DirectoryBlock, DirectoryEntry, Entries};
 pub use indirect::{IndirectBlock, POINTERS_PER_BLOCK};
 pub use inode::{INODE_SIZE, Inode, InodeRecord, LINKS_MAX};
-
-#[cfg(test)]
-mod tests;
