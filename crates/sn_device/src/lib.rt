@@ -60,8 +60,6 @@ mod lent;
 mod memory;
 mod plan;
 mod status;
-#[cfg(test)]
-mod tests;
 
 pub use device::{Device, Fault, SECTOR_SIZE, Sector};
 pub use fill::Fill;

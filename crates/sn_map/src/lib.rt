@@ -26,6 +26,3 @@ mod lanes;
 mod plain;
 
 pub use block_map::{LARGEST_BIT, Map};
-
-#[cfg(test)]
-mod tests;
