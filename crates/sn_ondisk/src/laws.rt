@@ -1,6 +1,6 @@
 //! The laws that the definitions of `specs/` keep.
 ghost use Rattle.sn_ondisk.specs.GateLaws.{GateAddsOneOrNone, OpenGateAddsOne, AppendAddsOneOrNone, ClearingStops, ClearingKeepsTheRecords, ClosingKeepsTheRoot, BodyKeepsTheRoot, OpeningChangesTheRootOrNot, OpenRootIsNewest, OpeningShowsEither};
-ghost use Rattle.sn_ondisk.specs.OneAnswer.{RecordIsOne, ReadyIsReplayed, ReplayIsOne};
+ghost use Rattle.sn_ondisk.specs.OneAnswer.{RecordIsOne, ReadyIsReplayed, ReplayIsOne, RootIsOne, NewestIsOne, ShownIsOne};
 ghost use Rattle.sn_ondisk.specs.TreeLaws.{TreesDependOnTheirReach, TreesDependOnTheirSectors, ReachHasEveryPointer, ReachHasNoHole, EntriesAreTheirLevel, BytesAreOfTheirBlock};
 ghost use Rattle.sn_ondisk.specs.MapLaws.{WordsAreThoseSpelled, MapIsOne, MapsDependOnTheirSectors, WordsDependOnTheirSectors};
 ghost use Rattle.sn_ondisk.specs.Footprints.{BlocksDependOnTheirSectors, RootsDependOnTheirBlock, NewestDependsOnTheRoots, RecordsDependOnTheirBody, ReadyDependsOnItsSectors, ReplaysDependOnTheHalf, ShownDependsOnRootsAndLog};
@@ -59,4 +59,11 @@ pub fn log_is_one()
     ensures record { RecordIsOne }
     ensures ready { ReadyIsReplayed }
     ensures replay { ReplayIsOne }
+{}
+
+/// So has each reading of the roots, and what a disk shows is one root with one list of records.
+pub fn root_is_one()
+    ensures root { RootIsOne }
+    ensures newest { NewestIsOne }
+    ensures shown { ShownIsOne }
 {}
