@@ -1,5 +1,6 @@
 //! The laws that the definitions of `specs/` keep.
 ghost use Rattle.sn_ondisk.specs.GateLaws.{GateAddsOneOrNone, OpenGateAddsOne, AppendAddsOneOrNone, ClearingStops, ClearingKeepsTheRecords, ClosingKeepsTheRoot, BodyKeepsTheRoot, OpeningChangesTheRootOrNot, OpenRootIsNewest, OpeningShowsEither};
+ghost use Rattle.sn_ondisk.specs.PlaceLaws.{RootsLieInTheirAreas, HalvesAreTheirAreas, EpochsAlternate, AreasAreApart};
 ghost use Rattle.sn_ondisk.specs.OneAnswer.{RecordIsOne, ReadyIsReplayed, ReplayIsOne, RootIsOne, NewestIsOne, ShownIsOne};
 ghost use Rattle.sn_ondisk.specs.TreeLaws.{TreesDependOnTheirReach, TreesDependOnTheirSectors, ReachHasEveryPointer, ReachHasNoHole, EntriesAreTheirLevel, BytesAreOfTheirBlock};
 ghost use Rattle.sn_ondisk.specs.MapLaws.{WordsAreThoseSpelled, MapIsOne, MapsDependOnTheirSectors, WordsDependOnTheirSectors};
@@ -66,4 +67,12 @@ pub fn root_is_one()
     ensures root { RootIsOne }
     ensures newest { NewestIsOne }
     ensures shown { ShownIsOne }
+{}
+
+/// Where roots, map copies and log halves lie.
+pub fn place_laws()
+    ensures roots { RootsLieInTheirAreas }
+    ensures halves { HalvesAreTheirAreas }
+    ensures epochs { EpochsAlternate }
+    ensures apart { AreasAreApart }
 {}
