@@ -100,3 +100,39 @@ OpeningShowsEither = (n : ℕ) (c d : Contents) (slot : Slot) (root next : RootB
     → Replays c (base_of n (next.epoch + 1)) (next.epoch + 1) fourth
     → AgreesOutside (Single (gate_of (other_slot slot))) c d
     → Shown n d slot root first second ⊎ Shown n d (other_slot slot) next third fourth
+
+-- Whatever the gate of an older root comes to hold that stands open, the disk shows the same.
+abbrev pub ClosingShowsTheSame : Type 0
+ClosingShowsTheSame = (n : ℕ) (c d : Contents) (slot : Slot) (root : RootBody) (older newer : List (List ℕ))
+    → Shown n c slot root older newer
+    → IsOpen c (gate_of (other_slot slot))
+    → AgreesOutside (Single (gate_of (other_slot slot))) c d
+    → Shown n d slot root older newer
+
+-- And so whatever the body of a closed slot comes to hold.
+abbrev pub BodyShowsTheSame : Type 0
+BodyShowsTheSame = (n : ℕ) (c d : Contents) (slot : Slot) (root : RootBody) (older newer : List (List ℕ))
+    → Shown n c slot root older newer
+    → IsClosed c (gate_of (other_slot slot))
+    → AgreesOutside (InBlock (body_block (other_slot slot))) c d
+    → Shown n d slot root older newer
+
+-- Whatever the gate of a record of the root's epoch comes to hold, the disk shows the records as they were, or with that one behind the older ones.
+abbrev pub AppendShowsOneMore : Type 0
+AppendShowsOneMore = (n : ℕ) (c d : Contents) (slot : Slot) (root : RootBody) (older newer : List (List ℕ)) (place : ℕ) (payload : List ℕ)
+    → Shown n c slot root older newer
+    → IsReady c (base_of n root.epoch) root.epoch older place
+    → HasRecord c (base_of n root.epoch) root.epoch place (length older) payload
+    → IsClosed c (base_of n root.epoch + place_after place payload)
+    → AgreesOutside (Single (base_of n root.epoch + place)) c d
+    → Shown n d slot root older newer ⊎ Shown n d slot root (older ++ payload ∷ []) newer
+
+-- And of the next epoch, behind the newer ones.
+abbrev pub AppendShowsOneNewer : Type 0
+AppendShowsOneNewer = (n : ℕ) (c d : Contents) (slot : Slot) (root : RootBody) (older newer : List (List ℕ)) (place : ℕ) (payload : List ℕ)
+    → Shown n c slot root older newer
+    → IsReady c (base_of n (root.epoch + 1)) (root.epoch + 1) newer place
+    → HasRecord c (base_of n (root.epoch + 1)) (root.epoch + 1) place (length newer) payload
+    → IsClosed c (base_of n (root.epoch + 1) + place_after place payload)
+    → AgreesOutside (Single (base_of n (root.epoch + 1) + place)) c d
+    → Shown n d slot root older newer ⊎ Shown n d slot root older (newer ++ payload ∷ [])

@@ -1,5 +1,5 @@
 //! The laws that the definitions of `specs/` keep.
-ghost use Rattle.sn_ondisk.specs.GateLaws.{GateAddsOneOrNone, OpenGateAddsOne, AppendAddsOneOrNone, ClearingStops, ClearingKeepsTheRecords, ClosingKeepsTheRoot, BodyKeepsTheRoot, OpeningChangesTheRootOrNot, OpenRootIsNewest, OpeningShowsEither};
+ghost use Rattle.sn_ondisk.specs.GateLaws.{GateAddsOneOrNone, OpenGateAddsOne, AppendAddsOneOrNone, ClearingStops, ClearingKeepsTheRecords, ClosingKeepsTheRoot, BodyKeepsTheRoot, OpeningChangesTheRootOrNot, OpenRootIsNewest, OpeningShowsEither, ClosingShowsTheSame, BodyShowsTheSame, AppendShowsOneMore, AppendShowsOneNewer};
 ghost use Rattle.sn_ondisk.specs.PlaceLaws.{RootsLieInTheirAreas, HalvesAreTheirAreas, EpochsAlternate, AreasAreApart};
 ghost use Rattle.sn_ondisk.specs.OneAnswer.{RecordIsOne, ReadyIsReplayed, ReplayIsOne, RootIsOne, NewestIsOne, ShownIsOne};
 ghost use Rattle.sn_ondisk.specs.TreeLaws.{TreesDependOnTheirReach, TreesDependOnTheirSectors, ReachHasEveryPointer, ReachHasNoHole, EntriesAreTheirLevel, BytesAreOfTheirBlock};
@@ -16,14 +16,22 @@ pub fn log_gate_laws()
     ensures clearing_keeps { ClearingKeepsTheRecords }
 {}
 
-/// What the write of a slot's gate, or of the body behind a closed one, does to the newest root and
-/// to what the disk shows, whether it was done or torn.
+/// What the write of a slot's gate, or of the body behind a closed one, does to the newest root,
+/// whether it was done or torn.
 pub fn root_gate_laws()
     ensures closing { ClosingKeepsTheRoot }
     ensures body { BodyKeepsTheRoot }
     ensures opening { OpeningChangesTheRootOrNot }
     ensures opened { OpenRootIsNewest }
-    ensures shows { OpeningShowsEither }
+{}
+
+/// What each of these writes does to what the disk shows.
+pub fn shown_laws()
+    ensures opening { OpeningShowsEither }
+    ensures closing { ClosingShowsTheSame }
+    ensures body { BodyShowsTheSame }
+    ensures append { AppendShowsOneMore }
+    ensures append_newer { AppendShowsOneNewer }
 {}
 
 /// The sectors that each reading depends on.
