@@ -2,7 +2,7 @@
 ghost use Rattle.sn_ondisk.specs.GateLaws.{GateAddsOneOrNone, OpenGateAddsOne, AppendAddsOneOrNone, ClearingStops, ClearingKeepsTheRecords, ClosingKeepsTheRoot, BodyKeepsTheRoot, OpeningChangesTheRootOrNot, OpenRootIsNewest, OpeningShowsEither, ClosingShowsTheSame, BodyShowsTheSame, AppendShowsOneMore, AppendShowsOneNewer};
 ghost use Rattle.sn_ondisk.specs.PlaceLaws.{RootsLieInTheirAreas, HalvesAreTheirAreas, EpochsAlternate, AreasAreApart};
 ghost use Rattle.sn_ondisk.specs.OneAnswer.{RecordIsOne, ReadyIsReplayed, ReplayIsOne, RootIsOne, NewestIsOne, ShownIsOne};
-ghost use Rattle.sn_ondisk.specs.TreeLaws.{TreesDependOnTheirReach, TreesDependOnTheirSectors, ReachHasEveryPointer, ReachHasNoHole, EntriesAreTheirLevel, BytesAreOfTheirBlock};
+ghost use Rattle.sn_ondisk.specs.TreeLaws.{TreesDependOnTheirReach, TreesDependOnTheirSectors, ReachHasEveryPointer, ReachHasNoHole, EntriesAreTheirLevel, BytesAreOfTheirBlock, LevelsHaveRoom, LevelsAreLeast};
 ghost use Rattle.sn_ondisk.specs.MapLaws.{WordsAreThoseSpelled, MapIsOne, MapsDependOnTheirSectors, WordsDependOnTheirSectors};
 ghost use Rattle.sn_ondisk.specs.Footprints.{BlocksDependOnTheirSectors, RootsDependOnTheirBlock, NewestDependsOnTheRoots, RecordsDependOnTheirBody, ReadyDependsOnItsSectors, ReplaysDependOnTheHalf, ShownDependsOnRootsAndLog};
 
@@ -53,6 +53,8 @@ pub fn tree_laws()
     ensures no_hole { ReachHasNoHole }
     ensures entries { EntriesAreTheirLevel }
     ensures bytes { BytesAreOfTheirBlock }
+    ensures levels { LevelsHaveRoom }
+    ensures least { LevelsAreLeast }
 {}
 
 /// What a slot's copy of the block map holds, and on which sectors that depends.
