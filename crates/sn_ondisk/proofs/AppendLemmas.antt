@@ -24,6 +24,6 @@ module _ (base epoch place : ℕ) (ps : List (List ℕ)) (p : List ℕ) where
       let second : LeavesOnly mid new Either = record {
         follows = (gate.since, gate.follows);
         each = λ c since. let was = CrashSince-before (Single (base + place)) mid new c whole_mid gate since in
-            gate_adds was.0 c base epoch place ps p (LeavesOnly-now old mid Before first was.0 was.1) (written was.0 was.1).0 (written was.0 was.1).1 was.2;
+            gate_adds was.0 c base epoch place ps p (record { ready = LeavesOnly-now old mid Before first was.0 was.1; body = (written was.0 was.1).0; shut = (written was.0 was.1).1 }) was.2;
       } in
       LeavesOnly-join old mid new Either (LeavesOnly-weaker old mid Before Either (λ c ready. inl ready) first) second

@@ -5,7 +5,7 @@ use Rattle.std.proofs.lemmas.Bool.{cases_eq, cases_lt, eqb-true, eqb-false, leb-
 use Rattle.sn_device.specs.Sectors.{Contents, sector_at, AgreesOutside, Single}
 use Rattle.sn_ondisk.specs.Gates.{gate_at, IsOpen, IsClosed}
 use Rattle.sn_ondisk.proofs.BlockLemmas.{AreSame, bytes_at-same}
-use Rattle.sn_ondisk.specs.LogHalf.{HasRecord, Leads, Stops, ReplaysTo, IsReady, place_after, body_sectors, cleared_sector}
+use Rattle.sn_ondisk.specs.LogHalf.{HasRecord, Leads, Stops, ReplaysTo, IsReady, HasPending, place_after, body_sectors, cleared_sector}
 
 pub gate-same : (c d : Contents) (at : ℕ) → sector_at d at ≡ sector_at c at → gate_at d at ≡ gate_at c at
 gate-same c d at same = ap (λ s. slice_index s 0) same
@@ -81,17 +81,16 @@ ReplaysTo-same c d base epoch ps end same found =
 
 -- ---- the write of a record's gate
 
-module _ (c d : Contents) (base epoch place : ℕ) (ps : List (List ℕ)) (p : List ℕ) (ready : IsReady c base epoch ps place) (body : HasRecord c base epoch place (length ps) p)
-    (shut : IsClosed c (base + place_after place p)) (agrees : AgreesOutside (Single (base + place)) c d) where
+module _ (c d : Contents) (base epoch place : ℕ) (ps : List (List ℕ)) (p : List ℕ) (pending : HasPending c base epoch ps place p) (agrees : AgreesOutside (Single (base + place)) c d) where
   before : Leads d base epoch 0 0 ps place
-  before = Leads-same c d base epoch 0 0 ps place (λ i from to. agrees.same i (λ is. omega (arith, is, to))) ready.leads
+  before = Leads-same c d base epoch 0 0 ps place (λ i from to. agrees.same i (λ is. omega (arith, is, to))) pending.ready.leads
 
   pub open_gate_adds : IsOpen d (base + place) → IsReady d base epoch (ps ++ p ∷ []) (place_after place p)
   open_gate_adds opened =
-      let kept = HasRecord-same c d base epoch place (length ps) p (λ i from to. agrees.same i (λ is. omega (arith, is, from))) body in
+      let kept = HasRecord-same c d base epoch place (length ps) p (λ i from to. agrees.same i (λ is. omega (arith, is, from))) pending.body in
       record {
         leads = Leads-append d base epoch 0 0 ps place p before opened (subst (λ s. HasRecord d base epoch place s p) (omega arith) kept);
-        closed = closed-same c d (base + place_after place p) (agrees.same (base + place_after place p) (λ is. omega (arith, is))) shut;
+        closed = closed-same c d (base + place_after place p) (agrees.same (base + place_after place p) (λ is. omega (arith, is))) pending.shut;
       }
 
   pub gate_adds : IsReady d base epoch ps place ⊎ IsReady d base epoch (ps ++ p ∷ []) (place_after place p)

@@ -7,7 +7,7 @@ use Rattle.sn_layout.specs.declared.places.Slot.TheVariants.{A, B}
 use Rattle.sn_layout.specs.declared.root.RootBody.{RootBody}
 use Rattle.sn_ondisk.specs.Blocks.{InBlock}
 use Rattle.sn_ondisk.specs.Gates.{gate_at, IsOpen, IsClosed}
-use Rattle.sn_ondisk.specs.Roots.{gate_of, body_block, other_slot, HasRoot, IsOlder, IsNewest}
+use Rattle.sn_ondisk.specs.Roots.{gate_of, body_block, other_slot, HasRoot, IsOlder, IsNewest, HasNext}
 use Rattle.sn_ondisk.proofs.BlockLemmas.{AreSame, bytes_at-same}
 use Rattle.sn_ondisk.proofs.LogLemmas.{gate-same, closed-same}
 
@@ -79,20 +79,19 @@ body_keeps c d slot root newest was agrees = record {
   other = inl (closed-same c d (gate_of (other_slot slot)) (agrees.same (gate_of (other_slot slot)) (λ inside. omega (arith, inside.1, body_below (other_slot slot), gate_from (other_slot slot)))) was);
 }
 
-module _ (c d : Contents) (slot : Slot) (root next : RootBody) (newest : IsNewest c slot root) (body : HasRoot c (other_slot slot) next) (later : root.generation < next.generation)
-    (agrees : AgreesOutside (Single (gate_of (other_slot slot))) c d) where
+module _ (c d : Contents) (slot : Slot) (root next : RootBody) (has_next : HasNext c slot root next) (agrees : AgreesOutside (Single (gate_of (other_slot slot))) c d) where
   mine : HasRoot d slot root
-  mine = HasRoot-gate c d (other_slot slot) slot root agrees newest.body
+  mine = HasRoot-gate c d (other_slot slot) slot root agrees has_next.newest.body
 
   pub open_root_is_newest : IsOpen d (gate_of (other_slot slot)) → IsNewest d (other_slot slot) next
   open_root_is_newest opened = record {
     is_open = opened;
-    body = HasRoot-gate c d (other_slot slot) (other_slot slot) next agrees body;
-    other = subst (λ s. IsOlder d s next.generation) (sym (other_twice slot)) (inr (root, mine, later));
+    body = HasRoot-gate c d (other_slot slot) (other_slot slot) next agrees has_next.body;
+    other = subst (λ s. IsOlder d s next.generation) (sym (other_twice slot)) (inr (root, mine, has_next.later));
   }
 
   pub opening_changes : IsNewest d slot root ⊎ IsNewest d (other_slot slot) next
   opening_changes = ⊎_elim
       (λ (opened : gate_at d (gate_of (other_slot slot)) ≡ 1). inr (open_root_is_newest opened))
-      (λ closed. inl (record { is_open = own_gate c d slot agrees newest.is_open; body = mine; other = inl closed }))
+      (λ closed. inl (record { is_open = own_gate c d slot agrees has_next.newest.is_open; body = mine; other = inl closed }))
       (cases_eq (gate_at d (gate_of (other_slot slot))) 1)

@@ -1,7 +1,8 @@
 -- What block trees name and hold.
 use Rattle.std.proofs.Common.{◌≡◌, ◌≢◌, ⊎_elim, ℕ, zero, suc, ◌+◌, ◌*◌, ◌/◌, ◌%◌, ◌<◌, ◌≤◌, ◌==◌, Bool, true, false, not, List, [], ◌∷◌, ◌++◌, length, take, replicate, slice_index, Contains, refl, sym, ◌∙◌, ap, subst, arith, if◌then◌else◌}
+use Rattle.std.specs.Prelude.{nat_le, ◌^◌}
 use Rattle.std.specs.List.{flat_map, filter}
-use Rattle.std.proofs.lemmas.Bool.{eqb-true, eqb-false, cases_lt}
+use Rattle.std.proofs.lemmas.Bool.{eqb-true, eqb-false, leb-true, leb-false, cases_lt}
 use Rattle.std.proofs.lemmas.List.{get_or_append_left, get_or-append-add, get_or-replicate, get_or-take, length-replicate}
 use Rattle.std.proofs.lemmas.List.Elements.{Contains-append_left, Contains-append_right}
 use Rattle.sn_device.specs.Sectors.{Contents, AgreesOn}
@@ -238,3 +239,24 @@ module _ (s r : Store) (tree : BlockTree) (same : SameIn (tree_reach s tree) s r
 pub trees_depend_on_sectors : (c d : Contents) (tree : BlockTree) → AgreesOn (InBlocks (tree_reach (store_of c) tree)) c d → ReadsAlike (store_of c) (store_of d) tree
 trees_depend_on_sectors c d tree agrees = trees_depend (store_of c) (store_of d) tree (λ block among.
     bytes_at-same c d (8 * block) 8 (λ i from to. agrees.same i (let of_block : block ≡ i / 8 = omega (arith, from, to) in subst (Contains (tree_reach (store_of c) tree)) of_block among)))
+
+-- ---- the levels of a size
+
+module _ (size : ℕ) where
+  within_room : (small middle : Bool) → nat_le size 65536 ≡ small → nat_le size 67108864 ≡ middle → size ≤ 68719476736 → size ≤ 65536 * 1024 ^ (if small then 0 else (if middle then 1 else 2))
+  within_room true middle is_small is_middle most = omega (arith, leb-true size 65536 is_small)
+  within_room false true is_small is_middle most = omega (arith, leb-true size 67108864 is_middle)
+  within_room false false is_small is_middle most = omega arith
+
+  past_room : (small middle : Bool) → nat_le size 65536 ≡ small → nat_le size 67108864 ≡ middle → (fewer : ℕ) → fewer < (if small then 0 else (if middle then 1 else 2)) → 65536 * 1024 ^ fewer < size
+  past_room true middle is_small is_middle fewer below_it = absurd (omega (arith, below_it))
+  past_room false middle is_small is_middle zero below_it = omega (arith, leb-false size 65536 is_small)
+  past_room false true is_small is_middle (suc fewer) below_it = absurd (omega (arith, below_it))
+  past_room false false is_small is_middle (suc zero) below_it = omega (arith, leb-false size 67108864 is_middle)
+  past_room false false is_small is_middle (suc (suc fewer)) below_it = absurd (omega (arith, below_it))
+
+  pub levels_room : size ≤ 68719476736 → size ≤ 65536 * 1024 ^ levels size
+  levels_room = within_room (nat_le size 65536) (nat_le size 67108864) refl refl
+
+  pub levels_least : (fewer : ℕ) → fewer < levels size → 65536 * 1024 ^ fewer < size
+  levels_least = past_room (nat_le size 65536) (nat_le size 67108864) refl refl

@@ -6,6 +6,7 @@ pub mod LogHalf
 pub mod MapCopy
 pub mod MapLaws
 pub mod OneAnswer
+pub mod PlaceLaws
 pub mod Roots
 pub mod Shown
 pub mod TreeLaws

@@ -65,6 +65,12 @@ pub record IsReady (c : Contents) (base epoch : ℕ) (payloads : List (List ℕ)
   pub leads : Leads c base epoch 0 0 payloads place
   pub closed : IsClosed c (base + place)
 
+-- A record that is written but doesn't count: its body stands behind the closed gate of the place where it is next, and the gate behind it is closed. Once its own gate opens, it counts.
+pub record HasPending (c : Contents) (base epoch : ℕ) (payloads : List (List ℕ)) (place : ℕ) (payload : List ℕ) : Type 0 where
+  pub ready : IsReady c base epoch payloads place
+  pub body : HasRecord c base epoch place (length payloads) payload
+  pub shut : IsClosed c (base + place_after place payload)
+
 -- The sector that is written to clear a place: its gate if that is open or no record has room there, and else the first sector of the body behind it, since a write that closes a closed gate may open it.
 abbrev pub cleared_sector : Contents → ℕ → ℕ → ℕ
 cleared_sector c base place =

@@ -1,7 +1,11 @@
 -- Each reading of a disk has one answer.
 use Rattle.std.specs.Prelude.{◌≡◌, ℕ, ◌+◌, ◌≤◌, List, length}
 use Rattle.sn_device.specs.Sectors.{Contents, AreSectors}
-use Rattle.sn_ondisk.specs.LogHalf.{HasRecord, IsReady, ReplaysTo}
+use Rattle.sn_layout.specs.declared.places.Slot.{Slot}
+use Rattle.sn_layout.specs.declared.root.RootBody.{RootBody}
+use Rattle.sn_ondisk.specs.LogHalf.{HasRecord, IsReady, ReplaysTo, base_of}
+use Rattle.sn_ondisk.specs.Roots.{HasRoot, IsNewest}
+use Rattle.sn_ondisk.specs.Shown.{Shown}
 
 -- At a place stands one record at most, whatever the epoch and the number that it is read with.
 abbrev pub RecordIsOne : Type 0
@@ -21,3 +25,23 @@ pub record IsOnDisk (c : Contents) (base : ℕ) : Type 0 where
 abbrev pub ReplayIsOne : Type 0
 ReplayIsOne = (c : Contents) (base epoch end stop : ℕ) (payloads others : List (List ℕ)) → IsOnDisk c base
     → ReplaysTo c base epoch payloads end → ReplaysTo c base epoch others stop → (payloads ≡ others) × (end ≡ stop)
+
+-- A slot has one root body.
+abbrev pub RootIsOne : Type 0
+RootIsOne = (c : Contents) (slot : Slot) (root other : RootBody) → HasRoot c slot root → HasRoot c slot other → root ≡ other
+
+-- A disk has one newest root.
+abbrev pub NewestIsOne : Type 0
+NewestIsOne = (c : Contents) (slot place : Slot) (root other : RootBody) → IsNewest c slot root → IsNewest c place other → (slot ≡ place) × (root ≡ other)
+
+-- These are the same root, in the same slot, with the same records on top of it.
+pub record AreOne (slot place : Slot) (root other : RootBody) (older newer first second : List (List ℕ)) : Type 0 where
+  pub slots : slot ≡ place
+  pub roots : root ≡ other
+  pub olders : older ≡ first
+  pub newers : newer ≡ second
+
+-- A disk that has both log halves shows one root with one list of records.
+abbrev pub ShownIsOne : Type 0
+ShownIsOne = (n : ℕ) (c : Contents) (slot place : Slot) (root other : RootBody) (older newer first second : List (List ℕ)) → IsOnDisk c (base_of n root.epoch) → IsOnDisk c (base_of n (root.epoch + 1))
+    → Shown n c slot root older newer → Shown n c place other first second → AreOne slot place root other older newer first second

@@ -1,5 +1,5 @@
 -- What block trees name and hold.
-use Rattle.std.specs.Prelude.{◌≡◌, ◌≢◌, ℕ, ◌+◌, ◌*◌, ◌<◌, ◌≤◌, List, length, slice_index, Contains}
+use Rattle.std.specs.Prelude.{◌≡◌, ◌≢◌, ℕ, ◌+◌, ◌*◌, ◌^◌, ◌<◌, ◌≤◌, List, length, slice_index, Contains}
 use Rattle.sn_device.specs.Sectors.{Contents, AgreesOn}
 use Rattle.sn_layout.specs.declared.tree.BlockTree.{BlockTree}
 use Rattle.sn_ondisk.specs.Blocks.{InBlocks}
@@ -39,3 +39,11 @@ EntriesAreTheirLevel = (s : Store) (depth : ℕ) (pointers : List ℕ) (i : ℕ)
 abbrev pub BytesAreOfTheirBlock : Type 0
 BytesAreOfTheirBlock = (s : Store) (tree : BlockTree) → ((block : ℕ) → Contains (tree_reach s tree) block → length (s block) ≡ 4096)
     → (i k : ℕ) → k < 4096 → 4096 * i + k < tree.size → slice_index (tree_bytes s tree) (4096 * i + k) ≡ slice_index (data_block s tree i) k
+
+-- With the levels that a size has, a tree has room for it, up to the most that two levels hold.
+abbrev pub LevelsHaveRoom : Type 0
+LevelsHaveRoom = (size : ℕ) → size ≤ 68719476736 → size ≤ 65536 * 1024 ^ levels size
+
+-- With fewer it has no room.
+abbrev pub LevelsAreLeast : Type 0
+LevelsAreLeast = (size fewer : ℕ) → fewer < levels size → 65536 * 1024 ^ fewer < size

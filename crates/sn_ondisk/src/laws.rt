@@ -1,7 +1,8 @@
 //! The laws that the definitions of `specs/` keep.
-ghost use Rattle.sn_ondisk.specs.GateLaws.{GateAddsOneOrNone, OpenGateAddsOne, AppendAddsOneOrNone, ClearingStops, ClearingKeepsTheRecords, ClosingKeepsTheRoot, BodyKeepsTheRoot, OpeningChangesTheRootOrNot, OpenRootIsNewest, OpeningShowsEither};
-ghost use Rattle.sn_ondisk.specs.OneAnswer.{RecordIsOne, ReadyIsReplayed, ReplayIsOne};
-ghost use Rattle.sn_ondisk.specs.TreeLaws.{TreesDependOnTheirReach, TreesDependOnTheirSectors, ReachHasEveryPointer, ReachHasNoHole, EntriesAreTheirLevel, BytesAreOfTheirBlock};
+ghost use Rattle.sn_ondisk.specs.GateLaws.{GateAddsOneOrNone, OpenGateAddsOne, AppendAddsOneOrNone, ClearingStops, ClearingKeepsTheRecords, ClosingKeepsTheRoot, BodyKeepsTheRoot, OpeningChangesTheRootOrNot, OpenRootIsNewest, OpeningShowsEither, ClosingShowsTheSame, BodyShowsTheSame, AppendShowsOneMore, AppendShowsOneNewer};
+ghost use Rattle.sn_ondisk.specs.PlaceLaws.{RootsLieInTheirAreas, HalvesAreTheirAreas, EpochsAlternate, AreasAreApart};
+ghost use Rattle.sn_ondisk.specs.OneAnswer.{RecordIsOne, ReadyIsReplayed, ReplayIsOne, RootIsOne, NewestIsOne, ShownIsOne};
+ghost use Rattle.sn_ondisk.specs.TreeLaws.{TreesDependOnTheirReach, TreesDependOnTheirSectors, ReachHasEveryPointer, ReachHasNoHole, EntriesAreTheirLevel, BytesAreOfTheirBlock, LevelsHaveRoom, LevelsAreLeast};
 ghost use Rattle.sn_ondisk.specs.MapLaws.{WordsAreThoseSpelled, MapIsOne, MapsDependOnTheirSectors, WordsDependOnTheirSectors};
 ghost use Rattle.sn_ondisk.specs.Footprints.{BlocksDependOnTheirSectors, RootsDependOnTheirBlock, NewestDependsOnTheRoots, RecordsDependOnTheirBody, ReadyDependsOnItsSectors, ReplaysDependOnTheHalf, ShownDependsOnRootsAndLog};
 
@@ -15,14 +16,22 @@ pub fn log_gate_laws()
     ensures clearing_keeps { ClearingKeepsTheRecords }
 {}
 
-/// What the write of a slot's gate, or of the body behind a closed one, does to the newest root and
-/// to what the disk shows, whether it was done or torn.
+/// What the write of a slot's gate, or of the body behind a closed one, does to the newest root,
+/// whether it was done or torn.
 pub fn root_gate_laws()
     ensures closing { ClosingKeepsTheRoot }
     ensures body { BodyKeepsTheRoot }
     ensures opening { OpeningChangesTheRootOrNot }
     ensures opened { OpenRootIsNewest }
-    ensures shows { OpeningShowsEither }
+{}
+
+/// What each of these writes does to what the disk shows.
+pub fn shown_laws()
+    ensures opening { OpeningShowsEither }
+    ensures closing { ClosingShowsTheSame }
+    ensures body { BodyShowsTheSame }
+    ensures append { AppendShowsOneMore }
+    ensures append_newer { AppendShowsOneNewer }
 {}
 
 /// The sectors that each reading depends on.
@@ -44,6 +53,8 @@ pub fn tree_laws()
     ensures no_hole { ReachHasNoHole }
     ensures entries { EntriesAreTheirLevel }
     ensures bytes { BytesAreOfTheirBlock }
+    ensures levels { LevelsHaveRoom }
+    ensures least { LevelsAreLeast }
 {}
 
 /// What a slot's copy of the block map holds, and on which sectors that depends.
@@ -59,4 +70,19 @@ pub fn log_is_one()
     ensures record { RecordIsOne }
     ensures ready { ReadyIsReplayed }
     ensures replay { ReplayIsOne }
+{}
+
+/// So has each reading of the roots, and what a disk shows is one root with one list of records.
+pub fn root_is_one()
+    ensures root { RootIsOne }
+    ensures newest { NewestIsOne }
+    ensures shown { ShownIsOne }
+{}
+
+/// Where roots, map copies and log halves lie.
+pub fn place_laws()
+    ensures roots { RootsLieInTheirAreas }
+    ensures halves { HalvesAreTheirAreas }
+    ensures epochs { EpochsAlternate }
+    ensures apart { AreasAreApart }
 {}

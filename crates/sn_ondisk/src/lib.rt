@@ -3,4 +3,7 @@
 
 mod laws;
 
-pub use laws::{footprints, log_gate_laws, log_is_one, map_laws, root_gate_laws, tree_laws};
+pub use laws::{
+    footprints, log_gate_laws, log_is_one, map_laws, place_laws, root_gate_laws, root_is_one,
+    tree_laws,
+};

@@ -1,5 +1,4 @@
 use Rattle.sn_ondisk.proofs.RootLemmas.{closing_keeps, body_keeps, opening_changes, open_root_is_newest}
-use Rattle.sn_ondisk.proofs.ShownLemmas.{opening_shows}
 use Rattle.sn_ondisk.proofs.laws.root_gate_laws.Goals as goal
 
 pub returns-clause-closing : goal.returns-clause-closing
@@ -13,6 +12,3 @@ returns-clause-opening c = opening_changes
 
 pub returns-clause-opened : goal.returns-clause-opened
 returns-clause-opened c = open_root_is_newest
-
-pub returns-clause-shows : goal.returns-clause-shows
-returns-clause-shows c = opening_shows

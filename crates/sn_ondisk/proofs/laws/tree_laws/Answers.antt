@@ -1,4 +1,4 @@
-use Rattle.sn_ondisk.proofs.TreeLemmas.{trees_depend, trees_depend_on_sectors, reach_has, reach_has_none, entry-level, bytes_of_block}
+use Rattle.sn_ondisk.proofs.TreeLemmas.{trees_depend, trees_depend_on_sectors, reach_has, reach_has_none, entry-level, bytes_of_block, levels_room, levels_least}
 use Rattle.sn_ondisk.proofs.laws.tree_laws.Goals as goal
 
 pub returns-clause-depends : goal.returns-clause-depends
@@ -18,3 +18,9 @@ returns-clause-entries c = entry-level
 
 pub returns-clause-bytes : goal.returns-clause-bytes
 returns-clause-bytes c = bytes_of_block
+
+pub returns-clause-levels : goal.returns-clause-levels
+returns-clause-levels c = levels_room
+
+pub returns-clause-least : goal.returns-clause-least
+returns-clause-least c = levels_least
