@@ -5,7 +5,8 @@
 //! | 0 | number u16, from 2 up |
 //! | 2 | length of the name u8, 1 to 255 |
 //! | 3 | name |
-ghost use Rattle.std.specs.Prelude.{[], ◌∷◌, ◌≡◌, ◌↔◌, ℕ, ◌+◌, ◌-◌, ◌<◌, ◌≤◌, List, ◌++◌, length, take, drop, false, true, Some, IfSome, IsNone, IsSome, IsTrue};
+ghost use Rattle.std.specs.Prelude.{[], ◌∷◌, ◌≡◌, ◌==◌, ◌↔◌, ℕ, ◌+◌, ◌-◌, ◌<◌, ◌≤◌, List, ◌++◌, length, take, drop, false, true, Some, IfSome, IsNone, IsSome, IsTrue};
+ghost use Rattle.std.specs.List.{AllByRecursion};
 ghost use Rattle.sn_walk.specs.Names.{is_name};
 ghost use Rattle.sn_layout.specs.Bytes.{Puts, zeros};
 ghost use Rattle.sn_layout_node.specs.Directory.{Link, IsLink, AreLinks, AreLinkBytes, Spells, IsDirectoryBlock, link_bytes, links_bytes, directory_bytes, begins_link, links_of, number_of, without, BeginsWithLink};
@@ -88,6 +89,19 @@ fn number_of(links: &[u8], name: &[u8]) -> Option<u16>
         }
     }
     None
+}
+
+fn count_of(links: &[u8]) -> usize
+    requires { AreLinkBytes links.now }
+    ensures { result ≡ length (links_of links.now) }
+{
+    let mut reader = Reader::new(links);
+    let mut count = 0;
+    while reader.remaining() > 0 {
+        next_link(&mut reader);
+        count += 1;
+    }
+    count
 }
 
 // Reads past a link.
@@ -176,11 +190,13 @@ impl<'a> Model for DirectoryBlock<'a> {
     ghost use Rattle.std.specs.Prelude.{List};
     ghost use Rattle.sn_layout_node.specs.Directory.{Link, AreLinkBytes, links_of};
 
+    ghost use Rattle.std.specs.Prelude.{◌≤◌, length};
+
     ghost Value = { List Link };
 
     ghost view = { λ block. links_of block.links.now };
 
-    ghost invariant = { λ block. AreLinkBytes block.links.now };
+    ghost invariant = { λ block. AreLinkBytes block.links.now × (length block.links.now ≤ 4096) };
 }
 
 impl<'a> DirectoryBlock<'a> {
@@ -203,9 +219,30 @@ impl<'a> DirectoryBlock<'a> {
         number_of(self.links, name)
     }
 
+    /// How many names there are. They are counted one by one.
+    pub fn len(&self) -> usize
+        ensures { result ≡ length self.now }
+    {
+        count_of(self.links)
+    }
+
+    pub fn is_empty(&self) -> bool
+        ensures { result ≡ (length self.now == 0) }
+    {
+        self.links.is_empty()
+    }
+
+    /// How many bytes are left. A name of n bytes takes n + 3.
+    pub fn room(&self) -> usize
+        ensures { result ≡ 4096 - length (links_bytes self.now) }
+    {
+        BLOCK_SIZE - self.links.len()
+    }
+
     /// The names with their numbers, as they stand in the block.
     pub fn entries(&self) -> Entries<'a>
-        ensures { result ≡ self.now }
+        ensures entries { result ≡ self.now }
+        ensures each { AllByRecursion IsLink self.now }
     {
         Entries::over(self.links)
     }
