@@ -1,5 +1,5 @@
 -- A new directory keeps the tree of directories.
-use Rattle.std.proofs.Common.{◌≡◌, ◌≢◌, ℕ, zero, suc, ◌+◌, true, cond, Option, Some, None, refl, sym, ap, subst, ◌∙◌, ◌⊎◌, inl, inr}
+use Rattle.std.proofs.Common.{◌≡◌, ◌≢◌, ℕ, zero, suc, ◌+◌, Bool, true, false, cond, Option, Some, None, refl, sym, ap, subst, ◌∙◌, ◌⊎◌, inl, inr, ◌≤◌, ◌<◌, arith}
 use Rattle.std.specs.Prelude.{IsSomeAnd}
 use Rattle.std.specs.Option.{is_some}
 use Rattle.std.specs.Ordering.{nat_cmp}
@@ -27,6 +27,20 @@ found_unused nodes first (suc more) number e = looked (map.get nodes first) refl
         let same : first ≡ number = cc in
         ap (map.get nodes) (sym same) ∙ a
     looked (Some n) a further h = further (rw a at h)
+
+-- and lies among those that were looked at
+found_among : (nodes : map.FinMap nat_cmp Node) (first more number : ℕ) → unused_from nodes first more ≡ Some number → (first ≤ number) × (number < first + more)
+unfolding unused_from
+found_among nodes first zero number e = cc
+found_among nodes first (suc more) number e = looked (is_some (map.get nodes first)) (found_among nodes (first + 1) more number) e
+  where
+    looked : (b : Bool) → (unused_from nodes (first + 1) more ≡ Some number → (first + 1 ≤ number) × (number < first + 1 + more)) → cond b (unused_from nodes (first + 1) more) (Some first) ≡ Some number → (first ≤ number) × (number < first + suc more)
+    looked true further h = let k = further h in (omega (arith, k.0), omega (arith, k.1))
+    looked false further h = let same : first ≡ number = cc in (omega (arith, same), omega (arith, same))
+
+pub least_is_among : (tree : Tree) (number : ℕ) → least_unused tree ≡ Some number → (2 ≤ number) × (number < 65536)
+unfolding least_unused
+least_is_among tree number e = let k = found_among tree.nodes 2 65534 number e in (k.0, omega (arith, k.1))
 
 pub least_is_unused : (tree : Tree) (number : ℕ) → least_unused tree ≡ Some number → map.get tree.nodes number ≡ None
 unfolding least_unused

@@ -16,5 +16,8 @@ pub mod FewLemmas
 pub mod DropLemmas
 pub mod TreeLemmas
 pub mod ListLemmas
+pub mod BringLemmas
 pub mod DecisionLemmas
+pub mod DecidedLemmas
+pub mod WorldLemmas
 pub mod StepLemmas

@@ -34,7 +34,7 @@ no_file a e f = let never : File ≡ Directory = sym e ∙ f in cc
 pub not_directory : (tree : Tree) (n : ℕ) (x : Node) → map.get tree.nodes n ≡ Some x → x.kind ≡ File → HasKind tree n Directory → ⊥
 not_directory tree n x e k h = let s = some_node _ Directory h in let both : Some x ≡ Some s.0 = sym e ∙ s.1 in no_file x.kind k (ap (λ (y : Node). y.kind) (some_same _ _ both) ∙ s.2)
 
-is_there : (o : Option Node) (k : Kind) → IsSomeAnd o (λ x. x.kind ≡ k) → o ≢ None
+pub is_there : (o : Option Node) (k : Kind) → IsSomeAnd o (λ x. x.kind ≡ k) → o ≢ None
 is_there None k h = absurd h
 is_there (Some x) k h = λ e. cc
 

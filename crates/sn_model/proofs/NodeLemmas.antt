@@ -56,7 +56,7 @@ all_tested (x ∷ xs) e = (ltb-true x 256 (and_left (nat_lt x 256) (list_all (λ
 all_resized : (xs : List ℕ) (n : ℕ) → Bytes xs → Bytes (resized xs n)
 all_resized xs n h = all_take n (xs ++ replicate (n - length xs) 0) (all_append xs _ h (all_zeros (n - length xs)))
 
-length_resized : (xs : List ℕ) (n : ℕ) → length (resized xs n) ≡ n
+pub length_resized : (xs : List ℕ) (n : ℕ) → length (resized xs n) ≡ n
 length_resized xs n =
     length-take-le n (xs ++ replicate (n - length xs) 0)
     (let a = length-append xs (replicate (n - length xs) 0) in

@@ -1,13 +1,14 @@
 -- What the definitions of changes come to.
-use Rattle.std.specs.Prelude.{◌≡◌, ◌↔◌, ℕ, Bool, true, List, ◌++◌, Option, Some}
+use Rattle.std.specs.Prelude.{◌≡◌, ◌↔◌, ℕ, Bool, true, List, [], ◌++◌, length, take, drop, Option, None, Some, IsSomeAnd}
 use Rattle.std.specs.FinMap as map
-use Rattle.sn_walk.specs.declared.view.Kind.TheVariants.{Directory}
+use Rattle.sn_walk.specs.declared.view.Kind.TheVariants.{File, Directory}
 use Rattle.sn_limits.specs.declared.limits.Limits.{Limits}
 use Rattle.sn_model.specs.declared.change.Change.{Change}
+use Rattle.sn_model.specs.declared.change.Change.TheVariants.{Make, AddLink, Remove, Rename, Write, SetSize, SetAttributes}
 use Rattle.sn_model.specs.declared.link.Link.{Link}
 use Rattle.sn_model.specs.Chains.{◌>>=◌}
-use Rattle.sn_model.specs.Tree.{Tree}
-use Rattle.sn_model.specs.Changes.{is_at_or_below, apply, apply_all}
+use Rattle.sn_model.specs.Tree.{Node, Tree, link_to}
+use Rattle.sn_model.specs.Changes.{is_at_or_below, ownership_of, apply, apply_all}
 use Rattle.sn_model.specs.NameTree.{HasKind, IsHierarchy, IsTree}
 use Rattle.sn_model.specs.Settling.{settled, without_nameless}
 use Rattle.sn_model.specs.Covers.{Covers}
@@ -22,6 +23,22 @@ ListsKeepTheTree = (limits : Limits) (cs : List Change) (tree after : Tree) → 
 -- Dropping files without names keeps a name tree.
 abbrev pub DroppingKeepsTheTree : Type 0
 DroppingKeepsTheTree = (limits : Limits) (tree : Tree) (held : ℕ → Bool) → IsTree limits tree → IsTree limits (without_nameless held tree)
+
+-- What a change brings is there afterwards: a name leads to its number, a node has the kind, the owners and the ACLs that were given, and a file the bytes and the size.
+abbrev pub HasNode : Tree → ℕ → (Node → Type 0) → Type 0
+HasNode tree number P = IsSomeAnd (map.get tree.nodes number) P
+
+abbrev pub Brings : Change → Tree → Tree → Type 0
+Brings (Make directory name number kind o) old new = (map.get new.links (link_to directory name) ≡ Some number) × HasNode new number (λ node. (node.kind ≡ kind) × (ownership_of node ≡ o) × (node.bytes ≡ []))
+Brings (AddLink directory name number) old new = (map.get new.links (link_to directory name) ≡ Some number) × HasKind new number File
+Brings (Remove directory name) old new = map.get new.links (link_to directory name) ≡ None
+Brings (Rename old_directory old_name new_directory new_name) old new = IsSomeAnd (map.get old.links (link_to old_directory old_name)) (λ number. map.get new.links (link_to new_directory new_name) ≡ Some number)
+Brings (Write number offset bytes) old new = HasNode new number (λ node. take (length bytes) (drop offset node.bytes) ≡ bytes)
+Brings (SetSize number size) old new = HasNode new number (λ node. length node.bytes ≡ size)
+Brings (SetAttributes number o) old new = HasNode new number (λ node. ownership_of node ≡ o)
+
+abbrev pub ChangesBring : Type 0
+ChangesBring = (limits : Limits) (c : Change) (tree after : Tree) → apply limits c tree ≡ Some after → Brings c tree after
 
 -- it gives a tree that covers the other
 abbrev pub GivesCover : Option Tree → Tree → Type 0

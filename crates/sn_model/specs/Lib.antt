@@ -6,6 +6,7 @@ pub mod Changes
 pub mod Settling
 pub mod Covers
 pub mod ChangeLaws
+pub mod Worlds
 pub mod Tests
 pub mod Calls
 pub mod Steps

@@ -1,5 +1,5 @@
-ghost use Rattle.sn_model.specs.ChangeLaws.{ChangesKeepCovers, ChangesKeepTheTree, CoveredSettleAlike, CoversItself, CoversJoin, DroppingKeepsCovers, DroppingKeepsTheTree, ListsJoin, ListsKeepCovers, ListsKeepTheTree, TestIsBelow};
-ghost use Rattle.sn_model.specs.Laws.{MakesOneMore, RefusalsChangeNothing, RunsKeepTheHierarchy};
+ghost use Rattle.sn_model.specs.ChangeLaws.{ChangesBring, ChangesKeepCovers, ChangesKeepTheTree, CoveredSettleAlike, CoversItself, CoversJoin, DroppingKeepsCovers, DroppingKeepsTheTree, ListsJoin, ListsKeepCovers, ListsKeepTheTree, TestIsBelow};
+ghost use Rattle.sn_model.specs.Laws.{DecidedChangesApply, MakesOneMore, RefusalsChangeNothing, RunsKeepTheWorld};
 
 /// Whatever a call is refused for, the world stays as it was.
 pub fn refusals_change_nothing()
@@ -11,10 +11,20 @@ pub fn makes_one_more()
     ensures { MakesOneMore }
 {}
 
-/// Directories form a tree after every list of calls: each but the root has one name, and is reached
-/// from the root.
-pub fn runs_keep_the_hierarchy()
-    ensures { RunsKeepTheHierarchy }
+/// What a call has decided can be applied.
+pub fn decided_changes_apply()
+    ensures { DecidedChangesApply }
+{}
+
+/// After every list of calls the live tree and the frozen trees are name trees, whoever is logged in
+/// has numbers of 32 bits, open files are there, and a live file without a name is held.
+pub fn runs_keep_the_world()
+    ensures { RunsKeepTheWorld }
+{}
+
+/// What a change brings is there afterwards: names, owners, ACLs, bytes.
+pub fn changes_bring()
+    ensures { ChangesBring }
 {}
 
 /// What a change makes of the live tree, replay makes too: a change that the live tree takes is one
