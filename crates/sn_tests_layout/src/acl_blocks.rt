@@ -4,7 +4,7 @@ use crate::block::{DIRTY, block_of, spelled};
 use anyhow::{Context, Result, ensure};
 use sn_acl::{Acl, MAX_ENTRIES, Mode};
 use sn_layout::{Block, Reader};
-use sn_layout_node::{AclBlock, AclParts, put_entries, read_entries};
+use sn_layout_acl::{AclBlock, AclParts, put_entries, read_entries};
 use sn_table::{Case, Report};
 use std::alloc::Global;
 

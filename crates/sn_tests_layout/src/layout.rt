@@ -72,7 +72,7 @@ fn told(alloc: Global, block: &Block, body: &RootBody) -> Result<String> {
 
 fn push_tree(text: &mut String, tree: &BlockTree) -> Result<()> {
     write!(text, "size {}", tree.size)?;
-    for (at, pointer) in tree.pointers.iter().enumerate() {
+    for (at, pointer) in tree.pointers.as_slice().iter().enumerate() {
         if *pointer != 0 {
             write!(text, " {at}:{pointer}")?;
         }

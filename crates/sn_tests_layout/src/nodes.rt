@@ -55,7 +55,7 @@ fn push_content(text: &mut String, content: &Content) -> Result<()> {
     match content {
         Content::Inline(bytes) => write!(text, ", {}", str::from_utf8(bytes.as_slice())?)?,
         Content::Tree(tree) => {
-            for (at, pointer) in tree.pointers.iter().enumerate() {
+            for (at, pointer) in tree.pointers.as_slice().iter().enumerate() {
                 if *pointer != 0 {
                     write!(text, ", {at}:{pointer}")?;
                 }
