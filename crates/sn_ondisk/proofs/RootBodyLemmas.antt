@@ -47,20 +47,25 @@ same_tree t u a b fits-t fits-u e =
     (ap (λ (n : ℕ). record t { size = n }) size ∙ ap (λ (ps : List ℕ). record u { pointers = ps }) pointers.0, pointers.1)
 
 -- a snapshot, and a list of as many
+flat_snapshot : (s : Snapshot) (rest : List ℕ) → snapshot_bytes s ++ rest ≡ s.bit ∷ length s.name ∷ (s.name ++ (zeros (38 - length s.name) ++ (tree_bytes s.tree ++ rest)))
+flat_snapshot s rest =
+    append_assoc ((s.bit ∷ length s.name ∷ s.name) ++ zeros (38 - length s.name)) (tree_bytes s.tree) rest
+    ∙ append_assoc (s.bit ∷ length s.name ∷ s.name) (zeros (38 - length s.name)) (tree_bytes s.tree ++ rest)
+
 same_snapshot : (s r : Snapshot) (a b : List ℕ) → IsSnapshot s → IsSnapshot r → snapshot_bytes s ++ a ≡ snapshot_bytes r ++ b → (s ≡ r) × (a ≡ b)
 same_snapshot s r a b fits-s fits-r e =
     let blank_s = zeros (38 - length s.name) in
     let blank_r = zeros (38 - length r.name) in
-    let flat : s.bit ∷ length s.name ∷ (s.name ++ (blank_s ++ (tree_bytes s.tree ++ a))) ≡ r.bit ∷ length r.name ∷ (r.name ++ (blank_r ++ (tree_bytes r.tree ++ b))) =
-    sym (append_assoc ((s.bit ∷ length s.name ∷ s.name) ++ blank_s) (tree_bytes s.tree) a ∙ append_assoc (s.bit ∷ length s.name ∷ s.name) blank_s (tree_bytes s.tree ++ a))
-    ∙ e
-    ∙ append_assoc ((r.bit ∷ length r.name ∷ r.name) ++ blank_r) (tree_bytes r.tree) b
-    ∙ append_assoc (r.bit ∷ length r.name ∷ r.name) blank_r (tree_bytes r.tree ++ b) in
+    let name_s = s.name ++ (blank_s ++ (tree_bytes s.tree ++ a)) in
+    let name_r = r.name ++ (blank_r ++ (tree_bytes r.tree ++ b)) in
+    let flat : s.bit ∷ length s.name ∷ name_s ≡ r.bit ∷ length r.name ∷ name_r = sym (flat_snapshot s a) ∙ e ∙ flat_snapshot r b in
     let bit : s.bit ≡ r.bit = ap (λ (xs : List ℕ). slice_index xs 0) flat in
     let long : length s.name ≡ length r.name = ap (λ (xs : List ℕ). slice_index xs 1) flat in
-    let after_name = same_fronts s.name r.name _ _ long (ap (drop 2) flat) in
+    let names : name_s ≡ name_r = ap (drop 2) flat in
+    let after_name = same_fronts s.name r.name (blank_s ++ (tree_bytes s.tree ++ a)) (blank_r ++ (tree_bytes r.tree ++ b)) long names in
     let blank : length blank_s ≡ length blank_r = length-zeros (38 - length s.name) ∙ ap (λ n. 38 - n) long ∙ sym (length-zeros (38 - length r.name)) in
-    let tree = same_tree s.tree r.tree a b fits-s.tree fits-r.tree (same_fronts blank_s blank_r _ _ blank after_name.1).1 in
+    let after_blank = same_fronts blank_s blank_r (tree_bytes s.tree ++ a) (tree_bytes r.tree ++ b) blank after_name.1 in
+    let tree = same_tree s.tree r.tree a b fits-s.tree fits-r.tree after_blank.1 in
     (ap (λ (n : ℕ). record s { bit = n }) bit ∙ ap (λ (name : List ℕ). record { bit = r.bit; name = name; tree = s.tree }) after_name.0 ∙ ap (λ (t : BlockTree). record r { tree = t }) tree.0, tree.1)
 
 same_snapshots : (ss rs : List Snapshot) (a b : List ℕ) → length ss ≡ length rs → AllByRecursion IsSnapshot ss → AllByRecursion IsSnapshot rs → snapshots_bytes ss ++ a ≡ snapshots_bytes rs ++ b → ss ≡ rs
