@@ -1,11 +1,12 @@
 -- A place holds one record at most, and so replay finds one list of them.
-use Rattle.std.proofs.Common.{◌≡◌, inl, inr, ℕ, zero, suc, ◌+◌, ◌-◌, ◌*◌, ◌^◌, ◌<◌, ◌≤◌, List, [], ◌∷◌, ◌++◌, length, take, drop, refl, sym, ◌∙◌, ap, subst, arith, append_assoc}
+use Rattle.std.proofs.Common.{◌≡◌, inl, inr, ℕ, ◌+◌, ◌-◌, ◌*◌, ◌^◌, ◌<◌, ◌≤◌, List, [], ◌∷◌, ◌++◌, length, take, drop, refl, sym, ◌∙◌, ap, subst, arith, append_assoc}
 use Rattle.std.proofs.lemmas.List.{take-append-drop, take_at, drop_at, take-append-le}
 use Rattle.byteorder.specs.Numbers.{length-bytes_low_first, little_number-reads_back}
 use Rattle.byteorder.specs.Endian.{little_number}
 use Rattle.sn_device.specs.Sectors.{Contents, sector_at}
 use Rattle.sn_layout.specs.Bytes.{number_bytes, zeros}
 use Rattle.sn_ondisk.specs.Blocks.{bytes_at}
+use Rattle.sn_ondisk.proofs.BlockLemmas.{bytes_at-more}
 use Rattle.sn_ondisk.specs.Gates.{IsOpen, IsClosed}
 use Rattle.sn_ondisk.specs.LogHalf.{HasRecord, HasNoLater, Leads, Stops, ReplaysTo, IsReady, epoch_at, place_after, body_sectors, body_bytes}
 use Rattle.sn_ondisk.specs.OneAnswer.{IsOnDisk}
@@ -32,17 +33,6 @@ same_number n a b fits-a fits-b e =
     sym (little_number-reads_back n a [] fits-a) ∙ ap (λ bytes. little_number n (bytes ++ [])) e ∙ little_number-reads_back n b [] fits-b
 
 -- ---- one record
-
--- a body in front of the sectors behind it
-pub bytes_at-more : (c : Contents) (at n m : ℕ) → bytes_at c at (n + m) ≡ bytes_at c at n ++ bytes_at c (at + n) m
-unfolding bytes_at
-bytes_at-more c at zero m = ap (λ k. bytes_at c at k) (omega arith) ∙ ap (λ k. bytes_at c k m) (omega arith)
-bytes_at-more c at (suc n) m =
-    let one_more : suc n + m ≡ suc (n + m) = omega arith in
-    let behind : at + 1 + n ≡ at + suc n = omega arith in
-    ap (λ k. bytes_at c at k) one_more
-    ∙ ap (λ rest. sector_at c at ++ rest) (bytes_at-more c (at + 1) n m ∙ ap (λ k. bytes_at c (at + 1) n ++ bytes_at c k m) behind)
-    ∙ sym (append_assoc (sector_at c at) (bytes_at c (at + 1) n) (bytes_at c (at + suc n) m))
 
 -- the parts of a body, one behind the other
 parts : (epoch sequence : ℕ) (p more : List ℕ)

@@ -17,6 +17,7 @@
 //! - `MapCopy`: the words of a slot's copy of the block map.
 //!
 //! The way through the laws, each of them named by the contract of a function that does nothing:
+//! - `block_laws`: bytes of sectors and blocks follow one another, and a block on the disk is whole.
 //! - `place_laws`: where roots, map copies and log halves lie, and that they are apart.
 //! - `footprints`, `tree_laws` and `map_laws`: on which sectors each reading depends. With the lemmas
 //!   of `sn_device` a fact of some sectors passes every write elsewhere.
@@ -39,6 +40,6 @@
 mod laws;
 
 pub use laws::{
-    footprints, log_gate_laws, log_is_one, map_laws, place_laws, root_gate_laws, root_is_one,
-    tree_laws,
+    block_laws, footprints, log_gate_laws, log_is_one, map_laws, place_laws, root_gate_laws,
+    root_is_one, tree_laws,
 };
