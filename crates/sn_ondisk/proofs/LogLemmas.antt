@@ -2,10 +2,11 @@
 use Rattle.std.proofs.Common.{◌≡◌, ◌⊎◌, inl, inr, ⊎_elim, ℕ, ◌+◌, ◌<◌, ◌≤◌, ◌==◌, ◌||◌, if◌then◌else◌, Bool, true, false, List, [], ◌∷◌, ◌++◌, length, slice_index, take, refl, sym, ◌∙◌, ap, subst, arith}
 use Rattle.std.specs.Prelude.{nat_le}
 use Rattle.std.proofs.lemmas.Bool.{cases_eq, cases_lt, eqb-true, eqb-false, leb-true}
+use Rattle.byteorder.specs.Endian.{little_number}
 use Rattle.sn_device.specs.Sectors.{Contents, sector_at, AgreesOutside, Single}
 use Rattle.sn_ondisk.specs.Gates.{gate_at, IsOpen, IsClosed}
 use Rattle.sn_ondisk.proofs.BlockLemmas.{AreSame, bytes_at-same}
-use Rattle.sn_ondisk.specs.LogHalf.{HasRecord, Leads, Stops, ReplaysTo, IsReady, HasPending, place_after, body_sectors, cleared_sector}
+use Rattle.sn_ondisk.specs.LogHalf.{HasRecord, Leads, Stops, ReplaysTo, IsReady, HasPending, HasNoLater, epoch_at, place_after, body_sectors, cleared_sector}
 
 pub gate-same : (c d : Contents) (at : ℕ) → sector_at d at ≡ sector_at c at → gate_at d at ≡ gate_at c at
 gate-same c d at same = ap (λ s. slice_index s 0) same
@@ -137,3 +138,29 @@ module _ (c d : Contents) (base epoch place : ℕ) where
 
       cleared_from : base + place ≤ cleared_sector c base place
       cleared_from = from_place ((gate_at c (base + place) == 1) || nat_le 254 place)
+
+-- ---- no later record at the first place
+
+pub no_later-same : (c d : Contents) (base epoch : ℕ) → AreSame c d base (base + 2) → HasNoLater c base epoch → HasNoLater d base epoch
+no_later-same c d base epoch same (inl closed) = inl (closed-same c d base (same base (omega arith) (omega arith)) closed)
+no_later-same c d base epoch same (inr early) =
+    let behind : epoch_at d base 0 ≡ epoch_at c base 0 = ap (little_number 8) (same (base + 0 + 1) (omega arith) (omega arith)) in
+    inr (omega (arith, behind, early))
+
+pub clearing_adds : (c d : Contents) (base epoch : ℕ) → HasNoLater c base epoch → AgreesOutside (Single (cleared_sector c base 0)) c d → HasNoLater d base epoch
+clearing_adds c d base epoch none agrees = ⊎_elim
+    (λ (past : 254 ≤ 0). absurd (omega (arith, past)))
+    (λ near. ⊎_elim (λ gate. by_gate none gate) by_body near)
+    (way c d base epoch 0 agrees)
+  where
+    first : base + 0 ≡ base
+    first = omega arith
+
+    by_gate : HasNoLater c base epoch → IsOpen c (base + 0) × AgreesOutside (Single (base + 0)) c d → HasNoLater d base epoch
+    by_gate (inl closed) gate = absurd (closed (subst (IsOpen c) first gate.0))
+    by_gate (inr early) gate =
+        let behind : epoch_at d base 0 ≡ epoch_at c base 0 = ap (little_number 8) (gate.1.same (base + 0 + 1) (λ same. omega (arith, same))) in
+        inr (omega (arith, behind, early))
+
+    by_body : IsClosed c (base + 0) × AgreesOutside (Single (base + 0 + 1)) c d → HasNoLater d base epoch
+    by_body (closed, behind) = inl (closed-same c d base (behind.same base (λ same. omega (arith, same))) (subst (IsClosed c) first closed))

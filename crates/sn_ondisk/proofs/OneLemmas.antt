@@ -1,13 +1,14 @@
 -- A place holds one record at most, and so replay finds one list of them.
-use Rattle.std.proofs.Common.{◌≡◌, inl, inr, ℕ, zero, suc, ◌+◌, ◌-◌, ◌*◌, ◌^◌, ◌<◌, ◌≤◌, List, [], ◌∷◌, ◌++◌, length, take, drop, refl, sym, ◌∙◌, ap, subst, arith, append_assoc}
-use Rattle.std.proofs.lemmas.List.{take_at, drop_at, take-append-le}
+use Rattle.std.proofs.Common.{◌≡◌, inl, inr, ℕ, ◌+◌, ◌-◌, ◌*◌, ◌^◌, ◌<◌, ◌≤◌, List, [], ◌∷◌, ◌++◌, length, take, drop, refl, sym, ◌∙◌, ap, subst, arith, append_assoc}
+use Rattle.std.proofs.lemmas.List.{take-append-drop, take_at, drop_at, take-append-le}
 use Rattle.byteorder.specs.Numbers.{length-bytes_low_first, little_number-reads_back}
 use Rattle.byteorder.specs.Endian.{little_number}
 use Rattle.sn_device.specs.Sectors.{Contents, sector_at}
 use Rattle.sn_layout.specs.Bytes.{number_bytes, zeros}
 use Rattle.sn_ondisk.specs.Blocks.{bytes_at}
-use Rattle.sn_ondisk.specs.Gates.{IsOpen}
-use Rattle.sn_ondisk.specs.LogHalf.{HasRecord, Leads, Stops, ReplaysTo, IsReady, place_after, body_sectors, body_bytes}
+use Rattle.sn_ondisk.proofs.BlockLemmas.{bytes_at-more}
+use Rattle.sn_ondisk.specs.Gates.{IsOpen, IsClosed}
+use Rattle.sn_ondisk.specs.LogHalf.{HasRecord, HasNoLater, Leads, Stops, ReplaysTo, IsReady, epoch_at, place_after, body_sectors, body_bytes}
 use Rattle.sn_ondisk.specs.OneAnswer.{IsOnDisk}
 
 -- ---- bytes with fronts of one length
@@ -32,17 +33,6 @@ same_number n a b fits-a fits-b e =
     sym (little_number-reads_back n a [] fits-a) ∙ ap (λ bytes. little_number n (bytes ++ [])) e ∙ little_number-reads_back n b [] fits-b
 
 -- ---- one record
-
--- a body in front of the sectors behind it
-pub bytes_at-more : (c : Contents) (at n m : ℕ) → bytes_at c at (n + m) ≡ bytes_at c at n ++ bytes_at c (at + n) m
-unfolding bytes_at
-bytes_at-more c at zero m = ap (λ k. bytes_at c at k) (omega arith) ∙ ap (λ k. bytes_at c k m) (omega arith)
-bytes_at-more c at (suc n) m =
-    let one_more : suc n + m ≡ suc (n + m) = omega arith in
-    let behind : at + 1 + n ≡ at + suc n = omega arith in
-    ap (λ k. bytes_at c at k) one_more
-    ∙ ap (λ rest. sector_at c at ++ rest) (bytes_at-more c (at + 1) n m ∙ ap (λ k. bytes_at c (at + 1) n ++ bytes_at c k m) behind)
-    ∙ sym (append_assoc (sector_at c at) (bytes_at c (at + 1) n) (bytes_at c (at + suc n) m))
 
 -- the parts of a body, one behind the other
 parts : (epoch sequence : ℕ) (p more : List ℕ)
@@ -86,25 +76,44 @@ record_is_one c base place epoch age sequence number p q one two =
 pub ready_replays : (c : Contents) (base epoch place : ℕ) (ps : List (List ℕ)) → IsReady c base epoch ps place → ReplaysTo c base epoch ps place
 ready_replays c base epoch place ps ready = record { leads = ready.leads; stops = inr (inl ready.closed) }
 
+-- a sector that begins with a number is read as it
+number_of : (number : ℕ) (sector : List ℕ) → number < 256 ^ 8 → take 8 sector ≡ number_bytes 8 number → little_number 8 sector ≡ number
+unfolding number_bytes
+number_of number sector fits e =
+    let split : sector ≡ number_bytes 8 number ++ drop 8 sector = sym (take-append-drop 8 sector) ∙ ap (λ front. front ++ drop 8 sector) e in
+    ap (little_number 8) split ∙ little_number-reads_back 8 number (drop 8 sector) fits
+
+pub later_replays : (c : Contents) (base epoch later : ℕ) → HasNoLater c base epoch → epoch < later → later < 256 ^ 8 → ReplaysTo c base later [] 0
+later_replays c base epoch later none after fits = record { leads = refl; stops = halts none }
+  where
+    first : base + 0 ≡ base
+    first = omega arith
+
+    halts : HasNoLater c base epoch → Stops c base later 0
+    halts (inl closed) = inr (inl (subst (IsClosed c) (sym first) closed))
+    halts (inr early) = inr (inr (λ begins_so. omega (arith, early, after, number_of later (sector_at c (base + 0 + 1)) fits begins_so)))
+
 module _ (c : Contents) (base epoch : ℕ) (on_disk : IsOnDisk c base) where
+  -- the first sector of a body begins with its epoch
+  begins : (place sequence : ℕ) (p : List ℕ) → HasRecord c base epoch place sequence p → take 8 (sector_at c (base + place + 1)) ≡ number_bytes 8 epoch
+  unfolding bytes_at
+  begins place sequence p body =
+      let at = base + place + 1 in
+      let inside : at < length c = omega (arith, body.room, on_disk.within) in
+      let from = from_body c base epoch place sequence p body in
+      let long : 8 ≤ length (sector_at c at) = omega (arith, (on_disk.whole at inside).size) in
+      sym (take-append-le 8 (sector_at c at) (bytes_at c (at + 1) 128) long)
+      ∙ ap (take 8) from.1
+      ∙ take_at (number_bytes 8 epoch) _ 8 (length-number_bytes 8 epoch)
+
+  pub epoch_is : (place sequence : ℕ) (p : List ℕ) → epoch < 256 ^ 8 → HasRecord c base epoch place sequence p → epoch_at c base place ≡ epoch
+  epoch_is place sequence p fits body = number_of epoch (sector_at c (base + place + 1)) fits (begins place sequence p body)
+
   -- behind an open gate with a record replay goes on
   goes_on : (place sequence : ℕ) (p : List ℕ) → IsOpen c (base + place) → HasRecord c base epoch place sequence p → Stops c base epoch place → ⊥
-  unfolding bytes_at
   goes_on place sequence p opened body (inl past) = omega (arith, past, body.room)
   goes_on place sequence p opened body (inr (inl closed)) = closed opened
-  goes_on place sequence p opened body (inr (inr other)) = other first
-    where
-      inside : base + place + 1 < length c
-      inside = omega (arith, body.room, on_disk.within)
-
-      first : take 8 (sector_at c (base + place + 1)) ≡ number_bytes 8 epoch
-      first =
-          let at = base + place + 1 in
-          let from = from_body c base epoch place sequence p body in
-          let long : 8 ≤ length (sector_at c at) = omega (arith, (on_disk.whole at inside).size) in
-          sym (take-append-le 8 (sector_at c at) (bytes_at c (at + 1) 128) long)
-          ∙ ap (take 8) from.1
-          ∙ take_at (number_bytes 8 epoch) _ 8 (length-number_bytes 8 epoch)
+  goes_on place sequence p opened body (inr (inr other)) = other (begins place sequence p body)
 
   replay_from : (place sequence end stop : ℕ) (ps qs : List (List ℕ)) → Leads c base epoch place sequence ps end → Stops c base epoch end → Leads c base epoch place sequence qs stop → Stops c base epoch stop
       → (ps ≡ qs) × (end ≡ stop)

@@ -47,21 +47,30 @@ same_tree t u a b fits-t fits-u e =
     (ap (λ (n : ℕ). record t { size = n }) size ∙ ap (λ (ps : List ℕ). record u { pointers = ps }) pointers.0, pointers.1)
 
 -- a snapshot, and a list of as many
+flat_snapshot : (s : Snapshot) (rest : List ℕ) → snapshot_bytes s ++ rest ≡ s.bit ∷ length s.name ∷ (s.name ++ (zeros (38 - length s.name) ++ (tree_bytes s.tree ++ rest)))
+flat_snapshot s rest =
+    append_assoc ((s.bit ∷ length s.name ∷ s.name) ++ zeros (38 - length s.name)) (tree_bytes s.tree) rest
+    ∙ append_assoc (s.bit ∷ length s.name ∷ s.name) (zeros (38 - length s.name)) (tree_bytes s.tree ++ rest)
+
+same_parts : (s r : Snapshot) → s.bit ≡ r.bit → s.name ≡ r.name → s.tree ≡ r.tree → s ≡ r
+same_parts s r bit name tree =
+    ap (λ (n : ℕ). record s { bit = n }) bit ∙ ap (λ (n : List ℕ). record { bit = r.bit; name = n; tree = s.tree }) name ∙ ap (λ (t : BlockTree). record r { tree = t }) tree
+
 same_snapshot : (s r : Snapshot) (a b : List ℕ) → IsSnapshot s → IsSnapshot r → snapshot_bytes s ++ a ≡ snapshot_bytes r ++ b → (s ≡ r) × (a ≡ b)
 same_snapshot s r a b fits-s fits-r e =
     let blank_s = zeros (38 - length s.name) in
     let blank_r = zeros (38 - length r.name) in
-    let flat : s.bit ∷ length s.name ∷ (s.name ++ (blank_s ++ (tree_bytes s.tree ++ a))) ≡ r.bit ∷ length r.name ∷ (r.name ++ (blank_r ++ (tree_bytes r.tree ++ b))) =
-    sym (append_assoc ((s.bit ∷ length s.name ∷ s.name) ++ blank_s) (tree_bytes s.tree) a ∙ append_assoc (s.bit ∷ length s.name ∷ s.name) blank_s (tree_bytes s.tree ++ a))
-    ∙ e
-    ∙ append_assoc ((r.bit ∷ length r.name ∷ r.name) ++ blank_r) (tree_bytes r.tree) b
-    ∙ append_assoc (r.bit ∷ length r.name ∷ r.name) blank_r (tree_bytes r.tree ++ b) in
+    let name_s = s.name ++ (blank_s ++ (tree_bytes s.tree ++ a)) in
+    let name_r = r.name ++ (blank_r ++ (tree_bytes r.tree ++ b)) in
+    let flat : s.bit ∷ length s.name ∷ name_s ≡ r.bit ∷ length r.name ∷ name_r = sym (flat_snapshot s a) ∙ e ∙ flat_snapshot r b in
     let bit : s.bit ≡ r.bit = ap (λ (xs : List ℕ). slice_index xs 0) flat in
     let long : length s.name ≡ length r.name = ap (λ (xs : List ℕ). slice_index xs 1) flat in
-    let after_name = same_fronts s.name r.name _ _ long (ap (drop 2) flat) in
+    let names : name_s ≡ name_r = ap (drop 2) flat in
+    let after_name = same_fronts s.name r.name (blank_s ++ (tree_bytes s.tree ++ a)) (blank_r ++ (tree_bytes r.tree ++ b)) long names in
     let blank : length blank_s ≡ length blank_r = length-zeros (38 - length s.name) ∙ ap (λ n. 38 - n) long ∙ sym (length-zeros (38 - length r.name)) in
-    let tree = same_tree s.tree r.tree a b fits-s.tree fits-r.tree (same_fronts blank_s blank_r _ _ blank after_name.1).1 in
-    (ap (λ (n : ℕ). record s { bit = n }) bit ∙ ap (λ (name : List ℕ). record { bit = r.bit; name = name; tree = s.tree }) after_name.0 ∙ ap (λ (t : BlockTree). record r { tree = t }) tree.0, tree.1)
+    let after_blank = same_fronts blank_s blank_r (tree_bytes s.tree ++ a) (tree_bytes r.tree ++ b) blank after_name.1 in
+    let tree = same_tree s.tree r.tree a b fits-s.tree fits-r.tree after_blank.1 in
+    (same_parts s r bit after_name.0 tree.0, tree.1)
 
 same_snapshots : (ss rs : List Snapshot) (a b : List ℕ) → length ss ≡ length rs → AllByRecursion IsSnapshot ss → AllByRecursion IsSnapshot rs → snapshots_bytes ss ++ a ≡ snapshots_bytes rs ++ b → ss ≡ rs
 same_snapshots [] [] a b len fits-s fits-r e = refl
@@ -93,6 +102,14 @@ flat_head x rest =
 some_of : {A : Type 0} (o : Option A) (x y : A) → o ≡ Some x → o ≡ Some y → x ≡ y
 some_of o x y a b = cc
 
+same_root : (x y : RootBody) → x.limits ≡ y.limits → x.generation ≡ y.generation → x.epoch ≡ y.epoch → x.inode_file ≡ y.inode_file → x.snapshots ≡ y.snapshots → x ≡ y
+same_root x y limits generation epoch file snapshots =
+    ap (λ (l : Limits). record x { limits = l }) limits
+    ∙ ap (λ (g : ℕ). record { limits = y.limits; generation = g; epoch = x.epoch; inode_file = x.inode_file; snapshots = x.snapshots }) generation
+    ∙ ap (λ (n : ℕ). record { limits = y.limits; generation = y.generation; epoch = n; inode_file = x.inode_file; snapshots = x.snapshots }) epoch
+    ∙ ap (λ (t : BlockTree). record { limits = y.limits; generation = y.generation; epoch = y.epoch; inode_file = t; snapshots = x.snapshots }) file
+    ∙ ap (λ (ss : List Snapshot). record y { snapshots = ss }) snapshots
+
 pub body_is_one : (x y : RootBody) → IsRootBody x → IsRootBody y → root_body_bytes x ≡ root_body_bytes y → x ≡ y
 body_is_one x y fits-x fits-y e =
     let head-x = head_fits x fits-x in
@@ -115,11 +132,7 @@ body_is_one x y fits-x fits-y e =
     let count : length x.snapshots ≡ length y.snapshots = same_number 4 (length x.snapshots) (length y.snapshots) head-x.count head-y.count p5.0 in
     let snapshots = same_snapshots x.snapshots y.snapshots rest_x rest_y count fits-x.snapshots.each fits-y.snapshots.each p8.1 in
     let limits : x.limits ≡ y.limits = some_of (limits_of y.limits.version) x.limits y.limits (ap limits_of (sym version) ∙ fits-x.version) fits-y.version in
-    ap (λ (l : Limits). record x { limits = l }) limits
-    ∙ ap (λ (g : ℕ). record { limits = y.limits; generation = g; epoch = x.epoch; inode_file = x.inode_file; snapshots = x.snapshots }) generation
-    ∙ ap (λ (n : ℕ). record { limits = y.limits; generation = y.generation; epoch = n; inode_file = x.inode_file; snapshots = x.snapshots }) epoch
-    ∙ ap (λ (t : BlockTree). record { limits = y.limits; generation = y.generation; epoch = y.epoch; inode_file = t; snapshots = x.snapshots }) p7.0
-    ∙ ap (λ (ss : List Snapshot). record y { snapshots = ss }) snapshots
+    same_root x y limits generation epoch p7.0 snapshots
 
 pub root_is_one : (c : Contents) (slot : Slot) (root other : RootBody) → HasRoot c slot root → HasRoot c slot other → root ≡ other
 root_is_one c slot root other one two = body_is_one root other one.fits two.fits (sym one.bytes ∙ two.bytes)

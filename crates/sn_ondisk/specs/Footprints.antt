@@ -5,7 +5,7 @@ use Rattle.sn_layout.specs.declared.places.Slot.{Slot}
 use Rattle.sn_layout.specs.declared.root.RootBody.{RootBody}
 use Rattle.sn_ondisk.specs.Blocks.{block_at, InBlock}
 use Rattle.sn_ondisk.specs.Roots.{body_block, HasRoot, IsNewest, InRoots}
-use Rattle.sn_ondisk.specs.LogHalf.{HasRecord, IsReady, Replays, InHalf, body_sectors}
+use Rattle.sn_ondisk.specs.LogHalf.{HasRecord, IsReady, Replays, HasNoLater, InHalf, body_sectors}
 use Rattle.sn_ondisk.specs.Shown.{Shown, InShown}
 
 -- A block, on its eight sectors.
@@ -27,6 +27,10 @@ RecordsDependOnTheirBody = (base epoch place sequence : ℕ) (payload : List ℕ
 -- What an append needs, on the sectors up to the closed gate.
 abbrev pub ReadyDependsOnItsSectors : Type 0
 ReadyDependsOnItsSectors = (base epoch place : ℕ) (payloads : List (List ℕ)) → DependsOn (Run base (place + 1)) (λ c. IsReady c base epoch payloads place)
+
+-- That no later record stands at the first place, on its gate and the sector behind it.
+abbrev pub NoLaterDependsOnTheFirstPlace : Type 0
+NoLaterDependsOnTheFirstPlace = (base epoch : ℕ) → DependsOn (Run base 2) (λ c. HasNoLater c base epoch)
 
 -- What replay finds, on the half.
 abbrev pub ReplaysDependOnTheHalf : Type 0

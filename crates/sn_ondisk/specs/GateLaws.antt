@@ -8,7 +8,7 @@ use Rattle.sn_layout.specs.declared.root.RootBody.{RootBody}
 use Rattle.sn_ondisk.specs.Blocks.{InBlock}
 use Rattle.sn_ondisk.specs.Gates.{IsOpen, IsClosed}
 use Rattle.sn_ondisk.specs.Roots.{gate_of, body_block, other_slot, IsNewest, HasNext}
-use Rattle.sn_ondisk.specs.LogHalf.{HasRecord, IsReady, HasPending, Stops, ReplaysTo, Replays, place_after, body_sectors, base_of, cleared_sector}
+use Rattle.sn_ondisk.specs.LogHalf.{HasRecord, IsReady, HasPending, Stops, ReplaysTo, Replays, HasNoLater, place_after, body_sectors, base_of, cleared_sector}
 use Rattle.sn_ondisk.specs.Shown.{Shown}
 
 -- Whatever the gate of a record comes to hold that is written and doesn't count, the record is there as a whole or not at all.
@@ -50,6 +50,13 @@ ClearingKeepsTheRecords = (c d : Contents) (base epoch place : ℕ) (payloads : 
     → ReplaysTo c base epoch payloads place
     → AgreesOutside (Single (cleared_sector c base place)) c d
     → ReplaysTo d base epoch payloads place
+
+-- And clearing the first place adds no later record there.
+abbrev pub ClearingAddsNoLater : Type 0
+ClearingAddsNoLater = (c d : Contents) (base epoch : ℕ)
+    → HasNoLater c base epoch
+    → AgreesOutside (Single (cleared_sector c base 0)) c d
+    → HasNoLater d base epoch
 
 -- Whatever the gate of an older root comes to hold that stands open, the newest root stays. Behind a closed gate a root that never counted may stand, so that one isn't closed again.
 abbrev pub ClosingKeepsTheRoot : Type 0

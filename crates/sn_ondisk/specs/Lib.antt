@@ -1,3 +1,4 @@
+pub mod BlockLaws
 pub mod Blocks
 pub mod Footprints
 pub mod GateLaws

@@ -1,5 +1,6 @@
 -- A half of the log, 256 sectors from `base` on, as the records of one epoch. A place is counted in sectors from there. At a place stands a record's gate, behind it its body, and behind that the next gate.
 use Rattle.std.specs.Prelude.{◌≡◌, ◌≢◌, ◌⊎◌, ℕ, ◌+◌, ◌-◌, ◌*◌, ◌/◌, ◌%◌, ◌≤◌, ◌==◌, nat_le, ◌||◌, if◌then◌else◌, List, [], ◌∷◌, ◌++◌, length, take}
+use Rattle.byteorder.specs.Endian.{little_number}
 use Rattle.sn_device.specs.Sectors.{Contents, sector_at, Run}
 use Rattle.sn_layout.specs.declared.places.Area.TheVariants.{Log}
 use Rattle.sn_layout.specs.declared.places.LogHalf.{LogHalf}
@@ -70,6 +71,14 @@ pub record HasPending (c : Contents) (base epoch : ℕ) (payloads : List (List �
   pub ready : IsReady c base epoch payloads place
   pub body : HasRecord c base epoch place (length payloads) payload
   pub shut : IsClosed c (base + place_after place payload)
+
+-- the epoch that stands behind the gate at a place
+abbrev pub epoch_at : Contents → ℕ → ℕ → ℕ
+epoch_at c base place = little_number 8 (sector_at c (base + place + 1))
+
+-- At the first place of the half stands no record of an epoch later than this one.
+abbrev pub HasNoLater : Contents → ℕ → ℕ → Type 0
+HasNoLater c base epoch = IsClosed c base ⊎ (epoch_at c base 0 ≤ epoch)
 
 -- The sector that is written to clear a place: its gate if that is open or no record has room there, and else the first sector of the body behind it, since a write that closes a closed gate may open it.
 abbrev pub cleared_sector : Contents → ℕ → ℕ → ℕ

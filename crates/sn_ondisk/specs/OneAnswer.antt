@@ -1,9 +1,9 @@
 -- Each reading of a disk has one answer.
-use Rattle.std.specs.Prelude.{◌≡◌, ℕ, ◌+◌, ◌≤◌, List, length}
+use Rattle.std.specs.Prelude.{◌≡◌, ℕ, ◌+◌, ◌^◌, ◌<◌, ◌≤◌, List, [], length}
 use Rattle.sn_device.specs.Sectors.{Contents, AreSectors}
 use Rattle.sn_layout.specs.declared.places.Slot.{Slot}
 use Rattle.sn_layout.specs.declared.root.RootBody.{RootBody}
-use Rattle.sn_ondisk.specs.LogHalf.{HasRecord, IsReady, ReplaysTo, base_of}
+use Rattle.sn_ondisk.specs.LogHalf.{HasRecord, IsReady, ReplaysTo, HasNoLater, epoch_at, base_of}
 use Rattle.sn_ondisk.specs.Roots.{HasRoot, IsNewest}
 use Rattle.sn_ondisk.specs.Shown.{Shown}
 
@@ -25,6 +25,15 @@ pub record IsOnDisk (c : Contents) (base : ℕ) : Type 0 where
 abbrev pub ReplayIsOne : Type 0
 ReplayIsOne = (c : Contents) (base epoch end stop : ℕ) (payloads others : List (List ℕ)) → IsOnDisk c base
     → ReplaysTo c base epoch payloads end → ReplaysTo c base epoch others stop → (payloads ≡ others) × (end ≡ stop)
+
+-- A record has its epoch at its place.
+abbrev pub RecordHasItsEpoch : Type 0
+RecordHasItsEpoch = (c : Contents) (base epoch place sequence : ℕ) (payload : List ℕ) → IsOnDisk c base → epoch < 256 ^ 8
+    → HasRecord c base epoch place sequence payload → epoch_at c base place ≡ epoch
+
+-- Where the first place has no later record, replay of a later epoch finds nothing.
+abbrev pub LaterReplaysNothing : Type 0
+LaterReplaysNothing = (c : Contents) (base epoch later : ℕ) → HasNoLater c base epoch → epoch < later → later < 256 ^ 8 → ReplaysTo c base later [] 0
 
 -- A slot has one root body.
 abbrev pub RootIsOne : Type 0

@@ -1,10 +1,11 @@
 //! The laws that the definitions of `specs/` keep.
-ghost use Rattle.sn_ondisk.specs.GateLaws.{GateAddsOneOrNone, OpenGateAddsOne, AppendAddsOneOrNone, ClearingStops, ClearingKeepsTheRecords, ClosingKeepsTheRoot, BodyKeepsTheRoot, OpeningChangesTheRootOrNot, OpenRootIsNewest, OpeningShowsEither, ClosingShowsTheSame, BodyShowsTheSame, AppendShowsOneMore, AppendShowsOneNewer};
+ghost use Rattle.sn_ondisk.specs.BlockLaws.{BytesFollow, BlocksAreWhole};
+ghost use Rattle.sn_ondisk.specs.GateLaws.{GateAddsOneOrNone, OpenGateAddsOne, AppendAddsOneOrNone, ClearingStops, ClearingKeepsTheRecords, ClearingAddsNoLater, ClosingKeepsTheRoot, BodyKeepsTheRoot, OpeningChangesTheRootOrNot, OpenRootIsNewest, OpeningShowsEither, ClosingShowsTheSame, BodyShowsTheSame, AppendShowsOneMore, AppendShowsOneNewer};
 ghost use Rattle.sn_ondisk.specs.PlaceLaws.{RootsLieInTheirAreas, HalvesAreTheirAreas, EpochsAlternate, AreasAreApart};
-ghost use Rattle.sn_ondisk.specs.OneAnswer.{RecordIsOne, ReadyIsReplayed, ReplayIsOne, RootIsOne, NewestIsOne, ShownIsOne};
+ghost use Rattle.sn_ondisk.specs.OneAnswer.{RecordIsOne, ReadyIsReplayed, ReplayIsOne, RecordHasItsEpoch, LaterReplaysNothing, RootIsOne, NewestIsOne, ShownIsOne};
 ghost use Rattle.sn_ondisk.specs.TreeLaws.{TreesDependOnTheirReach, TreesDependOnTheirSectors, ReachHasEveryPointer, ReachHasNoHole, EntriesAreTheirLevel, BytesAreOfTheirBlock, LevelsHaveRoom, LevelsAreLeast};
 ghost use Rattle.sn_ondisk.specs.MapLaws.{WordsAreThoseSpelled, MapIsOne, MapsDependOnTheirSectors, WordsDependOnTheirSectors};
-ghost use Rattle.sn_ondisk.specs.Footprints.{BlocksDependOnTheirSectors, RootsDependOnTheirBlock, NewestDependsOnTheRoots, RecordsDependOnTheirBody, ReadyDependsOnItsSectors, ReplaysDependOnTheHalf, ShownDependsOnRootsAndLog};
+ghost use Rattle.sn_ondisk.specs.Footprints.{BlocksDependOnTheirSectors, RootsDependOnTheirBlock, NewestDependsOnTheRoots, RecordsDependOnTheirBody, ReadyDependsOnItsSectors, NoLaterDependsOnTheFirstPlace, ReplaysDependOnTheHalf, ShownDependsOnRootsAndLog};
 
 /// What the write of a record's gate, or of the sector that clears a place, does to a log half,
 /// whether it was done or torn.
@@ -14,6 +15,7 @@ pub fn log_gate_laws()
     ensures append { AppendAddsOneOrNone }
     ensures clearing_stops { ClearingStops }
     ensures clearing_keeps { ClearingKeepsTheRecords }
+    ensures clearing_adds { ClearingAddsNoLater }
 {}
 
 /// What the write of a slot's gate, or of the body behind a closed one, does to the newest root,
@@ -41,6 +43,7 @@ pub fn footprints()
     ensures newest { NewestDependsOnTheRoots }
     ensures records { RecordsDependOnTheirBody }
     ensures ready { ReadyDependsOnItsSectors }
+    ensures no_later { NoLaterDependsOnTheFirstPlace }
     ensures replays { ReplaysDependOnTheHalf }
     ensures shown { ShownDependsOnRootsAndLog }
 {}
@@ -70,6 +73,8 @@ pub fn log_is_one()
     ensures record { RecordIsOne }
     ensures ready { ReadyIsReplayed }
     ensures replay { ReplayIsOne }
+    ensures epoch { RecordHasItsEpoch }
+    ensures later { LaterReplaysNothing }
 {}
 
 /// So has each reading of the roots, and what a disk shows is one root with one list of records.
@@ -85,4 +90,10 @@ pub fn place_laws()
     ensures halves { HalvesAreTheirAreas }
     ensures epochs { EpochsAlternate }
     ensures apart { AreasAreApart }
+{}
+
+/// The bytes of sectors and blocks.
+pub fn block_laws()
+    ensures follow { BytesFollow }
+    ensures whole { BlocksAreWhole }
 {}

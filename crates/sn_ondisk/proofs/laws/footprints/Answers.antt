@@ -1,6 +1,6 @@
 use Rattle.std.proofs.Common.{◌*◌, ◌∙◌, arith}
 use Rattle.sn_ondisk.proofs.BlockLemmas.{bytes_at-same}
-use Rattle.sn_ondisk.proofs.LogLemmas.{HasRecord-same, ready-same, ReplaysTo-same}
+use Rattle.sn_ondisk.proofs.LogLemmas.{HasRecord-same, ready-same, ReplaysTo-same, no_later-same}
 use Rattle.sn_ondisk.proofs.RootLemmas.{HasRoot-same, IsNewest-same}
 use Rattle.sn_ondisk.proofs.ShownLemmas.{shown_depends}
 use Rattle.sn_ondisk.proofs.laws.footprints.Goals as goal
@@ -25,3 +25,6 @@ returns-clause-replays c base epoch ps a b whole_a whole_b agrees found = (found
 
 pub returns-clause-shown : goal.returns-clause-shown
 returns-clause-shown c n slot root older newer a b whole_a whole_b agrees = shown_depends n a b slot root older newer agrees
+
+pub returns-clause-no_later : goal.returns-clause-no_later
+returns-clause-no_later c base epoch a b whole_a whole_b agrees = no_later-same a b base epoch (λ i from to. agrees.same i (from, to))

@@ -1,4 +1,4 @@
-use Rattle.sn_ondisk.proofs.LogLemmas.{gate_adds, open_gate_adds, clearing_stops, clearing_keeps}
+use Rattle.sn_ondisk.proofs.LogLemmas.{gate_adds, open_gate_adds, clearing_stops, clearing_keeps, clearing_adds}
 use Rattle.sn_ondisk.proofs.AppendLemmas.{append_adds}
 use Rattle.sn_ondisk.proofs.laws.log_gate_laws.Goals as goal
 
@@ -16,3 +16,6 @@ returns-clause-clearing_stops c = clearing_stops
 
 pub returns-clause-clearing_keeps : goal.returns-clause-clearing_keeps
 returns-clause-clearing_keeps c = clearing_keeps
+
+pub returns-clause-clearing_adds : goal.returns-clause-clearing_adds
+returns-clause-clearing_adds c = clearing_adds
