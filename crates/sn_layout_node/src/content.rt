@@ -59,6 +59,13 @@ impl InlineBytes {
         self.bytes.as_slice()
     }
 
+    /// A copy, which takes no memory.
+    pub fn copy(&self) -> Self
+        ensures { result ≡ self.now }
+    {
+        InlineBytes::new(self.as_slice())
+    }
+
     fn read(count: usize, reader: &mut Reader<'_>) -> Option<Self>
         requires fits { count ≤ 64 }
         requires room { 64 ≤ length reader.old }
@@ -116,6 +123,16 @@ impl Content {
         match self {
             Content::Inline(bytes) => bytes.as_slice().len() as u64,
             Content::Tree(tree) => tree.size,
+        }
+    }
+
+    /// A copy, which takes no memory.
+    pub fn copy(&self) -> Self
+        ensures { result ≡ self.now }
+    {
+        match self {
+            Content::Inline(bytes) => Content::Inline(bytes.copy()),
+            Content::Tree(tree) => Content::Tree(*tree),
         }
     }
 

@@ -60,6 +60,23 @@ impl Inode {
     ghost use Rattle.sn_layout_node.specs.Inode.{IsInode, inode_bytes};
     ghost use Rattle.sn_layout_node.specs.declared.inode.Inode.{Inode as TheInode};
 
+    /// A copy, which takes no memory.
+    pub fn copy(&self) -> Self
+        ensures { result ≡ self.now }
+    {
+        Inode {
+            kind: self.kind,
+            set_gid: self.set_gid,
+            sticky: self.sticky,
+            objects: self.objects,
+            links: self.links,
+            owner: self.owner,
+            group: self.group,
+            acl_block: self.acl_block,
+            content: self.content.copy(),
+        }
+    }
+
     fn encode(&self, bytes: &mut [u8])
         requires { length bytes.old ≡ 128 }
         ensures { bytes.new ≡ inode_bytes self.now }
