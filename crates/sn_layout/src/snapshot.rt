@@ -34,6 +34,15 @@ impl Snapshot {
         }
     }
 
+    // By the types of its fields.
+    pub(crate) fn fits(&self)
+        ensures { IsSnapshot self.now }
+    {
+        let _bit = self.bit;
+        self.name.as_bytes();
+        self.tree.fits();
+    }
+
     pub(crate) fn put(&self, block: &mut [u8], at: usize) -> usize
         requires { at + 112 ≤ length block.old }
         ensures bytes { Puts block.old block.new at result (snapshot_bytes self.now) }

@@ -122,6 +122,15 @@ fn place_of(snapshots: &[Snapshot], bit: u8) -> usize
     count
 }
 
+// Each fits its fields, by their types.
+pub(crate) fn fit(snapshots: &[Snapshot])
+    ensures { AllByRecursion IsSnapshot snapshots.now }
+{
+    for snapshot in snapshots {
+        snapshot.fits();
+    }
+}
+
 fn are_rising(snapshots: &[Snapshot]) -> bool
     ensures { result ≡ lists.are_rising 0 snapshots.now }
 {

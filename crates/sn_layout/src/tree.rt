@@ -54,6 +54,14 @@ impl BlockTree {
         true
     }
 
+    /// Any size and any pointers fit their fields.
+    pub fn fits(&self)
+        ensures { IsBlockTree self.now }
+    {
+        let _size = self.size;
+        self.pointers.as_slice();
+    }
+
     /// Writes it at a place of a block, and answers the place after it.
     pub fn put(&self, block: &mut [u8], at: usize) -> usize
         requires { at + 72 ≤ length block.old }

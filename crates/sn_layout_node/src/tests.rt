@@ -30,11 +30,14 @@ fn root_directory(rt: HostRuntime) -> Result<(), Fail> {
         content: Content::Tree(BlockTree::default()),
     };
     let mut bytes = [0xa5; INODE_SIZE];
-    InodeRecord::Used(root).encode(&mut bytes);
+    let record = InodeRecord::Used(root);
+    assert!(rt; record.is_valid(&Limits::VERSION_1));
+    record.encode(&Limits::VERSION_1, &mut bytes);
     assert!(rt; bytes == root_record());
     let decoded = InodeRecord::decode(&Limits::VERSION_1, &bytes).ok_or("a record")?;
     let mut again = [0x5a; INODE_SIZE];
-    decoded.encode(&mut again);
+    assert!(rt; decoded.is_valid(&Limits::VERSION_1));
+    decoded.encode(&Limits::VERSION_1, &mut again);
     assert!(rt; again == root_record());
     Ok(())
 }
