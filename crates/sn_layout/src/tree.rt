@@ -27,9 +27,6 @@ impl BlockTree {
     ghost use Rattle.sn_layout.specs.Pointers.{levels_of};
     ghost use Rattle.sn_layout.specs.declared.tree.BlockTree.{BlockTree as TheTree};
 
-    /// The bytes of a root of blocks.
-    pub const SIZE: usize = 72;
-
     /// How many levels of indirect blocks lie between the pointers and the data blocks of so many
     /// bytes: none up to 65,536, one up to 67,108,864, two up to 68,719,476,736, and else three.
     pub fn levels_of(size: u64) -> u32
@@ -52,6 +49,14 @@ impl BlockTree {
             }
         }
         true
+    }
+
+    /// Any size and any pointers fit their fields.
+    pub fn fits(&self)
+        ensures { IsBlockTree self.now }
+    {
+        let _size = self.size;
+        self.pointers.as_slice();
     }
 
     /// Writes it at a place of a block, and answers the place after it.

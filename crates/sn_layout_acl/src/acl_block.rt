@@ -116,6 +116,24 @@ fn kept(entries: &[Entry]) -> ArrayVec<Entry, MAX_ENTRIES>
 }
 
 impl NamedEntries {
+    /// No entries, as where mode bits are the whole access ACL.
+    pub fn new() -> Self
+        ensures { result ≡ [] }
+    {
+        NamedEntries {
+            entries: ArrayVec::new(),
+        }
+    }
+
+    /// A copy, which takes no memory.
+    pub fn copy(&self) -> Self
+        ensures { result ≡ self.now }
+    {
+        NamedEntries {
+            entries: kept(self.as_slice()),
+        }
+    }
+
     /// `None` where the entries are no such part of an access ACL.
     pub fn from_entries(entries: &[Entry]) -> Option<Self>
         requires { length entries.now ≤ 33 }
@@ -268,8 +286,27 @@ fn acls_of(lists: &Lists) -> Option<AclBlock>
     Some(AclBlock { access, default })
 }
 
+fn copy_of(default: &Option<Acl>) -> Option<Acl>
+    ensures { result ≡ default.now }
+{
+    match default {
+        Some(acl) => Some(acl.copy()),
+        None => None,
+    }
+}
+
 impl AclBlock {
     ghost use Rattle.sn_layout_acl.specs.AclBlock.{IsAclBlock, acl_block_bytes, acls_bytes, entries_in};
+
+    /// A copy, which takes no memory.
+    pub fn copy(&self) -> Self
+        ensures { result ≡ self.now }
+    {
+        AclBlock {
+            access: self.access.copy(),
+            default: copy_of(&self.default),
+        }
+    }
 
     /// How many entries both lists have.
     pub fn count(&self) -> usize

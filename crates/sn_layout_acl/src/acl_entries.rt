@@ -97,7 +97,8 @@ pub fn put_entries(block: &mut [u8], at: usize, entries: &[Entry]) -> usize
     next
 }
 
-/// Reads so many entries, whatever ACL they make. `None` where one of them is no entry.
+/// Reads so many entries, whatever ACL they make. `None` where one of them is no entry; how far the
+/// reader has come then is open.
 pub fn read_entries(reader: &mut Reader<'_>, count: usize) -> Option<ArrayVec<Entry, MAX_ENTRIES>>
     requires count { count ≤ 36 }
     requires room { 8 * count ≤ length reader.old }

@@ -8,8 +8,8 @@ ghost use Rattle.sn_layout_acl.specs.Mode.{IsMode, mode_bytes};
 use sn_acl::Mode;
 use sn_layout::{Reader, put_u16};
 
-// The mode, of which each three bits are below 8 by their type.
-pub(crate) fn fitting(mode: Mode) -> Mode
+/// The mode, of which each three bits are below 8 by their type.
+pub fn fitting(mode: Mode) -> Mode
     ensures same { result ≡ mode }
     ensures fits { IsMode mode }
 {

@@ -1,4 +1,4 @@
-ghost use Rattle.std.specs.Prelude.{◌≡◌, ℕ, ◌+◌, ◌-◌, ◌*◌, ◌<◌, ◌≤◌, ◌||◌, ◌==◌, List, ◌++◌, length, Some, IfSome, IsTrue, nat_lt};
+ghost use Rattle.std.specs.Prelude.{◌≡◌, ◌↔◌, ℕ, ◌+◌, ◌-◌, ◌*◌, ◌<◌, ◌≤◌, ◌||◌, ◌==◌, List, ◌++◌, length, Some, IfSome, IsTrue, nat_lt};
 ghost use Rattle.std.specs.List.{list_all, enumerate_from};
 ghost use Rattle.sn_walk.specs.declared.view.Kind.{Kind as TheKind};
 ghost use Rattle.sn_layout.specs.Bytes.{Puts, zeros, numbers_bytes};
@@ -59,6 +59,13 @@ impl InlineBytes {
         self.bytes.as_slice()
     }
 
+    /// A copy, which takes no memory.
+    pub fn copy(&self) -> Self
+        ensures { result ≡ self.now }
+    {
+        InlineBytes::new(self.as_slice())
+    }
+
     fn read(count: usize, reader: &mut Reader<'_>) -> Option<Self>
         requires fits { count ≤ 64 }
         requires room { 64 ≤ length reader.old }
@@ -116,6 +123,29 @@ impl Content {
         match self {
             Content::Inline(bytes) => bytes.as_slice().len() as u64,
             Content::Tree(tree) => tree.size,
+        }
+    }
+
+    /// A copy, which takes no memory.
+    pub fn copy(&self) -> Self
+        ensures { result ≡ self.now }
+    {
+        match self {
+            Content::Inline(bytes) => Content::Inline(bytes.copy()),
+            Content::Tree(tree) => Content::Tree(*tree),
+        }
+    }
+
+    /// Whether it can be that of a file or a directory on a disk of this version.
+    pub fn is_valid(&self, limits: &Limits, kind: Kind) -> bool
+        ensures { IsTrue result ↔ IsContent limits.now kind self.now }
+    {
+        match self {
+            Content::Inline(bytes) => kind == Kind::File && bytes.as_slice().len() <= INLINE_MAX,
+            Content::Tree(tree) => {
+                tree.fits();
+                is_tree_size(limits, kind, tree.size) && tree.ends_at_size()
+            }
         }
     }
 

@@ -189,7 +189,6 @@ pub struct DirectoryBlock<'a> {
 impl<'a> Model for DirectoryBlock<'a> {
     ghost use Rattle.std.specs.Prelude.{List};
     ghost use Rattle.sn_layout_node.specs.Directory.{Link, AreLinkBytes, links_of};
-
     ghost use Rattle.std.specs.Prelude.{◌≤◌, length};
 
     ghost Value = { List Link };

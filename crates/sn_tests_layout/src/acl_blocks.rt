@@ -21,10 +21,11 @@ fn acl_of(word: &str) -> Result<Acl> {
     Acl::parse(word.as_bytes()).context(format_args!("no ACL: {word}"))
 }
 
-fn block_with(acls: &AclBlock) -> Block {
+fn block_with(acls: &AclBlock) -> Result<Block> {
+    ensure!(acls.count() > 0, "an ACL block has an entry");
     let mut block = DIRTY;
     acls.encode(&mut block);
-    block
+    Ok(block)
 }
 
 /// The access ACL that a block makes with no rights in the mode bits, and the default ACL.
@@ -34,7 +35,7 @@ fn acl_block(alloc: Global, case: Case<'_>) -> Result<String> {
         return Ok(String::from_str(alloc, "refused")?);
     };
     ensure!(
-        block_with(&acls) == block,
+        block_with(&acls)? == block,
         "another spelling: {}",
         case.text()
     );
@@ -62,7 +63,7 @@ fn parts(alloc: Global, case: Case<'_>) -> Result<String> {
     let block = block_with(&AclBlock {
         access: parts.access,
         default: None,
-    });
+    })?;
     let mut text = spelled(alloc, &block)?;
     write!(text, ", mode {mode:o}")?;
     Ok(text)

@@ -22,7 +22,7 @@ fn record(alloc: Global, case: Case<'_>) -> Result<String> {
         return Ok(String::from_str(alloc, "refused")?);
     };
     let mut again = [0xa5; INODE_SIZE];
-    record.encode(&mut again);
+    record.encode(&Limits::VERSION_1, &mut again);
     ensure!(again == bytes, "another spelling: {}", case.text());
     match record {
         InodeRecord::Unused => Ok(String::from_str(alloc, "unused")?),
