@@ -1,7 +1,7 @@
 //! Inode records and indirect blocks.
 
 use crate::block::{DIRTY, block_of, fill, spelled};
-use anyhow::{Context, Result, ensure};
+use anyhow::{Result, ensure};
 use sn_layout::{BLOCK_SIZE, Block, Limits};
 use sn_layout_node::{Content, INODE_SIZE, IndirectBlock, Inode, InodeRecord, POINTERS_PER_BLOCK};
 use sn_table::{Case, Report};
@@ -98,5 +98,5 @@ fn pointer(alloc: Global, case: Case<'_>) -> Result<String> {
     ensure!(index < POINTERS_PER_BLOCK, "no pointer {index}");
     let mut block = [0; BLOCK_SIZE];
     IndirectBlock::set_pointer(&mut block, index, case.number(1)?);
-    spelled(alloc, &block).context("a block")
+    spelled(alloc, &block)
 }
