@@ -1,6 +1,6 @@
 //! Inode records and indirect blocks.
 
-use crate::block::{DIRTY, block_of, fill, spelled};
+use crate::block::{DIRTY, block_of, fill, push_pointers, spelled};
 use anyhow::{Result, ensure};
 use sn_layout::{BLOCK_SIZE, Block, Limits};
 use sn_layout_node::{Content, INODE_SIZE, IndirectBlock, Inode, InodeRecord, POINTERS_PER_BLOCK};
@@ -53,16 +53,13 @@ fn told(alloc: Global, inode: &Inode) -> Result<String> {
 
 fn push_content(text: &mut String, content: &Content) -> Result<()> {
     match content {
-        Content::Inline(bytes) => write!(text, ", {}", str::from_utf8(bytes.as_slice())?)?,
-        Content::Tree(tree) => {
-            for (at, pointer) in tree.pointers.iter().enumerate() {
-                if *pointer != 0 {
-                    write!(text, ", {at}:{pointer}")?;
-                }
-            }
+        Content::Inline(bytes) => {
+            text.push_str(" ")?;
+            text.push_str(str::from_utf8(bytes.as_slice())?)?;
+            Ok(())
         }
+        Content::Tree(tree) => push_pointers(text, &tree.pointers),
     }
-    Ok(())
 }
 
 /// The pointers of a block that are no holes. Encoded together, and set one by one, they make the same
@@ -72,14 +69,10 @@ fn indirect_block(alloc: Global, case: Case<'_>) -> Result<String> {
     let indirect = IndirectBlock::decode(&block);
     let mut pointers = [0; POINTERS_PER_BLOCK];
     let mut set: Block = [0; BLOCK_SIZE];
-    let mut text = String::new(alloc);
     for at in 0..POINTERS_PER_BLOCK {
         let pointer = indirect.pointer(at);
         pointers[at] = pointer;
         IndirectBlock::set_pointer(&mut set, at, pointer);
-        if pointer != 0 {
-            write!(text, "{at}:{pointer} ")?;
-        }
     }
     let mut again = DIRTY;
     IndirectBlock::encode(&pointers, &mut again);
@@ -88,7 +81,8 @@ fn indirect_block(alloc: Global, case: Case<'_>) -> Result<String> {
         "another spelling: {}",
         case.text()
     );
-    text.push_str(".")?;
+    let mut text = String::from_str(alloc, "pointers")?;
+    push_pointers(&mut text, &pointers)?;
     Ok(text)
 }
 
