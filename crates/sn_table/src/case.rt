@@ -11,6 +11,7 @@ pub struct Case<'a> {
 }
 
 impl<'a> Case<'a> {
+    /// The case of this text.
     pub fn new(text: &'a str) -> Self {
         Case { text }
     }

@@ -24,10 +24,12 @@ impl<'a> Report<'a> {
         })
     }
 
+    /// What it prints to.
     pub fn runtime(&self) -> &'a HostRuntime {
         self.rt
     }
 
+    /// The allocator of the program, whose refusals of memory end the program with an error.
     pub fn alloc(&self) -> Global {
         self.rt.alloc()
     }

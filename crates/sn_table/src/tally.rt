@@ -10,6 +10,7 @@ pub struct Tally {
 }
 
 impl Tally {
+    /// Of no cases yet.
     pub fn new() -> Self {
         Tally { cases: 0, wrong: 0 }
     }
@@ -31,10 +32,12 @@ impl Tally {
         Ok(())
     }
 
+    /// How many cases were counted.
     pub fn cases(self) -> u64 {
         self.cases
     }
 
+    /// How many of them went wrong.
     pub fn wrong(self) -> u64 {
         self.wrong
     }

@@ -128,20 +128,23 @@ fn told(alloc: Global, event: &Event) -> Result<String> {
     })
 }
 
+/// The fault of a script that is none. That there was no memory is no answer.
+fn fault_of(alloc: Global, script: &[u8]) -> Result<ScriptFault> {
+    let fault = read_script(alloc, script).err().context("a fault")?;
+    ensure!(fault != ScriptFault::Memory, "no memory for a script");
+    Ok(fault)
+}
+
 /// As many bytes as a script may have, all of them ends of lines, and one more.
 fn long_scripts(report: &Report<'_>) -> Result<Tally> {
     let alloc = report.alloc();
     let mut tally = Tally::new();
     let mut script = vec![in alloc; b'\n'; SCRIPT_MAX]?;
-    let longest = read_script(alloc, script.as_slice()).err();
-    tally.check(
-        report.runtime(),
-        longest == Some(ScriptFault::Line(1)),
-        &[1],
-    )?;
+    let longest = fault_of(alloc, script.as_slice())?;
+    tally.check(report.runtime(), longest == ScriptFault::Line(1), &[1])?;
     script.push(b'\n')?;
-    let longer = read_script(alloc, script.as_slice()).err();
-    tally.check(report.runtime(), longer == Some(ScriptFault::Line(0)), &[0])?;
+    let longer = fault_of(alloc, script.as_slice())?;
+    tally.check(report.runtime(), longer == ScriptFault::Line(0), &[0])?;
     Ok(tally)
 }
 

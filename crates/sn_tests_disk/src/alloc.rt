@@ -1,6 +1,7 @@
 //! The allocator.
 
-use anyhow::{Context, Result, ensure};
+use crate::map::taken_but;
+use anyhow::{Result, ensure};
 use sn_alloc::{BlockAllocator, Full};
 use sn_map::Map;
 use sn_table::{Case, Report, Tally};
@@ -80,16 +81,6 @@ fn whole_disk(report: &Report<'_>) -> Result<Tally> {
     let map = allocator.give_up();
     tally.check(report.runtime(), map.count_free() == 256, &[257])?;
     Ok(tally)
-}
-
-/// A map of which one block is free, or none where the size is not above `free`.
-fn taken_but(alloc: Global, size: u32, free: u32) -> Result<Map> {
-    let mut words = Vec::new(alloc);
-    for block in 0..size {
-        words.push(if block == free { 0 } else { 1 << (block % 32) })?;
-    }
-    ensure!(words.len() <= 1_048_576, "too many words");
-    Ok(Map::from_words(words))
 }
 
 fn only_free_blocks(report: &Report<'_>) -> Result<Tally> {

@@ -1,5 +1,6 @@
 //! The device in memory.
 
+use crate::journal;
 use anyhow::{Context, Result, bail, ensure};
 use sn_device::{Device, Fill, MemDevice, SECTOR_SIZE, Sector};
 use sn_table::{Case, Report, Tally};
@@ -8,7 +9,9 @@ use std::alloc::Global;
 pub fn run(report: &mut Report<'_>) -> Result<()> {
     report.table("device.txt", steps)?;
     let spent = want_of_memory(report)?;
-    report.add("want of memory", spent)
+    report.add("want of memory", spent)?;
+    let journal = journal_cases(report)?;
+    report.add("the journal", journal)
 }
 
 fn number_of(word: &str) -> Result<u64> {
@@ -151,5 +154,24 @@ fn want_of_memory(report: &Report<'_>) -> Result<Tally> {
     }
     let is_right = device.status().has_ended() == has_failed && device.failures() == 0;
     tally.check(report.runtime(), is_right, &[])?;
+    Ok(tally)
+}
+
+/// A body that was put into an empty journal is there after a crash, and sectors that are wiped are zeros.
+fn journal_cases(report: &Report<'_>) -> Result<Tally> {
+    let mut tally = Tally::new();
+    let mut device = MemDevice::new(report.alloc(), 2)?;
+    journal::put(&mut &mut device, &[0x22; SECTOR_SIZE])?;
+    let is_there = match device.crash(Fill::Junk).contents() {
+        [gate, body] => gate[0] == 1 && *body == [0x22; SECTOR_SIZE],
+        _ => false,
+    };
+    tally.check(report.runtime(), is_there, &[0])?;
+    let mut device = MemDevice::from_bytes(report.alloc(), &[7; 3 * SECTOR_SIZE])?;
+    ensure!(device.sectors() == 3, "another number of sectors");
+    journal::wipe(&mut device, 1, 3)?;
+    let mut text = String::new(report.alloc());
+    show(&device, &mut text)?;
+    tally.check(report.runtime(), text.as_str() == "07 00 00", &[1])?;
     Ok(tally)
 }

@@ -108,8 +108,8 @@ fn mixed(alloc: Global, size: u32) -> Result<Vec<u32>> {
     Ok(words)
 }
 
-/// Words of which one is 0, or none where the size is not above `free`.
-fn taken_but(alloc: Global, size: u32, free: u32) -> Result<Map> {
+/// A map of which one block is free, or none where the size is not above `free`.
+pub fn taken_but(alloc: Global, size: u32, free: u32) -> Result<Map> {
     let mut words = Vec::new(alloc);
     for block in 0..size {
         words.push(if block == free { 0 } else { 1 << (block % 32) })?;

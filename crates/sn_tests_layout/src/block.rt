@@ -60,3 +60,13 @@ fn push_offset(text: &mut String, at: usize) -> Result<()> {
     write!(text, "{at}:")?;
     Ok(())
 }
+
+/// The pointers that are no holes, each behind its place, as in ` 0:70`.
+pub fn push_pointers(text: &mut String, pointers: &[u32]) -> Result<()> {
+    for (at, pointer) in pointers.iter().enumerate() {
+        if *pointer != 0 {
+            write!(text, " {at}:{pointer}")?;
+        }
+    }
+    Ok(())
+}

@@ -1,6 +1,6 @@
 //! The superblock, root bodies and the places of a disk.
 
-use crate::block::{DIRTY, block_of};
+use crate::block::{DIRTY, block_of, push_pointers};
 use anyhow::{Context, Result, ensure};
 use sn_layout::{
     Area, Block, BlockTree, LogHalf, Places, RootBody, SNAPSHOT_ROOM, Slot, Snapshot, SnapshotName,
@@ -63,21 +63,20 @@ fn told(alloc: Global, block: &Block, body: &RootBody) -> Result<String> {
     write!(text, "epoch {}, ", body.epoch)?;
     push_tree(&mut text, &body.inode_file)?;
     for snapshot in body.snapshots.as_slice() {
-        let name = str::from_utf8(snapshot.name.as_bytes())?;
-        write!(text, "; {} {name}, ", snapshot.bit)?;
-        push_tree(&mut text, &snapshot.tree)?;
+        push_snapshot(&mut text, snapshot)?;
     }
     Ok(text)
 }
 
+fn push_snapshot(text: &mut String, snapshot: &Snapshot) -> Result<()> {
+    let name = str::from_utf8(snapshot.name.as_bytes())?;
+    write!(text, "; {} {name}, ", snapshot.bit)?;
+    push_tree(text, &snapshot.tree)
+}
+
 fn push_tree(text: &mut String, tree: &BlockTree) -> Result<()> {
     write!(text, "size {}", tree.size)?;
-    for (at, pointer) in tree.pointers.as_slice().iter().enumerate() {
-        if *pointer != 0 {
-            write!(text, " {at}:{pointer}")?;
-        }
-    }
-    Ok(())
+    push_pointers(text, tree.pointers.as_slice())
 }
 
 fn area_of(name: &str) -> Result<Area> {

@@ -1,7 +1,7 @@
 //! Inode records and indirect blocks.
 
-use crate::block::{DIRTY, block_of, fill, spelled};
-use anyhow::{Context, Result, ensure};
+use crate::block::{DIRTY, block_of, fill, push_pointers, spelled};
+use anyhow::{Result, ensure};
 use sn_layout::{BLOCK_SIZE, Block, Limits};
 use sn_layout_node::{Content, INODE_SIZE, IndirectBlock, Inode, InodeRecord, POINTERS_PER_BLOCK};
 use sn_table::{Case, Report};
@@ -53,16 +53,13 @@ fn told(alloc: Global, inode: &Inode) -> Result<String> {
 
 fn push_content(text: &mut String, content: &Content) -> Result<()> {
     match content {
-        Content::Inline(bytes) => write!(text, ", {}", str::from_utf8(bytes.as_slice())?)?,
-        Content::Tree(tree) => {
-            for (at, pointer) in tree.pointers.as_slice().iter().enumerate() {
-                if *pointer != 0 {
-                    write!(text, ", {at}:{pointer}")?;
-                }
-            }
+        Content::Inline(bytes) => {
+            text.push_str(" ")?;
+            text.push_str(str::from_utf8(bytes.as_slice())?)?;
+            Ok(())
         }
+        Content::Tree(tree) => push_pointers(text, tree.pointers.as_slice()),
     }
-    Ok(())
 }
 
 /// The pointers of a block that are no holes. Encoded together, and set one by one, they make the same
@@ -72,14 +69,10 @@ fn indirect_block(alloc: Global, case: Case<'_>) -> Result<String> {
     let indirect = IndirectBlock::decode(&block);
     let mut pointers = [0; POINTERS_PER_BLOCK];
     let mut set: Block = [0; BLOCK_SIZE];
-    let mut text = String::new(alloc);
     for at in 0..POINTERS_PER_BLOCK {
         let pointer = indirect.pointer(at);
         pointers[at] = pointer;
         IndirectBlock::set_pointer(&mut set, at, pointer);
-        if pointer != 0 {
-            write!(text, "{at}:{pointer} ")?;
-        }
     }
     let mut again = DIRTY;
     IndirectBlock::encode(&pointers, &mut again);
@@ -88,7 +81,8 @@ fn indirect_block(alloc: Global, case: Case<'_>) -> Result<String> {
         "another spelling: {}",
         case.text()
     );
-    text.push_str(".")?;
+    let mut text = String::from_str(alloc, "pointers")?;
+    push_pointers(&mut text, &pointers)?;
     Ok(text)
 }
 
@@ -98,5 +92,5 @@ fn pointer(alloc: Global, case: Case<'_>) -> Result<String> {
     ensure!(index < POINTERS_PER_BLOCK, "no pointer {index}");
     let mut block = [0; BLOCK_SIZE];
     IndirectBlock::set_pointer(&mut block, index, case.number(1)?);
-    spelled(alloc, &block).context("a block")
+    spelled(alloc, &block)
 }
