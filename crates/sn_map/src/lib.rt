@@ -25,4 +25,4 @@ mod block_map;
 mod lanes;
 mod plain;
 
-pub use block_map::{LARGEST_BIT, Map};
+pub use block_map::Map;
