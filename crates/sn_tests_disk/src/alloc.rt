@@ -75,12 +75,16 @@ fn whole_disk(report: &Report<'_>) -> Result<Tally> {
         let taken = take(&mut allocator)?;
         tally.check(report.runtime(), taken == Ok(block), &[block])?;
     }
-    let full = take(&mut allocator)?;
-    let is_right = full == Err(Full) && allocator.looked() == 256 && allocator.left() == 0;
+    let is_right = is_used_up(&mut allocator)?;
     tally.check(report.runtime(), is_right, &[256])?;
-    let map = allocator.give_up();
-    tally.check(report.runtime(), map.count_free() == 256, &[257])?;
+    let is_free = allocator.give_up().count_free() == 256;
+    tally.check(report.runtime(), is_free, &[257])?;
     Ok(tally)
+}
+
+fn is_used_up(allocator: &mut BlockAllocator) -> Result<bool> {
+    let full = take(allocator)?;
+    Ok(full == Err(Full) && allocator.looked() == 256 && allocator.left() == 0)
 }
 
 fn only_free_blocks(report: &Report<'_>) -> Result<Tally> {

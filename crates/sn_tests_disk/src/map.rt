@@ -57,22 +57,11 @@ fn take_block_step(map: &mut Map, step: &str, block: u32, value: u32) -> Result<
         return Ok(());
     }
     ensure!(value <= LARGEST_BIT, "no bit {value}");
-    let is_set = match step {
-        "set" => {
-            map.set_bit(block, value);
-            true
-        }
-        "unset" => {
-            map.unset_bit(block, value);
-            false
-        }
+    match step {
+        "set" => map.set_bit(block, value),
+        "unset" => map.unset_bit(block, value),
         _ => bail!("no step: {step}"),
-    };
-    ensure!(block < map.len(), "no block {block}");
-    ensure!(
-        map.has_bit(block, value) == is_set,
-        "bit {value} of {block}"
-    );
+    }
     Ok(())
 }
 
@@ -94,15 +83,15 @@ fn told(alloc: Global, map: &Map) -> Result<String> {
     })
 }
 
-/// Words with all bits in use, of which every seventh is 0.
+/// Words with all bits in use, of which every seventh is 0, and the first.
 fn mixed(alloc: Global, size: u32) -> Result<Vec<u32>> {
     let mut words = Vec::new(alloc);
     for block in 0..size {
-        let word = block.wrapping_mul(2_654_435_761);
-        words.push(if block % 7 == 3 {
+        let is_free = block % 7 == 3;
+        words.push(if is_free {
             0
         } else {
-            word | 0x8000_0000
+            block.wrapping_mul(2_654_435_761)
         })?;
     }
     Ok(words)
@@ -175,21 +164,21 @@ fn is_only_free(map: &Map, free: u32, is_there: bool) -> bool {
 fn passes(report: &Report<'_>) -> Result<Tally> {
     let mut tally = Tally::new();
     for size in SIZES {
-        for bit in [1, 5, 20] {
+        for (bit, mask) in [(1, 0x2), (5, 0x20), (20, 0x10_0000)] {
             let mut map = mixed_map(report.alloc(), size)?;
             let mut words = mixed(report.alloc(), size)?;
             map.copy_bit0_to(bit);
-            copy_bit(words.as_mut_slice(), 0, bit);
+            copy_bit(words.as_mut_slice(), 1, mask);
             let is_right = map.words() == words.as_slice();
             tally.check(report.runtime(), is_right, &[size, 0, bit])?;
             map.clear_bit(0);
-            clear_bit(words.as_mut_slice(), 0);
+            clear_bit(words.as_mut_slice(), 1);
             map.copy_bit_to_0(bit);
-            copy_bit(words.as_mut_slice(), bit, 0);
+            copy_bit(words.as_mut_slice(), mask, 1);
             let is_right = map.words() == words.as_slice();
             tally.check(report.runtime(), is_right, &[size, bit, 0])?;
             map.clear_bit(bit);
-            clear_bit(words.as_mut_slice(), bit);
+            clear_bit(words.as_mut_slice(), mask);
             let is_right = map.words() == words.as_slice();
             tally.check(report.runtime(), is_right, &[size, bit])?;
         }
@@ -199,13 +188,16 @@ fn passes(report: &Report<'_>) -> Result<Tally> {
 
 fn copy_bit(words: &mut [u32], from: u32, to: u32) {
     for word in words.iter_mut() {
-        let bit = word.wrapping_shr(from) & 1;
-        *word = (*word & !1_u32.wrapping_shl(to)) | bit.wrapping_shl(to);
+        *word = if *word & from == 0 {
+            *word & !to
+        } else {
+            *word | to
+        };
     }
 }
 
 fn clear_bit(words: &mut [u32], bit: u32) {
     for word in words.iter_mut() {
-        *word &= !1_u32.wrapping_shl(bit);
+        *word &= !bit;
     }
 }
