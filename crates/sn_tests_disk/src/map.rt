@@ -1,7 +1,7 @@
 //! The block map.
 
 use anyhow::{Context, Result, bail, ensure};
-use sn_map::{LARGEST_BIT, Map};
+use sn_map::Map;
 use sn_table::{Case, Report, Tally};
 use std::alloc::Global;
 
@@ -40,7 +40,7 @@ fn take_step(map: &mut Map, step: &str, value: &str) -> Result<()> {
 }
 
 fn pass(map: &mut Map, step: &str, bit: u32) -> Result<()> {
-    ensure!(bit <= LARGEST_BIT, "no bit {bit}");
+    ensure!(bit < 32, "no bit {bit}");
     match step {
         "live_to" => map.copy_bit0_to(bit),
         "to_live" => map.copy_bit_to_0(bit),
@@ -56,7 +56,7 @@ fn take_block_step(map: &mut Map, step: &str, block: u32, value: u32) -> Result<
         map.set_word(block, value);
         return Ok(());
     }
-    ensure!(value <= LARGEST_BIT, "no bit {value}");
+    ensure!(value < 32, "no bit {value}");
     match step {
         "set" => map.set_bit(block, value),
         "unset" => map.unset_bit(block, value),
