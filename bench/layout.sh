@@ -10,25 +10,27 @@ work=$(mktemp -d)
 trap 'rm -rf "$work"' EXIT
 
 mkdir -p "$work/crates/layout_bench/src"
-for crate in sn_acl sn_walk sn_layout sn_layout_node; do
+for crate in sn_acl sn_walk sn_layout sn_layout_acl sn_layout_node; do
     cp -r "$top/crates/$crate" "$work/crates/"
     grep "^$crate:" "$top/crates.txt" >> "$work/crates.txt"
 done
-echo 'layout_bench: sn_acl sn_walk sn_layout sn_layout_node' >> "$work/crates.txt"
+echo 'layout_bench: sn_acl sn_walk sn_layout sn_layout_acl sn_layout_node' >> "$work/crates.txt"
 cp "$top/HANDLES" "$work/"
 
 cat > "$work/crates/layout_bench/src/main.rt" <<'RT'
-//! How long the codecs take, each beside a copy of a block. Each call changes a byte or a number first, so
+//! How long the codecs take, each beside a copy of a block. Each call changes a byte first, so
 //! that none can be left out.
 #![tactic(auto)]
 ghost use Rattle.std.specs.Prelude.{◌≡◌, length};
 
 use sn_acl::{Acl, Entry, Mode, Permissions, Tag};
-use sn_layout::{Block, BlockTree, Limits, Places, RootBody, Snapshot, SnapshotName, Snapshots, Superblock};
-use sn_layout_node::{AclBlock, Content, DirectoryBlock, IndirectBlock, Inode, InodeRecord, NamedEntries};
+use sn_layout::{Block, BlockTree, Limits, Places, Pointers, RootBody, Snapshot, SnapshotName, Snapshots, Superblock};
+use sn_layout_acl::{AclBlock, NamedEntries};
+use sn_layout_node::{Content, DirectoryBlock, IndirectBlock, Inode, InodeRecord};
 use sn_walk::Kind;
 use std::alloc::{AllocError, Global};
 use std::io;
+use std::marker::Model;
 use std::rt::Clock;
 use std::time::Instant;
 
@@ -36,12 +38,75 @@ const ROUNDS: u32 = 200;
 const CALLS: u32 = 200;
 const NAMES: u32 = 400;
 
+// A root body that can be written.
+#[derive(Drop)]
+struct ValidRoot {
+    root: RootBody,
+}
+
+impl Model for ValidRoot {
+    ghost use Rattle.sn_layout.specs.declared.root.RootBody.{RootBody as TheRootBody};
+    ghost use Rattle.sn_layout.specs.RootBody.{IsRootBody};
+
+    ghost Value = { TheRootBody };
+
+    ghost view = { λ valid. valid.root };
+
+    ghost invariant = { λ valid. IsRootBody valid.root };
+
+    ghost inverse = { λ body. record { root = body } };
+}
+
+impl ValidRoot {
+    fn new(root: RootBody) -> Option<Self> {
+        if !root.is_valid() {
+            return None;
+        }
+        Some(ValidRoot { root })
+    }
+
+    fn encode(&self, block: &mut Block) {
+        self.root.encode(block);
+    }
+}
+
+// A record that can be written.
+#[derive(Drop)]
+struct ValidRecord {
+    used: InodeRecord,
+}
+
+impl Model for ValidRecord {
+    ghost use Rattle.sn_layout.specs.Limits.{version_1};
+    ghost use Rattle.sn_layout_node.specs.declared.inode.InodeRecord.{InodeRecord as TheRecord};
+    ghost use Rattle.sn_layout_node.specs.Inode.{IsRecord};
+
+    ghost Value = { TheRecord };
+
+    ghost view = { λ valid. valid.used };
+
+    ghost invariant = { λ valid. IsRecord version_1 valid.used };
+}
+
+impl ValidRecord {
+    fn new(record: InodeRecord) -> Option<Self> {
+        if !record.is_valid(&Limits::VERSION_1) {
+            return None;
+        }
+        Some(ValidRecord { used: record })
+    }
+
+    fn encode(&self, bytes: &mut [u8; 128]) {
+        self.used.encode(&Limits::VERSION_1, bytes);
+    }
+}
+
 // The values, and the blocks that spell them.
 #[derive(Drop)]
 struct Desk {
-    root: RootBody,
+    root: ValidRoot,
     acls: AclBlock,
-    record: InodeRecord,
+    record: ValidRecord,
     pointers: [u32; 1024],
     superblock_bytes: Block,
     root_bytes: Block,
@@ -98,7 +163,7 @@ fn decode_superblock(desk: &mut Desk, turn: u32) -> usize {
 
 #[inline(never)]
 fn encode_root(desk: &mut Desk, turn: u32) -> usize {
-    desk.root.generation = u64::from(turn % 512) + 1;
+    desk.root_bytes[8] = (turn % 256) as u8;
     desk.root.encode(&mut desk.root_bytes);
     usize::from(desk.root_bytes[8])
 }
@@ -114,9 +179,7 @@ fn decode_root(desk: &mut Desk, turn: u32) -> usize {
 
 #[inline(never)]
 fn encode_inode(desk: &mut Desk, turn: u32) -> usize {
-    if let InodeRecord::Used(inode) = &mut desk.record {
-        inode.owner = turn;
-    }
+    desk.record_bytes[8] = (turn % 256) as u8;
     desk.record.encode(&mut desk.record_bytes);
     usize::from(desk.record_bytes[8])
 }
@@ -133,7 +196,9 @@ fn decode_inode(desk: &mut Desk, turn: u32) -> usize {
 #[inline(never)]
 fn encode_acls(desk: &mut Desk, turn: u32) -> usize {
     desk.acls_bytes[0] = (turn % 256) as u8;
-    desk.acls.encode(&mut desk.acls_bytes);
+    if desk.acls.count() > 0 {
+        desk.acls.encode(&mut desk.acls_bytes);
+    }
     usize::from(desk.acls_bytes[0])
 }
 
@@ -337,28 +402,33 @@ fn values(alloc: Global) -> Result<Option<Desk>, AllocError> {
     directory_bytes.copy_from_slice(names.as_slice());
     let tree = BlockTree {
         size: 40_000,
-        pointers: [7, 8, 9, 10, 11, 12, 13, 14, 15, 16, 0, 0, 0, 0, 0, 0],
+        pointers: Pointers::new(&[7, 8, 9, 10, 11, 12, 13, 14, 15, 16, 0, 0, 0, 0, 0, 0]),
+    };
+    let root = RootBody {
+        limits: Limits::VERSION_1,
+        generation: 1,
+        epoch: 1,
+        inode_file: tree,
+        snapshots: list,
+    };
+    let record = InodeRecord::Used(Inode {
+        kind: Kind::File,
+        set_gid: false,
+        sticky: false,
+        objects: objects(),
+        links: 1,
+        owner: 1000,
+        group: 100,
+        acl_block: 0,
+        content: Content::Tree(tree),
+    });
+    let (Some(root), Some(record)) = (ValidRoot::new(root), ValidRecord::new(record)) else {
+        return Ok(None);
     };
     Ok(Some(Desk {
-        root: RootBody {
-            limits: Limits::VERSION_1,
-            generation: 1,
-            epoch: 1,
-            inode_file: tree,
-            snapshots: list,
-        },
+        root,
         acls,
-        record: InodeRecord::Used(Inode {
-            kind: Kind::File,
-            set_gid: false,
-            sticky: false,
-            objects: objects(),
-            links: 1,
-            owner: 1000,
-            group: 100,
-            acl_block: 0,
-            content: Content::Tree(tree),
-        }),
+        record,
         pointers: [5; 1024],
         superblock_bytes: [0; 4096],
         root_bytes: [0; 4096],

@@ -68,6 +68,10 @@ same_numbers n a b x y fits-a fits-b e = (
 pub number_only : (n x : ℕ) (old new : List ℕ) → x < 256 ^ n → old ≡ number_bytes n x ++ new → (number : ℕ) (rest : List ℕ) → number < 256 ^ n → old ≡ number_bytes n number ++ rest → (x ≡ number) × (new ≡ rest)
 number_only n x old new fits e number rest fits-number h = same_numbers n x number new rest fits fits-number (sym e ∙ h)
 
+-- bytes that are fewer than a number's don't begin with one
+pub too_few : {A : Type 0} (n x : ℕ) (bytes rest : List ℕ) → length bytes < n → bytes ≡ number_bytes n x ++ rest → A
+too_few n x bytes rest few e = absurd (omega (arith, ap length e, length-append (number_bytes n x) rest, length-number_bytes n x))
+
 -- ---- zeros
 
 pub length-zeros : (n : ℕ) → length (zeros n) ≡ n

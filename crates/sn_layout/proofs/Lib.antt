@@ -1,4 +1,5 @@
 pub mod Fields
+pub mod Inserting
 pub mod Reading
 pub mod Roots
 pub mod Words

@@ -1,8 +1,10 @@
 -- Where things lie on a disk of n blocks.
-use Rattle.std.specs.Prelude.{◌≡◌, ℕ, ◌+◌, ◌*◌, ◌/◌, ◌<◌, ◌≤◌, List, [], ◌∷◌}
+use Rattle.std.specs.Prelude.{◌≡◌, ℕ, ◌+◌, ◌*◌, ◌/◌, ◌%◌, ◌<◌, ◌≤◌, ◌==◌, if◌then◌else◌, List, [], ◌∷◌}
 use Rattle.sn_layout.specs.declared.places.Area.{Area}
 use Rattle.sn_layout.specs.declared.places.Area.TheVariants.{Superblock, RootBody, Gates, MapCopy, Log, Data}
+use Rattle.sn_layout.specs.declared.places.Slot.{Slot}
 use Rattle.sn_layout.specs.declared.places.Slot.TheVariants.{A, B}
+use Rattle.sn_layout.specs.declared.places.LogHalf.{LogHalf}
 use Rattle.sn_layout.specs.declared.places.LogHalf.TheVariants.{Zero, One}
 
 -- the sizes that a disk can have, in blocks
@@ -51,3 +53,16 @@ areas = Superblock ∷ RootBody A ∷ RootBody B ∷ Gates ∷ MapCopy A ∷ Map
 abbrev pub Follow : ℕ → ℕ → List Area → Type 0
 Follow n from [] = from ≡ n
 Follow n from (area ∷ more) = (start_of n area ≡ from) × (from < end_of n area) × Follow n (end_of n area) more
+
+-- the sector of a slot's gate
+abbrev pub gate_sector : Slot → ℕ
+gate_sector A = 24
+gate_sector B = 25
+
+abbrev pub other_slot : Slot → Slot
+other_slot A = B
+other_slot B = A
+
+-- the half that the records of an epoch stand in
+abbrev pub half_of_epoch : ℕ → LogHalf
+half_of_epoch epoch = if epoch % 2 == 0 then Zero else One

@@ -1,4 +1,4 @@
-use Rattle.std.specs.Prelude.{ℕ, ◌-◌, ◌<◌, Bool, true, not, ◌&&◌, List, [], ◌∷◌, ◌++◌, length, IsTrue, nat_lt, nat_le}
+use Rattle.std.specs.Prelude.{ℕ, suc, ◌-◌, ◌<◌, ◌==◌, Bool, true, not, ◌&&◌, List, [], ◌∷◌, ◌++◌, length, IsTrue, nat_lt, nat_le, if◌then◌else◌}
 use Rattle.std.specs.List.{flat_map, AllByRecursion, list_any, list_all}
 use Rattle.std.specs.Str.{bytes_eq}
 use Rattle.sn_layout.specs.declared.limits.Limits.{Limits}
@@ -33,6 +33,20 @@ are_within largest snapshots = list_all (λ s. nat_le s.bit largest) snapshots
 abbrev pub are_distinct : List Snapshot → Bool
 are_distinct [] = true
 are_distinct (s ∷ more) = not (list_any (λ other. bytes_eq s.name other.name) more) && are_distinct more
+
+-- how many stand at the front whose bits are not above a bit
+abbrev pub place_of : ℕ → List Snapshot → ℕ
+place_of bit [] = 0
+place_of bit (s ∷ more) = if nat_le s.bit bit then suc (place_of bit more) else 0
+
+-- one more, behind those at the front whose bits are not above its own
+abbrev pub with_snapshot : Snapshot → List Snapshot → List Snapshot
+with_snapshot s [] = s ∷ []
+with_snapshot s (first ∷ more) = if nat_le first.bit s.bit then first ∷ with_snapshot s more else s ∷ first ∷ more
+
+-- no snapshot has the bit
+abbrev pub has_no_bit : ℕ → List Snapshot → Bool
+has_no_bit bit snapshots = list_all (λ s. not (s.bit == bit)) snapshots
 
 -- a disk of this version can hold them: not too many, by rising bit from 1 up, with different names
 abbrev pub are_held : Limits → List Snapshot → Bool

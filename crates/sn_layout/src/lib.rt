@@ -6,8 +6,8 @@
 //! block is the value's spelling, and `only` that a block which is a value's spelling is read as
 //! that value. No call takes memory.
 //!
-//! The way through: `places` (areas of a disk), `superblock`, `tree` (a root of blocks), `name`,
-//! `snapshot` and `snapshots`, `root`. `limits` has the numbers that a version of the format fixes.
+//! The way through: `places` (areas of a disk), `superblock`, `gate`, `map_copy`, `tree` (a root of
+//! blocks), `name`, `snapshot` and `snapshots`, `root`. `limits` has the numbers that a version of the format fixes.
 //! `reader` and `writer` are for the crates that spell more: a `Reader` is seen as the bytes that
 //! are left, and each `put_` call writes behind what the one before it wrote.
 //!
@@ -18,9 +18,12 @@
 #![tactic(auto)]
 
 mod block;
+mod gate;
 mod limits;
+mod map_copy;
 mod name;
 mod places;
+mod pointers;
 mod reader;
 mod root;
 mod snapshot;
@@ -29,16 +32,19 @@ mod superblock;
 mod tree;
 mod writer;
 
-pub use block::{BLOCK_SIZE, Block, SECTORS_PER_BLOCK};
+pub use block::{BLOCK_SIZE, Block, SECTOR_SIZE, SECTORS_PER_BLOCK, Sector};
+pub use gate::Gate;
 pub use limits::Limits;
+pub use map_copy::{WORDS_PER_BLOCK, put_map_words, read_map_words};
 pub use name::{SNAPSHOT_NAME_MAX, SnapshotName};
 pub use places::{Area, LARGEST_DISK, LogHalf, Places, SMALLEST_DISK, Slot};
+pub use pointers::{POINTERS, Pointers};
 pub use reader::Reader;
 pub use root::{LARGEST_AGE, RootBody};
 pub use snapshot::Snapshot;
 pub use snapshots::{SNAPSHOT_ROOM, Snapshots};
 pub use superblock::Superblock;
-pub use tree::{BlockTree, POINTERS};
+pub use tree::BlockTree;
 pub use writer::{put_bytes, put_u8, put_u16, put_u32, put_u32s, put_u64, put_zeros};
 
 #[cfg(test)]

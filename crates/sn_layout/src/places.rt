@@ -8,9 +8,10 @@
 //! | 4 + 2M to 35 + 2M | log half 0 |
 //! | 36 + 2M to 67 + 2M | log half 1 |
 //! | 68 + 2M to N - 1 | data area |
-ghost use Rattle.std.specs.Prelude.{◌≡◌, ℕ, ◌+◌, ◌<◌, ◌≤◌, ◌↔◌, IsSome, IfSome, IsTrue};
+ghost use Rattle.std.specs.Prelude.{◌≡◌, ℕ, ◌+◌, ◌*◌, ◌<◌, ◌≤◌, ◌↔◌, IsSome, IfSome, IsTrue};
 ghost use Rattle.sn_layout.specs.Places.{IsDiskSize, Follow, areas};
 
+use crate::{SECTORS_PER_BLOCK, WORDS_PER_BLOCK};
 use std::marker::Model;
 use std::ops::Range;
 
@@ -20,11 +21,11 @@ pub const SMALLEST_DISK: u32 = 256;
 /// The most blocks of a disk.
 pub const LARGEST_DISK: u32 = 1_048_576;
 
+/// The words of a map copy that a block holds.
+const WORDS: u32 = WORDS_PER_BLOCK as u32;
+
 /// The blocks of a log half.
 const LOG_HALF_BLOCKS: u32 = 32;
-
-/// The words of a map copy that a block holds.
-const WORDS_PER_BLOCK: u32 = 1024;
 
 /// Which of the two roots.
 #[derive(Clone, Copy, Debug, PartialEq, Eq, Hash)]
@@ -33,11 +34,39 @@ pub enum Slot {
     B,
 }
 
+impl Slot {
+    ghost use Rattle.sn_layout.specs.Places.{other_slot};
+
+    pub fn other(self) -> Self
+        ensures { result ≡ other_slot self }
+    {
+        match self {
+            Slot::A => Slot::B,
+            Slot::B => Slot::A,
+        }
+    }
+}
+
 /// Which half of the log.
 #[derive(Clone, Copy, Debug, PartialEq, Eq, Hash)]
 pub enum LogHalf {
     Zero,
     One,
+}
+
+impl LogHalf {
+    ghost use Rattle.sn_layout.specs.Places.{half_of_epoch};
+
+    /// The half that the records of an epoch stand in: those of even epochs in half 0.
+    pub fn of_epoch(epoch: u64) -> Self
+        ensures { result ≡ half_of_epoch epoch }
+    {
+        if epoch.is_multiple_of(2) {
+            LogHalf::Zero
+        } else {
+            LogHalf::One
+        }
+    }
 }
 
 /// A part of the disk.
@@ -72,9 +101,9 @@ impl Model for Places {
 }
 
 impl Places {
-    ghost use Rattle.sn_layout.specs.Places.{IsDiskSize, IsIn, start_of, end_of, map_blocks};
+    ghost use Rattle.sn_layout.specs.Places.{IsDiskSize, IsIn, start_of, end_of, map_blocks, gate_sector};
+    ghost use Rattle.sn_layout.specs.declared.places.Area.TheVariants.{Data};
     ghost use Rattle.sn_layout.specs.declared.places.Area.{Area as AnArea};
-    ghost use Rattle.sn_layout.specs.declared.places.Slot.TheVariants.{A, B};
 
     /// `None` for a number of blocks that no disk has.
     pub fn new(blocks: u32) -> Option<Self>
@@ -100,7 +129,7 @@ impl Places {
     pub fn map_blocks(self) -> u32
         ensures { result ≡ map_blocks self }
     {
-        (self.blocks + (WORDS_PER_BLOCK - 1)) / WORDS_PER_BLOCK
+        (self.blocks + (WORDS - 1)) / WORDS
     }
 
     /// The first block of an area.
@@ -119,6 +148,30 @@ impl Places {
             Area::Log(LogHalf::One) => 4 + LOG_HALF_BLOCKS + 2 * map,
             Area::Data => 4 + 2 * LOG_HALF_BLOCKS + 2 * map,
         }
+    }
+
+    /// The sector of a slot's gate, the same on each disk.
+    pub fn gate(slot: Slot) -> u64
+        ensures { result ≡ gate_sector slot }
+    {
+        match slot {
+            Slot::A => 24,
+            Slot::B => 25,
+        }
+    }
+
+    /// The first sector of an area.
+    pub fn first_sector(self, area: Area) -> u64
+        ensures { result ≡ 8 * start_of self area }
+    {
+        SECTORS_PER_BLOCK * u64::from(self.start(area))
+    }
+
+    /// Whether a pointer, which may be any number, names a block of the data area.
+    pub fn is_data(self, pointer: u32) -> bool
+        ensures { IsTrue result ↔ IsIn self Data pointer }
+    {
+        self.start(Area::Data) <= pointer && pointer < self.blocks
     }
 
     /// The blocks of an area.

@@ -1,4 +1,4 @@
-ghost use Rattle.std.specs.Prelude.{◌≡◌, ℕ, ◌+◌, ◌*◌, ◌^◌, ◌<◌, ◌≤◌, List, ◌∷◌, ◌++◌, length, All, IsTrue, ◌↔◌};
+ghost use Rattle.std.specs.Prelude.{◌≡◌, ℕ, ◌+◌, ◌*◌, ◌^◌, ◌<◌, ◌≤◌, List, ◌∷◌, ◌++◌, length, All, Some, IfSome, IsSome, IsNone, IsTrue, ◌↔◌};
 ghost use Rattle.sn_layout.specs.Bytes.{AreNumbers, number_bytes, numbers_bytes, zeros};
 
 use byteorder::{ByteOrder, LittleEndian};
@@ -52,7 +52,11 @@ fn are_all_zero(bytes: &[u8]) -> bool
     are_few_zero(rest)
 }
 
-/// Reads one field of a block after the other. Callers see it as the bytes that are left.
+/// Reads one field of bytes after the other. Callers see it as the bytes that are left.
+///
+/// What is read without a test needs its bytes there, as in a block, which has them all. The `try_`
+/// calls are for bytes that may end early, as a log record's: they answer `None` where fewer are
+/// left than they read, and then stay where they are.
 #[derive(Drop)]
 pub struct Reader<'a> {
     rest: &'a [u8],
@@ -166,5 +170,71 @@ impl<'a> Reader<'a> {
         for number in numbers.iter_mut() {
             *number = self.u32();
         }
+    }
+
+    /// The next bytes, if there are so many.
+    pub fn try_bytes(&mut self, count: usize) -> Option<&'a [u8]>
+        ensures found { IfSome result (λ bytes. (length bytes.now ≡ count) × (self.old ≡ bytes.now ++ self.new)) }
+        ensures only { (front rest : List ℕ) → length front ≡ count → self.old ≡ front ++ rest
+            → IsSome result × IfSome result (λ bytes. bytes.now ≡ front) × (self.new ≡ rest) }
+        ensures few { IsNone result ↔ (length self.old < count) }
+        ensures stays { IsNone result → self.new ≡ self.old }
+    {
+        if self.remaining() < count {
+            return None;
+        }
+        Some(self.bytes(count))
+    }
+
+    pub fn try_u8(&mut self) -> Option<u8>
+        ensures found { IfSome result (λ number. self.old ≡ number ∷ self.new) }
+        ensures only { (number : ℕ) (rest : List ℕ) → self.old ≡ number ∷ rest → (result ≡ Some number) × (self.new ≡ rest) }
+        ensures left { IfSome result (λ _. length self.new + 1 ≡ length self.old) }
+        ensures few { IsNone result ↔ (length self.old < 1) }
+        ensures stays { IsNone result → self.new ≡ self.old }
+    {
+        if self.remaining() < 1 {
+            return None;
+        }
+        Some(self.u8())
+    }
+
+    pub fn try_u16(&mut self) -> Option<u16>
+        ensures found { IfSome result (λ number. self.old ≡ number_bytes 2 number ++ self.new) }
+        ensures only { (number : ℕ) (rest : List ℕ) → number < 256 ^ 2 → self.old ≡ number_bytes 2 number ++ rest → (result ≡ Some number) × (self.new ≡ rest) }
+        ensures left { IfSome result (λ _. length self.new + 2 ≡ length self.old) }
+        ensures few { IsNone result ↔ (length self.old < 2) }
+        ensures stays { IsNone result → self.new ≡ self.old }
+    {
+        if self.remaining() < 2 {
+            return None;
+        }
+        Some(self.u16())
+    }
+
+    pub fn try_u32(&mut self) -> Option<u32>
+        ensures found { IfSome result (λ number. self.old ≡ number_bytes 4 number ++ self.new) }
+        ensures only { (number : ℕ) (rest : List ℕ) → number < 256 ^ 4 → self.old ≡ number_bytes 4 number ++ rest → (result ≡ Some number) × (self.new ≡ rest) }
+        ensures left { IfSome result (λ _. length self.new + 4 ≡ length self.old) }
+        ensures few { IsNone result ↔ (length self.old < 4) }
+        ensures stays { IsNone result → self.new ≡ self.old }
+    {
+        if self.remaining() < 4 {
+            return None;
+        }
+        Some(self.u32())
+    }
+
+    pub fn try_u64(&mut self) -> Option<u64>
+        ensures found { IfSome result (λ number. self.old ≡ number_bytes 8 number ++ self.new) }
+        ensures only { (number : ℕ) (rest : List ℕ) → number < 256 ^ 8 → self.old ≡ number_bytes 8 number ++ rest → (result ≡ Some number) × (self.new ≡ rest) }
+        ensures left { IfSome result (λ _. length self.new + 8 ≡ length self.old) }
+        ensures few { IsNone result ↔ (length self.old < 8) }
+        ensures stays { IsNone result → self.new ≡ self.old }
+    {
+        if self.remaining() < 8 {
+            return None;
+        }
+        Some(self.u64())
     }
 }

@@ -11,9 +11,10 @@
 //! | 624 + 112i | snapshot i, by rising bit |
 //! | after the last | zeros |
 ghost use Rattle.std.specs.Prelude.{◌≡◌, ℕ, ◌+◌, ◌*◌, ◌<◌, ◌≤◌, List, [], ◌∷◌, ◌++◌, length, Some, IfSome, IsTrue, ◌↔◌};
+ghost use Rattle.sn_layout.specs.Limits.{limits_of};
 ghost use Rattle.sn_layout.specs.RootBody.{IsAge};
 
-use crate::snapshots::{put_snapshots, read_snapshots};
+use crate::snapshots::{fit, put_snapshots, read_snapshots};
 use crate::{
     BLOCK_SIZE, Block, BlockTree, Limits, Reader, SNAPSHOT_ROOM, Snapshots, put_u32, put_u64,
     put_zeros,
@@ -50,6 +51,15 @@ fn is_age(age: u64) -> bool
     ensures { IsTrue result ↔ IsAge age }
 {
     age >= 1 && age <= LARGEST_AGE
+}
+
+fn is_known(limits: &Limits) -> bool
+    ensures { IsTrue result ↔ (limits_of limits.now.version ≡ Some limits.now) }
+{
+    match Limits::of_version(limits.version) {
+        Some(known) => known == *limits,
+        None => false,
+    }
 }
 
 impl Head {
@@ -115,7 +125,22 @@ impl RootBody {
         Reader::new(block).u32()
     }
 
+    /// Whether it can be written: of a version that is read, its ages from 1 to the largest, with
+    /// snapshots that a disk of this version can hold.
+    pub fn is_valid(&self) -> bool
+        ensures { IsTrue result ↔ IsRootBody self.now }
+    {
+        self.inode_file.fits();
+        fit(self.snapshots.as_slice());
+        is_known(&self.limits)
+            && is_age(self.generation)
+            && is_age(self.epoch)
+            && self.snapshots.are_held(&self.limits)
+    }
+
+    /// Writes the whole block, whatever stood there.
     pub fn encode(&self, block: &mut Block)
+        requires { IsRootBody self.now }
         ensures { block.new ≡ root_body_bytes self.now }
     {
         let snapshots = self.snapshots.as_slice();

@@ -23,6 +23,26 @@ impl Snapshot {
     ghost use Rattle.sn_layout.specs.Snapshot.{IsSnapshot, snapshot_bytes};
     ghost use Rattle.sn_layout.specs.declared.snapshot.Snapshot.{Snapshot as TheSnapshot};
 
+    /// A copy, which takes no memory.
+    pub fn copy(&self) -> Self
+        ensures { result ≡ self.now }
+    {
+        Snapshot {
+            bit: self.bit,
+            name: self.name.copy(),
+            tree: self.tree,
+        }
+    }
+
+    // By the types of its fields.
+    pub(crate) fn fits(&self)
+        ensures { IsSnapshot self.now }
+    {
+        let _bit = self.bit;
+        self.name.as_bytes();
+        self.tree.fits();
+    }
+
     pub(crate) fn put(&self, block: &mut [u8], at: usize) -> usize
         requires { at + 112 ≤ length block.old }
         ensures bytes { Puts block.old block.new at result (snapshot_bytes self.now) }

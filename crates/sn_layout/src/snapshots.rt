@@ -2,7 +2,7 @@ ghost use Rattle.std.specs.Prelude.{◌≡◌, ℕ, ◌+◌, ◌*◌, ◌<◌, �
 ghost use Rattle.std.specs.List.{AllByRecursion, list_any};
 ghost use Rattle.std.specs.Str.{bytes_eq};
 ghost use Rattle.sn_layout.specs.Bytes.{Puts};
-ghost use Rattle.sn_layout.specs.Snapshot.{IsSnapshot, snapshots_bytes};
+ghost use Rattle.sn_layout.specs.Snapshot.{IsSnapshot, snapshots_bytes, place_of, with_snapshot, has_no_bit};
 ghost use Rattle.sn_layout.specs.Snapshot as lists;
 ghost use Rattle.sn_layout.specs.declared.snapshot.Snapshot.{Snapshot as TheSnapshot};
 
@@ -55,6 +55,29 @@ impl Snapshots {
         self.list.push(snapshot);
     }
 
+    /// Puts one behind those whose bits are not above its own.
+    pub fn insert(&mut self, snapshot: Snapshot)
+        requires { length self.old < 31 }
+        ensures inserted { self.new ≡ with_snapshot snapshot self.old }
+        ensures rising { IsTrue (lists.are_rising 0 self.old) → 0 < snapshot.bit → IsTrue (has_no_bit snapshot.bit self.old)
+            → IsTrue (lists.are_rising 0 self.new) }
+    {
+        let place = place_of(self.as_slice(), snapshot.bit);
+        self.list.insert(place, snapshot);
+    }
+
+    /// A copy, which takes no memory.
+    pub fn copy(&self) -> Self
+        ensures { result ≡ self.now }
+    {
+        let mut copy = Snapshots::new();
+        let list = self.as_slice();
+        for snapshot in list {
+            copy.push(snapshot.copy());
+        }
+        copy
+    }
+
     /// Removes and returns one of them.
     pub fn remove(&mut self, index: usize) -> Snapshot
         requires { index < length self.old }
@@ -82,6 +105,29 @@ impl Default for Snapshots {
 
     fn default() -> Self {
         Snapshots::new()
+    }
+}
+
+fn place_of(snapshots: &[Snapshot], bit: u8) -> usize
+    ensures count { result ≡ place_of bit snapshots.now }
+    ensures within { result ≤ length snapshots.now }
+{
+    let mut count = 0;
+    for snapshot in snapshots {
+        if snapshot.bit > bit {
+            break;
+        }
+        count += 1;
+    }
+    count
+}
+
+// Each fits its fields, by their types.
+pub(crate) fn fit(snapshots: &[Snapshot])
+    ensures { AllByRecursion IsSnapshot snapshots.now }
+{
+    for snapshot in snapshots {
+        snapshot.fits();
     }
 }
 

@@ -52,11 +52,12 @@ fn first_root(rt: HostRuntime) -> Result<(), Fail> {
         epoch: 1,
         inode_file: BlockTree {
             size: 4096,
-            pointers,
+            pointers: Pointers::new(&pointers),
         },
         snapshots: Snapshots::new(),
     };
     let mut block = [0xa5; BLOCK_SIZE];
+    assert!(rt; body.is_valid());
     body.encode(&mut block);
     let bytes = &block[..];
     assert!(rt; bytes.starts_with(&FIRST_ROOT));
@@ -101,6 +102,7 @@ fn root_with_snapshots(rt: HostRuntime) -> Result<(), Fail> {
     );
     assert_eq!(rt; snapshots[1].tree.size, 0xff00_0000_0000_0000);
     let mut again = [0xa5; BLOCK_SIZE];
+    assert!(rt; body.is_valid());
     body.encode(&mut again);
     assert!(rt; again == block);
     Ok(())

@@ -3,8 +3,6 @@ use Rattle.std.proofs.Common.{◌≡◌, ℕ, ◌^◌, ◌<◌, List, [], ◌++�
 use Rattle.std.specs.Prelude.{IsTrue}
 use Rattle.std.proofs.lemmas.Bool.{eqb-true, leb-true}
 use Rattle.std.proofs.lemmas.List.{append-nil}
-use Rattle.sn_acl.specs.declared.modes.Mode.{Mode}
-use Rattle.sn_acl.specs.Modes.{mode_bits}
 use Rattle.sn_walk.specs.declared.view.Kind.{Kind}
 use Rattle.sn_walk.specs.declared.view.Kind.TheVariants.{File, Directory}
 use Rattle.sn_layout.specs.declared.limits.Limits.{Limits}
@@ -13,10 +11,7 @@ use Rattle.sn_layout_node.specs.declared.content.Content.{Content}
 use Rattle.sn_layout_node.specs.declared.content.Content.TheVariants.{Inline, Tree}
 use Rattle.sn_layout_node.specs.declared.head.Head.{Head}
 use Rattle.sn_layout_node.specs.declared.inode.Inode.{Inode}
-use Rattle.sn_layout_node.specs.Inode.{IsMode, IsHead, IsInode, IsContent, are_links, size_of, head_of, head_bytes, content_bytes, inode_bytes, kind_number}
-
-pub bits_fit : (mode : Mode) → IsMode mode → mode_bits mode < 256 ^ 2
-bits_fit mode fits = omega (arith, fits.owner, fits.group, fits.other)
+use Rattle.sn_layout_node.specs.Inode.{IsHead, IsInode, IsContent, are_links, size_of, head_of, head_bytes, content_bytes, inode_bytes, kind_number}
 
 size_fits : (limits : Limits) (kind : Kind) (content : Content) → IsContent limits kind content → size_of content < 256 ^ 8
 size_fits limits File (Inline bytes) fits = omega arith

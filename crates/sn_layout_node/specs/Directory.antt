@@ -16,9 +16,13 @@ pub record IsLink (link : Link) : Type 0 where
   pub most : link.number < 256 ^ 2
   pub name : IsTrue (is_name link.name)
 
--- number, length of the name, name
+-- a name behind its length
+abbrev pub name_bytes : List ℕ → List ℕ
+name_bytes name = length name ∷ name
+
+-- a number and a name
 abbrev pub link_bytes : Link → List ℕ
-link_bytes link = number_bytes 2 link.number ++ (length link.name ∷ link.name)
+link_bytes link = number_bytes 2 link.number ++ name_bytes link.name
 
 abbrev pub links_bytes : List Link → List ℕ
 links_bytes links = flat_map link_bytes links

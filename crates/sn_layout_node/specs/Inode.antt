@@ -1,14 +1,11 @@
 -- An inode and its record of 128 bytes.
-use Rattle.std.specs.Prelude.{ℕ, ◌+◌, ◌-◌, ◌*◌, ◌%◌, ◌^◌, ◌<◌, ◌≤◌, Bool, ◌&&◌, ◌||◌, ◌==◌, if◌then◌else◌, List, [], ◌∷◌, ◌++◌, length, IsTrue, nat_lt, nat_le}
-use Rattle.std.specs.List.{list_all, enumerate_from}
-use Rattle.sn_acl.specs.declared.modes.Mode.{Mode}
-use Rattle.sn_acl.specs.Modes.{mode_bits}
+use Rattle.std.specs.Prelude.{ℕ, ◌+◌, ◌-◌, ◌%◌, ◌^◌, ◌<◌, ◌≤◌, Bool, ◌&&◌, ◌==◌, if◌then◌else◌, List, [], ◌∷◌, ◌++◌, length, IsTrue, nat_lt, nat_le}
 use Rattle.sn_walk.specs.declared.view.Kind.{Kind}
 use Rattle.sn_walk.specs.declared.view.Kind.TheVariants.{File, Directory}
 use Rattle.sn_layout.specs.declared.limits.Limits.{Limits}
-use Rattle.sn_layout.specs.declared.tree.BlockTree.{BlockTree}
 use Rattle.sn_layout.specs.Bytes.{number_bytes, numbers_bytes, zeros}
-use Rattle.sn_layout.specs.BlockTree.{IsBlockTree}
+use Rattle.sn_layout.specs.BlockTree.{IsBlockTree, ends_at_size}
+use Rattle.sn_layout_acl.specs.Mode.{IsMode, mode_bytes}
 use Rattle.sn_layout_node.specs.declared.content.Content.{Content}
 use Rattle.sn_layout_node.specs.declared.content.Content.TheVariants.{Inline, Tree}
 use Rattle.sn_layout_node.specs.declared.head.Head.{Head}
@@ -24,12 +21,6 @@ kind_number Directory = 2
 abbrev pub flags_number : Bool → Bool → ℕ
 flags_number set_gid sticky = (if set_gid then 1 else 0) + (if sticky then 2 else 0)
 
--- each three bits are a set of rights
-pub record IsMode (mode : Mode) : Type 0 where
-  pub owner : mode.owner < 8
-  pub group : mode.group < 8
-  pub other : mode.other < 8
-
 -- what stands in front of the content
 pub record IsHead (head : Head) : Type 0 where
   pub objects : IsMode head.objects
@@ -40,7 +31,7 @@ pub record IsHead (head : Head) : Type 0 where
   pub acl_block : head.acl_block < 256 ^ 4
 
 abbrev pub head_bytes : Head → List ℕ
-head_bytes h = (kind_number h.kind ∷ flags_number h.set_gid h.sticky ∷ []) ++ number_bytes 2 (mode_bits h.objects) ++ number_bytes 2 h.links ++ zeros 2 ++ number_bytes 4 h.owner ++ number_bytes 4 h.group ++ number_bytes 8 h.size ++ number_bytes 4 h.acl_block ++ zeros 36
+head_bytes h = (kind_number h.kind ∷ flags_number h.set_gid h.sticky ∷ []) ++ mode_bytes h.objects ++ number_bytes 2 h.links ++ zeros 2 ++ number_bytes 4 h.owner ++ number_bytes 4 h.group ++ number_bytes 8 h.size ++ number_bytes 4 h.acl_block ++ zeros 36
 
 abbrev pub size_of : Content → ℕ
 size_of (Inline bytes) = length bytes
@@ -49,15 +40,6 @@ size_of (Tree tree) = tree.size
 abbrev pub content_bytes : Content → List ℕ
 content_bytes (Inline bytes) = bytes ++ zeros (64 - length bytes)
 content_bytes (Tree tree) = numbers_bytes 4 tree.pointers
-
--- How many bytes lie below one of the sixteen pointers: a data block's, those of an indirect block's data blocks,
--- or those of a double-indirect block's.
-abbrev pub span_of : ℕ → ℕ
-span_of size = if nat_le size 65536 then 4096 else (if nat_le size 67108864 then 4194304 else 4294967296)
-
--- each pointer wholly past the size is 0
-abbrev pub ends_at_size : BlockTree → Bool
-ends_at_size tree = list_all (λ p. (p.1 == 0) || nat_lt (p.0 * span_of tree.size) tree.size) (enumerate_from 0 tree.pointers)
 
 -- A file's tree has more bytes than an inode holds itself, and a directory is made of whole blocks.
 abbrev pub is_tree_size : Limits → Kind → ℕ → Bool

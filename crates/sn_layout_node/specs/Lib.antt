@@ -1,5 +1,3 @@
-pub mod AclBlock
-pub mod AclEntry
 pub mod Directory
 pub mod DirectoryEntry
 pub mod Indirect

@@ -1,14 +1,14 @@
-ghost use Rattle.std.specs.Prelude.{◌≡◌, ℕ, ◌+◌, ◌-◌, ◌*◌, ◌<◌, ◌≤◌, ◌||◌, ◌==◌, List, ◌++◌, length, Some, IfSome, IsTrue, nat_lt};
+ghost use Rattle.std.specs.Prelude.{◌≡◌, ◌↔◌, ℕ, ◌+◌, ◌-◌, ◌*◌, ◌<◌, ◌≤◌, ◌||◌, ◌==◌, List, ◌++◌, length, Some, IfSome, IsTrue, nat_lt};
 ghost use Rattle.std.specs.List.{list_all, enumerate_from};
 ghost use Rattle.sn_walk.specs.declared.view.Kind.{Kind as TheKind};
 ghost use Rattle.sn_layout.specs.Bytes.{Puts, zeros, numbers_bytes};
 ghost use Rattle.sn_layout.specs.BlockTree.{IsBlockTree};
 ghost use Rattle.sn_layout.specs.declared.tree.BlockTree.{BlockTree as TheTree};
-ghost use Rattle.sn_layout_node.specs.Inode.{IsContent, content_bytes, size_of, span_of, ends_at_size, is_tree_size};
+ghost use Rattle.sn_layout_node.specs.Inode.{IsContent, content_bytes, size_of, is_tree_size};
 ghost use Rattle.sn_layout_node.specs.declared.content.Content.{Content as TheContent};
 
 use arrayvec::ArrayVec;
-use sn_layout::{BlockTree, Limits, POINTERS, Reader, put_bytes, put_u32s, put_zeros};
+use sn_layout::{BlockTree, Limits, Pointers, Reader, put_bytes, put_zeros};
 use sn_walk::Kind;
 use std::marker::Model;
 
@@ -59,6 +59,13 @@ impl InlineBytes {
         self.bytes.as_slice()
     }
 
+    /// A copy, which takes no memory.
+    pub fn copy(&self) -> Self
+        ensures { result ≡ self.now }
+    {
+        InlineBytes::new(self.as_slice())
+    }
+
     fn read(count: usize, reader: &mut Reader<'_>) -> Option<Self>
         requires fits { count ≤ 64 }
         requires room { 64 ≤ length reader.old }
@@ -83,32 +90,6 @@ pub enum Content {
     Tree(BlockTree),
 }
 
-fn span_of(size: u64) -> u64
-    ensures value { result ≡ span_of size }
-    ensures small { result ≤ 4294967296 }
-{
-    if size <= 65_536 {
-        4096
-    } else if size <= 67_108_864 {
-        4_194_304
-    } else {
-        4_294_967_296
-    }
-}
-
-fn ends_at_size(tree: &BlockTree) -> bool
-    ensures { result ≡ ends_at_size tree.now }
-{
-    let size = tree.size;
-    let span = span_of(size);
-    for (i, pointer) in tree.pointers.iter().enumerate() {
-        if *pointer != 0 && (i as u64) * span >= size {
-            return false;
-        }
-    }
-    true
-}
-
 fn is_tree_size(limits: &Limits, kind: Kind, size: u64) -> bool
     ensures { result ≡ is_tree_size limits.now kind size }
 {
@@ -126,10 +107,9 @@ fn read_tree(limits: &Limits, kind: Kind, size: u64, reader: &mut Reader<'_>) ->
         → reader.old ≡ numbers_bytes 4 t.pointers ++ rest → (result ≡ Some t) × (reader.new ≡ rest) }
     ensures left { IfSome result (λ t. length reader.new + 64 ≡ length reader.old) }
 {
-    let mut pointers = [0; POINTERS];
-    reader.u32s(&mut pointers);
+    let pointers = Pointers::read(reader);
     let tree = BlockTree { size, pointers };
-    if !is_tree_size(limits, kind, size) || !ends_at_size(&tree) {
+    if !is_tree_size(limits, kind, size) || !tree.ends_at_size() {
         return None;
     }
     Some(tree)
@@ -146,6 +126,29 @@ impl Content {
         }
     }
 
+    /// A copy, which takes no memory.
+    pub fn copy(&self) -> Self
+        ensures { result ≡ self.now }
+    {
+        match self {
+            Content::Inline(bytes) => Content::Inline(bytes.copy()),
+            Content::Tree(tree) => Content::Tree(*tree),
+        }
+    }
+
+    /// Whether it can be that of a file or a directory on a disk of this version.
+    pub fn is_valid(&self, limits: &Limits, kind: Kind) -> bool
+        ensures { IsTrue result ↔ IsContent limits.now kind self.now }
+    {
+        match self {
+            Content::Inline(bytes) => kind == Kind::File && bytes.as_slice().len() <= INLINE_MAX,
+            Content::Tree(tree) => {
+                tree.fits();
+                is_tree_size(limits, kind, tree.size) && tree.ends_at_size()
+            }
+        }
+    }
+
     pub(crate) fn put(&self, block: &mut [u8], at: usize) -> usize
         requires { at + 64 ≤ length block.old }
         ensures bytes { Puts block.old block.new at result (content_bytes self.now) }
@@ -157,7 +160,7 @@ impl Content {
                 let at = put_bytes(block, at, bytes);
                 put_zeros(block, at, INLINE_MAX - bytes.len())
             }
-            Content::Tree(tree) => put_u32s(block, at, &tree.pointers),
+            Content::Tree(tree) => tree.pointers.put(block, at),
         }
     }
 

@@ -5,13 +5,15 @@
 //! | 0 | number u16, from 2 up |
 //! | 2 | length of the name u8, 1 to 255 |
 //! | 3 | name |
-ghost use Rattle.std.specs.Prelude.{[], ◌∷◌, ◌≡◌, ◌↔◌, ℕ, ◌+◌, ◌-◌, ◌<◌, ◌≤◌, List, ◌++◌, length, take, drop, false, true, Some, IfSome, IsNone, IsSome, IsTrue};
+ghost use Rattle.std.specs.Prelude.{[], ◌∷◌, ◌≡◌, ◌==◌, ◌↔◌, ℕ, ◌+◌, ◌-◌, ◌<◌, ◌≤◌, List, ◌++◌, length, take, drop, false, true, Some, IfSome, IsNone, IsSome, IsTrue};
+ghost use Rattle.std.specs.List.{AllByRecursion};
+ghost use Rattle.sn_walk.specs.Names.{is_name};
 ghost use Rattle.sn_layout.specs.Bytes.{Puts, zeros};
 ghost use Rattle.sn_layout_node.specs.Directory.{Link, IsLink, AreLinks, AreLinkBytes, Spells, IsDirectoryBlock, link_bytes, links_bytes, directory_bytes, begins_link, links_of, number_of, without, BeginsWithLink};
 
+use crate::name::{put_name, read_name};
 use byteorder::{ByteOrder, LittleEndian};
-use sn_layout::{BLOCK_SIZE, Block, Reader, put_bytes, put_u8, put_u16, put_zeros};
-use sn_walk::begins_with_name;
+use sn_layout::{BLOCK_SIZE, Block, Reader, put_u16, put_zeros};
 use std::marker::Model;
 
 /// A name in a directory, lent from its block.
@@ -38,14 +40,7 @@ fn read_link<'a>(reader: &mut Reader<'a>) -> Option<DirectoryEntry<'a>>
     ensures shorter { IfSome result (λ e. length reader.new < length reader.old) }
 {
     let number = reader.u16();
-    let count = reader.u8() as usize;
-    if count > reader.remaining() {
-        return None;
-    }
-    if !begins_with_name(reader.rest(), count) {
-        return None;
-    }
-    let name = reader.bytes(count);
+    let name = read_name(reader)?;
     Some(DirectoryEntry { number, name })
 }
 
@@ -96,6 +91,19 @@ fn number_of(links: &[u8], name: &[u8]) -> Option<u16>
     None
 }
 
+fn count_of(links: &[u8]) -> usize
+    requires { AreLinkBytes links.now }
+    ensures { result ≡ length (links_of links.now) }
+{
+    let mut reader = Reader::new(links);
+    let mut count = 0;
+    while reader.remaining() > 0 {
+        next_link(&mut reader);
+        count += 1;
+    }
+    count
+}
+
 // Reads past a link.
 fn skip_link(reader: &mut Reader<'_>)
     requires { BeginsWithLink reader.old }
@@ -120,14 +128,13 @@ fn links_size(block: &[u8]) -> usize
 }
 
 fn put_link(block: &mut [u8], at: usize, name: &[u8], number: u16) -> usize
-    requires name { length name.now < 256 }
+    requires name { IsTrue (is_name name.now) }
     requires room { at + 3 + length name.now ≤ length block.old }
     ensures bytes { Puts block.old block.new at result (link_bytes (record { number = number; name = name.now })) }
     ensures next { result ≡ at + 3 + length name.now }
 {
     let at = put_u16(block, at, number);
-    let at = put_u8(block, at, name.len() as u8);
-    put_bytes(block, at, name)
+    put_name(block, at, name)
 }
 
 // A link among others: its number, and which bytes it is.
@@ -182,12 +189,13 @@ pub struct DirectoryBlock<'a> {
 impl<'a> Model for DirectoryBlock<'a> {
     ghost use Rattle.std.specs.Prelude.{List};
     ghost use Rattle.sn_layout_node.specs.Directory.{Link, AreLinkBytes, links_of};
+    ghost use Rattle.std.specs.Prelude.{◌≤◌, length};
 
     ghost Value = { List Link };
 
     ghost view = { λ block. links_of block.links.now };
 
-    ghost invariant = { λ block. AreLinkBytes block.links.now };
+    ghost invariant = { λ block. AreLinkBytes block.links.now × (length block.links.now ≤ 4096) };
 }
 
 impl<'a> DirectoryBlock<'a> {
@@ -210,9 +218,30 @@ impl<'a> DirectoryBlock<'a> {
         number_of(self.links, name)
     }
 
+    /// How many names there are. They are counted one by one.
+    pub fn len(&self) -> usize
+        ensures { result ≡ length self.now }
+    {
+        count_of(self.links)
+    }
+
+    pub fn is_empty(&self) -> bool
+        ensures { result ≡ (length self.now == 0) }
+    {
+        self.links.is_empty()
+    }
+
+    /// How many bytes are left. A name of n bytes takes n + 3.
+    pub fn room(&self) -> usize
+        ensures { result ≡ 4096 - length (links_bytes self.now) }
+    {
+        BLOCK_SIZE - self.links.len()
+    }
+
     /// The names with their numbers, as they stand in the block.
     pub fn entries(&self) -> Entries<'a>
-        ensures { result ≡ self.now }
+        ensures entries { result ≡ self.now }
+        ensures each { AllByRecursion IsLink self.now }
     {
         Entries::over(self.links)
     }

@@ -1,9 +1,9 @@
 //! 1,024 pointers u32. A pointer 0 is a hole.
-ghost use Rattle.std.specs.Prelude.{◌≡◌, ℕ, ◌<◌, List, length, slice_index, slice_set};
+ghost use Rattle.std.specs.Prelude.{◌≡◌, ℕ, ◌<◌, List, length, replicate, slice_index, slice_set};
 ghost use Rattle.sn_layout_node.specs.Indirect.{ArePointers, pointers_of, pointers_bytes};
 
 use byteorder::{ByteOrder, LittleEndian};
-use sn_layout::{Block, put_u32s};
+use sn_layout::{BLOCK_SIZE, Block, put_u32s, put_zeros};
 use std::marker::Model;
 
 /// How many pointers a block holds.
@@ -55,6 +55,13 @@ impl<'a> IndirectBlock<'a> {
         ensures { block.new ≡ pointers_bytes pointers.now }
     {
         put_u32s(block, 0, pointers);
+    }
+
+    /// Makes the block one of holes, whatever stood there.
+    pub fn clear(block: &mut Block)
+        ensures { block.new ≡ pointers_bytes (replicate 1024 0) }
+    {
+        put_zeros(block, 0, BLOCK_SIZE);
     }
 
     /// Sets one pointer of a block, and leaves the others.

@@ -11,15 +11,17 @@
 //! | 24 | ACL block u32, 0 for none |
 //! | 28 | zeros |
 //! | 64 | a file's bytes, if at most 64, and then zeros; else 16 pointers u32 |
-ghost use Rattle.std.specs.Prelude.{◌≡◌, ◌↔◌, List, length, Some, IfSome, IsTrue};
+ghost use Rattle.std.specs.Prelude.{◌≡◌, ◌↔◌, ◌<◌, ◌^◌, List, length, Some, IfSome, IsTrue};
 ghost use Rattle.sn_walk.specs.declared.view.Kind.{Kind as TheKind};
 ghost use Rattle.sn_layout.specs.Bytes.{zeros};
+ghost use Rattle.sn_layout_acl.specs.Mode.{IsMode};
 ghost use Rattle.sn_layout_node.specs.Inode.{are_links};
 
 use crate::Content;
 use crate::head::Head;
 use sn_acl::Mode;
 use sn_layout::{Limits, Reader, put_zeros};
+use sn_layout_acl::fitting;
 use sn_walk::Kind;
 
 /// The bytes of an inode's record.
@@ -59,6 +61,44 @@ fn are_links(kind: Kind, links: u16) -> bool
 impl Inode {
     ghost use Rattle.sn_layout_node.specs.Inode.{IsInode, inode_bytes};
     ghost use Rattle.sn_layout_node.specs.declared.inode.Inode.{Inode as TheInode};
+
+    /// A copy, which takes no memory.
+    pub fn copy(&self) -> Self
+        ensures { result ≡ self.now }
+    {
+        Inode {
+            kind: self.kind,
+            set_gid: self.set_gid,
+            sticky: self.sticky,
+            objects: self.objects,
+            links: self.links,
+            owner: self.owner,
+            group: self.group,
+            acl_block: self.acl_block,
+            content: self.content.copy(),
+        }
+    }
+
+    /// Whether a disk of this version can hold it.
+    pub fn is_valid(&self, limits: &Limits) -> bool
+        ensures { IsTrue result ↔ IsInode limits.now self.now }
+    {
+        self.fits();
+        are_links(self.kind, self.links) && self.content.is_valid(limits, self.kind)
+    }
+
+    // By the types of its fields.
+    fn fits(&self)
+        ensures objects { IsMode self.now.objects }
+        ensures owner { self.now.owner < 256 ^ 4 }
+        ensures group { self.now.group < 256 ^ 4 }
+        ensures acl_block { self.now.acl_block < 256 ^ 4 }
+    {
+        let _owner = self.owner;
+        let _group = self.group;
+        let _acl_block = self.acl_block;
+        fitting(self.objects);
+    }
 
     fn encode(&self, bytes: &mut [u8])
         requires { length bytes.old ≡ 128 }
@@ -121,8 +161,20 @@ impl InodeRecord {
     ghost use Rattle.sn_layout_node.specs.Inode.{IsRecord, record_bytes};
     ghost use Rattle.sn_layout_node.specs.declared.inode.InodeRecord.{InodeRecord as TheRecord};
 
-    pub fn encode(&self, bytes: &mut [u8])
-        requires { length bytes.old ≡ 128 }
+    /// Whether a disk of this version can hold it.
+    pub fn is_valid(&self, limits: &Limits) -> bool
+        ensures { IsTrue result ↔ IsRecord limits.now self.now }
+    {
+        match self {
+            InodeRecord::Unused => true,
+            InodeRecord::Used(inode) => inode.is_valid(limits),
+        }
+    }
+
+    /// Writes a record that a disk of this version can hold. The limits say no more than that.
+    pub fn encode(&self, limits: &Limits, bytes: &mut [u8])
+        requires bytes { length bytes.old ≡ 128 }
+        requires fits { IsRecord limits.now self.now }
         ensures { bytes.new ≡ record_bytes self.now }
     {
         match self {

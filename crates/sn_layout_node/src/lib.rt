@@ -1,5 +1,5 @@
-//! How the parts of a file system's trees are spelled, both ways: inodes, ACL blocks and lists of
-//! ACL entries, directory blocks, indirect blocks.
+//! How the parts of a file system's trees are spelled, both ways: inodes, directory blocks, indirect
+//! blocks; and the fields that log records share with them.
 //!
 //! Each value has one spelling, a definition in `specs/` such as `record_bytes` or
 //! `directory_bytes`, and `decode` answers a value exactly where bytes are the spelling of one.
@@ -8,8 +8,8 @@
 //! their numbers, an indirect block as the list of its pointers. A name is put into a directory
 //! block or taken out of it in place, and so is a pointer set. No call takes memory.
 //!
-//! The way through: `inode` over `head` and `content`, `acl_block` over `acl_entries`, `directory`,
-//! `indirect`.
+//! The way through: `inode` over `head` and `content`, `directory`, `indirect`. `fields` and `name`
+//! are what inodes and names look like in a log record too, whose bytes may end early.
 //!
 //! ```text
 //! let names = DirectoryBlock::decode(&block)?;
@@ -18,20 +18,20 @@
 //! ```
 #![tactic(auto)]
 
-mod acl_block;
-mod acl_entries;
 mod content;
 mod directory;
+mod fields;
 mod head;
 mod indirect;
 mod inode;
+mod name;
 
-pub use acl_block::{AclBlock, AclParts, NAMED_MAX, NamedEntries};
-pub use acl_entries::{ENTRY_SIZE, put_entries, read_entries};
 pub use content::{Content, INLINE_MAX, InlineBytes};
 pub use directory::{DirectoryBlock, DirectoryEntry, Entries};
+pub use fields::{SpecialBits, put_kind, put_special_bits, read_kind, read_special_bits};
 pub use indirect::{IndirectBlock, POINTERS_PER_BLOCK};
 pub use inode::{INODE_SIZE, Inode, InodeRecord, LINKS_MAX};
+pub use name::{put_name, read_name};
 
 #[cfg(test)]
 mod tests;

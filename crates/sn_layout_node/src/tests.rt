@@ -2,6 +2,7 @@
 use super::*;
 use sn_acl::{Acl, Entry, Mode, Permissions, Tag};
 use sn_layout::{BLOCK_SIZE, Block, BlockTree, Limits, Reader};
+use sn_layout_acl::{AclBlock, AclParts, NamedEntries, put_entries, read_entries};
 use sn_walk::{Kind, is_name};
 use std::test::Fail;
 
@@ -29,11 +30,14 @@ fn root_directory(rt: HostRuntime) -> Result<(), Fail> {
         content: Content::Tree(BlockTree::default()),
     };
     let mut bytes = [0xa5; INODE_SIZE];
-    InodeRecord::Used(root).encode(&mut bytes);
+    let record = InodeRecord::Used(root);
+    assert!(rt; record.is_valid(&Limits::VERSION_1));
+    record.encode(&Limits::VERSION_1, &mut bytes);
     assert!(rt; bytes == root_record());
     let decoded = InodeRecord::decode(&Limits::VERSION_1, &bytes).ok_or("a record")?;
     let mut again = [0x5a; INODE_SIZE];
-    decoded.encode(&mut again);
+    assert!(rt; decoded.is_valid(&Limits::VERSION_1));
+    decoded.encode(&Limits::VERSION_1, &mut again);
     assert!(rt; again == root_record());
     Ok(())
 }
@@ -129,6 +133,7 @@ fn acl_block(rt: HostRuntime) -> Result<(), Fail> {
     assert_eq!(rt; entries[1].tag, Tag::Mask);
     assert!(rt; acls.default.is_none());
     let mut again = [0xa5; BLOCK_SIZE];
+    assert!(rt; acls.count() > 0);
     acls.encode(&mut again);
     assert!(rt; again == acl_bytes());
     for (at, byte) in [
@@ -163,6 +168,7 @@ fn default_acl(rt: HostRuntime) -> Result<(), Fail> {
         default: Some(Acl::from_mode(mode)),
     };
     let mut block = [0xa5; BLOCK_SIZE];
+    assert!(rt; acls.count() > 0);
     acls.encode(&mut block);
     let bytes = &block[..];
     assert_eq!(rt;
@@ -186,6 +192,7 @@ fn access_acl_in_two_parts(rt: HostRuntime) -> Result<(), Fail> {
         access: parts.access,
         default: None,
     };
+    assert!(rt; acls.count() > 0);
     acls.encode(&mut block);
     let bytes = &block[..];
     assert_eq!(rt;

@@ -6,7 +6,7 @@ use Rattle.sn_layout_node.proofs.content.read_tree.Goals.{then-not-is_tree_size-
 
 pub returns-then-not-is_tree_size-clause-only : goal.returns-then-not-is_tree_size-clause-only
 returns-then-not-is_tree_size-clause-only c = λ t rest size fits e.
-    let read = c.u32s.ensures.only t.pointers rest fits.0.count fits.0.pointers e in
+    let read = c.read-pointers.ensures.only t.pointers rest fits.0.pointers e in
     elim c.then-not-is_tree_size.branch [
       | then-not-is_tree_size-via-then-not-is_tree_size w ↦
           true_false c.is_tree_size.result (c.is_tree_size.ensures ∙ ap (is_tree_size c.args.limits.now c.args.kind) (sym size) ∙ fits.1) w.if-not-is_tree_size.true

@@ -1,0 +1,48 @@
+//! | offset | field of a gate's sector |
+//! |---|---|
+//! | 0 | 1 open, any other byte closed; 0 is written |
+//! | 1 | written as zeros, and not read |
+ghost use Rattle.std.specs.Prelude.{◌≡◌, [], ◌∷◌};
+ghost use Rattle.sn_layout.specs.Gate.{gate_byte};
+
+use crate::{SECTOR_SIZE, Sector, put_u8, put_zeros};
+
+/// Whether what stands behind a gate counts: a root body, or a record of the log.
+#[derive(Clone, Copy, Debug, PartialEq, Eq, Hash)]
+pub enum Gate {
+    Open,
+    Closed,
+}
+
+fn gate_byte(gate: Gate) -> u8
+    ensures { result ≡ gate_byte gate }
+{
+    match gate {
+        Gate::Open => 1,
+        Gate::Closed => 0,
+    }
+}
+
+impl Gate {
+    ghost use Rattle.sn_layout.specs.Gate.{gate_of, gate_bytes};
+
+    /// Any sector is a gate.
+    pub fn decode(sector: &Sector) -> Self
+        ensures { result ≡ gate_of sector.now }
+    {
+        if sector[0] == 1 {
+            Gate::Open
+        } else {
+            Gate::Closed
+        }
+    }
+
+    /// Writes the whole sector, whatever stood there.
+    pub fn encode(self, sector: &mut Sector)
+        ensures bytes { sector.new ≡ gate_bytes self }
+        ensures read { gate_of sector.new ≡ self }
+    {
+        let at = put_u8(sector, 0, gate_byte(self));
+        put_zeros(sector, at, SECTOR_SIZE - 1);
+    }
+}

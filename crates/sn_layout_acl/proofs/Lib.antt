@@ -1,0 +1,3 @@
+pub mod EntryLists
+pub mod AclLists
+pub mod Joining

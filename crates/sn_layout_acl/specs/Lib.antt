@@ -1,0 +1,3 @@
+pub mod AclBlock
+pub mod AclEntry
+pub mod Mode

@@ -1,0 +1,106 @@
+//! What inodes and log records say alike of a node.
+//!
+//! | field | meaning |
+//! |---|---|
+//! | kind u8 | 1 a file, 2 a directory |
+//! | S bits u8 | bit 0 S_ISGID, bit 1 S_ISVTX |
+ghost use Rattle.std.specs.Prelude.{◌≡◌, ℕ, ◌+◌, ◌≤◌, Bool, List, [], ◌∷◌, length, Some, IfSome};
+ghost use Rattle.sn_walk.specs.declared.view.Kind.{Kind as TheKind};
+ghost use Rattle.sn_layout.specs.Bytes.{Puts};
+ghost use Rattle.sn_layout_node.specs.Inode.{kind_number, flags_number};
+ghost use Rattle.sn_layout_node.specs.declared.fields.SpecialBits.{SpecialBits as TheBits};
+
+use sn_layout::{Reader, put_u8};
+use sn_walk::Kind;
+
+/// The mode bits of a node beside the rights of its classes.
+#[derive(Clone, Copy, Debug, Default, PartialEq, Eq)]
+pub struct SpecialBits {
+    /// S_ISGID.
+    pub set_gid: bool,
+    /// S_ISVTX.
+    pub sticky: bool,
+}
+
+fn kind_number(kind: Kind) -> u8
+    ensures { result ≡ kind_number kind }
+{
+    match kind {
+        Kind::File => 1,
+        Kind::Directory => 2,
+    }
+}
+
+fn kind_of(number: u8) -> Option<Kind>
+    ensures found { IfSome result (λ kind. number ≡ kind_number kind) }
+    ensures only { (kind : TheKind) → number ≡ kind_number kind → result ≡ Some kind }
+{
+    match number {
+        1 => Some(Kind::File),
+        2 => Some(Kind::Directory),
+        _ => None,
+    }
+}
+
+fn flags_number(bits: SpecialBits) -> u8
+    ensures { result ≡ flags_number bits.set_gid bits.sticky }
+{
+    match (bits.set_gid, bits.sticky) {
+        (false, false) => 0,
+        (true, false) => 1,
+        (false, true) => 2,
+        (true, true) => 3,
+    }
+}
+
+fn flags_of(number: u8) -> Option<SpecialBits>
+    ensures found { IfSome result (λ bits. number ≡ flags_number bits.set_gid bits.sticky) }
+    ensures only { (bits : TheBits) → number ≡ flags_number bits.set_gid bits.sticky → result ≡ Some bits }
+{
+    if number > 3 {
+        return None;
+    }
+    Some(SpecialBits {
+        set_gid: number == 1 || number == 3,
+        sticky: number >= 2,
+    })
+}
+
+/// Writes a kind, and answers the place after it.
+pub fn put_kind(block: &mut [u8], at: usize, kind: Kind) -> usize
+    requires { at + 1 ≤ length block.old }
+    ensures { Puts block.old block.new at result (kind_number kind ∷ []) }
+{
+    put_u8(block, at, kind_number(kind))
+}
+
+/// Reads a kind. `None` where no byte is left or it is none; how far the reader has come then is
+/// open.
+pub fn read_kind(reader: &mut Reader<'_>) -> Option<Kind>
+    ensures found { IfSome result (λ kind. reader.old ≡ kind_number kind ∷ reader.new) }
+    ensures only { (kind : TheKind) (rest : List ℕ) → reader.old ≡ kind_number kind ∷ rest → (result ≡ Some kind) × (reader.new ≡ rest) }
+    ensures left { IfSome result (λ _. length reader.new + 1 ≡ length reader.old) }
+{
+    let number = reader.try_u8()?;
+    kind_of(number)
+}
+
+/// Writes S bits, and answers the place after them.
+pub fn put_special_bits(block: &mut [u8], at: usize, bits: SpecialBits) -> usize
+    requires { at + 1 ≤ length block.old }
+    ensures { Puts block.old block.new at result (flags_number bits.set_gid bits.sticky ∷ []) }
+{
+    put_u8(block, at, flags_number(bits))
+}
+
+/// Reads S bits. `None` where no byte is left or another bit is set; how far the reader has come
+/// then is open.
+pub fn read_special_bits(reader: &mut Reader<'_>) -> Option<SpecialBits>
+    ensures found { IfSome result (λ bits. reader.old ≡ flags_number bits.set_gid bits.sticky ∷ reader.new) }
+    ensures only { (bits : TheBits) (rest : List ℕ) → reader.old ≡ flags_number bits.set_gid bits.sticky ∷ rest
+        → (result ≡ Some bits) × (reader.new ≡ rest) }
+    ensures left { IfSome result (λ _. length reader.new + 1 ≡ length reader.old) }
+{
+    let number = reader.try_u8()?;
+    flags_of(number)
+}
