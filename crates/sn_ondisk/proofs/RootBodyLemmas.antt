@@ -15,7 +15,8 @@ use Rattle.sn_layout.specs.Limits.{limits_of}
 use Rattle.sn_layout.specs.Snapshot.{IsSnapshot, snapshot_bytes, snapshots_bytes}
 use Rattle.sn_layout.specs.RootBody.{IsRootBody, head_of, head_bytes, root_body_bytes}
 use Rattle.sn_layout.proofs.Roots.{head_fits}
-use Rattle.sn_ondisk.specs.Roots.{other_slot, HasRoot, IsOlder, IsNewest}
+use Rattle.sn_layout.specs.Places.{other_slot}
+use Rattle.sn_ondisk.specs.Roots.{HasRoot, IsOlder, IsNewest}
 use Rattle.sn_ondisk.specs.Shown.{Shown}
 use Rattle.sn_ondisk.specs.LogHalf.{base_of}
 use Rattle.sn_ondisk.specs.OneAnswer.{IsOnDisk, AreOne}
@@ -43,7 +44,7 @@ same_tree t u a b fits-t fits-u e =
     let flat : number_bytes 8 t.size ++ (numbers_bytes 4 t.pointers ++ a) ≡ number_bytes 8 u.size ++ (numbers_bytes 4 u.pointers ++ b) = sym (append_assoc (number_bytes 8 t.size) (numbers_bytes 4 t.pointers) a) ∙ e ∙ append_assoc (number_bytes 8 u.size) (numbers_bytes 4 u.pointers) b in
     let first = same_width 8 t.size u.size _ _ flat in
     let size : t.size ≡ u.size = same_number 8 t.size u.size fits-t.size fits-u.size first.0 in
-    let pointers = same_lists t.pointers u.pointers a b (fits-t.count ∙ sym fits-u.count) fits-t.pointers fits-u.pointers first.1 in
+    let pointers = same_lists t.pointers u.pointers a b (fits-t.pointers.count ∙ sym fits-u.pointers.count) fits-t.pointers.fit fits-u.pointers.fit first.1 in
     (ap (λ (n : ℕ). record t { size = n }) size ∙ ap (λ (ps : List ℕ). record u { pointers = ps }) pointers.0, pointers.1)
 
 -- a snapshot, and a list of as many
