@@ -4,11 +4,11 @@ use Rattle.std.proofs.lemmas.List.{length-set, get_or-set_same, get_or-set_other
 use Rattle.std.proofs.lemmas.Bool.{cases_eq}
 use Rattle.rand_core.specs.Stream.{Stream, next_u32, fill_bytes}
 use Rattle.rand_core.specs.Steps.{stream_of, steps_u32}
-use Rattle.rand_pcg.specs.Lcg.{Lcg, started, increment_of}
-use Rattle.rand_pcg.specs.Pcg.{pcg32, multiplier_64}
+use Rattle.rand_pcg.specs.Lcg.{Lcg}
+use Rattle.rand_pcg.specs.Pcg.{pcg32}
 use Rattle.sn_device.specs.Sectors.{Contents, sector_at, AgreesOutside}
 use Rattle.sn_device.specs.Disk.{Moment}
-use Rattle.sn_device.specs.Fill.{fill_byte, filling, one_of_six, drawn, random_of, last_synced_of}
+use Rattle.sn_device.specs.Fill.{fill_byte, filling, one_of_six, drawn, generator_of, random_of, last_synced_of}
 use Rattle.sn_device.specs.Undo.{unsynced_by, past_by, crashed_by}
 use Rattle.sn_device.specs.declared.fill.Fill.{Fill}
 use Rattle.sn_device.specs.declared.fill.Fill.TheVariants.{Old, New, Zero, One, Junk, Seeded}
@@ -133,7 +133,7 @@ one_way (Seeded seed) at =
     one_of (way == 0) (way == 1) (way == 2) (way == 3) (way == 4) (fill_bytes 512 first.1).0
 
 -- what was drawn is the first word and the bytes after it
-pub drawn-bytes : (seed at word : ℕ) (rest left : Stream) (first : Lcg) (bytes before after : List ℕ) → first ≡ started 64 multiplier_64 seed (increment_of 64 at)
+pub drawn-bytes : (seed at word : ℕ) (rest left : Stream) (first : Lcg) (bytes before after : List ℕ) → first ≡ generator_of seed at
     → (word, rest) ≡ next_u32 (stream_of (steps_u32 pcg32) first) → (bytes, left) ≡ fill_bytes 512 rest → one_of_six (word % 6) bytes before after ≡ drawn seed at before after
 unfolding drawn
 drawn-bytes seed at word rest left first bytes before after begins answers filled =

@@ -1,8 +1,8 @@
 -- What a crash leaves in the sectors that weren't synced, by the way that it fills them.
-use Rattle.std.specs.Prelude.{ℕ, ◌%◌, ◌==◌, if◌then◌else◌, List, [], ◌∷◌, replicate, Option, Some, None}
+use Rattle.std.specs.Prelude.{ℕ, ◌*◌, ◌%◌, ◌^◌, ◌==◌, if◌then◌else◌, List, [], ◌∷◌, replicate, Option, Some, None}
 use Rattle.rand_core.specs.Stream.{Stream, next_u32, fill_bytes}
 use Rattle.rand_core.specs.Steps.{stream_of, steps_u32}
-use Rattle.rand_pcg.specs.Lcg.{started, increment_of}
+use Rattle.rand_pcg.specs.Lcg.{Lcg, started, advance, increment_of}
 use Rattle.rand_pcg.specs.Pcg.{pcg32, multiplier_64}
 use Rattle.sn_device.specs.Sectors.{Contents}
 use Rattle.sn_device.specs.Disk.{Moment, Disk}
@@ -18,9 +18,13 @@ fill_byte One = Some 1
 fill_byte Junk = Some 165
 fill_byte (Seeded seed) = None
 
--- what the generator of a seed answers on the stream of a sector
+-- the generator of a seed, where the words for a sector begin: 129 for each of those before it
+abbrev pub generator_of : ℕ → ℕ → Lcg
+generator_of seed at = advance 64 multiplier_64 (at * 129 % 2 ^ 64) (started 64 multiplier_64 seed (increment_of 64 0))
+
+-- what it answers from there on
 abbrev pub random_of : ℕ → ℕ → Stream
-random_of seed at = stream_of (steps_u32 pcg32) (started 64 multiplier_64 seed (increment_of 64 at))
+random_of seed at = stream_of (steps_u32 pcg32) (generator_of seed at)
 
 -- one of six ways: as it was at the last sync, as it is, zeros, ones, junk, or these bytes
 abbrev pub one_of_six : ℕ → List ℕ → List ℕ → List ℕ → List ℕ

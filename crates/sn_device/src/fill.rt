@@ -20,17 +20,22 @@ pub enum Fill {
     One,
     /// Every byte a5.
     Junk,
-    /// Each sector in one of these five ways or with random bytes, as `Pcg32` draws that is begun at
-    /// this state, on the stream of the sector's number. So one seed always leaves the same.
+    /// Each sector in one of these five ways or with random bytes, as a `Pcg32` of this state draws
+    /// that went on by 129 words for each sector before it: one word for the way, and 128 for the
+    /// bytes. So one seed always leaves the same.
     Seeded(u64),
 }
+
+// The random words that a sector may take.
+const WORDS_PER_SECTOR: u64 = 129;
 
 // What a seed leaves in a sector, in which the one was there at the last sync and the other is now.
 pub fn drawn(seed: u64, at: u64, before: Sector, after: Sector) -> Sector
     ensures filled { result ≡ drawn seed at before after }
     ensures whole { IsSector result }
 {
-    let mut random = Pcg32::new(seed, at);
+    let mut random = Pcg32::new(seed, 0);
+    random.advance(at.wrapping_mul(WORDS_PER_SECTOR));
     let way = random.next_u32() % 6;
     let mut bytes = [0; 512];
     random.fill_bytes(&mut bytes);

@@ -1,9 +1,13 @@
 -- Bytes of sectors that are the same, and numbers in bytes.
-use Rattle.std.proofs.Common.{◌≡◌, ℕ, zero, suc, ◌+◌, ◌*◌, ◌≤◌, ◌<◌, ◌≤◌, List, [], ◌∷◌, ◌++◌, length, drop, refl, ◌∙◌, ap, arith, sym, append_assoc, length-append}
+use Rattle.std.proofs.Common.{◌≡◌, ◌↔◌, ◌==◌, Bool, true, false, if◌then◌else◌, ℕ, zero, suc, ◌+◌, ◌*◌, ◌≤◌, ◌<◌, ◌≤◌, List, [], ◌∷◌, ◌++◌, length, drop, refl, ◌∙◌, ap, arith, sym, append_assoc, length-append}
+use Rattle.std.proofs.lemmas.Bool.{eqb-true, eq-eqb}
 use Rattle.std.proofs.lemmas.List.{drop_at}
 use Rattle.byteorder.specs.Numbers.{length-bytes_low_first, little_number-reads_back}
 use Rattle.sn_device.specs.Sectors.{Contents, AreSectors, sector_at}
 use Rattle.sn_layout.specs.Bytes.{AreNumbers, number_bytes, numbers_bytes}
+use Rattle.sn_layout.specs.Gate.{gate_of}
+use Rattle.sn_layout.specs.declared.gate.Gate.TheVariants.{Open, Closed}
+use Rattle.sn_ondisk.specs.Gates.{gate_at, IsOpen}
 use Rattle.sn_ondisk.specs.Blocks.{bytes_at, numbers_in}
 
 -- the two contents have the same sectors from one up to another
@@ -49,3 +53,14 @@ numbers_in-numbers_bytes (x ∷ xs) fits =
     ap (λ n. n ∷ numbers_in (length xs) (drop 4 (number_bytes 4 x ++ rest))) (little_number-reads_back 4 x rest fits.0)
     ∙ ap (λ bytes. x ∷ numbers_in (length xs) bytes) (drop_at (number_bytes 4 x) rest 4 (length-bytes_low_first 0 4 x))
     ∙ ap (λ ns. x ∷ ns) (numbers_in-numbers_bytes xs fits.1)
+
+-- an open gate is read as one
+pub gate_read : (c : Contents) (at : ℕ) → IsOpen c at ↔ (gate_of (sector_at c at) ≡ Open)
+gate_read c at = (
+  λ opened. ap (λ (b : Bool). if b then Open else Closed) (eq-eqb (gate_at c at) 1 opened),
+  λ read. eqb-true (gate_at c at) 1 (is_true (gate_at c at == 1) read),
+)
+  where
+    is_true : (b : Bool) → (if b then Open else Closed) ≡ Open → b ≡ true
+    is_true true read = refl
+    is_true false read = absurd cc

@@ -7,13 +7,13 @@ use Rattle.sn_layout.specs.declared.places.Slot.TheVariants.{A, B}
 use Rattle.sn_layout.specs.declared.places.LogHalf.{LogHalf}
 use Rattle.sn_layout.specs.declared.places.LogHalf.TheVariants.{Zero, One}
 use Rattle.sn_layout.specs.declared.places.Area.TheVariants.{RootBody, Gates, MapCopy, Log}
-use Rattle.sn_layout.specs.Places.{IsIn, start_of, end_of, map_blocks}
-use Rattle.sn_ondisk.specs.LogHalf.{InHalf, half_of, base_of}
+use Rattle.sn_layout.specs.Places.{IsIn, start_of, end_of, map_blocks, gate_sector, half_of_epoch, other_slot}
+use Rattle.sn_ondisk.specs.LogHalf.{InHalf, base_of}
 use Rattle.sn_ondisk.specs.MapCopy.{InMap}
-use Rattle.sn_ondisk.specs.Roots.{gate_of, body_block, other_slot}
+use Rattle.sn_ondisk.specs.Roots.{body_block}
 use Rattle.sn_ondisk.specs.PlaceLaws.{AreApart}
 
-pub roots_lie : (n : ℕ) (slot : Slot) → (body_block slot ≡ start_of n (RootBody slot)) × IsIn n Gates (gate_of slot / 8)
+pub roots_lie : (n : ℕ) (slot : Slot) → (body_block slot ≡ start_of n (RootBody slot)) × IsIn n Gates (gate_sector slot / 8)
 roots_lie n A = (refl, record { from = omega arith; below = omega arith })
 roots_lie n B = (refl, record { from = omega arith; below = omega arith })
 
@@ -21,8 +21,8 @@ half_ends : (n : ℕ) (half : LogHalf) → 8 * start_of n (Log half) + 256 ≡ 8
 half_ends n Zero = omega arith
 half_ends n One = omega arith
 
-pub halves_are : (n epoch : ℕ) → (base_of n epoch ≡ 8 * start_of n (Log (half_of epoch))) × (base_of n epoch + 256 ≡ 8 * end_of n (Log (half_of epoch)))
-halves_are n epoch = (refl, half_ends n (half_of epoch))
+pub halves_are : (n epoch : ℕ) → (base_of n epoch ≡ 8 * start_of n (Log (half_of_epoch epoch))) × (base_of n epoch + 256 ≡ 8 * end_of n (Log (half_of_epoch epoch)))
+halves_are n epoch = (refl, half_ends n (half_of_epoch epoch))
 
 zero_or_one : (half : LogHalf) → half ≡ One → half ≡ Zero → ⊥
 zero_or_one half one zero = cc
@@ -38,13 +38,13 @@ halves_by false false x y is_a is_b one =
     let some_y : y ≢ 0 = eqb-false y 0 is_b in
     absurd (omega arith)
 
-pub halves_of : (epoch : ℕ) → ((half_of epoch ≡ Zero) × (half_of (epoch + 1) ≡ One)) ⊎ ((half_of epoch ≡ One) × (half_of (epoch + 1) ≡ Zero))
+pub halves_of : (epoch : ℕ) → ((half_of_epoch epoch ≡ Zero) × (half_of_epoch (epoch + 1) ≡ One)) ⊎ ((half_of_epoch epoch ≡ One) × (half_of_epoch (epoch + 1) ≡ Zero))
 halves_of epoch = halves_by ((epoch % 2) == 0) (((epoch + 1) % 2) == 0) (epoch % 2) ((epoch + 1) % 2) refl refl (omega arith)
 
-pub epochs_alternate : (epoch : ℕ) → half_of (epoch + 1) ≢ half_of epoch
+pub epochs_alternate : (epoch : ℕ) → half_of_epoch (epoch + 1) ≢ half_of_epoch epoch
 epochs_alternate epoch same = ⊎_elim
-    (λ even. zero_or_one (half_of epoch) (sym same ∙ even.1) even.0)
-    (λ odd. zero_or_one (half_of (epoch + 1)) (same ∙ odd.0) odd.1)
+    (λ even. zero_or_one (half_of_epoch epoch) (sym same ∙ even.1) even.0)
+    (λ odd. zero_or_one (half_of_epoch (epoch + 1)) (same ∙ odd.0) odd.1)
     (halves_of epoch)
 
 map_from : (n : ℕ) (slot : Slot) → 4 ≤ start_of n (MapCopy slot)
@@ -74,8 +74,8 @@ halves_apart n epoch i one two =
 pub areas_apart : (n : ℕ) → AreApart n
 areas_apart n = record {
   roots_and_maps = λ slot i one two. omega (arith, one.0, one.1, two.0, two.1, map_from n slot);
-  roots_and_log = λ epoch i one two. omega (arith, one.0, one.1, two.0, two.1, half_from n (half_of epoch));
+  roots_and_log = λ epoch i one two. omega (arith, one.0, one.1, two.0, two.1, half_from n (half_of_epoch epoch));
   maps = maps_apart n;
-  maps_and_log = λ slot epoch i one two. omega (arith, one.0, one.1, two.0, two.1, map_ends n slot, half_from n (half_of epoch));
+  maps_and_log = λ slot epoch i one two. omega (arith, one.0, one.1, two.0, two.1, map_ends n slot, half_from n (half_of_epoch epoch));
   halves = halves_apart n;
 }

@@ -15,7 +15,8 @@ use Rattle.sn_layout.specs.Limits.{limits_of}
 use Rattle.sn_layout.specs.Snapshot.{IsSnapshot, snapshot_bytes, snapshots_bytes}
 use Rattle.sn_layout.specs.RootBody.{IsRootBody, head_of, head_bytes, root_body_bytes}
 use Rattle.sn_layout.proofs.Roots.{head_fits}
-use Rattle.sn_ondisk.specs.Roots.{other_slot, HasRoot, IsOlder, IsNewest}
+use Rattle.sn_layout.specs.Places.{other_slot}
+use Rattle.sn_ondisk.specs.Roots.{HasRoot, IsOlder, IsNewest}
 use Rattle.sn_ondisk.specs.Shown.{Shown}
 use Rattle.sn_ondisk.specs.LogHalf.{base_of}
 use Rattle.sn_ondisk.specs.OneAnswer.{IsOnDisk, AreOne}

@@ -5,10 +5,10 @@ use Rattle.sn_layout.specs.declared.places.Slot.{Slot}
 use Rattle.sn_layout.specs.declared.places.LogHalf.{LogHalf}
 use Rattle.sn_layout.specs.declared.places.LogHalf.TheVariants.{Zero, One}
 use Rattle.sn_layout.specs.declared.places.Area.TheVariants.{Log}
-use Rattle.sn_layout.specs.Places.{start_of}
+use Rattle.sn_layout.specs.Places.{start_of, gate_sector, half_of_epoch, other_slot}
 use Rattle.sn_layout.specs.declared.root.RootBody.{RootBody}
-use Rattle.sn_ondisk.specs.Roots.{gate_of, body_block, other_slot, IsNewest, HasNext}
-use Rattle.sn_ondisk.specs.LogHalf.{HasRecord, HasPending, Replays, place_after, half_of, base_of}
+use Rattle.sn_ondisk.specs.Roots.{body_block, IsNewest, HasNext}
+use Rattle.sn_ondisk.specs.LogHalf.{HasRecord, HasPending, Replays, place_after, base_of}
 use Rattle.sn_ondisk.specs.Blocks.{InBlock}
 use Rattle.sn_ondisk.specs.Gates.{IsOpen, IsClosed}
 use Rattle.sn_ondisk.specs.Shown.{Shown, InShown}
@@ -22,13 +22,13 @@ start_from n Zero = omega arith
 start_from n One = omega arith
 
 -- the write of a slot's gate leaves the log
-Replays-gate : (n : ℕ) (c d : Contents) (gate : Slot) (epoch : ℕ) (ps : List (List ℕ)) → AgreesOutside (Single (gate_of gate)) c d → Replays c (base_of n epoch) epoch ps → Replays d (base_of n epoch) epoch ps
+Replays-gate : (n : ℕ) (c d : Contents) (gate : Slot) (epoch : ℕ) (ps : List (List ℕ)) → AgreesOutside (Single (gate_sector gate)) c d → Replays c (base_of n epoch) epoch ps → Replays d (base_of n epoch) epoch ps
 Replays-gate n c d gate epoch ps agrees found =
-    (found.0, ReplaysTo-same c d (base_of n epoch) epoch ps found.0 (λ i from to. agrees.same i (λ is. omega (arith, is, from, gate_below gate, start_from n (half_of epoch)))) found.1)
+    (found.0, ReplaysTo-same c d (base_of n epoch) epoch ps found.0 (λ i from to. agrees.same i (λ is. omega (arith, is, from, gate_below gate, start_from n (half_of_epoch epoch)))) found.1)
 
 pub opening_shows : (n : ℕ) (c d : Contents) (slot : Slot) (root next : RootBody) (first second third fourth : List (List ℕ)) → Shown n c slot root first second
     → HasNext c slot root next → Replays c (base_of n next.epoch) next.epoch third → Replays c (base_of n (next.epoch + 1)) (next.epoch + 1) fourth
-    → AgreesOutside (Single (gate_of (other_slot slot))) c d
+    → AgreesOutside (Single (gate_sector (other_slot slot))) c d
     → Shown n d slot root first second ⊎ Shown n d (other_slot slot) next third fourth
 opening_shows n c d slot root next first second third fourth shown has_next one two agrees = ⊎_elim
     (λ old. inl (record {
@@ -50,8 +50,8 @@ shown_depends n c d slot root older newer agrees shown = record {
   has_newer = (shown.has_newer.0, ReplaysTo-same c d (base_of n (root.epoch + 1)) (root.epoch + 1) newer shown.has_newer.0 (λ i from to. agrees.same i (inr (inr (from, to)))) shown.has_newer.1);
 }
 
-pub closing_shows : (n : ℕ) (c d : Contents) (slot : Slot) (root : RootBody) (older newer : List (List ℕ)) → Shown n c slot root older newer → IsOpen c (gate_of (other_slot slot))
-    → AgreesOutside (Single (gate_of (other_slot slot))) c d → Shown n d slot root older newer
+pub closing_shows : (n : ℕ) (c d : Contents) (slot : Slot) (root : RootBody) (older newer : List (List ℕ)) → Shown n c slot root older newer → IsOpen c (gate_sector (other_slot slot))
+    → AgreesOutside (Single (gate_sector (other_slot slot))) c d → Shown n d slot root older newer
 closing_shows n c d slot root older newer shown opened agrees = record {
   newest = closing_keeps c d slot root shown.newest opened agrees;
   has_older = Replays-gate n c d (other_slot slot) root.epoch older agrees shown.has_older;
@@ -61,9 +61,9 @@ closing_shows n c d slot root older newer shown opened agrees = record {
 -- a change of a root body leaves the log
 Replays-body : (n : ℕ) (c d : Contents) (slot : Slot) (epoch : ℕ) (ps : List (List ℕ)) → AgreesOutside (InBlock (body_block slot)) c d → Replays c (base_of n epoch) epoch ps → Replays d (base_of n epoch) epoch ps
 Replays-body n c d slot epoch ps agrees found =
-    (found.0, ReplaysTo-same c d (base_of n epoch) epoch ps found.0 (λ i from to. agrees.same i (λ inside. omega (arith, inside.1, from, body_below slot, start_from n (half_of epoch)))) found.1)
+    (found.0, ReplaysTo-same c d (base_of n epoch) epoch ps found.0 (λ i from to. agrees.same i (λ inside. omega (arith, inside.1, from, body_below slot, start_from n (half_of_epoch epoch)))) found.1)
 
-pub body_shows : (n : ℕ) (c d : Contents) (slot : Slot) (root : RootBody) (older newer : List (List ℕ)) → Shown n c slot root older newer → IsClosed c (gate_of (other_slot slot))
+pub body_shows : (n : ℕ) (c d : Contents) (slot : Slot) (root : RootBody) (older newer : List (List ℕ)) → Shown n c slot root older newer → IsClosed c (gate_sector (other_slot slot))
     → AgreesOutside (InBlock (body_block (other_slot slot))) c d → Shown n d slot root older newer
 body_shows n c d slot root older newer shown closed agrees = record {
   newest = body_keeps c d slot root shown.newest closed agrees;
@@ -76,7 +76,7 @@ body_shows n c d slot root older newer shown closed agrees = record {
 module _ (n : ℕ) (c d : Contents) (slot : Slot) (root : RootBody) (older newer : List (List ℕ)) (place : ℕ) (p : List ℕ) (shown : Shown n c slot root older newer) where
   -- it leaves the roots
   newest_stays : (epoch sequence : ℕ) → HasRecord c (base_of n epoch) epoch place sequence p → AgreesOutside (Single (base_of n epoch + place)) c d → IsNewest d slot root
-  newest_stays epoch sequence body agrees = IsNewest-same c d slot root (λ i from to. agrees.same i (λ is. omega (arith, is, to, start_from n (half_of epoch)))) shown.newest
+  newest_stays epoch sequence body agrees = IsNewest-same c d slot root (λ i from to. agrees.same i (λ is. omega (arith, is, to, start_from n (half_of_epoch epoch)))) shown.newest
 
   -- and what replay finds in the other half
   other_half : (base epoch at : ℕ) (ps : List (List ℕ)) → ((i : ℕ) → base ≤ i → i < base + 256 → i ≢ at) → AgreesOutside (Single at) c d → Replays c base epoch ps → Replays d base epoch ps

@@ -1,16 +1,17 @@
 -- What block trees name and hold.
 use Rattle.std.proofs.Common.{◌≡◌, ◌≢◌, ⊎_elim, ℕ, zero, suc, ◌+◌, ◌*◌, ◌/◌, ◌%◌, ◌<◌, ◌≤◌, ◌==◌, Bool, true, false, not, List, [], ◌∷◌, ◌++◌, length, take, replicate, slice_index, Contains, refl, sym, ◌∙◌, ap, subst, arith, if◌then◌else◌}
-use Rattle.std.specs.Prelude.{nat_le, ◌^◌}
+use Rattle.std.specs.Prelude.{nat_lt, cond, ◌^◌}
 use Rattle.std.specs.List.{flat_map, filter}
-use Rattle.std.proofs.lemmas.Bool.{eqb-true, eqb-false, leb-true, leb-false, cases_lt}
+use Rattle.std.proofs.lemmas.Bool.{eqb-true, eqb-false, ltb-true, ltb-false, cases_lt}
 use Rattle.std.proofs.lemmas.List.{get_or_append_left, get_or-append-add, get_or-replicate, get_or-take, length-replicate}
 use Rattle.std.proofs.lemmas.List.Elements.{Contains-append_left, Contains-append_right}
 use Rattle.sn_device.specs.Sectors.{Contents, AgreesOn}
 use Rattle.sn_device.proofs.SectorLemmas.{Contains-first, Contains-more, Contains-cases}
 use Rattle.sn_layout.specs.Bytes.{zeros}
+use Rattle.sn_layout.specs.Pointers.{levels_of}
 use Rattle.sn_layout.specs.declared.tree.BlockTree.{BlockTree}
 use Rattle.sn_ondisk.specs.Blocks.{InBlocks, numbers_in}
-use Rattle.sn_ondisk.specs.Trees.{Store, store_of, named_by, below, levels, pointers_at, all_pointers, entry, tree_reach, tree_bytes, data_block}
+use Rattle.sn_ondisk.specs.Trees.{Store, store_of, named_by, below, pointers_at, all_pointers, entry, tree_reach, tree_bytes, data_block}
 use Rattle.sn_ondisk.specs.TreeLaws.{SameIn, ReadsAlike}
 use Rattle.sn_ondisk.proofs.BlockLemmas.{bytes_at-same, length-numbers_in}
 
@@ -64,14 +65,14 @@ level_among s ps depth (suc whole) pointer within among = ⊎_elim
     Contains-append_right (all_pointers s whole ps) (pointers_at s (suc whole) ps) pointer (subst (λ n. Contains (pointers_at s n ps) pointer) same among))
     (cases_lt depth (suc whole))
 
-pub reach_has : (s : Store) (tree : BlockTree) (depth pointer : ℕ) → depth ≤ levels tree.size → pointer ≢ 0 → Contains (pointers_at s depth tree.pointers) pointer → Contains (tree_reach s tree) pointer
+pub reach_has : (s : Store) (tree : BlockTree) (depth pointer : ℕ) → depth ≤ levels_of tree.size → pointer ≢ 0 → Contains (pointers_at s depth tree.pointers) pointer → Contains (tree_reach s tree) pointer
 unfolding tree_reach
 reach_has s tree depth pointer within some among =
-    but_holes-has (all_pointers s (levels tree.size) tree.pointers) pointer some (level_among s tree.pointers depth (levels tree.size) pointer within among)
+    but_holes-has (all_pointers s (levels_of tree.size) tree.pointers) pointer some (level_among s tree.pointers depth (levels_of tree.size) pointer within among)
 
 pub reach_has_none : (s : Store) (tree : BlockTree) (pointer : ℕ) → Contains (tree_reach s tree) pointer → pointer ≢ 0
 unfolding tree_reach
-reach_has_none s tree pointer among = but_holes-none (all_pointers s (levels tree.size) tree.pointers) pointer among
+reach_has_none s tree pointer among = but_holes-none (all_pointers s (levels_of tree.size) tree.pointers) pointer among
 
 -- ---- the blocks that a tree reaches are all that it depends on
 
@@ -189,7 +190,7 @@ pub bytes_of_block : (s : Store) (tree : BlockTree) → ((block : ℕ) → Conta
     → (i k : ℕ) → k < 4096 → 4096 * i + k < tree.size → slice_index (tree_bytes s tree) (4096 * i + k) ≡ slice_index (data_block s tree i) k
 unfolding tree_bytes data_block
 bytes_of_block s tree long i k within inside =
-    let depth = levels tree.size in
+    let depth = levels_of tree.size in
     let level = pointers_at s depth tree.pointers in
     let each : (p : ℕ) → Contains level p → length (named_by s p) ≡ 4096 = λ p among. length-named s p (λ some. long p (reach_has s tree depth p (omega arith) (eqb-false p 0 some) among)) in
     get_or-take tree.size (flat_map (named_by s) level) (4096 * i + k) 0 inside
@@ -200,33 +201,33 @@ bytes_of_block s tree long i k within inside =
 -- ---- two stores, or two disks, that agree in the blocks that a tree reaches
 
 module _ (s r : Store) (tree : BlockTree) (same : SameIn (tree_reach s tree) s r) where
-  agree_all : Agree s r (all_pointers s (levels tree.size) tree.pointers)
+  agree_all : Agree s r (all_pointers s (levels_of tree.size) tree.pointers)
   unfolding tree_reach
-  agree_all p among some = same p (but_holes-has (all_pointers s (levels tree.size) tree.pointers) p (eqb-false p 0 some) among)
+  agree_all p among some = same p (but_holes-has (all_pointers s (levels_of tree.size) tree.pointers) p (eqb-false p 0 some) among)
 
-  agree_last : Agree s r (pointers_at s (levels tree.size) tree.pointers)
-  agree_last = of_level s r (levels tree.size) tree.pointers agree_all
+  agree_last : Agree s r (pointers_at s (levels_of tree.size) tree.pointers)
+  agree_last = of_level s r (levels_of tree.size) tree.pointers agree_all
 
-  last-same : pointers_at r (levels tree.size) tree.pointers ≡ pointers_at s (levels tree.size) tree.pointers
-  last-same = pointers-same s r (levels tree.size) tree.pointers agree_all
+  last-same : pointers_at r (levels_of tree.size) tree.pointers ≡ pointers_at s (levels_of tree.size) tree.pointers
+  last-same = pointers-same s r (levels_of tree.size) tree.pointers agree_all
 
   bytes-same : tree_bytes r tree ≡ tree_bytes s tree
   unfolding tree_bytes
   bytes-same =
       ap (λ ps. take tree.size (flat_map (named_by r) ps)) last-same
-      ∙ ap (take tree.size) (all-same s r (named_by s) (named_by r) (named-same s r) (pointers_at s (levels tree.size) tree.pointers) agree_last)
+      ∙ ap (take tree.size) (all-same s r (named_by s) (named_by r) (named-same s r) (pointers_at s (levels_of tree.size) tree.pointers) agree_last)
 
   reach-same : tree_reach r tree ≡ tree_reach s tree
   unfolding tree_reach
-  reach-same = ap but_holes (all_pointers-same s r (levels tree.size) tree.pointers agree_all)
+  reach-same = ap but_holes (all_pointers-same s r (levels_of tree.size) tree.pointers agree_all)
 
   block-same : (i : ℕ) → data_block r tree i ≡ data_block s tree i
   unfolding data_block
   block-same i =
-      let level = pointers_at s (levels tree.size) tree.pointers in
-      ap (named_by r) (entry-level r (levels tree.size) tree.pointers i ∙ ap (λ ps. slice_index ps i) last-same)
+      let level = pointers_at s (levels_of tree.size) tree.pointers in
+      ap (named_by r) (entry-level r (levels_of tree.size) tree.pointers i ∙ ap (λ ps. slice_index ps i) last-same)
       ∙ at_level level agree_last i
-      ∙ ap (named_by s) (sym (entry-level s (levels tree.size) tree.pointers i))
+      ∙ ap (named_by s) (sym (entry-level s (levels_of tree.size) tree.pointers i))
     where
       at_level : (ps : List ℕ) → Agree s r ps → (i : ℕ) → named_by r (slice_index ps i) ≡ named_by s (slice_index ps i)
       at_level [] agree i = named-same s r 0 (λ some. absurd cc)
@@ -243,20 +244,38 @@ trees_depend_on_sectors c d tree agrees = trees_depend (store_of c) (store_of d)
 -- ---- the levels of a size
 
 module _ (size : ℕ) where
-  within_room : (small middle : Bool) → nat_le size 65536 ≡ small → nat_le size 67108864 ≡ middle → size ≤ 68719476736 → size ≤ 65536 * 1024 ^ (if small then 0 else (if middle then 1 else 2))
-  within_room true middle is_small is_middle most = omega (arith, leb-true size 65536 is_small)
-  within_room false true is_small is_middle most = omega (arith, leb-true size 67108864 is_middle)
-  within_room false false is_small is_middle most = omega arith
+  -- the sum over the three numbers of levels that may not reach it
+  abbrev count : Bool → Bool → Bool → ℕ
+  count a b c = 0 + cond a 1 0 + cond b 1 0 + cond c 1 0
 
-  past_room : (small middle : Bool) → nat_le size 65536 ≡ small → nat_le size 67108864 ≡ middle → (fewer : ℕ) → fewer < (if small then 0 else (if middle then 1 else 2)) → 65536 * 1024 ^ fewer < size
-  past_room true middle is_small is_middle fewer below_it = absurd (omega (arith, below_it))
-  past_room false middle is_small is_middle zero below_it = omega (arith, leb-false size 65536 is_small)
-  past_room false true is_small is_middle (suc fewer) below_it = absurd (omega (arith, below_it))
-  past_room false false is_small is_middle (suc zero) below_it = omega (arith, leb-false size 67108864 is_middle)
-  past_room false false is_small is_middle (suc (suc fewer)) below_it = absurd (omega (arith, below_it))
+  room : (a b c : Bool) → nat_lt 65536 size ≡ a → nat_lt 67108864 size ≡ b → nat_lt 68719476736 size ≡ c → size ≤ 70368744177664 → size ≤ 65536 * 1024 ^ count a b c
+  room false false false is0 is1 is2 most = omega (arith, most, ltb-false 65536 size is0, ltb-false 67108864 size is1, ltb-false 68719476736 size is2)
+  room true false false is0 is1 is2 most = omega (arith, most, ltb-true 65536 size is0, ltb-false 67108864 size is1, ltb-false 68719476736 size is2)
+  room true true false is0 is1 is2 most = omega (arith, most, ltb-true 65536 size is0, ltb-true 67108864 size is1, ltb-false 68719476736 size is2)
+  room true true true is0 is1 is2 most = omega (arith, most, ltb-true 65536 size is0, ltb-true 67108864 size is1, ltb-true 68719476736 size is2)
+  room false true false is0 is1 is2 most = absurd (omega (arith, ltb-false 65536 size is0, ltb-true 67108864 size is1, ltb-false 68719476736 size is2))
+  room false false true is0 is1 is2 most = absurd (omega (arith, ltb-false 65536 size is0, ltb-false 67108864 size is1, ltb-true 68719476736 size is2))
+  room false true true is0 is1 is2 most = absurd (omega (arith, ltb-false 65536 size is0, ltb-true 67108864 size is1, ltb-true 68719476736 size is2))
+  room true false true is0 is1 is2 most = absurd (omega (arith, ltb-true 65536 size is0, ltb-false 67108864 size is1, ltb-true 68719476736 size is2))
 
-  pub levels_room : size ≤ 68719476736 → size ≤ 65536 * 1024 ^ levels size
-  levels_room = within_room (nat_le size 65536) (nat_le size 67108864) refl refl
+  least : (a b c : Bool) → nat_lt 65536 size ≡ a → nat_lt 67108864 size ≡ b → nat_lt 68719476736 size ≡ c → (fewer : ℕ) → fewer < count a b c → 65536 * 1024 ^ fewer < size
+  least false false false is0 is1 is2 fewer under = absurd (omega (arith, under))
+  least true false false is0 is1 is2 zero under = omega (arith, ltb-true 65536 size is0, ltb-false 67108864 size is1, ltb-false 68719476736 size is2)
+  least true false false is0 is1 is2 (suc fewer) under = absurd (omega (arith, under))
+  least true true false is0 is1 is2 zero under = omega (arith, ltb-true 65536 size is0, ltb-true 67108864 size is1, ltb-false 68719476736 size is2)
+  least true true false is0 is1 is2 (suc zero) under = omega (arith, ltb-true 65536 size is0, ltb-true 67108864 size is1, ltb-false 68719476736 size is2)
+  least true true false is0 is1 is2 (suc (suc fewer)) under = absurd (omega (arith, under))
+  least true true true is0 is1 is2 zero under = omega (arith, ltb-true 65536 size is0, ltb-true 67108864 size is1, ltb-true 68719476736 size is2)
+  least true true true is0 is1 is2 (suc zero) under = omega (arith, ltb-true 65536 size is0, ltb-true 67108864 size is1, ltb-true 68719476736 size is2)
+  least true true true is0 is1 is2 (suc (suc zero)) under = omega (arith, ltb-true 65536 size is0, ltb-true 67108864 size is1, ltb-true 68719476736 size is2)
+  least true true true is0 is1 is2 (suc (suc (suc fewer))) under = absurd (omega (arith, under))
+  least false true false is0 is1 is2 fewer under = absurd (omega (arith, ltb-false 65536 size is0, ltb-true 67108864 size is1, ltb-false 68719476736 size is2))
+  least false false true is0 is1 is2 fewer under = absurd (omega (arith, ltb-false 65536 size is0, ltb-false 67108864 size is1, ltb-true 68719476736 size is2))
+  least false true true is0 is1 is2 fewer under = absurd (omega (arith, ltb-false 65536 size is0, ltb-true 67108864 size is1, ltb-true 68719476736 size is2))
+  least true false true is0 is1 is2 fewer under = absurd (omega (arith, ltb-true 65536 size is0, ltb-false 67108864 size is1, ltb-true 68719476736 size is2))
 
-  pub levels_least : (fewer : ℕ) → fewer < levels size → 65536 * 1024 ^ fewer < size
-  levels_least = past_room (nat_le size 65536) (nat_le size 67108864) refl refl
+  pub levels_room : size ≤ 70368744177664 → size ≤ 65536 * 1024 ^ levels_of size
+  levels_room = room (nat_lt 65536 size) (nat_lt 67108864 size) (nat_lt 68719476736 size) refl refl refl
+
+  pub levels_least : (fewer : ℕ) → fewer < levels_of size → 65536 * 1024 ^ fewer < size
+  levels_least = least (nat_lt 65536 size) (nat_lt 67108864 size) (nat_lt 68719476736 size) refl refl refl

@@ -5,9 +5,10 @@ use Rattle.sn_device.specs.Disk.{Disk, Always, reads}
 use Rattle.sn_device.specs.Crash.{Touches, LeavesOnly}
 use Rattle.sn_layout.specs.declared.places.Slot.{Slot}
 use Rattle.sn_layout.specs.declared.root.RootBody.{RootBody}
+use Rattle.sn_layout.specs.Places.{gate_sector, other_slot}
 use Rattle.sn_ondisk.specs.Blocks.{InBlock}
 use Rattle.sn_ondisk.specs.Gates.{IsOpen, IsClosed}
-use Rattle.sn_ondisk.specs.Roots.{gate_of, body_block, other_slot, IsNewest, HasNext}
+use Rattle.sn_ondisk.specs.Roots.{body_block, IsNewest, HasNext}
 use Rattle.sn_ondisk.specs.LogHalf.{HasRecord, IsReady, HasPending, Stops, ReplaysTo, Replays, HasNoLater, place_after, body_sectors, base_of, cleared_sector}
 use Rattle.sn_ondisk.specs.Shown.{Shown}
 
@@ -61,14 +62,14 @@ ClearingAddsNoLater = (c d : Contents) (base epoch : ℕ)
 -- Whatever the gate of an older root comes to hold that stands open, the newest root stays. Behind a closed gate a root that never counted may stand, so that one isn't closed again.
 abbrev pub ClosingKeepsTheRoot : Type 0
 ClosingKeepsTheRoot = (c d : Contents) (slot : Slot) (root : RootBody)
-    → IsNewest c slot root → IsOpen c (gate_of (other_slot slot))
-    → AgreesOutside (Single (gate_of (other_slot slot))) c d
+    → IsNewest c slot root → IsOpen c (gate_sector (other_slot slot))
+    → AgreesOutside (Single (gate_sector (other_slot slot))) c d
     → IsNewest d slot root
 
 -- Behind a closed gate a root body may be written: whatever its block comes to hold, the newest root stays.
 abbrev pub BodyKeepsTheRoot : Type 0
 BodyKeepsTheRoot = (c d : Contents) (slot : Slot) (root : RootBody)
-    → IsNewest c slot root → IsClosed c (gate_of (other_slot slot))
+    → IsNewest c slot root → IsClosed c (gate_sector (other_slot slot))
     → AgreesOutside (InBlock (body_block (other_slot slot))) c d
     → IsNewest d slot root
 
@@ -76,15 +77,15 @@ BodyKeepsTheRoot = (c d : Contents) (slot : Slot) (root : RootBody)
 abbrev pub OpeningChangesTheRootOrNot : Type 0
 OpeningChangesTheRootOrNot = (c d : Contents) (slot : Slot) (root next : RootBody)
     → HasNext c slot root next
-    → AgreesOutside (Single (gate_of (other_slot slot))) c d
+    → AgreesOutside (Single (gate_sector (other_slot slot))) c d
     → IsNewest d slot root ⊎ IsNewest d (other_slot slot) next
 
 -- Where that gate comes to be open, it is the new one.
 abbrev pub OpenRootIsNewest : Type 0
 OpenRootIsNewest = (c d : Contents) (slot : Slot) (root next : RootBody)
     → HasNext c slot root next
-    → AgreesOutside (Single (gate_of (other_slot slot))) c d
-    → IsOpen d (gate_of (other_slot slot))
+    → AgreesOutside (Single (gate_sector (other_slot slot))) c d
+    → IsOpen d (gate_sector (other_slot slot))
     → IsNewest d (other_slot slot) next
 
 -- And with the records: the disk shows the old root with its records, or the new one with the records of its own two epochs.
@@ -94,20 +95,20 @@ OpeningShowsEither = (n : ℕ) (c d : Contents) (slot : Slot) (root next : RootB
     → HasNext c slot root next
     → Replays c (base_of n next.epoch) next.epoch third
     → Replays c (base_of n (next.epoch + 1)) (next.epoch + 1) fourth
-    → AgreesOutside (Single (gate_of (other_slot slot))) c d
+    → AgreesOutside (Single (gate_sector (other_slot slot))) c d
     → Shown n d slot root first second ⊎ Shown n d (other_slot slot) next third fourth
 
 -- Whatever the gate of an older root comes to hold that stands open, the disk shows the same.
 abbrev pub ClosingShowsTheSame : Type 0
 ClosingShowsTheSame = (n : ℕ) (c d : Contents) (slot : Slot) (root : RootBody) (older newer : List (List ℕ))
-    → Shown n c slot root older newer → IsOpen c (gate_of (other_slot slot))
-    → AgreesOutside (Single (gate_of (other_slot slot))) c d
+    → Shown n c slot root older newer → IsOpen c (gate_sector (other_slot slot))
+    → AgreesOutside (Single (gate_sector (other_slot slot))) c d
     → Shown n d slot root older newer
 
 -- And so whatever the body of a closed slot comes to hold.
 abbrev pub BodyShowsTheSame : Type 0
 BodyShowsTheSame = (n : ℕ) (c d : Contents) (slot : Slot) (root : RootBody) (older newer : List (List ℕ))
-    → Shown n c slot root older newer → IsClosed c (gate_of (other_slot slot))
+    → Shown n c slot root older newer → IsClosed c (gate_sector (other_slot slot))
     → AgreesOutside (InBlock (body_block (other_slot slot))) c d
     → Shown n d slot root older newer
 

@@ -1,22 +1,16 @@
 -- A half of the log, 256 sectors from `base` on, as the records of one epoch. A place is counted in sectors from there. At a place stands a record's gate, behind it its body, and behind that the next gate.
-use Rattle.std.specs.Prelude.{◌≡◌, ◌≢◌, ◌⊎◌, ℕ, ◌+◌, ◌-◌, ◌*◌, ◌/◌, ◌%◌, ◌≤◌, ◌==◌, nat_le, ◌||◌, if◌then◌else◌, List, [], ◌∷◌, ◌++◌, length, take}
+use Rattle.std.specs.Prelude.{◌≡◌, ◌≢◌, ◌⊎◌, ℕ, ◌+◌, ◌-◌, ◌*◌, ◌/◌, ◌≤◌, ◌==◌, nat_le, ◌||◌, if◌then◌else◌, List, [], ◌∷◌, ◌++◌, length, take}
 use Rattle.byteorder.specs.Endian.{little_number}
 use Rattle.sn_device.specs.Sectors.{Contents, sector_at, Run}
 use Rattle.sn_layout.specs.declared.places.Area.TheVariants.{Log}
-use Rattle.sn_layout.specs.declared.places.LogHalf.{LogHalf}
-use Rattle.sn_layout.specs.declared.places.LogHalf.TheVariants.{Zero, One}
 use Rattle.sn_layout.specs.Bytes.{number_bytes, zeros}
-use Rattle.sn_layout.specs.Places.{start_of}
+use Rattle.sn_layout.specs.Places.{start_of, half_of_epoch}
 use Rattle.sn_ondisk.specs.Blocks.{bytes_at}
 use Rattle.sn_ondisk.specs.Gates.{gate_at, IsOpen, IsClosed}
 
--- the half that an epoch's records stand in
-abbrev pub half_of : ℕ → LogHalf
-half_of epoch = if (epoch % 2) == 0 then Zero else One
-
--- the first sector of that half, on a disk of n blocks
+-- the first sector of the half that an epoch's records stand in, on a disk of n blocks
 abbrev pub base_of : ℕ → ℕ → ℕ
-base_of n epoch = 8 * start_of n (Log (half_of epoch))
+base_of n epoch = 8 * start_of n (Log (half_of_epoch epoch))
 
 -- the sectors of a half
 abbrev pub InHalf : ℕ → ℕ → Type 0

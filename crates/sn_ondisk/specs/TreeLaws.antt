@@ -1,9 +1,10 @@
 -- What block trees name and hold.
 use Rattle.std.specs.Prelude.{◌≡◌, ◌≢◌, ℕ, ◌+◌, ◌*◌, ◌^◌, ◌<◌, ◌≤◌, List, length, slice_index, Contains}
 use Rattle.sn_device.specs.Sectors.{Contents, AgreesOn}
+use Rattle.sn_layout.specs.Pointers.{levels_of}
 use Rattle.sn_layout.specs.declared.tree.BlockTree.{BlockTree}
 use Rattle.sn_ondisk.specs.Blocks.{InBlocks}
-use Rattle.sn_ondisk.specs.Trees.{Store, store_of, levels, pointers_at, entry, tree_reach, tree_bytes, data_block}
+use Rattle.sn_ondisk.specs.Trees.{Store, store_of, pointers_at, entry, tree_reach, tree_bytes, data_block}
 
 -- These blocks are the same in both.
 abbrev pub SameIn : List ℕ → Store → Store → Type 0
@@ -25,7 +26,7 @@ TreesDependOnTheirSectors = (c d : Contents) (tree : BlockTree) → AgreesOn (In
 
 -- A tree reaches every block that a pointer of one of its levels names.
 abbrev pub ReachHasEveryPointer : Type 0
-ReachHasEveryPointer = (s : Store) (tree : BlockTree) (depth pointer : ℕ) → depth ≤ levels tree.size → pointer ≢ 0 → Contains (pointers_at s depth tree.pointers) pointer → Contains (tree_reach s tree) pointer
+ReachHasEveryPointer = (s : Store) (tree : BlockTree) (depth pointer : ℕ) → depth ≤ levels_of tree.size → pointer ≢ 0 → Contains (pointers_at s depth tree.pointers) pointer → Contains (tree_reach s tree) pointer
 
 -- It reaches no hole.
 abbrev pub ReachHasNoHole : Type 0
@@ -40,10 +41,10 @@ abbrev pub BytesAreOfTheirBlock : Type 0
 BytesAreOfTheirBlock = (s : Store) (tree : BlockTree) → ((block : ℕ) → Contains (tree_reach s tree) block → length (s block) ≡ 4096)
     → (i k : ℕ) → k < 4096 → 4096 * i + k < tree.size → slice_index (tree_bytes s tree) (4096 * i + k) ≡ slice_index (data_block s tree i) k
 
--- With the levels that a size has, a tree has room for it, up to the most that two levels hold.
+-- With the levels that a size has, a tree has room for it, up to the most that three levels hold.
 abbrev pub LevelsHaveRoom : Type 0
-LevelsHaveRoom = (size : ℕ) → size ≤ 68719476736 → size ≤ 65536 * 1024 ^ levels size
+LevelsHaveRoom = (size : ℕ) → size ≤ 70368744177664 → size ≤ 65536 * 1024 ^ levels_of size
 
 -- With fewer it has no room.
 abbrev pub LevelsAreLeast : Type 0
-LevelsAreLeast = (size fewer : ℕ) → fewer < levels size → 65536 * 1024 ^ fewer < size
+LevelsAreLeast = (size fewer : ℕ) → fewer < levels_of size → 65536 * 1024 ^ fewer < size

@@ -1,5 +1,5 @@
 //! The laws that the definitions of `specs/` keep.
-ghost use Rattle.sn_ondisk.specs.BlockLaws.{BytesFollow, BlocksAreWhole};
+ghost use Rattle.sn_ondisk.specs.BlockLaws.{BytesFollow, BlocksAreWhole, GatesAreRead};
 ghost use Rattle.sn_ondisk.specs.GateLaws.{GateAddsOneOrNone, OpenGateAddsOne, AppendAddsOneOrNone, ClearingStops, ClearingKeepsTheRecords, ClearingAddsNoLater, ClosingKeepsTheRoot, BodyKeepsTheRoot, OpeningChangesTheRootOrNot, OpenRootIsNewest, OpeningShowsEither, ClosingShowsTheSame, BodyShowsTheSame, AppendShowsOneMore, AppendShowsOneNewer};
 ghost use Rattle.sn_ondisk.specs.PlaceLaws.{RootsLieInTheirAreas, HalvesAreTheirAreas, EpochsAlternate, AreasAreApart};
 ghost use Rattle.sn_ondisk.specs.OneAnswer.{RecordIsOne, ReadyIsReplayed, ReplayIsOne, RecordHasItsEpoch, LaterReplaysNothing, RootIsOne, NewestIsOne, ShownIsOne};
@@ -92,8 +92,9 @@ pub fn place_laws()
     ensures apart { AreasAreApart }
 {}
 
-/// The bytes of sectors and blocks.
+/// The bytes of sectors and blocks, and what the first of a gate's sector says.
 pub fn block_laws()
     ensures follow { BytesFollow }
     ensures whole { BlocksAreWhole }
+    ensures gates { GatesAreRead }
 {}

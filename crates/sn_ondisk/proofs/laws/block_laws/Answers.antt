@@ -1,5 +1,5 @@
 use Rattle.std.proofs.Common.{◌*◌}
-use Rattle.sn_ondisk.proofs.BlockLemmas.{bytes_at-more, length-bytes_at}
+use Rattle.sn_ondisk.proofs.BlockLemmas.{bytes_at-more, length-bytes_at, gate_read}
 use Rattle.sn_ondisk.proofs.laws.block_laws.Goals as goal
 
 pub returns-clause-follow : goal.returns-clause-follow
@@ -7,3 +7,6 @@ returns-clause-follow c = bytes_at-more
 
 pub returns-clause-whole : goal.returns-clause-whole
 returns-clause-whole c a block whole within = length-bytes_at a (8 * block) 8 whole within
+
+pub returns-clause-gates : goal.returns-clause-gates
+returns-clause-gates c = gate_read
