@@ -29,7 +29,10 @@ fn fill_of(word: &str) -> Result<Fill> {
         "zero" => Fill::Zero,
         "one" => Fill::One,
         "junk" => Fill::Junk,
-        _ => bail!("no fill: {word}"),
+        _ => match word.strip_prefix("seed") {
+            Some(seed) => Fill::Seeded(number_of(seed)?),
+            None => bail!("no fill: {word}"),
+        },
     })
 }
 
@@ -78,6 +81,7 @@ fn take_step(device: &mut MemDevice, step: &str, value: &str, text: &mut String)
         "failures" => push_number(text, device.failures()),
         "sectors" => push_number(text, device.sectors()),
         "show" => show(device, text),
+        "firsts" => firsts(device, text),
         _ => write(device, step, value, text),
     }
 }
@@ -130,6 +134,15 @@ fn write(device: &mut MemDevice, sector: &str, byte: &str, text: &mut String) ->
     let byte = byte_of(byte)?;
     ensure!(at < device.sectors(), "no sector {at}");
     push_answer(text, device.write(at, &[byte; SECTOR_SIZE]).is_ok())
+}
+
+/// The first byte of each sector, whatever stands behind it.
+fn firsts(device: &MemDevice, text: &mut String) -> Result<()> {
+    for sector in device.contents() {
+        push_word(text, "")?;
+        write!(text, "{:02x}", sector[0])?;
+    }
+    Ok(())
 }
 
 fn show(device: &MemDevice, text: &mut String) -> Result<()> {
