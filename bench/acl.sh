@@ -1,6 +1,7 @@
 #!/bin/bash
-# How long a check of an ACL takes, by its GROUP entries and the caller's groups. Run by hand: proves and builds a
-# copy of the crate in a folder that it removes, which takes some minutes.
+# How many times as long a check of an ACL takes as a check of nine mode bits, which a file system without ACLs makes,
+# by the ACL's GROUP entries and the caller's groups; both take turns in one run. Run by hand: proves and builds a copy
+# of the crate in a folder that it removes, which takes some minutes.
 set -eu
 top=$(cd "$(dirname "$0")/.." && pwd)
 work=$(mktemp -d)
@@ -13,7 +14,8 @@ grep '^sn_acl:' "$top/crates.txt" > "$work/crates.txt"
 echo 'acl_bench: sn_acl' >> "$work/crates.txt"
 
 cat > "$work/crates/acl_bench/src/main.rt" <<'RT'
-//! How long `check` takes, by the number of GROUP entries of the ACL and of groups of the caller.
+//! How long `check` takes beside a check of mode bits, by the number of GROUP entries of the ACL and of groups of the
+//! caller.
 #![tactic(auto)]
 
 use sn_acl::{Acl, Cred, Entry, Permissions, Tag, check};
@@ -66,6 +68,27 @@ fn denials(acl: &Acl, caller: &Cred) -> usize {
         .count()
 }
 
+// Whether nine mode bits grant a write, as a file system without ACLs decides it.
+#[inline(never)]
+fn mode_grants(mode: u32, caller: &Cred, owner: u32, group: u32) -> bool {
+    let shift = if caller.uid() == owner {
+        6
+    } else if caller.gid() == group || caller.groups().contains(&group) {
+        3
+    } else {
+        0
+    };
+    caller.uid() == 0 || (mode >> shift) & 2 == 2
+}
+
+fn mode_denials(caller: &Cred) -> usize {
+    (0..CALLS)
+        .filter(|i| !mode_grants(0o444, caller, 1, 2_000_000 + i % 1024))
+        .count()
+}
+
+const ROUNDS: u32 = 5;
+
 fn measure<R: Print + AllocGlobal + Clock>(rt: &R, named: u32, groups: u32) -> io::Result<()> {
     let Some(acl) = acl_of(rt.alloc(), named)? else {
         return Ok(());
@@ -73,11 +96,18 @@ fn measure<R: Print + AllocGlobal + Clock>(rt: &R, named: u32, groups: u32) -> i
     let Some(caller) = caller_of(rt.alloc(), groups)? else {
         return Ok(());
     };
-    let start = Instant::now(rt)?;
-    let denied = denials(&acl, &caller);
-    let nanos = start.elapsed(rt)?.as_nanos();
-    let each = nanos / u128::from(CALLS);
-    println!(rt; "{named:2} entries, {groups:2} groups: {each:6} ns a call, {denied} denied")
+    let (mut checks, mut modes, mut denied) = (u128::MAX, u128::MAX, 0usize);
+    for _ in 0..ROUNDS {
+        let start = Instant::now(rt)?;
+        denied = denials(&acl, &caller);
+        checks = checks.min(start.elapsed(rt)?.as_nanos());
+        let start = Instant::now(rt)?;
+        denied = denied.min(mode_denials(&caller));
+        modes = modes.min(start.elapsed(rt)?.as_nanos());
+    }
+    let tenths = checks.saturating_mul(10) / modes.max(1);
+    let each = checks / u128::from(CALLS);
+    println!(rt; "{named:2} entries, {groups:2} groups: {}.{} mode checks ({each} ns a call, {denied} denied)", tenths / 10, tenths % 10)
 }
 
 fn main(rt: HostRuntime) -> io::Result<()> {

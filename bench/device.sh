@@ -1,7 +1,7 @@
 #!/bin/sh
-# The speed of the devices: seconds for a million sector writes and reads in memory, and 64 MiB through
-# a file in sectors beside `dd bs=512` on the same file, with the calls of the system where strace is
-# there. Usage: bench/device.sh
+# The speed of the devices: a million sector writes and reads in memory beside copies of as many sectors, and 64 MiB through
+# a file in sectors beside `dd bs=64k` on the same file, which is how much the device gathers, with the calls of the
+# system where strace is there. Usage: bench/device.sh
 set -eu
 top=$(cd "$(dirname "$0")/.." && pwd)
 work=$(mktemp -d)
@@ -53,7 +53,30 @@ fn read_all<D: Device>(device: &mut D, rounds: u64) -> bool {
     seen != 0
 }
 
+// Copies a sector from list to list so many times over, and tells whether some byte looked at was not 0.
+fn copy_all(to: &mut [[u8; 512]], from: &[[u8; 512]], rounds: u64) -> bool {
+    let mut seen = 0;
+    for round in 0..rounds {
+        for (new, old) in to.iter_mut().zip(from) {
+            *new = *old;
+            seen |= new[(round % 512) as usize];
+        }
+    }
+    seen != 0
+}
+
+fn copies(rt: &HostRuntime, sectors: u64, rounds: u64) -> Result<f64> {
+    let from = vec![in rt.alloc(); [0x5a; 512]; sectors as usize]?;
+    let mut to = vec![in rt.alloc(); [0; 512]; sectors as usize]?;
+    let start = Instant::now(rt)?;
+    if !copy_all(to.as_mut_slice(), from.as_slice(), rounds) {
+        bail!("nothing was copied");
+    }
+    Ok(start.elapsed(rt)?.as_secs_f64())
+}
+
 fn in_memory(rt: &HostRuntime, sectors: u64, rounds: u64) -> Result<()> {
+    let copy = copies(rt, sectors, rounds)?;
     let mut device = MemDevice::new(rt.alloc(), sectors)?;
     let start = Instant::now(rt)?;
     let wrote = write_all(&mut device, rounds);
@@ -61,7 +84,8 @@ fn in_memory(rt: &HostRuntime, sectors: u64, rounds: u64) -> Result<()> {
     let start = Instant::now(rt)?;
     let read = read_all(&mut device, rounds);
     let read_time = start.elapsed(rt)?.as_secs_f64();
-    println!(rt; "write {write_time:.3} s ({wrote}), read {read_time:.3} s ({read})")?;
+    let (write, read_ratio) = (write_time / copy, read_time / copy);
+    println!(rt; "write {write:.1} copies ({wrote}), read {read_ratio:.1} copies ({read}), a copy of all {copy:.3} s")?;
     Ok(())
 }
 
@@ -114,11 +138,11 @@ echo "in memory, 16 rounds of 65,536 sectors: $("$bench" memory 16)"
 file=$work/image
 for round in 1 2 3 4 5; do
     ours=$(seconds "$bench" write "$file")
-    dd=$(seconds dd if=/dev/zero of="$file" bs=512 count=131072 conv=fdatasync)
+    dd=$(seconds dd if=/dev/zero of="$file" bs=64k count=1024 conv=fdatasync)
     echo "file, write 64 MiB: $ours s, dd $dd s, ratio $(echo "$ours $dd" | awk '{ printf "%.2f", $1 / $2 }')"
     "$bench" write "$file"
     ours=$(seconds "$bench" read "$file")
-    dd=$(seconds dd if="$file" of=/dev/null bs=512)
+    dd=$(seconds dd if="$file" of=/dev/null bs=64k)
     echo "file, read 64 MiB: $ours s, dd $dd s, ratio $(echo "$ours $dd" | awk '{ printf "%.2f", $1 / $2 }')"
 done
 echo "calls of the system: write $(calls "$bench" write "$file"), read $(calls "$bench" read "$file")"

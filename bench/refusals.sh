@@ -1,10 +1,14 @@
 #!/bin/bash
-# Refuses each allocation of a run of the program in turn, and looks at what it answers. Run by hand: it wants
-# gcc, since the refusals come from a small library that stands before the C library's malloc.
+# Refuses each allocation in turn of a run of the program, and of the programs that test the libraries, and looks
+# at what they answer. Run by hand: it wants gcc, since the refusals come from a small library that stands before
+# the C library's malloc.
 #
-# A run with one refusal may end with status 1, `snapfs: memory` or `snapfs: M5`, and the first replies of the
-# run without it. Else one reply at the most is `err ENOMEM`; a directory that wasn't made by that call is made
-# by the next one, which is the same; and all other replies stay.
+# A run of the program with one refusal may end with status 1, `snapfs: memory` or `snapfs: M5`, and the first
+# replies of the run without it. Else one reply at the most is `err ENOMEM`; a directory that wasn't made by that
+# call is made by the next one, which is the same; and all other replies stay.
+#
+# A test program with one refusal may say that it found no memory. Each case that it finds wrong has to be so for
+# want of memory, and all else that it prints is what it prints without the refusal.
 set -eu
 top=$(cd "$(dirname "$0")/.." && pwd)
 work=$(mktemp -d)
@@ -88,18 +92,44 @@ honest() {
         }' "$work/whole" "$work/out"
 }
 
-answered=0 ended=0 at=1
-while :; do
-    status=0
-    REFUSED=$at REFUSED_MARK=$work/mark LD_PRELOAD=$work/refuse.so "$program" run none "$work/script" \
-        > "$work/out" 2> "$work/err" || status=$?
-    [ -e "$work/mark" ] || break
-    rm "$work/mark"
-    if ! honest "$status"; then
-        echo "allocation $at refused: status $status" && cat "$work/out" "$work/err"
-        exit 1
+# each_refused COMMAND..: runs it with each allocation refused in turn, in the current folder; `honest` judges
+each_refused() {
+    local at=1 answered=0 ended=0 status
+    while :; do
+        status=0
+        REFUSED=$at REFUSED_MARK=$work/mark LD_PRELOAD=$work/refuse.so "$@" > "$work/out" 2> "$work/err" || status=$?
+        [ -e "$work/mark" ] || break
+        rm "$work/mark"
+        if ! "$judge" "$status"; then
+            echo "$1: allocation $at refused: status $status" && cat "$work/out" "$work/err"
+            exit 1
+        fi
+        if [ "$status" = 0 ]; then answered=$((answered + 1)); else ended=$((ended + 1)); fi
+        at=$((at + 1))
+    done
+    echo "${1##*/}: $((at - 1)) allocations refused in turn: $answered runs went on, $ended ended for memory"
+}
+
+# tested STATUS: whether what a test program printed is such as it may be
+tested() {
+    if [ "$1" = 0 ]; then
+        cmp -s "$work/out" "$work/whole"
+        return
     fi
-    if [ "$status" = 0 ]; then answered=$((answered + 1)); else ended=$((ended + 1)); fi
-    at=$((at + 1))
+    grep -qiE 'memory|went wrong' "$work/err" || return 1
+    grep '^wrong: ' "$work/out" | grep -qvE 'ENOMEM|emory' && return 1
+    # What is left has to be a front of the run without refusals, but for the counts of the wrong cases.
+    grep -v '^wrong: ' "$work/out" | sed -E 's/, [0-9]+ wrong$//' > "$work/front"
+    sed -E 's/, [0-9]+ wrong$//' "$work/whole" | head -c "$(wc -c < "$work/front")" | cmp -s - "$work/front"
+}
+
+judge=honest
+each_refused "$program" run none "$work/script"
+
+judge=tested
+for crate in sn_tests sn_tests_disk sn_tests_layout; do
+    folder=$top/crates/$crate
+    (cd "$folder" && rt run -- data > "$work/log" 2>&1) || { tail -n 20 "$work/log"; exit 1; }
+    "$folder/out/$crate" "$folder/data" > "$work/whole"
+    each_refused "$folder/out/$crate" "$folder/data"
 done
-echo "$((at - 1)) allocations refused in turn: $answered runs went on, $ended ended for memory"

@@ -27,8 +27,6 @@ mod laws;
 mod list;
 mod modes;
 mod rights;
-#[cfg(test)]
-mod tests;
 mod text;
 
 pub use access::check;

@@ -17,6 +17,3 @@
 mod block_allocator;
 
 pub use block_allocator::{BlockAllocator, Full};
-
-#[cfg(test)]
-mod tests;

@@ -1,26 +1,11 @@
-//! The program: `snapfs run IMAGE SCRIPT` answers each line of a script with a line.
-//!
-//! `program` is all of it, over the files of a handle and two writers. It has three parts: `command` reads
-//! the words, `read_file` the script, and `answer` makes of a script's bytes the bytes of its replies: its
-//! clause, by `specs/Answers.antt`, is the whole way from a script to what is written. Every fault is a
-//! `Fault`, whose text is the line on standard error.
-//!
-//! ```
-//! let status = program(&rt, &["run", "image", "first.snap"], &mut out, &mut err);
-//! ```
+//! The command `snapfs`: the words of the command line and the streams of the process, handed to
+//! [`sn_program::program`], which does the rest.
 #![tactic(auto)]
 
-mod command;
-mod fault;
-mod program;
-#[cfg(test)]
-mod tests;
-
-use fault::{Fault, tell};
-use program::program;
+use sn_program::{Fault, program, tell};
+use std::env;
 use std::env::Env;
 use std::process::ExitCode;
-use std::{env, io};
 
 /// The words of the command line, without the program's own name.
 fn words<R: Env + AllocGlobal>(rt: &R) -> Result<Vec<String>, Fault> {

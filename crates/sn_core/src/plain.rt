@@ -45,6 +45,3 @@ pub fn run_plain(alloc: Global, events: &[Event]) -> (Vec<Reply>, End)
     answer(alloc, &mut world, events, &mut replies);
     (replies, End::Clean)
 }
-
-#[cfg(test)]
-mod tests;

@@ -1,12 +1,12 @@
 -- What holds of each content that a crash might have left, carried over calls.
-use Rattle.std.proofs.Common.{◌≡◌, ◌≢◌, ◌⊎◌, inl, inr, ⊎_elim, ℕ, ◌<◌, ◌≤◌, List, [], ◌∷◌, ◌++◌, length, slice_set, Contains, refl, sym, ◌∙◌, ap, subst, arith}
+use Rattle.std.proofs.Common.{◌≡◌, ◌≢◌, ◌⊎◌, inl, inr, ⊎_elim, ℕ, ◌-◌, ◌<◌, ◌≤◌, List, [], ◌∷◌, ◌++◌, length, take, slice_set, Contains, refl, sym, ◌∙◌, ap, subst, arith}
 use Rattle.std.proofs.lemmas.List.{length-set, get_or-set_same, get_or-set_other, get_or_past, set_past}
 use Rattle.std.proofs.lemmas.Bool.{cases_eq, cases_lt}
 use Rattle.sn_device.specs.Sectors.{Contents, sector_at, AreSectors, AgreesOutside, AgreesOn, DependsOn, AreDisjoint, IsWithin, Union}
-use Rattle.sn_device.specs.Disk.{Moment, Disk, clock, next, written, synced, MayLeave, CrashNow, MayLeaveAtOne, CrashSince}
+use Rattle.sn_device.specs.Disk.{Moment, Disk, clock, reads, IsSynced, Always, next, written, synced, MayLeave, CrashNow, MayLeaveAtOne, CrashSince}
 use Rattle.sn_device.specs.Crash.{FollowsBy, LeavesOnly, TouchesOnly, AllTouchOnly, Touches}
 use Rattle.sn_device.proofs.SectorLemmas.{AreSectors-set, Contains-more, Contains-first, Contains-cases}
-use Rattle.sn_device.proofs.DiskLemmas.{CrashSince_clock, CrashSince-next, FollowsBy-clock, FollowsBy-join, CrashSince-follows, CrashSince-later}
+use Rattle.sn_device.proofs.DiskLemmas.{CrashSince_clock, CrashSince-next, FollowsBy-clock, FollowsBy-join, CrashSince-follows, CrashSince-later, CrashNow-contents, MayLeave-synced}
 
 FollowsBy-le : (since : List Moment) (old new : Disk) → FollowsBy since old new → clock old ≤ clock new
 FollowsBy-le since old new follows = omega (arith, FollowsBy-clock since old new follows)
@@ -14,8 +14,17 @@ FollowsBy-le since old new follows = omega (arith, FollowsBy-clock since old new
 pub clock-LeavesOnly : (old new : Disk) (P : Contents → Type 0) → LeavesOnly old new P → clock old ≤ clock new
 clock-LeavesOnly old new P run = FollowsBy-le run.follows.0 old new run.follows.1
 
+one-whole : (ms : List Moment) (c : Contents) → MayLeaveAtOne ms c → AreSectors c
+one-whole [] c one = absurd one
+one-whole (m ∷ ms) c (inl left) = left.whole
+one-whole (m ∷ ms) c (inr more) = one-whole ms c more
+
+-- what a crash leaves is made of sectors
+pub CrashSince-whole : (d : Disk) (t : ℕ) (c : Contents) → CrashSince d t c → AreSectors c
+CrashSince-whole d t c since = one-whole (d.present ∷ take (clock d - t) d.past) c since
+
 -- before the first call
-pub LeavesOnly-start : (d : Disk) (P : Contents → Type 0) → ((c : Contents) → CrashNow d c → P c) → LeavesOnly d d P
+pub LeavesOnly-start : (d : Disk) (P : Contents → Type 0) → Always d P → LeavesOnly d d P
 LeavesOnly-start d P here = record { follows = ([], refl); each = λ c since. here c (CrashSince_clock d c since) }
 
 -- one call more
@@ -45,7 +54,8 @@ LeavesOnly-earlier old new P t c run before since = ⊎_elim
     (λ earlier. inl earlier)
     (CrashSince-follows run.follows.0 old new t c run.follows.1 before since)
 
-pub LeavesOnly-now : (old new : Disk) (P : Contents → Type 0) → LeavesOnly old new P → (c : Contents) → CrashNow new c → P c
+-- what holds at every moment holds now
+pub LeavesOnly-now : (old new : Disk) (P : Contents → Type 0) → LeavesOnly old new P → Always new P
 LeavesOnly-now old new P run c now = run.each c (inl now)
 
 module _ (F : ℕ → Type 0) where
@@ -217,7 +227,7 @@ module _ (F G : ℕ → Type 0) (P : Contents → Type 0) (depends : DependsOn G
   at_one old whole here (m ∷ ms) each c (inl left) = MayLeave-kept old m whole here each.0 c left
   at_one old whole here (m ∷ ms) each c (inr more) = at_one old whole here ms each.1 c more
 
-  pub LeavesOnly-touched : (old new : Disk) → AreSectors old.present.sectors → ((c : Contents) → CrashNow old c → P c) → Touches F old new → LeavesOnly old new P
+  pub LeavesOnly-touched : (old new : Disk) → AreSectors (reads old) → Always old P → Touches F old new → LeavesOnly old new P
   LeavesOnly-touched old new whole here run = record {
     follows = (run.since, run.follows);
     each = λ c since. ⊎_elim
@@ -225,3 +235,74 @@ module _ (F G : ℕ → Type 0) (P : Contents → Type 0) (depends : DependsOn G
         (λ now. here c (CrashSince_clock old c now))
         (CrashSince-follows run.since old new (clock old) c run.follows (omega arith) since);
   }
+
+  -- and so it always holds afterwards
+  pub Always-kept : (old new : Disk) → AreSectors (reads old) → Always old P → Touches F old new → Always new P
+  Always-kept old new whole here run = LeavesOnly-now old new P (LeavesOnly-touched old new whole here run)
+
+-- What a crash may leave after calls in a set is what one before them might have left, with any bytes in the set.
+module _ (F : ℕ → Type 0) where
+  pub MayLeave-before : (old new : Moment) (c : Contents) → AreSectors old.sectors → TouchesOnly F old new → MayLeave new c → (d : Contents) × MayLeave old d × AgreesOutside F d c
+  MayLeave-before old new c whole touches left =
+      let agrees = MayLeave-touched F old new c touches left in
+      let possible : MayLeave old (mixed old.unsynced c old.sectors) = record {
+        others = record { count = length-mixed old.unsynced c old.sectors; same = λ i out. mixed-others old.unsynced c old.sectors i out };
+        whole = AreSectors-mixed old.unsynced c old.sectors agrees.count left.whole whole;
+      } in (
+        mixed old.unsynced c old.sectors,
+        possible,
+        record {
+          count = agrees.count ∙ sym (length-mixed old.unsynced c old.sectors);
+          same = λ i out. ⊎_elim
+              (λ same. sym same)
+              (λ none. agrees.same i (λ touched. ⊎_elim out none touched) ∙ sym (mixed-others old.unsynced c old.sectors i none))
+              (mixed-either old.unsynced c old.sectors agrees.count i);
+        },
+      )
+
+  before_one : (old : Moment) (ms : List Moment) (c : Contents) → AreSectors old.sectors → AllTouchOnly F old ms → MayLeaveAtOne ms c → (d : Contents) × MayLeave old d × AgreesOutside F d c
+  before_one old [] c whole each one = absurd one
+  before_one old (m ∷ ms) c whole each (inl left) = MayLeave-before old m c whole each.0 left
+  before_one old (m ∷ ms) c whole each (inr more) = before_one old ms c whole each.1 more
+
+  pub CrashSince-before : (old new : Disk) (c : Contents) → AreSectors (reads old) → Touches F old new → CrashSince new (clock old) c → (d : Contents) × CrashNow old d × AgreesOutside F d c
+  CrashSince-before old new c whole run since = ⊎_elim
+      (before_one old.present run.since c whole run.each)
+      (λ now. MayLeave-before old.present old.present c whole (TouchesOnly-refl F old.present) (CrashSince_clock old c now))
+      (CrashSince-follows run.since old new (clock old) c run.follows (omega arith) since)
+
+  -- where P turns into Q whatever the set comes to hold, each content since has Q
+  pub LeavesOnly-torn : (P Q : Contents → Type 0) → ((c d : Contents) → AreSectors c → AreSectors d → AgreesOutside F c d → P c → Q d)
+      → (old new : Disk) → AreSectors (reads old) → Always old P → Touches F old new → LeavesOnly old new Q
+  LeavesOnly-torn P Q turns old new whole here run = record {
+    follows = (run.since, run.follows);
+    each = λ c since. let before = CrashSince-before old new c whole run since in turns before.0 c before.1.whole (CrashSince-whole new (clock old) c since) before.2 (here before.0 before.1);
+  }
+
+  -- calls in a set are calls in each wider one
+  pub Touches-within : (G : ℕ → Type 0) (old new : Disk) → IsWithin F G → Touches F old new → Touches G old new
+  Touches-within G old new within run = record { since = run.since; follows = run.follows; each = all_within run.since run.each }
+    where
+      all_within : (ms : List Moment) → AllTouchOnly F old.present ms → AllTouchOnly G old.present ms
+      all_within [] each = tt
+      all_within (m ∷ ms) each = (TouchesOnly-within F G old.present m within each.0, all_within ms each.1)
+
+-- After a sync a crash leaves what reads give.
+pub IsSynced-only : (d : Disk) (c : Contents) → IsSynced d → CrashNow d c → c ≡ reads d
+IsSynced-only d c is_synced now =
+    let same : d.present ≡ synced d.present = ap (λ (u : List ℕ). record { sectors = d.present.sectors; unsynced = u }) is_synced in
+    MayLeave-synced d.present c (subst (λ m. MayLeave m c) same now)
+
+pub IsSynced-reads : (d : Disk) (c : Contents) → AreSectors (reads d) → c ≡ reads d → CrashNow d c
+IsSynced-reads d c whole is = subst (CrashNow d) (sym is) (CrashNow-contents d whole)
+
+-- so that what holds of what reads give always holds
+pub Always-synced : (d : Disk) (P : Contents → Type 0) → IsSynced d → P (reads d) → Always d P
+Always-synced d P is_synced here c now = subst P (sym (IsSynced-only d c is_synced now)) here
+
+-- what always holds holds of what reads give
+pub Always-reads : (d : Disk) (P : Contents → Type 0) → AreSectors (reads d) → Always d P → P (reads d)
+Always-reads d P whole here = here (reads d) (CrashNow-contents d whole)
+
+pub Always-weaker : (d : Disk) (P Q : Contents → Type 0) → ((c : Contents) → P c → Q c) → Always d P → Always d Q
+Always-weaker d P Q weaker here c now = weaker c (here c now)

@@ -16,6 +16,14 @@ pub record Disk : Type 0 where
 abbrev pub clock : Disk → ℕ
 clock d = length d.past
 
+-- what reads give now
+abbrev pub reads : Disk → Contents
+reads d = d.present.sectors
+
+-- nothing was written or tried since the last sync that succeeded
+abbrev pub IsSynced : Disk → Type 0
+IsSynced d = d.present.unsynced ≡ []
+
 -- the disk after a call that leads to this moment
 abbrev pub next : Disk → Moment → Disk
 next d m = record { present = m; past = d.present ∷ d.past }
@@ -40,6 +48,10 @@ pub record MayLeave (m : Moment) (c : Contents) : Type 0 where
 -- what a crash now may leave
 abbrev pub CrashNow : Disk → Contents → Type 0
 CrashNow d c = MayLeave d.present c
+
+-- every content that a crash may leave now has P
+abbrev pub Always : Disk → (Contents → Type 0) → Type 0
+Always d P = (c : Contents) → CrashNow d c → P c
 
 -- a crash at one of these moments may leave this
 abbrev pub MayLeaveAtOne : List Moment → Contents → Type 0

@@ -1,7 +1,7 @@
 -- Laws of what a crash may leave.
-use Rattle.std.specs.Prelude.{◌≡◌, ◌⊎◌, ◌↔◌, ℕ, ◌+◌, ◌≤◌, List, Contains}
-use Rattle.sn_device.specs.Sectors.{Contents, AreSectors, AgreesOutside, Single, Run, Union}
-use Rattle.sn_device.specs.Disk.{Moment, Disk, clock, next, written, synced, MayLeave, CrashNow, CrashSince}
+use Rattle.std.specs.Prelude.{◌≡◌, ◌⊎◌, ◌↔◌, ℕ, ◌+◌, ◌≤◌, Bool, List, Contains, IsTrue}
+use Rattle.sn_device.specs.Sectors.{Contents, AreSectors, AgreesOutside, AreDisjoint, DependsOn, Single, Run, Union}
+use Rattle.sn_device.specs.Disk.{Moment, Disk, clock, reads, IsSynced, Always, next, written, synced, MayLeave, CrashNow, CrashSince}
 use Rattle.sn_device.specs.Crash.{Touches}
 
 -- What is possible now counts as possible since any moment.
@@ -33,3 +33,21 @@ SyncSettles = (m : Moment) (c : Contents) → AreSectors m.sectors → MayLeave 
 abbrev pub RunTears : Type 0
 RunTears = (at n : ℕ) (old new : Disk) (c : Contents) → Touches (Run at n) old new → CrashSince new (clock old) c
     → AgreesOutside (Union (Run at n) (Contains old.present.unsynced)) old.present.sectors c
+
+-- What a crash in the course of calls might have left is what one before them might have left, with any bytes in the sectors that they touched.
+abbrev pub TouchesTear : Type 0
+TouchesTear = (touched : List ℕ) (old new : Disk) (c : Contents) → AreSectors (reads old) → Touches (Contains touched) old new → CrashSince new (clock old) c
+    → (d : Contents) × CrashNow old d × AgreesOutside (Contains touched) d c
+
+-- A test of other sectors than those touched, which every content passed that a crash could leave, goes on to be passed by every one.
+abbrev pub OthersAreKept : Type 0
+OthersAreKept = (touched others : List ℕ) (test : Contents → Bool) (old new : Disk) → AreSectors (reads old) → AreDisjoint (Contains touched) (Contains others)
+    → DependsOn (Contains others) (λ c. IsTrue (test c)) → Always old (λ c. IsTrue (test c)) → Touches (Contains touched) old new → Always new (λ c. IsTrue (test c))
+
+-- Where nothing is unsynced, a crash leaves what reads give and nothing else.
+abbrev pub SyncedIsRead : Type 0
+SyncedIsRead = (d : Disk) (c : Contents) → AreSectors (reads d) → IsSynced d → CrashNow d c ↔ (c ≡ reads d)
+
+-- Calls that touch a run of sectors touch each longer run round it.
+abbrev pub RunWidens : Type 0
+RunWidens = (at n from m : ℕ) (old new : Disk) → from ≤ at → at + n ≤ from + m → Touches (Run at n) old new → Touches (Run from m) old new

@@ -1,10 +1,10 @@
 -- The past of a device in memory, read off its record, which undoes it call by call.
-use Rattle.std.specs.Prelude.{ℕ, List, [], ◌∷◌, replicate, slice_set}
+use Rattle.std.specs.Prelude.{ℕ, List, [], ◌∷◌, slice_set}
 use Rattle.sn_device.specs.Sectors.{Contents, sector_at}
 use Rattle.sn_device.specs.Disk.{Moment, Disk}
+use Rattle.sn_device.specs.Fill.{filling}
 use Rattle.sn_device.specs.declared.memory.Entry.{Entry}
 use Rattle.sn_device.specs.declared.fill.Fill.{Fill}
-use Rattle.sn_device.specs.declared.fill.Fill.TheVariants.{Old, New, Zero, One, Junk}
 use Rattle.sn_device.specs.declared.memory.Entry.TheVariants.{Write, Sync, FailedSync}
 
 -- Of a record the newest entry comes first here.
@@ -32,17 +32,9 @@ past_by (entry ∷ earlier) sectors = moment_by earlier (undone entry sectors) �
 abbrev pub disk_by : List Entry → Contents → Disk
 disk_by entries sectors = record { present = moment_by entries sectors; past = past_by entries sectors }
 
--- what a crash puts into a sector, in which this was there before the write and that after it
-abbrev pub filling : Fill → List ℕ → List ℕ → List ℕ
-filling Old before after = before
-filling New before after = after
-filling Zero before after = replicate 512 0
-filling One before after = replicate 512 1
-filling Junk before after = replicate 512 165
-
 -- the sectors after a crash that fills each one written or tried since the last sync
 abbrev pub crashed_by : Fill → List Entry → Contents → Contents
 crashed_by fill [] sectors = sectors
-crashed_by fill (Write at before ∷ earlier) sectors = crashed_by fill earlier (slice_set sectors at (filling fill before (sector_at sectors at)))
+crashed_by fill (Write at before ∷ earlier) sectors = crashed_by fill earlier (slice_set sectors at (filling fill at before (sector_at sectors at)))
 crashed_by fill (Sync ∷ earlier) sectors = sectors
 crashed_by fill (FailedSync ∷ earlier) sectors = crashed_by fill earlier sectors

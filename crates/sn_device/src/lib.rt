@@ -7,7 +7,9 @@
 //! so the number of past moments is the clock. A crash at a moment may leave any bytes in its
 //! unsynced sectors and leaves every other sector as reads give it (`MayLeave`). `CrashNow` is
 //! this for the present moment, and `CrashSince` for some moment since the clock stood at t, so
-//! that a clause can speak of each moment inside a call.
+//! that a clause can speak of each moment inside a call. `Always` says that every content which a
+//! crash may leave now has a property, `reads` is what reads give, and `IsSynced` that a crash
+//! leaves that and nothing else.
 //!
 //! What every device tells, also one that doesn't tell its bytes, is its `Status`: the number of
 //! its sectors, the counts of its failures, writes and syncs, and whether it has come to its end.
@@ -19,11 +21,15 @@
 //!   trait mean, and `crash_laws` that the definitions keep the laws that one would expect.
 //! - `specs/Crash.antt` has the words for the layers above: `LeavesOnly` (each content that a crash
 //!   since some moment might have left has a property) and `Touches` (only sectors of a set were
-//!   written). `proofs/CrashLemmas.antt` carries both over calls, runs of calls and loops, and a
-//!   fact of some sectors over writes elsewhere. `proofs/CallLemmas.antt` has one lemma for each
+//!   written). `proofs/CrashLemmas.antt` carries both over calls, runs of calls and loops. A clause
+//!   on crashes rests on three of its lemmas: `CrashSince-before` (what a crash since a moment may
+//!   leave is what one at that moment may leave, with any bytes in the sectors touched since),
+//!   `Always-kept` (what always holds and depends on other sectors goes on to hold) and
+//!   `Always-synced` (after a sync, what reads give is all). `proofs/CallLemmas.antt` has one for each
 //!   call, `proofs/SectorLemmas.antt` those on sets of sectors, and `proofs/StatusLemmas.antt`
 //!   those on the counts.
-//! - `MemDevice` keeps all this in memory. It can be told to fail, and it can crash.
+//! - `MemDevice` keeps all this in memory. It can be told to fail, and it can crash, with one `Fill`
+//!   for all sectors that weren't synced, or for each of them one that a seed draws.
 //! - `journal` is an example of a layer over any device. Its writer is
 //!
 //! ```text
@@ -54,8 +60,6 @@ mod lent;
 mod memory;
 mod plan;
 mod status;
-#[cfg(test)]
-mod tests;
 
 pub use device::{Device, Fault, SECTOR_SIZE, Sector};
 pub use fill::Fill;

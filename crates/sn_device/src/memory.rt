@@ -5,9 +5,10 @@ ghost use Rattle.sn_device.specs.Status.{has_ended, uncalled, restarted, one_wri
 ghost use Rattle.sn_device.specs.Device.{Writes, Syncs};
 ghost use Rattle.sn_device.specs.Disk.{CrashNow, next, written};
 ghost use Rattle.sn_device.specs.Plan.{is_due, is_write_due, after_call, after_write};
-ghost use Rattle.sn_device.specs.Fill.{fill_byte, last_synced};
-ghost use Rattle.sn_device.specs.Undo.{crashed_by, filling};
+ghost use Rattle.sn_device.specs.Fill.{fill_byte, last_synced, filling};
+ghost use Rattle.sn_device.specs.Undo.{crashed_by};
 
+use crate::fill::drawn;
 use crate::{Device, Fault, Fill, Plan, SECTOR_SIZE, Sector, Status, Stop};
 use std::alloc::{AllocError, Global};
 
@@ -98,6 +99,9 @@ impl MemDevice {
         ensures filled { IfSome (fill_byte fill) (λ byte. EachIndex (contents_of self)
             (λ i. Contains (disk_of self).present.unsynced i
             → sector_at (contents_of result) i ≡ replicate 512 byte)) }
+        ensures each { EachIndex (contents_of self)
+            (λ i. Contains (disk_of self).present.unsynced i → sector_at (contents_of result) i
+            ≡ filling fill i (sector_at (last_synced (disk_of self)) i) (sector_at (contents_of self) i)) }
     {
         let MemDevice {
             mut sectors,
@@ -149,7 +153,7 @@ fn fill_unsynced(sectors: &mut Vec<Sector>, calls: &mut Vec<Entry>, fill: Fill)
         match entry {
             Entry::Write(at, before) => {
                 if let Some(sector) = sectors.get_mut(at as usize) {
-                    *sector = filling(fill, before, *sector);
+                    *sector = filling(fill, at, before, *sector);
                 }
             }
             Entry::Sync => break,
@@ -158,8 +162,8 @@ fn fill_unsynced(sectors: &mut Vec<Sector>, calls: &mut Vec<Entry>, fill: Fill)
     }
 }
 
-fn filling(fill: Fill, before: Sector, after: Sector) -> Sector
-    ensures filled { result ≡ filling fill before after }
+fn filling(fill: Fill, at: u64, before: Sector, after: Sector) -> Sector
+    ensures filled { result ≡ filling fill at before after }
     ensures whole { IsSector result }
 {
     match fill {
@@ -168,6 +172,7 @@ fn filling(fill: Fill, before: Sector, after: Sector) -> Sector
         Fill::Zero => [0; 512],
         Fill::One => [1; 512],
         Fill::Junk => [0xa5; 512],
+        Fill::Seeded(seed) => drawn(seed, at, before, after),
     }
 }
 

@@ -1,3 +1,4 @@
+-- The root of a tree of blocks: its size and its 16 pointers, and how they are spelled.
 use Rattle.std.specs.Prelude.{ℕ, ◌*◌, ◌^◌, ◌<◌, ◌||◌, ◌==◌, Bool, List, ◌++◌, nat_lt}
 use Rattle.std.specs.List.{list_all, enumerate_from}
 use Rattle.sn_layout.specs.declared.tree.BlockTree.{BlockTree}

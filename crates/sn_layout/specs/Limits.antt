@@ -1,3 +1,4 @@
+-- The numbers that each version of the format fixes.
 use Rattle.std.specs.Prelude.{ℕ, Option, Some, None, ◌==◌, if◌then◌else◌}
 use Rattle.sn_layout.specs.declared.limits.Limits.{Limits}
 

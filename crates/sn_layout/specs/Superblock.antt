@@ -1,3 +1,4 @@
+-- The superblock: its one spelling.
 use Rattle.std.specs.Prelude.{ℕ, List, [], ◌∷◌, ◌++◌}
 use Rattle.sn_layout.specs.declared.superblock.Superblock.{Superblock}
 use Rattle.sn_layout.specs.Bytes.{number_bytes, zeros}

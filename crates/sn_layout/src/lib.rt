@@ -46,6 +46,3 @@ pub use snapshots::{SNAPSHOT_ROOM, Snapshots};
 pub use superblock::Superblock;
 pub use tree::BlockTree;
 pub use writer::{put_bytes, put_u8, put_u16, put_u32, put_u32s, put_u64, put_zeros};
-
-#[cfg(test)]
-mod tests;

@@ -32,6 +32,3 @@ pub use fields::{SpecialBits, put_kind, put_special_bits, read_kind, read_specia
 pub use indirect::{IndirectBlock, POINTERS_PER_BLOCK};
 pub use inode::{INODE_SIZE, Inode, InodeRecord, LINKS_MAX};
 pub use name::{put_name, read_name};
-
-#[cfg(test)]
-mod tests;

@@ -7,10 +7,6 @@ use crate::lanes;
 use std::alloc::{AllocError, Global};
 use std::marker::Model;
 
-/// The largest bit of a word that a snapshot can have. A format with more snapshots changes it here
-/// alone.
-pub const LARGEST_BIT: u32 = 20;
-
 /// One word for each block: bit 0 is set where the live file system reaches the block, bit k where
 /// the snapshot with bit k does (Hitz, Lau and Malcolm 1994, block-map file).
 #[derive(Debug, Drop)]
@@ -93,7 +89,7 @@ impl Map {
     /// Whether the root with bit k reaches the block.
     pub fn has_bit(&self, block: u32, k: u32) -> bool
         requires block { block < length self.now }
-        requires bit { k ≤ LARGEST_BIT }
+        requires bit { k < 32 }
         ensures { IsTrue result ↔ (bit_at (slice_index self.now block) k ≡ 1) }
     {
         (self.word(block) >> k) & 1 == 1
@@ -102,7 +98,7 @@ impl Map {
     /// Says that the root with bit k reaches the block.
     pub fn set_bit(&mut self, block: u32, k: u32)
         requires block { block < length self.old }
-        requires bit { k ≤ LARGEST_BIT }
+        requires bit { k < 32 }
         ensures { PutsBit block k 1 self.old self.new }
     {
         self.set_word(block, self.word(block) | (1 << k));
@@ -111,7 +107,7 @@ impl Map {
     /// Says that the root with bit k doesn't reach the block.
     pub fn unset_bit(&mut self, block: u32, k: u32)
         requires block { block < length self.old }
-        requires bit { k ≤ LARGEST_BIT }
+        requires bit { k < 32 }
         ensures { PutsBit block k 0 self.old self.new }
     {
         self.set_word(block, self.word(block) & !(1 << k));
@@ -159,7 +155,7 @@ impl Map {
     /// Makes bit k of each word what its bit 0 is: the snapshot with bit k reaches what the live
     /// file system reaches.
     pub fn copy_bit0_to(&mut self, k: u32)
-        requires { k ≤ LARGEST_BIT }
+        requires { k < 32 }
         ensures words { self.new ≡ map (with_bit_copied 0 k) self.old }
         ensures bits { CopiesBit 0 k self.old self.new }
     {
@@ -169,7 +165,7 @@ impl Map {
     /// Makes bit 0 of each word what its bit k is: the live file system reaches what the snapshot
     /// with bit k reaches.
     pub fn copy_bit_to_0(&mut self, k: u32)
-        requires { k ≤ LARGEST_BIT }
+        requires { k < 32 }
         ensures words { self.new ≡ map (with_bit_copied k 0) self.old }
         ensures bits { CopiesBit k 0 self.old self.new }
     {
@@ -179,7 +175,7 @@ impl Map {
     /// Makes bit k of each word 0: no block is reached by the snapshot with bit k, and a block that
     /// nothing else reaches is free.
     pub fn clear_bit(&mut self, k: u32)
-        requires { k ≤ LARGEST_BIT }
+        requires { k < 32 }
         ensures words { self.new ≡ map (with_bit_cleared k) self.old }
         ensures bits { ClearsBit k self.old self.new }
     {

@@ -25,7 +25,4 @@ mod block_map;
 mod lanes;
 mod plain;
 
-pub use block_map::{LARGEST_BIT, Map};
-
-#[cfg(test)]
-mod tests;
+pub use block_map::Map;

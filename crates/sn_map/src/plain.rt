@@ -1,6 +1,6 @@
 //! Each loop over the words of the map, a word at a time.
 //!
-//! The loops on lanes leave their last words to these, and the tests compare the two.
+//! The loops on lanes leave their last words to these.
 ghost use Rattle.std.specs.Prelude.{◌≡◌, ◌<◌, map, count_by, position};
 ghost use Rattle.sn_map.specs.Bits.{with_bit_copied, with_bit_cleared};
 ghost use Rattle.sn_map.specs.Free.{is_free_word};

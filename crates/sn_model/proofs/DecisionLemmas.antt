@@ -1,12 +1,11 @@
 -- What a call that makes a node has found.
-use Rattle.std.proofs.Common.{◌≡◌, ◌≢◌, ℕ, Bool, true, false, cond, List, [], ◌∷◌, Option, Some, None, Result, Ok, Err, refl, sym, ap, subst, ◌∙◌, ◌⊎◌, inl, inr}
+use Rattle.std.proofs.Common.{◌≡◌, ℕ, Bool, true, false, cond, List, [], ◌∷◌, Option, Some, None, Result, Ok, Err, is_none, nat_le, refl, sym, ap, subst, ◌∙◌}
 use Rattle.std.specs.Prelude.{IsSomeAnd}
-use Rattle.std.specs.Option.{option_map}
-use Rattle.std.specs.Ordering.{nat_cmp}
-use Rattle.std.specs.Cmp.{nat_cmp_total}
-use Rattle.std.proofs.lemmas.Map.Lookups.{exact_unsigned}
+use Rattle.std.specs.Option.{option_map, option_and_then}
 use Rattle.std.specs.FinMap as map
+use Rattle.sn_acl.specs.Credential.{Credential}
 use Rattle.sn_acl.specs.declared.modes.Mode.{Mode}
+use Rattle.sn_acl.specs.Access.{denial_of}
 use Rattle.sn_walk.specs.declared.view.Kind.TheVariants.{Directory}
 use Rattle.sn_walk.specs.declared.view.Attributes.{Attributes}
 use Rattle.sn_walk.specs.declared.view.Object.{Object}
@@ -18,30 +17,23 @@ use Rattle.sn_walk.specs.Paths.{last_after}
 use Rattle.sn_walk.specs.Views.{attributes_at, child_of, is_hidden_name}
 use Rattle.sn_walk.specs.Walks.{EndsAt, walk_of}
 use Rattle.sn_walk.proofs.WalkLemmas.{ends_at}
-use Rattle.sn_model.specs.declared.call.Call.{Call}
+use Rattle.sn_model.specs.declared.reply.Access.{Access}
+use Rattle.sn_model.specs.declared.reply.Errno.TheVariants.{Elimit}
 use Rattle.sn_model.specs.declared.reply.Refusal.{Refusal}
-use Rattle.sn_model.specs.declared.reply.Reply.{Reply}
+use Rattle.sn_model.specs.declared.reply.Status.{Status}
 use Rattle.sn_model.specs.declared.session.Session.{Session}
-use Rattle.sn_model.specs.Tree.{Tree, Node, attributes_of, link_cmp, link_to, viewed}
-use Rattle.sn_model.specs.declared.link.Link.{Link}
-use Rattle.sn_model.specs.declared.call.Event.{Event}
-use Rattle.sn_model.specs.declared.call.Event.TheVariants as event
-use Rattle.sn_model.specs.World.{World, new_root, new_tree, new_world}
-use Rattle.sn_model.specs.Tests.{◌>>=◌, prefix, walked, not_present, vacant, live, writable_parent, has_room, full}
-use Rattle.sn_model.specs.Calls.{Ready, Outcome, Opens, Makes, Tells, Login, Mkdir, Stat, ready, outcome_of, mkdir_outcome, stat_outcome, told, status_of, number_of, new_directory, last_name}
-use Rattle.sn_model.specs.Laws.{HasKind, IsHierarchy, Reaches, root}
-use Rattle.sn_model.specs.Steps.{Becomes, EventStep, Run, Step, decision}
-use Rattle.sn_model.proofs.HierarchyLemmas.{hierarchy_made, least_is_unused, same_or_apart}
-use Rattle.sn_model.proofs.LinkLemmas.{get_inserted, get_other}
+use Rattle.sn_model.specs.Tree.{Tree, Node, attributes_of, link_to, names_in, least_unused, viewed}
+use Rattle.sn_model.specs.Tests.{◌>>=◌, plain, prefix, walked, not_present, vacant, live, rights_of, unless_denied, granted, write, writable_parent, has_room, full}
+use Rattle.sn_model.specs.Calls.{Outcome, Makes, Tells, mkdir_outcome, stat_outcome, told, status_of, number_of, new_directory, last_name}
 
-bind_ok : {A B : Type 0} (r : Result A Refusal) (f : A → Result B Refusal) (y : B) → (r >>= f) ≡ Ok y → (x : A) × (r ≡ Ok x) × (f x ≡ Ok y)
+pub bind_ok : {A B : Type 0} (r : Result A Refusal) (f : A → Result B Refusal) (y : B) → (r >>= f) ≡ Ok y → (x : A) × (r ≡ Ok x) × (f x ≡ Ok y)
 bind_ok (Ok x) f y e = (x, refl, e)
 bind_ok (Err r) f y e = cc
 
-abbrev ok : {A : Type 0} → A → Result A Refusal
+abbrev pub ok : {A : Type 0} → A → Result A Refusal
 ok x = Ok x
 
-same_ok : {A : Type 0} (x y : A) → ok x ≡ Ok y → x ≡ y
+pub same_ok : {A : Type 0} (x y : A) → ok x ≡ Ok y → x ≡ y
 same_ok x y e = cc
 
 walked_ok : (path : ℕ) (r : Result Walked WalkRefusal) (w : Walked) → walked path r ≡ Ok w → r ≡ Ok w
@@ -52,25 +44,24 @@ live_node : (o : Object) (d : ℕ) → live o ≡ Ok d → o ≡ object.Node d
 live_node (object.Node n) d e = ap (λ (k : ℕ). object.Node k) (same_ok n d e)
 live_node object.Hidden d e = cc
 
--- a name that isn't there yet is the last of the path, in a directory
-pub record IsNew (tree : Tree) (names : List (List ℕ)) (directory : ℕ) : Type 0 where
-  pub absent : map.get tree.links (link_to directory (last_name names)) ≡ None
-  pub parent : HasKind tree directory Directory
-
-hidden_apart : (b : Bool) (o : Option ℕ) → cond b (Some object.Hidden) (option_map object.Node o) ≡ None → o ≡ None
+hidden_apart : (b : Bool) (o : Option ℕ) → cond b (Some object.Hidden) (option_map object.Node o) ≡ None → (b ≡ false) × (o ≡ None)
 hidden_apart true o e = cc
-hidden_apart false None e = refl
+hidden_apart false None e = (refl, refl)
 hidden_apart false (Some n) e = cc
-
-kind_of_node : (tree : Tree) (number : ℕ) (o : Option Node) → IsSomeAnd (option_map (attributes_of tree number) o) (λ a. a.kind ≡ Directory) → IsSomeAnd o (λ node. node.kind ≡ Directory)
-kind_of_node tree number None h = h
-kind_of_node tree number (Some node) h = h
 
 vacant_is : (at directory : Object) (place end : ℕ) (o : Option Object) → vacant at place o ≡ Ok (directory, end) → (at ≡ directory) × (o ≡ None)
 vacant_is at directory place end None e =
     let same : (at, place) ≡ (directory, end) = same_ok (at, place) (directory, end) e in
     (ap (λ (p : Object × ℕ). p.0) same, refl)
 vacant_is at directory place end (Some x) e = cc
+
+-- a name that isn't there yet is the last of the path, and hides nothing
+pub record IsNew (tree : Tree) (names : List (List ℕ)) (directory : ℕ) : Type 0 where
+  pub first : List ℕ
+  pub more : List (List ℕ)
+  pub some_names : names ≡ first ∷ more
+  pub absent : map.get tree.links (link_to directory (last_name names)) ≡ None
+  pub seen : is_hidden_name directory (last_name names) ≡ false
 
 new_name : (tree : Tree) (names : List (List ℕ)) (w : Walked) (v : Object × ℕ) (directory : ℕ) → EndsAt (viewed tree) names w → not_present w ≡ Ok v → live v.0 ≡ Ok directory → IsNew tree names directory
 new_name tree names Root v directory ends e l = cc
@@ -79,88 +70,95 @@ new_name tree (name ∷ names) (Name at place o) v directory ends e l =
     let is = vacant_is at v.0 place v.1 o e in
     let node : at ≡ object.Node directory = is.0 ∙ live_node v.0 directory l in
     let none : child_of (viewed tree) (object.Node directory) (last_after name names) ≡ None = ap (λ (x : Object). child_of (viewed tree) x (last_after name names)) (sym node) ∙ sym ends.1 ∙ is.1 in
+    let h = hidden_apart (is_hidden_name directory (last_after name names)) _ none in
+    record { first = name; more = names; some_names = refl; absent = h.1; seen = h.0 }
+
+kind_is : (tree : Tree) (names : List (List ℕ)) (w : Walked) (v : Object × ℕ) (directory : ℕ) → EndsAt (viewed tree) names w → not_present w ≡ Ok v → live v.0 ≡ Ok directory → IsSomeAnd (attributes_at (viewed tree) (object.Node directory)) (λ a. a.kind ≡ Directory)
+kind_is tree names Root v directory ends e l = cc
+kind_is tree [] (Name at place o) v directory ends e l = cc
+kind_is tree (name ∷ names) (Name at place o) v directory ends e l =
+    let is = vacant_is at v.0 place v.1 o e in
+    subst (λ (x : Object). IsSomeAnd (attributes_at (viewed tree) x) (λ a. a.kind ≡ Directory)) (is.0 ∙ live_node v.0 directory l) ends.2
+
+-- an access is granted to what is there
+granted_is : (cred : Credential) (path place : ℕ) (want : Access) (o : Option Attributes) (a : Attributes) → granted cred path place want o ≡ Ok a → o ≡ Some a
+granted_is cred path place want None a e = cc
+granted_is cred path place want (Some x) a e =
+    let p = bind_ok (unless_denied path place want (denial_of cred x.owner x.group x.acl (rights_of want))) (λ _. ok x) a e in
+    ap (λ (y : Attributes). Some y) (same_ok x a p.2)
+
+seen_node : (tree : Tree) (number : ℕ) (o : Option Node) (a : Attributes) → option_map (attributes_of tree number) o ≡ Some a → (x : Node) × (o ≡ Some x) × (a ≡ attributes_of tree number x)
+seen_node tree number None a e = cc
+seen_node tree number (Some x) a e =
+    let same : attributes_of tree number x ≡ a = cc in
+    (x, refl, sym same)
+
+room_is : (tree : Tree) (directory : ℕ) (u : Unit {0}) → has_room tree directory ≡ Ok u → nat_le 65535 (names_in tree directory) ≡ false
+room_is tree directory u e = told (is_none (least_unused tree)) (nat_le 65535 (names_in tree directory)) e
+  where
+    told : (a b : Bool) → cond a (Err (plain Elimit)) (cond b (Err (plain Elimit)) (ok tt)) ≡ Ok u → b ≡ false
+    told true b f = cc
+    told false true f = cc
+    told false false f = refl
+
+-- what mkdir has found, and what it makes
+pub record Mkdir (tree : Tree) (s : Session) (names : List (List ℕ)) (mode : Mode) (directory : ℕ) (name : List ℕ) (node : Node) : Type 0 where
+  pub new : IsNew tree names directory
+  pub called : name ≡ last_name names
+  pub parent : Node
+  pub there : map.get tree.nodes directory ≡ Some parent
+  pub kind : parent.kind ≡ Directory
+  pub room : nat_le 65535 (names_in tree directory) ≡ false
+  pub made : node ≡ new_directory s mode (attributes_of tree directory parent) parent.default_acl
+
+default_at : (tree : Tree) (directory : ℕ) (parent : Node) → map.get tree.nodes directory ≡ Some parent → (viewed tree).default_acl directory ≡ parent.default_acl
+default_at tree directory parent e = ap (option_and_then (λ (node : Node). node.default_acl)) e
+
+made_as : (s : Session) (mode : Mode) (tree : Tree) (directory d : ℕ) (p : Attributes) (parent node : Node) → new_directory s mode p ((viewed tree).default_acl d) ≡ node → d ≡ directory → p ≡ attributes_of tree directory parent → map.get tree.nodes directory ≡ Some parent → node ≡ new_directory s mode (attributes_of tree directory parent) parent.default_acl
+made_as s mode tree directory d p parent node made at seen there =
+    let default : (viewed tree).default_acl d ≡ parent.default_acl = ap ((viewed tree).default_acl) at ∙ default_at tree directory parent there in
+    sym made ∙ ap (λ (a : Attributes). new_directory s mode a ((viewed tree).default_acl d)) seen ∙ ap (new_directory s mode (attributes_of tree directory parent)) default
+
+pub mkdir_is : (tree : Tree) (s : Session) (names : List (List ℕ)) (mode : Mode) (directory : ℕ) (name : List ℕ) (node : Node) → mkdir_outcome tree s names mode ≡ Ok (Makes directory name node) → Mkdir tree s names mode directory name node
+mkdir_is tree s names mode directory name node e =
+    let last = λ (p : Attributes) (d : ℕ). ok (Makes d (last_name names) (new_directory s mode p ((viewed tree).default_acl d))) in
+    let v = bind_ok (prefix tree s.cred 1 names >>= not_present) (λ v. live v.0 >>= (λ d. writable_parent tree s.cred 1 v.1 d >>= (λ p. has_room tree d >>= (λ _. last p d)))) (Makes directory name node) e in
+    let d = bind_ok (live v.0.0) (λ d. writable_parent tree s.cred 1 v.0.1 d >>= (λ p. has_room tree d >>= (λ _. last p d))) (Makes directory name node) v.2 in
+    let p = bind_ok (writable_parent tree s.cred 1 v.0.1 d.0) (λ p. has_room tree d.0 >>= (λ _. last p d.0)) (Makes directory name node) d.2 in
+    let r = bind_ok (has_room tree d.0) (λ _. last p.0 d.0) (Makes directory name node) p.2 in
+    let w = bind_ok (prefix tree s.cred 1 names) not_present v.0 v.1 in
+    let same : Makes d.0 (last_name names) (new_directory s mode p.0 ((viewed tree).default_acl d.0)) ≡ Makes directory name node = same_ok (Makes d.0 (last_name names) (new_directory s mode p.0 ((viewed tree).default_acl d.0))) (Makes directory name node) r.2 in
+    let at : d.0 ≡ directory = cc same in
+    let called : last_name names ≡ name = cc same in
+    let made : new_directory s mode p.0 ((viewed tree).default_acl d.0) ≡ node = cc same in
+    let ends = ends_at (viewed tree) s.cred names w.0 (walked_ok 1 (walk_of (viewed tree) s.cred names) w.0 w.1) in
+    let lives : live v.0.0 ≡ Ok directory = d.1 ∙ ap (λ (k : ℕ). Ok k) at in
+    let x = seen_node tree directory (map.get tree.nodes directory) p.0 (granted_is s.cred 1 v.0.1 write (attributes_at (viewed tree) (object.Node directory)) p.0 (ap (λ (k : ℕ). writable_parent tree s.cred 1 v.0.1 k) (sym at) ∙ p.1)) in
     record {
-      absent = hidden_apart (is_hidden_name directory (last_after name names)) _ none;
-      parent = kind_of_node tree directory _ (subst (λ (x : Object). IsSomeAnd (attributes_at (viewed tree) x) (λ a. a.kind ≡ Directory)) node ends.2);
+      new = new_name tree names w.0 v.0 directory ends w.2 lives;
+      called = sym called;
+      parent = x.0;
+      there = x.1;
+      kind = subst (λ (o : Option Node). IsSomeAnd (option_map (attributes_of tree directory) o) (λ a. a.kind ≡ Directory)) {y = Some x.0} x.1 (kind_is tree names w.0 v.0 directory ends w.2 lives);
+      room = ap (λ (k : ℕ). nat_le 65535 (names_in tree k)) (sym at) ∙ room_is tree d.0 r.0 r.1;
+      made = made_as s mode tree directory d.0 p.0 x.0 node made at x.2 x.1;
     }
 
-mkdir_new : (tree : Tree) (s : Session) (names : List (List ℕ)) (mode : Mode) (directory : ℕ) (name : List ℕ) (node : Node) → mkdir_outcome tree s names mode ≡ Ok (Makes directory name node) → IsNew tree names directory × (name ≡ last_name names)
-mkdir_new tree s names mode directory name node e =
-    let v = bind_ok (prefix tree s.cred 1 names >>= not_present) (λ v. live v.0 >>= (λ d. writable_parent tree s.cred 1 v.1 d >>= (λ p. has_room tree d >>= (λ _. Ok (Makes d (last_name names) (new_directory s mode p ((viewed tree).default_acl d))))))) (Makes directory name node) e in
-    let d = bind_ok (live v.0.0) (λ d. writable_parent tree s.cred 1 v.0.1 d >>= (λ p. has_room tree d >>= (λ _. Ok (Makes d (last_name names) (new_directory s mode p ((viewed tree).default_acl d)))))) (Makes directory name node) v.2 in
-    let p = bind_ok (writable_parent tree s.cred 1 v.0.1 d.0) (λ p. has_room tree d.0 >>= (λ _. Ok (Makes d.0 (last_name names) (new_directory s mode p ((viewed tree).default_acl d.0))))) (Makes directory name node) d.2 in
-    let r = bind_ok (has_room tree d.0) (λ _. Ok (Makes d.0 (last_name names) (new_directory s mode p.0 ((viewed tree).default_acl d.0)))) (Makes directory name node) p.2 in
-    let w = bind_ok (prefix tree s.cred 1 names) not_present v.0 v.1 in
-    let same : Makes d.0 (last_name names) (new_directory s mode p.0 ((viewed tree).default_acl d.0)) ≡ Makes directory name node = same_ok _ _ r.2 in
-    let at : d.0 ≡ directory = cc same in
-    let called : name ≡ last_name names = cc same in
-    let ends = ends_at (viewed tree) s.cred names w.0 (walked_ok 1 (walk_of (viewed tree) s.cred names) w.0 w.1) in
-    (new_name tree names w.0 v.0 directory ends w.2 (d.1 ∙ ap (λ (k : ℕ). Ok k) at), called)
+-- mkdir makes a directory, and stat tells
+pub mkdir_makes : (tree : Tree) (s : Session) (names : List (List ℕ)) (mode : Mode) (o : Outcome) → mkdir_outcome tree s names mode ≡ Ok o → (directory : ℕ) × (name : List ℕ) × (node : Node) × (o ≡ Makes directory name node)
+mkdir_makes tree s names mode o e =
+    let last = λ (p : Attributes) (d : ℕ). ok (Makes d (last_name names) (new_directory s mode p ((viewed tree).default_acl d))) in
+    let v = bind_ok (prefix tree s.cred 1 names >>= not_present) (λ v. live v.0 >>= (λ d. writable_parent tree s.cred 1 v.1 d >>= (λ p. has_room tree d >>= (λ _. last p d)))) o e in
+    let d = bind_ok (live v.0.0) (λ d. writable_parent tree s.cred 1 v.0.1 d >>= (λ p. has_room tree d >>= (λ _. last p d))) o v.2 in
+    let p = bind_ok (writable_parent tree s.cred 1 v.0.1 d.0) (λ p. has_room tree d.0 >>= (λ _. last p d.0)) o d.2 in
+    let r = bind_ok (has_room tree d.0) (λ _. last p.0 d.0) o p.2 in
+    (d.0, last_name names, new_directory s mode p.0 ((viewed tree).default_acl d.0), sym (same_ok _ o r.2))
 
-told_tells : (number : ℕ) (o : Option Attributes) (directory : ℕ) (name : List ℕ) (node : Node) → told number o ≡ Ok (Makes directory name node) → ⊥
-told_tells number None directory name node e = cc
-told_tells number (Some a) directory name node e = let never : Tells (status_of number a) ≡ Makes directory name node = same_ok _ _ e in cc
+told_tells : (number : ℕ) (a : Option Attributes) (o : Outcome) → told number a ≡ Ok o → (status : Status) × (o ≡ Tells status)
+told_tells number None o e = cc
+told_tells number (Some a) o e = (status_of number a, sym (same_ok _ o e))
 
-stat_makes_nothing : (tree : Tree) (s : Session) (names : List (List ℕ)) (directory : ℕ) (name : List ℕ) (node : Node) → stat_outcome tree s names ≡ Ok (Makes directory name node) → ⊥
-stat_makes_nothing tree s names directory name node e =
-    let o = bind_ok (full tree s.cred 1 names) (λ o. told (number_of o) (attributes_at (viewed tree) o)) (Makes directory name node) e in
-    told_tells (number_of o.0) (attributes_at (viewed tree) o.0) directory name node o.2
-
--- the name that a call makes isn't there yet, and its directory is
-makes_new : (world : World) (r : Ready) (directory : ℕ) (name : List ℕ) (node : Node) → outcome_of world r ≡ Ok (Makes directory name node) → (map.get world.live.links (link_to directory name) ≡ None) × HasKind world.live directory Directory
-makes_new world (Login s) directory name node e = cc
-makes_new world (Mkdir s names mode) directory name node e =
-    let h = mkdir_new world.live s names mode directory name node e in
-    (ap (λ (n : List ℕ). map.get world.live.links (link_to directory n)) h.1 ∙ h.0.absent, h.0.parent)
-makes_new world (Stat s names) directory name node e = absurd (stat_makes_nothing world.live s names directory name node e)
-
-becomes_hierarchy : (old new : World) (session : ℕ) (c : Call) (d : Result Outcome Refusal) (reply : Reply) → decision old session c ≡ d → Becomes old session d reply new → IsHierarchy old.live → IsHierarchy new.live
-becomes_hierarchy old new session c (Err r) reply e h whole = subst (λ (w : World). IsHierarchy w.live) (sym h.1) whole
-becomes_hierarchy old new session c (Ok (Opens s)) reply e h whole = subst (λ (w : World). IsHierarchy w.live) (sym h.1) whole
-becomes_hierarchy old new session c (Ok (Tells s)) reply e h whole = subst (λ (w : World). IsHierarchy w.live) (sym h.1) whole
-becomes_hierarchy old new session c (Ok (Makes directory name node)) reply e h whole =
-    let b = bind_ok (ready old session c) (outcome_of old) (Makes directory name node) e in
-    let found = makes_new old b.0 directory name node b.2 in
-    subst (λ (w : World). IsHierarchy w.live) (sym h.3) (hierarchy_made old.live h.0 (link_to directory name) node whole (least_is_unused old.live h.0 h.1) found.0 found.1)
-
-step_hierarchy : (old new : World) (session : ℕ) (c : Call) (reply : Reply) → Step old session c reply new → IsHierarchy old.live → IsHierarchy new.live
-step_hierarchy old new session c reply (inl h) whole = becomes_hierarchy old new session c (decision old session c) reply refl h whole
-step_hierarchy old new session c reply (inr h) whole = subst (λ (w : World). IsHierarchy w.live) (sym h.same) whole
-
-new_named : (l : Link) (n : ℕ) → map.get new_tree.links l ≡ Some n → ⊥
-new_named l n e = let never : None ≡ Some n = sym (map.get-empty link_cmp l) ∙ e in cc
-
-new_node_at : map.get new_tree.nodes 2 ≡ Some new_root
-new_node_at = get_inserted nat_cmp_total map.empty 2 new_root
-
-new_kind : HasKind new_tree 2 Directory
-new_kind = subst (λ (o : Option Node). IsSomeAnd o (λ node. node.kind ≡ Directory)) (sym new_node_at) refl
-
-new_reached : (n : ℕ) → HasKind new_tree n Directory → Reaches new_tree n
-new_reached n kind = told (same_or_apart nat_cmp_total exact_unsigned n 2)
-  where
-    told : (n ≡ 2) ⊎ (n ≢ 2) → Reaches new_tree n
-    told (inl same) = subst (λ (m : ℕ). Reaches new_tree m) (sym same) root
-    told (inr apart) = absurd (subst (λ (o : Option Node). IsSomeAnd o (λ node. node.kind ≡ Directory)) (get_other nat_cmp_total exact_unsigned map.empty 2 new_root n apart ∙ map.get-empty nat_cmp n) kind)
-
-new_hierarchy : IsHierarchy new_tree
-new_hierarchy = record {
-  root = new_kind;
-  unnamed = λ l e. new_named l 2 e;
-  held = λ l n e. absurd (new_named l n e);
-  leads = λ l n e. absurd (new_named l n e);
-  once = λ a b n kind ea eb. absurd (new_named a n ea);
-  reached = new_reached;
-}
-
-event_hierarchy : (old new : World) (e : Event) (reply : Reply) → EventStep old e reply new → IsHierarchy old.live → IsHierarchy new.live
-event_hierarchy old new (event.Call session c) reply step whole = step_hierarchy old new session c reply step whole
-
-run_from : (old last : World) (events : List Event) (replies : List Reply) → Run old events replies last → IsHierarchy old.live → IsHierarchy last.live
-run_from old last [] [] run whole = subst (λ (w : World). IsHierarchy w.live) (sym run) whole
-run_from old last [] (reply ∷ replies) run whole = absurd run
-run_from old last (e ∷ events) [] run whole = absurd run
-run_from old last (e ∷ events) (reply ∷ replies) run whole = run_from run.0 last events replies run.2 (event_hierarchy old run.0 e reply run.1 whole)
-
-pub run_hierarchy : (events : List Event) (replies : List Reply) (last : World) → Run new_world events replies last → IsHierarchy last.live
-run_hierarchy events replies last run = run_from new_world last events replies run new_hierarchy
+pub stat_tells : (tree : Tree) (s : Session) (names : List (List ℕ)) (o : Outcome) → stat_outcome tree s names ≡ Ok o → (status : Status) × (o ≡ Tells status)
+stat_tells tree s names o e =
+    let x = bind_ok (full tree s.cred 1 names) (λ x. told (number_of x) (attributes_at (viewed tree) x)) o e in
+    told_tells (number_of x.0) (attributes_at (viewed tree) x.0) o x.2

@@ -1,28 +1,19 @@
 -- A new directory keeps the tree of directories.
-use Rattle.std.proofs.Common.{◌≡◌, ◌≢◌, ℕ, zero, suc, ◌+◌, Bool, true, false, cond, Option, Some, None, refl, sym, ap, subst, ◌∙◌, ◌⊎◌, inl, inr}
+use Rattle.std.proofs.Common.{◌≡◌, ◌≢◌, ℕ, zero, suc, ◌+◌, Bool, true, false, cond, Option, Some, None, refl, sym, ap, subst, ◌∙◌, ◌⊎◌, inl, inr, ◌≤◌, ◌<◌, arith}
 use Rattle.std.specs.Prelude.{IsSomeAnd}
 use Rattle.std.specs.Option.{is_some}
-use Rattle.std.specs.declared.cmp.Ordering.{Ordering}
-use Rattle.std.specs.Ordering.{nat_cmp, eq_by_cmp}
-use Rattle.std.specs.Cmp.{IsTotalOrder, nat_cmp_total, eq_by_cmp_equiv}
+use Rattle.std.specs.Ordering.{nat_cmp}
+use Rattle.std.specs.Cmp.{nat_cmp_total}
 use Rattle.std.proofs.lemmas.Bool.{true≢false}
-use Rattle.std.proofs.lemmas.Map.Views.{tells_apart}
 use Rattle.std.specs.FinMap as map
-use Rattle.std.proofs.lemmas.Map.Lookups.{CmpEqualImpliesEq, exact_unsigned}
+use Rattle.std.proofs.lemmas.Map.Lookups.{exact_unsigned}
 use Rattle.sn_walk.specs.declared.view.Kind.{Kind}
 use Rattle.sn_walk.specs.declared.view.Kind.TheVariants.{Directory}
 use Rattle.sn_model.specs.declared.link.Link.{Link}
 use Rattle.sn_model.specs.Tree.{Tree, Node, link_to, unused_from, least_unused, with_node}
-use Rattle.sn_model.specs.Laws.{Reaches, root, below, HasKind, IsHierarchy}
-use Rattle.sn_model.proofs.LinkLemmas.{exact_links, links_total, get_inserted, get_other}
-
--- two keys of an exact order are one or two
-pub same_or_apart : {K : Type 0} {R : K → K → Ordering} → IsTotalOrder R → CmpEqualImpliesEq R → (a b : K) → (a ≡ b) ⊎ (a ≢ b)
-same_or_apart {K} {R} o exact a b = decided (eq_by_cmp R a b) refl
-  where
-    decided : (t : Bool) → eq_by_cmp R a b ≡ t → (a ≡ b) ⊎ (a ≢ b)
-    decided true e = inl (tells_apart exact a b e)
-    decided false e = inr (λ same. absurd (true≢false (sym ((eq_by_cmp_equiv o).refl a) ∙ ap (eq_by_cmp R a) same ∙ e)))
+use Rattle.sn_model.specs.NameTree.{Reaches, root, below, HasKind, IsHierarchy}
+use Rattle.sn_model.proofs.LinkLemmas.{exact_links, links_total}
+use Rattle.sn_model.proofs.MapLemmas.{same_or_apart, get_inserted, get_other}
 
 -- the unused number has no node, and isn't below the first
 found_unused : (nodes : map.FinMap nat_cmp Node) (first more number : ℕ) → unused_from nodes first more ≡ Some number → map.get nodes number ≡ None
@@ -36,6 +27,20 @@ found_unused nodes first (suc more) number e = looked (map.get nodes first) refl
         let same : first ≡ number = cc in
         ap (map.get nodes) (sym same) ∙ a
     looked (Some n) a further h = further (rw a at h)
+
+-- and lies among those that were looked at
+found_among : (nodes : map.FinMap nat_cmp Node) (first more number : ℕ) → unused_from nodes first more ≡ Some number → (first ≤ number) × (number < first + more)
+unfolding unused_from
+found_among nodes first zero number e = cc
+found_among nodes first (suc more) number e = looked (is_some (map.get nodes first)) (found_among nodes (first + 1) more number) e
+  where
+    looked : (b : Bool) → (unused_from nodes (first + 1) more ≡ Some number → (first + 1 ≤ number) × (number < first + 1 + more)) → cond b (unused_from nodes (first + 1) more) (Some first) ≡ Some number → (first ≤ number) × (number < first + suc more)
+    looked true further h = let k = further h in (omega (arith, k.0), omega (arith, k.1))
+    looked false further h = let same : first ≡ number = cc in (omega (arith, same), omega (arith, same))
+
+pub least_is_among : (tree : Tree) (number : ℕ) → least_unused tree ≡ Some number → (2 ≤ number) × (number < 65536)
+unfolding least_unused
+least_is_among tree number e = let k = found_among tree.nodes 2 65534 number e in (k.0, omega (arith, k.1))
 
 pub least_is_unused : (tree : Tree) (number : ℕ) → least_unused tree ≡ Some number → map.get tree.nodes number ≡ None
 unfolding least_unused

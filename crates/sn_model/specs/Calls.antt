@@ -1,4 +1,4 @@
--- Each call as the list of its tests, in their order, with what it comes to where all pass.
+-- Each call as the list of its tests, in their order, with what it comes to where all pass: POSIX.1-2017, mkdir() and stat(); sessions and the order of the tests are rules of this project.
 use Rattle.std.specs.Prelude.{ℕ, true, false, List, [], Option, None, Some, Result, Ok, Err, unwrap_or, if◌then◌else◌}
 use Rattle.sn_acl.specs.declared.entries.Entry.{Entry}
 use Rattle.sn_acl.specs.declared.modes.Mode.{Mode}

@@ -1,17 +1,21 @@
 -- What the definitions of calls come to, said as a user of a file system would say it.
-use Rattle.std.specs.Prelude.{◌≡◌, ◌≢◌, ℕ, true, List, Some, is_some, IsSomeAnd}
+use Rattle.std.specs.Prelude.{◌≡◌, ◌≢◌, ℕ, List, Some, Ok}
+use Rattle.std.specs.List.{AllByRecursion}
 use Rattle.std.specs.FinMap as map
-use Rattle.sn_walk.specs.declared.view.Kind.{Kind}
-use Rattle.sn_walk.specs.declared.view.Kind.TheVariants.{Directory}
 use Rattle.sn_model.specs.declared.call.Call.{Call}
 use Rattle.sn_model.specs.declared.link.Link.{Link}
 use Rattle.sn_model.specs.declared.reply.Refusal.{Refusal}
 use Rattle.sn_model.specs.declared.reply.Reply.{Reply}
 use Rattle.sn_model.specs.declared.reply.Reply.TheVariants.{Refused}
-use Rattle.sn_model.specs.Tree.{Tree, Node, link_to, with_node}
+use Rattle.sn_model.specs.Tree.{Tree, Node, link_to, least_unused, with_node}
 use Rattle.sn_model.specs.declared.call.Event.{Event}
 use Rattle.sn_model.specs.World.{World, new_world}
-use Rattle.sn_model.specs.Steps.{Run, Step}
+use Rattle.sn_model.specs.Steps.{Run, Step, decision}
+use Rattle.sn_limits.specs.Versions.{version_1}
+use Rattle.sn_model.specs.declared.change.Change.TheVariants.{Make}
+use Rattle.sn_model.specs.Calls.{Makes}
+use Rattle.sn_model.specs.Changes.{apply, ownership_of}
+use Rattle.sn_model.specs.Worlds.{IsCall, IsEvent, IsWorld}
 
 -- Whatever a call is refused for, the world stays as it was.
 abbrev pub RefusalsChangeNothing : Type 0
@@ -27,23 +31,12 @@ pub record OneMore (old new : Tree) (number : ℕ) (link : Link) (node : Node) :
 abbrev pub MakesOneMore : Type 0
 MakesOneMore = (tree : Tree) (number : ℕ) (link : Link) (node : Node) → OneMore tree (with_node tree number link node) number link node
 
--- A number is reached from the root by names.
-pub data Reaches (tree : Tree) : ℕ → Type 0 where
-  root : Reaches tree 2
-  below : (directory : ℕ) (name : List ℕ) (number : ℕ) → Reaches tree directory → map.get tree.links (link_to directory name) ≡ Some number → Reaches tree number
+-- What a call has decided can be applied, with the number that the machine chooses, and gives what the machine makes of it.
+abbrev pub DecidedChangesApply : Type 0
+DecidedChangesApply = (world : World) (session : ℕ) (c : Call) (directory number : ℕ) (name : List ℕ) (node : Node) → IsWorld version_1 world → IsCall c
+    → decision world session c ≡ Ok (Makes directory name node) → least_unused world.live ≡ Some number
+    → apply version_1 (Make directory name number node.kind (ownership_of node)) world.live ≡ Some (with_node world.live number (link_to directory name) node)
 
-abbrev pub HasKind : Tree → ℕ → Kind → Type 0
-HasKind tree number kind = IsSomeAnd (map.get tree.nodes number) (λ node. node.kind ≡ kind)
-
--- Directories form a tree (POSIX.1-2017, 3.129 Directory, and 3.159 File Hierarchy): the root is one, in no directory; each name is in a directory and leads to a node; each other directory has one name, and is reached from the root.
-pub record IsHierarchy (tree : Tree) : Type 0 where
-  pub root : HasKind tree 2 Directory
-  pub unnamed : (link : Link) → map.get tree.links link ≢ Some 2
-  pub held : (link : Link) (number : ℕ) → map.get tree.links link ≡ Some number → HasKind tree link.directory Directory
-  pub leads : (link : Link) (number : ℕ) → map.get tree.links link ≡ Some number → is_some (map.get tree.nodes number) ≡ true
-  pub once : (a b : Link) (number : ℕ) → HasKind tree number Directory → map.get tree.links a ≡ Some number → map.get tree.links b ≡ Some number → a ≡ b
-  pub reached : (number : ℕ) → HasKind tree number Directory → Reaches tree number
-
--- Whatever is called, directories form a tree.
-abbrev pub RunsKeepTheHierarchy : Type 0
-RunsKeepTheHierarchy = (events : List Event) (replies : List Reply) (last : World) → Run new_world events replies last → IsHierarchy last.live
+-- Whatever is called, the world stays one: its trees are name trees, open files are there, and nobody is logged in with a number that isn't one.
+abbrev pub RunsKeepTheWorld : Type 0
+RunsKeepTheWorld = (events : List Event) (replies : List Reply) (last : World) → AllByRecursion IsEvent events → Run new_world events replies last → IsWorld version_1 last

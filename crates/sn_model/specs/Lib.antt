@@ -1,5 +1,12 @@
 pub mod Tree
 pub mod World
+pub mod NameTree
+pub mod Chains
+pub mod Changes
+pub mod Settling
+pub mod Covers
+pub mod ChangeLaws
+pub mod Worlds
 pub mod Tests
 pub mod Calls
 pub mod Steps

@@ -1,4 +1,5 @@
-ghost use Rattle.sn_model.specs.Laws.{MakesOneMore, RefusalsChangeNothing, RunsKeepTheHierarchy};
+ghost use Rattle.sn_model.specs.ChangeLaws.{ChangesBring, ChangesKeepCovers, ChangesKeepTheTree, CoveredSettleAlike, CoversItself, CoversJoin, DroppingKeepsCovers, DroppingKeepsTheTree, ListsJoin, ListsKeepCovers, ListsKeepTheTree, TestIsBelow};
+ghost use Rattle.sn_model.specs.Laws.{DecidedChangesApply, MakesOneMore, RefusalsChangeNothing, RunsKeepTheWorld};
 
 /// Whatever a call is refused for, the world stays as it was.
 pub fn refusals_change_nothing()
@@ -10,8 +11,75 @@ pub fn makes_one_more()
     ensures { MakesOneMore }
 {}
 
-/// Directories form a tree after every list of calls: each but the root has one name, and is reached
-/// from the root.
-pub fn runs_keep_the_hierarchy()
-    ensures { RunsKeepTheHierarchy }
+/// What a call has decided can be applied.
+pub fn decided_changes_apply()
+    ensures { DecidedChangesApply }
+{}
+
+/// After every list of calls the live tree and the frozen trees are name trees, whoever is logged in
+/// has numbers of 32 bits, open files are there, and a live file without a name is held.
+pub fn runs_keep_the_world()
+    ensures { RunsKeepTheWorld }
+{}
+
+/// What a change brings is there afterwards: names, owners, ACLs, bytes.
+pub fn changes_bring()
+    ensures { ChangesBring }
+{}
+
+/// What a change makes of the live tree, replay makes too: a change that the live tree takes is one
+/// that a tree which covers it takes, and it still covers.
+pub fn changes_keep_covers()
+    ensures { ChangesKeepCovers }
+{}
+
+/// Files without names that are dropped from the live tree alone stay covered.
+pub fn dropping_keeps_covers()
+    ensures { DroppingKeepsCovers }
+{}
+
+/// Settled, a tree and one that covers it are equal.
+pub fn covered_settle_alike()
+    ensures { CoveredSettleAlike }
+{}
+
+/// In a hierarchy the test of a rename finds a directory below another, and nothing else.
+pub fn test_is_below()
+    ensures { TestIsBelow }
+{}
+
+/// A change that applies to a name tree gives a name tree: directories form a tree, nodes, names and
+/// their counts keep the limits.
+pub fn changes_keep_the_tree()
+    ensures { ChangesKeepTheTree }
+{}
+
+/// Files without names that are dropped leave a name tree.
+pub fn dropping_keeps_the_tree()
+    ensures { DroppingKeepsTheTree }
+{}
+
+/// The same for a list of changes.
+pub fn lists_keep_the_tree()
+    ensures { ListsKeepTheTree }
+{}
+
+/// What a list of changes makes of the live tree, replay makes too.
+pub fn lists_keep_covers()
+    ensures { ListsKeepCovers }
+{}
+
+/// A list of changes and one behind it are applied as one list.
+pub fn lists_join()
+    ensures { ListsJoin }
+{}
+
+/// A tree covers itself.
+pub fn covers_itself()
+    ensures { CoversItself }
+{}
+
+/// What covers a cover covers.
+pub fn covers_join()
+    ensures { CoversJoin }
 {}

@@ -19,8 +19,6 @@ mod field;
 mod line;
 mod printing;
 mod reading;
-#[cfg(test)]
-mod tests;
 
 pub use fault::ScriptFault;
 pub use printing::print_replies;

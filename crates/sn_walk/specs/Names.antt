@@ -1,3 +1,4 @@
+-- Names of directory entries: POSIX.1-2017, 3.170 Filename, narrowed to printable ASCII and without dot and dot-dot, which are rules of this project.
 use Rattle.std.specs.Prelude.{ℕ, Bool, false, not, ◌&&◌, ◌==◌, nat_lt, nat_le, List, [], ◌∷◌, length}
 use Rattle.std.specs.List.{list_all}
 use Rattle.sn_walk.specs.declared.name.TheConstants.{NAME_MAX}

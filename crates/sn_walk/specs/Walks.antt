@@ -1,3 +1,4 @@
+-- Walks: POSIX.1-2017, 4.13 Pathname Resolution. The place of a refusal is counted as this project counts it.
 use Rattle.std.specs.Prelude.{◌≡◌, ℕ, ◌+◌, List, [], ◌∷◌, length, Option, None, Some, Result, Ok, Err, IsSomeAnd, if◌then◌else◌}
 use Rattle.sn_acl.specs.declared.entries.Entry.{Entry}
 use Rattle.sn_acl.specs.Credential.{Credential}

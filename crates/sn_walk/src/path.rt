@@ -131,6 +131,3 @@ fn have_length(text: &[u8]) -> bool
     text.split(|byte| *byte == b'/')
         .all(|name| name::has_name_length(name))
 }
-
-#[cfg(test)]
-mod tests;

@@ -1,7 +1,8 @@
-use Rattle.std.proofs.Common.{arith}
+use Rattle.std.proofs.Common.{IsTrue, Contains, arith}
 use Rattle.sn_device.proofs.DiskLemmas.{CrashSince-now, CrashSince_clock, CrashSince-next, CrashSince-added, MayLeave-written, MayLeave-torn, MayLeave-synced, MayLeave-settled}
-use Rattle.sn_device.proofs.CrashLemmas.{CrashSince-touched}
+use Rattle.sn_device.proofs.CrashLemmas.{CrashSince-touched, CrashSince-before, Always-kept, IsSynced-only, IsSynced-reads, Touches-within}
 use Rattle.sn_device.specs.Sectors.{Run}
+use Rattle.sn_device.proofs.SectorLemmas.{Run-within}
 use Rattle.sn_device.proofs.laws.crash_laws.Goals as goal
 
 pub returns-clause-now_counts : goal.returns-clause-now_counts
@@ -24,3 +25,15 @@ returns-clause-run_tears c at n old new f = CrashSince-touched (Run at n) old ne
 
 pub returns-clause-clock_moves_on : goal.returns-clause-clock_moves_on
 returns-clause-clock_moves_on c d m = omega arith
+
+pub returns-clause-touches_tear : goal.returns-clause-touches_tear
+returns-clause-touches_tear c touched old new f = CrashSince-before (Contains touched) old new f
+
+pub returns-clause-others_are_kept : goal.returns-clause-others_are_kept
+returns-clause-others_are_kept c touched others test old new whole apart depends = Always-kept (Contains touched) (Contains others) (λ f. IsTrue (test f)) depends apart old new whole
+
+pub returns-clause-synced_is_read : goal.returns-clause-synced_is_read
+returns-clause-synced_is_read c d f whole is_synced = (IsSynced-only d f is_synced, IsSynced-reads d f whole)
+
+pub returns-clause-run_widens : goal.returns-clause-run_widens
+returns-clause-run_widens c at n from m old new low high = Touches-within (Run at n) (Run from m) old new (Run-within at n from m low high)

@@ -1,11 +1,11 @@
 use Rattle.std.proofs.Common.{◌≡◌, ◌∙◌, ◌<◌, ap, sym, subst, ℕ, length, reverse, replicate, Contains, IfSome}
 use Rattle.sn_device.specs.Sectors.{Contents, AgreesOutside, sector_at}
 use Rattle.sn_device.specs.Disk.{Disk}
-use Rattle.sn_device.specs.Fill.{fill_byte}
+use Rattle.sn_device.specs.Fill.{fill_byte, filling}
 use Rattle.sn_device.specs.Undo.{crashed_by, unsynced_by}
 use Rattle.sn_device.specs.declared.fill.Fill.{Fill}
 use Rattle.sn_device.specs.declared.status.Status.{Status}
-use Rattle.sn_device.proofs.FillLemmas.{crashed_by-others, crashed_by-old, crashed_by-new, crashed_by-byte}
+use Rattle.sn_device.proofs.FillLemmas.{crashed_by-others, crashed_by-old, crashed_by-new, crashed_by-byte, crashed_by-each}
 use Rattle.sn_device.proofs.memory.MemDevice.crash.Goals as goal
 
 pub returns-clause-left : goal.returns-clause-left
@@ -52,3 +52,13 @@ returns-clause-filled c =
     ap (λ (d : Disk). d.present.sectors) c.with_sectors-device.ensures.disk ∙ c.fill_unsynced.ensures.filled in
     let P : Contents → Type 0 = λ s. IfSome (fill_byte c.args.fill) (λ byte. (i : ℕ) → i < length sectors → Contains (unsynced_by entries) i → sector_at s i ≡ replicate 512 byte) in
     subst P (sym is) (crashed_by-byte c.args.fill entries sectors)
+
+pub returns-clause-each : goal.returns-clause-each
+returns-clause-each c i within among =
+    let entries = reverse c.args.self.calls.items in
+    let sectors = c.args.self.sectors.items in
+    let is : c.with_sectors-device.result.sectors.items ≡ crashed_by c.args.fill entries sectors =
+    ap (λ (d : Disk). d.present.sectors) c.with_sectors-device.ensures.disk ∙ c.fill_unsynced.ensures.filled in
+    ap (λ (s : Contents). sector_at s i) is
+    ∙ crashed_by-each c.args.fill entries sectors i within among
+    ∙ ap (λ (s : Contents). filling c.args.fill i (sector_at s i) (sector_at sectors i)) (crashed_by-old entries sectors)

@@ -1,0 +1,23 @@
+-- The numbers of each version of the format.
+use Rattle.std.specs.Prelude.{ℕ, Option, Some, None, ◌==◌, if◌then◌else◌}
+use Rattle.sn_limits.specs.declared.limits.Limits.{Limits}
+
+-- 65,534 nodes; 65,535 names in a directory; 32,767 names and 64 MiB a file; 20 snapshots
+abbrev pub version_1 : Limits
+version_1 = record {
+  version = 1;
+  largest_number = 65535;
+  names = 65535;
+  links = 32767;
+  largest_file = 67108864;
+  snapshots = 20;
+  largest_bit = 20;
+  indirect_levels = 1;
+  inode_charge = 8;
+  block_charge = 2;
+  reserve = 64;
+}
+
+-- the limits of each version that is read
+abbrev pub limits_of : ℕ → Option Limits
+limits_of version = if version == 1 then Some version_1 else None

@@ -1,0 +1,270 @@
+-- Every decided change can be applied.
+use Rattle.std.proofs.Common.{◌≡◌, ◌≢◌, ℕ, zero, suc, ◌-◌, ◌<◌, ◌≤◌, ◌^◌, Bool, true, false, not, cond, ◌&&◌, ◌||◌, ◌==◌, nat_lt, List, [], ◌∷◌, length, Option, Some, None, Result, Ok, Err, is_some, is_none, refl, sym, ap, subst, ◌∙◌, arith, eq-eqb, ltb-true}
+use Rattle.std.specs.Prelude.{IfSome, slice_get}
+use Rattle.std.specs.List.{list_all, AllByRecursion}
+use Rattle.std.specs.FinMap as map
+use Rattle.std.proofs.lemmas.Bool.{true≢false, eqb-false, lt-ltb, le-leb, leb-false}
+use Rattle.std.proofs.lemmas.Nat.{and_le_l, and_le_r}
+use Rattle.sn_acl.specs.declared.entries.Entry.{Entry}
+use Rattle.sn_acl.specs.declared.modes.Mode.{Mode}
+use Rattle.sn_acl.specs.Entries.{is_mask, is_named}
+use Rattle.sn_acl.specs.Modes.{three_entries, mode_of, with_mode, common_mode, mode_without}
+use Rattle.sn_acl.specs.Inheritance.{inherited_access}
+use Rattle.sn_acl.specs.AccessList.{IsValid, count_of}
+use Rattle.sn_acl.proofs.ModeLemmas.{IsMode, valid-with_mode}
+use Rattle.sn_walk.specs.declared.path.PathFault.{PathFault}
+use Rattle.sn_walk.specs.declared.path.PathFault.TheVariants.{Misspelt, TooLong}
+use Rattle.sn_walk.specs.declared.path.TheConstants.{PATH_MAX}
+use Rattle.sn_walk.specs.declared.view.Kind.TheVariants.{Directory}
+use Rattle.sn_walk.specs.Names.{is_name_spelled, has_name_length, is_name}
+use Rattle.sn_walk.specs.Paths.{last_after, parsed, of_word, of_names, of_length, components}
+use Rattle.sn_walk.specs.Views.{is_directory}
+use Rattle.sn_limits.specs.Versions.{version_1}
+use Rattle.sn_model.specs.declared.call.Call.{Call}
+use Rattle.sn_model.specs.declared.call.Call.TheVariants as call
+use Rattle.sn_model.specs.declared.change.Change.TheVariants.{Make}
+use Rattle.sn_model.specs.declared.reply.Errno.TheVariants.{Einval}
+use Rattle.sn_model.specs.declared.session.Session.{Session}
+use Rattle.sn_model.specs.Tree.{Tree, Node, attributes_of, link_to, names_in, names_for, least_unused, with_node}
+use Rattle.sn_model.specs.World.{World}
+use Rattle.sn_model.specs.NameTree.{IsNode, IsTree}
+use Rattle.sn_model.specs.Changes.{is_acl, is_default_acl, is_ownership, is_vacant, is_free_number, file_at, node_with, ownership_of, made, apply}
+use Rattle.sn_model.specs.Tests.{◌>>=◌, plain, logged_out, flat, session_at, is_open, logged_in, read_path, path_argument, mode_from_bits, new_mode_argument}
+use Rattle.sn_model.specs.Calls.{Ready, Opens, Makes, Tells, Login, Mkdir, Stat, ready, outcome_of, new_session, new_directory, last_name}
+use Rattle.sn_model.specs.Steps.{decision}
+use Rattle.sn_model.specs.Worlds.{IsCaller, IsPlace, IsCall, IsWorld}
+use Rattle.sn_model.proofs.ChainLemmas.{and_left, and_right, and_both, or_right}
+use Rattle.sn_model.proofs.NameLemmas.{no_names_for}
+use Rattle.sn_model.proofs.PartLemmas.{is_directory_at, made_of}
+use Rattle.sn_model.proofs.HierarchyLemmas.{least_is_among, least_is_unused}
+use Rattle.sn_model.proofs.MoveLemmas.{is_there}
+use Rattle.sn_model.proofs.DecisionLemmas as found
+use Rattle.sn_model.proofs.DecisionLemmas.{bind_ok, same_ok, mkdir_is, mkdir_makes, stat_tells}
+
+-- what `IsValid` says, the test of an ACL finds
+acl_of : (es : List Entry) → IsValid es → is_acl es ≡ true
+acl_of es v =
+    and_both _ _ (and_both _ _ (and_both _ _ (and_both _ _ (and_both _ _ (and_both _ _ (and_both _ _
+    (eq-eqb _ 1 v.objects.user_obj) (eq-eqb _ 1 v.objects.group_obj)) (eq-eqb _ 1 v.objects.other))
+    (le-leb _ 1 v.mask.most)) (beside (count_of is_named es) (count_of is_mask es) v.mask.beside_named))
+    (le-leb _ 32 v.mask.named)) v.canonical) v.numbers
+  where
+    beside : (n m : ℕ) → (0 < n → m ≡ 1) → ((n == 0) || (m == 1)) ≡ true
+    beside n m h = told (n == 0) refl
+      where
+        told : (b : Bool) → (n == 0) ≡ b → ((n == 0) || (m == 1)) ≡ true
+        told true f = ap (λ b. b || (m == 1)) f
+        told false f = or_right (n == 0) (m == 1) (eq-eqb m 1 (h (omega (arith, eqb-false n 0 f))))
+
+-- the ACLs of a new object are valid
+three_acl : (mode : Mode) → IsMode mode → is_acl (three_entries mode) ≡ true
+three_acl mode h =
+    let entry = λ (n : ℕ) (k : n < 8). and_both (nat_lt n 8) true (lt-ltb n 8 k) refl in
+    and_both (nat_lt mode.owner 8 && true) _ (entry mode.owner h.owner)
+    (and_both (nat_lt mode.group 8 && true) _ (entry mode.group h.group) (and_both (nat_lt mode.other 8 && true) true (entry mode.other h.other) refl))
+
+inherited_acl : (default : Option (List Entry)) (mode umask : Mode) → IsMode mode → IfSome default IsValid → is_acl (inherited_access default mode umask) ≡ true
+inherited_acl None mode umask h v = three_acl (mode_without mode umask) (record {
+  owner = omega (arith, and_le_l mode.owner (255 - umask.owner), h.owner);
+  group = omega (arith, and_le_l mode.group (255 - umask.group), h.group);
+  other = omega (arith, and_le_l mode.other (255 - umask.other), h.other);
+})
+inherited_acl (Some d) mode umask h v = acl_of (with_mode (common_mode (mode_of d) mode) d) (valid-with_mode (common_mode (mode_of d) mode) d (record {
+  owner = omega (arith, and_le_r (mode_of d).owner mode.owner, h.owner);
+  group = omega (arith, and_le_r (mode_of d).group mode.group, h.group);
+  other = omega (arith, and_le_r (mode_of d).other mode.other, h.other);
+}) v)
+
+default_acl_of : (default : Option (List Entry)) → IfSome default IsValid → is_default_acl Directory default ≡ true
+default_acl_of None v = refl
+default_acl_of (Some d) v = acl_of d v
+
+-- what is given to a new directory is an ownership
+new_ownership : (s : Session) (mode : Mode) (tree : Tree) (number : ℕ) (parent : Node) → IsCaller s → IsMode mode → IsNode version_1 number parent → is_ownership Directory (ownership_of (new_directory s mode (attributes_of tree number parent) parent.default_acl)) ≡ true
+new_ownership s mode tree number parent caller h node =
+    and_both _ _ (and_both _ _ (and_both _ _ (lt-ltb s.cred.uid (2 ^ 32) caller.uid) (group parent.set_gid)) (inherited_acl parent.default_acl mode s.umask h node.default_acl)) (default_acl_of parent.default_acl node.default_acl)
+  where
+    group : (b : Bool) → nat_lt (cond b parent.group s.cred.gid) (2 ^ 32) ≡ true
+    group true = lt-ltb parent.group (2 ^ 32) node.group
+    group false = lt-ltb s.cred.gid (2 ^ 32) caller.gid
+
+-- the names of a path are names
+pub record AreNames (names : List (List ℕ)) : Type 0 where
+  pub spelled : list_all is_name_spelled names ≡ true
+  pub short : list_all has_name_length names ≡ true
+
+abbrev path_ok : List (List ℕ) → Result (List (List ℕ)) PathFault
+path_ok names = Ok names
+
+same_path : (all names : List (List ℕ)) → path_ok all ≡ Ok names → all ≡ names
+same_path all names e = cc
+
+of_length_is : (names all : List (List ℕ)) → list_all is_name_spelled all ≡ true → of_length all ≡ Ok names → AreNames names
+of_length_is names all h e = told (list_all has_name_length all) refl e
+  where
+    told : (b : Bool) → list_all has_name_length all ≡ b → cond b (path_ok all) (Err TooLong) ≡ Ok names → AreNames names
+    told true t f = subst AreNames (same_path all names f) (record { spelled = h; short = t })
+    told false t f = cc
+
+of_names_is : (names all : List (List ℕ)) → of_names all ≡ Ok names → AreNames names
+of_names_is names all e = told (list_all is_name_spelled all) refl e
+  where
+    told : (b : Bool) → list_all is_name_spelled all ≡ b → cond b (of_length all) (Err Misspelt) ≡ Ok names → AreNames names
+    told true t f = of_length_is names all t f
+    told false t f = cc
+
+of_word_is : (names : List (List ℕ)) (word : List ℕ) → of_word word ≡ Ok names → AreNames names
+of_word_is names [] e = cc
+of_word_is names (b ∷ bs) e = told (b == 47) e
+  where
+    told : (t : Bool) → cond t (of_names (components bs)) (Err Misspelt) ≡ Ok names → AreNames names
+    told true f = of_names_is names (components bs) f
+    told false f = cc
+
+parsed_is : (names : List (List ℕ)) (word : List ℕ) → parsed word ≡ Ok names → AreNames names
+parsed_is names word e = told (nat_lt PATH_MAX (length word)) e
+  where
+    told : (t : Bool) → cond t (Err TooLong) (of_word word) ≡ Ok names → AreNames names
+    told true f = cc
+    told false f = of_word_is names word f
+
+read_is : (r : Result (List (List ℕ)) PathFault) (names : List (List ℕ)) → read_path r ≡ Ok names → r ≡ Ok names
+read_is (Ok all) names e = ap path_ok (same_ok all names e)
+read_is (Err fault) names e = cc
+
+path_names : (word : List ℕ) (names : List (List ℕ)) → path_argument word ≡ Ok names → AreNames names
+path_names word names e = parsed_is names word (read_is (parsed word) names e)
+
+last_is_name : (first : List ℕ) (more : List (List ℕ)) → AreNames (first ∷ more) → is_name (last_after first more) ≡ true
+last_is_name first [] h = and_both _ _ (and_left (is_name_spelled first) true h.spelled) (and_left (has_name_length first) true h.short)
+last_is_name first (next ∷ more) h = last_is_name next more (record { spelled = and_right (is_name_spelled first) _ h.spelled; short = and_right (has_name_length first) _ h.short })
+
+-- the mode of a new object has bits of three
+mode_is : (bits : ℕ) (mode : Mode) → new_mode_argument bits ≡ Ok mode → IsMode mode
+mode_is bits mode e = told (nat_lt bits 512) refl e
+  where
+    told : (b : Bool) → nat_lt bits 512 ≡ b → cond b (found.ok (mode_from_bits bits)) (Err (plain Einval)) ≡ Ok mode → IsMode mode
+    told true t f =
+        let few : bits < 512 = ltb-true bits 512 t in
+        subst IsMode (same_ok (mode_from_bits bits) mode f) (record { owner = omega arith; group = omega arith; other = omega arith })
+    told false t f = cc
+
+-- whoever is logged in is one of the sessions
+place_at : (places : List (Option Session)) (i : ℕ) (s : Session) → AllByRecursion IsPlace places → slice_get places i ≡ Some (Some s) → IsCaller s
+place_at [] i s all e = cc
+place_at (None ∷ places) zero s all e = cc
+place_at (Some x ∷ places) zero s all e = let same : x ≡ s = cc in subst IsCaller same all.0
+place_at (place ∷ places) (suc i) s all e = place_at places i s all.1 e
+
+flat_is : (o : Option (Option Session)) (s : Session) → flat o ≡ Some s → o ≡ Some (Some s)
+flat_is None s e = cc
+flat_is (Some None) s e = cc
+flat_is (Some (Some x)) s e = ap (λ (y : Option Session). Some y) e
+
+open_is : (o : Option Session) (s : Session) → is_open o ≡ Ok s → o ≡ Some s
+open_is None s e = cc
+open_is (Some x) s e = ap (λ (y : Session). Some y) (same_ok x s e)
+
+caller_is : (world : World) (session : ℕ) (s : Session) → AllByRecursion IsPlace world.sessions → logged_in world session ≡ Ok s → IsCaller s
+caller_is world session s all e =
+    let p = bind_ok (session_at world session) is_open s e in
+    told (nat_lt session 64) (p.1 ∙ ap (λ (o : Option Session). found.ok o) (open_is p.0 s p.2))
+  where
+    told : (b : Bool) → cond b (found.ok (flat (slice_get world.sessions session))) (Err (plain Einval)) ≡ Ok (Some s) → IsCaller s
+    told true f = place_at world.sessions session s all (flat_is (slice_get world.sessions session) s (same_ok _ _ f))
+    told false f = cc
+
+-- the change that mkdir has decided can be applied
+module _ (tree : Tree) (s : Session) (names : List (List ℕ)) (mode : Mode) (directory number : ℕ) (name : List ℕ) (node : Node) (whole : IsTree version_1 tree) (caller : IsCaller s) (bits : IsMode mode) (are : AreNames names) (p : found.Mkdir tree s names mode directory name node) (least : least_unused tree ≡ Some number) where
+  unused : map.get tree.nodes number ≡ None
+  unused = least_is_unused tree number least
+
+  number_free : is_free_number version_1 tree number ≡ true
+  number_free =
+      let k = least_is_among tree number least in
+      let apart : number ≢ 2 = (λ same. is_there _ _ whole.hierarchy.root (ap (map.get tree.nodes) (sym same) ∙ unused)) in
+      let low : 2 < number = omega (arith, k.0, apart) in
+      let high : number ≤ 65535 = omega (arith, k.1) in
+      and_both _ _ (and_both _ _ (lt-ltb 2 number low) (le-leb number 65535 high)) (ap (λ o. is_none o || (is_some (file_at tree number) && names_for tree number == 0)) unused)
+
+  nameless : names_for tree number ≡ 0
+  nameless = no_names_for tree number (λ link e. true≢false (sym (whole.hierarchy.leads link number e) ∙ ap is_some unused))
+
+  is_last : is_name (last_name names) ≡ true
+  is_last = ap (λ (ns : List (List ℕ)). is_name (last_name ns)) p.new.some_names ∙ last_is_name p.new.first p.new.more (subst AreNames p.new.some_names are)
+
+  name_vacant : is_vacant tree (link_to directory name) ≡ true
+  name_vacant = ap (λ (n : List ℕ). is_vacant tree (link_to directory n)) p.called ∙ and_both _ _ (and_both _ _ is_last (ap not p.new.seen)) (ap is_none p.new.absent)
+
+  abbrev is_made : Node → Type 0
+  is_made n = (is_ownership n.kind (ownership_of n) ≡ true) × (node_with n.kind (ownership_of n) [] ≡ n)
+
+  node_made : is_made node
+  node_made = subst is_made (sym p.made) (new_ownership s mode tree directory p.parent caller bits (whole.nodes.nodes directory p.parent p.there), refl)
+
+  pub mkdir_applies : made version_1 tree (link_to directory name) number node.kind (ownership_of node) ≡ Some (with_node tree number (link_to directory name) node)
+  mkdir_applies = made_of version_1 tree (link_to directory name) number node.kind (ownership_of node) _ (record {
+    free = number_free;
+    vacant = name_vacant;
+    owned = node_made.0;
+    place = record {
+      directory = p.parent;
+      parent = is_directory_at tree directory p.parent p.there (ap is_directory p.kind);
+      names = lt-ltb (names_in tree directory) 65535 (leb-false 65535 (names_in tree directory) p.room);
+      links = ap (λ n. nat_lt n 32767) nameless;
+    };
+    gives = ap (λ (n : Node). with_node tree number (link_to directory name) n) node_made.1;
+  })
+
+-- what a call was once its session and arguments had passed
+pub record WasMkdir (world : World) (session : ℕ) (s : Session) (names : List (List ℕ)) (mode : Mode) : Type 0 where
+  pub caller : logged_in world session ≡ Ok s
+  pub are : AreNames names
+  pub bits : IsMode mode
+
+was_mkdir : (world : World) (session : ℕ) (c : Call) (s : Session) (names : List (List ℕ)) (mode : Mode) → ready world session c ≡ Ok (Mkdir s names mode) → WasMkdir world session s names mode
+was_mkdir world session (call.Login uid gid groups) s names mode e =
+    let p = bind_ok (logged_out world session) (λ _. found.ok (Login (new_session uid gid groups))) (Mkdir s names mode) e in
+    let never : Login (new_session uid gid groups) ≡ Mkdir s names mode = same_ok _ _ p.2 in cc
+was_mkdir world session (call.Stat path) s names mode e =
+    let p = bind_ok (logged_in world session) (λ x. path_argument path >>= (λ ns. found.ok (Stat x ns))) (Mkdir s names mode) e in
+    let q = bind_ok (path_argument path) (λ ns. found.ok (Stat p.0 ns)) (Mkdir s names mode) p.2 in
+    let never : Stat p.0 q.0 ≡ Mkdir s names mode = same_ok _ _ q.2 in cc
+was_mkdir world session (call.Mkdir path m) s names mode e =
+    let p = bind_ok (logged_in world session) (λ x. path_argument path >>= (λ ns. new_mode_argument m >>= (λ bits. found.ok (Mkdir x ns bits)))) (Mkdir s names mode) e in
+    let q = bind_ok (path_argument path) (λ ns. new_mode_argument m >>= (λ bits. found.ok (Mkdir p.0 ns bits))) (Mkdir s names mode) p.2 in
+    let r = bind_ok (new_mode_argument m) (λ bits. found.ok (Mkdir p.0 q.0 bits)) (Mkdir s names mode) q.2 in
+    let same : Mkdir p.0 q.0 r.0 ≡ Mkdir s names mode = same_ok _ _ r.2 in
+    let caller : p.0 ≡ s = cc same in
+    let called : q.0 ≡ names = cc same in
+    let moded : r.0 ≡ mode = cc same in
+    record {
+      caller = p.1 ∙ ap (λ (x : Session). found.ok x) caller;
+      are = subst AreNames called (path_names path q.0 q.1);
+      bits = subst IsMode moded (mode_is m r.0 r.1);
+    }
+
+-- the name that a call makes isn't there yet
+pub decided_absent : (world : World) (session : ℕ) (c : Call) (directory : ℕ) (name : List ℕ) (node : Node) → decision world session c ≡ Ok (Makes directory name node) → map.get world.live.links (link_to directory name) ≡ None
+decided_absent world session c directory name node e =
+    let r = bind_ok (ready world session c) (outcome_of world) (Makes directory name node) e in
+    told r.0 r.2
+  where
+    told : (r : Ready) → outcome_of world r ≡ Ok (Makes directory name node) → map.get world.live.links (link_to directory name) ≡ None
+    told (Login s) g = let never : Opens s ≡ Makes directory name node = same_ok _ _ g in cc
+    told (Stat s names) g = let t = stat_tells world.live s names (Makes directory name node) g in let never : Makes directory name node ≡ Tells t.0 = t.1 in cc
+    told (Mkdir s names mode) g = let p = mkdir_is world.live s names mode directory name node g in ap (λ (n : List ℕ). map.get world.live.links (link_to directory n)) p.called ∙ p.new.absent
+
+pub decided_applies : (world : World) (session : ℕ) (c : Call) (directory number : ℕ) (name : List ℕ) (node : Node) → IsWorld version_1 world → IsCall c
+    → decision world session c ≡ Ok (Makes directory name node) → least_unused world.live ≡ Some number
+    → apply version_1 (Make directory name number node.kind (ownership_of node)) world.live ≡ Some (with_node world.live number (link_to directory name) node)
+decided_applies world session c directory number name node whole numbers e least =
+    let r = bind_ok (ready world session c) (outcome_of world) (Makes directory name node) e in
+    told r.0 r.1 r.2
+  where
+    told : (r : Ready) → ready world session c ≡ Ok r → outcome_of world r ≡ Ok (Makes directory name node) → apply version_1 (Make directory name number node.kind (ownership_of node)) world.live ≡ Some (with_node world.live number (link_to directory name) node)
+    told (Login s) f g = let never : Opens s ≡ Makes directory name node = same_ok _ _ g in cc
+    told (Stat s names) f g = let t = stat_tells world.live s names (Makes directory name node) g in let never : Makes directory name node ≡ Tells t.0 = t.1 in cc
+    told (Mkdir s names mode) f g =
+        let w = was_mkdir world session c s names mode f in
+        mkdir_applies world.live s names mode directory number name node whole.live (caller_is world session s whole.callers w.caller) w.bits w.are (mkdir_is world.live s names mode directory name node g) least

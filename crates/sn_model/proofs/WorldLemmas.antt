@@ -1,0 +1,223 @@
+-- Runs keep the world.
+use Rattle.std.proofs.Common.{◌≡◌, ◌≢◌, ℕ, zero, suc, ◌≤◌, true, ◌==◌, List, [], ◌∷◌, replicate, Option, Some, None, Result, Ok, Err, is_some, refl, sym, ap, subst, ◌∙◌, ◌⊎◌, inl, inr, arith, lit<, lit≤}
+use Rattle.std.specs.Prelude.{IsSomeAnd, slice_get, slice_set}
+use Rattle.std.specs.List.{AllByRecursion}
+use Rattle.std.specs.Ordering.{nat_cmp}
+use Rattle.std.specs.Cmp.{nat_cmp_total}
+use Rattle.std.specs.Cmp.Lexicographic.{slice_cmp}
+use Rattle.std.specs.FinMap as map
+use Rattle.std.proofs.lemmas.List.{length-set, length-replicate}
+use Rattle.std.proofs.lemmas.Map.Lookups.{exact_unsigned}
+use Rattle.sn_walk.specs.declared.view.Kind.TheVariants.{File, Directory}
+use Rattle.sn_limits.specs.Versions.{version_1}
+use Rattle.sn_model.specs.declared.call.Call.{Call}
+use Rattle.sn_model.specs.declared.call.Call.TheVariants as call
+use Rattle.sn_model.specs.declared.call.Event.{Event}
+use Rattle.sn_model.specs.declared.call.Event.TheVariants as event
+use Rattle.sn_model.specs.declared.change.Change.TheVariants.{Make}
+use Rattle.sn_model.specs.declared.link.Link.{Link}
+use Rattle.sn_model.specs.declared.reply.Refusal.{Refusal}
+use Rattle.sn_model.specs.declared.reply.Reply.{Reply}
+use Rattle.sn_model.specs.declared.session.Session.{Session}
+use Rattle.sn_model.specs.Tree.{Tree, Node, link_cmp, link_to, names_for, with_node}
+use Rattle.sn_model.specs.World.{World, Home, Live, Frozen, descriptor_cmp, new_root, new_tree, new_world}
+use Rattle.sn_model.specs.NameTree.{HasKind, IsHierarchy, IsNode, IsTree, Reaches, root}
+use Rattle.sn_model.specs.Changes.{ownership_of}
+use Rattle.sn_model.specs.Tests.{◌>>=◌, logged_in, logged_out, path_argument, new_mode_argument}
+use Rattle.sn_model.specs.Calls.{Ready, Outcome, Opens, Makes, Tells, Login, Mkdir, Stat, ready, outcome_of, new_session}
+use Rattle.sn_model.specs.Steps.{Becomes, EventStep, Run, Step, decision, with_session, with_live}
+use Rattle.sn_model.specs.Worlds.{IsCaller, IsPlace, IsCall, IsEvent, IsWorld, tree_in}
+use Rattle.sn_model.proofs.LinkLemmas.{exact_links, links_total}
+use Rattle.sn_model.proofs.MapLemmas.{same_or_apart, get_inserted, get_other}
+use Rattle.sn_model.proofs.CountLemmas.{count_none}
+use Rattle.sn_model.proofs.NameLemmas.{names_for_more, names_for_other}
+use Rattle.sn_model.proofs.HierarchyLemmas.{least_is_unused}
+use Rattle.sn_model.proofs.MoveLemmas.{kind_at, some_node, is_there}
+use Rattle.sn_model.proofs.NodeLemmas.{acl_is}
+use Rattle.sn_model.proofs.TreeLemmas.{tree_kept}
+use Rattle.sn_model.proofs.DecisionLemmas.{ok, bind_ok, same_ok, mkdir_makes, stat_tells}
+use Rattle.sn_model.proofs.DecidedLemmas.{decided_applies, decided_absent}
+
+-- a session that is opened leaves the others
+all_set : (places : List (Option Session)) (i : ℕ) (s : Session) → IsCaller s → AllByRecursion IsPlace places → AllByRecursion IsPlace (slice_set places i (Some s))
+all_set [] i s k all = tt
+all_set (place ∷ places) zero s k all = (k, all.1)
+all_set (place ∷ places) (suc i) s k all = (all.0, all_set places i s k all.1)
+
+still_in : (places : List (Option Session)) (i j : ℕ) (s : Session) → IsSomeAnd (slice_get places j) (λ o. is_some o ≡ true) → IsSomeAnd (slice_get (slice_set places i (Some s)) j) (λ o. is_some o ≡ true)
+still_in [] i j s h = h
+still_in (place ∷ places) zero zero s h = refl
+still_in (place ∷ places) zero (suc j) s h = h
+still_in (place ∷ places) (suc i) zero s h = h
+still_in (place ∷ places) (suc i) (suc j) s h = still_in places i j s h
+
+-- the tree of an open file, where only sessions change, or only the live tree
+with_files : (a b : World) (home : Home) (number : ℕ) → ((n : ℕ) → HasKind a.live n File → HasKind b.live n File) → a.frozen ≡ b.frozen → IsSomeAnd (tree_in a home) (λ tree. HasKind tree number File) → IsSomeAnd (tree_in b home) (λ tree. HasKind tree number File)
+with_files a b Live number live frozen h = live number h
+with_files a b (Frozen name) number live frozen h = subst (λ f. IsSomeAnd (map.get f name) (λ tree. HasKind tree number File)) frozen h
+
+-- whoever logs in
+login_is : (world : World) (session : ℕ) (c : Call) (s : Session) → IsCall c → decision world session c ≡ Ok (Opens s) → IsCaller s
+login_is world session c s numbers e = let r = bind_ok (ready world session c) (outcome_of world) (Opens s) e in told r.0 r.1 r.2
+  where
+    by_call : (c : Call) (s : Session) → IsCall c → ready world session c ≡ Ok (Login s) → IsCaller s
+    by_call (call.Login uid gid groups) s k f =
+        let p = bind_ok (logged_out world session) (λ _. ok (Login (new_session uid gid groups))) (Login s) f in
+        let same : Login (new_session uid gid groups) ≡ Login s = same_ok _ _ p.2 in
+        let session : new_session uid gid groups ≡ s = cc same in
+        subst IsCaller session (record { uid = k.0; gid = k.1 })
+    by_call (call.Mkdir path m) s k f =
+        let p = bind_ok (logged_in world session) (λ x. path_argument path >>= (λ ns. new_mode_argument m >>= (λ bits. ok (Mkdir x ns bits)))) (Login s) f in
+        let q = bind_ok (path_argument path) (λ ns. new_mode_argument m >>= (λ bits. ok (Mkdir p.0 ns bits))) (Login s) p.2 in
+        let r = bind_ok (new_mode_argument m) (λ bits. ok (Mkdir p.0 q.0 bits)) (Login s) q.2 in
+        let never : Mkdir p.0 q.0 r.0 ≡ Login s = same_ok _ _ r.2 in cc
+    by_call (call.Stat path) s k f =
+        let p = bind_ok (logged_in world session) (λ x. path_argument path >>= (λ ns. ok (Stat x ns))) (Login s) f in
+        let q = bind_ok (path_argument path) (λ ns. ok (Stat p.0 ns)) (Login s) p.2 in
+        let never : Stat p.0 q.0 ≡ Login s = same_ok _ _ q.2 in cc
+
+    told : (r : Ready) → ready world session c ≡ Ok r → outcome_of world r ≡ Ok (Opens s) → IsCaller s
+    told (Login x) f g =
+        let same : Opens x ≡ Opens s = same_ok _ _ g in
+        let session : x ≡ s = cc same in
+        subst IsCaller session (by_call c x numbers f)
+    told (Mkdir x names mode) f g = let m = mkdir_makes world.live x names mode (Opens s) g in let never : Opens s ≡ Makes m.0 m.1 m.2 = m.3 in cc
+    told (Stat x names) f g = let t = stat_tells world.live x names (Opens s) g in let never : Opens s ≡ Tells t.0 = t.1 in cc
+
+opened : (world : World) (session : ℕ) (s : Session) → IsWorld version_1 world → IsCaller s → IsWorld version_1 (with_session world session s)
+opened world session s w k = record {
+  live = w.live;
+  frozen = w.frozen;
+  few_snapshots = w.few_snapshots;
+  places = length-set world.sessions session (Some s) ∙ w.places;
+  callers = all_set world.sessions session s k w.callers;
+  open_files = λ i fd d e. let f = w.open_files i fd d e in record {
+    caller = still_in world.sessions session i s f.caller;
+    number = f.number;
+    file = with_files world (with_session world session s) d.home d.number (λ n h. h) refl f.file;
+    offset = f.offset;
+  };
+  held = w.held;
+}
+
+-- a new node under a new name
+module _ (world : World) (number : ℕ) (link : Link) (node : Node) (w : IsWorld version_1 world) (unused : map.get world.live.nodes number ≡ None) (absent : map.get world.live.links link ≡ None) (whole : IsTree version_1 (with_node world.live number link node)) where
+  abbrev next : World
+  next = with_live world (with_node world.live number link node)
+
+  file_stays : (n : ℕ) → HasKind world.live n File → HasKind next.live n File
+  file_stays n h = kind_at _ _ File (get_other nat_cmp_total exact_unsigned world.live.nodes number node n (λ q. is_there _ File h (ap (map.get world.live.nodes) q ∙ unused))) h
+
+  held_next : (n : ℕ) → HasKind next.live n File → names_for next.live n ≡ 0 → (session : ℕ) × (fd : ℕ) × IsSomeAnd (map.get world.descriptors (session, fd)) (λ d. (d.home ≡ Live) × (d.number ≡ n))
+  held_next n h z = told (same_or_apart nat_cmp_total exact_unsigned n number)
+    where
+      told : (n ≡ number) ⊎ (n ≢ number) → (session : ℕ) × (fd : ℕ) × IsSomeAnd (map.get world.descriptors (session, fd)) (λ d. (d.home ≡ Live) × (d.number ≡ n))
+      told (inl q) = absurd (omega (arith, z, names_for_more world.live link number absent n (sym q)))
+      told (inr q) = w.held n (kind_at _ _ File (sym (get_other nat_cmp_total exact_unsigned world.live.nodes number node n q)) h) (sym (names_for_other world.live link number absent n (λ r. q (sym r))) ∙ z)
+
+  pub world_made : IsWorld version_1 (with_live world (with_node world.live number link node))
+  world_made = record {
+    live = whole;
+    frozen = w.frozen;
+    few_snapshots = w.few_snapshots;
+    places = w.places;
+    callers = w.callers;
+    open_files = λ i fd d e. let f = w.open_files i fd d e in record {
+      caller = f.caller;
+      number = f.number;
+      file = with_files world next d.home d.number file_stays refl f.file;
+      offset = f.offset;
+    };
+    held = held_next;
+  }
+
+becomes_world : (old new : World) (session : ℕ) (c : Call) (d : Result Outcome Refusal) (reply : Reply) → decision old session c ≡ d → Becomes old session d reply new → IsCall c → IsWorld version_1 old → IsWorld version_1 new
+becomes_world old new session c (Err r) reply e h numbers w = subst (IsWorld version_1) (sym h.1) w
+becomes_world old new session c (Ok (Tells s)) reply e h numbers w = subst (IsWorld version_1) (sym h.1) w
+becomes_world old new session c (Ok (Opens s)) reply e h numbers w = subst (IsWorld version_1) (sym h.1) (opened old session s w (login_is old session c s numbers e))
+becomes_world old new session c (Ok (Makes directory name node)) reply e h numbers w =
+    let applied = decided_applies old session c directory h.0 name node w numbers e h.1 in
+    subst (IsWorld version_1) (sym h.3) (world_made old h.0 (link_to directory name) node w (least_is_unused old.live h.0 h.1) (decided_absent old session c directory name node e) (tree_kept version_1 (Make directory name h.0 node.kind (ownership_of node)) old.live _ w.live applied))
+
+step_world : (old new : World) (session : ℕ) (c : Call) (reply : Reply) → Step old session c reply new → IsCall c → IsWorld version_1 old → IsWorld version_1 new
+step_world old new session c reply (inl h) numbers w = becomes_world old new session c (decision old session c) reply refl h numbers w
+step_world old new session c reply (inr h) numbers w = subst (IsWorld version_1) (sym h.same) w
+
+event_world : (old new : World) (e : Event) (reply : Reply) → EventStep old e reply new → IsEvent e → IsWorld version_1 old → IsWorld version_1 new
+event_world old new (event.Call session c) reply step numbers w = step_world old new session c reply step numbers w
+
+run_from : (old last : World) (events : List Event) (replies : List Reply) → AllByRecursion IsEvent events → Run old events replies last → IsWorld version_1 old → IsWorld version_1 last
+run_from old last [] [] all run w = subst (IsWorld version_1) (sym run) w
+run_from old last [] (reply ∷ replies) all run w = absurd run
+run_from old last (e ∷ events) [] all run w = absurd run
+run_from old last (e ∷ events) (reply ∷ replies) all run w = run_from run.0 last events replies all.1 run.2 (event_world old run.0 e reply run.1 all.0 w)
+
+-- the first world is one
+new_named : (l : Link) (n : ℕ) → map.get new_tree.links l ≡ Some n → ⊥
+new_named l n e = let never : None ≡ Some n = sym (map.get-empty link_cmp l) ∙ e in cc
+
+new_node_at : map.get new_tree.nodes 2 ≡ Some new_root
+new_node_at = get_inserted nat_cmp_total map.empty 2 new_root
+
+new_node : (n : ℕ) (x : Node) → map.get new_tree.nodes n ≡ Some x → (n ≡ 2) × (x ≡ new_root)
+new_node n x e = told (same_or_apart nat_cmp_total exact_unsigned n 2)
+  where
+    told : (n ≡ 2) ⊎ (n ≢ 2) → (n ≡ 2) × (x ≡ new_root)
+    told (inl q) = let both : Some x ≡ Some new_root = sym e ∙ ap (map.get new_tree.nodes) q ∙ new_node_at in (q, cc)
+    told (inr q) = let never : Some x ≡ None = sym e ∙ get_other nat_cmp_total exact_unsigned map.empty 2 new_root n q ∙ map.get-empty nat_cmp n in cc
+
+new_hierarchy : IsHierarchy new_tree
+new_hierarchy = record {
+  root = subst (λ (o : Option Node). IsSomeAnd o (λ node. node.kind ≡ Directory)) (sym new_node_at) refl;
+  unnamed = λ l e. new_named l 2 e;
+  held = λ l n e. absurd (new_named l n e);
+  leads = λ l n e. absurd (new_named l n e);
+  once = λ a b n kind ea eb. absurd (new_named a n ea);
+  reached = λ n kind. let s = some_node _ Directory kind in subst (λ (m : ℕ). Reaches new_tree m) (sym (new_node n s.0 s.1).0) root;
+}
+
+root_node : IsNode version_1 2 new_root
+root_node = record {
+  first = lit≤ tt;
+  within = lit≤ tt;
+  owner = lit< tt;
+  group = lit< tt;
+  acl = acl_is new_root.acl refl;
+  default_acl = tt;
+  of_file = λ e. cc;
+  of_directory = λ e. refl;
+  bytes = tt;
+  size = lit≤ tt;
+}
+
+new_whole : IsTree version_1 new_tree
+new_whole = record {
+  hierarchy = new_hierarchy;
+  nodes = record {
+    nodes = λ n x e. let q = new_node n x e in subst (λ (y : Node). IsNode version_1 n y) (sym q.1) (subst (λ (m : ℕ). IsNode version_1 m new_root) (sym q.0) root_node);
+    names = λ l n e. absurd (new_named l n e);
+    hidden = map.get-empty link_cmp _;
+  };
+  few = record {
+    names = λ d. subst (λ n. n ≤ 65535) (sym (count_none links_total exact_links (λ e. e.0.directory == d) new_tree.links (λ l n e. absurd (new_named l n e)))) (lit≤ tt);
+    links = λ m k. subst (λ n. n ≤ 32767) (sym (count_none links_total exact_links (λ e. e.1 == m) new_tree.links (λ l n e. absurd (new_named l n e)))) (lit≤ tt);
+  };
+}
+
+free_places : (n : ℕ) → AllByRecursion IsPlace (replicate n None)
+free_places zero = tt
+free_places (suc n) = (tt, free_places n)
+
+new_is_world : IsWorld version_1 new_world
+new_is_world = record {
+  live = new_whole;
+  frozen = λ name tree e. let never : None ≡ Some tree = sym (map.get-empty (slice_cmp nat_cmp) name) ∙ e in cc;
+  few_snapshots = subst (λ n. n ≤ 20) (sym (map.len-empty (slice_cmp nat_cmp) Tree)) (lit≤ tt);
+  places = length-replicate {A = Option Session} 64 None;
+  callers = free_places 64;
+  open_files = λ i fd d e. let never : None ≡ Some d = sym (map.get-empty descriptor_cmp (i, fd)) ∙ e in cc;
+  held = λ n k z. let s = some_node _ File k in let q = new_node n s.0 s.1 in let never : Directory ≡ File = ap (λ (x : Node). x.kind) (sym q.1) ∙ s.2 in cc;
+}
+
+pub run_world : (events : List Event) (replies : List Reply) (last : World) → AllByRecursion IsEvent events → Run new_world events replies last → IsWorld version_1 last
+run_world events replies last all run = run_from new_world last events replies all run new_is_world

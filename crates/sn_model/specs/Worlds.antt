@@ -1,0 +1,56 @@
+-- When a world is one that runs can reach.
+use Rattle.std.specs.Prelude.{◌≡◌, ℕ, ◌≤◌, ◌<◌, ◌^◌, true, List, Option, None, Some, IsSomeAnd, is_some, length, slice_get}
+use Rattle.std.specs.List.{AllByRecursion}
+use Rattle.std.specs.FinMap as map
+use Rattle.sn_walk.specs.declared.view.Kind.TheVariants.{File}
+use Rattle.sn_limits.specs.declared.limits.Limits.{Limits}
+use Rattle.sn_model.specs.declared.call.Call.{Call}
+use Rattle.sn_model.specs.declared.call.Call.TheVariants as call
+use Rattle.sn_model.specs.declared.call.Event.{Event}
+use Rattle.sn_model.specs.declared.call.Event.TheVariants as event
+use Rattle.sn_model.specs.declared.session.Session.{Session}
+use Rattle.sn_model.specs.Tree.{Tree, names_for}
+use Rattle.sn_model.specs.World.{World, Home, Live, Frozen, Descriptor}
+use Rattle.sn_model.specs.NameTree.{HasKind, IsTree}
+
+-- whoever is logged in has numbers of 32 bits
+pub record IsCaller (s : Session) : Type 0 where
+  pub uid : s.cred.uid < 2 ^ 32
+  pub gid : s.cred.gid < 2 ^ 32
+
+abbrev pub IsPlace : Option Session → Type 0
+IsPlace None = Unit {0}
+IsPlace (Some s) = IsCaller s
+
+abbrev pub tree_in : World → Home → Option Tree
+tree_in world Live = Some world.live
+tree_in world (Frozen s) = map.get world.frozen s
+
+abbrev pub IsLoggedIn : World → ℕ → Type 0
+IsLoggedIn world session = IsSomeAnd (slice_get world.sessions session) (λ s. is_some s ≡ true)
+
+-- a descriptor of a session that is logged in is of a file that is there
+pub record IsOpenFile (limits : Limits) (world : World) (session fd : ℕ) (d : Descriptor) : Type 0 where
+  pub caller : IsLoggedIn world session
+  pub number : fd < 64
+  pub file : IsSomeAnd (tree_in world d.home) (λ tree. HasKind tree d.number File)
+  pub offset : d.offset ≤ limits.largest_file
+
+-- Its trees are name trees, open files are there, and a live file without a name is held.
+pub record IsWorld (limits : Limits) (world : World) : Type 0 where
+  pub live : IsTree limits world.live
+  pub frozen : (name : List ℕ) (tree : Tree) → map.get world.frozen name ≡ Some tree → IsTree limits tree
+  pub few_snapshots : map.len world.frozen ≤ limits.snapshots
+  pub places : length world.sessions ≡ 64
+  pub callers : AllByRecursion IsPlace world.sessions
+  pub open_files : (session fd : ℕ) (d : Descriptor) → map.get world.descriptors (session, fd) ≡ Some d → IsOpenFile limits world session fd d
+  pub held : (number : ℕ) → HasKind world.live number File → names_for world.live number ≡ 0 → (session : ℕ) × (fd : ℕ) × IsSomeAnd (map.get world.descriptors (session, fd)) (λ d. (d.home ≡ Live) × (d.number ≡ number))
+
+-- the numbers of a call are those of its types
+abbrev pub IsCall : Call → Type 0
+IsCall (call.Login uid gid groups) = (uid < 2 ^ 32) × (gid < 2 ^ 32)
+IsCall (call.Mkdir path mode) = Unit {0}
+IsCall (call.Stat path) = Unit {0}
+
+abbrev pub IsEvent : Event → Type 0
+IsEvent (event.Call session c) = IsCall c

@@ -1,0 +1,10 @@
+pub mod AppendLemmas
+pub mod BlockLemmas
+pub mod LogLemmas
+pub mod MapLemmas
+pub mod OneLemmas
+pub mod PlaceLemmas
+pub mod RootBodyLemmas
+pub mod RootLemmas
+pub mod ShownLemmas
+pub mod TreeLemmas

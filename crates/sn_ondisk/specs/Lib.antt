@@ -1,0 +1,14 @@
+pub mod BlockLaws
+pub mod Blocks
+pub mod Footprints
+pub mod GateLaws
+pub mod Gates
+pub mod LogHalf
+pub mod MapCopy
+pub mod MapLaws
+pub mod OneAnswer
+pub mod PlaceLaws
+pub mod Roots
+pub mod Shown
+pub mod TreeLaws
+pub mod Trees

@@ -1,0 +1,17 @@
+//! What the program `snapfs` does, over the files of a handle and two writers: its `main` adds nothing but the words
+//! of the command line and the two streams of the process.
+//!
+//! [`program`] is all of it. It reads the words by `sn_command`, then the script's file, and [`answer`] makes of the
+//! script's bytes the bytes of its replies: its clause, by `specs/Answers`, is the whole way from a script to what is
+//! written. Each fault is a [`Fault`], whose text is the line on standard error and whose status the shell sees.
+//!
+//! ```text
+//! let status = program(&rt, &["run", "image", "first.snap"], &mut out, &mut err);
+//! ```
+#![tactic(auto)]
+
+mod fault;
+mod run;
+
+pub use fault::{Fault, tell};
+pub use run::{answer, program};

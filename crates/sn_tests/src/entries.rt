@@ -1,0 +1,55 @@
+//! Entries of access control lists, as tables spell them.
+
+use anyhow::{Context, Result, bail};
+use sn_acl::{Acl, Entry, Permissions, Tag};
+use sn_table::Case;
+use std::alloc::Global;
+
+pub fn acl_of(word: &str) -> Result<Acl> {
+    Acl::parse(word.as_bytes()).context(format_args!("no ACL: {word}"))
+}
+
+pub fn rights_of(word: &str) -> Result<Permissions> {
+    Permissions::parse(word.as_bytes()).context(format_args!("no rights: {word}"))
+}
+
+/// The entries of a case, as in `owner=rwx user:7=r--`.
+pub fn entries_of(alloc: Global, case: Case<'_>) -> Result<Vec<Entry>> {
+    let mut entries = Vec::new(alloc);
+    for word in case.text().split_ascii_whitespace() {
+        entries.push(entry_of(word)?)?;
+    }
+    Ok(entries)
+}
+
+fn entry_of(word: &str) -> Result<Entry> {
+    let (tag, rights) = word
+        .split_once('=')
+        .context(format_args!("no entry: {word}"))?;
+    Ok(Entry {
+        tag: tag_of(tag)?,
+        permissions: rights_of(rights)?,
+    })
+}
+
+fn tag_of(word: &str) -> Result<Tag> {
+    Ok(match word {
+        "owner" => Tag::UserObj,
+        "group" => Tag::GroupObj,
+        "mask" => Tag::Mask,
+        "other" => Tag::Other,
+        _ => named_tag(word)?,
+    })
+}
+
+fn named_tag(word: &str) -> Result<Tag> {
+    let (kind, number) = word
+        .split_once(':')
+        .context(format_args!("no tag: {word}"))?;
+    let number = number.parse().context(format_args!("no number: {number}"))?;
+    Ok(match kind {
+        "user" => Tag::User(number),
+        "group" => Tag::Group(number),
+        _ => bail!("no tag: {word}"),
+    })
+}

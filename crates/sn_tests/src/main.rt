@@ -1,0 +1,28 @@
+//! Cases of access control lists, paths, scripts and the plain run.
+//!
+//! `data/` has the tables of the cases: their head lines say where the answers come from. A file has
+//! a module for each subject: `acl`, `walk`, `script` and `plain`. What is printed is compared with
+//! `stdout`. The argument is the folder of the tables, as in
+//!
+//! ```text
+//! rt run -- data
+//! ```
+#![tactic(auto)]
+
+mod acl;
+mod entries;
+mod plain;
+mod script;
+mod walk;
+
+use anyhow::Result;
+use sn_table::Report;
+
+fn main(rt: HostRuntime) -> Result<()> {
+    let mut report = Report::new(&rt)?;
+    acl::run(&mut report)?;
+    walk::run(&mut report)?;
+    script::run(&mut report)?;
+    plain::run(&mut report)?;
+    report.end()
+}

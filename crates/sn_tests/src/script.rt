@@ -1,0 +1,190 @@
+//! Scripts and replies as text.
+
+use anyhow::{Context, Result, bail, ensure};
+use sn_acl::{Mode, Permissions, Tag};
+use sn_model::{Access, Call, Denial, Errno, Event, Refusal, Reply, Rule, Status};
+use sn_script::{SCRIPT_MAX, ScriptFault, print_replies, read_script};
+use sn_table::{Case, Report, Tally};
+use sn_walk::Kind;
+use std::alloc::Global;
+use std::str;
+
+const ERRNOS: [Errno; 21] = [
+    Errno::Eacces,
+    Errno::Eperm,
+    Errno::Enoent,
+    Errno::Enotdir,
+    Errno::Eisdir,
+    Errno::Eexist,
+    Errno::Enotempty,
+    Errno::Einval,
+    Errno::Enametoolong,
+    Errno::Erofs,
+    Errno::Exdev,
+    Errno::Ebusy,
+    Errno::Emlink,
+    Errno::Emfile,
+    Errno::Ebadf,
+    Errno::Efbig,
+    Errno::Elimit,
+    Errno::Enospc,
+    Errno::Enomem,
+    Errno::Eio,
+    Errno::Estopped,
+];
+
+const RULES: [Rule; 10] = [
+    Rule::Entry(Tag::UserObj),
+    Rule::Entry(Tag::User(4_294_967_295)),
+    Rule::Entry(Tag::GroupObj),
+    Rule::Entry(Tag::Group(50)),
+    Rule::Entry(Tag::Mask),
+    Rule::Entry(Tag::Other),
+    Rule::Sticky,
+    Rule::NotOwner,
+    Rule::NotRoot,
+    Rule::NotMember,
+];
+
+const FILE: Status = Status {
+    kind: Kind::File,
+    set_gid: true,
+    sticky: false,
+    mode: Mode {
+        owner: Permissions::ALL,
+        group: Permissions::READ,
+        other: Permissions::NONE,
+    },
+    links: 32_767,
+    owner: 4_294_967_295,
+    group: 500,
+    size: 67_108_864,
+    number: 9,
+};
+
+const READ_AND_SEARCH: Access = Access {
+    read: true,
+    write: false,
+    execute: true,
+};
+
+pub fn run(report: &mut Report<'_>) -> Result<()> {
+    report.table("script_lines.txt", line)?;
+    report.table("scripts.txt", script)?;
+    let long = long_scripts(report)?;
+    report.add("long scripts", long)?;
+    print_each_reply(report)
+}
+
+/// How a script is refused. That there was no memory is no answer.
+fn refusal(alloc: Global, fault: ScriptFault) -> Result<String> {
+    ensure!(fault != ScriptFault::Memory, "no memory for a script");
+    Ok(fault.to_string(alloc)?)
+}
+
+fn script(alloc: Global, case: Case<'_>) -> Result<String> {
+    let bytes = case.bytes(alloc)?;
+    match read_script(alloc, bytes.as_slice()) {
+        Ok(events) => Ok(format!(in alloc; "{} events", events.len())?),
+        Err(fault) => refusal(alloc, fault),
+    }
+}
+
+/// The second line of three, of which the first is right and the third wrong.
+fn line(alloc: Global, case: Case<'_>) -> Result<String> {
+    let line = case.bytes(alloc)?;
+    let mut script = Vec::from_slice(alloc, b"0 stat /\n".as_slice())?;
+    script.extend_from_slice(line.as_slice())?;
+    script.push(b'\n')?;
+    let read = script.len();
+    script.extend_from_slice(b"0 stat\n".as_slice())?;
+    let Err(fault) = read_script(alloc, script.as_slice()) else {
+        bail!("the third line was read: {}", case.text());
+    };
+    if fault != ScriptFault::Line(3) {
+        return refusal(alloc, fault);
+    }
+    script.truncate(read);
+    let events = read_script(alloc, script.as_slice())?;
+    told(alloc, events.as_slice().get(1).context("one event")?)
+}
+
+/// An event, field by field.
+fn told(alloc: Global, event: &Event) -> Result<String> {
+    let Event::Call { session, call } = event;
+    Ok(match call {
+        Call::Login { uid, gid, groups } => {
+            let groups = groups.as_slice();
+            format!(in alloc; "session {session}: login, uid {uid}, gid {gid}, groups {groups:?}")?
+        }
+        Call::Mkdir { path, mode } => {
+            let path = str::from_utf8(path.as_bytes())?;
+            format!(in alloc; "session {session}: mkdir, path {path}, mode {mode}")?
+        }
+        Call::Stat { path } => {
+            let path = str::from_utf8(path.as_bytes())?;
+            format!(in alloc; "session {session}: stat, path {path}")?
+        }
+    })
+}
+
+/// The fault of a script that is none. That there was no memory is no answer.
+fn fault_of(alloc: Global, script: &[u8]) -> Result<ScriptFault> {
+    let fault = read_script(alloc, script).err().context("a fault")?;
+    ensure!(fault != ScriptFault::Memory, "no memory for a script");
+    Ok(fault)
+}
+
+/// As many bytes as a script may have, all of them ends of lines, and one more.
+fn long_scripts(report: &Report<'_>) -> Result<Tally> {
+    let alloc = report.alloc();
+    let mut tally = Tally::new();
+    let mut script = vec![in alloc; b'\n'; SCRIPT_MAX]?;
+    let longest = fault_of(alloc, script.as_slice())?;
+    tally.check(report.runtime(), longest == ScriptFault::Line(1), &[1])?;
+    script.push(b'\n')?;
+    let longer = fault_of(alloc, script.as_slice())?;
+    tally.check(report.runtime(), longer == ScriptFault::Line(0), &[0])?;
+    Ok(tally)
+}
+
+fn denied(rule: Rule) -> Reply {
+    Reply::Refused(Refusal {
+        errno: Errno::Eacces,
+        denial: Some(Denial {
+            path: 2,
+            place: 511,
+            want: READ_AND_SEARCH,
+            rule,
+        }),
+    })
+}
+
+fn each_reply(alloc: Global) -> Result<Vec<Reply>> {
+    let directory = Status {
+        kind: Kind::Directory,
+        set_gid: false,
+        sticky: true,
+        links: 1,
+        size: 0,
+        ..FILE
+    };
+    let mut replies = Vec::new(alloc);
+    for errno in ERRNOS {
+        replies.push(Reply::Refused(Refusal::plain(errno)))?;
+    }
+    for rule in RULES {
+        replies.push(denied(rule))?;
+    }
+    replies.push(Reply::Status(FILE))?;
+    replies.push(Reply::Status(directory))?;
+    replies.push(Reply::Done)?;
+    Ok(replies)
+}
+
+/// Prints replies with each errno, each rule and each kind of node.
+fn print_each_reply(report: &Report<'_>) -> Result<()> {
+    let replies = each_reply(report.alloc())?;
+    let text = print_replies(report.alloc(), replies.as_slice())?;
+    report.print(str::from_utf8(text.as_slice())?)
+}

@@ -1,0 +1,177 @@
+//! The device in memory.
+
+use crate::journal;
+use anyhow::{Context, Result, bail, ensure};
+use sn_device::{Device, Fill, MemDevice, SECTOR_SIZE, Sector};
+use sn_table::{Case, Report, Tally};
+use std::alloc::Global;
+
+pub fn run(report: &mut Report<'_>) -> Result<()> {
+    report.table("device.txt", steps)?;
+    let spent = want_of_memory(report)?;
+    report.add("want of memory", spent)?;
+    let journal = journal_cases(report)?;
+    report.add("the journal", journal)
+}
+
+fn number_of(word: &str) -> Result<u64> {
+    word.parse().context(format_args!("no number: {word}"))
+}
+
+fn byte_of(word: &str) -> Result<u8> {
+    u8::from_str_radix(word, 16).context(format_args!("no byte: {word}"))
+}
+
+fn fill_of(word: &str) -> Result<Fill> {
+    Ok(match word {
+        "old" => Fill::Old,
+        "new" => Fill::New,
+        "zero" => Fill::Zero,
+        "one" => Fill::One,
+        "junk" => Fill::Junk,
+        _ => bail!("no fill: {word}"),
+    })
+}
+
+/// A device of so many sectors, or one that holds as many bytes of 07.
+fn device_of(alloc: Global, word: &str) -> Result<MemDevice> {
+    match word.split_once('=') {
+        Some(("sectors", count)) => Ok(MemDevice::new(alloc, number_of(count)?)?),
+        Some(("bytes", count)) => {
+            let bytes = vec![in alloc; 7; usize::from(count.parse::<u16>()?)]?;
+            Ok(MemDevice::from_bytes(alloc, bytes.as_slice())?)
+        }
+        _ => bail!("no device: {word}"),
+    }
+}
+
+/// What a device answers to calls, one after the other.
+fn steps(alloc: Global, case: Case<'_>) -> Result<String> {
+    let mut device = device_of(alloc, case.word(0)?)?;
+    let mut text = String::new(alloc);
+    for word in case.text().split_ascii_whitespace().skip(1) {
+        let (step, value) = word.split_once('=').unwrap_or((word, ""));
+        if step == "crash" {
+            device = device.crash(fill_of(value)?);
+        } else {
+            take_step(&mut device, step, value, &mut text)?;
+        }
+        ensure!(!device.status().is_spent, "no memory for a call");
+    }
+    Ok(text)
+}
+
+fn take_step(device: &mut MemDevice, step: &str, value: &str, text: &mut String) -> Result<()> {
+    match step {
+        "fail" => {
+            let call = number_of(value)?;
+            ensure!(call > 0, "calls are counted from 1");
+            device.fail_at(call);
+            Ok(())
+        }
+        "stop" => {
+            device.stop_at(number_of(value)?);
+            Ok(())
+        }
+        "sync" => push_answer(text, device.sync().is_ok()),
+        "read" => read(device, number_of(value)?, text),
+        "failures" => push_number(text, device.failures()),
+        "sectors" => push_number(text, device.sectors()),
+        "show" => show(device, text),
+        _ => write(device, step, value, text),
+    }
+}
+
+fn push_word(text: &mut String, word: &str) -> Result<()> {
+    if !text.is_empty() {
+        text.push_str(" ")?;
+    }
+    text.push_str(word)?;
+    Ok(())
+}
+
+fn push_answer(text: &mut String, is_ok: bool) -> Result<()> {
+    push_word(text, if is_ok { "ok" } else { "fault" })
+}
+
+fn push_number(text: &mut String, number: u64) -> Result<()> {
+    push_word(text, "")?;
+    write!(text, "{number}")?;
+    Ok(())
+}
+
+/// The byte that all of a sector is made of.
+fn push_sector(text: &mut String, sector: &Sector) -> Result<()> {
+    let first = sector[0];
+    ensure!(*sector == [first; SECTOR_SIZE], "bytes that differ");
+    push_word(text, "")?;
+    write!(text, "{first:02x}")?;
+    Ok(())
+}
+
+fn read(device: &mut MemDevice, at: u64, text: &mut String) -> Result<()> {
+    ensure!(at < device.sectors(), "no sector {at}");
+    let mut sector = [0xee; SECTOR_SIZE];
+    match device.read(at, &mut sector) {
+        Ok(()) => push_sector(text, &sector),
+        Err(fault) => {
+            ensure!(
+                sector == [0xee; SECTOR_SIZE],
+                "{fault}, and bytes were read"
+            );
+            push_word(text, "fault")
+        }
+    }
+}
+
+/// A write of a sector made of one byte, as in `2=33`.
+fn write(device: &mut MemDevice, sector: &str, byte: &str, text: &mut String) -> Result<()> {
+    let at = number_of(sector)?;
+    let byte = byte_of(byte)?;
+    ensure!(at < device.sectors(), "no sector {at}");
+    push_answer(text, device.write(at, &[byte; SECTOR_SIZE]).is_ok())
+}
+
+fn show(device: &MemDevice, text: &mut String) -> Result<()> {
+    for sector in device.contents() {
+        push_sector(text, sector)?;
+    }
+    Ok(())
+}
+
+/// Whichever allocation is refused, if one is, the device has then come to its end.
+fn want_of_memory(report: &Report<'_>) -> Result<Tally> {
+    let mut device = MemDevice::new(report.alloc(), 3)?;
+    let mut tally = Tally::new();
+    let mut has_failed = false;
+    for at in 0..3 {
+        ensure!(at < device.sectors(), "no sector {at}");
+        let write = device.write(at, &[0x11; SECTOR_SIZE]).is_err();
+        let sync = device.sync().is_err();
+        let is_right = write >= has_failed && sync >= write;
+        tally.check(report.runtime(), is_right, &[at as u32])?;
+        has_failed = sync;
+    }
+    let is_right = device.status().has_ended() == has_failed && device.failures() == 0;
+    tally.check(report.runtime(), is_right, &[])?;
+    Ok(tally)
+}
+
+/// A body that was put into an empty journal is there after a crash, and sectors that are wiped are zeros.
+fn journal_cases(report: &Report<'_>) -> Result<Tally> {
+    let mut tally = Tally::new();
+    let mut device = MemDevice::new(report.alloc(), 2)?;
+    journal::put(&mut &mut device, &[0x22; SECTOR_SIZE])?;
+    let is_there = match device.crash(Fill::Junk).contents() {
+        [gate, body] => gate[0] == 1 && *body == [0x22; SECTOR_SIZE],
+        _ => false,
+    };
+    tally.check(report.runtime(), is_there, &[0])?;
+    let mut device = MemDevice::from_bytes(report.alloc(), &[7; 3 * SECTOR_SIZE])?;
+    ensure!(device.sectors() == 3, "another number of sectors");
+    journal::wipe(&mut device, 1, 3)?;
+    let mut text = String::new(report.alloc());
+    show(&device, &mut text)?;
+    tally.check(report.runtime(), text.as_str() == "07 00 00", &[1])?;
+    Ok(tally)
+}

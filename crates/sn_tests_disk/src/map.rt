@@ -1,0 +1,203 @@
+//! The block map.
+
+use anyhow::{Context, Result, bail, ensure};
+use sn_map::{LARGEST_BIT, Map};
+use sn_table::{Case, Report, Tally};
+use std::alloc::Global;
+
+/// Numbers of blocks round those of a vector of words, the most among them.
+const SIZES: [u32; 11] = [0, 1, 7, 8, 9, 63, 64, 65, 256, 1_023, 1_048_576];
+
+pub fn run(report: &mut Report<'_>) -> Result<()> {
+    report.table("map.txt", steps)?;
+    let searches = searches(report)?;
+    report.add("searches of a map", searches)?;
+    let only = only_free_blocks(report)?;
+    report.add("the only free block", only)?;
+    let passes = passes(report)?;
+    report.add("passes over a map", passes)
+}
+
+/// What is left of a map of some words after calls, and what can be asked of it.
+fn steps(alloc: Global, case: Case<'_>) -> Result<String> {
+    let words = case.numbers(alloc, 0)?;
+    ensure!(words.len() < 1000, "too many words");
+    let mut map = Map::from_words(words);
+    for word in case.text().split_ascii_whitespace().skip(1) {
+        let (step, value) = word
+            .split_once('=')
+            .context(format_args!("no step: {word}"))?;
+        take_step(&mut map, step, value)?;
+    }
+    told(alloc, &map.try_clone()?)
+}
+
+fn take_step(map: &mut Map, step: &str, value: &str) -> Result<()> {
+    match value.split_once(',') {
+        Some((block, value)) => take_block_step(map, step, block.parse()?, value.parse()?),
+        None => pass(map, step, value.parse()?),
+    }
+}
+
+fn pass(map: &mut Map, step: &str, bit: u32) -> Result<()> {
+    ensure!(bit <= LARGEST_BIT, "no bit {bit}");
+    match step {
+        "live_to" => map.copy_bit0_to(bit),
+        "to_live" => map.copy_bit_to_0(bit),
+        "clear" => map.clear_bit(bit),
+        _ => bail!("no step: {step}"),
+    }
+    Ok(())
+}
+
+fn take_block_step(map: &mut Map, step: &str, block: u32, value: u32) -> Result<()> {
+    ensure!(block < map.len(), "no block {block}");
+    if step == "word" {
+        map.set_word(block, value);
+        return Ok(());
+    }
+    ensure!(value <= LARGEST_BIT, "no bit {value}");
+    match step {
+        "set" => map.set_bit(block, value),
+        "unset" => map.unset_bit(block, value),
+        _ => bail!("no step: {step}"),
+    }
+    Ok(())
+}
+
+fn told(alloc: Global, map: &Map) -> Result<String> {
+    let words = map.words();
+    let free = map.count_free();
+    let behind = if map.is_empty() {
+        0
+    } else {
+        map.count_free_from(1)
+    };
+    Ok(match map.next_free(0) {
+        Some(first) => {
+            format!(in alloc;
+                "{words:?}, free {free}, behind the first word {behind}, next {first}"
+            )?
+        }
+        None => format!(in alloc; "{words:?}, free {free}, behind the first word {behind}, none")?,
+    })
+}
+
+/// Words with all bits in use, of which every seventh is 0, and the first.
+fn mixed(alloc: Global, size: u32) -> Result<Vec<u32>> {
+    let mut words = Vec::new(alloc);
+    for block in 0..size {
+        let is_free = block % 7 == 3;
+        words.push(if is_free {
+            0
+        } else {
+            block.wrapping_mul(2_654_435_761)
+        })?;
+    }
+    Ok(words)
+}
+
+/// A map of which one block is free, or none where the size is not above `free`.
+pub fn taken_but(alloc: Global, size: u32, free: u32) -> Result<Map> {
+    let mut words = Vec::new(alloc);
+    for block in 0..size {
+        words.push(if block == free { 0 } else { 1 << (block % 32) })?;
+    }
+    ensure!(words.len() <= 1_048_576, "too many words");
+    Ok(Map::from_words(words))
+}
+
+fn mixed_map(alloc: Global, size: u32) -> Result<Map> {
+    let words = mixed(alloc, size)?;
+    ensure!(words.len() <= 1_048_576, "too many words");
+    Ok(Map::from_words(words))
+}
+
+/// The searches against loops over the words.
+fn searches(report: &Report<'_>) -> Result<Tally> {
+    let mut tally = Tally::new();
+    for size in SIZES {
+        let map = mixed_map(report.alloc(), size)?;
+        let free = map.words().iter().filter(|word| **word == 0).count();
+        tally.check(report.runtime(), map.count_free() as usize == free, &[size])?;
+        for from in [0, 1, 3, 4, size / 2] {
+            let first = first_free(map.words(), from);
+            let is_right = map.next_free(from).map(u64::from) == first;
+            tally.check(report.runtime(), is_right, &[size, from])?;
+        }
+    }
+    Ok(tally)
+}
+
+fn first_free(words: &[u32], from: u32) -> Option<u64> {
+    for (block, word) in words.iter().enumerate().skip(from as usize) {
+        if *word == 0 {
+            return Some(block as u64);
+        }
+    }
+    None
+}
+
+fn only_free_blocks(report: &Report<'_>) -> Result<Tally> {
+    let mut tally = Tally::new();
+    for size in SIZES {
+        let last = size.saturating_sub(1);
+        for free in [0, last, size / 64 * 64, size / 2, size] {
+            let map = taken_but(report.alloc(), size, free)?;
+            let is_right = is_only_free(&map, free, free < size);
+            tally.check(report.runtime(), is_right, &[size, free])?;
+        }
+    }
+    Ok(tally)
+}
+
+/// Whether this block, if it is there, is the one that is found and counted.
+fn is_only_free(map: &Map, free: u32, is_there: bool) -> bool {
+    let found = is_there.then_some(free);
+    map.next_free(0) == found
+        && map.next_free(free) == found
+        && map.next_free(free.saturating_add(1)).is_none()
+        && map.count_free() == u32::from(is_there)
+}
+
+/// The passes that change a bit against loops over the words.
+fn passes(report: &Report<'_>) -> Result<Tally> {
+    let mut tally = Tally::new();
+    for size in SIZES {
+        for (bit, mask) in [(1, 0x2), (5, 0x20), (20, 0x10_0000)] {
+            let mut map = mixed_map(report.alloc(), size)?;
+            let mut words = mixed(report.alloc(), size)?;
+            map.copy_bit0_to(bit);
+            copy_bit(words.as_mut_slice(), 1, mask);
+            let is_right = map.words() == words.as_slice();
+            tally.check(report.runtime(), is_right, &[size, 0, bit])?;
+            map.clear_bit(0);
+            clear_bit(words.as_mut_slice(), 1);
+            map.copy_bit_to_0(bit);
+            copy_bit(words.as_mut_slice(), mask, 1);
+            let is_right = map.words() == words.as_slice();
+            tally.check(report.runtime(), is_right, &[size, bit, 0])?;
+            map.clear_bit(bit);
+            clear_bit(words.as_mut_slice(), mask);
+            let is_right = map.words() == words.as_slice();
+            tally.check(report.runtime(), is_right, &[size, bit])?;
+        }
+    }
+    Ok(tally)
+}
+
+fn copy_bit(words: &mut [u32], from: u32, to: u32) {
+    for word in words.iter_mut() {
+        *word = if *word & from == 0 {
+            *word & !to
+        } else {
+            *word | to
+        };
+    }
+}
+
+fn clear_bit(words: &mut [u32], bit: u32) {
+    for word in words.iter_mut() {
+        *word &= !bit;
+    }
+}

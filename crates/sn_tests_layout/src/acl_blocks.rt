@@ -1,0 +1,90 @@
+//! Blocks and lists of ACL entries.
+
+use crate::block::{DIRTY, block_of, spelled};
+use anyhow::{Context, Result, ensure};
+use sn_acl::{Acl, MAX_ENTRIES, Mode};
+use sn_layout::{Block, Reader};
+use sn_layout_acl::{AclBlock, AclParts, put_entries, read_entries};
+use sn_table::{Case, Report};
+use std::alloc::Global;
+
+/// As many bytes as the entries of the longest ACL take.
+const LONGEST: usize = 288;
+
+pub fn run(report: &mut Report<'_>) -> Result<()> {
+    report.table("acl_block.txt", acl_block)?;
+    report.table("acl_parts.txt", parts)?;
+    report.table("acl_entries.txt", entries)
+}
+
+fn acl_of(word: &str) -> Result<Acl> {
+    Acl::parse(word.as_bytes()).context(format_args!("no ACL: {word}"))
+}
+
+fn block_with(acls: &AclBlock) -> Result<Block> {
+    ensure!(acls.count() > 0, "an ACL block has an entry");
+    let mut block = DIRTY;
+    acls.encode(&mut block);
+    Ok(block)
+}
+
+/// The access ACL that a block makes with no rights in the mode bits, and the default ACL.
+fn acl_block(alloc: Global, case: Case<'_>) -> Result<String> {
+    let block = block_of(alloc, case.text())?;
+    let Some(acls) = AclBlock::decode(&block) else {
+        return Ok(String::from_str(alloc, "refused")?);
+    };
+    ensure!(
+        block_with(&acls)? == block,
+        "another spelling: {}",
+        case.text()
+    );
+    let access = acls
+        .access
+        .join(Mode::from_bits(0).context("a mode")?)
+        .print();
+    let access = access.as_str();
+    Ok(match acls.default {
+        Some(acl) => format!(in alloc; "{access} {}", acl.print().as_str())?,
+        None => format!(in alloc; "{access} -")?,
+    })
+}
+
+/// The mode bits and the block of an access ACL.
+fn parts(alloc: Global, case: Case<'_>) -> Result<String> {
+    let acl = acl_of(case.text())?;
+    let parts = AclParts::of(&acl);
+    ensure!(
+        parts.access.join(parts.objects) == acl,
+        "joined otherwise: {}",
+        case.text()
+    );
+    let mode = parts.objects.bits();
+    let block = block_with(&AclBlock {
+        access: parts.access,
+        default: None,
+    })?;
+    let mut text = spelled(alloc, &block)?;
+    write!(text, ", mode {mode:o}")?;
+    Ok(text)
+}
+
+/// The bytes of a list of entries.
+fn entries(alloc: Global, case: Case<'_>) -> Result<String> {
+    let acl = acl_of(case.text())?;
+    let entries = acl.entries();
+    let count = entries.len();
+    ensure!(count <= MAX_ENTRIES, "too many entries");
+    let mut bytes = [0xa5; LONGEST];
+    let end = put_entries(&mut bytes, 0, entries);
+    let mut reader = Reader::new(&bytes);
+    ensure!(reader.remaining() >= LONGEST, "too few bytes");
+    let read = read_entries(&mut reader, count).context("entries")?;
+    ensure!(
+        read.as_slice() == entries,
+        "read otherwise: {}",
+        case.text()
+    );
+    ensure!(end <= bytes.len(), "too many bytes");
+    Ok(hex::encode(alloc, &bytes[..end])?)
+}

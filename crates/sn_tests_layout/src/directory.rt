@@ -1,0 +1,169 @@
+//! Directory blocks.
+
+use crate::block::{DIRTY, block_of, spelled};
+use anyhow::{Context, Result, bail, ensure};
+use sn_layout::{BLOCK_SIZE, Block};
+use sn_layout_node::DirectoryBlock;
+use sn_table::{Case, Report, Tally};
+use sn_walk::is_name;
+use std::alloc::Global;
+use std::str;
+
+/// So many names of seven bytes leave room for one of 93 in a block.
+const MANY: usize = 400;
+
+pub fn run(report: &mut Report<'_>) -> Result<()> {
+    report.table("directory_block.txt", directory_block)?;
+    report.table("directory_find.txt", find)?;
+    report.table("directory_steps.txt", steps)?;
+    let many = many_names(report)?;
+    report.add("400 names", many)?;
+    let removed = one_of_many_removed(report)?;
+    report.add("one of 400 names removed", removed)?;
+    let last = up_to_the_last_byte(report)?;
+    report.add("names up to the last byte", last)
+}
+
+fn directory_block(alloc: Global, case: Case<'_>) -> Result<String> {
+    let block = block_of(alloc, case.text())?;
+    let Some(names) = DirectoryBlock::decode(&block) else {
+        return Ok(String::from_str(alloc, "refused")?);
+    };
+    let mut text = String::new(alloc);
+    for entry in names.entries() {
+        let name = str::from_utf8(entry.name)?;
+        write!(text, "{} {name}, ", entry.number)?;
+    }
+    text.push_str("end")?;
+    Ok(text)
+}
+
+/// The number of a name in the block of `f`, which is 3, and `dir`, which is 65,535.
+fn find(alloc: Global, case: Case<'_>) -> Result<String> {
+    let block = block_of(alloc, "0:03 2:0166ffff03646972")?;
+    let names = DirectoryBlock::decode(&block).context("a directory block")?;
+    Ok(match names.find(case.text().as_bytes()) {
+        Some(number) => format!(in alloc; "{number}")?,
+        None => String::from_str(alloc, "none")?,
+    })
+}
+
+fn insert(block: &mut Block, name: &[u8], number: u16) -> Result<bool> {
+    ensure!(
+        DirectoryBlock::decode(block).is_some() && number >= 2 && is_name(name),
+        "no block, or no entry"
+    );
+    Ok(DirectoryBlock::insert(block, name, number))
+}
+
+fn remove(block: &mut Block, name: &[u8]) -> Result<Option<u16>> {
+    ensure!(DirectoryBlock::decode(block).is_some(), "no block");
+    Ok(DirectoryBlock::remove(block, name))
+}
+
+/// What a block answers to calls and then is, if it was cleared first.
+fn steps(alloc: Global, case: Case<'_>) -> Result<String> {
+    let mut block = DIRTY;
+    DirectoryBlock::clear(&mut block);
+    let mut text = String::new(alloc);
+    for word in case.text().split_ascii_whitespace() {
+        match word.split_once(':') {
+            Some(("remove", name)) => match remove(&mut block, name.as_bytes())? {
+                Some(number) => write!(text, "{number}, ")?,
+                None => text.push_str("none, ")?,
+            },
+            Some((number, name)) => {
+                let is_put = insert(&mut block, name.as_bytes(), number.parse()?)?;
+                text.push_str(if is_put { "put, " } else { "full, " })?;
+            }
+            None => bail!("no step: {word}"),
+        }
+    }
+    let spelled = spelled(alloc, &block)?;
+    text.push_str(spelled.as_str())?;
+    Ok(text)
+}
+
+/// The name of a place below 400.
+fn name_at(place: usize) -> [u8; 7] {
+    let digit = |n: usize| b'0' + (n % 10) as u8;
+    [
+        b'n',
+        digit(place / 100),
+        digit(place / 10),
+        digit(place),
+        b'-',
+        b'-',
+        b'-',
+    ]
+}
+
+/// 400 names of 7 bytes, of which inode 2 has the first, and one may be gone.
+fn names_without(gone: usize) -> Block {
+    let mut block = [0; BLOCK_SIZE];
+    let mut at = 0;
+    for place in 0..400 {
+        if place != gone && at <= 4000 {
+            block[at] = ((place + 2) % 256) as u8;
+            block[at + 1] = ((place + 2) / 256) as u8;
+            block[at + 2] = 7;
+            block[at + 3..at + 10].copy_from_slice(&name_at(place));
+            at += 10;
+        }
+    }
+    block
+}
+
+fn many_names(report: &Report<'_>) -> Result<Tally> {
+    let mut tally = Tally::new();
+    let block = names_without(MANY);
+    let names = DirectoryBlock::decode(&block).context("a directory block")?;
+    let mut entries = names.entries();
+    for place in 0..MANY {
+        let entry = entries.next().context("a name")?;
+        let name = name_at(place);
+        let is_right = entry.name == name.as_slice()
+            && usize::from(entry.number) == place + 2
+            && names.find(&name) == Some(entry.number);
+        tally.check(report.runtime(), is_right, &[place as u32])?;
+    }
+    let is_end = entries.next().is_none() && names.find(b"n400---").is_none();
+    tally.check(report.runtime(), is_end, &[])?;
+    Ok(tally)
+}
+
+fn one_of_many_removed(report: &Report<'_>) -> Result<Tally> {
+    let mut tally = Tally::new();
+    for (gone, number) in [(0, 2), (1, 3), (200, 202), (398, 400), (399, 401)] {
+        let mut block = names_without(MANY);
+        let removed = remove(&mut block, &name_at(gone))?;
+        let is_right = removed == Some(number) && block == names_without(gone);
+        tally.check(report.runtime(), is_right, &[u32::from(number)])?;
+    }
+    Ok(tally)
+}
+
+/// The block of 400 names with one of 93 bytes behind them, which fills it.
+fn full_block() -> Block {
+    let mut block = names_without(MANY);
+    block[4000] = 0xf4;
+    block[4001] = 1;
+    block[4002] = 93;
+    block[4003..].fill(b'z');
+    block
+}
+
+fn up_to_the_last_byte(report: &Report<'_>) -> Result<Tally> {
+    let mut tally = Tally::new();
+    let long = [b'z'; 94];
+    let mut block = names_without(MANY);
+    let is_right = !insert(&mut block, &long, 500)? && block == names_without(MANY);
+    tally.check(report.runtime(), is_right, &[94])?;
+    let is_right = insert(&mut block, &long[..93], 500)? && block == full_block();
+    tally.check(report.runtime(), is_right, &[93])?;
+    let is_right = !insert(&mut block, b"a", 501)? && block == full_block();
+    tally.check(report.runtime(), is_right, &[1])?;
+    let is_right = remove(&mut block, &long[..93])? == Some(500) && block == names_without(MANY);
+    tally.check(report.runtime(), is_right, &[0])?;
+    Ok(tally)
+}

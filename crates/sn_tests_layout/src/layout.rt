@@ -1,0 +1,143 @@
+//! The superblock, root bodies and the places of a disk.
+
+use crate::block::{DIRTY, block_of, push_pointers};
+use anyhow::{Context, Result, ensure};
+use sn_layout::{
+    Area, Block, BlockTree, LogHalf, Places, RootBody, SNAPSHOT_ROOM, Slot, Snapshot, SnapshotName,
+    Snapshots, Superblock,
+};
+use sn_table::{Case, Report};
+use std::alloc::Global;
+use std::str;
+
+const AREAS: [(&str, Area); 9] = [
+    ("superblock", Area::Superblock),
+    ("root_a", Area::RootBody(Slot::A)),
+    ("root_b", Area::RootBody(Slot::B)),
+    ("gates", Area::Gates),
+    ("map_a", Area::MapCopy(Slot::A)),
+    ("map_b", Area::MapCopy(Slot::B)),
+    ("log_0", Area::Log(LogHalf::Zero)),
+    ("log_1", Area::Log(LogHalf::One)),
+    ("data", Area::Data),
+];
+
+pub fn run(report: &mut Report<'_>) -> Result<()> {
+    report.table("superblock.txt", superblock)?;
+    report.table("root_body.txt", root_body)?;
+    report.table("places.txt", place)?;
+    report.table("snapshot_names.txt", snapshot_name)?;
+    report.table("snapshots.txt", snapshots)
+}
+
+fn refused(alloc: Global) -> Result<String> {
+    Ok(String::from_str(alloc, "refused")?)
+}
+
+fn superblock(alloc: Global, case: Case<'_>) -> Result<String> {
+    let block = block_of(alloc, case.text())?;
+    let Some(superblock) = Superblock::decode(&block) else {
+        return refused(alloc);
+    };
+    let mut again = DIRTY;
+    superblock.encode(&mut again);
+    ensure!(again == block, "another spelling: {}", case.text());
+    Ok(format!(in alloc; "{} blocks", superblock.places.blocks())?)
+}
+
+fn root_body(alloc: Global, case: Case<'_>) -> Result<String> {
+    let block = block_of(alloc, case.text())?;
+    let Some(body) = RootBody::decode(&block) else {
+        return refused(alloc);
+    };
+    let mut again = DIRTY;
+    body.encode(&mut again);
+    ensure!(again == block, "another spelling: {}", case.text());
+    told(alloc, &block, &body)
+}
+
+fn told(alloc: Global, block: &Block, body: &RootBody) -> Result<String> {
+    let mut text = String::new(alloc);
+    write!(text, "version {}, ", RootBody::version(block))?;
+    write!(text, "generation {}, ", body.generation)?;
+    write!(text, "epoch {}, ", body.epoch)?;
+    push_tree(&mut text, &body.inode_file)?;
+    for snapshot in body.snapshots.as_slice() {
+        push_snapshot(&mut text, snapshot)?;
+    }
+    Ok(text)
+}
+
+fn push_snapshot(text: &mut String, snapshot: &Snapshot) -> Result<()> {
+    let name = str::from_utf8(snapshot.name.as_bytes())?;
+    write!(text, "; {} {name}, ", snapshot.bit)?;
+    push_tree(text, &snapshot.tree)
+}
+
+fn push_tree(text: &mut String, tree: &BlockTree) -> Result<()> {
+    write!(text, "size {}", tree.size)?;
+    push_pointers(text, tree.pointers.as_slice())
+}
+
+fn area_of(name: &str) -> Result<Area> {
+    for (other, area) in AREAS {
+        if other == name {
+            return Ok(area);
+        }
+    }
+    Err(anyhow::anyhow!("no area: {name}"))
+}
+
+fn name_of(area: Area) -> Result<&'static str> {
+    for (name, other) in AREAS {
+        if other == area {
+            return Ok(name);
+        }
+    }
+    Err(anyhow::anyhow!("an area without a name"))
+}
+
+/// The blocks of an area on a disk of so many, or the area of a block.
+fn place(alloc: Global, case: Case<'_>) -> Result<String> {
+    let Some(places) = Places::new(case.number(0)?) else {
+        return Ok(String::from_str(alloc, "no disk")?);
+    };
+    let word = case.word(1)?;
+    if word == "block" {
+        let block = case.number(2)?;
+        ensure!(block < places.blocks(), "no block {block}");
+        return Ok(String::from_str(alloc, name_of(places.area_of(block))?)?);
+    }
+    let range = places.range(area_of(word)?);
+    Ok(format!(in alloc; "{} to {}", range.start, range.end - 1)?)
+}
+
+fn snapshot_name(alloc: Global, case: Case<'_>) -> Result<String> {
+    let word = case.bytes(alloc)?;
+    let Some(name) = SnapshotName::parse(word.as_slice()) else {
+        return refused(alloc);
+    };
+    Ok(String::from_str(alloc, str::from_utf8(name.copy().as_bytes())?)?)
+}
+
+/// Snapshots with these bits and one name, of which one is removed.
+fn snapshots(alloc: Global, case: Case<'_>) -> Result<String> {
+    let mut snapshots = Snapshots::default();
+    for bit in case.numbers(alloc, 0)?.as_slice() {
+        let name = SnapshotName::parse(b"x.y_Z-9").context("a name")?;
+        ensure!(snapshots.as_slice().len() < SNAPSHOT_ROOM, "no room");
+        snapshots.push(Snapshot {
+            bit: u8::try_from(*bit)?,
+            name,
+            tree: BlockTree::default(),
+        });
+    }
+    let index = case.number(1)? as usize;
+    ensure!(index < snapshots.as_slice().len(), "no snapshot {index}");
+    let removed = snapshots.remove(index).bit;
+    let mut text = format!(in alloc; "removed {removed}, left")?;
+    for snapshot in snapshots.as_slice() {
+        write!(text, " {}", snapshot.bit)?;
+    }
+    Ok(text)
+}

@@ -1,0 +1,34 @@
+use sn_program::program;
+use std::convert::AsStr;
+use std::io;
+
+/// What a run of the program leaves: its status, and what it wrote to its two outputs.
+#[derive(Drop)]
+pub struct Ended {
+    pub status: u8,
+    pub out: Vec<u8>,
+    pub err: Vec<u8>,
+}
+
+impl Ended {
+    pub fn of_words<S: AsStr>(rt: &HostRuntime, words: &[S]) -> Ended {
+        let mut out = Vec::new(rt.alloc());
+        let mut err = Vec::new(rt.alloc());
+        let status = program(rt, words, &mut out, &mut err);
+        Ended { status, out, err }
+    }
+
+    pub fn is(&self, status: u8, out: &[u8], err: &[u8]) -> bool {
+        self.status == status && self.out.as_slice() == out && self.err.as_slice() == err
+    }
+
+    /// Prints this end of a case that should have ended otherwise.
+    pub fn tell(&self, rt: &HostRuntime, case: &str) -> io::Result<()> {
+        let out = str::from_utf8(self.out.as_slice()).unwrap_or("(no text)");
+        let err = str::from_utf8(self.err.as_slice()).unwrap_or("(no text)");
+        println!(rt;
+            "wrong: {case}: status {}, wrote {out:?}, told {err:?}",
+            self.status
+        )
+    }
+}

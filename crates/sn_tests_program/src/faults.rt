@@ -1,0 +1,65 @@
+//! How faults are told: the line of each, and outputs that take nothing.
+
+use sn_program::{Fault, program, tell};
+use sn_script::ScriptFault;
+use std::io;
+use std::io::{ErrorKind, Write};
+
+const FAULTS: [(Fault, &str, u8); 6] = [
+    (Fault::Usage, "snapfs: usage\n", 2),
+    (
+        Fault::Script(ScriptFault::Line(7)),
+        "snapfs: script line 7\n",
+        1,
+    ),
+    (Fault::Script(ScriptFault::Memory), "snapfs: memory\n", 1),
+    (Fault::File, "snapfs: file\n", 1),
+    (Fault::Memory, "snapfs: memory\n", 1),
+    (Fault::MountMemory, "snapfs: M5\n", 1),
+];
+
+/// An output that takes nothing.
+#[derive(Drop)]
+struct Closed;
+
+impl Write for Closed {
+    fn write(&mut self, _buf: &[u8]) -> io::Result<usize> {
+        Err(io::Error::from(ErrorKind::BrokenPipe))
+    }
+
+    fn flush(&mut self) -> io::Result<()> {
+        Ok(())
+    }
+}
+
+/// The line of a fault, and the status that it ends with.
+fn is_told(rt: &HostRuntime, fault: Fault, line: &str, status: u8) -> bool {
+    let mut err = Vec::new(rt.alloc());
+    tell(fault, &mut err) == status && err.as_slice() == line.as_bytes()
+}
+
+/// A reply that can't be written is a fault of a file; the status holds where the fault can't be told either.
+fn holds_where_closed(rt: &HostRuntime) -> bool {
+    let mut err = Vec::new(rt.alloc());
+    let script = ["run", "image", "examples/first.snap"];
+    let unwritten = program(rt, &script, &mut Closed, &mut err);
+    let untold = program(rt, &["run"], &mut Closed, &mut Closed);
+    unwritten == 1 && err.as_slice() == b"snapfs: file\n".as_slice() && untold == 2
+}
+
+/// Prints how many cases there are, and gives how many were wrong.
+pub fn run_all(rt: &HostRuntime) -> io::Result<u64> {
+    let mut wrong = 0u64;
+    for (fault, line, status) in FAULTS {
+        if !is_told(rt, fault, line, status) {
+            println!(rt; "wrong: the fault of {line:?}")?;
+            wrong = wrong.saturating_add(1);
+        }
+    }
+    if !holds_where_closed(rt) {
+        println!(rt; "wrong: closed outputs")?;
+        wrong = wrong.saturating_add(1);
+    }
+    println!(rt; "faults: {}, wrong: {wrong}", FAULTS.len() + 1)?;
+    Ok(wrong)
+}
