@@ -2,8 +2,7 @@
 //! |---|---|
 //! | 0 | 1 open, any other byte closed; 0 is written |
 //! | 1 | written as zeros, and not read |
-ghost use Rattle.std.specs.Prelude.{◌≡◌, [], ◌∷◌};
-ghost use Rattle.sn_layout.specs.Gate.{gate_byte};
+ghost use Rattle.std.specs.Prelude.{◌≡◌};
 
 use crate::{SECTOR_SIZE, Sector, put_u8, put_zeros};
 
@@ -12,15 +11,6 @@ use crate::{SECTOR_SIZE, Sector, put_u8, put_zeros};
 pub enum Gate {
     Open,
     Closed,
-}
-
-fn gate_byte(gate: Gate) -> u8
-    ensures { result ≡ gate_byte gate }
-{
-    match gate {
-        Gate::Open => 1,
-        Gate::Closed => 0,
-    }
 }
 
 impl Gate {
@@ -42,7 +32,7 @@ impl Gate {
         ensures bytes { sector.new ≡ gate_bytes self }
         ensures read { gate_of sector.new ≡ self }
     {
-        let at = put_u8(sector, 0, gate_byte(self));
+        let at = put_u8(sector, 0, u8::from(self == Gate::Open));
         put_zeros(sector, at, SECTOR_SIZE - 1);
     }
 }

@@ -21,9 +21,6 @@ pub const SMALLEST_DISK: u32 = 256;
 /// The most blocks of a disk.
 pub const LARGEST_DISK: u32 = 1_048_576;
 
-/// The words of a map copy that a block holds.
-const WORDS: u32 = WORDS_PER_BLOCK as u32;
-
 /// The blocks of a log half.
 const LOG_HALF_BLOCKS: u32 = 32;
 
@@ -129,7 +126,7 @@ impl Places {
     pub fn map_blocks(self) -> u32
         ensures { result ≡ map_blocks self }
     {
-        (self.blocks + (WORDS - 1)) / WORDS
+        self.blocks.div_ceil(WORDS_PER_BLOCK as u32)
     }
 
     /// The first block of an area.

@@ -11,7 +11,6 @@
 //! | 624 + 112i | snapshot i, by rising bit |
 //! | after the last | zeros |
 ghost use Rattle.std.specs.Prelude.{◌≡◌, ℕ, ◌+◌, ◌*◌, ◌<◌, ◌≤◌, List, [], ◌∷◌, ◌++◌, length, Some, IfSome, IsTrue, ◌↔◌};
-ghost use Rattle.sn_layout.specs.Limits.{limits_of};
 ghost use Rattle.sn_layout.specs.RootBody.{IsAge};
 
 use crate::snapshots::{fit, put_snapshots, read_snapshots};
@@ -51,15 +50,6 @@ fn is_age(age: u64) -> bool
     ensures { IsTrue result ↔ IsAge age }
 {
     age >= 1 && age <= LARGEST_AGE
-}
-
-fn is_known(limits: &Limits) -> bool
-    ensures { IsTrue result ↔ (limits_of limits.now.version ≡ Some limits.now) }
-{
-    match Limits::of_version(limits.version) {
-        Some(known) => known == *limits,
-        None => false,
-    }
 }
 
 impl Head {
@@ -132,7 +122,7 @@ impl RootBody {
     {
         self.inode_file.fits();
         fit(self.snapshots.as_slice());
-        is_known(&self.limits)
+        Limits::of_version(self.limits.version) == Some(self.limits)
             && is_age(self.generation)
             && is_age(self.epoch)
             && self.snapshots.are_held(&self.limits)

@@ -6,11 +6,12 @@ use Rattle.std.proofs.lemmas.List.{take_at, drop_at, take_all, take-append-drop,
 use Rattle.std.proofs.lemmas.Slice.{between_is}
 use Rattle.std.proofs.Math.Seq.{paste}
 use Rattle.sn_layout.specs.Bytes.{zeros}
+use Rattle.sn_layout.proofs.Reading.{each_more, bytes_more}
 use Rattle.sn_layout_node.specs.Directory.{Link, IsLink, AreLinkBytes, Spells, link_bytes, links_bytes, links_of, number_of, without}
-use Rattle.sn_layout_node.proofs.Links.{length-link, each_more, links_more, links_of-bytes}
+use Rattle.sn_layout_node.proofs.Links.{length-link, links_of-bytes}
 
 pub length-more : (links : List Link) (link : Link) → length (links_bytes (links ++ link ∷ [])) ≡ length (links_bytes links) + (length link.name + 3)
-length-more links link = ap length (links_more links link) ∙ omega (arith, length-append (links_bytes links) (link_bytes link), length-link link)
+length-more links link = ap length (bytes_more link_bytes links link) ∙ omega (arith, length-append (links_bytes links) (link_bytes link), length-link link)
 
 -- ---- the links at the front of a block
 
@@ -29,9 +30,9 @@ pub added : (block linked new : List ℕ) (links : List Link) (link : Link) (siz
 added block linked new links link size next end s fits e room front at behind last count =
     let long : length (links_bytes (links ++ link ∷ [])) ≡ next = omega (arith, length-more links link) in
     let whole : take end new ≡ new = take_all end new (omega arith) in
-    let head : take next linked ≡ links_bytes (links ++ link ∷ []) = front ∙ ap (λ (r : List ℕ). r ++ link_bytes link) (front_of block links size s e) ∙ sym (links_more links link) in
+    let head : take next linked ≡ links_bytes (links ++ link ∷ []) = front ∙ ap (λ (r : List ℕ). r ++ link_bytes link) (front_of block links size s e) ∙ sym (bytes_more link_bytes links link) in
     record {
-      fit = record { each = each_more links link s.fit.each fits; room = omega (arith, long) };
+      fit = record { each = each_more IsLink links link s.fit.each fits; room = omega (arith, long) };
       bytes = sym whole ∙ behind ∙ ap (λ (r : List ℕ). r ++ zeros (4096 - next)) head ∙ ap (λ (n : ℕ). links_bytes (links ++ link ∷ []) ++ zeros (4096 - n)) (sym long);
     }
 

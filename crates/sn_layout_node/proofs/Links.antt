@@ -3,12 +3,12 @@ use Rattle.std.proofs.Common.{◌≡◌, ℕ, zero, suc, ◌+◌, ◌-◌, ◌^�
 use Rattle.std.specs.Prelude.{IsSome, nat_le}
 use Rattle.std.specs.List.{AllByRecursion}
 use Rattle.std.proofs.lemmas.Bool.{le-leb, leb-true}
-use Rattle.std.proofs.lemmas.Grind.{flat_map-append}
-use Rattle.std.proofs.lemmas.List.{append-nil, take_at, drop_at}
+use Rattle.std.proofs.lemmas.List.{take_at, drop_at}
 use Rattle.byteorder.specs.Endian.{little_number}
 use Rattle.byteorder.specs.Numbers.{little_number-reads_back}
 use Rattle.sn_layout.specs.Bytes.{number_bytes, zeros}
 use Rattle.sn_layout.proofs.Fields.{true_false, length-number_bytes}
+use Rattle.sn_layout.proofs.Reading.{each_more, bytes_more}
 use Rattle.sn_layout_node.specs.Directory.{Link, IsLink, AreLinkBytes, link_bytes, links_bytes, links_within, links_of, begins_link, BeginsWithLink}
 
 pub length-link : (link : Link) → length (link_bytes link) ≡ length link.name + 3
@@ -108,18 +108,11 @@ none_left left n ends ([], each, e) = e
 none_left left n ends (link ∷ more, each, e) =
     true_false (begins_link left) (ap begins_link (e ∙ append_assoc (link_bytes link) (links_bytes more) (zeros n)) ∙ begins_first link (links_bytes more ++ zeros n) each.0) ends
 
-pub each_more : (links : List Link) (link : Link) → AllByRecursion IsLink links → IsLink link → AllByRecursion IsLink (links ++ link ∷ [])
-each_more [] link each fits = (fits, tt)
-each_more (l ∷ links) link each fits = (each.0, each_more links link each.1 fits)
-
-pub links_more : (links : List Link) (link : Link) → links_bytes (links ++ link ∷ []) ≡ links_bytes links ++ link_bytes link
-links_more links link = flat_map-append link_bytes links (link ∷ []) ∙ ap (λ (r : List ℕ). links_bytes links ++ r) (append-nil (link_bytes link))
-
 pub read_more : (bytes old new : List ℕ) (link : Link) → AreRead bytes old → IsLink link → old ≡ link_bytes link ++ new → AreRead bytes new
 read_more bytes old new link (links, each, e) fits next = (
   links ++ link ∷ [],
-  each_more links link each fits,
-  e ∙ ap (λ (r : List ℕ). links_bytes links ++ r) next ∙ sym (append_assoc (links_bytes links) (link_bytes link) new) ∙ ap (λ (r : List ℕ). r ++ new) (sym (links_more links link)),
+  each_more IsLink links link each fits,
+  e ∙ ap (λ (r : List ℕ). links_bytes links ++ r) next ∙ sym (append_assoc (links_bytes links) (link_bytes link) new) ∙ ap (λ (r : List ℕ). r ++ new) (sym (bytes_more link_bytes links link)),
 )
 
 -- what was read are link bytes, and behind them is what is left
