@@ -2,7 +2,6 @@ pub mod CallLemmas
 pub mod CrashLemmas
 pub mod DiskLemmas
 pub mod FillLemmas
-pub mod JournalLemmas
 pub mod MemoryLemmas
 pub mod SectorLemmas
 pub mod StatusLemmas

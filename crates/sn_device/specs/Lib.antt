@@ -2,7 +2,6 @@ pub mod Crash
 pub mod Device
 pub mod Disk
 pub mod Fill
-pub mod Journal
 pub mod Laws
 pub mod Memory
 pub mod MemoryLaws

@@ -30,7 +30,8 @@
 //!   those on the counts.
 //! - `MemDevice` keeps all this in memory. It can be told to fail, and it can crash, with one `Fill`
 //!   for all sectors that weren't synced, or for each of them one that a seed draws.
-//! - `journal` is an example of a layer over any device. Its writer is
+//! - An example of a layer over any device is the journal of two sectors, a body and a gate, that the crate
+//!   `sn_tests_disk` proves and runs. Its writer is
 //!
 //! ```text
 //! pub fn put<D: Device>(device: &mut D, body: &Sector) -> Result<(), Fault>
@@ -48,13 +49,11 @@
 //! }
 //! ```
 //!
-//! Its proof has a line for each call: `proofs/journal/put`.
+//! Its proof has a line for each call.
 #![tactic(auto)]
 
 mod device;
 mod fill;
-#[cfg(test)]
-mod journal;
 mod laws;
 mod lent;
 mod memory;
