@@ -4,12 +4,12 @@
 //! `root_body_bytes`. `encode` writes exactly it into a lent block, whatever stood there, and
 //! `decode` answers a value exactly where a block is the spelling of one: `found` says that the
 //! block is the value's spelling, and `only` that a block which is a value's spelling is read as
-//! that value. No call takes memory.
+//! that value. A value that no block is read as is not encoded. No call takes memory.
 //!
-//! The way through: `places` (areas of a disk), `superblock`, `gate`, `map_copy`, `tree` (a root of
-//! blocks), `name`, `snapshot` and `snapshots`, `root`. `limits` has the numbers that a version of the format fixes.
-//! `reader` and `writer` are for the crates that spell more: a `Reader` is seen as the bytes that
-//! are left, and each `put_` call writes behind what the one before it wrote.
+//! The way through: `places` (areas of a disk), `superblock`, `gate`, `map_copy`, `pointers` and
+//! `tree` (a root of blocks), `name`, `snapshot` and `snapshots`, `root`. `limits` has the numbers
+//! that a version of the format fixes. `reader` and `writer` are for the crates that spell more: a
+//! `Reader` is seen as the bytes that are left, and each `put_` call writes behind the one before.
 //!
 //! ```text
 //! let superblock = Superblock::decode(&block)?;
