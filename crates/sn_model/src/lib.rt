@@ -11,10 +11,11 @@
 //! 5. `Settling`: files without names, and what a restart leaves of a world.
 //! 6. `Covers`: what replay makes, against the live tree.
 //! 7. `Tests`: the tests that calls are made of, each of which refuses or hands on what it found.
-//! 8. `Calls`: each call as the list of its tests, and what it comes to where all of them pass.
+//! 8. `Outcomes` and `Calls`: each call as the list of its tests, and what it comes to where all of
+//!    them pass: a charge, a change, what becomes of the session, and what is told.
 //! 9. `Steps`: what a call may answer and the world that it leaves, and runs over lists of events.
-//! 10. `Laws` and `ChangeLaws`: what follows from these in the subject's own words, each named by the
-//!     contract of a function of `laws`.
+//! 10. `Worlds`, `Laws` and `ChangeLaws`: what follows from these in the subject's own words, each
+//!     named by the contract of a function of `laws`.
 //!
 //! A call is added by a variant of [`Call`] and one equation each in `ready`, `outcome_of` and
 //! `TakesMemory`.
