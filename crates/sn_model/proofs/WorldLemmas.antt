@@ -104,7 +104,7 @@ module _ (limits : Limits) (world : World) (number : ℕ) (link : Link) (node : 
     held = held_next;
   }
 
-comes_world : (limits : Limits) (old new : World) (session : ℕ) (c : Call) (o : Outcome) → IsDecided limits old session c o → Comes limits old session o new → IsCall c → IsWorld limits old → IsWorld limits new
+pub comes_world : (limits : Limits) (old new : World) (session : ℕ) (c : Call) (o : Outcome) → IsDecided limits old session c o → Comes limits old session o new → IsCall c → IsWorld limits old → IsWorld limits new
 comes_world limits old new session c o (decided.Login s k e) h numbers w =
     let h' = subst (λ (x : Outcome). Comes limits old session x new) e h in
     let live : h'.tree ≡ old.live = sym (some_same _ _ h'.applied) in
@@ -191,7 +191,7 @@ new_whole = record {
   };
 }
 
-free_places : (n : ℕ) → AllByRecursion IsPlace (replicate n None)
+pub free_places : (n : ℕ) → AllByRecursion IsPlace (replicate n None)
 free_places zero = tt
 free_places (suc n) = (tt, free_places n)
 

@@ -11,4 +11,6 @@ pub mod Outcomes
 pub mod Tests
 pub mod Calls
 pub mod Steps
+pub mod Machine
 pub mod Laws
+pub mod MachineLaws
