@@ -9,6 +9,7 @@ use Rattle.std.proofs.lemmas.Bool.{eqb-true, eqb-false, lt-leb}
 use Rattle.std.proofs.lemmas.List.Sums.{count_by-le-length}
 use Rattle.sn_model.specs.declared.link.Link.{Link}
 use Rattle.sn_model.specs.declared.reply.Errno.TheVariants.{Elimit}
+use Rattle.sn_limits.specs.Versions.{version_1}
 use Rattle.sn_model.specs.Tests.{has_room, plain}
 use Rattle.sn_model.specs.Tree.{Node, Tree, link_cmp, least_unused, unused_from, names_in}
 use Rattle.sn_core.specs.Plain.{IsPlain}
@@ -75,13 +76,13 @@ none_unused nodes first (suc more) used =
     let here : is_some (fin.get nodes first) ≡ true = used first (omega arith) (omega arith) in
     rw here (none_unused nodes (first + 1) more (λ k low high. used k (omega arith) (omega arith)))
 
-pub least_unused_next : (tree : Tree) (next : ℕ) → IsPlain tree.nodes tree.links next → next < 65536 → least_unused tree ≡ Some next
+pub least_unused_next : (tree : Tree) (next : ℕ) → IsPlain tree.nodes tree.links next → next < 65536 → least_unused version_1 tree ≡ Some next
 unfolding least_unused
 least_unused_next tree next plain room =
     let sum : 2 + (next - 2) ≡ next = omega (arith, plain.count) in
     unused_from_next tree.nodes 2 (next - 2) 65534 (λ k low high. plain.used k low (omega (arith, sum))) (ap (fin.get tree.nodes) sum ∙ plain.unused next (omega arith)) (omega (arith, sum)) ∙ ap (λ k. Some k) sum
 
-pub least_unused_none : (tree : Tree) → IsPlain tree.nodes tree.links 65536 → least_unused tree ≡ None
+pub least_unused_none : (tree : Tree) → IsPlain tree.nodes tree.links 65536 → least_unused version_1 tree ≡ None
 unfolding least_unused
 least_unused_none tree plain = none_unused tree.nodes 2 65534 (λ k low high. plain.used k low (omega arith))
 
@@ -90,8 +91,8 @@ few_names tree next directory plain =
     let fewer : names_in tree directory ≤ length (fin.entries tree.links) = count_by-le-length _ (fin.entries tree.links) in
     lt-leb _ _ (omega (arith, fewer, fin.len-entries tree.links, plain.names, plain.within))
 
-pub has_room_next : (tree : Tree) (next directory : ℕ) → IsPlain tree.nodes tree.links next → next < 65536 → has_room tree directory ≡ Ok tt
+pub has_room_next : (tree : Tree) (next directory : ℕ) → IsPlain tree.nodes tree.links next → next < 65536 → has_room version_1 tree directory ≡ Ok tt
 has_room_next tree next directory plain room = rw (least_unused_next tree next plain room, few_names tree next directory plain) refl
 
-pub has_room_none : (tree : Tree) (directory : ℕ) → IsPlain tree.nodes tree.links 65536 → has_room tree directory ≡ Err (plain Elimit)
+pub has_room_none : (tree : Tree) (directory : ℕ) → IsPlain tree.nodes tree.links 65536 → has_room version_1 tree directory ≡ Err (plain Elimit)
 has_room_none tree directory is_plain = rw (least_unused_none tree is_plain) refl

@@ -1,21 +1,122 @@
 -- What a call comes to once its tests have passed.
-use Rattle.std.proofs.Common.{◌≡◌, ℕ, List, [], ◌∷◌, ◌++◌, Ok, refl, subst}
+use Rattle.std.proofs.Common.{◌≡◌, ◌≢◌, ℕ, true, false, ◌<◌, arith, get_or, length, List, [], ◌∷◌, ◌++◌, Option, Some, None, Result, Ok, is_some, refl, sym, ap, subst, ◌∙◌, ◌⊎◌, inl, inr, lit<, lit≤}
+use Rattle.std.specs.FinMap as map
+use Rattle.std.specs.Cmp.{nat_cmp_total}
+use Rattle.std.specs.Prelude.{slice_get}
+use Rattle.std.proofs.lemmas.Bool.{true≢false, lt-ltb}
+use Rattle.std.proofs.lemmas.Option.{slice_get-get_or}
+use Rattle.std.proofs.lemmas.Map.Lookups.{exact_unsigned}
 use Rattle.sn_acl.specs.declared.modes.Mode.{Mode}
-use Rattle.sn_model.specs.declared.call.Call.TheVariants.{Mkdir}
-use Rattle.sn_model.specs.declared.session.Session.{Session}
-use Rattle.sn_model.specs.Calls.{Outcome, mkdir_outcome}
+use Rattle.sn_walk.specs.declared.view.Kind.TheVariants.{Directory}
+use Rattle.sn_limits.specs.Versions.{version_1}
+use Rattle.sn_model.specs.declared.call.Call.{Call}
+use Rattle.sn_model.specs.declared.call.Call.TheVariants.{Login, Mkdir, Stat}
 use Rattle.sn_model.specs.declared.call.Event.{Event}
+use Rattle.sn_model.specs.declared.change.Ownership.{Ownership}
+use Rattle.sn_model.specs.declared.link.Link.{Link}
+use Rattle.sn_model.specs.declared.reply.Refusal.{Refusal}
 use Rattle.sn_model.specs.declared.reply.Reply.{Reply}
-use Rattle.sn_model.specs.Steps.{EventStep, Run, decision}
-use Rattle.sn_model.specs.Tests.{logged_in, path_argument, new_mode_argument}
+use Rattle.sn_model.specs.declared.reply.Reply.TheVariants.{Done}
+use Rattle.sn_model.specs.declared.session.Session.{Session}
+use Rattle.sn_model.specs.Changes.{node_with}
+use Rattle.sn_model.specs.Outcomes.{Outcome, tells, opens, makes}
+use Rattle.sn_model.specs.Calls.{mkdir_outcome, new_session, stat_outcome}
+use Rattle.sn_model.specs.Steps.{Becomes, Comes, Run, changed, decision, with_live, with_session}
+use Rattle.sn_model.specs.Tests.{logged_in, logged_out, path_argument, new_mode_argument}
+use Rattle.sn_model.specs.Tree.{Tree, least_unused, with_node}
 use Rattle.sn_model.specs.World.{World}
+use Rattle.sn_model.specs.Worlds.{IsCall, IsWorld}
+use Rattle.sn_model.proofs.MapLemmas.{same_or_apart, get_other}
+use Rattle.sn_model.proofs.PartLemmas.{made_is}
+use Rattle.sn_model.proofs.HierarchyLemmas.{least_is_number}
+use Rattle.sn_model.proofs.DecidedLemmas.{decided_applies}
+use Rattle.sn_model.proofs.WorldLemmas.{step_world}
+use Rattle.sn_core.specs.PlainRuns.{PlainRun, PlainStep, TakesLeast}
 
-pub mkdir_decided : (world : World) (session : ℕ) (path : List ℕ) (mode : ℕ) (caller : Session) (names : List (List ℕ)) (bits : Mode) (outcome : Outcome) → logged_in world session ≡ Ok caller → path_argument path ≡ Ok names → new_mode_argument mode ≡ Ok bits → mkdir_outcome world.live caller names bits ≡ Ok outcome → decision world session (Mkdir path mode) ≡ Ok outcome
+pub mkdir_decided : (world : World) (session : ℕ) (path : List ℕ) (mode : ℕ) (caller : Session) (names : List (List ℕ)) (bits : Mode) (outcome : Outcome) → logged_in world session ≡ Ok caller → path_argument path ≡ Ok names → new_mode_argument mode ≡ Ok bits → mkdir_outcome version_1 world.live caller names bits ≡ Ok outcome → decision version_1 world session (Mkdir path mode) ≡ Ok outcome
 mkdir_decided world session path mode caller names bits outcome a b d e = rw (a, b, d, e)
 
+pub stat_decided : (world : World) (session : ℕ) (path : List ℕ) (caller : Session) (names : List (List ℕ)) (outcome : Outcome) → logged_in world session ≡ Ok caller → path_argument path ≡ Ok names → stat_outcome world.live caller names ≡ Ok outcome → decision version_1 world session (Stat path) ≡ Ok outcome
+stat_decided world session path caller names outcome a b e = rw (a, b, e)
+
+-- where nothing changes, nothing new has a number
+pub same_least : (old new : World) → new.live ≡ old.live → TakesLeast old new
+same_least old new same number none some = absurd (true≢false (sym some ∙ ap (λ (t : Tree). is_some (map.get t.nodes number)) same ∙ ap is_some none))
+
+pub tells_comes : (world : World) (session : ℕ) (answer : Reply) → Comes version_1 world session (tells answer) world
+tells_comes world session answer = record { number = 0; free = tt; tree = world.live; applied = refl; world = refl }
+
+pub opens_comes : (world : World) (session : ℕ) (s : Session) → Comes version_1 world session (opens s) (with_session world session s)
+opens_comes world session s = record { number = 0; free = tt; tree = world.live; applied = refl; world = refl }
+
+some_of : (o : Option Tree) → is_some o ≡ true → (tree : Tree) × (o ≡ Some tree)
+some_of None e = absurd (true≢false (sym e))
+some_of (Some tree) e = (tree, refl)
+
+-- the new node of a call that makes one
+module _ (old : World) (session : ℕ) (c : Call) (charge : ℕ) (link : Link) (own : Ownership) (number : ℕ) (whole : IsWorld version_1 old) (decided : decision version_1 old session c ≡ Ok (makes charge link Directory own)) (least : least_unused version_1 old.live ≡ Some number) where
+  abbrev pub grown : Tree
+  grown = with_node old.live number link (node_with Directory own [])
+
+  pub makes_comes : Comes version_1 old session (makes charge link Directory own) (with_live old grown)
+  makes_comes =
+      let free = least_is_number version_1 old.live number whole.live.hierarchy.root (lit≤ tt) least in
+      let t = some_of (changed version_1 number (makes charge link Directory own).change old.live) (decided_applies version_1 old session c (makes charge link Directory own) number (lit< tt) whole decided free) in
+      let m = made_is version_1 old.live link number Directory own t.0 t.1 in
+      record { number = number; free = free; tree = grown; applied = t.1 ∙ ap (λ (x : Tree). Some x) (sym m.gives); world = refl }
+
+  pub makes_least : TakesLeast old (with_live old grown)
+  makes_least n none some = told (same_or_apart nat_cmp_total exact_unsigned n number)
+    where
+      told : (n ≡ number) ⊎ (n ≢ number) → least_unused version_1 old.live ≡ Some n
+      told (inl q) = least ∙ ap (λ (k : ℕ). Some k) (sym q)
+      told (inr q) = absurd (true≢false (sym some ∙ ap is_some (get_other nat_cmp_total exact_unsigned old.live.nodes number (node_with Directory own []) n q ∙ none)))
+
+-- a reply and a world, where a call was decided
+abbrev pub IsServed : World → ℕ → Call → Reply → World → Type 0
+IsServed old session c answer new = Becomes version_1 old session (decision version_1 old session c) answer new × TakesLeast old new
+
+served : (old new : World) (session : ℕ) (c : Call) (o : Outcome) → decision version_1 old session c ≡ Ok o → Comes version_1 old session o new → TakesLeast old new → IsServed old session c o.told new
+served old new session c o e comes least = (subst (λ (d : Result Outcome Refusal). Becomes version_1 old session d o.told new) (sym e) (refl, comes), least)
+
+pub stat_served : (old : World) (session : ℕ) (c : Call) (answer : Reply) → decision version_1 old session c ≡ Ok (tells answer) → IsServed old session c answer old
+stat_served old session c answer e = served old old session c (tells answer) e (tells_comes old session answer) (same_least old old refl)
+
+-- a place of the sessions where nobody is logged in
+pub free_place : (world : World) (session : ℕ) (place : Option Session) → session < 64 → length world.sessions ≡ 64 → place ≡ get_or world.sessions session place → is_some place ≡ false → logged_out world session ≡ Ok tt
+free_place world session place low count here free =
+    let at : slice_get world.sessions session ≡ Some None = slice_get-get_or world.sessions session place (omega arith) ∙ ap (λ (o : Option Session). Some o) (sym here ∙ none_of place free) in
+    rw (lt-ltb session 64 low, at) refl
+  where
+    none_of : (o : Option Session) → is_some o ≡ false → o ≡ None
+    none_of None e = refl
+    none_of (Some s) e = absurd (true≢false e)
+
+pub login_served : (old : World) (session uid gid : ℕ) (groups : List ℕ) (s : Session) → logged_out old session ≡ Ok tt → new_session uid gid groups ≡ s → IsServed old session (Login uid gid groups) Done (with_session old session s)
+login_served old session uid gid groups s out same =
+    let decided : decision version_1 old session (Login uid gid groups) ≡ Ok (opens s) = rw out (ap (λ (x : Session). Ok (opens x)) same) in
+    served old (with_session old session s) session (Login uid gid groups) (opens s) decided (opens_comes old session s) (same_least old (with_session old session s) refl)
+
+pub makes_served : (old : World) (session : ℕ) (c : Call) (charge : ℕ) (link : Link) (own : Ownership) (number : ℕ) (tree : Tree) → IsWorld version_1 old → decision version_1 old session c ≡ Ok (makes charge link Directory own) → least_unused version_1 old.live ≡ Some number → tree ≡ with_node old.live number link (node_with Directory own [])
+    → IsServed old session c Done (with_live old tree)
+makes_served old session c charge link own number tree whole decided least e =
+    subst (λ (t : Tree). IsServed old session c Done (with_live old t)) (sym e)
+    (served old (with_live old (with_node old.live number link (node_with Directory own []))) session c (makes charge link Directory own) decided (makes_comes old session c charge link own number whole decided least) (makes_least old session c charge link own number whole decided least))
+
+-- what was served leaves a world
+pub served_whole : (old new : World) (session : ℕ) (c : Call) (answer : Reply) → IsServed old session c answer new → IsCall c → IsWorld version_1 old → IsWorld version_1 new
+served_whole old new session c answer h numbers whole = step_world version_1 old new session c answer (inl h.0) numbers whole
+
 -- a run goes on by one step
-pub run_more : (old mid new : World) (events : List Event) (replies : List Reply) (e : Event) (reply : Reply) → Run old events replies mid → EventStep mid e reply new → Run old (events ++ e ∷ []) (replies ++ reply ∷ []) new
-run_more old mid new [] [] e reply run step = (new, subst (λ (w : World). EventStep w e reply new) run step, refl)
+pub run_more : (old mid new : World) (events : List Event) (replies : List Reply) (e : Event) (reply : Reply) → PlainRun old events replies mid → PlainStep mid e reply new → PlainRun old (events ++ e ∷ []) (replies ++ reply ∷ []) new
+run_more old mid new [] [] e reply run step = (new, subst (λ (w : World). PlainStep w e reply new) run step, refl)
 run_more old mid new [] (r ∷ replies) e reply run step = absurd run
 run_more old mid new (f ∷ events) [] e reply run step = absurd run
 run_more old mid new (f ∷ events) (r ∷ replies) e reply run step = (run.0, run.1, run_more run.0 mid new events replies e reply run.2 step)
+
+-- it is one of the machine
+pub machine_run : (old new : World) (events : List Event) (replies : List Reply) → PlainRun old events replies new → Run old events replies new
+machine_run old new [] [] run = run
+machine_run old new [] (r ∷ replies) run = absurd run
+machine_run old new (e ∷ events) [] run = absurd run
+machine_run old new (e ∷ events) (r ∷ replies) run = (run.0, run.1.step, machine_run run.0 new events replies run.2)

@@ -1,4 +1,5 @@
 pub mod Gives
 pub mod Maps
 pub mod Plain
+pub mod PlainRuns
 pub mod Served

@@ -2,7 +2,9 @@ ghost use Rattle.std.specs.Prelude.{◌≡◌, ◌<◌, IfOk, OnOk, None};
 ghost use Rattle.std.specs.FinMap as map;
 ghost use Rattle.sn_model.specs.Calls.{mkdir_outcome, stat_outcome, new_directory, status_of, number_of};
 ghost use Rattle.sn_model.specs.declared.session.Session.{Session};
-ghost use Rattle.sn_model.specs.Calls.{Makes, Tells};
+ghost use Rattle.sn_limits.specs.Versions.{version_1};
+ghost use Rattle.sn_model.specs.Changes.{ownership_of};
+ghost use Rattle.sn_model.specs.Outcomes.{makes, tells};
 ghost use Rattle.sn_model.specs.Tree.{viewed};
 ghost use Rattle.sn_core.specs.Gives.{Gives};
 ghost use Rattle.sn_core.specs.Plain.{IsPlainTree, node_of, tree_of};
@@ -14,8 +16,8 @@ use crate::stored::StoredAcl;
 use crate::tree::PlainTree;
 use crate::view::PlainView;
 use sn_acl::{Acl, Mode, inherit};
-use sn_model::{Errno, Link, Refusal, Session, Status, Word};
-use sn_walk::{Attributes, Object, Path, attributes_of};
+use sn_model::{Errno, Link, Refusal, Reply, Session, Status, Word};
+use sn_walk::{Attributes, Kind, Object, Path, attributes_of};
 use std::alloc::{AllocError, Global};
 
 fn stored(alloc: Global, acl: Option<Acl>) -> Result<Option<StoredAcl>, AllocError>
@@ -35,7 +37,7 @@ fn inherited(
     parent: &Attributes,
     default_acl: Option<Acl>,
 ) -> Result<Directory, AllocError>
-    ensures { IfOk result (λ made. node_of made ≡ new_directory caller.now mode parent.now default_acl) }
+    ensures { IfOk result (λ made. ownership_of (node_of made) ≡ new_directory caller.now mode parent.now default_acl) }
 {
     let acls = inherit(default_acl.as_ref(), mode, caller.umask, true);
     Ok(Directory {
@@ -53,6 +55,7 @@ fn inherited(
 }
 
 /// What mkdir comes to: a name that isn't there yet, and the directory that gets it.
+#[tactic(auto, unfolding(sn_model::specs::Calls::mkdir_outcome))]
 pub(crate) fn mkdir(
     alloc: Global,
     tree: &PlainTree,
@@ -61,7 +64,7 @@ pub(crate) fn mkdir(
     mode: Mode,
 ) -> Result<(Link, Directory), CallError>
     requires { IsPlainTree tree.now }
-    ensures exact { Gives (λ m. Makes m.0.directory m.0.name (node_of m.1)) result (mkdir_outcome (tree_of tree.now) caller.now path.now mode) }
+    ensures exact { Gives (λ m. makes 18 m.0 Kind.Directory (ownership_of (node_of m.1))) result (mkdir_outcome version_1 (tree_of tree.now) caller.now path.now mode) }
     ensures room { OnOk result (tree.now.unused < 65536) }
     ensures absent { IfOk result (λ m. map.get (tree_of tree.now).links m.0 ≡ None) }
 {
@@ -103,13 +106,14 @@ fn status_of(number: u16, a: &Attributes) -> Status
 }
 
 /// What stat comes to.
+#[tactic(auto, unfolding(sn_model::specs::Calls::stat_outcome))]
 pub(crate) fn stat(
     alloc: Global,
     tree: &PlainTree,
     caller: &Session,
     path: &Path<'_>,
 ) -> Result<Status, CallError>
-    ensures { Gives Tells result (stat_outcome (tree_of tree.now) caller.now path.now) }
+    ensures { Gives (λ status. tells (Reply.Status status)) result (stat_outcome (tree_of tree.now) caller.now path.now) }
 {
     let walked = prefix(alloc, tree, &caller.cred, 1, path)?;
     let object = found(walked)?;

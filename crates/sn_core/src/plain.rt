@@ -2,6 +2,9 @@ ghost use Rattle.std.specs.Prelude.{◌≡◌, ◌≢◌, ◌≤◌, [], IfOk, l
 ghost use Rattle.sn_core.specs.Plain.{IsPlainWorld, world_of};
 ghost use Rattle.sn_model.specs.Steps.{Run};
 ghost use Rattle.sn_model.specs.World.{World, new_world};
+ghost use Rattle.sn_limits.specs.Versions.{version_1};
+ghost use Rattle.sn_model.specs.Worlds.{IsWorld};
+ghost use Rattle.sn_core.specs.PlainRuns.{PlainRun};
 
 use crate::world::PlainWorld;
 use sn_model::{End, Event, MountFault, Reply};
@@ -17,9 +20,10 @@ fn room_for(alloc: Global, count: usize) -> Result<Vec<Reply>, AllocError>
 /// Answers events in their order, into a list that has room for the replies.
 fn answer(alloc: Global, world: &mut PlainWorld, events: &[Event], replies: &mut Vec<Reply>)
     requires sound { IsPlainWorld world.old }
+    requires whole { IsWorld version_1 (world_of world.old) }
     requires empty { replies.old.items ≡ [] }
     requires room { length events.now ≤ vec_capacity replies.old }
-    ensures { Run (world_of world.old) events.now replies.new.items (world_of world.new) }
+    ensures { PlainRun (world_of world.old) events.now replies.new.items (world_of world.new) }
 {
     for event in events {
         let reply = world.answer(alloc, event);
@@ -28,12 +32,13 @@ fn answer(alloc: Global, world: &mut PlainWorld, events: &[Event], replies: &mut
 }
 
 /// Answers events in their order, from an empty root directory (0:0, mode 0755) on, with nobody
-/// logged in. Each event has one reply.
+/// logged in. Each event has one reply, and a new node has the least unused number.
 ///
 /// The room for the replies is looked for first, and then that for the tree and the sessions:
 /// without either nothing is done.
 pub fn run_plain(alloc: Global, events: &[Event]) -> (Vec<Reply>, End)
     ensures clean { result.1 ≡ End.Clean → (last : World) × Run new_world events.now result.0.items last }
+    ensures least { result.1 ≡ End.Clean → (last : World) × PlainRun new_world events.now result.0.items last }
     ensures nothing { result.1 ≢ End.Clean → result.0.items ≡ [] }
 {
     let Ok(mut replies) = room_for(alloc, events.len()) else {

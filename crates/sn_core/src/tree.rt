@@ -1,6 +1,7 @@
 ghost use Rattle.std.specs.Prelude.{◌≡◌, ◌<◌, IfOk, OnOk, OnErr, None};
 ghost use Rattle.std.specs.Option.{option_map, option_copied};
 ghost use Rattle.std.specs.FinMap as map;
+ghost use Rattle.sn_limits.specs.Versions.{version_1};
 ghost use Rattle.sn_model.specs.Tests.{has_room};
 ghost use Rattle.sn_core.specs.Plain.{node_of};
 ghost use Rattle.sn_model.specs.Tree.{viewed, with_node};
@@ -85,7 +86,7 @@ impl PlainTree {
     /// Whether a directory may get one more name, of a new node.
     pub fn has_room(&self, directory: u16) -> Result<(), Refusal>
         requires { IsPlainTree self.now }
-        ensures room { result ≡ has_room (tree_of self.now) directory }
+        ensures room { result ≡ has_room version_1 (tree_of self.now) directory }
         ensures number { OnOk result (self.now.unused < 65536) }
     {
         if self.unused > u32::from(u16::MAX) {

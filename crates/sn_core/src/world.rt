@@ -1,6 +1,8 @@
 ghost use Rattle.std.specs.Prelude.{◌≡◌, IfOk, None, replicate};
 ghost use Rattle.sn_model.specs.Tests.{logged_in};
-ghost use Rattle.sn_model.specs.Steps.{EventStep, Step};
+ghost use Rattle.sn_limits.specs.Versions.{version_1};
+ghost use Rattle.sn_model.specs.Worlds.{IsWorld};
+ghost use Rattle.sn_core.specs.PlainRuns.{PlainStep};
 ghost use Rattle.sn_model.specs.World.{new_world};
 ghost use Rattle.sn_model.specs.declared.call.Call.TheVariants.{Login, Mkdir, Stat};
 ghost use Rattle.sn_core.specs.Gives.{Answers};
@@ -42,6 +44,7 @@ impl PlainWorld {
     pub fn new(alloc: Global) -> Result<PlainWorld, AllocError>
         ensures world { IfOk result (λ w. world_of w ≡ new_world) }
         ensures sound { IfOk result IsPlainWorld }
+        ensures whole { IfOk result (λ w. IsWorld version_1 (world_of w)) }
     {
         Ok(PlainWorld {
             tree: PlainTree::new(alloc)?,
@@ -70,9 +73,11 @@ impl PlainWorld {
         gid: u32,
         groups: &Groups,
     ) -> Result<Reply, CallError>
-        requires { IsPlainWorld self.old }
+        requires plain { IsPlainWorld self.old }
+        requires whole { IsWorld version_1 (world_of self.old) }
         ensures served { Serves (world_of self.old) session (Login uid gid groups.now) result (world_of self.new) }
         ensures sound { IsPlainWorld self.new }
+        ensures whole { IsWorld version_1 (world_of self.new) }
     {
         if session >= SESSIONS {
             return Err(CallError::Refused(Refusal::plain(Errno::Einval)));
@@ -99,9 +104,11 @@ impl PlainWorld {
         path: &Word,
         mode: u16,
     ) -> Result<Reply, CallError>
-        requires { IsPlainWorld self.old }
+        requires plain { IsPlainWorld self.old }
+        requires whole { IsWorld version_1 (world_of self.old) }
         ensures served { Serves (world_of self.old) session (Mkdir path.now mode) result (world_of self.new) }
         ensures sound { IsPlainWorld self.new }
+        ensures whole { IsWorld version_1 (world_of self.new) }
     {
         let caller = self.logged_in(session)?;
         let path = path_argument(path)?;
@@ -122,9 +129,11 @@ impl PlainWorld {
     }
 
     fn served(&mut self, alloc: Global, session: u32, call: &Call) -> Result<Reply, CallError>
-        requires { IsPlainWorld self.old }
+        requires plain { IsPlainWorld self.old }
+        requires whole { IsWorld version_1 (world_of self.old) }
         ensures served { Serves (world_of self.old) session call.now result (world_of self.new) }
         ensures sound { IsPlainWorld self.new }
+        ensures whole { IsWorld version_1 (world_of self.new) }
     {
         match call {
             Call::Login { uid, gid, groups } => self.login(session, *uid, *gid, groups),
@@ -135,9 +144,11 @@ impl PlainWorld {
 
     /// Answers a call.
     fn call(&mut self, alloc: Global, session: u32, call: &Call) -> Reply
-        requires { IsPlainWorld self.old }
-        ensures step { Step (world_of self.old) session call.now result (world_of self.new) }
+        requires plain { IsPlainWorld self.old }
+        requires whole { IsWorld version_1 (world_of self.old) }
+        ensures step { PlainStep (world_of self.old) (Event.Call session call.now) result (world_of self.new) }
         ensures sound { IsPlainWorld self.new }
+        ensures whole { IsWorld version_1 (world_of self.new) }
     {
         match self.served(alloc, session, call) {
             Ok(reply) => reply,
@@ -148,9 +159,11 @@ impl PlainWorld {
 
     /// Answers an event.
     pub fn answer(&mut self, alloc: Global, event: &Event) -> Reply
-        requires { IsPlainWorld self.old }
-        ensures step { EventStep (world_of self.old) event.now result (world_of self.new) }
+        requires plain { IsPlainWorld self.old }
+        requires whole { IsWorld version_1 (world_of self.old) }
+        ensures step { PlainStep (world_of self.old) event.now result (world_of self.new) }
         ensures sound { IsPlainWorld self.new }
+        ensures whole { IsWorld version_1 (world_of self.new) }
     {
         match event {
             Event::Call { session, call } => self.call(alloc, *session, call),

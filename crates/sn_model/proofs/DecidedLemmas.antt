@@ -1,8 +1,7 @@
 -- Every decided change can be applied.
-use Rattle.std.proofs.Common.{◌≡◌, ◌≢◌, ℕ, zero, suc, ◌-◌, ◌<◌, ◌≤◌, ◌^◌, Bool, true, false, not, cond, ◌&&◌, ◌||◌, ◌==◌, nat_lt, List, [], ◌∷◌, length, Option, Some, None, Result, Ok, Err, is_some, is_none, refl, sym, ap, subst, ◌∙◌, arith, eq-eqb, ltb-true}
+use Rattle.std.proofs.Common.{◌≡◌, ℕ, zero, suc, ◌-◌, ◌<◌, ◌^◌, Bool, true, false, not, cond, ◌&&◌, ◌||◌, ◌==◌, nat_lt, List, [], ◌∷◌, length, Option, Some, None, Result, Ok, Err, is_some, is_none, refl, sym, ap, subst, ◌∙◌, arith, eq-eqb, ltb-true}
 use Rattle.std.specs.Prelude.{IfSome, slice_get}
 use Rattle.std.specs.List.{list_all, AllByRecursion}
-use Rattle.std.specs.FinMap as map
 use Rattle.std.proofs.lemmas.Bool.{true≢false, eqb-false, lt-ltb, le-leb, leb-false}
 use Rattle.std.proofs.lemmas.Nat.{and_le_l, and_le_r}
 use Rattle.sn_acl.specs.declared.entries.Entry.{Entry}
@@ -19,27 +18,29 @@ use Rattle.sn_walk.specs.declared.view.Kind.TheVariants.{Directory}
 use Rattle.sn_walk.specs.Names.{is_name_spelled, has_name_length, is_name}
 use Rattle.sn_walk.specs.Paths.{last_after, parsed, of_word, of_names, of_length, components}
 use Rattle.sn_walk.specs.Views.{is_directory}
-use Rattle.sn_limits.specs.Versions.{version_1}
 use Rattle.sn_model.specs.declared.call.Call.{Call}
 use Rattle.sn_model.specs.declared.call.Call.TheVariants as call
-use Rattle.sn_model.specs.declared.change.Change.TheVariants.{Make}
 use Rattle.sn_model.specs.declared.reply.Errno.TheVariants.{Einval}
 use Rattle.sn_model.specs.declared.session.Session.{Session}
-use Rattle.sn_model.specs.Tree.{Tree, Node, attributes_of, link_to, names_in, names_for, least_unused, with_node}
+use Rattle.sn_model.specs.Tree.{Tree, Node, attributes_of, link_to, names_in, names_for, with_node}
 use Rattle.sn_model.specs.World.{World}
 use Rattle.sn_model.specs.NameTree.{IsNode, IsTree}
-use Rattle.sn_model.specs.Changes.{is_acl, is_default_acl, is_ownership, is_vacant, is_free_number, file_at, node_with, ownership_of, made, apply}
+use Rattle.sn_model.specs.Changes.{is_acl, is_default_acl, is_ownership, is_free_number, file_at, node_with, made}
 use Rattle.sn_model.specs.Tests.{◌>>=◌, plain, logged_out, flat, session_at, is_open, logged_in, read_path, path_argument, mode_from_bits, new_mode_argument}
-use Rattle.sn_model.specs.Calls.{Ready, Opens, Makes, Tells, Login, Mkdir, Stat, ready, outcome_of, new_session, new_directory, last_name}
-use Rattle.sn_model.specs.Steps.{decision}
+use Rattle.sn_model.specs.declared.reply.Reply.TheVariants as reply
+use Rattle.sn_model.specs.declared.reply.Status.{Status}
+use Rattle.sn_limits.specs.declared.limits.Limits.{Limits}
+use Rattle.sn_model.specs.declared.change.Ownership.{Ownership}
+use Rattle.sn_model.specs.Outcomes.{Outcome, opens, tells}
+use Rattle.sn_model.specs.Calls as calls
+use Rattle.sn_model.specs.Calls.{Ready, ready, outcome_of, new_session, new_directory, last_name}
+use Rattle.sn_model.specs.Steps.{IsNumber, IsNumberFor, changed, decision}
 use Rattle.sn_model.specs.Worlds.{IsCaller, IsPlace, IsCall, IsWorld}
 use Rattle.sn_model.proofs.ChainLemmas.{and_left, and_right, and_both, or_right}
 use Rattle.sn_model.proofs.NameLemmas.{no_names_for}
 use Rattle.sn_model.proofs.PartLemmas.{is_directory_at, made_of}
-use Rattle.sn_model.proofs.HierarchyLemmas.{least_is_among, least_is_unused}
-use Rattle.sn_model.proofs.MoveLemmas.{is_there}
 use Rattle.sn_model.proofs.DecisionLemmas as found
-use Rattle.sn_model.proofs.DecisionLemmas.{bind_ok, same_ok, mkdir_is, mkdir_makes, stat_tells}
+use Rattle.sn_model.proofs.DecisionLemmas.{Made, bind_ok, same_ok, mkdir_is, stat_is}
 
 -- what `IsValid` says, the test of an ACL finds
 acl_of : (es : List Entry) → IsValid es → is_acl es ≡ true
@@ -80,8 +81,8 @@ default_acl_of None v = refl
 default_acl_of (Some d) v = acl_of d v
 
 -- what is given to a new directory is an ownership
-new_ownership : (s : Session) (mode : Mode) (tree : Tree) (number : ℕ) (parent : Node) → IsCaller s → IsMode mode → IsNode version_1 number parent → is_ownership Directory (ownership_of (new_directory s mode (attributes_of tree number parent) parent.default_acl)) ≡ true
-new_ownership s mode tree number parent caller h node =
+new_ownership : (limits : Limits) (s : Session) (mode : Mode) (tree : Tree) (number : ℕ) (parent : Node) → IsCaller s → IsMode mode → IsNode limits number parent → is_ownership Directory (new_directory s mode (attributes_of tree number parent) parent.default_acl) ≡ true
+new_ownership limits s mode tree number parent caller h node =
     and_both _ _ (and_both _ _ (and_both _ _ (lt-ltb s.cred.uid (2 ^ 32) caller.uid) (group parent.set_gid)) (inherited_acl parent.default_acl mode s.umask h node.default_acl)) (default_acl_of parent.default_acl node.default_acl)
   where
     group : (b : Bool) → nat_lt (cond b parent.group s.cred.gid) (2 ^ 32) ≡ true
@@ -174,97 +175,90 @@ caller_is world session s all e =
     told true f = place_at world.sessions session s all (flat_is (slice_get world.sessions session) s (same_ok _ _ f))
     told false f = cc
 
--- the change that mkdir has decided can be applied
-module _ (tree : Tree) (s : Session) (names : List (List ℕ)) (mode : Mode) (directory number : ℕ) (name : List ℕ) (node : Node) (whole : IsTree version_1 tree) (caller : IsCaller s) (bits : IsMode mode) (are : AreNames names) (p : found.Mkdir tree s names mode directory name node) (least : least_unused tree ≡ Some number) where
-  unused : map.get tree.nodes number ≡ None
-  unused = least_is_unused tree number least
+-- what a call comes to, by the call that it was
+pub data IsDecided (limits : Limits) (world : World) (session : ℕ) (c : Call) (o : Outcome) : Type 0 where
+  Login : (s : Session) → (IsCall c → IsCaller s) → o ≡ opens s → IsDecided limits world session c o
+  Tells : (answer : Status) → o ≡ tells (reply.Status answer) → IsDecided limits world session c o
+  Makes : (s : Session) (names : List (List ℕ)) (mode : Mode) → logged_in world session ≡ Ok s → IsMode mode → AreNames names → Made limits world.live s names mode o → IsDecided limits world session c o
 
-  number_free : is_free_number version_1 tree number ≡ true
-  number_free =
-      let k = least_is_among tree number least in
-      let apart : number ≢ 2 = (λ same. is_there _ _ whole.hierarchy.root (ap (map.get tree.nodes) (sym same) ∙ unused)) in
-      let low : 2 < number = omega (arith, k.0, apart) in
-      let high : number ≤ 65535 = omega (arith, k.1) in
-      and_both _ _ (and_both _ _ (lt-ltb 2 number low) (le-leb number 65535 high)) (ap (λ o. is_none o || (is_some (file_at tree number) && names_for tree number == 0)) unused)
+login_decided : (limits : Limits) (world : World) (session : ℕ) (c : Call) (s : Session) (o : Outcome) → ready world session c ≡ Ok (calls.Login s) → opens s ≡ o → IsDecided limits world session c o
+login_decided limits world session (call.Login uid gid groups) s o e f =
+    let p = bind_ok (logged_out world session) (λ _. found.ok (calls.Login (new_session uid gid groups))) (calls.Login s) e in
+    let same : calls.Login (new_session uid gid groups) ≡ calls.Login s = same_ok _ _ p.2 in
+    let who : new_session uid gid groups ≡ s = cc same in
+    Login s (λ k. subst IsCaller who (record { uid = k.0; gid = k.1 })) (sym f)
+login_decided limits world session (call.Stat path) s o e f =
+    let p = bind_ok (logged_in world session) (λ x. path_argument path >>= (λ ns. found.ok (calls.Stat x ns))) (calls.Login s) e in
+    let q = bind_ok (path_argument path) (λ ns. found.ok (calls.Stat p.0 ns)) (calls.Login s) p.2 in
+    let never : calls.Stat p.0 q.0 ≡ calls.Login s = same_ok _ _ q.2 in cc
+login_decided limits world session (call.Mkdir path m) s o e f =
+    let p = bind_ok (logged_in world session) (λ x. path_argument path >>= (λ ns. new_mode_argument m >>= (λ bits. found.ok (calls.Mkdir x ns bits)))) (calls.Login s) e in
+    let q = bind_ok (path_argument path) (λ ns. new_mode_argument m >>= (λ bits. found.ok (calls.Mkdir p.0 ns bits))) (calls.Login s) p.2 in
+    let r = bind_ok (new_mode_argument m) (λ bits. found.ok (calls.Mkdir p.0 q.0 bits)) (calls.Login s) q.2 in
+    let never : calls.Mkdir p.0 q.0 r.0 ≡ calls.Login s = same_ok _ _ r.2 in cc
+
+mkdir_decided : (limits : Limits) (world : World) (session : ℕ) (c : Call) (s : Session) (names : List (List ℕ)) (mode : Mode) (o : Outcome) → ready world session c ≡ Ok (calls.Mkdir s names mode) → Made limits world.live s names mode o → IsDecided limits world session c o
+mkdir_decided limits world session (call.Login uid gid groups) s names mode o e f =
+    let p = bind_ok (logged_out world session) (λ _. found.ok (calls.Login (new_session uid gid groups))) (calls.Mkdir s names mode) e in
+    let never : calls.Login (new_session uid gid groups) ≡ calls.Mkdir s names mode = same_ok _ _ p.2 in cc
+mkdir_decided limits world session (call.Stat path) s names mode o e f =
+    let p = bind_ok (logged_in world session) (λ x. path_argument path >>= (λ ns. found.ok (calls.Stat x ns))) (calls.Mkdir s names mode) e in
+    let q = bind_ok (path_argument path) (λ ns. found.ok (calls.Stat p.0 ns)) (calls.Mkdir s names mode) p.2 in
+    let never : calls.Stat p.0 q.0 ≡ calls.Mkdir s names mode = same_ok _ _ q.2 in cc
+mkdir_decided limits world session (call.Mkdir path m) s names mode o e f =
+    let p = bind_ok (logged_in world session) (λ x. path_argument path >>= (λ ns. new_mode_argument m >>= (λ bits. found.ok (calls.Mkdir x ns bits)))) (calls.Mkdir s names mode) e in
+    let q = bind_ok (path_argument path) (λ ns. new_mode_argument m >>= (λ bits. found.ok (calls.Mkdir p.0 ns bits))) (calls.Mkdir s names mode) p.2 in
+    let r = bind_ok (new_mode_argument m) (λ bits. found.ok (calls.Mkdir p.0 q.0 bits)) (calls.Mkdir s names mode) q.2 in
+    let same : calls.Mkdir p.0 q.0 r.0 ≡ calls.Mkdir s names mode = same_ok _ _ r.2 in
+    let caller : p.0 ≡ s = cc same in
+    let called : q.0 ≡ names = cc same in
+    let moded : r.0 ≡ mode = cc same in
+    Makes s names mode (p.1 ∙ ap (λ (x : Session). found.ok x) caller) (subst IsMode moded (mode_is m r.0 r.1)) (subst AreNames called (path_names path q.0 q.1)) f
+
+pub decided_is : (limits : Limits) (world : World) (session : ℕ) (c : Call) (o : Outcome) → decision limits world session c ≡ Ok o → IsDecided limits world session c o
+decided_is limits world session c o e = let r = bind_ok (ready world session c) (outcome_of limits world) o e in told r.0 r.1 r.2
+  where
+    told : (r : Ready) → ready world session c ≡ Ok r → outcome_of limits world r ≡ Ok o → IsDecided limits world session c o
+    told (calls.Login s) f g = login_decided limits world session c s o f (same_ok _ _ g)
+    told (calls.Stat s names) f g = let t = stat_is world.live s names o g in Tells t.0 t.1
+    told (calls.Mkdir s names mode) f g = mkdir_decided limits world session c s names mode o f (mkdir_is limits world.live s names mode o g)
+
+-- the change that mkdir has decided can be applied
+module _ (limits : Limits) (tree : Tree) (s : Session) (names : List (List ℕ)) (mode : Mode) (o : Outcome) (number : ℕ) (some_links : 0 < limits.links) (whole : IsTree limits tree) (caller : IsCaller s) (bits : IsMode mode) (are : AreNames names) (p : Made limits tree s names mode o) (free : IsNumber limits tree number) where
+  number_free : is_free_number limits tree number ≡ true
+  number_free = and_both _ _ (and_both _ _ (lt-ltb 2 number free.first) (le-leb number limits.largest_number free.within)) (ap (λ o. is_none o || (is_some (file_at tree number) && names_for tree number == 0)) free.unused)
 
   nameless : names_for tree number ≡ 0
-  nameless = no_names_for tree number (λ link e. true≢false (sym (whole.hierarchy.leads link number e) ∙ ap is_some unused))
+  nameless = no_names_for tree number (λ link e. true≢false (sym (whole.hierarchy.leads link number e) ∙ ap is_some free.unused))
 
   is_last : is_name (last_name names) ≡ true
   is_last = ap (λ (ns : List (List ℕ)). is_name (last_name ns)) p.new.some_names ∙ last_is_name p.new.first p.new.more (subst AreNames p.new.some_names are)
 
-  name_vacant : is_vacant tree (link_to directory name) ≡ true
-  name_vacant = ap (λ (n : List ℕ). is_vacant tree (link_to directory n)) p.called ∙ and_both _ _ (and_both _ _ is_last (ap not p.new.seen)) (ap is_none p.new.absent)
+  abbrev pub given : Ownership
+  given = new_directory s mode (attributes_of tree p.directory p.parent) p.parent.default_acl
 
-  abbrev is_made : Node → Type 0
-  is_made n = (is_ownership n.kind (ownership_of n) ≡ true) × (node_with n.kind (ownership_of n) [] ≡ n)
-
-  node_made : is_made node
-  node_made = subst is_made (sym p.made) (new_ownership s mode tree directory p.parent caller bits (whole.nodes.nodes directory p.parent p.there), refl)
-
-  pub mkdir_applies : made version_1 tree (link_to directory name) number node.kind (ownership_of node) ≡ Some (with_node tree number (link_to directory name) node)
-  mkdir_applies = made_of version_1 tree (link_to directory name) number node.kind (ownership_of node) _ (record {
+  pub mkdir_applies : made limits tree (link_to p.directory (last_name names)) number Directory given ≡ Some (with_node tree number (link_to p.directory (last_name names)) (node_with Directory given []))
+  mkdir_applies = made_of limits tree (link_to p.directory (last_name names)) number Directory given _ (record {
     free = number_free;
-    vacant = name_vacant;
-    owned = node_made.0;
+    vacant = and_both _ _ (and_both _ _ is_last (ap not p.new.seen)) (ap is_none p.new.absent);
+    owned = new_ownership limits s mode tree p.directory p.parent caller bits (whole.nodes.nodes p.directory p.parent p.there);
     place = record {
       directory = p.parent;
-      parent = is_directory_at tree directory p.parent p.there (ap is_directory p.kind);
-      names = lt-ltb (names_in tree directory) 65535 (leb-false 65535 (names_in tree directory) p.room);
-      links = ap (λ n. nat_lt n 32767) nameless;
+      parent = is_directory_at tree p.directory p.parent p.there (ap is_directory p.kind);
+      names = lt-ltb (names_in tree p.directory) limits.names (leb-false limits.names (names_in tree p.directory) p.room);
+      links = ap (λ n. nat_lt n limits.links) nameless ∙ lt-ltb 0 limits.links some_links;
     };
-    gives = ap (λ (n : Node). with_node tree number (link_to directory name) n) node_made.1;
+    gives = refl;
   })
 
--- what a call was once its session and arguments had passed
-pub record WasMkdir (world : World) (session : ℕ) (s : Session) (names : List (List ℕ)) (mode : Mode) : Type 0 where
-  pub caller : logged_in world session ≡ Ok s
-  pub are : AreNames names
-  pub bits : IsMode mode
-
-was_mkdir : (world : World) (session : ℕ) (c : Call) (s : Session) (names : List (List ℕ)) (mode : Mode) → ready world session c ≡ Ok (Mkdir s names mode) → WasMkdir world session s names mode
-was_mkdir world session (call.Login uid gid groups) s names mode e =
-    let p = bind_ok (logged_out world session) (λ _. found.ok (Login (new_session uid gid groups))) (Mkdir s names mode) e in
-    let never : Login (new_session uid gid groups) ≡ Mkdir s names mode = same_ok _ _ p.2 in cc
-was_mkdir world session (call.Stat path) s names mode e =
-    let p = bind_ok (logged_in world session) (λ x. path_argument path >>= (λ ns. found.ok (Stat x ns))) (Mkdir s names mode) e in
-    let q = bind_ok (path_argument path) (λ ns. found.ok (Stat p.0 ns)) (Mkdir s names mode) p.2 in
-    let never : Stat p.0 q.0 ≡ Mkdir s names mode = same_ok _ _ q.2 in cc
-was_mkdir world session (call.Mkdir path m) s names mode e =
-    let p = bind_ok (logged_in world session) (λ x. path_argument path >>= (λ ns. new_mode_argument m >>= (λ bits. found.ok (Mkdir x ns bits)))) (Mkdir s names mode) e in
-    let q = bind_ok (path_argument path) (λ ns. new_mode_argument m >>= (λ bits. found.ok (Mkdir p.0 ns bits))) (Mkdir s names mode) p.2 in
-    let r = bind_ok (new_mode_argument m) (λ bits. found.ok (Mkdir p.0 q.0 bits)) (Mkdir s names mode) q.2 in
-    let same : Mkdir p.0 q.0 r.0 ≡ Mkdir s names mode = same_ok _ _ r.2 in
-    let caller : p.0 ≡ s = cc same in
-    let called : q.0 ≡ names = cc same in
-    let moded : r.0 ≡ mode = cc same in
-    record {
-      caller = p.1 ∙ ap (λ (x : Session). found.ok x) caller;
-      are = subst AreNames called (path_names path q.0 q.1);
-      bits = subst IsMode moded (mode_is m r.0 r.1);
-    }
-
--- the name that a call makes isn't there yet
-pub decided_absent : (world : World) (session : ℕ) (c : Call) (directory : ℕ) (name : List ℕ) (node : Node) → decision world session c ≡ Ok (Makes directory name node) → map.get world.live.links (link_to directory name) ≡ None
-decided_absent world session c directory name node e =
-    let r = bind_ok (ready world session c) (outcome_of world) (Makes directory name node) e in
-    told r.0 r.2
+pub decided_applies : (limits : Limits) (world : World) (session : ℕ) (c : Call) (o : Outcome) (number : ℕ) → 0 < limits.links → IsWorld limits world
+    → decision limits world session c ≡ Ok o → IsNumberFor limits world.live number o.change → is_some (changed limits number o.change world.live) ≡ true
+decided_applies limits world session c o number some_links whole e free = told (decided_is limits world session c o e)
   where
-    told : (r : Ready) → outcome_of world r ≡ Ok (Makes directory name node) → map.get world.live.links (link_to directory name) ≡ None
-    told (Login s) g = let never : Opens s ≡ Makes directory name node = same_ok _ _ g in cc
-    told (Stat s names) g = let t = stat_tells world.live s names (Makes directory name node) g in let never : Makes directory name node ≡ Tells t.0 = t.1 in cc
-    told (Mkdir s names mode) g = let p = mkdir_is world.live s names mode directory name node g in ap (λ (n : List ℕ). map.get world.live.links (link_to directory n)) p.called ∙ p.new.absent
-
-pub decided_applies : (world : World) (session : ℕ) (c : Call) (directory number : ℕ) (name : List ℕ) (node : Node) → IsWorld version_1 world → IsCall c
-    → decision world session c ≡ Ok (Makes directory name node) → least_unused world.live ≡ Some number
-    → apply version_1 (Make directory name number node.kind (ownership_of node)) world.live ≡ Some (with_node world.live number (link_to directory name) node)
-decided_applies world session c directory number name node whole numbers e least =
-    let r = bind_ok (ready world session c) (outcome_of world) (Makes directory name node) e in
-    told r.0 r.1 r.2
-  where
-    told : (r : Ready) → ready world session c ≡ Ok r → outcome_of world r ≡ Ok (Makes directory name node) → apply version_1 (Make directory name number node.kind (ownership_of node)) world.live ≡ Some (with_node world.live number (link_to directory name) node)
-    told (Login s) f g = let never : Opens s ≡ Makes directory name node = same_ok _ _ g in cc
-    told (Stat s names) f g = let t = stat_tells world.live s names (Makes directory name node) g in let never : Makes directory name node ≡ Tells t.0 = t.1 in cc
-    told (Mkdir s names mode) f g =
-        let w = was_mkdir world session c s names mode f in
-        mkdir_applies world.live s names mode directory number name node whole.live (caller_is world session s whole.callers w.caller) w.bits w.are (mkdir_is world.live s names mode directory name node g) least
+    told : IsDecided limits world session c o → is_some (changed limits number o.change world.live) ≡ true
+    told (Login s k f) = ap (λ (x : Outcome). is_some (changed limits number x.change world.live)) f
+    told (Tells a f) = ap (λ (x : Outcome). is_some (changed limits number x.change world.live)) f
+    told (Makes s names mode k b n p) =
+        let is = subst (λ (x : Outcome). IsNumberFor limits world.live number x.change) p.made free in
+        ap (λ (x : Outcome). is_some (changed limits number x.change world.live)) p.made
+        ∙ ap is_some (mkdir_applies limits world.live s names mode o number some_links whole.live (caller_is world session s whole.callers k) b n p is)

@@ -1,9 +1,10 @@
 -- What a call that makes a node has found.
-use Rattle.std.proofs.Common.{◌≡◌, ℕ, Bool, true, false, cond, List, [], ◌∷◌, Option, Some, None, Result, Ok, Err, is_none, nat_le, refl, sym, ap, subst, ◌∙◌}
+use Rattle.std.proofs.Common.{◌≡◌, ℕ, ◌+◌, ◌*◌, Bool, true, false, cond, List, [], ◌∷◌, Option, Some, None, Result, Ok, Err, is_none, nat_le, refl, sym, ap, subst, ◌∙◌}
 use Rattle.std.specs.Prelude.{IsSomeAnd}
 use Rattle.std.specs.Option.{option_map, option_and_then}
 use Rattle.std.specs.FinMap as map
 use Rattle.sn_acl.specs.Credential.{Credential}
+use Rattle.sn_acl.specs.declared.entries.Entry.{Entry}
 use Rattle.sn_acl.specs.declared.modes.Mode.{Mode}
 use Rattle.sn_acl.specs.Access.{denial_of}
 use Rattle.sn_walk.specs.declared.view.Kind.TheVariants.{Directory}
@@ -24,7 +25,10 @@ use Rattle.sn_model.specs.declared.reply.Status.{Status}
 use Rattle.sn_model.specs.declared.session.Session.{Session}
 use Rattle.sn_model.specs.Tree.{Tree, Node, attributes_of, link_to, names_in, least_unused, viewed}
 use Rattle.sn_model.specs.Tests.{◌>>=◌, plain, prefix, walked, not_present, vacant, live, rights_of, unless_denied, granted, write, writable_parent, has_room, full}
-use Rattle.sn_model.specs.Calls.{Outcome, Makes, Tells, mkdir_outcome, stat_outcome, told, status_of, number_of, new_directory, last_name}
+use Rattle.sn_model.specs.declared.reply.Reply.TheVariants as reply
+use Rattle.sn_limits.specs.declared.limits.Limits.{Limits}
+use Rattle.sn_model.specs.Outcomes.{Outcome, tells, makes}
+use Rattle.sn_model.specs.Calls.{mkdir_outcome, stat_outcome, told, status_of, number_of, new_directory, last_name}
 
 pub bind_ok : {A B : Type 0} (r : Result A Refusal) (f : A → Result B Refusal) (y : B) → (r >>= f) ≡ Ok y → (x : A) × (r ≡ Ok x) × (f x ≡ Ok y)
 bind_ok (Ok x) f y e = (x, refl, e)
@@ -93,72 +97,62 @@ seen_node tree number (Some x) a e =
     let same : attributes_of tree number x ≡ a = cc in
     (x, refl, sym same)
 
-room_is : (tree : Tree) (directory : ℕ) (u : Unit {0}) → has_room tree directory ≡ Ok u → nat_le 65535 (names_in tree directory) ≡ false
-room_is tree directory u e = told (is_none (least_unused tree)) (nat_le 65535 (names_in tree directory)) e
+room_is : (limits : Limits) (tree : Tree) (directory : ℕ) (u : Unit {0}) → has_room limits tree directory ≡ Ok u → nat_le limits.names (names_in tree directory) ≡ false
+room_is limits tree directory u e = told (is_none (least_unused limits tree)) (nat_le limits.names (names_in tree directory)) e
   where
     told : (a b : Bool) → cond a (Err (plain Elimit)) (cond b (Err (plain Elimit)) (ok tt)) ≡ Ok u → b ≡ false
     told true b f = cc
     told false true f = cc
     told false false f = refl
 
--- what mkdir has found, and what it makes
-pub record Mkdir (tree : Tree) (s : Session) (names : List (List ℕ)) (mode : Mode) (directory : ℕ) (name : List ℕ) (node : Node) : Type 0 where
+-- what mkdir has found, and what it comes to
+pub record Made (limits : Limits) (tree : Tree) (s : Session) (names : List (List ℕ)) (mode : Mode) (o : Outcome) : Type 0 where
+  pub directory : ℕ
   pub new : IsNew tree names directory
-  pub called : name ≡ last_name names
   pub parent : Node
   pub there : map.get tree.nodes directory ≡ Some parent
   pub kind : parent.kind ≡ Directory
-  pub room : nat_le 65535 (names_in tree directory) ≡ false
-  pub made : node ≡ new_directory s mode (attributes_of tree directory parent) parent.default_acl
+  pub room : nat_le limits.names (names_in tree directory) ≡ false
+  pub made : o ≡ makes (2 * limits.inode_charge + limits.block_charge) (link_to directory (last_name names)) Directory (new_directory s mode (attributes_of tree directory parent) parent.default_acl)
 
 default_at : (tree : Tree) (directory : ℕ) (parent : Node) → map.get tree.nodes directory ≡ Some parent → (viewed tree).default_acl directory ≡ parent.default_acl
 default_at tree directory parent e = ap (option_and_then (λ (node : Node). node.default_acl)) e
 
-made_as : (s : Session) (mode : Mode) (tree : Tree) (directory d : ℕ) (p : Attributes) (parent node : Node) → new_directory s mode p ((viewed tree).default_acl d) ≡ node → d ≡ directory → p ≡ attributes_of tree directory parent → map.get tree.nodes directory ≡ Some parent → node ≡ new_directory s mode (attributes_of tree directory parent) parent.default_acl
-made_as s mode tree directory d p parent node made at seen there =
-    let default : (viewed tree).default_acl d ≡ parent.default_acl = ap ((viewed tree).default_acl) at ∙ default_at tree directory parent there in
-    sym made ∙ ap (λ (a : Attributes). new_directory s mode a ((viewed tree).default_acl d)) seen ∙ ap (new_directory s mode (attributes_of tree directory parent)) default
+abbrev mkdir_last : Limits → Tree → Session → List (List ℕ) → Mode → ℕ → Attributes → Result Outcome Refusal
+mkdir_last limits tree s names mode directory parent = Ok (makes (2 * limits.inode_charge + limits.block_charge) (link_to directory (last_name names)) Directory (new_directory s mode parent ((viewed tree).default_acl directory)))
 
-pub mkdir_is : (tree : Tree) (s : Session) (names : List (List ℕ)) (mode : Mode) (directory : ℕ) (name : List ℕ) (node : Node) → mkdir_outcome tree s names mode ≡ Ok (Makes directory name node) → Mkdir tree s names mode directory name node
-mkdir_is tree s names mode directory name node e =
-    let last = λ (p : Attributes) (d : ℕ). ok (Makes d (last_name names) (new_directory s mode p ((viewed tree).default_acl d))) in
-    let v = bind_ok (prefix tree s.cred 1 names >>= not_present) (λ v. live v.0 >>= (λ d. writable_parent tree s.cred 1 v.1 d >>= (λ p. has_room tree d >>= (λ _. last p d)))) (Makes directory name node) e in
-    let d = bind_ok (live v.0.0) (λ d. writable_parent tree s.cred 1 v.0.1 d >>= (λ p. has_room tree d >>= (λ _. last p d))) (Makes directory name node) v.2 in
-    let p = bind_ok (writable_parent tree s.cred 1 v.0.1 d.0) (λ p. has_room tree d.0 >>= (λ _. last p d.0)) (Makes directory name node) d.2 in
-    let r = bind_ok (has_room tree d.0) (λ _. last p.0 d.0) (Makes directory name node) p.2 in
-    let w = bind_ok (prefix tree s.cred 1 names) not_present v.0 v.1 in
-    let same : Makes d.0 (last_name names) (new_directory s mode p.0 ((viewed tree).default_acl d.0)) ≡ Makes directory name node = same_ok (Makes d.0 (last_name names) (new_directory s mode p.0 ((viewed tree).default_acl d.0))) (Makes directory name node) r.2 in
-    let at : d.0 ≡ directory = cc same in
-    let called : last_name names ≡ name = cc same in
-    let made : new_directory s mode p.0 ((viewed tree).default_acl d.0) ≡ node = cc same in
+made_as : (limits : Limits) (tree : Tree) (s : Session) (names : List (List ℕ)) (mode : Mode) (directory : ℕ) (p : Attributes) (parent : Node) (o : Outcome) → mkdir_last limits tree s names mode directory p ≡ Ok o → p ≡ attributes_of tree directory parent → map.get tree.nodes directory ≡ Some parent
+    → o ≡ makes (2 * limits.inode_charge + limits.block_charge) (link_to directory (last_name names)) Directory (new_directory s mode (attributes_of tree directory parent) parent.default_acl)
+made_as limits tree s names mode directory p parent o e seen there =
+    let made = λ (a : Attributes) (d : Option (List Entry)). makes (2 * limits.inode_charge + limits.block_charge) (link_to directory (last_name names)) Directory (new_directory s mode a d) in
+    sym (same_ok _ o e) ∙ ap (λ (a : Attributes). made a ((viewed tree).default_acl directory)) seen ∙ ap (made (attributes_of tree directory parent)) (default_at tree directory parent there)
+
+pub mkdir_is : (limits : Limits) (tree : Tree) (s : Session) (names : List (List ℕ)) (mode : Mode) (o : Outcome) → mkdir_outcome limits tree s names mode ≡ Ok o → Made limits tree s names mode o
+unfolding mkdir_outcome
+mkdir_is limits tree s names mode o e =
+    let w = bind_ok (prefix tree s.cred 1 names) (λ w. not_present w >>= (λ v. live v.0 >>= (λ d. writable_parent tree s.cred 1 v.1 d >>= (λ p. has_room limits tree d >>= (λ _. mkdir_last limits tree s names mode d p))))) o e in
+    let v = bind_ok (not_present w.0) (λ v. live v.0 >>= (λ d. writable_parent tree s.cred 1 v.1 d >>= (λ p. has_room limits tree d >>= (λ _. mkdir_last limits tree s names mode d p)))) o w.2 in
+    let d = bind_ok (live v.0.0) (λ d. writable_parent tree s.cred 1 v.0.1 d >>= (λ p. has_room limits tree d >>= (λ _. mkdir_last limits tree s names mode d p))) o v.2 in
+    let p = bind_ok (writable_parent tree s.cred 1 v.0.1 d.0) (λ p. has_room limits tree d.0 >>= (λ _. mkdir_last limits tree s names mode d.0 p)) o d.2 in
+    let r = bind_ok (has_room limits tree d.0) (λ _. mkdir_last limits tree s names mode d.0 p.0) o p.2 in
     let ends = ends_at (viewed tree) s.cred names w.0 (walked_ok 1 (walk_of (viewed tree) s.cred names) w.0 w.1) in
-    let lives : live v.0.0 ≡ Ok directory = d.1 ∙ ap (λ (k : ℕ). Ok k) at in
-    let x = seen_node tree directory (map.get tree.nodes directory) p.0 (granted_is s.cred 1 v.0.1 write (attributes_at (viewed tree) (object.Node directory)) p.0 (ap (λ (k : ℕ). writable_parent tree s.cred 1 v.0.1 k) (sym at) ∙ p.1)) in
+    let x = seen_node tree d.0 (map.get tree.nodes d.0) p.0 (granted_is s.cred 1 v.0.1 write (attributes_at (viewed tree) (object.Node d.0)) p.0 p.1) in
     record {
-      new = new_name tree names w.0 v.0 directory ends w.2 lives;
-      called = sym called;
+      directory = d.0;
+      new = new_name tree names w.0 v.0 d.0 ends v.1 d.1;
       parent = x.0;
       there = x.1;
-      kind = subst (λ (o : Option Node). IsSomeAnd (option_map (attributes_of tree directory) o) (λ a. a.kind ≡ Directory)) {y = Some x.0} x.1 (kind_is tree names w.0 v.0 directory ends w.2 lives);
-      room = ap (λ (k : ℕ). nat_le 65535 (names_in tree k)) (sym at) ∙ room_is tree d.0 r.0 r.1;
-      made = made_as s mode tree directory d.0 p.0 x.0 node made at x.2 x.1;
+      kind = subst (λ (o : Option Node). IsSomeAnd (option_map (attributes_of tree d.0) o) (λ a. a.kind ≡ Directory)) {y = Some x.0} x.1 (kind_is tree names w.0 v.0 d.0 ends v.1 d.1);
+      room = room_is limits tree d.0 r.0 r.1;
+      made = made_as limits tree s names mode d.0 p.0 x.0 o r.2 x.2 x.1;
     }
 
--- mkdir makes a directory, and stat tells
-pub mkdir_makes : (tree : Tree) (s : Session) (names : List (List ℕ)) (mode : Mode) (o : Outcome) → mkdir_outcome tree s names mode ≡ Ok o → (directory : ℕ) × (name : List ℕ) × (node : Node) × (o ≡ Makes directory name node)
-mkdir_makes tree s names mode o e =
-    let last = λ (p : Attributes) (d : ℕ). ok (Makes d (last_name names) (new_directory s mode p ((viewed tree).default_acl d))) in
-    let v = bind_ok (prefix tree s.cred 1 names >>= not_present) (λ v. live v.0 >>= (λ d. writable_parent tree s.cred 1 v.1 d >>= (λ p. has_room tree d >>= (λ _. last p d)))) o e in
-    let d = bind_ok (live v.0.0) (λ d. writable_parent tree s.cred 1 v.0.1 d >>= (λ p. has_room tree d >>= (λ _. last p d))) o v.2 in
-    let p = bind_ok (writable_parent tree s.cred 1 v.0.1 d.0) (λ p. has_room tree d.0 >>= (λ _. last p d.0)) o d.2 in
-    let r = bind_ok (has_room tree d.0) (λ _. last p.0 d.0) o p.2 in
-    (d.0, last_name names, new_directory s mode p.0 ((viewed tree).default_acl d.0), sym (same_ok _ o r.2))
-
-told_tells : (number : ℕ) (a : Option Attributes) (o : Outcome) → told number a ≡ Ok o → (status : Status) × (o ≡ Tells status)
+told_tells : (number : ℕ) (a : Option Attributes) (o : Outcome) → told number a ≡ Ok o → (answer : Status) × (o ≡ tells (reply.Status answer))
 told_tells number None o e = cc
 told_tells number (Some a) o e = (status_of number a, sym (same_ok _ o e))
 
-pub stat_tells : (tree : Tree) (s : Session) (names : List (List ℕ)) (o : Outcome) → stat_outcome tree s names ≡ Ok o → (status : Status) × (o ≡ Tells status)
-stat_tells tree s names o e =
+pub stat_is : (tree : Tree) (s : Session) (names : List (List ℕ)) (o : Outcome) → stat_outcome tree s names ≡ Ok o → (answer : Status) × (o ≡ tells (reply.Status answer))
+unfolding stat_outcome
+stat_is tree s names o e =
     let x = bind_ok (full tree s.cred 1 names) (λ x. told (number_of x) (attributes_at (viewed tree) x)) o e in
     told_tells (number_of x.0) (attributes_at (viewed tree) x.0) o x.2

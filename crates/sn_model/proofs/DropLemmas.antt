@@ -37,7 +37,7 @@ left_was : (b : Bool) (o : Option Node) (x : Node) → cond b o None ≡ Some x 
 left_was true o x e = e
 left_was false o x e = cc
 
-without_was : (held : ℕ → Bool) (tree : Tree) (n : ℕ) (x : Node) → map.get (without_nameless held tree).nodes n ≡ Some x → map.get tree.nodes n ≡ Some x
+pub without_was : (held : ℕ → Bool) (tree : Tree) (n : ℕ) (x : Node) → map.get (without_nameless held tree).nodes n ≡ Some x → map.get tree.nodes n ≡ Some x
 without_was held tree n x e = left_was (not (is_nameless tree n (map.get tree.nodes n)) || held n) (map.get tree.nodes n) x (sym (get_without held tree n) ∙ e)
 
 stays : (held : ℕ → Bool) (tree : Tree) (n : ℕ) → is_nameless tree n (map.get tree.nodes n) ≡ false → map.get (without_nameless held tree).nodes n ≡ map.get tree.nodes n

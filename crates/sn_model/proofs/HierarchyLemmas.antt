@@ -1,5 +1,5 @@
 -- A new directory keeps the tree of directories.
-use Rattle.std.proofs.Common.{◌≡◌, ◌≢◌, ℕ, zero, suc, ◌+◌, Bool, true, false, cond, Option, Some, None, refl, sym, ap, subst, ◌∙◌, ◌⊎◌, inl, inr, ◌≤◌, ◌<◌, arith}
+use Rattle.std.proofs.Common.{◌≡◌, ◌≢◌, ℕ, zero, suc, ◌+◌, ◌-◌, Bool, true, false, cond, Option, Some, None, refl, sym, ap, subst, ◌∙◌, ◌⊎◌, inl, inr, ◌≤◌, ◌<◌, arith}
 use Rattle.std.specs.Prelude.{IsSomeAnd}
 use Rattle.std.specs.Option.{is_some}
 use Rattle.std.specs.Ordering.{nat_cmp}
@@ -11,6 +11,8 @@ use Rattle.sn_walk.specs.declared.view.Kind.{Kind}
 use Rattle.sn_walk.specs.declared.view.Kind.TheVariants.{Directory}
 use Rattle.sn_model.specs.declared.link.Link.{Link}
 use Rattle.sn_model.specs.Tree.{Tree, Node, link_to, unused_from, least_unused, with_node}
+use Rattle.sn_limits.specs.declared.limits.Limits.{Limits}
+use Rattle.sn_model.specs.Steps.{IsNumber}
 use Rattle.sn_model.specs.NameTree.{Reaches, root, below, HasKind, IsHierarchy}
 use Rattle.sn_model.proofs.LinkLemmas.{exact_links, links_total}
 use Rattle.sn_model.proofs.MapLemmas.{same_or_apart, get_inserted, get_other}
@@ -38,18 +40,18 @@ found_among nodes first (suc more) number e = looked (is_some (map.get nodes fir
     looked true further h = let k = further h in (omega (arith, k.0), omega (arith, k.1))
     looked false further h = let same : first ≡ number = cc in (omega (arith, same), omega (arith, same))
 
-pub least_is_among : (tree : Tree) (number : ℕ) → least_unused tree ≡ Some number → (2 ≤ number) × (number < 65536)
-unfolding least_unused
-least_is_among tree number e = let k = found_among tree.nodes 2 65534 number e in (k.0, omega (arith, k.1))
-
-pub least_is_unused : (tree : Tree) (number : ℕ) → least_unused tree ≡ Some number → map.get tree.nodes number ≡ None
-unfolding least_unused
-least_is_unused tree number e = found_unused tree.nodes 2 65534 number e
-
 -- what is there isn't what isn't
 has_not_none : (o : Option Node) (P : Node → Type 0) → IsSomeAnd o P → o ≢ None
 has_not_none None P h e = h
 has_not_none (Some n) P h e = cc
+
+pub least_is_number : (limits : Limits) (tree : Tree) (number : ℕ) → HasKind tree 2 Directory → 1 ≤ limits.largest_number → least_unused limits tree ≡ Some number → IsNumber limits tree number
+unfolding least_unused
+least_is_number limits tree number kind some e =
+    let k = found_among tree.nodes 2 (limits.largest_number - 1) number e in
+    let unused = found_unused tree.nodes 2 (limits.largest_number - 1) number e in
+    let apart : number ≢ 2 = (λ same. has_not_none _ _ kind (ap (map.get tree.nodes) (sym same) ∙ unused)) in
+    record { first = omega (arith, k.0, apart); within = omega (arith, k.1, some); unused = unused }
 
 some_not_none : {A : Type 0} (o : Option A) (x : A) → o ≡ Some x → o ≢ None
 some_not_none o x e f = let never : Some x ≡ None = sym e ∙ f in cc

@@ -20,4 +20,5 @@ pub mod BringLemmas
 pub mod DecisionLemmas
 pub mod DecidedLemmas
 pub mod WorldLemmas
+pub mod MachineLemmas
 pub mod StepLemmas

@@ -11,7 +11,6 @@ use Rattle.std.proofs.lemmas.Map.Lookups.{exact_unsigned}
 use Rattle.sn_walk.specs.declared.view.Kind.TheVariants.{File, Directory}
 use Rattle.sn_limits.specs.Versions.{version_1}
 use Rattle.sn_model.specs.declared.call.Call.{Call}
-use Rattle.sn_model.specs.declared.call.Call.TheVariants as call
 use Rattle.sn_model.specs.declared.call.Event.{Event}
 use Rattle.sn_model.specs.declared.call.Event.TheVariants as event
 use Rattle.sn_model.specs.declared.change.Change.TheVariants.{Make}
@@ -19,24 +18,26 @@ use Rattle.sn_model.specs.declared.link.Link.{Link}
 use Rattle.sn_model.specs.declared.reply.Refusal.{Refusal}
 use Rattle.sn_model.specs.declared.reply.Reply.{Reply}
 use Rattle.sn_model.specs.declared.session.Session.{Session}
-use Rattle.sn_model.specs.Tree.{Tree, Node, link_cmp, link_to, names_for, with_node}
+use Rattle.sn_model.specs.Tree.{Tree, Node, attributes_of, link_cmp, link_to, names_for, with_node}
 use Rattle.sn_model.specs.World.{World, Home, Live, Frozen, descriptor_cmp, new_root, new_tree, new_world}
 use Rattle.sn_model.specs.NameTree.{HasKind, IsHierarchy, IsNode, IsTree, Reaches, root}
-use Rattle.sn_model.specs.Changes.{ownership_of}
-use Rattle.sn_model.specs.Tests.{◌>>=◌, logged_in, logged_out, path_argument, new_mode_argument}
-use Rattle.sn_model.specs.Calls.{Ready, Outcome, Opens, Makes, Tells, Login, Mkdir, Stat, ready, outcome_of, new_session}
-use Rattle.sn_model.specs.Steps.{Becomes, EventStep, Run, Step, decision, with_session, with_live}
+use Rattle.sn_model.specs.Changes.{node_with}
+use Rattle.sn_limits.specs.declared.limits.Limits.{Limits}
+use Rattle.sn_model.specs.Outcomes.{Outcome}
+use Rattle.sn_model.specs.Calls.{new_directory, last_name}
+use Rattle.sn_model.specs.Steps.{Becomes, Comes, EventStep, Run, RunBy, Step, decision, with_session, with_live}
 use Rattle.sn_model.specs.Worlds.{IsCaller, IsPlace, IsCall, IsEvent, IsWorld, tree_in}
 use Rattle.sn_model.proofs.LinkLemmas.{exact_links, links_total}
 use Rattle.sn_model.proofs.MapLemmas.{same_or_apart, get_inserted, get_other}
 use Rattle.sn_model.proofs.CountLemmas.{count_none}
 use Rattle.sn_model.proofs.NameLemmas.{names_for_more, names_for_other}
-use Rattle.sn_model.proofs.HierarchyLemmas.{least_is_unused}
+use Rattle.sn_model.proofs.ChainLemmas.{some_same}
+use Rattle.sn_model.proofs.PartLemmas.{made_is}
 use Rattle.sn_model.proofs.MoveLemmas.{kind_at, some_node, is_there}
 use Rattle.sn_model.proofs.NodeLemmas.{acl_is}
 use Rattle.sn_model.proofs.TreeLemmas.{tree_kept}
-use Rattle.sn_model.proofs.DecisionLemmas.{ok, bind_ok, same_ok, mkdir_makes, stat_tells}
-use Rattle.sn_model.proofs.DecidedLemmas.{decided_applies, decided_absent}
+use Rattle.sn_model.proofs.DecidedLemmas as decided
+use Rattle.sn_model.proofs.DecidedLemmas.{IsDecided, decided_is}
 
 -- a session that is opened leaves the others
 all_set : (places : List (Option Session)) (i : ℕ) (s : Session) → IsCaller s → AllByRecursion IsPlace places → AllByRecursion IsPlace (slice_set places i (Some s))
@@ -56,36 +57,8 @@ with_files : (a b : World) (home : Home) (number : ℕ) → ((n : ℕ) → HasKi
 with_files a b Live number live frozen h = live number h
 with_files a b (Frozen name) number live frozen h = subst (λ f. IsSomeAnd (map.get f name) (λ tree. HasKind tree number File)) frozen h
 
--- whoever logs in
-login_is : (world : World) (session : ℕ) (c : Call) (s : Session) → IsCall c → decision world session c ≡ Ok (Opens s) → IsCaller s
-login_is world session c s numbers e = let r = bind_ok (ready world session c) (outcome_of world) (Opens s) e in told r.0 r.1 r.2
-  where
-    by_call : (c : Call) (s : Session) → IsCall c → ready world session c ≡ Ok (Login s) → IsCaller s
-    by_call (call.Login uid gid groups) s k f =
-        let p = bind_ok (logged_out world session) (λ _. ok (Login (new_session uid gid groups))) (Login s) f in
-        let same : Login (new_session uid gid groups) ≡ Login s = same_ok _ _ p.2 in
-        let session : new_session uid gid groups ≡ s = cc same in
-        subst IsCaller session (record { uid = k.0; gid = k.1 })
-    by_call (call.Mkdir path m) s k f =
-        let p = bind_ok (logged_in world session) (λ x. path_argument path >>= (λ ns. new_mode_argument m >>= (λ bits. ok (Mkdir x ns bits)))) (Login s) f in
-        let q = bind_ok (path_argument path) (λ ns. new_mode_argument m >>= (λ bits. ok (Mkdir p.0 ns bits))) (Login s) p.2 in
-        let r = bind_ok (new_mode_argument m) (λ bits. ok (Mkdir p.0 q.0 bits)) (Login s) q.2 in
-        let never : Mkdir p.0 q.0 r.0 ≡ Login s = same_ok _ _ r.2 in cc
-    by_call (call.Stat path) s k f =
-        let p = bind_ok (logged_in world session) (λ x. path_argument path >>= (λ ns. ok (Stat x ns))) (Login s) f in
-        let q = bind_ok (path_argument path) (λ ns. ok (Stat p.0 ns)) (Login s) p.2 in
-        let never : Stat p.0 q.0 ≡ Login s = same_ok _ _ q.2 in cc
-
-    told : (r : Ready) → ready world session c ≡ Ok r → outcome_of world r ≡ Ok (Opens s) → IsCaller s
-    told (Login x) f g =
-        let same : Opens x ≡ Opens s = same_ok _ _ g in
-        let session : x ≡ s = cc same in
-        subst IsCaller session (by_call c x numbers f)
-    told (Mkdir x names mode) f g = let m = mkdir_makes world.live x names mode (Opens s) g in let never : Opens s ≡ Makes m.0 m.1 m.2 = m.3 in cc
-    told (Stat x names) f g = let t = stat_tells world.live x names (Opens s) g in let never : Opens s ≡ Tells t.0 = t.1 in cc
-
-opened : (world : World) (session : ℕ) (s : Session) → IsWorld version_1 world → IsCaller s → IsWorld version_1 (with_session world session s)
-opened world session s w k = record {
+pub opened : (limits : Limits) (world : World) (session : ℕ) (s : Session) → IsWorld limits world → IsCaller s → IsWorld limits (with_session world session s)
+opened limits world session s w k = record {
   live = w.live;
   frozen = w.frozen;
   few_snapshots = w.few_snapshots;
@@ -101,7 +74,7 @@ opened world session s w k = record {
 }
 
 -- a new node under a new name
-module _ (world : World) (number : ℕ) (link : Link) (node : Node) (w : IsWorld version_1 world) (unused : map.get world.live.nodes number ≡ None) (absent : map.get world.live.links link ≡ None) (whole : IsTree version_1 (with_node world.live number link node)) where
+module _ (limits : Limits) (world : World) (number : ℕ) (link : Link) (node : Node) (w : IsWorld limits world) (unused : map.get world.live.nodes number ≡ None) (absent : map.get world.live.links link ≡ None) (whole : IsTree limits (with_node world.live number link node)) where
   abbrev next : World
   next = with_live world (with_node world.live number link node)
 
@@ -115,7 +88,7 @@ module _ (world : World) (number : ℕ) (link : Link) (node : Node) (w : IsWorld
       told (inl q) = absurd (omega (arith, z, names_for_more world.live link number absent n (sym q)))
       told (inr q) = w.held n (kind_at _ _ File (sym (get_other nat_cmp_total exact_unsigned world.live.nodes number node n q)) h) (sym (names_for_other world.live link number absent n (λ r. q (sym r))) ∙ z)
 
-  pub world_made : IsWorld version_1 (with_live world (with_node world.live number link node))
+  pub world_made : IsWorld limits (with_live world (with_node world.live number link node))
   world_made = record {
     live = whole;
     frozen = w.frozen;
@@ -131,26 +104,40 @@ module _ (world : World) (number : ℕ) (link : Link) (node : Node) (w : IsWorld
     held = held_next;
   }
 
-becomes_world : (old new : World) (session : ℕ) (c : Call) (d : Result Outcome Refusal) (reply : Reply) → decision old session c ≡ d → Becomes old session d reply new → IsCall c → IsWorld version_1 old → IsWorld version_1 new
-becomes_world old new session c (Err r) reply e h numbers w = subst (IsWorld version_1) (sym h.1) w
-becomes_world old new session c (Ok (Tells s)) reply e h numbers w = subst (IsWorld version_1) (sym h.1) w
-becomes_world old new session c (Ok (Opens s)) reply e h numbers w = subst (IsWorld version_1) (sym h.1) (opened old session s w (login_is old session c s numbers e))
-becomes_world old new session c (Ok (Makes directory name node)) reply e h numbers w =
-    let applied = decided_applies old session c directory h.0 name node w numbers e h.1 in
-    subst (IsWorld version_1) (sym h.3) (world_made old h.0 (link_to directory name) node w (least_is_unused old.live h.0 h.1) (decided_absent old session c directory name node e) (tree_kept version_1 (Make directory name h.0 node.kind (ownership_of node)) old.live _ w.live applied))
+pub comes_world : (limits : Limits) (old new : World) (session : ℕ) (c : Call) (o : Outcome) → IsDecided limits old session c o → Comes limits old session o new → IsCall c → IsWorld limits old → IsWorld limits new
+comes_world limits old new session c o (decided.Login s k e) h numbers w =
+    let h' = subst (λ (x : Outcome). Comes limits old session x new) e h in
+    let live : h'.tree ≡ old.live = sym (some_same _ _ h'.applied) in
+    subst (IsWorld limits) (sym (h'.world ∙ ap (λ (t : Tree). with_session (with_live old t) session s) live)) (opened limits old session s w (k numbers))
+comes_world limits old new session c o (decided.Tells a e) h numbers w =
+    let h' = subst (λ (x : Outcome). Comes limits old session x new) e h in
+    let live : h'.tree ≡ old.live = sym (some_same _ _ h'.applied) in
+    subst (IsWorld limits) (sym (h'.world ∙ ap (with_live old) live)) w
+comes_world limits old new session c o (decided.Makes s names mode k b n p) h numbers w =
+    let h' = subst (λ (x : Outcome). Comes limits old session x new) p.made h in
+    let link = link_to p.directory (last_name names) in
+    let given = new_directory s mode (attributes_of old.live p.directory p.parent) p.parent.default_acl in
+    let m = made_is limits old.live link h'.number Directory given h'.tree h'.applied in
+    let whole = tree_kept limits (Make p.directory (last_name names) h'.number Directory given) old.live h'.tree w.live h'.applied in
+    subst (IsWorld limits) (sym (h'.world ∙ ap (with_live old) (sym m.gives)))
+    (world_made limits old h'.number link (node_with Directory given []) w h'.free.unused p.new.absent (subst (IsTree limits) (sym m.gives) whole))
 
-step_world : (old new : World) (session : ℕ) (c : Call) (reply : Reply) → Step old session c reply new → IsCall c → IsWorld version_1 old → IsWorld version_1 new
-step_world old new session c reply (inl h) numbers w = becomes_world old new session c (decision old session c) reply refl h numbers w
-step_world old new session c reply (inr h) numbers w = subst (IsWorld version_1) (sym h.same) w
+becomes_world : (limits : Limits) (old new : World) (session : ℕ) (c : Call) (d : Result Outcome Refusal) (reply : Reply) → decision limits old session c ≡ d → Becomes limits old session d reply new → IsCall c → IsWorld limits old → IsWorld limits new
+becomes_world limits old new session c (Err r) reply e h numbers w = subst (IsWorld limits) (sym h.1) w
+becomes_world limits old new session c (Ok o) reply e h numbers w = comes_world limits old new session c o (decided_is limits old session c o e) h.1 numbers w
 
-event_world : (old new : World) (e : Event) (reply : Reply) → EventStep old e reply new → IsEvent e → IsWorld version_1 old → IsWorld version_1 new
-event_world old new (event.Call session c) reply step numbers w = step_world old new session c reply step numbers w
+pub step_world : (limits : Limits) (old new : World) (session : ℕ) (c : Call) (reply : Reply) → Step limits old session c reply new → IsCall c → IsWorld limits old → IsWorld limits new
+step_world limits old new session c reply (inl h) numbers w = becomes_world limits old new session c (decision limits old session c) reply refl h numbers w
+step_world limits old new session c reply (inr h) numbers w = subst (IsWorld limits) (sym h.same) w
 
-run_from : (old last : World) (events : List Event) (replies : List Reply) → AllByRecursion IsEvent events → Run old events replies last → IsWorld version_1 old → IsWorld version_1 last
-run_from old last [] [] all run w = subst (IsWorld version_1) (sym run) w
-run_from old last [] (reply ∷ replies) all run w = absurd run
-run_from old last (e ∷ events) [] all run w = absurd run
-run_from old last (e ∷ events) (reply ∷ replies) all run w = run_from run.0 last events replies all.1 run.2 (event_world old run.0 e reply run.1 all.0 w)
+event_world : (limits : Limits) (old new : World) (e : Event) (reply : Reply) → EventStep limits old e reply new → IsEvent e → IsWorld limits old → IsWorld limits new
+event_world limits old new (event.Call session c) reply step numbers w = step_world limits old new session c reply step numbers w
+
+run_from : (limits : Limits) (old last : World) (events : List Event) (replies : List Reply) → AllByRecursion IsEvent events → RunBy (EventStep limits) old events replies last → IsWorld limits old → IsWorld limits last
+run_from limits old last [] [] all run w = subst (IsWorld limits) (sym run) w
+run_from limits old last [] (reply ∷ replies) all run w = absurd run
+run_from limits old last (e ∷ events) [] all run w = absurd run
+run_from limits old last (e ∷ events) (reply ∷ replies) all run w = run_from limits run.0 last events replies all.1 run.2 (event_world limits old run.0 e reply run.1 all.0 w)
 
 -- the first world is one
 new_named : (l : Link) (n : ℕ) → map.get new_tree.links l ≡ Some n → ⊥
@@ -204,11 +191,11 @@ new_whole = record {
   };
 }
 
-free_places : (n : ℕ) → AllByRecursion IsPlace (replicate n None)
+pub free_places : (n : ℕ) → AllByRecursion IsPlace (replicate n None)
 free_places zero = tt
 free_places (suc n) = (tt, free_places n)
 
-new_is_world : IsWorld version_1 new_world
+pub new_is_world : IsWorld version_1 new_world
 new_is_world = record {
   live = new_whole;
   frozen = λ name tree e. let never : None ≡ Some tree = sym (map.get-empty (slice_cmp nat_cmp) name) ∙ e in cc;
@@ -220,4 +207,4 @@ new_is_world = record {
 }
 
 pub run_world : (events : List Event) (replies : List Reply) (last : World) → AllByRecursion IsEvent events → Run new_world events replies last → IsWorld version_1 last
-run_world events replies last all run = run_from new_world last events replies all run new_is_world
+run_world events replies last all run = run_from version_1 new_world last events replies all run new_is_world

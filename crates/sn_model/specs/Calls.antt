@@ -1,5 +1,5 @@
 -- Each call as the list of its tests, in their order, with what it comes to where all pass: POSIX.1-2017, mkdir() and stat(); sessions and the order of the tests are rules of this project.
-use Rattle.std.specs.Prelude.{ℕ, true, false, List, [], Option, None, Some, Result, Ok, Err, unwrap_or, if◌then◌else◌}
+use Rattle.std.specs.Prelude.{ℕ, ◌+◌, ◌*◌, true, false, List, [], Option, None, Some, Result, Ok, Err, unwrap_or, if◌then◌else◌}
 use Rattle.sn_acl.specs.declared.entries.Entry.{Entry}
 use Rattle.sn_acl.specs.declared.modes.Mode.{Mode}
 use Rattle.sn_acl.specs.Modes.{mode_of}
@@ -14,8 +14,12 @@ use Rattle.sn_model.specs.declared.call.Call.{Call}
 use Rattle.sn_model.specs.declared.call.Call.TheVariants as call
 use Rattle.sn_model.specs.declared.reply.Errno.TheVariants.{Enoent}
 use Rattle.sn_model.specs.declared.reply.Refusal.{Refusal}
-use Rattle.sn_model.specs.declared.reply.Status.{Status}
-use Rattle.sn_model.specs.Tree.{Node, Tree, viewed}
+use Rattle.sn_model.specs.declared.reply.Reply.TheVariants.{Status}
+use Rattle.sn_model.specs.declared.reply.Status as status
+use Rattle.sn_limits.specs.declared.limits.Limits.{Limits}
+use Rattle.sn_model.specs.declared.change.Ownership.{Ownership}
+use Rattle.sn_model.specs.Outcomes.{Outcome, tells, opens, makes}
+use Rattle.sn_model.specs.Tree.{Tree, link_to, viewed}
 use Rattle.sn_model.specs.declared.session.Session.{Session}
 use Rattle.sn_model.specs.World.{World}
 use Rattle.sn_model.specs.Tests.{◌>>=◌, plain, logged_in, logged_out, path_argument, new_mode_argument, prefix, full, not_present, live, writable_parent, has_room}
@@ -25,15 +29,6 @@ pub data Ready : Type 0 where
   Login : Session → Ready
   Mkdir : Session → List (List ℕ) → Mode → Ready
   Stat : Session → List (List ℕ) → Ready
-
--- what a call comes to
-pub data Outcome : Type 0 where
-  -- the session is opened
-  Opens : Session → Outcome
-  -- a new node, under a name of a directory
-  Makes : ℕ → List ℕ → Node → Outcome
-  -- nothing changes
-  Tells : Status → Outcome
 
 -- the umask of a new session, 0022
 abbrev pub first_umask : Mode
@@ -53,33 +48,32 @@ abbrev pub last_name : List (List ℕ) → List ℕ
 last_name names = unwrap_or (last_of names) []
 
 -- a new directory: its owner is the caller's; its group and S_ISGID are a set-gid parent's, else the group is the caller's; its ACLs are inherited
-abbrev pub new_directory : Session → Mode → Attributes → Option (List Entry) → Node
+abbrev pub new_directory : Session → Mode → Attributes → Option (List Entry) → Ownership
 new_directory session mode parent default_acl = record {
-  kind = Directory;
   owner = session.cred.uid;
   group = if parent.set_gid then parent.group else session.cred.gid;
   set_gid = parent.set_gid;
   sticky = false;
   acl = inherited_access default_acl mode session.umask;
   default_acl = inherited_default default_acl true;
-  bytes = [];
 }
 
 -- mkdir: Prefix; not present; live; w(p); room for a name and a number
-abbrev pub mkdir_outcome : Tree → Session → List (List ℕ) → Mode → Result Outcome Refusal
-mkdir_outcome tree session names mode =
-    prefix tree session.cred 1 names >>= not_present >>= (λ v.
-    live v.0 >>= (λ directory.
-    writable_parent tree session.cred 1 v.1 directory >>= (λ parent.
-    has_room tree directory >>= (λ _.
-    Ok (Makes directory (last_name names) (new_directory session mode parent ((viewed tree).default_acl directory)))))))
+unfoldable pub mkdir_outcome : Limits → Tree → Session → List (List ℕ) → Mode → Result Outcome Refusal
+mkdir_outcome limits tree session names mode = do
+  walked ← prefix tree session.cred 1 names
+  at ← not_present walked
+  directory ← live at.0
+  parent ← writable_parent tree session.cred 1 at.1 directory
+  _ ← has_room limits tree directory
+  Ok (makes (2 * limits.inode_charge + limits.block_charge) (link_to directory (last_name names)) Directory (new_directory session mode parent ((viewed tree).default_acl directory)))
 
 -- the number of an object; that of the directory of snapshots is 1
 abbrev pub number_of : Object → ℕ
 number_of (object.Node number) = number
 number_of object.Hidden = 1
 
-abbrev pub status_of : ℕ → Attributes → Status
+abbrev pub status_of : ℕ → Attributes → status.Status
 status_of number a = record {
   kind = a.kind;
   set_gid = a.set_gid;
@@ -94,13 +88,15 @@ status_of number a = record {
 
 abbrev pub told : ℕ → Option Attributes → Result Outcome Refusal
 told number None = Err (plain Enoent)
-told number (Some a) = Ok (Tells (status_of number a))
+told number (Some a) = Ok (tells (Status (status_of number a)))
 
 -- stat: Full
-abbrev pub stat_outcome : Tree → Session → List (List ℕ) → Result Outcome Refusal
-stat_outcome tree session names = full tree session.cred 1 names >>= (λ o. told (number_of o) (attributes_at (viewed tree) o))
+unfoldable pub stat_outcome : Tree → Session → List (List ℕ) → Result Outcome Refusal
+stat_outcome tree session names = do
+  object ← full tree session.cred 1 names
+  told (number_of object) (attributes_at (viewed tree) object)
 
-abbrev pub outcome_of : World → Ready → Result Outcome Refusal
-outcome_of world (Login session) = Ok (Opens session)
-outcome_of world (Mkdir session names mode) = mkdir_outcome world.live session names mode
-outcome_of world (Stat session names) = stat_outcome world.live session names
+abbrev pub outcome_of : Limits → World → Ready → Result Outcome Refusal
+outcome_of limits world (Login session) = Ok (opens session)
+outcome_of limits world (Mkdir session names mode) = mkdir_outcome limits world.live session names mode
+outcome_of limits world (Stat session names) = stat_outcome world.live session names

@@ -1,5 +1,5 @@
 -- What the definitions of calls come to, said as a user of a file system would say it.
-use Rattle.std.specs.Prelude.{◌≡◌, ◌≢◌, ℕ, List, Some, Ok}
+use Rattle.std.specs.Prelude.{◌≡◌, ◌≢◌, ℕ, ◌<◌, true, List, Some, Ok, is_some}
 use Rattle.std.specs.List.{AllByRecursion}
 use Rattle.std.specs.FinMap as map
 use Rattle.sn_model.specs.declared.call.Call.{Call}
@@ -7,19 +7,18 @@ use Rattle.sn_model.specs.declared.link.Link.{Link}
 use Rattle.sn_model.specs.declared.reply.Refusal.{Refusal}
 use Rattle.sn_model.specs.declared.reply.Reply.{Reply}
 use Rattle.sn_model.specs.declared.reply.Reply.TheVariants.{Refused}
-use Rattle.sn_model.specs.Tree.{Tree, Node, link_to, least_unused, with_node}
+use Rattle.sn_model.specs.Tree.{Tree, Node, with_node}
 use Rattle.sn_model.specs.declared.call.Event.{Event}
 use Rattle.sn_model.specs.World.{World, new_world}
-use Rattle.sn_model.specs.Steps.{Run, Step, decision}
+use Rattle.sn_model.specs.Steps.{IsNumberFor, Run, Step, changed, decision}
 use Rattle.sn_limits.specs.Versions.{version_1}
-use Rattle.sn_model.specs.declared.change.Change.TheVariants.{Make}
-use Rattle.sn_model.specs.Calls.{Makes}
-use Rattle.sn_model.specs.Changes.{apply, ownership_of}
-use Rattle.sn_model.specs.Worlds.{IsCall, IsEvent, IsWorld}
+use Rattle.sn_limits.specs.declared.limits.Limits.{Limits}
+use Rattle.sn_model.specs.Outcomes.{Outcome}
+use Rattle.sn_model.specs.Worlds.{IsEvent, IsWorld}
 
 -- Whatever a call is refused for, the world stays as it was.
 abbrev pub RefusalsChangeNothing : Type 0
-RefusalsChangeNothing = (old new : World) (session : ℕ) (c : Call) (refusal : Refusal) → Step old session c (Refused refusal) new → new ≡ old
+RefusalsChangeNothing = (limits : Limits) (old new : World) (session : ℕ) (c : Call) (refusal : Refusal) → Step limits old session c (Refused refusal) new → new ≡ old
 
 -- A name leads to the new node, and every other name and node stays.
 pub record OneMore (old new : Tree) (number : ℕ) (link : Link) (node : Node) : Type 0 where
@@ -31,11 +30,10 @@ pub record OneMore (old new : Tree) (number : ℕ) (link : Link) (node : Node) :
 abbrev pub MakesOneMore : Type 0
 MakesOneMore = (tree : Tree) (number : ℕ) (link : Link) (node : Node) → OneMore tree (with_node tree number link node) number link node
 
--- What a call has decided can be applied, with the number that the machine chooses, and gives what the machine makes of it.
+-- What a call has decided can be applied, whatever number the machine chooses.
 abbrev pub DecidedChangesApply : Type 0
-DecidedChangesApply = (world : World) (session : ℕ) (c : Call) (directory number : ℕ) (name : List ℕ) (node : Node) → IsWorld version_1 world → IsCall c
-    → decision world session c ≡ Ok (Makes directory name node) → least_unused world.live ≡ Some number
-    → apply version_1 (Make directory name number node.kind (ownership_of node)) world.live ≡ Some (with_node world.live number (link_to directory name) node)
+DecidedChangesApply = (limits : Limits) (world : World) (session : ℕ) (c : Call) (o : Outcome) (number : ℕ) → 0 < limits.links → IsWorld limits world
+    → decision limits world session c ≡ Ok o → IsNumberFor limits world.live number o.change → is_some (changed limits number o.change world.live) ≡ true
 
 -- Whatever is called, the world stays one: its trees are name trees, open files are there, and nobody is logged in with a number that isn't one.
 abbrev pub RunsKeepTheWorld : Type 0

@@ -7,7 +7,10 @@ pub mod Settling
 pub mod Covers
 pub mod ChangeLaws
 pub mod Worlds
+pub mod Outcomes
 pub mod Tests
 pub mod Calls
 pub mod Steps
+pub mod Machine
 pub mod Laws
+pub mod MachineLaws

@@ -1,35 +1,68 @@
 -- The machine: what a call may answer, and the world that it leaves.
-use Rattle.std.specs.Prelude.{◌≡◌, ◌⊎◌, ℕ, List, [], ◌∷◌, Some, Result, Ok, Err, IsOk, slice_set}
+use Rattle.std.specs.Prelude.{◌≡◌, ◌⊎◌, ℕ, ◌≤◌, ◌<◌, List, [], ◌∷◌, Option, None, Some, Result, Ok, Err, IsOk, slice_set}
+use Rattle.std.specs.FinMap as map
+use Rattle.sn_limits.specs.declared.limits.Limits.{Limits}
+use Rattle.sn_limits.specs.Versions.{version_1}
 use Rattle.sn_model.specs.declared.call.Call.{Call}
 use Rattle.sn_model.specs.declared.call.Call.TheVariants as call
 use Rattle.sn_model.specs.declared.call.Event.{Event}
 use Rattle.sn_model.specs.declared.call.Event.TheVariants as event
+use Rattle.sn_model.specs.declared.change.Change.TheVariants.{Make}
 use Rattle.sn_model.specs.declared.reply.Errno.TheVariants.{Enomem}
 use Rattle.sn_model.specs.declared.reply.Refusal.{Refusal}
 use Rattle.sn_model.specs.declared.reply.Reply.{Reply}
-use Rattle.sn_model.specs.declared.reply.Reply.TheVariants.{Done, Status, Refused}
-use Rattle.sn_model.specs.Tree.{Tree, link_to, least_unused, with_node}
+use Rattle.sn_model.specs.declared.reply.Reply.TheVariants.{Refused}
 use Rattle.sn_model.specs.declared.session.Session.{Session}
+use Rattle.sn_model.specs.Tree.{Tree}
 use Rattle.sn_model.specs.World.{World}
+use Rattle.sn_model.specs.Changes.{apply}
+use Rattle.sn_model.specs.Outcomes.{Pending, Nothing, Makes, Does, Caller, Stays, LogsIn, Outcome}
 use Rattle.sn_model.specs.Tests.{◌>>=◌, plain}
-use Rattle.sn_model.specs.Calls.{Outcome, Opens, Makes, Tells, ready, outcome_of}
+use Rattle.sn_model.specs.Calls.{ready, outcome_of}
 
 -- the first refusal of a call, or what it comes to
-abbrev pub decision : World → ℕ → Call → Result Outcome Refusal
-decision world session c = ready world session c >>= outcome_of world
+abbrev pub decision : Limits → World → ℕ → Call → Result Outcome Refusal
+decision limits world session c = ready world session c >>= outcome_of limits world
 
 abbrev pub with_session : World → ℕ → Session → World
 with_session world session s = record world { sessions = slice_set world.sessions session (Some s) }
 
+abbrev pub with_caller : World → ℕ → Caller → World
+with_caller world session Stays = world
+with_caller world session (LogsIn s) = with_session world session s
+
 abbrev pub with_live : World → Tree → World
 with_live world tree = record world { live = tree }
 
--- a decision becomes this reply and this world; a new node's number is the least unused one
-abbrev pub Becomes : World → ℕ → Result Outcome Refusal → Reply → World → Type 0
-Becomes world session (Err refusal) reply new = (reply ≡ Refused refusal) × (new ≡ world)
-Becomes world session (Ok (Opens s)) reply new = (reply ≡ Done) × (new ≡ with_session world session s)
-Becomes world session (Ok (Tells status)) reply new = (reply ≡ Status status) × (new ≡ world)
-Becomes world session (Ok (Makes directory name node)) reply new = (number : ℕ) × (least_unused world.live ≡ Some number) × (reply ≡ Done) × (new ≡ with_live world (with_node world.live number (link_to directory name) node))
+-- a number for a new node: no node has it
+pub record IsNumber (limits : Limits) (tree : Tree) (number : ℕ) : Type 0 where
+  pub first : 2 < number
+  pub within : number ≤ limits.largest_number
+  pub unused : map.get tree.nodes number ≡ None
+
+abbrev pub IsNumberFor : Limits → Tree → ℕ → Pending → Type 0
+IsNumberFor limits tree number Nothing = Unit {0}
+IsNumberFor limits tree number (Makes link kind o) = IsNumber limits tree number
+IsNumberFor limits tree number (Does c) = Unit {0}
+
+-- what a call's change does to the live tree, a new node's number filled in
+abbrev pub changed : Limits → ℕ → Pending → Tree → Option Tree
+changed limits number Nothing tree = Some tree
+changed limits number (Makes link kind o) tree = apply limits (Make link.directory link.name number kind o) tree
+changed limits number (Does c) tree = apply limits c tree
+
+-- an outcome becomes a world; the machine chooses a new node's number
+pub record Comes (limits : Limits) (old : World) (session : ℕ) (o : Outcome) (new : World) : Type 0 where
+  pub number : ℕ
+  pub free : IsNumberFor limits old.live number o.change
+  pub tree : Tree
+  pub applied : changed limits number o.change old.live ≡ Some tree
+  pub world : new ≡ with_caller (with_live old tree) session o.caller
+
+-- a decision becomes this reply and this world
+abbrev pub Becomes : Limits → World → ℕ → Result Outcome Refusal → Reply → World → Type 0
+Becomes limits world session (Err refusal) reply new = (reply ≡ Refused refusal) × (new ≡ world)
+Becomes limits world session (Ok o) reply new = (reply ≡ o.told) × Comes limits world session o new
 
 -- the calls that may find no memory
 abbrev pub TakesMemory : Call → Type 0
@@ -45,15 +78,19 @@ pub record LacksMemory (world : World) (session : ℕ) (c : Call) (reply : Reply
   pub same : new ≡ world
 
 -- From old, the machine may give this reply to a call and go on to new.
-abbrev pub Step : World → ℕ → Call → Reply → World → Type 0
-Step old session c reply new = Becomes old session (decision old session c) reply new ⊎ LacksMemory old session c reply new
+abbrev pub Step : Limits → World → ℕ → Call → Reply → World → Type 0
+Step limits old session c reply new = Becomes limits old session (decision limits old session c) reply new ⊎ LacksMemory old session c reply new
 
-abbrev pub EventStep : World → Event → Reply → World → Type 0
-EventStep old (event.Call session c) reply new = Step old session c reply new
+abbrev pub EventStep : Limits → World → Event → Reply → World → Type 0
+EventStep limits old (event.Call session c) reply new = Step limits old session c reply new
 
--- The machine may give these replies to these events, one after the other.
+-- Steps of a kind give these replies to these events, one after the other.
+abbrev pub RunBy : (World → Event → Reply → World → Type 0) → World → List Event → List Reply → World → Type 0
+RunBy Steps old [] [] new = new ≡ old
+RunBy Steps old (e ∷ events) (reply ∷ replies) new = (mid : World) × Steps old e reply mid × RunBy Steps mid events replies new
+RunBy Steps old [] (reply ∷ replies) new = ⊥
+RunBy Steps old (e ∷ events) [] new = ⊥
+
+-- The machine of version 1 may give these replies to these events.
 abbrev pub Run : World → List Event → List Reply → World → Type 0
-Run old [] [] new = new ≡ old
-Run old (e ∷ events) (reply ∷ replies) new = (mid : World) × EventStep old e reply mid × Run mid events replies new
-Run old [] (reply ∷ replies) new = ⊥
-Run old (e ∷ events) [] new = ⊥
+Run = RunBy (EventStep version_1)

@@ -24,6 +24,7 @@ use Rattle.sn_model.specs.declared.reply.Errno.{Errno}
 use Rattle.sn_model.specs.declared.reply.Errno.TheVariants.{Eacces, Enoent, Enotdir, Eexist, Einval, Enametoolong, Erofs, Ebusy, Ebadf, Elimit}
 use Rattle.sn_model.specs.declared.reply.Rule.TheVariants as rule
 use Rattle.sn_model.specs.declared.reply.Refusal.{Refusal}
+use Rattle.sn_limits.specs.declared.limits.Limits.{Limits}
 use Rattle.sn_model.specs.Tree.{Tree, viewed, names_in, least_unused}
 use Rattle.sn_model.specs.declared.session.Session.{Session}
 use Rattle.sn_model.specs.World.{World}
@@ -146,5 +147,5 @@ abbrev pub writable_parent : Tree → Credential → ℕ → ℕ → ℕ → Res
 writable_parent tree cred path place directory = granted cred path place write (attributes_at (viewed tree) (object.Node directory))
 
 -- a directory may get one more name, of a new node
-abbrev pub has_room : Tree → ℕ → Result (Unit {0}) Refusal
-has_room tree directory = if is_none (least_unused tree) then Err (plain Elimit) else (if nat_le 65535 (names_in tree directory) then Err (plain Elimit) else Ok tt)
+abbrev pub has_room : Limits → Tree → ℕ → Result (Unit {0}) Refusal
+has_room limits tree directory = if is_none (least_unused limits tree) then Err (plain Elimit) else (if nat_le limits.names (names_in tree directory) then Err (plain Elimit) else Ok tt)

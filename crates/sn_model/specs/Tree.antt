@@ -1,5 +1,5 @@
 -- The name tree. A tree is two finite maps: from a number to its node, and from a directory and a name to the number that the name stands for.
-use Rattle.std.specs.Prelude.{ℕ, zero, suc, ◌+◌, Bool, ◌==◌, List, length, Option, None, Some, count_by, if◌then◌else◌}
+use Rattle.std.specs.Prelude.{ℕ, zero, suc, ◌+◌, ◌-◌, Bool, ◌==◌, List, length, Option, None, Some, count_by, if◌then◌else◌}
 use Rattle.std.specs.declared.cmp.Ordering.{Ordering}
 use Rattle.std.specs.Ordering.{nat_cmp, ordering_then}
 use Rattle.std.specs.Option.{option_map, option_and_then, is_some}
@@ -10,6 +10,7 @@ use Rattle.sn_walk.specs.declared.view.Kind.{Kind}
 use Rattle.sn_walk.specs.declared.view.Kind.TheVariants.{File, Directory}
 use Rattle.sn_walk.specs.declared.view.Attributes.{Attributes}
 use Rattle.sn_walk.specs.Views.{ViewedTree}
+use Rattle.sn_limits.specs.declared.limits.Limits.{Limits}
 use Rattle.sn_model.specs.declared.link.Link.{Link}
 
 -- A node: what <sys/stat.h> of POSIX.1-2017 has of owners, modes and bytes, and the two ACLs of acl(5).
@@ -76,9 +77,9 @@ unfoldable pub unused_from : map.FinMap nat_cmp Node → ℕ → ℕ → Option 
 unused_from nodes first zero = None
 unused_from nodes first (suc more) = if is_some (map.get nodes first) then unused_from nodes (first + 1) more else Some first
 
--- the least unused number of 2 to 65,535
-unfoldable pub least_unused : Tree → Option ℕ
-least_unused tree = unused_from tree.nodes 2 65534
+-- the least unused number, from the root's on
+unfoldable pub least_unused : Limits → Tree → Option ℕ
+least_unused limits tree = unused_from tree.nodes 2 (limits.largest_number - 1)
 
 -- the tree with a new node under a new name
 abbrev pub with_node : Tree → ℕ → Link → Node → Tree

@@ -1,4 +1,5 @@
 ghost use Rattle.sn_model.specs.ChangeLaws.{ChangesBring, ChangesKeepCovers, ChangesKeepTheTree, CoveredSettleAlike, CoversItself, CoversJoin, DroppingKeepsCovers, DroppingKeepsTheTree, ListsJoin, ListsKeepCovers, ListsKeepTheTree, TestIsBelow};
+ghost use Rattle.sn_model.specs.MachineLaws.{CallsKeepTheState, RestartsKeepTheState};
 ghost use Rattle.sn_model.specs.Laws.{DecidedChangesApply, MakesOneMore, RefusalsChangeNothing, RunsKeepTheWorld};
 
 /// Whatever a call is refused for, the world stays as it was.
@@ -20,6 +21,17 @@ pub fn decided_changes_apply()
 /// has numbers of 32 bits, open files are there, and a live file without a name is held.
 pub fn runs_keep_the_world()
     ensures { RunsKeepTheWorld }
+{}
+
+/// Whatever a call is answered, also where no room is found or the device stops the machine, a world
+/// follows, or two settled ones that the next mount may find.
+pub fn calls_keep_the_state()
+    ensures { CallsKeepTheState }
+{}
+
+/// A restart gives a world, in which nobody is logged in and no file is without a name.
+pub fn restarts_keep_the_state()
+    ensures { RestartsKeepTheState }
 {}
 
 /// What a change brings is there afterwards: names, owners, ACLs, bytes.

@@ -11,10 +11,12 @@
 //! 5. `Settling`: files without names, and what a restart leaves of a world.
 //! 6. `Covers`: what replay makes, against the live tree.
 //! 7. `Tests`: the tests that calls are made of, each of which refuses or hands on what it found.
-//! 8. `Calls`: each call as the list of its tests, and what it comes to where all of them pass.
+//! 8. `Outcomes` and `Calls`: each call as the list of its tests, and what it comes to where all of
+//!    them pass: a charge, a change, what becomes of the session, and what is told.
 //! 9. `Steps`: what a call may answer and the world that it leaves, and runs over lists of events.
-//! 10. `Laws` and `ChangeLaws`: what follows from these in the subject's own words, each named by the
-//!     contract of a function of `laws`.
+//! 10. `Machine`: a mount that runs, or one that a failure has stopped, and what a restart may find.
+//! 11. `Worlds`, `Laws`, `ChangeLaws` and `MachineLaws`: what follows from these in the subject's own words, each
+//!     named by the contract of a function of `laws`.
 //!
 //! A call is added by a variant of [`Call`] and one equation each in `ready`, `outcome_of` and
 //! `TakesMemory`.
@@ -33,10 +35,10 @@ pub use call::{Call, Event};
 pub use change::{Bytes, Change, Ownership};
 pub use groups::Groups;
 pub use laws::{
-    changes_bring, changes_keep_covers, changes_keep_the_tree, covered_settle_alike, covers_itself,
-    covers_join, decided_changes_apply, dropping_keeps_covers, dropping_keeps_the_tree, lists_join,
-    lists_keep_covers, lists_keep_the_tree, makes_one_more, refusals_change_nothing,
-    runs_keep_the_world, test_is_below,
+    calls_keep_the_state, changes_bring, changes_keep_covers, changes_keep_the_tree,
+    covered_settle_alike, covers_itself, covers_join, decided_changes_apply, dropping_keeps_covers,
+    dropping_keeps_the_tree, lists_join, lists_keep_covers, lists_keep_the_tree, makes_one_more,
+    refusals_change_nothing, restarts_keep_the_state, runs_keep_the_world, test_is_below,
 };
 pub use link::Link;
 pub use reply::{Access, Denial, End, Errno, MountFault, Refusal, Reply, Rule, Status};

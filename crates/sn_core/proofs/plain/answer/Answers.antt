@@ -12,6 +12,7 @@ loop-event-preserved c =
     record {
       run = rw (events, c.push_reserved.ensures.items) more;
       sound = c.answer-reply.ensures.sound;
+      whole = c.answer-reply.ensures.whole;
       count = search rules;
       room = search rules;
     }

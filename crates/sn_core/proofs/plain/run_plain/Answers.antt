@@ -1,9 +1,14 @@
 use Rattle.std.proofs.Common.{subst}
-use Rattle.sn_model.specs.Steps.{Run}
 use Rattle.sn_model.specs.World.{World}
 use Rattle.sn_core.specs.Plain.{world_of}
+use Rattle.sn_core.specs.PlainRuns.{PlainRun}
+use Rattle.sn_core.proofs.StepLemmas.{machine_run}
 use Rattle.sn_core.proofs.plain.run_plain.Goals as goal
 
 pub returns-clause-clean : goal.returns-clause-clean
 returns-clause-clean c = λ _.
-    (world_of c.answer.new.world, subst (λ (w : World). Run w c.args.events.now c.answer.new.replies.items (world_of c.answer.new.world)) c.in-Ok-new.ensures.world c.answer.ensures)
+    (world_of c.answer.new.world, machine_run _ _ _ _ (subst (λ (w : World). PlainRun w c.args.events.now c.answer.new.replies.items (world_of c.answer.new.world)) c.in-Ok-new.ensures.world c.answer.ensures))
+
+pub returns-clause-least : goal.returns-clause-least
+returns-clause-least c = λ _.
+    (world_of c.answer.new.world, subst (λ (w : World). PlainRun w c.args.events.now c.answer.new.replies.items (world_of c.answer.new.world)) c.in-Ok-new.ensures.world c.answer.ensures)
