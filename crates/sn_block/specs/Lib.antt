@@ -1,0 +1,5 @@
+pub mod Blocks
+pub mod Cache
+pub mod Counts
+pub mod Effects
+pub mod Lending

@@ -1,0 +1,135 @@
+//! A device with its cache.
+ghost use Rattle.std.specs.Prelude.{◌≡◌, ◌+◌, ◌*◌, ◌/◌, ◌<◌, ◌≤◌, Some, IsTrue, IsSome, IsOk, IfOk, IfErr, IfSome, OnOk, OnErr};
+ghost use Rattle.std.specs.Borrow.{sem};
+ghost use Rattle.sn_device.specs.Disk.{reads};
+ghost use Rattle.sn_block.specs.Blocks.{block_at};
+ghost use Rattle.sn_block.specs.Cache.{entries_of, Coheres};
+ghost use Rattle.sn_block.specs.Counts.{Calls, Reads, FailsRead};
+ghost use Rattle.sn_block.specs.Effects.{WritesSector, SyncsAll};
+
+use crate::cache::Cache;
+use crate::{Block, ReadFault};
+use sn_device::{Device, Fault, SECTOR_SIZE, Sector, Status};
+use std::alloc::{AllocFailed, Global};
+
+/// A device with its blocks in a cache.
+#[derive(Drop)]
+pub struct Blocks<D: Device> {
+    device: D,
+    cache: Cache,
+    ghost coheres: { IsTrue D.Device.tells_bytes → Coheres (reads (D.Device.disk device)) (entries_of cache) },
+}
+
+impl<D: Device> Blocks<D> {
+    ghost use Rattle.sn_block.specs.Lending.{device_of, keeps, lent_number, lent_bytes, ends_as_read};
+
+    /// Keeps no block yet. Where there is no memory for the cache, the device comes back as it was.
+    pub fn new(alloc: Global, device: D) -> Result<Self, AllocFailed<D>>
+        ensures device { IfOk result (λ blocks. device_of blocks ≡ device) }
+        ensures value_returned { IfErr result (λ refused. refused.value ≡ device) }
+    {
+        match Cache::new(alloc) {
+            Ok(cache) => Ok(Blocks { device, cache }),
+            Err(_) => Err(AllocFailed { value: device }),
+        }
+    }
+
+    /// The device, as the calls left it.
+    pub fn into_device(self) -> D
+        ensures { result ≡ device_of self }
+    {
+        let Blocks { device, cache } = self;
+        drop(cache);
+        device
+    }
+
+    /// What the device tells of itself.
+    pub fn status(&self) -> Status
+        ensures { result ≡ D.status (device_of self.now) }
+    {
+        self.device.status()
+    }
+
+    /// The number of sectors of the device.
+    pub fn sectors(&self) -> u64
+        ensures { result ≡ (D.status (device_of self.now)).sectors }
+    {
+        self.device.sectors()
+    }
+
+    /// Reads a block if it isn't kept. At `Ok` it is the one that `fetched` lends.
+    pub fn fetch(&mut self, number: u32) -> Result<(), ReadFault>
+        requires room { 8 * number + 8 ≤ (D.status (device_of self.old)).sectors }
+        ensures lent { OnOk result (lent_number self.new ≡ Some number) }
+        ensures same { IsTrue D.tells_bytes → D.disk (device_of self.new) ≡ D.disk (device_of self.old) }
+        ensures counts { Reads result (D.status (device_of self.old)) (D.status (device_of self.new)) }
+        ensures kept { IsTrue (keeps self.old number) → IsOk result }
+    {
+        if self.cache.find(u64::from(number)) {
+            return Ok(());
+        }
+        let mut block = self.cache.take_room()?;
+        read_sectors(&mut self.device, number, &mut block)?;
+        self.cache.put(u64::from(number), block)?;
+        Ok(())
+    }
+
+    /// The block that was fetched last.
+    pub fn fetched(&self) -> &Block
+        requires { IsSome (lent_number self.now) }
+        ensures value { result.now ≡ lent_bytes self.now }
+        ensures bytes { IsTrue D.tells_bytes → IfSome (lent_number self.now)
+            (λ number. result.now ≡ block_at (reads (D.disk (device_of self.now))) number) }
+    {
+        self.cache.first()
+    }
+
+    /// Fetches a block and lends it.
+    pub fn read_block(&mut self, number: u32) -> Result<&Block, ReadFault>
+        requires room { 8 * number + 8 ≤ (D.status (device_of self.old)).sectors }
+        ensures* lends { sem 𝓛 (ends_as_read D.row D.Device result self.entry) }
+        ensures bytes { IsTrue D.tells_bytes → IfOk result
+            (λ block. block.now ≡ block_at (reads (D.disk (device_of self.old))) number) }
+        ensures kept { IsTrue (keeps self.old number) → IsOk result }
+    {
+        self.fetch(number)?;
+        Ok(self.fetched())
+    }
+
+    /// Writes a sector.
+    pub fn write_sector(&mut self, at: u64, sector: &Sector) -> Result<(), Fault>
+        requires room { at < (D.status (device_of self.old)).sectors }
+        ensures disk { IsTrue D.tells_bytes → WritesSector at sector.now result
+            (D.disk (device_of self.old)) (D.disk (device_of self.new)) }
+        ensures counts { Calls 1 0 result (D.status (device_of self.old)) (D.status (device_of self.new)) }
+    {
+        self.cache.forget(at / 8);
+        self.device.write(at, sector)
+    }
+
+    /// Syncs.
+    pub fn sync(&mut self) -> Result<(), Fault>
+        ensures disk { IsTrue D.tells_bytes → SyncsAll result
+            (D.disk (device_of self.old)) (D.disk (device_of self.new)) }
+        ensures counts { Calls 0 1 result (D.status (device_of self.old)) (D.status (device_of self.new)) }
+    {
+        self.device.sync()
+    }
+}
+
+// Reads the eight sectors of a block.
+fn read_sectors<D: Device>(device: &mut D, number: u32, block: &mut Block) -> Result<(), Fault>
+    requires room { 8 * number + 8 ≤ (D.status device.old).sectors }
+    ensures bytes { IsTrue D.tells_bytes
+        → OnOk result (block.new ≡ block_at (reads (D.disk device.old)) number) }
+    ensures same { IsTrue D.tells_bytes → D.disk device.new ≡ D.disk device.old }
+    ensures done { OnOk result (D.status device.new ≡ D.status device.old) }
+    ensures failed { OnErr result (FailsRead (D.status device.old) (D.status device.new)) }
+{
+    for i in 0..8 {
+        let mut sector = [0; 512];
+        device.read(8 * u64::from(number) + i as u64, &mut sector)?;
+        block[SECTOR_SIZE * i..SECTOR_SIZE * i + SECTOR_SIZE].copy_from_slice(&sector);
+    }
+    Ok(())
+}
