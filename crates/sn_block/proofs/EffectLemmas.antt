@@ -3,18 +3,27 @@ use Rattle.std.proofs.Common.{⊎_elim, ℕ, ◌/◌, List, Result, Ok, Err, OnO
 use Rattle.sn_device.specs.Sectors.{Single}
 use Rattle.sn_device.specs.Disk.{Disk, reads}
 use Rattle.sn_device.specs.Device.{Writes, Syncs}
+use Rattle.sn_device.specs.Crash.{Touches}
 use Rattle.sn_device.specs.declared.status.Status.{Status}
 use Rattle.sn_device.proofs.CallLemmas.{Writes-cases, Syncs-cases, Touches-write, Touches-sync}
-use Rattle.sn_device.proofs.CrashLemmas.{Touches-start}
+use Rattle.sn_device.proofs.CrashLemmas.{Touches-start, Touches-join, Touches-within}
 use Rattle.sn_block.specs.Blocks.{block_at}
 use Rattle.sn_block.specs.Cache.{Entry, HasOnlyOthers, Coheres}
 use Rattle.sn_block.specs.Effects.{Nowhere, WritesSector, SyncsAll}
 use Rattle.sn_block.proofs.BlockLemmas.{block_at-set_other}
 
+-- calls that write nothing keep what was touched
+pub Touches-settled : (F : ℕ → Type 0) (old mid new : Disk) → Touches F old mid → Touches Nowhere mid new → Touches F old new
+Touches-settled F old mid new wrote settled = Touches-join F old mid new wrote (Touches-within Nowhere F mid new (λ i none. absurd none) settled)
+
 module _ {T E : Type 0} where
   pub OnOk-then : {P Q : Type 0} (r : Result T E) → (P → Q) → OnOk r P → OnOk r Q
   OnOk-then (Ok x) then is = then is
   OnOk-then (Err e) then is = tt
+
+  pub OnOk-always : {P : Type 0} (r : Result T E) → P → OnOk r P
+  OnOk-always (Ok x) is = is
+  OnOk-always (Err e) is = tt
 
   pub WritesSector-write : (at : ℕ) (bytes : List ℕ) (r : Result T E) (old new : Disk) (status : Status) → Writes at bytes r old new status → WritesSector at bytes r old new
   WritesSector-write at bytes r old new status call = record {

@@ -1,11 +1,11 @@
 //! A device with its cache.
-ghost use Rattle.std.specs.Prelude.{◌≡◌, ◌+◌, ◌*◌, ◌/◌, ◌<◌, ◌≤◌, Some, IsTrue, IsSome, IsOk, IfOk, IfErr, IfSome, OnOk, OnErr};
+ghost use Rattle.std.specs.Prelude.{◌≡◌, ◌+◌, ◌*◌, ◌/◌, ◌%◌, ◌<◌, ◌≤◌, length, replicate, Some, IsTrue, IsSome, IsOk, IfOk, IfErr, IfSome, OnOk, OnErr};
 ghost use Rattle.std.specs.Borrow.{sem};
 ghost use Rattle.sn_device.specs.Disk.{reads};
 ghost use Rattle.sn_block.specs.Blocks.{block_at};
 ghost use Rattle.sn_block.specs.Cache.{entries_of, Coheres};
 ghost use Rattle.sn_block.specs.Counts.{Calls, Reads, FailsRead};
-ghost use Rattle.sn_block.specs.Effects.{WritesSector, SyncsAll};
+ghost use Rattle.sn_block.specs.Effects.{WritesSector, WritesRun, WritesSynced, SyncsAll};
 
 use crate::cache::Cache;
 use crate::{Block, ReadFault};
@@ -105,6 +105,61 @@ impl<D: Device> Blocks<D> {
     {
         self.cache.forget(at / 8);
         self.device.write(at, sector)
+    }
+
+    /// Writes a run of sectors, in their order.
+    pub fn write_run(&mut self, at: u64, bytes: &[u8]) -> Result<(), Fault>
+        requires whole { length bytes.now % 512 ≡ 0 }
+        requires room { at + length bytes.now / 512 ≤ (D.status (device_of self.old)).sectors }
+        ensures disk { IsTrue D.tells_bytes → WritesRun at (length bytes.now / 512) bytes.now result
+            (D.disk (device_of self.old)) (D.disk (device_of self.new)) }
+        ensures counts { Calls (length bytes.now / 512) 0 result
+            (D.status (device_of self.old)) (D.status (device_of self.new)) }
+    {
+        // It bounds the numbers of the sectors.
+        let _sectors = self.sectors();
+        for i in 0..bytes.len() / SECTOR_SIZE {
+            let mut sector = [0; 512];
+            sector.copy_from_slice(&bytes[SECTOR_SIZE * i..SECTOR_SIZE * i + SECTOR_SIZE]);
+            self.write_sector(at + i as u64, &sector)?;
+        }
+        Ok(())
+    }
+
+    /// Writes the eight sectors of a block, in their order.
+    pub fn write_block(&mut self, number: u32, block: &Block) -> Result<(), Fault>
+        requires room { 8 * number + 8 ≤ (D.status (device_of self.old)).sectors }
+        ensures disk { IsTrue D.tells_bytes → WritesRun (8 * number) 8 block.now result
+            (D.disk (device_of self.old)) (D.disk (device_of self.new)) }
+        ensures counts { Calls 8 0 result (D.status (device_of self.old)) (D.status (device_of self.new)) }
+    {
+        self.write_run(8 * u64::from(number), block.as_slice())
+    }
+
+    /// Writes zeros over so many sectors, in their order.
+    pub fn zero_range(&mut self, at: u64, count: u64) -> Result<(), Fault>
+        requires room { at + count ≤ (D.status (device_of self.old)).sectors }
+        ensures disk { IsTrue D.tells_bytes → WritesRun at count (replicate (512 * count) 0) result
+            (D.disk (device_of self.old)) (D.disk (device_of self.new)) }
+        ensures counts { Calls count 0 result (D.status (device_of self.old)) (D.status (device_of self.new)) }
+    {
+        // It bounds the numbers of the sectors.
+        let _sectors = self.sectors();
+        for i in 0..count {
+            self.write_sector(at + i, &[0; 512])?;
+        }
+        Ok(())
+    }
+
+    /// Writes a sector, and syncs.
+    pub fn write_synced(&mut self, at: u64, sector: &Sector) -> Result<(), Fault>
+        requires room { at < (D.status (device_of self.old)).sectors }
+        ensures disk { IsTrue D.tells_bytes → WritesSynced at sector.now result
+            (D.disk (device_of self.old)) (D.disk (device_of self.new)) }
+        ensures counts { Calls 1 1 result (D.status (device_of self.old)) (D.status (device_of self.new)) }
+    {
+        self.write_sector(at, sector)?;
+        self.sync()
     }
 
     /// Syncs.

@@ -3,6 +3,7 @@
 
 mod blocks;
 mod cache;
+pub mod examples;
 mod fault;
 
 pub use blocks::Blocks;
