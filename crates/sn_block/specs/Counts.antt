@@ -10,7 +10,7 @@ abbrev pub called : ℕ → ℕ → Status → Status
 called w y s = record s { writes = s.writes + w; syncs = s.syncs + y }
 
 -- At `Ok` so many writes and syncs were made, none of which failed. Before a fault there were at most as many, and it has a cause.
-pub record Calls {T E : Type 0} (w y : ℕ) (result : Result T E) (old new : Status) : Type 0 where
+pub record CountsCalls {T E : Type 0} (w y : ℕ) (result : Result T E) (old new : Status) : Type 0 where
   pub done : OnOk result (new ≡ called w y old)
   pub sectors : new.sectors ≡ old.sectors
   pub writes : (old.writes ≤ new.writes) × (new.writes ≤ old.writes + w)
@@ -23,7 +23,7 @@ abbrev pub FailsRead : Status → Status → Type 0
 FailsRead old new = MatchBool (has_ended old) (new ≡ old) (new ≡ one_failure old)
 
 -- A read of a block counts nothing but the failure of the device, and that where it isn't at its end.
-pub record Reads {T : Type 0} (result : Result T ReadFault) (old new : Status) : Type 0 where
+pub record CountsRead {T : Type 0} (result : Result T ReadFault) (old new : Status) : Type 0 where
   pub done : OnOk result (new ≡ old)
   pub memory : result ≡ Err Memory → new ≡ old
   pub device : result ≡ Err Device → FailsRead old new

@@ -2,4 +2,5 @@ pub mod Blocks
 pub mod Cache
 pub mod Counts
 pub mod Effects
+pub mod Fault
 pub mod Lending

@@ -1,10 +1,10 @@
-//! A device with its cache.
+//! A device with the cache of its blocks.
 ghost use Rattle.std.specs.Prelude.{◌≡◌, ◌+◌, ◌*◌, ◌/◌, ◌%◌, ◌<◌, ◌≤◌, length, replicate, Some, IsTrue, IsSome, IsOk, IfOk, IfErr, IfSome, OnOk, OnErr};
 ghost use Rattle.std.specs.Borrow.{sem};
 ghost use Rattle.sn_device.specs.Disk.{reads};
 ghost use Rattle.sn_block.specs.Blocks.{block_at};
 ghost use Rattle.sn_block.specs.Cache.{entries_of, Coheres};
-ghost use Rattle.sn_block.specs.Counts.{Calls, Reads, FailsRead};
+ghost use Rattle.sn_block.specs.Counts.{CountsCalls, CountsRead, FailsRead};
 ghost use Rattle.sn_block.specs.Effects.{WritesSector, WritesRun, WritesSynced, SyncsAll};
 
 use crate::cache::Cache;
@@ -12,7 +12,7 @@ use crate::{Block, ReadFault};
 use sn_device::{Device, Fault, SECTOR_SIZE, Sector, Status};
 use std::alloc::{AllocFailed, Global};
 
-/// A device with its blocks in a cache.
+/// A device with a cache of its blocks. Block b is the sectors from 8 b to 8 b + 7.
 #[derive(Drop)]
 pub struct Blocks<D: Device> {
     device: D,
@@ -21,9 +21,10 @@ pub struct Blocks<D: Device> {
 }
 
 impl<D: Device> Blocks<D> {
-    ghost use Rattle.sn_block.specs.Lending.{device_of, keeps, lent_number, lent_bytes, ends_as_read};
+    ghost use Rattle.sn_block.specs.Lending.{device_of, keeps, fetched_number, fetched_bytes, ends_as_read};
 
-    /// Keeps no block yet. Where there is no memory for the cache, the device comes back as it was.
+    /// Takes the memory for the cache, which keeps no block yet, and calls nothing of the device. Where
+    /// memory is refused, the device comes back as it was.
     pub fn new(alloc: Global, device: D) -> Result<Self, AllocFailed<D>>
         ensures device { IfOk result (λ blocks. device_of blocks ≡ device) }
         ensures value_returned { IfErr result (λ refused. refused.value ≡ device) }
@@ -57,12 +58,14 @@ impl<D: Device> Blocks<D> {
         self.device.sectors()
     }
 
-    /// Reads a block if it isn't kept. At `Ok` it is the one that `fetched` lends.
+    /// Makes a block the one that `fetched` lends. It is read if it isn't kept. `Memory` comes only where
+    /// memory is refused for one that isn't kept, and leaves the device as it was. `Device` comes only
+    /// where the device failed, which is counted, or has come to its end.
     pub fn fetch(&mut self, number: u32) -> Result<(), ReadFault>
         requires room { 8 * number + 8 ≤ (D.status (device_of self.old)).sectors }
-        ensures lent { OnOk result (lent_number self.new ≡ Some number) }
+        ensures lent { OnOk result (fetched_number self.new ≡ Some number) }
         ensures same { IsTrue D.tells_bytes → D.disk (device_of self.new) ≡ D.disk (device_of self.old) }
-        ensures counts { Reads result (D.status (device_of self.old)) (D.status (device_of self.new)) }
+        ensures counts { CountsRead result (D.status (device_of self.old)) (D.status (device_of self.new)) }
         ensures kept { IsTrue (keeps self.old number) → IsOk result }
     {
         if self.cache.find(u64::from(number)) {
@@ -74,17 +77,18 @@ impl<D: Device> Blocks<D> {
         Ok(())
     }
 
-    /// The block that was fetched last.
+    /// Lends the block that was fetched last, unless it was written since. Two calls in a row lend the
+    /// same bytes, over any device.
     pub fn fetched(&self) -> &Block
-        requires { IsSome (lent_number self.now) }
-        ensures value { result.now ≡ lent_bytes self.now }
-        ensures bytes { IsTrue D.tells_bytes → IfSome (lent_number self.now)
+        requires { IsSome (fetched_number self.now) }
+        ensures value { result.now ≡ fetched_bytes self.now }
+        ensures bytes { IsTrue D.tells_bytes → IfSome (fetched_number self.now)
             (λ number. result.now ≡ block_at (reads (D.disk (device_of self.now))) number) }
     {
         self.cache.first()
     }
 
-    /// Fetches a block and lends it.
+    /// Fetches a block and lends it, with the faults of `fetch`.
     pub fn read_block(&mut self, number: u32) -> Result<&Block, ReadFault>
         requires room { 8 * number + 8 ≤ (D.status (device_of self.old)).sectors }
         ensures* lends { sem 𝓛 (ends_as_read D.row D.Device result self.entry) }
@@ -96,24 +100,25 @@ impl<D: Device> Blocks<D> {
         Ok(self.fetched())
     }
 
-    /// Writes a sector.
+    /// Writes a sector. Its block is kept no longer, also after a fault.
     pub fn write_sector(&mut self, at: u64, sector: &Sector) -> Result<(), Fault>
         requires room { at < (D.status (device_of self.old)).sectors }
         ensures disk { IsTrue D.tells_bytes → WritesSector at sector.now result
             (D.disk (device_of self.old)) (D.disk (device_of self.new)) }
-        ensures counts { Calls 1 0 result (D.status (device_of self.old)) (D.status (device_of self.new)) }
+        ensures counts { CountsCalls 1 0 result (D.status (device_of self.old)) (D.status (device_of self.new)) }
     {
         self.cache.forget(at / 8);
         self.device.write(at, sector)
     }
 
-    /// Writes a run of sectors, in their order.
+    /// Writes a run of whole sectors from `at` on, in their order. A fault of one ends it: those before
+    /// it are written, and those behind it aren't.
     pub fn write_run(&mut self, at: u64, bytes: &[u8]) -> Result<(), Fault>
         requires whole { length bytes.now % 512 ≡ 0 }
         requires room { at + length bytes.now / 512 ≤ (D.status (device_of self.old)).sectors }
         ensures disk { IsTrue D.tells_bytes → WritesRun at (length bytes.now / 512) bytes.now result
             (D.disk (device_of self.old)) (D.disk (device_of self.new)) }
-        ensures counts { Calls (length bytes.now / 512) 0 result
+        ensures counts { CountsCalls (length bytes.now / 512) 0 result
             (D.status (device_of self.old)) (D.status (device_of self.new)) }
     {
         // It bounds the numbers of the sectors.
@@ -126,22 +131,22 @@ impl<D: Device> Blocks<D> {
         Ok(())
     }
 
-    /// Writes the eight sectors of a block, in their order.
+    /// Writes the eight sectors of a block, as `write_run`.
     pub fn write_block(&mut self, number: u32, block: &Block) -> Result<(), Fault>
         requires room { 8 * number + 8 ≤ (D.status (device_of self.old)).sectors }
         ensures disk { IsTrue D.tells_bytes → WritesRun (8 * number) 8 block.now result
             (D.disk (device_of self.old)) (D.disk (device_of self.new)) }
-        ensures counts { Calls 8 0 result (D.status (device_of self.old)) (D.status (device_of self.new)) }
+        ensures counts { CountsCalls 8 0 result (D.status (device_of self.old)) (D.status (device_of self.new)) }
     {
         self.write_run(8 * u64::from(number), block.as_slice())
     }
 
-    /// Writes zeros over so many sectors, in their order.
+    /// Writes zeros over `count` sectors from `at` on, as `write_run`.
     pub fn zero_range(&mut self, at: u64, count: u64) -> Result<(), Fault>
         requires room { at + count ≤ (D.status (device_of self.old)).sectors }
         ensures disk { IsTrue D.tells_bytes → WritesRun at count (replicate (512 * count) 0) result
             (D.disk (device_of self.old)) (D.disk (device_of self.new)) }
-        ensures counts { Calls count 0 result (D.status (device_of self.old)) (D.status (device_of self.new)) }
+        ensures counts { CountsCalls count 0 result (D.status (device_of self.old)) (D.status (device_of self.new)) }
     {
         // It bounds the numbers of the sectors.
         let _sectors = self.sectors();
@@ -151,28 +156,29 @@ impl<D: Device> Blocks<D> {
         Ok(())
     }
 
-    /// Writes a sector, and syncs.
+    /// Writes a sector, and syncs. At `Ok` a crash leaves what reads give, here and in all that was
+    /// written before.
     pub fn write_synced(&mut self, at: u64, sector: &Sector) -> Result<(), Fault>
         requires room { at < (D.status (device_of self.old)).sectors }
         ensures disk { IsTrue D.tells_bytes → WritesSynced at sector.now result
             (D.disk (device_of self.old)) (D.disk (device_of self.new)) }
-        ensures counts { Calls 1 1 result (D.status (device_of self.old)) (D.status (device_of self.new)) }
+        ensures counts { CountsCalls 1 1 result (D.status (device_of self.old)) (D.status (device_of self.new)) }
     {
         self.write_sector(at, sector)?;
         self.sync()
     }
 
-    /// Syncs.
+    /// After a sync that succeeds, a crash leaves what reads give. One that fails syncs nothing.
     pub fn sync(&mut self) -> Result<(), Fault>
         ensures disk { IsTrue D.tells_bytes → SyncsAll result
             (D.disk (device_of self.old)) (D.disk (device_of self.new)) }
-        ensures counts { Calls 0 1 result (D.status (device_of self.old)) (D.status (device_of self.new)) }
+        ensures counts { CountsCalls 0 1 result (D.status (device_of self.old)) (D.status (device_of self.new)) }
     {
         self.device.sync()
     }
 }
 
-// Reads the eight sectors of a block.
+// Reads the eight sectors of a block, up to the first that fails.
 fn read_sectors<D: Device>(device: &mut D, number: u32, block: &mut Block) -> Result<(), Fault>
     requires room { 8 * number + 8 ≤ (D.status device.old).sectors }
     ensures bytes { IsTrue D.tells_bytes

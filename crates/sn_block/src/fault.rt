@@ -1,5 +1,6 @@
 //! Why a block isn't read.
-ghost use Rattle.std.specs.Prelude.{◌≡◌, codes, Some};
+ghost use Rattle.std.specs.Prelude.{◌≡◌, Some};
+ghost use Rattle.sn_block.specs.Fault.{text_of};
 ghost use Rattle.sn_block.specs.declared.fault.ReadFault.TheVariants.{Device, Memory};
 
 use sn_device::Fault;
@@ -17,6 +18,8 @@ pub enum ReadFault {
 }
 
 impl fmt::Display for ReadFault {
+    ghost output = { λ fault. Some (text_of fault) };
+
     fn fmt<W: fmt::Write>(&self, f: &mut fmt::Formatter<W>) -> fmt::Result {
         match self {
             ReadFault::Device => write!(f, "the device failed"),
