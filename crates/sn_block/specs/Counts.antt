@@ -25,5 +25,6 @@ FailsRead old new = MatchBool (has_ended old) (new ≡ old) (new ≡ one_failure
 -- A read of a block counts nothing but the failure of the device, and that where it isn't at its end.
 pub record CountsRead {T : Type 0} (result : Result T ReadFault) (old new : Status) : Type 0 where
   pub done : OnOk result (new ≡ old)
+  pub sectors : new.sectors ≡ old.sectors
   pub memory : result ≡ Err Memory → new ≡ old
   pub device : result ≡ Err Device → FailsRead old new
