@@ -1,5 +1,5 @@
 -- Runs of sectors that are written one after another.
-use Rattle.std.proofs.Common.{◌≡◌, ℕ, ◌+◌, ◌*◌, ◌<◌, Bool, IsTrue, Ok, List, [], ◌++◌, length, take, drop, replicate, slice_set, sym, ◌∙◌, ap, arith}
+use Rattle.std.proofs.Common.{◌≡◌, ℕ, ◌+◌, ◌*◌, ◌<◌, ◌≤◌, Bool, IsTrue, Ok, List, [], ◌++◌, length, take, drop, replicate, slice_set, sym, ◌∙◌, ap, arith}
 use Rattle.std.proofs.Math.Seq.{take-add}
 use Rattle.std.proofs.lemmas.List.{get_or-set_same, get_or-set_other, replicate-append-replicate}
 use Rattle.sn_device.specs.Sectors.{Contents, sector_at, Single, Run}
@@ -39,6 +39,12 @@ IsWriting-start tells at n s d = record {
   touched = λ told. Touches-start (Run at n) d;
   done = λ told. sym (bytes_at-none (reads d) at);
 }
+
+-- the next sector is one of the device's
+pub next-room : (at n i : ℕ) (c : Contents) (old now : Status) → i < n → at + n ≤ old.sectors → now ≡ called i 0 old → length c ≡ now.sectors → at + i < length c
+next-room at n i c old now more room counts count =
+    let same : now.sectors ≡ old.sectors = ap (λ (s : Status). s.sectors) counts in
+    omega arith
 
 module _ (at n i : ℕ) (before now after : Disk) where
   pub touched-next : i < n → Touches (Run at n) before now → Touches (Single (at + i)) now after → Touches (Run at n) before after

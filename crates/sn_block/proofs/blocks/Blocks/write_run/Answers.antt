@@ -1,9 +1,7 @@
-use Rattle.std.proofs.Common.{◌≡◌, ◌+◌, ◌*◌, ◌/◌, ◌<◌, ◌-◌, length, take, IsTrue, ap, arith}
+use Rattle.std.proofs.Common.{◌+◌, ◌*◌, ◌/◌, ◌-◌, length, take, arith}
 use Rattle.std.proofs.lemmas.Result.{err_from_is_err_and}
-use Rattle.sn_device.specs.Disk.{reads}
-use Rattle.sn_device.specs.declared.status.Status.{Status}
 use Rattle.sn_block.specs.Lending.{device_of}
-use Rattle.sn_block.proofs.RunLemmas.{IsWriting-start, IsWriting-next, touched-next, take-sector}
+use Rattle.sn_block.proofs.RunLemmas.{IsWriting-start, IsWriting-next, next-room, touched-next, take-sector}
 use Rattle.sn_block.proofs.blocks.Blocks.write_run.Goals as goal
 
 pub loop-i-init : goal.loop-i-init
@@ -17,10 +15,6 @@ returns-in_err-write_sector-clause-disk g c told =
 
 pub loop-i-preserved : goal.loop-i-preserved
 loop-i-preserved g c =
-    let room : IsTrue g.D.Device.tells_bytes → c.args.at + c.loop-i.i < length (reads (g.D.Device.disk (device_of c.loop-i.self))) = λ told.
-    let count = g.met.D.Device.count (device_of c.loop-i.self) told in
-    let same : (g.D.Device.status (device_of c.loop-i.self)).sectors ≡ (g.D.Device.status (device_of c.args.self.now)).sectors = ap (λ (s : Status). s.sectors) c.loop-i.invariant.counts in
-    omega (arith, count, same, c.requires.room) in
     IsWriting-next c.args.at (length c.args.bytes.now / 512) c.loop-i.i _ _ _ g.D.Device.tells_bytes (take (512 * c.loop-i.i) c.args.bytes.now) c.copy_from_slice.new.self (take (512 * (c.loop-i.i + 1)) c.args.bytes.now) c.in_ok-write_sector.field-0 _ _ _ (omega arith)
     (take-sector c.args.bytes.now c.copy_from_slice.new.self c.loop-i.i (512 * c.loop-i.i + 512 - 512 * c.loop-i.i) (omega arith) c.copy_from_slice.ensures.after)
-    c.loop-i.invariant room c.in_ok-write_sector.ensures.counts.done (λ told. c.in_ok-write_sector.ensures.disk told)
+    c.loop-i.invariant (λ told. next-room c.args.at (length c.args.bytes.now / 512) c.loop-i.i _ _ _ (omega arith) c.requires.room c.loop-i.invariant.counts (g.met.D.Device.count (device_of c.loop-i.self) told)) c.in_ok-write_sector.ensures.counts.done (λ told. c.in_ok-write_sector.ensures.disk told)
