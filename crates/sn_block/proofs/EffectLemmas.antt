@@ -21,6 +21,10 @@ module _ {T E : Type 0} where
   OnOk-then (Ok x) then is = then is
   OnOk-then (Err e) then is = tt
 
+  pub OnOk-both : {P Q S : Type 0} (r : Result T E) → (P → Q → S) → OnOk r P → OnOk r Q → OnOk r S
+  OnOk-both (Ok x) both first second = both first second
+  OnOk-both (Err e) both first second = tt
+
   pub OnOk-always : {P : Type 0} (r : Result T E) → P → OnOk r P
   OnOk-always (Ok x) is = is
   OnOk-always (Err e) is = tt

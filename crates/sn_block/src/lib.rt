@@ -27,14 +27,17 @@
 //!   clauses, `specs/Cache.antt` those of the invariant.
 //! - `blocks.rt` has the calls. `cache.rt` alone knows of `lru`: its contracts say what may still be
 //!   kept after each of its calls, which is all that the invariant needs.
-//! - `examples.rt` has two layers over lent blocks. The first lends two blocks in turn and has no
-//!   proof file:
+//! - `examples.rt` has three layers over any device, proved from these contracts alone. The first
+//!   lends two blocks in turn and has no proof file:
 //!
 //! ```text
 //! let first = blocks.read_block(first)?[0];
 //! let second = blocks.read_block(second)?[0];
 //! Ok(first == second)
 //! ```
+//!
+//! The second copies a block. The third shows how a statement on crashes follows from the one clause
+//! on bytes: what every crash left in a sector beside, each one goes on to leave.
 #![tactic(auto)]
 
 mod blocks;
