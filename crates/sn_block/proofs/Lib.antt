@@ -1,0 +1,5 @@
+pub mod BlockLemmas
+pub mod CacheLemmas
+pub mod CountLemmas
+pub mod EffectLemmas
+pub mod RunLemmas

@@ -1,0 +1,6 @@
+pub mod Blocks
+pub mod Cache
+pub mod Counts
+pub mod Effects
+pub mod Fault
+pub mod Lending

@@ -1,0 +1,50 @@
+//! Blocks of a device: eight sectors each, lent from a cache, and written sector by sector.
+//!
+//! The model. `Blocks` owns a device, and its meaning is that device's: the `Disk` of `sn_device`
+//! where the device tells its bytes, and its `Status` always. The cache shows in no clause on
+//! bytes, since by the invariant of `Blocks` each block that is kept is what reads give. A write
+//! lets the kept block go before the device is called, so this outlives a write that failed.
+//!
+//! What the clauses say:
+//! - A block that is lent is the device's eight sectors (`block_at`), and lending it changes nothing
+//!   on the device. `fetch` and `fetched` do it in two calls, and `read_block` in one. Where the
+//!   device doesn't tell its bytes, a second read may give others, so a caller that rests on what it
+//!   has tested calls `fetched` again, or copies.
+//! - Each call that writes has one clause on bytes, a record of `specs/Effects.antt`: whatever the
+//!   answer, only these sectors were touched (`Touches`), and at `Ok` reads give these bytes, and
+//!   nothing is unsynced where a sync ends the call. What a crash may leave follows by the lemmas of
+//!   `sn_device` on `Touches`, `Always` and `IsSynced`.
+//! - Each call has one clause on counts, a record of `specs/Counts.antt`, also over a device that
+//!   doesn't tell its bytes: at `Ok` so many writes and syncs, at a fault at most as many, and a cause.
+//!
+//! Memory is taken by `new` and for a block that isn't kept, never for a write. At most 256 blocks are
+//! kept, and a full cache reads a block into the room of the one that wasn't used for longest. No
+//! clause says which blocks are kept; one that is kept is fetched without memory and without the
+//! device.
+//!
+//! The way through the crate:
+//! - `specs/Blocks.antt`, `Effects.antt`, `Counts.antt` and `Lending.antt` have the words of the
+//!   clauses, `specs/Cache.antt` those of the invariant.
+//! - `blocks.rt` has the calls. `cache.rt` alone knows of `lru`: its contracts say what may still be
+//!   kept after each of its calls, which is all that the invariant needs.
+//! - `examples.rt` has three layers over any device, proved from these contracts alone. The first
+//!   lends two blocks in turn and has no proof file:
+//!
+//! ```text
+//! let first = blocks.read_block(first)?[0];
+//! let second = blocks.read_block(second)?[0];
+//! Ok(first == second)
+//! ```
+//!
+//! The second copies a block. The third shows how a statement on crashes follows from the one clause
+//! on bytes: what every crash left in a sector beside, each one goes on to leave.
+#![tactic(auto)]
+
+mod blocks;
+mod cache;
+pub mod examples;
+mod fault;
+
+pub use blocks::Blocks;
+pub use cache::{BLOCK_SIZE, Block};
+pub use fault::ReadFault;
