@@ -4,7 +4,7 @@ use Rattle.std.proofs.lemmas.Slice.{take-put_mid}
 use Rattle.std.proofs.lemmas.List.{get_or-set_other}
 use borrow.Rule.Slice.PartMut.{put_mid}
 use Rattle.sn_device.specs.Sectors.{Contents, sector_at}
-use Rattle.sn_block.specs.Blocks.{bytes_at, block_at}
+use Rattle.sn_ondisk.specs.Blocks.{bytes_at, block_at}
 
 bytes_at-suc : (c : Contents) (at n : ℕ) → bytes_at c at (suc n) ≡ bytes_at c at n ++ sector_at c (at + n)
 unfolding bytes_at

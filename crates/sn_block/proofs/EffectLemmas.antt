@@ -7,7 +7,7 @@ use Rattle.sn_device.specs.Crash.{Touches}
 use Rattle.sn_device.specs.declared.status.Status.{Status}
 use Rattle.sn_device.proofs.CallLemmas.{Writes-cases, Syncs-cases, Touches-write, Touches-sync}
 use Rattle.sn_device.proofs.CrashLemmas.{Touches-start, Touches-join, Touches-within}
-use Rattle.sn_block.specs.Blocks.{block_at}
+use Rattle.sn_ondisk.specs.Blocks.{block_at}
 use Rattle.sn_block.specs.Cache.{Entry, HasOnlyOthers, Coheres}
 use Rattle.sn_block.specs.Effects.{Nowhere, WritesSector, SyncsAll}
 use Rattle.sn_block.proofs.BlockLemmas.{block_at-set_other}

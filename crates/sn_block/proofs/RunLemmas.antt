@@ -8,7 +8,7 @@ use Rattle.sn_device.specs.Crash.{Touches}
 use Rattle.sn_device.specs.declared.status.Status.{Status}
 use Rattle.sn_device.proofs.CrashLemmas.{Touches-start, Touches-join, Touches-within}
 use Rattle.sn_device.proofs.SectorLemmas.{Run-single}
-use Rattle.sn_block.specs.Blocks.{bytes_at}
+use Rattle.sn_ondisk.specs.Blocks.{bytes_at}
 use Rattle.sn_block.specs.Counts.{called}
 use Rattle.sn_block.specs.Effects.{WritesSector}
 use Rattle.sn_block.proofs.BlockLemmas.{bytes_at-push, bytes_at-same, bytes_at-none}

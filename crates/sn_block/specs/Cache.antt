@@ -4,7 +4,7 @@ use Rattle.std.specs.Map.{lookup}
 use Rattle.std.specs.declared.boxed.Box.{Box}
 use Rattle.std.specs.Global.{Global}
 use Rattle.sn_device.specs.Sectors.{Contents}
-use Rattle.sn_block.specs.Blocks.{block_at}
+use Rattle.sn_ondisk.specs.Blocks.{block_at}
 use Rattle.sn_block.specs.declared.cache.Cache.{Cache}
 
 -- a block's number, and where it is kept

@@ -3,7 +3,7 @@ use Rattle.std.specs.Prelude.{◌≡◌, ℕ, List, Result, OnOk, slice_set}
 use Rattle.sn_device.specs.Sectors.{Single, Run}
 use Rattle.sn_device.specs.Disk.{Disk, reads, IsSynced}
 use Rattle.sn_device.specs.Crash.{Touches}
-use Rattle.sn_block.specs.Blocks.{bytes_at}
+use Rattle.sn_ondisk.specs.Blocks.{bytes_at}
 
 -- no sector
 abbrev pub Nowhere : ℕ → Type 0

@@ -1,4 +1,3 @@
-pub mod Blocks
 pub mod Cache
 pub mod Counts
 pub mod Effects

@@ -2,7 +2,7 @@
 ghost use Rattle.std.specs.Prelude.{◌≡◌, ◌+◌, ◌*◌, ◌/◌, ◌%◌, ◌<◌, ◌≤◌, length, replicate, Some, IsTrue, IsSome, IsOk, IfOk, IfErr, IfSome, OnOk, OnErr};
 ghost use Rattle.std.specs.Borrow.{sem};
 ghost use Rattle.sn_device.specs.Disk.{reads};
-ghost use Rattle.sn_block.specs.Blocks.{block_at};
+ghost use Rattle.sn_ondisk.specs.Blocks.{block_at};
 ghost use Rattle.sn_block.specs.Cache.{entries_of, Coheres};
 ghost use Rattle.sn_block.specs.Counts.{CountsCalls, CountsRead, FailsRead};
 ghost use Rattle.sn_block.specs.Effects.{WritesSector, WritesRun, WritesSynced, SyncsAll};

@@ -3,7 +3,7 @@ ghost use Rattle.std.specs.Prelude.{◌≡◌, ◌≢◌, ◌+◌, ◌*◌, ◌<
 ghost use Rattle.sn_device.specs.Sectors.{Run, sector_at};
 ghost use Rattle.sn_device.specs.Disk.{reads, Always, IsSynced};
 ghost use Rattle.sn_device.specs.Crash.{LeavesOnly, Touches};
-ghost use Rattle.sn_block.specs.Blocks.{block_at};
+ghost use Rattle.sn_ondisk.specs.Blocks.{block_at};
 ghost use Rattle.sn_block.specs.Lending.{device_of};
 
 use crate::{Blocks, ReadFault};

@@ -23,7 +23,7 @@
 //! device.
 //!
 //! The way through the crate:
-//! - `specs/Blocks.antt`, `Effects.antt`, `Counts.antt` and `Lending.antt` have the words of the
+//! - `specs/Effects.antt`, `Counts.antt` and `Lending.antt` have the words of the
 //!   clauses, `specs/Cache.antt` those of the invariant.
 //! - `blocks.rt` has the calls. `cache.rt` alone knows of `lru`: its contracts say what may still be
 //!   kept after each of its calls, which is all that the invariant needs.

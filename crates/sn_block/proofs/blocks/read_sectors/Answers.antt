@@ -2,7 +2,7 @@ use Rattle.std.proofs.Common.{◌≡◌, ◌*◌, ◌+◌, ◌∙◌, length, ta
 use Rattle.std.proofs.lemmas.List.{take_all}
 use Rattle.sn_device.specs.Disk.{reads, Disk}
 use Rattle.sn_device.specs.Sectors.{sector_at}
-use Rattle.sn_block.specs.Blocks.{bytes_at}
+use Rattle.sn_ondisk.specs.Blocks.{bytes_at}
 use Rattle.sn_block.proofs.BlockLemmas.{take-read, bytes_at-none}
 use borrow.Rule.Slice.PartMut.{same_len_mid}
 use Rattle.sn_block.proofs.blocks.read_sectors.Goals as goal

@@ -1,7 +1,7 @@
 use Rattle.std.proofs.Common.{◌≡◌, ◌*◌, Bool, ℕ, List, IsTrue, length, take}
 use Rattle.sn_device.specs.Disk.{Disk, reads}
 use Rattle.sn_device.specs.declared.status.Status.{Status}
-use Rattle.sn_block.specs.Blocks.{bytes_at}
+use Rattle.sn_ondisk.specs.Blocks.{bytes_at}
 use Rattle.sn_block.proofs.blocks.read_sectors.Given as goal
 
 -- no call has failed, and so many sectors are in place

@@ -1,6 +1,6 @@
 use Rattle.std.proofs.Common.{◌∙◌, ⊎_elim, sym, ap}
 use Rattle.sn_device.specs.Disk.{reads, Disk}
-use Rattle.sn_block.specs.Blocks.{block_at}
+use Rattle.sn_ondisk.specs.Blocks.{block_at}
 use Rattle.sn_block.proofs.blocks.Blocks.fetch.Goals as goal
 
 pub invariant_of-self-in-Break-1 : goal.invariant_of-self-in-Break-1
