@@ -3,19 +3,18 @@
 # decode of each kind, and in a directory block of 400 names the search for the last of them. Run by hand: proves and
 # builds a copy of the crates in a folder that it removes, which takes some minutes.
 #
-# Each time is the least of 200 rounds of 200 calls, in which the calls and the copies take turns. The encoders of root
-# bodies, inode records and ACL blocks take only what is valid, and their times have that test in them.
+# Each time is the least of 200 rounds of 200 calls, in which the calls and the copies take turns.
 set -eu
 top=$(cd "$(dirname "$0")/.." && pwd)
 work=$(mktemp -d)
 trap 'rm -rf "$work"' EXIT
 
 mkdir -p "$work/crates/layout_bench/src"
-for crate in sn_acl sn_walk sn_layout sn_layout_acl sn_layout_node; do
+for crate in sn_acl sn_walk sn_limits sn_layout sn_layout_acl sn_layout_node; do
     cp -r "$top/crates/$crate" "$work/crates/"
     grep "^$crate:" "$top/crates.txt" >> "$work/crates.txt"
 done
-echo 'layout_bench: sn_acl sn_walk sn_layout sn_layout_acl sn_layout_node' >> "$work/crates.txt"
+echo 'layout_bench: sn_acl sn_walk sn_limits sn_layout sn_layout_acl sn_layout_node' >> "$work/crates.txt"
 cp "$top/HANDLES" "$work/"
 
 cat > "$work/crates/layout_bench/src/main.rt" <<'RT'
@@ -25,9 +24,10 @@ cat > "$work/crates/layout_bench/src/main.rt" <<'RT'
 ghost use Rattle.std.specs.Prelude.{◌≡◌, length};
 
 use sn_acl::{Acl, Entry, Mode, Permissions, Tag};
-use sn_layout::{Block, BlockTree, Limits, Places, Pointers, RootBody, Snapshot, SnapshotName, Snapshots, Superblock};
+use sn_layout::{Block, BlockTree, Places, Pointers, RootBody, Snapshot, SnapshotName, Snapshots, Superblock};
 use sn_layout_acl::{AclBlock, NamedEntries};
 use sn_layout_node::{Content, DirectoryBlock, IndirectBlock, Inode, InodeRecord};
+use sn_limits::Limits;
 use sn_walk::Kind;
 use std::alloc::{AllocError, Global};
 use std::io;
@@ -78,7 +78,7 @@ struct ValidRecord {
 }
 
 impl Model for ValidRecord {
-    ghost use Rattle.sn_layout.specs.Limits.{version_1};
+    ghost use Rattle.sn_limits.specs.Versions.{version_1};
     ghost use Rattle.sn_layout_node.specs.declared.inode.InodeRecord.{InodeRecord as TheRecord};
     ghost use Rattle.sn_layout_node.specs.Inode.{IsRecord};
 
@@ -174,9 +174,6 @@ fn decode_superblock(desk: &mut Desk, turn: u32) -> usize {
 #[inline(never)]
 fn encode_root(desk: &mut Desk, turn: u32) -> usize {
     desk.root_bytes[8] = (turn % 256) as u8;
-    if !desk.root.is_valid() {
-        return 0;
-    }
     desk.root.encode(&mut desk.root_bytes);
     usize::from(desk.root_bytes[8])
 }
@@ -193,10 +190,7 @@ fn decode_root(desk: &mut Desk, turn: u32) -> usize {
 #[inline(never)]
 fn encode_inode(desk: &mut Desk, turn: u32) -> usize {
     desk.record_bytes[8] = (turn % 256) as u8;
-    if !desk.record.is_valid(&Limits::VERSION_1) {
-        return 0;
-    }
-    desk.record.encode(&Limits::VERSION_1, &mut desk.record_bytes);
+    desk.record.encode(&mut desk.record_bytes);
     usize::from(desk.record_bytes[8])
 }
 
@@ -213,10 +207,7 @@ fn decode_inode(desk: &mut Desk, turn: u32) -> usize {
 fn encode_acls(desk: &mut Desk, turn: u32) -> usize {
     desk.acls_bytes[0] = (turn % 256) as u8;
     if desk.acls.count() > 0 {
-        if desk.acls.count() == 0 {
-        return 0;
-    }
-    desk.acls.encode(&mut desk.acls_bytes);
+        desk.acls.encode(&mut desk.acls_bytes);
     }
     usize::from(desk.acls_bytes[0])
 }

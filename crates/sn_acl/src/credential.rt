@@ -8,7 +8,7 @@ use std::marker::Model;
 pub const MAX_GROUPS: usize = 32;
 
 /// Who calls: a user, an effective group, and supplementary groups.
-#[derive(PartialEq, Eq, Debug, Drop)]
+#[derive(PartialEq, Eq, Drop)]
 pub struct Cred {
     uid: u32,
     gid: u32,

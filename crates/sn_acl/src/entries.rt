@@ -5,7 +5,7 @@ use crate::{Mode, Permissions};
 use std::fmt;
 
 /// Whom an entry is for, as acl(5) names it. A qualifier is a user or group number.
-#[derive(Clone, Copy, PartialEq, Eq, Hash, Debug)]
+#[derive(Clone, Copy, PartialEq, Eq, Hash)]
 pub enum Tag {
     UserObj,
     User(u32),
@@ -16,7 +16,7 @@ pub enum Tag {
 }
 
 /// What an entry grants to the one that its tag names.
-#[derive(Clone, Copy, PartialEq, Eq, Hash, Debug)]
+#[derive(Clone, Copy, PartialEq, Eq, Hash)]
 pub struct Entry {
     pub tag: Tag,
     pub permissions: Permissions,

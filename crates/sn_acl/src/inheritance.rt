@@ -6,7 +6,7 @@ ghost use Rattle.sn_acl.specs.Inheritance.{inherited_access, inherited_default};
 use crate::{Acl, Mode};
 
 /// The ACLs of a new object.
-#[derive(PartialEq, Eq, Debug, Drop)]
+#[derive(PartialEq, Eq, Drop)]
 pub struct Inherited {
     pub access: Acl,
     /// What objects made in a new directory take over.

@@ -12,7 +12,7 @@ use std::marker::Model;
 pub const MAX_ENTRIES: usize = 36;
 
 /// A valid ACL, seen as the list of its entries in canonical order.
-#[derive(PartialEq, Eq, Debug, Drop)]
+#[derive(PartialEq, Eq, Drop)]
 pub struct Acl {
     entries: ArrayVec<Entry, MAX_ENTRIES>,
 }

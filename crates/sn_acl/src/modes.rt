@@ -3,7 +3,7 @@ ghost use Rattle.std.specs.Prelude.{◌≡◌, ◌<◌, ◌↔◌, IsSome, IfSom
 use crate::Permissions;
 
 /// The nine permission bits of a file or a directory, by the class that each three are for.
-#[derive(Clone, Copy, PartialEq, Eq, Hash, Debug)]
+#[derive(Clone, Copy, PartialEq, Eq, Hash)]
 pub struct Mode {
     pub owner: Permissions,
     pub group: Permissions,

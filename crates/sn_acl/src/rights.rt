@@ -6,7 +6,7 @@ use std::fmt;
 use std::marker::Model;
 
 // The bits of a set of rights, where bits that name no right may stand too.
-#[derive(Clone, Copy, PartialEq, Eq, Hash, Debug)]
+#[derive(Clone, Copy, PartialEq, Eq, Hash)]
 struct Rights(u8);
 
 bitflag_items! {
@@ -40,7 +40,7 @@ impl Flags for Rights {
 }
 
 /// A set of the rights read, write and execute (of a directory: search), seen as a number below 8.
-#[derive(Clone, Copy, PartialEq, Eq, Hash, Debug)]
+#[derive(Clone, Copy, PartialEq, Eq, Hash)]
 pub struct Permissions {
     rights: Rights,
 }

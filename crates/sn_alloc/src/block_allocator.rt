@@ -25,7 +25,7 @@ impl fmt::Display for Full {
 impl Error for Full {}
 
 /// Takes free blocks of the data area of a map, in the order of the blocks.
-#[derive(Debug, Drop)]
+#[derive(Drop)]
 pub struct BlockAllocator {
     map: Map,
     first: u32,

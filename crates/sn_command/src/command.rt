@@ -9,7 +9,7 @@ use std::alloc::Global;
 use std::convert::AsStr;
 
 /// What the command line asks for.
-#[derive(Clone, Copy, Debug, PartialEq, Eq)]
+#[derive(Clone, Copy, PartialEq, Eq)]
 pub enum Task<'a> {
     /// Runs a script. Each run begins with a new world, and the image isn't opened.
     Run { image: &'a str, script: &'a str },

@@ -5,7 +5,7 @@ use sn_model::{Errno, Refusal, Reply};
 use std::alloc::AllocError;
 
 /// Why a call isn't done.
-#[derive(Debug, Drop)]
+#[derive(Drop)]
 pub(crate) enum CallError {
     Refused(Refusal),
     Memory,

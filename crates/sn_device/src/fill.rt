@@ -8,7 +8,7 @@ use rand_core::Rng;
 use rand_pcg::Pcg32;
 
 /// How a crash leaves each sector that was written or tried since the last sync that succeeded.
-#[derive(Clone, Copy, Debug, PartialEq, Eq)]
+#[derive(Clone, Copy, PartialEq, Eq)]
 pub enum Fill {
     /// What was there at the last sync.
     Old,

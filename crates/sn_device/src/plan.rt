@@ -1,7 +1,7 @@
 //! The faults that a device in memory is told to answer with.
 
 /// When writes stop succeeding.
-#[derive(Clone, Copy, Debug, PartialEq, Eq)]
+#[derive(Clone, Copy, PartialEq, Eq)]
 pub enum Stop {
     Never,
     /// So many more writes succeed. The one after them fails, and so does every later call.
@@ -11,7 +11,7 @@ pub enum Stop {
 }
 
 /// The faults that a device in memory is to answer with.
-#[derive(Clone, Copy, Debug, PartialEq, Eq)]
+#[derive(Clone, Copy, PartialEq, Eq)]
 pub struct Plan {
     /// The call from now on that fails, counted from 1.
     pub fails_in: Option<u64>,

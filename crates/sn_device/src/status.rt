@@ -3,7 +3,7 @@ ghost use Rattle.std.specs.Prelude.{◌≡◌, ◌+◌, ◌^◌, ◌<◌, false}
 ghost use Rattle.sn_device.specs.Status.{has_ended, uncalled, one_failure, one_write, one_sync, spent};
 
 /// How many sectors a device has, and how often it was called since it was made.
-#[derive(Clone, Copy, Debug, PartialEq, Eq)]
+#[derive(Clone, Copy, PartialEq, Eq)]
 pub struct Status {
     pub sectors: u64,
     /// The calls that were answered with a fault.

@@ -3,11 +3,11 @@ use Rattle.std.proofs.Common.{◌≡◌, ℕ, ◌-◌, ◌*◌, ◌≤◌, Bool,
 use Rattle.std.specs.Prelude.{nat_le}
 use Rattle.std.proofs.lemmas.Bool.{eqb-true, leb-true}
 use Rattle.std.proofs.lemmas.List.{append-nil}
-use Rattle.sn_layout.specs.declared.limits.Limits.{Limits}
+use Rattle.sn_limits.specs.declared.limits.Limits.{Limits}
 use Rattle.sn_layout.specs.declared.root.Head.{Head}
 use Rattle.sn_layout.specs.declared.root.RootBody.{RootBody}
 use Rattle.sn_layout.specs.Bytes.{zeros}
-use Rattle.sn_layout.specs.Limits.{limits_of, version_1}
+use Rattle.sn_limits.specs.Versions.{limits_of, version_1}
 use Rattle.sn_layout.specs.Snapshot.{snapshots_bytes, are_rising, are_within, are_distinct}
 use Rattle.sn_layout.specs.RootBody.{IsHead, IsRootBody, head_of, head_bytes, root_body_bytes}
 
@@ -32,8 +32,8 @@ few body fits =
     let most : body.limits.snapshots ≡ 20 = ap (λ (l : Limits). l.snapshots) version.1 in
     let list = body.snapshots in
     let most-is = body.limits.snapshots in
-    let third = both (nat_le (length list) most-is && are_rising 0 list && are_within most-is list) (are_distinct list) fits.snapshots.held in
-    let second = both (nat_le (length list) most-is && are_rising 0 list) (are_within most-is list) third.0 in
+    let third = both (nat_le (length list) most-is && are_rising 0 list && are_within body.limits.largest_bit list) (are_distinct list) fits.snapshots.held in
+    let second = both (nat_le (length list) most-is && are_rising 0 list) (are_within body.limits.largest_bit list) third.0 in
     let first = both (nat_le (length list) most-is) (are_rising 0 list) second.0 in
     let count = leb-true (length body.snapshots) body.limits.snapshots first.0 in
     omega arith

@@ -1,7 +1,6 @@
 pub mod BlockTree
 pub mod Bytes
 pub mod Gate
-pub mod Limits
 pub mod MapCopy
 pub mod Places
 pub mod Pointers

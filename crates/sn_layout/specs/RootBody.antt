@@ -4,7 +4,7 @@ use Rattle.sn_layout.specs.declared.root.RootBody.{RootBody}
 use Rattle.sn_layout.specs.declared.root.Head.{Head}
 use Rattle.sn_layout.specs.Bytes.{number_bytes, zeros}
 use Rattle.sn_layout.specs.BlockTree.{IsBlockTree, tree_bytes}
-use Rattle.sn_layout.specs.Limits.{limits_of}
+use Rattle.sn_limits.specs.Versions.{limits_of}
 use Rattle.sn_layout.specs.Snapshot.{AreSnapshots, snapshots_bytes}
 
 -- generations and epochs go from 1 to 2 ^ 62

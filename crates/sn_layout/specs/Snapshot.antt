@@ -2,7 +2,7 @@
 use Rattle.std.specs.Prelude.{ℕ, suc, ◌-◌, ◌<◌, ◌==◌, Bool, true, not, ◌&&◌, List, [], ◌∷◌, ◌++◌, length, IsTrue, nat_lt, nat_le, if◌then◌else◌}
 use Rattle.std.specs.List.{flat_map, AllByRecursion, list_any, list_all}
 use Rattle.std.specs.Str.{bytes_eq}
-use Rattle.sn_layout.specs.declared.limits.Limits.{Limits}
+use Rattle.sn_limits.specs.declared.limits.Limits.{Limits}
 use Rattle.sn_layout.specs.declared.snapshot.Snapshot.{Snapshot}
 use Rattle.sn_layout.specs.Bytes.{zeros}
 use Rattle.sn_layout.specs.BlockTree.{IsBlockTree, tree_bytes}
@@ -51,7 +51,7 @@ has_no_bit bit snapshots = list_all (λ s. not (s.bit == bit)) snapshots
 
 -- a disk of this version can hold them: not too many, by rising bit from 1 up, with different names
 abbrev pub are_held : Limits → List Snapshot → Bool
-are_held limits snapshots = nat_le (length snapshots) limits.snapshots && are_rising 0 snapshots && are_within limits.snapshots snapshots && are_distinct snapshots
+are_held limits snapshots = nat_le (length snapshots) limits.snapshots && are_rising 0 snapshots && are_within limits.largest_bit snapshots && are_distinct snapshots
 
 -- the snapshots of a root body
 pub record AreSnapshots (limits : Limits) (snapshots : List Snapshot) : Type 0 where

@@ -7,7 +7,7 @@ ghost use Rattle.std.specs.Prelude.{◌≡◌};
 use crate::{SECTOR_SIZE, Sector, put_u8, put_zeros};
 
 /// Whether what stands behind a gate counts: a root body, or a record of the log.
-#[derive(Clone, Copy, Debug, PartialEq, Eq, Hash)]
+#[derive(Clone, Copy, PartialEq, Eq, Hash)]
 pub enum Gate {
     Open,
     Closed,

@@ -7,8 +7,8 @@
 //! that value. A value that no block is read as is not encoded. No call takes memory.
 //!
 //! The way through: `places` (areas of a disk), `superblock`, `gate`, `map_copy`, `pointers` and
-//! `tree` (a root of blocks), `name`, `snapshot` and `snapshots`, `root`. `limits` has the numbers
-//! that a version of the format fixes. `reader` and `writer` are for the crates that spell more: a
+//! `tree` (a root of blocks), `name`, `snapshot` and `snapshots`, `root`, whose limits are
+//! those of `sn_limits`. `reader` and `writer` are for the crates that spell more: a
 //! `Reader` is seen as the bytes that are left, and each `put_` call writes behind the one before.
 //!
 //! ```text
@@ -19,7 +19,6 @@
 
 mod block;
 mod gate;
-mod limits;
 mod map_copy;
 mod name;
 mod places;
@@ -34,7 +33,6 @@ mod writer;
 
 pub use block::{BLOCK_SIZE, Block, SECTOR_SIZE, SECTORS_PER_BLOCK, Sector};
 pub use gate::Gate;
-pub use limits::Limits;
 pub use map_copy::{WORDS_PER_BLOCK, put_map_words, read_map_words};
 pub use name::{SNAPSHOT_NAME_MAX, SnapshotName};
 pub use places::{Area, LARGEST_DISK, LogHalf, Places, SMALLEST_DISK, Slot};

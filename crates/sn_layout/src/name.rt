@@ -11,7 +11,7 @@ pub const SNAPSHOT_NAME_MAX: usize = 31;
 
 /// The name of a snapshot: 1 to 31 letters, digits, dots, underscores and dashes, and neither `.`
 /// nor `..`.
-#[derive(Debug, PartialEq, Eq, Drop)]
+#[derive(PartialEq, Eq, Drop)]
 pub struct SnapshotName {
     bytes: ArrayVec<u8, SNAPSHOT_NAME_MAX>,
 }

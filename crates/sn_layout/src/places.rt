@@ -25,7 +25,7 @@ pub const LARGEST_DISK: u32 = 1_048_576;
 const LOG_HALF_BLOCKS: u32 = 32;
 
 /// Which of the two roots.
-#[derive(Clone, Copy, Debug, PartialEq, Eq, Hash)]
+#[derive(Clone, Copy, PartialEq, Eq, Hash)]
 pub enum Slot {
     A,
     B,
@@ -45,7 +45,7 @@ impl Slot {
 }
 
 /// Which half of the log.
-#[derive(Clone, Copy, Debug, PartialEq, Eq, Hash)]
+#[derive(Clone, Copy, PartialEq, Eq, Hash)]
 pub enum LogHalf {
     Zero,
     One,
@@ -67,7 +67,7 @@ impl LogHalf {
 }
 
 /// A part of the disk.
-#[derive(Clone, Copy, Debug, PartialEq, Eq, Hash)]
+#[derive(Clone, Copy, PartialEq, Eq, Hash)]
 pub enum Area {
     Superblock,
     RootBody(Slot),
@@ -79,7 +79,7 @@ pub enum Area {
 }
 
 /// Where things lie on a disk of so many blocks.
-#[derive(Clone, Copy, Debug, PartialEq, Eq, Hash)]
+#[derive(Clone, Copy, PartialEq, Eq, Hash)]
 pub struct Places {
     blocks: u32,
 }

@@ -10,7 +10,7 @@ use std::marker::Model;
 pub const POINTERS: usize = 16;
 
 /// Sixteen numbers of blocks, seen as their list. A pointer 0 is a hole, which reads as zeros.
-#[derive(Clone, Copy, Debug, PartialEq, Eq)]
+#[derive(Clone, Copy, PartialEq, Eq)]
 pub struct Pointers {
     numbers: [u32; POINTERS],
 }

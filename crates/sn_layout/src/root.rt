@@ -15,15 +15,15 @@ ghost use Rattle.sn_layout.specs.RootBody.{IsAge};
 
 use crate::snapshots::{fit, put_snapshots, read_snapshots};
 use crate::{
-    BLOCK_SIZE, Block, BlockTree, Limits, Reader, SNAPSHOT_ROOM, Snapshots, put_u32, put_u64,
-    put_zeros,
+    BLOCK_SIZE, Block, BlockTree, Reader, SNAPSHOT_ROOM, Snapshots, put_u32, put_u64, put_zeros,
 };
+use sn_limits::Limits;
 
 /// The largest generation and the largest epoch.
 pub const LARGEST_AGE: u64 = 1 << 62;
 
 /// A root: the state that a consistency point left on the disk, and its snapshots.
-#[derive(Debug, PartialEq, Eq, Drop)]
+#[derive(PartialEq, Eq, Drop)]
 pub struct RootBody {
     /// Those of the version that it is written in.
     pub limits: Limits,

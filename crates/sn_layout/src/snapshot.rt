@@ -9,7 +9,7 @@ ghost use Rattle.std.specs.Prelude.{◌≡◌, ℕ, ◌+◌, ◌*◌, ◌<◌, �
 use crate::{BlockTree, Reader, SNAPSHOT_NAME_MAX, SnapshotName, put_bytes, put_u8, put_zeros};
 
 /// A frozen file system.
-#[derive(Debug, Default, PartialEq, Eq, Drop)]
+#[derive(Default, PartialEq, Eq, Drop)]
 pub struct Snapshot {
     /// Its bit in each word of the map, from 1 up.
     pub bit: u8,

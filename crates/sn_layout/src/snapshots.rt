@@ -6,15 +6,16 @@ ghost use Rattle.sn_layout.specs.Snapshot.{IsSnapshot, snapshots_bytes, place_of
 ghost use Rattle.sn_layout.specs.Snapshot as lists;
 ghost use Rattle.sn_layout.specs.declared.snapshot.Snapshot.{Snapshot as TheSnapshot};
 
-use crate::{Limits, Reader, Snapshot};
+use crate::{Reader, Snapshot};
 use arrayvec::ArrayVec;
+use sn_limits::Limits;
 use std::marker::Model;
 
 /// The snapshots that a root body has room for. The limits of its version may allow fewer.
 pub const SNAPSHOT_ROOM: usize = 31;
 
 /// The snapshots of a root body. It takes no memory.
-#[derive(Debug, PartialEq, Eq, Drop)]
+#[derive(PartialEq, Eq, Drop)]
 pub struct Snapshots {
     list: ArrayVec<Snapshot, SNAPSHOT_ROOM>,
 }
@@ -95,7 +96,7 @@ impl Snapshots {
         let list = self.as_slice();
         list.len() <= limits.snapshots as usize
             && are_rising(list)
-            && are_within(limits.snapshots, list)
+            && are_within(limits.largest_bit, list)
             && are_distinct(list)
     }
 }

@@ -10,7 +10,7 @@ use crate::{Block, Places, Reader, put_bytes, put_u32, put_zeros};
 const MAGIC: [u8; 8] = *b"SNAPFSYS";
 
 /// What the first block says of its disk.
-#[derive(Clone, Copy, Debug, PartialEq, Eq)]
+#[derive(Clone, Copy, PartialEq, Eq)]
 pub struct Superblock {
     pub places: Places,
 }

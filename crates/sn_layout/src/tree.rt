@@ -9,7 +9,7 @@ ghost use Rattle.sn_layout.specs.Pointers.{span_of};
 use crate::{Pointers, Reader, put_u64};
 
 /// The root of the blocks of a file: how many bytes it has, and where they are.
-#[derive(Clone, Copy, Debug, Default, PartialEq, Eq)]
+#[derive(Clone, Copy, Default, PartialEq, Eq)]
 pub struct BlockTree {
     pub size: u64,
     pub pointers: Pointers,

@@ -27,7 +27,7 @@ pub const NAMED_MAX: usize = 33;
 
 /// The entries USER, GROUP and MASK of an access ACL, in canonical order. With USER_OBJ, GROUP_OBJ
 /// and OTHER they are a valid ACL.
-#[derive(Debug, PartialEq, Eq, Drop)]
+#[derive(PartialEq, Eq, Drop)]
 pub struct NamedEntries {
     entries: ArrayVec<Entry, MAX_ENTRIES>,
 }
@@ -168,7 +168,7 @@ impl NamedEntries {
 }
 
 /// An access ACL as an inode keeps it.
-#[derive(Debug, PartialEq, Eq, Drop)]
+#[derive(PartialEq, Eq, Drop)]
 pub struct AclParts {
     /// What USER_OBJ, GROUP_OBJ and OTHER grant, which its mode bits hold.
     pub objects: Mode,
@@ -200,7 +200,7 @@ impl AclParts {
 
 /// The entries of an inode's ACLs that its mode bits don't hold. A block is taken only where there
 /// are some.
-#[derive(Debug, PartialEq, Eq, Drop)]
+#[derive(PartialEq, Eq, Drop)]
 pub struct AclBlock {
     pub access: NamedEntries,
     /// The default ACL of a directory.

@@ -8,7 +8,8 @@ ghost use Rattle.sn_layout_node.specs.Inode.{IsContent, content_bytes, size_of, 
 ghost use Rattle.sn_layout_node.specs.declared.content.Content.{Content as TheContent};
 
 use arrayvec::ArrayVec;
-use sn_layout::{BlockTree, Limits, Pointers, Reader, put_bytes, put_zeros};
+use sn_layout::{BlockTree, Pointers, Reader, put_bytes, put_zeros};
+use sn_limits::Limits;
 use sn_walk::Kind;
 use std::marker::Model;
 
@@ -16,7 +17,7 @@ use std::marker::Model;
 pub const INLINE_MAX: usize = 64;
 
 /// At most 64 bytes of a file, which its inode holds.
-#[derive(Debug, PartialEq, Eq, Drop)]
+#[derive(PartialEq, Eq, Drop)]
 pub struct InlineBytes {
     bytes: ArrayVec<u8, INLINE_MAX>,
 }
@@ -83,7 +84,7 @@ impl InlineBytes {
 }
 
 /// What a file or a directory is made of.
-#[derive(Debug, PartialEq, Eq, Drop)]
+#[derive(PartialEq, Eq, Drop)]
 pub enum Content {
     /// The bytes of a file that has at most 64.
     Inline(InlineBytes),

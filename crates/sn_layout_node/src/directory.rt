@@ -17,7 +17,7 @@ use sn_layout::{BLOCK_SIZE, Block, Reader, put_u16, put_zeros};
 use std::marker::Model;
 
 /// A name in a directory, lent from its block.
-#[derive(Clone, Copy, Debug, PartialEq, Eq)]
+#[derive(Clone, Copy, PartialEq, Eq)]
 pub struct DirectoryEntry<'a> {
     /// The number of the inode that the name stands for.
     pub number: u16,

@@ -14,7 +14,7 @@ use sn_layout::{Reader, put_u8};
 use sn_walk::Kind;
 
 /// The mode bits of a node beside the rights of its classes.
-#[derive(Clone, Copy, Debug, Default, PartialEq, Eq)]
+#[derive(Clone, Copy, Default, PartialEq, Eq)]
 pub struct SpecialBits {
     /// S_ISGID.
     pub set_gid: bool,

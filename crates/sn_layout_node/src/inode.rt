@@ -20,7 +20,8 @@ ghost use Rattle.sn_layout_node.specs.Inode.{are_links};
 use crate::Content;
 use crate::head::Head;
 use sn_acl::Mode;
-use sn_layout::{Limits, Reader, put_zeros};
+use sn_layout::{Reader, put_zeros};
+use sn_limits::Limits;
 use sn_layout_acl::fitting;
 use sn_walk::Kind;
 
@@ -31,7 +32,7 @@ pub const INODE_SIZE: usize = 128;
 pub const LINKS_MAX: u16 = 32_767;
 
 /// A file or a directory, but for the bytes that lie in blocks.
-#[derive(Debug, PartialEq, Eq, Drop)]
+#[derive(PartialEq, Eq, Drop)]
 pub struct Inode {
     pub kind: Kind,
     /// S_ISGID.
@@ -145,7 +146,7 @@ impl Inode {
 }
 
 /// A record of the inode file.
-#[derive(Debug, PartialEq, Eq, Drop)]
+#[derive(PartialEq, Eq, Drop)]
 pub enum InodeRecord {
     Unused,
     Used(Inode),

@@ -2,7 +2,7 @@ ghost use Rattle.std.specs.Prelude.{◌≡◌};
 ghost use Rattle.sn_limits.specs.Versions.{limits_of};
 
 /// What a version of the format allows, and what its calls are charged.
-#[derive(Clone, Copy, Debug, PartialEq, Eq)]
+#[derive(Clone, Copy, PartialEq, Eq)]
 pub struct Limits {
     pub version: u32,
     /// The largest number of a node. The least is that of the root directory, 2.

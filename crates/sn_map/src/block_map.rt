@@ -9,7 +9,7 @@ use std::marker::Model;
 
 /// One word for each block: bit 0 is set where the live file system reaches the block, bit k where
 /// the snapshot with bit k does (Hitz, Lau and Malcolm 1994, block-map file).
-#[derive(Debug, Drop)]
+#[derive(Drop)]
 pub struct Map {
     words: Vec<u32>,
 }

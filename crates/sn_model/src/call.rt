@@ -1,7 +1,7 @@
 use crate::{Groups, Word};
 
 /// What a session asks for.
-#[derive(Debug, Drop)]
+#[derive(Drop)]
 pub enum Call {
     /// Opens the session, with a credential and the umask 0022.
     Login { uid: u32, gid: u32, groups: Groups },
@@ -12,7 +12,7 @@ pub enum Call {
 }
 
 /// One line of a script.
-#[derive(Debug, Drop)]
+#[derive(Drop)]
 pub enum Event {
     /// A call of the session with this number.
     Call { session: u32, call: Call },

@@ -5,7 +5,7 @@ use sn_walk::Kind;
 use std::marker::Model;
 
 /// Bytes that a change brings, lent by the call or the record that it comes from.
-#[derive(Debug, Drop)]
+#[derive(Drop)]
 pub struct Bytes<'a> {
     bytes: &'a [u8],
 }
@@ -33,7 +33,7 @@ impl<'a> Bytes<'a> {
 }
 
 /// What a make and a setting of attributes give a node: who owns it, its S bits and its ACLs.
-#[derive(PartialEq, Eq, Debug, Drop)]
+#[derive(PartialEq, Eq, Drop)]
 pub struct Ownership {
     pub owner: u32,
     pub group: u32,
@@ -48,7 +48,7 @@ pub struct Ownership {
 
 /// A change of the name tree, decided once: what is logged, applied, and replayed after a crash. It
 /// names numbers, since the rights of whoever asked were looked at when it was decided.
-#[derive(Debug, Drop)]
+#[derive(Drop)]
 pub enum Change<'a> {
     /// A new file without bytes, or a new directory, under a name.
     Make {

@@ -5,7 +5,7 @@ use std::alloc::{AllocError, Global};
 use std::marker::Model;
 
 /// The supplementary groups that a login names, in its order: 32 at the most.
-#[derive(Debug, Drop)]
+#[derive(Drop)]
 pub struct Groups {
     numbers: Vec<u32>,
 }

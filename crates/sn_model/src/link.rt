@@ -1,7 +1,7 @@
 use crate::Word;
 
 /// A name of a directory.
-#[derive(Debug, Drop, PartialEq, Eq, PartialOrd, Ord)]
+#[derive(Drop, PartialEq, Eq, PartialOrd, Ord)]
 pub struct Link {
     pub directory: u16,
     pub name: Word,

@@ -4,7 +4,7 @@ use sn_acl::{Mode, Tag};
 use sn_walk::Kind;
 
 /// Why a call was refused, by the names that POSIX.1-2017 has in <errno.h>, and two of our own.
-#[derive(Clone, Copy, Debug, PartialEq, Eq, Hash)]
+#[derive(Clone, Copy, PartialEq, Eq, Hash)]
 pub enum Errno {
     Eacces,
     Eperm,
@@ -32,7 +32,7 @@ pub enum Errno {
 }
 
 /// What decided that a right is lacking.
-#[derive(Clone, Copy, Debug, PartialEq, Eq, Hash)]
+#[derive(Clone, Copy, PartialEq, Eq, Hash)]
 pub enum Rule {
     /// An entry of the ACL.
     Entry(Tag),
@@ -44,7 +44,7 @@ pub enum Rule {
 }
 
 /// An access that was asked. Of a directory, execute is to search it.
-#[derive(Clone, Copy, Debug, PartialEq, Eq, Hash)]
+#[derive(Clone, Copy, PartialEq, Eq, Hash)]
 pub struct Access {
     pub read: bool,
     pub write: bool,
@@ -66,7 +66,7 @@ impl Access {
 }
 
 /// Where and why a right is lacking.
-#[derive(Clone, Copy, Debug, PartialEq, Eq, Hash)]
+#[derive(Clone, Copy, PartialEq, Eq, Hash)]
 pub struct Denial {
     /// Which path of the call, 1 or 2. A call without a path has 0.
     pub path: u8,
@@ -78,7 +78,7 @@ pub struct Denial {
 }
 
 /// Why a call was refused. A lack of rights, EACCES or EPERM, comes with its denial.
-#[derive(Clone, Copy, Debug, PartialEq, Eq, Hash)]
+#[derive(Clone, Copy, PartialEq, Eq, Hash)]
 pub struct Refusal {
     pub errno: Errno,
     pub denial: Option<Denial>,
@@ -99,7 +99,7 @@ impl Refusal {
 }
 
 /// What stat answers.
-#[derive(Clone, Copy, Debug, PartialEq, Eq, Hash)]
+#[derive(Clone, Copy, PartialEq, Eq, Hash)]
 pub struct Status {
     pub kind: Kind,
     /// S_ISGID.
@@ -117,7 +117,7 @@ pub struct Status {
 }
 
 /// The answer to an event.
-#[derive(Clone, Copy, Debug, PartialEq, Eq, Hash)]
+#[derive(Clone, Copy, PartialEq, Eq, Hash)]
 pub enum Reply {
     /// It is done, and there is nothing to tell.
     Done,
@@ -126,7 +126,7 @@ pub enum Reply {
 }
 
 /// How a run ended.
-#[derive(Clone, Copy, Debug, PartialEq, Eq, Hash)]
+#[derive(Clone, Copy, PartialEq, Eq, Hash)]
 pub enum End {
     /// Each event was answered.
     Clean,
@@ -136,7 +136,7 @@ pub enum End {
 }
 
 /// Why there is no mount.
-#[derive(Clone, Copy, Debug, PartialEq, Eq, Hash)]
+#[derive(Clone, Copy, PartialEq, Eq, Hash)]
 pub enum MountFault {
     /// The tree and the sessions found no memory.
     Memory,

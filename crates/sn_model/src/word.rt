@@ -11,7 +11,7 @@ use std::cmp::Ordering;
 use std::marker::Model;
 
 /// The bytes of a call's word or of a name, held at their own length.
-#[derive(Debug, Drop)]
+#[derive(Drop)]
 pub struct Word {
     bytes: Vec<u8>,
 }

@@ -33,7 +33,7 @@ impl fmt::Display for PathFault {
 impl Error for PathFault {}
 
 /// A path from the root: its names in order, none for `/`. It borrows the word that it was read from.
-#[derive(Debug, Drop)]
+#[derive(Drop)]
 pub struct Path<'a> {
     /// The names with a slash between each two, where there is a name.
     text: Option<&'a [u8]>,

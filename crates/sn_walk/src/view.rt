@@ -4,14 +4,14 @@ use sn_acl::Acl;
 pub const ROOT_NUMBER: u16 = 2;
 
 /// What a node is.
-#[derive(Clone, Copy, Debug, PartialEq, Eq, Hash)]
+#[derive(Clone, Copy, PartialEq, Eq, Hash)]
 pub enum Kind {
     File,
     Directory,
 }
 
 /// What is known of a node without its bytes or names.
-#[derive(Debug, Drop)]
+#[derive(Drop)]
 pub struct Attributes {
     pub kind: Kind,
     /// S_ISGID.
@@ -29,7 +29,7 @@ pub struct Attributes {
 }
 
 /// What a name can stand for.
-#[derive(Clone, Copy, Debug, PartialEq, Eq, Hash)]
+#[derive(Clone, Copy, PartialEq, Eq, Hash)]
 pub enum Object {
     /// The node with this number in the live tree.
     Node(u16),

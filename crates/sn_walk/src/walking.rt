@@ -9,7 +9,7 @@ use sn_acl::{Acl, Cred, Mode, Permissions, Tag, check};
 const HIDDEN_NAME: &[u8] = b".snapshot";
 
 /// Why a walk stopped at a place.
-#[derive(Clone, Copy, Debug, PartialEq, Eq, Hash)]
+#[derive(Clone, Copy, PartialEq, Eq, Hash)]
 pub enum Obstacle {
     /// What is at the place is no directory.
     NotADirectory,
@@ -20,14 +20,14 @@ pub enum Obstacle {
 }
 
 /// A walk's refusal. Place 0 is the root, and place i is what the first i names stand for.
-#[derive(Clone, Copy, Debug, PartialEq, Eq, Hash)]
+#[derive(Clone, Copy, PartialEq, Eq, Hash)]
 pub struct WalkRefusal {
     pub place: u16,
     pub obstacle: Obstacle,
 }
 
 /// Why a walk has no answer.
-#[derive(Debug, Drop)]
+#[derive(Drop)]
 pub enum WalkError<F> {
     Refused(WalkRefusal),
     /// A look-up of the view found a fault.
@@ -35,7 +35,7 @@ pub enum WalkError<F> {
 }
 
 /// Where a path leads.
-#[derive(Clone, Copy, Debug, PartialEq, Eq)]
+#[derive(Clone, Copy, PartialEq, Eq)]
 pub enum Walked {
     /// The path is `/`.
     Root,

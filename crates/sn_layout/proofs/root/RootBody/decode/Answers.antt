@@ -3,7 +3,7 @@ use Rattle.std.proofs.lemmas.List.{append-nil, nil_from_length}
 use Rattle.sn_layout.specs.declared.root.Head.{Head}
 use Rattle.sn_layout.specs.declared.root.RootBody.{RootBody}
 use Rattle.sn_layout.specs.Bytes.{zeros}
-use Rattle.sn_layout.specs.Limits.{limits_of}
+use Rattle.sn_limits.specs.Versions.{limits_of}
 use Rattle.sn_layout.specs.RootBody.{IsAge, head_of, head_bytes}
 use Rattle.sn_layout.proofs.Fields.{true_false, some_none, some_some}
 use Rattle.sn_layout.proofs.Roots.{few, known, head_read, body_is}
