@@ -26,7 +26,8 @@ use Rattle.sn_model.specs.Tree.{Tree, Node, attributes_of, link_to, names_in, na
 use Rattle.sn_model.specs.World.{World}
 use Rattle.sn_model.specs.NameTree.{IsNode, IsTree}
 use Rattle.sn_model.specs.Changes.{is_acl, is_default_acl, is_ownership, is_free_number, file_at, node_with, made}
-use Rattle.sn_model.specs.Tests.{◌>>=◌, plain, logged_out, flat, session_at, is_open, logged_in, read_path, path_argument, mode_from_bits, new_mode_argument}
+use Rattle.sn_walk.specs.Chains.{◌>>=◌}
+use Rattle.sn_model.specs.Tests.{plain, logged_out, flat, session_at, is_open, logged_in, read_path, path_argument, mode_from_bits, new_mode_argument}
 use Rattle.sn_model.specs.declared.reply.Reply.TheVariants as reply
 use Rattle.sn_model.specs.declared.reply.Status.{Status}
 use Rattle.sn_limits.specs.declared.limits.Limits.{Limits}
@@ -39,8 +40,9 @@ use Rattle.sn_model.specs.Worlds.{IsCaller, IsPlace, IsCall, IsWorld}
 use Rattle.sn_model.proofs.ChainLemmas.{and_left, and_right, and_both, or_right}
 use Rattle.sn_model.proofs.NameLemmas.{no_names_for}
 use Rattle.sn_model.proofs.PartLemmas.{is_directory_at, made_of}
+use Rattle.sn_walk.proofs.ChainLemmas.{bind_ok}
 use Rattle.sn_model.proofs.DecisionLemmas as found
-use Rattle.sn_model.proofs.DecisionLemmas.{Made, bind_ok, same_ok, mkdir_is, stat_is}
+use Rattle.sn_model.proofs.DecisionLemmas.{Made, same_ok, mkdir_is, stat_is}
 
 -- what `IsValid` says, the test of an ACL finds
 acl_of : (es : List Entry) → IsValid es → is_acl es ≡ true

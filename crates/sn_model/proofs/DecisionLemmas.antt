@@ -17,6 +17,7 @@ use Rattle.sn_walk.specs.declared.walking.Walked.TheVariants.{Root, Name}
 use Rattle.sn_walk.specs.Paths.{last_after}
 use Rattle.sn_walk.specs.Views.{attributes_at, child_of, is_hidden_name}
 use Rattle.sn_walk.specs.Walks.{EndsAt, walk_of}
+use Rattle.sn_walk.proofs.ChainLemmas.{bind_ok}
 use Rattle.sn_walk.proofs.WalkLemmas.{ends_at}
 use Rattle.sn_model.specs.declared.reply.Access.{Access}
 use Rattle.sn_model.specs.declared.reply.Errno.TheVariants.{Elimit}
@@ -24,15 +25,12 @@ use Rattle.sn_model.specs.declared.reply.Refusal.{Refusal}
 use Rattle.sn_model.specs.declared.reply.Status.{Status}
 use Rattle.sn_model.specs.declared.session.Session.{Session}
 use Rattle.sn_model.specs.Tree.{Tree, Node, attributes_of, link_to, names_in, least_unused, viewed}
-use Rattle.sn_model.specs.Tests.{◌>>=◌, plain, prefix, walked, not_present, vacant, live, rights_of, unless_denied, granted, write, writable_parent, has_room, full}
+use Rattle.sn_walk.specs.Chains.{◌>>=◌}
+use Rattle.sn_model.specs.Tests.{plain, prefix, walked, not_present, vacant, live, rights_of, unless_denied, granted, write, writable_parent, has_room, full}
 use Rattle.sn_model.specs.declared.reply.Reply.TheVariants as reply
 use Rattle.sn_limits.specs.declared.limits.Limits.{Limits}
 use Rattle.sn_model.specs.Outcomes.{Outcome, tells, makes}
 use Rattle.sn_model.specs.Calls.{mkdir_outcome, stat_outcome, told, status_of, number_of, new_directory, last_name}
-
-pub bind_ok : {A B : Type 0} (r : Result A Refusal) (f : A → Result B Refusal) (y : B) → (r >>= f) ≡ Ok y → (x : A) × (r ≡ Ok x) × (f x ≡ Ok y)
-bind_ok (Ok x) f y e = (x, refl, e)
-bind_ok (Err r) f y e = cc
 
 abbrev pub ok : {A : Type 0} → A → Result A Refusal
 ok x = Ok x

@@ -22,7 +22,8 @@ use Rattle.sn_model.specs.Outcomes.{Outcome, tells, opens, makes}
 use Rattle.sn_model.specs.Tree.{Tree, link_to, viewed}
 use Rattle.sn_model.specs.declared.session.Session.{Session}
 use Rattle.sn_model.specs.World.{World}
-use Rattle.sn_model.specs.Tests.{◌>>=◌, plain, logged_in, logged_out, path_argument, new_mode_argument, prefix, full, not_present, live, writable_parent, has_room}
+use Rattle.sn_walk.specs.Chains.{◌>>=◌}
+use Rattle.sn_model.specs.Tests.{plain, logged_in, logged_out, path_argument, new_mode_argument, prefix, full, not_present, live, writable_parent, has_room}
 
 -- a call whose session and arguments have passed
 pub data Ready : Type 0 where

@@ -17,7 +17,8 @@ use Rattle.sn_model.specs.Tree.{Tree}
 use Rattle.sn_model.specs.World.{World}
 use Rattle.sn_model.specs.Changes.{apply}
 use Rattle.sn_model.specs.Outcomes.{Pending, Nothing, Makes, Does, Caller, Stays, LogsIn, Outcome}
-use Rattle.sn_model.specs.Tests.{◌>>=◌, plain}
+use Rattle.sn_walk.specs.Chains.{◌>>=◌}
+use Rattle.sn_model.specs.Tests.{plain}
 use Rattle.sn_model.specs.Calls.{ready, outcome_of}
 
 -- the first refusal of a call, or what it comes to

@@ -16,6 +16,7 @@ use Rattle.sn_walk.specs.declared.walking.Obstacle.TheVariants.{NotADirectory, D
 use Rattle.sn_walk.specs.declared.walking.WalkRefusal.{WalkRefusal}
 use Rattle.sn_walk.specs.declared.walking.Walked.{Walked}
 use Rattle.sn_walk.specs.declared.walking.Walked.TheVariants.{Root, Name}
+use Rattle.sn_walk.specs.Chains.{◌>>=◌}
 use Rattle.sn_walk.specs.Paths.{parsed}
 use Rattle.sn_walk.specs.Views.{attributes_at}
 use Rattle.sn_walk.specs.Walks.{walk_of}
@@ -28,11 +29,6 @@ use Rattle.sn_limits.specs.declared.limits.Limits.{Limits}
 use Rattle.sn_model.specs.Tree.{Tree, viewed, names_in, least_unused}
 use Rattle.sn_model.specs.declared.session.Session.{Session}
 use Rattle.sn_model.specs.World.{World}
-
-infixl 10 ◌>>=◌
-abbrev pub ◌>>=◌ : {A B : Type 0} → Result A Refusal → (A → Result B Refusal) → Result B Refusal
-(Ok x) >>= f = f x
-(Err e) >>= f = Err e
 
 -- a refusal that isn't for lack of a right
 abbrev pub plain : Errno → Refusal

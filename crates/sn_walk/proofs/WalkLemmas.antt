@@ -14,7 +14,9 @@ use Rattle.sn_walk.specs.declared.walking.Walked.{Walked}
 use Rattle.sn_walk.specs.declared.walking.Walked.TheVariants.{Root, Name}
 use Rattle.sn_walk.specs.Views.{ViewedTree}
 use Rattle.sn_walk.specs.Views.{attributes_at, child_of, is_directory}
-use Rattle.sn_walk.specs.Walks.{◌>>=◌, EndsAfter, EndsAt, Fails, admitted, passed, present, refusal, searched, walk_from, walk_of}
+use Rattle.sn_walk.specs.Chains.{◌>>=◌}
+use Rattle.sn_walk.specs.Walks.{EndsAfter, EndsAt, Fails, admitted, passed, present, refusal, searched, walk_from, walk_of}
+use Rattle.sn_walk.proofs.ChainLemmas.{bind_ok}
 
 -- a place that refuses is the walk's refusal
 refused_on : (tree : ViewedTree) (cred : Credential) (place : ℕ) (directory : Object) (name : List ℕ) (names : List (List ℕ)) (r : WalkRefusal) → passed tree cred place directory name ≡ Err r → walk_from tree cred place directory name names ≡ Err r
@@ -37,10 +39,6 @@ walk-on tree cred place directory child name next names e = ap (λ p. p >>= (λ 
 pub walk-last : (tree : ViewedTree) (cred : Credential) (place : ℕ) (directory : Object) (name : List ℕ) (object : Option Object) → passed tree cred place directory name ≡ Ok object → walk_from tree cred place directory name [] ≡ Ok (Name directory place object)
 unfolding walk_from
 walk-last tree cred place directory name object e = ap (λ p. p >>= (λ o. Ok (Name directory place o))) e
-
-bind_ok : {A B : Type 0} (r : Result A WalkRefusal) (f : A → Result B WalkRefusal) (y : B) → (r >>= f) ≡ Ok y → (x : A) × (r ≡ Ok x) × (f x ≡ Ok y)
-bind_ok (Ok x) f y e = (x, refl, e)
-bind_ok (Err r) f y e = cc
 
 abbrev ok : {A : Type 0} → A → Result A WalkRefusal
 ok x = Ok x

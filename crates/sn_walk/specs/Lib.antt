@@ -1,3 +1,4 @@
+pub mod Chains
 pub mod Names
 pub mod Paths
 pub mod Views

@@ -15,14 +15,9 @@ use Rattle.sn_walk.specs.declared.walking.WalkError.{WalkError}
 use Rattle.sn_walk.specs.declared.walking.WalkError.TheVariants.{Refused, Fault}
 use Rattle.sn_walk.specs.declared.walking.Walked.{Walked}
 use Rattle.sn_walk.specs.declared.walking.Walked.TheVariants.{Root, Name}
+use Rattle.sn_walk.specs.Chains.{◌>>=◌}
 use Rattle.sn_walk.specs.Paths.{last_after}
 use Rattle.sn_walk.specs.Views.{ViewedTree, attributes_at, child_of, is_directory}
-
--- a test that passes hands its value on, and the first that fails is the refusal
-infixl 10 ◌>>=◌
-abbrev pub ◌>>=◌ : {A B : Type 0} → Result A WalkRefusal → (A → Result B WalkRefusal) → Result B WalkRefusal
-(Ok x) >>= f = f x
-(Err e) >>= f = Err e
 
 abbrev pub refusal : ℕ → Obstacle → WalkRefusal
 refusal place obstacle = record { place = place; obstacle = obstacle }
