@@ -35,17 +35,19 @@ fn answer(alloc: Global, world: &mut PlainWorld, events: &[Event], replies: &mut
 /// logged in. Each event has one reply, and a new node has the least unused number.
 ///
 /// The room for the replies is looked for first, and then that for the tree and the sessions:
-/// without either nothing is done.
+/// without either nothing is done. A run that finds none for the tree hands back the list with the
+/// room for all replies.
 pub fn run_plain(alloc: Global, events: &[Event]) -> (Vec<Reply>, End)
     ensures clean { result.1 ≡ End.Clean → (last : World) × Run new_world events.now result.0.items last }
     ensures least { result.1 ≡ End.Clean → (last : World) × PlainRun new_world events.now result.0.items last }
     ensures nothing { result.1 ≢ End.Clean → result.0.items ≡ [] }
+    ensures mount { result.1 ≡ End.Mount MountFault.Memory → length events.now ≤ vec_capacity result.0 }
 {
     let Ok(mut replies) = room_for(alloc, events.len()) else {
         return (Vec::new(alloc), End::Memory);
     };
     let Ok(mut world) = PlainWorld::new(alloc) else {
-        return (Vec::new(alloc), End::Mount(MountFault::Memory));
+        return (replies, End::Mount(MountFault::Memory));
     };
     answer(alloc, &mut world, events, &mut replies);
     (replies, End::Clean)

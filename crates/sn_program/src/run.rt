@@ -86,6 +86,7 @@ pub fn program<R: Files + AllocGlobal, W: Write, E: Write, S: AsStr>(
     // What was written is an answer to some script: which bytes the file gave can't be said here.
     ensures answered { result ≡ 0 → HasAnswered (W.contents out.old) (W.contents out.new) }
     ensures words { result ≡ 2 → out.new ≡ out.old }
+    ensures quiet { result ≡ 0 → err.new ≡ err.old }
     ensures status { result ≤ 2 }
 {
     match execute(rt, words, out) {
