@@ -7,7 +7,8 @@
 # replies of the run without it. Else one reply at the most is `err ENOMEM`; a directory that wasn't made by that
 # call is made by the next one, which is the same; and all other replies stay.
 #
-# A test program with one refusal may say that it found no memory. Each case that it finds wrong has to be so for
+# A test program with one refusal may say that it found no memory, or that the device in memory has come to its end for
+# want of it. Each case that it finds wrong has to be so for
 # want of memory, and all else that it prints is what it prints without the refusal.
 set -eu
 top=$(cd "$(dirname "$0")/.." && pwd)
@@ -116,7 +117,7 @@ tested() {
         cmp -s "$work/out" "$work/whole"
         return
     fi
-    grep -qiE 'memory|went wrong' "$work/err" || return 1
+    grep -qiE 'memory|went wrong|device failed' "$work/err" || return 1
     grep '^wrong: ' "$work/out" | grep -qvE 'ENOMEM|emory' && return 1
     # What is left has to be a front of the run without refusals, but for the counts of the wrong cases.
     grep -v '^wrong: ' "$work/out" | sed -E 's/, [0-9]+ wrong$//' > "$work/front"

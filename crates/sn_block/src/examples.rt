@@ -1,5 +1,5 @@
 //! Layers over blocks, as examples. Each is proved over any device from the contracts of `Blocks` alone.
-ghost use Rattle.std.specs.Prelude.{◌≡◌, ◌≢◌, ◌+◌, ◌*◌, ◌<◌, ◌≤◌, ℕ, List, IsTrue, IfOk, OnOk, slice_index};
+ghost use Rattle.std.specs.Prelude.{◌≡◌, ◌≢◌, ◌↔◌, ◌+◌, ◌*◌, ◌<◌, ◌≤◌, ℕ, List, IsTrue, IfOk, OnOk, slice_index};
 ghost use Rattle.sn_device.specs.Sectors.{Run, sector_at};
 ghost use Rattle.sn_device.specs.Disk.{reads, Always, IsSynced};
 ghost use Rattle.sn_device.specs.Crash.{LeavesOnly, Touches};
@@ -20,8 +20,8 @@ pub fn begin_alike<D: Device>(
     ensures same { IsTrue D.tells_bytes
         → D.disk (device_of blocks.new) ≡ D.disk (device_of blocks.old) }
     ensures alike { IsTrue D.tells_bytes → IfOk result (λ alike. IsTrue alike
-        → slice_index (block_at (reads (D.disk (device_of blocks.old))) first) 0
-        ≡ slice_index (block_at (reads (D.disk (device_of blocks.old))) second) 0) }
+        ↔ (slice_index (block_at (reads (D.disk (device_of blocks.old))) first) 0
+        ≡ slice_index (block_at (reads (D.disk (device_of blocks.old))) second) 0)) }
 {
     let first = blocks.read_block(first)?[0];
     let second = blocks.read_block(second)?[0];

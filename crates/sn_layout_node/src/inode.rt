@@ -21,8 +21,8 @@ use crate::Content;
 use crate::head::Head;
 use sn_acl::Mode;
 use sn_layout::{Reader, put_zeros};
-use sn_limits::Limits;
 use sn_layout_acl::fitting;
+use sn_limits::Limits;
 use sn_walk::Kind;
 
 /// The bytes of an inode's record.
