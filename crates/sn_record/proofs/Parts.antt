@@ -1,8 +1,8 @@
 -- An ACL as the rights of its classes and its other entries.
-use Rattle.std.proofs.Common.{◌≡◌, ℕ, ◌+◌, ◌-◌, ◌<◌, ◌≤◌, Bool, true, false, cond, List, [], ◌∷◌, ◌++◌, Option, Some, None, length, take, drop, refl, sym, ap, subst, ◌∙◌, append_assoc, arith}
-use Rattle.std.specs.Prelude.{◌&&◌, ◌||◌, not, filter, find}
+use Rattle.std.proofs.Common.{◌≡◌, ℕ, zero, suc, ◌+◌, ◌<◌, Bool, true, false, cond, List, [], ◌∷◌, ◌++◌, Some, length, take, drop, refl, sym, ap, subst, ◌∙◌, append_assoc, arith}
+use Rattle.std.specs.Prelude.{not, filter}
 use Rattle.std.specs.List.{AllByRecursion}
-use Rattle.std.proofs.lemmas.List.{take-append-drop}
+use Rattle.std.proofs.lemmas.List.{take-append-drop, append-nil}
 use Rattle.std.proofs.lemmas.List.Elements.{filter-append}
 use Rattle.sn_acl.specs.declared.entries.Tag.{Tag}
 use Rattle.sn_acl.specs.declared.entries.Tag.TheVariants.{UserObj, User, GroupObj, Group, Mask, Other}
@@ -13,7 +13,7 @@ use Rattle.sn_acl.specs.AccessList.{IsValid, count_of}
 use Rattle.sn_acl.specs.Modes.{entry_of, granted_by}
 use Rattle.sn_layout_acl.specs.AclEntry.{IsEntry}
 use Rattle.sn_layout_acl.specs.Mode.{IsMode}
-use Rattle.sn_layout_acl.specs.AclBlock.{users_in, joined, with_objects, IsNamedPart}
+use Rattle.sn_layout_acl.specs.AclBlock.{users_in, joined, IsNamedPart}
 use Rattle.sn_layout_acl.proofs.AclLists.{valid_entries}
 use Rattle.sn_layout_acl.proofs.Joining.{parts_of, joined_parts, named_valid}
 use Rattle.sn_record.specs.Payload.{objects_of, is_object, named_of}
@@ -75,5 +75,100 @@ keeps : (es : List Entry) → AreNamed es → named_of es ≡ es
 keeps [] h = refl
 keeps (e ∷ es) h = let here = h.0 in rw here (ap (λ (r : List Entry). e ∷ r) (keeps es h.1))
 
-all_front : (n : ℕ) (es : List Entry) → AreNamed (take n es) × AreNamed (drop n es) → AreNamed (take n es)
-all_front n es h = h.0
+-- none of the entries is the one that is looked for
+passes : (p : Tag → Bool) → ((t : Tag) → is_object t ≡ false → p t ≡ false) → (es rest : List Entry) → AreNamed es → entry_of p (es ++ rest) ≡ entry_of p rest
+passes p not_object [] rest h = refl
+passes p not_object (e ∷ es) rest h = let here = not_object e.tag h.0 in rw here (passes p not_object es rest h.1)
+
+no_group : (t : Tag) → is_object t ≡ false → is_group_obj t ≡ false
+no_group UserObj e = absurd cc
+no_group (User n) e = refl
+no_group GroupObj e = absurd cc
+no_group (Group n) e = refl
+no_group Mask e = refl
+no_group Other e = absurd cc
+
+no_other : (t : Tag) → is_object t ≡ false → is_other t ≡ false
+no_other UserObj e = absurd cc
+no_other (User n) e = refl
+no_other GroupObj e = refl
+no_other (Group n) e = refl
+no_other Mask e = refl
+no_other Other e = absurd cc
+
+front_named : (n : ℕ) (es : List Entry) → AreNamed es → AreNamed (take n es)
+front_named zero es h = tt
+front_named (suc n) [] h = tt
+front_named (suc n) (e ∷ es) h = (h.0, front_named n es h.1)
+
+back_named : (n : ℕ) (es : List Entry) → AreNamed es → AreNamed (drop n es)
+back_named zero es h = h
+back_named (suc n) [] h = tt
+back_named (suc n) (e ∷ es) h = back_named n es h.1
+
+flat : (mode : Mode) (users others : List Entry)
+    → ((entry UserObj mode.owner ∷ users) ++ (entry GroupObj mode.group ∷ others)) ++ entry Other mode.other ∷ []
+    ≡ entry UserObj mode.owner ∷ (users ++ (entry GroupObj mode.group ∷ (others ++ entry Other mode.other ∷ [])))
+flat mode users others = append_assoc (entry UserObj mode.owner ∷ users) (entry GroupObj mode.group ∷ others) (entry Other mode.other ∷ [])
+
+named_joined : (mode : Mode) (named : List Entry) → AreNamed named → named_of (joined mode named) ≡ named
+named_joined mode named each =
+    let n = users_in named in
+    let users = take n named in
+    let others = drop n named in
+    let last = entry Other mode.other ∷ [] in
+    let test = λ (e : Entry). not (is_object e.tag) in
+    let tail : named_of (others ++ last) ≡ others = filter-append test others last ∙ ap (λ (r : List Entry). r ++ []) (keeps others (back_named n named each)) ∙ append-nil others in
+    let front = keeps users (front_named n named each) in
+    ap named_of (flat mode users others)
+    ∙ filter-append test users (entry GroupObj mode.group ∷ (others ++ last))
+    ∙ ap (λ (r : List Entry). r ++ named_of (others ++ last)) front
+    ∙ ap (λ (r : List Entry). users ++ r) tail
+    ∙ take-append-drop n named
+
+objects_joined : (mode : Mode) (named : List Entry) → AreNamed named → objects_of (joined mode named) ≡ mode
+objects_joined mode named each =
+    let n = users_in named in
+    let users = take n named in
+    let others = drop n named in
+    let last = entry Other mode.other ∷ [] in
+    let group : entry_of is_group_obj (joined mode named) ≡ Some (entry GroupObj mode.group) =
+    ap (entry_of is_group_obj) (flat mode users others) ∙ passes is_group_obj no_group users (entry GroupObj mode.group ∷ (others ++ last)) (front_named n named each) in
+    let other : entry_of is_other (joined mode named) ≡ Some (entry Other mode.other) =
+    ap (entry_of is_other) (flat mode users others) ∙ passes is_other no_other users (entry GroupObj mode.group ∷ (others ++ last)) (front_named n named each) ∙ passes is_other no_other others last (back_named n named each) in
+    let owner : entry_of is_user_obj (joined mode named) ≡ Some (entry UserObj mode.owner) = ap (entry_of is_user_obj) (flat mode users others) in
+    rw (ap granted_by owner, ap granted_by group, ap granted_by other) refl
+
+-- ---- both ways
+
+-- a valid ACL is the join of its parts
+pub parts_join : (acl : List Entry) → IsValid acl → acl ≡ joined (objects_of acl) (named_of acl)
+parts_join acl v =
+    let (users, others, owner, group, other, s, p) = parts_of acl acl _ refl v refl in
+    let mode : Mode = record { owner = owner; group = group; other = other } in
+    let whole : acl ≡ joined mode (users ++ others) = s.whole ∙ sym (joined_parts users others owner group other s.each s.begins) in
+    let each = part_named mode (users ++ others) (subst IsValid whole v) in
+    let objects = ap objects_of whole ∙ objects_joined mode (users ++ others) each in
+    let named = ap named_of whole ∙ named_joined mode (users ++ others) each in
+    whole ∙ ap (λ (m : Mode). joined m (users ++ others)) (sym objects) ∙ ap (λ (r : List Entry). joined (objects_of acl) r) (sym named)
+
+-- and the parts of a join of valid parts are those
+pub join_parts : (acl named : List Entry) (mode : Mode) → IsNamedPart named → acl ≡ joined mode named → (objects_of acl ≡ mode) × (named_of acl ≡ named)
+join_parts acl named mode v e =
+    let each = part_named (record { owner = 0; group = 0; other = 0 }) named v in
+    (ap objects_of e ∙ objects_joined mode named each, ap named_of e ∙ named_joined mode named each)
+
+pub parts_named : (acl : List Entry) → IsValid acl → IsNamedPart (named_of acl)
+parts_named acl v = named_valid (objects_of acl) (named_of acl) (subst IsValid (parts_join acl v) v)
+
+granted_small : (p : Tag → Bool) (es : List Entry) → AllByRecursion IsEntry es → granted_by (entry_of p es) < 8
+granted_small p [] each = omega arith
+granted_small p (e ∷ es) each =
+    let here = each.0.permissions in
+    let rest = granted_small p es each.1 in
+    elim (p e.tag) as (λ b. granted_by (cond b (Some e) (entry_of p es)) < 8) [ true ↦ here | false ↦ rest ]
+
+pub parts_mode : (acl : List Entry) → IsValid acl → IsMode (objects_of acl)
+parts_mode acl v =
+    let each = valid_entries acl v in
+    record { owner = granted_small is_user_obj acl each; group = granted_small is_group_obj acl each; other = granted_small is_other acl each }

@@ -46,16 +46,29 @@ pub record IsOwnership (o : Ownership) : Type 0 where
 abbrev pub ownership_bytes : Ownership → List ℕ
 ownership_bytes o = flags_number o.set_gid o.sticky ∷ (mode_bytes (objects_of o.acl) ++ number_bytes 4 o.owner ++ number_bytes 4 o.group ++ acls_bytes (lists_of o))
 
--- A change that has a spelling: names that a directory can have, numbers that fit their fields, and at most 65,536 bytes
--- that are written. Whether it can be applied is not asked.
+-- numbers that fit their fields
+abbrev pub HasFittingNumbers : Change → Type 0
+HasFittingNumbers (Make directory name number kind o) = (directory < 256 ^ 2) × (number < 256 ^ 2) × IsOwnership o
+HasFittingNumbers (AddLink directory name number) = (directory < 256 ^ 2) × (number < 256 ^ 2)
+HasFittingNumbers (Remove directory name) = directory < 256 ^ 2
+HasFittingNumbers (Rename old_directory old_name new_directory new_name) = (old_directory < 256 ^ 2) × (new_directory < 256 ^ 2)
+HasFittingNumbers (Write number offset bytes) = (number < 256 ^ 2) × (offset < 256 ^ 8)
+HasFittingNumbers (SetSize number size) = (number < 256 ^ 2) × (size < 256 ^ 8)
+HasFittingNumbers (SetAttributes number o) = (number < 256 ^ 2) × IsOwnership o
+
+-- names that a directory can have, and 1 to 65,536 bytes that are written
+abbrev pub HasFittingBytes : Change → Type 0
+HasFittingBytes (Make directory name number kind o) = IsTrue (is_name name)
+HasFittingBytes (AddLink directory name number) = IsTrue (is_name name)
+HasFittingBytes (Remove directory name) = IsTrue (is_name name)
+HasFittingBytes (Rename old_directory old_name new_directory new_name) = IsTrue (is_name old_name) × IsTrue (is_name new_name)
+HasFittingBytes (Write number offset bytes) = (1 ≤ length bytes) × (length bytes ≤ 65536)
+HasFittingBytes (SetSize number size) = Unit {0}
+HasFittingBytes (SetAttributes number o) = Unit {0}
+
+-- A change that has a payload. Whether it can be applied to a tree is not asked: a file with a default ACL is spelled.
 abbrev pub IsSpelled : Change → Type 0
-IsSpelled (Make directory name number kind o) = (directory < 256 ^ 2) × (number < 256 ^ 2) × IsOwnership o × IsTrue (is_name name)
-IsSpelled (AddLink directory name number) = (directory < 256 ^ 2) × (number < 256 ^ 2) × IsTrue (is_name name)
-IsSpelled (Remove directory name) = (directory < 256 ^ 2) × IsTrue (is_name name)
-IsSpelled (Rename old_directory old_name new_directory new_name) = (old_directory < 256 ^ 2) × (new_directory < 256 ^ 2) × IsTrue (is_name old_name) × IsTrue (is_name new_name)
-IsSpelled (Write number offset bytes) = (number < 256 ^ 2) × (offset < 256 ^ 8) × (1 ≤ length bytes) × (length bytes ≤ 65536)
-IsSpelled (SetSize number size) = (number < 256 ^ 2) × (size < 256 ^ 8)
-IsSpelled (SetAttributes number o) = (number < 256 ^ 2) × IsOwnership o
+IsSpelled change = HasFittingNumbers change × HasFittingBytes change
 
 -- the first byte
 abbrev pub change_number : Change → ℕ

@@ -1,5 +1,5 @@
 //! The changes of a file's bytes: some written, or their number set.
-ghost use Rattle.std.specs.Prelude.{◌≡◌, ℕ, ◌+◌, ◌≤◌, List, [], ◌∷◌, ◌++◌, length, Some, IfSome};
+ghost use Rattle.std.specs.Prelude.{◌≡◌, ℕ, ◌+◌, ◌≤◌, List, [], ◌∷◌, ◌++◌, length, Some, IfSome, IsTrue, ◌↔◌};
 ghost use Rattle.sn_model.specs.declared.change.Change.TheVariants.{Write, SetSize};
 ghost use Rattle.sn_layout.specs.Bytes.{Puts};
 ghost use Rattle.sn_record.specs.Payload.{IsSpelled, fields_bytes, payload_bytes};
@@ -33,13 +33,19 @@ pub(crate) fn put_size(block: &mut [u8], at: usize, number: u16, size: u64) -> u
     put_u64(block, at, size)
 }
 
+pub(crate) fn is_written_size(count: usize) -> bool
+    ensures { IsTrue result ↔ ((1 ≤ count) × (count ≤ 65536)) }
+{
+    count > 0 && count <= WRITE_MAX
+}
+
 // All bytes that are left, if a record may write so many.
 fn read_written<'a>(reader: &mut Reader<'a>) -> Option<Bytes<'a>>
     ensures found { IfSome result (λ bytes. (1 ≤ length bytes) × (length bytes ≤ 65536) × (reader.old ≡ bytes ++ reader.new)) }
     ensures only { 1 ≤ length reader.old → length reader.old ≤ 65536 → (result ≡ Some reader.old) × (reader.new ≡ []) }
 {
     let count = reader.remaining();
-    if count == 0 || count > WRITE_MAX {
+    if !is_written_size(count) {
         return None;
     }
     Some(Bytes::new(reader.bytes(count)))

@@ -17,7 +17,11 @@
 //! ```
 #![tactic(auto)]
 
+mod attributes;
 mod contents;
 mod links;
+mod ownership;
+mod payload;
 
 pub use contents::WRITE_MAX;
+pub use payload::{PAYLOAD_MAX, decode, is_valid, payload_size, put_change};
