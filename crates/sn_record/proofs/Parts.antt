@@ -1,5 +1,5 @@
 -- An ACL as the rights of its classes and its other entries.
-use Rattle.std.proofs.Common.{◌≡◌, ℕ, zero, suc, ◌+◌, ◌<◌, Bool, true, false, cond, List, [], ◌∷◌, ◌++◌, Some, length, take, drop, refl, sym, ap, subst, ◌∙◌, append_assoc, arith}
+use Rattle.std.proofs.Common.{◌≡◌, ℕ, zero, suc, ◌+◌, ◌<◌, Bool, true, false, cond, List, [], ◌∷◌, ◌++◌, Some, length, take, drop, refl, sym, ap, subst, ◌∙◌, append_assoc, length-append, arith}
 use Rattle.std.specs.Prelude.{not, filter}
 use Rattle.std.specs.List.{AllByRecursion}
 use Rattle.std.proofs.lemmas.List.{take-append-drop, append-nil}
@@ -172,3 +172,14 @@ pub parts_mode : (acl : List Entry) → IsValid acl → IsMode (objects_of acl)
 parts_mode acl v =
     let each = valid_entries acl v in
     record { owner = granted_small is_user_obj acl each; group = granted_small is_group_obj acl each; other = granted_small is_other acl each }
+
+-- all but three entries are named
+pub parts_count : (acl : List Entry) → IsValid acl → length acl ≡ 3 + length (named_of acl)
+parts_count acl v =
+    let named = named_of acl in
+    let mode = objects_of acl in
+    let n = users_in named in
+    let first = entry UserObj mode.owner ∷ take n named in
+    let second = entry GroupObj mode.group ∷ drop n named in
+    let last = entry Other mode.other ∷ [] in
+    omega (arith, ap length (parts_join acl v), length-append (first ++ second) last, length-append first second, length-append (take n named) (drop n named), ap length (take-append-drop n named))

@@ -92,3 +92,7 @@ fields_bytes (SetAttributes number o) = number_bytes 2 number ++ ownership_bytes
 
 abbrev pub payload_bytes : Change → List ℕ
 payload_bytes change = change_number change ∷ fields_bytes change
+
+-- a payload has at least the byte of its kind, and at most the bytes of the longest write
+abbrev pub PayloadsFit : Type 0
+PayloadsFit = (change : Change) → IsSpelled change → (1 ≤ length (payload_bytes change)) × (length (payload_bytes change) ≤ 65547)

@@ -64,17 +64,18 @@ pub(crate) fn read_remove<'a>(reader: &mut Reader<'a>) -> Option<Change<'a>>
 pub(crate) fn put_rename(
     block: &mut [u8],
     at: usize,
-    directories: (u16, u16),
+    old_directory: u16,
     old_name: &[u8],
+    new_directory: u16,
     new_name: &[u8],
 ) -> usize
     requires old_name { IsTrue (is_name old_name.now) }
     requires new_name { IsTrue (is_name new_name.now) }
     requires room { at + 6 + length old_name.now + length new_name.now ≤ length block.old }
-    ensures { Puts block.old block.new at result (fields_bytes (Rename directories.0 old_name.now directories.1 new_name.now)) }
+    ensures { Puts block.old block.new at result (fields_bytes (Rename old_directory old_name.now new_directory new_name.now)) }
 {
-    let at = put_u16(block, at, directories.0);
-    let at = put_u16(block, at, directories.1);
+    let at = put_u16(block, at, old_directory);
+    let at = put_u16(block, at, new_directory);
     let at = put_name(block, at, old_name);
     put_name(block, at, new_name)
 }

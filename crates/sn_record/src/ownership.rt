@@ -14,13 +14,17 @@ ghost use Rattle.sn_layout.specs.Bytes.{Puts};
 ghost use Rattle.sn_layout_acl.specs.AclBlock.{IsDefault, IsNamedPart, entries_in};
 ghost use Rattle.sn_layout_acl.specs.Mode.{IsMode};
 ghost use Rattle.sn_model.specs.declared.change.Ownership.{Ownership as TheOwnership};
-ghost use Rattle.sn_record.specs.Payload.{IsOwnership, objects_of, named_of, lists_of, ownership_bytes};
+ghost use Rattle.sn_record.specs.Payload.{IsOwnership, objects_of, named_of, ownership_bytes};
+ghost use Rattle.sn_record.specs.Sizes.{entries_of};
 
 use sn_acl::{Acl, Mode};
 use sn_layout::{Reader, put_u32};
 use sn_layout_acl::{AclBlock, AclParts, NamedEntries, fitting, put_mode, read_mode};
 use sn_layout_node::{SpecialBits, put_special_bits, read_special_bits};
 use sn_model::Ownership;
+
+// The entries USER_OBJ, GROUP_OBJ and OTHER, which the rights say.
+const OBJECTS: usize = 3;
 
 fn parts_of(acl: &Acl) -> AclParts
     ensures objects { result.objects ≡ objects_of acl.now }
@@ -49,30 +53,37 @@ fn copy_of(default: &Option<Acl>) -> Option<Acl>
     }
 }
 
-pub(crate) fn lists_of(ownership: &Ownership) -> AclBlock
-    ensures { result ≡ lists_of ownership.now }
+// How many entries stand in both lists.
+pub(crate) fn entries_of(ownership: &Ownership) -> usize
+    ensures value { result ≡ entries_of ownership.now }
+    ensures most { result ≤ 69 }
 {
-    AclBlock {
-        access: parts_of(&ownership.acl).access,
-        default: copy_of(&ownership.default_acl),
+    let access = ownership.acl.entries().len() - OBJECTS;
+    match &ownership.default_acl {
+        Some(acl) => access + acl.entries().len(),
+        None => access,
     }
 }
 
 pub(crate) fn put_ownership(block: &mut [u8], at: usize, ownership: &Ownership) -> usize
-    requires { at + 13 + 8 * entries_in (lists_of ownership.now) ≤ length block.old }
+    requires { at + 13 + 8 * entries_of ownership.now ≤ length block.old }
     ensures bytes { Puts block.old block.new at result (ownership_bytes ownership.now) }
-    ensures next { result ≡ at + 13 + 8 * entries_in (lists_of ownership.now) }
+    ensures next { result ≡ at + 13 + 8 * entries_of ownership.now }
 {
     let bits = SpecialBits {
         set_gid: ownership.set_gid,
         sticky: ownership.sticky,
     };
     let parts = parts_of(&ownership.acl);
+    let lists = AclBlock {
+        access: parts.access,
+        default: copy_of(&ownership.default_acl),
+    };
     let at = put_special_bits(block, at, bits);
     let at = put_mode(block, at, parts.objects);
     let at = put_u32(block, at, ownership.owner);
     let at = put_u32(block, at, ownership.group);
-    lists_of(ownership).put_lists(block, at)
+    lists.put_lists(block, at)
 }
 
 pub(crate) fn read_ownership(reader: &mut Reader<'_>) -> Option<Ownership>

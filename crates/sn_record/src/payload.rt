@@ -10,13 +10,13 @@
 ghost use Rattle.std.specs.Prelude.{◌≡◌, ◌↔◌, ℕ, ◌+◌, ◌≤◌, ◌<◌, ◌^◌, List, [], ◌∷◌, ◌++◌, length, Some, IfSome, IsTrue};
 ghost use Rattle.sn_model.specs.declared.change.Change.{Change as TheChange};
 ghost use Rattle.sn_layout.specs.Bytes.{Puts};
-ghost use Rattle.sn_record.specs.Payload.{IsOwnership, HasFittingNumbers, HasFittingBytes, IsSpelled, change_number, fields_bytes, payload_bytes};
+ghost use Rattle.sn_record.specs.Payload.{IsOwnership, HasFittingNumbers, HasFittingBytes, IsSpelled, change_number, fields_bytes, payload_bytes, PayloadsFit};
 ghost use Rattle.sn_record.specs.Sizes.{entries_of, fields_size};
 
 use crate::attributes::{put_attributes, put_make, read_attributes, read_make};
 use crate::contents::{is_written_size, put_size, put_write, read_size, read_write};
 use crate::links::{put_link, put_remove, put_rename, read_link, read_remove, read_rename};
-use crate::ownership::lists_of;
+use crate::ownership::entries_of;
 use sn_layout::{Reader, put_u8};
 use sn_model::{Change, Ownership};
 use sn_walk::is_name;
@@ -109,7 +109,7 @@ fn fields_size(change: &Change<'_>) -> usize
             name,
             ownership,
             ..
-        } => 19 + 8 * lists_of(ownership).count() + name.as_slice().len(),
+        } => 19 + 8 * entries_of(ownership) + name.as_slice().len(),
         Change::AddLink { name, .. } => 5 + name.as_slice().len(),
         Change::Remove { name, .. } => 3 + name.as_slice().len(),
         Change::Rename {
@@ -119,7 +119,7 @@ fn fields_size(change: &Change<'_>) -> usize
         } => 6 + old_name.as_slice().len() + new_name.as_slice().len(),
         Change::Write { bytes, .. } => 10 + bytes.as_slice().len(),
         Change::SetSize { .. } => 10,
-        Change::SetAttributes { ownership, .. } => 15 + 8 * lists_of(ownership).count(),
+        Change::SetAttributes { ownership, .. } => 15 + 8 * entries_of(ownership),
     }
 }
 
@@ -128,10 +128,15 @@ pub fn payload_size(change: &Change<'_>) -> usize
     requires { IsSpelled change.now }
     ensures value { result ≡ length (payload_bytes change.now) }
     ensures least { 1 ≤ result }
-    ensures most { result ≤ 65547 }
+    ensures most { result ≤ PAYLOAD_MAX }
 {
     1 + fields_size(change)
 }
+
+/// Every payload has 1 to 65,547 bytes.
+pub fn payloads_fit()
+    ensures { PayloadsFit }
+{}
 
 fn change_number(change: &Change<'_>) -> u8
     ensures { result ≡ change_number change.now }
@@ -179,16 +184,14 @@ fn put_fields(block: &mut [u8], at: usize, change: &Change<'_>) -> usize
             old_name,
             new_directory,
             new_name,
-        } => {
-            let directories = (*old_directory, *new_directory);
-            put_rename(
-                block,
-                at,
-                directories,
-                old_name.as_slice(),
-                new_name.as_slice(),
-            )
-        }
+        } => put_rename(
+            block,
+            at,
+            *old_directory,
+            old_name.as_slice(),
+            *new_directory,
+            new_name.as_slice(),
+        ),
         Change::Write {
             number,
             offset,
