@@ -1,0 +1,27 @@
+//! The payload of a log record: a change and its one spelling, both ways, without a device and
+//! without memory.
+//!
+//! A payload begins with a byte that says the kind of change, and ends with the change's last field.
+//! `payload_bytes` in `specs/` is the spelling, in the order of the fields, and `IsSpelled` says which
+//! changes have one. [`put_change`] writes exactly it, [`payload_size`] counts its bytes, and
+//! [`decode`] answers a change exactly where bytes are its spelling: `found` says that the bytes are
+//! the change's spelling, and `only` that each change with a spelling is read from it. The names and
+//! the written bytes of what is decoded are lent from the payload.
+//!
+//! The way through: `payload` chooses by the kind, `links` has the changes of names, `contents` those
+//! of a file's bytes, `attributes` those that give a node its owner and its ACLs, over `ownership`.
+//!
+//! ```text
+//! let end = put_change(&mut body, 16, &change);
+//! let change = decode(&body[16..end])?;
+//! ```
+#![tactic(auto)]
+
+mod attributes;
+mod contents;
+mod links;
+mod ownership;
+mod payload;
+
+pub use contents::WRITE_MAX;
+pub use payload::{PAYLOAD_MAX, decode, is_valid, payload_size, payloads_fit, put_change};

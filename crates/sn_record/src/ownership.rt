@@ -1,0 +1,107 @@
+//! | offset | field of what a make and a setting of attributes give a node |
+//! |---|---|
+//! | 0 | S bits u8 |
+//! | 1 | rights u16 |
+//! | 3 | owner u32 |
+//! | 7 | group u32 |
+//! | 11 | number of access entries u8 |
+//! | 12 | number of default entries u8 |
+//! | 13 | the access entries, USER, GROUP and MASK alone, and then the default entries |
+ghost use Rattle.std.specs.Prelude.{◌≡◌, ℕ, ◌+◌, ◌*◌, ◌<◌, ◌≤◌, ◌^◌, List, ◌++◌, length, Some, IfSome};
+ghost use Rattle.sn_acl.specs.AccessList.{IsValid};
+ghost use Rattle.sn_acl.specs.declared.entries.Entry.{Entry as TheEntry};
+ghost use Rattle.sn_layout.specs.Bytes.{Puts};
+ghost use Rattle.sn_layout_acl.specs.AclBlock.{IsDefault, IsNamedPart, entries_in};
+ghost use Rattle.sn_layout_acl.specs.Mode.{IsMode};
+ghost use Rattle.sn_model.specs.declared.change.Ownership.{Ownership as TheOwnership};
+ghost use Rattle.sn_record.specs.Payload.{IsOwnership, objects_of, named_of, ownership_bytes};
+ghost use Rattle.sn_record.specs.Sizes.{entries_of};
+
+use sn_acl::{Acl, Mode};
+use sn_layout::{Reader, put_u32};
+use sn_layout_acl::{AclBlock, AclParts, NamedEntries, fitting, put_mode, read_mode};
+use sn_layout_node::{SpecialBits, put_special_bits, read_special_bits};
+use sn_model::Ownership;
+
+// The entries USER_OBJ, GROUP_OBJ and OTHER, which the rights say.
+const OBJECTS: usize = 3;
+
+fn parts_of(acl: &Acl) -> AclParts
+    ensures objects { result.objects ≡ objects_of acl.now }
+    ensures access { result.access ≡ named_of acl.now }
+{
+    let parts = AclParts::of(acl);
+    parts.access.as_slice();
+    parts
+}
+
+fn joined(access: &NamedEntries, objects: Mode) -> Acl
+    ensures objects { objects_of result ≡ objects }
+    ensures access { named_of result ≡ access.now }
+    ensures only { (acl : List TheEntry) → IsValid acl → objects ≡ objects_of acl → access.now ≡ named_of acl → result ≡ acl }
+{
+    access.as_slice();
+    access.join(objects)
+}
+
+fn copy_of(default: &Option<Acl>) -> Option<Acl>
+    ensures { result ≡ default.now }
+{
+    match default {
+        Some(acl) => Some(acl.copy()),
+        None => None,
+    }
+}
+
+// How many entries stand in both lists.
+pub(crate) fn entries_of(ownership: &Ownership) -> usize
+    ensures value { result ≡ entries_of ownership.now }
+    ensures most { result ≤ 69 }
+{
+    let access = ownership.acl.entries().len() - OBJECTS;
+    match &ownership.default_acl {
+        Some(acl) => access + acl.entries().len(),
+        None => access,
+    }
+}
+
+pub(crate) fn put_ownership(block: &mut [u8], at: usize, ownership: &Ownership) -> usize
+    requires { at + 13 + 8 * entries_of ownership.now ≤ length block.old }
+    ensures bytes { Puts block.old block.new at result (ownership_bytes ownership.now) }
+    ensures next { result ≡ at + 13 + 8 * entries_of ownership.now }
+{
+    let bits = SpecialBits {
+        set_gid: ownership.set_gid,
+        sticky: ownership.sticky,
+    };
+    let parts = parts_of(&ownership.acl);
+    let lists = AclBlock {
+        access: parts.access,
+        default: copy_of(&ownership.default_acl),
+    };
+    let at = put_special_bits(block, at, bits);
+    let at = put_mode(block, at, parts.objects);
+    let at = put_u32(block, at, ownership.owner);
+    let at = put_u32(block, at, ownership.group);
+    lists.put_lists(block, at)
+}
+
+pub(crate) fn read_ownership(reader: &mut Reader<'_>) -> Option<Ownership>
+    ensures found { IfSome result (λ o. IsOwnership o × (reader.old ≡ ownership_bytes o ++ reader.new)) }
+    ensures only { (o : TheOwnership) (rest : List ℕ) → IsOwnership o → reader.old ≡ ownership_bytes o ++ rest
+        → (result ≡ Some o) × (reader.new ≡ rest) }
+{
+    let bits = read_special_bits(reader)?;
+    let objects = read_mode(reader)?;
+    let owner = reader.try_u32()?;
+    let group = reader.try_u32()?;
+    let lists = AclBlock::read_lists(reader)?;
+    Some(Ownership {
+        owner,
+        group,
+        set_gid: bits.set_gid,
+        sticky: bits.sticky,
+        acl: joined(&lists.access, objects),
+        default_acl: lists.default,
+    })
+}
