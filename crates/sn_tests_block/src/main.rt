@@ -1,0 +1,29 @@
+//! Cases of the blocks of a device.
+//!
+//! `data/` has the tables of the cases: their head lines say where the answers come from. `steps` has the
+//! calls of the tables over any device, `memory` and `file` have the tables over each device, and `seeded`
+//! compares calls that a seed draws with the plain lists of `plain`. What is printed is compared with
+//! `stdout`. The argument is the folder of the tables, as in
+//!
+//! ```text
+//! rt run -- data
+//! ```
+#![tactic(auto)]
+
+mod file;
+mod memory;
+mod plain;
+mod seeded;
+mod steps;
+mod words;
+
+use anyhow::Result;
+use sn_table::Report;
+
+fn main(rt: HostRuntime) -> Result<()> {
+    let mut report = Report::new(&rt)?;
+    memory::run(&mut report)?;
+    file::run(&mut report)?;
+    seeded::run(&mut report)?;
+    report.end()
+}

@@ -1,0 +1,173 @@
+//! The steps that a table takes over any device.
+
+use crate::words::{
+    block_number_of, number_of, pair_of, push_answer, push_block, push_firsts, push_number,
+    push_sectors, push_word, sector_of,
+};
+use anyhow::{Result, bail, ensure};
+use sn_block::{BLOCK_SIZE, Block, Blocks, ReadFault};
+use sn_device::{Device, SECTOR_SIZE};
+use std::alloc::Global;
+
+/// Takes a step, and appends its answer.
+pub fn take_step<D: Device>(
+    alloc: Global,
+    blocks: &mut Blocks<D>,
+    (step, value): (&str, &str),
+    text: &mut String,
+) -> Result<()> {
+    match step {
+        "read" => read(blocks, block_number_of(value)?, text),
+        "fetch" => fetch(blocks, block_number_of(value)?, text),
+        "fetches" => fetches(blocks, value, text),
+        "firsts" => firsts(blocks, block_number_of(value)?, text),
+        "sectors" => push_number(text, blocks.sectors()),
+        "counts" => counts(blocks, text),
+        "sync" => push_answer(text, blocks.sync()),
+        _ => write(alloc, blocks, (step, value), text),
+    }
+}
+
+fn write<D: Device>(
+    alloc: Global,
+    blocks: &mut Blocks<D>,
+    (step, value): (&str, &str),
+    text: &mut String,
+) -> Result<()> {
+    let (place, what) = pair_of(value)?;
+    match step {
+        "sector" => write_sector(blocks, number_of(place)?, what, text),
+        "synced" => write_synced(blocks, number_of(place)?, what, text),
+        "run" => write_run(alloc, blocks, number_of(place)?, what, text),
+        "block" => write_block(blocks, block_number_of(place)?, what, text),
+        "zeros" => zero_range(blocks, number_of(place)?, number_of(what)?, text),
+        _ => bail!("no step: {step}"),
+    }
+}
+
+/// A fault of the device is an answer, and want of memory an error.
+fn push_fault(text: &mut String, fault: ReadFault) -> Result<()> {
+    ensure!(fault != ReadFault::Memory, "{fault}");
+    push_word(text, "fault")
+}
+
+fn read<D: Device>(blocks: &mut Blocks<D>, number: u32, text: &mut String) -> Result<()> {
+    ensure!(8 * u64::from(number) + 8 <= blocks.sectors(), "no block");
+    match blocks.read_block(number) {
+        Ok(block) => push_block(text, block),
+        Err(fault) => push_fault(text, fault),
+    }
+}
+
+/// Fetches a block, and lends it twice.
+fn fetch<D: Device>(blocks: &mut Blocks<D>, number: u32, text: &mut String) -> Result<()> {
+    ensure!(8 * u64::from(number) + 8 <= blocks.sectors(), "no block");
+    if let Err(fault) = blocks.fetch(number) {
+        return push_fault(text, fault);
+    }
+    push_block(text, blocks.fetched())?;
+    push_block(text, blocks.fetched())
+}
+
+/// Fetches so many blocks from one on up to a fault, and tells how many were fetched.
+fn fetches<D: Device>(blocks: &mut Blocks<D>, value: &str, text: &mut String) -> Result<()> {
+    let (first, count) = pair_of(value)?;
+    let first = block_number_of(first)?;
+    let mut fetched = 0;
+    for i in 0..block_number_of(count)? {
+        let number = first.saturating_add(i);
+        ensure!(8 * u64::from(number) + 8 <= blocks.sectors(), "no block");
+        match blocks.fetch(number) {
+            Ok(()) => fetched = u64::from(i) + 1,
+            Err(ReadFault::Device) => break,
+            Err(fault) => return Err(fault.into()),
+        }
+    }
+    push_number(text, fetched)
+}
+
+fn firsts<D: Device>(blocks: &mut Blocks<D>, number: u32, text: &mut String) -> Result<()> {
+    ensure!(8 * u64::from(number) + 8 <= blocks.sectors(), "no block");
+    push_firsts(text, blocks.read_block(number)?)
+}
+
+/// The writes, syncs and failures.
+fn counts<D: Device>(blocks: &Blocks<D>, text: &mut String) -> Result<()> {
+    let status = blocks.status();
+    push_word(text, "")?;
+    write!(
+        text,
+        "{}/{}/{}",
+        status.writes, status.syncs, status.failures
+    )?;
+    Ok(())
+}
+
+fn write_sector<D: Device>(
+    blocks: &mut Blocks<D>,
+    at: u64,
+    byte: &str,
+    text: &mut String,
+) -> Result<()> {
+    let sector = sector_of(byte)?;
+    ensure!(at < blocks.sectors(), "no sector {at}");
+    push_answer(text, blocks.write_sector(at, &sector))
+}
+
+fn write_synced<D: Device>(
+    blocks: &mut Blocks<D>,
+    at: u64,
+    byte: &str,
+    text: &mut String,
+) -> Result<()> {
+    let sector = sector_of(byte)?;
+    ensure!(at < blocks.sectors(), "no sector {at}");
+    push_answer(text, blocks.write_synced(at, &sector))
+}
+
+fn write_run<D: Device>(
+    alloc: Global,
+    blocks: &mut Blocks<D>,
+    at: u64,
+    word: &str,
+    text: &mut String,
+) -> Result<()> {
+    let mut bytes = Vec::new(alloc);
+    push_sectors(&mut bytes, word)?;
+    let (sectors, count) = (blocks.sectors(), bytes.len() / SECTOR_SIZE);
+    ensure!(bytes.len() % SECTOR_SIZE == 0, "half a sector");
+    ensure!(at <= sectors && count as u64 <= sectors - at, "no room");
+    push_answer(text, blocks.write_run(at, bytes.as_slice()))
+}
+
+/// Writes a block whose sectors are made of one byte each, as in `1122334455667788`.
+fn write_block<D: Device>(
+    blocks: &mut Blocks<D>,
+    number: u32,
+    word: &str,
+    text: &mut String,
+) -> Result<()> {
+    ensure!(word.len() == 16, "no eight bytes: {word}");
+    let block = block_of(u64::from_str_radix(word, 16)?.to_be_bytes());
+    ensure!(8 * u64::from(number) + 8 <= blocks.sectors(), "no block");
+    push_answer(text, blocks.write_block(number, &block))
+}
+
+fn block_of(firsts: [u8; 8]) -> Block {
+    let mut block = [0; BLOCK_SIZE];
+    for (sector, first) in block.chunks_mut(SECTOR_SIZE).zip(firsts) {
+        sector.fill(first);
+    }
+    block
+}
+
+fn zero_range<D: Device>(
+    blocks: &mut Blocks<D>,
+    at: u64,
+    count: u64,
+    text: &mut String,
+) -> Result<()> {
+    let sectors = blocks.sectors();
+    ensure!(at <= sectors && count <= sectors - at, "no room");
+    push_answer(text, blocks.zero_range(at, count))
+}
