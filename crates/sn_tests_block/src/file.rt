@@ -1,7 +1,8 @@
 //! The table over a file.
 
 use crate::steps::take_step;
-use anyhow::{Context, Result, bail};
+use crate::words::number_of;
+use anyhow::{Result, bail};
 use sn_block::Blocks;
 use sn_filedev::FileDevice;
 use sn_table::{Case, Report};
@@ -47,8 +48,7 @@ fn steps_over_file(rt: &HostRuntime, alloc: Global, case: Case<'_>) -> Result<St
 fn made(rt: &HostRuntime, alloc: Global, word: &str) -> Result<FileBlocks> {
     match word.split_once('=') {
         Some(("blocks", count)) => {
-            let count = count.parse().context("no number of blocks")?;
-            let device = FileDevice::create(alloc, rt, IMAGE, count)?;
+            let device = FileDevice::create(alloc, rt, IMAGE, number_of(count)?)?;
             Ok(Blocks::new(alloc, device).map_err(AllocError::from)?)
         }
         _ => bail!("no device: {word}"),

@@ -2,7 +2,7 @@
 
 use crate::steps::take_step;
 use crate::words::{fill_of, number_of, push_number, push_word};
-use anyhow::{Context, Result, bail, ensure};
+use anyhow::{Result, bail, ensure};
 use sn_block::{Block, Blocks, ReadFault};
 use sn_device::{Device, MemDevice, SECTOR_SIZE, Sector};
 use sn_table::{Case, Report};
@@ -25,10 +25,10 @@ fn text_of(alloc: Global, case: Case<'_>) -> Result<String> {
 
 /// A device of so many sectors.
 fn device_of(alloc: Global, word: &str) -> Result<MemDevice> {
-    let count = word
-        .strip_prefix("sectors=")
-        .context(format_args!("no device: {word}"))?;
-    Ok(MemDevice::new(alloc, number_of(count)?)?)
+    match word.split_once('=') {
+        Some(("sectors", count)) => Ok(MemDevice::new(alloc, u64::from(number_of(count)?))?),
+        _ => bail!("no device: {word}"),
+    }
 }
 
 fn blocks_of(alloc: Global, device: MemDevice) -> Result<Blocks<MemDevice>> {
@@ -64,9 +64,9 @@ fn take_device_step(
         "fail" => {
             let call = number_of(value)?;
             ensure!(call > 0, "calls are counted from 1");
-            device.fail_at(call);
+            device.fail_at(u64::from(call));
         }
-        "stop" => device.stop_at(number_of(value)?),
+        "stop" => device.stop_at(u64::from(number_of(value)?)),
         "crash" => return Ok(device.crash(fill_of(value)?)),
         "show" => show(&device, text)?,
         _ => push_lent(&device, lent, text)?,

@@ -24,9 +24,15 @@ pub struct Plain {
 impl Plain {
     /// Of so many sectors, all of them zeros.
     pub fn new(alloc: Global, sectors: usize) -> Result<Self, AllocError> {
+        let mut now = Vec::with_capacity(alloc, sectors)?;
+        let mut synced = Vec::with_capacity(alloc, sectors)?;
+        for _sector in 0..sectors {
+            now.push([0; SECTOR_SIZE])?;
+            synced.push([0; SECTOR_SIZE])?;
+        }
         Ok(Plain {
-            now: vec![in alloc; [0; SECTOR_SIZE]; sectors]?,
-            synced: vec![in alloc; [0; SECTOR_SIZE]; sectors]?,
+            now,
+            synced,
             kept: Vec::with_capacity(alloc, KEPT_BLOCKS)?,
             before_fault: None,
             writes: 0,
@@ -42,18 +48,14 @@ impl Plain {
 
     /// Whether the next call of the device succeeds.
     fn call(&mut self) -> bool {
-        match self.before_fault {
-            None => true,
-            Some(0) => {
-                self.before_fault = None;
-                self.failures = self.failures.wrapping_add(1);
-                false
-            }
-            Some(more) => {
-                self.before_fault = Some(more - 1);
-                true
-            }
+        let Some(left) = self.before_fault else {
+            return true;
+        };
+        self.before_fault = left.checked_sub(1);
+        if left == 0 {
+            self.failures = self.failures.wrapping_add(1);
         }
+        left > 0
     }
 
     /// Whether a block is read. One that is kept needs no call of the device, and at most 256 are kept.

@@ -1,8 +1,8 @@
 //! The steps that a table takes over any device.
 
 use crate::words::{
-    block_number_of, number_of, pair_of, push_answer, push_block, push_firsts, push_number,
-    push_sectors, push_word, sector_of,
+    number_of, pair_of, push_answer, push_block, push_firsts, push_number, push_sectors, push_word,
+    sector_of,
 };
 use anyhow::{Result, bail, ensure};
 use sn_block::{BLOCK_SIZE, Block, Blocks, ReadFault};
@@ -17,10 +17,10 @@ pub fn take_step<D: Device>(
     text: &mut String,
 ) -> Result<()> {
     match step {
-        "read" => read(blocks, block_number_of(value)?, text),
-        "fetch" => fetch(blocks, block_number_of(value)?, text),
+        "read" => read(blocks, number_of(value)?, text),
+        "fetch" => fetch(blocks, number_of(value)?, text),
         "fetches" => fetches(blocks, value, text),
-        "firsts" => firsts(blocks, block_number_of(value)?, text),
+        "firsts" => firsts(blocks, number_of(value)?, text),
         "sectors" => push_number(text, blocks.sectors()),
         "counts" => counts(blocks, text),
         "sync" => push_answer(text, blocks.sync()),
@@ -36,10 +36,10 @@ fn write<D: Device>(
 ) -> Result<()> {
     let (place, what) = pair_of(value)?;
     match step {
-        "sector" => write_sector(blocks, number_of(place)?, what, text),
-        "synced" => write_synced(blocks, number_of(place)?, what, text),
-        "run" => write_run(alloc, blocks, number_of(place)?, what, text),
-        "block" => write_block(blocks, block_number_of(place)?, what, text),
+        "sector" => write_sector(blocks, u64::from(number_of(place)?), what, text),
+        "synced" => write_synced(blocks, u64::from(number_of(place)?), what, text),
+        "run" => write_run(alloc, blocks, u64::from(number_of(place)?), what, text),
+        "block" => write_block(blocks, number_of(place)?, what, text),
         "zeros" => zero_range(blocks, number_of(place)?, number_of(what)?, text),
         _ => bail!("no step: {step}"),
     }
@@ -72,9 +72,9 @@ fn fetch<D: Device>(blocks: &mut Blocks<D>, number: u32, text: &mut String) -> R
 /// Fetches so many blocks from one on up to a fault, and tells how many were fetched.
 fn fetches<D: Device>(blocks: &mut Blocks<D>, value: &str, text: &mut String) -> Result<()> {
     let (first, count) = pair_of(value)?;
-    let first = block_number_of(first)?;
+    let first = number_of(first)?;
     let mut fetched = 0;
-    for i in 0..block_number_of(count)? {
+    for i in 0..number_of(count)? {
         let number = first.saturating_add(i);
         ensure!(8 * u64::from(number) + 8 <= blocks.sectors(), "no block");
         match blocks.fetch(number) {
@@ -163,10 +163,11 @@ fn block_of(firsts: [u8; 8]) -> Block {
 
 fn zero_range<D: Device>(
     blocks: &mut Blocks<D>,
-    at: u64,
-    count: u64,
+    at: u32,
+    count: u32,
     text: &mut String,
 ) -> Result<()> {
+    let (at, count) = (u64::from(at), u64::from(count));
     let sectors = blocks.sectors();
     ensure!(at <= sectors && count <= sectors - at, "no room");
     push_answer(text, blocks.zero_range(at, count))

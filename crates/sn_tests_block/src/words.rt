@@ -4,11 +4,7 @@ use anyhow::{Context, Result, bail, ensure};
 use sn_block::Block;
 use sn_device::{Fault, Fill, SECTOR_SIZE, Sector};
 
-pub fn number_of(word: &str) -> Result<u64> {
-    word.parse().context(format_args!("no number: {word}"))
-}
-
-pub fn block_number_of(word: &str) -> Result<u32> {
+pub fn number_of(word: &str) -> Result<u32> {
     word.parse().context(format_args!("no number: {word}"))
 }
 
@@ -42,9 +38,9 @@ pub fn fill_of(word: &str) -> Result<Fill> {
         "zero" => Fill::Zero,
         "one" => Fill::One,
         "junk" => Fill::Junk,
-        _ => match word.strip_prefix("seed") {
-            Some(seed) => Fill::Seeded(number_of(seed)?),
-            None => bail!("no fill: {word}"),
+        _ => match word.split_once(':') {
+            Some(("seed", seed)) => Fill::Seeded(u64::from(number_of(seed)?)),
+            _ => bail!("no fill: {word}"),
         },
     })
 }
