@@ -3,8 +3,9 @@
 # 16 MiB. Run by hand, from any folder: builds the program where it isn't up to date, and works in a folder
 # that it removes.
 #
-# Prints for each script the least time of five runs and the peak beside the script's size; what 20,000 mkdir
-# take beside 10,000 in this run; and what the wrapper adds to a run.
+# Prints for each script the least time of five runs, how many times that is what awk takes to go through the same
+# lines and print them, and the peak beside the script's size; what 20,000 mkdir take beside 10,000 in this run; and
+# what the wrapper adds to a run.
 set -eu
 top=$(cd "$(dirname "$0")/.." && pwd)
 program=$top/crates/sn_bin/out/sn_bin
@@ -42,13 +43,14 @@ least() {
 }
 
 declare -A times
-printf '%-18s %10s %9s %10s %10s\n' script bytes ms 'peak KiB' peak/size
+printf '%-18s %10s %9s %8s %10s %10s\n' script bytes ms run/awk 'peak KiB' peak/size
 for script in mkdirs_10000 mkdirs_20000 read_alone nobody_logged_in statuses one_line; do
     times[$script]=$(least "$program" run image "$work/$script")
     bytes=$(wc -c < "$work/$script")
+    lines=$(least awk 1 "$work/$script")
     /usr/bin/time -o "$work/peak" -f %M "$program" run image "$work/$script" > /dev/null 2>&1 || true
-    awk -v name="$script" -v bytes="$bytes" -v micros="${times[$script]}" -v peak="$(tail -n 1 "$work/peak")" \
-        'BEGIN { printf "%-18s %10d %9.1f %10d %10.1f\n", name, bytes, micros / 1000, peak, peak * 1024 / bytes }'
+    awk -v name="$script" -v bytes="$bytes" -v micros="${times[$script]}" -v peak="$(tail -n 1 "$work/peak")" -v lines="$lines" \
+        'BEGIN { printf "%-18s %10d %9.1f %8.1f %10d %10.1f\n", name, bytes, micros / 1000, micros / lines, peak, peak * 1024 / bytes }'
 done
 direct=$(least "$program" run image "$work/nothing")
 wrapped=$(least "$top/snapfs" run image "$work/nothing")
