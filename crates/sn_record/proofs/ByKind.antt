@@ -44,6 +44,15 @@ rename_at P h (Write number offset bytes) e = absurd (omega (arith, e))
 rename_at P h (SetSize number size) e = absurd (omega (arith, e))
 rename_at P h (SetAttributes number o) e = absurd (omega (arith, e))
 
+pub write_at : (P : Change → Type 0) → ((number offset : ℕ) (bytes : List ℕ) → P (Write number offset bytes)) → (change : Change) → change_number change ≡ 5 → P change
+write_at P h (Make directory name number kind o) e = absurd (omega (arith, e))
+write_at P h (AddLink directory name number) e = absurd (omega (arith, e))
+write_at P h (Remove directory name) e = absurd (omega (arith, e))
+write_at P h (Rename old_directory old_name new_directory new_name) e = absurd (omega (arith, e))
+write_at P h (Write number offset bytes) e = h number offset bytes
+write_at P h (SetSize number size) e = absurd (omega (arith, e))
+write_at P h (SetAttributes number o) e = absurd (omega (arith, e))
+
 pub size_at : (P : Change → Type 0) → ((number size : ℕ) → P (SetSize number size)) → (change : Change) → change_number change ≡ 6 → P change
 size_at P h (Make directory name number kind o) e = absurd (omega (arith, e))
 size_at P h (AddLink directory name number) e = absurd (omega (arith, e))

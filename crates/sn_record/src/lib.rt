@@ -24,4 +24,6 @@ mod ownership;
 mod payload;
 
 pub use contents::WRITE_MAX;
-pub use payload::{PAYLOAD_MAX, decode, is_valid, payload_size, payloads_fit, put_change};
+pub use payload::{
+    PAYLOAD_MAX, decode, is_valid, payload_size, payloads_differ, payloads_fit, put_change,
+};
