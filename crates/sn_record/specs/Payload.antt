@@ -1,5 +1,5 @@
 -- The payload of a log record: what a change has to be to have one, and its one spelling.
-use Rattle.std.specs.Prelude.{ℕ, ◌^◌, ◌<◌, ◌≤◌, Bool, not, ◌||◌, List, ◌∷◌, ◌++◌, length, filter, IsTrue}
+use Rattle.std.specs.Prelude.{◌≡◌, ℕ, ◌^◌, ◌<◌, ◌≤◌, Bool, not, ◌||◌, List, ◌∷◌, ◌++◌, length, filter, IsTrue}
 use Rattle.sn_acl.specs.declared.entries.Tag.{Tag}
 use Rattle.sn_acl.specs.declared.entries.Entry.{Entry}
 use Rattle.sn_acl.specs.declared.modes.Mode.{Mode}
@@ -96,3 +96,7 @@ payload_bytes change = change_number change ∷ fields_bytes change
 -- a payload has at least the byte of its kind, and at most the bytes of the longest write
 abbrev pub PayloadsFit : Type 0
 PayloadsFit = (change : Change) → IsSpelled change → (1 ≤ length (payload_bytes change)) × (length (payload_bytes change) ≤ 65547)
+
+-- no two changes have one payload
+abbrev pub PayloadsDiffer : Type 0
+PayloadsDiffer = (a b : Change) → IsSpelled a → IsSpelled b → payload_bytes a ≡ payload_bytes b → a ≡ b

@@ -6,7 +6,8 @@
 //! changes have one. [`put_change`] writes exactly it, [`payload_size`] counts its bytes, and
 //! [`decode`] answers a change exactly where bytes are its spelling: `found` says that the bytes are
 //! the change's spelling, and `only` that each change with a spelling is read from it. The names and
-//! the written bytes of what is decoded are lent from the payload.
+//! the written bytes of what is decoded are lent from the payload. `payloads_fit` and
+//! `payloads_differ` are laws of the spelling, for whoever reasons about records as bytes.
 //!
 //! The way through: `payload` chooses by the kind, `links` has the changes of names, `contents` those
 //! of a file's bytes, `attributes` those that give a node its owner and its ACLs, over `ownership`.
@@ -24,4 +25,6 @@ mod ownership;
 mod payload;
 
 pub use contents::WRITE_MAX;
-pub use payload::{PAYLOAD_MAX, decode, is_valid, payload_size, payloads_fit, put_change};
+pub use payload::{
+    PAYLOAD_MAX, decode, is_valid, payload_size, payloads_differ, payloads_fit, put_change,
+};

@@ -10,7 +10,7 @@
 ghost use Rattle.std.specs.Prelude.{◌≡◌, ◌↔◌, ℕ, ◌+◌, ◌≤◌, ◌<◌, ◌^◌, List, [], ◌∷◌, ◌++◌, length, Some, IfSome, IsTrue};
 ghost use Rattle.sn_model.specs.declared.change.Change.{Change as TheChange};
 ghost use Rattle.sn_layout.specs.Bytes.{Puts};
-ghost use Rattle.sn_record.specs.Payload.{IsOwnership, HasFittingNumbers, HasFittingBytes, IsSpelled, change_number, fields_bytes, payload_bytes, PayloadsFit};
+ghost use Rattle.sn_record.specs.Payload.{IsOwnership, HasFittingNumbers, HasFittingBytes, IsSpelled, change_number, fields_bytes, payload_bytes, PayloadsDiffer, PayloadsFit};
 ghost use Rattle.sn_record.specs.Sizes.{entries_of, fields_size};
 
 use crate::attributes::{put_attributes, put_make, read_attributes, read_make};
@@ -136,6 +136,11 @@ pub fn payload_size(change: &Change<'_>) -> usize
 /// Every payload has 1 to 65,547 bytes.
 pub fn payloads_fit()
     ensures { PayloadsFit }
+{}
+
+/// No two changes have one payload.
+pub fn payloads_differ()
+    ensures { PayloadsDiffer }
 {}
 
 fn change_number(change: &Change<'_>) -> u8
