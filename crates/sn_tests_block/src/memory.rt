@@ -4,7 +4,7 @@ use crate::steps::take_step;
 use crate::words::{fill_of, number_of, push_number, push_sector, push_word};
 use anyhow::{Result, bail, ensure};
 use sn_block::{Block, Blocks, ReadFault};
-use sn_device::{Device, MemDevice, SECTOR_SIZE, Sector};
+use sn_device::{MemDevice, SECTOR_SIZE, Sector};
 use sn_table::{Case, Report};
 use std::alloc::{AllocError, Global};
 

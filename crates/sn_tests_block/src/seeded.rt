@@ -6,7 +6,7 @@ use anyhow::{Result, ensure};
 use rand_core::Rng;
 use rand_pcg::Pcg32;
 use sn_block::{BLOCK_SIZE, Blocks, ReadFault};
-use sn_device::{Device, Fault, Fill, MemDevice, SECTOR_SIZE};
+use sn_device::{Fill, MemDevice, SECTOR_SIZE};
 use sn_table::{Report, Tally};
 use std::alloc::{AllocError, Global};
 
