@@ -1,10 +1,10 @@
 //! The table over the device in memory.
 
 use crate::steps::take_step;
-use crate::words::{fill_of, number_of, push_number, push_word};
+use crate::words::{fill_of, number_of, push_number, push_sector, push_word};
 use anyhow::{Result, bail, ensure};
 use sn_block::{Block, Blocks, ReadFault};
-use sn_device::{Device, MemDevice, SECTOR_SIZE, Sector};
+use sn_device::{MemDevice, SECTOR_SIZE, Sector};
 use sn_table::{Case, Report};
 use std::alloc::{AllocError, Global};
 
@@ -74,13 +74,11 @@ fn take_device_step(
     Ok(device)
 }
 
-/// The byte that each sector is made of, one after the other.
+/// The first byte of each sector, as `push_sector` has it.
 fn show(device: &MemDevice, text: &mut String) -> Result<()> {
     push_word(text, "")?;
     for sector in device.contents() {
-        let first = sector[0];
-        ensure!(*sector == [first; SECTOR_SIZE], "bytes that differ");
-        write!(text, "{first:02x}")?;
+        push_sector(text, sector.as_slice())?;
     }
     Ok(())
 }

@@ -24,15 +24,9 @@ pub struct Plain {
 impl Plain {
     /// Of so many sectors, all of them zeros.
     pub fn new(alloc: Global, sectors: usize) -> Result<Self, AllocError> {
-        let mut now = Vec::with_capacity(alloc, sectors)?;
-        let mut synced = Vec::with_capacity(alloc, sectors)?;
-        for _sector in 0..sectors {
-            now.push([0; SECTOR_SIZE])?;
-            synced.push([0; SECTOR_SIZE])?;
-        }
         Ok(Plain {
-            now,
-            synced,
+            now: zeros(alloc, sectors)?,
+            synced: zeros(alloc, sectors)?,
             kept: Vec::with_capacity(alloc, KEPT_BLOCKS)?,
             before_fault: None,
             writes: 0,
@@ -116,4 +110,12 @@ impl Plain {
             && status.syncs == self.syncs
             && status.failures == self.failures
     }
+}
+
+fn zeros(alloc: Global, sectors: usize) -> Result<Vec<Sector>, AllocError> {
+    let mut zeros = Vec::with_capacity(alloc, sectors)?;
+    for _sector in 0..sectors {
+        zeros.push([0; SECTOR_SIZE])?;
+    }
+    Ok(zeros)
 }

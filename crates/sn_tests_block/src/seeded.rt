@@ -6,7 +6,7 @@ use anyhow::{Result, ensure};
 use rand_core::Rng;
 use rand_pcg::Pcg32;
 use sn_block::{BLOCK_SIZE, Blocks, ReadFault};
-use sn_device::{Device, Fault, Fill, MemDevice, SECTOR_SIZE};
+use sn_device::{Fill, MemDevice, SECTOR_SIZE};
 use sn_table::{Report, Tally};
 use std::alloc::{AllocError, Global};
 
@@ -35,19 +35,19 @@ struct Plan {
 }
 
 const FEW_BLOCKS: Plan = Plan {
-    seeds: 100,
+    seeds: 60,
     blocks: 6,
     is_full: false,
     steps: 30,
-    calls: 1,
+    calls: 2,
 };
 
 const MANY_BLOCKS: Plan = Plan {
-    seeds: 4,
+    seeds: 2,
     blocks: 300,
     is_full: true,
     steps: 150,
-    calls: 800,
+    calls: 1300,
 };
 
 fn seeds(report: &Report<'_>, plan: Plan) -> Result<Tally> {

@@ -1,8 +1,7 @@
 //! The steps that a table takes over any device.
 
 use crate::words::{
-    number_of, pair_of, push_answer, push_block, push_firsts, push_number, push_sectors, push_word,
-    sector_of,
+    number_of, pair_of, push_answer, push_block, push_number, push_sectors, push_word, sector_of,
 };
 use anyhow::{Result, bail, ensure};
 use sn_block::{BLOCK_SIZE, Block, Blocks, ReadFault};
@@ -20,7 +19,6 @@ pub fn take_step<D: Device>(
         "read" => read(blocks, number_of(value)?, text),
         "fetch" => fetch(blocks, number_of(value)?, text),
         "fetches" => fetches(blocks, value, text),
-        "firsts" => firsts(blocks, number_of(value)?, text),
         "sectors" => push_number(text, blocks.sectors()),
         "counts" => counts(blocks, text),
         "sync" => push_answer(text, blocks.sync()),
@@ -36,8 +34,7 @@ fn write<D: Device>(
 ) -> Result<()> {
     let (place, what) = pair_of(value)?;
     match step {
-        "sector" => write_sector(blocks, u64::from(number_of(place)?), what, text),
-        "synced" => write_synced(blocks, u64::from(number_of(place)?), what, text),
+        "sector" | "synced" => write_sector(blocks, step, (place, what), text),
         "run" => write_run(alloc, blocks, u64::from(number_of(place)?), what, text),
         "block" => write_block(blocks, number_of(place)?, what, text),
         "zeros" => zero_range(blocks, number_of(place)?, number_of(what)?, text),
@@ -86,11 +83,6 @@ fn fetches<D: Device>(blocks: &mut Blocks<D>, value: &str, text: &mut String) ->
     push_number(text, fetched)
 }
 
-fn firsts<D: Device>(blocks: &mut Blocks<D>, number: u32, text: &mut String) -> Result<()> {
-    ensure!(8 * u64::from(number) + 8 <= blocks.sectors(), "no block");
-    push_firsts(text, blocks.read_block(number)?)
-}
-
 /// The writes, syncs and failures.
 fn counts<D: Device>(blocks: &Blocks<D>, text: &mut String) -> Result<()> {
     let status = blocks.status();
@@ -103,26 +95,20 @@ fn counts<D: Device>(blocks: &Blocks<D>, text: &mut String) -> Result<()> {
     Ok(())
 }
 
+/// Writes a sector, and syncs where that is the step.
 fn write_sector<D: Device>(
     blocks: &mut Blocks<D>,
-    at: u64,
-    byte: &str,
+    step: &str,
+    (place, byte): (&str, &str),
     text: &mut String,
 ) -> Result<()> {
-    let sector = sector_of(byte)?;
+    let (at, sector) = (u64::from(number_of(place)?), sector_of(byte)?);
     ensure!(at < blocks.sectors(), "no sector {at}");
-    push_answer(text, blocks.write_sector(at, &sector))
-}
-
-fn write_synced<D: Device>(
-    blocks: &mut Blocks<D>,
-    at: u64,
-    byte: &str,
-    text: &mut String,
-) -> Result<()> {
-    let sector = sector_of(byte)?;
-    ensure!(at < blocks.sectors(), "no sector {at}");
-    push_answer(text, blocks.write_synced(at, &sector))
+    let answer = match step {
+        "synced" => blocks.write_synced(at, &sector),
+        _ => blocks.write_sector(at, &sector),
+    };
+    push_answer(text, answer)
 }
 
 fn write_run<D: Device>(

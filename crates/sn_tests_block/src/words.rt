@@ -1,6 +1,6 @@
 //! The words of the steps and of their answers.
 
-use anyhow::{Context, Result, bail, ensure};
+use anyhow::{Context, Result, bail};
 use sn_block::Block;
 use sn_device::{Fault, Fill, SECTOR_SIZE, Sector};
 
@@ -63,24 +63,20 @@ pub fn push_answer(text: &mut String, answer: Result<(), Fault>) -> Result<()> {
     push_word(text, if answer.is_ok() { "ok" } else { "fault" })
 }
 
-/// The byte that each sector of a block is made of, one after the other.
+/// The first byte of each sector, and behind it a `~` where another one differs.
 pub fn push_block(text: &mut String, block: &Block) -> Result<()> {
     push_word(text, "")?;
     for sector in block.chunks(SECTOR_SIZE) {
-        let first = sector.first().copied().unwrap_or(0);
-        let is_even = sector.iter().all(|byte| *byte == first);
-        ensure!(is_even, "bytes that differ");
-        write!(text, "{first:02x}")?;
+        push_sector(text, sector)?;
     }
     Ok(())
 }
 
-/// The first byte of each sector of a block, whatever stands behind it.
-pub fn push_firsts(text: &mut String, block: &Block) -> Result<()> {
-    push_word(text, "")?;
-    for sector in block.chunks(SECTOR_SIZE) {
-        let first = sector.first().copied().unwrap_or(0);
-        write!(text, "{first:02x}")?;
+pub fn push_sector(text: &mut String, sector: &[u8]) -> Result<()> {
+    let first = sector.first().copied().unwrap_or(0);
+    write!(text, "{first:02x}")?;
+    if !sector.iter().all(|byte| *byte == first) {
+        text.push_str("~")?;
     }
     Ok(())
 }
