@@ -21,7 +21,7 @@ from pathlib import Path
 TOP = Path(__file__).resolve().parent.parent
 TICKS = os.sysconf("SC_CLK_TCK")
 PERIOD = 0.2
-KINDS = ("proof", "tests", "wrong bodies", "build and run")
+KINDS = ("proof and build", "tests", "wrong bodies")
 
 
 def stat_of(pid):
@@ -40,9 +40,7 @@ def work_of(pid):
     folder = os.readlink(f"/proc/{pid}/cwd")
     if "/rt-edit-" in folder:
         return named[1], "wrong bodies"
-    if "check" not in words[:3]:
-        return named[1], "build and run"
-    return named[1], "tests" if "--test" in words else "proof"
+    return named[1], "tests" if "--test" in words else "proof and build"
 
 
 def look(top, seen):
@@ -73,12 +71,12 @@ def report(seen, wall):
         costs[crate][kind] += seconds / 60
     usage = resource.getrusage(resource.RUSAGE_CHILDREN)
     whole = (usage.ru_utime + usage.ru_stime) / 60
-    print(f"{'crate':20}" + "".join(f"{kind:>15}" for kind in KINDS) + f"{'all':>8}")
+    print(f"{'crate':20}" + "".join(f"{kind:>17}" for kind in KINDS) + f"{'all':>8}")
     for crate in sorted(costs, key=lambda it: -sum(costs[it].values())):
         parts = [costs[crate][kind] for kind in KINDS]
-        print(f"{crate:20}" + "".join(f"{part:15.1f}" for part in parts) + f"{sum(parts):8.1f}")
+        print(f"{crate:20}" + "".join(f"{part:17.1f}" for part in parts) + f"{sum(parts):8.1f}")
     known = sum(sum(kinds.values()) for kinds in costs.values())
-    print(f"{'other':20}{'':60}{max(whole - known, 0):8.1f}")
+    print(f"{'other':20}{'':51}{max(whole - known, 0):8.1f}")
     print(f"{whole:.0f} processor minutes in {wall / 60:.0f} minutes")
 
 
