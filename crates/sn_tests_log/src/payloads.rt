@@ -53,7 +53,11 @@ fn told(alloc: Global, change: &Change<'_>) -> Result<String> {
             kind,
             ownership,
         } => {
-            let kind = if *kind == Kind::File { "file" } else { "directory" };
+            let kind = if *kind == Kind::File {
+                "file"
+            } else {
+                "directory"
+            };
             let name = str::from_utf8(name.as_slice())?;
             write!(text, "make {kind} {number} as {name} in {directory}, ")?;
             push_ownership(&mut text, ownership)?;
@@ -67,7 +71,11 @@ fn told(alloc: Global, change: &Change<'_>) -> Result<String> {
             write!(text, "link {number} as {name} in {directory}")?;
         }
         Change::Remove { directory, name } => {
-            write!(text, "remove {} from {directory}", str::from_utf8(name.as_slice())?)?;
+            write!(
+                text,
+                "remove {} from {directory}",
+                str::from_utf8(name.as_slice())?
+            )?;
         }
         Change::Rename {
             old_directory,
@@ -77,7 +85,10 @@ fn told(alloc: Global, change: &Change<'_>) -> Result<String> {
         } => {
             let old = str::from_utf8(old_name.as_slice())?;
             let new = str::from_utf8(new_name.as_slice())?;
-            write!(text, "rename {old} in {old_directory} to {new} in {new_directory}")?;
+            write!(
+                text,
+                "rename {old} in {old_directory} to {new} in {new_directory}"
+            )?;
         }
         Change::Write {
             number,
@@ -101,7 +112,11 @@ fn push_ownership(text: &mut String, ownership: &Ownership) -> Result<()> {
     write!(
         text,
         "{}:{}, set-gid {}, sticky {}, {}",
-        ownership.owner, ownership.group, ownership.set_gid, ownership.sticky, acl.as_str()
+        ownership.owner,
+        ownership.group,
+        ownership.set_gid,
+        ownership.sticky,
+        acl.as_str()
     )?;
     if let Some(default_acl) = &ownership.default_acl {
         write!(text, ", default {}", default_acl.print().as_str())?;
