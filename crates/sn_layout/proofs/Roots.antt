@@ -1,15 +1,34 @@
 -- What a root body's head says of the bytes behind it.
-use Rattle.std.proofs.Common.{◌≡◌, ℕ, ◌-◌, ◌*◌, ◌≤◌, Bool, true, false, cond, ◌&&◌, eqb, List, [], ◌++◌, length, Option, Some, None, refl, sym, ap, ◌∙◌, append_assoc, arith}
+use Rattle.std.proofs.Common.{◌≡◌, ℕ, ◌-◌, ◌*◌, ◌≤◌, Bool, true, false, cond, ◌&&◌, eqb, List, ◌++◌, length, Option, Some, None, refl, sym, ap, ◌∙◌, append_assoc, arith}
 use Rattle.std.specs.Prelude.{nat_le}
 use Rattle.std.proofs.lemmas.Bool.{eqb-true, leb-true}
-use Rattle.std.proofs.lemmas.List.{append-nil}
 use Rattle.sn_limits.specs.declared.limits.Limits.{Limits}
 use Rattle.sn_layout.specs.declared.root.Head.{Head}
+use Rattle.sn_layout.specs.declared.root.HeadNumbers.{HeadNumbers}
 use Rattle.sn_layout.specs.declared.root.RootBody.{RootBody}
+use Rattle.sn_layout.specs.BlockTree.{tree_bytes}
 use Rattle.sn_layout.specs.Bytes.{zeros}
+use Rattle.sn_layout.specs.Records.{numbers_then, AreOfWidths}
 use Rattle.sn_limits.specs.Versions.{limits_of, version_1}
 use Rattle.sn_layout.specs.Snapshot.{snapshots_bytes, are_rising, are_within, are_distinct}
-use Rattle.sn_layout.specs.RootBody.{IsHead, IsRootBody, head_of, head_bytes, root_body_bytes}
+use Rattle.sn_layout.specs.RootBody.{IsHead, IsRootBody, head_of, head_bytes, head_widths, head_numbers, listed, root_body_bytes}
+use Rattle.sn_layout.proofs.Records.{same_records, zero_number}
+
+-- ---- the head
+
+-- the numbers, and behind them the tree and zeros
+pub head_flat : (h : Head) (rest : List ℕ) → head_bytes h ++ rest ≡ numbers_then head_widths (head_numbers h) (tree_bytes h.inode_file ++ (zeros 520 ++ rest))
+head_flat h rest = rw (zero_number 4) (simp append_assoc)
+
+pub head_numbers_fit : (h : Head) → IsHead h → AreOfWidths head_widths (head_numbers h)
+head_numbers_fit h fits = (fits.version, (omega arith, (fits.generation, (fits.epoch, (fits.count, (omega arith, tt))))))
+
+-- what was read of a head that is spelled
+pub head_spelled : (h : Head) (n : HeadNumbers) (old left rest : List ℕ) → AreOfWidths head_widths (listed n) → old ≡ numbers_then head_widths (listed n) left → IsHead h → old ≡ head_bytes h ++ rest
+    → (listed n ≡ head_numbers h) × (left ≡ tree_bytes h.inode_file ++ (zeros 520 ++ rest))
+head_spelled h n old left rest fits read head e = same_records head_widths (listed n) (head_numbers h) left (tree_bytes h.inode_file ++ (zeros 520 ++ rest)) fits (head_numbers_fit h head) (sym read ∙ e ∙ head_flat h rest)
+
+-- ---- the limits of a version
 
 chosen : {A : Type 0} (b : Bool) (x y : A) → cond b (Some x) None ≡ Some y → (b ≡ true) × (x ≡ y)
 chosen true x y e = (refl, cc)
@@ -61,9 +80,9 @@ head_read body block reader left read only fits same e =
     (same ∙ e ∙ append_assoc (head_bytes (head_of body)) (snapshots_bytes body.snapshots) (zeros (3472 - 112 * length body.snapshots)))
 
 -- what was read part by part is the body's spelling
-pub body_is : (body : RootBody) (block a b c : List ℕ) → block ≡ head_bytes (head_of body) ++ a → a ≡ snapshots_bytes body.snapshots ++ b → b ≡ zeros (3472 - 112 * length body.snapshots) ++ c → c ≡ [] → block ≡ root_body_bytes body
-body_is body block a b c first second third none =
-    let blank : b ≡ zeros (3472 - 112 * length body.snapshots) = third ∙ ap (λ (r : List ℕ). zeros (3472 - 112 * length body.snapshots) ++ r) none ∙ append-nil (zeros (3472 - 112 * length body.snapshots)) in
+pub body_is : (body : RootBody) (head : Head) (block left : List ℕ) → head_of body ≡ head → block ≡ head_bytes head ++ left → left ≡ snapshots_bytes body.snapshots ++ zeros (3472 - 112 * length body.snapshots) → block ≡ root_body_bytes body
+body_is body head block left same first second =
     first
-    ∙ ap (λ (r : List ℕ). head_bytes (head_of body) ++ r) (second ∙ ap (λ (r : List ℕ). snapshots_bytes body.snapshots ++ r) blank)
+    ∙ ap (λ (h : Head). head_bytes h ++ left) (sym same)
+    ∙ ap (λ (r : List ℕ). head_bytes (head_of body) ++ r) second
     ∙ sym (append_assoc (head_bytes (head_of body)) (snapshots_bytes body.snapshots) (zeros (3472 - 112 * length body.snapshots)))

@@ -4,6 +4,7 @@ pub mod Gate
 pub mod MapCopy
 pub mod Places
 pub mod Pointers
+pub mod Records
 pub mod RootBody
 pub mod Snapshot
 pub mod SnapshotName

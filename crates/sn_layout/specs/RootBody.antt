@@ -1,7 +1,8 @@
 -- A root body: what it may hold, and its one spelling in a block.
-use Rattle.std.specs.Prelude.{◌≡◌, ℕ, ◌*◌, ◌-◌, ◌^◌, ◌<◌, ◌≤◌, List, ◌++◌, length, Some}
+use Rattle.std.specs.Prelude.{◌≡◌, ℕ, ◌*◌, ◌-◌, ◌^◌, ◌<◌, ◌≤◌, List, [], ◌∷◌, ◌++◌, length, Some}
 use Rattle.sn_layout.specs.declared.root.RootBody.{RootBody}
 use Rattle.sn_layout.specs.declared.root.Head.{Head}
+use Rattle.sn_layout.specs.declared.root.HeadNumbers.{HeadNumbers}
 use Rattle.sn_layout.specs.Bytes.{number_bytes, zeros}
 use Rattle.sn_layout.specs.BlockTree.{IsBlockTree, tree_bytes}
 use Rattle.sn_limits.specs.Versions.{limits_of}
@@ -23,6 +24,17 @@ pub record IsHead (head : Head) : Type 0 where
 -- the snapshots begin at 624
 abbrev pub head_bytes : Head → List ℕ
 head_bytes head = number_bytes 4 head.version ++ zeros 4 ++ number_bytes 8 head.generation ++ number_bytes 8 head.epoch ++ number_bytes 4 head.count ++ zeros 4 ++ tree_bytes head.inode_file ++ zeros 520
+
+-- the widths of the numbers in front of the root of the inode file, and those numbers, with a 0 for the zeros between
+abbrev pub head_widths : List ℕ
+head_widths = 4 ∷ 4 ∷ 8 ∷ 8 ∷ 4 ∷ 4 ∷ []
+
+abbrev pub head_numbers : Head → List ℕ
+head_numbers head = head.version ∷ 0 ∷ head.generation ∷ head.epoch ∷ head.count ∷ 0 ∷ []
+
+-- the numbers as they were read, whatever stands between
+abbrev pub listed : HeadNumbers → List ℕ
+listed n = n.version ∷ n.before_ages ∷ n.generation ∷ n.epoch ∷ n.count ∷ n.before_tree ∷ []
 
 -- what stands in front of the snapshots
 abbrev pub head_of : RootBody → Head

@@ -1,12 +1,11 @@
 -- Snapshots as a root body has them: the rules of a list of them, and the spelling of one.
-use Rattle.std.specs.Prelude.{ℕ, suc, ◌-◌, ◌<◌, ◌==◌, Bool, true, not, ◌&&◌, List, [], ◌∷◌, ◌++◌, length, IsTrue, nat_lt, nat_le, if◌then◌else◌}
+use Rattle.std.specs.Prelude.{ℕ, suc, ◌<◌, ◌==◌, Bool, true, not, ◌&&◌, List, [], ◌∷◌, ◌++◌, length, IsTrue, nat_lt, nat_le, if◌then◌else◌}
 use Rattle.std.specs.List.{flat_map, AllByRecursion, list_any, list_all}
 use Rattle.std.specs.Str.{bytes_eq}
 use Rattle.sn_limits.specs.declared.limits.Limits.{Limits}
 use Rattle.sn_layout.specs.declared.snapshot.Snapshot.{Snapshot}
-use Rattle.sn_layout.specs.Bytes.{zeros}
 use Rattle.sn_layout.specs.BlockTree.{IsBlockTree, tree_bytes}
-use Rattle.sn_layout.specs.SnapshotName.{is_snapshot_name}
+use Rattle.sn_layout.specs.SnapshotName.{is_snapshot_name, name_bytes}
 
 -- a bit, a name and a tree that fit their fields
 pub record IsSnapshot (snapshot : Snapshot) : Type 0 where
@@ -14,9 +13,9 @@ pub record IsSnapshot (snapshot : Snapshot) : Type 0 where
   pub name : IsTrue (is_snapshot_name snapshot.name)
   pub tree : IsBlockTree snapshot.tree
 
--- the name has room for 31 bytes behind its length, and the tree begins at 40
+-- the tree begins at 40
 abbrev pub snapshot_bytes : Snapshot → List ℕ
-snapshot_bytes s = (s.bit ∷ length s.name ∷ s.name) ++ zeros (38 - length s.name) ++ tree_bytes s.tree
+snapshot_bytes s = (s.bit ∷ name_bytes s.name) ++ tree_bytes s.tree
 
 abbrev pub snapshots_bytes : List Snapshot → List ℕ
 snapshots_bytes snapshots = flat_map snapshot_bytes snapshots

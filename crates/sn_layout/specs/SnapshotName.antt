@@ -1,6 +1,7 @@
 -- What a snapshot's name may be, and how it is spelled.
-use Rattle.std.specs.Prelude.{ℕ, Bool, false, not, ◌&&◌, ◌||◌, ◌==◌, nat_le, List, [], ◌∷◌, length}
+use Rattle.std.specs.Prelude.{ℕ, ◌-◌, Bool, false, not, ◌&&◌, ◌||◌, ◌==◌, nat_le, List, [], ◌∷◌, ◌++◌, length}
 use Rattle.std.specs.List.{list_all}
+use Rattle.sn_layout.specs.Bytes.{zeros}
 
 -- a letter, a digit, a dot, an underscore or a dash
 abbrev pub is_snapshot_byte : ℕ → Bool
@@ -16,3 +17,7 @@ is_dots (a ∷ b ∷ c ∷ more) = false
 -- a name that a snapshot can have
 abbrev pub is_snapshot_name : List ℕ → Bool
 is_snapshot_name name = nat_le 1 (length name) && nat_le (length name) 31 && not (is_dots name) && list_all is_snapshot_byte name
+
+-- as a snapshot has it: its length, and then the name in room for 38 bytes
+abbrev pub name_bytes : List ℕ → List ℕ
+name_bytes name = (length name ∷ name) ++ zeros (38 - length name)

@@ -1,8 +1,14 @@
-ghost use Rattle.std.specs.Prelude.{◌≡◌, ◌≤◌, ◌↔◌, ◌∷◌, [], length, IsTrue, IsSome, IfSome};
+//! | offset | field of a snapshot's name, 39 bytes in all |
+//! |---|---|
+//! | 0 | length u8, 1 to 31 |
+//! | 1 | name, and then zeros |
+ghost use Rattle.std.specs.Prelude.{◌≡◌, ◌≤◌, ◌↔◌, ℕ, ◌+◌, List, ◌∷◌, ◌++◌, [], length, Some, IsTrue, IsSome, IfSome};
 ghost use Rattle.std.specs.List.{list_all};
 ghost use Rattle.sn_layout.specs.SnapshotName as names;
-ghost use Rattle.sn_layout.specs.SnapshotName.{is_snapshot_name};
+ghost use Rattle.sn_layout.specs.SnapshotName.{is_snapshot_name, name_bytes};
+ghost use Rattle.sn_layout.specs.Bytes.{Puts};
 
+use crate::{Reader, put_bytes, put_u8, put_zeros};
 use arrayvec::ArrayVec;
 use std::marker::Model;
 
@@ -88,6 +94,36 @@ impl SnapshotName {
         ensures valid { IsTrue (is_snapshot_name self.now) }
     {
         self.bytes.as_slice()
+    }
+
+    // Its length, the name, and zeros to 39 bytes.
+    pub(crate) fn put(&self, block: &mut [u8], at: usize) -> usize
+        requires { at + 39 ≤ length block.old }
+        ensures bytes { Puts block.old block.new at result (name_bytes self.now) }
+        ensures next { result ≡ at + 39 }
+    {
+        let name = self.as_bytes();
+        let at = put_u8(block, at, name.len() as u8);
+        let at = put_bytes(block, at, name);
+        put_zeros(block, at, 38 - name.len())
+    }
+
+    pub(crate) fn read(reader: &mut Reader<'_>) -> Option<Self>
+        requires { 39 ≤ length reader.old }
+        ensures found { IfSome result (λ name. IsTrue (is_snapshot_name name) × (reader.old ≡ name_bytes name ++ reader.new)) }
+        ensures only { (name rest : List ℕ) → IsTrue (is_snapshot_name name) → reader.old ≡ name_bytes name ++ rest
+            → (result ≡ Some name) × (reader.new ≡ rest) }
+        ensures left { IfSome result (λ _. length reader.new + 39 ≡ length reader.old) }
+    {
+        let length = reader.u8() as usize;
+        if length > SNAPSHOT_NAME_MAX {
+            return None;
+        }
+        let name = reader.bytes(length);
+        if !reader.are_zeros(38 - length) {
+            return None;
+        }
+        SnapshotName::parse(name)
     }
 
     /// A copy, which takes no memory.

@@ -13,10 +13,8 @@
 ghost use Rattle.std.specs.Prelude.{◌≡◌, ℕ, ◌+◌, ◌*◌, ◌<◌, ◌≤◌, List, [], ◌∷◌, ◌++◌, length, Some, IfSome, IsTrue, ◌↔◌};
 ghost use Rattle.sn_layout.specs.RootBody.{IsAge};
 
-use crate::snapshots::{fit, put_snapshots, read_snapshots};
-use crate::{
-    BLOCK_SIZE, Block, BlockTree, Reader, SNAPSHOT_ROOM, Snapshots, put_u32, put_u64, put_zeros,
-};
+use crate::snapshots::{fit, put_snapshots, read_to_end};
+use crate::{BLOCK_SIZE, Block, BlockTree, Reader, Snapshots, put_u32, put_u64, put_zeros};
 use sn_limits::Limits;
 
 /// The largest generation and the largest epoch.
@@ -46,6 +44,38 @@ struct Head {
     inode_file: BlockTree,
 }
 
+// The numbers at its front as they stand on the disk, those that have to be 0 among them.
+#[derive(Drop)]
+struct HeadNumbers {
+    version: u32,
+    before_ages: u32,
+    generation: u64,
+    epoch: u64,
+    count: u32,
+    before_tree: u32,
+}
+
+impl HeadNumbers {
+    ghost use Rattle.sn_layout.specs.Records.{numbers_then, AreOfWidths};
+    ghost use Rattle.sn_layout.specs.RootBody.{head_widths, listed};
+
+    fn read(reader: &mut Reader<'_>) -> Self
+        requires { 32 ≤ length reader.old }
+        ensures fits { AreOfWidths head_widths (listed result) }
+        ensures read { reader.old ≡ numbers_then head_widths (listed result) reader.new }
+        ensures left { length reader.new + 32 ≡ length reader.old }
+    {
+        HeadNumbers {
+            version: reader.u32(),
+            before_ages: reader.u32(),
+            generation: reader.u64(),
+            epoch: reader.u64(),
+            count: reader.u32(),
+            before_tree: reader.u32(),
+        }
+    }
+}
+
 fn is_age(age: u64) -> bool
     ensures { IsTrue result ↔ IsAge age }
 {
@@ -54,8 +84,9 @@ fn is_age(age: u64) -> bool
 
 impl Head {
     ghost use Rattle.sn_layout.specs.Bytes.{Puts};
-    ghost use Rattle.sn_layout.specs.RootBody.{IsHead, head_bytes};
+    ghost use Rattle.sn_layout.specs.RootBody.{IsHead, IsRootBody, head_bytes, head_of};
     ghost use Rattle.sn_layout.specs.declared.root.Head.{Head as TheHead};
+    ghost use Rattle.sn_layout.specs.declared.root.RootBody.{RootBody as TheRootBody};
 
     fn put(&self, block: &mut [u8]) -> usize
         requires { 624 ≤ length block.old }
@@ -79,27 +110,38 @@ impl Head {
             → (result ≡ Some head) × (reader.new ≡ rest) }
         ensures left { IfSome result (λ head. length reader.new + 624 ≡ length reader.old) }
     {
-        let version = reader.u32();
-        if !reader.are_zeros(4) {
-            return None;
-        }
-        let generation = reader.u64();
-        let epoch = reader.u64();
-        let count = reader.u32();
-        if !reader.are_zeros(4) {
-            return None;
-        }
+        let numbers = HeadNumbers::read(reader);
         let inode_file = BlockTree::read(reader);
-        if !reader.are_zeros(520) {
+        let is_blank = reader.are_zeros(520);
+        if numbers.before_ages != 0 || numbers.before_tree != 0 || !is_blank {
             return None;
         }
         Some(Head {
-            version,
-            generation,
-            epoch,
-            count,
+            version: numbers.version,
+            generation: numbers.generation,
+            epoch: numbers.epoch,
+            count: numbers.count,
             inode_file,
         })
+    }
+
+    // The root body with these snapshots, if it can be written.
+    fn with(self, snapshots: Snapshots) -> Option<RootBody>
+        requires { self.count ≡ length snapshots }
+        ensures found { IfSome result (λ body. IsRootBody body × (head_of body ≡ self) × (body.snapshots ≡ snapshots)) }
+        ensures only { (body : TheRootBody) → IsRootBody body → head_of body ≡ self → body.snapshots ≡ snapshots → result ≡ Some body }
+    {
+        let body = RootBody {
+            limits: Limits::of_version(self.version)?,
+            generation: self.generation,
+            epoch: self.epoch,
+            inode_file: self.inode_file,
+            snapshots,
+        };
+        if !body.is_valid() {
+            return None;
+        }
+        Some(body)
     }
 }
 
@@ -153,21 +195,7 @@ impl RootBody {
     {
         let mut reader = Reader::new(block);
         let head = Head::read(&mut reader)?;
-        let limits = Limits::of_version(head.version)?;
-        let count = head.count as usize;
-        if !is_age(head.generation) || !is_age(head.epoch) || count > SNAPSHOT_ROOM {
-            return None;
-        }
-        let snapshots = read_snapshots(&mut reader, count)?;
-        if !snapshots.are_held(&limits) || !reader.are_zeros(3472 - 112 * count) {
-            return None;
-        }
-        Some(RootBody {
-            limits,
-            generation: head.generation,
-            epoch: head.epoch,
-            inode_file: head.inode_file,
-            snapshots,
-        })
+        let snapshots = read_to_end(&mut reader, head.count)?;
+        head.with(snapshots)
     }
 }

@@ -6,7 +6,7 @@
 //! | 40 | root of its inode file |
 ghost use Rattle.std.specs.Prelude.{◌≡◌, ℕ, ◌+◌, ◌*◌, ◌<◌, ◌≤◌, List, [], ◌∷◌, ◌++◌, length, Some, IfSome, IsTrue, ◌↔◌};
 
-use crate::{BlockTree, Reader, SNAPSHOT_NAME_MAX, SnapshotName, put_bytes, put_u8, put_zeros};
+use crate::{BlockTree, Reader, SnapshotName, put_u8};
 
 /// A frozen file system.
 #[derive(Default, PartialEq, Eq, Drop)]
@@ -48,11 +48,8 @@ impl Snapshot {
         ensures bytes { Puts block.old block.new at result (snapshot_bytes self.now) }
         ensures next { result ≡ at + 112 }
     {
-        let name = self.name.as_bytes();
         let at = put_u8(block, at, self.bit);
-        let at = put_u8(block, at, name.len() as u8);
-        let at = put_bytes(block, at, name);
-        let at = put_zeros(block, at, 38 - name.len());
+        let at = self.name.put(block, at);
         self.tree.put(block, at)
     }
 
@@ -64,14 +61,7 @@ impl Snapshot {
         ensures left { IfSome result (λ s. length reader.new + 112 ≡ length reader.old) }
     {
         let bit = reader.u8();
-        let length = reader.u8() as usize;
-        if length > SNAPSHOT_NAME_MAX {
-            return None;
-        }
-        let name = SnapshotName::parse(reader.bytes(length))?;
-        if !reader.are_zeros(38 - length) {
-            return None;
-        }
+        let name = SnapshotName::read(reader)?;
         let tree = BlockTree::read(reader);
         Some(Snapshot { bit, name, tree })
     }

@@ -1,7 +1,7 @@
-ghost use Rattle.std.specs.Prelude.{◌≡◌, ℕ, ◌+◌, ◌*◌, ◌<◌, ◌≤◌, List, [], ◌∷◌, ◌++◌, length, remove, slice_index_or, Some, IfSome, IsTrue, ◌↔◌};
+ghost use Rattle.std.specs.Prelude.{◌≡◌, ℕ, ◌+◌, ◌-◌, ◌*◌, ◌<◌, ◌≤◌, List, [], ◌∷◌, ◌++◌, length, remove, slice_index_or, Some, IfSome, IsTrue, ◌↔◌};
 ghost use Rattle.std.specs.List.{AllByRecursion, list_any};
 ghost use Rattle.std.specs.Str.{bytes_eq};
-ghost use Rattle.sn_layout.specs.Bytes.{Puts};
+ghost use Rattle.sn_layout.specs.Bytes.{Puts, zeros};
 ghost use Rattle.sn_layout.specs.Snapshot.{IsSnapshot, snapshots_bytes, place_of, with_snapshot, has_no_bit};
 ghost use Rattle.sn_layout.specs.Snapshot as lists;
 ghost use Rattle.sn_layout.specs.declared.snapshot.Snapshot.{Snapshot as TheSnapshot};
@@ -181,8 +181,8 @@ pub(crate) fn put_snapshots(block: &mut [u8], at: usize, snapshots: &[Snapshot])
     next
 }
 
-/// Reads so many, one after the other.
-pub(crate) fn read_snapshots(reader: &mut Reader<'_>, count: usize) -> Option<Snapshots>
+// Reads so many, one after the other.
+fn read_snapshots(reader: &mut Reader<'_>, count: usize) -> Option<Snapshots>
     requires count { count ≤ 31 }
     requires room { 112 * count ≤ length reader.old }
     ensures fits { IfSome result (λ all. (length all ≡ count) × AllByRecursion IsSnapshot all) }
@@ -197,4 +197,22 @@ pub(crate) fn read_snapshots(reader: &mut Reader<'_>, count: usize) -> Option<Sn
         all.push(snapshot);
     }
     Some(all)
+}
+
+/// Reads so many, and zeros behind them to the end of their room.
+pub(crate) fn read_to_end(reader: &mut Reader<'_>, count: u32) -> Option<Snapshots>
+    requires { length reader.old ≡ 3472 }
+    ensures found { IfSome result (λ all. (length all ≡ count) × (reader.old ≡ snapshots_bytes all ++ zeros (3472 - 112 * length all))) }
+    ensures only { (all : List TheSnapshot) → length all ≤ 31 → length all ≡ count → AllByRecursion IsSnapshot all
+        → reader.old ≡ snapshots_bytes all ++ zeros (3472 - 112 * length all) → result ≡ Some all }
+{
+    let count = count as usize;
+    if count > SNAPSHOT_ROOM {
+        return None;
+    }
+    let snapshots = read_snapshots(reader, count)?;
+    if !reader.are_zeros(reader.remaining()) {
+        return None;
+    }
+    Some(snapshots)
 }

@@ -1,51 +1,53 @@
-use Rattle.std.proofs.Common.{◌≡◌, ◌∙◌, ◌++◌, ℕ, List, refl, append_assoc}
+use Rattle.std.proofs.Common.{◌≡◌, ◌∙◌, ◌++◌, ℕ, List, get_or, refl, sym, ap}
 use Rattle.sn_layout.specs.declared.root.Head.{Head}
-use Rattle.sn_layout.specs.Bytes.{number_bytes, zeros}
+use Rattle.sn_layout.specs.declared.root.HeadNumbers.{HeadNumbers}
+use Rattle.sn_layout.specs.declared.tree.BlockTree.{BlockTree}
+use Rattle.sn_layout.specs.Bytes.{zeros}
 use Rattle.sn_layout.specs.BlockTree.{tree_bytes}
-use Rattle.sn_layout.specs.RootBody.{head_bytes}
+use Rattle.sn_layout.specs.Records.{numbers_then}
+use Rattle.sn_layout.specs.RootBody.{head_widths, head_numbers, listed}
 use Rattle.sn_layout.proofs.Fields.{true_false}
+use Rattle.sn_layout.proofs.Roots.{head_flat, head_spelled}
 use Rattle.sn_layout.proofs.root.Head.read.Goals as goal
+use Rattle.sn_layout.proofs.root.Head.read.Goals.{then-numbers-ne0-via-then-numbers-ne0, then-numbers-ne0-via-else-numbers-ne0+then-numbers-ne0-2, then-numbers-ne0-via-else-numbers-ne0+else-numbers-ne0-2+then-not-is_blank}
 
--- one field after the other
-flat : (h : Head) (rest : List ℕ) → head_bytes h ++ rest ≡ number_bytes 4 h.version ++ (zeros 4 ++ (number_bytes 8 h.generation ++ (number_bytes 8 h.epoch ++ (number_bytes 4 h.count ++ (zeros 4 ++ (tree_bytes h.inode_file ++ (zeros 520 ++ rest)))))))
-flat h rest = simp append_assoc
+-- where zeros stand between
+abbrev made : HeadNumbers → BlockTree → Head
+made n tree = record { version = n.version; generation = n.generation; epoch = n.epoch; count = n.count; inode_file = tree }
 
-pub returns-then-not-are_zeros-clause-only : goal.returns-then-not-are_zeros-clause-only
-returns-then-not-are_zeros-clause-only c = λ h rest fits e.
-    let version = c.u32-version.ensures.only h.version _ fits.version (e ∙ flat h rest) in
-    let blank = c.are_zeros.ensures.only _ version.1 in
-    true_false c.are_zeros.result blank.0 c.if-not-are_zeros.true
+blank_between : (n : HeadNumbers) (tree : BlockTree) → n.before_ages ≡ 0 → n.before_tree ≡ 0 → listed n ≡ head_numbers (made n tree)
+blank_between n tree before_ages before_tree = rw (before_ages, before_tree) refl
 
-pub returns-then-not-are_zeros-2-clause-only : goal.returns-then-not-are_zeros-2-clause-only
-returns-then-not-are_zeros-2-clause-only c = λ h rest fits e.
-    let version = c.u32-version.ensures.only h.version _ fits.version (e ∙ flat h rest) in
-    let blank = c.are_zeros.ensures.only _ version.1 in
-    let generation = c.u64-generation.ensures.only h.generation _ fits.generation blank.1 in
-    let epoch = c.u64-epoch.ensures.only h.epoch _ fits.epoch generation.1 in
-    let count = c.u32-count.ensures.only h.count _ fits.count epoch.1 in
-    let again = c.are_zeros-2.ensures.only _ count.1 in
-    true_false c.are_zeros-2.result again.0 c.if-not-are_zeros-2.true
+pub returns-then-numbers-ne0-clause-only : goal.returns-then-numbers-ne0-clause-only
+returns-then-numbers-ne0-clause-only c = λ h rest fits e.
+    let read = head_spelled h c.read-numbers.result c.args.reader.now c.read-numbers.new.reader rest c.read-numbers.ensures.fits c.read-numbers.ensures.read fits e in
+    let tree = c.read-inode_file.ensures.only h.inode_file _ fits.inode_file read.1 in
+    let blank = c.are_zeros-is_blank.ensures.only rest tree.1 in
+    let before_ages = ap (λ (xs : List ℕ). get_or xs 1 0) read.0 in
+    let before_tree = ap (λ (xs : List ℕ). get_or xs 5 0) read.0 in
+    elim c.then-numbers-ne0.branch [
+      | then-numbers-ne0-via-then-numbers-ne0 w ↦ absurd (w.if-numbers-ne0.true before_ages)
+      | then-numbers-ne0-via-else-numbers-ne0+then-numbers-ne0-2 w ↦ absurd (w.if-numbers-ne0-2.true before_tree)
+      | then-numbers-ne0-via-else-numbers-ne0+else-numbers-ne0-2+then-not-is_blank w ↦ true_false c.are_zeros-is_blank.result blank.0 w.if-not-is_blank.true
+    ]
 
-pub returns-then-not-are_zeros-3-clause-only : goal.returns-then-not-are_zeros-3-clause-only
-returns-then-not-are_zeros-3-clause-only c = λ h rest fits e.
-    let version = c.u32-version.ensures.only h.version _ fits.version (e ∙ flat h rest) in
-    let blank = c.are_zeros.ensures.only _ version.1 in
-    let generation = c.u64-generation.ensures.only h.generation _ fits.generation blank.1 in
-    let epoch = c.u64-epoch.ensures.only h.epoch _ fits.epoch generation.1 in
-    let count = c.u32-count.ensures.only h.count _ fits.count epoch.1 in
-    let again = c.are_zeros-2.ensures.only _ count.1 in
-    let tree = c.read-inode_file.ensures.only h.inode_file _ fits.inode_file again.1 in
-    let last = c.are_zeros-3.ensures.only _ tree.1 in
-    true_false c.are_zeros-3.result last.0 c.if-not-are_zeros-3.true
+pub returns-clause-found : goal.returns-clause-found
+returns-clause-found c =
+    let n = c.read-numbers.result in
+    let h = made n c.read-inode_file.result in
+    let fits = c.read-numbers.ensures.fits in
+    let read = c.read-numbers.ensures.read ∙ ap (λ (xs : List ℕ). numbers_then head_widths xs c.read-numbers.new.reader) (blank_between n c.read-inode_file.result c.if-numbers-ne0.false c.if-numbers-ne0-2.false) in
+    let rest : c.read-numbers.new.reader ≡ tree_bytes h.inode_file ++ (zeros 520 ++ c.are_zeros-is_blank.new.self) = c.read-inode_file.ensures.read ∙ ap (λ (r : List ℕ). tree_bytes h.inode_file ++ r) (c.are_zeros-is_blank.ensures.read c.if-not-is_blank.false) in (
+      record { version = fits.0; generation = fits.1.1.0; epoch = fits.1.1.1.0; count = fits.1.1.1.1.0; inode_file = c.read-inode_file.ensures.fits },
+      read ∙ ap (numbers_then head_widths (head_numbers h)) rest ∙ sym (head_flat h c.are_zeros-is_blank.new.self),
+    )
 
 pub returns-clause-only : goal.returns-clause-only
 returns-clause-only c = λ h rest fits e.
-    let version = c.u32-version.ensures.only h.version _ fits.version (e ∙ flat h rest) in
-    let blank = c.are_zeros.ensures.only _ version.1 in
-    let generation = c.u64-generation.ensures.only h.generation _ fits.generation blank.1 in
-    let epoch = c.u64-epoch.ensures.only h.epoch _ fits.epoch generation.1 in
-    let count = c.u32-count.ensures.only h.count _ fits.count epoch.1 in
-    let again = c.are_zeros-2.ensures.only _ count.1 in
-    let tree = c.read-inode_file.ensures.only h.inode_file _ fits.inode_file again.1 in
-    let last = c.are_zeros-3.ensures.only _ tree.1 in
-    (rw (version.0, generation.0, epoch.0, count.0, tree.0) refl, last.1)
+    let read = head_spelled h c.read-numbers.result c.args.reader.now c.read-numbers.new.reader rest c.read-numbers.ensures.fits c.read-numbers.ensures.read fits e in
+    let tree = c.read-inode_file.ensures.only h.inode_file _ fits.inode_file read.1 in
+    let version = ap (λ (xs : List ℕ). get_or xs 0 0) read.0 in
+    let generation = ap (λ (xs : List ℕ). get_or xs 2 0) read.0 in
+    let epoch = ap (λ (xs : List ℕ). get_or xs 3 0) read.0 in
+    let count = ap (λ (xs : List ℕ). get_or xs 4 0) read.0 in
+    (rw (version, generation, epoch, count, tree.0) refl, (c.are_zeros-is_blank.ensures.only rest tree.1).1)
