@@ -1,8 +1,9 @@
 -- A record of numbers that was read is the one that is spelled.
-use Rattle.std.proofs.Common.{◌≡◌, ℕ, zero, suc, ◌^◌, ◌<◌, List, [], ◌∷◌, ◌++◌, replicate, refl, ap}
+use Rattle.std.proofs.Common.{◌≡◌, ℕ, zero, suc, ◌+◌, ◌*◌, ◌^◌, ◌<◌, List, [], ◌∷◌, ◌++◌, replicate, refl, ap, ◌∙◌, arith}
 use Rattle.std.specs.Int.{bytes_low_first}
 use Rattle.std.proofs.Math.Nat.{zero-div, mod-eq_of_lt}
-use Rattle.sn_layout.specs.Bytes.{number_bytes, zeros}
+use Rattle.std.proofs.lemmas.List.{replicate-append-replicate}
+use Rattle.sn_layout.specs.Bytes.{number_bytes, numbers_bytes, zeros}
 use Rattle.sn_layout.specs.Records.{numbers_then, AreOfWidths}
 use Rattle.sn_layout.proofs.Fields.{same_numbers}
 
@@ -33,3 +34,11 @@ zero_bytes (suc i) (suc n) = rw (zero-div (256 ^ suc i), zero_bytes (suc (suc i)
 pub zero_number : (n : ℕ) → number_bytes n 0 ≡ zeros n
 unfolding number_bytes zeros
 zero_number n = zero_bytes 0 n
+
+-- so are many of them
+pub zero_numbers : (n m : ℕ) → numbers_bytes n (replicate m 0) ≡ zeros (n * m)
+unfolding zeros
+zero_numbers n zero = let none : 0 ≡ n * 0 = omega arith in ap zeros none
+zero_numbers n (suc m) =
+    let count : n + n * m ≡ n * suc m = omega arith in
+    ap (λ (front : List ℕ). front ++ numbers_bytes n (replicate m 0)) (zero_number n) ∙ ap (λ (r : List ℕ). zeros n ++ r) (zero_numbers n m) ∙ replicate-append-replicate n (n * m) 0 ∙ ap zeros count

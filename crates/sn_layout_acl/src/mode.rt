@@ -19,7 +19,8 @@ pub fn fitting(mode: Mode) -> Mode
     mode
 }
 
-fn mode_of(bits: u16) -> Option<Mode>
+/// The mode with these bits, if they are one.
+pub fn mode_of(bits: u16) -> Option<Mode>
     ensures found { IfSome result (λ mode. IsMode mode × (bits ≡ mode_bits mode)) }
     ensures only { (mode : TheMode) → IsMode mode → bits ≡ mode_bits mode → result ≡ Some mode }
 {

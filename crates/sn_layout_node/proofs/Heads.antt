@@ -1,17 +1,56 @@
 -- The head of an inode's record.
-use Rattle.std.proofs.Common.{◌≡◌, ℕ, ◌^◌, ◌<◌, List, [], ◌++◌, get_or, Option, Some, sym, ap, ◌∙◌, arith}
+use Rattle.std.proofs.Common.{◌≡◌, ℕ, ◌^◌, ◌<◌, Bool, true, false, List, [], ◌∷◌, ◌++◌, drop, get_or, Option, Some, sym, ap, ◌∙◌, append_assoc, arith}
 use Rattle.std.specs.Prelude.{IsTrue}
 use Rattle.std.proofs.lemmas.Bool.{eqb-true, leb-true}
 use Rattle.std.proofs.lemmas.List.{append-nil}
+use Rattle.sn_acl.specs.Modes.{mode_bits}
 use Rattle.sn_walk.specs.declared.view.Kind.{Kind}
 use Rattle.sn_walk.specs.declared.view.Kind.TheVariants.{File, Directory}
 use Rattle.sn_limits.specs.declared.limits.Limits.{Limits}
-use Rattle.sn_layout.specs.Bytes.{zeros}
+use Rattle.sn_layout.specs.Bytes.{number_bytes, zeros}
+use Rattle.sn_layout.specs.Records.{numbers_then, AreOfWidths}
+use Rattle.sn_layout.proofs.Records.{same_records, byte_number, zero_number}
 use Rattle.sn_layout_node.specs.declared.content.Content.{Content}
 use Rattle.sn_layout_node.specs.declared.content.Content.TheVariants.{Inline, Tree}
 use Rattle.sn_layout_node.specs.declared.head.Head.{Head}
+use Rattle.sn_layout_node.specs.declared.head.HeadNumbers.{HeadNumbers}
 use Rattle.sn_layout_node.specs.declared.inode.Inode.{Inode}
-use Rattle.sn_layout_node.specs.Inode.{IsHead, IsInode, IsContent, are_links, size_of, head_of, head_bytes, content_bytes, inode_bytes, kind_number}
+use Rattle.sn_layout_node.specs.Inode.{IsHead, IsInode, IsContent, are_links, size_of, head_of, head_bytes, head_widths, head_numbers, listed, content_bytes, inode_bytes, kind_number, flags_number}
+
+-- ---- its numbers
+
+kind_fits : (kind : Kind) → kind_number kind < 256
+kind_fits File = omega arith
+kind_fits Directory = omega arith
+
+bits_fit : (set_gid sticky : Bool) → flags_number set_gid sticky < 256
+bits_fit true true = omega arith
+bits_fit true false = omega arith
+bits_fit false true = omega arith
+bits_fit false false = omega arith
+
+-- the numbers, and behind them zeros
+pub head_flat : (h : Head) (rest : List ℕ) → head_bytes h ++ rest ≡ numbers_then head_widths (head_numbers h) (zeros 36 ++ rest)
+head_flat h rest =
+    let kind = kind_number h.kind in
+    let bits = flags_number h.bits.set_gid h.bits.sticky in
+    let others = numbers_then (drop 2 head_widths) (drop 2 (head_numbers h)) (zeros 36 ++ rest) in
+    let flat : head_bytes h ++ rest ≡ kind ∷ bits ∷ others = rw (zero_number 2) (simp append_assoc) in
+    flat
+    ∙ sym (byte_number kind (bits ∷ others) (kind_fits h.kind))
+    ∙ ap (λ (r : List ℕ). number_bytes 1 kind ++ r) (sym (byte_number bits others (bits_fit h.bits.set_gid h.bits.sticky)))
+
+head_numbers_fit : (h : Head) → IsHead h → AreOfWidths head_widths (head_numbers h)
+head_numbers_fit h fits =
+    let mode : mode_bits h.objects < 65536 = omega (arith, fits.objects.owner, fits.objects.group, fits.objects.other) in
+    (kind_fits h.kind, (bits_fit h.bits.set_gid h.bits.sticky, (mode, (fits.links, (omega arith, (fits.owner, (fits.group, (fits.size, (fits.acl_block, tt)))))))))
+
+-- what was read of a head that is spelled
+pub head_spelled : (h : Head) (n : HeadNumbers) (old left rest : List ℕ) → AreOfWidths head_widths (listed n) → old ≡ numbers_then head_widths (listed n) left → IsHead h → old ≡ head_bytes h ++ rest
+    → (listed n ≡ head_numbers h) × (left ≡ zeros 36 ++ rest)
+head_spelled h n old left rest fits read head e = same_records head_widths (listed n) (head_numbers h) left (zeros 36 ++ rest) fits (head_numbers_fit h head) (sym read ∙ e ∙ head_flat h rest)
+
+-- ---- in front of its content
 
 size_fits : (limits : Limits) (kind : Kind) (content : Content) → IsContent limits kind content → size_of content < 256 ^ 8
 size_fits limits File (Inline bytes) fits = omega arith

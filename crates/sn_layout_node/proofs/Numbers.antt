@@ -1,11 +1,11 @@
 -- The pointers of an indirect block, read and written where they stand.
-use Rattle.std.proofs.Common.{◌≡◌, ℕ, zero, suc, ◌+◌, ◌*◌, ◌<◌, ◌≤◌, List, [], ◌++◌, length, take, drop, replicate, get_or, set, refl, sym, ap, ◌∙◌, inl, inr, append_assoc, arith}
-use Rattle.std.proofs.lemmas.List.{append-nil, length-take-le, length-drop, take-append-drop, drop-drop, drop_all, replicate-append-replicate, get_or-drop, get_or-take, get_or_past}
+use Rattle.std.proofs.Common.{◌≡◌, ℕ, zero, suc, ◌+◌, ◌*◌, ◌<◌, ◌≤◌, List, [], ◌++◌, length, take, drop, get_or, set, refl, sym, ap, ◌∙◌, inl, inr, append_assoc, arith}
+use Rattle.std.proofs.lemmas.List.{append-nil, length-take-le, length-drop, take-append-drop, drop-drop, drop_all, get_or-drop, get_or-take, get_or_past}
 use Rattle.std.proofs.lemmas.Bool.{cases_lt}
 use Rattle.std.proofs.Math.Seq.{take-append-add}
 use Rattle.byteorder.specs.Endian.{little_number}
 use Rattle.byteorder.specs.Numbers.{little_from-take, little_from-lt}
-use Rattle.sn_layout.specs.Bytes.{AreNumbers, number_bytes, numbers_bytes, zeros}
+use Rattle.sn_layout.specs.Bytes.{AreNumbers, number_bytes, numbers_bytes}
 use Rattle.sn_layout.proofs.Fields.{IsBytes, number_bytes-4, same_lists, length-number_bytes}
 use Rattle.sn_layout_node.specs.Indirect.{numbers_of, pointers_of, ArePointers}
 
@@ -108,20 +108,3 @@ unfolding pointers_of
 block_set bytes i p len h lt =
     let none : drop (4 * 1024) bytes ≡ [] = drop_all (4 * 1024) bytes (omega arith) in
     numbers_set 1024 i p bytes (omega arith) h lt ∙ ap (λ (r : List ℕ). numbers_bytes 4 (set (numbers_of 1024 bytes) i p) ++ r) none ∙ append-nil (numbers_bytes 4 (set (numbers_of 1024 bytes) i p))
-
--- ---- holes
-
-zero_bytes : number_bytes 4 0 ≡ zeros 4
-unfolding number_bytes zeros
-zero_bytes = refl
-
-more_zeros : (n m : ℕ) → zeros n ++ zeros m ≡ zeros (n + m)
-unfolding zeros
-more_zeros n m = replicate-append-replicate n m 0
-
-pub zeros_numbers : (n : ℕ) → zeros (4 * n) ≡ numbers_bytes 4 (replicate n 0)
-unfolding zeros
-zeros_numbers zero = refl
-zeros_numbers (suc n) =
-    let count : 4 * suc n ≡ 4 + 4 * n = omega arith in
-    ap zeros count ∙ sym (more_zeros 4 (4 * n)) ∙ ap (λ (r : List ℕ). r ++ zeros (4 * n)) (sym zero_bytes) ∙ ap (λ (r : List ℕ). number_bytes 4 0 ++ r) (zeros_numbers n)

@@ -1,5 +1,6 @@
 -- An inode and its record of 128 bytes.
 use Rattle.std.specs.Prelude.{ℕ, ◌+◌, ◌-◌, ◌%◌, ◌^◌, ◌<◌, ◌≤◌, Bool, ◌&&◌, ◌==◌, if◌then◌else◌, List, [], ◌∷◌, ◌++◌, length, IsTrue, nat_lt, nat_le}
+use Rattle.sn_acl.specs.Modes.{mode_bits}
 use Rattle.sn_walk.specs.declared.view.Kind.{Kind}
 use Rattle.sn_walk.specs.declared.view.Kind.TheVariants.{File, Directory}
 use Rattle.sn_limits.specs.declared.limits.Limits.{Limits}
@@ -9,6 +10,7 @@ use Rattle.sn_layout_acl.specs.Mode.{IsMode, mode_bytes}
 use Rattle.sn_layout_node.specs.declared.content.Content.{Content}
 use Rattle.sn_layout_node.specs.declared.content.Content.TheVariants.{Inline, Tree}
 use Rattle.sn_layout_node.specs.declared.head.Head.{Head}
+use Rattle.sn_layout_node.specs.declared.head.HeadNumbers.{HeadNumbers}
 use Rattle.sn_layout_node.specs.declared.inode.Inode.{Inode}
 use Rattle.sn_layout_node.specs.declared.inode.InodeRecord.{InodeRecord}
 use Rattle.sn_layout_node.specs.declared.inode.InodeRecord.TheVariants.{Unused, Used}
@@ -31,7 +33,18 @@ pub record IsHead (head : Head) : Type 0 where
   pub acl_block : head.acl_block < 256 ^ 4
 
 abbrev pub head_bytes : Head → List ℕ
-head_bytes h = (kind_number h.kind ∷ flags_number h.set_gid h.sticky ∷ []) ++ mode_bytes h.objects ++ number_bytes 2 h.links ++ zeros 2 ++ number_bytes 4 h.owner ++ number_bytes 4 h.group ++ number_bytes 8 h.size ++ number_bytes 4 h.acl_block ++ zeros 36
+head_bytes h = (kind_number h.kind ∷ flags_number h.bits.set_gid h.bits.sticky ∷ []) ++ mode_bytes h.objects ++ number_bytes 2 h.links ++ zeros 2 ++ number_bytes 4 h.owner ++ number_bytes 4 h.group ++ number_bytes 8 h.size ++ number_bytes 4 h.acl_block ++ zeros 36
+
+-- the widths of its numbers, and those numbers, with a 0 for the zeros between
+abbrev pub head_widths : List ℕ
+head_widths = 1 ∷ 1 ∷ 2 ∷ 2 ∷ 2 ∷ 4 ∷ 4 ∷ 8 ∷ 4 ∷ []
+
+abbrev pub head_numbers : Head → List ℕ
+head_numbers h = kind_number h.kind ∷ flags_number h.bits.set_gid h.bits.sticky ∷ mode_bits h.objects ∷ h.links ∷ 0 ∷ h.owner ∷ h.group ∷ h.size ∷ h.acl_block ∷ []
+
+-- the numbers as they were read, whatever stands between
+abbrev pub listed : HeadNumbers → List ℕ
+listed n = n.kind ∷ n.bits ∷ n.objects ∷ n.links ∷ n.before_owner ∷ n.owner ∷ n.group ∷ n.size ∷ n.acl_block ∷ []
 
 abbrev pub size_of : Content → ℕ
 size_of (Inline bytes) = length bytes
@@ -66,7 +79,7 @@ pub record IsInode (limits : Limits) (inode : Inode) : Type 0 where
   pub content : IsContent limits inode.kind inode.content
 
 abbrev pub head_of : Inode → Head
-head_of i = record { kind = i.kind; set_gid = i.set_gid; sticky = i.sticky; objects = i.objects; links = i.links; owner = i.owner; group = i.group; size = size_of i.content; acl_block = i.acl_block }
+head_of i = record { kind = i.kind; bits = record { set_gid = i.set_gid; sticky = i.sticky }; objects = i.objects; links = i.links; owner = i.owner; group = i.group; size = size_of i.content; acl_block = i.acl_block }
 
 abbrev pub inode_bytes : Inode → List ℕ
 inode_bytes inode = head_bytes (head_of inode) ++ content_bytes inode.content

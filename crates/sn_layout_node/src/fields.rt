@@ -31,7 +31,7 @@ fn kind_number(kind: Kind) -> u8
     }
 }
 
-fn kind_of(number: u8) -> Option<Kind>
+pub(crate) fn kind_of(number: u8) -> Option<Kind>
     ensures found { IfSome result (λ kind. number ≡ kind_number kind) }
     ensures only { (kind : TheKind) → number ≡ kind_number kind → result ≡ Some kind }
 {
@@ -53,7 +53,7 @@ fn flags_number(bits: SpecialBits) -> u8
     }
 }
 
-fn flags_of(number: u8) -> Option<SpecialBits>
+pub(crate) fn flags_of(number: u8) -> Option<SpecialBits>
     ensures found { IfSome result (λ bits. number ≡ flags_number bits.set_gid bits.sticky) }
     ensures only { (bits : TheBits) → number ≡ flags_number bits.set_gid bits.sticky → result ≡ Some bits }
 {

@@ -1,23 +1,84 @@
 ghost use Rattle.std.specs.Prelude.{◌≡◌, ℕ, ◌+◌, ◌≤◌, List, ◌++◌, length, Some, IfSome};
 
-use crate::fields::{SpecialBits, put_kind, put_special_bits, read_kind, read_special_bits};
+use crate::fields::{SpecialBits, flags_of, kind_of, put_kind, put_special_bits};
 use sn_acl::Mode;
 use sn_layout::{Reader, put_u16, put_u32, put_u64, put_zeros};
-use sn_layout_acl::{put_mode, read_mode};
+use sn_layout_acl::{mode_of, put_mode};
 use sn_walk::Kind;
 
 // What stands in front of an inode's content.
 #[derive(Clone, Copy)]
 pub(crate) struct Head {
     pub(crate) kind: Kind,
-    pub(crate) set_gid: bool,
-    pub(crate) sticky: bool,
+    pub(crate) bits: SpecialBits,
     pub(crate) objects: Mode,
     pub(crate) links: u16,
     pub(crate) owner: u32,
     pub(crate) group: u32,
     pub(crate) size: u64,
     pub(crate) acl_block: u32,
+}
+
+// Its numbers as they stand on the disk, those that have to be 0 among them.
+#[derive(Clone, Copy)]
+struct HeadNumbers {
+    kind: u8,
+    bits: u8,
+    objects: u16,
+    links: u16,
+    before_owner: u16,
+    owner: u32,
+    group: u32,
+    size: u64,
+    acl_block: u32,
+}
+
+impl HeadNumbers {
+    ghost use Rattle.sn_layout.specs.Records.{numbers_then, AreOfWidths};
+    ghost use Rattle.sn_layout_node.specs.Inode.{IsHead, head_widths, head_numbers, listed};
+    ghost use Rattle.sn_layout_node.specs.declared.head.Head.{Head as TheHead};
+
+    fn read(reader: &mut Reader<'_>) -> Self
+        requires { 28 ≤ length reader.old }
+        ensures fits { AreOfWidths head_widths (listed result) }
+        ensures read { reader.old ≡ numbers_then head_widths (listed result) reader.new }
+        ensures left { length reader.new + 28 ≡ length reader.old }
+    {
+        HeadNumbers {
+            kind: reader.u8(),
+            bits: reader.u8(),
+            objects: reader.u16(),
+            links: reader.u16(),
+            before_owner: reader.u16(),
+            owner: reader.u32(),
+            group: reader.u32(),
+            size: reader.u64(),
+            acl_block: reader.u32(),
+        }
+    }
+
+    // The head that they are.
+    fn head(self) -> Option<Head>
+        ensures found { IfSome result (λ head. IsHead head × (listed self ≡ head_numbers head)) }
+        ensures only { (head : TheHead) → IsHead head → listed self ≡ head_numbers head → result ≡ Some head }
+    {
+        let kind = kind_of(self.kind)?;
+        let bits = flags_of(self.bits)?;
+        let objects = mode_of(self.objects)?;
+        if self.before_owner != 0 {
+            return None;
+        }
+        Some(Head {
+            kind,
+            bits,
+            objects,
+            links: self.links,
+            owner: self.owner,
+            group: self.group,
+            size: self.size,
+            acl_block: self.acl_block,
+        })
+    }
 }
 
 impl Head {
@@ -30,12 +91,8 @@ impl Head {
         ensures bytes { Puts block.old block.new 0 result (head_bytes self.now) }
         ensures next { result ≡ 64 }
     {
-        let bits = SpecialBits {
-            set_gid: self.set_gid,
-            sticky: self.sticky,
-        };
         let at = put_kind(block, 0, self.kind);
-        let at = put_special_bits(block, at, bits);
+        let at = put_special_bits(block, at, self.bits);
         let at = put_mode(block, at, self.objects);
         let at = put_u16(block, at, self.links);
         let at = put_zeros(block, at, 2);
@@ -53,30 +110,10 @@ impl Head {
             → (result ≡ Some head) × (reader.new ≡ rest) }
         ensures left { IfSome result (λ head. length reader.new + 64 ≡ length reader.old) }
     {
-        let kind = read_kind(reader)?;
-        let bits = read_special_bits(reader)?;
-        let objects = read_mode(reader)?;
-        let links = reader.u16();
-        if !reader.are_zeros(2) {
-            return None;
-        }
-        let owner = reader.u32();
-        let group = reader.u32();
-        let size = reader.u64();
-        let acl_block = reader.u32();
+        let numbers = HeadNumbers::read(reader);
         if !reader.are_zeros(36) {
             return None;
         }
-        Some(Head {
-            kind,
-            set_gid: bits.set_gid,
-            sticky: bits.sticky,
-            objects,
-            links,
-            owner,
-            group,
-            size,
-            acl_block,
-        })
+        numbers.head()
     }
 }

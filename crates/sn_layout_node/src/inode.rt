@@ -17,8 +17,8 @@ ghost use Rattle.sn_layout.specs.Bytes.{zeros};
 ghost use Rattle.sn_layout_acl.specs.Mode.{IsMode};
 ghost use Rattle.sn_layout_node.specs.Inode.{are_links};
 
-use crate::Content;
 use crate::head::Head;
+use crate::{Content, SpecialBits};
 use sn_acl::Mode;
 use sn_layout::{Reader, put_zeros};
 use sn_layout_acl::fitting;
@@ -107,8 +107,10 @@ impl Inode {
     {
         let head = Head {
             kind: self.kind,
-            set_gid: self.set_gid,
-            sticky: self.sticky,
+            bits: SpecialBits {
+                set_gid: self.set_gid,
+                sticky: self.sticky,
+            },
             objects: self.objects,
             links: self.links,
             owner: self.owner,
@@ -133,8 +135,8 @@ impl Inode {
         let content = Content::read(limits, head.kind, head.size, &mut reader)?;
         Some(Inode {
             kind: head.kind,
-            set_gid: head.set_gid,
-            sticky: head.sticky,
+            set_gid: head.bits.set_gid,
+            sticky: head.bits.sticky,
             objects: head.objects,
             links: head.links,
             owner: head.owner,

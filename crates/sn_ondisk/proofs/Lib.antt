@@ -1,10 +1,11 @@
 pub mod AppendLemmas
 pub mod BlockLemmas
 pub mod LogLemmas
+pub mod MapBlockLemmas
 pub mod MapLemmas
 pub mod OneLemmas
+pub mod OneRootLemmas
 pub mod PlaceLemmas
-pub mod RootBodyLemmas
 pub mod RootLemmas
 pub mod ShownLemmas
 pub mod TreeLemmas

@@ -1,10 +1,11 @@
 -- A place holds one record at most, and so replay finds one list of them.
 use Rattle.std.proofs.Common.{◌≡◌, inl, inr, ℕ, ◌+◌, ◌-◌, ◌*◌, ◌^◌, ◌<◌, ◌≤◌, List, [], ◌∷◌, ◌++◌, length, take, drop, refl, sym, ◌∙◌, ap, subst, arith, append_assoc}
-use Rattle.std.proofs.lemmas.List.{take-append-drop, take_at, drop_at, take-append-le}
-use Rattle.byteorder.specs.Numbers.{length-bytes_low_first, little_number-reads_back}
+use Rattle.std.proofs.lemmas.List.{take-append-drop, take_at, take-append-le}
+use Rattle.byteorder.specs.Numbers.{little_number-reads_back}
 use Rattle.byteorder.specs.Endian.{little_number}
 use Rattle.sn_device.specs.Sectors.{Contents, sector_at}
 use Rattle.sn_layout.specs.Bytes.{number_bytes, zeros}
+use Rattle.sn_layout.proofs.Fields.{length-number_bytes, same_fronts, same_numbers}
 use Rattle.sn_ondisk.specs.Blocks.{bytes_at}
 use Rattle.sn_ondisk.proofs.BlockLemmas.{bytes_at-more}
 use Rattle.sn_ondisk.specs.Gates.{IsOpen, IsClosed}
@@ -13,24 +14,8 @@ use Rattle.sn_ondisk.specs.OneAnswer.{IsOnDisk}
 
 -- ---- bytes with fronts of one length
 
-pub same_fronts : (a b x y : List ℕ) → length a ≡ length b → a ++ x ≡ b ++ y → (a ≡ b) × (x ≡ y)
-same_fronts a b x y len e = (
-  sym (take_at a x (length a) refl) ∙ ap (take (length a)) e ∙ take_at b y (length a) (sym len),
-  sym (drop_at a x (length a) refl) ∙ ap (drop (length a)) e ∙ drop_at b y (length a) (sym len),
-)
-
-pub length-number_bytes : (n x : ℕ) → length (number_bytes n x) ≡ n
-unfolding number_bytes
-length-number_bytes n x = length-bytes_low_first 0 n x
-
-pub same_width : (n a b : ℕ) (x y : List ℕ) → number_bytes n a ++ x ≡ number_bytes n b ++ y → (number_bytes n a ≡ number_bytes n b) × (x ≡ y)
+same_width : (n a b : ℕ) (x y : List ℕ) → number_bytes n a ++ x ≡ number_bytes n b ++ y → (number_bytes n a ≡ number_bytes n b) × (x ≡ y)
 same_width n a b x y e = same_fronts (number_bytes n a) (number_bytes n b) x y (length-number_bytes n a ∙ sym (length-number_bytes n b)) e
-
--- a number is read back from its bytes
-pub same_number : (n a b : ℕ) → a < 256 ^ n → b < 256 ^ n → number_bytes n a ≡ number_bytes n b → a ≡ b
-unfolding number_bytes
-same_number n a b fits-a fits-b e =
-    sym (little_number-reads_back n a [] fits-a) ∙ ap (λ bytes. little_number n (bytes ++ [])) e ∙ little_number-reads_back n b [] fits-b
 
 -- ---- one record
 
@@ -67,9 +52,8 @@ record_is_one c base place epoch age sequence number p q one two =
     let second = from_body c base age place number q two in
     let after_epoch = same_width 8 epoch age _ _ (sym first.1 ∙ second.1) in
     let after_sequence = same_width 4 sequence number _ _ after_epoch.1 in
-    let after_length = same_width 4 (length p) (length q) _ _ after_sequence.1 in
-    let long : length p ≡ length q = same_number 4 (length p) (length q) (omega (arith, one.most)) (omega (arith, two.most)) after_length.0 in
-    (same_fronts p q first.0 second.0 long after_length.1).0
+    let after_length = same_numbers 4 (length p) (length q) _ _ (omega (arith, one.most)) (omega (arith, two.most)) after_sequence.1 in
+    (same_fronts p q first.0 second.0 after_length.0 after_length.1).0
 
 -- ---- one list of records
 

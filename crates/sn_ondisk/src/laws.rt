@@ -4,7 +4,7 @@ ghost use Rattle.sn_ondisk.specs.GateLaws.{GateAddsOneOrNone, OpenGateAddsOne, A
 ghost use Rattle.sn_ondisk.specs.PlaceLaws.{RootsLieInTheirAreas, HalvesAreTheirAreas, EpochsAlternate, AreasAreApart};
 ghost use Rattle.sn_ondisk.specs.OneAnswer.{RecordIsOne, ReadyIsReplayed, ReplayIsOne, RecordHasItsEpoch, LaterReplaysNothing, RootIsOne, NewestIsOne, ShownIsOne};
 ghost use Rattle.sn_ondisk.specs.TreeLaws.{TreesDependOnTheirReach, TreesDependOnTheirSectors, ReachHasEveryPointer, ReachHasNoHole, EntriesAreTheirLevel, BytesAreOfTheirBlock, LevelsHaveRoom, LevelsAreLeast};
-ghost use Rattle.sn_ondisk.specs.MapLaws.{WordsAreThoseSpelled, MapIsOne, MapsDependOnTheirSectors, WordsDependOnTheirSectors};
+ghost use Rattle.sn_ondisk.specs.MapLaws.{WordsAreThoseSpelled, MapIsOne, MapsDependOnTheirSectors, WordsDependOnTheirSectors, BlocksMakeTheMap, MapIsOfItsBlocks};
 ghost use Rattle.sn_ondisk.specs.Footprints.{BlocksDependOnTheirSectors, RootsDependOnTheirBlock, NewestDependsOnTheRoots, RecordsDependOnTheirBody, ReadyDependsOnItsSectors, NoLaterDependsOnTheFirstPlace, ReplaysDependOnTheHalf, ShownDependsOnRootsAndLog};
 
 /// What the write of a record's gate, or of the sector that clears a place, does to a log half,
@@ -60,12 +60,15 @@ pub fn tree_laws()
     ensures least { LevelsAreLeast }
 {}
 
-/// What a slot's copy of the block map holds, and on which sectors that depends.
+/// What a slot's copy of the block map holds, on which sectors that depends, and how its blocks make
+/// it, each of them spelled by `sn_layout::put_map_words`.
 pub fn map_laws()
     ensures words { WordsAreThoseSpelled }
     ensures one { MapIsOne }
     ensures depends { MapsDependOnTheirSectors }
     ensures word_depends { WordsDependOnTheirSectors }
+    ensures made { BlocksMakeTheMap }
+    ensures blocks { MapIsOfItsBlocks }
 {}
 
 /// Each reading of a log half has one answer.

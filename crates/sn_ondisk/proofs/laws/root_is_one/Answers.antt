@@ -1,4 +1,4 @@
-use Rattle.sn_ondisk.proofs.RootBodyLemmas as one
+use Rattle.sn_ondisk.proofs.OneRootLemmas as one
 use Rattle.sn_ondisk.proofs.laws.root_is_one.Goals as goal
 
 pub returns-clause-root : goal.returns-clause-root

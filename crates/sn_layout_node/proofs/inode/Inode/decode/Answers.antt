@@ -33,7 +33,7 @@ returns-clause-found c =
     let head = c.in_ok-head.head in
     let content = c.in_ok-content.content in
     let size = c.in_ok-content.ensures.found.0 in
-    let inode : Inode = record { kind = head.kind; set_gid = head.set_gid; sticky = head.sticky; objects = head.objects; links = head.links; owner = head.owner; group = head.group; acl_block = head.acl_block; content = content } in
+    let inode : Inode = record { kind = head.kind; set_gid = head.bits.set_gid; sticky = head.bits.sticky; objects = head.objects; links = head.links; owner = head.owner; group = head.group; acl_block = head.acl_block; content = content } in
     let same : head ≡ head_of inode = rw size refl in
     let none : c.read-2.new.reader ≡ [] = nil_from_length c.read-2.new.reader (omega (arith, ap length c.new-reader.ensures, c.in_ok-head.ensures.left, c.in_ok-content.ensures.left)) in
     let rest : c.read.new.reader ≡ content_bytes content = c.in_ok-content.ensures.read ∙ ap (λ (r : List ℕ). content_bytes content ++ r) none ∙ append-nil (content_bytes content) in
