@@ -1,0 +1,4 @@
+pub mod PieceLemmas
+pub mod OverlaidLemmas
+pub mod LayerLemmas
+pub mod MergeLemmas
