@@ -1,0 +1,92 @@
+-- What is seen through a layer, and through the merge of two.
+use Rattle.std.proofs.Common.{◌≡◌, ℕ, ◌+◌, ◌*◌, ◌<◌, ◌≤◌, Bool, true, false, cond, not, ◌||◌, leb, List, [], length, get_or, Option, Some, None, is_some, min, refl, sym, ap, subst, ◌∙◌, ◌⊎◌, inl, inr, arith}
+use Rattle.std.specs.Prelude.{nat_le}
+use Rattle.std.specs.Option.{option_map, unwrap_or}
+use Rattle.std.specs.Ordering.{nat_cmp}
+use Rattle.std.specs.Cmp.{nat_cmp_total}
+use Rattle.std.specs.FinMap as map
+use Rattle.std.proofs.lemmas.Bool.{true≢false}
+use Rattle.std.proofs.lemmas.Map.Lookups.{exact_unsigned}
+use Rattle.sn_model.specs.declared.link.Link.{Link}
+use Rattle.sn_model.specs.Tree.{Node, Tree, link_cmp}
+use Rattle.sn_model.specs.Changes.{node_with}
+use Rattle.sn_model.proofs.LinkLemmas.{exact_links, links_total}
+use Rattle.sn_model.proofs.ChainLemmas.{some_same, some_none}
+use Rattle.sn_overlay.specs.declared.place.BlockPlace.{BlockPlace}
+use Rattle.sn_overlay.specs.declared.node.NodeChange.{NodeChange}
+use Rattle.sn_overlay.specs.declared.node.NodeChange.TheVariants.{Gone, Changed}
+use Rattle.sn_overlay.specs.declared.node.NodeState.{NodeState}
+use Rattle.sn_overlay.specs.Pieces.{zeros, piece, joined}
+use Rattle.sn_overlay.specs.Keys.{place_cmp, block_place}
+use Rattle.sn_overlay.specs.Layers.{Layer, IsLayer, Fits, through, hides_names, hides_block, block_seen, bytes_of, node_seen, name_seen}
+use Rattle.sn_overlay.specs.Merges.{merge, change_over, state_over}
+use Rattle.sn_overlay.proofs.PieceLemmas.{length-zeros, get_or-zeros, length-piece, joined_alike, piece-joined}
+use Rattle.sn_overlay.proofs.OverlaidLemmas.{exact_places, places_total, get-laid, get-overlaid, get-kept}
+
+-- the layer's answer where it has one, else what is below
+seen-laid : (layer : Layer) (number : ℕ) (change : Option NodeChange) (below : Option Node) → unwrap_or (option_map (λ c. node_seen layer number (Some c) below) change) below ≡ node_seen layer number change below
+seen-laid layer number None below = refl
+seen-laid layer number (Some (Gone by_close)) below = refl
+seen-laid layer number (Some (Changed state)) below = refl
+
+pub get-through_nodes : (layer : Layer) (tree : Tree) (number : ℕ) → map.get (through layer tree).nodes number ≡ node_seen layer number (map.get layer.nodes number) (map.get tree.nodes number)
+unfolding through
+get-through_nodes layer tree number =
+    get-laid nat_cmp_total exact_unsigned (λ n c. node_seen layer n (Some c) (map.get tree.nodes n)) layer.nodes tree.nodes number
+    ∙ seen-laid layer number (map.get layer.nodes number) (map.get tree.nodes number)
+
+named-laid : (layer : Layer) (link : Link) (found : Option (Option ℕ)) (below : Option ℕ) → unwrap_or found (cond (not (hides_names (map.get layer.nodes link.directory))) below None) ≡ name_seen layer link found below
+named-laid layer link (Some number) below = refl
+named-laid layer link None below = told (hides_names (map.get layer.nodes link.directory))
+  where
+    told : (b : Bool) → cond (not b) below None ≡ cond b None below
+    told true = refl
+    told false = refl
+
+pub get-through_links : (layer : Layer) (tree : Tree) (link : Link) → map.get (through layer tree).links link ≡ name_seen layer link (map.get layer.names link) (map.get tree.links link)
+unfolding through
+get-through_links layer tree link =
+    get-overlaid links_total (map.entries layer.names) (map.retain_keys tree.links (λ l. not (hides_names (map.get layer.nodes l.directory)))) link
+    ∙ ap (λ found. unwrap_or found (map.get (map.retain_keys tree.links (λ l. not (hides_names (map.get layer.nodes l.directory)))) link)) (sym (map.get-entries layer.names link))
+    ∙ ap (unwrap_or (map.get layer.names link)) (get-kept exact_links tree.links (λ l. not (hides_names (map.get layer.nodes l.directory))) link)
+    ∙ named-laid layer link (map.get layer.names link) (map.get tree.links link)
+
+-- what a merge has at a number, a name and a place
+abbrev pub nodes_over : Option NodeChange → Option NodeChange → Option NodeChange
+nodes_over older None = older
+nodes_over older (Some newer) = Some (change_over older newer)
+
+pub get-merge_nodes : (older newer : Layer) (number : ℕ) → map.get (merge older newer).nodes number ≡ nodes_over (map.get older.nodes number) (map.get newer.nodes number)
+unfolding merge
+get-merge_nodes older newer number =
+    get-laid nat_cmp_total exact_unsigned (λ n c. Some (change_over (map.get older.nodes n) c)) newer.nodes older.nodes number
+    ∙ told (map.get older.nodes number) (map.get newer.nodes number)
+  where
+    told : (o n : Option NodeChange) → unwrap_or (option_map (λ c. Some (change_over o c)) n) o ≡ nodes_over o n
+    told o None = refl
+    told o (Some c) = refl
+
+-- the newer one's where it has one, else the older one's where it isn't hidden
+abbrev pub kept_under : {X : Type 0} → Option X → Bool → Option X → Option X
+kept_under (Some x) hidden older = Some x
+kept_under None true older = None
+kept_under None false older = older
+
+kept-laid : {X : Type 0} (n : Option X) (b : Bool) (o : Option X) → unwrap_or (option_map (λ c. Some c) n) (cond (not b) o None) ≡ kept_under n b o
+kept-laid (Some x) b o = refl
+kept-laid None true o = refl
+kept-laid None false o = refl
+
+pub get-merge_names : (older newer : Layer) (link : Link) → map.get (merge older newer).names link ≡ kept_under (map.get newer.names link) (hides_names (map.get newer.nodes link.directory)) (map.get older.names link)
+unfolding merge
+get-merge_names older newer link =
+    get-laid links_total exact_links (λ _ v. Some v) newer.names (map.retain_keys older.names (λ l. not (hides_names (map.get newer.nodes l.directory)))) link
+    ∙ ap (unwrap_or (option_map (λ v. Some v) (map.get newer.names link))) (get-kept exact_links older.names (λ l. not (hides_names (map.get newer.nodes l.directory))) link)
+    ∙ kept-laid (map.get newer.names link) (hides_names (map.get newer.nodes link.directory)) (map.get older.names link)
+
+pub get-merge_blocks : (older newer : Layer) (place : BlockPlace) → map.get (merge older newer).blocks place ≡ kept_under (map.get newer.blocks place) (hides_block (map.get newer.nodes place.file) place.index) (map.get older.blocks place)
+unfolding merge
+get-merge_blocks older newer place =
+    get-laid places_total exact_places (λ _ v. Some v) newer.blocks (map.retain_keys older.blocks (λ p. not (hides_block (map.get newer.nodes p.file) p.index))) place
+    ∙ ap (unwrap_or (option_map (λ v. Some v) (map.get newer.blocks place))) (get-kept exact_places older.blocks (λ p. not (hides_block (map.get newer.nodes p.file) p.index)) place)
+    ∙ kept-laid (map.get newer.blocks place) (hides_block (map.get newer.nodes place.file) place.index) (map.get older.blocks place)

@@ -1,0 +1,9 @@
+pub mod Pieces
+pub mod Keys
+pub mod Overlaid
+pub mod Layers
+pub mod Merges
+pub mod Sorted
+pub mod Overlays
+pub mod Needs
+pub mod Laws

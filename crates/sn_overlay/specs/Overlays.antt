@@ -1,0 +1,49 @@
+-- What an overlay in memory holds, as a layer.
+use Rattle.std.specs.Prelude.{◌≡◌, ℕ, ◌+◌, ◌≤◌, List, [], map, Option, vec_len, vec_capacity}
+use Rattle.std.specs.Ordering.{nat_cmp}
+use Rattle.std.specs.declared.boxed.Box.{Box}
+use Rattle.std.specs.Global.{Global}
+use Rattle.std.specs.FinMap.{FinMap, empty, insert, from_entries}
+use Rattle.sn_model.specs.declared.link.Link.{Link}
+use Rattle.sn_model.specs.Tree.{link_cmp}
+use Rattle.sn_overlay.specs.declared.place.BlockPlace.{BlockPlace}
+use Rattle.sn_overlay.specs.declared.node.NodeChange.{NodeChange}
+use Rattle.sn_overlay.specs.declared.overlay.Overlay.{Overlay}
+use Rattle.sn_overlay.specs.Keys.{place_cmp}
+use Rattle.sn_overlay.specs.Layers.{Layer}
+
+unfoldable pub nodes_of : List (ℕ × NodeChange) → FinMap nat_cmp NodeChange
+nodes_of entries = from_entries entries
+
+unfoldable pub names_of : List (Link × Option ℕ) → FinMap link_cmp (Option ℕ)
+names_of entries = from_entries entries
+
+unfoldable pub blocks_of : List (BlockPlace × Box (List ℕ) Global) → FinMap place_cmp (List ℕ)
+blocks_of entries = from_entries (map (λ e. (e.0, e.1.value)) entries)
+
+abbrev pub layer_of : Overlay → Layer
+layer_of it = record { nodes = nodes_of it.nodes.entries.items; names = names_of it.names.entries.items; blocks = blocks_of it.blocks.entries.items }
+
+abbrev pub no_changes : Layer
+no_changes = record { nodes = empty; names = empty; blocks = empty }
+
+-- so many nodes, names and blocks
+pub record Counts : Type 0 where
+  pub nodes : ℕ
+  pub names : ℕ
+  pub blocks : ℕ
+
+-- how many more of each fit without memory being taken
+pub record HasRoom (it : Overlay) (more : Counts) : Type 0 where
+  pub nodes : vec_len it.nodes.entries + more.nodes ≤ vec_capacity it.nodes.entries
+  pub names : vec_len it.names.entries + more.names ≤ vec_capacity it.names.entries
+  pub blocks : vec_len it.blocks.entries + more.blocks ≤ vec_capacity it.blocks.entries
+
+abbrev pub with_node : Layer → ℕ → NodeChange → Layer
+with_node layer number change = record layer { nodes = insert layer.nodes number change }
+
+abbrev pub with_name : Layer → Link → Option ℕ → Layer
+with_name layer link number = record layer { names = insert layer.names link number }
+
+abbrev pub with_block : Layer → BlockPlace → List ℕ → Layer
+with_block layer place bytes = record layer { blocks = insert layer.blocks place bytes }

@@ -1,0 +1,14 @@
+-- A file's bytes as pieces of one width: its blocks, of 4,096 bytes.
+use Rattle.std.specs.Prelude.{ℕ, ◌*◌, ◌/◌, ◌%◌, List, ◌++◌, map, take, drop, replicate, slice_index}
+use Rattle.std.specs.List.{range_with_len}
+
+unfoldable pub zeros : ℕ → List ℕ
+zeros n = replicate n 0
+
+-- a piece of a list of bytes, which is zeros past their end
+unfoldable pub piece : ℕ → List ℕ → ℕ → List ℕ
+piece width bytes index = take width (drop (index * width) bytes ++ zeros width)
+
+-- so many bytes, each from its piece
+unfoldable pub joined : ℕ → ℕ → (ℕ → List ℕ) → List ℕ
+joined width size pieces = map (λ place. slice_index (pieces (place / width)) (place % width)) (range_with_len 0 size)

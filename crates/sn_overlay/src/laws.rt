@@ -1,0 +1,59 @@
+ghost use Rattle.sn_overlay.specs.Laws.{ChangesArePaid, DropsArePaid, LayersShowNames, LayersShowNodes, MergesAreLayers, MergesFit, MergesShowBoth, MergesStayPaid, NeedsAdd, TwoLevelsAreCharged, VersionsAreCharged};
+
+/// At each number the tree that is seen through a layer has the layer's node, or none where the layer
+/// says so, or the node below.
+pub fn layers_show_nodes()
+    ensures { LayersShowNodes }
+{}
+
+/// At each name it has the layer's number or none, then none where the directory is gone or made anew,
+/// and then what is below.
+pub fn layers_show_names()
+    ensures { LayersShowNames }
+{}
+
+/// To see a tree through two layers is to see it through their merge.
+pub fn merges_show_both()
+    ensures { MergesShowBoth }
+{}
+
+/// A merge of whole layers is whole.
+pub fn merges_are_layers()
+    ensures { MergesAreLayers }
+{}
+
+/// A merge fits the tree below both.
+pub fn merges_fit()
+    ensures { MergesFit }
+{}
+
+/// A merge needs no more blocks than both layers.
+pub fn needs_add()
+    ensures { NeedsAdd }
+{}
+
+/// Each version that is read is charged so that its changes are paid.
+pub fn versions_are_charged()
+    ensures { VersionsAreCharged }
+{}
+
+/// So is one with files of two indirect levels, 10 blocks an inode and 3 a data block.
+pub fn two_levels_are_charged()
+    ensures { TwoLevelsAreCharged }
+{}
+
+/// The charge for a change pays for the blocks that its layer needs, and for a charge for each file
+/// that it leaves without names.
+pub fn changes_are_paid()
+    ensures { ChangesArePaid }
+{}
+
+/// The charge for a file without names pays for the layer that drops it.
+pub fn drops_are_paid()
+    ensures { DropsArePaid }
+{}
+
+/// A merge of layers that are paid is paid.
+pub fn merges_stay_paid()
+    ensures { MergesStayPaid }
+{}

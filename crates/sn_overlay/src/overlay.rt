@@ -1,0 +1,95 @@
+//! What changed of a tree since a root.
+ghost use Rattle.std.specs.Prelude.{◌≡◌, ◌+◌, ℕ, OnOk};
+ghost use Rattle.std.specs.Option.{option_copied};
+ghost use Rattle.std.specs.FinMap as map;
+ghost use Rattle.sn_overlay.specs.Overlays.{layer_of, no_changes, Counts, HasRoom, with_node, with_name, with_block};
+
+use crate::place::Block;
+use crate::sorted::SortedMap;
+use crate::{BlockPlace, NodeChange};
+use sn_model::Link;
+use std::alloc::{AllocError, Global};
+
+/// What changed of a tree: nodes, names and blocks. It says what a tree below looks like through it.
+#[derive(Drop)]
+pub struct Overlay {
+    nodes: SortedMap<u16, NodeChange>,
+    names: SortedMap<Link, Option<u16>>,
+    blocks: SortedMap<BlockPlace, Box<Block>>,
+}
+
+impl Overlay {
+    /// Nothing changed. It takes no memory.
+    pub fn new(alloc: Global) -> Overlay
+        ensures { layer_of result ≡ no_changes }
+    {
+        Overlay {
+            nodes: SortedMap::new(alloc),
+            names: SortedMap::new(alloc),
+            blocks: SortedMap::new(alloc),
+        }
+    }
+
+    /// What became of a node, if anything did.
+    pub fn node(&self, number: u16) -> Option<&NodeChange>
+        ensures { option_copied result ≡ map.get (layer_of self.now).nodes number }
+    {
+        self.nodes.get(&number)
+    }
+
+    /// What a name stands for: a number, or none, where it changed.
+    pub fn name(&self, link: &Link) -> Option<Option<u16>>
+        ensures { result ≡ map.get (layer_of self.now).names link.now }
+    {
+        self.names.get(link).copied()
+    }
+
+    /// A block that was written.
+    pub fn block(&self, place: BlockPlace) -> Option<&Block>
+        ensures { option_copied result ≡ map.get (layer_of self.now).blocks place }
+    {
+        match self.blocks.get(&place) {
+            Some(block) => Some(block),
+            None => None,
+        }
+    }
+
+    /// Makes room for so many more nodes, names and blocks. Whatever the answer, nothing that it shows
+    /// changes.
+    pub fn reserve(&mut self, nodes: usize, names: usize, blocks: usize) -> Result<(), AllocError>
+        ensures same { layer_of self.new ≡ layer_of self.old }
+        ensures room { OnOk result (HasRoom self.new (record { nodes = nodes; names = names; blocks = blocks })) }
+        ensures kept { (more : Counts) → HasRoom self.old more → HasRoom self.new more }
+    {
+        self.nodes.reserve(nodes)?;
+        self.names.reserve(names)?;
+        self.blocks.reserve(blocks)
+    }
+
+    /// A node changed. It takes no memory.
+    pub fn set_node(&mut self, number: u16, change: NodeChange)
+        requires { HasRoom self.old (record { nodes = 1; names = 0; blocks = 0 }) }
+        ensures layer { layer_of self.new ≡ with_node (layer_of self.old) number change }
+        ensures kept { (more : Counts) → HasRoom self.old (record more { nodes = more.nodes + 1 }) → HasRoom self.new more }
+    {
+        self.nodes.insert(number, change);
+    }
+
+    /// A name has a number now, or none. It takes no memory.
+    pub fn set_name(&mut self, link: Link, number: Option<u16>)
+        requires { HasRoom self.old (record { nodes = 0; names = 1; blocks = 0 }) }
+        ensures layer { layer_of self.new ≡ with_name (layer_of self.old) link number }
+        ensures kept { (more : Counts) → HasRoom self.old (record more { names = more.names + 1 }) → HasRoom self.new more }
+    {
+        self.names.insert(link, number);
+    }
+
+    /// A block was written. It takes no memory.
+    pub fn set_block(&mut self, place: BlockPlace, block: Box<Block>)
+        requires { HasRoom self.old (record { nodes = 0; names = 0; blocks = 1 }) }
+        ensures layer { layer_of self.new ≡ with_block (layer_of self.old) place block.value }
+        ensures kept { (more : Counts) → HasRoom self.old (record more { blocks = more.blocks + 1 }) → HasRoom self.new more }
+    {
+        self.blocks.insert(place, block);
+    }
+}
