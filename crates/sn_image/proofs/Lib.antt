@@ -1,0 +1,4 @@
+pub mod ListLemmas
+pub mod PointLemmas
+pub mod FootprintLemmas
+pub mod ReachLemmas
