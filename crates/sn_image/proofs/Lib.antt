@@ -2,3 +2,4 @@ pub mod ListLemmas
 pub mod PointLemmas
 pub mod FootprintLemmas
 pub mod ReachLemmas
+pub mod DecodeLemmas

@@ -1,5 +1,5 @@
 //! The laws that the definitions of `specs/` keep.
-ghost use Rattle.sn_image.specs.Laws.{NodesAreTheirInodes, NamesAreInTheirDirectory, InodesDependOnTheirReach, RootsDependOnTheirReach, RootsDependOnTheirSectors, ReachIsASum, ReachHasEachPart, ReachIsOfAPart};
+ghost use Rattle.sn_image.specs.Laws.{NodesAreTheirInodes, NamesAreInTheirDirectory, InodesDependOnTheirReach, RootsDependOnTheirReach, RootsDependOnTheirSectors, ReachIsASum, ReachHasEachPart, ReachIsOfAPart, RecordsAreRead, UnusedIsRead, AclBlocksAreRead, DirectoryBlocksAreRead};
 
 /// The tree that a root denotes, point by point. Above this crate it is known by these alone.
 pub fn image_laws()
@@ -19,4 +19,12 @@ pub fn reach_laws()
     ensures sum { ReachIsASum }
     ensures parts { ReachHasEachPart }
     ensures part { ReachIsOfAPart }
+{}
+
+/// What is spelled is read as it was spelled.
+pub fn reading_laws()
+    ensures records { RecordsAreRead }
+    ensures unused { UnusedIsRead }
+    ensures acls { AclBlocksAreRead }
+    ensures directories { DirectoryBlocksAreRead }
 {}

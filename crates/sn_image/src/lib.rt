@@ -4,4 +4,4 @@
 
 mod laws;
 
-pub use laws::{footprints, image_laws, reach_laws};
+pub use laws::{footprints, image_laws, reach_laws, reading_laws};
