@@ -1,0 +1,5 @@
+pub mod ListLemmas
+pub mod PointLemmas
+pub mod FootprintLemmas
+pub mod ReachLemmas
+pub mod DecodeLemmas

@@ -1,0 +1,30 @@
+//! The laws that the definitions of `specs/` keep.
+ghost use Rattle.sn_image.specs.Laws.{NodesAreTheirInodes, NamesAreInTheirDirectory, InodesDependOnTheirReach, RootsDependOnTheirReach, RootsDependOnTheirSectors, ReachIsASum, ReachHasEachPart, ReachIsOfAPart, RecordsAreRead, UnusedIsRead, AclBlocksAreRead, DirectoryBlocksAreRead};
+
+/// The tree that a root denotes, point by point. Above this crate it is known by these alone.
+pub fn image_laws()
+    ensures nodes { NodesAreTheirInodes }
+    ensures names { NamesAreInTheirDirectory }
+{}
+
+/// The blocks that an image depends on.
+pub fn footprints()
+    ensures inodes { InodesDependOnTheirReach }
+    ensures roots { RootsDependOnTheirReach }
+    ensures sectors { RootsDependOnTheirSectors }
+{}
+
+/// What a root reaches is what the inode file and its inodes reach, as often as they do.
+pub fn reach_laws()
+    ensures sum { ReachIsASum }
+    ensures parts { ReachHasEachPart }
+    ensures part { ReachIsOfAPart }
+{}
+
+/// What is spelled is read as it was spelled.
+pub fn reading_laws()
+    ensures records { RecordsAreRead }
+    ensures unused { UnusedIsRead }
+    ensures acls { AclBlocksAreRead }
+    ensures directories { DirectoryBlocksAreRead }
+{}

@@ -1,0 +1,4 @@
+pub mod Counts
+pub mod Fault
+pub mod Paths
+pub mod Reads

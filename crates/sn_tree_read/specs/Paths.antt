@@ -1,0 +1,18 @@
+-- Whether the blocks on the way to a pointer lie on the device. Where one doesn't, no bytes stand behind it.
+use Rattle.std.specs.Prelude.{ℕ, zero, suc, ◌+◌, ◌*◌, ◌/◌, Bool, true, ◌&&◌, ◌||◌, ◌==◌, List, nat_le}
+use Rattle.sn_layout.specs.Pointers.{levels_of}
+use Rattle.sn_layout.specs.declared.tree.BlockTree.{BlockTree}
+use Rattle.sn_ondisk.specs.Trees.{Store, entry}
+
+-- the pointer is a hole, or names a block of a device of so many sectors
+abbrev pub lies_on : ℕ → ℕ → Bool
+lies_on sectors pointer = (pointer == 0) || nat_le (8 * pointer + 8) sectors
+
+-- so does each pointer above the one with number i, so many levels below these
+unfoldable pub path_lies_on : ℕ → Store → ℕ → List ℕ → ℕ → Bool
+path_lies_on sectors s zero pointers i = true
+path_lies_on sectors s (suc depth) pointers i = path_lies_on sectors s depth pointers (i / 1024) && lies_on sectors (entry s depth pointers (i / 1024))
+
+-- so does each on the way to data block i of a tree, and that block too
+abbrev pub block_lies_on : ℕ → Store → BlockTree → ℕ → Bool
+block_lies_on sectors s tree i = path_lies_on sectors s (levels_of tree.size) tree.pointers i && lies_on sectors (entry s (levels_of tree.size) tree.pointers i)

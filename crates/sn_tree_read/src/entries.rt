@@ -1,0 +1,120 @@
+//! The pointers of a tree, level by level, and its data blocks.
+ghost use Rattle.std.specs.Prelude.{◌≡◌, ◌+◌, ◌*◌, ◌/◌, ◌<◌, ◌≤◌, true, false, Err, IsTrue, IfOk, OnOk, IsSome, slice_index};
+ghost use Rattle.sn_device.specs.Disk.{reads};
+ghost use Rattle.sn_block.specs.Lending.{device_of, fetched_number, fetched_bytes};
+ghost use Rattle.sn_layout.specs.Bytes.{zeros};
+ghost use Rattle.sn_layout.specs.Pointers.{levels_of};
+ghost use Rattle.sn_ondisk.specs.Trees.{store_of, below, entry, data_block};
+ghost use Rattle.sn_tree_read.specs.Counts.{CountsTree};
+ghost use Rattle.sn_tree_read.specs.Paths.{lies_on, path_lies_on, block_lies_on};
+ghost use Rattle.sn_tree_read.specs.declared.fault.TreeFault.TheVariants.{Damaged};
+
+use crate::TreeFault;
+use sn_block::Blocks;
+use sn_device::Device;
+use sn_layout::BlockTree;
+use sn_layout_node::IndirectBlock;
+
+const SECTORS_PER_BLOCK: u64 = 8;
+
+// Whether a pointer is a hole, or names a block of the device.
+fn lies_on(sectors: u64, pointer: u32) -> bool
+    ensures { result ≡ lies_on sectors pointer }
+{
+    pointer == 0 || SECTORS_PER_BLOCK * u64::from(pointer) + SECTORS_PER_BLOCK <= sectors
+}
+
+// One of the sixteen pointers, and a hole past them.
+fn first_pointer(tree: &BlockTree, i: u64) -> u32
+    ensures { result ≡ slice_index tree.now.pointers i }
+{
+    if i >= 16 {
+        return 0;
+    }
+    tree.pointers.get(i as usize)
+}
+
+// One of the 1,024 pointers that stand below a pointer. Below a hole there are holes.
+fn pointer_below<D: Device>(
+    blocks: &mut Blocks<D>,
+    pointer: u32,
+    index: usize,
+) -> Result<u32, TreeFault>
+    requires { index < 1024 }
+    ensures pointer { IsTrue D.tells_bytes → IfOk result
+        (λ p. p ≡ slice_index (below (store_of (reads (D.disk (device_of blocks.old)))) pointer) index) }
+    ensures lies { OnOk result (lies_on (D.status (device_of blocks.old)).sectors pointer ≡ true) }
+    ensures damaged { result ≡ Err Damaged → lies_on (D.status (device_of blocks.old)).sectors pointer ≡ false }
+    ensures same { IsTrue D.tells_bytes → D.disk (device_of blocks.new) ≡ D.disk (device_of blocks.old) }
+    ensures counts { CountsTree result (D.status (device_of blocks.old)) (D.status (device_of blocks.new)) }
+{
+    if !lies_on(blocks.sectors(), pointer) {
+        return Err(TreeFault::Damaged);
+    }
+    if pointer == 0 {
+        return Ok(0);
+    }
+    blocks.fetch(pointer)?;
+    Ok(IndirectBlock::decode(blocks.fetched()).pointer(index))
+}
+
+/// The pointer with number `i` of those that stand so many levels below the sixteen of a tree: on the
+/// last level it names data block `i`. 0 is a hole, also where the tree has no such place. `Damaged`
+/// comes exactly where a block above it isn't on the device.
+pub fn entry<D: Device>(
+    blocks: &mut Blocks<D>,
+    tree: &BlockTree,
+    level: u32,
+    i: u64,
+) -> Result<u32, TreeFault>
+    requires { level ≤ levels_of tree.now.size }
+    ensures pointer { IsTrue D.tells_bytes → IfOk result
+        (λ p. p ≡ entry (store_of (reads (D.disk (device_of blocks.old)))) level tree.now.pointers i) }
+    ensures lies { IsTrue D.tells_bytes → OnOk result
+        (path_lies_on (D.status (device_of blocks.old)).sectors
+        (store_of (reads (D.disk (device_of blocks.old)))) level tree.now.pointers i ≡ true) }
+    ensures damaged { IsTrue D.tells_bytes → result ≡ Err Damaged
+        → path_lies_on (D.status (device_of blocks.old)).sectors
+        (store_of (reads (D.disk (device_of blocks.old)))) level tree.now.pointers i ≡ false }
+    ensures same { IsTrue D.tells_bytes → D.disk (device_of blocks.new) ≡ D.disk (device_of blocks.old) }
+    ensures counts { CountsTree result (D.status (device_of blocks.old)) (D.status (device_of blocks.new)) }
+{
+    if level == 0 {
+        return Ok(first_pointer(tree, i));
+    }
+    let above = entry(blocks, tree, level - 1, i / 1024)?;
+    pointer_below(blocks, above, (i % 1024) as usize)
+}
+
+/// Makes data block `i` of a tree the one that `blocks.fetched()` lends, and answers `true`; `false`
+/// for a hole, which reads as zeros, and then no block is meant. `Damaged` comes exactly where the block
+/// or one above it isn't on the device.
+pub fn fetch_data<D: Device>(
+    blocks: &mut Blocks<D>,
+    tree: &BlockTree,
+    i: u64,
+) -> Result<bool, TreeFault>
+    ensures hole { IsTrue D.tells_bytes → IfOk result (λ is_there. is_there ≡ false
+        → data_block (store_of (reads (D.disk (device_of blocks.old)))) tree.now i ≡ zeros 4096) }
+    ensures block { IsTrue D.tells_bytes → IfOk result (λ is_there. IsTrue is_there
+        → fetched_bytes blocks.new ≡ data_block (store_of (reads (D.disk (device_of blocks.old)))) tree.now i) }
+    ensures lent { IfOk result (λ is_there. IsTrue is_there → IsSome (fetched_number blocks.new)) }
+    ensures lies { IsTrue D.tells_bytes → OnOk result
+        (block_lies_on (D.status (device_of blocks.old)).sectors
+        (store_of (reads (D.disk (device_of blocks.old)))) tree.now i ≡ true) }
+    ensures damaged { IsTrue D.tells_bytes → result ≡ Err Damaged
+        → block_lies_on (D.status (device_of blocks.old)).sectors
+        (store_of (reads (D.disk (device_of blocks.old)))) tree.now i ≡ false }
+    ensures same { IsTrue D.tells_bytes → D.disk (device_of blocks.new) ≡ D.disk (device_of blocks.old) }
+    ensures counts { CountsTree result (D.status (device_of blocks.old)) (D.status (device_of blocks.new)) }
+{
+    let pointer = entry(blocks, tree, BlockTree::levels_of(tree.size), i)?;
+    if !lies_on(blocks.sectors(), pointer) {
+        return Err(TreeFault::Damaged);
+    }
+    if pointer == 0 {
+        return Ok(false);
+    }
+    blocks.fetch(pointer)?;
+    Ok(true)
+}
