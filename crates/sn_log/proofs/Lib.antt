@@ -1,0 +1,6 @@
+pub mod AppendLemmas
+pub mod ClearLemmas
+pub mod HeadLemmas
+pub mod ReplayLemmas
+pub mod SectorLemmas
+pub mod WriteLemmas

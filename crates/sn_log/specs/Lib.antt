@@ -1,0 +1,5 @@
+pub mod Appending
+pub mod Clearing
+pub mod Heads
+pub mod Places
+pub mod Replaying

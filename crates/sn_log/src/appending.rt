@@ -1,0 +1,54 @@
+//! The writes of an append.
+ghost use Rattle.std.specs.Prelude.{◌≡◌, ◌+◌, ◌*◌, ◌/◌, ◌%◌, ◌≤◌, length, IsTrue};
+ghost use Rattle.sn_block.specs.Counts.{CountsCalls};
+ghost use Rattle.sn_block.specs.Lending.{device_of};
+ghost use Rattle.sn_ondisk.specs.LogHalf.{body_sectors};
+ghost use Rattle.sn_record.specs.Payload.{IsSpelled, payload_bytes};
+ghost use Rattle.sn_log.specs.Places.{HasRoom};
+ghost use Rattle.sn_log.specs.Appending.{Appends, WritesBehind};
+
+use crate::Position;
+use crate::body::put_body;
+use crate::sectors::sector_of;
+use sn_block::Blocks;
+use sn_device::{Device, Fault};
+use sn_layout::{Gate, SECTOR_SIZE};
+use sn_model::Change;
+
+/// Writes a body behind the gate in the sector `at`, closes the gate behind the body, and syncs.
+fn write_behind<D: Device>(blocks: &mut Blocks<D>, at: u64, body: &[u8]) -> Result<(), Fault>
+    requires whole { length body.now % 512 ≡ 0 }
+    requires room { at + length body.now / 512 + 2 ≤ (D.status (device_of blocks.old)).sectors }
+    ensures disk { IsTrue D.tells_bytes → WritesBehind at (length body.now / 512) body.now result
+        (D.disk (device_of blocks.old)) (D.disk (device_of blocks.new)) }
+    ensures counts { CountsCalls (length body.now / 512 + 1) 1 result
+        (D.status (device_of blocks.old)) (D.status (device_of blocks.new)) }
+{
+    // It bounds the numbers of the sectors.
+    let _sectors = blocks.sectors();
+    let next = at + 1 + (body.len() / SECTOR_SIZE) as u64;
+    blocks.write_run(at + 1, body)?;
+    blocks.write_sector(next, &sector_of(Gate::Closed))?;
+    blocks.sync()
+}
+
+/// Appends the record of a change at a position, with room for its body.
+pub(crate) fn append_at<D: Device>(
+    blocks: &mut Blocks<D>,
+    position: Position,
+    room: &mut [u8; 66_048],
+    change: &Change<'_>,
+) -> Result<(), Fault>
+    requires spelled { IsSpelled change.now }
+    requires room { HasRoom position change.now }
+    requires disk { 8 * position.blocks ≤ (D.status (device_of blocks.old)).sectors }
+    ensures disk { IsTrue D.tells_bytes → Appends position change.now result
+        (D.disk (device_of blocks.old)) (D.disk (device_of blocks.new)) }
+    ensures counts { CountsCalls (body_sectors (payload_bytes change.now) + 2) 2 result
+        (D.status (device_of blocks.old)) (D.status (device_of blocks.new)) }
+{
+    let gate = 8 * u64::from(position.start()) + position.place();
+    let size = put_body(room, position.epoch(), position.count(), change);
+    write_behind(blocks, gate, &room[..size])?;
+    blocks.write_synced(gate, &sector_of(Gate::Open))
+}

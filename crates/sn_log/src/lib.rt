@@ -1,0 +1,54 @@
+//! The log: the changes since the root, record by record, in the two halves of the disk that epochs
+//! take in turn.
+//!
+//! The model. A `LogPosition` says where in the log reading or appending goes on: on a disk of how many
+//! blocks, in the half of which epoch, at which place, and behind how many records. [`Position`],
+//! [`Log`] and [`Replay`] are seen as one. What stands on the disk is said in the words of `sn_ondisk`,
+//! for lists of changes by their payloads: `IsBehind` (the records of these changes lead up to the
+//! position) and `IsReadyAt` (and the gate there is closed, so that one more can be appended).
+//!
+//! What the clauses say, over any device, those on bytes where it tells them:
+//! - [`Log::append`]: where each crash left these changes, a crash at any moment of the call leaves them
+//!   or them with the new one, after `Ok` each leaves the new one too, and only sectors of the half were
+//!   touched. A record of n sectors costs n + 2 writes and 2 syncs. It takes no memory.
+//! - [`Replay::next`]: a change where its record stands next in the epoch behind an open gate, the end
+//!   where replay stops, and else a misspelt record, for which no change stands there. What lies behind
+//!   a closed gate, of another epoch or out of turn never counts.
+//! - [`clear`] and [`close_half`]: zeros are written over the one sector that `cleared_sector` names,
+//!   which at no moment changes the records that end there or adds a later one. After `Ok` the place is
+//!   closed after each crash.
+//! - [`Log::turn`] and [`Log::turn_back`] go to another epoch and back in memory alone.
+//!
+//! The way through: `specs/Places.antt`, `Appending.antt`, `Replaying.antt` and `Clearing.antt` have
+//! the words of the clauses. `log` and `replay` have the two types, `appending` the writes of an append
+//! in their order, `body` what a record is spelled with, `sectors` what is read, and `clearing` the
+//! rule for a place that is to count no longer.
+//!
+//! ```text
+//! let mut buffer = Buffer::new(alloc)?;
+//! let mut replay = Replay::new(places, epoch);
+//! while let Found::Change(change) = replay.next(&mut blocks, &mut buffer)? {
+//!     tree.apply(&change)?;
+//! }
+//! clear(&mut blocks, places, LogHalf::of_epoch(epoch), replay.position().place())?;
+//! let mut log = Log::new(replay.position(), buffer);
+//! if log.has_room(&change) {
+//!     log.append(&mut blocks, &change)?;
+//! }
+//! ```
+#![tactic(auto)]
+
+mod appending;
+mod body;
+mod buffer;
+mod clearing;
+mod log;
+mod position;
+mod replay;
+mod sectors;
+
+pub use buffer::Buffer;
+pub use clearing::{clear, close_half};
+pub use log::Log;
+pub use position::Position;
+pub use replay::{Found, Replay};

@@ -1,0 +1,97 @@
+//! Appending.
+ghost use Rattle.std.specs.Prelude.{◌≡◌, ◌+◌, ◌*◌, ◌/◌, ◌%◌, ◌≤◌, ◌<◌, ◌↔◌, length, IsTrue, OnOk, OnErr};
+ghost use Rattle.sn_block.specs.Counts.{CountsCalls};
+ghost use Rattle.sn_block.specs.Lending.{device_of};
+ghost use Rattle.sn_ondisk.specs.LogHalf.{body_sectors};
+ghost use Rattle.sn_record.specs.Payload.{IsSpelled, payload_bytes};
+ghost use Rattle.sn_log.specs.Places.{first_of, behind, HasRoom};
+ghost use Rattle.sn_log.specs.Appending.{Appends};
+
+use crate::appending::append_at;
+use crate::body::sectors_of;
+use crate::{Buffer, Position};
+use sn_block::Blocks;
+use sn_device::{Device, Fault};
+use sn_model::Change;
+use std::marker::Model;
+
+/// The log of a mounted disk, to which changes are appended. Callers see it as the position where the
+/// next record goes.
+#[derive(Drop)]
+pub struct Log {
+    position: Position,
+    buffer: Buffer,
+}
+
+impl Model for Log {
+    ghost use Rattle.sn_log.specs.Places.{LogPosition};
+
+    ghost Value = { LogPosition };
+
+    ghost view = { λ log. log.position };
+}
+
+impl Log {
+    /// Appending goes on at this position.
+    pub fn new(position: Position, buffer: Buffer) -> Self
+        ensures { result ≡ position }
+    {
+        Log { position, buffer }
+    }
+
+    /// Where the next record goes.
+    pub fn position(&self) -> Position
+        ensures { result ≡ self.now }
+    {
+        self.position
+    }
+
+    /// Whether there is room for the record of a change. Where there isn't, a consistency point has to
+    /// come first.
+    pub fn has_room(&self, change: &Change<'_>) -> bool
+        requires { IsSpelled change.now }
+        ensures { IsTrue result ↔ HasRoom self.now change.now }
+    {
+        self.position.has_room(sectors_of(change))
+    }
+
+    /// Appends the record of a change. It takes no memory. After a fault the position is as it was,
+    /// and what stands there isn't known, so that nothing may be appended before the next mount.
+    pub fn append<D: Device>(
+        &mut self,
+        blocks: &mut Blocks<D>,
+        change: &Change<'_>,
+    ) -> Result<(), Fault>
+        requires spelled { IsSpelled change.now }
+        requires room { HasRoom self.old change.now }
+        requires disk { 8 * self.old.blocks ≤ (D.status (device_of blocks.old)).sectors }
+        ensures disk { IsTrue D.tells_bytes → Appends self.old change.now result
+            (D.disk (device_of blocks.old)) (D.disk (device_of blocks.new)) }
+        ensures counts { CountsCalls (body_sectors (payload_bytes change.now) + 2) 2 result
+            (D.status (device_of blocks.old)) (D.status (device_of blocks.new)) }
+        ensures moves { OnOk result (self.new ≡ behind self.old change.now) }
+        ensures stays { OnErr result (self.new ≡ self.old) }
+    {
+        append_at(blocks, self.position, &mut self.buffer.body, change)?;
+        self.position = self.position.behind(sectors_of(change));
+        Ok(())
+    }
+
+    /// Goes on at the first place of an epoch, and answers the mark that leads back. It touches no
+    /// device.
+    pub fn turn(&mut self, epoch: u64) -> Position
+        ensures mark { result ≡ self.old }
+        ensures first { self.new ≡ first_of self.old.blocks epoch }
+    {
+        let mark = self.position;
+        self.position = mark.turned(epoch);
+        mark
+    }
+
+    /// Goes on where a turn left off. It touches no device.
+    pub fn turn_back(&mut self, mark: Position)
+        ensures { self.new ≡ mark }
+    {
+        self.position = mark;
+    }
+}
