@@ -1,0 +1,3 @@
+pub mod FindingLemmas
+pub mod ReplacingLemmas
+pub mod SlotLemmas

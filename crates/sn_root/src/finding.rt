@@ -1,0 +1,109 @@
+//! The newest root.
+ghost use Rattle.std.specs.Prelude.{◌≡◌, ◌≤◌, IsTrue, IfOk};
+ghost use Rattle.sn_device.specs.Sectors.{Contents};
+ghost use Rattle.sn_device.specs.Disk.{reads};
+ghost use Rattle.sn_layout.specs.RootBody.{IsRootBody};
+ghost use Rattle.sn_layout.specs.declared.places.Slot.TheVariants.{A as SlotA, B as SlotB};
+ghost use Rattle.sn_block.specs.Lending.{device_of};
+ghost use Rattle.sn_root.specs.declared.slots.Held.TheVariants.{Nothing as HeldNothing, Root as HeldRoot};
+ghost use Rattle.sn_root.specs.Held.{Holds, Fits};
+ghost use Rattle.sn_root.specs.Finding.{Finds, IsRead, CountsFinding};
+
+use crate::slots::{Held, look, read_gates};
+use crate::{Damage, RootFault};
+use sn_block::Blocks;
+use sn_device::Device;
+use sn_layout::{Gate, RootBody, Slot};
+
+/// The root that counts, and where it stands.
+#[derive(PartialEq, Eq, Drop)]
+pub struct NewestRoot {
+    pub slot: Slot,
+    pub root: RootBody,
+    /// The gate of the other slot, behind which an older root stands if it is open.
+    pub other: Gate,
+}
+
+/// The root that counts: of the slots whose gate is open, that with the greater generation. It reads
+/// the gates and the bodies of the open slots, three blocks at most.
+pub fn newest<D: Device>(blocks: &mut Blocks<D>) -> Result<NewestRoot, RootFault>
+    requires room { 32 ≤ (D.status (device_of blocks.old)).sectors }
+    ensures found { IsTrue D.tells_bytes → Finds (reads (D.disk (device_of blocks.old))) result }
+    ensures fits { IfOk result (λ newest. IsRootBody newest.root) }
+    ensures same { IsTrue D.tells_bytes → D.disk (device_of blocks.new) ≡ D.disk (device_of blocks.old) }
+    ensures counts { CountsFinding result (D.status (device_of blocks.old)) (D.status (device_of blocks.new)) }
+{
+    let (gate_a, gate_b) = read_gates(blocks)?;
+    let a = look(blocks, Slot::A, gate_a)?;
+    let b = look(blocks, Slot::B, gate_b)?;
+    choose(a, b)
+}
+
+// Which of the two counts. Versions come before what the bodies spell, and slot A before slot B.
+fn choose(a: Held, b: Held) -> Result<NewestRoot, RootFault>
+    ensures finds { (c : Contents) → Holds c SlotA a → Holds c SlotB b → Finds c result }
+    ensures read { IsRead result }
+    ensures fits { Fits a → Fits b → IfOk result (λ newest. IsRootBody newest.root) }
+{
+    match a {
+        Held::Nothing => choose_b(b),
+        Held::UnknownVersion => Err(RootFault::UnknownVersion),
+        Held::Misspelt => match b {
+            Held::UnknownVersion => Err(RootFault::UnknownVersion),
+            _ => Err(RootFault::Damaged(Damage::Misspelt(Slot::A))),
+        },
+        Held::Root(root) => choose_beside(root, b),
+    }
+}
+
+// What counts where slot A is closed.
+fn choose_b(b: Held) -> Result<NewestRoot, RootFault>
+    ensures finds { (c : Contents) → Holds c SlotA HeldNothing → Holds c SlotB b → Finds c result }
+    ensures read { IsRead result }
+    ensures fits { Fits b → IfOk result (λ newest. IsRootBody newest.root) }
+{
+    match b {
+        Held::Nothing => Err(RootFault::NoOpenRoot),
+        Held::UnknownVersion => Err(RootFault::UnknownVersion),
+        Held::Misspelt => Err(RootFault::Damaged(Damage::Misspelt(Slot::B))),
+        Held::Root(root) => Ok(newest_in(Slot::B, root, Gate::Closed)),
+    }
+}
+
+// What counts beside a root in slot A.
+fn choose_beside(root: RootBody, b: Held) -> Result<NewestRoot, RootFault>
+    ensures finds { (c : Contents) → Holds c SlotA (HeldRoot root) → Holds c SlotB b → Finds c result }
+    ensures read { IsRead result }
+    ensures fits { IsRootBody root → Fits b → IfOk result (λ newest. IsRootBody newest.root) }
+{
+    match b {
+        Held::Nothing => Ok(newest_in(Slot::A, root, Gate::Closed)),
+        Held::UnknownVersion => Err(RootFault::UnknownVersion),
+        Held::Misspelt => Err(RootFault::Damaged(Damage::Misspelt(Slot::B))),
+        Held::Root(other) => newer(root, other),
+    }
+}
+
+fn newest_in(slot: Slot, root: RootBody, other: Gate) -> NewestRoot
+    ensures slot { result.slot ≡ slot }
+    ensures root { result.root ≡ root }
+    ensures other { result.other ≡ other }
+{
+    NewestRoot { slot, root, other }
+}
+
+// The newer of two roots that are open, that of slot A and that of slot B.
+fn newer(one: RootBody, other: RootBody) -> Result<NewestRoot, RootFault>
+    ensures finds { (c : Contents) → Holds c SlotA (HeldRoot one) → Holds c SlotB (HeldRoot other) → Finds c result }
+    ensures read { IsRead result }
+    ensures fits { IsRootBody one → IsRootBody other → IfOk result (λ newest. IsRootBody newest.root) }
+{
+    if one.generation == other.generation {
+        return Err(RootFault::Damaged(Damage::EqualGenerations));
+    }
+    if one.generation > other.generation {
+        Ok(newest_in(Slot::A, one, Gate::Open))
+    } else {
+        Ok(newest_in(Slot::B, other, Gate::Open))
+    }
+}

@@ -1,0 +1,14 @@
+//! The laws that the definitions of `specs/` keep.
+ghost use Rattle.sn_root.specs.Laws.{FindingIsOne, LogKeepsGates, LogKeepsClosed, LogKeepsBodies};
+
+/// A disk has one newest root or one fault.
+pub fn finding_is_one()
+    ensures { FindingIsOne }
+{}
+
+/// What stands between the parts of replacing a root goes on to stand there while calls are logged.
+pub fn log_keeps_slots()
+    ensures gates { LogKeepsGates }
+    ensures closed { LogKeepsClosed }
+    ensures bodies { LogKeepsBodies }
+{}
