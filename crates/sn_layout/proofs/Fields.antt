@@ -51,6 +51,9 @@ number_bytes-8 bytes x len fits e =
 
 -- ---- fronts of one length
 
+pub same_cons : (a b : ℕ) (x y : List ℕ) → a ∷ x ≡ b ∷ y → (a ≡ b) × (x ≡ y)
+same_cons a b x y e = (cc, cc)
+
 pub same_fronts : (a b x y : List ℕ) → length a ≡ length b → a ++ x ≡ b ++ y → (a ≡ b) × (x ≡ y)
 same_fronts a b x y len e = (
   sym (take_at a x (length a) refl) ∙ ap (take (length a)) e ∙ take_at b y (length a) (sym len),
@@ -145,3 +148,11 @@ puts_part block bytes buf at k m next within fits len moved e =
       moved = omega arith;
       back = λ n le. rw e (behind (take at block ++ ((bytes ++ more) ++ after)) block next n le (new ∙ sym old));
     }
+
+-- bytes that were put, and others behind them
+pub puts_then : (a b c xs ys : List ℕ) (at next end : ℕ) → Puts a b at next xs → Puts b c next end ys → Puts a c at end (xs ++ ys)
+puts_then a b c xs ys at next end first second = record {
+  front = second.front ∙ ap (λ (r : List ℕ). r ++ ys) first.front ∙ append_assoc (take at a) xs ys;
+  moved = omega (arith, first.moved, second.moved, length-append xs ys);
+  back = λ n le. second.back n le ∙ first.back n (omega (arith, second.moved));
+}

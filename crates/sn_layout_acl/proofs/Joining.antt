@@ -36,11 +36,11 @@ like_append [] (y ∷ ys) a b h k = absurd h
 like_append (x ∷ xs) [] a b h k = absurd h
 like_append (x ∷ xs) (y ∷ ys) a b h k = (h.0, h.1, like_append xs ys a b h.2 k)
 
-abbrev one_if : Bool → ℕ
+abbrev pub one_if : Bool → ℕ
 one_if true = 1
 one_if false = 0
 
-count-step : (p : Tag → Bool) (e : Entry) (es : List Entry) → count_of p (e ∷ es) ≡ one_if (p e.tag) + count_of p es
+pub count-step : (p : Tag → Bool) (e : Entry) (es : List Entry) → count_of p (e ∷ es) ≡ one_if (p e.tag) + count_of p es
 count-step p e es =
     elim (p e.tag) as (λ b. length (cond b (e ∷ filter (λ x. p x.tag) es) (filter (λ x. p x.tag) es)) ≡ one_if b + length (filter (λ x. p x.tag) es)) [
       | true ↦ omega arith

@@ -1,3 +1,4 @@
 pub mod EntryLists
 pub mod AclLists
 pub mod Joining
+pub mod Spelled

@@ -2,3 +2,4 @@ pub mod Numbers
 pub mod Heads
 pub mod Links
 pub mod Changes
+pub mod Spelled

@@ -1,113 +1,23 @@
 -- No two changes have one spelling.
-use Rattle.std.proofs.Common.{◌≡◌, ◌∙◌, ℕ, Bool, true, false, List, [], ◌∷◌, ◌++◌, Option, Some, None, length, refl, sym, ap, append_assoc, arith}
-use Rattle.std.specs.Prelude.{◌%◌, ◌==◌, nat_le}
-use Rattle.std.specs.List.{AllByRecursion}
+use Rattle.std.proofs.Common.{◌≡◌, ◌∙◌, ℕ, List, [], ◌∷◌, ◌++◌, refl, sym, ap, append_assoc}
 use Rattle.std.proofs.lemmas.List.{append-nil}
-use Rattle.sn_acl.specs.declared.entries.Tag.{Tag}
-use Rattle.sn_acl.specs.declared.entries.Tag.TheVariants.{UserObj, User, GroupObj, Group, Mask, Other}
 use Rattle.sn_acl.specs.declared.entries.Entry.{Entry}
 use Rattle.sn_acl.specs.declared.modes.Mode.{Mode}
-use Rattle.sn_acl.specs.Entries.{qualifier_of}
-use Rattle.sn_acl.specs.Modes.{mode_bits}
 use Rattle.sn_walk.specs.declared.view.Kind.{Kind}
-use Rattle.sn_walk.specs.declared.view.Kind.TheVariants.{File, Directory}
 use Rattle.sn_model.specs.declared.change.Change.{Change}
 use Rattle.sn_model.specs.declared.change.Change.TheVariants.{Make, AddLink, Remove, Rename, Write, SetSize, SetAttributes}
 use Rattle.sn_model.specs.declared.change.Ownership.{Ownership}
-use Rattle.sn_layout.specs.Bytes.{number_bytes, zeros}
-use Rattle.sn_layout.proofs.Fields.{same_fronts, same_numbers}
-use Rattle.sn_layout_acl.specs.AclEntry.{IsEntry, tag_number, entry_bytes, entries_bytes}
-use Rattle.sn_layout_acl.specs.Mode.{IsMode, mode_bytes}
-use Rattle.sn_layout_acl.specs.AclBlock.{AreAcls, IsDefault, default_entries, joined, acls_bytes}
-use Rattle.sn_layout_acl.specs.declared.acl_block.AclBlock.{AclBlock}
-use Rattle.sn_layout_acl.proofs.AclLists.{valid_some, named_entries, default_each}
+use Rattle.sn_layout.specs.Bytes.{number_bytes}
+use Rattle.sn_layout.proofs.Fields.{same_cons, same_numbers}
+use Rattle.sn_layout_acl.specs.Mode.{mode_bytes}
+use Rattle.sn_layout_acl.specs.AclBlock.{AreAcls, joined, acls_bytes}
+use Rattle.sn_layout_acl.proofs.Spelled.{same_modes, same_acls}
 use Rattle.sn_layout_node.specs.Directory.{name_bytes}
 use Rattle.sn_layout_node.specs.Inode.{kind_number, flags_number}
+use Rattle.sn_layout_node.proofs.Spelled.{same_names, same_bits, same_kinds}
 use Rattle.sn_record.specs.Payload.{IsOwnership, IsSpelled, objects_of, named_of, lists_of, ownership_bytes, change_number, fields_bytes, payload_bytes}
 use Rattle.sn_record.proofs.ByKind.{make_at, link_at, remove_at, rename_at, write_at, size_at, attributes_at}
 use Rattle.sn_record.proofs.Parts.{parts_join, parts_named, parts_mode}
-
-same_cons : (a b : ℕ) (x y : List ℕ) → a ∷ x ≡ b ∷ y → (a ≡ b) × (x ≡ y)
-same_cons a b x y e = (cc, cc)
-
-same_names : (a b x y : List ℕ) → name_bytes a ++ x ≡ name_bytes b ++ y → (a ≡ b) × (x ≡ y)
-same_names a b x y e =
-    let heads = same_cons (length a) (length b) (a ++ x) (b ++ y) e in
-    same_fronts a b x y heads.0 heads.1
-
-same_tags : (a b : Tag) → tag_number a ≡ tag_number b → qualifier_of a ≡ qualifier_of b → a ≡ b
-same_tags UserObj UserObj e q = refl
-same_tags (User n) (User m) e q = ap User q
-same_tags GroupObj GroupObj e q = refl
-same_tags (Group n) (Group m) e q = ap Group q
-same_tags Mask Mask e q = refl
-same_tags Other Other e q = refl
-same_tags _ _ e q = absurd cc
-
-same_entry : (a b : Entry) (x y : List ℕ) → IsEntry a → IsEntry b → entry_bytes a ++ x ≡ entry_bytes b ++ y → (a ≡ b) × (x ≡ y)
-same_entry a b x y fits-a fits-b e =
-    let tags = same_cons (tag_number a.tag) (tag_number b.tag) _ _ e in
-    let rights = same_cons a.permissions b.permissions _ _ tags.1 in
-    let flat-a : (zeros 2 ++ number_bytes 4 (qualifier_of a.tag)) ++ x ≡ zeros 2 ++ (number_bytes 4 (qualifier_of a.tag) ++ x) = append_assoc (zeros 2) (number_bytes 4 (qualifier_of a.tag)) x in
-    let flat-b : (zeros 2 ++ number_bytes 4 (qualifier_of b.tag)) ++ y ≡ zeros 2 ++ (number_bytes 4 (qualifier_of b.tag) ++ y) = append_assoc (zeros 2) (number_bytes 4 (qualifier_of b.tag)) y in
-    let blank = same_fronts (zeros 2) (zeros 2) _ _ refl (sym flat-a ∙ rights.1 ∙ flat-b) in
-    let numbers = same_numbers 4 (qualifier_of a.tag) (qualifier_of b.tag) x y fits-a.qualifier fits-b.qualifier blank.1 in
-    let tag = same_tags a.tag b.tag tags.0 numbers.0 in
-    let permissions = rights.0 in
-    (rw (tag, permissions) refl, numbers.1)
-
-same_entries : (a b : List Entry) (x y : List ℕ) → length a ≡ length b → AllByRecursion IsEntry a → AllByRecursion IsEntry b → entries_bytes a ++ x ≡ entries_bytes b ++ y → (a ≡ b) × (x ≡ y)
-same_entries [] [] x y len fits-a fits-b e = (refl, e)
-same_entries [] (q ∷ b) x y len fits-a fits-b e = absurd (omega (arith, len))
-same_entries (p ∷ a) [] x y len fits-a fits-b e = absurd (omega (arith, len))
-same_entries (p ∷ a) (q ∷ b) x y len fits-a fits-b e =
-    let flat : entry_bytes p ++ (entries_bytes a ++ x) ≡ entry_bytes q ++ (entries_bytes b ++ y) = sym (append_assoc (entry_bytes p) (entries_bytes a) x) ∙ e ∙ append_assoc (entry_bytes q) (entries_bytes b) y in
-    let first = same_entry p q (entries_bytes a ++ x) (entries_bytes b ++ y) fits-a.0 fits-b.0 flat in
-    let others = same_entries a b x y (omega (arith, len)) fits-a.1 fits-b.1 first.1 in
-    (ap (λ (r : Entry). r ∷ a) first.0 ∙ ap (λ (r : List Entry). q ∷ r) others.0, others.1)
-
-same_modes : (a b : Mode) (x y : List ℕ) → IsMode a → IsMode b → mode_bytes a ++ x ≡ mode_bytes b ++ y → (a ≡ b) × (x ≡ y)
-same_modes a b x y fits-a fits-b e =
-    let bits = same_numbers 2 (mode_bits a) (mode_bits b) x y (omega (arith, fits-a.owner, fits-a.group, fits-a.other)) (omega (arith, fits-b.owner, fits-b.group, fits-b.other)) e in
-    let owner : a.owner ≡ b.owner = omega (arith, bits.0, fits-a.owner, fits-a.group, fits-a.other, fits-b.owner, fits-b.group, fits-b.other) in
-    let group : a.group ≡ b.group = omega (arith, bits.0, fits-a.owner, fits-a.group, fits-a.other, fits-b.owner, fits-b.group, fits-b.other) in
-    let other : a.other ≡ b.other = omega (arith, bits.0, owner, group) in
-    (rw (owner, group, other) refl, bits.1)
-
-set_gid_of : (a b : Bool) → (flags_number a b % 2 == 1) ≡ a
-set_gid_of true true = refl
-set_gid_of true false = refl
-set_gid_of false true = refl
-set_gid_of false false = refl
-
-sticky_of : (a b : Bool) → nat_le 2 (flags_number a b) ≡ b
-sticky_of true true = refl
-sticky_of true false = refl
-sticky_of false true = refl
-sticky_of false false = refl
-
-same_bits : (a b c d : Bool) → flags_number a b ≡ flags_number c d → (a ≡ c) × (b ≡ d)
-same_bits a b c d e = (sym (set_gid_of a b) ∙ ap (λ (n : ℕ). n % 2 == 1) e ∙ set_gid_of c d, sym (sticky_of a b) ∙ ap (λ (n : ℕ). nat_le 2 n) e ∙ sticky_of c d)
-
-same_defaults : (a b : Option (List Entry)) → IsDefault a → IsDefault b → default_entries a ≡ default_entries b → a ≡ b
-same_defaults None None fits-a fits-b e = refl
-same_defaults None (Some b) fits-a fits-b e = absurd (omega (arith, ap length e, valid_some b fits-b))
-same_defaults (Some a) None fits-a fits-b e = absurd (omega (arith, ap length e, valid_some a fits-a))
-same_defaults (Some a) (Some b) fits-a fits-b e = ap Some e
-
-same_kinds : (a b : Kind) → kind_number a ≡ kind_number b → a ≡ b
-same_kinds File File e = refl
-same_kinds Directory Directory e = refl
-same_kinds _ _ e = absurd cc
-
-same_acls : (a b : AclBlock) (x y : List ℕ) → AreAcls a → AreAcls b → acls_bytes a ++ x ≡ acls_bytes b ++ y → (a.access ≡ b.access) × (a.default ≡ b.default) × (x ≡ y)
-same_acls a b x y fits-a fits-b e =
-    let access = same_cons (length a.access) (length b.access) _ _ e in
-    let default = same_cons (length (default_entries a.default)) (length (default_entries b.default)) _ _ access.1 in
-    let flat : (acls : AclBlock) (rest : List ℕ) → (entries_bytes acls.access ++ entries_bytes (default_entries acls.default)) ++ rest ≡ entries_bytes acls.access ++ (entries_bytes (default_entries acls.default) ++ rest) = λ acls rest. append_assoc (entries_bytes acls.access) (entries_bytes (default_entries acls.default)) rest in
-    let first = same_entries a.access b.access _ _ access.0 (named_entries a.access fits-a.access) (named_entries b.access fits-b.access) (sym (flat a x) ∙ default.1 ∙ flat b y) in
-    let second = same_entries (default_entries a.default) (default_entries b.default) x y default.0 (default_each a.default fits-a.default) (default_each b.default fits-b.default) first.1 in
-    (first.0, same_defaults a.default b.default fits-a.default fits-b.default second.0, second.1)
 
 are_acls : (o : Ownership) → IsOwnership o → AreAcls (lists_of o)
 are_acls o fits = record { access = parts_named o.acl fits.acl; default = fits.default }

@@ -1,6 +1,6 @@
 -- An ACL as the rights of its classes and its other entries.
 use Rattle.std.proofs.Common.{◌≡◌, ℕ, zero, suc, ◌+◌, ◌<◌, Bool, true, false, cond, List, [], ◌∷◌, ◌++◌, Some, length, take, drop, refl, sym, ap, subst, ◌∙◌, append_assoc, length-append, arith}
-use Rattle.std.specs.Prelude.{not, filter}
+use Rattle.std.specs.Prelude.{not}
 use Rattle.std.specs.List.{AllByRecursion}
 use Rattle.std.proofs.lemmas.List.{take-append-drop, append-nil}
 use Rattle.std.proofs.lemmas.List.Elements.{filter-append}
@@ -15,7 +15,7 @@ use Rattle.sn_layout_acl.specs.AclEntry.{IsEntry}
 use Rattle.sn_layout_acl.specs.Mode.{IsMode}
 use Rattle.sn_layout_acl.specs.AclBlock.{users_in, joined, IsNamedPart}
 use Rattle.sn_layout_acl.proofs.AclLists.{valid_entries}
-use Rattle.sn_layout_acl.proofs.Joining.{parts_of, joined_parts, named_valid}
+use Rattle.sn_layout_acl.proofs.Joining.{one_if, count-step, parts_of, joined_parts, named_valid}
 use Rattle.sn_record.specs.Payload.{objects_of, is_object, named_of}
 
 abbrev entry : Tag → ℕ → Entry
@@ -26,17 +26,6 @@ abbrev AreNamed : List Entry → Type 0
 AreNamed es = AllByRecursion (λ e. is_object e.tag ≡ false) es
 
 -- ---- what counts say
-
-abbrev one_if : Bool → ℕ
-one_if true = 1
-one_if false = 0
-
-count-step : (p : Tag → Bool) (e : Entry) (es : List Entry) → count_of p (e ∷ es) ≡ one_if (p e.tag) + count_of p es
-count-step p e es =
-    elim (p e.tag) as (λ b. length (cond b (e ∷ filter (λ x. p x.tag) es) (filter (λ x. p x.tag) es)) ≡ one_if b + length (filter (λ x. p x.tag) es)) [
-      | true ↦ omega arith
-      | false ↦ omega arith
-    ]
 
 count-append : (p : Tag → Bool) (xs ys : List Entry) → count_of p (xs ++ ys) ≡ count_of p xs + count_of p ys
 count-append p [] ys = omega arith

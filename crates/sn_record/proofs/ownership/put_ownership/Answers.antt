@@ -2,11 +2,11 @@ use Rattle.std.proofs.Common.{◌∷◌, ◌++◌, List, Option, subst}
 use Rattle.sn_acl.specs.declared.entries.Entry.{Entry}
 use Rattle.sn_acl.specs.declared.modes.Mode.{Mode}
 use Rattle.sn_layout.specs.Bytes.{Puts, number_bytes}
+use Rattle.sn_layout.proofs.Fields.{puts_then}
 use Rattle.sn_layout_acl.specs.Mode.{mode_bytes}
 use Rattle.sn_layout_acl.specs.AclBlock.{acls_bytes}
 use Rattle.sn_layout_node.specs.Inode.{flags_number}
 use Rattle.sn_record.specs.Payload.{named_of}
-use Rattle.sn_record.proofs.Writing.{puts_then}
 use Rattle.sn_record.proofs.ownership.put_ownership.Goals as goal
 
 pub returns-clause-bytes : goal.returns-clause-bytes
