@@ -1,9 +1,10 @@
 //! The pointers of a tree, level by level, and its data blocks.
-ghost use Rattle.std.specs.Prelude.{◌≡◌, ◌+◌, ◌*◌, ◌/◌, ◌<◌, ◌≤◌, true, false, Err, IsTrue, IfOk, OnOk, IsSome, slice_index};
+ghost use Rattle.std.specs.Prelude.{◌≡◌, ◌+◌, ◌*◌, ◌/◌, ◌<◌, ◌≤◌, true, false, Err, IsTrue, IfOk, IfSome, OnOk, IsSome, slice_index};
 ghost use Rattle.sn_device.specs.Disk.{reads};
-ghost use Rattle.sn_block.specs.Lending.{device_of, fetched_number, fetched_bytes};
+ghost use Rattle.sn_block.specs.Lending.{device_of, fetched_number};
 ghost use Rattle.sn_layout.specs.Bytes.{zeros};
 ghost use Rattle.sn_layout.specs.Pointers.{levels_of};
+ghost use Rattle.sn_ondisk.specs.Blocks.{block_at};
 ghost use Rattle.sn_ondisk.specs.Trees.{store_of, below, entry, data_block};
 ghost use Rattle.sn_tree_read.specs.Counts.{CountsTree};
 ghost use Rattle.sn_tree_read.specs.Paths.{lies_on, path_lies_on, block_lies_on};
@@ -28,10 +29,11 @@ fn lies_on(sectors: u64, pointer: u32) -> bool
 fn first_pointer(tree: &BlockTree, i: u64) -> u32
     ensures { result ≡ slice_index tree.now.pointers i }
 {
-    if i >= 16 {
+    let pointers = tree.pointers.as_slice();
+    if i >= pointers.len() as u64 {
         return 0;
     }
-    tree.pointers.get(i as usize)
+    pointers[i as usize]
 }
 
 // One of the 1,024 pointers that stand below a pointer. Below a hole there are holes.
@@ -97,7 +99,8 @@ pub fn fetch_data<D: Device>(
     ensures hole { IsTrue D.tells_bytes → IfOk result (λ is_there. is_there ≡ false
         → data_block (store_of (reads (D.disk (device_of blocks.old)))) tree.now i ≡ zeros 4096) }
     ensures block { IsTrue D.tells_bytes → IfOk result (λ is_there. IsTrue is_there
-        → fetched_bytes blocks.new ≡ data_block (store_of (reads (D.disk (device_of blocks.old)))) tree.now i) }
+        → IfSome (fetched_number blocks.new) (λ number. block_at (reads (D.disk (device_of blocks.new))) number
+        ≡ data_block (store_of (reads (D.disk (device_of blocks.old)))) tree.now i)) }
     ensures lent { IfOk result (λ is_there. IsTrue is_there → IsSome (fetched_number blocks.new)) }
     ensures lies { IsTrue D.tells_bytes → OnOk result
         (block_lies_on (D.status (device_of blocks.old)).sectors
