@@ -1,3 +1,1 @@
-pub mod MapLemmas
-pub mod PlainLemmas
 pub mod StepLemmas

@@ -1,5 +1,4 @@
 pub mod Gives
-pub mod Maps
 pub mod Plain
 pub mod PlainRuns
 pub mod Served

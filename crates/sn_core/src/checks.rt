@@ -3,13 +3,13 @@ ghost use Rattle.sn_model.specs.Tests as tests;
 ghost use Rattle.sn_model.specs.Tree.{viewed};
 ghost use Rattle.sn_walk.specs.Walks.{EndsAt};
 ghost use Rattle.sn_core.specs.Gives.{Answers, Gives};
-ghost use Rattle.sn_core.specs.Plain.{tree_of};
+ghost use Rattle.sn_plain.specs.Plain.{tree_of};
 
 use crate::error::CallError;
-use crate::tree::PlainTree;
 use crate::view::PlainView;
 use sn_acl::{Cred, Mode, Permissions, Tag, check};
 use sn_model::{Access, Denial, Errno, Refusal, Rule, Word};
+use sn_plain::PlainTree;
 use sn_walk::{
     Attributes, Object, Obstacle, Path, PathFault, ROOT, WalkError, WalkRefusal, Walked, walk,
 };

@@ -3,44 +3,32 @@ ghost use Rattle.std.specs.FinMap as map;
 ghost use Rattle.sn_model.specs.Calls.{mkdir_outcome, stat_outcome, new_directory, status_of, number_of};
 ghost use Rattle.sn_model.specs.declared.session.Session.{Session};
 ghost use Rattle.sn_limits.specs.Versions.{version_1};
-ghost use Rattle.sn_model.specs.Changes.{ownership_of};
 ghost use Rattle.sn_model.specs.Outcomes.{makes, tells};
-ghost use Rattle.sn_model.specs.Tree.{viewed};
+ghost use Rattle.sn_model.specs.Tree.{least_unused, viewed};
 ghost use Rattle.sn_core.specs.Gives.{Gives};
-ghost use Rattle.sn_core.specs.Plain.{IsPlainTree, node_of, tree_of};
+ghost use Rattle.sn_plain.specs.Plain.{tree_of};
 
 use crate::checks::{found, live, not_present, prefix, writable_parent};
 use crate::error::CallError;
-use crate::nodes::Directory;
-use crate::stored::StoredAcl;
-use crate::tree::PlainTree;
 use crate::view::PlainView;
 use sn_acl::{Acl, Mode, inherit};
-use sn_model::{Errno, Link, Refusal, Reply, Session, Status, Word};
+use sn_limits::Limits;
+use sn_model::{Errno, Link, Ownership, Refusal, Reply, Session, Status, Word};
+use sn_plain::PlainTree;
 use sn_walk::{Attributes, Kind, Object, Path, attributes_of};
-use std::alloc::{AllocError, Global};
-
-fn stored(alloc: Global, acl: Option<Acl>) -> Result<Option<StoredAcl>, AllocError>
-    ensures { IfOk result (λ kept. kept ≡ acl) }
-{
-    match acl {
-        Some(acl) => Ok(Some(StoredAcl::new(alloc, &acl)?)),
-        None => Ok(None),
-    }
-}
+use std::alloc::Global;
 
 /// A directory that a session makes in a directory.
 fn inherited(
-    alloc: Global,
     caller: &Session,
     mode: Mode,
     parent: &Attributes,
     default_acl: Option<Acl>,
-) -> Result<Directory, AllocError>
-    ensures { IfOk result (λ made. ownership_of (node_of made) ≡ new_directory caller.now mode parent.now default_acl) }
+) -> Ownership
+    ensures { result ≡ new_directory caller.now mode parent.now default_acl }
 {
     let acls = inherit(default_acl.as_ref(), mode, caller.umask, true);
-    Ok(Directory {
+    Ownership {
         owner: caller.cred.uid(),
         group: if parent.set_gid {
             parent.group
@@ -49,9 +37,9 @@ fn inherited(
         },
         set_gid: parent.set_gid,
         sticky: false,
-        acl: StoredAcl::new(alloc, &acls.access)?,
-        default_acl: stored(alloc, acls.default)?,
-    })
+        acl: acls.access,
+        default_acl: acls.default,
+    }
 }
 
 /// What mkdir comes to: a name that isn't there yet, and the directory that gets it.
@@ -62,21 +50,19 @@ pub(crate) fn mkdir(
     caller: &Session,
     path: &Path<'_>,
     mode: Mode,
-) -> Result<(Link, Directory), CallError>
-    requires { IsPlainTree tree.now }
-    ensures exact { Gives (λ m. makes 18 m.0 Kind.Directory (ownership_of (node_of m.1))) result (mkdir_outcome version_1 (tree_of tree.now) caller.now path.now mode) }
-    ensures room { OnOk result (tree.now.unused < 65536) }
-    ensures absent { IfOk result (λ m. map.get (tree_of tree.now).links m.0 ≡ None) }
+) -> Result<(Link, u16, Ownership), CallError>
+    ensures exact { Gives (λ m. makes 18 m.0 Kind.Directory m.2) result (mkdir_outcome version_1 (tree_of tree.now) caller.now path.now mode) }
+    ensures number { IfOk result (λ m. least_unused version_1 (tree_of tree.now) ≡ Some m.1) }
 {
     let walked = prefix(alloc, tree, &caller.cred, 1, path)?;
     let (parent, place) = not_present(walked)?;
     let directory = live(parent)?;
     let attributes = writable_parent(tree, &caller.cred, 1, place, directory)?;
-    tree.has_room(directory)?;
+    let number = tree.has_room(&Limits::VERSION_1, directory)?;
     let name = Word::new(alloc, path.last().unwrap_or(b""))?;
     let default_acl = tree.default_acl(directory);
-    let node = inherited(alloc, caller, mode, &attributes, default_acl)?;
-    Ok((Link { directory, name }, node))
+    let ownership = inherited(caller, mode, &attributes, default_acl);
+    Ok((Link { directory, name }, number, ownership))
 }
 
 /// The number of an object. That of the directory of snapshots is 1.

@@ -4,7 +4,7 @@
 //! [`run_plain`] answers a list of events, and its contract is the machine of `sn_model`: the replies
 //! are a run of it from the empty world. Below it, `world` keeps the sessions and serves one call,
 //! `decisions` finds the first refusal of a call or what it comes to, by the tests of `checks`, and
-//! `tree` makes it so. `specs/Plain` says which tree and which world the maps stand for.
+//! the tree of `sn_plain` makes it so. `specs/Plain` says which world this stands for.
 //!
 //! ```text
 //! let (replies, end) = run_plain(alloc, &events);
@@ -14,11 +14,7 @@
 mod checks;
 mod decisions;
 mod error;
-mod links;
-mod nodes;
 mod plain;
-mod stored;
-mod tree;
 mod view;
 mod world;
 

@@ -1,6 +1,6 @@
-use crate::tree::PlainTree;
 use sn_acl::Acl;
 use sn_model::{Link, Word};
+use sn_plain::PlainTree;
 use sn_walk::{Attributes, TreeView};
 use std::alloc::{AllocError, Global};
 
@@ -13,7 +13,7 @@ pub(crate) struct PlainView<'a> {
 
 impl<'a> TreeView for PlainView<'a> {
     ghost use Rattle.sn_model.specs.Tree.{viewed};
-    ghost use Rattle.sn_core.specs.Plain.{tree_of};
+    ghost use Rattle.sn_plain.specs.Plain.{tree_of};
 
     type Fault = AllocError;
 

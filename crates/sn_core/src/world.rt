@@ -11,9 +11,11 @@ ghost use Rattle.sn_core.specs.Served.{Serves};
 use crate::checks::{new_mode_argument, path_argument};
 use crate::decisions;
 use crate::error::CallError;
-use crate::tree::PlainTree;
 use sn_acl::{Cred, Mode, Permissions};
+use sn_limits::Limits;
 use sn_model::{Call, Errno, Event, Groups, Refusal, Reply, Session, Word};
+use sn_plain::PlainTree;
+use sn_walk::Kind;
 use std::alloc::{AllocError, Global};
 
 /// How many sessions there are.
@@ -113,9 +115,17 @@ impl PlainWorld {
         let caller = self.logged_in(session)?;
         let path = path_argument(path)?;
         let mode = new_mode_argument(mode)?;
-        let (link, node) = decisions::mkdir(alloc, &self.tree, caller, &path, mode)?;
-        self.tree.make(link, node)?;
-        Ok(Reply::Done)
+        let (link, number, ownership) = decisions::mkdir(alloc, &self.tree, caller, &path, mode)?;
+        let limits = Limits::VERSION_1;
+        let kind = Kind::Directory;
+        match self
+            .tree
+            .make(alloc, &limits, link, number, kind, &ownership)
+        {
+            Ok(()) => Ok(Reply::Done),
+            // What was decided can be applied, so that memory alone can lack.
+            Err(_) => Err(CallError::Memory),
+        }
     }
 
     fn stat(&self, alloc: Global, session: u32, path: &Word) -> Result<Reply, CallError>

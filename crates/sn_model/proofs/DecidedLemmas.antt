@@ -45,7 +45,7 @@ use Rattle.sn_model.proofs.DecisionLemmas as found
 use Rattle.sn_model.proofs.DecisionLemmas.{Made, same_ok, mkdir_is, stat_is}
 
 -- what `IsValid` says, the test of an ACL finds
-acl_of : (es : List Entry) → IsValid es → is_acl es ≡ true
+pub acl_of : (es : List Entry) → IsValid es → is_acl es ≡ true
 acl_of es v =
     and_both _ _ (and_both _ _ (and_both _ _ (and_both _ _ (and_both _ _ (and_both _ _ (and_both _ _
     (eq-eqb _ 1 v.objects.user_obj) (eq-eqb _ 1 v.objects.group_obj)) (eq-eqb _ 1 v.objects.other))

@@ -6,4 +6,4 @@ use Rattle.sn_model.proofs.WorldLemmas.{new_is_world}
 use Rattle.sn_core.proofs.world.PlainWorld.new.Goals as goal
 
 pub returns-clause-whole : goal.returns-clause-whole
-returns-clause-whole c = subst (IsWorld version_1) (λ i. record { live = sym c.in_ok-new.ensures.tree i; frozen = map.empty; sessions = sym c.in_ok-free_sessions.ensures i; descriptors = map.empty }) new_is_world
+returns-clause-whole c = subst (IsWorld version_1) (λ i. record { live = sym c.in_ok-new.ensures i; frozen = map.empty; sessions = sym c.in_ok-free_sessions.ensures i; descriptors = map.empty }) new_is_world

@@ -1,9 +1,0 @@
-use Rattle.std.proofs.Common.{ap}
-use Rattle.std.specs.Ordering.{nat_cmp}
-use Rattle.sn_core.specs.Maps.{seen_by}
-use Rattle.sn_core.specs.Plain.{nodes_of, node_of}
-use Rattle.sn_core.proofs.nodes.Nodes.new.Goals as goal
-
-pub returns : goal.returns
-unfolding nodes_of
-returns c = ap (seen_by nat_cmp node_of) c.new.ensures.empty

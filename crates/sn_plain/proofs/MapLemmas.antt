@@ -1,0 +1,103 @@
+-- Maps in memory against the finite maps that they stand for.
+use Rattle.std.proofs.Common.{◌≡◌, Bool, true, false, cond, List, [], ◌∷◌, Option, Some, None, map, refl, sym, ap, ◌∙◌}
+use Rattle.std.specs.declared.cmp.Ordering.{Ordering}
+use Rattle.std.specs.Option.{option_map}
+use Rattle.std.specs.Ordering.{eq_by_cmp}
+use Rattle.std.specs.Cmp.{IsTotalOrder, eq_by_cmp_equiv}
+use Rattle.std.specs.Map.{lookup}
+use Rattle.std.specs.BTreeMap.{is_at}
+use Rattle.std.specs.FinMap as fin
+use Rattle.std.proofs.lemmas.Map.Lookups.{CmpEqualImpliesEq}
+use Rattle.std.proofs.lemmas.Map.Views.{tells_apart}
+use Rattle.sn_plain.specs.Maps.{restored, seen_by, updated, updated_at}
+
+map_cond : {X Y : Type 0} (f : X → Y) (b : Bool) (x : X) (o : Option X) → option_map f (cond b (Some x) o) ≡ cond b (Some (f x)) (option_map f o)
+map_cond f true x o = refl
+map_cond f false x o = refl
+
+none_cond : {X Y : Type 0} (f : X → Y) (b : Bool) (o : Option X) → option_map f (cond b None o) ≡ cond b None (option_map f o)
+none_cond f true o = refl
+none_cond f false o = refl
+
+module _ {K X Y : Type 0} (R : K → K → Ordering) (f : X → Y) where
+  find-mapped : (es : List (K × X)) (q : K) → fin.find R q (map (λ e. (e.0, f e.1)) es) ≡ option_map f (lookup (is_at (R q)) es)
+  find-mapped [] q = refl
+  find-mapped (e ∷ es) q = ap (cond (is_at (R q) e.0) (Some (f e.1))) (find-mapped es q) ∙ sym (map_cond f (is_at (R q) e.0) e.1 (lookup (is_at (R q)) es))
+
+  -- what the finite map has at a key is what a look-up finds, as it is seen
+  pub get-seen_by : IsTotalOrder R → (es : List (K × X)) (q : K) → fin.get (seen_by R f es) q ≡ option_map f (lookup (is_at (R q)) es)
+  get-seen_by o es q = fin.get-from_entries o _ q ∙ find-mapped es q
+
+  -- entries that differ at one key make finite maps that differ there
+  pub insert-seen_by : IsTotalOrder R → CmpEqualImpliesEq R → (es fs : List (K × X)) (k : K) (v : X) → ((q : K) → lookup (is_at (R q)) fs ≡ cond (is_at (R k) q) (Some v) (lookup (is_at (R q)) es)) → seen_by R f fs ≡ fin.insert (seen_by R f es) k (f v)
+  insert-seen_by o exact es fs k v h = fin.same_map o exact _ _ (λ q.
+      get-seen_by o fs q ∙ ap (option_map f) (h q) ∙ map_cond f (is_at (R k) q) v (lookup (is_at (R q)) es)
+      ∙ ap (λ b. cond b (Some (f v)) (option_map f (lookup (is_at (R q)) es))) ((eq_by_cmp_equiv o).symm k q)
+      ∙ sym (fin.get-insert o (seen_by R f es) k (f v) q ∙ ap (cond (is_at (R q) k) (Some (f v))) (get-seen_by o es q)))
+
+  -- the same where a key goes
+  pub remove-seen_by : IsTotalOrder R → CmpEqualImpliesEq R → (es fs : List (K × X)) (k : K) → ((q : K) → lookup (is_at (R q)) fs ≡ cond (is_at (R k) q) None (lookup (is_at (R q)) es)) → seen_by R f fs ≡ fin.remove (seen_by R f es) k
+  remove-seen_by o exact es fs k h = fin.same_map o exact _ _ (λ q.
+      get-seen_by o fs q ∙ ap (option_map f) (h q) ∙ none_cond f (is_at (R k) q) (lookup (is_at (R q)) es)
+      ∙ ap (λ b. cond b None (option_map f (lookup (is_at (R q)) es))) ((eq_by_cmp_equiv o).symm k q)
+      ∙ sym (fin.get-remove o (seen_by R f es) k q ∙ ap (cond (is_at (R q) k) None) (get-seen_by o es q)))
+
+-- what was put at a new key, and goes again, leaves the map as it was
+pub remove-insert : {K X : Type 0} {R : K → K → Ordering} → IsTotalOrder R → CmpEqualImpliesEq R → (m : fin.FinMap R X) (k : K) (v : X) → fin.get m k ≡ None → fin.remove (fin.insert m k v) k ≡ m
+remove-insert {K} {X} {R} o exact m k v absent = fin.same_map o exact _ _ (λ q.
+    fin.get-remove o (fin.insert m k v) k q ∙ ap (cond (eq_by_cmp R q k) None) (fin.get-insert o m k v q) ∙ at_key q (eq_by_cmp R q k) refl)
+  where
+    at_key : (q : K) (b : Bool) → eq_by_cmp R q k ≡ b → cond (eq_by_cmp R q k) None (cond (eq_by_cmp R q k) (Some v) (fin.get m q)) ≡ fin.get m q
+    at_key q true e = rw e (sym absent ∙ ap (fin.get m) (sym (tells_apart exact q k e)))
+    at_key q false e = rw e refl
+
+option_map_same : {X : Type 0} (o : Option X) → option_map (λ x. x) o ≡ o
+option_map_same None = refl
+option_map_same (Some x) = refl
+
+-- for values that are seen as they are
+pub get-seen_plain : {K X : Type 0} (R : K → K → Ordering) → IsTotalOrder R → (es : List (K × X)) (q : K) → fin.get (seen_by R (λ (x : X). x) es) q ≡ lookup (is_at (R q)) es
+get-seen_plain R o es q = get-seen_by R (λ x. x) o es q ∙ option_map_same _
+
+-- a value that is written at a key that has one
+pub updated-seen_by : {K X Y : Type 0} (R : K → K → Ordering) (f : X → Y) → IsTotalOrder R → CmpEqualImpliesEq R → (es fs : List (K × X)) (k : K) (v w : X) (g : Y → Y) → lookup (is_at (R k)) es ≡ Some v → g (f v) ≡ f w → ((q : K) → lookup (is_at (R q)) fs ≡ cond (is_at (R k) q) (Some w) (lookup (is_at (R q)) es)) → seen_by R f fs ≡ updated (seen_by R f es) k g
+updated-seen_by {K} {X} {Y} R f o exact es fs k v w g was is h =
+    let there : fin.get (seen_by R f es) k ≡ Some (f v) = get-seen_by R f o es k ∙ ap (option_map f) was in
+    insert-seen_by R f o exact es fs k w h ∙ ap (fin.insert (seen_by R f es) k) (sym is) ∙ sym (ap (updated_at (seen_by R f es) k g) there)
+
+-- nothing is written where the key has no value
+pub none-seen_by : {K X Y : Type 0} (R : K → K → Ordering) (f : X → Y) → IsTotalOrder R → (es fs : List (K × X)) (k : K) (g : Y → Y) → lookup (is_at (R k)) es ≡ None → fs ≡ es → seen_by R f fs ≡ updated (seen_by R f es) k g
+none-seen_by R f o es fs k g was same =
+    let there : fin.get (seen_by R f es) k ≡ None = get-seen_by R f o es k ∙ ap (option_map f) was in
+    ap (seen_by R f) same ∙ sym (ap (updated_at (seen_by R f es) k g) there)
+
+-- what is written as it was
+pub same-updated : {K X : Type 0} {R : K → K → Ordering} → IsTotalOrder R → CmpEqualImpliesEq R → (m : fin.FinMap R X) (k : K) (g : X → X) → ((x : X) → g x ≡ x) → updated m k g ≡ m
+same-updated {K} {X} {R} o exact m k g same = told (fin.get m k) refl
+  where
+    at_key : (q : K) (x : X) (b : Bool) → fin.get m k ≡ Some x → eq_by_cmp R q k ≡ b → cond (eq_by_cmp R q k) (Some (g x)) (fin.get m q) ≡ fin.get m q
+    at_key q x true e t = rw t (ap (λ (y : X). Some y) (same x) ∙ sym e ∙ ap (fin.get m) (sym (tells_apart exact q k t)))
+    at_key q x false e t = rw t refl
+
+    told : (v : Option X) → fin.get m k ≡ v → updated_at m k g v ≡ m
+    told None e = refl
+    told (Some x) e = fin.same_map o exact _ _ (λ q. fin.get-insert o m k (g x) q ∙ at_key q x (eq_by_cmp R q k) e refl)
+
+-- what a map has after an update
+pub get-updated : {K X : Type 0} {R : K → K → Ordering} → IsTotalOrder R → CmpEqualImpliesEq R → (m : fin.FinMap R X) (k : K) (g : X → X) (q : K) → fin.get (updated m k g) q ≡ cond (eq_by_cmp R q k) (option_map g (fin.get m q)) (fin.get m q)
+get-updated {K} {X} {R} o exact m k g q = told (fin.get m k) refl (eq_by_cmp R q k) refl
+  where
+    told : (v : Option X) → fin.get m k ≡ v → (b : Bool) → eq_by_cmp R q k ≡ b → fin.get (updated_at m k g v) q ≡ cond (eq_by_cmp R q k) (option_map g (fin.get m q)) (fin.get m q)
+    told None e true t = rw t (ap (fin.get m) (tells_apart exact q k t) ∙ e ∙ sym (ap (option_map g) (ap (fin.get m) (tells_apart exact q k t) ∙ e)))
+    told None e false t = rw t refl
+    told (Some x) e true t = fin.get-insert o m k (g x) q ∙ rw t (sym (ap (option_map g) (ap (fin.get m) (tells_apart exact q k t) ∙ e)))
+    told (Some x) e false t = fin.get-insert o m k (g x) q ∙ rw t refl
+
+-- what was put at a key goes again, and what was there comes back
+pub restored-insert : {K X : Type 0} {R : K → K → Ordering} → IsTotalOrder R → CmpEqualImpliesEq R → (m : fin.FinMap R X) (k : K) (v : X) (old : Option X) → fin.get m k ≡ old → restored (fin.insert m k v) k old ≡ m
+restored-insert o exact m k v None e = remove-insert o exact m k v e
+restored-insert {K} {X} {R} o exact m k v (Some x) e = fin.same_map o exact _ _ (λ q. get-updated o exact (fin.insert m k v) k (λ _. x) q ∙ at_key q (eq_by_cmp R q k) refl)
+  where
+    at_key : (q : K) (b : Bool) → eq_by_cmp R q k ≡ b → cond (eq_by_cmp R q k) (option_map (λ _. x) (fin.get (fin.insert m k v) q)) (fin.get (fin.insert m k v) q) ≡ fin.get m q
+    at_key q true t = rw t (ap (option_map (λ _. x)) (fin.get-insert o m k v q ∙ ap (λ b. cond b (Some v) (fin.get m q)) t) ∙ sym e ∙ ap (fin.get m) (sym (tells_apart exact q k t)))
+    at_key q false t = rw t (fin.get-insert o m k v q ∙ ap (λ b. cond b (Some v) (fin.get m q)) t)

@@ -1,0 +1,4 @@
+pub mod Bytes
+pub mod Maps
+pub mod Plain
+pub mod Stored

@@ -1,0 +1,25 @@
+//! The live tree in memory: a program over maps, without a device, and the measure of the trees that
+//! are read from a disk.
+//!
+//! [`PlainTree`] stands for a tree of `sn_model` (`tree_of` in `specs/Plain`). Its methods are the
+//! look-ups of a walk and the changes of the model, each exact: at `Ok` the change applies, and the
+//! new tree is what it gives; at an [`ApplyError`] the tree is as it was, and `CannotApply` says that
+//! the change can't be applied to it.
+//!
+//! `nodes` and `links` are the two maps. Beside each node stands how many names it has and how many
+//! stand for it, and the directory that it is in (`IsCounted` in `specs/Stored`), so that no call
+//! counts over the whole tree. `tests` has the tests that changes share; `making` and its neighbours
+//! have one change each: first its test, then all that takes memory, then the rest.
+#![tactic(auto)]
+
+mod bytes;
+mod error;
+mod links;
+mod making;
+mod nodes;
+mod stored;
+mod tests;
+mod tree;
+
+pub use error::ApplyError;
+pub use tree::PlainTree;
