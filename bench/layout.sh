@@ -10,7 +10,7 @@ work=$(mktemp -d)
 trap 'rm -rf "$work"' EXIT
 
 mkdir -p "$work/crates/layout_bench/src"
-for crate in sn_acl sn_walk sn_limits sn_layout sn_layout_acl sn_layout_node; do
+for crate in sn_acl sn_walk sn_limits sn_bytes sn_layout sn_layout_acl sn_layout_node; do
     cp -r "$top/crates/$crate" "$work/crates/"
     grep "^$crate:" "$top/crates.txt" >> "$work/crates.txt"
 done

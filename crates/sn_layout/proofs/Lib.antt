@@ -1,7 +1,6 @@
-pub mod Fields
 pub mod Inserting
-pub mod Reading
-pub mod Records
 pub mod Roots
 pub mod Spelled
-pub mod Words
+pub use Rattle.sn_bytes.proofs.Fields
+pub use Rattle.sn_bytes.proofs.Reading
+pub use Rattle.sn_bytes.proofs.Records

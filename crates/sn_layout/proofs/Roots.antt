@@ -7,12 +7,12 @@ use Rattle.sn_layout.specs.declared.root.Head.{Head}
 use Rattle.sn_layout.specs.declared.root.HeadNumbers.{HeadNumbers}
 use Rattle.sn_layout.specs.declared.root.RootBody.{RootBody}
 use Rattle.sn_layout.specs.BlockTree.{tree_bytes}
-use Rattle.sn_layout.specs.Bytes.{zeros}
-use Rattle.sn_layout.specs.Records.{numbers_then, AreOfWidths}
+use Rattle.sn_bytes.specs.Bytes.{zeros}
+use Rattle.sn_bytes.specs.Records.{numbers_then, AreOfWidths}
 use Rattle.sn_limits.specs.Versions.{limits_of, version_1}
 use Rattle.sn_layout.specs.Snapshot.{snapshots_bytes, are_rising, are_within, are_distinct}
 use Rattle.sn_layout.specs.RootBody.{IsHead, IsRootBody, head_of, head_bytes, head_widths, head_numbers, listed, root_body_bytes}
-use Rattle.sn_layout.proofs.Records.{same_records, zero_number}
+use Rattle.sn_bytes.proofs.Records.{same_records, zero_number}
 
 -- ---- the head
 

@@ -6,13 +6,13 @@ use Rattle.sn_layout.specs.declared.root.Head.{Head}
 use Rattle.sn_layout.specs.declared.root.RootBody.{RootBody}
 use Rattle.sn_layout.specs.declared.snapshot.Snapshot.{Snapshot}
 use Rattle.sn_layout.specs.declared.tree.BlockTree.{BlockTree}
-use Rattle.sn_layout.specs.Bytes.{number_bytes, numbers_bytes, zeros}
+use Rattle.sn_bytes.specs.Bytes.{number_bytes, numbers_bytes, zeros}
 use Rattle.sn_layout.specs.BlockTree.{IsBlockTree, tree_bytes}
 use Rattle.sn_layout.specs.RootBody.{IsHead, IsRootBody, head_of, head_bytes, head_widths, head_numbers, root_body_bytes}
 use Rattle.sn_layout.specs.Snapshot.{IsSnapshot, snapshot_bytes, snapshots_bytes}
 use Rattle.sn_layout.specs.SnapshotName.{name_bytes}
-use Rattle.sn_layout.proofs.Fields.{some_some, same_fronts, same_numbers, same_lists, length-zeros}
-use Rattle.sn_layout.proofs.Records.{same_records}
+use Rattle.sn_bytes.proofs.Fields.{some_some, same_fronts, same_numbers, same_lists, length-zeros}
+use Rattle.sn_bytes.proofs.Records.{same_records}
 use Rattle.sn_layout.proofs.Roots.{head_fits, head_flat, head_numbers_fit}
 
 pub same_trees : (t u : BlockTree) (a b : List ℕ) → IsBlockTree t → IsBlockTree u → tree_bytes t ++ a ≡ tree_bytes u ++ b → (t ≡ u) × (a ≡ b)

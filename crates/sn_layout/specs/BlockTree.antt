@@ -2,7 +2,7 @@
 use Rattle.std.specs.Prelude.{ℕ, ◌*◌, ◌^◌, ◌<◌, ◌||◌, ◌==◌, Bool, List, ◌++◌, nat_lt}
 use Rattle.std.specs.List.{list_all, enumerate_from}
 use Rattle.sn_layout.specs.declared.tree.BlockTree.{BlockTree}
-use Rattle.sn_layout.specs.Bytes.{number_bytes, numbers_bytes}
+use Rattle.sn_bytes.specs.Bytes.{number_bytes, numbers_bytes}
 use Rattle.sn_layout.specs.Pointers.{ArePointers, span_of}
 
 -- a size and pointers that fit their fields

@@ -2,7 +2,7 @@
 use Rattle.std.specs.Prelude.{ℕ, ◌==◌, if◌then◌else◌, List, ◌∷◌, slice_index}
 use Rattle.sn_layout.specs.declared.gate.Gate.{Gate}
 use Rattle.sn_layout.specs.declared.gate.Gate.TheVariants.{Open, Closed}
-use Rattle.sn_layout.specs.Bytes.{zeros}
+use Rattle.sn_bytes.specs.Bytes.{zeros}
 
 -- the first byte alone is read: 1 is open, any other closed
 abbrev pub gate_of : List ℕ → Gate

@@ -1,11 +1,11 @@
 pub mod BlockTree
-pub mod Bytes
 pub mod Gate
 pub mod MapCopy
 pub mod Places
 pub mod Pointers
-pub mod Records
 pub mod RootBody
 pub mod Snapshot
 pub mod SnapshotName
 pub mod Superblock
+pub use Rattle.sn_bytes.specs.Bytes
+pub use Rattle.sn_bytes.specs.Records

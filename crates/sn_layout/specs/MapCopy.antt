@@ -1,6 +1,6 @@
 -- A block of a copy of the map.
 use Rattle.std.specs.Prelude.{ℕ, ◌-◌, ◌*◌, List, ◌++◌, length}
-use Rattle.sn_layout.specs.Bytes.{numbers_bytes, zeros}
+use Rattle.sn_bytes.specs.Bytes.{numbers_bytes, zeros}
 
 -- words of four bytes each, and zeros behind the last of the disk
 abbrev pub map_block_bytes : List ℕ → List ℕ

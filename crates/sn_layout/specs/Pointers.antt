@@ -1,6 +1,6 @@
 -- The sixteen pointers of a root of blocks, and the levels of indirect blocks below them.
 use Rattle.std.specs.Prelude.{◌≡◌, ℕ, ◌*◌, ◌^◌, List, [], ◌∷◌, length, nat_lt, count_by}
-use Rattle.sn_layout.specs.Bytes.{AreNumbers}
+use Rattle.sn_bytes.specs.Bytes.{AreNumbers}
 
 -- sixteen pointers that fit their fields
 pub record ArePointers (pointers : List ℕ) : Type 0 where

@@ -3,7 +3,7 @@ use Rattle.std.specs.Prelude.{◌≡◌, ℕ, ◌*◌, ◌-◌, ◌^◌, ◌<◌
 use Rattle.sn_layout.specs.declared.root.RootBody.{RootBody}
 use Rattle.sn_layout.specs.declared.root.Head.{Head}
 use Rattle.sn_layout.specs.declared.root.HeadNumbers.{HeadNumbers}
-use Rattle.sn_layout.specs.Bytes.{number_bytes, zeros}
+use Rattle.sn_bytes.specs.Bytes.{number_bytes, zeros}
 use Rattle.sn_layout.specs.BlockTree.{IsBlockTree, tree_bytes}
 use Rattle.sn_limits.specs.Versions.{limits_of}
 use Rattle.sn_layout.specs.Snapshot.{AreSnapshots, snapshots_bytes}

@@ -1,7 +1,7 @@
 -- What a snapshot's name may be, and how it is spelled.
 use Rattle.std.specs.Prelude.{ℕ, ◌-◌, Bool, false, not, ◌&&◌, ◌||◌, ◌==◌, nat_le, List, [], ◌∷◌, ◌++◌, length}
 use Rattle.std.specs.List.{list_all}
-use Rattle.sn_layout.specs.Bytes.{zeros}
+use Rattle.sn_bytes.specs.Bytes.{zeros}
 
 -- a letter, a digit, a dot, an underscore or a dash
 abbrev pub is_snapshot_byte : ℕ → Bool

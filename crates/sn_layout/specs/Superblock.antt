@@ -1,7 +1,7 @@
 -- The superblock: its one spelling.
 use Rattle.std.specs.Prelude.{ℕ, List, [], ◌∷◌, ◌++◌}
 use Rattle.sn_layout.specs.declared.superblock.Superblock.{Superblock}
-use Rattle.sn_layout.specs.Bytes.{number_bytes, zeros}
+use Rattle.sn_bytes.specs.Bytes.{number_bytes, zeros}
 
 -- SNAPFSYS
 abbrev pub magic : List ℕ

@@ -4,7 +4,8 @@
 //! | 1 | written as zeros, and not read |
 ghost use Rattle.std.specs.Prelude.{◌≡◌};
 
-use crate::{SECTOR_SIZE, Sector, put_u8, put_zeros};
+use crate::{SECTOR_SIZE, Sector};
+use sn_bytes::{put_u8, put_zeros};
 
 /// Whether what stands behind a gate counts: a root body, or a record of the log.
 #[derive(Clone, Copy, PartialEq, Eq, Hash)]

@@ -8,8 +8,7 @@
 //!
 //! The way through: `places` (areas of a disk), `superblock`, `gate`, `map_copy`, `pointers` and
 //! `tree` (a root of blocks), `name`, `snapshot` and `snapshots`, `root`, whose limits are
-//! those of `sn_limits`. `reader` and `writer` are for the crates that spell more: a
-//! `Reader` is seen as the bytes that are left, and each `put_` call writes behind the one before.
+//! those of `sn_limits`. What reads and writes the bytes is `sn_bytes`, which comes with this crate.
 //!
 //! ```text
 //! let superblock = Superblock::decode(&block)?;
@@ -23,13 +22,11 @@ mod map_copy;
 mod name;
 mod places;
 mod pointers;
-mod reader;
 mod root;
 mod snapshot;
 mod snapshots;
 mod superblock;
 mod tree;
-mod writer;
 
 pub use block::{BLOCK_SIZE, Block, SECTOR_SIZE, SECTORS_PER_BLOCK, Sector};
 pub use gate::Gate;
@@ -37,10 +34,9 @@ pub use map_copy::{WORDS_PER_BLOCK, put_map_words, read_map_words};
 pub use name::{SNAPSHOT_NAME_MAX, SnapshotName};
 pub use places::{Area, LARGEST_DISK, LogHalf, Places, SMALLEST_DISK, Slot};
 pub use pointers::{POINTERS, Pointers};
-pub use reader::Reader;
 pub use root::{LARGEST_AGE, RootBody};
+pub use sn_bytes::{Reader, put_bytes, put_u8, put_u16, put_u32, put_u32s, put_u64, put_zeros};
 pub use snapshot::Snapshot;
 pub use snapshots::{SNAPSHOT_ROOM, Snapshots};
 pub use superblock::Superblock;
 pub use tree::BlockTree;
-pub use writer::{put_bytes, put_u8, put_u16, put_u32, put_u32s, put_u64, put_zeros};

@@ -1,9 +1,10 @@
 //! 1,024 words u32 a block, one for each block of the disk, and zeros behind the last.
 ghost use Rattle.std.specs.Prelude.{◌≡◌, ℕ, ◌*◌, ◌≤◌, List, take, length, IsTrue};
-ghost use Rattle.sn_layout.specs.Bytes.{AreNumbers, numbers_bytes};
+ghost use Rattle.sn_bytes.specs.Bytes.{AreNumbers, numbers_bytes};
 ghost use Rattle.sn_layout.specs.MapCopy.{map_block_bytes};
 
-use crate::{BLOCK_SIZE, Block, Reader, put_u32s, put_zeros};
+use crate::{BLOCK_SIZE, Block};
+use sn_bytes::{Reader, put_u32s, put_zeros};
 
 /// The words that a block of a map copy holds.
 pub const WORDS_PER_BLOCK: usize = 1024;

@@ -6,10 +6,10 @@ ghost use Rattle.std.specs.Prelude.{◌≡◌, ◌≤◌, ◌↔◌, ℕ, ◌+�
 ghost use Rattle.std.specs.List.{list_all};
 ghost use Rattle.sn_layout.specs.SnapshotName as names;
 ghost use Rattle.sn_layout.specs.SnapshotName.{is_snapshot_name, name_bytes};
-ghost use Rattle.sn_layout.specs.Bytes.{Puts};
+ghost use Rattle.sn_bytes.specs.Bytes.{Puts};
 
-use crate::{Reader, put_bytes, put_u8, put_zeros};
 use arrayvec::ArrayVec;
+use sn_bytes::{Reader, put_bytes, put_u8, put_zeros};
 use std::marker::Model;
 
 /// The most bytes of a snapshot's name.

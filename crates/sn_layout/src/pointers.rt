@@ -1,9 +1,9 @@
 //! 16 numbers u32.
 ghost use Rattle.std.specs.Prelude.{◌≡◌, ℕ, ◌+◌, ◌≤◌, ◌<◌, List, ◌++◌, length, replicate, slice_index, slice_set};
-ghost use Rattle.sn_layout.specs.Bytes.{AreNumbers, Puts, numbers_bytes};
+ghost use Rattle.sn_bytes.specs.Bytes.{AreNumbers, Puts, numbers_bytes};
 ghost use Rattle.sn_layout.specs.Pointers.{ArePointers};
 
-use crate::{Reader, put_u32s};
+use sn_bytes::{Reader, put_u32s};
 use std::marker::Model;
 
 /// How many pointers a root of blocks has.

@@ -14,7 +14,8 @@ ghost use Rattle.std.specs.Prelude.{◌≡◌, ℕ, ◌+◌, ◌*◌, ◌<◌, �
 ghost use Rattle.sn_layout.specs.RootBody.{IsAge};
 
 use crate::snapshots::{fit, put_snapshots, read_to_end};
-use crate::{BLOCK_SIZE, Block, BlockTree, Reader, Snapshots, put_u32, put_u64, put_zeros};
+use crate::{BLOCK_SIZE, Block, BlockTree, Snapshots};
+use sn_bytes::{Reader, put_u32, put_u64, put_zeros};
 use sn_limits::Limits;
 
 /// The largest generation and the largest epoch.
@@ -56,7 +57,7 @@ struct HeadNumbers {
 }
 
 impl HeadNumbers {
-    ghost use Rattle.sn_layout.specs.Records.{numbers_then, AreOfWidths};
+    ghost use Rattle.sn_bytes.specs.Records.{numbers_then, AreOfWidths};
     ghost use Rattle.sn_layout.specs.RootBody.{head_widths, listed};
 
     fn read(reader: &mut Reader<'_>) -> Self
@@ -83,7 +84,7 @@ fn is_age(age: u64) -> bool
 }
 
 impl Head {
-    ghost use Rattle.sn_layout.specs.Bytes.{Puts};
+    ghost use Rattle.sn_bytes.specs.Bytes.{Puts};
     ghost use Rattle.sn_layout.specs.RootBody.{IsHead, IsRootBody, head_bytes, head_of};
     ghost use Rattle.sn_layout.specs.declared.root.Head.{Head as TheHead};
     ghost use Rattle.sn_layout.specs.declared.root.RootBody.{RootBody as TheRootBody};
@@ -146,7 +147,7 @@ impl Head {
 }
 
 impl RootBody {
-    ghost use Rattle.sn_layout.specs.Bytes.{number_bytes};
+    ghost use Rattle.sn_bytes.specs.Bytes.{number_bytes};
     ghost use Rattle.sn_layout.specs.RootBody.{IsRootBody, root_body_bytes};
     ghost use Rattle.sn_layout.specs.declared.root.RootBody.{RootBody as TheRootBody};
 

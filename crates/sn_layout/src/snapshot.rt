@@ -6,7 +6,8 @@
 //! | 40 | root of its inode file |
 ghost use Rattle.std.specs.Prelude.{◌≡◌, ℕ, ◌+◌, ◌*◌, ◌<◌, ◌≤◌, List, [], ◌∷◌, ◌++◌, length, Some, IfSome, IsTrue, ◌↔◌};
 
-use crate::{BlockTree, Reader, SnapshotName, put_u8};
+use crate::{BlockTree, SnapshotName};
+use sn_bytes::{Reader, put_u8};
 
 /// A frozen file system.
 #[derive(Default, PartialEq, Eq, Drop)]
@@ -19,7 +20,7 @@ pub struct Snapshot {
 }
 
 impl Snapshot {
-    ghost use Rattle.sn_layout.specs.Bytes.{Puts};
+    ghost use Rattle.sn_bytes.specs.Bytes.{Puts};
     ghost use Rattle.sn_layout.specs.Snapshot.{IsSnapshot, snapshot_bytes};
     ghost use Rattle.sn_layout.specs.declared.snapshot.Snapshot.{Snapshot as TheSnapshot};
 

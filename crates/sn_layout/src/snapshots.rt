@@ -1,13 +1,14 @@
 ghost use Rattle.std.specs.Prelude.{◌≡◌, ℕ, ◌+◌, ◌-◌, ◌*◌, ◌<◌, ◌≤◌, List, [], ◌∷◌, ◌++◌, length, remove, slice_index_or, Some, IfSome, IsTrue, ◌↔◌};
 ghost use Rattle.std.specs.List.{AllByRecursion, list_any};
 ghost use Rattle.std.specs.Str.{bytes_eq};
-ghost use Rattle.sn_layout.specs.Bytes.{Puts, zeros};
+ghost use Rattle.sn_bytes.specs.Bytes.{Puts, zeros};
 ghost use Rattle.sn_layout.specs.Snapshot.{IsSnapshot, snapshots_bytes, place_of, with_snapshot, has_no_bit};
 ghost use Rattle.sn_layout.specs.Snapshot as lists;
 ghost use Rattle.sn_layout.specs.declared.snapshot.Snapshot.{Snapshot as TheSnapshot};
 
-use crate::{Reader, Snapshot};
+use crate::Snapshot;
 use arrayvec::ArrayVec;
+use sn_bytes::Reader;
 use sn_limits::Limits;
 use std::marker::Model;
 

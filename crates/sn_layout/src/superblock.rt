@@ -5,7 +5,8 @@
 //! | 12 | zeros |
 ghost use Rattle.std.specs.Prelude.{◌≡◌, Some, IfSome};
 
-use crate::{Block, Places, Reader, put_bytes, put_u32, put_zeros};
+use crate::{Block, Places};
+use sn_bytes::{Reader, put_bytes, put_u32, put_zeros};
 
 const MAGIC: [u8; 8] = *b"SNAPFSYS";
 

@@ -3,10 +3,11 @@
 //! | 0 | size u64, in bytes |
 //! | 8 | 16 pointers u32 |
 ghost use Rattle.std.specs.Prelude.{◌≡◌, ℕ, ◌+◌, ◌≤◌, List, ◌++◌, length};
-ghost use Rattle.sn_layout.specs.Bytes.{Puts};
+ghost use Rattle.sn_bytes.specs.Bytes.{Puts};
 ghost use Rattle.sn_layout.specs.Pointers.{span_of};
 
-use crate::{Pointers, Reader, put_u64};
+use crate::Pointers;
+use sn_bytes::{Reader, put_u64};
 
 /// The root of the blocks of a file: how many bytes it has, and where they are.
 #[derive(Clone, Copy, Default, PartialEq, Eq)]

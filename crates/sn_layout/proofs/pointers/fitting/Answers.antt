@@ -1,5 +1,5 @@
 use Rattle.std.proofs.Common.{arith}
-use Rattle.sn_layout.proofs.Fields.{AreNumbers-from}
+use Rattle.sn_bytes.proofs.Fields.{AreNumbers-from}
 use Rattle.sn_layout.proofs.pointers.fitting.Goals as goal
 
 pub returns-clause-fits : goal.returns-clause-fits

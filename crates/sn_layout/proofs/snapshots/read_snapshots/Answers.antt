@@ -2,8 +2,8 @@ use Rattle.std.proofs.Common.{◌≡◌, ◌∙◌, ◌++◌, [], ◌∷◌, Lis
 use Rattle.std.proofs.lemmas.Grind.{common_steps}
 use Rattle.sn_layout.specs.declared.snapshot.Snapshot.{Snapshot}
 use Rattle.sn_layout.specs.Snapshot.{IsSnapshot, snapshot_bytes, snapshots_bytes}
-use Rattle.sn_layout.proofs.Fields.{some_none, some_some}
-use Rattle.sn_layout.proofs.Reading.{AreLeft, next_is, none_left, bytes_more, each_more}
+use Rattle.sn_bytes.proofs.Fields.{some_none, some_some}
+use Rattle.sn_bytes.proofs.Reading.{AreLeft, next_is, none_left, bytes_more, each_more}
 use Rattle.sn_layout.proofs.snapshots.read_snapshots.Goals as goal
 
 pub returns-in_err-snapshot-clause-only : goal.returns-in_err-snapshot-clause-only

@@ -2,7 +2,7 @@ use Rattle.std.proofs.Common.{◌≡◌, ℕ, ◌+◌, ◌*◌, ◌++◌, List, 
 use Rattle.std.specs.List.{AllByRecursion}
 use Rattle.sn_layout.specs.declared.snapshot.Snapshot.{Snapshot}
 use Rattle.sn_layout.specs.Snapshot.{IsSnapshot, snapshot_bytes, snapshots_bytes}
-use Rattle.sn_layout.proofs.Reading.{AreLeft}
+use Rattle.sn_bytes.proofs.Reading.{AreLeft}
 use Rattle.sn_layout.proofs.snapshots.read_snapshots.Given as goal
 
 abbrev pub invariant-loop : goal.invariant-loop

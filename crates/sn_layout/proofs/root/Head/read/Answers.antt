@@ -2,11 +2,11 @@ use Rattle.std.proofs.Common.{◌≡◌, ◌∙◌, ◌++◌, ℕ, List, get_or,
 use Rattle.sn_layout.specs.declared.root.Head.{Head}
 use Rattle.sn_layout.specs.declared.root.HeadNumbers.{HeadNumbers}
 use Rattle.sn_layout.specs.declared.tree.BlockTree.{BlockTree}
-use Rattle.sn_layout.specs.Bytes.{zeros}
+use Rattle.sn_bytes.specs.Bytes.{zeros}
 use Rattle.sn_layout.specs.BlockTree.{tree_bytes}
-use Rattle.sn_layout.specs.Records.{numbers_then}
+use Rattle.sn_bytes.specs.Records.{numbers_then}
 use Rattle.sn_layout.specs.RootBody.{head_widths, head_numbers, listed}
-use Rattle.sn_layout.proofs.Fields.{true_false}
+use Rattle.sn_bytes.proofs.Fields.{true_false}
 use Rattle.sn_layout.proofs.Roots.{head_flat, head_spelled}
 use Rattle.sn_layout.proofs.root.Head.read.Goals as goal
 use Rattle.sn_layout.proofs.root.Head.read.Goals.{then-numbers-ne0-via-then-numbers-ne0, then-numbers-ne0-via-else-numbers-ne0+then-numbers-ne0-2, then-numbers-ne0-via-else-numbers-ne0+else-numbers-ne0-2+then-not-is_blank}

@@ -3,10 +3,10 @@ use Rattle.std.specs.Prelude.{IfSome}
 use Rattle.sn_layout.specs.declared.root.Head.{Head}
 use Rattle.sn_layout.specs.declared.root.RootBody.{RootBody}
 use Rattle.sn_layout.specs.declared.snapshot.Snapshot.{Snapshot}
-use Rattle.sn_layout.specs.Bytes.{zeros}
+use Rattle.sn_bytes.specs.Bytes.{zeros}
 use Rattle.sn_layout.specs.Snapshot.{snapshots_bytes}
 use Rattle.sn_layout.specs.RootBody.{IsRootBody, head_of, head_bytes, root_body_bytes}
-use Rattle.sn_layout.proofs.Fields.{some_none, some_some}
+use Rattle.sn_bytes.proofs.Fields.{some_none, some_some}
 use Rattle.sn_layout.proofs.Roots.{few, head_read, body_is}
 use Rattle.sn_layout.proofs.root.RootBody.decode.Goals as goal
 

@@ -1,6 +1,6 @@
 use Rattle.std.proofs.Common.{◌≡◌, ◌∙◌, [], ◌++◌, length, refl, sym, ap, arith}
 use Rattle.std.proofs.lemmas.List.{append-nil, nil_from_length}
-use Rattle.sn_layout.specs.Bytes.{number_bytes, zeros}
+use Rattle.sn_bytes.specs.Bytes.{number_bytes, zeros}
 use Rattle.sn_layout.specs.Superblock.{magic}
 use Rattle.sn_layout.proofs.superblock.Superblock.decode.Goals as goal
 

@@ -1,7 +1,0 @@
-use Rattle.std.proofs.Common.{arith}
-use Rattle.sn_layout.proofs.Fields.{number_only}
-use Rattle.sn_layout.proofs.reader.Reader.u16.Goals as goal
-
-pub returns-clause-only : goal.returns-clause-only
-returns-clause-only c =
-    number_only 2 c.u16_of.result c.args.self.now c.bytes.new.self (omega arith) (rw c.u16_of.ensures c.bytes.ensures.read)

@@ -1,9 +1,0 @@
-use Rattle.std.proofs.Common.{◌+◌, ◌-◌, length, refl, arith}
-use Rattle.sn_layout.specs.Bytes.{number_bytes}
-use Rattle.sn_layout.proofs.Fields.{length-number_bytes, puts_part}
-use Rattle.sn_layout.proofs.writer.put_u64.Goals as goal
-
-pub returns-clause-bytes : goal.returns-clause-bytes
-unfolding number_bytes
-returns-clause-bytes c =
-    puts_part c.args.block.now (number_bytes 8 c.args.number) c.write_u64.new.buf c.args.at (length c.args.block.now - c.args.at) 8 (c.args.at + 8) (omega arith) (omega arith) (length-number_bytes 8 c.args.number) refl c.write_u64.ensures
