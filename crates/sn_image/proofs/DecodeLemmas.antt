@@ -1,10 +1,10 @@
 -- What is spelled is read as it was spelled.
-use Rattle.std.proofs.Common.{◌≡◌, ℕ, zero, suc, ◌+◌, ◌-◌, ◌*◌, ◌/◌, ◌%◌, ◌^◌, ◌<◌, ◌≤◌, ◌==◌, ◌&&◌, Bool, true, false, cond, if◌then◌else◌, List, [], ◌∷◌, ◌++◌, length, take, drop, Option, Some, None, IsTrue, slice_index, refl, sym, ap, ◌∙◌, arith, append_assoc, length-append}
+use Rattle.std.proofs.Common.{◌≡◌, ℕ, zero, suc, ◌+◌, ◌-◌, ◌*◌, ◌/◌, ◌%◌, ◌^◌, ◌<◌, ◌≤◌, ◌==◌, ◌&&◌, Bool, true, false, if◌then◌else◌, List, [], ◌∷◌, ◌++◌, length, take, drop, Option, Some, None, IsTrue, slice_index, refl, sym, ap, ◌∙◌, arith, append_assoc, length-append}
 use Rattle.std.specs.Prelude.{nat_lt, nat_le}
 use Rattle.std.specs.Option.{option_map}
 use Rattle.std.specs.List.{AllByRecursion}
 use Rattle.std.proofs.lemmas.Bool.{leb-true, le-leb, ltb-true}
-use Rattle.std.proofs.lemmas.List.{take_at, drop_at, append-nil}
+use Rattle.std.proofs.lemmas.List.{take_at, drop_at}
 use Rattle.byteorder.specs.Endian.{little_number}
 use Rattle.byteorder.specs.Numbers.{little_number-reads_back}
 use Rattle.sn_acl.specs.declared.entries.Tag.{Tag}
@@ -33,7 +33,7 @@ use Rattle.sn_layout_acl.specs.Mode.{IsMode}
 use Rattle.sn_layout_node.specs.declared.content.Content.{Content}
 use Rattle.sn_layout_node.specs.declared.content.Content.TheVariants.{Inline, Tree}
 use Rattle.sn_layout_node.specs.declared.inode.Inode.{Inode}
-use Rattle.sn_layout_node.specs.Inode.{IsInode, IsContent, inode_bytes, head_bytes, head_of, content_bytes, kind_number, flags_number, size_of}
+use Rattle.sn_layout_node.specs.Inode.{IsInode, IsContent, inode_bytes, content_bytes, kind_number, flags_number, size_of}
 use Rattle.sn_layout_node.proofs.Heads.{head_fits}
 use Rattle.sn_ondisk.specs.Blocks.{numbers_in}
 use Rattle.sn_ondisk.proofs.BlockLemmas.{numbers_in-numbers_bytes}

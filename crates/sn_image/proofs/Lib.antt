@@ -3,3 +3,7 @@ pub mod PointLemmas
 pub mod FootprintLemmas
 pub mod ReachLemmas
 pub mod DecodeLemmas
+pub mod PieceLemmas
+pub mod SoundNodeLemmas
+pub mod SoundNameLemmas
+pub mod ByteLemmas

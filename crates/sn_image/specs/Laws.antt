@@ -18,7 +18,7 @@ use Rattle.sn_model.specs.Tree.{link_to}
 use Rattle.sn_model.specs.NameTree.{IsTree}
 use Rattle.sn_ondisk.specs.Blocks.{InBlocks}
 use Rattle.sn_ondisk.specs.TreeLaws.{SameIn}
-use Rattle.sn_ondisk.specs.Trees.{Store, store_of, tree_reach}
+use Rattle.sn_ondisk.specs.Trees.{Store, store_of, tree_bytes, tree_reach}
 use Rattle.sn_image.specs.Acls.{acls_in}
 use Rattle.sn_image.specs.Contents.{bytes_of, byte_of, content_reach}
 use Rattle.sn_image.specs.Image.{node_of, node_at, image}
@@ -96,6 +96,11 @@ DirectoryBlocksAreRead = (block : List ℕ) (links : List Link) → Spells block
 abbrev pub BytesAreInTheirBlocks : Type 0
 BytesAreInTheirBlocks = (s : Store) (content : Content) → ((block : ℕ) → Contains (content_reach s content) block → length (s block) ≡ 4096)
     → (k : ℕ) → k < size_of content → slice_index (bytes_of s content) k ≡ byte_of s content k
+
+-- A tree with room for its size, in which each block that it reaches has 4,096 bytes, has as many bytes as its size says.
+abbrev pub TreesHaveTheirSize : Type 0
+TreesHaveTheirSize = (s : Store) (tree : BlockTree) → length tree.pointers ≡ 16 → tree.size ≤ 70368744177664
+    → ((block : ℕ) → Contains (tree_reach s tree) block → length (s block) ≡ 4096) → length (tree_bytes s tree) ≡ tree.size
 
 -- A block of the data area is one on the disk.
 abbrev pub DataBlocksAreWhole : Type 0

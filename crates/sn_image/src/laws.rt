@@ -1,5 +1,5 @@
 //! The laws that the definitions of `specs/` keep.
-ghost use Rattle.sn_image.specs.Laws.{NodesAreTheirInodes, NamesAreInTheirDirectory, InodesDependOnTheirReach, RootsDependOnTheirReach, RootsDependOnTheirSectors, ReachIsASum, ReachHasEachPart, ReachIsOfAPart, RecordsAreRead, UnusedIsRead, AclBlocksAreRead, DirectoryBlocksAreRead};
+ghost use Rattle.sn_image.specs.Laws.{NodesAreTheirInodes, NamesAreInTheirDirectory, InodesDependOnTheirReach, RootsDependOnTheirReach, RootsDependOnTheirSectors, ReachIsASum, ReachHasEachPart, ReachIsOfAPart, RecordsAreRead, UnusedIsRead, AclBlocksAreRead, DirectoryBlocksAreRead, BytesAreInTheirBlocks, TreesHaveTheirSize, DataBlocksAreWhole, SoundRootsAreTrees};
 
 /// The tree that a root denotes, point by point. Above this crate it is known by these alone.
 pub fn image_laws()
@@ -27,4 +27,16 @@ pub fn reading_laws()
     ensures unused { UnusedIsRead }
     ensures acls { AclBlocksAreRead }
     ensures directories { DirectoryBlocksAreRead }
+{}
+
+/// The bytes of contents, where each block has as many as a block has.
+pub fn byte_laws()
+    ensures places { BytesAreInTheirBlocks }
+    ensures sizes { TreesHaveTheirSize }
+    ensures disk { DataBlocksAreWhole }
+{}
+
+/// A sound root denotes a name tree.
+pub fn sound_laws()
+    ensures { SoundRootsAreTrees }
 {}

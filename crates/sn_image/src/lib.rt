@@ -1,7 +1,39 @@
 //! What a root means: the tree of files and directories that it denotes, the blocks that it reaches,
 //! and when it is sound. Definitions and laws, and no code that runs.
+//!
+//! The model. A root is a `BlockTree`, that of the inode file, over a `Store`, which says what stands in
+//! each block. What can be read of any bytes is a function of the two, and garbage reads as garbage:
+//! - `Contents`: the bytes of a file's content and the blocks that it reaches.
+//! - `Inodes`: the inode of a number, as the codecs' own type, or none. 32 records of 128 bytes stand in
+//!   each block of the inode file.
+//! - `Acls`: the ACLs behind an inode's pointer.
+//! - `Names`: the names of a directory, block after block.
+//! - `Reach`: the blocks that an inode and a root reach, with repeats.
+//! - `Image`: the node of an inode, and the tree of `sn_model` that a root denotes.
+//!
+//! `Sound` says beside these when a root is sound. Its head tells which definition has each rule of the
+//! format, so that readers, the check and consistency points speak of one soundness.
+//!
+//! The way through the laws, each of them named by the contract of a function that does nothing:
+//! - `image_laws`: the node of a number is that of its inode, and the name of a directory stands for the
+//!   number that stands with it there. Above this crate `image` is known by these two alone.
+//! - `footprints`: images and reach depend on the blocks that are reached, and so on a disk on the sectors
+//!   of those. A write elsewhere changes neither.
+//! - `reach_laws`: a root reaches a block as often as the inode file and its inodes do together.
+//! - `reading_laws`: what a codec spells is read as it was spelled, so a decoder's answer is what stands
+//!   here.
+//! - `byte_laws`: where blocks are whole, a byte in its own block is the byte of the content.
+//! - `sound_laws`: a sound root denotes a name tree, whole: its hierarchy, its nodes, its names and their
+//!   limits.
+//!
+//! ```text
+//! SoundRootsAreTrees = (limits : Limits) (n : ℕ) (s : Store) (inodes : BlockTree)
+//!     → limits_of limits.version ≡ Some limits
+//!     → ((block : ℕ) → IsIn n Data block → IsBlock (s block))
+//!     → IsSound limits n s inodes → IsTree limits (image s inodes)
+//! ```
 #![tactic(auto)]
 
 mod laws;
 
-pub use laws::{footprints, image_laws, reach_laws, reading_laws};
+pub use laws::{byte_laws, footprints, image_laws, reach_laws, reading_laws, sound_laws};

@@ -1,4 +1,5 @@
 pub mod Counts
 pub mod Fault
+pub mod Laws
 pub mod Paths
 pub mod Reads

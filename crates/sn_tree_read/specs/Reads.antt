@@ -1,9 +1,9 @@
 -- What a reader of trees answers.
-use Rattle.std.specs.Prelude.{◌≡◌, ℕ, ◌+◌, ◌-◌, ◌*◌, ◌/◌, ◌<◌, ◌≤◌, false, true, List, length, min, slice_index, Contains, take, drop}
+use Rattle.std.specs.Prelude.{◌≡◌, ℕ, ◌+◌, ◌-◌, ◌/◌, ◌<◌, false, List, length, min, slice_index}
 use Rattle.sn_layout_node.specs.Inode.{size_of}
 use Rattle.sn_layout_node.specs.declared.content.Content.{Content}
 use Rattle.sn_layout_node.specs.declared.content.Content.TheVariants.{Inline, Tree}
-use Rattle.sn_image.specs.Contents.{bytes_of, byte_of, content_reach}
+use Rattle.sn_image.specs.Contents.{byte_of}
 use Rattle.sn_ondisk.specs.Trees.{Store}
 use Rattle.sn_tree_read.specs.Paths.{block_lies_on}
 
@@ -16,9 +16,3 @@ pub record IsPart (s : Store) (content : Content) (offset n : ℕ) (bytes : List
 abbrev pub IsOutside : ℕ → Store → Content → ℕ → ℕ → Type 0
 IsOutside sectors s (Inline bytes) offset n = ⊥
 IsOutside sectors s (Tree tree) offset n = (k : ℕ) × (k < n) × (offset + k < tree.size) × (block_lies_on sectors s tree ((offset + k) / 4096) ≡ false)
-
--- Where each block that a content reaches has 4,096 bytes, the part is cut out of its bytes.
-abbrev pub PartsAreCutOut : Type 0
-PartsAreCutOut = (s : Store) (content : Content) (offset n : ℕ) (bytes : List ℕ)
-    → ((block : ℕ) → Contains (content_reach s content) block → length (s block) ≡ 4096)
-    → IsPart s content offset n bytes → bytes ≡ take n (drop offset (bytes_of s content))

@@ -23,8 +23,10 @@
 
 mod entries;
 mod fault;
+mod laws;
 mod reads;
 
 pub use entries::{entry, fetch_data};
 pub use fault::TreeFault;
+pub use laws::read_laws;
 pub use reads::read;

@@ -1,4 +1,4 @@
-use Rattle.std.proofs.Common.{◌≡◌, ◌≤◌, length, sym, ap, arith}
+use Rattle.std.proofs.Common.{◌≤◌, length, sym, ap, arith}
 use Rattle.std.proofs.lemmas.List.{get_or_past}
 use Rattle.sn_tree_read.proofs.entries.first_pointer.Goals as goal
 

@@ -1,4 +1,4 @@
-use Rattle.std.proofs.Common.{◌≡◌, ◌+◌, ◌%◌, length, vec_len, ◌∙◌, arith}
+use Rattle.std.proofs.Common.{◌≡◌, ◌%◌, length, vec_len, ◌∙◌, arith}
 use Rattle.sn_tree_read.proofs.ReadLemmas.{zero_part}
 use Rattle.sn_tree_read.proofs.reads.push_part.Goals as goal
 
