@@ -1,4 +1,3 @@
-pub mod Gives
 pub mod Maps
 pub mod Plain
 pub mod PlainRuns

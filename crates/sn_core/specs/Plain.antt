@@ -4,7 +4,10 @@ use Rattle.std.specs.Ordering.{nat_cmp}
 use Rattle.std.specs.FinMap as map
 use Rattle.sn_walk.specs.declared.view.Kind.TheVariants as kind
 use Rattle.sn_model.specs.Tree.{Node, Tree, link_cmp}
-use Rattle.sn_model.specs.World.{World}
+use Rattle.sn_limits.specs.Versions.{version_1}
+use Rattle.sn_model.specs.Calls.{Seen}
+use Rattle.sn_model.specs.Tests.{has_room}
+use Rattle.sn_model.specs.World.{Trees, World, viewed_trees}
 use Rattle.sn_core.specs.Maps.{seen_by}
 use Rattle.sn_core.specs.declared.nodes.Directory.{Directory}
 use Rattle.sn_core.specs.declared.nodes.Nodes.{Nodes}
@@ -43,6 +46,14 @@ pub record IsPlain (nodes : map.FinMap nat_cmp Node) (links : map.FinMap link_cm
 
 abbrev pub IsPlainTree : PlainTree → Type 0
 IsPlainTree t = IsPlain (nodes_of t.nodes) (links_of t.links) t.unused
+
+-- there are no snapshots yet
+abbrev pub plain_trees : Tree → Trees
+plain_trees tree = record { live = tree; frozen = map.empty }
+
+-- what is decided over
+abbrev pub seen_in : Tree → Seen
+seen_in tree = record { trees = viewed_trees (plain_trees tree); room = has_room version_1 tree }
 
 -- there are no snapshots and no open files yet
 abbrev pub world_of : PlainWorld → World
