@@ -19,12 +19,13 @@ use Rattle.sn_model.specs.declared.reply.Reply.{Reply}
 use Rattle.sn_model.specs.declared.reply.Reply.TheVariants.{Done}
 use Rattle.sn_model.specs.declared.session.Session.{Session}
 use Rattle.sn_model.specs.Changes.{node_with}
-use Rattle.sn_model.specs.Outcomes.{Outcome, tells, opens, makes}
-use Rattle.sn_model.specs.Calls.{mkdir_outcome, new_session, stat_outcome}
+use Rattle.sn_model.specs.Outcomes.{tells, opens, makes}
+use Rattle.sn_model.specs.declared.outcome.Outcome.{Outcome}
+use Rattle.sn_model.specs.Calls.{mkdir_outcome, new_session, seen, stat_outcome}
 use Rattle.sn_model.specs.Steps.{Becomes, Comes, Run, changed, decision, with_live, with_session}
 use Rattle.sn_model.specs.Tests.{logged_in, logged_out, path_argument, new_mode_argument}
 use Rattle.sn_model.specs.Tree.{Tree, least_unused, with_node}
-use Rattle.sn_model.specs.World.{World}
+use Rattle.sn_model.specs.World.{World, trees_of, viewed_trees}
 use Rattle.sn_model.specs.Worlds.{IsCall, IsWorld}
 use Rattle.sn_model.proofs.MapLemmas.{same_or_apart, get_other}
 use Rattle.sn_model.proofs.PartLemmas.{made_is}
@@ -33,10 +34,10 @@ use Rattle.sn_model.proofs.DecidedLemmas.{decided_applies}
 use Rattle.sn_model.proofs.WorldLemmas.{step_world}
 use Rattle.sn_core.specs.PlainRuns.{PlainRun, PlainStep, TakesLeast}
 
-pub mkdir_decided : (world : World) (session : ℕ) (path : List ℕ) (mode : ℕ) (caller : Session) (names : List (List ℕ)) (bits : Mode) (outcome : Outcome) → logged_in world session ≡ Ok caller → path_argument path ≡ Ok names → new_mode_argument mode ≡ Ok bits → mkdir_outcome version_1 world.live caller names bits ≡ Ok outcome → decision version_1 world session (Mkdir path mode) ≡ Ok outcome
+pub mkdir_decided : (world : World) (session : ℕ) (path : List ℕ) (mode : ℕ) (caller : Session) (names : List (List ℕ)) (bits : Mode) (outcome : Outcome) → logged_in world session ≡ Ok caller → path_argument path ≡ Ok names → new_mode_argument mode ≡ Ok bits → mkdir_outcome version_1 (seen version_1 world) caller names bits ≡ Ok outcome → decision version_1 world session (Mkdir path mode) ≡ Ok outcome
 mkdir_decided world session path mode caller names bits outcome a b d e = rw (a, b, d, e)
 
-pub stat_decided : (world : World) (session : ℕ) (path : List ℕ) (caller : Session) (names : List (List ℕ)) (outcome : Outcome) → logged_in world session ≡ Ok caller → path_argument path ≡ Ok names → stat_outcome world.live caller names ≡ Ok outcome → decision version_1 world session (Stat path) ≡ Ok outcome
+pub stat_decided : (world : World) (session : ℕ) (path : List ℕ) (caller : Session) (names : List (List ℕ)) (outcome : Outcome) → logged_in world session ≡ Ok caller → path_argument path ≡ Ok names → stat_outcome (viewed_trees (trees_of world)) caller names ≡ Ok outcome → decision version_1 world session (Stat path) ≡ Ok outcome
 stat_decided world session path caller names outcome a b e = rw (a, b, e)
 
 -- where nothing changes, nothing new has a number

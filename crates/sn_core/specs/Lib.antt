@@ -1,4 +1,3 @@
-pub mod Gives
 pub mod Plain
 pub mod PlainRuns
 pub mod Served

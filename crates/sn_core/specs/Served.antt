@@ -1,6 +1,9 @@
 -- A call that was served: its reply, or why it isn't done, and the world after it.
 use Rattle.std.specs.Prelude.{◌≡◌, ℕ, Result, Ok, Err, IsOk}
+use Rattle.sn_walk.specs.declared.failure.Failure.{Failure}
+use Rattle.sn_walk.specs.declared.failure.Failure.TheVariants as failure
 use Rattle.sn_model.specs.declared.call.Call.{Call}
+use Rattle.sn_model.specs.declared.reply.Refusal.{Refusal}
 use Rattle.sn_model.specs.declared.reply.Reply.{Reply}
 use Rattle.sn_model.specs.World.{World}
 use Rattle.sn_limits.specs.Versions.{version_1}
@@ -9,6 +12,11 @@ use Rattle.sn_model.specs.Steps.{Becomes, TakesMemory, decision}
 use Rattle.sn_core.specs.PlainRuns.{TakesLeast}
 use Rattle.sn_core.specs.declared.error.CallError.{CallError}
 use Rattle.sn_core.specs.declared.error.CallError.TheVariants.{Refused, Memory}
+
+-- what a decision failed with
+abbrev pub as_error : {F : Type 0} → Failure Refusal F → CallError
+as_error (failure.Refused r) = Refused r
+as_error (failure.Fault f) = Memory
 
 abbrev pub FailsTo : CallError → World → ℕ → Call → World → Type 0
 FailsTo (Refused r) old session c new = (decision version_1 old session c ≡ Err r) × (new ≡ old)

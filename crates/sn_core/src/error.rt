@@ -1,7 +1,8 @@
 ghost use Rattle.std.specs.Prelude.{◌≡◌};
 ghost use Rattle.sn_core.specs.declared.error.CallError.TheVariants.{Memory, Refused};
 
-use sn_model::{Errno, Refusal, Reply};
+use sn_model::Refusal;
+use sn_walk::Failure;
 use std::alloc::AllocError;
 
 /// Why a call isn't done.
@@ -16,6 +17,20 @@ impl From<Refusal> for CallError {
 
     fn from(refusal: Refusal) -> CallError {
         CallError::Refused(refusal)
+    }
+}
+
+impl From<Failure<Refusal, AllocError>> for CallError {
+    ghost use Rattle.std.specs.Prelude.{◌≡◌};
+    ghost use Rattle.sn_core.specs.Served.{as_error};
+
+    ghost from_gives = { λ failure e. e ≡ as_error failure };
+
+    fn from(failure: Failure<Refusal, AllocError>) -> CallError {
+        match failure {
+            Failure::Refused(refusal) => CallError::Refused(refusal),
+            Failure::Fault(_) => CallError::Memory,
+        }
     }
 }
 

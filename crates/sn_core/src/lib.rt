@@ -3,16 +3,15 @@
 //!
 //! [`run_plain`] answers a list of events, and its contract is the machine of `sn_model`: the replies
 //! are a run of it from the empty world. Below it, `world` keeps the sessions and serves one call,
-//! `decisions` finds the first refusal of a call or what it comes to, by the tests of `checks`, and
-//! the tree of `sn_plain` makes it so. `specs/Plain` says which world this stands for.
+//! `decided` has what `sn_core_decide` decides over the tree by `view`, and the tree of `sn_plain` makes
+//! it so. `specs/Plain` says which world this stands for.
 //!
 //! ```text
 //! let (replies, end) = run_plain(alloc, &events);
 //! ```
 #![tactic(auto)]
 
-mod checks;
-mod decisions;
+mod decided;
 mod error;
 mod plain;
 mod view;

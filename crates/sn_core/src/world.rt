@@ -5,13 +5,13 @@ ghost use Rattle.sn_model.specs.Worlds.{IsWorld};
 ghost use Rattle.sn_core.specs.PlainRuns.{PlainStep};
 ghost use Rattle.sn_model.specs.World.{new_world};
 ghost use Rattle.sn_model.specs.declared.call.Call.TheVariants.{Login, Mkdir, Stat};
-ghost use Rattle.sn_core.specs.Gives.{Answers};
+ghost use Rattle.sn_walk.specs.Gives.{Answers};
 ghost use Rattle.sn_core.specs.Served.{Serves};
 
-use crate::checks::{new_mode_argument, path_argument};
-use crate::decisions;
+use crate::decided;
 use crate::error::CallError;
 use sn_acl::{Cred, Mode, Permissions};
+use sn_core_decide::{new_mode_argument, path_argument};
 use sn_limits::Limits;
 use sn_model::{Call, Errno, Event, Groups, Refusal, Reply, Session, Word};
 use sn_plain::PlainTree;
@@ -115,7 +115,7 @@ impl PlainWorld {
         let caller = self.logged_in(session)?;
         let path = path_argument(path)?;
         let mode = new_mode_argument(mode)?;
-        let (link, number, ownership) = decisions::mkdir(alloc, &self.tree, caller, &path, mode)?;
+        let (link, number, ownership) = decided::mkdir(alloc, &self.tree, caller, &path, mode)?;
         let limits = Limits::VERSION_1;
         let kind = Kind::Directory;
         match self
@@ -134,8 +134,7 @@ impl PlainWorld {
     {
         let caller = self.logged_in(session)?;
         let path = path_argument(path)?;
-        let status = decisions::stat(alloc, &self.tree, caller, &path)?;
-        Ok(Reply::Status(status))
+        Ok(decided::stat(alloc, &self.tree, caller, &path)?)
     }
 
     fn served(&mut self, alloc: Global, session: u32, call: &Call) -> Result<Reply, CallError>

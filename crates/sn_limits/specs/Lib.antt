@@ -1,1 +1,2 @@
+pub mod SnapshotName
 pub mod Versions

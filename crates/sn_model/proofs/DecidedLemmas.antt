@@ -222,8 +222,8 @@ decided_is limits world session c o e = let r = bind_ok (ready world session c) 
   where
     told : (r : Ready) → ready world session c ≡ Ok r → outcome_of limits world r ≡ Ok o → IsDecided limits world session c o
     told (calls.Login s) f g = login_decided limits world session c s o f (same_ok _ _ g)
-    told (calls.Stat s names) f g = let t = stat_is world.live s names o g in Tells t.0 t.1
-    told (calls.Mkdir s names mode) f g = mkdir_decided limits world session c s names mode o f (mkdir_is limits world.live s names mode o g)
+    told (calls.Stat s names) f g = let t = stat_is world s names o g in Tells t.0 t.1
+    told (calls.Mkdir s names mode) f g = mkdir_decided limits world session c s names mode o f (mkdir_is limits world s names mode o g)
 
 -- the change that mkdir has decided can be applied
 module _ (limits : Limits) (tree : Tree) (s : Session) (names : List (List ℕ)) (mode : Mode) (o : Outcome) (number : ℕ) (some_links : 0 < limits.links) (whole : IsTree limits tree) (caller : IsCaller s) (bits : IsMode mode) (are : AreNames names) (p : Made limits tree s names mode o) (free : IsNumber limits tree number) where

@@ -19,14 +19,16 @@ use Rattle.sn_model.specs.declared.reply.Refusal.{Refusal}
 use Rattle.sn_model.specs.declared.reply.Reply.{Reply}
 use Rattle.sn_model.specs.declared.session.Session.{Session}
 use Rattle.sn_model.specs.Tree.{Tree, Node, attributes_of, link_cmp, link_to, names_for, with_node}
-use Rattle.sn_model.specs.World.{World, Home, Live, Frozen, descriptor_cmp, new_root, new_tree, new_world}
+use Rattle.sn_walk.specs.declared.object.Home.{Home}
+use Rattle.sn_walk.specs.declared.object.Home.TheVariants.{Live, Frozen}
+use Rattle.sn_model.specs.World.{World, descriptor_cmp, new_root, new_tree, new_world, tree_in, trees_of}
 use Rattle.sn_model.specs.NameTree.{HasKind, IsHierarchy, IsNode, IsTree, Reaches, root}
 use Rattle.sn_model.specs.Changes.{node_with}
 use Rattle.sn_limits.specs.declared.limits.Limits.{Limits}
 use Rattle.sn_model.specs.Outcomes.{Outcome}
 use Rattle.sn_model.specs.Calls.{new_directory, last_name}
 use Rattle.sn_model.specs.Steps.{Becomes, Comes, EventStep, Run, RunBy, Step, decision, with_session, with_live}
-use Rattle.sn_model.specs.Worlds.{IsCaller, IsPlace, IsCall, IsEvent, IsWorld, tree_in}
+use Rattle.sn_model.specs.Worlds.{IsCaller, IsPlace, IsCall, IsEvent, IsWorld}
 use Rattle.sn_model.proofs.LinkLemmas.{exact_links, links_total}
 use Rattle.sn_model.proofs.MapLemmas.{same_or_apart, get_inserted, get_other}
 use Rattle.sn_model.proofs.CountLemmas.{count_none}
@@ -53,7 +55,7 @@ still_in (place ∷ places) (suc i) zero s h = h
 still_in (place ∷ places) (suc i) (suc j) s h = still_in places i j s h
 
 -- the tree of an open file, where only sessions change, or only the live tree
-with_files : (a b : World) (home : Home) (number : ℕ) → ((n : ℕ) → HasKind a.live n File → HasKind b.live n File) → a.frozen ≡ b.frozen → IsSomeAnd (tree_in a home) (λ tree. HasKind tree number File) → IsSomeAnd (tree_in b home) (λ tree. HasKind tree number File)
+with_files : (a b : World) (home : Home) (number : ℕ) → ((n : ℕ) → HasKind a.live n File → HasKind b.live n File) → a.frozen ≡ b.frozen → IsSomeAnd (tree_in (trees_of a) home) (λ tree. HasKind tree number File) → IsSomeAnd (tree_in (trees_of b) home) (λ tree. HasKind tree number File)
 with_files a b Live number live frozen h = live number h
 with_files a b (Frozen name) number live frozen h = subst (λ f. IsSomeAnd (map.get f name) (λ tree. HasKind tree number File)) frozen h
 

@@ -1,29 +1,28 @@
 -- Each call as the list of its tests, in their order, with what it comes to where all pass: POSIX.1-2017, mkdir() and stat(); sessions and the order of the tests are rules of this project.
-use Rattle.std.specs.Prelude.{ℕ, ◌+◌, ◌*◌, true, false, List, [], Option, None, Some, Result, Ok, Err, unwrap_or, if◌then◌else◌}
+use Rattle.std.specs.Prelude.{ℕ, ◌+◌, ◌*◌, true, false, List, [], Option, Result, Ok, unwrap_or, if◌then◌else◌}
 use Rattle.sn_acl.specs.declared.entries.Entry.{Entry}
 use Rattle.sn_acl.specs.declared.modes.Mode.{Mode}
 use Rattle.sn_acl.specs.Modes.{mode_of}
 use Rattle.sn_acl.specs.Inheritance.{inherited_access, inherited_default}
 use Rattle.sn_walk.specs.declared.view.Kind.TheVariants.{Directory}
 use Rattle.sn_walk.specs.declared.view.Attributes.{Attributes}
-use Rattle.sn_walk.specs.declared.view.Object.{Object}
-use Rattle.sn_walk.specs.declared.view.Object.TheVariants as object
+use Rattle.sn_walk.specs.declared.object.Home.TheVariants.{Live}
+use Rattle.sn_walk.specs.Objects.{number_of}
 use Rattle.sn_walk.specs.Paths.{last_of}
-use Rattle.sn_walk.specs.Views.{attributes_at}
 use Rattle.sn_model.specs.declared.call.Call.{Call}
 use Rattle.sn_model.specs.declared.call.Call.TheVariants as call
-use Rattle.sn_model.specs.declared.reply.Errno.TheVariants.{Enoent}
 use Rattle.sn_model.specs.declared.reply.Refusal.{Refusal}
 use Rattle.sn_model.specs.declared.reply.Reply.TheVariants.{Status}
 use Rattle.sn_model.specs.declared.reply.Status as status
 use Rattle.sn_limits.specs.declared.limits.Limits.{Limits}
 use Rattle.sn_model.specs.declared.change.Ownership.{Ownership}
 use Rattle.sn_model.specs.Outcomes.{Outcome, tells, opens, makes}
-use Rattle.sn_model.specs.Tree.{Tree, link_to, viewed}
+use Rattle.sn_model.specs.Tree.{link_to}
 use Rattle.sn_model.specs.declared.session.Session.{Session}
-use Rattle.sn_model.specs.World.{World}
+use Rattle.sn_model.specs.World.{World, trees_of, viewed_trees}
+use Rattle.sn_walk.specs.Views.{ViewedTrees}
 use Rattle.sn_walk.specs.Chains.{◌>>=◌}
-use Rattle.sn_model.specs.Tests.{plain, logged_in, logged_out, path_argument, new_mode_argument, prefix, full, not_present, live, writable_parent, has_room}
+use Rattle.sn_model.specs.Tests.{logged_in, logged_out, path_argument, new_mode_argument, prefix, full, not_present, live, writable_parent, has_room}
 
 -- a call whose session and arguments have passed
 pub data Ready : Type 0 where
@@ -59,20 +58,23 @@ new_directory session mode parent default_acl = record {
   default_acl = inherited_default default_acl true;
 }
 
+-- what is decided over: the trees, and whether a directory of the live one may get one more name, of a new node
+pub record Seen : Type 0 where
+  pub trees : ViewedTrees
+  pub room : ℕ → Result (Unit {0}) Refusal
+
+abbrev pub seen : Limits → World → Seen
+seen limits world = record { trees = viewed_trees (trees_of world); room = has_room limits world.live }
+
 -- mkdir: Prefix; not present; live; w(p); room for a name and a number
-unfoldable pub mkdir_outcome : Limits → Tree → Session → List (List ℕ) → Mode → Result Outcome Refusal
-mkdir_outcome limits tree session names mode = do
-  walked ← prefix tree session.cred 1 names
+unfoldable pub mkdir_outcome : Limits → Seen → Session → List (List ℕ) → Mode → Result Outcome Refusal
+mkdir_outcome limits seen session names mode = do
+  walked ← prefix seen.trees session.cred 1 names
   at ← not_present walked
   directory ← live at.0
-  parent ← writable_parent tree session.cred 1 at.1 directory
-  _ ← has_room limits tree directory
-  Ok (makes (2 * limits.inode_charge + limits.block_charge) (link_to directory (last_name names)) Directory (new_directory session mode parent ((viewed tree).default_acl directory)))
-
--- the number of an object; that of the directory of snapshots is 1
-abbrev pub number_of : Object → ℕ
-number_of (object.Node number) = number
-number_of object.Hidden = 1
+  parent ← writable_parent seen.trees session.cred 1 at.1 at.0
+  _ ← seen.room directory
+  Ok (makes (2 * limits.inode_charge + limits.block_charge) (link_to directory (last_name names)) Directory (new_directory session mode parent ((seen.trees.tree Live).default_acl directory)))
 
 abbrev pub status_of : ℕ → Attributes → status.Status
 status_of number a = record {
@@ -87,17 +89,13 @@ status_of number a = record {
   number = number;
 }
 
-abbrev pub told : ℕ → Option Attributes → Result Outcome Refusal
-told number None = Err (plain Enoent)
-told number (Some a) = Ok (tells (Status (status_of number a)))
-
 -- stat: Full
-unfoldable pub stat_outcome : Tree → Session → List (List ℕ) → Result Outcome Refusal
-stat_outcome tree session names = do
-  object ← full tree session.cred 1 names
-  told (number_of object) (attributes_at (viewed tree) object)
+unfoldable pub stat_outcome : ViewedTrees → Session → List (List ℕ) → Result Outcome Refusal
+stat_outcome trees session names = do
+  found ← full trees session.cred 1 names
+  Ok (tells (Status (status_of (number_of found.object) found.attributes)))
 
 abbrev pub outcome_of : Limits → World → Ready → Result Outcome Refusal
 outcome_of limits world (Login session) = Ok (opens session)
-outcome_of limits world (Mkdir session names mode) = mkdir_outcome limits world.live session names mode
-outcome_of limits world (Stat session names) = stat_outcome world.live session names
+outcome_of limits world (Mkdir session names mode) = mkdir_outcome limits (seen limits world) session names mode
+outcome_of limits world (Stat session names) = stat_outcome (viewed_trees (trees_of world)) session names

@@ -5,7 +5,9 @@ use Rattle.std.specs.FinMap as map
 use Rattle.sn_walk.specs.declared.view.Kind.{Kind}
 use Rattle.sn_walk.specs.declared.view.Kind.TheVariants.{File, Directory}
 use Rattle.sn_model.specs.Tree.{Node, Tree, names_for}
-use Rattle.sn_model.specs.World.{World, Home, Live, Frozen}
+use Rattle.sn_walk.specs.declared.object.Home.{Home}
+use Rattle.sn_walk.specs.declared.object.Home.TheVariants.{Live, Frozen}
+use Rattle.sn_model.specs.World.{World}
 
 abbrev pub is_nameless : Tree → ℕ → Option Node → Bool
 is_nameless tree number None = false

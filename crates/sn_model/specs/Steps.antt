@@ -43,13 +43,13 @@ pub record IsNumber (limits : Limits) (tree : Tree) (number : ℕ) : Type 0 wher
 
 abbrev pub IsNumberFor : Limits → Tree → ℕ → Pending → Type 0
 IsNumberFor limits tree number Nothing = Unit {0}
-IsNumberFor limits tree number (Makes link kind o) = IsNumber limits tree number
+IsNumberFor limits tree number (Makes directory name kind o) = IsNumber limits tree number
 IsNumberFor limits tree number (Does c) = Unit {0}
 
 -- what a call's change does to the live tree, a new node's number filled in
 abbrev pub changed : Limits → ℕ → Pending → Tree → Option Tree
 changed limits number Nothing tree = Some tree
-changed limits number (Makes link kind o) tree = apply limits (Make link.directory link.name number kind o) tree
+changed limits number (Makes directory name kind o) tree = apply limits (Make directory name number kind o) tree
 changed limits number (Does c) tree = apply limits c tree
 
 -- an outcome becomes a world; the machine chooses a new node's number

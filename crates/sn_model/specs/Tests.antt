@@ -1,5 +1,5 @@
 -- The tests that calls are made of, in the words of the table of calls: POSIX.1-2017, 4.13 Pathname Resolution and 4.5 File Access Permissions, and acl(5) for the entry that denies. A test refuses, or hands on what it found.
-use Rattle.std.specs.Prelude.{ℕ, ◌+◌, ◌/◌, ◌%◌, true, false, nat_lt, nat_le, List, Option, None, Some, Result, Ok, Err, slice_get, is_none, if◌then◌else◌}
+use Rattle.std.specs.Prelude.{ℕ, ◌+◌, ◌/◌, ◌%◌, ◌==◌, ◌||◌, not, Bool, true, false, nat_lt, nat_le, List, Option, None, Some, Result, Ok, Err, slice_get, is_none, if◌then◌else◌}
 use Rattle.sn_acl.specs.declared.entries.Tag.{Tag}
 use Rattle.sn_acl.specs.declared.entries.Entry.{Entry}
 use Rattle.sn_acl.specs.declared.modes.Mode.{Mode}
@@ -7,26 +7,27 @@ use Rattle.sn_acl.specs.Credential.{Credential}
 use Rattle.sn_acl.specs.Access.{denial_of}
 use Rattle.sn_walk.specs.declared.path.PathFault.{PathFault}
 use Rattle.sn_walk.specs.declared.path.PathFault.TheVariants.{Misspelt, TooLong}
+use Rattle.sn_walk.specs.declared.object.Object.{Object}
 use Rattle.sn_walk.specs.declared.view.Attributes.{Attributes}
-use Rattle.sn_walk.specs.declared.view.Object.{Object}
-use Rattle.sn_walk.specs.declared.view.Object.TheVariants as object
-use Rattle.sn_walk.specs.declared.view.TheConstants.{ROOT_NUMBER}
+use Rattle.sn_walk.specs.declared.walking.Found.{Found}
 use Rattle.sn_walk.specs.declared.walking.Obstacle.{Obstacle}
 use Rattle.sn_walk.specs.declared.walking.Obstacle.TheVariants.{NotADirectory, Denied, Missing}
 use Rattle.sn_walk.specs.declared.walking.WalkRefusal.{WalkRefusal}
 use Rattle.sn_walk.specs.declared.walking.Walked.{Walked}
 use Rattle.sn_walk.specs.declared.walking.Walked.TheVariants.{Root, Name}
 use Rattle.sn_walk.specs.Chains.{◌>>=◌}
+use Rattle.sn_walk.specs.Objects.{is_in_tree_of, number_of, root}
 use Rattle.sn_walk.specs.Paths.{parsed}
-use Rattle.sn_walk.specs.Views.{attributes_at}
-use Rattle.sn_walk.specs.Walks.{walk_of}
+use Rattle.sn_walk.specs.Views.{ViewedTrees, attributes_at}
+use Rattle.sn_walk.specs.Walks.{found_at, walk_of}
 use Rattle.sn_model.specs.declared.reply.Access.{Access}
 use Rattle.sn_model.specs.declared.reply.Errno.{Errno}
-use Rattle.sn_model.specs.declared.reply.Errno.TheVariants.{Eacces, Enoent, Enotdir, Eexist, Einval, Enametoolong, Erofs, Ebusy, Ebadf, Elimit}
+use Rattle.sn_model.specs.declared.reply.Errno.TheVariants.{Eacces, Enoent, Enotdir, Eperm, Eexist, Einval, Enametoolong, Erofs, Exdev, Ebusy, Ebadf, Elimit}
+use Rattle.sn_model.specs.declared.reply.Rule.{Rule}
 use Rattle.sn_model.specs.declared.reply.Rule.TheVariants as rule
 use Rattle.sn_model.specs.declared.reply.Refusal.{Refusal}
 use Rattle.sn_limits.specs.declared.limits.Limits.{Limits}
-use Rattle.sn_model.specs.Tree.{Tree, viewed, names_in, least_unused}
+use Rattle.sn_model.specs.Tree.{Tree, names_in, least_unused}
 use Rattle.sn_model.specs.declared.session.Session.{Session}
 use Rattle.sn_model.specs.World.{World}
 
@@ -48,7 +49,7 @@ rights_of want = (if want.read then 4 else 0) + (if want.write then 2 else 0) + 
 abbrev pub denied : ℕ → ℕ → Access → Tag → Refusal
 denied path place want tag = record { errno = Eacces; denial = Some (record { path = path; place = place; want = want; rule = rule.Entry tag }) }
 
--- the session's place: its number is 0 to 63
+-- who is logged in under a number of a session, which is 0 to 63
 abbrev pub flat : {A : Type 0} → Option (Option A) → Option A
 flat None = None
 flat (Some o) = o
@@ -100,20 +101,16 @@ walked path (Ok w) = Ok w
 walked path (Err r) = Err (obstacle_refusal path r.place r.obstacle)
 
 -- Prefix: each place before the last is a directory that grants search and has the next name
-abbrev pub prefix : Tree → Credential → ℕ → List (List ℕ) → Result Walked Refusal
-prefix tree cred path names = walked path (walk_of (viewed tree) cred names)
+abbrev pub prefix : ViewedTrees → Credential → ℕ → List (List ℕ) → Result Walked Refusal
+prefix trees cred path names = walked path (walk_of trees cred names)
 
 -- Full: Prefix, and the last name is there too
-abbrev pub existing : Option Object → Result Object Refusal
-existing None = Err (plain Enoent)
-existing (Some found) = Ok found
+abbrev pub there : Option Found → Result Found Refusal
+there None = Err (plain Enoent)
+there (Some found) = Ok found
 
-abbrev pub found : Walked → Result Object Refusal
-found Root = Ok (object.Node ROOT_NUMBER)
-found (Name directory place last) = existing last
-
-abbrev pub full : Tree → Credential → ℕ → List (List ℕ) → Result Object Refusal
-full tree cred path names = prefix tree cred path names >>= found
+abbrev pub full : ViewedTrees → Credential → ℕ → List (List ℕ) → Result Found Refusal
+full trees cred path names = prefix trees cred path names >>= (λ walked. there (found_at trees walked))
 
 -- the directory and the place of a name that isn't there yet
 abbrev pub vacant : Object → ℕ → Option Object → Result (Object × ℕ) Refusal
@@ -124,10 +121,13 @@ abbrev pub not_present : Walked → Result (Object × ℕ) Refusal
 not_present Root = Err (plain Eexist)
 not_present (Name directory place last) = vacant directory place last
 
--- live: the name's directory is in the live tree
+-- live: what is to change is in the live tree
 abbrev pub live : Object → Result ℕ Refusal
-live (object.Node number) = Ok number
-live object.Hidden = Err (plain Erofs)
+live object = if is_in_tree_of object root then Ok (number_of object) else Err (plain Erofs)
+
+-- two names are in one tree, which is that of their directories
+abbrev pub one_tree : Object → Object → Result (Unit {0}) Refusal
+one_tree directory other = if is_in_tree_of directory other then Ok tt else Err (plain Exdev)
 
 -- an access is asked of what is at a place
 abbrev pub unless_denied : ℕ → ℕ → Access → Option Entry → Result (Unit {0}) Refusal
@@ -139,8 +139,19 @@ granted cred path place want None = Err (plain Enoent)
 granted cred path place want (Some a) = unless_denied path place want (denial_of cred a.owner a.group a.acl (rights_of want)) >>= (λ _. Ok a)
 
 -- w(p): write is asked of the directory of a path's last name
-abbrev pub writable_parent : Tree → Credential → ℕ → ℕ → ℕ → Result Attributes Refusal
-writable_parent tree cred path place directory = granted cred path place write (attributes_at (viewed tree) (object.Node directory))
+abbrev pub writable_parent : ViewedTrees → Credential → ℕ → ℕ → Object → Result Attributes Refusal
+writable_parent trees cred path place directory = granted cred path place write (attributes_at trees directory)
+
+-- EPERM: a rule that is no entry of an ACL denies at a place of a path
+abbrev pub forbidden : ℕ → ℕ → Rule → Refusal
+forbidden path place r = record { errno = Eperm; denial = Some (record { path = path; place = place; want = record { read = false; write = false; execute = false }; rule = r }) }
+
+-- sticky: from a directory with S_ISVTX a caller removes only what it owns, or any object where it owns the directory; the user 0 is held by no rule
+abbrev pub may_remove : Credential → Attributes → Attributes → Bool
+may_remove cred parent object = not parent.sticky || cred.uid == 0 || cred.uid == object.owner || cred.uid == parent.owner
+
+abbrev pub sticky : Credential → ℕ → Attributes → Found → Result (Unit {0}) Refusal
+sticky cred path parent found = if may_remove cred parent found.attributes then Ok tt else Err (forbidden path found.place rule.Sticky)
 
 -- a directory may get one more name, of a new node
 abbrev pub has_room : Limits → Tree → ℕ → Result (Unit {0}) Refusal

@@ -1,18 +1,33 @@
 -- The world that calls see: the live tree, the frozen trees by snapshot name, who is logged in, and what is open.
-use Rattle.std.specs.Prelude.{ℕ, Bool, false, List, [], Option, None, replicate}
+use Rattle.std.specs.Prelude.{ℕ, Bool, false, List, [], Option, None, Some, replicate}
 use Rattle.std.specs.declared.cmp.Ordering.{Ordering}
 use Rattle.std.specs.Ordering.{nat_cmp, ordering_then}
 use Rattle.std.specs.Cmp.Lexicographic.{slice_cmp}
 use Rattle.std.specs.FinMap as map
 use Rattle.sn_acl.specs.Modes.{three_entries}
+use Rattle.sn_walk.specs.declared.object.Home.{Home}
+use Rattle.sn_walk.specs.declared.object.Home.TheVariants.{Live, Frozen}
 use Rattle.sn_walk.specs.declared.view.Kind.TheVariants.{Directory}
+use Rattle.sn_walk.specs.Views.{ViewedTree, ViewedTrees, nothing}
 use Rattle.sn_model.specs.declared.session.Session.{Session}
-use Rattle.sn_model.specs.Tree.{Node, Tree}
+use Rattle.sn_model.specs.Tree.{Node, Tree, viewed}
 
--- which tree an open file is in: the live one, or that of a snapshot
-pub data Home : Type 0 where
-  Live : Home
-  Frozen : List ℕ → Home
+-- the live tree, and the frozen ones by the names of their snapshots
+pub record Trees : Type 0 where
+  pub live : Tree
+  pub frozen : map.FinMap (slice_cmp nat_cmp) Tree
+
+abbrev pub tree_in : Trees → Home → Option Tree
+tree_in trees Live = Some trees.live
+tree_in trees (Frozen name) = map.get trees.frozen name
+
+abbrev pub viewed_if : Option Tree → ViewedTree
+viewed_if None = nothing
+viewed_if (Some tree) = viewed tree
+
+-- the trees as a walk sees them
+abbrev pub viewed_trees : Trees → ViewedTrees
+viewed_trees trees = record { tree = λ home. viewed_if (tree_in trees home); has_snapshot = λ name. map.contains_key trees.frozen name }
 
 -- an open file: its tree and number, what it was opened for, and where it stands
 pub record Descriptor : Type 0 where
@@ -33,6 +48,9 @@ pub record World : Type 0 where
   pub frozen : map.FinMap (slice_cmp nat_cmp) Tree
   pub sessions : List (Option Session)
   pub descriptors : map.FinMap descriptor_cmp Descriptor
+
+abbrev pub trees_of : World → Trees
+trees_of world = record { live = world.live; frozen = world.frozen }
 
 -- the root directory of a new tree: 0:0, mode 0755
 abbrev pub new_root : Node

@@ -2,6 +2,7 @@
 use Rattle.std.specs.Prelude.{◌≡◌, ℕ, ◌≤◌, ◌<◌, ◌^◌, true, List, Option, None, Some, IsSomeAnd, is_some, length, slice_get}
 use Rattle.std.specs.List.{AllByRecursion}
 use Rattle.std.specs.FinMap as map
+use Rattle.sn_walk.specs.declared.object.Home.TheVariants.{Live}
 use Rattle.sn_walk.specs.declared.view.Kind.TheVariants.{File}
 use Rattle.sn_limits.specs.declared.limits.Limits.{Limits}
 use Rattle.sn_model.specs.declared.call.Call.{Call}
@@ -10,7 +11,7 @@ use Rattle.sn_model.specs.declared.call.Event.{Event}
 use Rattle.sn_model.specs.declared.call.Event.TheVariants as event
 use Rattle.sn_model.specs.declared.session.Session.{Session}
 use Rattle.sn_model.specs.Tree.{Tree, names_for}
-use Rattle.sn_model.specs.World.{World, Home, Live, Frozen, Descriptor}
+use Rattle.sn_model.specs.World.{World, Descriptor, tree_in, trees_of}
 use Rattle.sn_model.specs.NameTree.{HasKind, IsTree}
 
 -- whoever is logged in has numbers of 32 bits
@@ -22,10 +23,6 @@ abbrev pub IsPlace : Option Session → Type 0
 IsPlace None = Unit {0}
 IsPlace (Some s) = IsCaller s
 
-abbrev pub tree_in : World → Home → Option Tree
-tree_in world Live = Some world.live
-tree_in world (Frozen s) = map.get world.frozen s
-
 abbrev pub IsLoggedIn : World → ℕ → Type 0
 IsLoggedIn world session = IsSomeAnd (slice_get world.sessions session) (λ s. is_some s ≡ true)
 
@@ -33,7 +30,7 @@ IsLoggedIn world session = IsSomeAnd (slice_get world.sessions session) (λ s. i
 pub record IsOpenFile (limits : Limits) (world : World) (session fd : ℕ) (d : Descriptor) : Type 0 where
   pub caller : IsLoggedIn world session
   pub number : fd < 64
-  pub file : IsSomeAnd (tree_in world d.home) (λ tree. HasKind tree d.number File)
+  pub file : IsSomeAnd (tree_in (trees_of world) d.home) (λ tree. HasKind tree d.number File)
   pub offset : d.offset ≤ limits.largest_file
 
 -- Its trees are name trees, open files are there, and a live file without a name is held.

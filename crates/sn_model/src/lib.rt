@@ -27,6 +27,7 @@ mod change;
 mod groups;
 mod laws;
 mod link;
+mod outcome;
 mod reply;
 mod session;
 mod word;
@@ -41,6 +42,7 @@ pub use laws::{
     refusals_change_nothing, restarts_keep_the_state, runs_keep_the_world, test_is_below,
 };
 pub use link::Link;
+pub use outcome::{Caller, Outcome, Pending};
 pub use reply::{Access, Denial, End, Errno, MountFault, Refusal, Reply, Rule, Status};
 pub use session::Session;
 pub use word::Word;

@@ -13,6 +13,7 @@ mod acl;
 mod entries;
 mod plain;
 mod script;
+mod trees;
 mod walk;
 
 use anyhow::Result;

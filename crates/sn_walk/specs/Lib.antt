@@ -1,5 +1,7 @@
 pub mod Chains
+pub mod Gives
 pub mod Names
+pub mod Objects
 pub mod Paths
 pub mod Views
 pub mod Walks

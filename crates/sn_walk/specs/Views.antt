@@ -1,21 +1,32 @@
--- What a walk sees of a tree, and the directory of snapshots, which is a rule of this project.
+-- What a walk sees of the trees, and the directory of snapshots, which is a rule of this project.
 use Rattle.std.specs.Prelude.{ℕ, Bool, true, false, ◌&&◌, ◌==◌, List, Option, None, Some, codes, if◌then◌else◌}
 use Rattle.std.specs.Option.{option_map}
 use Rattle.std.specs.Cmp.Lexicographic.{pointwise}
 use Rattle.sn_acl.specs.declared.entries.Entry.{Entry}
 use Rattle.sn_acl.specs.Modes.{three_entries}
-use Rattle.sn_walk.specs.declared.view.TheConstants.{ROOT_NUMBER}
+use Rattle.sn_limits.specs.SnapshotName.{is_snapshot_name}
 use Rattle.sn_walk.specs.declared.view.Kind.{Kind}
 use Rattle.sn_walk.specs.declared.view.Kind.TheVariants.{File, Directory}
 use Rattle.sn_walk.specs.declared.view.Attributes.{Attributes}
-use Rattle.sn_walk.specs.declared.view.Object.{Object}
-use Rattle.sn_walk.specs.declared.view.Object.TheVariants.{Node, Hidden}
+use Rattle.sn_walk.specs.declared.object.Home.{Home}
+use Rattle.sn_walk.specs.declared.object.Home.TheVariants.{Live, Frozen}
+use Rattle.sn_walk.specs.declared.object.Object.{Object}
+use Rattle.sn_walk.specs.declared.object.Object.TheVariants.{Node, Snapshots}
 
 -- a tree as a walk sees it: the nodes by number, the numbers by directory and name, and the default ACLs
 pub record ViewedTree : Type 0 where
   pub node : ℕ → Option Attributes
   pub link : ℕ → List ℕ → Option ℕ
   pub default_acl : ℕ → Option (List Entry)
+
+-- the live tree and the frozen ones, and the names of snapshots
+pub record ViewedTrees : Type 0 where
+  pub tree : Home → ViewedTree
+  pub has_snapshot : List ℕ → Bool
+
+-- what is seen where there is no tree
+abbrev pub nothing : ViewedTree
+nothing = record { node = λ number. None; link = λ directory name. None; default_acl = λ number. None }
 
 abbrev pub is_directory : Kind → Bool
 is_directory File = false
@@ -34,15 +45,24 @@ hidden_attributes = record {
   size = 0;
 }
 
-abbrev pub attributes_at : ViewedTree → Object → Option Attributes
-attributes_at tree (Node number) = tree.node number
-attributes_at tree Hidden = Some hidden_attributes
+abbrev pub attributes_at : ViewedTrees → Object → Option Attributes
+attributes_at trees (Node home number) = (trees.tree home).node number
+attributes_at trees Snapshots = Some hidden_attributes
 
--- the name under which the root has the directory of snapshots
+-- the name under which a root has the directory of snapshots
 abbrev pub is_hidden_name : ℕ → List ℕ → Bool
-is_hidden_name directory name = (directory == ROOT_NUMBER) && pointwise ◌==◌ name (codes ".snapshot")
+is_hidden_name directory name = (directory == 2) && pointwise ◌==◌ name (codes ".snapshot")
 
--- what a name stands for in a directory; there are no snapshots
-abbrev pub child_of : ViewedTree → Object → List ℕ → Option Object
-child_of tree (Node directory) name = if is_hidden_name directory name then Some Hidden else option_map Node (tree.link directory name)
-child_of tree Hidden name = None
+-- only the live root has it
+abbrev pub hides : Home → ℕ → List ℕ → Bool
+hides Live directory name = is_hidden_name directory name
+hides (Frozen s) directory name = false
+
+-- whether a name is that of a snapshot
+abbrev pub is_snapshot : ViewedTrees → List ℕ → Bool
+is_snapshot trees name = is_snapshot_name name && trees.has_snapshot name
+
+-- what a name stands for in a directory; in the directory of snapshots, the root of a frozen tree
+abbrev pub child_of : ViewedTrees → Object → List ℕ → Option Object
+child_of trees (Node home directory) name = if hides home directory name then Some Snapshots else option_map (Node home) ((trees.tree home).link directory name)
+child_of trees Snapshots name = if is_snapshot trees name then Some (Node (Frozen name) 2) else None

@@ -5,19 +5,17 @@ use Rattle.sn_acl.specs.Credential.{Credential}
 use Rattle.sn_acl.specs.Access.{denial_of}
 use Rattle.sn_walk.specs.declared.view.Kind.TheVariants.{Directory}
 use Rattle.sn_walk.specs.declared.view.Attributes.{Attributes}
-use Rattle.sn_walk.specs.declared.view.Object.{Object}
-use Rattle.sn_walk.specs.declared.view.Object.TheVariants.{Node}
-use Rattle.sn_walk.specs.declared.view.TheConstants.{ROOT_NUMBER}
+use Rattle.sn_walk.specs.declared.object.Object.{Object}
 use Rattle.sn_walk.specs.declared.walking.Obstacle.{Obstacle}
 use Rattle.sn_walk.specs.declared.walking.Obstacle.TheVariants.{NotADirectory, Denied, Missing}
 use Rattle.sn_walk.specs.declared.walking.WalkRefusal.{WalkRefusal}
-use Rattle.sn_walk.specs.declared.walking.WalkError.{WalkError}
-use Rattle.sn_walk.specs.declared.walking.WalkError.TheVariants.{Refused, Fault}
 use Rattle.sn_walk.specs.declared.walking.Walked.{Walked}
 use Rattle.sn_walk.specs.declared.walking.Walked.TheVariants.{Root, Name}
+use Rattle.sn_walk.specs.declared.walking.Found.{Found}
 use Rattle.sn_walk.specs.Chains.{◌>>=◌}
+use Rattle.sn_walk.specs.Objects.{root}
 use Rattle.sn_walk.specs.Paths.{last_after}
-use Rattle.sn_walk.specs.Views.{ViewedTree, attributes_at, child_of, is_directory}
+use Rattle.sn_walk.specs.Views.{ViewedTrees, attributes_at, child_of, is_directory}
 
 abbrev pub refusal : ℕ → Obstacle → WalkRefusal
 refusal place obstacle = record { place = place; obstacle = obstacle }
@@ -32,8 +30,8 @@ admitted cred place None = Err (refusal place Missing)
 admitted cred place (Some a) = if is_directory a.kind then searched place (denial_of cred a.owner a.group a.acl 1) else Err (refusal place NotADirectory)
 
 -- what the next name stands for
-abbrev pub passed : ViewedTree → Credential → ℕ → Object → List ℕ → Result (Option Object) WalkRefusal
-passed tree cred place directory name = admitted cred place (attributes_at tree directory) >>= (λ _. Ok (child_of tree directory name))
+abbrev pub passed : ViewedTrees → Credential → ℕ → Object → List ℕ → Result (Option Object) WalkRefusal
+passed trees cred place directory name = admitted cred place (attributes_at trees directory) >>= (λ _. Ok (child_of trees directory name))
 
 -- the next name has to be there
 abbrev pub present : ℕ → Option Object → Result Object WalkRefusal
@@ -41,29 +39,38 @@ present place None = Err (refusal place Missing)
 present place (Some object) = Ok object
 
 -- from an object at a place, on by a name and the names after it
-unfoldable pub walk_from : ViewedTree → Credential → ℕ → Object → List ℕ → List (List ℕ) → Result Walked WalkRefusal
-walk_from tree cred place directory name [] = passed tree cred place directory name >>= (λ object. Ok (Name directory place object))
-walk_from tree cred place directory name (next ∷ names) = passed tree cred place directory name >>= (λ child. present place child >>= (λ object. walk_from tree cred (place + 1) object next names))
+unfoldable pub walk_from : ViewedTrees → Credential → ℕ → Object → List ℕ → List (List ℕ) → Result Walked WalkRefusal
+walk_from trees cred place directory name [] = passed trees cred place directory name >>= (λ object. Ok (Name directory place object))
+walk_from trees cred place directory name (next ∷ names) = passed trees cred place directory name >>= (λ child. present place child >>= (λ object. walk_from trees cred (place + 1) object next names))
 
 -- a path's chain of links from the root, or the walk's first refusal
-abbrev pub walk_of : ViewedTree → Credential → List (List ℕ) → Result Walked WalkRefusal
-walk_of tree cred [] = Ok Root
-walk_of tree cred (name ∷ names) = walk_from tree cred 0 (Node ROOT_NUMBER) name names
+abbrev pub walk_of : ViewedTrees → Credential → List (List ℕ) → Result Walked WalkRefusal
+walk_of trees cred [] = Ok Root
+walk_of trees cred (name ∷ names) = walk_from trees cred 0 root name names
 
--- What a function returned is what the walk gives, unless a look-up found a fault.
-abbrev pub Fails : {Y F : Type 0} → WalkError F → Result Y WalkRefusal → Type 0
-Fails (Refused r) walk = walk ≡ Err r
-Fails (Fault f) walk = Unit {0}
+-- what a path leads to, with its place and attributes
+abbrev pub found_as : ℕ → Object → Option Attributes → Option Found
+found_as place object None = None
+found_as place object (Some a) = Some (record { object = object; place = place; attributes = a })
 
-abbrev pub Gives : {Y F : Type 0} → Result Y (WalkError F) → Result Y WalkRefusal → Type 0
-Gives (Ok x) walk = walk ≡ Ok x
-Gives (Err e) walk = Fails e walk
+abbrev pub found_last : ViewedTrees → ℕ → Option Object → Option Found
+found_last trees place None = None
+found_last trees place (Some object) = found_as place object (attributes_at trees object)
+
+abbrev pub found_at : ViewedTrees → Walked → Option Found
+found_at trees Root = found_as 0 root (attributes_at trees root)
+found_at trees (Name directory place object) = found_last trees (place + 1) object
+
+-- the place of the directory that has the last name
+abbrev pub end_of : Walked → ℕ
+end_of Root = 0
+end_of (Name directory place object) = place
 
 -- Where a walk along these names may end: the place counts the names before the last, the object is what the last name stands for in what is there, and that is a directory.
-abbrev pub EndsAfter : ViewedTree → ℕ → List ℕ → List (List ℕ) → Walked → Type 0
-EndsAfter tree place name names Root = ⊥
-EndsAfter tree place name names (Name directory end object) = (end ≡ place + length names) × (object ≡ child_of tree directory (last_after name names)) × IsSomeAnd (attributes_at tree directory) (λ a. a.kind ≡ Directory)
+abbrev pub EndsAfter : ViewedTrees → ℕ → List ℕ → List (List ℕ) → Walked → Type 0
+EndsAfter trees place name names Root = ⊥
+EndsAfter trees place name names (Name directory end object) = (end ≡ place + length names) × (object ≡ child_of trees directory (last_after name names)) × IsSomeAnd (attributes_at trees directory) (λ a. a.kind ≡ Directory)
 
-abbrev pub EndsAt : ViewedTree → List (List ℕ) → Walked → Type 0
-EndsAt tree [] w = w ≡ Root
-EndsAt tree (name ∷ names) w = EndsAfter tree 0 name names w
+abbrev pub EndsAt : ViewedTrees → List (List ℕ) → Walked → Type 0
+EndsAt trees [] w = w ≡ Root
+EndsAt trees (name ∷ names) w = EndsAfter trees 0 name names w

@@ -1,4 +1,6 @@
+use crate::Home;
 use sn_acl::Acl;
+use sn_limits::SnapshotName;
 
 /// The number of a tree's root directory.
 pub const ROOT_NUMBER: u16 = 2;
@@ -28,40 +30,70 @@ pub struct Attributes {
     pub size: u64,
 }
 
-/// What a name can stand for.
-#[derive(Clone, Copy, PartialEq, Eq, Hash)]
-pub enum Object {
-    /// The node with this number in the live tree.
-    Node(u16),
-    /// The directory of snapshots, which the live root has under the name `.snapshot`.
-    Hidden,
-}
-
-/// The root directory.
-pub const ROOT: Object = Object::Node(ROOT_NUMBER);
-
-/// A tree as a walk sees it. A look-up may find a fault of the view's own kind, as a device or
-/// memory that failed, and then says nothing; no look-up changes what the tree shows.
+/// The live tree and the frozen ones as a walk sees them.
+///
+/// A look-up may find a fault of the view's own kind, as a device or memory that failed, and then
+/// says nothing. No look-up changes what the trees show. A view over a device that doesn't tell its
+/// bytes isn't told, and then promises no answer.
 pub trait TreeView {
-    ghost use Rattle.std.specs.Prelude.{◌≡◌, IfOk};
-    ghost use Rattle.sn_walk.specs.Views.{ViewedTree};
+    ghost use Rattle.std.specs.Prelude.{◌≡◌, Bool, IsTrue, IfOk, IfErr};
+    ghost use Rattle.sn_walk.specs.Views.{ViewedTrees};
 
     type Fault: Drop;
 
-    ghost shows: { Self → ViewedTree };
+    // whether look-ups are told at all
+    ghost is_told: { Bool };
 
-    /// The attributes of the node with this number.
-    fn node(&mut self, number: u16) -> Result<Option<Attributes>, Self::Fault>
-        ensures same { shows self.new ≡ shows self.old }
-        ensures found { IfOk result (λ a. a ≡ (shows self.old).node number) };
+    ghost shows: { Self → ViewedTrees };
 
-    /// The number that a name has in a directory.
-    fn link(&mut self, directory: u16, name: &[u8]) -> Result<Option<u16>, Self::Fault>
-        ensures same { shows self.new ≡ shows self.old }
-        ensures found { IfOk result (λ n. n ≡ (shows self.old).link directory name.now) };
+    // what a look-up needs and keeps
+    ghost holds: { Self → Type 0 };
 
-    /// The default ACL of a directory.
-    fn default_acl(&mut self, number: u16) -> Result<Option<Acl>, Self::Fault>
-        ensures same { shows self.new ≡ shows self.old }
-        ensures found { IfOk result (λ a. a ≡ (shows self.old).default_acl number) };
+    // what look-ups may do: whether a view may be a later one of an earlier
+    ghost follows: { Self → Self → Type 0 };
+
+    // whether what happened between an earlier view and a later one is the cause of a fault
+    ghost causes: { Self → Self → Self.Fault → Type 0 };
+
+    /// The attributes of the node of a tree with this number.
+    fn node(&mut self, home: &Home, number: u16) -> Result<Option<Attributes>, Self::Fault>
+        requires { holds self.old }
+        ensures kept { holds self.new }
+        ensures follows { follows self.old self.new }
+        ensures same { IsTrue is_told → shows self.new ≡ shows self.old }
+        ensures found { IsTrue is_told → IfOk result (λ a. a ≡ ((shows self.old).tree home.now).node number) }
+        ensures cause { IfErr result (λ f. causes self.old self.new f) };
+
+    /// The number that a name has in a directory of a tree.
+    fn link(&mut self, home: &Home, directory: u16, name: &[u8]) -> Result<Option<u16>, Self::Fault>
+        requires { holds self.old }
+        ensures kept { holds self.new }
+        ensures follows { follows self.old self.new }
+        ensures same { IsTrue is_told → shows self.new ≡ shows self.old }
+        ensures found { IsTrue is_told → IfOk result (λ n. n ≡ ((shows self.old).tree home.now).link directory name.now) }
+        ensures cause { IfErr result (λ f. causes self.old self.new f) };
+
+    /// The default ACL of a directory of a tree.
+    fn default_acl(&mut self, home: &Home, number: u16) -> Result<Option<Acl>, Self::Fault>
+        requires { holds self.old }
+        ensures kept { holds self.new }
+        ensures follows { follows self.old self.new }
+        ensures same { IsTrue is_told → shows self.new ≡ shows self.old }
+        ensures found { IsTrue is_told → IfOk result (λ a. a ≡ ((shows self.old).tree home.now).default_acl number) }
+        ensures cause { IfErr result (λ f. causes self.old self.new f) };
+
+    /// Whether there is a snapshot with this name.
+    fn has_snapshot(&mut self, name: &SnapshotName) -> Result<bool, Self::Fault>
+        requires { holds self.old }
+        ensures kept { holds self.new }
+        ensures follows { follows self.old self.new }
+        ensures same { IsTrue is_told → shows self.new ≡ shows self.old }
+        ensures found { IsTrue is_told → IfOk result (λ b. b ≡ (shows self.old).has_snapshot name.now) }
+        ensures cause { IfErr result (λ f. causes self.old self.new f) };
+
+    ghost follows_itself: { (v : Self) → follows v v };
+
+    ghost follows_on: { (u v w : Self) → follows u v → follows v w → follows u w };
+
+    ghost causes_later: { (u v w : Self) (f : Self.Fault) → follows u v → causes v w f → causes u w f };
 }

@@ -1,9 +1,12 @@
-ghost use Rattle.std.specs.Prelude.{◌≡◌, IfOk, IfSome, Ok, Err};
-ghost use Rattle.sn_walk.specs.Views.{attributes_at, child_of, hidden_attributes, is_hidden_name};
-ghost use Rattle.sn_walk.specs.Walks.{EndsAt, Gives, admitted, passed, walk_of};
+ghost use Rattle.std.specs.Prelude.{◌≡◌, ◌≤◌, IsTrue, IfOk, IfErr, IfSome, Ok, Err};
+ghost use Rattle.sn_walk.specs.declared.object.Object.TheVariants.{Node, Snapshots};
+ghost use Rattle.sn_walk.specs.Gives.{Gives, IfFault};
+ghost use Rattle.sn_walk.specs.Views.{attributes_at, child_of, hidden_attributes, hides};
+ghost use Rattle.sn_walk.specs.Walks.{EndsAt, admitted, end_of, found_at, passed, walk_of};
 
-use crate::{Attributes, Kind, Object, Path, ROOT, ROOT_NUMBER, TreeView};
+use crate::{Attributes, Failure, Home, Kind, Object, Path, ROOT_NUMBER, TreeView};
 use sn_acl::{Acl, Cred, Mode, Permissions, Tag, check};
+use sn_limits::SnapshotName;
 
 /// The name of the directory of snapshots in the live root.
 const HIDDEN_NAME: &[u8] = b".snapshot";
@@ -26,16 +29,8 @@ pub struct WalkRefusal {
     pub obstacle: Obstacle,
 }
 
-/// Why a walk has no answer.
-#[derive(Drop)]
-pub enum WalkError<F> {
-    Refused(WalkRefusal),
-    /// A look-up of the view found a fault.
-    Fault(F),
-}
-
 /// Where a path leads.
-#[derive(Clone, Copy, PartialEq, Eq)]
+#[derive(PartialEq, Eq, Drop)]
 pub enum Walked {
     /// The path is `/`.
     Root,
@@ -46,6 +41,14 @@ pub enum Walked {
         place: u16,
         object: Option<Object>,
     },
+}
+
+/// What a path leads to, its place in the path, and what is known of it.
+#[derive(Drop)]
+pub struct Found {
+    pub object: Object,
+    pub place: u16,
+    pub attributes: Attributes,
 }
 
 /// The attributes of the directory of snapshots.
@@ -72,40 +75,93 @@ fn hidden_attributes() -> Attributes
 /// The attributes of an object.
 pub fn attributes_of<T: TreeView>(
     view: &mut T,
-    object: Object,
+    object: &Object,
 ) -> Result<Option<Attributes>, T::Fault>
-    ensures same { T.shows view.new ≡ T.shows view.old }
-    ensures found { IfOk result (λ a. a ≡ attributes_at (T.shows view.old) object) }
+    requires { T.holds view.old }
+    ensures kept { T.holds view.new }
+    ensures follows { T.follows view.old view.new }
+    ensures same { IsTrue T.is_told → T.shows view.new ≡ T.shows view.old }
+    ensures found { IsTrue T.is_told → IfOk result (λ a. a ≡ attributes_at (T.shows view.old) object.now) }
+    ensures cause { IfErr result (λ f. T.causes view.old view.new f) }
 {
     match object {
-        Object::Node(number) => view.node(number),
-        Object::Hidden => Ok(Some(hidden_attributes())),
+        Object::Node { home, number } => view.node(home, *number),
+        Object::Snapshots => Ok(Some(hidden_attributes())),
     }
 }
 
-fn is_hidden_name(directory: u16, name: &[u8]) -> bool
-    ensures { result ≡ is_hidden_name directory name.now }
+fn hides(home: &Home, directory: u16, name: &[u8]) -> bool
+    ensures { result ≡ hides home.now directory name.now }
 {
-    directory == ROOT_NUMBER && name == HIDDEN_NAME
+    match home {
+        Home::Live => directory == ROOT_NUMBER && name == HIDDEN_NAME,
+        Home::Frozen(_) => false,
+    }
+}
+
+/// What a name stands for in a directory of a tree.
+fn child_in<T: TreeView>(
+    view: &mut T,
+    home: &Home,
+    directory: u16,
+    name: &[u8],
+) -> Result<Option<Object>, T::Fault>
+    requires { T.holds view.old }
+    ensures kept { T.holds view.new }
+    ensures follows { T.follows view.old view.new }
+    ensures same { IsTrue T.is_told → T.shows view.new ≡ T.shows view.old }
+    ensures found { IsTrue T.is_told → IfOk result (λ o. o ≡ child_of (T.shows view.old) (Node home.now directory) name.now) }
+    ensures cause { IfErr result (λ f. T.causes view.old view.new f) }
+{
+    if hides(home, directory, name) {
+        return Ok(Some(Object::Snapshots));
+    }
+    match view.link(home, directory, name)? {
+        Some(number) => Ok(Some(Object::Node {
+            home: home.copy(),
+            number,
+        })),
+        None => Ok(None),
+    }
+}
+
+/// What a name stands for in the directory of snapshots: the root of a frozen tree.
+fn snapshot_root<T: TreeView>(view: &mut T, name: &[u8]) -> Result<Option<Object>, T::Fault>
+    requires { T.holds view.old }
+    ensures kept { T.holds view.new }
+    ensures follows { T.follows view.old view.new }
+    ensures same { IsTrue T.is_told → T.shows view.new ≡ T.shows view.old }
+    ensures found { IsTrue T.is_told → IfOk result (λ o. o ≡ child_of (T.shows view.old) Snapshots name.now) }
+    ensures cause { IfErr result (λ f. T.causes view.old view.new f) }
+{
+    let Some(snapshot) = SnapshotName::parse(name) else {
+        return Ok(None);
+    };
+    if !view.has_snapshot(&snapshot)? {
+        return Ok(None);
+    }
+    Ok(Some(Object::Node {
+        home: Home::Frozen(snapshot),
+        number: ROOT_NUMBER,
+    }))
 }
 
 /// What a name stands for in a directory.
 pub fn child_of<T: TreeView>(
     view: &mut T,
-    directory: Object,
+    directory: &Object,
     name: &[u8],
 ) -> Result<Option<Object>, T::Fault>
-    ensures same { T.shows view.new ≡ T.shows view.old }
-    ensures found { IfOk result (λ o. o ≡ child_of (T.shows view.old) directory name.now) }
+    requires { T.holds view.old }
+    ensures kept { T.holds view.new }
+    ensures follows { T.follows view.old view.new }
+    ensures same { IsTrue T.is_told → T.shows view.new ≡ T.shows view.old }
+    ensures found { IsTrue T.is_told → IfOk result (λ o. o ≡ child_of (T.shows view.old) directory.now name.now) }
+    ensures cause { IfErr result (λ f. T.causes view.old view.new f) }
 {
     match directory {
-        Object::Hidden => Ok(None),
-        Object::Node(number) => {
-            if is_hidden_name(number, name) {
-                return Ok(Some(Object::Hidden));
-            }
-            Ok(view.link(number, name)?.map(Object::Node))
-        }
+        Object::Node { home, number } => child_in(view, home, *number, name),
+        Object::Snapshots => snapshot_root(view, name),
     }
 }
 
@@ -130,27 +186,30 @@ fn pass<T: TreeView>(
     view: &mut T,
     cred: &Cred,
     place: u16,
-    directory: Object,
+    directory: &Object,
     name: &[u8],
-) -> Result<Option<Object>, WalkError<T::Fault>>
-    ensures same { T.shows view.new ≡ T.shows view.old }
-    ensures exact { Gives result (passed (T.shows view.old) cred.now place directory name.now) }
+) -> Result<Option<Object>, Failure<WalkRefusal, T::Fault>>
+    requires { T.holds view.old }
+    ensures kept { T.holds view.new }
+    ensures follows { T.follows view.old view.new }
+    ensures same { IsTrue T.is_told → T.shows view.new ≡ T.shows view.old }
+    ensures exact { IsTrue T.is_told → Gives (λ o. o) result (passed (T.shows view.old) cred.now place directory.now name.now) }
+    ensures cause { IfFault result (λ f. T.causes view.old view.new f) }
 {
     let attributes = match attributes_of(view, directory) {
         Ok(attributes) => attributes,
-        Err(fault) => return Err(WalkError::Fault(fault)),
+        Err(fault) => return Err(Failure::Fault(fault)),
     };
-    if let Err(refusal) = admit(cred, place, attributes) {
-        return Err(WalkError::Refused(refusal));
-    }
+    admit(cred, place, attributes)?;
     match child_of(view, directory, name) {
         Ok(child) => Ok(child),
-        Err(fault) => Err(WalkError::Fault(fault)),
+        Err(fault) => Err(Failure::Fault(fault)),
     }
 }
 
-/// Follows a path's names from the root. At each place before the last there has to be a directory
-/// that grants search and has the next name; the last name may be absent.
+/// Follows a path's names from the live root. At each place before the last there has to be a
+/// directory that grants search and has the next name; the last name may be absent. In the frozen
+/// tree of a snapshot that tree's own owners and ACLs decide.
 ///
 /// The first test that fails, in the order of the places, is the refusal: a caller that may not
 /// search a directory isn't told which names it has (POSIX.1-2017, Pathname Resolution).
@@ -158,20 +217,25 @@ pub fn walk<T: TreeView>(
     view: &mut T,
     cred: &Cred,
     path: &Path<'_>,
-) -> Result<Walked, WalkError<T::Fault>>
-    ensures same { T.shows view.new ≡ T.shows view.old }
-    ensures exact { Gives result (walk_of (T.shows view.old) cred.now path.now) }
-    ensures ends { IfOk result (λ w. EndsAt (T.shows view.old) path.now w) }
+) -> Result<Walked, Failure<WalkRefusal, T::Fault>>
+    requires { T.holds view.old }
+    ensures kept { T.holds view.new }
+    ensures follows { T.follows view.old view.new }
+    ensures same { IsTrue T.is_told → T.shows view.new ≡ T.shows view.old }
+    ensures exact { IsTrue T.is_told → Gives (λ w. w) result (walk_of (T.shows view.old) cred.now path.now) }
+    ensures ends { IsTrue T.is_told → IfOk result (λ w. EndsAt (T.shows view.old) path.now w) }
+    ensures few { IfOk result (λ w. end_of w ≤ 1023) }
+    ensures cause { IfFault result (λ f. T.causes view.old view.new f) }
 {
     let Some((first, mut rest)) = path.split_first() else {
         return Ok(Walked::Root);
     };
     let mut name = first;
-    let mut directory = ROOT;
+    let mut directory = Object::root();
     let mut place = 0;
     while let Some((next, more)) = rest.split_first() {
-        let Some(child) = pass(view, cred, place, directory, name)? else {
-            return Err(WalkError::Refused(WalkRefusal {
+        let Some(child) = pass(view, cred, place, &directory, name)? else {
+            return Err(Failure::Refused(WalkRefusal {
                 place,
                 obstacle: Obstacle::Missing,
             }));
@@ -181,10 +245,39 @@ pub fn walk<T: TreeView>(
         name = next;
         rest = more;
     }
-    let object = pass(view, cred, place, directory, name)?;
+    let object = pass(view, cred, place, &directory, name)?;
     Ok(Walked::Name {
         directory,
         place,
         object,
     })
+}
+
+/// What a walk's last name stands for, if it is there.
+pub fn reached<T: TreeView>(view: &mut T, walked: Walked) -> Result<Option<Found>, T::Fault>
+    requires holds { T.holds view.old }
+    requires few { end_of walked ≤ 1023 }
+    ensures kept { T.holds view.new }
+    ensures follows { T.follows view.old view.new }
+    ensures same { IsTrue T.is_told → T.shows view.new ≡ T.shows view.old }
+    ensures found { IsTrue T.is_told → IfOk result (λ x. x ≡ found_at (T.shows view.old) walked) }
+    ensures cause { IfErr result (λ f. T.causes view.old view.new f) }
+{
+    let (object, place) = match walked {
+        Walked::Root => (Object::root(), 0),
+        Walked::Name {
+            object: Some(object),
+            place,
+            ..
+        } => (object, place + 1),
+        Walked::Name { .. } => return Ok(None),
+    };
+    match attributes_of(view, &object)? {
+        Some(attributes) => Ok(Some(Found {
+            object,
+            place,
+            attributes,
+        })),
+        None => Ok(None),
+    }
 }

@@ -1,44 +1,53 @@
 use Rattle.std.proofs.Common.{◌∙◌, sym, ap, subst, arith, length, Option, Result, Ok}
 use Rattle.std.proofs.lemmas.Result.{err_from_is_err_and}
-use Rattle.sn_walk.specs.Walks.{Fails, walk_from}
-use Rattle.sn_walk.specs.declared.view.Object.{Object}
+use Rattle.sn_walk.specs.Gives.{Fails}
+use Rattle.sn_walk.specs.Walks.{walk_from}
+use Rattle.sn_walk.specs.declared.object.Object.{Object}
 use Rattle.sn_walk.specs.declared.walking.WalkRefusal.{WalkRefusal}
 use Rattle.sn_walk.specs.declared.walking.Walked.{Walked}
 use Rattle.sn_walk.proofs.WalkLemmas.{ends_at, walk-fails, walk-missing, walk-on, walk-last}
 use Rattle.sn_walk.proofs.walking.walk.Goals as goal
 
 pub returns-in_err-child-clause-exact : goal.returns-in_err-child-clause-exact
-returns-in_err-child-clause-exact g c =
+returns-in_err-child-clause-exact g c told =
     let p = err_from_is_err_and c.from_residual.result c.from_residual.ensures.1 in
-    let here = rw c.loop-next.invariant.same at c.in_err-child.ensures.exact in
-    rw (p.1, p.2) (subst (λ (w : Result Walked WalkRefusal). Fails c.in_err-child.field-0.0 w) c.loop-next.invariant.rest (walk-fails _ _ _ _ _ c.loop-next.rest c.in_err-child.field-0.0 here))
+    let same = c.loop-next.invariant.same told in
+    let here = rw same at c.in_err-child.ensures.exact told in
+    rw (p.1, p.2) (subst (λ (w : Result Walked WalkRefusal). Fails c.in_err-child.field-0.0 w) (c.loop-next.invariant.rest told) (walk-fails _ _ _ _ _ c.loop-next.rest c.in_err-child.field-0.0 here))
 
 pub returns-in_default-2-clause-exact : goal.returns-in_default-2-clause-exact
-returns-in_default-2-clause-exact g c =
-    let here = rw c.loop-next.invariant.same at c.in_ok-child.ensures.exact in
-    sym c.loop-next.invariant.rest ∙ ap (walk_from _ _ _ _ _) c.in-Some-split_first.ensures.names ∙ walk-missing _ _ _ _ _ _ _ (here ∙ ap (λ (o : Option Object). Ok o) c.in_default-2.is)
+returns-in_default-2-clause-exact g c told =
+    let same = c.loop-next.invariant.same told in
+    let here = rw same at c.in_ok-child.ensures.exact told in
+    sym (c.loop-next.invariant.rest told) ∙ ap (walk_from _ _ _ _ _) c.in-Some-split_first.ensures.names ∙ walk-missing _ _ _ _ _ _ _ (here ∙ ap (λ (o : Option Object). Ok o) c.in_default-2.is)
 
 pub loop-next-preserved : goal.loop-next-preserved
-loop-next-preserved g c =
-    let here = rw c.loop-next.invariant.same at c.in_ok-child.ensures.exact in
-    record {
-      same = c.pass.ensures.same ∙ c.loop-next.invariant.same;
-      rest = sym (walk-on _ _ _ _ _ _ _ _ (here ∙ ap (λ (o : Option Object). Ok o) c.in-Some-2.is)) ∙ ap (walk_from _ _ _ _ _) (sym c.in-Some-split_first.ensures.names) ∙ c.loop-next.invariant.rest;
-      short = omega (arith, c.loop-next.invariant.short, ap length c.in-Some-split_first.ensures.names);
-    }
+loop-next-preserved g c = record {
+  kept = c.pass.ensures.kept;
+  follows = g.met.T.TreeView.follows_on _ _ _ c.loop-next.invariant.follows c.pass.ensures.follows;
+  same = λ told. c.pass.ensures.same told ∙ c.loop-next.invariant.same told;
+  rest = λ told.
+      let same = c.loop-next.invariant.same told in
+      let here = rw same at c.in_ok-child.ensures.exact told in
+      sym (walk-on _ _ _ _ _ _ _ _ (here ∙ ap (λ (o : Option Object). Ok o) c.in-Some-2.is)) ∙ ap (walk_from _ _ _ _ _) (sym c.in-Some-split_first.ensures.names) ∙ c.loop-next.invariant.rest told;
+  short = omega (arith, c.loop-next.invariant.short, ap length c.in-Some-split_first.ensures.names);
+}
 
 pub returns-in_err-object-clause-exact : goal.returns-in_err-object-clause-exact
-returns-in_err-object-clause-exact g c =
+returns-in_err-object-clause-exact g c told =
     let p = err_from_is_err_and c.from_residual-in_err-object.result c.from_residual-in_err-object.ensures.1 in
-    let here = rw c.loop-next.invariant.same at c.in_err-object.ensures.exact in
-    rw (p.1, p.2) (subst (λ (w : Result Walked WalkRefusal). Fails c.in_err-object.field-0.0 w) c.loop-next.invariant.rest (walk-fails _ _ _ _ _ c.loop-next.rest c.in_err-object.field-0.0 here))
+    let same = c.loop-next.invariant.same told in
+    let here = rw same at c.in_err-object.ensures.exact told in
+    rw (p.1, p.2) (subst (λ (w : Result Walked WalkRefusal). Fails c.in_err-object.field-0.0 w) (c.loop-next.invariant.rest told) (walk-fails _ _ _ _ _ c.loop-next.rest c.in_err-object.field-0.0 here))
 
 pub returns-clause-exact : goal.returns-clause-exact
-returns-clause-exact g c =
-    let here = rw c.loop-next.invariant.same at c.in_ok-object.ensures.exact in
-    sym c.loop-next.invariant.rest ∙ ap (walk_from _ _ _ _ _) c.in_default-split_first.ensures.names ∙ walk-last _ _ _ _ _ _ here
+returns-clause-exact g c told =
+    let same = c.loop-next.invariant.same told in
+    let here = rw same at c.in_ok-object.ensures.exact told in
+    sym (c.loop-next.invariant.rest told) ∙ ap (walk_from _ _ _ _ _) c.in_default-split_first.ensures.names ∙ walk-last _ _ _ _ _ _ here
 
 pub returns-clause-ends : goal.returns-clause-ends
-returns-clause-ends g c =
-    let here = rw c.loop-next.invariant.same at c.in_ok-object.ensures.exact in
-    ends_at _ c.args.cred.now _ _ (sym c.loop-next.invariant.rest ∙ ap (walk_from _ _ _ _ _) c.in_default-split_first.ensures.names ∙ walk-last _ _ _ _ _ _ here)
+returns-clause-ends g c told =
+    let same = c.loop-next.invariant.same told in
+    let here = rw same at c.in_ok-object.ensures.exact told in
+    ends_at _ c.args.cred.now _ _ (sym (c.loop-next.invariant.rest told) ∙ ap (walk_from _ _ _ _ _) c.in_default-split_first.ensures.names ∙ walk-last _ _ _ _ _ _ here)

@@ -1,4 +1,4 @@
-use Rattle.std.proofs.Common.{◌≡◌, ◌+◌, ◌≤◌, length}
+use Rattle.std.proofs.Common.{◌≡◌, ◌+◌, ◌≤◌, IsTrue, length}
 use Rattle.sn_walk.specs.declared.path.TheConstants.{PATH_MAX}
 use Rattle.sn_walk.specs.Walks.{walk_of, walk_from}
 use Rattle.sn_walk.proofs.walking.walk.Given as goal
@@ -6,8 +6,10 @@ use Rattle.sn_walk.proofs.walking.walk.Given as goal
 -- the rest of the walk is the walk
 abbrev pub invariant-loop-next : goal.invariant-loop-next
 invariant-loop-next g l = record {
-  same : g.T.TreeView.shows l.view ≡ g.T.TreeView.shows l.fn.view;
-  rest : walk_from (g.T.TreeView.shows l.fn.view) l.cred l.place l.directory l.name l.rest ≡ walk_of (g.T.TreeView.shows l.fn.view) l.cred l.path;
+  kept : g.T.TreeView.holds l.view;
+  follows : g.T.TreeView.follows l.fn.view l.view;
+  same : IsTrue g.T.TreeView.is_told → g.T.TreeView.shows l.view ≡ g.T.TreeView.shows l.fn.view;
+  rest : IsTrue g.T.TreeView.is_told → walk_from (g.T.TreeView.shows l.fn.view) l.cred l.place l.directory l.name l.rest ≡ walk_of (g.T.TreeView.shows l.fn.view) l.cred l.path;
   short : l.place + length l.rest ≤ PATH_MAX;
 }
 

@@ -1,0 +1,199 @@
+ghost use Rattle.std.specs.Prelude.{◌≡◌, ◌≤◌, IsTrue, IfOk};
+ghost use Rattle.sn_model.specs.Tests as tests;
+ghost use Rattle.sn_walk.specs.Gives.{Answers, Gives, IfFault};
+ghost use Rattle.sn_walk.specs.Walks.{end_of};
+
+use sn_acl::{Cred, Mode, Permissions, Tag, check};
+use sn_model::{Access, Denial, Errno, Refusal, Rule, Word};
+use sn_walk::{
+    Attributes, Failure, Found, Object, Obstacle, Path, PathFault, TreeView, WalkRefusal, Walked,
+    attributes_of, reached, walk,
+};
+
+/// An argument that is a path: EINVAL where it is misspelt, ENAMETOOLONG where it or a name is too
+/// long.
+pub fn path_argument(word: &Word) -> Result<Path<'_>, Refusal>
+    ensures { Answers (λ p. p) result (tests.path_argument word.now) }
+{
+    match Path::parse(word.as_bytes()) {
+        Ok(path) => Ok(path),
+        Err(PathFault::Misspelt) => Err(Refusal::plain(Errno::Einval)),
+        Err(PathFault::TooLong) => Err(Refusal::plain(Errno::Enametoolong)),
+    }
+}
+
+/// An argument that is the mode of a new object: EINVAL where it has other bits than the nine.
+pub fn new_mode_argument(bits: u16) -> Result<Mode, Refusal>
+    ensures { result ≡ tests.new_mode_argument bits }
+{
+    match Mode::from_bits(bits) {
+        Some(mode) => Ok(mode),
+        None => Err(Refusal::plain(Errno::Einval)),
+    }
+}
+
+/// The entry of the ACL with this tag denies the access that is wanted at a place.
+fn denied(path: u8, place: u16, want: Access, tag: Tag) -> Refusal
+    ensures { result ≡ tests.denied path place want tag }
+{
+    Refusal {
+        errno: Errno::Eacces,
+        denial: Some(Denial {
+            path,
+            place,
+            want,
+            rule: Rule::Entry(tag),
+        }),
+    }
+}
+
+/// A rule that is no entry of an ACL denies at a place.
+fn forbidden(path: u8, place: u16, rule: Rule) -> Refusal
+    ensures { result ≡ tests.forbidden path place rule }
+{
+    Refusal {
+        errno: Errno::Eperm,
+        denial: Some(Denial {
+            path,
+            place,
+            want: Access {
+                read: false,
+                write: false,
+                execute: false,
+            },
+            rule,
+        }),
+    }
+}
+
+/// A walk's refusal, as one of a call's first or second path.
+fn obstacle_refusal(path: u8, refusal: WalkRefusal) -> Refusal
+    ensures { result ≡ tests.obstacle_refusal path refusal.place refusal.obstacle }
+{
+    let WalkRefusal { place, obstacle } = refusal;
+    match obstacle {
+        Obstacle::NotADirectory => Refusal::plain(Errno::Enotdir),
+        Obstacle::Denied(tag) => denied(path, place, Access::SEARCH, tag),
+        Obstacle::Missing => Refusal::plain(Errno::Enoent),
+    }
+}
+
+/// Each place before the last is a directory that grants search and has the next name: ENOTDIR,
+/// EACCES or ENOENT at the first that isn't so.
+pub fn prefix<V: TreeView>(
+    view: &mut V,
+    cred: &Cred,
+    which: u8,
+    path: &Path<'_>,
+) -> Result<Walked, Failure<Refusal, V::Fault>>
+    requires { V.holds view.old }
+    ensures kept { V.holds view.new }
+    ensures follows { V.follows view.old view.new }
+    ensures same { IsTrue V.is_told → V.shows view.new ≡ V.shows view.old }
+    ensures exact { IsTrue V.is_told → Gives (λ w. w) result (tests.prefix (V.shows view.old) cred.now which path.now) }
+    ensures few { IfOk result (λ w. end_of w ≤ 1023) }
+    ensures cause { IfFault result (λ f. V.causes view.old view.new f) }
+{
+    match walk(view, cred, path) {
+        Ok(walked) => Ok(walked),
+        Err(Failure::Refused(refusal)) => {
+            Err(Failure::Refused(obstacle_refusal(which, refusal)))
+        }
+        Err(Failure::Fault(fault)) => Err(Failure::Fault(fault)),
+    }
+}
+
+/// What a path leads to, which has to be there: ENOENT where the last name is absent.
+pub fn full<V: TreeView>(
+    view: &mut V,
+    cred: &Cred,
+    which: u8,
+    path: &Path<'_>,
+) -> Result<Found, Failure<Refusal, V::Fault>>
+    requires { V.holds view.old }
+    ensures kept { V.holds view.new }
+    ensures follows { V.follows view.old view.new }
+    ensures same { IsTrue V.is_told → V.shows view.new ≡ V.shows view.old }
+    ensures exact { IsTrue V.is_told → Gives (λ f. f) result (tests.full (V.shows view.old) cred.now which path.now) }
+    ensures cause { IfFault result (λ f. V.causes view.old view.new f) }
+{
+    let walked = prefix(view, cred, which, path)?;
+    match reached(view, walked) {
+        Ok(Some(found)) => Ok(found),
+        Ok(None) => Err(Failure::Refused(Refusal::plain(Errno::Enoent))),
+        Err(fault) => Err(Failure::Fault(fault)),
+    }
+}
+
+/// The directory and the place of a name that isn't there yet: EEXIST where it is.
+pub fn not_present(walked: Walked) -> Result<(Object, u16), Refusal>
+    ensures { result ≡ tests.not_present walked }
+{
+    match walked {
+        Walked::Name {
+            directory,
+            place,
+            object: None,
+        } => Ok((directory, place)),
+        _ => Err(Refusal::plain(Errno::Eexist)),
+    }
+}
+
+/// The number of what is in the live tree: EROFS where it is in another.
+pub fn live(object: &Object) -> Result<u16, Refusal>
+    ensures { result ≡ tests.live object.now }
+{
+    if !object.is_in_tree_of(&Object::root()) {
+        return Err(Refusal::plain(Errno::Erofs));
+    }
+    Ok(object.number())
+}
+
+/// Two names, by their directories, are in one tree: EXDEV where they aren't.
+pub fn one_tree(directory: &Object, other: &Object) -> Result<(), Refusal>
+    ensures { result ≡ tests.one_tree directory.now other.now }
+{
+    if !directory.is_in_tree_of(other) {
+        return Err(Refusal::plain(Errno::Exdev));
+    }
+    Ok(())
+}
+
+/// Write is asked of the directory of a path's last name: EACCES, at the directory's place.
+pub fn writable_parent<V: TreeView>(
+    view: &mut V,
+    cred: &Cred,
+    which: u8,
+    place: u16,
+    directory: &Object,
+) -> Result<Attributes, Failure<Refusal, V::Fault>>
+    requires { V.holds view.old }
+    ensures kept { V.holds view.new }
+    ensures follows { V.follows view.old view.new }
+    ensures same { IsTrue V.is_told → V.shows view.new ≡ V.shows view.old }
+    ensures exact { IsTrue V.is_told → Gives (λ a. a) result (tests.writable_parent (V.shows view.old) cred.now which place directory.now) }
+    ensures cause { IfFault result (λ f. V.causes view.old view.new f) }
+{
+    let a = match attributes_of(view, directory) {
+        Ok(Some(a)) => a,
+        Ok(None) => return Err(Failure::Refused(Refusal::plain(Errno::Enoent))),
+        Err(fault) => return Err(Failure::Fault(fault)),
+    };
+    match check(cred, a.owner, a.group, &a.acl, Permissions::WRITE) {
+        Ok(()) => Ok(a),
+        Err(entry) => Err(Failure::Refused(denied(which, place, Access::WRITE, entry.tag))),
+    }
+}
+
+/// From a directory with S_ISVTX a caller removes what it owns, or anything where it owns the
+/// directory: EPERM by `sticky` otherwise, at the object's place. The user 0 is held by no rule.
+pub fn sticky(cred: &Cred, which: u8, parent: &Attributes, found: &Found) -> Result<(), Refusal>
+    ensures { result ≡ tests.sticky cred.now which parent.now found.now }
+{
+    let uid = cred.uid();
+    let owns = uid == 0 || uid == found.attributes.owner || uid == parent.owner;
+    if parent.sticky && !owns {
+        return Err(forbidden(which, found.place, Rule::Sticky));
+    }
+    Ok(())
+}

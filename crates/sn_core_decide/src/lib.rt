@@ -1,0 +1,24 @@
+//! What a call comes to, or the first test that refuses it, over any view of the trees: without a
+//! device, without a change, and without memory of its own.
+//!
+//! A decision makes a call's tests in their order, as `sn_model` lists them ([`mkdir`], [`stat`]),
+//! and answers the model's [`Outcome`](sn_model::Outcome). Beside a refusal there may be a fault of
+//! the view: then nothing is known of the call. [`CallView`] is what a decision asks beside a walk.
+//! `checks` has the tests, each once for all calls.
+//!
+//! ```text
+//! let path = path_argument(&word)?;
+//! let outcome = mkdir(&limits, &mut view, &caller, &path, mode)?;
+//! ```
+#![tactic(auto)]
+
+mod checks;
+mod decisions;
+mod view;
+
+pub use checks::{
+    full, live, new_mode_argument, not_present, one_tree, path_argument, prefix, sticky,
+    writable_parent,
+};
+pub use decisions::{mkdir, stat};
+pub use view::CallView;
