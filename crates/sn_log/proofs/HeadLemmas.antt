@@ -45,6 +45,25 @@ first-head c at m h k sector rest more is begins body =
     ∙ ap (take 16) body
     ∙ take_at (head_bytes k) more 16 (length-head k)
 
+-- the bytes of a record begin with its head
+pub next-head : (c : Contents) (at : LogPosition) (payload : List ℕ) → HasNext c at payload
+    → (more : List ℕ) × (bytes_at c (base_at at + at.place + 1) (suc (body_sectors payload - 1)) ≡ head_bytes (head_of at payload) ++ more)
+next-head c at payload next =
+    let n : body_sectors payload ≡ suc (body_sectors payload - 1) = omega (arith, next.least) in
+    let blank = zeros (512 * body_sectors payload - (16 + length payload)) in (
+      payload ++ blank,
+      ap (λ k. bytes_at c (base_at at + at.place + 1) k) (sym n) ∙ next.bytes ∙ append_assoc (head_bytes (head_of at payload)) payload blank,
+    )
+
+-- and its first sector with its epoch
+pub epoch-there : (c : Contents) (at : LogPosition) (payload : List ℕ) → 8 ≤ length (sector_at c (base_at at + at.place + 1)) → HasNext c at payload → take 8 (sector_at c (base_at at + at.place + 1)) ≡ number_bytes 8 at.epoch
+unfolding bytes_at
+epoch-there c at payload long next =
+    let body = next-head c at payload next in
+    sym (take-append-le 8 (sector_at c (base_at at + at.place + 1)) (bytes_at c (base_at at + at.place + 1 + 1) (body_sectors payload - 1)) long)
+    ∙ ap (take 8) body.1
+    ∙ epoch-first (head_of at payload) body.0
+
 module _ (c : Contents) (at : LogPosition) (head : Head) (sector rest : List ℕ) (fits : IsHead head) (epoch_fits : at.epoch < 256 ^ 8)
     (is : sector ≡ sector_at c (base_at at + at.place + 1)) (begins : sector ≡ head_bytes head ++ rest) where
   -- another epoch
@@ -53,13 +72,8 @@ module _ (c : Contents) (at : LogPosition) (head : Head) (sector rest : List ℕ
 
   size_of : (payload : List ℕ) → HasNext c at payload → length payload ≡ head.size
   size_of payload next =
-      let n : body_sectors payload ≡ suc (body_sectors payload - 1) = omega (arith, next.least) in
-      let more = payload ++ zeros (512 * body_sectors payload - (16 + length payload)) in
-      let body : bytes_at c (base_at at + at.place + 1) (suc (body_sectors payload - 1)) ≡ head_bytes (head_of at payload) ++ more =
-      ap (λ k. bytes_at c (base_at at + at.place + 1) k) (sym n)
-      ∙ next.bytes
-      ∙ append_assoc (head_bytes (head_of at payload)) payload (zeros (512 * body_sectors payload - (16 + length payload))) in
-      sym (same-size head (head_of at payload) fits.size (omega (arith, next.most)) (first-head c (base_at at + at.place + 1) (body_sectors payload - 1) head (head_of at payload) sector rest more is begins body))
+      let body = next-head c at payload next in
+      sym (same-size head (head_of at payload) fits.size (omega (arith, next.most)) (first-head c (base_at at + at.place + 1) (body_sectors payload - 1) head (head_of at payload) sector rest body.0 is begins body.1))
 
   goes_on : head.epoch ≡ at.epoch → IsOpen c (base_at at + at.place) → at.place ≤ 253 → Stops c (base_at at) at.epoch at.place → ⊥
   goes_on same opened near (inl past) = omega (arith, past, near)

@@ -1,6 +1,7 @@
 pub mod AppendLemmas
 pub mod ClearLemmas
 pub mod HeadLemmas
+pub mod LawLemmas
 pub mod ReplayLemmas
 pub mod SectorLemmas
 pub mod WriteLemmas

@@ -1,5 +1,6 @@
 pub mod Appending
 pub mod Clearing
 pub mod Heads
+pub mod Laws
 pub mod Places
 pub mod Replaying

@@ -13,22 +13,27 @@
 //!   touched. A record of n sectors costs n + 2 writes and 2 syncs. It takes no memory.
 //! - [`Replay::next`]: a change where its record stands next in the epoch behind an open gate, the end
 //!   where replay stops, and else a misspelt record, for which no change stands there. What lies behind
-//!   a closed gate, of another epoch or out of turn never counts.
+//!   a closed gate, of another epoch or out of turn never counts. By the law [`replay_finds_the_next`],
+//!   where the records are those of some changes, it finds these in turn and then the end.
 //! - [`clear`] and [`close_half`]: zeros are written over the one sector that `cleared_sector` names,
 //!   which at no moment changes the records that end there or adds a later one. After `Ok` the place is
 //!   closed after each crash.
 //! - [`Log::turn`] and [`Log::turn_back`] go to another epoch and back in memory alone.
 //!
 //! The way through: `specs/Places.antt`, `Appending.antt`, `Replaying.antt` and `Clearing.antt` have
-//! the words of the clauses. `log` and `replay` have the two types, `appending` the writes of an append
+//! the words of the clauses, `Laws.antt` the law. `log` and `replay` have the two types, `appending` the writes of an append
 //! in their order, `body` what a record is spelled with, `sectors` what is read, and `clearing` the
 //! rule for a place that is to count no longer.
 //!
 //! ```text
 //! let mut buffer = Buffer::new(alloc)?;
 //! let mut replay = Replay::new(places, epoch);
-//! while let Found::Change(change) = replay.next(&mut blocks, &mut buffer)? {
-//!     tree.apply(&change)?;
+//! loop {
+//!     match replay.next(&mut blocks, &mut buffer)? {
+//!         Found::Change(change) => tree.apply(&change)?,
+//!         Found::End => break,
+//!         Found::Misspelt { block } => return Err(Damaged { block }),
+//!     }
 //! }
 //! clear(&mut blocks, places, LogHalf::of_epoch(epoch), replay.position().place())?;
 //! let mut log = Log::new(replay.position(), buffer);
@@ -42,6 +47,7 @@ mod appending;
 mod body;
 mod buffer;
 mod clearing;
+mod laws;
 mod log;
 mod position;
 mod replay;
@@ -49,6 +55,7 @@ mod sectors;
 
 pub use buffer::Buffer;
 pub use clearing::{clear, close_half};
+pub use laws::replay_finds_the_next;
 pub use log::Log;
 pub use position::Position;
 pub use replay::{Found, Replay};

@@ -48,6 +48,13 @@ impl Position {
         }
     }
 
+    /// How many blocks the disk has.
+    pub fn blocks(self) -> u32
+        ensures { result ≡ self.blocks }
+    {
+        self.places.blocks()
+    }
+
     /// The epoch whose records are read or appended.
     pub fn epoch(self) -> u64
         ensures { result ≡ self.epoch }
