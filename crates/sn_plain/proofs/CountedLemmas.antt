@@ -1,19 +1,19 @@
 -- What is kept beside the nodes, as names and nodes come and go.
-use Rattle.std.proofs.Common.{◌≡◌, ◌≢◌, ℕ, ◌+◌, ◌-◌, ◌<◌, ◌≤◌, Bool, true, false, cond, ◌==◌, Option, Some, None, is_some, refl, sym, ap, subst, ◌∙◌, ◌⊎◌, inl, inr, arith, lit≤, nat_lt, if◌then◌else◌}
+use Rattle.std.proofs.Common.{◌≡◌, ◌≢◌, ℕ, ◌+◌, ◌<◌, ◌≤◌, Bool, true, false, cond, ◌==◌, Option, Some, None, is_some, refl, sym, ap, subst, ◌∙◌, ◌⊎◌, inl, inr, arith, lit≤, nat_lt, if◌then◌else◌}
 use Rattle.std.specs.Option.{option_map}
 use Rattle.std.specs.Ordering.{nat_cmp, eq_by_cmp}
 use Rattle.std.specs.Cmp.{nat_cmp_total}
 use Rattle.std.specs.FinMap as map
-use Rattle.std.proofs.lemmas.Bool.{true≢false, eq-eqb, eqb-true, ltb-true, ltb-false, false_from_ne_true}
+use Rattle.std.proofs.lemmas.Bool.{eqb-true, ltb-true, ltb-false, false_from_ne_true}
 use Rattle.std.proofs.lemmas.Map.Lookups.{exact_unsigned}
 use Rattle.sn_walk.specs.declared.view.Kind.TheVariants as kind
 use Rattle.sn_model.specs.declared.link.Link.{Link}
 use Rattle.sn_model.specs.Tree.{Tree, link_cmp, names_in, names_for}
 use Rattle.sn_model.specs.Changes.{put_link, take_link}
 use Rattle.sn_model.proofs.LinkLemmas.{exact_links, links_total}
-use Rattle.sn_model.proofs.MapLemmas.{same_or_apart, get_inserted, get_other, get_removed, get_left, get_was}
+use Rattle.sn_model.proofs.MapLemmas.{same_or_apart, get_inserted, get_other, get_left, get_was}
 use Rattle.sn_model.proofs.CountLemmas.{count_inserted, count_removed, count_none}
-use Rattle.sn_model.proofs.NameLemmas.{no_names_for, is_unnamed}
+use Rattle.sn_model.proofs.NameLemmas.{is_unnamed}
 use Rattle.sn_plain.specs.Maps.{updated}
 use Rattle.sn_plain.specs.declared.nodes.Counts.{Counts}
 use Rattle.sn_plain.specs.declared.nodes.StoredNode.{StoredNode}

@@ -1,8 +1,7 @@
 -- A change that can be applied, over what is stored.
-use Rattle.std.proofs.Common.{◌≡◌, ◌≢◌, ◌⊎◌, inl, inr, ℕ, ◌+◌, ◌<◌, ◌≤◌, ◌^◌, Bool, true, false, ◌&&◌, ◌||◌, ◌==◌, not, nat_lt, nat_le, Option, Some, None, is_some, refl, sym, ap, ◌∙◌, arith}
+use Rattle.std.proofs.Common.{◌≡◌, ◌≢◌, inl, inr, ℕ, ◌≤◌, true, false, ◌&&◌, ◌||◌, ◌==◌, not, nat_lt, nat_le, Option, Some, None, is_some, refl, sym, ap, ◌∙◌, arith}
 use Rattle.std.specs.Prelude.{is_none}
 use Rattle.std.specs.Option.{option_map}
-use Rattle.std.specs.Ordering.{nat_cmp}
 use Rattle.std.specs.Cmp.{nat_cmp_total}
 use Rattle.std.specs.FinMap as map
 use Rattle.std.proofs.lemmas.Bool.{true≢false, eqb-true}
@@ -21,11 +20,10 @@ use Rattle.sn_model.proofs.MapLemmas.{get_inserted, get_other, get_was}
 use Rattle.sn_model.proofs.LinkLemmas.{links_total, exact_links}
 use Rattle.sn_model.proofs.NameLemmas.{no_names_for, names_in_fewer}
 use Rattle.sn_model.specs.NameTree.{HasKind, IsHierarchy, IsTree}
-use Rattle.sn_model.proofs.PartLemmas.{file_is, is_file_at, directory_is, Placed, Made, Linked, Removed, DirectoryGone, Unlinked, removed_is, unlinked_is}
+use Rattle.sn_model.proofs.PartLemmas.{file_is, is_file_at, directory_is, Made, Linked, Removed, DirectoryGone, Unlinked, removed_is, unlinked_is}
 use Rattle.sn_model.proofs.MoveLemmas.{is_kind}
 use Rattle.sn_model.proofs.SettlingLemmas.{nameless_is}
 use Rattle.sn_model.specs.Settling.{is_nameless}
-use Rattle.sn_plain.specs.declared.nodes.Counts.{Counts}
 use Rattle.sn_plain.specs.declared.nodes.StoredNode.{StoredNode}
 use Rattle.sn_plain.specs.Stored.{node_of, counts_of, IsCounted, IsFresh, Recounts, recount, more_at}
 use Rattle.sn_plain.proofs.CountedLemmas.{Stored, nothing, after_use, counted_link, counted_node, counted_use}

@@ -1,4 +1,4 @@
-use Rattle.std.proofs.Common.{◌≡◌, ◌+◌, ◌<◌, ◌^◌, ◌∙◌, ap, sym, arith, rules, Some}
+use Rattle.std.proofs.Common.{◌∙◌, ap, sym, arith, rules, Some}
 use Rattle.sn_model.specs.Tree.{Tree}
 use Rattle.sn_model.specs.Changes.{put_link}
 use Rattle.sn_model.proofs.PartLemmas.{linked_is}

@@ -1,5 +1,3 @@
-use Rattle.std.proofs.Common.{◌≡◌, ◌∙◌, ap, sym, Some, true}
-use Rattle.sn_model.specs.Settling.{is_nameless}
 use Rattle.sn_plain.specs.Plain.{tree_of}
 use Rattle.sn_plain.specs.Stored.{stored_of}
 use Rattle.sn_plain.proofs.MakingLemmas.{nameless_names, nameless_links}

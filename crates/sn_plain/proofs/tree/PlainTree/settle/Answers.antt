@@ -1,4 +1,4 @@
-use Rattle.std.proofs.Common.{◌≡◌, refl}
+use Rattle.std.proofs.Common.{refl}
 use Rattle.sn_plain.specs.Plain.{tree_of}
 use Rattle.sn_plain.specs.Stored.{nodes_of, stored_of, tree_with}
 use Rattle.sn_plain.proofs.CountedLemmas.{counted_tree}

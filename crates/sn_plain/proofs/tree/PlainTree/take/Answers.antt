@@ -1,4 +1,4 @@
-use Rattle.std.proofs.Common.{◌≡◌, ◌∙◌, ap, sym, Some}
+use Rattle.std.proofs.Common.{◌∙◌, ap, sym, Some}
 use Rattle.sn_model.specs.Tree.{Tree}
 use Rattle.sn_plain.specs.Plain.{tree_of}
 use Rattle.sn_plain.proofs.MakingLemmas.{file_removed, directory_removed, no_names_left, no_links_left, number_low}

@@ -1,4 +1,4 @@
-use Rattle.std.proofs.Common.{◌≡◌, ◌∙◌, ap}
+use Rattle.std.proofs.Common.{◌∙◌, ap}
 use Rattle.sn_model.specs.Tree.{Tree, names_in, names_for}
 use Rattle.sn_model.specs.Changes.{take_node}
 use Rattle.sn_plain.proofs.tree.PlainTree.take_directory.Goals as goal

@@ -1,4 +1,4 @@
-use Rattle.std.proofs.Common.{◌≡◌, ◌∙◌, ap, sym, subst, refl, ℕ}
+use Rattle.std.proofs.Common.{sym, subst, refl}
 use Rattle.std.specs.FinMap as map
 use Rattle.sn_plain.specs.Plain.{tree_of}
 use Rattle.sn_plain.specs.Stored.{IsCounted, stored_of, tree_with}
