@@ -1,5 +1,5 @@
 -- Lists of the values of a function.
-use Rattle.std.proofs.Common.{◌≡◌, ℕ, zero, suc, ◌+◌, ◌<◌, length, List, [], ◌∷◌, get_or, refl, sym, ap, ◌∙◌, arith, add-zero}
+use Rattle.std.proofs.Common.{◌≡◌, ℕ, zero, suc, ◌+◌, ◌<◌, length, get_or, refl, sym, ap, ◌∙◌, arith, add-zero}
 use Rattle.sn_plain.specs.Bytes.{values_from}
 
 pub length-values_from : (f : ℕ → ℕ) (first n : ℕ) → length (values_from f first n) ≡ n

@@ -1,19 +1,19 @@
 -- What is kept beside the nodes, as names and nodes come and go.
-use Rattle.std.proofs.Common.{◌≡◌, ◌≢◌, ℕ, ◌+◌, ◌-◌, ◌<◌, ◌≤◌, Bool, true, false, cond, ◌==◌, Option, Some, None, is_some, refl, sym, ap, subst, ◌∙◌, ◌⊎◌, inl, inr, arith, lit≤, if◌then◌else◌}
+use Rattle.std.proofs.Common.{◌≡◌, ◌≢◌, ℕ, ◌+◌, ◌<◌, ◌≤◌, Bool, true, false, cond, ◌==◌, Option, Some, None, is_some, refl, sym, ap, subst, ◌∙◌, ◌⊎◌, inl, inr, arith, lit≤, nat_lt, if◌then◌else◌}
 use Rattle.std.specs.Option.{option_map}
 use Rattle.std.specs.Ordering.{nat_cmp, eq_by_cmp}
 use Rattle.std.specs.Cmp.{nat_cmp_total}
 use Rattle.std.specs.FinMap as map
-use Rattle.std.proofs.lemmas.Bool.{true≢false, eq-eqb, eqb-true, false_from_ne_true}
+use Rattle.std.proofs.lemmas.Bool.{eqb-true, ltb-true, ltb-false, false_from_ne_true}
 use Rattle.std.proofs.lemmas.Map.Lookups.{exact_unsigned}
 use Rattle.sn_walk.specs.declared.view.Kind.TheVariants as kind
 use Rattle.sn_model.specs.declared.link.Link.{Link}
 use Rattle.sn_model.specs.Tree.{Tree, link_cmp, names_in, names_for}
 use Rattle.sn_model.specs.Changes.{put_link, take_link}
 use Rattle.sn_model.proofs.LinkLemmas.{exact_links, links_total}
-use Rattle.sn_model.proofs.MapLemmas.{same_or_apart, get_inserted, get_other, get_removed, get_left, get_was}
+use Rattle.sn_model.proofs.MapLemmas.{same_or_apart, get_inserted, get_other, get_left, get_was}
 use Rattle.sn_model.proofs.CountLemmas.{count_inserted, count_removed, count_none}
-use Rattle.sn_model.proofs.NameLemmas.{no_names_for, is_unnamed}
+use Rattle.sn_model.proofs.NameLemmas.{is_unnamed}
 use Rattle.sn_plain.specs.Maps.{updated}
 use Rattle.sn_plain.specs.declared.nodes.Counts.{Counts}
 use Rattle.sn_plain.specs.declared.nodes.StoredNode.{StoredNode}
@@ -248,3 +248,14 @@ counted_alike stored tree first number f same h = record {
 
     stays : (k : ℕ) → is_some (map.get stored k) ≡ true → is_some (map.get (updated stored number f) k) ≡ true
     stays k e = ap is_some (is_change k) ∙ some_counted (λ x. cond (eq_by_cmp nat_cmp k number) (f x) x) (map.get stored k) e
+
+-- the first number that may be unused, once one is
+abbrev pub after_loss : ℕ → ℕ → ℕ
+after_loss first number = if nat_lt number first then number else first
+
+pub counted_loss : (stored : Stored) (tree : Tree) (first number : ℕ) → 2 ≤ number → names_in tree number ≡ 0 → names_for tree number ≡ 0 → IsCounted stored tree first → IsCounted (map.remove stored number) tree (after_loss first number)
+counted_loss stored tree first number low names links h = told (nat_lt number first) refl
+  where
+    told : (b : Bool) → nat_lt number first ≡ b → IsCounted (map.remove stored number) tree (cond b number first)
+    told true e = counted_gone stored tree first number number names links (omega (arith, ltb-true number first e)) (omega arith) low h
+    told false e = counted_gone stored tree first number first names links (omega arith) (omega (arith, ltb-false number first e)) h.low h

@@ -1,6 +1,6 @@
 -- The search for an unused number.
-use Rattle.std.proofs.Common.{◌≡◌, ℕ, zero, suc, ◌+◌, ◌-◌, ◌<◌, ◌≤◌, true, Option, Some, None, is_some, refl, sym, ap, ◌∙◌, arith, add-zero}
-use Rattle.std.specs.Option.{option_map}
+use Rattle.std.proofs.Common.{◌≡◌, ℕ, zero, suc, ◌+◌, ◌-◌, ◌<◌, ◌≤◌, true, Option, Some, None, is_some, refl, sym, ap, ◌∙◌, arith, add-zero, Bor}
+use Rattle.std.specs.Option.{option_map, option_copied}
 use Rattle.std.specs.Ordering.{nat_cmp}
 use Rattle.std.specs.Cmp.{nat_cmp_total}
 use Rattle.std.specs.FinMap as map
@@ -51,3 +51,8 @@ least_is limits tree number used unused low high =
 pub none_is : (limits : Limits) (tree : Tree) (end : ℕ) → ((k : ℕ) → 2 ≤ k → k < end → is_some (map.get tree.nodes k) ≡ true) → limits.largest_number < end → least_unused limits tree ≡ None
 unfolding least_unused
 none_is limits tree end used all = none_unused tree.nodes 2 (limits.largest_number - 1) (λ k low high. used k low (omega (arith, all)))
+
+-- a reference to a value is one where the value is
+pub copied_is : {X : Type 0} (o : Option (Bor X)) → is_some (option_copied o) ≡ is_some o
+copied_is None = refl
+copied_is (Some x) = refl

@@ -1,5 +1,5 @@
 -- A list of entries as a finite map, each value seen by a function.
-use Rattle.std.specs.Prelude.{List, map, Option, None, Some}
+use Rattle.std.specs.Prelude.{Bool, List, map, Option, None, Some, if◌then◌else◌}
 use Rattle.std.specs.declared.cmp.Ordering.{Ordering}
 use Rattle.std.specs.FinMap.{FinMap, from_entries, get, insert, remove}
 
@@ -18,3 +18,8 @@ updated m k f = updated_at m k f (get m k)
 abbrev pub restored : {K X : Type 0} {R : K → K → Ordering} → FinMap R X → K → Option X → FinMap R X
 restored m k None = remove m k
 restored m k (Some x) = updated m k (λ _. x)
+
+-- a value that passes a test
+abbrev pub filtered : {X : Type 0} → (X → Bool) → Option X → Option X
+filtered p None = None
+filtered p (Some x) = if p x then Some x else None

@@ -1,9 +1,10 @@
 -- What the maps in memory stand for, and what is kept beside them.
-use Rattle.std.specs.Prelude.{◌≡◌, ℕ, ◌+◌, ◌-◌, ◌<◌, ◌≤◌, ◌==◌, Option, Some, None, true, is_some, if◌then◌else◌}
+use Rattle.std.specs.Prelude.{◌≡◌, ℕ, ◌+◌, ◌-◌, ◌<◌, ◌≤◌, ◌==◌, Bool, not, ◌||◌, Option, Some, None, true, is_some, if◌then◌else◌}
 use Rattle.std.specs.Option.{option_map}
 use Rattle.std.specs.Ordering.{nat_cmp}
 use Rattle.std.specs.FinMap as map
 use Rattle.sn_walk.specs.declared.view.Kind.TheVariants as kind
+use Rattle.sn_walk.specs.Views.{is_directory}
 use Rattle.sn_model.specs.declared.link.Link.{Link}
 use Rattle.sn_model.specs.Tree.{Node, Tree, link_cmp, names_in, names_for}
 use Rattle.sn_plain.specs.Maps.{seen_by}
@@ -84,3 +85,7 @@ counts_of (Some s) = s.counts
 -- nothing is counted yet
 abbrev pub IsFresh : StoredNode → Type 0
 IsFresh s = (s.counts.names ≡ 0) × (s.counts.links ≡ 0)
+
+-- what a settling keeps: directories, and files with a name
+abbrev pub is_kept : StoredNode → Bool
+is_kept s = is_directory s.kind || not (s.counts.links == 0)

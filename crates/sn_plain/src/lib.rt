@@ -14,9 +14,11 @@
 
 mod bytes;
 mod error;
+mod linking;
 mod links;
 mod making;
 mod nodes;
+mod settling;
 mod stored;
 mod tests;
 mod tree;

@@ -1,9 +1,10 @@
-ghost use Rattle.std.specs.Prelude.{◌≡◌, ℕ, ◌+◌, ◌<◌, ◌^◌, IfOk, OnOk, OnErr, Some, None};
+ghost use Rattle.std.specs.Prelude.{◌≡◌, ℕ, ◌+◌, ◌<◌, ◌≤◌, ◌^◌, true, is_some, IfOk, OnOk, OnErr, Some, None};
 ghost use Rattle.std.specs.Option.{option_map, option_copied};
 ghost use Rattle.std.specs.FinMap as map;
 
 use crate::bytes::FileBytes;
 use crate::stored::StoredAcl;
+use crate::tests::is_directory;
 use sn_walk::{Attributes, Kind};
 use std::alloc::{AllocError, Global};
 use std::collections::BTreeMap;
@@ -79,8 +80,8 @@ pub(crate) struct Nodes {
 }
 
 impl Nodes {
-    ghost use Rattle.sn_plain.specs.Maps.{restored, updated};
-    ghost use Rattle.sn_plain.specs.Stored.{node_of, nodes_of, stored_of, with_counts, with_ownership, owned_by, counts_of, Recounts, more_at, fewer_at};
+    ghost use Rattle.sn_plain.specs.Maps.{filtered, restored, updated};
+    ghost use Rattle.sn_plain.specs.Stored.{node_of, nodes_of, stored_of, with_counts, with_ownership, owned_by, counts_of, Recounts, more_at, fewer_at, is_kept};
 
     pub fn new(alloc: Global) -> Nodes
         ensures nodes { nodes_of result ≡ map.empty }
@@ -219,5 +220,25 @@ impl Nodes {
                 ..counts
             },
         );
+    }
+
+    /// Takes all files away that no name stands for.
+    pub fn settle(&mut self)
+        ensures { (number : ℕ) → map.get (stored_of self.new) number ≡ filtered is_kept (map.get (stored_of self.old) number) }
+    {
+        self.map.retain(|_, node| is_directory(node.kind) || node.counts.links != 0);
+    }
+
+    /// The first number from one on that no node has, or 65,536.
+    pub fn first_unused(&self, from: u16) -> u32
+        ensures low { from ≤ result }
+        ensures used { (number : ℕ) → from ≤ number → number < result → is_some (map.get (stored_of self.now) number) ≡ true }
+    {
+        for number in u32::from(from)..65_536 {
+            if self.get(number as u16).is_none() {
+                return number;
+            }
+        }
+        65_536
     }
 }

@@ -1,19 +1,14 @@
-use Rattle.std.proofs.Common.{◌≡◌, ◌≢◌, ◌⊎◌, inl, inr, ◌<◌, ◌≤◌, ℕ, Option, Some, None, is_some, not, true, false, refl, sym, ap, ◌∙◌, ◌+◌, arith, Bor}
-use Rattle.std.specs.Option.{option_copied, option_map}
+use Rattle.std.proofs.Common.{◌≡◌, ◌≢◌, ◌⊎◌, inl, inr, ◌<◌, ◌≤◌, ℕ, Option, Some, None, is_some, not, true, false, refl, sym, ap, ◌∙◌, ◌+◌, arith}
+use Rattle.std.specs.Option.{option_map}
 use Rattle.std.specs.Cmp.{nat_cmp_total}
 use Rattle.std.specs.FinMap as map
 use Rattle.std.proofs.lemmas.Bool.{true≢false}
 use Rattle.std.proofs.lemmas.Map.Lookups.{exact_unsigned}
 use Rattle.sn_model.proofs.MapLemmas.{same_or_apart}
-use Rattle.sn_plain.specs.declared.nodes.StoredNode.{StoredNode}
 use Rattle.sn_plain.specs.Plain.{tree_of}
 use Rattle.sn_plain.specs.Stored.{node_of, stored_of}
-use Rattle.sn_plain.proofs.NumberLemmas.{least_is, none_is, seen, used_seen}
+use Rattle.sn_plain.proofs.NumberLemmas.{copied_is, least_is, none_is, seen, used_seen}
 use Rattle.sn_plain.proofs.tree.PlainTree.least_unused.Goals as goal
-
-copied_is : {X : Type 0} (o : Option (Bor X)) → is_some (option_copied o) ≡ is_some o
-copied_is None = refl
-copied_is (Some x) = refl
 
 none_of : {X : Type 0} (o : Option X) → is_some o ≡ false → o ≡ None
 none_of None e = refl

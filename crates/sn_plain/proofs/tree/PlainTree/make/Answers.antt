@@ -1,13 +1,12 @@
-use Rattle.std.proofs.Common.{◌≡◌, ◌+◌, ◌<◌, ◌^◌, ◌∙◌, ap, sym, subst, true, is_some, arith, rules, Some, Option}
+use Rattle.std.proofs.Common.{◌≡◌, ◌∙◌, ap, sym, subst, arith, rules, Some}
 use Rattle.std.specs.Option.{option_map}
 use Rattle.std.specs.Ordering.{nat_cmp}
 use Rattle.std.specs.Cmp.{nat_cmp_total}
 use Rattle.std.specs.FinMap as map
 use Rattle.std.proofs.lemmas.Map.Lookups.{exact_unsigned}
 use Rattle.sn_model.specs.Tree.{Node, Tree}
-use Rattle.sn_model.specs.Changes.{made, put_link}
+use Rattle.sn_model.specs.Changes.{put_link}
 use Rattle.sn_model.proofs.PartLemmas.{made_is}
-use Rattle.sn_plain.specs.declared.nodes.StoredNode.{StoredNode}
 use Rattle.sn_plain.specs.Maps.{restored}
 use Rattle.sn_plain.specs.Plain.{tree_of}
 use Rattle.sn_plain.specs.Stored.{IsCounted, Recounts, counts_of, more_at, node_of, nodes_of, stored_of, tree_with}

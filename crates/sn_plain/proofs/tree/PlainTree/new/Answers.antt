@@ -1,10 +1,9 @@
-use Rattle.std.proofs.Common.{◌≡◌, ◌∙◌, ap, refl, sym, subst, is_some, true}
+use Rattle.std.proofs.Common.{◌≡◌, ◌∙◌, ap, sym, subst, is_some}
 use Rattle.std.specs.Ordering.{nat_cmp}
 use Rattle.std.specs.Cmp.{nat_cmp_total}
 use Rattle.std.specs.FinMap as map
-use Rattle.sn_model.specs.Tree.{Tree, names_in, names_for}
+use Rattle.sn_model.specs.Tree.{Tree}
 use Rattle.sn_model.proofs.MapLemmas.{get_inserted}
-use Rattle.sn_plain.specs.declared.nodes.StoredNode.{StoredNode}
 use Rattle.sn_plain.specs.Stored.{IsCounted, stored_of, tree_with}
 use Rattle.sn_plain.proofs.CountedLemmas.{Stored, counted_none, counted_node, counted_use}
 use Rattle.sn_plain.proofs.tree.PlainTree.new.Goals as goal

@@ -1,7 +1,6 @@
-use Rattle.std.proofs.Common.{◌≡◌, ◌∙◌, ap, sym, subst, refl, Some, Option}
-use Rattle.std.specs.Ordering.{nat_cmp}
+use Rattle.std.proofs.Common.{◌∙◌, ap, sym, subst, refl, Some}
 use Rattle.std.specs.FinMap as map
-use Rattle.sn_model.specs.Tree.{Node, Tree}
+use Rattle.sn_model.specs.Tree.{Tree}
 use Rattle.sn_model.proofs.PartLemmas.{owned_is}
 use Rattle.sn_plain.specs.declared.nodes.StoredOwnership.{StoredOwnership}
 use Rattle.sn_plain.specs.Maps.{updated, updated_at}
