@@ -1,3 +1,4 @@
 pub mod MapLemmas
 pub mod PlainLemmas
 pub mod StepLemmas
+pub mod RestartLemmas

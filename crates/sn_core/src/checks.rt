@@ -9,7 +9,7 @@ use crate::error::CallError;
 use crate::tree::PlainTree;
 use crate::view::PlainView;
 use sn_acl::{Cred, Mode, Permissions, Tag, check};
-use sn_model::{Access, Denial, Errno, Refusal, Rule, Word};
+use sn_model::{Access, Denial, Errno, PathNumber, Refusal, Rule, Word};
 use sn_walk::{
     Attributes, Object, Obstacle, Path, PathFault, ROOT, WalkError, WalkRefusal, Walked, walk,
 };
@@ -37,7 +37,7 @@ pub(crate) fn new_mode_argument(bits: u16) -> Result<Mode, Refusal>
 }
 
 /// The entry of the ACL with this tag denies the access that is wanted at a place.
-fn denied(path: u8, place: u16, want: Access, tag: Tag) -> Refusal
+fn denied(path: PathNumber, place: u16, want: Access, tag: Tag) -> Refusal
     ensures { result ≡ tests.denied path place want tag }
 {
     Refusal {
@@ -52,7 +52,7 @@ fn denied(path: u8, place: u16, want: Access, tag: Tag) -> Refusal
 }
 
 /// A walk's refusal, as one of a call's first or second path.
-fn obstacle_refusal(path: u8, refusal: WalkRefusal) -> Refusal
+fn obstacle_refusal(path: PathNumber, refusal: WalkRefusal) -> Refusal
     ensures { result ≡ tests.obstacle_refusal path refusal.place refusal.obstacle }
 {
     let WalkRefusal { place, obstacle } = refusal;
@@ -68,7 +68,7 @@ pub(crate) fn prefix(
     alloc: Global,
     tree: &PlainTree,
     cred: &Cred,
-    which: u8,
+    which: PathNumber,
     path: &Path<'_>,
 ) -> Result<Walked, CallError>
     ensures exact { Gives (λ w. w) result (tests.prefix (tree_of tree.now) cred.now which path.now) }
@@ -126,7 +126,7 @@ pub(crate) fn live(directory: Object) -> Result<u16, Refusal>
 pub(crate) fn writable_parent(
     tree: &PlainTree,
     cred: &Cred,
-    which: u8,
+    which: PathNumber,
     place: u16,
     directory: u16,
 ) -> Result<Attributes, Refusal>

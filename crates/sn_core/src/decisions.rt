@@ -16,7 +16,7 @@ use crate::stored::StoredAcl;
 use crate::tree::PlainTree;
 use crate::view::PlainView;
 use sn_acl::{Acl, Mode, inherit};
-use sn_model::{Errno, Link, Refusal, Reply, Session, Status, Word};
+use sn_model::{Errno, Link, PathNumber, Refusal, Reply, Session, Status, Word};
 use sn_walk::{Attributes, Kind, Object, Path, attributes_of};
 use std::alloc::{AllocError, Global};
 
@@ -68,10 +68,10 @@ pub(crate) fn mkdir(
     ensures room { OnOk result (tree.now.unused < 65536) }
     ensures absent { IfOk result (λ m. map.get (tree_of tree.now).links m.0 ≡ None) }
 {
-    let walked = prefix(alloc, tree, &caller.cred, 1, path)?;
+    let walked = prefix(alloc, tree, &caller.cred, PathNumber::FIRST, path)?;
     let (parent, place) = not_present(walked)?;
     let directory = live(parent)?;
-    let attributes = writable_parent(tree, &caller.cred, 1, place, directory)?;
+    let attributes = writable_parent(tree, &caller.cred, PathNumber::FIRST, place, directory)?;
     tree.has_room(directory)?;
     let name = Word::new(alloc, path.last().unwrap_or(b""))?;
     let default_acl = tree.default_acl(directory);
@@ -115,7 +115,7 @@ pub(crate) fn stat(
 ) -> Result<Status, CallError>
     ensures { Gives (λ status. tells (Reply.Status status)) result (stat_outcome (tree_of tree.now) caller.now path.now) }
 {
-    let walked = prefix(alloc, tree, &caller.cred, 1, path)?;
+    let walked = prefix(alloc, tree, &caller.cred, PathNumber::FIRST, path)?;
     let object = found(walked)?;
     match attributes_of(&mut PlainView { alloc, tree }, object)? {
         Some(attributes) => Ok(status_of(number_of(object), &attributes)),

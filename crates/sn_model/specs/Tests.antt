@@ -10,7 +10,6 @@ use Rattle.sn_walk.specs.declared.path.PathFault.TheVariants.{Misspelt, TooLong}
 use Rattle.sn_walk.specs.declared.view.Attributes.{Attributes}
 use Rattle.sn_walk.specs.declared.view.Object.{Object}
 use Rattle.sn_walk.specs.declared.view.Object.TheVariants as object
-use Rattle.sn_walk.specs.declared.view.TheConstants.{ROOT_NUMBER}
 use Rattle.sn_walk.specs.declared.walking.Obstacle.{Obstacle}
 use Rattle.sn_walk.specs.declared.walking.Obstacle.TheVariants.{NotADirectory, Denied, Missing}
 use Rattle.sn_walk.specs.declared.walking.WalkRefusal.{WalkRefusal}
@@ -109,7 +108,7 @@ existing None = Err (plain Enoent)
 existing (Some found) = Ok found
 
 abbrev pub found : Walked → Result Object Refusal
-found Root = Ok (object.Node ROOT_NUMBER)
+found Root = Ok (object.Node 2)
 found (Name directory place last) = existing last
 
 abbrev pub full : Tree → Credential → ℕ → List (List ℕ) → Result Object Refusal

@@ -4,7 +4,6 @@ use Rattle.std.specs.Option.{option_map}
 use Rattle.std.specs.Cmp.Lexicographic.{pointwise}
 use Rattle.sn_acl.specs.declared.entries.Entry.{Entry}
 use Rattle.sn_acl.specs.Modes.{three_entries}
-use Rattle.sn_walk.specs.declared.view.TheConstants.{ROOT_NUMBER}
 use Rattle.sn_walk.specs.declared.view.Kind.{Kind}
 use Rattle.sn_walk.specs.declared.view.Kind.TheVariants.{File, Directory}
 use Rattle.sn_walk.specs.declared.view.Attributes.{Attributes}
@@ -40,7 +39,7 @@ attributes_at tree Hidden = Some hidden_attributes
 
 -- the name under which the root has the directory of snapshots
 abbrev pub is_hidden_name : ℕ → List ℕ → Bool
-is_hidden_name directory name = (directory == ROOT_NUMBER) && pointwise ◌==◌ name (codes ".snapshot")
+is_hidden_name directory name = (directory == 2) && pointwise ◌==◌ name (codes ".snapshot")
 
 -- what a name stands for in a directory; there are no snapshots
 abbrev pub child_of : ViewedTree → Object → List ℕ → Option Object

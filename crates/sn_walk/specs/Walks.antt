@@ -7,7 +7,6 @@ use Rattle.sn_walk.specs.declared.view.Kind.TheVariants.{Directory}
 use Rattle.sn_walk.specs.declared.view.Attributes.{Attributes}
 use Rattle.sn_walk.specs.declared.view.Object.{Object}
 use Rattle.sn_walk.specs.declared.view.Object.TheVariants.{Node}
-use Rattle.sn_walk.specs.declared.view.TheConstants.{ROOT_NUMBER}
 use Rattle.sn_walk.specs.declared.walking.Obstacle.{Obstacle}
 use Rattle.sn_walk.specs.declared.walking.Obstacle.TheVariants.{NotADirectory, Denied, Missing}
 use Rattle.sn_walk.specs.declared.walking.WalkRefusal.{WalkRefusal}
@@ -48,7 +47,7 @@ walk_from tree cred place directory name (next ∷ names) = passed tree cred pla
 -- a path's chain of links from the root, or the walk's first refusal
 abbrev pub walk_of : ViewedTree → Credential → List (List ℕ) → Result Walked WalkRefusal
 walk_of tree cred [] = Ok Root
-walk_of tree cred (name ∷ names) = walk_from tree cred 0 (Node ROOT_NUMBER) name names
+walk_of tree cred (name ∷ names) = walk_from tree cred 0 (Node 2) name names
 
 -- What a function returned is what the walk gives, unless a look-up found a fault.
 abbrev pub Fails : {Y F : Type 0} → WalkError F → Result Y WalkRefusal → Type 0

@@ -1,5 +1,4 @@
 use Rattle.std.proofs.Common.{◌≡◌, ◌+◌, ◌≤◌, length}
-use Rattle.sn_walk.specs.declared.path.TheConstants.{PATH_MAX}
 use Rattle.sn_walk.specs.Walks.{walk_of, walk_from}
 use Rattle.sn_walk.proofs.walking.walk.Given as goal
 
@@ -8,7 +7,7 @@ abbrev pub invariant-loop-next : goal.invariant-loop-next
 invariant-loop-next g l = record {
   same : g.T.TreeView.shows l.view ≡ g.T.TreeView.shows l.fn.view;
   rest : walk_from (g.T.TreeView.shows l.fn.view) l.cred l.place l.directory l.name l.rest ≡ walk_of (g.T.TreeView.shows l.fn.view) l.cred l.path;
-  short : l.place + length l.rest ≤ PATH_MAX;
+  short : l.place + length l.rest ≤ 1023;
 }
 
 abbrev pub decreases-loop-next : goal.decreases-loop-next
