@@ -1,2 +1,3 @@
 pub mod StepLemmas
 pub mod ViewLemmas
+pub mod RestartLemmas

@@ -1,8 +1,8 @@
 -- What a call comes to once its tests have passed.
-use Rattle.std.proofs.Common.{◌≡◌, ◌≢◌, ℕ, true, false, ◌<◌, arith, get_or, length, List, [], ◌∷◌, ◌++◌, Option, Some, None, Result, Ok, is_some, refl, sym, ap, subst, ◌∙◌, ◌⊎◌, inl, inr, lit<, lit≤}
+use Rattle.std.proofs.Common.{◌≡◌, ◌≢◌, ℕ, true, false, ◌<◌, arith, get_or, length, List, [], ◌∷◌, ◌++◌, Option, Some, None, Result, Ok, Err, is_some, refl, sym, ap, subst, ◌∙◌, ◌⊎◌, inl, inr, lit<, lit≤}
 use Rattle.std.specs.FinMap as map
 use Rattle.std.specs.Cmp.{nat_cmp_total}
-use Rattle.std.specs.Prelude.{slice_get}
+use Rattle.std.specs.Prelude.{IsOk, slice_get}
 use Rattle.std.proofs.lemmas.Bool.{true≢false, lt-ltb}
 use Rattle.std.proofs.lemmas.Option.{slice_get-get_or}
 use Rattle.std.proofs.lemmas.Map.Lookups.{exact_unsigned}
@@ -12,18 +12,21 @@ use Rattle.sn_limits.specs.Versions.{version_1}
 use Rattle.sn_model.specs.declared.call.Call.{Call}
 use Rattle.sn_model.specs.declared.call.Call.TheVariants.{Login, Mkdir, Stat}
 use Rattle.sn_model.specs.declared.call.Event.{Event}
+use Rattle.sn_model.specs.declared.call.Event.TheVariants as event
 use Rattle.sn_model.specs.declared.change.Ownership.{Ownership}
 use Rattle.sn_model.specs.declared.link.Link.{Link}
 use Rattle.sn_model.specs.declared.reply.Refusal.{Refusal}
 use Rattle.sn_model.specs.declared.reply.Reply.{Reply}
-use Rattle.sn_model.specs.declared.reply.Reply.TheVariants.{Done}
+use Rattle.sn_model.specs.declared.reply.Errno.TheVariants.{Enomem}
+use Rattle.sn_model.specs.declared.reply.Progress.TheVariants.{Done as Ended}
+use Rattle.sn_model.specs.declared.reply.Reply.TheVariants.{Done, Progress, Refused}
 use Rattle.sn_model.specs.declared.session.Session.{Session}
 use Rattle.sn_model.specs.Changes.{node_with}
 use Rattle.sn_model.specs.Outcomes.{tells, opens, makes}
 use Rattle.sn_model.specs.declared.outcome.Outcome.{Outcome}
-use Rattle.sn_model.specs.Calls.{mkdir_outcome, new_session, seen, stat_outcome}
-use Rattle.sn_model.specs.Steps.{Becomes, Comes, Run, changed, decision, with_live, with_session}
-use Rattle.sn_model.specs.Tests.{logged_in, logged_out, path_argument, new_mode_argument}
+use Rattle.sn_model.specs.Calls.{mkdir_outcome, new_session, ready, seen, stat_outcome}
+use Rattle.sn_model.specs.Steps.{Becomes, Comes, TakesMemory, changed, decision, with_live, with_session}
+use Rattle.sn_model.specs.Tests.{logged_in, logged_out, path_argument, new_mode_argument, plain}
 use Rattle.sn_model.specs.Tree.{Tree, least_unused, with_node}
 use Rattle.sn_model.specs.World.{World, trees_of, viewed_trees}
 use Rattle.sn_model.specs.Worlds.{IsCall, IsWorld}
@@ -32,6 +35,8 @@ use Rattle.sn_model.proofs.PartLemmas.{made_is}
 use Rattle.sn_model.proofs.HierarchyLemmas.{least_is_number}
 use Rattle.sn_model.proofs.DecidedLemmas.{decided_applies}
 use Rattle.sn_model.proofs.WorldLemmas.{step_world}
+use Rattle.sn_model.specs.Machine.{State, Running, Memory, OfMemory, Run}
+use Rattle.sn_model.specs.Settling.{settle}
 use Rattle.sn_core.specs.PlainRuns.{PlainRun, PlainStep, TakesLeast}
 
 pub mkdir_decided : (world : World) (session : ℕ) (path : List ℕ) (mode : ℕ) (caller : Session) (names : List (List ℕ)) (bits : Mode) (outcome : Outcome) → logged_in world session ≡ Ok caller → path_argument path ≡ Ok names → new_mode_argument mode ≡ Ok bits → mkdir_outcome version_1 (seen version_1 world) caller names bits ≡ Ok outcome → decision version_1 world session (Mkdir path mode) ≡ Ok outcome
@@ -116,8 +121,31 @@ run_more old mid new (f ∷ events) [] e reply run step = absurd run
 run_more old mid new (f ∷ events) (r ∷ replies) e reply run step = (run.0, run.1, run_more run.0 mid new events replies e reply run.2 step)
 
 -- it is one of the machine
-pub machine_run : (old new : World) (events : List Event) (replies : List Reply) → PlainRun old events replies new → Run old events replies new
-machine_run old new [] [] run = run
+pub machine_run : (old new : World) (events : List Event) (replies : List Reply) → PlainRun old events replies new → Run OfMemory version_1 (Running old) events replies (Running new)
+machine_run old new [] [] run = ap (λ (w : World). Running w) run
 machine_run old new [] (r ∷ replies) run = absurd run
 machine_run old new (e ∷ events) [] run = absurd run
-machine_run old new (e ∷ events) (r ∷ replies) run = (run.0, run.1.step, machine_run run.0 new events replies run.2)
+machine_run old new (e ∷ events) (r ∷ replies) run = (Running run.0, run.1.step, machine_run run.0 new events replies run.2)
+
+-- what the machine says of a call that was answered, or refused, or found no memory
+pub answered_step : (old new : World) (session : ℕ) (c : Call) (reply : Reply) → IsServed old session c reply new → PlainStep old (event.Call session c) reply new
+answered_step old new session c reply h = record { step = (None, tt, record { next = new; becomes = h.0; runs = refl }); least = h.1 }
+
+pub refused_step : (old new : World) (session : ℕ) (c : Call) (refusal : Refusal) → decision version_1 old session c ≡ Err refusal → new ≡ old → PlainStep old (event.Call session c) (Refused refusal) new
+refused_step old new session c refusal e same = record {
+  step = (None, tt, record { next = new; becomes = subst (λ (d : Result Outcome Refusal). Becomes version_1 old session d (Refused refusal) new) (sym e) (refl, same); runs = refl });
+  least = same_least old new (ap (λ (w : World). w.live) same);
+}
+
+pub memory_step : (old new : World) (session : ℕ) (c : Call) → TakesMemory c → IsOk (ready old session c) → new ≡ old → PlainStep old (event.Call session c) (Refused (plain Enomem)) new
+memory_step old new session c takes passed same = record {
+  step = (Some Memory, tt, ((takes, passed), record { told = refl; same = ap (λ (w : World). Running w) same }));
+  least = same_least old new (ap (λ (w : World). w.live) same);
+}
+
+-- a step, and a restart
+pub point_step : (old : World) → PlainStep old event.Step (Progress Ended) old
+point_step old = record { step = (None, tt, (inr refl, refl)); least = same_least old old refl }
+
+pub restart_step : (old new : World) → new ≡ settle old → new.live ≡ old.live → PlainStep old event.Restart Done new
+restart_step old new settled same = record { step = (None, tt, (refl, ap (λ (w : World). Running w) settled)); least = same_least old new same }

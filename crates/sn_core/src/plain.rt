@@ -1,6 +1,6 @@
 ghost use Rattle.std.specs.Prelude.{◌≡◌, ◌≢◌, ◌≤◌, [], IfOk, length, vec_capacity};
 ghost use Rattle.sn_core.specs.Plain.{IsPlainWorld, world_of};
-ghost use Rattle.sn_model.specs.Steps.{Run};
+ghost use Rattle.sn_model.specs.Machine.{OfMemory, WholeRun};
 ghost use Rattle.sn_model.specs.World.{World, new_world};
 ghost use Rattle.sn_limits.specs.Versions.{version_1};
 ghost use Rattle.sn_model.specs.Worlds.{IsWorld};
@@ -32,13 +32,14 @@ fn answer(alloc: Global, world: &mut PlainWorld, events: &[Event], replies: &mut
 }
 
 /// Answers events in their order, from an empty root directory (0:0, mode 0755) on, with nobody
-/// logged in. Each event has one reply, and a new node has the least unused number.
+/// logged in. Each event has one reply, and a new node has the least unused number. There are no
+/// consistency points, so a step is always done, and a restart is never refused.
 ///
 /// The room for the replies is looked for first, and then that for the tree and the sessions:
 /// without either nothing is done. A run that finds none for the tree hands back the list with the
 /// room for all replies.
 pub fn run_plain(alloc: Global, events: &[Event]) -> (Vec<Reply>, End)
-    ensures clean { result.1 ≡ End.Clean → (last : World) × Run new_world events.now result.0.items last }
+    ensures run { WholeRun OfMemory version_1 new_world events.now result.0.items result.1 }
     ensures least { result.1 ≡ End.Clean → (last : World) × PlainRun new_world events.now result.0.items last }
     ensures nothing { result.1 ≢ End.Clean → result.0.items ≡ [] }
     ensures mount { result.1 ≡ End.Mount MountFault.Memory → length events.now ≤ vec_capacity result.0 }

@@ -1,4 +1,4 @@
-ghost use Rattle.std.specs.Prelude.{◌≡◌, IfOk, None, replicate};
+ghost use Rattle.std.specs.Prelude.{◌≡◌, IfOk, None, replicate, vec_len};
 ghost use Rattle.sn_model.specs.Tests.{logged_in};
 ghost use Rattle.sn_limits.specs.Versions.{version_1};
 ghost use Rattle.sn_model.specs.Worlds.{IsWorld};
@@ -13,7 +13,7 @@ use crate::error::CallError;
 use sn_acl::{Cred, Mode, Permissions};
 use sn_core_decide::{new_mode_argument, path_argument};
 use sn_limits::Limits;
-use sn_model::{Call, Errno, Event, Groups, Refusal, Reply, Session, Word};
+use sn_model::{Call, Errno, Event, Groups, Progress, Refusal, Reply, Session, Word};
 use sn_plain::PlainTree;
 use sn_walk::Kind;
 use std::alloc::{AllocError, Global};
@@ -37,6 +37,16 @@ fn free_sessions(alloc: Global) -> Result<Vec<Option<Session>>, AllocError>
         sessions.push(None)?;
     }
     Ok(sessions)
+}
+
+/// Frees the places of the sessions.
+fn log_all_out(sessions: &mut Vec<Option<Session>>)
+    requires { vec_len sessions.old ≡ 64 }
+    ensures { sessions.new.items ≡ replicate 64 None }
+{
+    for place in 0..sessions.len() {
+        sessions[place] = None;
+    }
 }
 
 impl PlainWorld {
@@ -166,6 +176,18 @@ impl PlainWorld {
         }
     }
 
+    /// Unmounts and mounts: the tree stays, where no file is without a name.
+    fn restart(&mut self) -> Reply
+        requires plain { IsPlainWorld self.old }
+        requires whole { IsWorld version_1 (world_of self.old) }
+        ensures step { PlainStep (world_of self.old) Event.Restart result (world_of self.new) }
+        ensures sound { IsPlainWorld self.new }
+        ensures whole { IsWorld version_1 (world_of self.new) }
+    {
+        log_all_out(&mut self.sessions);
+        Reply::Done
+    }
+
     /// Answers an event.
     pub fn answer(&mut self, alloc: Global, event: &Event) -> Reply
         requires plain { IsPlainWorld self.old }
@@ -176,6 +198,8 @@ impl PlainWorld {
     {
         match event {
             Event::Call { session, call } => self.call(alloc, *session, call),
+            Event::Step => Reply::Progress(Progress::Done),
+            Event::Restart => self.restart(),
         }
     }
 }

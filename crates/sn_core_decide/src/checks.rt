@@ -4,7 +4,7 @@ ghost use Rattle.sn_walk.specs.Gives.{Answers, Gives, IfFault};
 ghost use Rattle.sn_walk.specs.Walks.{end_of};
 
 use sn_acl::{Cred, Mode, Permissions, Tag, check};
-use sn_model::{Access, Denial, Errno, Refusal, Rule, Word};
+use sn_model::{Access, Denial, Errno, PathNumber, Refusal, Rule, Word};
 use sn_walk::{
     Attributes, Failure, Found, Object, Obstacle, Path, PathFault, TreeView, WalkRefusal, Walked,
     attributes_of, reached, walk,
@@ -33,7 +33,7 @@ pub fn new_mode_argument(bits: u16) -> Result<Mode, Refusal>
 }
 
 /// The entry of the ACL with this tag denies the access that is wanted at a place.
-fn denied(path: u8, place: u16, want: Access, tag: Tag) -> Refusal
+fn denied(path: PathNumber, place: u16, want: Access, tag: Tag) -> Refusal
     ensures { result ≡ tests.denied path place want tag }
 {
     Refusal {
@@ -48,7 +48,7 @@ fn denied(path: u8, place: u16, want: Access, tag: Tag) -> Refusal
 }
 
 /// A rule that is no entry of an ACL denies at a place.
-fn forbidden(path: u8, place: u16, rule: Rule) -> Refusal
+fn forbidden(path: PathNumber, place: u16, rule: Rule) -> Refusal
     ensures { result ≡ tests.forbidden path place rule }
 {
     Refusal {
@@ -67,7 +67,7 @@ fn forbidden(path: u8, place: u16, rule: Rule) -> Refusal
 }
 
 /// A walk's refusal, as one of a call's first or second path.
-fn obstacle_refusal(path: u8, refusal: WalkRefusal) -> Refusal
+fn obstacle_refusal(path: PathNumber, refusal: WalkRefusal) -> Refusal
     ensures { result ≡ tests.obstacle_refusal path refusal.place refusal.obstacle }
 {
     let WalkRefusal { place, obstacle } = refusal;
@@ -83,7 +83,7 @@ fn obstacle_refusal(path: u8, refusal: WalkRefusal) -> Refusal
 pub fn prefix<V: TreeView>(
     view: &mut V,
     cred: &Cred,
-    which: u8,
+    which: PathNumber,
     path: &Path<'_>,
 ) -> Result<Walked, Failure<Refusal, V::Fault>>
     requires { V.holds view.old }
@@ -107,7 +107,7 @@ pub fn prefix<V: TreeView>(
 pub fn full<V: TreeView>(
     view: &mut V,
     cred: &Cred,
-    which: u8,
+    which: PathNumber,
     path: &Path<'_>,
 ) -> Result<Found, Failure<Refusal, V::Fault>>
     requires { V.holds view.old }
@@ -163,7 +163,7 @@ pub fn one_tree(directory: &Object, other: &Object) -> Result<(), Refusal>
 pub fn writable_parent<V: TreeView>(
     view: &mut V,
     cred: &Cred,
-    which: u8,
+    which: PathNumber,
     place: u16,
     directory: &Object,
 ) -> Result<Attributes, Failure<Refusal, V::Fault>>
@@ -187,7 +187,7 @@ pub fn writable_parent<V: TreeView>(
 
 /// From a directory with S_ISVTX a caller removes what it owns, or anything where it owns the
 /// directory: EPERM by `sticky` otherwise, at the object's place. The user 0 is held by no rule.
-pub fn sticky(cred: &Cred, which: u8, parent: &Attributes, found: &Found) -> Result<(), Refusal>
+pub fn sticky(cred: &Cred, which: PathNumber, parent: &Attributes, found: &Found) -> Result<(), Refusal>
     ensures { result ≡ tests.sticky cred.now which parent.now found.now }
 {
     let uid = cred.uid();

@@ -7,7 +7,7 @@ use crate::checks::{full, live, not_present, prefix, writable_parent};
 use crate::view::CallView;
 use sn_acl::{Acl, Inherited, Mode, inherit};
 use sn_limits::Limits;
-use sn_model::{Bytes, Caller, Outcome, Ownership, Pending, Refusal, Reply, Session, Status};
+use sn_model::{Bytes, Caller, Outcome, Ownership, PathNumber, Pending, Refusal, Reply, Session, Status};
 use sn_walk::{Attributes, Failure, Home, Kind, Path, TreeView};
 
 /// What a directory is given that a session makes in a directory.
@@ -50,10 +50,10 @@ pub fn mkdir<'a, V: CallView>(
     ensures exact { IsTrue V.is_told → Gives (λ o. o) result (mkdir_outcome limits.now (seen_by (V.shows view.old) (V.room view.old)) caller.now path.now mode) }
     ensures cause { IfFault result (λ f. V.causes view.old view.new f) }
 {
-    let walked = prefix(view, &caller.cred, 1, path)?;
+    let walked = prefix(view, &caller.cred, PathNumber::FIRST, path)?;
     let (parent, place) = not_present(walked)?;
     let directory = live(&parent)?;
-    let attributes = writable_parent(view, &caller.cred, 1, place, &parent)?;
+    let attributes = writable_parent(view, &caller.cred, PathNumber::FIRST, place, &parent)?;
     view.has_room(directory)?;
     let default_acl = match view.default_acl(&Home::Live, directory) {
         Ok(acl) => acl,
@@ -102,7 +102,7 @@ pub fn stat<'a, V: TreeView>(
     ensures exact { IsTrue V.is_told → Gives (λ o. o) result (stat_outcome (V.shows view.old) caller.now path.now) }
     ensures cause { IfFault result (λ f. V.causes view.old view.new f) }
 {
-    let found = full(view, &caller.cred, 1, path)?;
+    let found = full(view, &caller.cred, PathNumber::FIRST, path)?;
     Ok(Outcome {
         charge: 0,
         change: Pending::Nothing,

@@ -13,7 +13,6 @@ use Rattle.sn_acl.specs.AccessList.{IsValid, count_of}
 use Rattle.sn_acl.proofs.ModeLemmas.{IsMode, valid-with_mode}
 use Rattle.sn_walk.specs.declared.path.PathFault.{PathFault}
 use Rattle.sn_walk.specs.declared.path.PathFault.TheVariants.{Misspelt, TooLong}
-use Rattle.sn_walk.specs.declared.path.TheConstants.{PATH_MAX}
 use Rattle.sn_walk.specs.declared.view.Kind.TheVariants.{Directory}
 use Rattle.sn_walk.specs.Names.{is_name_spelled, has_name_length, is_name}
 use Rattle.sn_walk.specs.Paths.{last_after, parsed, of_word, of_names, of_length, components}
@@ -125,7 +124,7 @@ of_word_is names (b ∷ bs) e = told (b == 47) e
     told false f = cc
 
 parsed_is : (names : List (List ℕ)) (word : List ℕ) → parsed word ≡ Ok names → AreNames names
-parsed_is names word e = told (nat_lt PATH_MAX (length word)) e
+parsed_is names word e = told (nat_lt 1023 (length word)) e
   where
     told : (t : Bool) → cond t (Err TooLong) (of_word word) ≡ Ok names → AreNames names
     told true f = cc

@@ -21,4 +21,5 @@ pub mod DecisionLemmas
 pub mod DecidedLemmas
 pub mod WorldLemmas
 pub mod MachineLemmas
+pub mod ExampleLemmas
 pub mod StepLemmas

@@ -15,7 +15,7 @@ told_no_refusal limits world session c o refusal (Login s k e) f = let never : R
 told_no_refusal limits world session c o refusal (Tells a e) f = let never : Refused refusal ≡ Status a = f ∙ ap (λ (x : Outcome). x.told) e in cc
 told_no_refusal limits world session c o refusal (Makes s names mode k b n p) f = let never : Refused refusal ≡ Done = f ∙ ap (λ (x : Outcome). x.told) p.made in cc
 
-becomes_refused : (limits : Limits) (old new : World) (session : ℕ) (c : Call) (d : Result Outcome Refusal) (refusal : Refusal) → decision limits old session c ≡ d → Becomes limits old session d (Refused refusal) new → new ≡ old
+pub becomes_refused : (limits : Limits) (old new : World) (session : ℕ) (c : Call) (d : Result Outcome Refusal) (refusal : Refusal) → decision limits old session c ≡ d → Becomes limits old session d (Refused refusal) new → new ≡ old
 becomes_refused limits old new session c (Err r) refusal e h = h.1
 becomes_refused limits old new session c (Ok o) refusal e h = absurd (told_no_refusal limits old session c o refusal (decided_is limits old session c o e) h.0)
 

@@ -11,8 +11,6 @@ use Rattle.std.proofs.lemmas.Map.Lookups.{exact_unsigned}
 use Rattle.sn_walk.specs.declared.view.Kind.TheVariants.{File, Directory}
 use Rattle.sn_limits.specs.Versions.{version_1}
 use Rattle.sn_model.specs.declared.call.Call.{Call}
-use Rattle.sn_model.specs.declared.call.Event.{Event}
-use Rattle.sn_model.specs.declared.call.Event.TheVariants as event
 use Rattle.sn_model.specs.declared.change.Change.TheVariants.{Make}
 use Rattle.sn_model.specs.declared.link.Link.{Link}
 use Rattle.sn_model.specs.declared.reply.Refusal.{Refusal}
@@ -27,8 +25,8 @@ use Rattle.sn_model.specs.Changes.{node_with}
 use Rattle.sn_limits.specs.declared.limits.Limits.{Limits}
 use Rattle.sn_model.specs.Outcomes.{Outcome}
 use Rattle.sn_model.specs.Calls.{new_directory, last_name}
-use Rattle.sn_model.specs.Steps.{Becomes, Comes, EventStep, Run, RunBy, Step, decision, with_session, with_live}
-use Rattle.sn_model.specs.Worlds.{IsCaller, IsPlace, IsCall, IsEvent, IsWorld}
+use Rattle.sn_model.specs.Steps.{Becomes, Comes, Step, decision, with_session, with_live}
+use Rattle.sn_model.specs.Worlds.{IsCaller, IsPlace, IsCall, IsWorld}
 use Rattle.sn_model.proofs.LinkLemmas.{exact_links, links_total}
 use Rattle.sn_model.proofs.MapLemmas.{same_or_apart, get_inserted, get_other}
 use Rattle.sn_model.proofs.CountLemmas.{count_none}
@@ -124,22 +122,13 @@ comes_world limits old new session c o (decided.Makes s names mode k b n p) h nu
     subst (IsWorld limits) (sym (h'.world ∙ ap (with_live old) (sym m.gives)))
     (world_made limits old h'.number link (node_with Directory given []) w h'.free.unused p.new.absent (subst (IsTree limits) (sym m.gives) whole))
 
-becomes_world : (limits : Limits) (old new : World) (session : ℕ) (c : Call) (d : Result Outcome Refusal) (reply : Reply) → decision limits old session c ≡ d → Becomes limits old session d reply new → IsCall c → IsWorld limits old → IsWorld limits new
+pub becomes_world : (limits : Limits) (old new : World) (session : ℕ) (c : Call) (d : Result Outcome Refusal) (reply : Reply) → decision limits old session c ≡ d → Becomes limits old session d reply new → IsCall c → IsWorld limits old → IsWorld limits new
 becomes_world limits old new session c (Err r) reply e h numbers w = subst (IsWorld limits) (sym h.1) w
 becomes_world limits old new session c (Ok o) reply e h numbers w = comes_world limits old new session c o (decided_is limits old session c o e) h.1 numbers w
 
 pub step_world : (limits : Limits) (old new : World) (session : ℕ) (c : Call) (reply : Reply) → Step limits old session c reply new → IsCall c → IsWorld limits old → IsWorld limits new
 step_world limits old new session c reply (inl h) numbers w = becomes_world limits old new session c (decision limits old session c) reply refl h numbers w
 step_world limits old new session c reply (inr h) numbers w = subst (IsWorld limits) (sym h.same) w
-
-event_world : (limits : Limits) (old new : World) (e : Event) (reply : Reply) → EventStep limits old e reply new → IsEvent e → IsWorld limits old → IsWorld limits new
-event_world limits old new (event.Call session c) reply step numbers w = step_world limits old new session c reply step numbers w
-
-run_from : (limits : Limits) (old last : World) (events : List Event) (replies : List Reply) → AllByRecursion IsEvent events → RunBy (EventStep limits) old events replies last → IsWorld limits old → IsWorld limits last
-run_from limits old last [] [] all run w = subst (IsWorld limits) (sym run) w
-run_from limits old last [] (reply ∷ replies) all run w = absurd run
-run_from limits old last (e ∷ events) [] all run w = absurd run
-run_from limits old last (e ∷ events) (reply ∷ replies) all run w = run_from limits run.0 last events replies all.1 run.2 (event_world limits old run.0 e reply run.1 all.0 w)
 
 -- the first world is one
 new_named : (l : Link) (n : ℕ) → map.get new_tree.links l ≡ Some n → ⊥
@@ -207,6 +196,3 @@ new_is_world = record {
   open_files = λ i fd d e. let never : None ≡ Some d = sym (map.get-empty descriptor_cmp (i, fd)) ∙ e in cc;
   held = λ n k z. let s = some_node _ File k in let q = new_node n s.0 s.1 in let never : Directory ≡ File = ap (λ (x : Node). x.kind) (sym q.1) ∙ s.2 in cc;
 }
-
-pub run_world : (events : List Event) (replies : List Reply) (last : World) → AllByRecursion IsEvent events → Run new_world events replies last → IsWorld version_1 last
-run_world events replies last all run = run_from version_1 new_world last events replies all run new_is_world

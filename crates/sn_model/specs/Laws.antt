@@ -1,20 +1,16 @@
 -- What the definitions of calls come to, said as a user of a file system would say it.
-use Rattle.std.specs.Prelude.{◌≡◌, ◌≢◌, ℕ, ◌<◌, true, List, Some, Ok, is_some}
-use Rattle.std.specs.List.{AllByRecursion}
+use Rattle.std.specs.Prelude.{◌≡◌, ◌≢◌, ℕ, ◌<◌, true, Some, Ok, is_some}
 use Rattle.std.specs.FinMap as map
 use Rattle.sn_model.specs.declared.call.Call.{Call}
 use Rattle.sn_model.specs.declared.link.Link.{Link}
 use Rattle.sn_model.specs.declared.reply.Refusal.{Refusal}
-use Rattle.sn_model.specs.declared.reply.Reply.{Reply}
 use Rattle.sn_model.specs.declared.reply.Reply.TheVariants.{Refused}
 use Rattle.sn_model.specs.Tree.{Tree, Node, with_node}
-use Rattle.sn_model.specs.declared.call.Event.{Event}
-use Rattle.sn_model.specs.World.{World, new_world}
-use Rattle.sn_model.specs.Steps.{IsNumberFor, Run, Step, changed, decision}
-use Rattle.sn_limits.specs.Versions.{version_1}
+use Rattle.sn_model.specs.World.{World}
+use Rattle.sn_model.specs.Steps.{IsNumberFor, Step, changed, decision}
 use Rattle.sn_limits.specs.declared.limits.Limits.{Limits}
 use Rattle.sn_model.specs.Outcomes.{Outcome}
-use Rattle.sn_model.specs.Worlds.{IsEvent, IsWorld}
+use Rattle.sn_model.specs.Worlds.{IsWorld}
 
 -- Whatever a call is refused for, the world stays as it was.
 abbrev pub RefusalsChangeNothing : Type 0
@@ -34,7 +30,3 @@ MakesOneMore = (tree : Tree) (number : ℕ) (link : Link) (node : Node) → OneM
 abbrev pub DecidedChangesApply : Type 0
 DecidedChangesApply = (limits : Limits) (world : World) (session : ℕ) (c : Call) (o : Outcome) (number : ℕ) → 0 < limits.links → IsWorld limits world
     → decision limits world session c ≡ Ok o → IsNumberFor limits world.live number o.change → is_some (changed limits number o.change world.live) ≡ true
-
--- Whatever is called, the world stays one: its trees are name trees, open files are there, and nobody is logged in with a number that isn't one.
-abbrev pub RunsKeepTheWorld : Type 0
-RunsKeepTheWorld = (events : List Event) (replies : List Reply) (last : World) → AllByRecursion IsEvent events → Run new_world events replies last → IsWorld version_1 last

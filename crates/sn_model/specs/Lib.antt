@@ -6,11 +6,13 @@ pub mod Changes
 pub mod Settling
 pub mod Covers
 pub mod ChangeLaws
-pub mod Worlds
 pub mod Outcomes
 pub mod Tests
 pub mod Calls
 pub mod Steps
 pub mod Machine
+pub mod Worlds
+pub mod Texts
 pub mod Laws
 pub mod MachineLaws
+pub mod Example

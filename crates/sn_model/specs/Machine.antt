@@ -1,68 +1,225 @@
--- The machine over mounts: it runs over a world, or a failure of its device has stopped it.
-use Rattle.std.specs.Prelude.{◌≡◌, ◌⊎◌, ℕ, ◌<◌, Ok, IsOk}
+-- The machine: what it answers to calls, steps and restarts, whatever fails; how its runs end, and what a crash leaves of them.
+use Rattle.std.specs.Prelude.{◌≡◌, ◌⊎◌, ℕ, ◌<◌, List, [], ◌∷◌, Option, None, Some, Ok, IsOk}
 use Rattle.sn_limits.specs.declared.limits.Limits.{Limits}
 use Rattle.sn_model.specs.declared.call.Call.{Call}
+use Rattle.sn_model.specs.declared.call.Event.{Event}
+use Rattle.sn_model.specs.declared.call.Event.TheVariants as event
+use Rattle.sn_model.specs.declared.mount.End.{End}
+use Rattle.sn_model.specs.declared.mount.End.TheVariants as ending
+use Rattle.sn_model.specs.declared.mount.MountFault.{MountFault}
+use Rattle.sn_model.specs.declared.mount.MountFault.TheVariants as mount
 use Rattle.sn_model.specs.declared.reply.Errno.{Errno}
-use Rattle.sn_model.specs.declared.reply.Errno.TheVariants.{Elimit, Enospc, Eio, Estopped}
+use Rattle.sn_model.specs.declared.reply.Errno.TheVariants.{Elimit, Enospc, Enomem, Eio, Estopped}
+use Rattle.sn_model.specs.declared.reply.Progress.TheVariants as progress
 use Rattle.sn_model.specs.declared.reply.Reply.{Reply}
-use Rattle.sn_model.specs.declared.reply.Reply.TheVariants.{Refused}
+use Rattle.sn_model.specs.declared.reply.Reply.TheVariants as answer
 use Rattle.sn_model.specs.World.{World}
 use Rattle.sn_model.specs.Outcomes.{Outcome}
 use Rattle.sn_model.specs.Settling.{settle}
 use Rattle.sn_model.specs.Tests.{plain}
 use Rattle.sn_model.specs.Calls.{ready}
-use Rattle.sn_model.specs.Steps.{Comes, Step, decision}
-use Rattle.sn_model.specs.Worlds.{IsWorld}
+use Rattle.sn_model.specs.Steps.{Becomes, Comes, TakesMemory, decision}
 
 -- What the next mount of a stopped machine may find is the settled world from before what stopped it, or the one from after.
 pub data State : Type 0 where
   Running : World → State
   Stopped : World → World → State
 
+-- What an event may meet with that no world tells: memory is refused, a read of the device fails, or a write or a sync does; what a call comes to doesn't fit; a point would be too old. Whether it did is given from outside.
+pub data Mishap : Type 0 where
+  Memory : Mishap
+  Read : Mishap
+  Write : Mishap
+  Space : Mishap
+  Age : Mishap
+
+abbrev pub errno_of : Mishap → Errno
+errno_of Memory = Enomem
+errno_of Read = Eio
+errno_of Write = Eio
+errno_of Space = Enospc
+errno_of Age = Elimit
+
+-- why there is no mount, where there could be one
+abbrev pub mount_fault_of : Mishap → Option MountFault
+mount_fault_of Memory = Some mount.Memory
+mount_fault_of Read = Some mount.Device
+mount_fault_of Write = Some mount.Device
+mount_fault_of Space = None
+mount_fault_of Age = None
+
+abbrev pub refused : Errno → Reply
+refused errno = answer.Refused (plain errno)
+
+-- the event is refused, and nothing changes
+pub record IsRefused (old : World) (m : Mishap) (reply : Reply) (new : State) : Type 0 where
+  pub told : reply ≡ refused (errno_of m)
+  pub same : new ≡ Running old
+
+-- the event stops the machine
+pub record IsStopped (before after : World) (reply : Reply) (new : State) : Type 0 where
+  pub told : reply ≡ refused Eio
+  pub left : new ≡ Stopped before after
+
+-- it is unmounted, and isn't mounted again
+pub record IsUnmounted (before after : World) (m : Mishap) (reply : Reply) (new : State) : Type 0 where
+  pub fault : MountFault
+  pub is : mount_fault_of m ≡ Some fault
+  pub told : reply ≡ answer.Unmounted fault
+  pub left : new ≡ Stopped before after
+
 -- what a call whose tests pass is charged for
 abbrev pub IsCharged : Limits → World → ℕ → Call → Type 0
 IsCharged limits old session c = (o : Outcome) × (decision limits old session c ≡ Ok o) × (0 < o.charge)
 
--- what may still refuse a call: a read of the device fails, no room is found, or a point that the call needs would be too old
-abbrev pub MayRefuse : Limits → World → ℕ → Call → Errno → Type 0
-MayRefuse limits old session c Eio = IsOk (ready old session c)
-MayRefuse limits old session c Enospc = IsCharged limits old session c
-MayRefuse limits old session c Elimit = IsCharged limits old session c
-MayRefuse limits old session c _ = ⊥
+-- what a call may be refused for: memory and reads once its session and arguments have passed, room and age where it is charged for something
+abbrev pub MayRefuse : Limits → World → ℕ → Call → Mishap → Type 0
+MayRefuse limits old session c Memory = TakesMemory c × IsOk (ready old session c)
+MayRefuse limits old session c Read = TakesMemory c × IsOk (ready old session c)
+MayRefuse limits old session c Write = ⊥
+MayRefuse limits old session c Space = IsCharged limits old session c
+MayRefuse limits old session c Age = IsCharged limits old session c
 
--- and then nothing changes
-pub record IsUnserved (limits : Limits) (old : World) (session : ℕ) (c : Call) (reply : Reply) (state : State) : Type 0 where
-  pub errno : Errno
-  pub may : MayRefuse limits old session c errno
-  pub told : reply ≡ Refused (plain errno)
-  pub same : state ≡ Running old
+-- a call is answered as its decision says
+pub record IsAnswered (limits : Limits) (old : World) (session : ℕ) (c : Call) (reply : Reply) (new : State) : Type 0 where
+  pub next : World
+  pub becomes : Becomes limits old session (decision limits old session c) reply next
+  pub runs : new ≡ Running next
 
--- a write or a sync fails while a call is made so
-pub record IsStopped (limits : Limits) (old : World) (session : ℕ) (c : Call) (reply : Reply) (state : State) : Type 0 where
+-- a write or a sync fails while a charged call is made so
+pub record IsCutOff (limits : Limits) (old : World) (session : ℕ) (c : Call) (reply : Reply) (new : State) : Type 0 where
   pub outcome : Outcome
   pub decided : decision limits old session c ≡ Ok outcome
-  pub new : World
-  pub comes : Comes limits old session outcome new
-  pub told : reply ≡ Refused (plain Eio)
-  pub left : state ≡ Stopped (settle old) (settle new)
+  pub charged : 0 < outcome.charge
+  pub next : World
+  pub comes : Comes limits old session outcome next
+  pub stops : IsStopped (settle old) (settle next) reply new
 
--- a call that is answered as the model's step says
-pub record IsAnswered (limits : Limits) (old : World) (session : ℕ) (c : Call) (reply : Reply) (state : State) : Type 0 where
-  pub new : World
-  pub step : Step limits old session c reply new
-  pub runs : state ≡ Running new
+abbrev pub CallStep : Limits → World → ℕ → Call → Option Mishap → Reply → State → Type 0
+CallStep limits old session c None reply new = IsAnswered limits old session c reply new
+CallStep limits old session c (Some Write) reply new = IsCutOff limits old session c reply new
+CallStep limits old session c (Some m) reply new = MayRefuse limits old session c m × IsRefused old m reply new
 
--- From a state, the machine may give this reply to a call and go on to a state.
-abbrev pub CallStep : Limits → State → ℕ → Call → Reply → State → Type 0
-CallStep limits (Running old) session c reply state = IsAnswered limits old session c reply state ⊎ IsUnserved limits old session c reply state ⊎ IsStopped limits old session c reply state
-CallStep limits (Stopped before after) session c reply state = (reply ≡ Refused (plain Estopped)) × (state ≡ Stopped before after)
+-- a point is refused, or stops the machine; it never lacks room
+abbrev pub PointFails : World → Mishap → Reply → State → Type 0
+PointFails old Write reply new = IsStopped (settle old) (settle old) reply new
+PointFails old Space reply new = ⊥
+PointFails old m reply new = IsRefused old m reply new
 
--- A restart that mounts: nobody is logged in, nothing is open, and what a stop left is found.
-abbrev pub Restarts : State → State → Type 0
-Restarts (Running w) state = state ≡ Running (settle w)
-Restarts (Stopped before after) state = (state ≡ Running before) ⊎ (state ≡ Running after)
+-- a step of a point changes no world
+abbrev pub PointStep : World → Option Mishap → Reply → State → Type 0
+PointStep old None reply new = ((reply ≡ answer.Progress progress.More) ⊎ (reply ≡ answer.Progress progress.Done)) × (new ≡ Running old)
+PointStep old (Some m) reply new = PointFails old m reply new
 
--- its worlds are worlds
-abbrev pub IsState : Limits → State → Type 0
-IsState limits (Running w) = IsWorld limits w
-IsState limits (Stopped before after) = IsWorld limits before × IsWorld limits after
+-- an unmount, which is a point, and a mount
+abbrev pub RestartStep : World → Option Mishap → Reply → State → Type 0
+RestartStep old None reply new = (reply ≡ answer.Done) × (new ≡ Running (settle old))
+RestartStep old (Some m) reply new = PointFails old m reply new ⊎ IsUnmounted (settle old) (settle old) m reply new
+
+-- a mount alone
+abbrev pub MountStep : World → World → Option Mishap → Reply → State → Type 0
+MountStep before after None reply new = (reply ≡ answer.Done) × ((new ≡ Running before) ⊎ (new ≡ Running after))
+MountStep before after (Some m) reply new = IsUnmounted before after m reply new
+
+-- no call and no step is served any more
+abbrev pub StoppedStep : World → World → Option Mishap → Reply → State → Type 0
+StoppedStep before after None reply new = (reply ≡ refused Estopped) × (new ≡ Stopped before after)
+StoppedStep before after (Some m) reply new = ⊥
+
+-- From a state, where an event meets with a mishap or with none, the machine may give this reply and go on to a state.
+abbrev pub EventStep : Limits → State → Event → Option Mishap → Reply → State → Type 0
+EventStep limits (Running old) (event.Call session c) met reply new = CallStep limits old session c met reply new
+EventStep limits (Running old) event.Step met reply new = PointStep old met reply new
+EventStep limits (Running old) event.Restart met reply new = RestartStep old met reply new
+EventStep limits (Stopped before after) (event.Call session c) met reply new = StoppedStep before after met reply new
+EventStep limits (Stopped before after) event.Step met reply new = StoppedStep before after met reply new
+EventStep limits (Stopped before after) event.Restart met reply new = MountStep before after met reply new
+
+-- Steps of a kind give these replies to these events, one after the other.
+abbrev pub RunBy : {S : Type 0} → (S → Event → Reply → S → Type 0) → S → List Event → List Reply → S → Type 0
+RunBy By old [] [] new = new ≡ old
+RunBy {S} By old (e ∷ events) (reply ∷ replies) new = (mid : S) × By old e reply mid × RunBy By mid events replies new
+RunBy By old [] (reply ∷ replies) new = ⊥
+RunBy By old (e ∷ events) [] new = ⊥
+
+-- steps in which only such mishaps are met with
+abbrev pub StepOf : (Option Mishap → Type 0) → Limits → State → Event → Reply → State → Type 0
+StepOf May limits old e reply new = (met : Option Mishap) × May met × EventStep limits old e met reply new
+
+abbrev pub Run : (Option Mishap → Type 0) → Limits → State → List Event → List Reply → State → Type 0
+Run May limits = RunBy (StepOf May limits)
+
+-- any mishap
+abbrev pub Anything : Option Mishap → Type 0
+Anything met = Unit {0}
+
+-- no device is there that could fail or be full
+abbrev pub OfMemory : Option Mishap → Type 0
+OfMemory None = Unit {0}
+OfMemory (Some Memory) = Unit {0}
+OfMemory (Some m) = ⊥
+
+-- the last unmount, and the end that it makes
+abbrev pub Ends : State → Option Mishap → End → Type 0
+Ends (Running w) None end = end ≡ ending.Clean
+Ends (Running w) (Some Memory) end = end ≡ ending.Memory
+Ends (Running w) (Some Space) end = ⊥
+Ends (Running w) (Some m) end = end ≡ ending.Stopped
+Ends (Stopped before after) None end = end ≡ ending.Stopped
+Ends (Stopped before after) (Some m) end = ⊥
+
+-- the list of replies finds no memory
+pub record HasNoList (May : Option Mishap → Type 0) (replies : List Reply) (end : End) : Type 0 where
+  pub may : May (Some Memory)
+  pub none : replies ≡ []
+  pub ends : end ≡ ending.Memory
+
+-- there is no first mount
+pub record HasNoMount (May : Option Mishap → Type 0) (replies : List Reply) (end : End) : Type 0 where
+  pub met : Mishap
+  pub may : May (Some met)
+  pub fault : MountFault
+  pub is : mount_fault_of met ≡ Some fault
+  pub none : replies ≡ []
+  pub ends : end ≡ ending.Mount fault
+
+-- every event is answered
+pub record HasRun (May : Option Mishap → Type 0) (limits : Limits) (first : World) (events : List Event) (replies : List Reply) (end : End) : Type 0 where
+  pub last : State
+  pub run : Run May limits (Running first) events replies last
+  pub met : Option Mishap
+  pub may : May met
+  pub ends : Ends last met end
+
+-- A whole run: from what the disk holds, a mount, the events, and an unmount.
+abbrev pub WholeRun : (Option Mishap → Type 0) → Limits → World → List Event → List Reply → End → Type 0
+WholeRun May limits first events replies end = HasNoList May replies end ⊎ HasNoMount May replies end ⊎ HasRun May limits first events replies end
+
+-- what the next mount may find after a crash between two events
+abbrev pub Left : State → World → Type 0
+Left (Running old) w = w ≡ settle old
+Left (Stopped before after) w = (w ≡ before) ⊎ (w ≡ after)
+
+-- what a call would leave that no mishap met with
+pub record LeftAfter (limits : Limits) (old : World) (session : ℕ) (c : Call) (w : World) : Type 0 where
+  pub reply : Reply
+  pub next : World
+  pub becomes : Becomes limits old session (decision limits old session c) reply next
+  pub left : w ≡ settle next
+
+-- after a crash in an event
+abbrev pub LeftIn : Limits → State → Event → World → Type 0
+LeftIn limits (Running old) (event.Call session c) w = Left (Running old) w ⊎ LeftAfter limits old session c w
+LeftIn limits old e w = Left old w
+
+-- A run that a crash cuts short, after these replies, in the event that has none yet or behind the last: the world that the next mount finds.
+abbrev pub CutRun : (Option Mishap → Type 0) → Limits → State → List Event → List Reply → World → Type 0
+CutRun May limits old [] [] w = Left old w
+CutRun May limits old (e ∷ events) [] w = LeftIn limits old e w
+CutRun May limits old (e ∷ events) (reply ∷ replies) w = (mid : State) × StepOf May limits old e reply mid × CutRun May limits mid events replies w
+CutRun May limits old [] (reply ∷ replies) w = ⊥
+
+-- A life: runs, each from the world that a crash in the run before has left.
+abbrev pub Life : (Option Mishap → Type 0) → Limits → World → List (List Event × List Reply) → World → Type 0
+Life May limits first [] last = last ≡ first
+Life May limits first (r ∷ rs) last = (next : World) × CutRun May limits (Running first) r.0 r.1 next × Life May limits next rs last

@@ -1,12 +1,9 @@
--- The machine: what a call may answer, and the world that it leaves.
-use Rattle.std.specs.Prelude.{◌≡◌, ◌⊎◌, ℕ, ◌≤◌, ◌<◌, List, [], ◌∷◌, Option, None, Some, Result, Ok, Err, IsOk, slice_set}
+-- What a call may answer while nothing fails, and the world that it leaves.
+use Rattle.std.specs.Prelude.{◌≡◌, ◌⊎◌, ℕ, ◌≤◌, ◌<◌, Option, None, Some, Result, Ok, Err, IsOk, slice_set}
 use Rattle.std.specs.FinMap as map
 use Rattle.sn_limits.specs.declared.limits.Limits.{Limits}
-use Rattle.sn_limits.specs.Versions.{version_1}
 use Rattle.sn_model.specs.declared.call.Call.{Call}
 use Rattle.sn_model.specs.declared.call.Call.TheVariants as call
-use Rattle.sn_model.specs.declared.call.Event.{Event}
-use Rattle.sn_model.specs.declared.call.Event.TheVariants as event
 use Rattle.sn_model.specs.declared.change.Change.TheVariants.{Make}
 use Rattle.sn_model.specs.declared.reply.Errno.TheVariants.{Enomem}
 use Rattle.sn_model.specs.declared.reply.Refusal.{Refusal}
@@ -65,7 +62,7 @@ abbrev pub Becomes : Limits → World → ℕ → Result Outcome Refusal → Rep
 Becomes limits world session (Err refusal) reply new = (reply ≡ Refused refusal) × (new ≡ world)
 Becomes limits world session (Ok o) reply new = (reply ≡ o.told) × Comes limits world session o new
 
--- the calls that may find no memory
+-- the calls that may find no memory, or reach the device
 abbrev pub TakesMemory : Call → Type 0
 TakesMemory (call.Login uid gid groups) = ⊥
 TakesMemory (call.Mkdir path mode) = Unit {0}
@@ -78,20 +75,6 @@ pub record LacksMemory (world : World) (session : ℕ) (c : Call) (reply : Reply
   pub told : reply ≡ Refused (plain Enomem)
   pub same : new ≡ world
 
--- From old, the machine may give this reply to a call and go on to new.
+-- From old, a call may be given this reply and leave new, while nothing but memory is refused.
 abbrev pub Step : Limits → World → ℕ → Call → Reply → World → Type 0
 Step limits old session c reply new = Becomes limits old session (decision limits old session c) reply new ⊎ LacksMemory old session c reply new
-
-abbrev pub EventStep : Limits → World → Event → Reply → World → Type 0
-EventStep limits old (event.Call session c) reply new = Step limits old session c reply new
-
--- Steps of a kind give these replies to these events, one after the other.
-abbrev pub RunBy : (World → Event → Reply → World → Type 0) → World → List Event → List Reply → World → Type 0
-RunBy Steps old [] [] new = new ≡ old
-RunBy Steps old (e ∷ events) (reply ∷ replies) new = (mid : World) × Steps old e reply mid × RunBy Steps mid events replies new
-RunBy Steps old [] (reply ∷ replies) new = ⊥
-RunBy Steps old (e ∷ events) [] new = ⊥
-
--- The machine of version 1 may give these replies to these events.
-abbrev pub Run : World → List Event → List Reply → World → Type 0
-Run = RunBy (EventStep version_1)

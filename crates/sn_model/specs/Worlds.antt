@@ -1,5 +1,5 @@
 -- When a world is one that runs can reach.
-use Rattle.std.specs.Prelude.{◌≡◌, ℕ, ◌≤◌, ◌<◌, ◌^◌, true, List, Option, None, Some, IsSomeAnd, is_some, length, slice_get}
+use Rattle.std.specs.Prelude.{◌≡◌, ℕ, ◌≤◌, ◌<◌, ◌^◌, true, List, Option, None, Some, IsSomeAnd, is_some, length, replicate, slice_get}
 use Rattle.std.specs.List.{AllByRecursion}
 use Rattle.std.specs.FinMap as map
 use Rattle.sn_walk.specs.declared.object.Home.TheVariants.{Live}
@@ -13,6 +13,7 @@ use Rattle.sn_model.specs.declared.session.Session.{Session}
 use Rattle.sn_model.specs.Tree.{Tree, names_for}
 use Rattle.sn_model.specs.World.{World, Descriptor, tree_in, trees_of}
 use Rattle.sn_model.specs.NameTree.{HasKind, IsTree}
+use Rattle.sn_model.specs.Machine.{State, Running, Stopped}
 
 -- whoever is logged in has numbers of 32 bits
 pub record IsCaller (s : Session) : Type 0 where
@@ -43,6 +44,22 @@ pub record IsWorld (limits : Limits) (world : World) : Type 0 where
   pub open_files : (session fd : ℕ) (d : Descriptor) → map.get world.descriptors (session, fd) ≡ Some d → IsOpenFile limits world session fd d
   pub held : (number : ℕ) → HasKind world.live number File → names_for world.live number ≡ 0 → (session : ℕ) × (fd : ℕ) × IsSomeAnd (map.get world.descriptors (session, fd)) (λ d. (d.home ≡ Live) × (d.number ≡ number))
 
+-- nobody is logged in, nothing is open, and no live file is without a name
+pub record IsSettled (world : World) : Type 0 where
+  pub out : world.sessions ≡ replicate 64 None
+  pub closed : world.descriptors ≡ map.empty
+  pub named : (number : ℕ) → HasKind world.live number File → 0 < names_for world.live number
+
+-- a world that a mount may find
+pub record IsFound (limits : Limits) (world : World) : Type 0 where
+  pub whole : IsWorld limits world
+  pub settled : IsSettled world
+
+-- the worlds of the machine
+abbrev pub IsState : Limits → State → Type 0
+IsState limits (Running w) = IsWorld limits w
+IsState limits (Stopped before after) = IsFound limits before × IsFound limits after
+
 -- the numbers of a call are those of its types
 abbrev pub IsCall : Call → Type 0
 IsCall (call.Login uid gid groups) = (uid < 2 ^ 32) × (gid < 2 ^ 32)
@@ -51,3 +68,5 @@ IsCall (call.Stat path) = Unit {0}
 
 abbrev pub IsEvent : Event → Type 0
 IsEvent (event.Call session c) = IsCall c
+IsEvent event.Step = Unit {0}
+IsEvent event.Restart = Unit {0}

@@ -11,9 +11,13 @@ pub enum Call {
     Stat { path: Word },
 }
 
-/// One line of a script.
+/// What happens to a file system, one after the other.
 #[derive(Drop)]
 pub enum Event {
     /// A call of the session with this number.
     Call { session: u32, call: Call },
+    /// One step of a consistency point, which begins one where none is in progress.
+    Step,
+    /// An unmount and a mount; of a mount that has stopped, a mount alone.
+    Restart,
 }

@@ -1,6 +1,5 @@
 ghost use Rattle.std.specs.Prelude.{◌≡◌, ◌≤◌, IfOk, length};
 
-use sn_acl::MAX_GROUPS;
 use std::alloc::{AllocError, Global};
 use std::marker::Model;
 
@@ -12,18 +11,17 @@ pub struct Groups {
 
 impl Model for Groups {
     ghost use Rattle.std.specs.Prelude.{ℕ, ◌≤◌, List, vec_len};
-    ghost use Rattle.sn_acl.specs.declared.credential.TheConstants.{MAX_GROUPS};
 
     ghost Value = { List ℕ };
 
     ghost view = { λ g. g.numbers.items };
 
-    ghost invariant = { λ g. vec_len g.numbers ≤ MAX_GROUPS };
+    ghost invariant = { λ g. vec_len g.numbers ≤ 32 };
 }
 
 impl Groups {
     pub fn new(alloc: Global, numbers: &[u32]) -> Result<Groups, AllocError>
-        requires { length numbers.now ≤ MAX_GROUPS }
+        requires { length numbers.now ≤ 32 }
         ensures { IfOk result (λ groups. groups ≡ numbers.now) }
     {
         Ok(Groups {
@@ -33,7 +31,7 @@ impl Groups {
 
     pub fn as_slice(&self) -> &[u32]
         ensures numbers { result.now ≡ self.now }
-        ensures few { length self.now ≤ MAX_GROUPS }
+        ensures few { length self.now ≤ 32 }
     {
         self.numbers.as_slice()
     }

@@ -1,6 +1,7 @@
 ghost use Rattle.sn_model.specs.ChangeLaws.{ChangesBring, ChangesKeepCovers, ChangesKeepTheTree, CoveredSettleAlike, CoversItself, CoversJoin, DroppingKeepsCovers, DroppingKeepsTheTree, ListsJoin, ListsKeepCovers, ListsKeepTheTree, TestIsBelow};
-ghost use Rattle.sn_model.specs.MachineLaws.{CallsKeepTheState, RestartsKeepTheState};
-ghost use Rattle.sn_model.specs.Laws.{DecidedChangesApply, MakesOneMore, RefusalsChangeNothing, RunsKeepTheWorld};
+ghost use Rattle.sn_model.specs.Example.{Answers, Settles};
+ghost use Rattle.sn_model.specs.MachineLaws.{EventsKeepTheState, LivesKeepTheWorld, RefusedEventsChangeNothing, RestartsSettle, RunsKeepTheWorld, StoppedStays};
+ghost use Rattle.sn_model.specs.Laws.{DecidedChangesApply, MakesOneMore, RefusalsChangeNothing};
 
 /// Whatever a call is refused for, the world stays as it was.
 pub fn refusals_change_nothing()
@@ -17,21 +18,38 @@ pub fn decided_changes_apply()
     ensures { DecidedChangesApply }
 {}
 
-/// After every list of calls the live tree and the frozen trees are name trees, whoever is logged in
-/// has numbers of 32 bits, open files are there, and a live file without a name is held.
+/// A stopped machine answers ESTOPPED to each call and step, and stays as it is.
+pub fn stopped_stays()
+    ensures { StoppedStays }
+{}
+
+/// Whatever a running machine refuses an event for, but for EIO, it stays as it is.
+pub fn refused_events_change_nothing()
+    ensures { RefusedEventsChangeNothing }
+{}
+
+/// After a restart that mounts nobody is logged in, nothing is open, and no live file is without a name.
+pub fn restarts_settle()
+    ensures { RestartsSettle }
+{}
+
+/// Whatever happens to a machine, and whatever it meets with, a world follows, or two settled ones that
+/// the next mount may find.
+pub fn events_keep_the_state()
+    ensures { EventsKeepTheState }
+{}
+
+/// After every list of events from a new world on, the live tree and the frozen trees are name trees,
+/// whoever is logged in has numbers of 32 bits, open files are there, and a live file without a name is
+/// held.
 pub fn runs_keep_the_world()
     ensures { RunsKeepTheWorld }
 {}
 
-/// Whatever a call is answered, also where no room is found or the device stops the machine, a world
-/// follows, or two settled ones that the next mount may find.
-pub fn calls_keep_the_state()
-    ensures { CallsKeepTheState }
-{}
-
-/// A restart gives a world, in which nobody is logged in and no file is without a name.
-pub fn restarts_keep_the_state()
-    ensures { RestartsKeepTheState }
+/// A list of runs, each from the world that a crash in the run before has left, leaves such a world, and
+/// a settled one.
+pub fn lives_keep_the_world()
+    ensures { LivesKeepTheWorld }
 {}
 
 /// What a change brings is there afterwards: names, owners, ACLs, bytes.
@@ -94,4 +112,10 @@ pub fn covers_itself()
 /// What covers a cover covers.
 pub fn covers_join()
     ensures { CoversJoin }
+{}
+
+/// The machine on a world with a snapshot, a file without a name, and two sessions.
+pub fn example_holds()
+    ensures settles { Settles }
+    ensures answers { Answers }
 {}

@@ -1,7 +1,9 @@
 ghost use Rattle.std.specs.Prelude.{◌≡◌};
 
+use crate::{Content, MountFault, Names, StoredAcl};
 use sn_acl::{Mode, Tag};
 use sn_walk::Kind;
+use std::marker::Model;
 
 /// Why a call was refused, by the names that POSIX.1-2017 has in <errno.h>, and two of our own.
 #[derive(Clone, Copy, PartialEq, Eq, Hash)]
@@ -65,11 +67,42 @@ impl Access {
     };
 }
 
+/// Which path of a call, seen as a number: 1 or 2, or 0 where the call has no path.
+#[derive(Clone, Copy, PartialEq, Eq, Hash)]
+pub struct PathNumber {
+    number: u8,
+}
+
+impl Model for PathNumber {
+    ghost use Rattle.std.specs.Prelude.{ℕ, ◌≤◌};
+
+    ghost Value = { ℕ };
+
+    ghost view = { λ path. path.number };
+
+    ghost invariant = { λ path. path.number ≤ 2 };
+
+    ghost inverse = { λ n. record { number = n } };
+}
+
+impl PathNumber {
+    pub const NONE: PathNumber = PathNumber { number: 0 };
+
+    pub const FIRST: PathNumber = PathNumber { number: 1 };
+
+    pub const SECOND: PathNumber = PathNumber { number: 2 };
+
+    pub fn get(self) -> u8
+        ensures { result ≡ self }
+    {
+        self.number
+    }
+}
+
 /// Where and why a right is lacking.
 #[derive(Clone, Copy, PartialEq, Eq, Hash)]
 pub struct Denial {
-    /// Which path of the call, 1 or 2. A call without a path has 0.
-    pub path: u8,
+    pub path: PathNumber,
     /// 0 is the root, and i what the first i names of the path stand for.
     pub place: u16,
     /// The access that was asked, none where the rule is no entry.
@@ -116,28 +149,33 @@ pub struct Status {
     pub number: u16,
 }
 
-/// The answer to an event.
+/// How far a step of a consistency point came.
 #[derive(Clone, Copy, PartialEq, Eq, Hash)]
+pub enum Progress {
+    /// The point goes on.
+    More,
+    /// What the point froze is durable.
+    Done,
+}
+
+/// The answer to an event.
+#[derive(Drop)]
 pub enum Reply {
     /// It is done, and there is nothing to tell.
     Done,
+    /// umask(): the mask that was.
+    Mode(Mode),
+    /// The descriptor of open(), the bytes that write() wrote, the offset of lseek().
+    Number(u64),
+    /// read(): none at the end of the file or past it.
+    Content(Content),
     Status(Status),
+    /// Of a directory or of the snapshots, in the order of their bytes.
+    Names(Names),
+    /// The ACL that was asked for. A directory may have no default ACL.
+    Acl(Option<StoredAcl>),
+    Progress(Progress),
     Refused(Refusal),
-}
-
-/// How a run ended.
-#[derive(Clone, Copy, PartialEq, Eq, Hash)]
-pub enum End {
-    /// Each event was answered.
-    Clean,
-    /// The list of replies found no memory, and nothing was done.
-    Memory,
-    Mount(MountFault),
-}
-
-/// Why there is no mount.
-#[derive(Clone, Copy, PartialEq, Eq, Hash)]
-pub enum MountFault {
-    /// The tree and the sessions found no memory.
-    Memory,
+    /// A restart unmounted, or found the mount stopped, and then couldn't mount.
+    Unmounted(MountFault),
 }

@@ -1,9 +1,7 @@
 -- What a fault says to the shell, and the fault that a run ends with.
 use Rattle.std.specs.Prelude.{ℕ, ◌≡◌, ◌⊎◌, Result, Ok, Err}
-use Rattle.sn_model.specs.declared.reply.End.{End}
-use Rattle.sn_model.specs.declared.reply.End.TheVariants as end
-use Rattle.sn_model.specs.declared.reply.MountFault.{MountFault}
-use Rattle.sn_model.specs.declared.reply.MountFault.TheVariants as mount
+use Rattle.sn_model.specs.declared.mount.End.{End}
+use Rattle.sn_model.specs.declared.mount.End.TheVariants as end
 use Rattle.sn_command.specs.declared.fault.WordsFault.{WordsFault}
 use Rattle.sn_command.specs.declared.fault.WordsFault.TheVariants as words
 use Rattle.sn_program.specs.declared.fault.Fault.{Fault}
@@ -14,13 +12,11 @@ status_of fault.Usage = 2
 status_of _ = 1
 
 -- only a clean end is no fault
-abbrev pub mount_fault : MountFault → Fault
-mount_fault mount.Memory = fault.MountMemory
-
 abbrev pub fault_of : End → Result (Unit {0}) Fault
 fault_of end.Clean = Ok tt
+fault_of end.Stopped = Err fault.Stopped
 fault_of end.Memory = Err fault.Memory
-fault_of (end.Mount m) = Err (mount_fault m)
+fault_of (end.Mount m) = Err (fault.Mount m)
 
 -- a file or an output failed, or memory did on the way
 abbrev pub IsOfFile : Fault → Type 0

@@ -23,9 +23,12 @@ pub enum Fault {
     File,
     #[error("memory")]
     Memory,
-    /// The mount found no memory.
-    #[error("M5")]
-    MountMemory,
+    /// There was no mount.
+    #[error("{0}")]
+    Mount(MountFault),
+    /// The mount has stopped, or its end was refused.
+    #[error("stopped")]
+    Stopped,
 }
 
 impl Fault {
@@ -45,8 +48,9 @@ impl Fault {
     {
         match end {
             End::Clean => Ok(()),
+            End::Stopped => Err(Fault::Stopped),
             End::Memory => Err(Fault::Memory),
-            End::Mount(MountFault::Memory) => Err(Fault::MountMemory),
+            End::Mount(fault) => Err(Fault::Mount(fault)),
         }
     }
 }

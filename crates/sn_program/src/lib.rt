@@ -3,7 +3,7 @@
 //!
 //! [`program`] is all of it. It reads the words by `sn_command`, then the script's file, and [`answer`] makes of the
 //! script's bytes the bytes of its replies: its clause, by `specs/Answers`, is the whole way from a script to what is
-//! written. Each fault is a [`Fault`], whose text is the line on standard error and whose status the shell sees.
+//! written. [`answer_from`] reads the script from any reader. Each fault is a [`Fault`], whose text is the line on standard error and whose status the shell sees.
 //!
 //! ```text
 //! let status = program(&rt, &["run", "image", "first.snap"], &mut out, &mut err);
@@ -11,7 +11,8 @@
 #![tactic(auto)]
 
 mod fault;
+mod output;
 mod run;
 
 pub use fault::{Fault, tell};
-pub use run::{answer, program};
+pub use run::{answer, answer_from, program};

@@ -1,54 +1,44 @@
-ghost use Rattle.std.specs.Prelude.{◌≡◌, ◌≢◌, ℕ, ◌+◌, ◌<◌, ◌≤◌, ◌⊎◌, ◌↔◌, List, length, OnOk, IfErr, IsErrOf, IsErrAnd};
-ghost use Rattle.std.specs.List.{flat_map};
-ghost use Rattle.std.specs.Io.KnownBytes.{Appends};
-ghost use Rattle.sn_script.specs.Replies.{reply_line};
+ghost use Rattle.std.specs.Prelude.{◌≡◌, ◌≢◌, ℕ, ◌+◌, ◌<◌, ◌≤◌, ◌⊎◌, ◌↔◌, List, None, length, take, OnOk, OnErr, IfOk, IfErr, IfSome, IsErrOf, IsErrAnd};
+ghost use Rattle.std.specs.Io.KnownBytes.{Keeps};
 ghost use Rattle.sn_script.specs.Scripts.{IsFirstBad};
 ghost use Rattle.sn_script.specs.declared.fault.ScriptFault.{ScriptFault};
 ghost use Rattle.sn_script.specs.declared.fault.ScriptFault.TheVariants as reading;
-ghost use Rattle.sn_program.specs.Answers.{IsAnswer, HasAnswered};
+ghost use Rattle.sn_program.specs.Answers.{Answers, BeginsToAnswer, HasAnswered, HasBegun};
 ghost use Rattle.sn_program.specs.Fault.{IsOfFile};
 ghost use Rattle.sn_program.specs.declared.fault.Fault.TheVariants as fault;
 
 use crate::fault::{Fault, tell};
+use crate::output::write_replies;
 use sn_command::{Task, parse};
 use sn_core::run_plain;
-use sn_model::Reply;
-use sn_script::{SCRIPT_MAX, print_replies, read_script};
+use sn_script::{SCRIPT_MAX, read_script};
 use std::alloc::Global;
 use std::convert::AsStr;
 use std::fs;
 use std::io::{Read, Write};
 use std::rt::Files;
 
-/// A script's bytes, and no more than one byte past the most that a script may have.
-fn read_file<R: Files + AllocGlobal>(rt: &R, path: &str) -> Result<Vec<u8>, Fault> {
-    let mut bytes = Vec::new(rt.alloc());
-    fs::open(rt, path)?
-        .take(SCRIPT_MAX as u64 + 1)
-        .read_to_end(&mut bytes)?;
-    Ok(bytes)
-}
-
-fn write_replies<W: Write>(alloc: Global, replies: &[Reply], out: &mut W) -> Result<(), Fault>
-    ensures written { OnOk result (Appends (W.contents out.old) (W.contents out.new) (flat_map reply_line replies.now)) }
+/// The bytes of a script, and no more than one byte past the most that a script may have.
+fn read_bytes<R: Read + Drop>(alloc: Global, reader: R) -> Result<Vec<u8>, Fault>
+    ensures read { IfOk result (λ bytes. IfSome (R.remaining reader) (λ all. bytes.items ≡ take 16777217 all)) }
     ensures faults { IfErr result IsOfFile }
 {
-    let text = print_replies(alloc, replies)?;
-    out.write_all(text.as_slice())?;
-    out.flush()?;
-    Ok(())
+    let mut bytes = Vec::new(alloc);
+    reader.take(SCRIPT_MAX as u64 + 1).read_to_end(&mut bytes)?;
+    Ok(bytes)
 }
 
 /// Answers a script. The replies are written also where the run doesn't end well, and its fault goes
 /// before one of writing.
 pub fn answer<W: Write>(alloc: Global, script: &[u8], out: &mut W) -> Result<(), Fault>
-    // What is written for a script is what the machine may answer to it, and nothing else.
-    ensures answered { OnOk result ((text : List ℕ) × IsAnswer script.now text × Appends (W.contents out.old) (W.contents out.new) text) }
+    // What is written for a script is what the machine may answer to it, and nothing else; on a fault, the front of that.
+    ensures answered { OnOk result (Answers script.now (W.contents out.old) (W.contents out.new)) }
+    ensures front { OnErr result (Keeps (W.contents out.old) (W.contents out.new) ⊎ BeginsToAnswer script.now (W.contents out.old) (W.contents out.new)) }
 
     // A fault of the script names its first bad line, or 0 where it is too long, and nothing is written.
-    ensures long { IsErrOf result (fault.Script (reading.Line 0)) ↔ (SCRIPT_MAX < length script.now) }
+    ensures long { IsErrOf result (fault.Script (reading.Line 0)) ↔ (16777216 < length script.now) }
     ensures bad { (n : ℕ) → IsErrOf result (fault.Script (reading.Line (n + 1))) → IsFirstBad script.now (n + 1) }
-    ensures first { (n : ℕ) → IsFirstBad script.now n → length script.now ≤ SCRIPT_MAX
+    ensures first { (n : ℕ) → IsFirstBad script.now n → length script.now ≤ 16777216
         → IsErrAnd result (λ why. (why ≡ fault.Script (reading.Line n)) ⊎ (why ≡ fault.Script reading.Memory)) }
     ensures unread { (why : ScriptFault) → IsErrOf result (fault.Script why) → out.new ≡ out.old }
 
@@ -62,17 +52,32 @@ pub fn answer<W: Write>(alloc: Global, script: &[u8], out: &mut W) -> Result<(),
     written
 }
 
+/// Answers the script that a reader has left to give, all of it.
+pub fn answer_from<R: Read + Drop, W: Write>(
+    alloc: Global,
+    reader: R,
+    out: &mut W,
+) -> Result<(), Fault>
+    ensures answered { OnOk result (HasAnswered (R.remaining reader) (W.contents out.old) (W.contents out.new)) }
+    ensures front { OnErr result (HasBegun (R.remaining reader) (W.contents out.old) (W.contents out.new)) }
+    ensures long { IfSome (R.remaining reader) (λ script. IsErrOf result (fault.Script (reading.Line 0)) → 16777216 < length script) }
+    ensures words { IfErr result (λ why. why ≢ fault.Usage) }
+{
+    let bytes = read_bytes(alloc, reader)?;
+    answer(alloc, bytes.as_slice(), out)
+}
+
 fn execute<R: Files + AllocGlobal, W: Write, S: AsStr>(
     rt: &R,
     words: &[S],
     out: &mut W,
 ) -> Result<(), Fault>
-    ensures answered { OnOk result (HasAnswered (W.contents out.old) (W.contents out.new)) }
+    ensures answered { OnOk result (HasAnswered None (W.contents out.old) (W.contents out.new)) }
+    ensures front { OnErr result (HasBegun None (W.contents out.old) (W.contents out.new)) }
     ensures words { IsErrOf result fault.Usage → out.new ≡ out.old }
 {
     let Task::Run { script, .. } = parse(rt.alloc(), words)?;
-    let script = read_file(rt, script)?;
-    answer(rt.alloc(), script.as_slice(), out)
+    answer_from(rt.alloc(), fs::open(rt, script)?, out)
 }
 
 /// Does what the words ask for, and gives the exit status: 0 where it was done, 2 for words that are no
@@ -83,8 +88,9 @@ pub fn program<R: Files + AllocGlobal, W: Write, E: Write, S: AsStr>(
     out: &mut W,
     err: &mut E,
 ) -> u8
-    // What was written is an answer to some script: which bytes the file gave can't be said here.
-    ensures answered { result ≡ 0 → HasAnswered (W.contents out.old) (W.contents out.new) }
+    // What was written is an answer to some script, or the front of one: which bytes the file gave can't be said here.
+    ensures answered { result ≡ 0 → HasAnswered None (W.contents out.old) (W.contents out.new) }
+    ensures front { result ≢ 0 → HasBegun None (W.contents out.old) (W.contents out.new) }
     ensures words { result ≡ 2 → out.new ≡ out.old }
     ensures quiet { result ≡ 0 → err.new ≡ err.old }
     ensures status { result ≤ 2 }

@@ -4,7 +4,6 @@ use Rattle.std.specs.Prelude.{IsTrue}
 use Rattle.std.proofs.lemmas.Bool.{leb-true}
 use Rattle.sn_acl.proofs.ModeLemmas.{both}
 use Rattle.sn_walk.specs.Names.{is_name, is_name_spelled, has_name_length}
-use Rattle.sn_walk.specs.declared.name.TheConstants.{NAME_MAX}
 use Rattle.sn_model.specs.declared.change.Change.{Change}
 use Rattle.sn_model.specs.declared.change.Change.TheVariants.{Make, AddLink, Remove, Rename, Write, SetSize, SetAttributes}
 use Rattle.sn_model.specs.declared.change.Ownership.{Ownership}
@@ -53,7 +52,7 @@ length-fields (SetSize number size) = omega (arith, length-append (number_bytes 
 length-fields (SetAttributes number o) = omega (arith, length-append (number_bytes 2 number) (ownership_bytes o), length-number_bytes 2 number, length-ownership o)
 
 name_short : (name : List ℕ) → IsTrue (is_name name) → length name ≤ 255
-name_short name h = leb-true (length name) NAME_MAX (both (is_name_spelled name) (has_name_length name) h).1
+name_short name h = leb-true (length name) 255 (both (is_name_spelled name) (has_name_length name) h).1
 
 few_entries : (o : Ownership) → IsOwnership o → entries_of o ≤ 69
 few_entries o fits = omega (arith, named_short (named_of o.acl) (parts_named o.acl fits.acl), default_short o.default_acl fits.default)

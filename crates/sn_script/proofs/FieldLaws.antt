@@ -7,7 +7,6 @@ use Rattle.std.proofs.lemmas.Bool.{leb-true, le-leb}
 use Rattle.std.proofs.lemmas.List.{length-map}
 use Rattle.std.proofs.lemmas.List.Splits.{join_with_byte-slice_split}
 use Rattle.std.proofs.lemmas.Slice.Eq.{bytes_eq-Decides}
-use Rattle.sn_acl.specs.declared.credential.TheConstants.{MAX_GROUPS}
 use Rattle.sn_script.specs.Fields.{parts, octal, numbers_word, is_word}
 use Rattle.sn_script.specs.Reading.{◌>>=◌, octal_digit_of, octal_of, numbers_of, groups_of, word_of}
 use Rattle.sn_script.proofs.Options.{bind_some, some_is, chosen, passed, both_true}
@@ -111,7 +110,7 @@ is_false : (b : Bool) → (b ≡ true → ⊥) → b ≡ false
 is_false true h = absurd (h refl)
 is_false false h = refl
 
-pub groups_again : (ns : List ℕ) → AllByRecursion (λ n. n < 2 ^ 32) ns → length ns ≤ MAX_GROUPS → groups_of (numbers_word ns) ≡ Some ns
+pub groups_again : (ns : List ℕ) → AllByRecursion (λ n. n < 2 ^ 32) ns → length ns ≤ 32 → groups_of (numbers_word ns) ≡ Some ns
 unfolding groups_of
 groups_again [] h few = refl
 groups_again (n ∷ ns) h few =
@@ -120,7 +119,7 @@ groups_again (n ∷ ns) h few =
     let same : numbers_word (n ∷ ns) ≡ codes "-" = (bytes_eq-Decides (numbers_word (n ∷ ns)) (codes "-")).0 e in
     let lists : map decimal (n ∷ ns) ≡ (45 ∷ []) ∷ [] = sym cut ∙ ap (parts 44) same in
     digit_first n h.0 (heads _ _ _ _ lists)) in
-    let room : leb (length (parts 44 (numbers_word (n ∷ ns)))) MAX_GROUPS ≡ true = ap (λ (t : List (List ℕ)). leb (length t) MAX_GROUPS) cut ∙ le-leb (length (map decimal (n ∷ ns))) MAX_GROUPS (rw (length-map (n ∷ ns) decimal) few) in
+    let room : leb (length (parts 44 (numbers_word (n ∷ ns)))) 32 ≡ true = ap (λ (t : List (List ℕ)). leb (length t) 32) cut ∙ le-leb (length (map decimal (n ∷ ns))) 32 (rw (length-map (n ∷ ns) decimal) few) in
     rw (other, room, cut) (numbers_again (n ∷ ns) h)
   where
     heads : (x y : List ℕ) (xs ys : List (List ℕ)) → x ∷ xs ≡ y ∷ ys → x ≡ y
@@ -134,17 +133,17 @@ parts_first c text [] e =
     absurd (omega arith)
 parts_first c text (n ∷ ns) e = (n, ns, refl)
 
-pub groups_take : (word ns : List ℕ) → groups_of word ≡ Some ns → (word ≡ numbers_word ns) × AllByRecursion (λ n. n < 2 ^ 32) ns × (length ns ≤ MAX_GROUPS)
+pub groups_take : (word ns : List ℕ) → groups_of word ≡ Some ns → (word ≡ numbers_word ns) × AllByRecursion (λ n. n < 2 ^ 32) ns × (length ns ≤ 32)
 unfolding groups_of
 groups_take word ns e =
-    elim (chosen (bytes_eq word (codes "-")) (Some []) (cond (leb (length (parts 44 word)) MAX_GROUPS) (numbers_of (parts 44 word)) None) (Some ns) e) [
+    elim (chosen (bytes_eq word (codes "-")) (Some []) (cond (leb (length (parts 44 word)) 32) (numbers_of (parts 44 word)) None) (Some ns) e) [
       | inl dash ↦
           let same : word ≡ codes "-" = (bytes_eq-Decides word (codes "-")).0 dash.0 in
           let none : [] ≡ ns = some_is [] ns dash.1 in
-          subst (λ (k : List ℕ). (word ≡ numbers_word k) × AllByRecursion (λ n. n < 2 ^ 32) k × (length k ≤ MAX_GROUPS)) none (same, tt, lit≤ tt)
+          subst (λ (k : List ℕ). (word ≡ numbers_word k) × AllByRecursion (λ n. n < 2 ^ 32) k × (length k ≤ 32)) none (same, tt, lit≤ tt)
       | inr joined ↦
-          let t = passed (leb (length (parts 44 word)) MAX_GROUPS) (numbers_of (parts 44 word)) ns joined.1 in
-          let few = leb-true (length (parts 44 word)) MAX_GROUPS t.0 in
+          let t = passed (leb (length (parts 44 word)) 32) (numbers_of (parts 44 word)) ns joined.1 in
+          let few = leb-true (length (parts 44 word)) 32 t.0 in
           let read = numbers_take (parts 44 word) ns t.1 in
           let count : length (parts 44 word) ≡ length ns = ap length read.0 ∙ length-map ns decimal in
           (is_joined word ns read.0, read.1, omega (arith, few, count))

@@ -12,7 +12,6 @@ use Rattle.sn_model.specs.declared.call.Call.{Call}
 use Rattle.sn_model.specs.declared.call.Call.TheVariants as call
 use Rattle.sn_model.specs.declared.call.Event.{Event}
 use Rattle.sn_model.specs.declared.call.Event.TheVariants as event
-use Rattle.sn_script.specs.declared.line.TheConstants.{MAX_WORDS}
 use Rattle.sn_script.specs.Fields.{parts, octal, numbers_word, is_word}
 use Rattle.sn_script.specs.Lines.{name_of, arguments_of, words_of, line_of, IsCall, IsEvent}
 use Rattle.sn_script.specs.Scripts.{BeginsBadly}
@@ -115,6 +114,8 @@ event_takes (session ∷ name ∷ arguments) x e =
 event_again : (e : Event) → IsEvent e → event_of (words_of e) ≡ Some e
 unfolding event_of
 event_again (event.Call session c) h = rw (number_again (2 ^ 32) session (lit≤ tt) h.0, call_again c h.1) refl
+event_again event.Step h = absurd h
+event_again event.Restart h = absurd h
 
 -- ---- lines
 
@@ -148,6 +149,8 @@ call_graphic (call.Stat path) h = (graphic_within (codes "stat") refl, (word_gra
 
 words_graphic : (e : Event) → IsEvent e → AllByRecursion IsGraphic (words_of e)
 words_graphic (event.Call session c) h = (number_graphic session h.0, call_graphic c h.1)
+words_graphic event.Step h = absurd h
+words_graphic event.Restart h = absurd h
 
 all_lack : (c : ℕ) (ws : List (List ℕ)) → c < 33 → AllByRecursion IsGraphic ws → AllByRecursion (Lacks c) ws
 all_lack c [] lt h = tt
@@ -160,13 +163,17 @@ all_wider (w ∷ ws) h = (Within-wider 33 126 32 126 w (lit≤ tt) (lit≤ tt) h
 text_lacks : (e : Event) → IsEvent e → Lacks 10 (text_of e)
 text_lacks e h = lacks_outside 32 126 10 (text_of e) (inl (lit< tt)) (Within-join 32 126 32 (words_of e) (lit≤ tt) (lit≤ tt) (all_wider (words_of e) (words_graphic e h)))
 
-few_words : (e : Event) → leb (length (words_of e)) MAX_WORDS ≡ true
+few_words : (e : Event) → leb (length (words_of e)) 5 ≡ true
 few_words (event.Call session (call.Login uid gid groups)) = refl
 few_words (event.Call session (call.Mkdir path mode)) = refl
 few_words (event.Call session (call.Stat path)) = refl
+few_words event.Step = refl
+few_words event.Restart = refl
 
 text_cut : (e : Event) → IsEvent e → parts 32 (text_of e) ≡ words_of e
 text_cut (event.Call session c) h = parts_join 32 (decimal session) (name_of c ∷ arguments_of c) (all_lack 32 (words_of (event.Call session c)) (lit< tt) (words_graphic (event.Call session c) h))
+text_cut event.Step h = absurd h
+text_cut event.Restart h = absurd h
 
 pub line_again : (e : Event) → IsEvent e → line_event (text_of e) ≡ Some e
 unfolding line_event
@@ -175,7 +182,7 @@ line_again e h = rw (text_cut e h, few_words e) (event_again e h)
 pub line_takes : (line : List ℕ) (e : Event) → line_event line ≡ Some e → IsEvent e × (line ≡ text_of e)
 unfolding line_event
 line_takes line e read =
-    let t = passed (leb (length (parts 32 line)) MAX_WORDS) (event_of (parts 32 line)) e read in
+    let t = passed (leb (length (parts 32 line)) 5) (event_of (parts 32 line)) e read in
     let p = event_takes (parts 32 line) e t.1 in
     (p.1, sym (join_with_byte-slice_split 32 line) ∙ ap (join_with_byte 32) p.0)
 

@@ -1,7 +1,6 @@
 -- The line of an event: its words, with a space between each two, and a line feed.
 use Rattle.std.specs.Prelude.{ℕ, ◌^◌, ◌<◌, ◌≤◌, List, [], ◌∷◌, ◌++◌, length, IsTrue, codes, decimal}
 use Rattle.std.specs.List.{AllByRecursion, join_with_byte}
-use Rattle.sn_acl.specs.declared.credential.TheConstants.{MAX_GROUPS}
 use Rattle.sn_model.specs.declared.call.Call.{Call}
 use Rattle.sn_model.specs.declared.call.Call.TheVariants as call
 use Rattle.sn_model.specs.declared.call.Event.{Event}
@@ -20,15 +19,20 @@ arguments_of (call.Stat path) = path ∷ []
 
 abbrev pub words_of : Event → List (List ℕ)
 words_of (event.Call session c) = decimal session ∷ name_of c ∷ arguments_of c
+words_of event.Step = codes "step" ∷ []
+words_of event.Restart = codes "restart" ∷ []
 
 abbrev pub line_of : Event → List ℕ
 line_of e = join_with_byte 32 (words_of e) ++ 10 ∷ []
 
 -- the calls that have a line: numbers have 32 bits, modes four octal digits, and a path is any word
 abbrev pub IsCall : Call → Type 0
-IsCall (call.Login uid gid groups) = (uid < 2 ^ 32) × (gid < 2 ^ 32) × AllByRecursion (λ n. n < 2 ^ 32) groups × (length groups ≤ MAX_GROUPS)
+IsCall (call.Login uid gid groups) = (uid < 2 ^ 32) × (gid < 2 ^ 32) × AllByRecursion (λ n. n < 2 ^ 32) groups × (length groups ≤ 32)
 IsCall (call.Mkdir path mode) = IsTrue (is_word path) × (mode < 4096)
 IsCall (call.Stat path) = IsTrue (is_word path)
 
+-- Lines of steps and restarts aren't read yet.
 abbrev pub IsEvent : Event → Type 0
 IsEvent (event.Call session c) = (session < 2 ^ 32) × IsCall c
+IsEvent event.Step = ⊥
+IsEvent event.Restart = ⊥

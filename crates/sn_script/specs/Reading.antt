@@ -2,14 +2,12 @@
 use Rattle.std.specs.Prelude.{◌≡◌, ℕ, ◌+◌, ◌-◌, ◌*◌, ◌^◌, ◌&&◌, nat_le, nat_lt, List, [], ◌∷◌, length, Option, Some, None, Result, Ok, Err, if◌then◌else◌, codes, decimal}
 use Rattle.std.specs.Str.{bytes_eq}
 use Rattle.std.specs.Str.Parse.{digits_value}
-use Rattle.sn_acl.specs.declared.credential.TheConstants.{MAX_GROUPS}
 use Rattle.sn_model.specs.declared.call.Call.{Call}
 use Rattle.sn_model.specs.declared.call.Call.TheVariants as call
 use Rattle.sn_model.specs.declared.call.Event.{Event}
 use Rattle.sn_model.specs.declared.call.Event.TheVariants as event
 use Rattle.sn_script.specs.declared.fault.LineFault.{LineFault}
 use Rattle.sn_script.specs.declared.fault.LineFault.TheVariants.{Bad, Memory}
-use Rattle.sn_script.specs.declared.line.TheConstants.{MAX_WORDS}
 use Rattle.sn_script.specs.Fields.{is_word, parts}
 
 infixl 10 ◌>>=◌
@@ -52,7 +50,7 @@ numbers_of (word ∷ words) = do
 unfoldable pub groups_of : List ℕ → Option (List ℕ)
 groups_of word =
     if bytes_eq word (codes "-") then Some [] else
-    if nat_le (length (parts 44 word)) MAX_GROUPS then numbers_of (parts 44 word) else None
+    if nat_le (length (parts 44 word)) 32 then numbers_of (parts 44 word) else None
 
 abbrev pub word_of : List ℕ → Option (List ℕ)
 word_of bytes = if is_word bytes then Some bytes else None
@@ -91,6 +89,6 @@ event_of (session ∷ name ∷ arguments) = do
   Some (event.Call s c)
 event_of _ = None
 
--- a line without its end
+-- a line without its end; none has more than five words
 unfoldable pub line_event : List ℕ → Option Event
-line_event line = if nat_le (length (parts 32 line)) MAX_WORDS then event_of (parts 32 line) else None
+line_event line = if nat_le (length (parts 32 line)) 5 then event_of (parts 32 line) else None

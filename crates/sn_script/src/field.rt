@@ -1,7 +1,6 @@
 ghost use Rattle.std.specs.Prelude.{◌≡◌, ◌^◌, ◌≤◌, ◌∷◌, [], map, length};
 ghost use Rattle.std.specs.Char.{is_ascii_graphic};
 ghost use Rattle.std.specs.List.{list_all};
-ghost use Rattle.sn_acl.specs.declared.credential.TheConstants.{MAX_GROUPS};
 ghost use Rattle.sn_script.specs.Fields.{is_word};
 ghost use Rattle.sn_script.specs.Reading.{Gives, number_below, octal_digit_of, octal_of, numbers_of, groups_of, word_of};
 
@@ -80,7 +79,7 @@ fn is_graphic(bytes: &[u8]) -> bool
 }
 
 fn numbers(words: &[&[u8]]) -> Result<ArrayVec<u32, MAX_GROUPS>, LineFault>
-    requires { length words.now ≤ MAX_GROUPS }
+    requires { length words.now ≤ 32 }
     ensures { Gives (λ ns. ns.items) result (numbers_of (map (λ w. w.now) words.now)) }
 {
     let mut numbers = ArrayVec::new();

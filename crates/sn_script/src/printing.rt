@@ -1,39 +1,13 @@
-ghost use Rattle.std.specs.Prelude.{◌≡◌, ◌<◌, ◌++◌, OnOk, IfOk, string_bytes};
+ghost use Rattle.std.specs.Prelude.{◌≡◌, ◌<◌, ◌++◌, OnOk, IfOk, codes};
 ghost use Rattle.std.specs.List.{flat_map};
 ghost use Rattle.sn_script.specs.Fields.{octal};
-ghost use Rattle.sn_script.specs.Replies.{errno_name, kind_name, status_mode, status_line, access_text, rule_text, denial_text, refusal_line, reply_line};
+ghost use Rattle.sn_script.specs.Replies.{kind_name, status_mode, status_line, content_text, name_text, names_line, some_acl_text, reply_line};
 
-use sn_model::{Access, Denial, Errno, Refusal, Reply, Rule, Status};
+use sn_model::{Content, Names, Reply, Status, StoredAcl};
 use sn_walk::Kind;
 use std::alloc::{AllocError, Global};
-
-fn errno_name(errno: Errno) -> &'static str
-    ensures { result.now ≡ errno_name errno }
-{
-    match errno {
-        Errno::Eacces => "EACCES",
-        Errno::Eperm => "EPERM",
-        Errno::Enoent => "ENOENT",
-        Errno::Enotdir => "ENOTDIR",
-        Errno::Eisdir => "EISDIR",
-        Errno::Eexist => "EEXIST",
-        Errno::Enotempty => "ENOTEMPTY",
-        Errno::Einval => "EINVAL",
-        Errno::Enametoolong => "ENAMETOOLONG",
-        Errno::Erofs => "EROFS",
-        Errno::Exdev => "EXDEV",
-        Errno::Ebusy => "EBUSY",
-        Errno::Emlink => "EMLINK",
-        Errno::Emfile => "EMFILE",
-        Errno::Ebadf => "EBADF",
-        Errno::Efbig => "EFBIG",
-        Errno::Elimit => "ELIMIT",
-        Errno::Enospc => "ENOSPC",
-        Errno::Enomem => "ENOMEM",
-        Errno::Eio => "EIO",
-        Errno::Estopped => "ESTOPPED",
-    }
-}
+use std::io;
+use std::io::Write;
 
 fn kind_name(kind: Kind) -> &'static str
     ensures { result.now ≡ kind_name kind }
@@ -54,9 +28,9 @@ fn status_mode(status: &Status) -> u16
     set_gid + sticky + status.mode.bits()
 }
 
-fn push_octal(text: &mut String, number: u16) -> Result<(), AllocError>
+fn push_octal(text: &mut Vec<u8>, number: u16) -> io::Result<()>
     requires { number < 4096 }
-    ensures { OnOk result (string_bytes text.new ≡ string_bytes text.old ++ octal number) }
+    ensures { OnOk result (text.new.items ≡ text.old.items ++ octal number) }
 {
     write!(
         text,
@@ -68,8 +42,8 @@ fn push_octal(text: &mut String, number: u16) -> Result<(), AllocError>
     )
 }
 
-fn push_status(text: &mut String, status: &Status) -> Result<(), AllocError>
-    ensures { OnOk result (string_bytes text.new ≡ string_bytes text.old ++ status_line status.now) }
+fn push_status(text: &mut Vec<u8>, status: &Status) -> io::Result<()>
+    ensures { OnOk result (text.new.items ≡ text.old.items ++ status_line status.now) }
 {
     let Status {
         links,
@@ -84,54 +58,63 @@ fn push_status(text: &mut String, status: &Status) -> Result<(), AllocError>
     writeln!(text, " {links} {owner} {group} {size}")
 }
 
-fn push_rule(text: &mut String, rule: Rule) -> Result<(), AllocError>
-    ensures { OnOk result (string_bytes text.new ≡ string_bytes text.old ++ rule_text rule) }
+fn push_mode(text: &mut Vec<u8>, bits: u16) -> io::Result<()>
+    requires { bits < 4096 }
+    ensures { OnOk result (text.new.items ≡ text.old.items ++ codes "ok " ++ octal bits ++ codes "\n") }
 {
-    match rule {
-        Rule::Entry(tag) => write!(text, "{tag}"),
-        Rule::Sticky => text.push_str("sticky"),
-        Rule::NotOwner => text.push_str("not-owner"),
-        Rule::NotRoot => text.push_str("not-root"),
-        Rule::NotMember => text.push_str("not-member"),
+    write!(text, "ok ")?;
+    push_octal(text, bits)?;
+    writeln!(text)
+}
+
+fn push_content(alloc: Global, text: &mut Vec<u8>, content: &Content) -> io::Result<()>
+    ensures { OnOk result (text.new.items ≡ text.old.items ++ codes "ok " ++ content_text content.now ++ codes "\n") }
+{
+    let bytes = content.as_bytes();
+    if bytes.is_empty() {
+        return writeln!(text, "ok -");
+    }
+    let digits = hex::encode(alloc, bytes)?;
+    writeln!(text, "ok {digits}")
+}
+
+fn push_names(text: &mut Vec<u8>, names: &Names) -> io::Result<()>
+    ensures { OnOk result (text.new.items ≡ text.old.items ++ names_line names.now) }
+{
+    write!(text, "ok")?;
+    for name in names.as_slice() {
+        text.push(b' ')?;
+        text.extend_from_slice(name.as_bytes())?;
+    }
+    writeln!(text)
+}
+
+fn push_acl(text: &mut Vec<u8>, acl: &Option<StoredAcl>) -> io::Result<()>
+    ensures { OnOk result (text.new.items ≡ text.old.items ++ codes "ok " ++ some_acl_text acl.now ++ codes "\n") }
+{
+    match acl {
+        None => writeln!(text, "ok -"),
+        Some(acl) => {
+            let printed = acl.to_acl().print();
+            writeln!(text, "ok {}", printed.as_str())
+        }
     }
 }
 
-fn push_access(text: &mut String, access: Access) -> Result<(), AllocError>
-    ensures { OnOk result (string_bytes text.new ≡ string_bytes text.old ++ access_text access) }
-{
-    let read = if access.read { "r" } else { "-" };
-    let write = if access.write { "w" } else { "-" };
-    let execute = if access.execute { "x" } else { "-" };
-    write!(text, "{read}{write}{execute}")
-}
-
-fn push_denial(text: &mut String, denial: &Denial) -> Result<(), AllocError>
-    ensures { OnOk result (string_bytes text.new ≡ string_bytes text.old ++ denial_text denial.now) }
-{
-    write!(text, " path {} place {} want ", denial.path, denial.place)?;
-    push_access(text, denial.want)?;
-    text.push_str(" by ")?;
-    push_rule(text, denial.rule)
-}
-
-fn push_refusal(text: &mut String, refusal: &Refusal) -> Result<(), AllocError>
-    ensures { OnOk result (string_bytes text.new ≡ string_bytes text.old ++ refusal_line refusal.now) }
-{
-    let name = errno_name(refusal.errno);
-    write!(text, "err {name}")?;
-    if let Some(denial) = &refusal.denial {
-        push_denial(text, denial)?;
-    }
-    text.push_str("\n")
-}
-
-fn push_reply(text: &mut String, reply: &Reply) -> Result<(), AllocError>
-    ensures { OnOk result (string_bytes text.new ≡ string_bytes text.old ++ reply_line reply.now) }
+fn push_reply(alloc: Global, text: &mut Vec<u8>, reply: &Reply) -> io::Result<()>
+    ensures { OnOk result (text.new.items ≡ text.old.items ++ reply_line reply.now) }
 {
     match reply {
-        Reply::Done => text.push_str("ok\n"),
+        Reply::Done => writeln!(text, "ok"),
+        Reply::Mode(mode) => push_mode(text, mode.bits()),
+        Reply::Number(number) => writeln!(text, "ok {number}"),
+        Reply::Content(content) => push_content(alloc, text, content),
         Reply::Status(status) => push_status(text, status),
-        Reply::Refused(refusal) => push_refusal(text, refusal),
+        Reply::Names(names) => push_names(text, names),
+        Reply::Acl(acl) => push_acl(text, acl),
+        Reply::Progress(progress) => writeln!(text, "ok {progress}"),
+        Reply::Refused(refusal) => writeln!(text, "err {refusal}"),
+        Reply::Unmounted(fault) => writeln!(text, "fault {fault}"),
     }
 }
 
@@ -139,9 +122,12 @@ fn push_reply(text: &mut String, reply: &Reply) -> Result<(), AllocError>
 pub fn print_replies(alloc: Global, replies: &[Reply]) -> Result<Vec<u8>, AllocError>
     ensures { IfOk result (λ text. text.items ≡ flat_map reply_line replies.now) }
 {
-    let mut text = String::new(alloc);
+    let mut text = Vec::new(alloc);
     for reply in replies {
-        push_reply(&mut text, reply)?;
+        // Nothing but memory can be wanting where text is put behind a list of bytes.
+        if push_reply(alloc, &mut text, reply).is_err() {
+            return Err(AllocError);
+        }
     }
-    Ok(text.into_bytes())
+    Ok(text)
 }

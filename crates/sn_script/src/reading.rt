@@ -27,14 +27,14 @@ fn first_event(alloc: Global, script: &[u8]) -> Result<(Event, &[u8]), LineFault
 /// The events of a script, one for each line.
 pub fn read_script(alloc: Global, script: &[u8]) -> Result<Vec<Event>, ScriptFault>
     // What is read is spelled so, and what is spelled so is read unless memory runs out.
-    ensures found { IfOk result (λ events. IsScript events.items script.now × (length script.now ≤ SCRIPT_MAX)) }
-    ensures only { (events : List Event) → IsScript events script.now → length script.now ≤ SCRIPT_MAX
+    ensures found { IfOk result (λ events. IsScript events.items script.now × (length script.now ≤ 16777216)) }
+    ensures only { (events : List Event) → IsScript events script.now → length script.now ≤ 16777216
         → MatchResult result (λ read. read.items ≡ events) (λ fault. fault ≡ ScriptFault.Memory) }
 
     // A fault names the first bad line, or 0 for a script that is too long.
-    ensures long { IsErrOf result (ScriptFault.Line 0) ↔ (SCRIPT_MAX < length script.now) }
+    ensures long { IsErrOf result (ScriptFault.Line 0) ↔ (16777216 < length script.now) }
     ensures bad { (n : ℕ) → IsErrOf result (ScriptFault.Line (n + 1)) → IsFirstBad script.now (n + 1) }
-    ensures first { (n : ℕ) → IsFirstBad script.now n → length script.now ≤ SCRIPT_MAX
+    ensures first { (n : ℕ) → IsFirstBad script.now n → length script.now ≤ 16777216
         → IsErrAnd result (λ fault. (fault ≡ ScriptFault.Line n) ⊎ (fault ≡ ScriptFault.Memory)) }
 {
     if script.len() > SCRIPT_MAX {

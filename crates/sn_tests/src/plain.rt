@@ -1,35 +1,59 @@
 //! The file system over maps in memory.
 
-use anyhow::{Result, ensure};
+use anyhow::{Context, Result, ensure};
 use sn_core::run_plain;
-use sn_model::{End, Errno, Event, Refusal, Reply};
+use sn_model::{End, Errno, Event, Reply};
 use sn_script::{print_replies, read_script};
 use sn_table::{Report, Tally};
 use std::alloc::Global;
 use std::str;
 
-const NO_MEMORY: Reply = Reply::Refused(Refusal {
-    errno: Errno::Enomem,
-    denial: None,
-});
-
 pub fn run(report: &mut Report<'_>) -> Result<()> {
     report.script("run_calls.txt", replies_to)?;
     report.script("run_hidden.txt", replies_to)?;
+    report.script("run_restart.txt", replies_to)?;
     let again = asked_again(report)?;
     report.add("asked again", again)
 }
 
+fn is_no_memory(reply: &Reply) -> bool {
+    match reply {
+        Reply::Refused(refusal) => refusal.errno == Errno::Enomem,
+        _ => false,
+    }
+}
+
+/// The event of a line. Steps and restarts have no line of a script yet.
+fn event_of(alloc: Global, line: &str) -> Result<Event> {
+    match line {
+        "step" => Ok(Event::Step),
+        "restart" => Ok(Event::Restart),
+        _ => {
+            let script = format!(in alloc; "{line}\n")?;
+            let mut events = read_script(alloc, script.as_str().as_bytes())?;
+            events.pop().context("one event")
+        }
+    }
+}
+
+fn events_of(alloc: Global, script: &str) -> Result<Vec<Event>> {
+    let mut events = Vec::new(alloc);
+    for line in script.lines() {
+        events.push(event_of(alloc, line)?)?;
+    }
+    Ok(events)
+}
+
 /// A line for each reply, with the number of the node where it is a status.
 fn replies_to(alloc: Global, script: &str) -> Result<String> {
-    let events = read_script(alloc, script.as_bytes())?;
+    let events = events_of(alloc, script)?;
     let (replies, end) = run_plain(alloc, events.as_slice());
     ensure!(end == End::Clean, "no memory for a run");
+    let lines = print_replies(alloc, replies.as_slice())?;
     let mut text = String::new(alloc);
-    for reply in replies.as_slice() {
-        ensure!(*reply != NO_MEMORY, "no memory for a call");
-        let line = print_replies(alloc, &[*reply])?;
-        text.push_str(str::from_utf8(line.as_slice())?.trim())?;
+    for (line, reply) in str::from_utf8(lines.as_slice())?.lines().zip(&replies) {
+        ensure!(!is_no_memory(reply), "no memory for a call");
+        text.push_str(line)?;
         if let Reply::Status(status) = reply {
             write!(text, " number {}", status.number)?;
         }
@@ -56,7 +80,7 @@ fn is_honest(alloc: Global, events: &[Event]) -> bool {
     if end != End::Clean {
         return replies.is_empty();
     }
-    let refused = replies.iter().filter(|reply| **reply == NO_MEMORY).count();
+    let refused = replies.iter().filter(|reply| is_no_memory(reply)).count();
     let told = replies.iter().filter(|reply| is_made(reply)).count();
     replies.len() == 5 && refused <= 1 && told >= 1 && told + refused >= 2
 }

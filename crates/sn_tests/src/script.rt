@@ -1,8 +1,11 @@
 //! Scripts and replies as text.
 
 use anyhow::{Context, Result, bail, ensure};
-use sn_acl::{Mode, Permissions, Tag};
-use sn_model::{Access, Call, Denial, Errno, Event, Refusal, Reply, Rule, Status};
+use sn_acl::{Acl, Mode, Permissions, Tag};
+use sn_model::{
+    Access, Call, Content, Damage, Denial, Errno, Event, MountFault, Names, PathNumber, Progress,
+    Refusal, Reply, Rule, Status, StoredAcl, Word,
+};
 use sn_script::{SCRIPT_MAX, ScriptFault, print_replies, read_script};
 use sn_table::{Case, Report, Tally};
 use sn_walk::Kind;
@@ -62,6 +65,16 @@ const FILE: Status = Status {
     number: 9,
 };
 
+const DAMAGES: [Damage; 7] = [
+    Damage::Root,
+    Damage::Pointer,
+    Damage::ReachedTwice,
+    Damage::MapWord,
+    Damage::Misspelt,
+    Damage::Links,
+    Damage::Log,
+];
+
 const READ_AND_SEARCH: Access = Access {
     read: true,
     write: false,
@@ -111,7 +124,9 @@ fn line(alloc: Global, case: Case<'_>) -> Result<String> {
 
 /// An event, field by field.
 fn told(alloc: Global, event: &Event) -> Result<String> {
-    let Event::Call { session, call } = event;
+    let Event::Call { session, call } = event else {
+        bail!("no call");
+    };
     Ok(match call {
         Call::Login { uid, gid, groups } => {
             let groups = groups.as_slice();
@@ -152,7 +167,7 @@ fn denied(rule: Rule) -> Reply {
     Reply::Refused(Refusal {
         errno: Errno::Eacces,
         denial: Some(Denial {
-            path: 2,
+            path: PathNumber::SECOND,
             place: 511,
             want: READ_AND_SEARCH,
             rule,
@@ -182,9 +197,60 @@ fn each_reply(alloc: Global) -> Result<Vec<Reply>> {
     Ok(replies)
 }
 
-/// Prints replies with each errno, each rule and each kind of node.
-fn print_each_reply(report: &Report<'_>) -> Result<()> {
-    let replies = each_reply(report.alloc())?;
-    let text = print_replies(report.alloc(), replies.as_slice())?;
+fn names(alloc: Global, names: &[&[u8]]) -> Result<Reply> {
+    let mut words = Vec::new(alloc);
+    for name in names {
+        words.push(Word::new(alloc, name)?)?;
+    }
+    Ok(Reply::Names(Names::new(words)))
+}
+
+fn content(alloc: Global, bytes: &[u8]) -> Result<Reply> {
+    Ok(Reply::Content(Content::new(Vec::from_slice(alloc, bytes)?)))
+}
+
+fn acl(alloc: Global, text: &[u8]) -> Result<Reply> {
+    let acl = Acl::parse(text).context("an ACL")?;
+    Ok(Reply::Acl(Some(StoredAcl::new(alloc, &acl)?)))
+}
+
+/// The answers of calls that aren't served yet.
+fn later_replies(alloc: Global) -> Result<Vec<Reply>> {
+    let mut replies = Vec::new(alloc);
+    replies.push(Reply::Mode(FILE.mode))?;
+    replies.push(Reply::Number(u64::MAX))?;
+    replies.push(content(alloc, &[0, 255, 0x6f])?)?;
+    replies.push(content(alloc, &[])?)?;
+    replies.push(names(alloc, &[b"p".as_slice(), b"q~".as_slice()])?)?;
+    replies.push(names(alloc, &[])?)?;
+    replies.push(acl(alloc, b"u::rwx,u:1001:rw-,g::r-x,m::rwx,o::---")?)?;
+    replies.push(Reply::Acl(None))?;
+    replies.push(Reply::Progress(Progress::More))?;
+    replies.push(Reply::Progress(Progress::Done))?;
+    Ok(replies)
+}
+
+fn mount_faults(alloc: Global) -> Result<Vec<Reply>> {
+    let mut replies = Vec::new(alloc);
+    replies.push(Reply::Unmounted(MountFault::NotFormatted))?;
+    replies.push(Reply::Unmounted(MountFault::Version))?;
+    replies.push(Reply::Unmounted(MountFault::NoRoot))?;
+    for damage in DAMAGES {
+        replies.push(Reply::Unmounted(MountFault::Damaged { damage, block: 6 }))?;
+    }
+    replies.push(Reply::Unmounted(MountFault::Memory))?;
+    replies.push(Reply::Unmounted(MountFault::Device))?;
+    Ok(replies)
+}
+
+fn print(report: &Report<'_>, replies: &[Reply]) -> Result<()> {
+    let text = print_replies(report.alloc(), replies)?;
     report.print(str::from_utf8(text.as_slice())?)
+}
+
+/// Prints replies with each errno, each rule, each kind of node, each answer and each fault.
+fn print_each_reply(report: &Report<'_>) -> Result<()> {
+    print(report, each_reply(report.alloc())?.as_slice())?;
+    print(report, later_replies(report.alloc())?.as_slice())?;
+    print(report, mount_faults(report.alloc())?.as_slice())
 }

@@ -1,7 +1,6 @@
 -- Paths: POSIX.1-2017, 3.271 Pathname. That a path is absolute, and which of its faults is told first, are rules of this project.
 use Rattle.std.specs.Prelude.{ℕ, ◌==◌, nat_lt, List, [], ◌∷◌, length, Option, None, Some, Result, Ok, Err, if◌then◌else◌}
 use Rattle.std.specs.List.{list_all, slice_split, flat_map}
-use Rattle.sn_walk.specs.declared.path.TheConstants.{PATH_MAX}
 use Rattle.sn_walk.specs.declared.path.PathFault.{PathFault}
 use Rattle.sn_walk.specs.declared.path.PathFault.TheVariants.{Misspelt, TooLong}
 use Rattle.sn_walk.specs.Names.{is_name_spelled, has_name_length}
@@ -39,7 +38,7 @@ of_word (b ∷ bs) = if b == 47 then of_names (components bs) else Err Misspelt
 
 -- the names of a path, or what is wrong in it: its length comes first, and the length of a name last
 abbrev pub parsed : List ℕ → Result (List (List ℕ)) PathFault
-parsed word = if nat_lt PATH_MAX (length word) then Err TooLong else of_word word
+parsed word = if nat_lt 1023 (length word) then Err TooLong else of_word word
 
 -- the last of a name and those after it
 abbrev pub last_after : List ℕ → List (List ℕ) → List ℕ

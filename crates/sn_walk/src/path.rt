@@ -45,13 +45,12 @@ impl<'a> Model for Path<'a> {
     ghost use Rattle.std.specs.List.{list_all};
     ghost use Rattle.sn_walk.specs.Names.{is_name};
     ghost use Rattle.sn_walk.specs.Paths.{pieces_of};
-    ghost use Rattle.sn_walk.specs.declared.path.TheConstants.{PATH_MAX};
 
     ghost Value = { List (List ℕ) };
 
     ghost view = { λ p. pieces_of (option_copied p.text) };
 
-    ghost invariant = { λ p. IsTrue (list_all is_name (pieces_of (option_copied p.text))) × (length (pieces_of (option_copied p.text)) ≤ PATH_MAX) };
+    ghost invariant = { λ p. IsTrue (list_all is_name (pieces_of (option_copied p.text))) × (length (pieces_of (option_copied p.text)) ≤ 1023) };
 }
 
 impl<'a> Path<'a> {
@@ -71,7 +70,7 @@ impl<'a> Path<'a> {
 
     /// The path of the names in a text that isn't empty.
     fn of_names(text: &'a [u8]) -> Result<Path<'a>, PathFault>
-        requires { length text.now < PATH_MAX }
+        requires { length text.now < 1023 }
         ensures { MatchResult result (λ p. of_names (pieces text.now) ≡ Ok p) (λ e. of_names (pieces text.now) ≡ Err e) }
     {
         if !are_spelled(text) {
@@ -86,7 +85,7 @@ impl<'a> Path<'a> {
     /// The first name, and the path of the names after it.
     pub fn split_first(&self) -> Option<(&'a [u8], Path<'a>)>
         ensures names { MatchOption result (self.now ≡ []) (λ r. self.now ≡ r.0.now ∷ r.1) }
-        ensures few { length self.now ≤ PATH_MAX }
+        ensures few { length self.now ≤ 1023 }
     {
         let text = self.text?;
         let (name, rest) = first_piece(text);

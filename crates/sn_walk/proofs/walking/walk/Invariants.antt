@@ -1,5 +1,4 @@
 use Rattle.std.proofs.Common.{◌≡◌, ◌+◌, ◌≤◌, IsTrue, length}
-use Rattle.sn_walk.specs.declared.path.TheConstants.{PATH_MAX}
 use Rattle.sn_walk.specs.Walks.{walk_of, walk_from}
 use Rattle.sn_walk.proofs.walking.walk.Given as goal
 
@@ -10,7 +9,7 @@ invariant-loop-next g l = record {
   follows : g.T.TreeView.follows l.fn.view l.view;
   same : IsTrue g.T.TreeView.is_told → g.T.TreeView.shows l.view ≡ g.T.TreeView.shows l.fn.view;
   rest : IsTrue g.T.TreeView.is_told → walk_from (g.T.TreeView.shows l.fn.view) l.cred l.place l.directory l.name l.rest ≡ walk_of (g.T.TreeView.shows l.fn.view) l.cred l.path;
-  short : l.place + length l.rest ≤ PATH_MAX;
+  short : l.place + length l.rest ≤ 1023;
 }
 
 abbrev pub decreases-loop-next : goal.decreases-loop-next
