@@ -37,6 +37,7 @@ use Rattle.sn_model.proofs.DecidedLemmas.{decided_applies}
 use Rattle.sn_model.proofs.WorldLemmas.{step_world}
 use Rattle.sn_model.specs.Machine.{State, Running, Memory, OfMemory, Run}
 use Rattle.sn_model.specs.Settling.{settle}
+use Rattle.sn_core.proofs.RestartLemmas.{settled_least}
 use Rattle.sn_core.specs.PlainRuns.{PlainRun, PlainStep, TakesLeast}
 
 pub mkdir_decided : (world : World) (session : ℕ) (path : List ℕ) (mode : ℕ) (caller : Session) (names : List (List ℕ)) (bits : Mode) (outcome : Outcome) → logged_in world session ≡ Ok caller → path_argument path ≡ Ok names → new_mode_argument mode ≡ Ok bits → mkdir_outcome version_1 (seen version_1 world) caller names bits ≡ Ok outcome → decision version_1 world session (Mkdir path mode) ≡ Ok outcome
@@ -147,5 +148,5 @@ memory_step old new session c takes passed same = record {
 pub point_step : (old : World) → PlainStep old event.Step (Progress Ended) old
 point_step old = record { step = (None, tt, (inr refl, refl)); least = same_least old old refl }
 
-pub restart_step : (old new : World) → new ≡ settle old → new.live ≡ old.live → PlainStep old event.Restart Done new
-restart_step old new settled same = record { step = (None, tt, (refl, ap (λ (w : World). Running w) settled)); least = same_least old new same }
+pub restart_step : (old new : World) → new ≡ settle old → PlainStep old event.Restart Done new
+restart_step old new settled = record { step = (None, tt, (refl, ap (λ (w : World). Running w) settled)); least = settled_least old new settled }

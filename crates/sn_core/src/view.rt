@@ -84,8 +84,10 @@ impl<'a> CallView for PlainView<'a> {
     ghost room = { λ v. has_room version_1 (tree_of v.tree.now) };
 
     fn has_room(&mut self, directory: u16) -> Result<(), Failure<Refusal, AllocError>> {
-        self.tree.has_room(&Limits::VERSION_1, directory)?;
-        Ok(())
+        match self.tree.has_room(&Limits::VERSION_1, directory) {
+            Ok(_) => Ok(()),
+            Err(refusal) => Err(Failure::Refused(refusal)),
+        }
     }
 
     ghost room_stays = { λ u v told e. ap (λ w. has_room version_1 (tree_of w.tree.now)) e };

@@ -184,6 +184,7 @@ impl PlainWorld {
         ensures sound { IsPlainWorld self.new }
         ensures whole { IsWorld version_1 (world_of self.new) }
     {
+        self.tree.settle();
         log_all_out(&mut self.sessions);
         Reply::Done
     }

@@ -11,10 +11,10 @@ use Rattle.sn_core.proofs.StepLemmas.{restart_step}
 use Rattle.sn_core.proofs.RestartLemmas.{settles}
 use Rattle.sn_core.proofs.world.PlainWorld.restart.Goals as goal
 
-restarted : (c : goal.After-log_all_out) → PlainStep (world_of c.args.self.now) Restart Done (world_of (record { tree = c.args.self.now.tree; sessions = c.log_all_out.new.sessions }))
+restarted : (c : goal.After-log_all_out) → PlainStep (world_of c.args.self.now) Restart Done (world_of (record { tree = c.settle.new.self; sessions = c.log_all_out.new.sessions }))
 restarted c =
-    let after : PlainWorld = record { tree = c.args.self.now.tree; sessions = c.log_all_out.new.sessions } in
-    restart_step (world_of c.args.self.now) (world_of after) (settles c.args.self.now after refl c.log_all_out.ensures) refl
+    let after : PlainWorld = record { tree = c.settle.new.self; sessions = c.log_all_out.new.sessions } in
+    restart_step (world_of c.args.self.now) (world_of after) (settles c.args.self.now after c.settle.ensures c.log_all_out.ensures)
 
 pub returns-clause-step : goal.returns-clause-step
 returns-clause-step c = restarted c
