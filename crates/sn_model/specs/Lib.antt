@@ -14,3 +14,4 @@ pub mod Steps
 pub mod Machine
 pub mod Laws
 pub mod MachineLaws
+pub mod Denials

@@ -1,3 +1,4 @@
+ghost use Rattle.sn_model.specs.Denials.{AccessIsDeniedByRule};
 ghost use Rattle.sn_model.specs.ChangeLaws.{ChangesBring, ChangesKeepCovers, ChangesKeepTheTree, CoveredSettleAlike, CoversItself, CoversJoin, DroppingKeepsCovers, DroppingKeepsTheTree, ListsJoin, ListsKeepCovers, ListsKeepTheTree, TestIsBelow};
 ghost use Rattle.sn_model.specs.MachineLaws.{CallsKeepTheState, RestartsKeepTheState};
 ghost use Rattle.sn_model.specs.Laws.{DecidedChangesApply, MakesOneMore, RefusalsChangeNothing, RunsKeepTheWorld};
@@ -94,4 +95,11 @@ pub fn covers_itself()
 /// What covers a cover covers.
 pub fn covers_join()
     ensures { CoversJoin }
+{}
+
+/// A call that is refused with EACCES carries a denial of one of its paths: what the path's names up
+/// to that place stand for has an ACL that, by the access check algorithm of acl(5), denies the caller
+/// what was wanted, by the entry that the denial names.
+pub fn access_is_denied_by_rule()
+    ensures { AccessIsDeniedByRule }
 {}

@@ -36,10 +36,11 @@ pub use call::{Call, Event};
 pub use change::{Bytes, Change, Ownership};
 pub use groups::Groups;
 pub use laws::{
-    calls_keep_the_state, changes_bring, changes_keep_covers, changes_keep_the_tree,
-    covered_settle_alike, covers_itself, covers_join, decided_changes_apply, dropping_keeps_covers,
-    dropping_keeps_the_tree, lists_join, lists_keep_covers, lists_keep_the_tree, makes_one_more,
-    refusals_change_nothing, restarts_keep_the_state, runs_keep_the_world, test_is_below,
+    access_is_denied_by_rule, calls_keep_the_state, changes_bring, changes_keep_covers,
+    changes_keep_the_tree, covered_settle_alike, covers_itself, covers_join, decided_changes_apply,
+    dropping_keeps_covers, dropping_keeps_the_tree, lists_join, lists_keep_covers,
+    lists_keep_the_tree, makes_one_more, refusals_change_nothing, restarts_keep_the_state,
+    runs_keep_the_world, test_is_below,
 };
 pub use link::Link;
 pub use outcome::{Caller, Outcome, Pending};
