@@ -18,6 +18,7 @@ pub mod TreeLemmas
 pub mod ListLemmas
 pub mod BringLemmas
 pub mod DecisionLemmas
+pub mod DenialLemmas
 pub mod DecidedLemmas
 pub mod WorldLemmas
 pub mod MachineLemmas

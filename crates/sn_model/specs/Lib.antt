@@ -16,3 +16,4 @@ pub mod Texts
 pub mod Laws
 pub mod MachineLaws
 pub mod Example
+pub mod Denials

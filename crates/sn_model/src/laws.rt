@@ -1,3 +1,4 @@
+ghost use Rattle.sn_model.specs.Denials.{AccessIsDeniedByRule};
 ghost use Rattle.sn_model.specs.ChangeLaws.{ChangesBring, ChangesKeepCovers, ChangesKeepTheTree, CoveredSettleAlike, CoversItself, CoversJoin, DroppingKeepsCovers, DroppingKeepsTheTree, ListsJoin, ListsKeepCovers, ListsKeepTheTree, TestIsBelow};
 ghost use Rattle.sn_model.specs.Example.{Answers, Settles};
 ghost use Rattle.sn_model.specs.MachineLaws.{EventsKeepTheState, LivesKeepTheWorld, RefusedEventsChangeNothing, RestartsSettle, RunsKeepTheWorld, StoppedStays};
@@ -118,4 +119,11 @@ pub fn covers_join()
 pub fn example_holds()
     ensures settles { Settles }
     ensures answers { Answers }
+{}
+
+/// A call that is refused with EACCES carries a denial of one of its paths: what the path's names up
+/// to that place stand for has an ACL that, by the access check algorithm of acl(5), denies the caller
+/// what was wanted, by the entry that the denial names.
+pub fn access_is_denied_by_rule()
+    ensures { AccessIsDeniedByRule }
 {}
