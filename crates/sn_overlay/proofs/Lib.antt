@@ -5,3 +5,8 @@ pub mod MergeLemmas
 pub mod SortedLemmas
 pub mod OverlayLemmas
 pub mod NeedLemmas
+pub mod PutLemmas
+pub mod MergedLemmas
+pub mod ChangeLemmas
+pub mod ByteLemmas
+pub mod SizeLemmas

@@ -6,10 +6,12 @@ use Rattle.std.specs.Ordering.{eq_by_cmp, is_eq, is_lt, ordering_reverse, orderi
 use Rattle.std.specs.List.{insert}
 use Rattle.std.specs.List.Sorted.{IsSearchInRange, IsBinarySearchResult, IsNonDecreasingBy, IsSortedBy}
 use Rattle.std.specs.Cmp.{IsTotalOrder, alike_right}
-use Rattle.std.specs.FinMap.Entries.{find, put, is_sorted, is_sorted-put, below_all, by_order}
+use Rattle.std.specs.FinMap.Entries.{find, put, is_sorted, is_sorted-put, is_sorted-where_key, below_all, by_order, where_key}
 use Rattle.std.proofs.lemmas.Bool.{and_parts}
 use Rattle.std.proofs.lemmas.List.Sorted.{searchable_from_sorted}
-use Rattle.sn_overlay.specs.Sorted.{IsAt, IsGap, FindsKey}
+use Rattle.std.specs.declared.boxed.Box.{Box}
+use Rattle.std.specs.Global.{Global}
+use Rattle.sn_overlay.specs.Sorted.{IsAt, IsGap, FindsKey, bytes_by_place}
 
 is_less : (r : Ordering) → is_lt r ≡ true → r ≡ Less
 is_less Less h = refl
@@ -88,3 +90,19 @@ module _ {K X : Type 0} {R : K → K → Ordering} (o : IsTotalOrder R) where
 
   pub sorted-put : (es : List (K × X)) (key : K) (v : X) → is_sorted R es ≡ true → is_sorted R (put R key v es) ≡ true
   sorted-put es key v h = passed _ (is_sorted-put R o key v es (subst T (sym h) tt))
+
+pub sorted-kept : {K X : Type 0} (R : K → K → Ordering) (p : K → Bool) (es : List (K × X)) → is_sorted R es ≡ true → is_sorted R (where_key R p es) ≡ true
+sorted-kept R p es h = passed _ (is_sorted-where_key R p es (subst T (sym h) tt))
+
+-- entries with the same bytes at the same places are sorted alike
+module _ {K : Type 0} (R : K → K → Ordering) where
+  below-bytes : (x : K) (es : List (K × Box (List ℕ) Global)) → below_all R x (bytes_by_place es) ≡ below_all R x es
+  below-bytes x [] = refl
+  below-bytes x (e ∷ es) = ap (λ b. is_lt (R x e.0) && b) (below-bytes x es)
+
+  sorted-bytes : (es : List (K × Box (List ℕ) Global)) → is_sorted R (bytes_by_place es) ≡ is_sorted R es
+  sorted-bytes [] = refl
+  sorted-bytes (e ∷ es) = ap (λ b. b && is_sorted R (bytes_by_place es)) (below-bytes e.0 es) ∙ ap (λ b. below_all R e.0 es && b) (sorted-bytes es)
+
+  pub sorted_alike : (es fs : List (K × Box (List ℕ) Global)) → bytes_by_place es ≡ bytes_by_place fs → is_sorted R fs ≡ true → is_sorted R es ≡ true
+  sorted_alike es fs same h = sym (sorted-bytes es) ∙ ap (is_sorted R) same ∙ sorted-bytes fs ∙ h

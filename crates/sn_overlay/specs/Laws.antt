@@ -1,13 +1,19 @@
 -- What follows from the definitions of layers.
-use Rattle.std.specs.Prelude.{◌≡◌, ℕ, ◌+◌, ◌*◌, ◌≤◌, Some}
+use Rattle.std.specs.Prelude.{◌≡◌, ℕ, ◌+◌, ◌*◌, ◌≤◌, ◌⊎◌, List, length, Some}
+use Rattle.sn_walk.specs.declared.view.Kind.{Kind}
 use Rattle.std.specs.FinMap as map
 use Rattle.sn_limits.specs.declared.limits.Limits.{Limits}
 use Rattle.sn_limits.specs.Versions.{limits_of}
 use Rattle.sn_model.specs.declared.change.Change.{Change}
+use Rattle.sn_model.specs.declared.change.Ownership.{Ownership}
 use Rattle.sn_model.specs.declared.link.Link.{Link}
 use Rattle.sn_model.specs.Tree.{Tree}
+use Rattle.sn_model.specs.NameTree.{IsHierarchy}
+use Rattle.sn_model.specs.Changes.{made, linked, removed, owned, cut, resized, overwritten}
+use Rattle.sn_overlay.specs.Pieces.{piece, zeroed, spliced}
 use Rattle.sn_overlay.specs.Layers.{Layer, IsLayer, Fits, through, node_seen, name_seen}
 use Rattle.sn_overlay.specs.Merges.{merge}
+use Rattle.sn_overlay.specs.ChangeLayers.{make_layer, link_layer, remove_layer, ownership_layer, size_layer}
 use Rattle.sn_overlay.specs.Needs.{need, need_of, counts, counts_for, left_nameless, charge_for, AreCharged, IsPaid}
 
 -- At each number and each name the tree seen through a layer has what the layer shows there.
@@ -50,3 +56,33 @@ DropsArePaid = (limits : Limits) → AreCharged limits → need_of limits (count
 -- Where the older layer is paid and the newer one is, with what it leaves without names, the merge is.
 abbrev pub MergesStayPaid : Type 0
 MergesStayPaid = (limits : Limits) (older newer : Layer) (below between after more charged charge : ℕ) → IsPaid limits older below between charged → need limits newer + limits.inode_charge * more ≤ charge → after ≤ between + more → IsPaid limits (merge older newer) below after (charged + charge)
+
+-- Through the layer of a change, the tree is what the change makes of it.
+abbrev pub MakesShow : Type 0
+MakesShow = (limits : Limits) (tree after : Tree) (link : Link) (number : ℕ) (kind : Kind) (o : Ownership) → IsHierarchy tree → made limits tree link number kind o ≡ Some after → through (make_layer tree link number kind o) tree ≡ after
+
+abbrev pub LinksShow : Type 0
+LinksShow = (limits : Limits) (tree after : Tree) (link : Link) (number : ℕ) → linked limits tree link number ≡ Some after → through (link_layer tree link number) tree ≡ after
+
+abbrev pub RemovesShow : Type 0
+RemovesShow = (tree after : Tree) (link : Link) → removed tree link ≡ Some after → through (remove_layer tree link) tree ≡ after
+
+abbrev pub AttributesShow : Type 0
+AttributesShow = (tree after : Tree) (number : ℕ) (o : Ownership) → owned tree number o ≡ Some after → through (ownership_layer tree number o) tree ≡ after
+
+abbrev pub SizesShow : Type 0
+SizesShow = (limits : Limits) (tree after : Tree) (number size : ℕ) → cut limits tree number size ≡ Some after → through (size_layer tree number size) tree ≡ after
+
+-- The block in which a file is cut off has zeros from there on; those before it, and all of a file that isn't made shorter, stay.
+abbrev pub CutsZero : Type 0
+CutsZero = (bytes : List ℕ) (index from : ℕ) → from ≤ 4096 → piece 4096 (resized bytes (index * 4096 + from)) index ≡ zeroed from (piece 4096 bytes index)
+
+abbrev pub CutsKeep : Type 0
+CutsKeep = (bytes : List ℕ) (size index : ℕ) → ((index + 1) * 4096 ≤ size) ⊎ (length bytes ≤ size) → piece 4096 (resized bytes size) index ≡ piece 4096 bytes index
+
+-- A block in which bytes are written is the old one with them in place; one in which none are stays.
+abbrev pub WritesSplice : Type 0
+WritesSplice = (bytes : List ℕ) (index from : ℕ) (new : List ℕ) → from + length new ≤ 4096 → piece 4096 (overwritten bytes (index * 4096 + from) new) index ≡ spliced from new (piece 4096 bytes index)
+
+abbrev pub WritesKeep : Type 0
+WritesKeep = (bytes : List ℕ) (offset : ℕ) (new : List ℕ) (index : ℕ) → ((index + 1) * 4096 ≤ offset) ⊎ (offset + length new ≤ index * 4096) → piece 4096 (overwritten bytes offset new) index ≡ piece 4096 bytes index

@@ -1,5 +1,5 @@
 -- What an overlay in memory holds, as a layer.
-use Rattle.std.specs.Prelude.{◌≡◌, ℕ, ◌+◌, ◌≤◌, List, [], map, Option, vec_len, vec_capacity}
+use Rattle.std.specs.Prelude.{◌≡◌, ℕ, ◌+◌, ◌≤◌, List, Option, vec_len, vec_capacity}
 use Rattle.std.specs.Ordering.{nat_cmp}
 use Rattle.std.specs.declared.boxed.Box.{Box}
 use Rattle.std.specs.Global.{Global}
@@ -10,6 +10,7 @@ use Rattle.sn_overlay.specs.declared.place.BlockPlace.{BlockPlace}
 use Rattle.sn_overlay.specs.declared.node.NodeChange.{NodeChange}
 use Rattle.sn_overlay.specs.declared.overlay.Overlay.{Overlay}
 use Rattle.sn_overlay.specs.Keys.{place_cmp}
+use Rattle.sn_overlay.specs.Sorted.{bytes_by_place}
 use Rattle.sn_overlay.specs.Layers.{Layer}
 
 unfoldable pub nodes_of : List (ℕ × NodeChange) → FinMap nat_cmp NodeChange
@@ -19,7 +20,7 @@ unfoldable pub names_of : List (Link × Option ℕ) → FinMap link_cmp (Option 
 names_of entries = from_entries entries
 
 unfoldable pub blocks_of : List (BlockPlace × Box (List ℕ) Global) → FinMap place_cmp (List ℕ)
-blocks_of entries = from_entries (map (λ e. (e.0, e.1.value)) entries)
+blocks_of entries = from_entries (bytes_by_place entries)
 
 abbrev pub layer_of : Overlay → Layer
 layer_of it = record { nodes = nodes_of it.nodes.entries.items; names = names_of it.names.entries.items; blocks = blocks_of it.blocks.entries.items }
@@ -38,6 +39,10 @@ pub record HasRoom (it : Overlay) (more : Counts) : Type 0 where
   pub nodes : vec_len it.nodes.entries + more.nodes ≤ vec_capacity it.nodes.entries
   pub names : vec_len it.names.entries + more.names ≤ vec_capacity it.names.entries
   pub blocks : vec_len it.blocks.entries + more.blocks ≤ vec_capacity it.blocks.entries
+
+-- how many it has
+abbrev pub sizes_of : Overlay → Counts
+sizes_of it = record { nodes = vec_len it.nodes.entries; names = vec_len it.names.entries; blocks = vec_len it.blocks.entries }
 
 abbrev pub with_node : Layer → ℕ → NodeChange → Layer
 with_node layer number change = record layer { nodes = insert layer.nodes number change }

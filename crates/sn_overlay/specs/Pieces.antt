@@ -1,5 +1,5 @@
 -- A file's bytes as pieces of one width: its blocks, of 4,096 bytes.
-use Rattle.std.specs.Prelude.{ℕ, ◌*◌, ◌/◌, ◌%◌, List, ◌++◌, map, take, drop, replicate, slice_index}
+use Rattle.std.specs.Prelude.{ℕ, ◌+◌, ◌-◌, ◌*◌, ◌/◌, ◌%◌, List, ◌++◌, length, map, take, drop, replicate, slice_index}
 use Rattle.std.specs.List.{range_with_len}
 
 unfoldable pub zeros : ℕ → List ℕ
@@ -12,3 +12,11 @@ piece width bytes index = take width (drop (index * width) bytes ++ zeros width)
 -- so many bytes, each from its piece
 unfoldable pub joined : ℕ → ℕ → (ℕ → List ℕ) → List ℕ
 joined width size pieces = map (λ place. slice_index (pieces (place / width)) (place % width)) (range_with_len 0 size)
+
+-- a block with zeros from a place on
+abbrev pub zeroed : ℕ → List ℕ → List ℕ
+zeroed from block = take from block ++ zeros (4096 - from)
+
+-- a block with other bytes from a place on
+abbrev pub spliced : ℕ → List ℕ → List ℕ → List ℕ
+spliced from new block = take from block ++ (new ++ drop (from + length new) block)

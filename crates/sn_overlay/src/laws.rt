@@ -1,4 +1,4 @@
-ghost use Rattle.sn_overlay.specs.Laws.{ChangesArePaid, DropsArePaid, LayersShowNames, LayersShowNodes, MergesAreLayers, MergesFit, MergesShowBoth, MergesStayPaid, NeedsAdd, TwoLevelsAreCharged, VersionsAreCharged};
+ghost use Rattle.sn_overlay.specs.Laws.{AttributesShow, ChangesArePaid, CutsKeep, CutsZero, DropsArePaid, LayersShowNames, LayersShowNodes, LinksShow, MakesShow, MergesAreLayers, MergesFit, MergesShowBoth, MergesStayPaid, NeedsAdd, RemovesShow, SizesShow, TwoLevelsAreCharged, VersionsAreCharged, WritesKeep, WritesSplice};
 
 /// At each number the tree that is seen through a layer has the layer's node, or none where the layer
 /// says so, or the node below.
@@ -56,4 +56,50 @@ pub fn drops_are_paid()
 /// A merge of layers that are paid is paid.
 pub fn merges_stay_paid()
     ensures { MergesStayPaid }
+{}
+
+/// Through the layer of a make, the tree is the one with the new node under its name.
+pub fn makes_show()
+    ensures { MakesShow }
+{}
+
+/// Through the layer of a link, the tree is the one with one more name.
+pub fn links_show()
+    ensures { LinksShow }
+{}
+
+/// Through the layer of a remove, the tree is the one without the name, and without the directory that
+/// had it.
+pub fn removes_show()
+    ensures { RemovesShow }
+{}
+
+/// Through the layer of a setting of attributes, the node has them, and its bytes.
+pub fn attributes_show()
+    ensures { AttributesShow }
+{}
+
+/// Through the layer of a setting of a size, the file is cut off there, or has zeros up to there.
+pub fn sizes_show()
+    ensures { SizesShow }
+{}
+
+/// The block in which a file is cut off is the old one with zeros from there on.
+pub fn cuts_zero()
+    ensures { CutsZero }
+{}
+
+/// The blocks before a cut stay, and all blocks of a file that isn't made shorter.
+pub fn cuts_keep()
+    ensures { CutsKeep }
+{}
+
+/// A block in which bytes are written is the old one with them in place.
+pub fn writes_splice()
+    ensures { WritesSplice }
+{}
+
+/// A block in which none are written stays.
+pub fn writes_keep()
+    ensures { WritesKeep }
 {}

@@ -1,4 +1,28 @@
 //! What changed of a tree since a root, and the tree that is seen through that.
+//!
+//! The model is a layer (`specs/Layers`): finite maps of nodes that changed or are gone, of
+//! names that have another number or none, and of blocks that were written. `through layer tree` is the
+//! tree of `sn_model` that is seen through it, of a tree below. What a layer has stands first; what a
+//! gone node had, or one made anew had before, is hidden, and so are the blocks behind the least size
+//! that a file had since the layer began (`cut`).
+//!
+//! The way through it:
+//!
+//! 1. `specs/Pieces`: a file's bytes as blocks, and back.
+//! 2. `specs/Layers`: layers, the tree seen through one, and when one is whole and fits a tree.
+//! 3. `specs/Merges`: a newer layer over an older one as one layer.
+//! 4. `specs/Needs`: the blocks that a consistency point takes for a layer, at most, and what calls are
+//!    charged for that.
+//! 5. `specs/ChangeLayers`: the layer of one change. Those of writes and renames aren't there yet.
+//! 6. `specs/Laws`, each named by the contract of a function of `laws`: above all, that seeing a tree
+//!    through two layers is seeing it through their merge.
+//! 7. [`Overlay`], a layer in memory: three sorted maps in which room is made first, so that inserts and
+//!    [`Overlay::merge`] take no memory and can't fail.
+//!
+//! ```text
+//! top.reserve_for(&newer)?;
+//! top.merge(newer);
+//! ```
 #![tactic(auto)]
 
 mod laws;
@@ -8,9 +32,10 @@ mod place;
 mod sorted;
 
 pub use laws::{
-    changes_are_paid, drops_are_paid, layers_show_names, layers_show_nodes, merges_are_layers,
-    merges_fit, merges_show_both, merges_stay_paid, needs_add, two_levels_are_charged,
-    versions_are_charged,
+    attributes_show, changes_are_paid, cuts_keep, cuts_zero, drops_are_paid, layers_show_names,
+    layers_show_nodes, links_show, makes_show, merges_are_layers, merges_fit, merges_show_both,
+    merges_stay_paid, needs_add, removes_show, sizes_show, two_levels_are_charged,
+    versions_are_charged, writes_keep, writes_splice,
 };
 pub use node::{NodeChange, NodeState};
 pub use overlay::Overlay;

@@ -1,3 +1,8 @@
+ghost use Rattle.std.specs.Prelude.{◌≡◌};
+ghost use Rattle.std.specs.Option.{option_copied};
+ghost use Rattle.sn_overlay.specs.Layers.{hides_block, hides_names};
+
+use crate::place::BLOCK_SIZE;
 use sn_model::Ownership;
 use sn_walk::Kind;
 
@@ -28,4 +33,103 @@ pub struct NodeState {
     pub fresh: bool,
     /// Whether one of its ACLs may differ from what is below.
     pub acl_changed: bool,
+}
+
+impl NodeState {
+    ghost use Rattle.sn_overlay.specs.Merges.{state_over};
+
+    fn copy(&self) -> NodeState
+        ensures { result ≡ self.now }
+    {
+        NodeState {
+            kind: self.kind,
+            ownership: copied_ownership(&self.ownership),
+            links: self.links,
+            size: self.size,
+            cut: self.cut,
+            fresh: self.fresh,
+            acl_changed: self.acl_changed,
+        }
+    }
+
+    // This state, where the older one is below: the cut is the lesser.
+    fn over(mut self, older: &NodeState) -> NodeState
+        ensures { result ≡ state_over older.now self }
+    {
+        self.cut = older.cut.min(self.cut);
+        self.fresh = older.fresh || self.fresh;
+        self.acl_changed = older.acl_changed || self.acl_changed;
+        self
+    }
+}
+
+impl NodeChange {
+    ghost use Rattle.sn_overlay.specs.Merges.{change_over};
+
+    /// A copy, which takes no memory.
+    pub fn copy(&self) -> NodeChange
+        ensures { result ≡ self.now }
+    {
+        match self {
+            NodeChange::Gone { by_close } => NodeChange::Gone {
+                by_close: *by_close,
+            },
+            NodeChange::Changed(state) => NodeChange::Changed(state.copy()),
+        }
+    }
+
+    // This change as one with an older one below it. What was made anew stays as it is.
+    pub(crate) fn over(self, older: Option<&NodeChange>) -> NodeChange
+        ensures { result ≡ change_over (option_copied older.entry) self }
+    {
+        match (older, self) {
+            (Some(NodeChange::Changed(older)), NodeChange::Changed(newer)) => {
+                if newer.fresh {
+                    NodeChange::Changed(newer)
+                } else {
+                    NodeChange::Changed(newer.over(older))
+                }
+            }
+            (_, newer) => newer,
+        }
+    }
+}
+
+fn copied_ownership(ownership: &Ownership) -> Ownership
+    ensures { result ≡ ownership.now }
+{
+    Ownership {
+        owner: ownership.owner,
+        group: ownership.group,
+        set_gid: ownership.set_gid,
+        sticky: ownership.sticky,
+        acl: ownership.acl.copy(),
+        default_acl: match &ownership.default_acl {
+            None => None,
+            Some(acl) => Some(acl.copy()),
+        },
+    }
+}
+
+// Whether the names that a number had below are hidden.
+pub(crate) fn hides_names(change: Option<&NodeChange>) -> bool
+    ensures { result ≡ hides_names (option_copied change.entry) }
+{
+    match change {
+        None => false,
+        Some(NodeChange::Gone { .. }) => true,
+        Some(NodeChange::Changed(state)) => state.fresh,
+    }
+}
+
+// Whether a block that a number had below is hidden.
+pub(crate) fn hides_block(change: Option<&NodeChange>, index: u64) -> bool
+    ensures { result ≡ hides_block (option_copied change.entry) index }
+{
+    match change {
+        Some(NodeChange::Changed(state)) => {
+            state.fresh || state.cut <= index.saturating_mul(BLOCK_SIZE as u64)
+        }
+        gone => gone.is_some(),
+    }
 }

@@ -1,8 +1,9 @@
 //! What changed of a tree since a root.
-ghost use Rattle.std.specs.Prelude.{◌≡◌, ◌+◌, ℕ, OnOk};
+ghost use Rattle.std.specs.Prelude.{◌≡◌, ◌+◌, ℕ, IfOk, OnOk};
 ghost use Rattle.std.specs.Option.{option_copied};
 ghost use Rattle.std.specs.FinMap as map;
-ghost use Rattle.sn_overlay.specs.Overlays.{layer_of, no_changes, Counts, HasRoom, with_node, with_name, with_block};
+ghost use Rattle.sn_overlay.specs.Merges.{merge};
+ghost use Rattle.sn_overlay.specs.Overlays.{layer_of, no_changes, Counts, HasRoom, sizes_of, with_node, with_name, with_block};
 
 use crate::place::Block;
 use crate::sorted::SortedMap;
@@ -66,6 +67,30 @@ impl Overlay {
         self.blocks.reserve(blocks)
     }
 
+    /// Makes room for a newer overlay that is to be laid over this one. Whatever the answer, nothing
+    /// that it shows changes.
+    pub fn reserve_for(&mut self, newer: &Overlay) -> Result<(), AllocError>
+        ensures same { layer_of self.new ≡ layer_of self.old }
+        ensures room { OnOk result (HasRoom self.new (sizes_of newer.now)) }
+        ensures kept { (more : Counts) → HasRoom self.old more → HasRoom self.new more }
+    {
+        self.reserve(newer.nodes.len(), newer.names.len(), newer.blocks.len())
+    }
+
+    /// A copy. Where memory is refused, this one is as it was.
+    pub fn copy(&self, alloc: Global) -> Result<Overlay, AllocError>
+        ensures { IfOk result (λ copy. layer_of copy ≡ layer_of self.now) }
+    {
+        let nodes = self.nodes.copy(alloc)?;
+        let names = self.names.copy(alloc)?;
+        let blocks = self.blocks.copy(alloc)?;
+        Ok(Overlay {
+            nodes,
+            names,
+            blocks,
+        })
+    }
+
     /// A node changed. It takes no memory.
     pub fn set_node(&mut self, number: u16, change: NodeChange)
         requires { HasRoom self.old (record { nodes = 1; names = 0; blocks = 0 }) }
@@ -91,5 +116,17 @@ impl Overlay {
         ensures kept { (more : Counts) → HasRoom self.old (record more { blocks = more.blocks + 1 }) → HasRoom self.new more }
     {
         self.blocks.insert(place, block);
+    }
+
+    /// Lays a newer overlay over this one, for which there is room. It takes no memory.
+    pub fn merge(&mut self, newer: Overlay)
+        requires { HasRoom self.old (sizes_of newer) }
+        ensures { layer_of self.new ≡ merge (layer_of self.old) (layer_of newer) }
+    {
+        self.names.retain_seen(&newer.nodes);
+        self.blocks.retain_seen(&newer.nodes);
+        self.nodes.lay_over(newer.nodes);
+        self.names.extend(newer.names);
+        self.blocks.extend(newer.blocks);
     }
 }

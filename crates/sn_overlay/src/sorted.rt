@@ -2,8 +2,12 @@
 ghost use Rattle.std.specs.Prelude.{◌≡◌, ◌+◌, ◌<◌, ◌≤◌, ℕ, [], IsTrue, IfOk, OnOk, vec_len, vec_capacity};
 ghost use Rattle.std.specs.Option.{option_copied};
 ghost use Rattle.std.specs.FinMap.Entries.{find, put, is_sorted};
-ghost use Rattle.sn_overlay.specs.Sorted.{FindsKey};
+ghost use Rattle.sn_overlay.specs.Sorted.{FindsKey, newer_value, put_each, bytes_by_place};
 
+use crate::node::{hides_block, hides_names};
+use crate::place::Block;
+use crate::{BlockPlace, NodeChange};
+use sn_model::{Link, Word};
 use std::alloc::{AllocError, Global};
 
 /// Values by their keys, held in the order of the keys. An insert can't fail where there is room.
@@ -39,6 +43,12 @@ impl<K: Ord, V> SortedMap<K, V> {
         }
     }
 
+    pub fn len(&self) -> usize
+        ensures { result ≡ vec_len self.now.entries }
+    {
+        self.entries.len()
+    }
+
     /// Makes room for so many more keys.
     pub fn reserve(&mut self, additional: usize) -> Result<(), AllocError>
         ensures same { self.new.entries.items ≡ self.old.entries.items }
@@ -62,5 +72,108 @@ impl<K: Ord + Drop, V: Drop> SortedMap<K, V> {
             Ok(at) => self.entries[at].1 = value,
             Err(at) => drop(self.entries.insert(at, (key, value))),
         }
+    }
+
+    /// Gives each of these keys its value.
+    pub fn extend(&mut self, newer: SortedMap<K, V>)
+        requires room { vec_len self.old.entries + vec_len newer.entries ≤ vec_capacity self.old.entries }
+        ensures { self.new.entries.items ≡ put_each K.cmp newer_value newer.entries.items self.old.entries.items }
+    {
+        for (key, value) in newer.entries {
+            self.insert(key, value);
+        }
+    }
+}
+
+impl SortedMap<u16, NodeChange> {
+    /// A copy.
+    pub fn copy(&self, alloc: Global) -> Result<Self, AllocError>
+        ensures { IfOk result (λ copy. copy.entries.items ≡ self.now.entries.items) }
+    {
+        let mut entries = Vec::with_capacity(alloc, self.entries.len())?;
+        for entry in &self.entries {
+            entries.push((entry.0, entry.1.copy()))?;
+        }
+        Ok(SortedMap { entries })
+    }
+
+    ghost use Rattle.std.specs.Ordering.{nat_cmp};
+    ghost use Rattle.sn_overlay.specs.Merges.{change_over};
+
+    /// Lays newer changes of nodes over these.
+    pub fn lay_over(&mut self, newer: SortedMap<u16, NodeChange>)
+        requires room { vec_len self.old.entries + vec_len newer.entries ≤ vec_capacity self.old.entries }
+        ensures { self.new.entries.items ≡ put_each nat_cmp change_over newer.entries.items self.old.entries.items }
+    {
+        for (number, change) in newer.entries {
+            let change = change.over(self.get(&number));
+            self.insert(number, change);
+        }
+    }
+}
+
+impl SortedMap<Link, Option<u16>> {
+    /// A copy.
+    pub fn copy(&self, alloc: Global) -> Result<Self, AllocError>
+        ensures { IfOk result (λ copy. copy.entries.items ≡ self.now.entries.items) }
+    {
+        let mut entries = Vec::with_capacity(alloc, self.entries.len())?;
+        for entry in &self.entries {
+            entries.push((copied_link(alloc, &entry.0)?, entry.1))?;
+        }
+        Ok(SortedMap { entries })
+    }
+
+    ghost use Rattle.std.specs.Prelude.{not};
+    ghost use Rattle.std.specs.Ordering.{nat_cmp};
+    ghost use Rattle.std.specs.FinMap.Entries.{where_key};
+    ghost use Rattle.sn_model.specs.Tree.{link_cmp};
+    ghost use Rattle.sn_overlay.specs.Layers.{hides_names};
+
+    /// Lets those names go that newer changes of nodes hide.
+    pub fn retain_seen(&mut self, nodes: &SortedMap<u16, NodeChange>)
+        ensures entries { self.new.entries.items ≡ where_key link_cmp (λ link. not (hides_names (find nat_cmp link.directory nodes.now.entries.items))) self.old.entries.items }
+        ensures len { vec_len self.new.entries ≤ vec_len self.old.entries }
+        ensures kept { vec_capacity self.new.entries ≡ vec_capacity self.old.entries }
+    {
+        self.entries
+            .retain(|entry| !hides_names(nodes.get(&entry.0.directory)));
+    }
+}
+
+fn copied_link(alloc: Global, link: &Link) -> Result<Link, AllocError>
+    ensures { IfOk result (λ copy. copy ≡ link.now) }
+{
+    Ok(Link {
+        directory: link.directory,
+        name: Word::new(alloc, link.name.as_bytes())?,
+    })
+}
+
+impl SortedMap<BlockPlace, Box<Block>> {
+    /// A copy: the same bytes at the same places.
+    pub fn copy(&self, alloc: Global) -> Result<Self, AllocError>
+        ensures { IfOk result (λ copy. bytes_by_place copy.entries.items ≡ bytes_by_place self.now.entries.items) }
+    {
+        let mut entries = Vec::with_capacity(alloc, self.entries.len())?;
+        for entry in &self.entries {
+            entries.push((entry.0, Box::new(alloc, *entry.1)?))?;
+        }
+        Ok(SortedMap { entries })
+    }
+
+    ghost use Rattle.std.specs.Prelude.{not};
+    ghost use Rattle.std.specs.Ordering.{nat_cmp};
+    ghost use Rattle.std.specs.FinMap.Entries.{where_key};
+    ghost use Rattle.sn_overlay.specs.Keys.{place_cmp};
+    ghost use Rattle.sn_overlay.specs.Layers.{hides_block};
+
+    /// Lets those blocks go that newer changes of nodes hide.
+    pub fn retain_seen(&mut self, nodes: &SortedMap<u16, NodeChange>)
+        ensures entries { self.new.entries.items ≡ where_key place_cmp (λ place. not (hides_block (find nat_cmp place.file nodes.now.entries.items) place.index)) self.old.entries.items }
+        ensures len { vec_len self.new.entries ≤ vec_len self.old.entries }
+        ensures kept { vec_capacity self.new.entries ≡ vec_capacity self.old.entries }
+    {
+        self.entries.retain(|entry| !hides_block(nodes.get(&entry.0.file), entry.0.index));
     }
 }

@@ -1,0 +1,80 @@
+-- Entries that were laid over others are those of the merged layer.
+use Rattle.std.proofs.Common.{◌≡◌, ℕ, Bool, true, false, cond, not, List, Option, Some, None, refl, sym, ap, ◌∙◌}
+use Rattle.std.specs.declared.boxed.Box.{Box}
+use Rattle.std.specs.Global.{Global}
+use Rattle.std.specs.Ordering.{nat_cmp}
+use Rattle.std.specs.Option.{option_map}
+use Rattle.std.specs.Cmp.{nat_cmp_total}
+use Rattle.std.specs.FinMap as fin
+use Rattle.std.specs.FinMap.Entries.{find, is_sorted, where_key, find-where_key}
+use Rattle.std.proofs.lemmas.Map.Lookups.{exact_unsigned}
+use Rattle.sn_model.specs.declared.link.Link.{Link}
+use Rattle.sn_model.specs.Tree.{link_cmp}
+use Rattle.sn_model.proofs.LinkLemmas.{exact_links, links_total}
+use Rattle.sn_overlay.specs.declared.place.BlockPlace.{BlockPlace}
+use Rattle.sn_overlay.specs.declared.node.NodeChange.{NodeChange}
+use Rattle.sn_overlay.specs.Keys.{place_cmp}
+use Rattle.sn_overlay.specs.Layers.{Layer, hides_names, hides_block}
+use Rattle.sn_overlay.specs.Merges.{merge, change_over}
+use Rattle.sn_overlay.specs.Overlays.{nodes_of, names_of, blocks_of}
+use Rattle.sn_overlay.specs.Sorted.{put_each, newer_value}
+use Rattle.sn_overlay.proofs.OverlaidLemmas.{exact_places, places_total}
+use Rattle.sn_overlay.proofs.OverlayLemmas.{get-nodes_of, get-names_of, get-blocks_of}
+use Rattle.sn_overlay.proofs.LayerLemmas.{get-merge_nodes, get-merge_names, get-merge_blocks, nodes_over, kept_under}
+use Rattle.sn_overlay.proofs.PutLemmas.{find-put_each, value_over}
+
+abbrev Bytes : Type 0
+Bytes = Box (List ℕ) Global
+
+over_nodes : (n o : Option NodeChange) → value_over change_over n o ≡ nodes_over o n
+over_nodes None o = refl
+over_nodes (Some c) o = refl
+
+over_kept : {X : Type 0} (n o : Option X) (b : Bool) → value_over newer_value n (cond (not b) o None) ≡ kept_under n b o
+over_kept (Some x) o b = refl
+over_kept None o true = refl
+over_kept None o false = refl
+
+read_kept : (n o : Option Bytes) (b : Bool) → option_map (λ (x : Bytes). x.value) (kept_under n b o) ≡ kept_under (option_map (λ (x : Bytes). x.value) n) b (option_map (λ (x : Bytes). x.value) o)
+read_kept (Some x) o b = refl
+read_kept None o true = refl
+read_kept None o false = refl
+
+module _ (nodes newer_nodes : List (ℕ × NodeChange)) (names newer_names : List (Link × Option ℕ)) (blocks newer_blocks : List (BlockPlace × Box (List ℕ) Global)) where
+  abbrev older : Layer
+  older = record { nodes = nodes_of nodes; names = names_of names; blocks = blocks_of blocks }
+
+  abbrev newer : Layer
+  newer = record { nodes = nodes_of newer_nodes; names = names_of newer_names; blocks = blocks_of newer_blocks }
+
+  pub merged_nodes : is_sorted nat_cmp newer_nodes ≡ true → nodes_of (put_each nat_cmp change_over newer_nodes nodes) ≡ (merge older newer).nodes
+  merged_nodes h = fin.same_map nat_cmp_total exact_unsigned _ _ (λ q.
+      get-nodes_of (put_each nat_cmp change_over newer_nodes nodes) q
+      ∙ find-put_each nat_cmp_total change_over newer_nodes nodes q h
+      ∙ over_nodes (find nat_cmp q newer_nodes) (find nat_cmp q nodes)
+      ∙ sym (get-merge_nodes older newer q ∙ ap (λ o. nodes_over o (fin.get (nodes_of newer_nodes) q)) (get-nodes_of nodes q) ∙ ap (nodes_over (find nat_cmp q nodes)) (get-nodes_of newer_nodes q)))
+
+  pub merged_names : is_sorted link_cmp newer_names ≡ true → names_of (put_each link_cmp newer_value newer_names (where_key link_cmp (λ link. not (hides_names (find nat_cmp link.directory newer_nodes))) names)) ≡ (merge older newer).names
+  merged_names h = fin.same_map links_total exact_links _ _ (λ q.
+      let seen = λ (link : Link). not (hides_names (find nat_cmp link.directory newer_nodes)) in
+      get-names_of (put_each link_cmp newer_value newer_names (where_key link_cmp seen names)) q
+      ∙ find-put_each links_total newer_value newer_names (where_key link_cmp seen names) q h
+      ∙ ap (value_over newer_value (find link_cmp q newer_names)) (find-where_key link_cmp seen q (λ x e. ap seen (sym (exact_links q x e))) names)
+      ∙ over_kept (find link_cmp q newer_names) (find link_cmp q names) (hides_names (find nat_cmp q.directory newer_nodes))
+      ∙ sym (get-merge_names older newer q
+      ∙ ap (λ o. kept_under (fin.get (names_of newer_names) q) (hides_names (fin.get (nodes_of newer_nodes) q.directory)) o) (get-names_of names q)
+      ∙ ap (λ n. kept_under n (hides_names (fin.get (nodes_of newer_nodes) q.directory)) (find link_cmp q names)) (get-names_of newer_names q)
+      ∙ ap (λ c. kept_under (find link_cmp q newer_names) (hides_names c) (find link_cmp q names)) (get-nodes_of newer_nodes q.directory)))
+
+  pub merged_blocks : is_sorted place_cmp newer_blocks ≡ true → blocks_of (put_each place_cmp newer_value newer_blocks (where_key place_cmp (λ place. not (hides_block (find nat_cmp place.file newer_nodes) place.index)) blocks)) ≡ (merge older newer).blocks
+  merged_blocks h = fin.same_map places_total exact_places _ _ (λ q.
+      let seen = λ (place : BlockPlace). not (hides_block (find nat_cmp place.file newer_nodes) place.index) in
+      get-blocks_of (put_each place_cmp newer_value newer_blocks (where_key place_cmp seen blocks)) q
+      ∙ ap (option_map (λ (x : Bytes). x.value)) (find-put_each places_total newer_value newer_blocks (where_key place_cmp seen blocks) q h
+      ∙ ap (value_over newer_value (find place_cmp q newer_blocks)) (find-where_key place_cmp seen q (λ x e. ap seen (sym (exact_places q x e))) blocks)
+      ∙ over_kept (find place_cmp q newer_blocks) (find place_cmp q blocks) (hides_block (find nat_cmp q.file newer_nodes) q.index))
+      ∙ read_kept (find place_cmp q newer_blocks) (find place_cmp q blocks) (hides_block (find nat_cmp q.file newer_nodes) q.index)
+      ∙ sym (get-merge_blocks older newer q
+      ∙ ap (λ o. kept_under (fin.get (blocks_of newer_blocks) q) (hides_block (fin.get (nodes_of newer_nodes) q.file) q.index) o) (get-blocks_of blocks q)
+      ∙ ap (λ n. kept_under n (hides_block (fin.get (nodes_of newer_nodes) q.file) q.index) (option_map (λ (x : Bytes). x.value) (find place_cmp q blocks))) (get-blocks_of newer_blocks q)
+      ∙ ap (λ c. kept_under (option_map (λ (x : Bytes). x.value) (find place_cmp q newer_blocks)) (hides_block c q.index) (option_map (λ (x : Bytes). x.value) (find place_cmp q blocks))) (get-nodes_of newer_nodes q.file)))
