@@ -1,0 +1,2 @@
+pub mod RecoveryLemmas
+pub mod MomentLemmas
