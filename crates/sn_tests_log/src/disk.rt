@@ -1,0 +1,159 @@
+//! A log on a device in memory, and what is asked of it.
+
+use anyhow::{Context, Result, bail, ensure};
+use sn_block::{Blocks, ReadFault};
+use sn_device::MemDevice;
+use sn_layout::{LogHalf, Places};
+use sn_log::{Buffer, Found, Log, Position, Replay, clear};
+use sn_model::{Bytes, Change};
+use sn_record::is_valid;
+use std::alloc::{AllocError, Global};
+
+/// The blocks of the disk, of which the halves of the log begin at 6 and 38.
+pub const BLOCKS: u32 = 256;
+
+/// The sectors of the disk.
+pub const SECTORS: u64 = 2048;
+
+/// What an append answered.
+#[derive(Clone, Copy, PartialEq, Eq)]
+pub enum Appended {
+    Done,
+    Full,
+    Failed,
+}
+
+/// What is appended: a size that is set, or so many bytes that are written.
+#[derive(Clone, Copy)]
+pub enum Added {
+    Size(u64),
+    Write(usize),
+}
+
+/// What replay comes to.
+#[derive(Clone, Copy, PartialEq, Eq)]
+pub enum Ending {
+    End { place: u64 },
+    Misspelt { block: u32 },
+    Failed,
+}
+
+pub fn places() -> Result<Places> {
+    Places::new(BLOCKS).context("no disk of so many blocks")
+}
+
+pub fn blocks_of(alloc: Global, device: MemDevice) -> Result<Blocks<MemDevice>> {
+    Ok(Blocks::new(alloc, device).map_err(AllocError::from)?)
+}
+
+/// A disk of zeros.
+pub fn new_blocks(alloc: Global) -> Result<Blocks<MemDevice>> {
+    blocks_of(alloc, MemDevice::new(alloc, SECTORS)?)
+}
+
+/// A log at a position.
+pub fn log_at(alloc: Global, position: Position) -> Result<Log> {
+    Ok(Log::new(position, Buffer::new(alloc)?))
+}
+
+fn append_change(
+    blocks: &mut Blocks<MemDevice>,
+    log: &mut Log,
+    change: &Change<'_>,
+) -> Result<Appended> {
+    ensure!(is_valid(change), "a change without a payload");
+    ensure!(
+        8 * u64::from(log.position().blocks()) <= blocks.sectors(),
+        "a smaller device"
+    );
+    if !log.has_room(change) {
+        return Ok(Appended::Full);
+    }
+    Ok(match log.append(blocks, change) {
+        Ok(()) => Appended::Done,
+        Err(_) => Appended::Failed,
+    })
+}
+
+/// Appends one record.
+pub fn append(
+    alloc: Global,
+    blocks: &mut Blocks<MemDevice>,
+    log: &mut Log,
+    added: Added,
+) -> Result<Appended> {
+    match added {
+        Added::Size(size) => append_change(blocks, log, &Change::SetSize { number: 1, size }),
+        Added::Write(count) => {
+            let bytes = vec![in alloc; b'w'; count]?;
+            let change = Change::Write {
+                number: 4,
+                offset: 0,
+                bytes: Bytes::new(bytes.as_slice()),
+            };
+            append_change(blocks, log, &change)
+        }
+    }
+}
+
+/// Clears a place of a half.
+pub fn clear_place(
+    blocks: &mut Blocks<MemDevice>,
+    half: LogHalf,
+    place: u64,
+) -> Result<Result<(), ReadFault>> {
+    let places = places()?;
+    ensure!(place <= 255, "no place {place}");
+    ensure!(
+        8 * u64::from(places.blocks()) <= blocks.sectors(),
+        "a smaller device"
+    );
+    Ok(clear(blocks, places, half, place))
+}
+
+/// What one call of replay found: a record by its number, or the end.
+enum Step {
+    Record(u64),
+    Last(Ending),
+}
+
+fn next_of(
+    replay: &mut Replay,
+    blocks: &mut Blocks<MemDevice>,
+    buffer: &mut Buffer,
+) -> Result<Step> {
+    ensure!(
+        8 * u64::from(replay.position().blocks()) <= blocks.sectors(),
+        "a smaller device"
+    );
+    let place = replay.position().place();
+    Ok(match replay.next(blocks, buffer) {
+        Ok(Found::Change(Change::SetSize { size, .. })) => Step::Record(size),
+        Ok(Found::Change(Change::Write { bytes, .. })) => {
+            Step::Record(bytes.as_slice().len() as u64)
+        }
+        Ok(Found::Change(_)) => Step::Record(0),
+        Ok(Found::End) => Step::Last(Ending::End { place }),
+        Ok(Found::Misspelt { block }) => Step::Last(Ending::Misspelt { block }),
+        Err(ReadFault::Device) => Step::Last(Ending::Failed),
+        Err(ReadFault::Memory) => bail!("no memory for a block"),
+    })
+}
+
+/// The sizes that the records of an epoch set, or of the bytes that they write, and how replay ends.
+pub fn replayed(
+    alloc: Global,
+    blocks: &mut Blocks<MemDevice>,
+    epoch: u64,
+) -> Result<(Vec<u64>, Ending, Position)> {
+    let mut buffer = Buffer::new(alloc)?;
+    let mut replay = Replay::new(places()?, epoch);
+    let mut found = Vec::new(alloc);
+    for _ in 0..256 {
+        match next_of(&mut replay, blocks, &mut buffer)? {
+            Step::Record(number) => found.push(number)?,
+            Step::Last(ending) => return Ok((found, ending, replay.position())),
+        }
+    }
+    bail!("replay goes on")
+}
