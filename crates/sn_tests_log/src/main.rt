@@ -2,8 +2,9 @@
 //! appended, replayed and cleared.
 //!
 //! `data/` has the tables of the cases: their head lines say where the answers come from. `disk` has
-//! the calls of a log on a device in memory, `steps` the table over them, and `cuts` cuts appends short
-//! at each write. What is printed is compared with `stdout`. The argument is the folder of the tables, as in
+//! the calls of a log on a device in memory, `steps` the table over them, `cuts` cuts appends short at
+//! each write, and `hostile` compares what is replayed with a plain reading of the bytes. What is
+//! printed is compared with `stdout`. The argument is the folder of the tables, as in
 //!
 //! ```text
 //! rt run -- data
@@ -12,6 +13,7 @@
 
 mod cuts;
 mod disk;
+mod hostile;
 mod payloads;
 mod steps;
 
@@ -23,5 +25,6 @@ fn main(rt: HostRuntime) -> Result<()> {
     payloads::run(&mut report)?;
     steps::run(&mut report)?;
     cuts::run(&mut report)?;
+    hostile::run(&mut report)?;
     report.end()
 }
