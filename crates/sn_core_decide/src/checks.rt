@@ -187,7 +187,12 @@ pub fn writable_parent<V: TreeView>(
 
 /// From a directory with S_ISVTX a caller removes what it owns, or anything where it owns the
 /// directory: EPERM by `sticky` otherwise, at the object's place. The user 0 is held by no rule.
-pub fn sticky(cred: &Cred, which: PathNumber, parent: &Attributes, found: &Found) -> Result<(), Refusal>
+pub fn sticky(
+    cred: &Cred,
+    which: PathNumber,
+    parent: &Attributes,
+    found: &Found,
+) -> Result<(), Refusal>
     ensures { result ≡ tests.sticky cred.now which parent.now found.now }
 {
     let uid = cred.uid();

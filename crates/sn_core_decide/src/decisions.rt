@@ -7,7 +7,9 @@ use crate::checks::{full, live, not_present, prefix, writable_parent};
 use crate::view::CallView;
 use sn_acl::{Acl, Inherited, Mode, inherit};
 use sn_limits::Limits;
-use sn_model::{Bytes, Caller, Outcome, Ownership, PathNumber, Pending, Refusal, Reply, Session, Status};
+use sn_model::{
+    Bytes, Caller, Outcome, Ownership, PathNumber, Pending, Refusal, Reply, Session, Status,
+};
 use sn_walk::{Attributes, Failure, Home, Kind, Path, TreeView};
 
 /// What a directory is given that a session makes in a directory.

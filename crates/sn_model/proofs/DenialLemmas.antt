@@ -352,7 +352,6 @@ module _ (limits : Limits) (world : World) (s : Session) (names : List (List ℕ
 
 -- ---- sessions and arguments
 
-
 session_other : (world : World) (session : ℕ) (r : Refusal) → session_at world session ≡ Err r → r.errno ≡ Eacces → ⊥
 session_other world session r e is = told (nat_lt session 64) e
   where
