@@ -1,16 +1,21 @@
 -- What the head of a body says of the record that stands there.
-use Rattle.std.proofs.Common.{◌≡◌, inl, inr, ℕ, suc, ◌+◌, ◌-◌, ◌*◌, ◌^◌, ◌<◌, ◌≤◌, List, ◌++◌, length, take, Some, sym, ◌∙◌, ap, arith, append_assoc, length-append}
+use Rattle.std.proofs.Common.{◌≡◌, inl, inr, ℕ, suc, ◌+◌, ◌-◌, ◌*◌, ◌^◌, ◌<◌, ◌≤◌, List, [], ◌++◌, length, take, Some, sym, ◌∙◌, ap, arith, append_assoc, length-append}
 use Rattle.std.proofs.lemmas.List.{take_at, take-append-le}
 use Rattle.sn_device.specs.Sectors.{Contents, sector_at}
 use Rattle.sn_layout.specs.Bytes.{number_bytes, zeros}
 use Rattle.sn_ondisk.specs.Blocks.{bytes_at}
 use Rattle.sn_ondisk.specs.Gates.{IsOpen}
 use Rattle.sn_ondisk.specs.LogHalf.{Stops, body_sectors}
-use Rattle.sn_ondisk.proofs.OneLemmas.{same_width, same_number, length-number_bytes}
+use Rattle.sn_layout.proofs.Fields.{length-number_bytes, same_numbers}
+use Rattle.sn_ondisk.proofs.OneLemmas.{same_width}
 use Rattle.sn_log.specs.declared.body.Head.{Head}
 use Rattle.sn_log.specs.Heads.{IsHead, head_bytes}
 use Rattle.sn_log.specs.Places.{LogPosition, base_at}
 use Rattle.sn_log.specs.Replaying.{HasNext, Looks}
+
+-- a number is read back from its bytes
+same_number : (n a b : ℕ) → a < 256 ^ n → b < 256 ^ n → number_bytes n a ≡ number_bytes n b → a ≡ b
+same_number n a b fits-a fits-b e = (same_numbers n a b [] [] fits-a fits-b (ap (λ bytes. bytes ++ []) e)).0
 
 abbrev pub head_of : LogPosition → List ℕ → Head
 head_of at payload = record { epoch = at.epoch; sequence = at.count; size = length payload }

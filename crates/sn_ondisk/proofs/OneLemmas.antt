@@ -14,7 +14,7 @@ use Rattle.sn_ondisk.specs.OneAnswer.{IsOnDisk}
 
 -- ---- bytes with fronts of one length
 
-same_width : (n a b : ℕ) (x y : List ℕ) → number_bytes n a ++ x ≡ number_bytes n b ++ y → (number_bytes n a ≡ number_bytes n b) × (x ≡ y)
+pub same_width : (n a b : ℕ) (x y : List ℕ) → number_bytes n a ++ x ≡ number_bytes n b ++ y → (number_bytes n a ≡ number_bytes n b) × (x ≡ y)
 same_width n a b x y e = same_fronts (number_bytes n a) (number_bytes n b) x y (length-number_bytes n a ∙ sym (length-number_bytes n b)) e
 
 -- ---- one record

@@ -8,7 +8,7 @@ use Rattle.sn_layout.specs.declared.root.RootBody.{RootBody}
 use Rattle.sn_layout.specs.Places.{gate_sector, other_slot}
 use Rattle.sn_ondisk.specs.Gates.{IsOpen}
 use Rattle.sn_ondisk.specs.Roots.{HasRoot, IsNewest}
-use Rattle.sn_ondisk.proofs.RootBodyLemmas.{root_is_one, newest_is_one}
+use Rattle.sn_ondisk.proofs.OneRootLemmas.{root_is_one, newest_is_one}
 use Rattle.sn_root.specs.Held.{Holds}
 use Rattle.sn_root.specs.Slots.{gate_in, version_at, IsUnknown, IsMisspelt}
 use Rattle.sn_root.specs.Finding.{HasNewest, AreKnown, AreEqual, IsDamaged, Finds, IsRead}

@@ -21,7 +21,7 @@ use Rattle.sn_ondisk.specs.Roots.{body_block, HasRoot, IsNewest, HasNext, InRoot
 use Rattle.sn_ondisk.specs.Shown.{Shown, InShown}
 use Rattle.sn_ondisk.proofs.LogLemmas.{closed-same, ReplaysTo-same}
 use Rattle.sn_ondisk.proofs.PlaceLemmas.{half_from}
-use Rattle.sn_ondisk.proofs.RootBodyLemmas.{newest_is_one}
+use Rattle.sn_ondisk.proofs.OneRootLemmas.{newest_is_one}
 use Rattle.sn_ondisk.proofs.RootLemmas.{HasRoot-same, IsNewest-same, body_below, gate_from, gate_below, closing_keeps, body_keeps, opening_changes, open_root_is_newest}
 use Rattle.sn_ondisk.proofs.ShownLemmas.{closing_shows, body_shows, opening_shows, shown_depends}
 use Rattle.sn_block.specs.Effects.{Nowhere, SyncsAll, WritesRun}
