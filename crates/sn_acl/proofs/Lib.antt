@@ -7,3 +7,5 @@ pub mod Reading
 pub mod Unmasked
 pub mod Shown
 pub mod Distinct
+pub mod Validity
+pub mod Spelling

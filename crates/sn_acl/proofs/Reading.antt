@@ -47,7 +47,7 @@ digits-end (d ∷ ds) more = λ all.
     let parts = both (is_ascii_digit d) (all_ascii_digits ds) all in
     take_while-cons is_ascii_digit d (ds ++ (58 ∷ more)) ∙ rw (parts.0, digits-end ds more parts.1) refl
 
-digits-qualifier : (t : Tag) → qualifier_of t < 2 ^ 32 → all_ascii_digits (qualifier_text t) ≡ true
+pub digits-qualifier : (t : Tag) → qualifier_of t < 2 ^ 32 → all_ascii_digits (qualifier_text t) ≡ true
 digits-qualifier UserObj = λ fits. refl
 digits-qualifier (User n) = λ fits. digits_decimal own n (omega arith)
 digits-qualifier GroupObj = λ fits. refl

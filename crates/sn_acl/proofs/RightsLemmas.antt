@@ -1,31 +1,25 @@
 -- Three letters name one set of rights.
 use Rattle.std.proofs.Common.{◌≡◌, ℕ, ◌+◌, ◌<◌, List, ◌∷◌, zero, suc, refl, arith, ap, sym, ◌∙◌}
-use Rattle.std.specs.Prelude.{◌==◌, if◌then◌else◌}
 use Rattle.std.specs.Int.Bits.{and_self}
 use Rattle.std.proofs.lemmas.Nat.{and_comm, and_assoc}
 use Rattle.std.proofs.Common.{true, ◌-◌, eq-eqb}
 use Rattle.sn_acl.specs.declared.modes.Mode.{Mode}
 use Rattle.sn_acl.specs.Modes.{IsWithin, common_mode, mode_without}
-use Rattle.sn_acl.specs.Rights.{permissions_text, contains, common, without}
+use Rattle.sn_acl.specs.Rights.{permissions_text, rights_named, contains, common, without}
 
--- the number of the rights that three letters name
-abbrev rights_in : List ℕ → ℕ
-rights_in (r ∷ w ∷ x ∷ more) = (if r == 114 then 4 else 0) + ((if w == 119 then 2 else 0) + (if x == 120 then 1 else 0))
-rights_in _ = 0
-
-rights_in-text : (p : ℕ) → p < 8 → rights_in (permissions_text p) ≡ p
-rights_in-text zero = λ _. refl
-rights_in-text (suc zero) = λ _. refl
-rights_in-text (suc (suc zero)) = λ _. refl
-rights_in-text (suc (suc (suc zero))) = λ _. refl
-rights_in-text (suc (suc (suc (suc zero)))) = λ _. refl
-rights_in-text (suc (suc (suc (suc (suc zero))))) = λ _. refl
-rights_in-text (suc (suc (suc (suc (suc (suc zero)))))) = λ _. refl
-rights_in-text (suc (suc (suc (suc (suc (suc (suc zero))))))) = λ _. refl
-rights_in-text (suc (suc (suc (suc (suc (suc (suc (suc p)))))))) = λ small. absurd (omega arith)
+pub rights_named-text : (p : ℕ) → p < 8 → rights_named (permissions_text p) ≡ p
+rights_named-text zero = λ _. refl
+rights_named-text (suc zero) = λ _. refl
+rights_named-text (suc (suc zero)) = λ _. refl
+rights_named-text (suc (suc (suc zero))) = λ _. refl
+rights_named-text (suc (suc (suc (suc zero)))) = λ _. refl
+rights_named-text (suc (suc (suc (suc (suc zero))))) = λ _. refl
+rights_named-text (suc (suc (suc (suc (suc (suc zero)))))) = λ _. refl
+rights_named-text (suc (suc (suc (suc (suc (suc (suc zero))))))) = λ _. refl
+rights_named-text (suc (suc (suc (suc (suc (suc (suc (suc p)))))))) = λ small. absurd (omega arith)
 
 pub permissions_text-injective : (p q : ℕ) → p < 8 → q < 8 → permissions_text p ≡ permissions_text q → p ≡ q
-permissions_text-injective p q small small' same = sym (rights_in-text p small) ∙ (ap rights_in same ∙ rights_in-text q small')
+permissions_text-injective p q small small' same = sym (rights_named-text p small) ∙ (ap rights_named same ∙ rights_named-text q small')
 
 -- what is in two sets is in each of them, and what is left of a set is in it
 pub common-right : (a b : ℕ) → contains b (common a b) ≡ true

@@ -6,7 +6,9 @@ use Rattle.sn_acl.specs.declared.entries.Tag.{Tag}
 use Rattle.sn_acl.specs.declared.entries.Tag.TheVariants.{UserObj, User, GroupObj, Group, Mask, Other}
 use Rattle.sn_acl.specs.declared.entries.Entry.{Entry}
 use Rattle.sn_acl.specs.declared.modes.Mode.{Mode}
-use Rattle.sn_acl.specs.Entries.{is_user_obj, is_group_obj, is_mask, is_other}
+use Rattle.sn_acl.specs.Access.{entries_of}
+use Rattle.sn_acl.specs.Entries.{is_user_obj, is_group_obj, is_mask, is_named, is_other}
+use Rattle.sn_acl.specs.Laws.{SetsThreeEntries}
 use Rattle.sn_acl.specs.AccessList.{IsValid, count_of}
 use Rattle.sn_acl.specs.Modes.{entry_of, entry_under, permissions_under, granted_by, has_mask, mode_of, with_mode}
 
@@ -98,3 +100,53 @@ mode_of-with_mode mode es valid =
     let other = shown mode (has_mask es) is_other mode.other (other-shows mode (has_mask es)) es (omega arith) in
     let group = group-shown mode es (omega arith) (entry_of is_mask es) refl in
     rw (owner, other, found-under mode (has_mask es) is_mask es, group) refl
+
+-- ---- the entries that are set, and those that stay
+
+mask-set : (mode : Mode) (masked : Bool) (es : List Entry) (mask : Option Entry) → entry_of is_mask es ≡ mask → is_some mask ≡ true
+    → granted_by (option_map (entry_under mode masked) mask) ≡ mode.group
+mask-set mode masked es None = λ is some. cc
+mask-set mode masked es (Some e) = λ is some. mask-shows mode masked e.tag e.permissions (passes is_mask es e is)
+
+group-under : (mode : Mode) (t : Tag) (old : ℕ) → is_group_obj t ≡ true → permissions_under mode true t old ≡ old
+group-under mode UserObj old = λ h. cc
+group-under mode (User n) old = λ h. cc
+group-under mode GroupObj old = λ h. refl
+group-under mode (Group n) old = λ h. cc
+group-under mode Mask old = λ h. cc
+group-under mode Other old = λ h. cc
+
+group-stays : (mode : Mode) (es : List Entry) (group : Option Entry) → entry_of is_group_obj es ≡ group → option_map (entry_under mode true) group ≡ group
+group-stays mode es None = λ is. refl
+group-stays mode es (Some e) = λ is. ap (with_tag e.tag) (group-under mode e.tag e.permissions (passes is_group_obj es e is))
+  where
+    with_tag : Tag → ℕ → Option Entry
+    with_tag t p = Some (record { tag = t; permissions = p })
+
+named-stay : (mode : Mode) (masked : Bool) (es : List Entry) → entries_of is_named (map (entry_under mode masked) es) ≡ entries_of is_named es
+named-stay mode masked [] = refl
+named-stay mode masked (e ∷ es) = told e.tag (named-stay mode masked es)
+  where
+    entry : Tag → ℕ → Entry
+    entry t p = record { tag = t; permissions = p }
+
+    told : {xs ys : List Entry} (t : Tag) → xs ≡ ys
+        → cond (is_named t) (entry t (permissions_under mode masked t e.permissions) ∷ xs) xs ≡ cond (is_named t) (entry t e.permissions ∷ ys) ys
+    told UserObj = λ rest. rest
+    told (User n) = λ rest. ap (λ (zs : List Entry). entry (User n) e.permissions ∷ zs) rest
+    told GroupObj = λ rest. rest
+    told (Group n) = λ rest. ap (λ (zs : List Entry). entry (Group n) e.permissions ∷ zs) rest
+    told Mask = λ rest. rest
+    told Other = λ rest. rest
+
+pub sets-three : (mode : Mode) (es : List Entry) → IsValid es → SetsThreeEntries mode es
+sets-three mode es valid =
+    let objects = valid.objects in
+    record {
+      owner = shown mode (has_mask es) is_user_obj mode.owner (owner-shows mode (has_mask es)) es (omega arith);
+      other = shown mode (has_mask es) is_other mode.other (other-shows mode (has_mask es)) es (omega arith);
+      mask = λ some. ap granted_by (found-under mode (has_mask es) is_mask es) ∙ mask-set mode (has_mask es) es (entry_of is_mask es) refl some;
+      group = λ none. rw none (shown mode false is_group_obj mode.group (group-shows mode) es (omega arith));
+      group_stays = λ some. rw some (found-under mode true is_group_obj es ∙ group-stays mode es (entry_of is_group_obj es) refl);
+      named_stay = named-stay mode (has_mask es) es;
+    }

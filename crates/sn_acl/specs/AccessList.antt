@@ -1,5 +1,5 @@
 -- When a list of entries is a valid ACL in canonical order. acl(5), "VALID ACLs".
-use Rattle.std.specs.Prelude.{ℕ, Bool, true, ◌≡◌, ◌≤◌, ◌<◌, ◌&&◌, List, [], ◌∷◌, nat_lt, length, filter}
+use Rattle.std.specs.Prelude.{ℕ, Bool, true, ◌≡◌, ◌≤◌, ◌<◌, ◌==◌, ◌&&◌, ◌||◌, List, [], ◌∷◌, nat_le, nat_lt, length, filter}
 use Rattle.std.specs.List.{list_all}
 use Rattle.sn_acl.specs.declared.entries.Tag.{Tag}
 use Rattle.sn_acl.specs.declared.entries.Entry.{Entry}
@@ -37,3 +37,7 @@ pub record IsValid (entries : List Entry) : Type 0 where
   pub mask : HasFittingMask entries
   pub canonical : is_canonical entries ≡ true
   pub numbers : list_all is_entry entries ≡ true
+
+-- the test of what `IsValid` says
+abbrev pub is_acl : List Entry → Bool
+is_acl entries = (count_of is_user_obj entries == 1) && (count_of is_group_obj entries == 1) && (count_of is_other entries == 1) && nat_le (count_of is_mask entries) 1 && ((count_of is_named entries == 0) || (count_of is_mask entries == 1)) && nat_le (count_of is_named entries) 32 && is_canonical entries && list_all is_entry entries

@@ -1,12 +1,14 @@
 -- What follows from the definitions, in the words of acl(5).
-use Rattle.std.specs.Prelude.{ℕ, Bool, true, false, ◌≡◌, ◌<◌, ◌==◌, not, if◌then◌else◌, List, None, is_none, filter, length, slice_index_or, ◌≢◌}
+use Rattle.std.specs.Prelude.{ℕ, Bool, true, false, ◌≡◌, ◌<◌, ◌==◌, ◌↔◌, not, if◌then◌else◌, List, Some, None, is_none, filter, length, slice_index_or, ◌≢◌}
 use Rattle.std.specs.List.{list_any}
 use Rattle.sn_acl.specs.declared.entries.Entry.{Entry}
 use Rattle.sn_acl.specs.declared.modes.Mode.{Mode}
 use Rattle.sn_acl.specs.Rights.{contains}
-use Rattle.sn_acl.specs.Entries.{is_user_obj, is_user, is_other, is_mask}
+use Rattle.sn_acl.specs.Entries.{is_user_obj, is_user, is_group_obj, is_other, is_mask, is_named}
 use Rattle.sn_acl.specs.Credential.{Credential, is_member}
-use Rattle.sn_acl.specs.Modes.{three_entries}
+use Rattle.sn_acl.specs.Modes.{entry_of, granted_by, has_mask, three_entries, with_mode}
+use Rattle.sn_acl.specs.AccessList.{IsValid, is_acl}
+use Rattle.sn_acl.specs.Text.{acl_of, acl_text}
 use Rattle.sn_acl.specs.Access.{class_of, entries_of, is_held_group, denial_of}
 
 -- whether the ACL has an entry of the caller's uid
@@ -47,3 +49,20 @@ IsNarrowedByMask cred owner group entries want = denial_of cred owner group entr
 -- no tag stands twice, so that no user and no group has two entries
 abbrev pub HasDistinctTags : List Entry → Type 0
 HasDistinctTags entries = (i j : ℕ) (d : Entry) → i < j → j < length entries → (slice_index_or entries i d).tag ≢ (slice_index_or entries j d).tag
+
+-- the test of an ACL passes exactly the valid ones
+abbrev pub TestIsExact : Type 0
+TestIsExact = (entries : List Entry) → (is_acl entries ≡ true) ↔ IsValid entries
+
+-- A text spells an ACL exactly where the ACL is valid and the text is its own: each valid ACL has one spelling, and no other text has any.
+abbrev pub SpellingIsOne : Type 0
+SpellingIsOne = (text : List ℕ) (entries : List Entry) → (acl_of text ≡ Some entries) ↔ (IsValid entries × (text ≡ acl_text entries))
+
+-- To set a mode is to set the entry of the owner, that of others, and the MASK or, where there is none, that of the group; all other entries stay.
+pub record SetsThreeEntries (mode : Mode) (entries : List Entry) : Type 0 where
+  pub owner : granted_by (entry_of is_user_obj (with_mode mode entries)) ≡ mode.owner
+  pub other : granted_by (entry_of is_other (with_mode mode entries)) ≡ mode.other
+  pub mask : has_mask entries ≡ true → granted_by (entry_of is_mask (with_mode mode entries)) ≡ mode.group
+  pub group : has_mask entries ≡ false → granted_by (entry_of is_group_obj (with_mode mode entries)) ≡ mode.group
+  pub group_stays : has_mask entries ≡ true → entry_of is_group_obj (with_mode mode entries) ≡ entry_of is_group_obj entries
+  pub named_stay : entries_of is_named (with_mode mode entries) ≡ entries_of is_named entries

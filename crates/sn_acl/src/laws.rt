@@ -5,7 +5,7 @@ ghost use Rattle.sn_acl.specs.declared.modes.Mode.{Mode};
 ghost use Rattle.sn_acl.specs.AccessList.{IsValid};
 ghost use Rattle.sn_acl.specs.Credential.{Credential};
 ghost use Rattle.sn_acl.specs.Access.{class_of};
-ghost use Rattle.sn_acl.specs.Laws.{IsOneClass, IsGrantedByMode, IsNarrowedByMask, HasDistinctTags};
+ghost use Rattle.sn_acl.specs.Laws.{IsOneClass, IsGrantedByMode, IsNarrowedByMask, HasDistinctTags, SetsThreeEntries, SpellingIsOne, TestIsExact};
 
 /// A caller has one class and only one, which has an entry.
 pub fn class_is_one()
@@ -29,4 +29,19 @@ pub fn mask_narrows()
 /// No tag stands twice in a valid ACL.
 pub fn tags_are_distinct()
     ensures { (entries : List Entry) → IsValid entries → HasDistinctTags entries }
+{}
+
+/// The test of an ACL passes exactly the valid ones.
+pub fn test_is_exact()
+    ensures { TestIsExact }
+{}
+
+/// Each valid ACL has one spelling, and a text that is no valid ACL's spells none.
+pub fn spelling_is_one()
+    ensures { SpellingIsOne }
+{}
+
+/// Beside a MASK, setting a mode leaves GROUP_OBJ; without one it sets it. Entries with a qualifier stay.
+pub fn mode_sets_three_entries()
+    ensures { (mode : Mode) (entries : List Entry) → IsValid entries → SetsThreeEntries mode entries }
 {}

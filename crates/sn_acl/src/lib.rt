@@ -33,7 +33,10 @@ pub use access::check;
 pub use credential::{Cred, MAX_GROUPS};
 pub use entries::{Entry, Tag};
 pub use inheritance::{Inherited, inherit};
-pub use laws::{class_is_one, mask_narrows, mode_decides, tags_are_distinct};
+pub use laws::{
+    class_is_one, mask_narrows, mode_decides, mode_sets_three_entries, spelling_is_one,
+    tags_are_distinct, test_is_exact,
+};
 pub use list::{Acl, MAX_ENTRIES};
 pub use modes::Mode;
 pub use rights::Permissions;

@@ -7,7 +7,7 @@ ghost use Rattle.sn_acl.specs.declared.entries.Tag.{Tag as TagValue};
 ghost use Rattle.sn_acl.specs.Rights.{permissions_text};
 ghost use Rattle.sn_acl.specs.Entries.{qualifier_of};
 ghost use Rattle.sn_acl.specs.AccessList.{IsValid, is_entry};
-ghost use Rattle.sn_acl.specs.Text.{entry_text, more_text, acl_text, kind_letter, qualifier_text};
+ghost use Rattle.sn_acl.specs.Text.{entry_text, more_text, acl_text, acl_of, kind_letter, qualifier_text};
 
 use crate::{Acl, Entry, MAX_ENTRIES, Permissions, Tag};
 use arrayvec::{ArrayString, ArrayVec};
@@ -69,8 +69,7 @@ impl Acl {
     /// The ACL that has this text, byte for byte. `None` for a text that no valid ACL has: one with another
     /// order, with spaces or leading zeros, with an entry missing or doubled, or with more than 32 names.
     pub fn parse(text: &[u8]) -> Option<Self>
-        ensures found { IfSome result (λ acl. (text.now ≡ acl_text acl) × IsValid acl) }
-        ensures only { (entries : List EntryValue) → IsValid entries → text.now ≡ acl_text entries → result ≡ Some entries }
+        ensures { result ≡ acl_of text.now }
     {
         let acl = Acl::from_entries(read_entries(text)?.as_slice())?;
         // One spelling: numbers with leading zeros are read above, and refused here.

@@ -1,16 +1,16 @@
 -- Every decided change can be applied.
-use Rattle.std.proofs.Common.{◌≡◌, ℕ, zero, suc, ◌-◌, ◌<◌, ◌^◌, Bool, true, false, not, cond, ◌&&◌, ◌||◌, ◌==◌, nat_lt, List, [], ◌∷◌, length, Option, Some, None, Result, Ok, Err, is_some, is_none, refl, sym, ap, subst, ◌∙◌, arith, eq-eqb, ltb-true}
+use Rattle.std.proofs.Common.{◌≡◌, ℕ, zero, suc, ◌-◌, ◌<◌, ◌^◌, Bool, true, false, not, cond, ◌&&◌, ◌||◌, ◌==◌, nat_lt, List, [], ◌∷◌, length, Option, Some, None, Result, Ok, Err, is_some, is_none, refl, sym, ap, subst, ◌∙◌, arith, ltb-true}
 use Rattle.std.specs.Prelude.{IfSome, slice_get}
 use Rattle.std.specs.List.{list_all, AllByRecursion}
-use Rattle.std.proofs.lemmas.Bool.{true≢false, eqb-false, lt-ltb, le-leb, leb-false}
+use Rattle.std.proofs.lemmas.Bool.{true≢false, lt-ltb, le-leb, leb-false}
 use Rattle.std.proofs.lemmas.Nat.{and_le_l, and_le_r}
 use Rattle.sn_acl.specs.declared.entries.Entry.{Entry}
 use Rattle.sn_acl.specs.declared.modes.Mode.{Mode}
-use Rattle.sn_acl.specs.Entries.{is_mask, is_named}
 use Rattle.sn_acl.specs.Modes.{three_entries, mode_of, with_mode, common_mode, mode_without}
 use Rattle.sn_acl.specs.Inheritance.{inherited_access}
-use Rattle.sn_acl.specs.AccessList.{IsValid, count_of}
+use Rattle.sn_acl.specs.AccessList.{IsValid, is_acl}
 use Rattle.sn_acl.proofs.ModeLemmas.{IsMode, valid-with_mode}
+use Rattle.sn_acl.proofs.Validity.{test-from_valid}
 use Rattle.sn_walk.specs.declared.path.PathFault.{PathFault}
 use Rattle.sn_walk.specs.declared.path.PathFault.TheVariants.{Misspelt, TooLong}
 use Rattle.sn_walk.specs.declared.view.Kind.TheVariants.{Directory}
@@ -24,7 +24,7 @@ use Rattle.sn_model.specs.declared.session.Session.{Session}
 use Rattle.sn_model.specs.Tree.{Tree, Node, attributes_of, link_to, names_in, names_for, with_node}
 use Rattle.sn_model.specs.World.{World}
 use Rattle.sn_model.specs.NameTree.{IsNode, IsTree}
-use Rattle.sn_model.specs.Changes.{is_acl, is_default_acl, is_ownership, is_free_number, file_at, node_with, made}
+use Rattle.sn_model.specs.Changes.{is_default_acl, is_ownership, is_free_number, file_at, node_with, made}
 use Rattle.sn_walk.specs.Chains.{◌>>=◌}
 use Rattle.sn_model.specs.Tests.{plain, logged_out, flat, session_at, is_open, logged_in, read_path, path_argument, mode_from_bits, new_mode_argument}
 use Rattle.sn_model.specs.declared.reply.Reply.TheVariants as reply
@@ -36,27 +36,12 @@ use Rattle.sn_model.specs.Calls as calls
 use Rattle.sn_model.specs.Calls.{Ready, ready, outcome_of, new_session, new_directory, last_name}
 use Rattle.sn_model.specs.Steps.{IsNumber, IsNumberFor, changed, decision}
 use Rattle.sn_model.specs.Worlds.{IsCaller, IsPlace, IsCall, IsWorld}
-use Rattle.sn_model.proofs.ChainLemmas.{and_left, and_right, and_both, or_right}
+use Rattle.sn_model.proofs.ChainLemmas.{and_left, and_right, and_both}
 use Rattle.sn_model.proofs.NameLemmas.{no_names_for}
 use Rattle.sn_model.proofs.PartLemmas.{is_directory_at, made_of}
 use Rattle.sn_walk.proofs.ChainLemmas.{bind_ok}
 use Rattle.sn_model.proofs.DecisionLemmas as found
 use Rattle.sn_model.proofs.DecisionLemmas.{Made, same_ok, mkdir_is, stat_is}
-
--- what `IsValid` says, the test of an ACL finds
-pub acl_of : (es : List Entry) → IsValid es → is_acl es ≡ true
-acl_of es v =
-    and_both _ _ (and_both _ _ (and_both _ _ (and_both _ _ (and_both _ _ (and_both _ _ (and_both _ _
-    (eq-eqb _ 1 v.objects.user_obj) (eq-eqb _ 1 v.objects.group_obj)) (eq-eqb _ 1 v.objects.other))
-    (le-leb _ 1 v.mask.most)) (beside (count_of is_named es) (count_of is_mask es) v.mask.beside_named))
-    (le-leb _ 32 v.mask.named)) v.canonical) v.numbers
-  where
-    beside : (n m : ℕ) → (0 < n → m ≡ 1) → ((n == 0) || (m == 1)) ≡ true
-    beside n m h = told (n == 0) refl
-      where
-        told : (b : Bool) → (n == 0) ≡ b → ((n == 0) || (m == 1)) ≡ true
-        told true f = ap (λ b. b || (m == 1)) f
-        told false f = or_right (n == 0) (m == 1) (eq-eqb m 1 (h (omega (arith, eqb-false n 0 f))))
 
 -- the ACLs of a new object are valid
 three_acl : (mode : Mode) → IsMode mode → is_acl (three_entries mode) ≡ true
@@ -71,7 +56,7 @@ inherited_acl None mode umask h v = three_acl (mode_without mode umask) (record 
   group = omega (arith, and_le_l mode.group (255 - umask.group), h.group);
   other = omega (arith, and_le_l mode.other (255 - umask.other), h.other);
 })
-inherited_acl (Some d) mode umask h v = acl_of (with_mode (common_mode (mode_of d) mode) d) (valid-with_mode (common_mode (mode_of d) mode) d (record {
+inherited_acl (Some d) mode umask h v = test-from_valid (with_mode (common_mode (mode_of d) mode) d) (valid-with_mode (common_mode (mode_of d) mode) d (record {
   owner = omega (arith, and_le_r (mode_of d).owner mode.owner, h.owner);
   group = omega (arith, and_le_r (mode_of d).group mode.group, h.group);
   other = omega (arith, and_le_r (mode_of d).other mode.other, h.other);
@@ -79,7 +64,7 @@ inherited_acl (Some d) mode umask h v = acl_of (with_mode (common_mode (mode_of 
 
 default_acl_of : (default : Option (List Entry)) → IfSome default IsValid → is_default_acl Directory default ≡ true
 default_acl_of None v = refl
-default_acl_of (Some d) v = acl_of d v
+default_acl_of (Some d) v = test-from_valid d v
 
 -- what is given to a new directory is an ownership
 new_ownership : (limits : Limits) (s : Session) (mode : Mode) (tree : Tree) (number : ℕ) (parent : Node) → IsCaller s → IsMode mode → IsNode limits number parent → is_ownership Directory (new_directory s mode (attributes_of tree number parent) parent.default_acl) ≡ true

@@ -1,5 +1,5 @@
 -- Each change keeps nodes within the limits, and names names.
-use Rattle.std.proofs.Common.{◌≡◌, ◌≢◌, ℕ, zero, suc, ◌+◌, ◌-◌, ◌<◌, ◌≤◌, ◌^◌, Bool, true, false, not, ◌&&◌, ◌||◌, ◌==◌, nat_lt, nat_le, List, [], ◌∷◌, ◌++◌, length, take, drop, replicate, Option, Some, None, refl, sym, ap, subst, ◌∙◌, ◌⊎◌, inl, inr, arith, codes, ltb-true, leb-true, eqb-true, length-append, length-drop, length-take-le}
+use Rattle.std.proofs.Common.{◌≡◌, ◌≢◌, ℕ, zero, suc, ◌+◌, ◌-◌, ◌<◌, ◌≤◌, ◌^◌, true, false, not, ◌&&◌, nat_lt, nat_le, List, [], ◌∷◌, ◌++◌, length, take, drop, replicate, Option, Some, None, refl, sym, ap, subst, ◌∙◌, ◌⊎◌, inl, inr, arith, codes, ltb-true, leb-true, length-append, length-drop, length-take-le}
 use Rattle.std.specs.Prelude.{IfSome}
 use Rattle.std.specs.List.{list_all, AllByRecursion}
 use Rattle.std.specs.FinMap as map
@@ -8,8 +8,8 @@ use Rattle.std.proofs.lemmas.Bool.{true≢false}
 use Rattle.std.proofs.lemmas.List.{length-replicate}
 use Rattle.std.proofs.lemmas.Map.Lookups.{exact_unsigned}
 use Rattle.sn_acl.specs.declared.entries.Entry.{Entry}
-use Rattle.sn_acl.specs.Entries.{is_user_obj, is_group_obj, is_other, is_mask, is_named}
-use Rattle.sn_acl.specs.AccessList.{IsValid, count_of, is_canonical, is_entry}
+use Rattle.sn_acl.specs.AccessList.{IsValid, is_acl}
+use Rattle.sn_acl.proofs.Validity.{valid-from_test}
 use Rattle.sn_walk.specs.declared.view.Kind.{Kind}
 use Rattle.sn_walk.specs.declared.view.Kind.TheVariants.{File, Directory}
 use Rattle.sn_walk.specs.Names.{is_name}
@@ -20,7 +20,7 @@ use Rattle.sn_model.specs.declared.change.Change.TheVariants.{Make, AddLink, Rem
 use Rattle.sn_model.specs.declared.change.Ownership.{Ownership}
 use Rattle.sn_model.specs.declared.link.Link.{Link}
 use Rattle.sn_model.specs.Tree.{Node, Tree, link_to}
-use Rattle.sn_model.specs.Changes.{file_at, is_acl, is_default_acl, is_ownership, is_at_or_below, is_free_number, node_with, put_node, put_link, take_link, take_node, replaced, resized, overwritten, with_bytes, apply}
+use Rattle.sn_model.specs.Changes.{file_at, is_default_acl, is_ownership, is_at_or_below, is_free_number, node_with, put_node, put_link, take_link, take_node, replaced, resized, overwritten, with_bytes, apply}
 use Rattle.sn_model.specs.NameTree.{IsNode, HasNodes}
 use Rattle.sn_model.proofs.LinkLemmas.{exact_links, links_total}
 use Rattle.sn_model.proofs.MapLemmas.{same_or_apart, get_inserted, get_other, get_was}
@@ -74,46 +74,9 @@ length_overwritten xs at new most h k =
     fits : (all a b c : ℕ) → all ≡ a + b → a ≡ at → b ≡ length new + c → c ≡ length xs - (at + length new) → all ≤ most
     fits all a b c e f g i = omega arith
 
--- the test of an ACL says what `IsValid` says
-pub acl_is : (entries : List Entry) → is_acl entries ≡ true → IsValid entries
-acl_is es e =
-    let users = count_of is_user_obj es == 1 in
-    let groups = count_of is_group_obj es == 1 in
-    let others = count_of is_other es == 1 in
-    let most = nat_le (count_of is_mask es) 1 in
-    let beside = (count_of is_named es == 0) || (count_of is_mask es == 1) in
-    let few = nat_le (count_of is_named es) 32 in
-    let e7 = and_left (users && groups && others && most && beside && few && is_canonical es) (list_all is_entry es) e in
-    let e6 = and_left (users && groups && others && most && beside && few) (is_canonical es) e7 in
-    let e5 = and_left (users && groups && others && most && beside) few e6 in
-    let e4 = and_left (users && groups && others && most) beside e5 in
-    let e3 = and_left (users && groups && others) most e4 in
-    let e2 = and_left (users && groups) others e3 in
-    record {
-      objects = record {
-        user_obj = eqb-true (count_of is_user_obj es) 1 (and_left users groups e2);
-        group_obj = eqb-true (count_of is_group_obj es) 1 (and_right users groups e2);
-        other = eqb-true (count_of is_other es) 1 (and_right (users && groups) others e3);
-      };
-      mask = record {
-        most = leb-true (count_of is_mask es) 1 (and_right (users && groups && others) most e4);
-        beside_named = λ some. masked (count_of is_named es) (count_of is_mask es) (and_right (users && groups && others && most) beside e5) some;
-        named = leb-true (count_of is_named es) 32 (and_right (users && groups && others && most && beside) few e6);
-      };
-      canonical = and_right (users && groups && others && most && beside && few) (is_canonical es) e7;
-      numbers = and_right (users && groups && others && most && beside && few && is_canonical es) (list_all is_entry es) e;
-    }
-  where
-    masked : (n m : ℕ) → ((n == 0) || (m == 1)) ≡ true → 0 < n → m ≡ 1
-    masked n m e some = told (n == 0) refl
-      where
-        told : (b : Bool) → (n == 0) ≡ b → m ≡ 1
-        told true f = absurd (omega (arith, some, eqb-true n 0 f))
-        told false f = eqb-true m 1 (sym (ap (λ b. b || (m == 1)) f) ∙ e)
-
 default_is : (kind : Kind) (o : Option (List Entry)) → is_default_acl kind o ≡ true → IfSome o IsValid
 default_is kind None e = tt
-default_is kind (Some es) e = acl_is es (and_right (is_directory kind) (is_acl es) e)
+default_is kind (Some es) e = valid-from_test es (and_right (is_directory kind) (is_acl es) e)
 
 no_default : (kind : Kind) (o : Option (List Entry)) → is_default_acl kind o ≡ true → kind ≡ File → o ≡ None
 no_default kind None e k = refl
@@ -135,7 +98,7 @@ owns kind o e =
     record {
       owner = ltb-true o.owner (2 ^ 32) (and_left (nat_lt o.owner (2 ^ 32)) _ e2);
       group = ltb-true o.group (2 ^ 32) (and_right (nat_lt o.owner (2 ^ 32)) _ e2);
-      acl = acl_is o.acl (and_right (nat_lt o.owner (2 ^ 32) && nat_lt o.group (2 ^ 32)) (is_acl o.acl) e3);
+      acl = valid-from_test o.acl (and_right (nat_lt o.owner (2 ^ 32) && nat_lt o.group (2 ^ 32)) (is_acl o.acl) e3);
       default_acl = default_is kind o.default_acl last;
       of_file = no_default kind o.default_acl last;
     }

@@ -34,7 +34,7 @@ use Rattle.sn_model.proofs.NameLemmas.{names_for_more, names_for_other}
 use Rattle.sn_model.proofs.ChainLemmas.{some_same}
 use Rattle.sn_model.proofs.PartLemmas.{made_is}
 use Rattle.sn_model.proofs.MoveLemmas.{kind_at, some_node, is_there}
-use Rattle.sn_model.proofs.NodeLemmas.{acl_is}
+use Rattle.sn_acl.proofs.Validity.{valid-from_test}
 use Rattle.sn_model.proofs.TreeLemmas.{tree_kept}
 use Rattle.sn_model.proofs.DecidedLemmas as decided
 use Rattle.sn_model.proofs.DecidedLemmas.{IsDecided, decided_is}
@@ -160,7 +160,7 @@ root_node = record {
   within = lit≤ tt;
   owner = lit< tt;
   group = lit< tt;
-  acl = acl_is new_root.acl refl;
+  acl = valid-from_test new_root.acl refl;
   default_acl = tt;
   of_file = λ e. cc;
   of_directory = λ e. refl;

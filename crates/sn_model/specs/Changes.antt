@@ -3,8 +3,7 @@ use Rattle.std.specs.Prelude.{ℕ, ◌+◌, ◌-◌, ◌^◌, Bool, true, false,
 use Rattle.std.specs.List.{list_any, list_all, flat_map}
 use Rattle.std.specs.FinMap as map
 use Rattle.sn_acl.specs.declared.entries.Entry.{Entry}
-use Rattle.sn_acl.specs.Entries.{is_user_obj, is_group_obj, is_other, is_mask, is_named}
-use Rattle.sn_acl.specs.AccessList.{count_of, is_canonical, is_entry}
+use Rattle.sn_acl.specs.AccessList.{is_acl}
 use Rattle.sn_walk.specs.declared.view.Kind.{Kind}
 use Rattle.sn_walk.specs.declared.view.Kind.TheVariants.{File, Directory}
 use Rattle.sn_walk.specs.Names.{is_name}
@@ -51,10 +50,6 @@ directory_at tree number = map.get tree.nodes number >>= (λ node. only_if (is_d
 
 abbrev pub file_at : Tree → ℕ → Option Node
 file_at tree number = map.get tree.nodes number >>= (λ node. only_if (is_file node.kind) >>= (λ _. Some node))
-
--- a valid ACL in canonical order: the test of what `IsValid` says
-abbrev pub is_acl : List Entry → Bool
-is_acl entries = (count_of is_user_obj entries == 1) && (count_of is_group_obj entries == 1) && (count_of is_other entries == 1) && nat_le (count_of is_mask entries) 1 && ((count_of is_named entries == 0) || (count_of is_mask entries == 1)) && nat_le (count_of is_named entries) 32 && is_canonical entries && list_all is_entry entries
 
 -- a file has no default ACL
 abbrev pub is_default_acl : Kind → Option (List Entry) → Bool
