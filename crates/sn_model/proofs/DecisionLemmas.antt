@@ -46,7 +46,7 @@ walked_ok : (path : ℕ) (r : Result Walked WalkRefusal) (w : Walked) → walked
 walked_ok path (Ok v) w e = ap (λ (x : Walked). Ok x) (same_ok v w e)
 walked_ok path (Err r) w e = cc
 
-live_node : (o : Object) (d : ℕ) → live o ≡ Ok d → o ≡ object.Node Live d
+pub live_node : (o : Object) (d : ℕ) → live o ≡ Ok d → o ≡ object.Node Live d
 live_node (object.Node Live n) d e = ap (λ (k : ℕ). object.Node Live k) (same_ok n d e)
 live_node (object.Node (Frozen s) n) d e = cc
 live_node object.Snapshots d e = cc
@@ -94,7 +94,7 @@ granted_is cred path place want (Some x) a e =
     let p = bind_ok (unless_denied path place want (denial_of cred x.owner x.group x.acl (rights_of want))) (λ _. ok x) a e in
     ap (λ (y : Attributes). Some y) (same_ok x a p.2)
 
-seen_node : (tree : Tree) (number : ℕ) (o : Option Node) (a : Attributes) → option_map (attributes_of tree number) o ≡ Some a → (x : Node) × (o ≡ Some x) × (a ≡ attributes_of tree number x)
+pub seen_node : (tree : Tree) (number : ℕ) (o : Option Node) (a : Attributes) → option_map (attributes_of tree number) o ≡ Some a → (x : Node) × (o ≡ Some x) × (a ≡ attributes_of tree number x)
 seen_node tree number None a e = cc
 seen_node tree number (Some x) a e =
     let same : attributes_of tree number x ≡ a = cc in
@@ -119,7 +119,7 @@ pub record Made (limits : Limits) (tree : Tree) (s : Session) (names : List (Lis
   pub room : nat_le limits.names (names_in tree directory) ≡ false
   pub made : o ≡ makes (2 * limits.inode_charge + limits.block_charge) (link_to directory (last_name names)) Directory (new_directory s mode (attributes_of tree directory parent) parent.default_acl)
 
-default_at : (tree : Tree) (directory : ℕ) (parent : Node) → map.get tree.nodes directory ≡ Some parent → (viewed tree).default_acl directory ≡ parent.default_acl
+pub default_at : (tree : Tree) (directory : ℕ) (parent : Node) → map.get tree.nodes directory ≡ Some parent → (viewed tree).default_acl directory ≡ parent.default_acl
 default_at tree directory parent e = ap (option_and_then (λ (node : Node). node.default_acl)) e
 
 abbrev mkdir_last : Limits → World → Session → List (List ℕ) → Mode → ℕ → Attributes → Result Outcome Refusal

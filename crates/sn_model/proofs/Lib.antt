@@ -24,3 +24,4 @@ pub mod WorldLemmas
 pub mod MachineLemmas
 pub mod ExampleLemmas
 pub mod StepLemmas
+pub mod AccessCallLemmas

@@ -9,11 +9,13 @@ pub mod ChangeLaws
 pub mod Outcomes
 pub mod Tests
 pub mod Calls
+pub mod AccessCalls
 pub mod Steps
 pub mod Machine
 pub mod Worlds
 pub mod Texts
 pub mod Laws
+pub mod AccessLaws
 pub mod MachineLaws
 pub mod Example
 pub mod Denials

@@ -1,4 +1,5 @@
 ghost use Rattle.sn_model.specs.Denials.{AccessIsDeniedByRule};
+ghost use Rattle.sn_model.specs.AccessLaws.{ChmodSetsTheMode, SetaclSetsOneAcl};
 ghost use Rattle.sn_model.specs.ChangeLaws.{ChangesBring, ChangesKeepCovers, ChangesKeepTheTree, CoveredSettleAlike, CoversItself, CoversJoin, DroppingKeepsCovers, DroppingKeepsTheTree, ListsJoin, ListsKeepCovers, ListsKeepTheTree, TestIsBelow};
 ghost use Rattle.sn_model.specs.Example.{Answers, Settles};
 ghost use Rattle.sn_model.specs.MachineLaws.{EventsKeepTheState, LivesKeepTheWorld, RefusedEventsChangeNothing, RestartsSettle, RunsKeepTheWorld, StoppedStays};
@@ -126,4 +127,15 @@ pub fn example_holds()
 /// what was wanted, by the entry that the denial names.
 pub fn access_is_denied_by_rule()
     ensures { AccessIsDeniedByRule }
+{}
+
+/// chmod sets the mode that was asked for and leaves owner, group and default ACL, and what it has
+/// decided can be applied.
+pub fn chmod_sets_the_mode()
+    ensures { ChmodSetsTheMode }
+{}
+
+/// setacl sets one ACL and nothing else, no S bit among it, and what it has decided can be applied.
+pub fn setacl_sets_one_acl()
+    ensures { SetaclSetsOneAcl }
 {}

@@ -12,12 +12,13 @@
 //! 6. `Covers`: what replay makes, against the live tree.
 //! 7. `Tests`: the tests that calls are made of, each of which refuses or hands on what it found.
 //! 8. `Outcomes` and `Calls`: each call as the list of its tests, and what it comes to where all of
-//!    them pass: a charge, a change, what becomes of the session, and what is told.
+//!    them pass: a charge, a change, what becomes of the session, and what is told. `AccessCalls` has
+//!    those that ask for rights and set them, which no [`Call`] is yet.
 //! 9. `Steps`: what a call may answer and the world that it leaves, while nothing fails.
 //! 10. `Machine`: a mount that runs, or one that a failure has stopped; what it answers to an event and
 //!     the mishap that the event met with; runs, their ends, and lives of many crashes.
-//! 11. `Worlds`, `Laws`, `ChangeLaws` and `MachineLaws`: what follows from these in the subject's own words, each
-//!     named by the contract of a function of `laws`.
+//! 11. `Worlds`, `Laws`, `AccessLaws`, `ChangeLaws` and `MachineLaws`: what follows from these in the subject's own
+//!     words, each named by the contract of a function of `laws`.
 //! 12. `Example`: the machine on one small world.
 //! 13. `Texts`: how refusals, faults and their parts are printed.
 //!
@@ -43,11 +44,11 @@ pub use change::{Bytes, Change, Ownership};
 pub use groups::Groups;
 pub use laws::{
     access_is_denied_by_rule, changes_bring, changes_keep_covers, changes_keep_the_tree,
-    covered_settle_alike, covers_itself, covers_join, decided_changes_apply, dropping_keeps_covers,
-    dropping_keeps_the_tree, events_keep_the_state, example_holds, lists_join, lists_keep_covers,
-    lists_keep_the_tree, lives_keep_the_world, makes_one_more, refusals_change_nothing,
-    refused_events_change_nothing, restarts_settle, runs_keep_the_world, stopped_stays,
-    test_is_below,
+    chmod_sets_the_mode, covered_settle_alike, covers_itself, covers_join, decided_changes_apply,
+    dropping_keeps_covers, dropping_keeps_the_tree, events_keep_the_state, example_holds,
+    lists_join, lists_keep_covers, lists_keep_the_tree, lives_keep_the_world, makes_one_more,
+    refusals_change_nothing, refused_events_change_nothing, restarts_settle, runs_keep_the_world,
+    setacl_sets_one_acl, stopped_stays, test_is_below,
 };
 pub use link::Link;
 pub use lists::{Content, Names, StoredAcl};

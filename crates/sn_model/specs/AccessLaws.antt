@@ -1,0 +1,43 @@
+-- What the calls that set rights come to, said as a user of a file system would say it.
+use Rattle.std.specs.Prelude.{◌≡◌, ℕ, true, List, Some, Ok, is_some}
+use Rattle.std.specs.FinMap as map
+use Rattle.sn_acl.specs.Modes.{mode_of}
+use Rattle.sn_limits.specs.declared.limits.Limits.{Limits}
+use Rattle.sn_model.specs.declared.change.Change.TheVariants.{SetAttributes}
+use Rattle.sn_model.specs.declared.change.Ownership.{Ownership}
+use Rattle.sn_model.specs.declared.session.Session.{Session}
+use Rattle.sn_model.specs.AccessCalls.{AclKind, ModeBits, NewAcl, acl_argument, chmod_outcome, mode_bits_argument, setacl_outcome, with_acl}
+use Rattle.sn_model.specs.Changes.{apply, ownership_of}
+use Rattle.sn_model.specs.Outcomes.{Outcome, Does}
+use Rattle.sn_model.specs.Tree.{Node}
+use Rattle.sn_model.specs.World.{World, trees_of, viewed_trees}
+use Rattle.sn_model.specs.Worlds.{IsWorld}
+
+-- Owner, group, S bits and ACLs of a live node are set to what follows from those that it had, and this can be applied.
+pub record Sets (limits : Limits) (world : World) (o : Outcome) (Follows : Ownership → Ownership → Type 0) : Type 0 where
+  pub number : ℕ
+  pub node : Node
+  pub there : map.get world.live.nodes number ≡ Some node
+  pub new : Ownership
+  pub change : o.change ≡ Does (SetAttributes number new)
+  pub follows : Follows (ownership_of node) new
+  pub applies : is_some (apply limits (SetAttributes number new) world.live) ≡ true
+
+-- The ACL shows the mode that was asked for, S_ISVTX is as asked, and S_ISGID isn't set unasked; all else stays.
+pub record ShowsMode (bits : ModeBits) (old new : Ownership) : Type 0 where
+  pub mode : mode_of new.acl ≡ bits.mode
+  pub sticky : new.sticky ≡ bits.sticky
+  pub set_gid : new.set_gid ≡ true → bits.set_gid ≡ true
+  pub owner : new.owner ≡ old.owner
+  pub group : new.group ≡ old.group
+  pub default_acl : new.default_acl ≡ old.default_acl
+
+-- chmod sets the mode, and what it has decided can be applied.
+abbrev pub ChmodSetsTheMode : Type 0
+ChmodSetsTheMode = (limits : Limits) (world : World) (s : Session) (names : List (List ℕ)) (argument : ℕ) (bits : ModeBits) (o : Outcome) → IsWorld limits world
+    → mode_bits_argument argument ≡ Ok bits → chmod_outcome limits (viewed_trees (trees_of world)) s names bits ≡ Ok o → Sets limits world o (ShowsMode bits)
+
+-- setacl sets one ACL and nothing else, and what it has decided can be applied.
+abbrev pub SetaclSetsOneAcl : Type 0
+SetaclSetsOneAcl = (limits : Limits) (world : World) (s : Session) (names : List (List ℕ)) (kind : AclKind) (argument : List ℕ) (acl : NewAcl) (o : Outcome) → IsWorld limits world
+    → acl_argument kind argument ≡ Ok acl → setacl_outcome limits (viewed_trees (trees_of world)) s names acl ≡ Ok o → Sets limits world o (λ old new. new ≡ with_acl acl old)
