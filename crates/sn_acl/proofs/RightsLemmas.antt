@@ -1,5 +1,5 @@
 -- Three letters name one set of rights.
-use Rattle.std.proofs.Common.{◌≡◌, ℕ, ◌+◌, ◌<◌, List, ◌∷◌, zero, suc, refl, arith, ap, sym, ◌∙◌}
+use Rattle.std.proofs.Common.{◌≡◌, ℕ, ◌<◌, zero, suc, refl, arith, ap, sym, ◌∙◌}
 use Rattle.std.specs.Int.Bits.{and_self}
 use Rattle.std.proofs.lemmas.Nat.{and_comm, and_assoc}
 use Rattle.std.proofs.Common.{true, ◌-◌, eq-eqb}
