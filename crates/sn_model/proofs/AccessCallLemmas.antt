@@ -1,22 +1,19 @@
 -- What the calls that set rights have found, and that what they decide can be applied.
-use Rattle.std.proofs.Common.{◌≡◌, ℕ, ◌/◌, ◌%◌, ◌<◌, ◌^◌, Bool, true, false, cond, ◌&&◌, ◌==◌, nat_lt, List, Option, Some, None, Result, Ok, Err, is_some, refl, sym, ap, subst, ◌∙◌, arith, ltb-true}
+use Rattle.std.proofs.Common.{◌≡◌, ℕ, ◌^◌, Bool, true, false, cond, ◌&&◌, nat_lt, List, Option, Some, None, Ok, Err, is_some, refl, sym, ap, subst, ◌∙◌, arith}
 use Rattle.std.specs.Prelude.{IfSome, codes}
 use Rattle.std.specs.FinMap as map
 use Rattle.std.specs.Str.{bytes_eq}
-use Rattle.std.proofs.lemmas.Bool.{true≢false, lt-ltb}
+use Rattle.std.proofs.lemmas.Bool.{lt-ltb}
 use Rattle.sn_acl.specs.declared.entries.Entry.{Entry}
-use Rattle.sn_acl.specs.declared.modes.Mode.{Mode}
-use Rattle.sn_acl.specs.AccessList.{IsValid, is_acl}
-use Rattle.sn_acl.specs.Modes.{mode_of, with_mode}
+use Rattle.sn_acl.specs.AccessList.{IsValid}
+use Rattle.sn_acl.specs.Modes.{with_mode}
 use Rattle.sn_acl.specs.Text.{acl_of}
 use Rattle.sn_acl.proofs.ModeLemmas.{IsMode, valid-with_mode}
 use Rattle.sn_acl.proofs.Shown.{mode_of-with_mode}
 use Rattle.sn_acl.proofs.Spelling.{spells}
 use Rattle.sn_acl.proofs.Validity.{test-from_valid}
 use Rattle.sn_limits.specs.declared.limits.Limits.{Limits}
-use Rattle.sn_walk.specs.declared.object.Home.TheVariants.{Live}
 use Rattle.sn_walk.specs.declared.object.Object.{Object}
-use Rattle.sn_walk.specs.declared.object.Object.TheVariants as object
 use Rattle.sn_walk.specs.declared.view.Kind.{Kind}
 use Rattle.sn_walk.specs.declared.view.Kind.TheVariants.{File, Directory}
 use Rattle.sn_walk.specs.declared.view.Attributes.{Attributes}
@@ -26,11 +23,10 @@ use Rattle.sn_walk.specs.declared.walking.Walked.TheVariants.{Root, Name}
 use Rattle.sn_walk.specs.Chains.{◌>>=◌}
 use Rattle.sn_walk.specs.Objects.{root}
 use Rattle.sn_walk.specs.Views.{ViewedTrees, attributes_at, is_directory}
-use Rattle.sn_walk.specs.Walks.{found_as, found_at, found_last}
+use Rattle.sn_walk.specs.Walks.{found_as, found_at}
 use Rattle.sn_walk.proofs.ChainLemmas.{bind_ok}
 use Rattle.sn_model.specs.declared.change.Ownership.{Ownership}
-use Rattle.sn_model.specs.declared.reply.Errno.TheVariants.{Einval, Enoent}
-use Rattle.sn_model.specs.declared.reply.Refusal.{Refusal}
+use Rattle.sn_model.specs.declared.reply.Errno.TheVariants.{Einval}
 use Rattle.sn_model.specs.declared.session.Session.{Session}
 use Rattle.sn_model.specs.AccessCalls.{AclKind, OfAccess, OfDefault, ModeBits, NewAcl, NewAccess, NewDefault, acl_argument, by_owner, chmod_outcome, default_acl_at, has_acl, kind_of, mode_bits_argument, mode_bits_from, new_acl, ownership_at, setacl_outcome, sets, with_acl, with_mode_bits}
 use Rattle.sn_model.specs.AccessLaws.{Sets, ShowsMode}
@@ -38,7 +34,7 @@ use Rattle.sn_model.specs.Changes.{is_default_acl, is_ownership, node_with, owne
 use Rattle.sn_model.specs.NameTree.{IsNode}
 use Rattle.sn_model.specs.Outcomes.{Outcome}
 use Rattle.sn_model.specs.Tests.{full, live, plain, prefix, there}
-use Rattle.sn_model.specs.Tree.{Node, Tree, attributes_of, viewed}
+use Rattle.sn_model.specs.Tree.{Node, Tree}
 use Rattle.sn_model.specs.World.{World, trees_of, viewed_trees}
 use Rattle.sn_model.specs.Worlds.{IsWorld}
 use Rattle.sn_model.proofs.ChainLemmas.{and_both}
@@ -47,7 +43,7 @@ use Rattle.sn_model.proofs.PartLemmas.{owned_of}
 
 -- ---- what is found
 
-some_found : (f g : Found) → Some f ≡ Some g → f ≡ g
+pub some_found : (f g : Found) → Some f ≡ Some g → f ≡ g
 some_found f g e = cc
 
 as_found : (trees : ViewedTrees) (place : ℕ) (o : Object) (a : Option Attributes) (found : Found) → attributes_at trees o ≡ a → found_as place o a ≡ Some found → attributes_at trees found.object ≡ Some found.attributes
@@ -59,11 +55,11 @@ found_has trees Root found e = as_found trees 0 root (attributes_at trees root) 
 found_has trees (Name directory place None) found e = cc
 found_has trees (Name directory place (Some o)) found e = as_found trees _ o (attributes_at trees o) found refl e
 
-there_is : (o : Option Found) (found : Found) → there o ≡ Ok found → o ≡ Some found
+pub there_is : (o : Option Found) (found : Found) → there o ≡ Ok found → o ≡ Some found
 there_is None found e = cc
 there_is (Some f) found e = ap (λ (x : Found). Some x) (same_ok f found e)
 
-full_has : (trees : ViewedTrees) (s : Session) (names : List (List ℕ)) (found : Found) → full trees s.cred 1 names ≡ Ok found → attributes_at trees found.object ≡ Some found.attributes
+pub full_has : (trees : ViewedTrees) (s : Session) (names : List (List ℕ)) (found : Found) → full trees s.cred 1 names ≡ Ok found → attributes_at trees found.object ≡ Some found.attributes
 full_has trees s names found e =
     let w = bind_ok (prefix trees s.cred 1 names) (λ w. there (found_at trees w)) found e in
     found_has trees w.0 found (there_is (found_at trees w.0) found w.2)

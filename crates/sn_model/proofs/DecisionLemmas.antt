@@ -42,7 +42,7 @@ ok x = Ok x
 pub same_ok : {A : Type 0} (x y : A) → ok x ≡ Ok y → x ≡ y
 same_ok x y e = cc
 
-walked_ok : (path : ℕ) (r : Result Walked WalkRefusal) (w : Walked) → walked path r ≡ Ok w → r ≡ Ok w
+pub walked_ok : (path : ℕ) (r : Result Walked WalkRefusal) (w : Walked) → walked path r ≡ Ok w → r ≡ Ok w
 walked_ok path (Ok v) w e = ap (λ (x : Walked). Ok x) (same_ok v w e)
 walked_ok path (Err r) w e = cc
 

@@ -50,7 +50,7 @@ use Rattle.sn_model.specs.Denials.{led_to, at_place, path_of, IsByRule, IsDenied
 -- ---- walks
 
 -- a chain fails where its first test fails, or where what follows does
-bind_err : {A B E : Type 0} (r : Result A E) (f : A → Result B E) (e : E) → (r >>= f) ≡ Err e → (r ≡ Err e) ⊎ ((x : A) × (r ≡ Ok x) × (f x ≡ Err e))
+pub bind_err : {A B E : Type 0} (r : Result A E) (f : A → Result B E) (e : E) → (r >>= f) ≡ Err e → (r ≡ Err e) ⊎ ((x : A) × (r ≡ Ok x) × (f x ≡ Err e))
 bind_err (Ok x) f e h = inr (x, refl, h)
 bind_err (Err r) f e h = let same : r ≡ e = cc in inl (ap (λ y. Err y) same)
 
@@ -98,12 +98,12 @@ module _ (trees : ViewedTrees) (cred : Credential) where
       told (inl h) = h
       told (inr h) = let never = h.2 in cc never
 
-  passed_ok : (place : ℕ) (directory : Object) (name : List ℕ) (child : Option Object) → passed trees cred place directory name ≡ Ok child → child_of trees directory name ≡ child
+  pub passed_ok : (place : ℕ) (directory : Object) (name : List ℕ) (child : Option Object) → passed trees cred place directory name ≡ Ok child → child_of trees directory name ≡ child
   passed_ok place directory name child e =
       let b = bind_ok (admitted cred place (attributes_at trees directory)) (λ _. child_ok directory name) child e in
       let same : child_ok directory name ≡ Ok child = b.2 in cc same
 
-  present_ok : (place : ℕ) (child : Option Object) (object : Object) → present place child ≡ Ok object → child ≡ Some object
+  pub present_ok : (place : ℕ) (child : Option Object) (object : Object) → present place child ≡ Ok object → child ≡ Some object
   present_ok place None object e = cc
   present_ok place (Some x) object e = let same : x ≡ object = cc e in ap (λ (y : Object). Some y) same
 
@@ -179,7 +179,7 @@ other : (e : Errno) (r : Refusal) → refused {A = Unit {0}} (plain e) ≡ Err r
 other e r h is = let same : plain e ≡ r = cc h in ap (λ (x : Refusal). x.errno) same ∙ is
 
 -- what a refusal of a path's test is, where it is EACCES
-record IsDeniedAt (trees : ViewedTrees) (cred : Credential) (path : ℕ) (names : List (List ℕ)) (r : Refusal) : Type 0 where
+pub record IsDeniedAt (trees : ViewedTrees) (cred : Credential) (path : ℕ) (names : List (List ℕ)) (r : Refusal) : Type 0 where
   pub denial : Denial
   pub carried : r.denial ≡ Some denial
   pub path_is : denial.path ≡ path
@@ -218,28 +218,28 @@ module _ (trees : ViewedTrees) (cred : Credential) (path : ℕ) where
   there_other None r e is = let never : Enoent ≡ Eacces = (let same : plain Enoent ≡ r = cc e in ap (λ (x : Refusal). x.errno) same ∙ is) in cc never
   there_other (Some x) r e is = cc e
 
-  full_denied : (names : List (List ℕ)) (r : Refusal) → full trees cred path names ≡ Err r → r.errno ≡ Eacces → IsDeniedAt trees cred path names r
+  pub full_denied : (names : List (List ℕ)) (r : Refusal) → full trees cred path names ≡ Err r → r.errno ≡ Eacces → IsDeniedAt trees cred path names r
   full_denied names r e is = told (bind_err (prefix trees cred path names) (λ w. there (found_at trees w)) r e)
     where
       told : (prefix trees cred path names ≡ Err r) ⊎ ((w : Walked) × (prefix trees cred path names ≡ Ok w) × (there (found_at trees w) ≡ Err r)) → IsDeniedAt trees cred path names r
       told (inl h) = prefix_denied names r h is
       told (inr h) = absurd (there_other (found_at trees h.0) r h.2 is)
 
-  -- write is denied by the directory, which is at its place
-  parent_denied : (names : List (List ℕ)) (place : ℕ) (directory : Object) (r : Refusal) → at_place trees names place ≡ Some directory → writable_parent trees cred path place directory ≡ Err r → r.errno ≡ Eacces → IsDeniedAt trees cred path names r
-  parent_denied names place directory r at e is = told (attributes_at trees directory) refl e
+  -- an access is denied by what is at its place
+  pub granted_denied : (names : List (List ℕ)) (place : ℕ) (want : Access) (object : Object) (r : Refusal) → at_place trees names place ≡ Some object → granted cred path place want (attributes_at trees object) ≡ Err r → r.errno ≡ Eacces → IsDeniedAt trees cred path names r
+  granted_denied names place want object r at e is = told (attributes_at trees object) refl e
     where
-      entry_told : (a : Attributes) → attributes_at trees directory ≡ Some a → (d : Option Entry) → denial_of cred a.owner a.group a.acl 2 ≡ d → unless_denied path place write d ≡ Err r → IsDeniedAt trees cred path names r
+      entry_told : (a : Attributes) → attributes_at trees object ≡ Some a → (d : Option Entry) → denial_of cred a.owner a.group a.acl (rights_of want) ≡ d → unless_denied path place want d ≡ Err r → IsDeniedAt trees cred path names r
       entry_told a has None f g = cc g
-      entry_told a has (Some entry) f g = let same : denied path place write entry.tag ≡ r = cc g in denied_by names place write directory a entry r at has f same
+      entry_told a has (Some entry) f g = let same : denied path place want entry.tag ≡ r = cc g in denied_by names place want object a entry r at has f same
 
-      asked : (a : Attributes) → attributes_at trees directory ≡ Some a → (unless_denied path place write (denial_of cred a.owner a.group a.acl 2) ≡ Err r) ⊎ ((x : Unit {0}) × (unless_denied path place write (denial_of cred a.owner a.group a.acl 2) ≡ Ok x) × (granted_ok a ≡ Err r)) → IsDeniedAt trees cred path names r
-      asked a has (inl h) = entry_told a has (denial_of cred a.owner a.group a.acl 2) refl h
+      asked : (a : Attributes) → attributes_at trees object ≡ Some a → (unless_denied path place want (denial_of cred a.owner a.group a.acl (rights_of want)) ≡ Err r) ⊎ ((x : Unit {0}) × (unless_denied path place want (denial_of cred a.owner a.group a.acl (rights_of want)) ≡ Ok x) × (granted_ok a ≡ Err r)) → IsDeniedAt trees cred path names r
+      asked a has (inl h) = entry_told a has (denial_of cred a.owner a.group a.acl (rights_of want)) refl h
       asked a has (inr h) = let never = h.2 in cc never
 
-      told : (o : Option Attributes) → attributes_at trees directory ≡ o → granted cred path place write o ≡ Err r → IsDeniedAt trees cred path names r
+      told : (o : Option Attributes) → attributes_at trees object ≡ o → granted cred path place want o ≡ Err r → IsDeniedAt trees cred path names r
       told None has f = let never : Enoent ≡ Eacces = (let same : plain Enoent ≡ r = cc f in ap (λ (x : Refusal). x.errno) same ∙ is) in cc never
-      told (Some a) has f = asked a has (bind_err (unless_denied path place write (denial_of cred a.owner a.group a.acl 2)) (λ _. granted_ok a) r f)
+      told (Some a) has f = asked a has (bind_err (unless_denied path place want (denial_of cred a.owner a.group a.acl (rights_of want))) (λ _. granted_ok a) r f)
 
 -- ---- calls
 
@@ -248,7 +248,7 @@ not_present_other Root r e is = let never : Eexist ≡ Eacces = (let same : plai
 not_present_other (Name at end None) r e is = cc e
 not_present_other (Name at end (Some x)) r e is = let never : Eexist ≡ Eacces = (let same : plain Eexist ≡ r = cc e in ap (λ (x : Refusal). x.errno) same ∙ is) in cc never
 
-live_other : (o : Object) (r : Refusal) → live o ≡ Err r → r.errno ≡ Eacces → ⊥
+pub live_other : (o : Object) (r : Refusal) → live o ≡ Err r → r.errno ≡ Eacces → ⊥
 live_other o r e is = told (is_in_tree_of o root) e
   where
     told : (b : Bool) → cond b (Ok (number_of o)) (Err (plain Erofs)) ≡ Err r → ⊥
@@ -314,7 +314,7 @@ module _ (limits : Limits) (world : World) (s : Session) (names : List (List ℕ
   in_parent v d at e = told (bind_err (writable_parent trees s.cred 1 v.1 v.0) (λ p. roomy d p) r e)
     where
       told : (writable_parent trees s.cred 1 v.1 v.0 ≡ Err r) ⊎ ((p : Attributes) × (writable_parent trees s.cred 1 v.1 v.0 ≡ Ok p) × (roomy d p ≡ Err r)) → Denied_there
-      told (inl h) = parent_denied trees s.cred 1 names v.1 v.0 r at h is
+      told (inl h) = granted_denied trees s.cred 1 names v.1 write v.0 r at h is
       told (inr h) = absurd (in_room d h.0 h.2)
 
   in_live : (v : Object × ℕ) → at_place trees names v.1 ≡ Some v.0 → alive v ≡ Err r → Denied_there

@@ -25,3 +25,4 @@ pub mod MachineLemmas
 pub mod ExampleLemmas
 pub mod StepLemmas
 pub mod AccessCallLemmas
+pub mod AccessDenialLemmas

@@ -7,7 +7,6 @@ use Rattle.sn_acl.specs.Credential.{Credential, is_member}
 use Rattle.sn_acl.specs.Modes.{with_mode}
 use Rattle.sn_acl.specs.Text.{acl_of}
 use Rattle.sn_limits.specs.declared.limits.Limits.{Limits}
-use Rattle.sn_walk.specs.declared.object.Home.TheVariants.{Live}
 use Rattle.sn_walk.specs.declared.object.Object.{Object}
 use Rattle.sn_walk.specs.declared.object.Object.TheVariants.{Node, Snapshots}
 use Rattle.sn_walk.specs.declared.view.Attributes.{Attributes}

@@ -1,14 +1,26 @@
 -- What the calls that set rights come to, said as a user of a file system would say it.
-use Rattle.std.specs.Prelude.{◌≡◌, ℕ, true, List, Some, Ok, is_some}
+use Rattle.std.specs.Prelude.{◌≡◌, ℕ, true, List, None, Some, Result, Ok, Err, is_some}
 use Rattle.std.specs.FinMap as map
+use Rattle.sn_acl.specs.Access.{denial_of}
+use Rattle.sn_acl.specs.Credential.{Credential}
 use Rattle.sn_acl.specs.Modes.{mode_of}
 use Rattle.sn_limits.specs.declared.limits.Limits.{Limits}
+use Rattle.sn_walk.specs.declared.object.Object.{Object}
+use Rattle.sn_walk.specs.declared.view.Attributes.{Attributes}
+use Rattle.sn_walk.specs.Objects.{root}
+use Rattle.sn_walk.specs.Views.{ViewedTrees, attributes_at}
 use Rattle.sn_model.specs.declared.change.Change.TheVariants.{SetAttributes}
 use Rattle.sn_model.specs.declared.change.Ownership.{Ownership}
+use Rattle.sn_model.specs.declared.reply.Access.{Access}
+use Rattle.sn_model.specs.declared.reply.Denial.{Denial}
+use Rattle.sn_model.specs.declared.reply.Errno.TheVariants.{Eacces}
+use Rattle.sn_model.specs.declared.reply.Refusal.{Refusal}
 use Rattle.sn_model.specs.declared.session.Session.{Session}
-use Rattle.sn_model.specs.AccessCalls.{AclKind, ModeBits, NewAcl, acl_argument, chmod_outcome, mode_bits_argument, setacl_outcome, with_acl}
+use Rattle.sn_model.specs.AccessCalls.{AclKind, ModeBits, NewAcl, access_outcome, acl_argument, chmod_outcome, getacl_outcome, mode_bits_argument, setacl_outcome, with_acl}
 use Rattle.sn_model.specs.Changes.{apply, ownership_of}
+use Rattle.sn_model.specs.Denials.{IsByRule, led_to}
 use Rattle.sn_model.specs.Outcomes.{Outcome, Does}
+use Rattle.sn_model.specs.Tests.{rights_of}
 use Rattle.sn_model.specs.Tree.{Node}
 use Rattle.sn_model.specs.World.{World, trees_of, viewed_trees}
 use Rattle.sn_model.specs.Worlds.{IsWorld}
@@ -41,3 +53,35 @@ ChmodSetsTheMode = (limits : Limits) (world : World) (s : Session) (names : List
 abbrev pub SetaclSetsOneAcl : Type 0
 SetaclSetsOneAcl = (limits : Limits) (world : World) (s : Session) (names : List (List ℕ)) (kind : AclKind) (argument : List ℕ) (acl : NewAcl) (o : Outcome) → IsWorld limits world
     → acl_argument kind argument ≡ Ok acl → setacl_outcome limits (viewed_trees (trees_of world)) s names acl ≡ Ok o → Sets limits world o (λ old new. new ≡ with_acl acl old)
+
+-- What the path leads to has an ACL that, by the access check algorithm of acl(5), grants the caller what is wanted.
+pub record IsGranted (trees : ViewedTrees) (cred : Credential) (names : List (List ℕ)) (want : Access) : Type 0 where
+  pub object : Object
+  pub led : led_to trees root names ≡ Some object
+  pub attributes : Attributes
+  pub has : attributes_at trees object ≡ Some attributes
+  pub grants : denial_of cred attributes.owner attributes.group attributes.acl (rights_of want) ≡ None
+
+-- access passes only where the access is granted.
+abbrev pub AccessIsGrantedByRule : Type 0
+AccessIsGrantedByRule = (trees : ViewedTrees) (s : Session) (names : List (List ℕ)) (want : Access) (o : Outcome) → access_outcome trees s names want ≡ Ok o → IsGranted trees s.cred names want
+
+-- A refusal with EACCES carries a denial of the call's path: at that place the access rule denies what was wanted, by that entry.
+pub record IsDeniedOn (trees : ViewedTrees) (cred : Credential) (names : List (List ℕ)) (refusal : Refusal) : Type 0 where
+  pub denial : Denial
+  pub carried : refusal.denial ≡ Some denial
+  pub path : denial.path ≡ 1
+  pub by_rule : IsByRule trees cred names denial
+
+abbrev pub DeniesByRule : ViewedTrees → Session → List (List ℕ) → Result Outcome Refusal → Type 0
+DeniesByRule trees s names decided = (refusal : Refusal) → decided ≡ Err refusal → refusal.errno ≡ Eacces → IsDeniedOn trees s.cred names refusal
+
+-- the same of each call that asks for rights or sets them
+pub record EachDeniesByRule (limits : Limits) (trees : ViewedTrees) (s : Session) (names : List (List ℕ)) : Type 0 where
+  pub chmod : (bits : ModeBits) → DeniesByRule trees s names (chmod_outcome limits trees s names bits)
+  pub access : (want : Access) → DeniesByRule trees s names (access_outcome trees s names want)
+  pub getacl : (kind : AclKind) → DeniesByRule trees s names (getacl_outcome trees s names kind)
+  pub setacl : (acl : NewAcl) → DeniesByRule trees s names (setacl_outcome limits trees s names acl)
+
+abbrev pub AccessCallsDenyByRule : Type 0
+AccessCallsDenyByRule = (limits : Limits) (trees : ViewedTrees) (s : Session) (names : List (List ℕ)) → EachDeniesByRule limits trees s names

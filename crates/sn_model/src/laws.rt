@@ -1,5 +1,5 @@
 ghost use Rattle.sn_model.specs.Denials.{AccessIsDeniedByRule};
-ghost use Rattle.sn_model.specs.AccessLaws.{ChmodSetsTheMode, SetaclSetsOneAcl};
+ghost use Rattle.sn_model.specs.AccessLaws.{AccessCallsDenyByRule, AccessIsGrantedByRule, ChmodSetsTheMode, SetaclSetsOneAcl};
 ghost use Rattle.sn_model.specs.ChangeLaws.{ChangesBring, ChangesKeepCovers, ChangesKeepTheTree, CoveredSettleAlike, CoversItself, CoversJoin, DroppingKeepsCovers, DroppingKeepsTheTree, ListsJoin, ListsKeepCovers, ListsKeepTheTree, TestIsBelow};
 ghost use Rattle.sn_model.specs.Example.{Answers, Settles};
 ghost use Rattle.sn_model.specs.MachineLaws.{EventsKeepTheState, LivesKeepTheWorld, RefusedEventsChangeNothing, RestartsSettle, RunsKeepTheWorld, StoppedStays};
@@ -138,4 +138,16 @@ pub fn chmod_sets_the_mode()
 /// setacl sets one ACL and nothing else, no S bit among it, and what it has decided can be applied.
 pub fn setacl_sets_one_acl()
     ensures { SetaclSetsOneAcl }
+{}
+
+/// access passes only where the access check algorithm of acl(5) grants what is wanted by the ACL of what
+/// the path leads to.
+pub fn access_is_granted_by_rule()
+    ensures { AccessIsGrantedByRule }
+{}
+
+/// chmod, access, getacl and setacl that are refused with EACCES carry a denial: what is at that place of
+/// the path has an ACL that denies what was wanted, by the entry that the denial names.
+pub fn access_calls_deny_by_rule()
+    ensures { AccessCallsDenyByRule }
 {}
