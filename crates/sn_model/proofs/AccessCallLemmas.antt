@@ -1,10 +1,11 @@
 -- What the calls that set rights have found, and that what they decide can be applied.
-use Rattle.std.proofs.Common.{◌≡◌, ℕ, ◌^◌, Bool, true, false, cond, ◌&&◌, nat_lt, List, Option, Some, None, Ok, Err, is_some, refl, sym, ap, subst, ◌∙◌, arith}
+use Rattle.std.proofs.Common.{◌≡◌, ℕ, ◌^◌, Bool, true, false, cond, ◌&&◌, nat_lt, List, Option, Some, None, Ok, Err, is_some, refl, sym, ap, subst, ◌∙◌, arith, ◌||◌, ◌==◌, ◌⊎◌, inl, inr, eq-eqb, eqb-true}
 use Rattle.std.specs.Prelude.{IfSome, codes}
 use Rattle.std.specs.FinMap as map
 use Rattle.std.specs.Str.{bytes_eq}
-use Rattle.std.proofs.lemmas.Bool.{lt-ltb}
+use Rattle.std.proofs.lemmas.Bool.{lt-ltb, ne_eqb}
 use Rattle.sn_acl.specs.declared.entries.Entry.{Entry}
+use Rattle.sn_acl.specs.Credential.{is_member}
 use Rattle.sn_acl.specs.AccessList.{IsValid}
 use Rattle.sn_acl.specs.Modes.{with_mode}
 use Rattle.sn_acl.specs.Text.{acl_of}
@@ -27,13 +28,14 @@ use Rattle.sn_walk.specs.Walks.{found_as, found_at}
 use Rattle.sn_walk.proofs.ChainLemmas.{bind_ok}
 use Rattle.sn_model.specs.declared.change.Ownership.{Ownership}
 use Rattle.sn_model.specs.declared.reply.Errno.TheVariants.{Einval}
+use Rattle.sn_model.specs.declared.reply.Rule.TheVariants as rule
 use Rattle.sn_model.specs.declared.session.Session.{Session}
 use Rattle.sn_model.specs.AccessCalls.{AclKind, OfAccess, OfDefault, ModeBits, NewAcl, NewAccess, NewDefault, acl_argument, by_owner, chmod_outcome, default_acl_at, has_acl, kind_of, mode_bits_argument, mode_bits_from, new_acl, ownership_at, setacl_outcome, sets, with_acl, with_mode_bits}
-use Rattle.sn_model.specs.AccessLaws.{Sets, ShowsMode}
+use Rattle.sn_model.specs.AccessLaws.{Sets, SetsAcl, ShowsMode}
 use Rattle.sn_model.specs.Changes.{is_default_acl, is_ownership, node_with, owned, ownership_of, put_node}
 use Rattle.sn_model.specs.NameTree.{IsNode}
 use Rattle.sn_model.specs.Outcomes.{Outcome}
-use Rattle.sn_model.specs.Tests.{full, live, plain, prefix, there}
+use Rattle.sn_model.specs.Tests.{forbidden, full, live, plain, prefix, there}
 use Rattle.sn_model.specs.Tree.{Node, Tree}
 use Rattle.sn_model.specs.World.{World, trees_of, viewed_trees}
 use Rattle.sn_model.specs.Worlds.{IsWorld}
@@ -69,6 +71,8 @@ record IsLive (world : World) (found : Found) (number : ℕ) : Type 0 where
   node : Node
   there : map.get world.live.nodes number ≡ Some node
   kind : found.attributes.kind ≡ node.kind
+  owner : found.attributes.owner ≡ node.owner
+  group : found.attributes.group ≡ node.group
   had : ownership_at (viewed_trees (trees_of world)) found ≡ ownership_of node
 
 live_found : (world : World) (s : Session) (names : List (List ℕ)) (found : Found) (number : ℕ) → full (viewed_trees (trees_of world)) s.cred 1 names ≡ Ok found → live found.object ≡ Ok number → IsLive world found number
@@ -82,11 +86,22 @@ live_found world s names found number e l =
       node = n.0;
       there = n.1;
       kind = ap (λ (a : Attributes). a.kind) n.2;
+      owner = ap (λ (a : Attributes). a.owner) n.2;
+      group = ap (λ (a : Attributes). a.group) n.2;
       had = ap (set_of found.attributes) default ∙ ap (λ (a : Attributes). set_of a n.0.default_acl) n.2;
     }
   where
     set_of : Attributes → Option (List Entry) → Ownership
     set_of a default = record { owner = a.owner; group = a.group; set_gid = a.set_gid; sticky = a.sticky; acl = a.acl; default_acl = default }
+
+-- whoever passes the test of the owner is the owner, or the user 0
+owner_is : (world : World) (s : Session) (found : Found) (number : ℕ) (found_live : IsLive world found number) (u : Unit {0}) → by_owner s.cred 1 found ≡ Ok u → (s.cred.uid ≡ 0) ⊎ (s.cred.uid ≡ found_live.node.owner)
+owner_is world s found number found_live u e = told (s.cred.uid == 0) (s.cred.uid == found.attributes.owner) refl refl e
+  where
+    told : (a b : Bool) → (s.cred.uid == 0) ≡ a → (s.cred.uid == found.attributes.owner) ≡ b → cond (a || b) (ok tt) (Err (forbidden 1 found.place rule.NotOwner)) ≡ Ok u → (s.cred.uid ≡ 0) ⊎ (s.cred.uid ≡ found_live.node.owner)
+    told true b f g h = inl (eqb-true s.cred.uid 0 f)
+    told false true f g h = inr (eqb-true s.cred.uid found.attributes.owner g ∙ found_live.owner)
+    told false false f g h = cc h
 
 -- ---- what can be set
 
@@ -113,18 +128,38 @@ mode_within argument bits e = told (nat_lt argument 2048) e
     told true f = subst (λ (x : ModeBits). IsMode x.mode) (same_ok (mode_bits_from argument) bits f) (record { owner = omega arith; group = omega arith; other = omega arith })
     told false f = cc
 
-both_left : (a b : Bool) → (a && b) ≡ true → a ≡ true
-both_left true b e = refl
-both_left false b e = cc
+-- S_ISGID is as asked where one of three tests passes
+as_asked : (asked may : Bool) → may ≡ true → (asked && may) ≡ asked
+as_asked true may e = e
+as_asked false may e = refl
 
-module _ (limits : Limits) (world : World) (s : Session) (bits : ModeBits) (found : Found) (number : ℕ) (whole : IsWorld limits world) (mode : IsMode bits.mode) (found_live : IsLive world found number) where
+not_asked : (asked may : Bool) → may ≡ false → (asked && may) ≡ false
+not_asked true may e = e
+not_asked false may e = refl
+
+second : (a b c : Bool) → b ≡ true → (a || b || c) ≡ true
+second true b c e = refl
+second false b c e = ap (λ t. t || c) e
+
+third : (a b c : Bool) → c ≡ true → (a || b || c) ≡ true
+third true b c e = refl
+third false true c e = refl
+third false false c e = e
+
+none_of : (a b c : Bool) → a ≡ false → b ≡ false → c ≡ false → (a || b || c) ≡ false
+none_of a b c e f g = rw (e, f, g) refl
+
+module _ (limits : Limits) (world : World) (s : Session) (bits : ModeBits) (found : Found) (number : ℕ) (whole : IsWorld limits world) (mode : IsMode bits.mode) (found_live : IsLive world found number) (u : Unit {0}) (owns : by_owner s.cred 1 found ≡ Ok u) where
   given : Ownership
   given = with_mode_bits s.cred found.attributes bits (ownership_of found_live.node)
+
+  abbrev member : Bool
+  member = is_member s.cred found.attributes.group
 
   chmod_node : IsNode limits number found_live.node
   chmod_node = whole.live.nodes.nodes number found_live.node found_live.there
 
-  chmod_sets : (o : Outcome) → o ≡ sets limits.inode_charge number (with_mode_bits s.cred found.attributes bits (ownership_at (viewed_trees (trees_of world)) found)) → Sets limits world o (ShowsMode bits)
+  chmod_sets : (o : Outcome) → o ≡ sets limits.inode_charge number (with_mode_bits s.cred found.attributes bits (ownership_at (viewed_trees (trees_of world)) found)) → Sets limits world s o (ShowsMode s bits)
   unfolding given
   chmod_sets o is = record {
     number = number;
@@ -132,20 +167,26 @@ module _ (limits : Limits) (world : World) (s : Session) (bits : ModeBits) (foun
     there = found_live.there;
     new = given;
     change = ap (λ (x : Outcome). x.change) (is ∙ ap (λ (x : Ownership). sets limits.inode_charge number (with_mode_bits s.cred found.attributes bits x)) found_live.had);
+    by_owner = owner_is world s found number found_live u owns;
+    owner = refl;
+    group = refl;
     follows = record {
       mode = mode_of-with_mode bits.mode found_live.node.acl chmod_node.acl;
-      sticky = refl;
-      set_gid = both_left bits.set_gid _;
-      owner = refl;
-      group = refl;
       default_acl = refl;
+      sticky = refl;
+      of_directory = λ e. as_asked bits.set_gid _ (ap (λ (k : Kind). is_directory k || s.cred.uid == 0 || member) (found_live.kind ∙ e));
+      of_root = λ e. as_asked bits.set_gid _ (second (is_directory found.attributes.kind) (s.cred.uid == 0) member (eq-eqb s.cred.uid 0 e));
+      of_member = λ e. as_asked bits.set_gid _ (third (is_directory found.attributes.kind) (s.cred.uid == 0) member (ap (is_member s.cred) found_live.group ∙ e));
+      of_others = λ file other outside. not_asked bits.set_gid _
+          (none_of (is_directory found.attributes.kind) (s.cred.uid == 0) member
+          (ap is_directory (found_live.kind ∙ file)) (ne_eqb s.cred.uid 0 other) (ap (is_member s.cred) found_live.group ∙ outside));
     };
     applies = set_applies world.live number found_live.node given found_live.there
         (and_both _ _ (and_both _ _ (owner_fits limits number found_live.node chmod_node) (test-from_valid (with_mode bits.mode found_live.node.acl) (valid-with_mode bits.mode found_live.node.acl mode chmod_node.acl))) (default_fits limits number found_live.node chmod_node));
   }
 
 pub chmod_is : (limits : Limits) (world : World) (s : Session) (names : List (List ℕ)) (argument : ℕ) (bits : ModeBits) (o : Outcome) → IsWorld limits world
-    → mode_bits_argument argument ≡ Ok bits → chmod_outcome limits (viewed_trees (trees_of world)) s names bits ≡ Ok o → Sets limits world o (ShowsMode bits)
+    → mode_bits_argument argument ≡ Ok bits → chmod_outcome limits (viewed_trees (trees_of world)) s names bits ≡ Ok o → Sets limits world s o (ShowsMode s bits)
 unfolding chmod_outcome
 chmod_is limits world s names argument bits o whole a e =
     let trees = viewed_trees (trees_of world) in
@@ -153,7 +194,7 @@ chmod_is limits world s names argument bits o whole a e =
     let f = bind_ok (full trees s.cred 1 names) (λ f. live f.object >>= (λ n. by_owner s.cred 1 f >>= (λ _. last f n))) o e in
     let n = bind_ok (live f.0.object) (λ n. by_owner s.cred 1 f.0 >>= (λ _. last f.0 n)) o f.2 in
     let u = bind_ok (by_owner s.cred 1 f.0) (λ _. last f.0 n.0) o n.2 in
-    chmod_sets limits world s bits f.0 n.0 whole (mode_within argument bits a) (live_found world s names f.0 n.0 f.1 n.1) o (sym (same_ok _ o u.2))
+    chmod_sets limits world s bits f.0 n.0 whole (mode_within argument bits a) (live_found world s names f.0 n.0 f.1 n.1) u.0 u.1 o (sym (same_ok _ o u.2))
 
 -- ---- setacl
 
@@ -194,9 +235,21 @@ unfolding IsNew
 acl_fits limits number node (NewAccess acl) is valid directory = and_both _ _ (and_both _ _ (owner_fits limits number node is) (test-from_valid acl valid)) (default_fits limits number node is)
 acl_fits limits number node (NewDefault acl) is valid directory = and_both _ _ (and_both _ _ (owner_fits limits number node is) (test-from_valid node.acl is.acl)) (default_new node.kind acl (directory refl) valid)
 
-setacl_sets : (limits : Limits) (world : World) (found : Found) (number : ℕ) (acl : NewAcl) (o : Outcome) (u : Unit {0}) → IsWorld limits world → IsNew acl → IsLive world found number → has_acl (kind_of acl) found.attributes ≡ Ok u
-    → o ≡ sets limits.inode_charge number (with_acl acl (ownership_at (viewed_trees (trees_of world)) found)) → Sets limits world o (λ old new. new ≡ with_acl acl old)
-setacl_sets limits world found number acl o u whole valid found_live has is =
+acl_set : (acl : NewAcl) (node : Node) → SetsAcl acl node (with_acl acl (ownership_of node))
+acl_set (NewAccess acl) node = record { which = (refl, refl); set_gid = refl; sticky = refl }
+acl_set (NewDefault acl) node = record { which = (refl, refl); set_gid = refl; sticky = refl }
+
+owner_stays : (acl : NewAcl) (o : Ownership) → (with_acl acl o).owner ≡ o.owner
+owner_stays (NewAccess acl) o = refl
+owner_stays (NewDefault acl) o = refl
+
+group_stays : (acl : NewAcl) (o : Ownership) → (with_acl acl o).group ≡ o.group
+group_stays (NewAccess acl) o = refl
+group_stays (NewDefault acl) o = refl
+
+setacl_sets : (limits : Limits) (world : World) (s : Session) (found : Found) (number : ℕ) (acl : NewAcl) (o : Outcome) (u v : Unit {0}) → IsWorld limits world → IsNew acl → IsLive world found number → has_acl (kind_of acl) found.attributes ≡ Ok u → by_owner s.cred 1 found ≡ Ok v
+    → o ≡ sets limits.inode_charge number (with_acl acl (ownership_at (viewed_trees (trees_of world)) found)) → Sets limits world s o (SetsAcl acl)
+setacl_sets limits world s found number acl o u v whole valid found_live has owns is =
     let node = whole.live.nodes.nodes number found_live.node found_live.there in
     record {
       number = number;
@@ -204,14 +257,17 @@ setacl_sets limits world found number acl o u whole valid found_live has is =
       there = found_live.there;
       new = with_acl acl (ownership_of found_live.node);
       change = ap (λ (x : Outcome). x.change) (is ∙ ap (λ (x : Ownership). sets limits.inode_charge number (with_acl acl x)) found_live.had);
-      follows = refl;
+      by_owner = owner_is world s found number found_live v owns;
+      owner = owner_stays acl (ownership_of found_live.node);
+      group = group_stays acl (ownership_of found_live.node);
+      follows = acl_set acl found_live.node;
       applies = set_applies world.live number found_live.node (with_acl acl (ownership_of found_live.node)) found_live.there
           (acl_fits limits number found_live.node acl node valid (λ default.
           subst (λ (k : Kind). is_directory k ≡ true) found_live.kind (of_directory found.attributes u (ap (λ (k : AclKind). has_acl k found.attributes) (sym default) ∙ has))));
     }
 
 pub setacl_is : (limits : Limits) (world : World) (s : Session) (names : List (List ℕ)) (kind : AclKind) (argument : List ℕ) (acl : NewAcl) (o : Outcome) → IsWorld limits world
-    → acl_argument kind argument ≡ Ok acl → setacl_outcome limits (viewed_trees (trees_of world)) s names acl ≡ Ok o → Sets limits world o (λ old new. new ≡ with_acl acl old)
+    → acl_argument kind argument ≡ Ok acl → setacl_outcome limits (viewed_trees (trees_of world)) s names acl ≡ Ok o → Sets limits world s o (SetsAcl acl)
 unfolding setacl_outcome
 setacl_is limits world s names kind argument acl o whole a e =
     let trees = viewed_trees (trees_of world) in
@@ -220,4 +276,4 @@ setacl_is limits world s names kind argument acl o whole a e =
     let h = bind_ok (has_acl (kind_of acl) f.0.attributes) (λ _. live f.0.object >>= (λ n. by_owner s.cred 1 f.0 >>= (λ _. last f.0 n))) o f.2 in
     let n = bind_ok (live f.0.object) (λ n. by_owner s.cred 1 f.0 >>= (λ _. last f.0 n)) o h.2 in
     let u = bind_ok (by_owner s.cred 1 f.0) (λ _. last f.0 n.0) o n.2 in
-    setacl_sets limits world f.0 n.0 acl o h.0 whole (argument_valid kind argument acl a) (live_found world s names f.0 n.0 f.1 n.1) h.1 (sym (same_ok _ o u.2))
+    setacl_sets limits world s f.0 n.0 acl o h.0 u.0 whole (argument_valid kind argument acl a) (live_found world s names f.0 n.0 f.1 n.1) h.1 u.1 (sym (same_ok _ o u.2))

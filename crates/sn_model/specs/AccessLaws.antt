@@ -1,12 +1,13 @@
 -- What the calls that set rights come to, said as a user of a file system would say it.
-use Rattle.std.specs.Prelude.{◌≡◌, ℕ, true, List, None, Some, Result, Ok, Err, is_some}
+use Rattle.std.specs.Prelude.{◌≡◌, ◌≢◌, ◌⊎◌, ℕ, true, false, List, None, Some, Result, Ok, Err, is_some}
 use Rattle.std.specs.FinMap as map
 use Rattle.sn_acl.specs.Access.{denial_of}
-use Rattle.sn_acl.specs.Credential.{Credential}
+use Rattle.sn_acl.specs.Credential.{Credential, is_member}
 use Rattle.sn_acl.specs.Modes.{mode_of}
 use Rattle.sn_limits.specs.declared.limits.Limits.{Limits}
 use Rattle.sn_walk.specs.declared.object.Object.{Object}
 use Rattle.sn_walk.specs.declared.view.Attributes.{Attributes}
+use Rattle.sn_walk.specs.declared.view.Kind.TheVariants.{File, Directory}
 use Rattle.sn_walk.specs.Objects.{root}
 use Rattle.sn_walk.specs.Views.{ViewedTrees, attributes_at}
 use Rattle.sn_model.specs.declared.change.Change.TheVariants.{SetAttributes}
@@ -16,8 +17,8 @@ use Rattle.sn_model.specs.declared.reply.Denial.{Denial}
 use Rattle.sn_model.specs.declared.reply.Errno.TheVariants.{Eacces}
 use Rattle.sn_model.specs.declared.reply.Refusal.{Refusal}
 use Rattle.sn_model.specs.declared.session.Session.{Session}
-use Rattle.sn_model.specs.AccessCalls.{AclKind, ModeBits, NewAcl, access_outcome, acl_argument, chmod_outcome, getacl_outcome, mode_bits_argument, setacl_outcome, with_acl}
-use Rattle.sn_model.specs.Changes.{apply, ownership_of}
+use Rattle.sn_model.specs.AccessCalls.{AclKind, ModeBits, NewAcl, NewAccess, NewDefault, access_outcome, acl_argument, chmod_outcome, getacl_outcome, mode_bits_argument, setacl_outcome}
+use Rattle.sn_model.specs.Changes.{apply}
 use Rattle.sn_model.specs.Denials.{IsByRule, led_to}
 use Rattle.sn_model.specs.Outcomes.{Outcome, Does}
 use Rattle.sn_model.specs.Tests.{rights_of}
@@ -25,34 +26,48 @@ use Rattle.sn_model.specs.Tree.{Node}
 use Rattle.sn_model.specs.World.{World, trees_of, viewed_trees}
 use Rattle.sn_model.specs.Worlds.{IsWorld}
 
--- Owner, group, S bits and ACLs of a live node are set to what follows from those that it had, and this can be applied.
-pub record Sets (limits : Limits) (world : World) (o : Outcome) (Follows : Ownership → Ownership → Type 0) : Type 0 where
+-- The owner of a live node, or the user 0, has its S bits and ACLs set to what follows from the node, and its owner and group stay; this can be applied.
+pub record Sets (limits : Limits) (world : World) (s : Session) (o : Outcome) (Follows : Node → Ownership → Type 0) : Type 0 where
   pub number : ℕ
   pub node : Node
   pub there : map.get world.live.nodes number ≡ Some node
+  pub by_owner : (s.cred.uid ≡ 0) ⊎ (s.cred.uid ≡ node.owner)
   pub new : Ownership
   pub change : o.change ≡ Does (SetAttributes number new)
-  pub follows : Follows (ownership_of node) new
+  pub owner : new.owner ≡ node.owner
+  pub group : new.group ≡ node.group
+  pub follows : Follows node new
   pub applies : is_some (apply limits (SetAttributes number new) world.live) ≡ true
 
--- The ACL shows the mode that was asked for, S_ISVTX is as asked, and S_ISGID isn't set unasked; all else stays.
-pub record ShowsMode (bits : ModeBits) (old new : Ownership) : Type 0 where
+-- The ACL shows the mode that was asked for, and the default ACL stays. The S bits are as asked, but a caller who is neither the user 0 nor in a file's group doesn't get S_ISGID there.
+pub record ShowsMode (s : Session) (bits : ModeBits) (node : Node) (new : Ownership) : Type 0 where
   pub mode : mode_of new.acl ≡ bits.mode
+  pub default_acl : new.default_acl ≡ node.default_acl
   pub sticky : new.sticky ≡ bits.sticky
-  pub set_gid : new.set_gid ≡ true → bits.set_gid ≡ true
-  pub owner : new.owner ≡ old.owner
-  pub group : new.group ≡ old.group
-  pub default_acl : new.default_acl ≡ old.default_acl
+  pub of_directory : node.kind ≡ Directory → new.set_gid ≡ bits.set_gid
+  pub of_root : s.cred.uid ≡ 0 → new.set_gid ≡ bits.set_gid
+  pub of_member : is_member s.cred node.group ≡ true → new.set_gid ≡ bits.set_gid
+  pub of_others : node.kind ≡ File → s.cred.uid ≢ 0 → is_member s.cred node.group ≡ false → new.set_gid ≡ false
 
--- chmod sets the mode, and what it has decided can be applied.
+-- chmod sets the mode.
 abbrev pub ChmodSetsTheMode : Type 0
 ChmodSetsTheMode = (limits : Limits) (world : World) (s : Session) (names : List (List ℕ)) (argument : ℕ) (bits : ModeBits) (o : Outcome) → IsWorld limits world
-    → mode_bits_argument argument ≡ Ok bits → chmod_outcome limits (viewed_trees (trees_of world)) s names bits ≡ Ok o → Sets limits world o (ShowsMode bits)
+    → mode_bits_argument argument ≡ Ok bits → chmod_outcome limits (viewed_trees (trees_of world)) s names bits ≡ Ok o → Sets limits world s o (ShowsMode s bits)
 
--- setacl sets one ACL and nothing else, and what it has decided can be applied.
+-- One ACL is the one that was asked for; the other stays, and so do the S bits.
+abbrev pub SetsWhich : NewAcl → Node → Ownership → Type 0
+SetsWhich (NewAccess acl) node new = (new.acl ≡ acl) × (new.default_acl ≡ node.default_acl)
+SetsWhich (NewDefault acl) node new = (new.acl ≡ node.acl) × (new.default_acl ≡ acl)
+
+pub record SetsAcl (acl : NewAcl) (node : Node) (new : Ownership) : Type 0 where
+  pub which : SetsWhich acl node new
+  pub set_gid : new.set_gid ≡ node.set_gid
+  pub sticky : new.sticky ≡ node.sticky
+
+-- setacl sets one ACL.
 abbrev pub SetaclSetsOneAcl : Type 0
 SetaclSetsOneAcl = (limits : Limits) (world : World) (s : Session) (names : List (List ℕ)) (kind : AclKind) (argument : List ℕ) (acl : NewAcl) (o : Outcome) → IsWorld limits world
-    → acl_argument kind argument ≡ Ok acl → setacl_outcome limits (viewed_trees (trees_of world)) s names acl ≡ Ok o → Sets limits world o (λ old new. new ≡ with_acl acl old)
+    → acl_argument kind argument ≡ Ok acl → setacl_outcome limits (viewed_trees (trees_of world)) s names acl ≡ Ok o → Sets limits world s o (SetsAcl acl)
 
 -- What the path leads to has an ACL that, by the access check algorithm of acl(5), grants the caller what is wanted.
 pub record IsGranted (trees : ViewedTrees) (cred : Credential) (names : List (List ℕ)) (want : Access) : Type 0 where

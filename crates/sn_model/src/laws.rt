@@ -129,13 +129,14 @@ pub fn access_is_denied_by_rule()
     ensures { AccessIsDeniedByRule }
 {}
 
-/// chmod sets the mode that was asked for and leaves owner, group and default ACL, and what it has
-/// decided can be applied.
+/// chmod sets the mode that was asked for, for the owner and the user 0 alone, and leaves owner, group and
+/// default ACL. What it has decided can be applied.
 pub fn chmod_sets_the_mode()
     ensures { ChmodSetsTheMode }
 {}
 
-/// setacl sets one ACL and nothing else, no S bit among it, and what it has decided can be applied.
+/// setacl sets one ACL, for the owner and the user 0 alone, and nothing else, no S bit either. What it has
+/// decided can be applied.
 pub fn setacl_sets_one_acl()
     ensures { SetaclSetsOneAcl }
 {}
