@@ -25,22 +25,6 @@ fn kept(alloc: Global, directory: u16, name: &Bytes<'_>) -> Result<Link, AllocEr
     Ok(Link { directory, name })
 }
 
-fn copied(ownership: &Ownership) -> Ownership
-    ensures { result ≡ ownership.now }
-{
-    Ownership {
-        owner: ownership.owner,
-        group: ownership.group,
-        set_gid: ownership.set_gid,
-        sticky: ownership.sticky,
-        acl: ownership.acl.copy(),
-        default_acl: match &ownership.default_acl {
-            Some(acl) => Some(acl.copy()),
-            None => None,
-        },
-    }
-}
-
 /// What mkdir makes: a name that isn't there yet, the number of the directory that gets it, and what
 /// that is given.
 pub(crate) fn mkdir(
@@ -68,7 +52,7 @@ pub(crate) fn mkdir(
         unreachable!()
     };
     match kept(alloc, *directory, name) {
-        Ok(link) => Ok((link, number, copied(ownership))),
+        Ok(link) => Ok((link, number, ownership.copy())),
         Err(error) => Err(Failure::Fault(error)),
     }
 }

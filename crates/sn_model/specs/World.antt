@@ -42,7 +42,7 @@ pub record Descriptor : Type 0 where
 abbrev pub descriptor_cmp : ℕ × ℕ → ℕ × ℕ → Ordering
 descriptor_cmp a b = ordering_then (nat_cmp a.0 b.0) (nat_cmp a.1 b.1)
 
--- the sessions are 64 places, None where nobody is logged in
+-- the sessions are 64, None where nobody is logged in
 pub record World : Type 0 where
   pub live : Tree
   pub frozen : map.FinMap (slice_cmp nat_cmp) Tree

@@ -46,6 +46,25 @@ pub struct Ownership {
     pub default_acl: Option<Acl>,
 }
 
+impl Ownership {
+    /// A copy, which takes no memory.
+    pub fn copy(&self) -> Ownership
+        ensures { result ≡ self.now }
+    {
+        Ownership {
+            owner: self.owner,
+            group: self.group,
+            set_gid: self.set_gid,
+            sticky: self.sticky,
+            acl: self.acl.copy(),
+            default_acl: match &self.default_acl {
+                Some(acl) => Some(acl.copy()),
+                None => None,
+            },
+        }
+    }
+}
+
 /// A change of the name tree, decided once: what is logged, applied, and replayed after a crash. It
 /// names numbers, since the rights of whoever asked were looked at when it was decided.
 #[derive(Drop)]

@@ -6,7 +6,8 @@
 //! it shows. [`walk`] follows a path's names through a tree for a caller, and answers where they
 //! lead, or the first test that fails, with its place.
 //!
-//! Begin with `specs/Paths` and `specs/Walks`, which say what `parse` and `walk` answer.
+//! Begin with `specs/Paths` and `specs/Walks`, which say what `parse` and `walk` answer, and
+//! `specs/LookUps`, which says what `walk` looks up.
 //!
 //! ```text
 //! let path = Path::parse(b"/home/ada")?;
