@@ -11,10 +11,10 @@ ghost use Rattle.sn_core.specs.Plain.{plain_trees, seen_in};
 use crate::view::PlainView;
 use sn_acl::Mode;
 use sn_core_decide as decide;
-use sn_limits::Limits;
+use sn_limits::{Kind, Limits};
 use sn_model::{Bytes, Link, Ownership, Pending, Refusal, Reply, Session, Word};
 use sn_plain::PlainTree;
-use sn_walk::{Failure, Kind, Path};
+use sn_walk::{Failure, Path};
 use std::alloc::{AllocError, Global};
 
 /// A name of a directory, to be kept.

@@ -12,10 +12,9 @@ use crate::decided;
 use crate::error::CallError;
 use sn_acl::{Cred, Mode, Permissions};
 use sn_core_decide::{new_mode_argument, path_argument};
-use sn_limits::Limits;
+use sn_limits::{Kind, Limits};
 use sn_model::{Call, Errno, Event, Groups, Progress, Refusal, Reply, Session, Word};
 use sn_plain::PlainTree;
-use sn_walk::Kind;
 use std::alloc::{AllocError, Global};
 
 /// How many sessions there are.

@@ -13,8 +13,8 @@ use Rattle.sn_acl.specs.AccessList.{IsValid, count_of}
 use Rattle.sn_acl.proofs.ModeLemmas.{IsMode, valid-with_mode}
 use Rattle.sn_walk.specs.declared.path.PathFault.{PathFault}
 use Rattle.sn_walk.specs.declared.path.PathFault.TheVariants.{Misspelt, TooLong}
-use Rattle.sn_walk.specs.declared.view.Kind.TheVariants.{Directory}
-use Rattle.sn_walk.specs.Names.{is_name_spelled, has_name_length, is_name}
+use Rattle.sn_limits.specs.declared.kind.Kind.TheVariants.{Directory}
+use Rattle.sn_limits.specs.Names.{is_name_spelled, has_name_length, is_name}
 use Rattle.sn_walk.specs.Paths.{last_after, parsed, of_word, of_names, of_length, components}
 use Rattle.sn_walk.specs.Views.{is_directory}
 use Rattle.sn_model.specs.declared.call.Call.{Call}

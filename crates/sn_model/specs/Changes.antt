@@ -5,9 +5,9 @@ use Rattle.std.specs.FinMap as map
 use Rattle.sn_acl.specs.declared.entries.Entry.{Entry}
 use Rattle.sn_acl.specs.Entries.{is_user_obj, is_group_obj, is_other, is_mask, is_named}
 use Rattle.sn_acl.specs.AccessList.{count_of, is_canonical, is_entry}
-use Rattle.sn_walk.specs.declared.view.Kind.{Kind}
-use Rattle.sn_walk.specs.declared.view.Kind.TheVariants.{File, Directory}
-use Rattle.sn_walk.specs.Names.{is_name}
+use Rattle.sn_limits.specs.declared.kind.Kind.{Kind}
+use Rattle.sn_limits.specs.declared.kind.Kind.TheVariants.{File, Directory}
+use Rattle.sn_limits.specs.Names.{is_name}
 use Rattle.sn_walk.specs.Views.{is_directory, is_hidden_name}
 use Rattle.sn_limits.specs.declared.limits.Limits.{Limits}
 use Rattle.sn_model.specs.declared.change.Change.{Change}

@@ -7,7 +7,7 @@ use Rattle.std.specs.FinMap as map
 use Rattle.sn_acl.specs.Modes.{three_entries}
 use Rattle.sn_walk.specs.declared.object.Home.{Home}
 use Rattle.sn_walk.specs.declared.object.Home.TheVariants.{Live, Frozen}
-use Rattle.sn_walk.specs.declared.view.Kind.TheVariants.{Directory}
+use Rattle.sn_limits.specs.declared.kind.Kind.TheVariants.{Directory}
 use Rattle.sn_walk.specs.Views.{ViewedTree, ViewedTrees, nothing}
 use Rattle.sn_model.specs.declared.session.Session.{Session}
 use Rattle.sn_model.specs.Tree.{Node, Tree, viewed}

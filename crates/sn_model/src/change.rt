@@ -1,7 +1,7 @@
 ghost use Rattle.std.specs.Prelude.{◌≡◌};
 
 use sn_acl::Acl;
-use sn_walk::Kind;
+use sn_limits::Kind;
 use std::marker::Model;
 
 /// Bytes that a change brings, lent by the call or the record that it comes from.

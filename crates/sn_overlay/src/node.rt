@@ -3,8 +3,8 @@ ghost use Rattle.std.specs.Option.{option_copied};
 ghost use Rattle.sn_overlay.specs.Layers.{hides_block, hides_names};
 
 use crate::place::BLOCK_SIZE;
+use sn_limits::Kind;
 use sn_model::Ownership;
-use sn_walk::Kind;
 
 /// What became of a node since an overlay began.
 #[derive(Drop)]

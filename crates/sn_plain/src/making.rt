@@ -8,9 +8,8 @@ use crate::error::ApplyError;
 use crate::nodes::{Counts, StoredNode, StoredOwnership};
 use crate::tests::is_ownership;
 use crate::tree::PlainTree;
-use sn_limits::Limits;
+use sn_limits::{Kind, Limits};
 use sn_model::{Link, Ownership, StoredAcl};
-use sn_walk::Kind;
 use std::alloc::{AllocError, Global};
 
 fn stored(alloc: Global, ownership: &Ownership) -> Result<StoredOwnership, AllocError>

@@ -4,8 +4,9 @@ ghost use Rattle.std.specs.FinMap as map;
 
 use crate::bytes::FileBytes;
 use crate::tests::is_directory;
+use sn_limits::Kind;
 use sn_model::StoredAcl;
-use sn_walk::{Attributes, Kind};
+use sn_walk::Attributes;
 use std::alloc::{AllocError, Global};
 use std::collections::BTreeMap;
 

@@ -4,9 +4,9 @@ ghost use Rattle.sn_model.specs.Changes.{is_free_number, is_vacant, has_room_for
 ghost use Rattle.sn_model.specs.Tree.{names_in, names_for};
 
 use crate::tree::PlainTree;
-use sn_limits::Limits;
+use sn_limits::{Kind, Limits, is_name};
 use sn_model::{Link, Ownership};
-use sn_walk::{Kind, ROOT_NUMBER, is_name};
+use sn_walk::ROOT_NUMBER;
 
 /// The name under which the root has the directory of snapshots.
 fn is_hidden_name(directory: u16, name: &[u8]) -> bool

@@ -9,9 +9,9 @@ use crate::bytes::FileBytes;
 use crate::links::Links;
 use crate::nodes::{Counts, Nodes, StoredNode, StoredOwnership};
 use sn_acl::{Acl, Mode, Permissions};
-use sn_limits::Limits;
+use sn_limits::{Kind, Limits};
 use sn_model::{Errno, Link, Refusal, StoredAcl};
-use sn_walk::{Attributes, Kind, ROOT_NUMBER};
+use sn_walk::{Attributes, ROOT_NUMBER};
 use std::alloc::{AllocError, Global};
 
 /// The live tree, as maps in memory.

@@ -2,8 +2,8 @@
 //! each look-up. Its clauses promise nothing: the table of walks says what it shows.
 
 use sn_acl::Acl;
-use sn_limits::SnapshotName;
-use sn_walk::{Attributes, Home, Kind, TreeView};
+use sn_limits::{Kind, SnapshotName};
+use sn_walk::{Attributes, Home, TreeView};
 use std::alloc::{AllocError, Global};
 use std::str;
 

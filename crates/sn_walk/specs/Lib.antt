@@ -1,7 +1,6 @@
 pub mod Chains
 pub mod Gives
 pub mod LookUps
-pub mod Names
 pub mod Objects
 pub mod Paths
 pub mod Views

@@ -19,15 +19,13 @@
 #![tactic(auto)]
 
 mod failure;
-mod name;
 mod object;
 mod path;
 mod view;
 mod walking;
 
 pub use failure::Failure;
-pub use name::{NAME_MAX, begins_with_name, is_name};
 pub use object::{Home, Object};
 pub use path::{PATH_MAX, Path, PathFault};
-pub use view::{Attributes, Kind, ROOT_NUMBER, TreeView};
+pub use view::{Attributes, ROOT_NUMBER, TreeView};
 pub use walking::{Found, Obstacle, WalkRefusal, Walked, attributes_of, child_of, reached, walk};

@@ -1,16 +1,9 @@
 use crate::Home;
 use sn_acl::Acl;
-use sn_limits::SnapshotName;
+use sn_limits::{Kind, SnapshotName};
 
 /// The number of a tree's root directory.
 pub const ROOT_NUMBER: u16 = 2;
-
-/// What a node is.
-#[derive(Clone, Copy, PartialEq, Eq, Hash)]
-pub enum Kind {
-    File,
-    Directory,
-}
 
 /// What is known of a node without its bytes or names.
 #[derive(Drop)]

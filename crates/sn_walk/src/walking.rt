@@ -5,9 +5,9 @@ ghost use Rattle.sn_walk.specs.LookUps.{Looks, looks_at, looks_for, looks_in, lo
 ghost use Rattle.sn_walk.specs.Views.{attributes_at, child_of, hidden_attributes, hides};
 ghost use Rattle.sn_walk.specs.Walks.{EndsAt, admitted, end_of, found_at, passed, walk_of};
 
-use crate::{Attributes, Failure, Home, Kind, Object, Path, ROOT_NUMBER, TreeView};
+use crate::{Attributes, Failure, Home, Object, Path, ROOT_NUMBER, TreeView};
 use sn_acl::{Acl, Cred, Mode, Permissions, Tag, check};
-use sn_limits::SnapshotName;
+use sn_limits::{Kind, SnapshotName};
 
 /// The name of the directory of snapshots in the live root.
 const HIDDEN_NAME: &[u8] = b".snapshot";

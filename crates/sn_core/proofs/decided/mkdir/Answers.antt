@@ -1,5 +1,5 @@
 use Rattle.std.proofs.Common.{◌≡◌, refl, sym, ap, ◌∙◌, Ok}
-use Rattle.sn_walk.specs.declared.view.Kind.TheVariants.{Directory}
+use Rattle.sn_limits.specs.declared.kind.Kind.TheVariants.{Directory}
 use Rattle.sn_model.specs.declared.outcome.Outcome.{Outcome}
 use Rattle.sn_model.specs.Outcomes.{makes}
 use Rattle.sn_core.proofs.ViewLemmas.{made_in, number_left, makes_kept}

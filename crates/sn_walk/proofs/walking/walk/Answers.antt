@@ -39,7 +39,8 @@ loop-next-preserved g c = record {
       let before = c.loop-next.invariant.looked_up told in (
         before.0 ++ looks_in (g.T.TreeView.shows c.args.view.now) c.args.cred.now c.loop-next.place c.loop-next.directory c.loop-next.name.now,
         before.1 ∙ ap (λ (l : List LookUp). before.0 ++ l) (ap (looks_from _ _ _ _ _) c.in-Some-split_first.ensures.names ∙ looks-on _ _ _ _ _ _ _ _ (here ∙ ap (λ (o : Option Object). Ok o) c.in-Some-2.is)) ∙ sym (append_assoc before.0 _ _),
-        g.met.T.TreeView.looked_up_more _ _ _ _ _ before.2 made);
+        g.met.T.TreeView.looked_up_more _ _ _ _ _ before.2 made,
+      );
   short = omega (arith, c.loop-next.invariant.short, ap length c.in-Some-split_first.ensures.names);
 }
 
@@ -78,8 +79,8 @@ returns-in_default-2-clause-looked_up g c told =
     let made = rw same at c.in_ok-child.ensures.looked_up told in
     let before = c.loop-next.invariant.looked_up told in
     looks-end (λ l. g.T.TreeView.looked_up l c.args.view.now c.pass.new.view) (λ l. g.T.TreeView.looked_up l c.loop-next.view c.pass.new.view) _ before.0 _ _ before.1
-      (ap (looks_from _ _ _ _ _) c.in-Some-split_first.ensures.names ∙ looks-missing _ _ _ _ _ _ _ (here ∙ ap (λ (o : Option Object). Ok o) c.in_default-2.is))
-      made (λ more after. g.met.T.TreeView.looked_up_more _ _ _ _ _ before.2 after)
+    (ap (looks_from _ _ _ _ _) c.in-Some-split_first.ensures.names ∙ looks-missing _ _ _ _ _ _ _ (here ∙ ap (λ (o : Option Object). Ok o) c.in_default-2.is))
+    made (λ more after. g.met.T.TreeView.looked_up_more _ _ _ _ _ before.2 after)
 
 pub returns-in_err-object-clause-looked_up : goal.returns-in_err-object-clause-looked_up
 returns-in_err-object-clause-looked_up g c told =
@@ -96,5 +97,5 @@ returns-clause-looked_up g c told =
     let made = rw same at c.in_ok-object.ensures.looked_up told in
     let before = c.loop-next.invariant.looked_up told in
     looks-end (λ l. g.T.TreeView.looked_up l c.args.view.now c.pass-2.new.view) (λ l. g.T.TreeView.looked_up l c.loop-next.view c.pass-2.new.view) _ before.0 _ _ before.1
-      (ap (looks_from _ _ _ _ _) c.in_default-split_first.ensures.names ∙ looks-last _ _ _ _ _)
-      made (λ more after. g.met.T.TreeView.looked_up_more _ _ _ _ _ before.2 after)
+    (ap (looks_from _ _ _ _ _) c.in_default-split_first.ensures.names ∙ looks-last _ _ _ _ _)
+    made (λ more after. g.met.T.TreeView.looked_up_more _ _ _ _ _ before.2 after)
