@@ -7,7 +7,7 @@ use Rattle.std.proofs.lemmas.Bool.{true≢false, lt-ltb}
 use Rattle.std.proofs.lemmas.Option.{slice_get-get_or}
 use Rattle.std.proofs.lemmas.Map.Lookups.{exact_unsigned}
 use Rattle.sn_acl.specs.declared.modes.Mode.{Mode}
-use Rattle.sn_walk.specs.declared.view.Kind.TheVariants.{Directory}
+use Rattle.sn_limits.specs.declared.kind.Kind.TheVariants.{Directory}
 use Rattle.sn_limits.specs.Versions.{version_1}
 use Rattle.sn_model.specs.declared.call.Call.{Call}
 use Rattle.sn_model.specs.declared.call.Call.TheVariants.{Login, Mkdir, Stat}
@@ -89,10 +89,10 @@ served old new session c o e comes least = (subst (λ (d : Result Outcome Refusa
 pub stat_served : (old : World) (session : ℕ) (c : Call) (answer : Reply) → decision version_1 old session c ≡ Ok (tells answer) → IsServed old session c answer old
 stat_served old session c answer e = served old old session c (tells answer) e (tells_comes old session answer) (same_least old old refl)
 
--- a place of the sessions where nobody is logged in
-pub free_place : (world : World) (session : ℕ) (place : Option Session) → session < 64 → length world.sessions ≡ 64 → place ≡ get_or world.sessions session place → is_some place ≡ false → logged_out world session ≡ Ok tt
-free_place world session place low count here free =
-    let at : slice_get world.sessions session ≡ Some None = slice_get-get_or world.sessions session place (omega arith) ∙ ap (λ (o : Option Session). Some o) (sym here ∙ none_of place free) in
+-- one of the sessions, with nobody logged in
+pub free_session : (world : World) (session : ℕ) (one : Option Session) → session < 64 → length world.sessions ≡ 64 → one ≡ get_or world.sessions session one → is_some one ≡ false → logged_out world session ≡ Ok tt
+free_session world session one low count here free =
+    let at : slice_get world.sessions session ≡ Some None = slice_get-get_or world.sessions session one (omega arith) ∙ ap (λ (o : Option Session). Some o) (sym here ∙ none_of one free) in
     rw (lt-ltb session 64 low, at) refl
   where
     none_of : (o : Option Session) → is_some o ≡ false → o ≡ None

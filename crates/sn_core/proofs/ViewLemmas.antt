@@ -13,8 +13,8 @@ use Rattle.sn_model.specs.declared.outcome.Outcome.{Outcome}
 use Rattle.sn_model.specs.declared.outcome.Pending.TheVariants.{Makes}
 use Rattle.sn_model.specs.declared.change.Ownership.{Ownership}
 use Rattle.sn_model.specs.declared.link.Link.{Link}
-use Rattle.sn_walk.specs.declared.view.Kind.{Kind}
-use Rattle.sn_walk.specs.declared.view.Kind.TheVariants.{Directory}
+use Rattle.sn_limits.specs.declared.kind.Kind.{Kind}
+use Rattle.sn_limits.specs.declared.kind.Kind.TheVariants.{Directory}
 use Rattle.sn_model.specs.declared.session.Session.{Session}
 use Rattle.sn_model.specs.Calls.{last_name, mkdir_outcome, stat_outcome}
 use Rattle.sn_model.specs.Changes.{node_with, ownership_of}

@@ -11,10 +11,10 @@ ghost use Rattle.sn_core.specs.Plain.{plain_trees, seen_in};
 use crate::view::PlainView;
 use sn_acl::Mode;
 use sn_core_decide as decide;
-use sn_limits::Limits;
+use sn_limits::{Kind, Limits};
 use sn_model::{Bytes, Link, Ownership, Pending, Refusal, Reply, Session, Word};
 use sn_plain::PlainTree;
-use sn_walk::{Failure, Kind, Path};
+use sn_walk::{Failure, Path};
 use std::alloc::{AllocError, Global};
 
 /// A name of a directory, to be kept.
@@ -23,22 +23,6 @@ fn kept(alloc: Global, directory: u16, name: &Bytes<'_>) -> Result<Link, AllocEr
 {
     let name = Word::new(alloc, name.as_slice())?;
     Ok(Link { directory, name })
-}
-
-fn copied(ownership: &Ownership) -> Ownership
-    ensures { result ≡ ownership.now }
-{
-    Ownership {
-        owner: ownership.owner,
-        group: ownership.group,
-        set_gid: ownership.set_gid,
-        sticky: ownership.sticky,
-        acl: ownership.acl.copy(),
-        default_acl: match &ownership.default_acl {
-            Some(acl) => Some(acl.copy()),
-            None => None,
-        },
-    }
 }
 
 /// What mkdir makes: a name that isn't there yet, the number of the directory that gets it, and what
@@ -68,7 +52,7 @@ pub(crate) fn mkdir(
         unreachable!()
     };
     match kept(alloc, *directory, name) {
-        Ok(link) => Ok((link, number, copied(ownership))),
+        Ok(link) => Ok((link, number, ownership.copy())),
         Err(error) => Err(Failure::Fault(error)),
     }
 }

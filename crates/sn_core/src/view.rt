@@ -31,6 +31,9 @@ impl<'a> TreeView for PlainView<'a> {
 
     ghost follows = { λ u v. v ≡ u };
 
+    // look-ups leave no trace
+    ghost looked_up = { λ looks u v. Unit {0} };
+
     // memory may be refused at any time
     ghost causes = { λ u v f. Unit {0} };
 
@@ -71,6 +74,10 @@ impl<'a> TreeView for PlainView<'a> {
     ghost follows_itself = { λ v. refl };
 
     ghost follows_on = { λ u v w p q. q ∙ p };
+
+    ghost looked_up_none = { λ v. tt };
+
+    ghost looked_up_more = { λ looks more u v w p q. tt };
 
     ghost causes_later = { λ u v w f p q. tt };
 }

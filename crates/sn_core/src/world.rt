@@ -12,10 +12,9 @@ use crate::decided;
 use crate::error::CallError;
 use sn_acl::{Cred, Mode, Permissions};
 use sn_core_decide::{new_mode_argument, path_argument};
-use sn_limits::Limits;
+use sn_limits::{Kind, Limits};
 use sn_model::{Call, Errno, Event, Groups, Progress, Refusal, Reply, Session, Word};
 use sn_plain::PlainTree;
-use sn_walk::Kind;
 use std::alloc::{AllocError, Global};
 
 /// How many sessions there are.
@@ -28,24 +27,24 @@ pub(crate) struct PlainWorld {
     sessions: Vec<Option<Session>>,
 }
 
-/// The places of the sessions, all free.
+/// The sessions, with nobody logged in.
 fn free_sessions(alloc: Global) -> Result<Vec<Option<Session>>, AllocError>
     ensures { IfOk result (λ v. v.items ≡ replicate 64 None) }
 {
     let mut sessions = Vec::with_capacity(alloc, SESSIONS as usize)?;
-    for _place in 0..SESSIONS {
+    for _session in 0..SESSIONS {
         sessions.push(None)?;
     }
     Ok(sessions)
 }
 
-/// Frees the places of the sessions.
+/// Logs everybody out.
 fn log_all_out(sessions: &mut Vec<Option<Session>>)
     requires { vec_len sessions.old ≡ 64 }
     ensures { sessions.new.items ≡ replicate 64 None }
 {
-    for place in 0..sessions.len() {
-        sessions[place] = None;
+    for session in 0..sessions.len() {
+        sessions[session] = None;
     }
 }
 
@@ -94,11 +93,11 @@ impl PlainWorld {
         if session >= SESSIONS {
             return Err(CallError::Refused(Refusal::plain(Errno::Einval)));
         }
-        let place = session as usize;
-        if self.sessions[place].is_some() {
+        let at = session as usize;
+        if self.sessions[at].is_some() {
             return Err(CallError::Refused(Refusal::plain(Errno::Ebusy)));
         }
-        self.sessions[place] = Some(Session {
+        self.sessions[at] = Some(Session {
             cred: Cred::new(uid, gid, groups.as_slice()),
             umask: Mode {
                 owner: Permissions::NONE,

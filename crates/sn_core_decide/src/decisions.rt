@@ -6,11 +6,11 @@ ghost use Rattle.sn_core_decide.specs.Views.{seen_by};
 use crate::checks::{full, live, not_present, prefix, writable_parent};
 use crate::view::CallView;
 use sn_acl::{Acl, Inherited, Mode, inherit};
-use sn_limits::Limits;
+use sn_limits::{Kind, Limits};
 use sn_model::{
     Bytes, Caller, Outcome, Ownership, PathNumber, Pending, Refusal, Reply, Session, Status,
 };
-use sn_walk::{Attributes, Failure, Home, Kind, Path, TreeView};
+use sn_walk::{Attributes, Failure, Home, Path, TreeView};
 
 /// What a directory is given that a session makes in a directory.
 fn new_directory(

@@ -12,8 +12,8 @@ use Rattle.sn_acl.specs.declared.entries.Tag.TheVariants.{UserObj, User, GroupOb
 use Rattle.sn_acl.specs.declared.entries.Entry.{Entry}
 use Rattle.sn_acl.specs.declared.modes.Mode.{Mode}
 use Rattle.sn_acl.specs.Modes.{mode_bits}
-use Rattle.sn_walk.specs.declared.view.Kind.{Kind}
-use Rattle.sn_walk.specs.declared.view.Kind.TheVariants.{File, Directory}
+use Rattle.sn_limits.specs.declared.kind.Kind.{Kind}
+use Rattle.sn_limits.specs.declared.kind.Kind.TheVariants.{File, Directory}
 use Rattle.sn_limits.specs.declared.limits.Limits.{Limits}
 use Rattle.sn_layout.specs.Bytes.{number_bytes, numbers_bytes, zeros}
 use Rattle.sn_layout.specs.BlockTree.{IsBlockTree}

@@ -8,8 +8,8 @@ use Rattle.std.proofs.Math.Nat.{min-le_left}
 use Rattle.sn_acl.specs.AccessList.{IsValid}
 use Rattle.sn_acl.specs.declared.entries.Entry.{Entry}
 use Rattle.std.proofs.lemmas.List.Elements.{Contains-append_right}
-use Rattle.sn_walk.specs.declared.view.Kind.{Kind}
-use Rattle.sn_walk.specs.declared.view.Kind.TheVariants.{File, Directory}
+use Rattle.sn_limits.specs.declared.kind.Kind.{Kind}
+use Rattle.sn_limits.specs.declared.kind.Kind.TheVariants.{File, Directory}
 use Rattle.sn_limits.specs.declared.limits.Limits.{Limits}
 use Rattle.sn_limits.specs.Versions.{limits_of, version_1}
 use Rattle.sn_layout.specs.Bytes.{zeros}

@@ -1,8 +1,8 @@
 -- What is spelled alike is one value: of names, of kinds and of S bits.
 use Rattle.std.proofs.Common.{◌≡◌, ◌∙◌, ℕ, Bool, true, false, List, ◌++◌, length, refl, sym, ap}
 use Rattle.std.specs.Prelude.{◌%◌, ◌==◌, nat_le}
-use Rattle.sn_walk.specs.declared.view.Kind.{Kind}
-use Rattle.sn_walk.specs.declared.view.Kind.TheVariants.{File, Directory}
+use Rattle.sn_limits.specs.declared.kind.Kind.{Kind}
+use Rattle.sn_limits.specs.declared.kind.Kind.TheVariants.{File, Directory}
 use Rattle.sn_layout.proofs.Fields.{same_cons, same_fronts}
 use Rattle.sn_layout_node.specs.Directory.{name_bytes}
 use Rattle.sn_layout_node.specs.Inode.{kind_number, flags_number}

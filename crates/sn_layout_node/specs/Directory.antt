@@ -3,7 +3,7 @@ use Rattle.std.specs.Prelude.{◌≡◌, ℕ, zero, suc, ◌-◌, ◌<◌, ◌�
 use Rattle.std.specs.List.{flat_map, AllByRecursion}
 use Rattle.std.specs.Str.{bytes_eq}
 use Rattle.byteorder.specs.Endian.{little_number}
-use Rattle.sn_walk.specs.Names.{is_name}
+use Rattle.sn_limits.specs.Names.{is_name}
 use Rattle.sn_layout.specs.Bytes.{number_bytes, zeros}
 
 -- a name and the number of what it stands for

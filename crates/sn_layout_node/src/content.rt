@@ -1,6 +1,6 @@
 ghost use Rattle.std.specs.Prelude.{◌≡◌, ◌↔◌, ℕ, ◌+◌, ◌-◌, ◌*◌, ◌<◌, ◌≤◌, ◌||◌, ◌==◌, List, ◌++◌, length, Some, IfSome, IsTrue, nat_lt};
 ghost use Rattle.std.specs.List.{list_all, enumerate_from};
-ghost use Rattle.sn_walk.specs.declared.view.Kind.{Kind as TheKind};
+ghost use Rattle.sn_limits.specs.declared.kind.Kind.{Kind as TheKind};
 ghost use Rattle.sn_layout.specs.Bytes.{Puts, zeros, numbers_bytes};
 ghost use Rattle.sn_layout.specs.BlockTree.{IsBlockTree};
 ghost use Rattle.sn_layout.specs.declared.tree.BlockTree.{BlockTree as TheTree};
@@ -9,8 +9,7 @@ ghost use Rattle.sn_layout_node.specs.declared.content.Content.{Content as TheCo
 
 use arrayvec::ArrayVec;
 use sn_layout::{BlockTree, Pointers, Reader, put_bytes, put_zeros};
-use sn_limits::Limits;
-use sn_walk::Kind;
+use sn_limits::{Kind, Limits};
 use std::marker::Model;
 
 /// The most bytes that an inode holds itself.

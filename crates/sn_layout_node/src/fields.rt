@@ -5,13 +5,13 @@
 //! | kind u8 | 1 a file, 2 a directory |
 //! | S bits u8 | bit 0 S_ISGID, bit 1 S_ISVTX |
 ghost use Rattle.std.specs.Prelude.{◌≡◌, ℕ, ◌+◌, ◌≤◌, Bool, List, [], ◌∷◌, length, Some, IfSome};
-ghost use Rattle.sn_walk.specs.declared.view.Kind.{Kind as TheKind};
+ghost use Rattle.sn_limits.specs.declared.kind.Kind.{Kind as TheKind};
 ghost use Rattle.sn_layout.specs.Bytes.{Puts};
 ghost use Rattle.sn_layout_node.specs.Inode.{kind_number, flags_number};
 ghost use Rattle.sn_layout_node.specs.declared.fields.SpecialBits.{SpecialBits as TheBits};
 
 use sn_layout::{Reader, put_u8};
-use sn_walk::Kind;
+use sn_limits::Kind;
 
 /// The mode bits of a node beside the rights of its classes.
 #[derive(Clone, Copy, Default, PartialEq, Eq)]

@@ -4,7 +4,7 @@ use crate::fields::{SpecialBits, flags_of, kind_of, put_kind, put_special_bits};
 use sn_acl::Mode;
 use sn_layout::{Reader, put_u16, put_u32, put_u64, put_zeros};
 use sn_layout_acl::{mode_of, put_mode};
-use sn_walk::Kind;
+use sn_limits::Kind;
 
 // What stands in front of an inode's content.
 #[derive(Clone, Copy)]

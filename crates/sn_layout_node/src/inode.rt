@@ -12,7 +12,7 @@
 //! | 28 | zeros |
 //! | 64 | a file's bytes, if at most 64, and then zeros; else 16 pointers u32 |
 ghost use Rattle.std.specs.Prelude.{◌≡◌, ◌↔◌, ◌<◌, ◌^◌, List, length, Some, IfSome, IsTrue};
-ghost use Rattle.sn_walk.specs.declared.view.Kind.{Kind as TheKind};
+ghost use Rattle.sn_limits.specs.declared.kind.Kind.{Kind as TheKind};
 ghost use Rattle.sn_layout.specs.Bytes.{zeros};
 ghost use Rattle.sn_layout_acl.specs.Mode.{IsMode};
 ghost use Rattle.sn_layout_node.specs.Inode.{are_links};
@@ -22,8 +22,7 @@ use crate::{Content, SpecialBits};
 use sn_acl::Mode;
 use sn_layout::{Reader, put_zeros};
 use sn_layout_acl::fitting;
-use sn_limits::Limits;
-use sn_walk::Kind;
+use sn_limits::{Kind, Limits};
 
 /// The bytes of an inode's record.
 pub const INODE_SIZE: usize = 128;

@@ -3,12 +3,12 @@
 //! | 0 | length u8, 1 to 255 |
 //! | 1 | the bytes |
 ghost use Rattle.std.specs.Prelude.{◌≡◌, ℕ, ◌+◌, ◌≤◌, List, ◌++◌, length, IfSome, IsSome, IsTrue};
-ghost use Rattle.sn_walk.specs.Names.{is_name};
+ghost use Rattle.sn_limits.specs.Names.{is_name};
 ghost use Rattle.sn_layout.specs.Bytes.{Puts};
 ghost use Rattle.sn_layout_node.specs.Directory.{name_bytes};
 
 use sn_layout::{Reader, put_bytes, put_u8};
-use sn_walk::begins_with_name;
+use sn_limits::begins_with_name;
 
 /// Writes a name with its length, and answers the place after it.
 pub fn put_name(block: &mut [u8], at: usize, name: &[u8]) -> usize

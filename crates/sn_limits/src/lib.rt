@@ -1,8 +1,9 @@
-//! The numbers that a version of the disk's format fixes, and the names that its snapshots can have,
-//! for walks, the model, the codecs and the charges alike.
+//! What walks, the model, the codecs and the charges share: the numbers that a version of the disk's
+//! format fixes, what a node is, and the names that directories and snapshots can have.
 //!
 //! `specs/Versions` writes the numbers of each version down, and [`Limits::of_version`] answers them
-//! exactly. No other crate has a number of its own for what stands here.
+//! exactly. No other crate has a number of its own for what stands here. `specs/Names` and
+//! `specs/SnapshotName` are the grammars of names, which [`is_name`] and [`SnapshotName`] decide.
 //!
 //! ```text
 //! let limits = Limits::of_version(1)?;
@@ -10,8 +11,12 @@
 //! ```
 #![tactic(auto)]
 
+mod kind;
 mod limits;
+mod name;
 mod snapshot_name;
 
+pub use kind::Kind;
 pub use limits::Limits;
+pub use name::{NAME_MAX, begins_with_name, has_name_length, is_name, is_name_spelled};
 pub use snapshot_name::{SNAPSHOT_NAME_MAX, SnapshotName};

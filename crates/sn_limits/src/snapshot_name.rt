@@ -3,6 +3,7 @@ ghost use Rattle.std.specs.List.{list_all};
 ghost use Rattle.sn_limits.specs.SnapshotName as names;
 ghost use Rattle.sn_limits.specs.SnapshotName.{is_snapshot_name};
 
+use crate::name::is_dots;
 use arrayvec::ArrayVec;
 use std::marker::Model;
 
@@ -33,16 +34,6 @@ fn is_snapshot_byte(byte: u8) -> bool
     ensures { result ≡ names.is_snapshot_byte byte }
 {
     byte.is_ascii_alphanumeric() || byte == b'.' || byte == b'_' || byte == b'-'
-}
-
-fn is_dots(name: &[u8]) -> bool
-    ensures { result ≡ names.is_dots name.now }
-{
-    match name {
-        [a] => *a == b'.',
-        [a, b] => *a == b'.' && *b == b'.',
-        _ => false,
-    }
 }
 
 fn has_snapshot_bytes(name: &[u8]) -> bool

@@ -15,8 +15,8 @@ use Rattle.sn_acl.proofs.Spelling.{spells}
 use Rattle.sn_acl.proofs.Validity.{test-from_valid}
 use Rattle.sn_limits.specs.declared.limits.Limits.{Limits}
 use Rattle.sn_walk.specs.declared.object.Object.{Object}
-use Rattle.sn_walk.specs.declared.view.Kind.{Kind}
-use Rattle.sn_walk.specs.declared.view.Kind.TheVariants.{File, Directory}
+use Rattle.sn_limits.specs.declared.kind.Kind.{Kind}
+use Rattle.sn_limits.specs.declared.kind.Kind.TheVariants.{File, Directory}
 use Rattle.sn_walk.specs.declared.view.Attributes.{Attributes}
 use Rattle.sn_walk.specs.declared.walking.Found.{Found}
 use Rattle.sn_walk.specs.declared.walking.Walked.{Walked}

@@ -5,9 +5,9 @@ use Rattle.std.specs.Cmp.{nat_cmp_total}
 use Rattle.std.specs.FinMap as map
 use Rattle.std.proofs.lemmas.Bool.{true≢false}
 use Rattle.std.proofs.lemmas.Map.Lookups.{exact_unsigned}
-use Rattle.sn_walk.specs.declared.view.Kind.{Kind}
-use Rattle.sn_walk.specs.declared.view.Kind.TheVariants.{File}
-use Rattle.sn_walk.specs.Names.{is_name}
+use Rattle.sn_limits.specs.declared.kind.Kind.{Kind}
+use Rattle.sn_limits.specs.declared.kind.Kind.TheVariants.{File}
+use Rattle.sn_limits.specs.Names.{is_name}
 use Rattle.sn_walk.specs.Views.{is_directory, is_hidden_name}
 use Rattle.sn_limits.specs.declared.limits.Limits.{Limits}
 use Rattle.sn_model.specs.declared.change.Change.{Change}
@@ -23,7 +23,7 @@ use Rattle.sn_model.proofs.LinkLemmas.{exact_links, links_total}
 use Rattle.sn_model.proofs.MapLemmas.{same_or_apart, get_inserted, get_other, get_left, get_was}
 use Rattle.sn_model.proofs.ChainLemmas.{and_right, some_same, some_none}
 use Rattle.sn_model.proofs.NameLemmas.{no_names_for}
-use Rattle.sn_model.proofs.PartLemmas.{file_is, is_file_at, directory_is, is_directory_at, Placed, made_is, made_of, linked_is, linked_of, unlinked_is, unlinked_of, Unlinked, removed_is, removed_of, replaced_is, replaced_of, Renamed, IsRenamed, renamed_is, renamed_of, written_is, written_of, cut_is, cut_of, owned_is, owned_of}
+use Rattle.sn_model.proofs.PartLemmas.{file_is, is_file_at, directory_is, is_directory_at, HasRoomFor, made_is, made_of, linked_is, linked_of, unlinked_is, unlinked_of, Unlinked, removed_is, removed_of, replaced_is, replaced_of, Renamed, IsRenamed, renamed_is, renamed_of, written_is, written_of, cut_is, cut_of, owned_is, owned_of}
 
 abbrev free_by : Option Node → ℕ → Bool
 free_by o names = is_none o || (is_some (o >>= (λ node. only_if (is_file node.kind) >>= (λ _. Some node))) && names == 0)
@@ -60,8 +60,8 @@ module _ (r l : Tree) (c : Covers r l) where
   directory_kept : (number : ℕ) (node : Node) → directory_at l number ≡ Some node → directory_at r number ≡ Some node
   directory_kept number node e = let f = directory_is l number node e in is_directory_at r number node (c.kept number node f.0) f.1
 
-  place_kept : (limits : Limits) (link : Link) (number : ℕ) → Placed limits l link number → Placed limits r link number
-  place_kept limits link number p = record {
+  room_kept : (limits : Limits) (link : Link) (number : ℕ) → HasRoomFor limits l link number → HasRoomFor limits r link number
+  room_kept limits link number p = record {
     directory = p.directory;
     parent = directory_kept link.directory p.directory p.parent;
     names = ap (λ n. nat_lt n limits.names) (names_in_same link.directory) ∙ p.names;
@@ -134,7 +134,7 @@ module _ (r l : Tree) (c : Covers r l) where
       let p = made_is limits l link number kind o after e in
       let x = node_with kind o [] in (
         put_link (put_node r number x) link number,
-        made_of limits r link number kind o _ (record { free = free_kept r l c limits number p.free; vacant = vacant_same r l c link ∙ p.vacant; owned = p.owned; place = place_kept r l c limits link number p.place; gives = refl }),
+        made_of limits r link number kind o _ (record { free = free_kept r l c limits number p.free; vacant = vacant_same r l c link ∙ p.vacant; owned = p.owned; room = room_kept r l c limits link number p.room; gives = refl }),
         covers_of _ _ after p.gives (covers_put_link (put_node r number x) (put_node l number x) (covers_put_node r l c number x) link number x (get_inserted nat_cmp_total l.nodes number x)),
       )
 
@@ -142,7 +142,7 @@ module _ (r l : Tree) (c : Covers r l) where
   linked_kept limits link number after e =
       let p = linked_is limits l link number after e in (
         put_link r link number,
-        linked_of limits r link number _ (record { node = p.node; file = file_kept r l c number p.node p.file; vacant = vacant_same r l c link ∙ p.vacant; place = place_kept r l c limits link number p.place; gives = refl }),
+        linked_of limits r link number _ (record { node = p.node; file = file_kept r l c number p.node p.file; vacant = vacant_same r l c link ∙ p.vacant; room = room_kept r l c limits link number p.room; gives = refl }),
         covers_of _ _ after p.gives (covers_put_link r l c link number p.node (file_is l number p.node p.file).0),
       )
 
@@ -235,7 +235,7 @@ module _ (r l : Tree) (c : Covers r l) where
                 name = new_name_same new p.number p.node ∙ m.name;
                 cleared = u.0;
                 cleared_is = ap (replaced r new p.node) (link_same r l c new) ∙ u.1;
-                place = place_kept (take_link u.0 old) (take_link m.cleared old) cover limits new p.number m.place;
+                room = room_kept (take_link u.0 old) (take_link m.cleared old) cover limits new p.number m.room;
                 gives = refl;
               },
             )),

@@ -13,8 +13,8 @@ use Rattle.sn_acl.proofs.ModeLemmas.{IsMode, valid-with_mode}
 use Rattle.sn_acl.proofs.Validity.{test-from_valid}
 use Rattle.sn_walk.specs.declared.path.PathFault.{PathFault}
 use Rattle.sn_walk.specs.declared.path.PathFault.TheVariants.{Misspelt, TooLong}
-use Rattle.sn_walk.specs.declared.view.Kind.TheVariants.{Directory}
-use Rattle.sn_walk.specs.Names.{is_name_spelled, has_name_length, is_name}
+use Rattle.sn_limits.specs.declared.kind.Kind.TheVariants.{Directory}
+use Rattle.sn_limits.specs.Names.{is_name_spelled, has_name_length, is_name}
 use Rattle.sn_walk.specs.Paths.{last_after, parsed, of_word, of_names, of_length, components}
 use Rattle.sn_walk.specs.Views.{is_directory}
 use Rattle.sn_model.specs.declared.call.Call.{Call}
@@ -35,7 +35,7 @@ use Rattle.sn_model.specs.Outcomes.{Outcome, opens, tells}
 use Rattle.sn_model.specs.Calls as calls
 use Rattle.sn_model.specs.Calls.{Ready, ready, outcome_of, new_session, new_directory, last_name}
 use Rattle.sn_model.specs.Steps.{IsNumber, IsNumberFor, changed, decision}
-use Rattle.sn_model.specs.Worlds.{IsCaller, IsPlace, IsCall, IsWorld}
+use Rattle.sn_model.specs.Worlds.{IsCaller, IsSession, IsCall, IsWorld}
 use Rattle.sn_model.proofs.ChainLemmas.{and_left, and_right, and_both}
 use Rattle.sn_model.proofs.NameLemmas.{no_names_for}
 use Rattle.sn_model.proofs.PartLemmas.{is_directory_at, made_of}
@@ -137,11 +137,11 @@ mode_is bits mode e = told (nat_lt bits 512) refl e
     told false t f = cc
 
 -- whoever is logged in is one of the sessions
-place_at : (places : List (Option Session)) (i : ℕ) (s : Session) → AllByRecursion IsPlace places → slice_get places i ≡ Some (Some s) → IsCaller s
-place_at [] i s all e = cc
-place_at (None ∷ places) zero s all e = cc
-place_at (Some x ∷ places) zero s all e = let same : x ≡ s = cc in subst IsCaller same all.0
-place_at (place ∷ places) (suc i) s all e = place_at places i s all.1 e
+caller_at : (sessions : List (Option Session)) (i : ℕ) (s : Session) → AllByRecursion IsSession sessions → slice_get sessions i ≡ Some (Some s) → IsCaller s
+caller_at [] i s all e = cc
+caller_at (None ∷ sessions) zero s all e = cc
+caller_at (Some x ∷ sessions) zero s all e = let same : x ≡ s = cc in subst IsCaller same all.0
+caller_at (session ∷ sessions) (suc i) s all e = caller_at sessions i s all.1 e
 
 flat_is : (o : Option (Option Session)) (s : Session) → flat o ≡ Some s → o ≡ Some (Some s)
 flat_is None s e = cc
@@ -152,13 +152,13 @@ open_is : (o : Option Session) (s : Session) → is_open o ≡ Ok s → o ≡ So
 open_is None s e = cc
 open_is (Some x) s e = ap (λ (y : Session). Some y) (same_ok x s e)
 
-caller_is : (world : World) (session : ℕ) (s : Session) → AllByRecursion IsPlace world.sessions → logged_in world session ≡ Ok s → IsCaller s
+caller_is : (world : World) (session : ℕ) (s : Session) → AllByRecursion IsSession world.sessions → logged_in world session ≡ Ok s → IsCaller s
 caller_is world session s all e =
     let p = bind_ok (session_at world session) is_open s e in
     told (nat_lt session 64) (p.1 ∙ ap (λ (o : Option Session). found.ok o) (open_is p.0 s p.2))
   where
     told : (b : Bool) → cond b (found.ok (flat (slice_get world.sessions session))) (Err (plain Einval)) ≡ Ok (Some s) → IsCaller s
-    told true f = place_at world.sessions session s all (flat_is (slice_get world.sessions session) s (same_ok _ _ f))
+    told true f = caller_at world.sessions session s all (flat_is (slice_get world.sessions session) s (same_ok _ _ f))
     told false f = cc
 
 -- what a call comes to, by the call that it was
@@ -228,7 +228,7 @@ module _ (limits : Limits) (tree : Tree) (s : Session) (names : List (List ℕ))
     free = number_free;
     vacant = and_both _ _ (and_both _ _ is_last (ap not p.new.seen)) (ap is_none p.new.absent);
     owned = new_ownership limits s mode tree p.directory p.parent caller bits (whole.nodes.nodes p.directory p.parent p.there);
-    place = record {
+    room = record {
       directory = p.parent;
       parent = is_directory_at tree p.directory p.parent p.there (ap is_directory p.kind);
       names = lt-ltb (names_in tree p.directory) limits.names (leb-false limits.names (names_in tree p.directory) p.room);

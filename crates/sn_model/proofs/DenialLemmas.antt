@@ -12,7 +12,7 @@ use Rattle.sn_walk.specs.declared.object.Object.{Object}
 use Rattle.sn_walk.specs.declared.path.PathFault.{PathFault}
 use Rattle.sn_walk.specs.declared.path.PathFault.TheVariants.{Misspelt, TooLong}
 use Rattle.sn_walk.specs.declared.view.Attributes.{Attributes}
-use Rattle.sn_walk.specs.declared.view.Kind.{Kind}
+use Rattle.sn_limits.specs.declared.kind.Kind.{Kind}
 use Rattle.sn_walk.specs.declared.walking.Found.{Found}
 use Rattle.sn_walk.specs.declared.walking.Obstacle.{Obstacle}
 use Rattle.sn_walk.specs.declared.walking.Obstacle.TheVariants.{NotADirectory, Denied, Missing}
@@ -37,7 +37,7 @@ use Rattle.sn_model.specs.declared.reply.Reply.TheVariants as reply
 use Rattle.sn_model.specs.declared.outcome.Outcome.{Outcome}
 use Rattle.sn_model.specs.declared.session.Session.{Session}
 use Rattle.sn_walk.specs.declared.object.Home.TheVariants.{Live}
-use Rattle.sn_walk.specs.declared.view.Kind.TheVariants.{Directory}
+use Rattle.sn_limits.specs.declared.kind.Kind.TheVariants.{Directory}
 use Rattle.sn_model.specs.Tree.{Tree, least_unused, link_to, names_in}
 use Rattle.sn_model.specs.World.{World, trees_of, viewed_trees}
 use Rattle.sn_model.specs.Outcomes.{makes, tells}

@@ -2,7 +2,7 @@
 use Rattle.std.proofs.Common.{◌≡◌, ℕ, Bool, true, false, not, cond, ◌||◌, Option, Some, None, is_some, refl, sym, ap, ◌∙◌}
 use Rattle.std.specs.FinMap as map
 use Rattle.std.proofs.lemmas.Bool.{true≢false, false_from_ne_true}
-use Rattle.sn_walk.specs.declared.view.Kind.TheVariants.{File, Directory}
+use Rattle.sn_limits.specs.declared.kind.Kind.TheVariants.{File, Directory}
 use Rattle.sn_model.specs.declared.link.Link.{Link}
 use Rattle.sn_limits.specs.declared.limits.Limits.{Limits}
 use Rattle.sn_model.specs.Tree.{Node, Tree, link_to}

@@ -3,7 +3,7 @@ use Rattle.std.proofs.Common.{◌≡◌, ℕ, ◌≤◌, ◌<◌, [], Option, So
 use Rattle.std.specs.FinMap as map
 use Rattle.std.specs.Cmp.{nat_cmp_total}
 use Rattle.std.proofs.lemmas.Map.Lookups.{exact_unsigned}
-use Rattle.sn_walk.specs.declared.view.Kind.TheVariants.{File}
+use Rattle.sn_limits.specs.declared.kind.Kind.TheVariants.{File}
 use Rattle.sn_limits.specs.declared.limits.Limits.{Limits}
 use Rattle.sn_model.specs.declared.change.Change.{Change}
 use Rattle.sn_model.specs.declared.change.Change.TheVariants.{Make, AddLink, Remove, Rename, Write, SetSize, SetAttributes}
@@ -85,7 +85,7 @@ few_renamed limits tree old new after p h (inr q) =
     let m = q.1 in
     let clear = replaced_clears tree new p.node (map.get tree.links new) m.cleared refl m.cleared_is in
     let left = few_less limits m.cleared old (few_replaced limits tree new p.node (map.get tree.links new) m.cleared h m.cleared_is) in
-    subst (HasFewNames limits) m.gives (few_more limits (take_link m.cleared old) new p.number (gone m.cleared clear.absent) (ltb-true _ _ m.place.names) (ltb-true _ _ m.place.links) left.names (λ n _ k. left.links n k))
+    subst (HasFewNames limits) m.gives (few_more limits (take_link m.cleared old) new p.number (gone m.cleared clear.absent) (ltb-true _ _ m.room.names) (ltb-true _ _ m.room.links) left.names (λ n _ k. left.links n k))
   where
     gone : (cleared : Tree) → map.get cleared.links new ≡ None → map.get (take_link cleared old).links new ≡ None
     gone cleared e = told (same_or_apart links_total exact_links new old)
@@ -99,11 +99,11 @@ change_few limits (Make directory name number kind o) tree after h e =
     let link = link_to directory name in
     let p = made_is limits tree link number kind o after e in
     let x = node_with kind o [] in
-    subst (HasFewNames limits) p.gives (few_more limits (put_node tree number x) link number (vacant_absent tree link p.vacant) (ltb-true _ _ p.place.names) (ltb-true _ _ p.place.links) h.names (λ n q k. h.links n (kind_at _ _ File (sym (get_other nat_cmp_total exact_unsigned tree.nodes number x n (λ r. q (sym r)))) k)))
+    subst (HasFewNames limits) p.gives (few_more limits (put_node tree number x) link number (vacant_absent tree link p.vacant) (ltb-true _ _ p.room.names) (ltb-true _ _ p.room.links) h.names (λ n q k. h.links n (kind_at _ _ File (sym (get_other nat_cmp_total exact_unsigned tree.nodes number x n (λ r. q (sym r)))) k)))
 change_few limits (AddLink directory name number) tree after h e =
     let link = link_to directory name in
     let p = linked_is limits tree link number after e in
-    subst (HasFewNames limits) p.gives (few_more limits tree link number (vacant_absent tree link p.vacant) (ltb-true _ _ p.place.names) (ltb-true _ _ p.place.links) h.names (λ n _ k. h.links n k))
+    subst (HasFewNames limits) p.gives (few_more limits tree link number (vacant_absent tree link p.vacant) (ltb-true _ _ p.room.names) (ltb-true _ _ p.room.links) h.names (λ n _ k. h.links n k))
 change_few limits (Remove directory name) tree after h e =
     let link = link_to directory name in
     let p = removed_is tree link after e in

@@ -5,9 +5,9 @@ use Rattle.std.specs.Ordering.{nat_cmp, eq_by_cmp}
 use Rattle.std.specs.Cmp.{nat_cmp_total}
 use Rattle.std.proofs.lemmas.Bool.{true≢false}
 use Rattle.std.proofs.lemmas.Map.Lookups.{exact_unsigned}
-use Rattle.sn_walk.specs.declared.view.Kind.{Kind}
-use Rattle.sn_walk.specs.declared.view.Kind.TheVariants.{File, Directory}
-use Rattle.sn_walk.specs.Names.{is_name}
+use Rattle.sn_limits.specs.declared.kind.Kind.{Kind}
+use Rattle.sn_limits.specs.declared.kind.Kind.TheVariants.{File, Directory}
+use Rattle.sn_limits.specs.Names.{is_name}
 use Rattle.sn_walk.specs.Views.{is_directory, is_hidden_name}
 use Rattle.sn_limits.specs.declared.limits.Limits.{Limits}
 use Rattle.sn_model.specs.declared.change.Change.{Change}
@@ -23,7 +23,7 @@ use Rattle.sn_model.proofs.LinkLemmas.{exact_links, links_total}
 use Rattle.sn_model.proofs.MapLemmas.{get_removed, get_left, get_was}
 use Rattle.sn_model.proofs.ChainLemmas.{and_left, and_right, not_true, some_same}
 use Rattle.sn_model.proofs.NameLemmas.{is_unnamed}
-use Rattle.sn_model.proofs.PartLemmas.{file_is, directory_is, Placed, made_is, linked_is, Unlinked, unlinked_is, removed_is, replaced_is, Renamed, IsRenamed, renamed_is, written_is, cut_is, owned_is}
+use Rattle.sn_model.proofs.PartLemmas.{file_is, directory_is, HasRoomFor, made_is, linked_is, Unlinked, unlinked_is, removed_is, replaced_is, Renamed, IsRenamed, renamed_is, written_is, cut_is, owned_is}
 use Rattle.sn_model.proofs.HierarchyLemmas.{hierarchy_made}
 use Rattle.sn_model.proofs.ClimbLemmas.{below_found}
 use Rattle.sn_model.proofs.MoveLemmas.{kind_at, some_node, is_kind, not_directory, hierarchy_put, hierarchy_gone, hierarchy_more, hierarchy_fewer, hierarchy_rest, hierarchy_moved}
@@ -47,8 +47,8 @@ none_is (Some x) e = cc
 parent_is : (tree : Tree) (d : ℕ) (x : Node) → directory_at tree d ≡ Some x → HasKind tree d Directory
 parent_is tree d x e = let p = directory_is tree d x e in is_kind tree d x Directory p.0 (directory_kind x.kind p.1)
 
-place_is : (limits : Limits) (tree : Tree) (link : Link) (number : ℕ) → Placed limits tree link number → HasKind tree link.directory Directory
-place_is limits tree link number p = parent_is tree link.directory p.directory p.parent
+room_in : (limits : Limits) (tree : Tree) (link : Link) (number : ℕ) → HasRoomFor limits tree link number → HasKind tree link.directory Directory
+room_in limits tree link number p = parent_is tree link.directory p.directory p.parent
 
 pub vacant_name : (tree : Tree) (link : Link) → is_vacant tree link ≡ true → is_name link.name ≡ true
 vacant_name tree link e = and_left _ (not (is_hidden_name link.directory link.name)) (and_left _ (is_none (map.get tree.links link)) e)
@@ -150,7 +150,7 @@ module _ (tree : Tree) (h : IsHierarchy tree) where
       let m = q.1 in
       let clear = replaced_clears tree new p.node (map.get tree.links new) m.cleared refl m.cleared_is in
       let apart : old ≢ new = (λ same. true≢false (sym (ap (same_number p.number) (ap (map.get tree.links) (sym same) ∙ p.named) ∙ eq-eqb p.number p.number refl) ∙ q.0)) in
-      subst IsHierarchy m.gives (hierarchy_moved m.cleared old new p.number (replaced_hierarchy tree new p.node (map.get tree.links new) m.cleared h refl m.cleared_is) (clear.stays old apart ∙ p.named) clear.absent (place_is limits (take_link m.cleared old) new p.number m.place)
+      subst IsHierarchy m.gives (hierarchy_moved m.cleared old new p.number (replaced_hierarchy tree new p.node (map.get tree.links new) m.cleared h refl m.cleared_is) (clear.stays old apart ∙ p.named) clear.absent (room_in limits (take_link m.cleared old) new p.number m.room)
       (λ b. not_below new p.number p.node p.there (parent_is tree new.directory m.directory m.parent) m.name (below_was tree m.cleared clear.was p.number new.directory b)))
 
 pub change_keeps : (limits : Limits) (change : Change) (tree after : Tree) → IsHierarchy tree → apply limits change tree ≡ Some after → IsHierarchy after
@@ -158,7 +158,7 @@ change_keeps limits (Make directory name number kind o) tree after h e =
     let link = link_to directory name in
     let p = made_is limits tree link number kind o after e in
     let free = free_is limits tree number h p.free in
-    let parent = place_is limits tree link number p.place in
+    let parent = room_in limits tree link number p.room in
     let there : HasKind (take_node tree number) directory Directory = kind_at _ _ Directory (get_left nat_cmp_total exact_unsigned tree.nodes number directory (λ q. free.0 (subst (λ (j : ℕ). HasKind tree j Directory) q parent))) parent in
     let whole = hierarchy_made (take_node tree number) number link (node_with kind o []) (hierarchy_gone tree number h free.0 free.1) (get_removed nat_cmp_total tree.nodes number) (vacant_absent tree link p.vacant) there in
     subst IsHierarchy (ap (λ nodes. record { nodes = nodes; links = map.insert tree.links link number }) (over tree.nodes number (node_with kind o [])) ∙ p.gives) whole
@@ -166,7 +166,7 @@ change_keeps limits (AddLink directory name number) tree after h e =
     let link = link_to directory name in
     let p = linked_is limits tree link number after e in
     let f = file_is tree number p.node p.file in
-    subst IsHierarchy p.gives (hierarchy_more tree link number p.node h (vacant_absent tree link p.vacant) (place_is limits tree link number p.place) f.0 (file_kind p.node.kind f.1))
+    subst IsHierarchy p.gives (hierarchy_more tree link number p.node h (vacant_absent tree link p.vacant) (room_in limits tree link number p.room) f.0 (file_kind p.node.kind f.1))
 change_keeps limits (Remove directory name) tree after h e =
     let link = link_to directory name in
     let p = removed_is tree link after e in

@@ -3,7 +3,7 @@ use Rattle.std.proofs.Common.{◌≡◌, ◌≢◌, ◌⊎◌, ℕ, ◌<◌, fal
 use Rattle.std.specs.List.{AllByRecursion}
 use Rattle.std.proofs.lemmas.List.{length-replicate}
 use Rattle.std.specs.FinMap as map
-use Rattle.sn_walk.specs.declared.view.Kind.TheVariants.{File}
+use Rattle.sn_limits.specs.declared.kind.Kind.TheVariants.{File}
 use Rattle.sn_limits.specs.declared.limits.Limits.{Limits}
 use Rattle.sn_limits.specs.Versions.{version_1}
 use Rattle.sn_model.specs.declared.call.Call.{Call}
@@ -29,7 +29,7 @@ use Rattle.sn_model.proofs.SettlingLemmas.{nameless_file, get_without}
 use Rattle.sn_model.proofs.DropLemmas.{dropping_tree, without_was}
 use Rattle.sn_model.proofs.DecidedLemmas.{decided_is}
 use Rattle.sn_model.proofs.StepLemmas.{becomes_refused}
-use Rattle.sn_model.proofs.WorldLemmas.{becomes_world, comes_world, free_places, new_is_world}
+use Rattle.sn_model.proofs.WorldLemmas.{becomes_world, comes_world, free_sessions, new_is_world}
 
 -- a settled tree has no file without a name
 all_named : (tree : Tree) (n : ℕ) → HasKind (settled tree) n File → names_for tree n ≡ 0 → ⊥
@@ -44,8 +44,8 @@ settle_world limits world w = record {
   live = dropping_tree limits world.live (λ _. false) w.live;
   frozen = w.frozen;
   few_snapshots = w.few_snapshots;
-  places = length-replicate {A = Option Session} 64 None;
-  callers = free_places 64;
+  count = length-replicate {A = Option Session} 64 None;
+  callers = free_sessions 64;
   open_files = λ i fd d e. let never : None ≡ Some d = sym (map.get-empty descriptor_cmp (i, fd)) ∙ e in cc;
   held = λ n k z. absurd (all_named world.live n k z);
 }

@@ -5,8 +5,8 @@ use Rattle.std.specs.FinMap as map
 use Rattle.std.specs.Cmp.{nat_cmp_total}
 use Rattle.std.proofs.lemmas.Bool.{true≢false}
 use Rattle.std.proofs.lemmas.Map.Lookups.{exact_unsigned}
-use Rattle.sn_walk.specs.declared.view.Kind.{Kind}
-use Rattle.sn_walk.specs.declared.view.Kind.TheVariants.{File, Directory}
+use Rattle.sn_limits.specs.declared.kind.Kind.{Kind}
+use Rattle.sn_limits.specs.declared.kind.Kind.TheVariants.{File, Directory}
 use Rattle.sn_model.specs.declared.link.Link.{Link}
 use Rattle.sn_model.specs.Tree.{Node, Tree, link_to, names_in}
 use Rattle.sn_model.specs.Changes.{put_node, put_link, take_link, take_node}

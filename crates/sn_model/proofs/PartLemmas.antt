@@ -2,14 +2,14 @@
 use Rattle.std.proofs.Common.{◌≡◌, ℕ, ◌+◌, Bool, true, false, cond, ◌&&◌, ◌==◌, nat_lt, nat_le, List, [], length, Option, Some, refl, sym, ap, ◌∙◌, ◌⊎◌, inl, inr}
 use Rattle.std.specs.List.{list_all}
 use Rattle.std.specs.FinMap as map
-use Rattle.sn_walk.specs.declared.view.Kind.{Kind}
+use Rattle.sn_limits.specs.declared.kind.Kind.{Kind}
 use Rattle.sn_walk.specs.Views.{is_directory}
 use Rattle.sn_limits.specs.declared.limits.Limits.{Limits}
 use Rattle.sn_model.specs.declared.change.Ownership.{Ownership}
 use Rattle.sn_model.specs.declared.link.Link.{Link}
 use Rattle.sn_model.specs.Chains.{◌>>=◌, only_if}
 use Rattle.sn_model.specs.Tree.{Node, Tree, names_in, names_for}
-use Rattle.sn_model.specs.Changes.{is_file, same_kind, directory_at, file_at, is_ownership, is_vacant, has_place, is_free_number, node_with, put_node, put_link, take_link, take_node, made, linked, unlinked, removed, replaced, is_new_name, same_number, exchanged, moved, renamed, resized, overwritten, with_bytes, written, cut, owned}
+use Rattle.sn_model.specs.Changes.{is_file, same_kind, directory_at, file_at, is_ownership, is_vacant, has_room_for, is_free_number, node_with, put_node, put_link, take_link, take_node, made, linked, unlinked, removed, replaced, is_new_name, same_number, exchanged, moved, renamed, resized, overwritten, with_bytes, written, cut, owned}
 use Rattle.sn_model.proofs.ChainLemmas.{bind_some, some_bind, only_some, some_only, only_true, and_left, and_right, and_both, some_same}
 
 pub file_is : (tree : Tree) (number : ℕ) (node : Node) → file_at tree number ≡ Some node → (map.get tree.nodes number ≡ Some node) × (is_file node.kind ≡ true)
@@ -33,14 +33,14 @@ pub is_directory_at : (tree : Tree) (number : ℕ) (node : Node) → map.get tre
 is_directory_at tree number node e f = some_bind _ (λ n. only_if (is_directory n.kind) >>= (λ _. Some n)) node (Some node) e (some_only (is_directory node.kind) (Some node) (Some node) f refl)
 
 -- a directory and a number that may get one more name
-pub record Placed (limits : Limits) (tree : Tree) (link : Link) (number : ℕ) : Type 0 where
+pub record HasRoomFor (limits : Limits) (tree : Tree) (link : Link) (number : ℕ) : Type 0 where
   pub directory : Node
   pub parent : directory_at tree link.directory ≡ Some directory
   pub names : nat_lt (names_in tree link.directory) limits.names ≡ true
   pub links : nat_lt (names_for tree number) limits.links ≡ true
 
-placed : (limits : Limits) (tree : Tree) (link : Link) (number : ℕ) (u : Unit {0}) → has_place limits tree link number ≡ Some u → Placed limits tree link number
-placed limits tree link number u e =
+room_for : (limits : Limits) (tree : Tree) (link : Link) (number : ℕ) (u : Unit {0}) → has_room_for limits tree link number ≡ Some u → HasRoomFor limits tree link number
+room_for limits tree link number u e =
     let s = bind_some (directory_at tree link.directory) (λ _. only_if (nat_lt (names_in tree link.directory) limits.names && nat_lt (names_for tree number) limits.links)) u e in
     let t = only_true _ u s.2 in
     record {
@@ -50,8 +50,8 @@ placed limits tree link number u e =
       links = and_right (nat_lt (names_in tree link.directory) limits.names) _ t;
     }
 
-place_of : (limits : Limits) (tree : Tree) (link : Link) (number : ℕ) → Placed limits tree link number → has_place limits tree link number ≡ Some tt
-place_of limits tree link number p =
+room_of : (limits : Limits) (tree : Tree) (link : Link) (number : ℕ) → HasRoomFor limits tree link number → has_room_for limits tree link number ≡ Some tt
+room_of limits tree link number p =
     some_bind (directory_at tree link.directory) (λ _. only_if (nat_lt (names_in tree link.directory) limits.names && nat_lt (names_for tree number) limits.links)) p.directory _ p.parent
     (ap only_if (and_both _ _ p.names p.links))
 
@@ -59,21 +59,21 @@ pub record Made (limits : Limits) (tree : Tree) (link : Link) (number : ℕ) (ki
   pub free : is_free_number limits tree number ≡ true
   pub vacant : is_vacant tree link ≡ true
   pub owned : is_ownership kind o ≡ true
-  pub place : Placed limits tree link number
+  pub room : HasRoomFor limits tree link number
   pub gives : put_link (put_node tree number (node_with kind o [])) link number ≡ after
 
 pub made_is : (limits : Limits) (tree : Tree) (link : Link) (number : ℕ) (kind : Kind) (o : Ownership) (after : Tree) → made limits tree link number kind o ≡ Some after → Made limits tree link number kind o after
 unfolding made
 made_is limits tree link number kind o after e =
     let whole = put_link (put_node tree number (node_with kind o [])) link number in
-    let s = only_some (is_free_number limits tree number && is_vacant tree link && is_ownership kind o) (has_place limits tree link number >>= (λ _. Some whole)) after e in
-    let u = bind_some (has_place limits tree link number) (λ _. Some whole) after s.1 in
+    let s = only_some (is_free_number limits tree number && is_vacant tree link && is_ownership kind o) (has_room_for limits tree link number >>= (λ _. Some whole)) after e in
+    let u = bind_some (has_room_for limits tree link number) (λ _. Some whole) after s.1 in
     let both = and_left (is_free_number limits tree number && is_vacant tree link) (is_ownership kind o) s.0 in
     record {
       free = and_left _ (is_vacant tree link) both;
       vacant = and_right (is_free_number limits tree number) _ both;
       owned = and_right (is_free_number limits tree number && is_vacant tree link) _ s.0;
-      place = placed limits tree link number u.0 u.1;
+      room = room_for limits tree link number u.0 u.1;
       gives = some_same _ _ u.2;
     }
 
@@ -82,29 +82,29 @@ unfolding made
 made_of limits tree link number kind o after p =
     let whole = put_link (put_node tree number (node_with kind o [])) link number in
     some_only (is_free_number limits tree number && is_vacant tree link && is_ownership kind o) _ _ (and_both _ _ (and_both _ _ p.free p.vacant) p.owned)
-    (some_bind (has_place limits tree link number) (λ _. Some whole) tt _ (place_of limits tree link number p.place) (ap (λ (t : Tree). Some t) p.gives))
+    (some_bind (has_room_for limits tree link number) (λ _. Some whole) tt _ (room_of limits tree link number p.room) (ap (λ (t : Tree). Some t) p.gives))
 
 pub record Linked (limits : Limits) (tree : Tree) (link : Link) (number : ℕ) (after : Tree) : Type 0 where
   pub node : Node
   pub file : file_at tree number ≡ Some node
   pub vacant : is_vacant tree link ≡ true
-  pub place : Placed limits tree link number
+  pub room : HasRoomFor limits tree link number
   pub gives : put_link tree link number ≡ after
 
 pub linked_is : (limits : Limits) (tree : Tree) (link : Link) (number : ℕ) (after : Tree) → linked limits tree link number ≡ Some after → Linked limits tree link number after
 unfolding linked
 linked_is limits tree link number after e =
-    let a = bind_some (file_at tree number) (λ _. only_if (is_vacant tree link) >>= (λ _. has_place limits tree link number >>= (λ _. Some (put_link tree link number)))) after e in
-    let s = only_some (is_vacant tree link) (has_place limits tree link number >>= (λ _. Some (put_link tree link number))) after a.2 in
-    let u = bind_some (has_place limits tree link number) (λ _. Some (put_link tree link number)) after s.1 in
-    record { node = a.0; file = a.1; vacant = s.0; place = placed limits tree link number u.0 u.1; gives = some_same _ _ u.2 }
+    let a = bind_some (file_at tree number) (λ _. only_if (is_vacant tree link) >>= (λ _. has_room_for limits tree link number >>= (λ _. Some (put_link tree link number)))) after e in
+    let s = only_some (is_vacant tree link) (has_room_for limits tree link number >>= (λ _. Some (put_link tree link number))) after a.2 in
+    let u = bind_some (has_room_for limits tree link number) (λ _. Some (put_link tree link number)) after s.1 in
+    record { node = a.0; file = a.1; vacant = s.0; room = room_for limits tree link number u.0 u.1; gives = some_same _ _ u.2 }
 
 pub linked_of : (limits : Limits) (tree : Tree) (link : Link) (number : ℕ) (after : Tree) → Linked limits tree link number after → linked limits tree link number ≡ Some after
 unfolding linked
 linked_of limits tree link number after p =
-    some_bind (file_at tree number) (λ _. only_if (is_vacant tree link) >>= (λ _. has_place limits tree link number >>= (λ _. Some (put_link tree link number)))) p.node _ p.file
+    some_bind (file_at tree number) (λ _. only_if (is_vacant tree link) >>= (λ _. has_room_for limits tree link number >>= (λ _. Some (put_link tree link number)))) p.node _ p.file
     (some_only (is_vacant tree link) _ _ p.vacant
-    (some_bind (has_place limits tree link number) (λ _. Some (put_link tree link number)) tt _ (place_of limits tree link number p.place) (ap (λ (t : Tree). Some t) p.gives)))
+    (some_bind (has_room_for limits tree link number) (λ _. Some (put_link tree link number)) tt _ (room_of limits tree link number p.room) (ap (λ (t : Tree). Some t) p.gives)))
 
 -- a directory's name goes with the directory, a file's alone
 pub record DirectoryGone (tree : Tree) (link : Link) (number : ℕ) (node : Node) (after : Tree) : Type 0 where
@@ -178,7 +178,7 @@ pub record Moved (limits : Limits) (tree : Tree) (old new : Link) (number : ℕ)
   pub name : is_new_name tree new number node ≡ true
   pub cleared : Tree
   pub cleared_is : replaced tree new node (map.get tree.links new) ≡ Some cleared
-  pub place : Placed limits (take_link cleared old) new number
+  pub room : HasRoomFor limits (take_link cleared old) new number
   pub gives : put_link (take_link cleared old) new number ≡ after
 
 moved_is : (limits : Limits) (tree : Tree) (old new : Link) (number : ℕ) (node : Node) (after : Tree) → moved limits tree old new number node ≡ Some after → Moved limits tree old new number node after
@@ -186,14 +186,14 @@ moved_is limits tree old new number node after e =
     let a = bind_some (directory_at tree new.directory) (λ _. only_if (is_new_name tree new number node) >>= (λ _. replaced tree new node (map.get tree.links new) >>= (λ cleared. exchanged limits cleared old new number))) after e in
     let s = only_some (is_new_name tree new number node) (replaced tree new node (map.get tree.links new) >>= (λ cleared. exchanged limits cleared old new number)) after a.2 in
     let p = bind_some (replaced tree new node (map.get tree.links new)) (λ cleared. exchanged limits cleared old new number) after s.1 in
-    let u = bind_some (has_place limits (take_link p.0 old) new number) (λ _. Some (put_link (take_link p.0 old) new number)) after p.2 in
+    let u = bind_some (has_room_for limits (take_link p.0 old) new number) (λ _. Some (put_link (take_link p.0 old) new number)) after p.2 in
     record {
       directory = a.0;
       parent = a.1;
       name = s.0;
       cleared = p.0;
       cleared_is = p.1;
-      place = placed limits (take_link p.0 old) new number u.0 u.1;
+      room = room_for limits (take_link p.0 old) new number u.0 u.1;
       gives = some_same _ _ u.2;
     }
 
@@ -202,7 +202,7 @@ moved_of limits tree old new number node after p =
     some_bind (directory_at tree new.directory) (λ _. only_if (is_new_name tree new number node) >>= (λ _. replaced tree new node (map.get tree.links new) >>= (λ cleared. exchanged limits cleared old new number))) p.directory _ p.parent
     (some_only (is_new_name tree new number node) _ _ p.name
     (some_bind (replaced tree new node (map.get tree.links new)) (λ cleared. exchanged limits cleared old new number) p.cleared _ p.cleared_is
-    (some_bind (has_place limits (take_link p.cleared old) new number) (λ _. Some (put_link (take_link p.cleared old) new number)) tt _ (place_of limits (take_link p.cleared old) new number p.place) (ap (λ (t : Tree). Some t) p.gives))))
+    (some_bind (has_room_for limits (take_link p.cleared old) new number) (λ _. Some (put_link (take_link p.cleared old) new number)) tt _ (room_of limits (take_link p.cleared old) new number p.room) (ap (λ (t : Tree). Some t) p.gives))))
 
 -- both names are of one object, or the name is moved
 abbrev pub IsRenamed : Limits → Tree → Link → Link → ℕ → Node → Tree → Type 0

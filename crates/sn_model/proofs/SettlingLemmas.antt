@@ -3,8 +3,8 @@ use Rattle.std.proofs.Common.{◌≡◌, ℕ, Bool, true, false, not, cond, ◌|
 use Rattle.std.specs.Cmp.{nat_cmp_total}
 use Rattle.std.specs.FinMap as map
 use Rattle.std.proofs.lemmas.Map.Lookups.{exact_unsigned}
-use Rattle.sn_walk.specs.declared.view.Kind.{Kind}
-use Rattle.sn_walk.specs.declared.view.Kind.TheVariants.{File, Directory}
+use Rattle.sn_limits.specs.declared.kind.Kind.{Kind}
+use Rattle.sn_limits.specs.declared.kind.Kind.TheVariants.{File, Directory}
 use Rattle.sn_model.specs.Tree.{Node, Tree, names_for}
 use Rattle.sn_model.specs.Settling.{is_nameless, without_nameless, settled}
 use Rattle.sn_model.specs.Covers.{Covers, IsUnnamed}

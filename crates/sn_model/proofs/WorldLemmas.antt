@@ -8,7 +8,7 @@ use Rattle.std.specs.Cmp.Lexicographic.{slice_cmp}
 use Rattle.std.specs.FinMap as map
 use Rattle.std.proofs.lemmas.List.{length-set, length-replicate}
 use Rattle.std.proofs.lemmas.Map.Lookups.{exact_unsigned}
-use Rattle.sn_walk.specs.declared.view.Kind.TheVariants.{File, Directory}
+use Rattle.sn_limits.specs.declared.kind.Kind.TheVariants.{File, Directory}
 use Rattle.sn_limits.specs.Versions.{version_1}
 use Rattle.sn_model.specs.declared.call.Call.{Call}
 use Rattle.sn_model.specs.declared.change.Change.TheVariants.{Make}
@@ -26,7 +26,7 @@ use Rattle.sn_limits.specs.declared.limits.Limits.{Limits}
 use Rattle.sn_model.specs.Outcomes.{Outcome}
 use Rattle.sn_model.specs.Calls.{new_directory, last_name}
 use Rattle.sn_model.specs.Steps.{Becomes, Comes, Step, decision, with_session, with_live}
-use Rattle.sn_model.specs.Worlds.{IsCaller, IsPlace, IsCall, IsWorld}
+use Rattle.sn_model.specs.Worlds.{IsCaller, IsSession, IsCall, IsWorld}
 use Rattle.sn_model.proofs.LinkLemmas.{exact_links, links_total}
 use Rattle.sn_model.proofs.MapLemmas.{same_or_apart, get_inserted, get_other}
 use Rattle.sn_model.proofs.CountLemmas.{count_none}
@@ -40,17 +40,17 @@ use Rattle.sn_model.proofs.DecidedLemmas as decided
 use Rattle.sn_model.proofs.DecidedLemmas.{IsDecided, decided_is}
 
 -- a session that is opened leaves the others
-all_set : (places : List (Option Session)) (i : ℕ) (s : Session) → IsCaller s → AllByRecursion IsPlace places → AllByRecursion IsPlace (slice_set places i (Some s))
+all_set : (sessions : List (Option Session)) (i : ℕ) (s : Session) → IsCaller s → AllByRecursion IsSession sessions → AllByRecursion IsSession (slice_set sessions i (Some s))
 all_set [] i s k all = tt
-all_set (place ∷ places) zero s k all = (k, all.1)
-all_set (place ∷ places) (suc i) s k all = (all.0, all_set places i s k all.1)
+all_set (one ∷ sessions) zero s k all = (k, all.1)
+all_set (one ∷ sessions) (suc i) s k all = (all.0, all_set sessions i s k all.1)
 
-still_in : (places : List (Option Session)) (i j : ℕ) (s : Session) → IsSomeAnd (slice_get places j) (λ o. is_some o ≡ true) → IsSomeAnd (slice_get (slice_set places i (Some s)) j) (λ o. is_some o ≡ true)
+still_in : (sessions : List (Option Session)) (i j : ℕ) (s : Session) → IsSomeAnd (slice_get sessions j) (λ o. is_some o ≡ true) → IsSomeAnd (slice_get (slice_set sessions i (Some s)) j) (λ o. is_some o ≡ true)
 still_in [] i j s h = h
-still_in (place ∷ places) zero zero s h = refl
-still_in (place ∷ places) zero (suc j) s h = h
-still_in (place ∷ places) (suc i) zero s h = h
-still_in (place ∷ places) (suc i) (suc j) s h = still_in places i j s h
+still_in (one ∷ sessions) zero zero s h = refl
+still_in (one ∷ sessions) zero (suc j) s h = h
+still_in (one ∷ sessions) (suc i) zero s h = h
+still_in (one ∷ sessions) (suc i) (suc j) s h = still_in sessions i j s h
 
 -- the tree of an open file, where only sessions change, or only the live tree
 with_files : (a b : World) (home : Home) (number : ℕ) → ((n : ℕ) → HasKind a.live n File → HasKind b.live n File) → a.frozen ≡ b.frozen → IsSomeAnd (tree_in (trees_of a) home) (λ tree. HasKind tree number File) → IsSomeAnd (tree_in (trees_of b) home) (λ tree. HasKind tree number File)
@@ -62,7 +62,7 @@ opened limits world session s w k = record {
   live = w.live;
   frozen = w.frozen;
   few_snapshots = w.few_snapshots;
-  places = length-set world.sessions session (Some s) ∙ w.places;
+  count = length-set world.sessions session (Some s) ∙ w.count;
   callers = all_set world.sessions session s k w.callers;
   open_files = λ i fd d e. let f = w.open_files i fd d e in record {
     caller = still_in world.sessions session i s f.caller;
@@ -93,7 +93,7 @@ module _ (limits : Limits) (world : World) (number : ℕ) (link : Link) (node : 
     live = whole;
     frozen = w.frozen;
     few_snapshots = w.few_snapshots;
-    places = w.places;
+    count = w.count;
     callers = w.callers;
     open_files = λ i fd d e. let f = w.open_files i fd d e in record {
       caller = f.caller;
@@ -182,17 +182,17 @@ new_whole = record {
   };
 }
 
-pub free_places : (n : ℕ) → AllByRecursion IsPlace (replicate n None)
-free_places zero = tt
-free_places (suc n) = (tt, free_places n)
+pub free_sessions : (n : ℕ) → AllByRecursion IsSession (replicate n None)
+free_sessions zero = tt
+free_sessions (suc n) = (tt, free_sessions n)
 
 pub new_is_world : IsWorld version_1 new_world
 new_is_world = record {
   live = new_whole;
   frozen = λ name tree e. let never : None ≡ Some tree = sym (map.get-empty (slice_cmp nat_cmp) name) ∙ e in cc;
   few_snapshots = subst (λ n. n ≤ 20) (sym (map.len-empty (slice_cmp nat_cmp) Tree)) (lit≤ tt);
-  places = length-replicate {A = Option Session} 64 None;
-  callers = free_places 64;
+  count = length-replicate {A = Option Session} 64 None;
+  callers = free_sessions 64;
   open_files = λ i fd d e. let never : None ≡ Some d = sym (map.get-empty descriptor_cmp (i, fd)) ∙ e in cc;
   held = λ n k z. let s = some_node _ File k in let q = new_node n s.0 s.1 in let never : Directory ≡ File = ap (λ (x : Node). x.kind) (sym q.1) ∙ s.2 in cc;
 }

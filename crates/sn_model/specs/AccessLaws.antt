@@ -7,7 +7,7 @@ use Rattle.sn_acl.specs.Modes.{mode_of}
 use Rattle.sn_limits.specs.declared.limits.Limits.{Limits}
 use Rattle.sn_walk.specs.declared.object.Object.{Object}
 use Rattle.sn_walk.specs.declared.view.Attributes.{Attributes}
-use Rattle.sn_walk.specs.declared.view.Kind.TheVariants.{File, Directory}
+use Rattle.sn_limits.specs.declared.kind.Kind.TheVariants.{File, Directory}
 use Rattle.sn_walk.specs.Objects.{root}
 use Rattle.sn_walk.specs.Views.{ViewedTrees, attributes_at}
 use Rattle.sn_model.specs.declared.change.Change.TheVariants.{SetAttributes}

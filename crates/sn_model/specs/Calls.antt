@@ -4,7 +4,7 @@ use Rattle.sn_acl.specs.declared.entries.Entry.{Entry}
 use Rattle.sn_acl.specs.declared.modes.Mode.{Mode}
 use Rattle.sn_acl.specs.Modes.{mode_of}
 use Rattle.sn_acl.specs.Inheritance.{inherited_access, inherited_default}
-use Rattle.sn_walk.specs.declared.view.Kind.TheVariants.{Directory}
+use Rattle.sn_limits.specs.declared.kind.Kind.TheVariants.{Directory}
 use Rattle.sn_walk.specs.declared.view.Attributes.{Attributes}
 use Rattle.sn_walk.specs.declared.object.Home.TheVariants.{Live}
 use Rattle.sn_walk.specs.Objects.{number_of}

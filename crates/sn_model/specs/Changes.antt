@@ -4,9 +4,9 @@ use Rattle.std.specs.List.{list_any, list_all, flat_map}
 use Rattle.std.specs.FinMap as map
 use Rattle.sn_acl.specs.declared.entries.Entry.{Entry}
 use Rattle.sn_acl.specs.AccessList.{is_acl}
-use Rattle.sn_walk.specs.declared.view.Kind.{Kind}
-use Rattle.sn_walk.specs.declared.view.Kind.TheVariants.{File, Directory}
-use Rattle.sn_walk.specs.Names.{is_name}
+use Rattle.sn_limits.specs.declared.kind.Kind.{Kind}
+use Rattle.sn_limits.specs.declared.kind.Kind.TheVariants.{File, Directory}
+use Rattle.sn_limits.specs.Names.{is_name}
 use Rattle.sn_walk.specs.Views.{is_directory, is_hidden_name}
 use Rattle.sn_limits.specs.declared.limits.Limits.{Limits}
 use Rattle.sn_model.specs.declared.change.Change.{Change}
@@ -65,8 +65,8 @@ abbrev pub is_vacant : Tree → Link → Bool
 is_vacant tree link = is_name link.name && not (is_hidden_name link.directory link.name) && is_none (map.get tree.links link)
 
 -- a directory may get one more name, and a number too
-abbrev pub has_place : Limits → Tree → Link → ℕ → Option (Unit {0})
-has_place limits tree link number = directory_at tree link.directory >>= (λ _. only_if (nat_lt (names_in tree link.directory) limits.names && nat_lt (names_for tree number) limits.links))
+abbrev pub has_room_for : Limits → Tree → Link → ℕ → Option (Unit {0})
+has_room_for limits tree link number = directory_at tree link.directory >>= (λ _. only_if (nat_lt (names_in tree link.directory) limits.names && nat_lt (names_for tree number) limits.links))
 
 -- no node with a name has the number; 2 is the root's
 abbrev pub is_free_number : Limits → Tree → ℕ → Bool
@@ -76,7 +76,7 @@ is_free_number limits tree number = nat_lt 2 number && nat_le number limits.larg
 unfoldable pub made : Limits → Tree → Link → ℕ → Kind → Ownership → Option Tree
 made limits tree link number kind o = do
   _ ← only_if (is_free_number limits tree number && is_vacant tree link && is_ownership kind o)
-  _ ← has_place limits tree link number
+  _ ← has_room_for limits tree link number
   Some (put_link (put_node tree number (node_with kind o [])) link number)
 
 -- link: only a file may get one more name
@@ -84,7 +84,7 @@ unfoldable pub linked : Limits → Tree → Link → ℕ → Option Tree
 linked limits tree link number = do
   _ ← file_at tree number
   _ ← only_if (is_vacant tree link)
-  _ ← has_place limits tree link number
+  _ ← has_room_for limits tree link number
   Some (put_link tree link number)
 
 -- a name goes: a directory goes with it, and has to be empty; a file stays
@@ -123,7 +123,7 @@ same_number a (Some b) = a == b
 
 -- a name exchanged for another
 abbrev pub exchanged : Limits → Tree → Link → Link → ℕ → Option Tree
-exchanged limits tree old new number = has_place limits (take_link tree old) new number >>= (λ _. Some (put_link (take_link tree old) new number))
+exchanged limits tree old new number = has_room_for limits (take_link tree old) new number >>= (λ _. Some (put_link (take_link tree old) new number))
 
 abbrev pub moved : Limits → Tree → Link → Link → ℕ → Node → Option Tree
 moved limits tree old new number node = directory_at tree new.directory >>= (λ _. only_if (is_new_name tree new number node) >>= (λ _. replaced tree new node (map.get tree.links new) >>= (λ cleared. exchanged limits cleared old new number)))

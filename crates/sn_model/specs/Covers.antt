@@ -1,7 +1,7 @@
 -- A tree that is another one with files in no link beside it.
 use Rattle.std.specs.Prelude.{◌≡◌, ◌≢◌, ℕ, None, Some}
 use Rattle.std.specs.FinMap as map
-use Rattle.sn_walk.specs.declared.view.Kind.TheVariants.{File}
+use Rattle.sn_limits.specs.declared.kind.Kind.TheVariants.{File}
 use Rattle.sn_model.specs.declared.link.Link.{Link}
 use Rattle.sn_model.specs.Tree.{Node, Tree}
 

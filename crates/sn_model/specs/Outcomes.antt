@@ -1,6 +1,6 @@
 -- What a call comes to.
 use Rattle.std.specs.Prelude.{ℕ}
-use Rattle.sn_walk.specs.declared.view.Kind.{Kind}
+use Rattle.sn_limits.specs.declared.kind.Kind.{Kind}
 use Rattle.sn_model.specs.declared.change.Ownership.{Ownership}
 use Rattle.sn_model.specs.declared.link.Link.{Link}
 use Rattle.sn_model.specs.declared.reply.Reply.{Reply}

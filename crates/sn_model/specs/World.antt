@@ -7,7 +7,7 @@ use Rattle.std.specs.FinMap as map
 use Rattle.sn_acl.specs.Modes.{three_entries}
 use Rattle.sn_walk.specs.declared.object.Home.{Home}
 use Rattle.sn_walk.specs.declared.object.Home.TheVariants.{Live, Frozen}
-use Rattle.sn_walk.specs.declared.view.Kind.TheVariants.{Directory}
+use Rattle.sn_limits.specs.declared.kind.Kind.TheVariants.{Directory}
 use Rattle.sn_walk.specs.Views.{ViewedTree, ViewedTrees, nothing}
 use Rattle.sn_model.specs.declared.session.Session.{Session}
 use Rattle.sn_model.specs.Tree.{Node, Tree, viewed}
@@ -42,7 +42,7 @@ pub record Descriptor : Type 0 where
 abbrev pub descriptor_cmp : ℕ × ℕ → ℕ × ℕ → Ordering
 descriptor_cmp a b = ordering_then (nat_cmp a.0 b.0) (nat_cmp a.1 b.1)
 
--- the sessions are 64 places, None where nobody is logged in
+-- the sessions are 64, None where nobody is logged in
 pub record World : Type 0 where
   pub live : Tree
   pub frozen : map.FinMap (slice_cmp nat_cmp) Tree

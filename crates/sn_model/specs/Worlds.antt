@@ -3,7 +3,7 @@ use Rattle.std.specs.Prelude.{◌≡◌, ℕ, ◌≤◌, ◌<◌, ◌^◌, true,
 use Rattle.std.specs.List.{AllByRecursion}
 use Rattle.std.specs.FinMap as map
 use Rattle.sn_walk.specs.declared.object.Home.TheVariants.{Live}
-use Rattle.sn_walk.specs.declared.view.Kind.TheVariants.{File}
+use Rattle.sn_limits.specs.declared.kind.Kind.TheVariants.{File}
 use Rattle.sn_limits.specs.declared.limits.Limits.{Limits}
 use Rattle.sn_model.specs.declared.call.Call.{Call}
 use Rattle.sn_model.specs.declared.call.Call.TheVariants as call
@@ -20,9 +20,9 @@ pub record IsCaller (s : Session) : Type 0 where
   pub uid : s.cred.uid < 2 ^ 32
   pub gid : s.cred.gid < 2 ^ 32
 
-abbrev pub IsPlace : Option Session → Type 0
-IsPlace None = Unit {0}
-IsPlace (Some s) = IsCaller s
+abbrev pub IsSession : Option Session → Type 0
+IsSession None = Unit {0}
+IsSession (Some s) = IsCaller s
 
 abbrev pub IsLoggedIn : World → ℕ → Type 0
 IsLoggedIn world session = IsSomeAnd (slice_get world.sessions session) (λ s. is_some s ≡ true)
@@ -39,8 +39,8 @@ pub record IsWorld (limits : Limits) (world : World) : Type 0 where
   pub live : IsTree limits world.live
   pub frozen : (name : List ℕ) (tree : Tree) → map.get world.frozen name ≡ Some tree → IsTree limits tree
   pub few_snapshots : map.len world.frozen ≤ limits.snapshots
-  pub places : length world.sessions ≡ 64
-  pub callers : AllByRecursion IsPlace world.sessions
+  pub count : length world.sessions ≡ 64
+  pub callers : AllByRecursion IsSession world.sessions
   pub open_files : (session fd : ℕ) (d : Descriptor) → map.get world.descriptors (session, fd) ≡ Some d → IsOpenFile limits world session fd d
   pub held : (number : ℕ) → HasKind world.live number File → names_for world.live number ≡ 0 → (session : ℕ) × (fd : ℕ) × IsSomeAnd (map.get world.descriptors (session, fd)) (λ d. (d.home ≡ Live) × (d.number ≡ number))
 

@@ -1,7 +1,7 @@
 ghost use Rattle.std.specs.Prelude.{◌≡◌};
 
 use sn_acl::Acl;
-use sn_walk::Kind;
+use sn_limits::Kind;
 use std::marker::Model;
 
 /// Bytes that a change brings, lent by the call or the record that it comes from.
@@ -44,6 +44,25 @@ pub struct Ownership {
     pub acl: Acl,
     /// What objects made in a directory take over. A file has none.
     pub default_acl: Option<Acl>,
+}
+
+impl Ownership {
+    /// A copy, which takes no memory.
+    pub fn copy(&self) -> Ownership
+        ensures { result ≡ self.now }
+    {
+        Ownership {
+            owner: self.owner,
+            group: self.group,
+            set_gid: self.set_gid,
+            sticky: self.sticky,
+            acl: self.acl.copy(),
+            default_acl: match &self.default_acl {
+                Some(acl) => Some(acl.copy()),
+                None => None,
+            },
+        }
+    }
 }
 
 /// A change of the name tree, decided once: what is logged, applied, and replayed after a crash. It

@@ -1,4 +1,5 @@
 ghost use Rattle.std.specs.Prelude.{◌≡◌, IfOk};
+ghost use Rattle.std.specs.Option.{option_copied};
 
 use crate::Word;
 use sn_acl::{Acl, Entry};
@@ -87,6 +88,16 @@ impl StoredAcl {
         let mut entries = Vec::with_capacity(alloc, held.len())?;
         entries.extend_from_slice(held)?;
         Ok(StoredAcl { entries })
+    }
+
+    /// The same where there may be none.
+    pub fn of_option(alloc: Global, acl: Option<&Acl>) -> Result<Option<StoredAcl>, AllocError>
+        ensures { IfOk result (λ stored. stored ≡ option_copied acl.entry) }
+    {
+        match acl {
+            Some(acl) => Ok(Some(StoredAcl::new(alloc, acl)?)),
+            None => Ok(None),
+        }
     }
 
     pub fn to_acl(&self) -> Acl

@@ -1,5 +1,5 @@
 use crate::{Bytes, Change, Ownership, Reply, Session};
-use sn_walk::Kind;
+use sn_limits::Kind;
 
 /// What changes in the live tree.
 #[derive(Drop)]

@@ -2,7 +2,7 @@ ghost use Rattle.std.specs.Prelude.{◌≡◌};
 
 use crate::{Content, MountFault, Names, StoredAcl};
 use sn_acl::{Mode, Tag};
-use sn_walk::Kind;
+use sn_limits::Kind;
 use std::marker::Model;
 
 /// Why a call was refused, by the names that POSIX.1-2017 has in <errno.h>, and two of our own.

@@ -1,7 +1,7 @@
 -- The layer of one change over a tree: what the change makes different there, and nothing else.
 use Rattle.std.specs.Prelude.{ℕ, ◌+◌, ◌-◌, ◌/◌, ◌%◌, Bool, true, false, not, ◌&&◌, ◌==◌, nat_lt, min, List, length, Option, None, Some, if◌then◌else◌}
 use Rattle.std.specs.FinMap as map
-use Rattle.sn_walk.specs.declared.view.Kind.{Kind}
+use Rattle.sn_limits.specs.declared.kind.Kind.{Kind}
 use Rattle.sn_walk.specs.Views.{is_directory}
 use Rattle.sn_model.specs.declared.change.Change.{Change}
 use Rattle.sn_model.specs.declared.change.Change.TheVariants.{Make, AddLink, Remove, Rename, Write, SetSize, SetAttributes}

@@ -3,8 +3,8 @@ ghost use Rattle.std.specs.Option.{option_copied};
 ghost use Rattle.sn_overlay.specs.Layers.{hides_block, hides_names};
 
 use crate::place::BLOCK_SIZE;
+use sn_limits::Kind;
 use sn_model::Ownership;
-use sn_walk::Kind;
 
 /// What became of a node since an overlay began.
 #[derive(Drop)]
@@ -43,7 +43,7 @@ impl NodeState {
     {
         NodeState {
             kind: self.kind,
-            ownership: copied_ownership(&self.ownership),
+            ownership: self.ownership.copy(),
             links: self.links,
             size: self.size,
             cut: self.cut,
@@ -92,22 +92,6 @@ impl NodeChange {
             }
             (_, newer) => newer,
         }
-    }
-}
-
-fn copied_ownership(ownership: &Ownership) -> Ownership
-    ensures { result ≡ ownership.now }
-{
-    Ownership {
-        owner: ownership.owner,
-        group: ownership.group,
-        set_gid: ownership.set_gid,
-        sticky: ownership.sticky,
-        acl: ownership.acl.copy(),
-        default_acl: match &ownership.default_acl {
-            None => None,
-            Some(acl) => Some(acl.copy()),
-        },
     }
 }
 

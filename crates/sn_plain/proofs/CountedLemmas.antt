@@ -6,7 +6,7 @@ use Rattle.std.specs.Cmp.{nat_cmp_total}
 use Rattle.std.specs.FinMap as map
 use Rattle.std.proofs.lemmas.Bool.{eqb-true, ltb-true, ltb-false, false_from_ne_true}
 use Rattle.std.proofs.lemmas.Map.Lookups.{exact_unsigned}
-use Rattle.sn_walk.specs.declared.view.Kind.TheVariants as kind
+use Rattle.sn_limits.specs.declared.kind.Kind.TheVariants as kind
 use Rattle.sn_model.specs.declared.link.Link.{Link}
 use Rattle.sn_model.specs.Tree.{Tree, link_cmp, names_in, names_for}
 use Rattle.sn_model.specs.Changes.{put_link, take_link}

@@ -6,9 +6,9 @@ use Rattle.std.specs.Cmp.{nat_cmp_total}
 use Rattle.std.specs.FinMap as map
 use Rattle.std.proofs.lemmas.Bool.{true≢false, eqb-true}
 use Rattle.std.proofs.lemmas.Map.Lookups.{exact_unsigned}
-use Rattle.sn_walk.specs.declared.view.Kind.{Kind}
-use Rattle.sn_walk.specs.declared.view.Kind.TheVariants as kind
-use Rattle.sn_walk.specs.Names.{is_name}
+use Rattle.sn_limits.specs.declared.kind.Kind.{Kind}
+use Rattle.sn_limits.specs.declared.kind.Kind.TheVariants as kind
+use Rattle.sn_limits.specs.Names.{is_name}
 use Rattle.sn_walk.specs.Views.{is_directory, is_hidden_name}
 use Rattle.sn_limits.specs.declared.limits.Limits.{Limits}
 use Rattle.sn_model.specs.declared.change.Ownership.{Ownership}
@@ -100,7 +100,7 @@ module _ (stored : Stored) (tree : Tree) (first : ℕ) (see : (k : ℕ) → map.
     free = free_is limits number m.free
 
     parent : (d : StoredNode) × (map.get stored link.directory ≡ Some d) × (d.kind ≡ kind.Directory)
-    parent = directory_there link.directory m.place.directory m.place.parent
+    parent = directory_there link.directory m.room.directory m.room.parent
 
     apart : link.directory ≢ number
     apart same = free.apart parent.0 (ap (map.get stored) (sym same) ∙ parent.1) parent.2
@@ -139,7 +139,7 @@ links_kept stored tree first h k = told (map.get stored k) refl
 -- one more name of a file
 pub counted_linked : (limits : Limits) (stored stored' : Stored) (tree : Tree) (first : ℕ) → ((k : ℕ) → map.get tree.nodes k ≡ option_map node_of (map.get stored k)) → IsCounted stored tree first → (link : Link) (number : ℕ) (after : Tree) → Linked limits tree link number after → Recounts (more_at link.directory) (more_at number) stored stored' → IsCounted stored' (put_link tree link number) first
 counted_linked limits stored stored' tree first see h link number after m r =
-    let d = directory_there stored tree first see h link.directory m.place.directory m.place.parent in
+    let d = directory_there stored tree first see h link.directory m.room.directory m.room.parent in
     let f = file_there stored tree first see h number m.node m.file in
     counted_link stored stored' tree first link number d.0 f.0 r (vacant_absent tree link m.vacant) d.1 d.2 f.1 (λ k. let never : kind.Directory ≡ kind.File = sym k ∙ f.3 in absurd cc) h
 

@@ -4,7 +4,7 @@ use Rattle.std.proofs.lemmas.Bool.{lt-ltb}
 use Rattle.sn_acl.specs.declared.entries.Entry.{Entry}
 use Rattle.sn_acl.specs.AccessList.{IsValid, is_acl}
 use Rattle.sn_acl.proofs.Validity.{test-from_valid}
-use Rattle.sn_walk.specs.declared.view.Kind.{Kind}
+use Rattle.sn_limits.specs.declared.kind.Kind.{Kind}
 use Rattle.sn_walk.specs.Views.{is_directory}
 use Rattle.sn_model.specs.declared.change.Ownership.{Ownership}
 use Rattle.sn_model.specs.Changes.{is_default_acl, is_ownership}

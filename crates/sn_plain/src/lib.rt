@@ -19,7 +19,6 @@ mod links;
 mod making;
 mod nodes;
 mod settling;
-mod stored;
 mod tests;
 mod tree;
 

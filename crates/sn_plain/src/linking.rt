@@ -41,7 +41,7 @@ impl PlainTree {
         ensures names { IsTrue result → names_in (tree_of self.now) link.now.directory + 1 < 2 ^ 64 }
         ensures links { IsTrue result → names_for (tree_of self.now) number + 1 < 2 ^ 16 }
     {
-        self.is_file(number) && self.is_vacant(link) && self.has_place(limits, link, number)
+        self.is_file(number) && self.is_vacant(link) && self.has_room_for(limits, link, number)
     }
 
     /// Gives a file one more name.

@@ -6,12 +6,10 @@ ghost use Rattle.sn_plain.specs.Stored.{node_of, owned_by, IsFresh};
 use crate::bytes::FileBytes;
 use crate::error::ApplyError;
 use crate::nodes::{Counts, StoredNode, StoredOwnership};
-use crate::stored::StoredAcl;
 use crate::tests::is_ownership;
 use crate::tree::PlainTree;
-use sn_limits::Limits;
-use sn_model::{Link, Ownership};
-use sn_walk::Kind;
+use sn_limits::{Kind, Limits};
+use sn_model::{Link, Ownership, StoredAcl};
 use std::alloc::{AllocError, Global};
 
 fn stored(alloc: Global, ownership: &Ownership) -> Result<StoredOwnership, AllocError>
@@ -79,7 +77,7 @@ impl PlainTree {
         self.is_free_number(limits, number)
             && self.is_vacant(link)
             && is_ownership(kind, ownership)
-            && self.has_place(limits, link, number)
+            && self.has_room_for(limits, link, number)
     }
 
     /// Makes a file without bytes, or a directory.

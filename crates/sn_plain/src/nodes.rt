@@ -3,9 +3,10 @@ ghost use Rattle.std.specs.Option.{option_map, option_copied};
 ghost use Rattle.std.specs.FinMap as map;
 
 use crate::bytes::FileBytes;
-use crate::stored::StoredAcl;
 use crate::tests::is_directory;
-use sn_walk::{Attributes, Kind};
+use sn_limits::Kind;
+use sn_model::StoredAcl;
+use sn_walk::Attributes;
 use std::alloc::{AllocError, Global};
 use std::collections::BTreeMap;
 

@@ -1,12 +1,12 @@
 ghost use Rattle.std.specs.Prelude.{◌≡◌, ◌+◌, ◌<◌, ◌^◌, is_some, IsTrue};
 ghost use Rattle.sn_walk.specs.Views.{is_directory, is_hidden_name};
-ghost use Rattle.sn_model.specs.Changes.{is_free_number, is_vacant, has_place, is_ownership};
+ghost use Rattle.sn_model.specs.Changes.{is_free_number, is_vacant, has_room_for, is_ownership};
 ghost use Rattle.sn_model.specs.Tree.{names_in, names_for};
 
 use crate::tree::PlainTree;
-use sn_limits::Limits;
+use sn_limits::{Kind, Limits, is_name};
 use sn_model::{Link, Ownership};
-use sn_walk::{Kind, ROOT_NUMBER, is_name};
+use sn_walk::ROOT_NUMBER;
 
 /// The name under which the root has the directory of snapshots.
 fn is_hidden_name(directory: u16, name: &[u8]) -> bool
@@ -65,8 +65,8 @@ impl PlainTree {
     }
 
     /// Whether a directory may get one more name, and a number too.
-    pub(crate) fn has_place(&self, limits: &Limits, link: &Link, number: u16) -> bool
-        ensures exact { result ≡ is_some (has_place limits.now (tree_of self.now) link.now number) }
+    pub(crate) fn has_room_for(&self, limits: &Limits, link: &Link, number: u16) -> bool
+        ensures exact { result ≡ is_some (has_room_for limits.now (tree_of self.now) link.now number) }
         ensures names { IsTrue result → names_in (tree_of self.now) link.now.directory + 1 < 2 ^ 64 }
         ensures links { IsTrue result → names_for (tree_of self.now) number + 1 < 2 ^ 16 }
     {

@@ -8,11 +8,10 @@ ghost use Rattle.sn_plain.specs.Stored.{IsCountedIn, node_of, IsFresh};
 use crate::bytes::FileBytes;
 use crate::links::Links;
 use crate::nodes::{Counts, Nodes, StoredNode, StoredOwnership};
-use crate::stored::StoredAcl;
 use sn_acl::{Acl, Mode, Permissions};
-use sn_limits::Limits;
-use sn_model::{Errno, Link, Refusal};
-use sn_walk::{Attributes, Kind, ROOT_NUMBER};
+use sn_limits::{Kind, Limits};
+use sn_model::{Errno, Link, Refusal, StoredAcl};
+use sn_walk::{Attributes, ROOT_NUMBER};
 use std::alloc::{AllocError, Global};
 
 /// The live tree, as maps in memory.

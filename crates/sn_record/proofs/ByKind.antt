@@ -2,7 +2,7 @@
 use Rattle.std.proofs.Common.{◌≡◌, ◌∙◌, ℕ, List, [], ◌∷◌, ◌++◌, Option, Some, sym, arith}
 use Rattle.std.proofs.lemmas.List.{append-nil}
 use Rattle.sn_layout.proofs.Fields.{some_some}
-use Rattle.sn_walk.specs.declared.view.Kind.{Kind}
+use Rattle.sn_limits.specs.declared.kind.Kind.{Kind}
 use Rattle.sn_model.specs.declared.change.Change.{Change}
 use Rattle.sn_model.specs.declared.change.Change.TheVariants.{Make, AddLink, Remove, Rename, Write, SetSize, SetAttributes}
 use Rattle.sn_model.specs.declared.change.Ownership.{Ownership}

@@ -3,7 +3,7 @@ use Rattle.std.proofs.Common.{◌≡◌, ℕ, ◌+◌, ◌*◌, ◌≤◌, List,
 use Rattle.std.specs.Prelude.{IsTrue}
 use Rattle.std.proofs.lemmas.Bool.{leb-true}
 use Rattle.sn_acl.proofs.ModeLemmas.{both}
-use Rattle.sn_walk.specs.Names.{is_name, is_name_spelled, has_name_length}
+use Rattle.sn_limits.specs.Names.{is_name, is_name_spelled, has_name_length}
 use Rattle.sn_model.specs.declared.change.Change.{Change}
 use Rattle.sn_model.specs.declared.change.Change.TheVariants.{Make, AddLink, Remove, Rename, Write, SetSize, SetAttributes}
 use Rattle.sn_model.specs.declared.change.Ownership.{Ownership}

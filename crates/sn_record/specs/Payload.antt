@@ -6,7 +6,7 @@ use Rattle.sn_acl.specs.declared.modes.Mode.{Mode}
 use Rattle.sn_acl.specs.Entries.{is_user_obj, is_group_obj, is_other}
 use Rattle.sn_acl.specs.AccessList.{IsValid}
 use Rattle.sn_acl.specs.Modes.{entry_of, granted_by}
-use Rattle.sn_walk.specs.Names.{is_name}
+use Rattle.sn_limits.specs.Names.{is_name}
 use Rattle.sn_model.specs.declared.change.Change.{Change}
 use Rattle.sn_model.specs.declared.change.Change.TheVariants.{Make, AddLink, Remove, Rename, Write, SetSize, SetAttributes}
 use Rattle.sn_model.specs.declared.change.Ownership.{Ownership}

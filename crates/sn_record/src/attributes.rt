@@ -1,7 +1,7 @@
 //! The changes that give a node its owner, its S bits and its ACLs.
 ghost use Rattle.std.specs.Prelude.{◌≡◌, ℕ, ◌+◌, ◌*◌, ◌≤◌, List, ◌∷◌, ◌++◌, length, Some, IfSome, IsTrue};
-ghost use Rattle.sn_walk.specs.Names.{is_name};
-ghost use Rattle.sn_walk.specs.declared.view.Kind.{Kind as TheKind};
+ghost use Rattle.sn_limits.specs.Names.{is_name};
+ghost use Rattle.sn_limits.specs.declared.kind.Kind.{Kind as TheKind};
 ghost use Rattle.sn_model.specs.declared.change.Change.TheVariants.{Make, SetAttributes};
 ghost use Rattle.sn_model.specs.declared.change.Ownership.{Ownership as TheOwnership};
 ghost use Rattle.sn_layout.specs.Bytes.{Puts};
@@ -11,8 +11,8 @@ ghost use Rattle.sn_record.specs.Sizes.{entries_of};
 use crate::ownership::{put_ownership, read_ownership};
 use sn_layout::{Reader, put_u16};
 use sn_layout_node::{put_kind, put_name, read_kind, read_name};
+use sn_limits::Kind;
 use sn_model::{Bytes, Change, Ownership};
-use sn_walk::Kind;
 
 pub(crate) fn put_make(
     block: &mut [u8],

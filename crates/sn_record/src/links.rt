@@ -1,6 +1,6 @@
 //! The changes of names: one more, one less, one moved.
 ghost use Rattle.std.specs.Prelude.{◌≡◌, ℕ, ◌+◌, ◌≤◌, List, ◌∷◌, ◌++◌, length, Some, IfSome, IsTrue};
-ghost use Rattle.sn_walk.specs.Names.{is_name};
+ghost use Rattle.sn_limits.specs.Names.{is_name};
 ghost use Rattle.sn_model.specs.declared.change.Change.TheVariants.{AddLink, Remove, Rename};
 ghost use Rattle.sn_layout.specs.Bytes.{Puts};
 ghost use Rattle.sn_record.specs.Payload.{IsSpelled, fields_bytes, payload_bytes};

@@ -18,8 +18,8 @@ use crate::contents::{is_written_size, put_size, put_write, read_size, read_writ
 use crate::links::{put_link, put_remove, put_rename, read_link, read_remove, read_rename};
 use crate::ownership::entries_of;
 use sn_layout::{Reader, put_u8};
+use sn_limits::is_name;
 use sn_model::{Change, Ownership};
-use sn_walk::is_name;
 
 /// The bytes of the longest payload, that of a write.
 pub const PAYLOAD_MAX: usize = 65_547;

@@ -7,9 +7,11 @@ use Rattle.std.proofs.lemmas.Bool.{leb-true, le-leb}
 use Rattle.std.proofs.lemmas.List.{length-map}
 use Rattle.std.proofs.lemmas.List.Splits.{join_with_byte-slice_split}
 use Rattle.std.proofs.lemmas.Slice.Eq.{bytes_eq-Decides}
+use Rattle.sn_model.specs.Chains.{◌>>=◌}
+use Rattle.sn_model.proofs.ChainLemmas.{bind_some, some_same}
 use Rattle.sn_script.specs.Fields.{parts, octal, numbers_word, is_word}
-use Rattle.sn_script.specs.Reading.{◌>>=◌, octal_digit_of, octal_of, numbers_of, groups_of, word_of}
-use Rattle.sn_script.proofs.Options.{bind_some, some_is, chosen, passed, both_true}
+use Rattle.sn_script.specs.Reading.{octal_digit_of, octal_of, numbers_of, groups_of, word_of}
+use Rattle.sn_script.proofs.Options.{chosen, passed, both_true}
 use Rattle.sn_script.proofs.Numbers.{numbers_again, numbers_take}
 use Rattle.sn_script.proofs.Parts.{some_parts}
 use Rattle.sn_script.proofs.Bytes.{Within, Lacks, decimal_within, lacks_outside, parts_join}
@@ -22,7 +24,7 @@ digit_takes b d e =
     let p = both_true (leb 48 b) (leb b 55) t.0 in
     let low = leb-true 48 b p.0 in
     let high = leb-true b 55 p.1 in
-    let is = some_is (b - 48) d t.1 in
+    let is = some_same (b - 48) d t.1 in
     (omega arith, omega arith)
 
 digit_again : (d : ℕ) → d < 8 → octal_digit_of (48 + d) ≡ Some d
@@ -55,7 +57,7 @@ octal_takes (a ∷ b ∷ c ∷ d ∷ []) n e =
     let x = bind_some (octal_digit_of b) (λ j. octal_digit_of c >>= (λ k. octal_digit_of d >>= (λ l. Some (512 * w.0 + 64 * j + 8 * k + l)))) n w.2 in
     let y = bind_some (octal_digit_of c) (λ k. octal_digit_of d >>= (λ l. Some (512 * w.0 + 64 * x.0 + 8 * k + l))) n x.2 in
     let z = bind_some (octal_digit_of d) (λ l. Some (512 * w.0 + 64 * x.0 + 8 * y.0 + l)) n y.2 in
-    let value = some_is (octal_value w.0 x.0 y.0 z.0) n z.2 in
+    let value = some_same (octal_value w.0 x.0 y.0 z.0) n z.2 in
     let p = digit_takes a w.0 w.1 in
     let q = digit_takes b x.0 x.1 in
     let r = digit_takes c y.0 y.1 in
@@ -84,7 +86,7 @@ octal_again n lt =
 pub word_takes : (bytes w : List ℕ) → word_of bytes ≡ Some w → (bytes ≡ w) × (is_word w ≡ true)
 word_takes bytes w e =
     let t = passed (is_word bytes) (Some bytes) w e in
-    let same = some_is bytes w t.1 in
+    let same = some_same bytes w t.1 in
     (same, ap is_word (sym same) ∙ t.0)
 
 pub word_again : (w : List ℕ) → is_word w ≡ true → word_of w ≡ Some w
@@ -139,7 +141,7 @@ groups_take word ns e =
     elim (chosen (bytes_eq word (codes "-")) (Some []) (cond (leb (length (parts 44 word)) 32) (numbers_of (parts 44 word)) None) (Some ns) e) [
       | inl dash ↦
           let same : word ≡ codes "-" = (bytes_eq-Decides word (codes "-")).0 dash.0 in
-          let none : [] ≡ ns = some_is [] ns dash.1 in
+          let none : [] ≡ ns = some_same [] ns dash.1 in
           subst (λ (k : List ℕ). (word ≡ numbers_word k) × AllByRecursion (λ n. n < 2 ^ 32) k × (length k ≤ 32)) none (same, tt, lit≤ tt)
       | inr joined ↦
           let t = passed (leb (length (parts 44 word)) 32) (numbers_of (parts 44 word)) ns joined.1 in

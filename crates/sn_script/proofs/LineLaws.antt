@@ -12,13 +12,15 @@ use Rattle.sn_model.specs.declared.call.Call.{Call}
 use Rattle.sn_model.specs.declared.call.Call.TheVariants as call
 use Rattle.sn_model.specs.declared.call.Event.{Event}
 use Rattle.sn_model.specs.declared.call.Event.TheVariants as event
+use Rattle.sn_model.specs.Chains.{◌>>=◌}
+use Rattle.sn_model.proofs.ChainLemmas.{bind_some, some_same}
 use Rattle.sn_script.specs.Fields.{parts, octal, numbers_word, is_word}
 use Rattle.sn_script.specs.Lines.{name_of, arguments_of, words_of, line_of, IsCall, IsEvent}
 use Rattle.sn_script.specs.Scripts.{BeginsBadly}
 use Rattle.sn_script.specs.declared.fault.LineFault.{LineFault}
 use Rattle.sn_script.specs.declared.fault.LineFault.TheVariants.{Bad, Memory}
-use Rattle.sn_script.specs.Reading.{◌>>=◌, Gives, number_below, octal_of, groups_of, word_of, login_of, mkdir_of, stat_of, call_of, event_of, line_event}
-use Rattle.sn_script.proofs.Options.{bind_some, some_is, chosen, passed, both_true}
+use Rattle.sn_script.specs.Reading.{IsRead, number_below, octal_of, groups_of, word_of, login_of, mkdir_of, stat_of, call_of, event_of, line_event}
+use Rattle.sn_script.proofs.Options.{chosen, passed, both_true}
 use Rattle.sn_script.proofs.Numbers.{number_again, number_takes}
 use Rattle.sn_script.proofs.Bytes.{Within, Within-wider, Within-join, decimal_within, graphic_within, Lacks, Lacks-append, lacks_outside, parts_join}
 use Rattle.sn_script.proofs.FieldLaws.{octal_takes, octal_again, word_takes, word_again, groups_take, groups_again}
@@ -49,7 +51,7 @@ login_takes (uid ∷ gid ∷ groups ∷ []) c e =
     let p = number_takes (2 ^ 32) u.0 uid u.1 in
     let q = number_takes (2 ^ 32) g.0 gid g.1 in
     let r = groups_take groups others.0 others.1 in
-    subst (Reads (codes "login") (uid ∷ gid ∷ groups ∷ [])) (some_is (call.Login u.0 g.0 others.0) c others.2)
+    subst (Reads (codes "login") (uid ∷ gid ∷ groups ∷ [])) (some_same (call.Login u.0 g.0 others.0) c others.2)
     (refl, three uid gid groups (decimal u.0) (decimal g.0) (numbers_word others.0) p.0 q.0 r.0, (p.1, q.1, r.1, r.2))
 
 mkdir_takes : (arguments : List (List ℕ)) (c : Call) → mkdir_of arguments ≡ Some c → Reads (codes "mkdir") arguments c
@@ -62,7 +64,7 @@ mkdir_takes (path ∷ mode ∷ []) c e =
     let m = bind_some (octal_of mode) (λ m. Some (call.Mkdir w.0 m)) c w.2 in
     let p = word_takes path w.0 w.1 in
     let q = octal_takes mode m.0 m.1 in
-    subst (Reads (codes "mkdir") (path ∷ mode ∷ [])) (some_is (call.Mkdir w.0 m.0) c m.2)
+    subst (Reads (codes "mkdir") (path ∷ mode ∷ [])) (some_same (call.Mkdir w.0 m.0) c m.2)
     (refl, two path mode w.0 (octal m.0) p.0 q.0, (p.1, q.1))
 
 stat_takes : (arguments : List (List ℕ)) (c : Call) → stat_of arguments ≡ Some c → Reads (codes "stat") arguments c
@@ -72,7 +74,7 @@ stat_takes (path ∷ more ∷ others) c e = absurd cc
 stat_takes (path ∷ []) c e =
     let w = bind_some (word_of path) (λ p. Some (call.Stat p)) c e in
     let p = word_takes path w.0 w.1 in
-    subst (Reads (codes "stat") (path ∷ [])) (some_is (call.Stat w.0) c w.2) (refl, one path w.0 p.0, p.1)
+    subst (Reads (codes "stat") (path ∷ [])) (some_same (call.Stat w.0) c w.2) (refl, one path w.0 p.0, p.1)
 
 named : (name other : List ℕ) (arguments : List (List ℕ)) (c : Call) → bytes_eq name other ≡ true → Reads other arguments c → Reads name arguments c
 named name other arguments c e r = ((bytes_eq-Decides name other).0 e ∙ r.0, r.1, r.2)
@@ -105,7 +107,7 @@ event_takes (session ∷ name ∷ arguments) x e =
     let c = bind_some (call_of name arguments) (λ c. Some (event.Call s.0 c)) x s.2 in
     let p = number_takes (2 ^ 32) s.0 session s.1 in
     let q = call_takes name arguments c.0 c.1 in
-    subst (λ (y : Event). (session ∷ name ∷ arguments ≡ words_of y) × IsEvent y) (some_is (event.Call s.0 c.0) x c.2)
+    subst (λ (y : Event). (session ∷ name ∷ arguments ≡ words_of y) × IsEvent y) (some_same (event.Call s.0 c.0) x c.2)
     (all_three session (decimal s.0) name (name_of c.0) arguments (arguments_of c.0) p.0 q.0 q.1, (p.1, q.2))
   where
     all_three : (a x b y : List ℕ) (cs zs : List (List ℕ)) → a ≡ x → b ≡ y → cs ≡ zs → a ∷ b ∷ cs ≡ x ∷ y ∷ zs
@@ -220,7 +222,7 @@ line_front e line others more h lacks same = same_front 10 line (text_of e) othe
 pub one_event : (e f : Event) (x y : List ℕ) → IsEvent e → IsEvent f → line_of e ++ x ≡ line_of f ++ y → (e ≡ f) × (x ≡ y)
 one_event e f x y h k same =
     let p = line_front f (text_of e) x y k (text_lacks e h) (sym (line_then e x) ∙ same) in
-    (some_is e f (sym (line_again e h) ∙ ap line_event p.0 ∙ line_again f k), p.1)
+    (some_same e f (sym (line_again e h) ∙ ap line_event p.0 ∙ line_again f k), p.1)
 
 pub first_found : (script line others : List ℕ) (e : Event) → script ≡ line ++ 10 ∷ others → line_event line ≡ Some e → IsEvent e × (script ≡ line_of e ++ others)
 first_found script line others e cut read =
@@ -239,6 +241,6 @@ no_line script lacks e more h same =
     let head : eqb 10 10 ≡ false = (Lacks-append 10 (text_of e) (10 ∷ more) whole).0 in
     absurd cc
 
-pub nothing_read : (fault : LineFault) (read : Option Event) → fault ≡ Bad → Gives {X = Event} {Y = Event} (λ e. e) (Err fault) read → read ≡ None
+pub nothing_read : (fault : LineFault) (read : Option Event) → fault ≡ Bad → IsRead {X = Event} {Y = Event} (λ e. e) (Err fault) read → read ≡ None
 nothing_read Bad read is gives = gives
 nothing_read Memory read is gives = absurd cc

@@ -12,11 +12,13 @@ use Rattle.std.proofs.lemmas.Slice.Eq.{bytes_eq-Decides}
 use Rattle.std.proofs.Math.Seq.{drop-cons}
 use Rattle.std.specs.Prelude.{Err}
 use Rattle.arrayvec.specs.declared.array_vec.ArrayVec.{ArrayVec}
+use Rattle.sn_model.specs.Chains.{◌>>=◌}
+use Rattle.sn_model.proofs.ChainLemmas.{bind_some, some_same}
 use Rattle.sn_script.specs.declared.fault.LineFault.{LineFault}
 use Rattle.sn_script.specs.declared.fault.LineFault.TheVariants.{Bad, Memory}
-use Rattle.sn_script.specs.Reading.{◌>>=◌, Gives, number_below, numbers_of}
+use Rattle.sn_script.specs.Reading.{IsRead, number_below, numbers_of}
 use Rattle.sn_script.proofs.Parts.{texts}
-use Rattle.sn_script.proofs.Options.{bind_some, some_is, passed, both_true, none_from}
+use Rattle.sn_script.proofs.Options.{passed, both_true, none_from}
 
 pub number_again : (limit n : ℕ) → limit ≤ 2 ^ 64 → n < limit → number_below limit (decimal n) ≡ Some n
 unfolding number_below
@@ -35,7 +37,7 @@ number_takes limit n word e =
     let parts = both_true (bytes_eq word (decimal v)) (ltb v limit) t.0 in
     let same : word ≡ decimal v = (bytes_eq-Decides word (decimal v)).0 parts.0 in
     let below : v < limit = ltb-true v limit parts.1 in
-    subst (λ (k : ℕ). (word ≡ decimal k) × (k < limit)) (some_is v n t.1) (same, below)
+    subst (λ (k : ℕ). (word ≡ decimal k) × (k < limit)) (some_same v n t.1) (same, below)
 
 -- where no number is spelled so, none is read
 pub number_none : (limit : ℕ) (word : List ℕ) → ((n : ℕ) → n < limit → word ≡ decimal n → ⊥) → number_below limit word ≡ None
@@ -51,14 +53,14 @@ numbers_again (n ∷ ns) h = rw (number_again (2 ^ 32) n (lit≤ tt) h.0, number
 
 pub numbers_take : (words : List (List ℕ)) (ns : List ℕ) → numbers_of words ≡ Some ns → (words ≡ map decimal ns) × AllByRecursion (λ n. n < 2 ^ 32) ns
 unfolding numbers_of
-numbers_take [] ns e = subst (λ (k : List ℕ). ([] ≡ map decimal k) × AllByRecursion (λ n. n < 2 ^ 32) k) (some_is [] ns e) (refl, tt)
+numbers_take [] ns e = subst (λ (k : List ℕ). ([] ≡ map decimal k) × AllByRecursion (λ n. n < 2 ^ 32) k) (some_same [] ns e) (refl, tt)
 numbers_take (word ∷ words) ns e =
     let a = bind_some (number_below (2 ^ 32) word) (λ n. numbers_of words >>= (λ others. Some (n ∷ others))) ns e in
     let b = bind_some (numbers_of words) (λ others. Some (a.0 ∷ others)) ns a.2 in
     let first = number_takes (2 ^ 32) a.0 word a.1 in
     let others = numbers_take words b.0 b.1 in
     let both : word ∷ words ≡ decimal a.0 ∷ map decimal b.0 = cons_same word (decimal a.0) words (map decimal b.0) first.0 others.0 in
-    subst (λ (k : List ℕ). (word ∷ words ≡ map decimal k) × AllByRecursion (λ n. n < 2 ^ 32) k) (some_is (a.0 ∷ b.0) ns b.2) (both, (first.1, others.1))
+    subst (λ (k : List ℕ). (word ∷ words ≡ map decimal k) × AllByRecursion (λ n. n < 2 ^ 32) k) (some_same (a.0 ∷ b.0) ns b.2) (both, (first.1, others.1))
 
 -- ---- reading number after number
 
@@ -88,7 +90,7 @@ pub all_read : (front : List ℕ) (total : Option (List ℕ)) → with_front fro
 unfolding numbers_of
 all_read front total so_far = sym so_far ∙ ap (λ (k : List ℕ). Some k) (append-nil front)
 
--- the words still to be read begin with the one at place i
+-- the words still to be read begin with the one at index i
 pub words_ahead : (words : List (Bor (List ℕ))) (i : ℕ) (d : Bor (List ℕ)) → i < length words → texts (drop i words) ≡ (get_or words i d).now ∷ texts (drop (i + 1) words)
 words_ahead words i d lt = rw (add-one, drop-cons words i d lt) refl
 
@@ -99,8 +101,8 @@ loop_goes_on front n i words d total lt e so_far =
     one_more front n (get_or words i d).now (texts (drop (i + 1) words)) total e (ap (λ (t : List (List ℕ)). with_front front (numbers_of t)) (sym ahead) ∙ so_far)
 
 pub loop_refuses : (fault : LineFault) (front : List ℕ) (i : ℕ) (words : List (Bor (List ℕ))) (d : Bor (List ℕ)) (total : Option (List ℕ)) → i < length words
-    → Gives {X = ℕ} {Y = ℕ} (λ n. n) (Err fault) (number_below (2 ^ 32) (get_or words i d).now)
-    → with_front front (numbers_of (texts (drop i words))) ≡ total → Gives {X = ArrayVec ℕ 32 (Unit {0})} {Y = List ℕ} (λ ns. ns.items) (Err fault) total
+    → IsRead {X = ℕ} {Y = ℕ} (λ n. n) (Err fault) (number_below (2 ^ 32) (get_or words i d).now)
+    → with_front front (numbers_of (texts (drop i words))) ≡ total → IsRead {X = ArrayVec ℕ 32 (Unit {0})} {Y = List ℕ} (λ ns. ns.items) (Err fault) total
 loop_refuses Memory front i words d total lt e so_far = tt
 loop_refuses Bad front i words d total lt e so_far =
     let ahead = words_ahead words i d lt in

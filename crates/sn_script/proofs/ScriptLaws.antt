@@ -46,10 +46,10 @@ not_both n events text is bad =
     let more = bad.more in
     omega arith
 
-pub one_place : (m n : ℕ) (text : List ℕ) → IsFirstBad text m → IsFirstBad text n → m ≡ n
-one_place m n text bad other =
+pub one_line : (m n : ℕ) (text : List ℕ) → IsFirstBad text m → IsFirstBad text n → m ≡ n
+one_line m n text bad other =
     let r = two_readings bad.before other.before bad.rest other.rest bad.each other.each (sym bad.spelled ∙ other.spelled) bad.bad other.bad in
-    bad.place ∙ ap (λ (es : List Event). length es + 1) r.0 ∙ sym other.place
+    bad.line ∙ ap (λ (es : List Event). length es + 1) r.0 ∙ sym other.line
 
 -- what a loop over the lines has read, where nothing is left, and where a bad line is
 pub read_all : (events : List Event) (rest text : List ℕ) → AllByRecursion IsEvent events → text ≡ lines_of events ++ rest → length rest ≡ 0 → IsScript events text
@@ -58,4 +58,4 @@ read_all events rest text each so_far none =
     record { each = each; spelled = so_far ∙ ap (λ (t : List ℕ). lines_of events ++ t) nothing ∙ append-nil (lines_of events) }
 
 pub met_bad : (events : List Event) (rest text : List ℕ) → AllByRecursion IsEvent events → text ≡ lines_of events ++ rest → 0 < length rest → BeginsBadly rest → IsFirstBad text (length events + 1)
-met_bad events rest text each so_far more bad = record { before = events; rest = rest; place = refl; each = each; spelled = so_far; more = more; bad = bad }
+met_bad events rest text each so_far more bad = record { before = events; rest = rest; line = refl; each = each; spelled = so_far; more = more; bad = bad }

@@ -2,6 +2,7 @@
 use Rattle.std.specs.Prelude.{◌≡◌, ℕ, ◌+◌, ◌-◌, ◌*◌, ◌^◌, ◌&&◌, nat_le, nat_lt, List, [], ◌∷◌, length, Option, Some, None, Result, Ok, Err, if◌then◌else◌, codes, decimal}
 use Rattle.std.specs.Str.{bytes_eq}
 use Rattle.std.specs.Str.Parse.{digits_value}
+use Rattle.sn_model.specs.Chains.{◌>>=◌}
 use Rattle.sn_model.specs.declared.call.Call.{Call}
 use Rattle.sn_model.specs.declared.call.Call.TheVariants as call
 use Rattle.sn_model.specs.declared.call.Event.{Event}
@@ -10,16 +11,11 @@ use Rattle.sn_script.specs.declared.fault.LineFault.{LineFault}
 use Rattle.sn_script.specs.declared.fault.LineFault.TheVariants.{Bad, Memory}
 use Rattle.sn_script.specs.Fields.{is_word, parts}
 
-infixl 10 ◌>>=◌
-abbrev pub ◌>>=◌ : {A B : Type 0} → Option A → (A → Option B) → Option B
-(Some x) >>= f = f x
-None >>= f = None
-
 -- what a function returned, seen by view, is what reading gives, unless memory ran out
-abbrev pub Gives : {X Y : Type 0} → (X → Y) → Result X LineFault → Option Y → Type 0
-Gives view (Ok x) read = read ≡ Some (view x)
-Gives view (Err Bad) read = read ≡ None
-Gives view (Err Memory) read = Unit {0}
+abbrev pub IsRead : {X Y : Type 0} → (X → Y) → Result X LineFault → Option Y → Type 0
+IsRead view (Ok x) read = read ≡ Some (view x)
+IsRead view (Err Bad) read = read ≡ None
+IsRead view (Err Memory) read = Unit {0}
 
 -- a decimal number below a limit, without leading zeros
 unfoldable pub number_below : ℕ → List ℕ → Option ℕ

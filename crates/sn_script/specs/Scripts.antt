@@ -17,7 +17,7 @@ BeginsBadly text = (e : Event) (more : List ℕ) → IsEvent e → text ≡ line
 pub record IsFirstBad (text : List ℕ) (n : ℕ) : Type 0 where
   pub before : List Event
   pub rest : List ℕ
-  pub place : n ≡ length before + 1
+  pub line : n ≡ length before + 1
   pub each : AllByRecursion IsEvent before
   pub spelled : text ≡ flat_map line_of before ++ rest
   pub more : 0 < length rest

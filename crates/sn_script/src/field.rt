@@ -2,7 +2,7 @@ ghost use Rattle.std.specs.Prelude.{◌≡◌, ◌^◌, ◌≤◌, ◌∷◌, []
 ghost use Rattle.std.specs.Char.{is_ascii_graphic};
 ghost use Rattle.std.specs.List.{list_all};
 ghost use Rattle.sn_script.specs.Fields.{is_word};
-ghost use Rattle.sn_script.specs.Reading.{Gives, number_below, octal_digit_of, octal_of, numbers_of, groups_of, word_of};
+ghost use Rattle.sn_script.specs.Reading.{IsRead, number_below, octal_digit_of, octal_of, numbers_of, groups_of, word_of};
 
 use crate::cut::parts;
 use crate::fault::LineFault;
@@ -14,7 +14,7 @@ use std::alloc::Global;
 
 /// A decimal number without leading zeros.
 pub(crate) fn number(word: &[u8]) -> Result<u32, LineFault>
-    ensures { Gives (λ n. n) result (number_below (2 ^ 32) word.now) }
+    ensures { IsRead (λ n. n) result (number_below (2 ^ 32) word.now) }
 {
     let Ok(text) = str::from_utf8(word) else {
         return Err(LineFault::Bad);
@@ -31,7 +31,7 @@ pub(crate) fn number(word: &[u8]) -> Result<u32, LineFault>
 }
 
 fn octal_digit(byte: u8) -> Result<u16, LineFault>
-    ensures { Gives (λ n. n) result (octal_digit_of byte) }
+    ensures { IsRead (λ n. n) result (octal_digit_of byte) }
 {
     if b'0' <= byte && byte <= b'7' {
         Ok(u16::from(byte - b'0'))
@@ -43,7 +43,7 @@ fn octal_digit(byte: u8) -> Result<u16, LineFault>
 /// Four octal digits.
 #[tactic(auto, unfolding(crate::specs::Reading::octal_of))]
 pub(crate) fn octal(word: &[u8]) -> Result<u16, LineFault>
-    ensures { Gives (λ n. n) result (octal_of word.now) }
+    ensures { IsRead (λ n. n) result (octal_of word.now) }
 {
     let &[first, second, third, fourth] = word else {
         return Err(LineFault::Bad);
@@ -57,7 +57,7 @@ pub(crate) fn octal(word: &[u8]) -> Result<u16, LineFault>
 
 /// A word of printable bytes.
 pub(crate) fn word(alloc: Global, bytes: &[u8]) -> Result<Word, LineFault>
-    ensures { Gives (λ w. w) result (word_of bytes.now) }
+    ensures { IsRead (λ w. w) result (word_of bytes.now) }
 {
     if is_word(bytes) {
         Ok(Word::new(alloc, bytes)?)
@@ -80,7 +80,7 @@ fn is_graphic(bytes: &[u8]) -> bool
 
 fn numbers(words: &[&[u8]]) -> Result<ArrayVec<u32, MAX_GROUPS>, LineFault>
     requires { length words.now ≤ 32 }
-    ensures { Gives (λ ns. ns.items) result (numbers_of (map (λ w. w.now) words.now)) }
+    ensures { IsRead (λ ns. ns.items) result (numbers_of (map (λ w. w.now) words.now)) }
 {
     let mut numbers = ArrayVec::new();
     for word in words {
@@ -92,7 +92,7 @@ fn numbers(words: &[&[u8]]) -> Result<ArrayVec<u32, MAX_GROUPS>, LineFault>
 /// Group numbers joined by commas, or a dash for none.
 #[tactic(auto, unfolding(crate::specs::Reading::groups_of))]
 pub(crate) fn groups(alloc: Global, word: &[u8]) -> Result<Groups, LineFault>
-    ensures { Gives (λ g. g) result (groups_of word.now) }
+    ensures { IsRead (λ g. g) result (groups_of word.now) }
 {
     if let b"-" = word {
         return Ok(Groups::new(alloc, &[])?);

@@ -1,5 +1,5 @@
 ghost use Rattle.std.specs.Prelude.{map};
-ghost use Rattle.sn_script.specs.Reading.{Gives, login_of, mkdir_of, stat_of, call_of, event_of, line_event};
+ghost use Rattle.sn_script.specs.Reading.{IsRead, login_of, mkdir_of, stat_of, call_of, event_of, line_event};
 
 use crate::cut::parts;
 use crate::fault::LineFault;
@@ -12,7 +12,7 @@ pub(crate) const MAX_WORDS: usize = 5;
 
 #[tactic(auto, unfolding(crate::specs::Reading::login_of))]
 fn login(alloc: Global, arguments: &[&[u8]]) -> Result<Call, LineFault>
-    ensures { Gives (λ c. c) result (login_of (map (λ w. w.now) arguments.now)) }
+    ensures { IsRead (λ c. c) result (login_of (map (λ w. w.now) arguments.now)) }
 {
     let &[uid, gid, others] = arguments else {
         return Err(LineFault::Bad);
@@ -25,7 +25,7 @@ fn login(alloc: Global, arguments: &[&[u8]]) -> Result<Call, LineFault>
 
 #[tactic(auto, unfolding(crate::specs::Reading::mkdir_of))]
 fn mkdir(alloc: Global, arguments: &[&[u8]]) -> Result<Call, LineFault>
-    ensures { Gives (λ c. c) result (mkdir_of (map (λ w. w.now) arguments.now)) }
+    ensures { IsRead (λ c. c) result (mkdir_of (map (λ w. w.now) arguments.now)) }
 {
     let &[path, mode] = arguments else {
         return Err(LineFault::Bad);
@@ -37,7 +37,7 @@ fn mkdir(alloc: Global, arguments: &[&[u8]]) -> Result<Call, LineFault>
 
 #[tactic(auto, unfolding(crate::specs::Reading::stat_of))]
 fn stat(alloc: Global, arguments: &[&[u8]]) -> Result<Call, LineFault>
-    ensures { Gives (λ c. c) result (stat_of (map (λ w. w.now) arguments.now)) }
+    ensures { IsRead (λ c. c) result (stat_of (map (λ w. w.now) arguments.now)) }
 {
     let &[path] = arguments else {
         return Err(LineFault::Bad);
@@ -48,7 +48,7 @@ fn stat(alloc: Global, arguments: &[&[u8]]) -> Result<Call, LineFault>
 
 #[tactic(auto, unfolding(crate::specs::Reading::call_of))]
 fn call(alloc: Global, name: &[u8], arguments: &[&[u8]]) -> Result<Call, LineFault>
-    ensures { Gives (λ c. c) result (call_of name.now (map (λ w. w.now) arguments.now)) }
+    ensures { IsRead (λ c. c) result (call_of name.now (map (λ w. w.now) arguments.now)) }
 {
     match name {
         b"login" => login(alloc, arguments),
@@ -60,7 +60,7 @@ fn call(alloc: Global, name: &[u8], arguments: &[&[u8]]) -> Result<Call, LineFau
 
 #[tactic(auto, unfolding(crate::specs::Reading::event_of))]
 fn event_of_words(alloc: Global, words: &[&[u8]]) -> Result<Event, LineFault>
-    ensures { Gives (λ e. e) result (event_of (map (λ w. w.now) words.now)) }
+    ensures { IsRead (λ e. e) result (event_of (map (λ w. w.now) words.now)) }
 {
     let &[session, name, ref arguments @ ..] = words else {
         return Err(LineFault::Bad);
@@ -73,7 +73,7 @@ fn event_of_words(alloc: Global, words: &[&[u8]]) -> Result<Event, LineFault>
 /// The event of a line that comes without its end.
 #[tactic(auto, unfolding(crate::specs::Reading::line_event))]
 pub(crate) fn event(alloc: Global, line: &[u8]) -> Result<Event, LineFault>
-    ensures { Gives (λ e. e) result (line_event line.now) }
+    ensures { IsRead (λ e. e) result (line_event line.now) }
 {
     let Some(words) = parts::<MAX_WORDS>(line, b' ') else {
         return Err(LineFault::Bad);

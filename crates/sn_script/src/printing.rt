@@ -3,8 +3,8 @@ ghost use Rattle.std.specs.List.{flat_map};
 ghost use Rattle.sn_script.specs.Fields.{octal};
 ghost use Rattle.sn_script.specs.Replies.{kind_name, status_mode, status_line, content_text, name_text, names_line, some_acl_text, reply_line};
 
+use sn_limits::Kind;
 use sn_model::{Content, Names, Reply, Status, StoredAcl};
-use sn_walk::Kind;
 use std::alloc::{AllocError, Global};
 use std::io;
 use std::io::Write;

@@ -2,8 +2,8 @@
 //! each look-up. Its clauses promise nothing: the table of walks says what it shows.
 
 use sn_acl::Acl;
-use sn_limits::SnapshotName;
-use sn_walk::{Attributes, Home, Kind, TreeView};
+use sn_limits::{Kind, SnapshotName};
+use sn_walk::{Attributes, Home, TreeView};
 use std::alloc::{AllocError, Global};
 use std::str;
 
@@ -89,6 +89,8 @@ impl TreeView for SmallTrees {
 
     ghost follows = { λ u v. Unit {0} };
 
+    ghost looked_up = { λ looks u v. Unit {0} };
+
     ghost causes = { λ u v f. Unit {0} };
 
     fn node(&mut self, home: &Home, number: u16) -> Result<Option<Attributes>, AllocError> {
@@ -123,6 +125,10 @@ impl TreeView for SmallTrees {
     ghost follows_itself = { λ v. tt };
 
     ghost follows_on = { λ u v w p q. tt };
+
+    ghost looked_up_none = { λ v. tt };
+
+    ghost looked_up_more = { λ looks more u v w p q. tt };
 
     ghost causes_later = { λ u v w f p q. tt };
 }

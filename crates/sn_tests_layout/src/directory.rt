@@ -4,8 +4,8 @@ use crate::block::{DIRTY, block_of, spelled};
 use anyhow::{Context, Result, bail, ensure};
 use sn_layout::{BLOCK_SIZE, Block};
 use sn_layout_node::DirectoryBlock;
+use sn_limits::is_name;
 use sn_table::{Case, Report, Tally};
-use sn_walk::is_name;
 use std::alloc::Global;
 use std::str;
 

@@ -4,9 +4,8 @@ use crate::block::{DIRTY, block_of, fill, push_pointers, spelled};
 use anyhow::{Result, ensure};
 use sn_layout::{BLOCK_SIZE, Block};
 use sn_layout_node::{Content, INODE_SIZE, IndirectBlock, Inode, InodeRecord, POINTERS_PER_BLOCK};
-use sn_limits::Limits;
+use sn_limits::{Kind, Limits};
 use sn_table::{Case, Report};
-use sn_walk::Kind;
 use std::alloc::Global;
 use std::str;
 

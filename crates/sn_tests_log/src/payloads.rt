@@ -1,10 +1,10 @@
 //! Payloads of log records.
 
 use anyhow::{Result, ensure};
+use sn_limits::Kind;
 use sn_model::{Change, Ownership};
 use sn_record::{decode, is_valid, payload_size, put_change};
 use sn_table::{Case, Report};
-use sn_walk::Kind;
 use std::alloc::Global;
 use std::str;
 

@@ -5,7 +5,7 @@ use Rattle.std.proofs.lemmas.Option.{cond_some}
 use Rattle.std.proofs.lemmas.List.{take_all, length-drop}
 use Rattle.std.proofs.lemmas.List.Sums.{count_by-le-length}
 use Rattle.std.proofs.lemmas.List.Splits.{slice_split_first, length-slice_split}
-use Rattle.sn_walk.specs.Names.{is_name, is_name_spelled, has_name_length}
+use Rattle.sn_limits.specs.Names.{is_name, is_name_spelled, has_name_length}
 use Rattle.sn_walk.specs.Paths.{pieces}
 
 abbrev is_slash : ℕ → Bool

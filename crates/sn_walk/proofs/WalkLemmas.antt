@@ -2,8 +2,8 @@ use Rattle.std.proofs.Common.{arith, cond, ◌≡◌, ℕ, ◌+◌, List, [], �
 use Rattle.sn_acl.specs.Credential.{Credential}
 use Rattle.std.specs.Prelude.{IsSomeAnd}
 use Rattle.sn_acl.specs.Access.{denial_of}
-use Rattle.sn_walk.specs.declared.view.Kind.{Kind}
-use Rattle.sn_walk.specs.declared.view.Kind.TheVariants.{File, Directory}
+use Rattle.sn_limits.specs.declared.kind.Kind.{Kind}
+use Rattle.sn_limits.specs.declared.kind.Kind.TheVariants.{File, Directory}
 use Rattle.sn_walk.specs.declared.view.Attributes.{Attributes}
 use Rattle.sn_walk.specs.declared.object.Object.{Object}
 use Rattle.sn_walk.specs.declared.walking.Obstacle.TheVariants.{Missing, NotADirectory}

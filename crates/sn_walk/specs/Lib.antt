@@ -1,6 +1,6 @@
 pub mod Chains
 pub mod Gives
-pub mod Names
+pub mod LookUps
 pub mod Objects
 pub mod Paths
 pub mod Views

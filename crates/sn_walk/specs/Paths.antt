@@ -3,7 +3,7 @@ use Rattle.std.specs.Prelude.{ℕ, ◌==◌, nat_lt, List, [], ◌∷◌, length
 use Rattle.std.specs.List.{list_all, slice_split, flat_map}
 use Rattle.sn_walk.specs.declared.path.PathFault.{PathFault}
 use Rattle.sn_walk.specs.declared.path.PathFault.TheVariants.{Misspelt, TooLong}
-use Rattle.sn_walk.specs.Names.{is_name_spelled, has_name_length}
+use Rattle.sn_limits.specs.Names.{is_name_spelled, has_name_length}
 
 -- the pieces between the slashes: one more than there are slashes
 abbrev pub pieces : List ℕ → List (List ℕ)

@@ -5,8 +5,8 @@ use Rattle.std.specs.Cmp.Lexicographic.{pointwise}
 use Rattle.sn_acl.specs.declared.entries.Entry.{Entry}
 use Rattle.sn_acl.specs.Modes.{three_entries}
 use Rattle.sn_limits.specs.SnapshotName.{is_snapshot_name}
-use Rattle.sn_walk.specs.declared.view.Kind.{Kind}
-use Rattle.sn_walk.specs.declared.view.Kind.TheVariants.{File, Directory}
+use Rattle.sn_limits.specs.declared.kind.Kind.{Kind}
+use Rattle.sn_limits.specs.declared.kind.Kind.TheVariants.{File, Directory}
 use Rattle.sn_walk.specs.declared.view.Attributes.{Attributes}
 use Rattle.sn_walk.specs.declared.object.Home.{Home}
 use Rattle.sn_walk.specs.declared.object.Home.TheVariants.{Live, Frozen}

@@ -6,7 +6,8 @@
 //! it shows. [`walk`] follows a path's names through a tree for a caller, and answers where they
 //! lead, or the first test that fails, with its place.
 //!
-//! Begin with `specs/Paths` and `specs/Walks`, which say what `parse` and `walk` answer.
+//! Begin with `specs/Paths` and `specs/Walks`, which say what `parse` and `walk` answer, and
+//! `specs/LookUps`, which says what `walk` looks up.
 //!
 //! ```text
 //! let path = Path::parse(b"/home/ada")?;
@@ -18,15 +19,13 @@
 #![tactic(auto)]
 
 mod failure;
-mod name;
 mod object;
 mod path;
 mod view;
 mod walking;
 
 pub use failure::Failure;
-pub use name::{NAME_MAX, begins_with_name, is_name};
 pub use object::{Home, Object};
 pub use path::{PATH_MAX, Path, PathFault};
-pub use view::{Attributes, Kind, ROOT_NUMBER, TreeView};
+pub use view::{Attributes, ROOT_NUMBER, TreeView};
 pub use walking::{Found, Obstacle, WalkRefusal, Walked, attributes_of, child_of, reached, walk};

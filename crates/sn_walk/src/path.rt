@@ -1,10 +1,10 @@
 ghost use Rattle.std.specs.Prelude.{◌≡◌, ◌≤◌, ◌<◌, [], ◌∷◌, length, MatchResult, MatchOption, Ok, Err};
 ghost use Rattle.std.specs.Option.{option_copied};
 ghost use Rattle.std.specs.List.{list_all};
-ghost use Rattle.sn_walk.specs.Names.{is_name_spelled, has_name_length};
+ghost use Rattle.sn_limits.specs.Names.{is_name_spelled, has_name_length};
 ghost use Rattle.sn_walk.specs.Paths.{parsed, of_names, pieces, pieces_of, last_of};
 
-use crate::name;
+use sn_limits::{has_name_length, is_name_spelled};
 use std::error::Error;
 use std::fmt;
 use std::marker::Model;
@@ -43,7 +43,7 @@ impl<'a> Model for Path<'a> {
     ghost use Rattle.std.specs.Prelude.{ℕ, List, IsTrue, ◌≤◌, length};
     ghost use Rattle.std.specs.Option.{option_copied};
     ghost use Rattle.std.specs.List.{list_all};
-    ghost use Rattle.sn_walk.specs.Names.{is_name};
+    ghost use Rattle.sn_limits.specs.Names.{is_name};
     ghost use Rattle.sn_walk.specs.Paths.{pieces_of};
 
     ghost Value = { List (List ℕ) };
@@ -120,7 +120,7 @@ fn are_spelled(text: &[u8]) -> bool
     ensures { result ≡ list_all is_name_spelled (pieces text.now) }
 {
     text.split(|byte| *byte == b'/')
-        .all(|name| name::is_name_spelled(name))
+        .all(|name| is_name_spelled(name))
 }
 
 /// Whether no piece is longer than a name.
@@ -128,5 +128,5 @@ fn have_length(text: &[u8]) -> bool
     ensures { result ≡ list_all has_name_length (pieces text.now) }
 {
     text.split(|byte| *byte == b'/')
-        .all(|name| name::has_name_length(name))
+        .all(|name| has_name_length(name))
 }

@@ -1,16 +1,9 @@
 use crate::Home;
 use sn_acl::Acl;
-use sn_limits::SnapshotName;
+use sn_limits::{Kind, SnapshotName};
 
 /// The number of a tree's root directory.
 pub const ROOT_NUMBER: u16 = 2;
-
-/// What a node is.
-#[derive(Clone, Copy, PartialEq, Eq, Hash)]
-pub enum Kind {
-    File,
-    Directory,
-}
 
 /// What is known of a node without its bytes or names.
 #[derive(Drop)]
@@ -36,7 +29,8 @@ pub struct Attributes {
 /// says nothing. No look-up changes what the trees show. A view over a device that doesn't tell its
 /// bytes isn't told, and then promises no answer.
 pub trait TreeView {
-    ghost use Rattle.std.specs.Prelude.{◌≡◌, Bool, IsTrue, IfOk, IfErr};
+    ghost use Rattle.std.specs.Prelude.{◌≡◌, Bool, IsTrue, IfOk, IfErr, List, [], ◌∷◌, ◌++◌};
+    ghost use Rattle.sn_walk.specs.LookUps.{LookUp, OfDefaultAcl, OfLink, OfNode, OfSnapshot};
     ghost use Rattle.sn_walk.specs.Views.{ViewedTrees};
 
     type Fault: Drop;
@@ -52,6 +46,9 @@ pub trait TreeView {
     // what look-ups may do: whether a view may be a later one of an earlier
     ghost follows: { Self → Self → Type 0 };
 
+    // which look-ups were made, in their order, between an earlier view and a later one
+    ghost looked_up: { List LookUp → Self → Self → Type 0 };
+
     // whether what happened between an earlier view and a later one is the cause of a fault
     ghost causes: { Self → Self → Self.Fault → Type 0 };
 
@@ -60,6 +57,7 @@ pub trait TreeView {
         requires { holds self.old }
         ensures kept { holds self.new }
         ensures follows { follows self.old self.new }
+        ensures looked_up { looked_up (OfNode home.now number ∷ []) self.old self.new }
         ensures same { IsTrue is_told → shows self.new ≡ shows self.old }
         ensures found { IsTrue is_told → IfOk result (λ a. a ≡ ((shows self.old).tree home.now).node number) }
         ensures cause { IfErr result (λ f. causes self.old self.new f) };
@@ -69,6 +67,7 @@ pub trait TreeView {
         requires { holds self.old }
         ensures kept { holds self.new }
         ensures follows { follows self.old self.new }
+        ensures looked_up { looked_up (OfLink home.now directory name.now ∷ []) self.old self.new }
         ensures same { IsTrue is_told → shows self.new ≡ shows self.old }
         ensures found { IsTrue is_told → IfOk result (λ n. n ≡ ((shows self.old).tree home.now).link directory name.now) }
         ensures cause { IfErr result (λ f. causes self.old self.new f) };
@@ -78,6 +77,7 @@ pub trait TreeView {
         requires { holds self.old }
         ensures kept { holds self.new }
         ensures follows { follows self.old self.new }
+        ensures looked_up { looked_up (OfDefaultAcl home.now number ∷ []) self.old self.new }
         ensures same { IsTrue is_told → shows self.new ≡ shows self.old }
         ensures found { IsTrue is_told → IfOk result (λ a. a ≡ ((shows self.old).tree home.now).default_acl number) }
         ensures cause { IfErr result (λ f. causes self.old self.new f) };
@@ -87,6 +87,7 @@ pub trait TreeView {
         requires { holds self.old }
         ensures kept { holds self.new }
         ensures follows { follows self.old self.new }
+        ensures looked_up { looked_up (OfSnapshot name.now ∷ []) self.old self.new }
         ensures same { IsTrue is_told → shows self.new ≡ shows self.old }
         ensures found { IsTrue is_told → IfOk result (λ b. b ≡ (shows self.old).has_snapshot name.now) }
         ensures cause { IfErr result (λ f. causes self.old self.new f) };
@@ -94,6 +95,10 @@ pub trait TreeView {
     ghost follows_itself: { (v : Self) → follows v v };
 
     ghost follows_on: { (u v w : Self) → follows u v → follows v w → follows u w };
+
+    ghost looked_up_none: { (v : Self) → looked_up [] v v };
+
+    ghost looked_up_more: { (looks more : List LookUp) (u v w : Self) → looked_up looks u v → looked_up more v w → looked_up (looks ++ more) u w };
 
     ghost causes_later: { (u v w : Self) (f : Self.Fault) → follows u v → causes v w f → causes u w f };
 }

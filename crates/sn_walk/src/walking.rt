@@ -1,12 +1,13 @@
 ghost use Rattle.std.specs.Prelude.{◌≡◌, ◌≤◌, IsTrue, IfOk, IfErr, IfSome, Ok, Err};
 ghost use Rattle.sn_walk.specs.declared.object.Object.TheVariants.{Node, Snapshots};
 ghost use Rattle.sn_walk.specs.Gives.{Gives, IfFault};
+ghost use Rattle.sn_walk.specs.LookUps.{Looks, looks_at, looks_for, looks_in, looks_of_walk, looks_to_reach};
 ghost use Rattle.sn_walk.specs.Views.{attributes_at, child_of, hidden_attributes, hides};
 ghost use Rattle.sn_walk.specs.Walks.{EndsAt, admitted, end_of, found_at, passed, walk_of};
 
-use crate::{Attributes, Failure, Home, Kind, Object, Path, ROOT_NUMBER, TreeView};
+use crate::{Attributes, Failure, Home, Object, Path, ROOT_NUMBER, TreeView};
 use sn_acl::{Acl, Cred, Mode, Permissions, Tag, check};
-use sn_limits::SnapshotName;
+use sn_limits::{Kind, SnapshotName};
 
 /// The name of the directory of snapshots in the live root.
 const HIDDEN_NAME: &[u8] = b".snapshot";
@@ -80,6 +81,7 @@ pub fn attributes_of<T: TreeView>(
     requires { T.holds view.old }
     ensures kept { T.holds view.new }
     ensures follows { T.follows view.old view.new }
+    ensures looked_up { T.looked_up (looks_at object.now) view.old view.new }
     ensures same { IsTrue T.is_told → T.shows view.new ≡ T.shows view.old }
     ensures found { IsTrue T.is_told → IfOk result (λ a. a ≡ attributes_at (T.shows view.old) object.now) }
     ensures cause { IfErr result (λ f. T.causes view.old view.new f) }
@@ -109,6 +111,7 @@ fn child_in<T: TreeView>(
     requires { T.holds view.old }
     ensures kept { T.holds view.new }
     ensures follows { T.follows view.old view.new }
+    ensures looked_up { T.looked_up (looks_for (Node home.now directory) name.now) view.old view.new }
     ensures same { IsTrue T.is_told → T.shows view.new ≡ T.shows view.old }
     ensures found { IsTrue T.is_told → IfOk result (λ o. o ≡ child_of (T.shows view.old) (Node home.now directory) name.now) }
     ensures cause { IfErr result (λ f. T.causes view.old view.new f) }
@@ -130,6 +133,7 @@ fn snapshot_root<T: TreeView>(view: &mut T, name: &[u8]) -> Result<Option<Object
     requires { T.holds view.old }
     ensures kept { T.holds view.new }
     ensures follows { T.follows view.old view.new }
+    ensures looked_up { T.looked_up (looks_for Snapshots name.now) view.old view.new }
     ensures same { IsTrue T.is_told → T.shows view.new ≡ T.shows view.old }
     ensures found { IsTrue T.is_told → IfOk result (λ o. o ≡ child_of (T.shows view.old) Snapshots name.now) }
     ensures cause { IfErr result (λ f. T.causes view.old view.new f) }
@@ -155,6 +159,7 @@ pub fn child_of<T: TreeView>(
     requires { T.holds view.old }
     ensures kept { T.holds view.new }
     ensures follows { T.follows view.old view.new }
+    ensures looked_up { T.looked_up (looks_for directory.now name.now) view.old view.new }
     ensures same { IsTrue T.is_told → T.shows view.new ≡ T.shows view.old }
     ensures found { IsTrue T.is_told → IfOk result (λ o. o ≡ child_of (T.shows view.old) directory.now name.now) }
     ensures cause { IfErr result (λ f. T.causes view.old view.new f) }
@@ -192,6 +197,7 @@ fn pass<T: TreeView>(
     requires { T.holds view.old }
     ensures kept { T.holds view.new }
     ensures follows { T.follows view.old view.new }
+    ensures looked_up { IsTrue T.is_told → Looks result (λ looks. T.looked_up looks view.old view.new) (looks_in (T.shows view.old) cred.now place directory.now name.now) }
     ensures same { IsTrue T.is_told → T.shows view.new ≡ T.shows view.old }
     ensures exact { IsTrue T.is_told → Gives (λ o. o) result (passed (T.shows view.old) cred.now place directory.now name.now) }
     ensures cause { IfFault result (λ f. T.causes view.old view.new f) }
@@ -221,6 +227,7 @@ pub fn walk<T: TreeView>(
     requires { T.holds view.old }
     ensures kept { T.holds view.new }
     ensures follows { T.follows view.old view.new }
+    ensures looked_up { IsTrue T.is_told → Looks result (λ looks. T.looked_up looks view.old view.new) (looks_of_walk (T.shows view.old) cred.now path.now) }
     ensures same { IsTrue T.is_told → T.shows view.new ≡ T.shows view.old }
     ensures exact { IsTrue T.is_told → Gives (λ w. w) result (walk_of (T.shows view.old) cred.now path.now) }
     ensures ends { IsTrue T.is_told → IfOk result (λ w. EndsAt (T.shows view.old) path.now w) }
@@ -259,6 +266,7 @@ pub fn reached<T: TreeView>(view: &mut T, walked: Walked) -> Result<Option<Found
     requires few { end_of walked ≤ 1023 }
     ensures kept { T.holds view.new }
     ensures follows { T.follows view.old view.new }
+    ensures looked_up { T.looked_up (looks_to_reach walked) view.old view.new }
     ensures same { IsTrue T.is_told → T.shows view.new ≡ T.shows view.old }
     ensures found { IsTrue T.is_told → IfOk result (λ x. x ≡ found_at (T.shows view.old) walked) }
     ensures cause { IfErr result (λ f. T.causes view.old view.new f) }

@@ -1,5 +1,5 @@
 use Rattle.std.proofs.Common.{◌≡◌, refl, sym, ap, ◌∙◌, Ok}
-use Rattle.sn_walk.specs.declared.view.Kind.TheVariants.{Directory}
+use Rattle.sn_limits.specs.declared.kind.Kind.TheVariants.{Directory}
 use Rattle.sn_model.specs.declared.outcome.Outcome.{Outcome}
 use Rattle.sn_model.specs.Outcomes.{makes}
 use Rattle.sn_core.proofs.ViewLemmas.{made_in, number_left, makes_kept}
@@ -16,4 +16,4 @@ unreachable-requires-in_default-least_unused c = number_left _ _ _ _ _ (c.in_ok-
 pub returns-in-Ok-clause-exact : goal.returns-in-Ok-clause-exact
 returns-in-Ok-clause-exact c =
     let m = made_in _ _ _ _ _ (c.in_ok-outcome.ensures.exact refl) in
-    c.in_ok-outcome.ensures.exact refl ∙ ap (λ (o : Outcome). Ok o) (makes_kept _ _ _ _ _ _ _ _ _ m.made c.in-Makes.is c.in-Ok.ensures ∙ ap (makes 18 c.in-Ok.link Directory) (sym c.copied.ensures))
+    c.in_ok-outcome.ensures.exact refl ∙ ap (λ (o : Outcome). Ok o) (makes_kept _ _ _ _ _ _ _ _ _ m.made c.in-Makes.is c.in-Ok.ensures ∙ ap (makes 18 c.in-Ok.link Directory) (sym c.copy.ensures))

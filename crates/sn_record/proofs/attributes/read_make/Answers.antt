@@ -1,5 +1,5 @@
 use Rattle.std.proofs.Common.{◌≡◌, ◌∙◌, ◌++◌, ◌∷◌, ℕ, List, refl, append_assoc}
-use Rattle.sn_walk.specs.declared.view.Kind.{Kind}
+use Rattle.sn_limits.specs.declared.kind.Kind.{Kind}
 use Rattle.sn_layout.specs.Bytes.{number_bytes}
 use Rattle.sn_layout.proofs.Fields.{some_some}
 use Rattle.sn_layout_node.specs.Directory.{name_bytes}

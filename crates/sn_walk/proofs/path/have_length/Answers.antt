@@ -2,7 +2,7 @@ use Rattle.std.proofs.Common.{rules, tests}
 use Rattle.std.proofs.lemmas.Iterator.Splits.{YieldsList-from_slice_split}
 use Rattle.std.proofs.lemmas.Iterator.Search.{all_from_yields_List}
 use Rattle.std.specs.Prelude.{◌==◌}
-use Rattle.sn_walk.specs.Names.{has_name_length}
+use Rattle.sn_limits.specs.Names.{has_name_length}
 use Rattle.sn_walk.proofs.path.have_length.Goals as goal
 
 pub returns : goal.returns

@@ -1,7 +1,7 @@
 use Rattle.sn_walk.proofs.PieceLemmas.{all_names, few_pieces}
 use Rattle.std.proofs.Common.{◌≡◌, true}
 use Rattle.std.specs.List.{list_all}
-use Rattle.sn_walk.specs.Names.{is_name_spelled, has_name_length}
+use Rattle.sn_limits.specs.Names.{is_name_spelled, has_name_length}
 use Rattle.sn_walk.specs.Paths.{pieces}
 use Rattle.sn_walk.proofs.path.Path.of_names.Goals as goal
 

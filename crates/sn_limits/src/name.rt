@@ -1,7 +1,7 @@
 ghost use Rattle.std.specs.Prelude.{◌≡◌, ◌≤◌, ◌&&◌, ◌==◌, not, length, map, take};
 ghost use Rattle.std.specs.List.{list_all};
 ghost use Rattle.std.specs.Simd.Lanes.{mask_l};
-ghost use Rattle.sn_walk.specs.Names as names;
+ghost use Rattle.sn_limits.specs.Names as names;
 
 use std::simd::prelude::*;
 
@@ -17,7 +17,8 @@ fn is_name_byte(byte: u8) -> bool
     byte > 0x20 && byte < 0x7f && byte != b'/'
 }
 
-fn is_dots(name: &[u8]) -> bool
+/// Whether the bytes are `.` or `..`.
+pub(crate) fn is_dots(name: &[u8]) -> bool
     ensures { result ≡ names.is_dots name.now }
 {
     match name {
@@ -83,13 +84,14 @@ fn has_name_bytes(name: &[u8]) -> bool
 }
 
 /// Whether the bytes are spelled as a name, whatever their number.
-pub(crate) fn is_name_spelled(name: &[u8]) -> bool
+pub fn is_name_spelled(name: &[u8]) -> bool
     ensures { result ≡ names.is_name_spelled name.now }
 {
     is_neither_empty_nor_dots(name) && has_name_bytes(name)
 }
 
-pub(crate) fn has_name_length(name: &[u8]) -> bool
+/// Whether a name has no more bytes than a directory's names.
+pub fn has_name_length(name: &[u8]) -> bool
     ensures { result ≡ names.has_name_length name.now }
 {
     name.len() <= NAME_MAX

@@ -1,9 +1,9 @@
 use Rattle.std.proofs.Common.{◌-◌, length, take, ap, sym, ◌∙◌, arith, length-drop}
 use Rattle.std.specs.List.{list_all}
 use Rattle.std.proofs.lemmas.List.{take_rest}
-use Rattle.sn_walk.specs.Names.{is_name_byte}
-use Rattle.sn_walk.proofs.NameLemmas.{all_further, not_all}
-use Rattle.sn_walk.proofs.name.begins_with_name_bytes.Goals as goal
+use Rattle.sn_limits.specs.Names.{is_name_byte}
+use Rattle.sn_limits.proofs.NameLemmas.{all_further, not_all}
+use Rattle.sn_limits.proofs.name.begins_with_name_bytes.Goals as goal
 
 pub returns-then-other_bytes-ne0 : goal.returns-then-other_bytes-ne0
 returns-then-other_bytes-ne0 c =

@@ -8,7 +8,7 @@ use Rattle.std.proofs.lemmas.Bool.{agree_below, agree_below_at, leb-true, leb-fa
 use Rattle.std.proofs.lemmas.List.{length-map, length-take-le}
 use Rattle.std.proofs.lemmas.List.Folds.{list_all-append}
 use Rattle.std.proofs.lemmas.Simd.{mask_l-mod, leading_from_mask_l, trailing_mask_l}
-use Rattle.sn_walk.specs.Names.{is_name_byte, is_other_byte}
+use Rattle.sn_limits.specs.Names.{is_name_byte, is_other_byte}
 
 -- ---- one mask
 

@@ -1,8 +1,8 @@
 use Rattle.std.proofs.Common.{◌≡◌, ℕ, ◌+◌, ◌-◌, ◌%◌, leb, cond, bit_or, length, take, w8, refl, arith}
 use Rattle.std.proofs.lemmas.List.{length-take-le}
 use Rattle.std.proofs.lemmas.Simd.{zip2_splat, chunk-fits}
-use Rattle.sn_walk.proofs.NameLemmas.{joined, same_everywhere, others_mask}
-use Rattle.sn_walk.proofs.name.other_bytes.Goals as goal
+use Rattle.sn_limits.proofs.NameLemmas.{joined, same_everywhere, others_mask}
+use Rattle.sn_limits.proofs.name.other_bytes.Goals as goal
 
 pub returns : goal.returns
 returns c =

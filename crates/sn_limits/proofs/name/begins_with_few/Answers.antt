@@ -1,7 +1,7 @@
 use Rattle.std.proofs.Common.{◌∙◌, sym}
 use Rattle.std.proofs.lemmas.Bool.{eq-eqb}
-use Rattle.sn_walk.proofs.NameLemmas.{few_of_none, few_of_some}
-use Rattle.sn_walk.proofs.name.begins_with_few.Goals as goal
+use Rattle.sn_limits.proofs.NameLemmas.{few_of_none, few_of_some}
+use Rattle.sn_limits.proofs.name.begins_with_few.Goals as goal
 
 pub returns-then-others-eq0 : goal.returns-then-others-eq0
 returns-then-others-eq0 c =

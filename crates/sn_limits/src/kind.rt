@@ -1,0 +1,6 @@
+/// What a node is.
+#[derive(Clone, Copy, PartialEq, Eq, Hash)]
+pub enum Kind {
+    File,
+    Directory,
+}
