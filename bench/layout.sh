@@ -24,10 +24,10 @@ cat > "$work/crates/layout_bench/src/main.rt" <<'RT'
 ghost use Rattle.std.specs.Prelude.{◌≡◌, length};
 
 use sn_acl::{Acl, Entry, Mode, Permissions, Tag};
-use sn_layout::{Block, BlockTree, Places, Pointers, RootBody, Snapshot, SnapshotName, Snapshots, Superblock};
+use sn_layout::{Block, BlockTree, Places, Pointers, RootBody, Snapshot, Snapshots, Superblock};
 use sn_layout_acl::{AclBlock, NamedEntries};
 use sn_layout_node::{Content, DirectoryBlock, IndirectBlock, Inode, InodeRecord};
-use sn_limits::Limits;
+use sn_limits::{Limits, SnapshotName};
 use sn_walk::Kind;
 use std::alloc::{AllocError, Global};
 use std::io;

@@ -6,8 +6,8 @@
 Each file there is an edit as those in crates/CRATE/must-fail: a line `file:`, then pairs of lines `old:` and `new:`.
 Edits of different functions are made in one copy of the repository, which is checked once; an edit counts as refused
 where the function that it changes has an error of its own. One whose function only waits for another is tried again
-in a copy of its own. A line is printed for each edit that isn't refused, and one for each crate; the status is 1
-where an edit was let through or doesn't fit its file.
+in a copy of its own, where any error counts, and so is an edit of a definition. A line is printed for each edit that
+isn't refused, and one for each crate; the status is 1 where an edit was let through or doesn't fit its file.
 
 It needs the command rt on the path, and takes less time where `rt all check` was run before, since it copies out/.
 """
@@ -165,8 +165,8 @@ def try_crate(crate):
             bad += 1
         else:
             edits.append(edit)
-    alone = []
-    for batch in batches(crate, edits):
+    alone = [edit for edit in edits if not edit.file.startswith("src/")]
+    for batch in batches(crate, [edit for edit in edits if edit not in alone]):
         said, _ = check(crate, batch)
         for edit in batch:
             source = (TOP / "crates" / crate / edit.file).read_text()

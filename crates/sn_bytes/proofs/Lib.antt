@@ -1,4 +1,3 @@
 pub mod Fields
 pub mod Reading
 pub mod Records
-pub mod Words

@@ -1,4 +1,4 @@
-ghost use Rattle.std.specs.Prelude.{◌≡◌, ℕ, ◌+◌, ◌*◌, ◌^◌, ◌<◌, ◌≤◌, List, ◌∷◌, ◌++◌, length, All, Some, IfSome, IsSome, IsNone, IsTrue, ◌↔◌};
+ghost use Rattle.std.specs.Prelude.{◌≡◌, ℕ, ◌+◌, ◌*◌, ◌^◌, ◌<◌, ◌≤◌, List, ◌∷◌, ◌++◌, length, All, Some, IfSome, IsNone, IsTrue, ◌↔◌};
 ghost use Rattle.sn_bytes.specs.Bytes.{AreNumbers, number_bytes, numbers_bytes, zeros};
 
 use byteorder::{ByteOrder, LittleEndian};
@@ -31,25 +31,15 @@ fn are_equal(bytes: &[u8], wanted: &[u8]) -> bool
     bytes == wanted
 }
 
-fn are_few_zero(bytes: &[u8]) -> bool
-    ensures { IsTrue result ↔ All (λ byte. byte ≡ 0) bytes.now }
-{
-    bytes.iter().all(|byte| *byte == 0)
-}
-
-// Eight bytes are tested at once, since most of a block may be zeros.
+// No byte ends the loop, so that the compiler tests many at once: most of a block may be zeros.
 fn are_all_zero(bytes: &[u8]) -> bool
     ensures { IsTrue result ↔ All (λ byte. byte ≡ 0) bytes.now }
 {
-    let mut rest = bytes;
-    'words: while rest.len() >= 8 {
-        let (word, others) = rest.split_at(8);
-        if u64_of(word) != 0 {
-            return false;
-        }
-        rest = others;
+    let mut largest = 0;
+    for byte in bytes {
+        largest = largest.max(*byte);
     }
-    are_few_zero(rest)
+    largest == 0
 }
 
 /// Reads one field of bytes after the other. Callers see it as the bytes that are left.
@@ -172,20 +162,6 @@ impl<'a> Reader<'a> {
         }
     }
 
-    /// The next bytes, if there are so many.
-    pub fn try_bytes(&mut self, count: usize) -> Option<&'a [u8]>
-        ensures found { IfSome result (λ bytes. (length bytes.now ≡ count) × (self.old ≡ bytes.now ++ self.new)) }
-        ensures only { (front rest : List ℕ) → length front ≡ count → self.old ≡ front ++ rest
-            → IsSome result × IfSome result (λ bytes. bytes.now ≡ front) × (self.new ≡ rest) }
-        ensures few { IsNone result ↔ (length self.old < count) }
-        ensures stays { IsNone result → self.new ≡ self.old }
-    {
-        if self.remaining() < count {
-            return None;
-        }
-        Some(self.bytes(count))
-    }
-
     pub fn try_u8(&mut self) -> Option<u8>
         ensures found { IfSome result (λ number. self.old ≡ number ∷ self.new) }
         ensures only { (number : ℕ) (rest : List ℕ) → self.old ≡ number ∷ rest → (result ≡ Some number) × (self.new ≡ rest) }
@@ -210,19 +186,6 @@ impl<'a> Reader<'a> {
             return None;
         }
         Some(self.u16())
-    }
-
-    pub fn try_u32(&mut self) -> Option<u32>
-        ensures found { IfSome result (λ number. self.old ≡ number_bytes 4 number ++ self.new) }
-        ensures only { (number : ℕ) (rest : List ℕ) → number < 256 ^ 4 → self.old ≡ number_bytes 4 number ++ rest → (result ≡ Some number) × (self.new ≡ rest) }
-        ensures left { IfSome result (λ _. length self.new + 4 ≡ length self.old) }
-        ensures few { IsNone result ↔ (length self.old < 4) }
-        ensures stays { IsNone result → self.new ≡ self.old }
-    {
-        if self.remaining() < 4 {
-            return None;
-        }
-        Some(self.u32())
     }
 
     pub fn try_u64(&mut self) -> Option<u64>

@@ -1,4 +1,4 @@
--- Laws of what a crash may leave.
+-- Laws of what a crash may leave. Where a premise says that reads give whole sectors, it is since a crash leaves nothing else: with others there no content could be left at all, and what holds of each would say nothing.
 use Rattle.std.specs.Prelude.{◌≡◌, ◌⊎◌, ◌↔◌, ℕ, ◌+◌, ◌≤◌, Bool, List, Contains, IsTrue}
 use Rattle.sn_device.specs.Sectors.{Contents, AreSectors, AgreesOutside, AreDisjoint, DependsOn, Single, Run, Union}
 use Rattle.sn_device.specs.Disk.{Moment, Disk, clock, reads, IsSynced, Always, next, written, synced, MayLeave, CrashNow, CrashSince}
@@ -16,7 +16,7 @@ OnlyNow = (d : Disk) (c : Contents) → CrashSince d (clock d) c → CrashNow d 
 abbrev pub ClockMovesOn : Type 0
 ClockMovesOn = (d : Disk) (m : Moment) → clock (next d m) ≡ clock d + 1
 
--- A call adds what a crash may leave after it, and takes nothing away.
+-- A call adds what a crash may leave after it, and takes nothing away. Since a moment that hasn't come, it is alone.
 abbrev pub CallAdds : Type 0
 CallAdds = (d : Disk) (m : Moment) (t : ℕ) (c : Contents) → t ≤ clock d → CrashSince (next d m) t c ↔ (MayLeave m c ⊎ CrashSince d t c)
 

@@ -9,8 +9,7 @@ use Rattle.sn_layout.specs.declared.tree.BlockTree.{BlockTree}
 use Rattle.sn_bytes.specs.Bytes.{number_bytes, numbers_bytes, zeros}
 use Rattle.sn_layout.specs.BlockTree.{IsBlockTree, tree_bytes}
 use Rattle.sn_layout.specs.RootBody.{IsHead, IsRootBody, head_of, head_bytes, head_widths, head_numbers, root_body_bytes}
-use Rattle.sn_layout.specs.Snapshot.{IsSnapshot, snapshot_bytes, snapshots_bytes}
-use Rattle.sn_layout.specs.SnapshotName.{name_bytes}
+use Rattle.sn_layout.specs.Snapshot.{IsSnapshot, name_bytes, snapshot_bytes, snapshots_bytes}
 use Rattle.sn_bytes.proofs.Fields.{some_some, same_fronts, same_numbers, same_lists, length-zeros}
 use Rattle.sn_bytes.proofs.Records.{same_records}
 use Rattle.sn_layout.proofs.Roots.{head_fits, head_flat, head_numbers_fit}

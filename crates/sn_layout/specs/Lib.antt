@@ -5,7 +5,6 @@ pub mod Places
 pub mod Pointers
 pub mod RootBody
 pub mod Snapshot
-pub mod SnapshotName
 pub mod Superblock
 pub use Rattle.sn_bytes.specs.Bytes
 pub use Rattle.sn_bytes.specs.Records

@@ -1,17 +1,22 @@
 -- Snapshots as a root body has them: the rules of a list of them, and the spelling of one.
-use Rattle.std.specs.Prelude.{ℕ, suc, ◌<◌, ◌==◌, Bool, true, not, ◌&&◌, List, [], ◌∷◌, ◌++◌, length, IsTrue, nat_lt, nat_le, if◌then◌else◌}
+use Rattle.std.specs.Prelude.{ℕ, suc, ◌-◌, ◌<◌, ◌==◌, Bool, true, not, ◌&&◌, List, [], ◌∷◌, ◌++◌, length, IsTrue, nat_lt, nat_le, if◌then◌else◌}
 use Rattle.std.specs.List.{flat_map, AllByRecursion, list_any, list_all}
 use Rattle.std.specs.Str.{bytes_eq}
 use Rattle.sn_limits.specs.declared.limits.Limits.{Limits}
+use Rattle.sn_limits.specs.SnapshotName.{is_snapshot_name}
+use Rattle.sn_bytes.specs.Bytes.{zeros}
 use Rattle.sn_layout.specs.declared.snapshot.Snapshot.{Snapshot}
 use Rattle.sn_layout.specs.BlockTree.{IsBlockTree, tree_bytes}
-use Rattle.sn_layout.specs.SnapshotName.{is_snapshot_name, name_bytes}
 
 -- a bit, a name and a tree that fit their fields
 pub record IsSnapshot (snapshot : Snapshot) : Type 0 where
   pub bit : snapshot.bit < 256
   pub name : IsTrue (is_snapshot_name snapshot.name)
   pub tree : IsBlockTree snapshot.tree
+
+-- the length of a name, and then the name in room for 38 bytes
+abbrev pub name_bytes : List ℕ → List ℕ
+name_bytes name = (length name ∷ name) ++ zeros (38 - length name)
 
 -- the tree begins at 40
 abbrev pub snapshot_bytes : Snapshot → List ℕ

@@ -7,8 +7,8 @@
 //! that value. A value that no block is read as is not encoded. No call takes memory.
 //!
 //! The way through: `places` (areas of a disk), `superblock`, `gate`, `map_copy`, `pointers` and
-//! `tree` (a root of blocks), `name`, `snapshot` and `snapshots`, `root`, whose limits are
-//! those of `sn_limits`. What reads and writes the bytes is `sn_bytes`, which comes with this crate.
+//! `tree` (a root of blocks), `snapshot` and `snapshots`, `root`, whose limits and names are those
+//! of `sn_limits`. What reads and writes the bytes is `sn_bytes`, which comes with this crate.
 //!
 //! ```text
 //! let superblock = Superblock::decode(&block)?;
@@ -19,7 +19,6 @@
 mod block;
 mod gate;
 mod map_copy;
-mod name;
 mod places;
 mod pointers;
 mod root;
@@ -31,7 +30,6 @@ mod tree;
 pub use block::{BLOCK_SIZE, Block, SECTOR_SIZE, SECTORS_PER_BLOCK, Sector};
 pub use gate::Gate;
 pub use map_copy::{WORDS_PER_BLOCK, put_map_words, read_map_words};
-pub use name::{SNAPSHOT_NAME_MAX, SnapshotName};
 pub use places::{Area, LARGEST_DISK, LogHalf, Places, SMALLEST_DISK, Slot};
 pub use pointers::{POINTERS, Pointers};
 pub use root::{LARGEST_AGE, RootBody};

@@ -5,9 +5,13 @@
 //! | 2 | name, and then zeros to 40 |
 //! | 40 | root of its inode file |
 ghost use Rattle.std.specs.Prelude.{◌≡◌, ℕ, ◌+◌, ◌*◌, ◌<◌, ◌≤◌, List, [], ◌∷◌, ◌++◌, length, Some, IfSome, IsTrue, ◌↔◌};
+ghost use Rattle.sn_bytes.specs.Bytes.{Puts};
+ghost use Rattle.sn_limits.specs.SnapshotName.{is_snapshot_name};
+ghost use Rattle.sn_layout.specs.Snapshot.{name_bytes};
 
-use crate::{BlockTree, SnapshotName};
-use sn_bytes::{Reader, put_u8};
+use crate::BlockTree;
+use sn_bytes::{Reader, put_bytes, put_u8, put_zeros};
+use sn_limits::{SNAPSHOT_NAME_MAX, SnapshotName};
 
 /// A frozen file system.
 #[derive(Default, PartialEq, Eq, Drop)]
@@ -19,8 +23,37 @@ pub struct Snapshot {
     pub tree: BlockTree,
 }
 
+// Its length, the name, and zeros to 39 bytes.
+fn put_name(block: &mut [u8], at: usize, name: &SnapshotName) -> usize
+    requires { at + 39 ≤ length block.old }
+    ensures bytes { Puts block.old block.new at result (name_bytes name.now) }
+    ensures next { result ≡ at + 39 }
+{
+    let name = name.as_bytes();
+    let at = put_u8(block, at, name.len() as u8);
+    let at = put_bytes(block, at, name);
+    put_zeros(block, at, 38 - name.len())
+}
+
+fn read_name(reader: &mut Reader<'_>) -> Option<SnapshotName>
+    requires { 39 ≤ length reader.old }
+    ensures found { IfSome result (λ name. IsTrue (is_snapshot_name name) × (reader.old ≡ name_bytes name ++ reader.new)) }
+    ensures only { (name rest : List ℕ) → IsTrue (is_snapshot_name name) → reader.old ≡ name_bytes name ++ rest
+        → (result ≡ Some name) × (reader.new ≡ rest) }
+    ensures left { IfSome result (λ _. length reader.new + 39 ≡ length reader.old) }
+{
+    let length = reader.u8() as usize;
+    if length > SNAPSHOT_NAME_MAX {
+        return None;
+    }
+    let name = reader.bytes(length);
+    if !reader.are_zeros(38 - length) {
+        return None;
+    }
+    SnapshotName::parse(name)
+}
+
 impl Snapshot {
-    ghost use Rattle.sn_bytes.specs.Bytes.{Puts};
     ghost use Rattle.sn_layout.specs.Snapshot.{IsSnapshot, snapshot_bytes};
     ghost use Rattle.sn_layout.specs.declared.snapshot.Snapshot.{Snapshot as TheSnapshot};
 
@@ -50,7 +83,7 @@ impl Snapshot {
         ensures next { result ≡ at + 112 }
     {
         let at = put_u8(block, at, self.bit);
-        let at = self.name.put(block, at);
+        let at = put_name(block, at, &self.name);
         self.tree.put(block, at)
     }
 
@@ -62,7 +95,7 @@ impl Snapshot {
         ensures left { IfSome result (λ s. length reader.new + 112 ≡ length reader.old) }
     {
         let bit = reader.u8();
-        let name = SnapshotName::read(reader)?;
+        let name = read_name(reader)?;
         let tree = BlockTree::read(reader);
         Some(Snapshot { bit, name, tree })
     }

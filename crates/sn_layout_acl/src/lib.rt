@@ -20,4 +20,4 @@ mod mode;
 
 pub use acl_block::{AclBlock, AclParts, NAMED_MAX, NamedEntries};
 pub use acl_entries::{ENTRY_SIZE, put_entries, read_entries};
-pub use mode::{fitting, mode_of, put_mode, read_mode};
+pub use mode::{fitting, mode_of, put_mode};

@@ -1,12 +1,12 @@
 //! What USER_OBJ, GROUP_OBJ and OTHER grant, three bits each, u16.
-ghost use Rattle.std.specs.Prelude.{◌≡◌, ℕ, ◌+◌, ◌≤◌, List, ◌++◌, length, Some, IfSome};
+ghost use Rattle.std.specs.Prelude.{◌≡◌, ◌+◌, ◌≤◌, length, Some, IfSome};
 ghost use Rattle.sn_acl.specs.Modes.{mode_bits};
 ghost use Rattle.sn_acl.specs.declared.modes.Mode.{Mode as TheMode};
 ghost use Rattle.sn_layout.specs.Bytes.{Puts};
 ghost use Rattle.sn_layout_acl.specs.Mode.{IsMode, mode_bytes};
 
 use sn_acl::Mode;
-use sn_layout::{Reader, put_u16};
+use sn_layout::put_u16;
 
 /// The mode, of which each three bits are below 8 by their type.
 pub fn fitting(mode: Mode) -> Mode
@@ -35,16 +35,4 @@ pub fn put_mode(block: &mut [u8], at: usize, mode: Mode) -> usize
     ensures next { result ≡ at + 2 }
 {
     put_u16(block, at, mode.bits())
-}
-
-/// Reads a mode. `None` where the bytes end before it does or are none; how far the reader has come
-/// then is open.
-pub fn read_mode(reader: &mut Reader<'_>) -> Option<Mode>
-    ensures found { IfSome result (λ mode. IsMode mode × (reader.old ≡ mode_bytes mode ++ reader.new)) }
-    ensures only { (mode : TheMode) (rest : List ℕ) → IsMode mode → reader.old ≡ mode_bytes mode ++ rest
-        → (result ≡ Some mode) × (reader.new ≡ rest) }
-    ensures left { IfSome result (λ mode. length reader.new + 2 ≡ length reader.old) }
-{
-    let bits = reader.try_u16()?;
-    mode_of(bits)
 }

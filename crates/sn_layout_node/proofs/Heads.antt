@@ -23,7 +23,7 @@ kind_fits : (kind : Kind) → kind_number kind < 256
 kind_fits File = omega arith
 kind_fits Directory = omega arith
 
-bits_fit : (set_gid sticky : Bool) → flags_number set_gid sticky < 256
+pub bits_fit : (set_gid sticky : Bool) → flags_number set_gid sticky < 256
 bits_fit true true = omega arith
 bits_fit true false = omega arith
 bits_fit false true = omega arith

@@ -53,7 +53,8 @@ fn flags_number(bits: SpecialBits) -> u8
     }
 }
 
-pub(crate) fn flags_of(number: u8) -> Option<SpecialBits>
+/// The S bits of this number. `None` where another bit is set.
+pub fn special_bits_of(number: u8) -> Option<SpecialBits>
     ensures found { IfSome result (λ bits. number ≡ flags_number bits.set_gid bits.sticky) }
     ensures only { (bits : TheBits) → number ≡ flags_number bits.set_gid bits.sticky → result ≡ Some bits }
 {
@@ -91,16 +92,4 @@ pub fn put_special_bits(block: &mut [u8], at: usize, bits: SpecialBits) -> usize
     ensures { Puts block.old block.new at result (flags_number bits.set_gid bits.sticky ∷ []) }
 {
     put_u8(block, at, flags_number(bits))
-}
-
-/// Reads S bits. `None` where no byte is left or another bit is set; how far the reader has come
-/// then is open.
-pub fn read_special_bits(reader: &mut Reader<'_>) -> Option<SpecialBits>
-    ensures found { IfSome result (λ bits. reader.old ≡ flags_number bits.set_gid bits.sticky ∷ reader.new) }
-    ensures only { (bits : TheBits) (rest : List ℕ) → reader.old ≡ flags_number bits.set_gid bits.sticky ∷ rest
-        → (result ≡ Some bits) × (reader.new ≡ rest) }
-    ensures left { IfSome result (λ _. length reader.new + 1 ≡ length reader.old) }
-{
-    let number = reader.try_u8()?;
-    flags_of(number)
 }

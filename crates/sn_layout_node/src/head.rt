@@ -1,6 +1,6 @@
 ghost use Rattle.std.specs.Prelude.{◌≡◌, ℕ, ◌+◌, ◌≤◌, List, ◌++◌, length, Some, IfSome};
 
-use crate::fields::{SpecialBits, flags_of, kind_of, put_kind, put_special_bits};
+use crate::fields::{SpecialBits, kind_of, put_kind, put_special_bits, special_bits_of};
 use sn_acl::Mode;
 use sn_layout::{Reader, put_u16, put_u32, put_u64, put_zeros};
 use sn_layout_acl::{mode_of, put_mode};
@@ -63,7 +63,7 @@ impl HeadNumbers {
         ensures only { (head : TheHead) → IsHead head → listed self ≡ head_numbers head → result ≡ Some head }
     {
         let kind = kind_of(self.kind)?;
-        let bits = flags_of(self.bits)?;
+        let bits = special_bits_of(self.bits)?;
         let objects = mode_of(self.objects)?;
         if self.before_owner != 0 {
             return None;

@@ -153,10 +153,12 @@ pub enum InodeRecord {
     Used(Inode),
 }
 
+// Most records are used, and their first byte says so.
 fn is_blank(bytes: &[u8]) -> bool
+    requires { 0 < length bytes.now }
     ensures { IsTrue result ↔ (bytes.now ≡ zeros (length bytes.now)) }
 {
-    Reader::new(bytes).are_zeros(bytes.len())
+    bytes[0] == 0 && Reader::new(bytes).are_zeros(bytes.len())
 }
 
 impl InodeRecord {

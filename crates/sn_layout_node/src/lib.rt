@@ -28,7 +28,7 @@ mod name;
 
 pub use content::{Content, INLINE_MAX, InlineBytes};
 pub use directory::{DirectoryBlock, DirectoryEntry, Entries};
-pub use fields::{SpecialBits, put_kind, put_special_bits, read_kind, read_special_bits};
+pub use fields::{SpecialBits, put_kind, put_special_bits, read_kind, special_bits_of};
 pub use indirect::{IndirectBlock, POINTERS_PER_BLOCK};
 pub use inode::{INODE_SIZE, Inode, InodeRecord, LINKS_MAX};
 pub use name::{put_name, read_name};

@@ -66,7 +66,7 @@ ClosingKeepsTheRoot = (c d : Contents) (slot : Slot) (root : RootBody)
     → AgreesOutside (Single (gate_sector (other_slot slot))) c d
     → IsNewest d slot root
 
--- Behind a closed gate a root body may be written: whatever its block comes to hold, the newest root stays.
+-- Behind a closed gate a root body may be written: whatever its block comes to hold, the newest root stays. Behind an open one a torn body would leave no newest root.
 abbrev pub BodyKeepsTheRoot : Type 0
 BodyKeepsTheRoot = (c d : Contents) (slot : Slot) (root : RootBody)
     → IsNewest c slot root → IsClosed c (gate_sector (other_slot slot))
@@ -88,7 +88,7 @@ OpenRootIsNewest = (c d : Contents) (slot : Slot) (root next : RootBody)
     → IsOpen d (gate_sector (other_slot slot))
     → IsNewest d (other_slot slot) next
 
--- And with the records: the disk shows the old root with its records, or the new one with the records of its own two epochs.
+-- And with the records: the disk shows the old root with its records, or the new one with the records of its own two epochs. That those are found is asked, since a misspelt record would leave the new root without a list.
 abbrev pub OpeningShowsEither : Type 0
 OpeningShowsEither = (n : ℕ) (c d : Contents) (slot : Slot) (root next : RootBody) (first second third fourth : List (List ℕ))
     → Shown n c slot root first second

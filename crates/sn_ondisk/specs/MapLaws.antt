@@ -29,13 +29,13 @@ WordsDependOnTheirSectors = (n : ℕ) (slot : Slot) (block word : ℕ) → Depen
 abbrev pub words_of_block : ℕ → List ℕ → List ℕ
 words_of_block k words = take 1024 (drop (1024 * k) words)
 
--- Where each block of a copy is spelled with its part of some words, one for each block of the disk, the copy is spelled with them.
+-- Where each block of a copy is spelled with its part of some words, one for each block of the disk, the copy is spelled with them. More words would have no block, and a word of more than four bytes is spelled like a lesser one.
 abbrev pub BlocksMakeTheMap : Type 0
 BlocksMakeTheMap = (n : ℕ) (c : Contents) (slot : Slot) (words : List ℕ) → length words ≡ n → AreNumbers 4 words
     → ((k : ℕ) → k < map_blocks n → block_at c (start_of n (MapCopy slot) + k) ≡ map_block_bytes (words_of_block k words))
     → HasMap n c slot words
 
--- And where the copy is spelled with words, each of its blocks is spelled with its part of them.
+-- And where the copy is spelled with words, each of its blocks is spelled with its part of them, if it is a block of the disk: in sectors of another length its bytes would lie elsewhere.
 abbrev pub MapIsOfItsBlocks : Type 0
 MapIsOfItsBlocks = (n : ℕ) (c : Contents) (slot : Slot) (words : List ℕ) → AreSectors c → 8 * end_of n (MapCopy slot) ≤ length c → HasMap n c slot words
     → (k : ℕ) → k < map_blocks n → block_at c (start_of n (MapCopy slot) + k) ≡ map_block_bytes (words_of_block k words)

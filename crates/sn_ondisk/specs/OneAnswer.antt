@@ -16,7 +16,7 @@ RecordIsOne = (c : Contents) (base place epoch age sequence number : ℕ) (paylo
 abbrev pub ReadyIsReplayed : Type 0
 ReadyIsReplayed = (c : Contents) (base epoch place : ℕ) (payloads : List (List ℕ)) → IsReady c base epoch payloads place → ReplaysTo c base epoch payloads place
 
--- A half that lies on the disk.
+-- A half that lies on the disk. In sectors of another length a record's first bytes needn't be in its first sector, where replay looks for its epoch.
 pub record IsOnDisk (c : Contents) (base : ℕ) : Type 0 where
   pub whole : AreSectors c
   pub within : base + 256 ≤ length c
@@ -26,12 +26,12 @@ abbrev pub ReplayIsOne : Type 0
 ReplayIsOne = (c : Contents) (base epoch end stop : ℕ) (payloads others : List (List ℕ)) → IsOnDisk c base
     → ReplaysTo c base epoch payloads end → ReplaysTo c base epoch others stop → (payloads ≡ others) × (end ≡ stop)
 
--- A record has its epoch at its place.
+-- A record has its epoch at its place, if the epoch fits its eight bytes: greater ones are spelled like lesser.
 abbrev pub RecordHasItsEpoch : Type 0
 RecordHasItsEpoch = (c : Contents) (base epoch place sequence : ℕ) (payload : List ℕ) → IsOnDisk c base → epoch < 256 ^ 8
     → HasRecord c base epoch place sequence payload → epoch_at c base place ≡ epoch
 
--- Where the first place has no later record, replay of a later epoch finds nothing.
+-- Where the first place has no later record, replay of a later epoch finds nothing. Of the same epoch it may find one.
 abbrev pub LaterReplaysNothing : Type 0
 LaterReplaysNothing = (c : Contents) (base epoch later : ℕ) → HasNoLater c base epoch → epoch < later → later < 256 ^ 8 → ReplaysTo c base later [] 0
 

@@ -26,7 +26,7 @@ length-acls : (acls : AclBlock) → length (acls_bytes acls) ≡ 2 + 8 * (length
 length-acls acls =
     omega (arith, length-append (length acls.access ∷ length (default_entries acls.default) ∷ entries_bytes acls.access) (entries_bytes (default_entries acls.default)), length-entries acls.access, length-entries (default_entries acls.default))
 
-length-ownership : (o : Ownership) → length (ownership_bytes o) ≡ 13 + 8 * entries_of o
+pub length-ownership : (o : Ownership) → length (ownership_bytes o) ≡ 13 + 8 * entries_of o
 length-ownership o =
     let rights = mode_bytes (objects_of o.acl) in
     let owner = number_bytes 4 o.owner in

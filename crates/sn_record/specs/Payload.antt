@@ -1,11 +1,11 @@
 -- The payload of a log record: what a change has to be to have one, and its one spelling.
-use Rattle.std.specs.Prelude.{◌≡◌, ℕ, ◌^◌, ◌<◌, ◌≤◌, Bool, not, ◌||◌, List, ◌∷◌, ◌++◌, length, filter, IsTrue}
+use Rattle.std.specs.Prelude.{◌≡◌, ℕ, ◌^◌, ◌<◌, ◌≤◌, Bool, not, ◌||◌, List, [], ◌∷◌, ◌++◌, length, filter, IsTrue}
 use Rattle.sn_acl.specs.declared.entries.Tag.{Tag}
 use Rattle.sn_acl.specs.declared.entries.Entry.{Entry}
 use Rattle.sn_acl.specs.declared.modes.Mode.{Mode}
 use Rattle.sn_acl.specs.Entries.{is_user_obj, is_group_obj, is_other}
 use Rattle.sn_acl.specs.AccessList.{IsValid}
-use Rattle.sn_acl.specs.Modes.{entry_of, granted_by}
+use Rattle.sn_acl.specs.Modes.{entry_of, granted_by, mode_bits}
 use Rattle.sn_limits.specs.Names.{is_name}
 use Rattle.sn_model.specs.declared.change.Change.{Change}
 use Rattle.sn_model.specs.declared.change.Change.TheVariants.{Make, AddLink, Remove, Rename, Write, SetSize, SetAttributes}
@@ -16,6 +16,7 @@ use Rattle.sn_layout_acl.specs.AclBlock.{IsDefault, acls_bytes}
 use Rattle.sn_layout_acl.specs.declared.acl_block.AclBlock.{AclBlock}
 use Rattle.sn_layout_node.specs.Directory.{name_bytes}
 use Rattle.sn_layout_node.specs.Inode.{kind_number, flags_number}
+use Rattle.sn_record.specs.declared.ownership.Front.{Front}
 
 -- what USER_OBJ, GROUP_OBJ and OTHER grant, which the rights say
 abbrev pub objects_of : List Entry → Mode
@@ -41,6 +42,17 @@ pub record IsOwnership (o : Ownership) : Type 0 where
   pub group : o.group < 256 ^ 4
   pub acl : IsValid o.acl
   pub default : IsDefault o.default_acl
+
+-- the widths of the numbers in front of the lists: S bits, rights, owner and group
+abbrev pub front_widths : List ℕ
+front_widths = 1 ∷ 2 ∷ 4 ∷ 4 ∷ []
+
+abbrev pub front_numbers : Ownership → List ℕ
+front_numbers o = flags_number o.set_gid o.sticky ∷ mode_bits (objects_of o.acl) ∷ o.owner ∷ o.group ∷ []
+
+-- the numbers as they were read
+abbrev pub listed : Front → List ℕ
+listed n = n.bits ∷ n.rights ∷ n.owner ∷ n.group ∷ []
 
 -- S bits, rights, owner, group, and both lists
 abbrev pub ownership_bytes : Ownership → List ℕ

@@ -19,12 +19,15 @@ ghost use Rattle.sn_record.specs.Sizes.{entries_of};
 
 use sn_acl::{Acl, Mode};
 use sn_layout::{Reader, put_u32};
-use sn_layout_acl::{AclBlock, AclParts, NamedEntries, fitting, put_mode, read_mode};
-use sn_layout_node::{SpecialBits, put_special_bits, read_special_bits};
+use sn_layout_acl::{AclBlock, AclParts, NamedEntries, fitting, mode_of, put_mode};
+use sn_layout_node::{SpecialBits, put_special_bits, special_bits_of};
 use sn_model::Ownership;
 
 // The entries USER_OBJ, GROUP_OBJ and OTHER, which the rights say.
 const OBJECTS: usize = 3;
+
+// How many bytes stand in front of the lists.
+const FRONT_SIZE: usize = 11;
 
 fn parts_of(acl: &Acl) -> AclParts
     ensures objects { result.objects ≡ objects_of acl.now }
@@ -86,22 +89,59 @@ pub(crate) fn put_ownership(block: &mut [u8], at: usize, ownership: &Ownership) 
     lists.put_lists(block, at)
 }
 
+// The numbers in front of the lists as they stand in a payload.
+#[derive(Clone, Copy)]
+struct Front {
+    bits: u8,
+    rights: u16,
+    owner: u32,
+    group: u32,
+}
+
+impl Front {
+    ghost use Rattle.sn_layout.specs.Records.{numbers_then, AreOfWidths};
+    ghost use Rattle.sn_record.specs.Payload.{front_widths, front_numbers, listed, lists_of};
+
+    fn read(reader: &mut Reader<'_>) -> Self
+        requires { 11 ≤ length reader.old }
+        ensures fits { AreOfWidths front_widths (listed result) }
+        ensures read { reader.old ≡ numbers_then front_widths (listed result) reader.new }
+    {
+        Front {
+            bits: reader.u8(),
+            rights: reader.u16(),
+            owner: reader.u32(),
+            group: reader.u32(),
+        }
+    }
+
+    // What they give a node together with the lists.
+    fn with(self, lists: AclBlock) -> Option<Ownership>
+        ensures found { IfSome result (λ o. IsOwnership o × (listed self ≡ front_numbers o) × (lists_of o ≡ lists)) }
+        ensures only { (o : TheOwnership) → IsOwnership o → listed self ≡ front_numbers o → lists_of o ≡ lists → result ≡ Some o }
+    {
+        let bits = special_bits_of(self.bits)?;
+        let objects = mode_of(self.rights)?;
+        Some(Ownership {
+            owner: self.owner,
+            group: self.group,
+            set_gid: bits.set_gid,
+            sticky: bits.sticky,
+            acl: joined(&lists.access, objects),
+            default_acl: lists.default,
+        })
+    }
+}
+
 pub(crate) fn read_ownership(reader: &mut Reader<'_>) -> Option<Ownership>
     ensures found { IfSome result (λ o. IsOwnership o × (reader.old ≡ ownership_bytes o ++ reader.new)) }
     ensures only { (o : TheOwnership) (rest : List ℕ) → IsOwnership o → reader.old ≡ ownership_bytes o ++ rest
         → (result ≡ Some o) × (reader.new ≡ rest) }
 {
-    let bits = read_special_bits(reader)?;
-    let objects = read_mode(reader)?;
-    let owner = reader.try_u32()?;
-    let group = reader.try_u32()?;
+    if reader.remaining() < FRONT_SIZE {
+        return None;
+    }
+    let front = Front::read(reader);
     let lists = AclBlock::read_lists(reader)?;
-    Some(Ownership {
-        owner,
-        group,
-        set_gid: bits.set_gid,
-        sticky: bits.sticky,
-        acl: joined(&lists.access, objects),
-        default_acl: lists.default,
-    })
+    front.with(lists)
 }

@@ -3,9 +3,10 @@
 use crate::block::{DIRTY, block_of, push_pointers};
 use anyhow::{Context, Result, ensure};
 use sn_layout::{
-    Area, Block, BlockTree, LogHalf, Places, RootBody, SNAPSHOT_ROOM, Slot, Snapshot, SnapshotName,
-    Snapshots, Superblock,
+    Area, Block, BlockTree, LogHalf, Places, RootBody, SNAPSHOT_ROOM, Slot, Snapshot, Snapshots,
+    Superblock,
 };
+use sn_limits::SnapshotName;
 use sn_table::{Case, Report};
 use std::alloc::Global;
 use std::str;

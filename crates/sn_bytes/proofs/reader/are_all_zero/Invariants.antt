@@ -1,12 +1,8 @@
-use Rattle.std.proofs.Common.{length}
-use Rattle.sn_bytes.proofs.Words.{AreZero}
+use Rattle.std.proofs.Common.{◌≡◌, ◌≤◌, ◌<◌, ℕ, get_or, All}
 use Rattle.sn_bytes.proofs.reader.are_all_zero.Given as goal
 
-abbrev pub invariant-words : goal.invariant-words
-invariant-words l = record {
-  to : AreZero l.rest → AreZero l.bytes;
-  from : AreZero l.bytes → AreZero l.rest;
+abbrev pub invariant-loop-byte : goal.invariant-loop-byte
+invariant-loop-byte l = record {
+  below : (k : ℕ) → k < l.byte-index → get_or l.bytes k 0 ≤ l.largest;
+  least : All (λ byte. byte ≡ 0) l.bytes → l.largest ≡ 0;
 }
-
-abbrev pub decreases-words : goal.decreases-words
-decreases-words l = length l.rest
