@@ -13,7 +13,6 @@
 #![tactic(auto)]
 
 mod applying;
-mod bytes;
 mod error;
 mod linking;
 mod links;
@@ -25,6 +24,7 @@ mod settling;
 mod stored;
 mod tests;
 mod tree;
+mod writing;
 
 pub use error::ApplyError;
 pub use tree::PlainTree;
