@@ -21,8 +21,8 @@ fn owned_link(alloc: Global, directory: u16, name: &Bytes<'_>) -> Result<Link, A
 impl PlainTree {
     ghost use Rattle.sn_plain.specs.Plain.{tree_of, Applies};
 
-    /// Makes a change. All memory that it needs is taken before anything is changed, so that at
-    /// `Memory` the tree is as it was.
+    /// Makes a change of the tree, as replay and a logged call need it: rights were looked at when it
+    /// was decided. All memory is taken before anything is changed.
     pub fn apply(
         &mut self,
         alloc: Global,
