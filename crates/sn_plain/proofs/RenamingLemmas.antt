@@ -1,5 +1,5 @@
 -- A name that is moved, over what is stored.
-use Rattle.std.proofs.Common.{◌≡◌, ◌≢◌, ℕ, zero, suc, ◌+◌, ◌-◌, ◌<◌, ◌^◌, Bool, true, false, cond, not, ◌&&◌, ◌||◌, ◌==◌, nat_lt, flat_map, filter, Option, Some, None, is_some, refl, sym, ap, subst, ◌∙◌, ◌⊎◌, inl, inr, arith, eqb-true, eq-eqb}
+use Rattle.std.proofs.Common.{◌≡◌, ◌≢◌, ℕ, zero, suc, ◌+◌, ◌-◌, ◌<◌, ◌^◌, Bool, true, false, cond, ◌&&◌, ◌||◌, ◌==◌, nat_lt, flat_map, filter, Option, Some, None, is_some, refl, sym, ap, subst, ◌∙◌, ◌⊎◌, inl, inr, arith, eqb-true, eq-eqb}
 use Rattle.std.specs.List.{list_any}
 use Rattle.std.specs.Option.{option_eq, option_map}
 use Rattle.std.specs.Ordering.{nat_cmp, eq_by_cmp}
@@ -27,7 +27,7 @@ use Rattle.sn_plain.specs.declared.nodes.Nodes.{Nodes}
 use Rattle.sn_plain.specs.declared.nodes.StoredNode.{StoredNode}
 use Rattle.sn_plain.specs.Maps.{updated}
 use Rattle.sn_plain.specs.Moves.{has_place_left, names_left}
-use Rattle.sn_plain.specs.Stored.{counts_of, links_of, nodes_of, stored_of, node_of, Clears, fewer_at, more_at, recount, under, HasDirectory, IsCounted, IsMovable, Moves, Recounts}
+use Rattle.sn_plain.specs.Stored.{counts_of, nodes_of, stored_of, node_of, Clears, fewer_at, more_at, recount, under, HasDirectory, IsCounted, IsMovable, Moves, Recounts}
 use Rattle.sn_plain.proofs.CountedLemmas.{Stored, after_loss, was_counted, counted_link, counted_loss, counted_tree, counted_under, counted_unlink}
 use Rattle.sn_plain.proofs.MakingLemmas.{directory_removed, file_removed, is_directory_kind, links_kept, names_kept, no_links_left, no_names_left, number_low, only_name, stored_there}
 use Rattle.sn_plain.proofs.MapLemmas.{get-updated_each}

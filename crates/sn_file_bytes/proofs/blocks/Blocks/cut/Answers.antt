@@ -1,4 +1,4 @@
-use Rattle.std.proofs.Common.{◌≡◌, ℕ, ◌/◌, ◌∙◌, ap, cond, nat_lt}
+use Rattle.std.proofs.Common.{ℕ, ◌/◌, ◌∙◌, ap, cond, nat_lt}
 use Rattle.sn_file_bytes.specs.Bytes.{byte_of}
 use Rattle.sn_file_bytes.proofs.BlockLemmas.{cut_is}
 use Rattle.sn_file_bytes.proofs.blocks.Blocks.cut.Goals as goal

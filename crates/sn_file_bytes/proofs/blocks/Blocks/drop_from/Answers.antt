@@ -1,4 +1,4 @@
-use Rattle.std.proofs.Common.{◌≡◌, ℕ, List, nat_lt, ap, ◌∙◌, rules}
+use Rattle.std.proofs.Common.{ℕ, List, nat_lt, ap, ◌∙◌, rules}
 use Rattle.std.specs.declared.boxed.Box.{Box}
 use Rattle.std.specs.Global.{Global}
 use Rattle.std.proofs.lemmas.Map.Made.{filter_same_pairs}

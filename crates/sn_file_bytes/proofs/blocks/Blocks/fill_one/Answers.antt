@@ -1,4 +1,4 @@
-use Rattle.std.proofs.Common.{◌≡◌, rules, ℕ, Option, Some, None, List, true, false, is_some, get_or, replicate, refl, sym, ap, ◌∙◌}
+use Rattle.std.proofs.Common.{◌≡◌, ℕ, Option, Some, None, List, false, is_some, get_or, replicate, refl, sym, ap, ◌∙◌}
 use Rattle.std.proofs.lemmas.Bool.{true≢false}
 use Rattle.sn_file_bytes.specs.Blocks.{block_at}
 use Rattle.sn_file_bytes.proofs.BlockLemmas.{filled}

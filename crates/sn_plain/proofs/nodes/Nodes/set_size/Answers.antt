@@ -1,14 +1,12 @@
-use Rattle.std.proofs.Common.{◌≡◌, ℕ, List, refl, sym, ap, ◌∙◌, rules}
+use Rattle.std.proofs.Common.{ℕ, List, sym, ap, rules}
 use Rattle.std.specs.BTreeMap.{BTreeMap}
 use Rattle.std.specs.Cmp.{nat_cmp_total}
 use Rattle.std.specs.Ordering.{nat_cmp}
 use Rattle.std.proofs.lemmas.Map.Lookups.{exact_unsigned}
-use Rattle.sn_model.specs.Changes.{overwritten, resized}
-use Rattle.sn_model.specs.Tree.{Node}
+use Rattle.sn_model.specs.Changes.{resized}
 use Rattle.sn_plain.specs.declared.nodes.StoredNode.{StoredNode}
-use Rattle.sn_plain.specs.Maps.{seen_by}
 use Rattle.sn_plain.specs.Stored.{nodes_of, stored_of, node_of, bytes_by, node_bytes_by}
-use Rattle.sn_plain.proofs.MapLemmas.{updated-seen_by, none-seen_by, same-updated}
+use Rattle.sn_plain.proofs.MapLemmas.{updated-seen_by, none-seen_by}
 use Rattle.sn_plain.proofs.nodes.Nodes.set_size.Goals as goal
 
 pub returns-in-Some-clause-nodes : goal.returns-in-Some-clause-nodes

@@ -1,4 +1,4 @@
-use Rattle.std.proofs.Common.{Bool, ◌+◌, ◌&&◌, nat_le, nat_lt, length, arith, sym, ap, ◌∙◌}
+use Rattle.std.proofs.Common.{◌+◌, ◌&&◌, nat_le, nat_lt, length, arith, sym, ap, ◌∙◌}
 use Rattle.sn_plain.specs.Plain.{tree_of}
 use Rattle.sn_plain.proofs.WritingLemmas.{written_tested}
 use Rattle.sn_plain.proofs.tree.PlainTree.can_write.Goals as goal
