@@ -1,4 +1,4 @@
-pub mod Bytes
 pub mod Maps
+pub mod Moves
 pub mod Plain
 pub mod Stored

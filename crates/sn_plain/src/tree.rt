@@ -5,10 +5,10 @@ ghost use Rattle.sn_model.specs.Tree.{viewed, least_unused, names_in, names_for}
 ghost use Rattle.sn_model.specs.World.{new_root, new_tree};
 ghost use Rattle.sn_plain.specs.Stored.{IsCountedIn, node_of, IsFresh};
 
-use crate::bytes::FileBytes;
 use crate::links::Links;
 use crate::nodes::{Counts, Nodes, StoredNode, StoredOwnership};
 use sn_acl::{Acl, Mode, Permissions};
+use sn_file_bytes::FileBytes;
 use sn_limits::{Kind, Limits};
 use sn_model::{Errno, Link, Refusal, StoredAcl};
 use sn_walk::{Attributes, ROOT_NUMBER};
