@@ -10,3 +10,6 @@ pub mod MergedLemmas
 pub mod ChangeLemmas
 pub mod ByteLemmas
 pub mod SizeLemmas
+pub mod RenameLemmas
+pub mod WriteLemmas
+pub mod ShownLemmas

@@ -9,11 +9,11 @@ use Rattle.sn_model.specs.declared.change.Ownership.{Ownership}
 use Rattle.sn_model.specs.declared.link.Link.{Link}
 use Rattle.sn_model.specs.Tree.{Tree}
 use Rattle.sn_model.specs.NameTree.{IsHierarchy}
-use Rattle.sn_model.specs.Changes.{made, linked, removed, owned, cut, resized, overwritten}
+use Rattle.sn_model.specs.Changes.{made, linked, removed, renamed, written, owned, cut, resized, overwritten, apply}
 use Rattle.sn_overlay.specs.Pieces.{piece, zeroed, spliced}
 use Rattle.sn_overlay.specs.Layers.{Layer, IsLayer, Fits, through, node_seen, name_seen}
 use Rattle.sn_overlay.specs.Merges.{merge}
-use Rattle.sn_overlay.specs.ChangeLayers.{make_layer, link_layer, remove_layer, ownership_layer, size_layer}
+use Rattle.sn_overlay.specs.ChangeLayers.{make_layer, link_layer, remove_layer, rename_layer, write_layer, ownership_layer, size_layer, layer_of_change}
 use Rattle.sn_overlay.specs.Needs.{need, need_of, counts, counts_for, left_nameless, charge_for, AreCharged, IsPaid}
 
 -- At each number and each name the tree seen through a layer has what the layer shows there.
@@ -72,6 +72,15 @@ AttributesShow = (tree after : Tree) (number : ℕ) (o : Ownership) → owned tr
 
 abbrev pub SizesShow : Type 0
 SizesShow = (limits : Limits) (tree after : Tree) (number size : ℕ) → cut limits tree number size ≡ Some after → through (size_layer tree number size) tree ≡ after
+
+abbrev pub RenamesShow : Type 0
+RenamesShow = (limits : Limits) (tree after : Tree) (old new : Link) → renamed limits tree old new ≡ Some after → through (rename_layer tree old new) tree ≡ after
+
+abbrev pub WritesShow : Type 0
+WritesShow = (limits : Limits) (tree after : Tree) (number offset : ℕ) (bytes : List ℕ) → written limits tree number offset bytes ≡ Some after → through (write_layer tree number offset bytes) tree ≡ after
+
+abbrev pub ChangesShow : Type 0
+ChangesShow = (limits : Limits) (change : Change) (tree after : Tree) → IsHierarchy tree → apply limits change tree ≡ Some after → through (layer_of_change tree change) tree ≡ after
 
 -- The block in which a file is cut off has zeros from there on; those before it, and all of a file that isn't made shorter, stay.
 abbrev pub CutsZero : Type 0

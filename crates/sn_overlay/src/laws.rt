@@ -1,4 +1,4 @@
-ghost use Rattle.sn_overlay.specs.Laws.{AttributesShow, ChangesArePaid, CutsKeep, CutsZero, DropsArePaid, LayersShowNames, LayersShowNodes, LinksShow, MakesShow, MergesAreLayers, MergesFit, MergesShowBoth, MergesStayPaid, NeedsAdd, RemovesShow, SizesShow, TwoLevelsAreCharged, VersionsAreCharged, WritesKeep, WritesSplice};
+ghost use Rattle.sn_overlay.specs.Laws.{AttributesShow, ChangesArePaid, ChangesShow, CutsKeep, CutsZero, DropsArePaid, LayersShowNames, LayersShowNodes, LinksShow, MakesShow, MergesAreLayers, MergesFit, MergesShowBoth, MergesStayPaid, NeedsAdd, RemovesShow, RenamesShow, SizesShow, TwoLevelsAreCharged, VersionsAreCharged, WritesKeep, WritesShow, WritesSplice};
 
 /// At each number the tree that is seen through a layer has the layer's node, or none where the layer
 /// says so, or the node below.
@@ -82,6 +82,21 @@ pub fn attributes_show()
 /// Through the layer of a setting of a size, the file is cut off there, or has zeros up to there.
 pub fn sizes_show()
     ensures { SizesShow }
+{}
+
+/// Through the layer of a rename, the name is moved, and what had the new one has lost it.
+pub fn renames_show()
+    ensures { RenamesShow }
+{}
+
+/// Through the layer of a write, the file has the bytes in place, with zeros up to there.
+pub fn writes_show()
+    ensures { WritesShow }
+{}
+
+/// Through the layer of any change, the tree is what the change makes of it.
+pub fn changes_show()
+    ensures { ChangesShow }
 {}
 
 /// The block in which a file is cut off is the old one with zeros from there on.
