@@ -13,3 +13,5 @@ pub mod SizeLemmas
 pub mod RenameLemmas
 pub mod WriteLemmas
 pub mod ShownLemmas
+pub mod WholeLemmas
+pub mod ChangeWholeLemmas

@@ -86,20 +86,21 @@ module _ (tree : Tree) (number size : ℕ) (node : Node) where
           apart : index ≡ size / 4096 → ⊥
           apart same = true≢false (sym ((eq_by_cmp_equiv places_total).refl (block_place number index)) ∙ ap (λ i. eq_by_cmp place_cmp (block_place number index) (block_place number i)) same ∙ e)
 
-  seen_cut : (b : Bool) → cuts_block node.bytes size ≡ b → node_seen (with_tail b bare number size node.bytes) number (Some (Changed state)) (Some node) ≡ Some (node_with node.kind (ownership_of node) (resized node.bytes size))
-  seen_cut b e = ap (λ bytes. Some (node_with node.kind (ownership_of node) bytes))
-      (joined_alike 4096 size _ _ (blocks b e)
-      ∙ ap (λ n. joined 4096 n (piece 4096 (resized node.bytes size))) (sym (length-resized node.bytes size))
-      ∙ joined-piece 4096 (resized node.bytes size) (omega arith))
+  -- each block is one of the file that was cut off
+  pub cut_block : (b : Bool) → cuts_block node.bytes size ≡ b → (index : ℕ) → block_seen (with_tail b bare number size node.bytes) number state node.bytes index ≡ piece 4096 (resized node.bytes size) index
+  cut_block true e index = tail_block index
+  cut_block false e index = bare_block index (whole (ltb size (length node.bytes)) (eqb (size % 4096) 0) refl refl e)
     where
       whole : (l m : Bool) → ltb size (length node.bytes) ≡ l → eqb (size % 4096) 0 ≡ m → (l && not m) ≡ false → (length node.bytes ≤ size) ⊎ (size % 4096 ≡ 0)
       whole false m f g h = inl (ltb-false size (length node.bytes) f)
       whole true true f g h = inr (eqb-true (size % 4096) 0 g)
       whole true false f g h = absurd (true≢false h)
 
-      blocks : (b : Bool) → cuts_block node.bytes size ≡ b → (index : ℕ) → block_seen (with_tail b bare number size node.bytes) number state node.bytes index ≡ piece 4096 (resized node.bytes size) index
-      blocks true e index = tail_block index
-      blocks false e index = bare_block index (whole (ltb size (length node.bytes)) (eqb (size % 4096) 0) refl refl e)
+  seen_cut : (b : Bool) → cuts_block node.bytes size ≡ b → node_seen (with_tail b bare number size node.bytes) number (Some (Changed state)) (Some node) ≡ Some (node_with node.kind (ownership_of node) (resized node.bytes size))
+  seen_cut b e = ap (λ bytes. Some (node_with node.kind (ownership_of node) bytes))
+      (joined_alike 4096 size _ _ (cut_block b e)
+      ∙ ap (λ n. joined 4096 n (piece 4096 (resized node.bytes size))) (sym (length-resized node.bytes size))
+      ∙ joined-piece 4096 (resized node.bytes size) (omega arith))
 
 -- a layer of one node that stays
 pub one_node_shows : (layer : Layer) (tree : Tree) (number : ℕ) (s : NodeState) (node seen : Node) → layer.nodes ≡ map.insert map.empty number (Changed s) → layer.names ≡ map.empty → s.fresh ≡ false → map.get tree.nodes number ≡ Some node

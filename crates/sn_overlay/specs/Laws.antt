@@ -82,6 +82,10 @@ WritesShow = (limits : Limits) (tree after : Tree) (number offset : ℕ) (bytes 
 abbrev pub ChangesShow : Type 0
 ChangesShow = (limits : Limits) (change : Change) (tree after : Tree) → IsHierarchy tree → apply limits change tree ≡ Some after → through (layer_of_change tree change) tree ≡ after
 
+-- That layer is whole, and fits the tree.
+abbrev pub ChangesAreLayers : Type 0
+ChangesAreLayers = (limits : Limits) (change : Change) (tree after : Tree) → IsHierarchy tree → apply limits change tree ≡ Some after → IsLayer (layer_of_change tree change) × Fits (layer_of_change tree change) tree
+
 -- The block in which a file is cut off has zeros from there on; those before it, and all of a file that isn't made shorter, stay.
 abbrev pub CutsZero : Type 0
 CutsZero = (bytes : List ℕ) (index from : ℕ) → from ≤ 4096 → piece 4096 (resized bytes (index * 4096 + from)) index ≡ zeroed from (piece 4096 bytes index)

@@ -1,4 +1,4 @@
-ghost use Rattle.sn_overlay.specs.Laws.{AttributesShow, ChangesArePaid, ChangesShow, CutsKeep, CutsZero, DropsArePaid, LayersShowNames, LayersShowNodes, LinksShow, MakesShow, MergesAreLayers, MergesFit, MergesShowBoth, MergesStayPaid, NeedsAdd, RemovesShow, RenamesShow, SizesShow, TwoLevelsAreCharged, VersionsAreCharged, WritesKeep, WritesShow, WritesSplice};
+ghost use Rattle.sn_overlay.specs.Laws.{AttributesShow, ChangesAreLayers, ChangesArePaid, ChangesShow, CutsKeep, CutsZero, DropsArePaid, LayersShowNames, LayersShowNodes, LinksShow, MakesShow, MergesAreLayers, MergesFit, MergesShowBoth, MergesStayPaid, NeedsAdd, RemovesShow, RenamesShow, SizesShow, TwoLevelsAreCharged, VersionsAreCharged, WritesKeep, WritesShow, WritesSplice};
 
 /// At each number the tree that is seen through a layer has the layer's node, or none where the layer
 /// says so, or the node below.
@@ -97,6 +97,11 @@ pub fn writes_show()
 /// Through the layer of any change, the tree is what the change makes of it.
 pub fn changes_show()
     ensures { ChangesShow }
+{}
+
+/// That layer is whole, and fits the tree.
+pub fn changes_are_layers()
+    ensures { ChangesAreLayers }
 {}
 
 /// The block in which a file is cut off is the old one with zeros from there on.
