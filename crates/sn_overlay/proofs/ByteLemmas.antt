@@ -9,7 +9,7 @@ use Rattle.sn_overlay.proofs.PieceLemmas.{length-zeros, get_or-zeros, length-pie
 same_place : (index from at : ℕ) → from ≤ at → index * 4096 + at - (index * 4096 + from) ≡ at - from
 same_place index from at h = omega arith
 
-past_place : (from n at : ℕ) → from + n ≤ at → from + n + (at - from - n) ≡ at
+pub past_place : (from n at : ℕ) → from + n ≤ at → from + n + (at - from - n) ≡ at
 past_place from n at h = omega arith
 
 -- zeros behind some bytes read as the end does

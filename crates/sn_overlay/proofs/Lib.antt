@@ -15,3 +15,5 @@ pub mod WriteLemmas
 pub mod ShownLemmas
 pub mod WholeLemmas
 pub mod ChangeWholeLemmas
+pub mod CountLemmas
+pub mod SpliceLemmas

@@ -1,5 +1,5 @@
 -- What follows from the definitions of layers.
-use Rattle.std.specs.Prelude.{◌≡◌, ℕ, ◌+◌, ◌*◌, ◌≤◌, ◌⊎◌, List, length, Some}
+use Rattle.std.specs.Prelude.{◌≡◌, ℕ, ◌+◌, ◌-◌, ◌*◌, ◌<◌, ◌≤◌, ◌⊎◌, List, length, Some}
 use Rattle.sn_walk.specs.declared.view.Kind.{Kind}
 use Rattle.std.specs.FinMap as map
 use Rattle.sn_limits.specs.declared.limits.Limits.{Limits}
@@ -10,7 +10,7 @@ use Rattle.sn_model.specs.declared.link.Link.{Link}
 use Rattle.sn_model.specs.Tree.{Tree}
 use Rattle.sn_model.specs.NameTree.{IsHierarchy}
 use Rattle.sn_model.specs.Changes.{made, linked, removed, renamed, written, owned, cut, resized, overwritten, apply}
-use Rattle.sn_overlay.specs.Pieces.{piece, zeroed, spliced}
+use Rattle.sn_overlay.specs.Pieces.{piece, zeroed, spliced, part_in}
 use Rattle.sn_overlay.specs.Layers.{Layer, IsLayer, Fits, through, node_seen, name_seen}
 use Rattle.sn_overlay.specs.Merges.{merge}
 use Rattle.sn_overlay.specs.ChangeLayers.{make_layer, link_layer, remove_layer, rename_layer, write_layer, ownership_layer, size_layer, layer_of_change}
@@ -86,6 +86,10 @@ ChangesShow = (limits : Limits) (change : Change) (tree after : Tree) → IsHier
 abbrev pub ChangesAreLayers : Type 0
 ChangesAreLayers = (limits : Limits) (change : Change) (tree after : Tree) → IsHierarchy tree → apply limits change tree ≡ Some after → IsLayer (layer_of_change tree change) × Fits (layer_of_change tree change) tree
 
+-- It needs what was counted for the change, at most.
+abbrev pub ChangesNeed : Type 0
+ChangesNeed = (limits : Limits) (tree : Tree) (change : Change) → need limits (layer_of_change tree change) ≤ need_of limits (counts_for change)
+
 -- The block in which a file is cut off has zeros from there on; those before it, and all of a file that isn't made shorter, stay.
 abbrev pub CutsZero : Type 0
 CutsZero = (bytes : List ℕ) (index from : ℕ) → from ≤ 4096 → piece 4096 (resized bytes (index * 4096 + from)) index ≡ zeroed from (piece 4096 bytes index)
@@ -96,6 +100,10 @@ CutsKeep = (bytes : List ℕ) (size index : ℕ) → ((index + 1) * 4096 ≤ siz
 -- A block in which bytes are written is the old one with them in place; one in which none are stays.
 abbrev pub WritesSplice : Type 0
 WritesSplice = (bytes : List ℕ) (index from : ℕ) (new : List ℕ) → from + length new ≤ 4096 → piece 4096 (overwritten bytes (index * 4096 + from) new) index ≡ spliced from new (piece 4096 bytes index)
+
+-- The same for bytes that reach over several blocks: each block gets those that lie in it.
+abbrev pub WritesSpan : Type 0
+WritesSpan = (bytes : List ℕ) (offset : ℕ) (new : List ℕ) (index : ℕ) → offset < (index + 1) * 4096 → index * 4096 < offset + length new → piece 4096 (overwritten bytes offset new) index ≡ spliced (offset - index * 4096) (part_in offset new index) (piece 4096 bytes index)
 
 abbrev pub WritesKeep : Type 0
 WritesKeep = (bytes : List ℕ) (offset : ℕ) (new : List ℕ) (index : ℕ) → ((index + 1) * 4096 ≤ offset) ⊎ (offset + length new ≤ index * 4096) → piece 4096 (overwritten bytes offset new) index ≡ piece 4096 bytes index

@@ -1,4 +1,4 @@
-ghost use Rattle.sn_overlay.specs.Laws.{AttributesShow, ChangesAreLayers, ChangesArePaid, ChangesShow, CutsKeep, CutsZero, DropsArePaid, LayersShowNames, LayersShowNodes, LinksShow, MakesShow, MergesAreLayers, MergesFit, MergesShowBoth, MergesStayPaid, NeedsAdd, RemovesShow, RenamesShow, SizesShow, TwoLevelsAreCharged, VersionsAreCharged, WritesKeep, WritesShow, WritesSplice};
+ghost use Rattle.sn_overlay.specs.Laws.{AttributesShow, ChangesAreLayers, ChangesArePaid, ChangesNeed, ChangesShow, CutsKeep, CutsZero, DropsArePaid, LayersShowNames, LayersShowNodes, LinksShow, MakesShow, MergesAreLayers, MergesFit, MergesShowBoth, MergesStayPaid, NeedsAdd, RemovesShow, RenamesShow, SizesShow, TwoLevelsAreCharged, VersionsAreCharged, WritesKeep, WritesShow, WritesSpan, WritesSplice};
 
 /// At each number the tree that is seen through a layer has the layer's node, or none where the layer
 /// says so, or the node below.
@@ -104,6 +104,11 @@ pub fn changes_are_layers()
     ensures { ChangesAreLayers }
 {}
 
+/// It needs no more blocks than were counted for the change.
+pub fn changes_need()
+    ensures { ChangesNeed }
+{}
+
 /// The block in which a file is cut off is the old one with zeros from there on.
 pub fn cuts_zero()
     ensures { CutsZero }
@@ -117,6 +122,11 @@ pub fn cuts_keep()
 /// A block in which bytes are written is the old one with them in place.
 pub fn writes_splice()
     ensures { WritesSplice }
+{}
+
+/// Where bytes reach over several blocks, each block gets those that lie in it.
+pub fn writes_span()
+    ensures { WritesSpan }
 {}
 
 /// A block in which none are written stays.
