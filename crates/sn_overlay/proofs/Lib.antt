@@ -17,3 +17,4 @@ pub mod WholeLemmas
 pub mod ChangeWholeLemmas
 pub mod CountLemmas
 pub mod SpliceLemmas
+pub mod ApplyLemmas

@@ -28,6 +28,15 @@ use Rattle.sn_overlay.proofs.ByteLemmas.{length-overwritten, piece-overwritten}
 use Rattle.sn_overlay.proofs.ChangeLemmas.{piece_past}
 use Rattle.sn_overlay.proofs.SizeLemmas.{one_node_shows}
 
+-- no blocks, and one more
+pub blocks_none : (layer : Layer) (number : ℕ) (block : ℕ → List ℕ) (first : ℕ) → with_blocks layer number block first 0 ≡ layer
+unfolding with_blocks
+blocks_none layer number block first = refl
+
+pub blocks_next : (layer : Layer) (number : ℕ) (block : ℕ → List ℕ) (first n : ℕ) → with_blocks layer number block first (n + 1) ≡ with_block (with_blocks layer number block first n) (block_place number (first + n)) (block (first + n))
+unfolding with_blocks
+blocks_next layer number block first n = let next : n + 1 ≡ suc n = omega arith in ap (with_blocks layer number block first) next
+
 -- so many blocks that are written: nodes and names stay
 pub nodes-with_blocks : (layer : Layer) (number : ℕ) (block : ℕ → List ℕ) (first n : ℕ) → (with_blocks layer number block first n).nodes ≡ layer.nodes
 unfolding with_blocks

@@ -40,6 +40,12 @@ pub record HasRoom (it : Overlay) (more : Counts) : Type 0 where
   pub names : vec_len it.names.entries + more.names ≤ vec_capacity it.names.entries
   pub blocks : vec_len it.blocks.entries + more.blocks ≤ vec_capacity it.blocks.entries
 
+-- of the room that there was, at most so much is taken
+pub record TakesRoom (old new : Overlay) (taken : Counts) : Type 0 where
+  pub nodes : vec_capacity old.nodes.entries + vec_len new.nodes.entries ≤ vec_capacity new.nodes.entries + vec_len old.nodes.entries + taken.nodes
+  pub names : vec_capacity old.names.entries + vec_len new.names.entries ≤ vec_capacity new.names.entries + vec_len old.names.entries + taken.names
+  pub blocks : vec_capacity old.blocks.entries + vec_len new.blocks.entries ≤ vec_capacity new.blocks.entries + vec_len old.blocks.entries + taken.blocks
+
 -- how many it has
 abbrev pub sizes_of : Overlay → Counts
 sizes_of it = record { nodes = vec_len it.nodes.entries; names = vec_len it.names.entries; blocks = vec_len it.blocks.entries }

@@ -1,0 +1,40 @@
+-- What is read of the tree below an overlay.
+use Rattle.std.specs.Prelude.{ℕ, false, List, length, Option, None, Some, if◌then◌else◌}
+use Rattle.std.specs.Option.{option_map}
+use Rattle.std.specs.FinMap as map
+use Rattle.sn_walk.specs.Views.{is_directory}
+use Rattle.sn_model.specs.Tree.{Node, Tree, link_count, names_for}
+use Rattle.sn_model.specs.Changes.{ownership_of}
+use Rattle.sn_overlay.specs.declared.node.NodeChange.TheVariants.{Gone, Changed}
+use Rattle.sn_overlay.specs.declared.node.NodeState.{NodeState}
+use Rattle.sn_overlay.specs.declared.node.SeenNode.{SeenNode}
+use Rattle.sn_overlay.specs.declared.place.BlockPlace.{BlockPlace}
+use Rattle.sn_overlay.specs.Pieces.{piece}
+use Rattle.sn_overlay.specs.Layers.{Layer, bytes_of}
+use Rattle.sn_overlay.specs.Overlays.{with_node}
+use Rattle.sn_overlay.specs.ChangeLayers.{one_name_less}
+
+abbrev pub seen_of : Tree → ℕ → Node → SeenNode
+seen_of tree number node = record { kind = node.kind; ownership = ownership_of node; links = link_count node.kind (names_for tree number); size = length node.bytes }
+
+-- the node of a number
+abbrev pub seen_node : Tree → ℕ → Option SeenNode
+seen_node tree number = option_map (seen_of tree number) (map.get tree.nodes number)
+
+-- a block of a file, with zeros behind its end
+abbrev pub seen_block : Tree → BlockPlace → List ℕ
+seen_block tree place = piece 4096 (bytes_of (map.get tree.nodes place.file)) place.index
+
+-- a node that was seen, as a layer has it where nothing of it changes
+abbrev pub kept_state : SeenNode → NodeState
+kept_state seen = record { kind = seen.kind; ownership = seen.ownership; links = seen.links; size = seen.size; cut = seen.size; fresh = false; acl_changed = false }
+
+-- a node that was seen is changed
+abbrev pub with_seen : ℕ → (NodeState → NodeState) → Layer → Option SeenNode → Layer
+with_seen number change layer None = layer
+with_seen number change layer (Some seen) = with_node layer number (Changed (change (kept_state seen)))
+
+-- a node that was seen loses a name
+abbrev pub with_loss : ℕ → Layer → Option SeenNode → Layer
+with_loss number layer None = layer
+with_loss number layer (Some seen) = with_node layer number (if is_directory seen.kind then Gone false else Changed (one_name_less (kept_state seen)))
