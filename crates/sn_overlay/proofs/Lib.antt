@@ -18,3 +18,4 @@ pub mod ChangeWholeLemmas
 pub mod CountLemmas
 pub mod SpliceLemmas
 pub mod ApplyLemmas
+pub mod NamesLemmas

@@ -14,6 +14,7 @@ use Rattle.sn_overlay.specs.Pieces.{piece, zeroed, spliced, part_in}
 use Rattle.sn_overlay.specs.Layers.{Layer, IsLayer, Fits, through, node_seen, name_seen}
 use Rattle.sn_overlay.specs.Merges.{merge}
 use Rattle.sn_overlay.specs.ChangeLayers.{make_layer, link_layer, remove_layer, rename_layer, write_layer, ownership_layer, size_layer, layer_of_change}
+use Rattle.sn_overlay.specs.Seen.{CountsNames}
 use Rattle.sn_overlay.specs.Needs.{need, need_of, counts, counts_for, left_nameless, charge_for, AreCharged, IsPaid}
 
 -- At each number and each name the tree seen through a layer has what the layer shows there.
@@ -89,6 +90,13 @@ ChangesAreLayers = (limits : Limits) (change : Change) (tree after : Tree) → I
 -- It needs what was counted for the change, at most.
 abbrev pub ChangesNeed : Type 0
 ChangesNeed = (limits : Limits) (tree : Tree) (change : Change) → need limits (layer_of_change tree change) ≤ need_of limits (counts_for change)
+
+-- It counts names: each node that it has as many as the node has afterwards, and a merge does where both do.
+abbrev pub ChangesCount : Type 0
+ChangesCount = (limits : Limits) (change : Change) (tree after : Tree) → IsHierarchy tree → apply limits change tree ≡ Some after → CountsNames (layer_of_change tree change) tree after
+
+abbrev pub MergesCount : Type 0
+MergesCount = (older newer : Layer) (tree between after : Tree) → CountsNames older tree between → CountsNames newer between after → CountsNames (merge older newer) tree after
 
 -- The block in which a file is cut off has zeros from there on; those before it, and all of a file that isn't made shorter, stay.
 abbrev pub CutsZero : Type 0

@@ -1,5 +1,5 @@
 -- What is read of the tree below an overlay.
-use Rattle.std.specs.Prelude.{ℕ, false, List, length, Option, None, Some, if◌then◌else◌}
+use Rattle.std.specs.Prelude.{◌≡◌, ℕ, false, List, length, Option, None, Some, if◌then◌else◌}
 use Rattle.std.specs.Option.{option_map}
 use Rattle.std.specs.FinMap as map
 use Rattle.sn_walk.specs.Views.{is_directory}
@@ -38,3 +38,8 @@ with_seen number change layer (Some seen) = with_node layer number (Changed (cha
 abbrev pub with_loss : ℕ → Layer → Option SeenNode → Layer
 with_loss number layer None = layer
 with_loss number layer (Some seen) = with_node layer number (if is_directory seen.kind then Gone false else Changed (one_name_less (kept_state seen)))
+
+-- A layer counts names: what it has of a node says how many names the node has in the tree that the layer makes of another, and what it doesn't have has as many as before.
+pub record CountsNames (layer : Layer) (tree after : Tree) : Type 0 where
+  pub changed : (number : ℕ) (state : NodeState) → map.get layer.nodes number ≡ Some (Changed state) → state.links ≡ link_count state.kind (names_for after number)
+  pub others : (number : ℕ) → map.get layer.nodes number ≡ None → names_for after number ≡ names_for tree number

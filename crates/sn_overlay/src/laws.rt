@@ -1,4 +1,4 @@
-ghost use Rattle.sn_overlay.specs.Laws.{AttributesShow, ChangesAreLayers, ChangesArePaid, ChangesNeed, ChangesShow, CutsKeep, CutsZero, DropsArePaid, LayersShowNames, LayersShowNodes, LinksShow, MakesShow, MergesAreLayers, MergesFit, MergesShowBoth, MergesStayPaid, NeedsAdd, RemovesShow, RenamesShow, SizesShow, TwoLevelsAreCharged, VersionsAreCharged, WritesKeep, WritesShow, WritesSpan, WritesSplice};
+ghost use Rattle.sn_overlay.specs.Laws.{AttributesShow, ChangesAreLayers, ChangesArePaid, ChangesCount, ChangesNeed, ChangesShow, CutsKeep, CutsZero, DropsArePaid, LayersShowNames, LayersShowNodes, LinksShow, MakesShow, MergesAreLayers, MergesCount, MergesFit, MergesShowBoth, MergesStayPaid, NeedsAdd, RemovesShow, RenamesShow, SizesShow, TwoLevelsAreCharged, VersionsAreCharged, WritesKeep, WritesShow, WritesSpan, WritesSplice};
 
 /// At each number the tree that is seen through a layer has the layer's node, or none where the layer
 /// says so, or the node below.
@@ -107,6 +107,16 @@ pub fn changes_are_layers()
 /// It needs no more blocks than were counted for the change.
 pub fn changes_need()
     ensures { ChangesNeed }
+{}
+
+/// It says of each node that it has how many names the node has afterwards.
+pub fn changes_count()
+    ensures { ChangesCount }
+{}
+
+/// So does a merge of layers that do.
+pub fn merges_count()
+    ensures { MergesCount }
 {}
 
 /// The block in which a file is cut off is the old one with zeros from there on.
