@@ -19,3 +19,4 @@ pub mod CountLemmas
 pub mod SpliceLemmas
 pub mod ApplyLemmas
 pub mod NamesLemmas
+pub mod SeenLemmas

@@ -1,16 +1,17 @@
 -- What is read of the tree below an overlay.
 use Rattle.std.specs.Prelude.{◌≡◌, ℕ, false, List, length, Option, None, Some, if◌then◌else◌}
-use Rattle.std.specs.Option.{option_map}
+use Rattle.std.specs.Option.{option_map, unwrap_or}
 use Rattle.std.specs.FinMap as map
 use Rattle.sn_walk.specs.Views.{is_directory}
 use Rattle.sn_model.specs.Tree.{Node, Tree, link_count, names_for}
 use Rattle.sn_model.specs.Changes.{ownership_of}
+use Rattle.sn_overlay.specs.declared.node.NodeChange.{NodeChange}
 use Rattle.sn_overlay.specs.declared.node.NodeChange.TheVariants.{Gone, Changed}
 use Rattle.sn_overlay.specs.declared.node.NodeState.{NodeState}
 use Rattle.sn_overlay.specs.declared.node.SeenNode.{SeenNode}
 use Rattle.sn_overlay.specs.declared.place.BlockPlace.{BlockPlace}
-use Rattle.sn_overlay.specs.Pieces.{piece}
-use Rattle.sn_overlay.specs.Layers.{Layer, bytes_of}
+use Rattle.sn_overlay.specs.Pieces.{zeros, piece}
+use Rattle.sn_overlay.specs.Layers.{Layer, IsLayer, Fits, through, hides_block, bytes_of}
 use Rattle.sn_overlay.specs.Overlays.{with_node}
 use Rattle.sn_overlay.specs.ChangeLayers.{one_name_less}
 
@@ -43,3 +44,25 @@ with_loss number layer (Some seen) = with_node layer number (if is_directory see
 pub record CountsNames (layer : Layer) (tree after : Tree) : Type 0 where
   pub changed : (number : ℕ) (state : NodeState) → map.get layer.nodes number ≡ Some (Changed state) → state.links ≡ link_count state.kind (names_for after number)
   pub others : (number : ℕ) → map.get layer.nodes number ≡ None → names_for after number ≡ names_for tree number
+
+-- A layer lies over a tree: it is whole, fits the tree, and counts names.
+pub record LiesOver (layer : Layer) (tree : Tree) : Type 0 where
+  pub whole : IsLayer layer
+  pub fits : Fits layer tree
+  pub counts : CountsNames layer tree (through layer tree)
+
+-- a node that a layer has, as it is seen
+abbrev pub shown_state : NodeState → SeenNode
+shown_state state = record { kind = state.kind; ownership = state.ownership; links = state.links; size = state.size }
+
+-- the layer's node, or the one below
+abbrev pub node_shown : Option NodeChange → Option SeenNode → Option SeenNode
+node_shown None below = below
+node_shown (Some (Gone by_close)) below = None
+node_shown (Some (Changed state)) below = Some (shown_state state)
+
+-- the layer's block, or zeros where what is below is hidden, or the one below
+abbrev pub block_shown : Option NodeChange → Option (List ℕ) → ℕ → List ℕ → List ℕ
+block_shown None written index below = below
+block_shown (Some (Gone by_close)) written index below = zeros 4096
+block_shown (Some (Changed state)) written index below = unwrap_or written (if hides_block (Some (Changed state)) index then zeros 4096 else below)

@@ -13,13 +13,18 @@
 //! 3. `specs/Merges`: a newer layer over an older one as one layer.
 //! 4. `specs/Needs`: the blocks that a consistency point takes for a layer, at most, and what calls are
 //!    charged for that.
-//! 5. `specs/ChangeLayers`: the layer of one change. Those of writes and renames aren't there yet.
-//! 6. `specs/Laws`, each named by the contract of a function of `laws`: above all, that seeing a tree
+//! 5. `specs/ChangeLayers`: the layer of one change.
+//! 6. `specs/Seen`: what is read of a tree below, and through a layer.
+//! 7. `specs/Laws`, each named by the contract of a function of `laws`: above all, that seeing a tree
 //!    through two layers is seeing it through their merge.
-//! 7. [`Overlay`], a layer in memory: three sorted maps in which room is made first, so that inserts and
+//! 8. [`Overlay`], a layer in memory: three sorted maps in which room is made first, so that inserts and
 //!    [`Overlay::merge`] take no memory and can't fail.
+//! 9. [`Below`], the tree that an overlay lies over, [`Through`], such a tree seen through an overlay, and
+//!    [`of_change`], the overlay of a change.
 //!
 //! ```text
+//! let mut shown = Through { overlay: &top, below: &mut image };
+//! let newer = of_change(alloc, &limits, &mut shown, &change)?;
 //! top.reserve_for(&newer)?;
 //! top.merge(newer);
 //! ```
@@ -34,6 +39,7 @@ mod node;
 mod overlay;
 mod place;
 mod sorted;
+mod through;
 
 pub use below::Below;
 pub use changing::of_change;
@@ -44,3 +50,4 @@ pub use laws::{
 pub use node::{NodeChange, NodeState, SeenNode};
 pub use overlay::Overlay;
 pub use place::{BLOCK_SIZE, Block, BlockPlace};
+pub use through::Through;

@@ -49,7 +49,7 @@ pub struct SeenNode {
 impl NodeState {
     ghost use Rattle.sn_overlay.specs.Merges.{state_over};
     ghost use Rattle.sn_overlay.specs.ChangeLayers.{new_state, size_state, written_state, with_ownership};
-    ghost use Rattle.sn_overlay.specs.Seen.{kept_state};
+    ghost use Rattle.sn_overlay.specs.Seen.{kept_state, shown_state};
 
     // A node of which nothing changes.
     pub(crate) fn kept(seen: SeenNode) -> NodeState
@@ -63,6 +63,18 @@ impl NodeState {
             cut: seen.size,
             fresh: false,
             acl_changed: false,
+        }
+    }
+
+    // A node as it is seen through what became of it.
+    pub(crate) fn shown(&self) -> SeenNode
+        ensures { result ≡ shown_state self.now }
+    {
+        SeenNode {
+            kind: self.kind,
+            ownership: copied_ownership(&self.ownership),
+            links: self.links,
+            size: self.size,
         }
     }
 
