@@ -20,3 +20,4 @@ pub mod SpliceLemmas
 pub mod ApplyLemmas
 pub mod NamesLemmas
 pub mod SeenLemmas
+pub mod LiesLemmas

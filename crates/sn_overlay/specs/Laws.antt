@@ -14,7 +14,7 @@ use Rattle.sn_overlay.specs.Pieces.{piece, zeroed, spliced, part_in}
 use Rattle.sn_overlay.specs.Layers.{Layer, IsLayer, Fits, through, node_seen, name_seen}
 use Rattle.sn_overlay.specs.Merges.{merge}
 use Rattle.sn_overlay.specs.ChangeLayers.{make_layer, link_layer, remove_layer, rename_layer, write_layer, ownership_layer, size_layer, layer_of_change}
-use Rattle.sn_overlay.specs.Seen.{CountsNames}
+use Rattle.sn_overlay.specs.Seen.{CountsNames, LiesOver}
 use Rattle.sn_overlay.specs.Needs.{need, need_of, counts, counts_for, left_nameless, charge_for, AreCharged, IsPaid}
 
 -- At each number and each name the tree seen through a layer has what the layer shows there.
@@ -97,6 +97,10 @@ ChangesCount = (limits : Limits) (change : Change) (tree after : Tree) → IsHie
 
 abbrev pub MergesCount : Type 0
 MergesCount = (older newer : Layer) (tree between after : Tree) → CountsNames older tree between → CountsNames newer between after → CountsNames (merge older newer) tree after
+
+-- Where the older layer lies over a tree, and the newer one over that tree through the older one, the merge lies over the tree.
+abbrev pub MergesLie : Type 0
+MergesLie = (older newer : Layer) (tree : Tree) → LiesOver older tree → LiesOver newer (through older tree) → LiesOver (merge older newer) tree
 
 -- The block in which a file is cut off has zeros from there on; those before it, and all of a file that isn't made shorter, stay.
 abbrev pub CutsZero : Type 0

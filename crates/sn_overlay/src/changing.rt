@@ -5,11 +5,11 @@ ghost use Rattle.sn_model.specs.Changes.{overwritten, apply};
 ghost use Rattle.sn_model.specs.NameTree.{IsHierarchy};
 ghost use Rattle.sn_overlay.specs.ChangeLayers.{make_layer, link_layer, remove_layer, rename_layer, exchange_layer, write_layer, with_blocks, size_layer, ownership_layer, layer_of_change};
 ghost use Rattle.sn_overlay.specs.Faults.{IfBelow};
-ghost use Rattle.sn_overlay.specs.Layers.{through, IsLayer, Fits, bytes_of};
+ghost use Rattle.sn_overlay.specs.Layers.{through, bytes_of};
 ghost use Rattle.sn_overlay.specs.Needs.{need, need_of, counts_for};
 ghost use Rattle.sn_overlay.specs.Overlays.{layer_of, HasRoom};
 ghost use Rattle.sn_overlay.specs.Pieces.{piece};
-ghost use Rattle.sn_overlay.specs.Seen.{seen_node, seen_block};
+ghost use Rattle.sn_overlay.specs.Seen.{seen_node, seen_block, LiesOver};
 ghost use Rattle.std.specs.FinMap as map;
 
 use crate::below::{block_of, node_of, number_of};
@@ -372,7 +372,8 @@ fn layered<B: Below>(
 }
 
 /// The overlay of a change that can be applied to the tree below. Through it that tree is what the
-/// change makes of it, and it needs no more blocks than were counted for the change.
+/// change makes of it; it may be laid over others there, and needs no more blocks than were counted for
+/// the change.
 ///
 /// All that is read is read here, and all memory that the change takes is taken here, so that laying
 /// the overlay over an older one, where there is room, can't fail. A fault is one of the tree below, or
@@ -389,7 +390,7 @@ pub fn of_change<B: Below>(
     ensures same { IsTrue B.is_told → B.shows below.new ≡ B.shows below.old }
     ensures layer { IsTrue B.is_told → (after : Tree) → apply limits.now change.now (B.shows below.old) ≡ Some after → IfOk result (λ o. layer_of o ≡ layer_of_change (B.shows below.old) change.now) }
     ensures shows { IsTrue B.is_told → (after : Tree) → IsHierarchy (B.shows below.old) → apply limits.now change.now (B.shows below.old) ≡ Some after → IfOk result (λ o. through (layer_of o) (B.shows below.old) ≡ after) }
-    ensures whole { IsTrue B.is_told → (after : Tree) → IsHierarchy (B.shows below.old) → apply limits.now change.now (B.shows below.old) ≡ Some after → IfOk result (λ o. IsLayer (layer_of o) × Fits (layer_of o) (B.shows below.old)) }
+    ensures lies { IsTrue B.is_told → (after : Tree) → IsHierarchy (B.shows below.old) → apply limits.now change.now (B.shows below.old) ≡ Some after → IfOk result (λ o. LiesOver (layer_of o) (B.shows below.old)) }
     ensures need { IsTrue B.is_told → (after : Tree) → apply limits.now change.now (B.shows below.old) ≡ Some after → IfOk result (λ o. need limits.now (layer_of o) ≤ need_of limits.now (counts_for change.now)) }
     ensures cause { IfBelow result (λ f. B.causes below.old below.new f) }
 {

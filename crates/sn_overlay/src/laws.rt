@@ -1,4 +1,4 @@
-ghost use Rattle.sn_overlay.specs.Laws.{AttributesShow, ChangesAreLayers, ChangesArePaid, ChangesCount, ChangesNeed, ChangesShow, CutsKeep, CutsZero, DropsArePaid, LayersShowNames, LayersShowNodes, LinksShow, MakesShow, MergesAreLayers, MergesCount, MergesFit, MergesShowBoth, MergesStayPaid, NeedsAdd, RemovesShow, RenamesShow, SizesShow, TwoLevelsAreCharged, VersionsAreCharged, WritesKeep, WritesShow, WritesSpan, WritesSplice};
+ghost use Rattle.sn_overlay.specs.Laws.{AttributesShow, ChangesAreLayers, ChangesArePaid, ChangesCount, ChangesNeed, ChangesShow, CutsKeep, CutsZero, DropsArePaid, LayersShowNames, LayersShowNodes, LinksShow, MakesShow, MergesAreLayers, MergesCount, MergesFit, MergesLie, MergesShowBoth, MergesStayPaid, NeedsAdd, RemovesShow, RenamesShow, SizesShow, TwoLevelsAreCharged, VersionsAreCharged, WritesKeep, WritesShow, WritesSpan, WritesSplice};
 
 /// At each number the tree that is seen through a layer has the layer's node, or none where the layer
 /// says so, or the node below.
@@ -117,6 +117,11 @@ pub fn changes_count()
 /// So does a merge of layers that do.
 pub fn merges_count()
     ensures { MergesCount }
+{}
+
+/// So a merge of layers that lie over one another lies over the tree below both.
+pub fn merges_lie()
+    ensures { MergesLie }
 {}
 
 /// The block in which a file is cut off is the old one with zeros from there on.
