@@ -1,6 +1,6 @@
 -- The bytes of a file that was cut off, made longer or written to, at each place and in each block.
-use Rattle.std.proofs.Common.{◌≡◌, ℕ, zero, suc, ◌+◌, ◌-◌, ◌*◌, ◌/◌, ◌%◌, ◌<◌, ◌≤◌, Bool, true, false, cond, ◌||◌, leb, List, [], ◌++◌, length, get_or, take, drop, replicate, Option, Some, None, min, refl, sym, ap, ◌∙◌, ◌⊎◌, inl, inr, arith, length-append, length-drop}
-use Rattle.std.proofs.lemmas.Bool.{cases_lt, leb-true}
+use Rattle.std.proofs.Common.{◌≡◌, ℕ, ◌+◌, ◌-◌, ◌*◌, ◌<◌, ◌≤◌, List, ◌++◌, length, get_or, take, drop, replicate, refl, sym, ap, ◌∙◌, ◌⊎◌, inl, inr, arith, length-append, length-drop}
+use Rattle.std.proofs.lemmas.Bool.{cases_lt}
 use Rattle.std.proofs.lemmas.List.{length-take, length-replicate, get_or-replicate, get_or-take, get_or-drop, get_or_append_left, get_or-append_right, get_or_past, ext_get_or}
 use Rattle.sn_model.specs.Changes.{resized, overwritten}
 use Rattle.sn_overlay.specs.Pieces.{zeros, piece, zeroed, spliced}

@@ -1,7 +1,6 @@
 -- The layer of each change is whole, and fits the tree that it changes.
-use Rattle.std.proofs.Common.{◌≡◌, ℕ, ◌+◌, ◌/◌, ◌%◌, ◌<◌, Bool, true, false, cond, List, length, Option, Some, None, is_some, refl, sym, ap, subst, ◌∙◌, inl, inr, arith}
+use Rattle.std.proofs.Common.{◌≡◌, ℕ, ◌+◌, ◌/◌, ◌%◌, ◌<◌, Bool, true, false, cond, List, length, Option, Some, None, is_some, refl, sym, ap, subst, inl, inr, arith}
 use Rattle.std.specs.Prelude.{IsSomeAnd}
-use Rattle.std.specs.Cmp.{nat_cmp_total}
 use Rattle.std.specs.FinMap as map
 use Rattle.std.proofs.lemmas.Nat.{mod_below}
 use Rattle.sn_walk.specs.declared.view.Kind.{Kind}
@@ -13,16 +12,15 @@ use Rattle.sn_model.specs.declared.change.Ownership.{Ownership}
 use Rattle.sn_model.specs.declared.link.Link.{Link}
 use Rattle.sn_model.specs.Tree.{Node, Tree, link_cmp, link_to}
 use Rattle.sn_model.specs.Changes.{made, linked, removed, renamed, written, cut, overwritten, resized, apply}
-use Rattle.sn_model.specs.NameTree.{IsHierarchy, HasKind}
+use Rattle.sn_model.specs.NameTree.{IsHierarchy}
 use Rattle.sn_model.proofs.PartLemmas.{made_is, linked_is, removed_is, renamed_is, written_is, cut_is, file_is, directory_is, Placed, Renamed, IsRenamed}
 use Rattle.sn_model.proofs.LinkLemmas.{exact_links, links_total}
 use Rattle.sn_overlay.specs.declared.node.NodeChange.TheVariants.{Changed}
-use Rattle.sn_overlay.specs.declared.node.NodeState.{NodeState}
 use Rattle.sn_overlay.specs.Pieces.{piece, zeroed}
 use Rattle.sn_overlay.specs.Keys.{place_cmp, block_place}
 use Rattle.sn_overlay.specs.Layers.{Layer, IsLayer, Fits}
 use Rattle.sn_overlay.specs.Overlays.{no_changes, with_node}
-use Rattle.sn_overlay.specs.ChangeLayers.{state_of, new_state, with_change, changing, touching, one_name_more, without_name, removing, with_ownership, make_layer, link_layer, remove_layer, ownership_layer, size_layer, cut_layer, size_state, cuts_block, with_tail, replacing, exchange_layer, renaming, rename_layer, writing, written_state, write_layer, layer_of_change}
+use Rattle.sn_overlay.specs.ChangeLayers.{state_of, new_state, changing, touching, one_name_more, without_name, removing, with_ownership, make_layer, link_layer, remove_layer, ownership_layer, size_layer, cut_layer, size_state, cuts_block, with_tail, replacing, exchange_layer, renaming, rename_layer, writing, written_state, write_layer, layer_of_change}
 use Rattle.sn_overlay.specs.Needs.{spanned}
 use Rattle.sn_overlay.proofs.OverlaidLemmas.{exact_places, places_total}
 use Rattle.sn_overlay.proofs.PieceLemmas.{length-piece}

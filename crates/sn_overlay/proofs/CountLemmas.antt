@@ -1,5 +1,5 @@
 -- How much the layer of a change has, at most, and what it needs.
-use Rattle.std.proofs.Common.{◌≡◌, ℕ, zero, suc, ◌+◌, ◌*◌, ◌/◌, ◌≤◌, Bool, true, false, cond, eqb, List, length, Option, Some, None, refl, sym, ap, arith}
+use Rattle.std.proofs.Common.{◌≡◌, ℕ, zero, suc, ◌+◌, ◌*◌, ◌/◌, ◌≤◌, Bool, true, false, cond, eqb, List, length, Option, Some, None, arith}
 use Rattle.std.specs.declared.cmp.Ordering.{Ordering}
 use Rattle.std.specs.Ordering.{nat_cmp}
 use Rattle.std.specs.Cmp.{IsTotalOrder, nat_cmp_total}
@@ -22,7 +22,7 @@ use Rattle.sn_overlay.specs.Pieces.{piece}
 use Rattle.sn_overlay.specs.Keys.{place_cmp, block_place}
 use Rattle.sn_overlay.specs.Layers.{Layer}
 use Rattle.sn_overlay.specs.Needs.{levels, need, need_of, counts_for, spanned}
-use Rattle.sn_overlay.specs.Overlays.{Counts, no_changes, with_node, with_name, with_block}
+use Rattle.sn_overlay.specs.Overlays.{no_changes, with_node, with_name, with_block}
 use Rattle.sn_overlay.specs.ChangeLayers.{state_of, new_state, with_change, changing, touching, one_name_more, one_name_less, without_name, removing, with_ownership, size_state, cuts_block, with_tail, cut_layer, replacing, exchange_layer, renaming, with_blocks, written_state, writing, layer_of_change}
 use Rattle.sn_overlay.proofs.OverlaidLemmas.{places_total}
 

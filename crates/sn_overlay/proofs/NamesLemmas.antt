@@ -1,5 +1,5 @@
 -- The layer of a change counts names.
-use Rattle.std.proofs.Common.{◌≡◌, ◌≢◌, ℕ, ◌+◌, ◌-◌, ◌/◌, Bool, true, false, cond, ◌&&◌, ◌||◌, ◌==◌, nat_lt, nat_le, List, [], length, count_by, Option, Some, None, is_some, is_none, refl, sym, ap, subst, ◌∙◌, ◌⊎◌, inl, inr, arith, eq-eqb, eqb-true}
+use Rattle.std.proofs.Common.{◌≡◌, ◌≢◌, ℕ, ◌+◌, ◌-◌, ◌/◌, Bool, true, false, cond, ◌&&◌, ◌||◌, ◌==◌, nat_lt, nat_le, List, [], length, count_by, Option, Some, None, is_some, is_none, refl, sym, ap, subst, ◌∙◌, inl, inr, arith, eq-eqb, eqb-true}
 use Rattle.std.specs.Prelude.{IsSomeAnd}
 use Rattle.std.specs.Ordering.{eq_by_cmp}
 use Rattle.std.specs.Cmp.{nat_cmp_total}
@@ -15,13 +15,12 @@ use Rattle.sn_model.specs.declared.change.Change.TheVariants.{Make, AddLink, Rem
 use Rattle.sn_model.specs.declared.change.Ownership.{Ownership}
 use Rattle.sn_model.specs.declared.link.Link.{Link}
 use Rattle.sn_model.specs.Tree.{Node, Tree, link_cmp, link_count, link_to, names_for}
-use Rattle.sn_model.specs.Changes.{is_file, is_free_number, file_at, node_with, put_node, put_link, take_link, made, linked, removed, renamed, replaced, same_number, written, cut, owned, apply, with_bytes, overwritten, resized}
-use Rattle.sn_model.specs.NameTree.{IsHierarchy, HasKind}
+use Rattle.sn_model.specs.Changes.{is_file, is_free_number, file_at, node_with, put_node, put_link, take_link, made, linked, removed, renamed, replaced, same_number, written, cut, owned, apply, overwritten}
+use Rattle.sn_model.specs.NameTree.{IsHierarchy}
 use Rattle.sn_model.proofs.ChainLemmas.{and_right, some_same, some_none}
 use Rattle.sn_model.proofs.CountLemmas.{count_inserted, count_removed}
-use Rattle.sn_model.proofs.KeepLemmas.{file_kind, vacant_absent, replaced_clears, IsCleared}
+use Rattle.sn_model.proofs.KeepLemmas.{vacant_absent, replaced_clears}
 use Rattle.sn_model.proofs.LinkLemmas.{exact_links, links_total}
-use Rattle.sn_model.proofs.MapLemmas.{same_or_apart}
 use Rattle.sn_model.proofs.NameLemmas.{names_for_more, names_for_other, no_names_for}
 use Rattle.sn_model.proofs.PartLemmas.{made_is, linked_is, removed_is, renamed_is, replaced_is, unlinked_is, written_is, cut_is, owned_is, file_is, directory_is, Placed, Unlinked, Renamed, IsRenamed}
 use Rattle.sn_overlay.specs.declared.node.NodeChange.{NodeChange}
@@ -36,7 +35,7 @@ use Rattle.sn_overlay.specs.Pieces.{piece}
 use Rattle.sn_overlay.specs.Seen.{CountsNames}
 use Rattle.sn_overlay.proofs.LayerLemmas.{nodes_over, get-merge_nodes}
 use Rattle.sn_overlay.proofs.WriteLemmas.{nodes-with_blocks}
-use Rattle.sn_overlay.proofs.WholeLemmas.{Every, every_none, every_with, Has, has_it, has_with, has_changed}
+use Rattle.sn_overlay.proofs.WholeLemmas.{Every, every_none, every_with, Has, has_it, has_changed}
 
 -- a node of a layer says how many names it has in a tree
 abbrev Counted : Tree → ℕ → NodeChange → Type 0

@@ -1,6 +1,6 @@
 -- What is seen through the layer of a rename.
 use Rattle.std.proofs.Common.{◌≡◌, ℕ, Bool, true, false, cond, Option, Some, None, refl, sym, ap, ◌∙◌, inl, inr}
-use Rattle.std.specs.Ordering.{nat_cmp, eq_by_cmp}
+use Rattle.std.specs.Ordering.{eq_by_cmp}
 use Rattle.std.specs.Cmp.{nat_cmp_total}
 use Rattle.std.specs.FinMap as map
 use Rattle.std.proofs.lemmas.Map.Views.{tells_apart}
@@ -8,12 +8,11 @@ use Rattle.sn_walk.specs.Views.{is_directory}
 use Rattle.sn_limits.specs.declared.limits.Limits.{Limits}
 use Rattle.sn_model.specs.declared.link.Link.{Link}
 use Rattle.sn_model.specs.Tree.{Node, Tree, link_cmp}
-use Rattle.sn_model.specs.Changes.{put_link, take_link, take_node, same_number, replaced, renamed}
+use Rattle.sn_model.specs.Changes.{put_link, take_link, take_node, replaced, renamed}
 use Rattle.sn_model.proofs.ChainLemmas.{some_same}
 use Rattle.sn_model.proofs.PartLemmas.{renamed_is, replaced_is, unlinked_is, Renamed, IsRenamed, Unlinked}
 use Rattle.sn_model.proofs.LinkLemmas.{exact_links, links_total}
 use Rattle.sn_overlay.specs.declared.node.NodeChange.TheVariants.{Gone, Changed}
-use Rattle.sn_overlay.specs.declared.node.NodeState.{NodeState}
 use Rattle.sn_overlay.specs.Layers.{Layer, through, hides_names, node_seen, name_seen}
 use Rattle.sn_overlay.specs.Overlays.{no_changes, with_node, with_name}
 use Rattle.sn_overlay.specs.ChangeLayers.{state_of, touching, one_name_less, without_name, replacing, exchange_layer, renaming, rename_layer}

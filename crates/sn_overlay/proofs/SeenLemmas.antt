@@ -2,15 +2,14 @@
 use Rattle.std.proofs.Common.{◌≡◌, ℕ, Bool, true, false, cond, List, [], length, Option, Some, None, refl, sym, ap, ◌∙◌, arith}
 use Rattle.std.specs.Option.{option_map, unwrap_or}
 use Rattle.std.specs.FinMap as map
-use Rattle.sn_model.specs.Tree.{Node, Tree, link_count, names_for}
+use Rattle.sn_model.specs.Tree.{Node, Tree, link_count}
 use Rattle.sn_model.specs.Changes.{ownership_of, node_with}
 use Rattle.sn_overlay.specs.declared.place.BlockPlace.{BlockPlace}
 use Rattle.sn_overlay.specs.declared.node.NodeChange.{NodeChange}
 use Rattle.sn_overlay.specs.declared.node.NodeChange.TheVariants.{Gone, Changed}
-use Rattle.sn_overlay.specs.declared.node.NodeState.{NodeState}
 use Rattle.sn_overlay.specs.declared.node.SeenNode.{SeenNode}
 use Rattle.sn_overlay.specs.Pieces.{zeros, piece, joined}
-use Rattle.sn_overlay.specs.Layers.{Layer, IsLayer, Fits, through, hides_block, block_seen, bytes_of, node_seen}
+use Rattle.sn_overlay.specs.Layers.{Layer, through, hides_block, block_seen, bytes_of, node_seen}
 use Rattle.sn_overlay.specs.Seen.{seen_of, seen_node, seen_block, CountsNames, LiesOver, shown_state, node_shown, block_shown}
 use Rattle.sn_overlay.proofs.PieceLemmas.{length-zeros, length-piece, length-joined, piece-joined}
 use Rattle.sn_overlay.proofs.ChangeLemmas.{piece_past}

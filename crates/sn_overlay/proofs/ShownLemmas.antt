@@ -1,5 +1,5 @@
 -- What is seen through the layer of any change.
-use Rattle.std.proofs.Common.{◌≡◌, Option, Some}
+use Rattle.std.proofs.Common.{◌≡◌, Some}
 use Rattle.sn_limits.specs.declared.limits.Limits.{Limits}
 use Rattle.sn_model.specs.declared.change.Change.{Change}
 use Rattle.sn_model.specs.declared.change.Change.TheVariants.{Make, AddLink, Remove, Rename, Write, SetSize, SetAttributes}

@@ -1,10 +1,10 @@
 -- What is seen through the layer of a setting of a size.
-use Rattle.std.proofs.Common.{◌≡◌, ℕ, ◌+◌, ◌*◌, ◌/◌, ◌%◌, ◌<◌, ◌≤◌, Bool, true, false, cond, not, ◌&&◌, eqb, ltb, leb, List, length, Option, Some, None, min, refl, sym, ap, ◌∙◌, ◌⊎◌, inl, inr, arith}
+use Rattle.std.proofs.Common.{◌≡◌, ℕ, ◌+◌, ◌*◌, ◌/◌, ◌%◌, ◌<◌, ◌≤◌, Bool, true, false, cond, not, ◌&&◌, eqb, ltb, leb, List, length, Some, None, min, refl, sym, ap, ◌∙◌, ◌⊎◌, inl, inr, arith}
 use Rattle.std.specs.Option.{unwrap_or}
 use Rattle.std.specs.Ordering.{nat_cmp, eq_by_cmp}
 use Rattle.std.specs.Cmp.{nat_cmp_total, eq_by_cmp_equiv}
 use Rattle.std.specs.FinMap as map
-use Rattle.std.proofs.lemmas.Bool.{true≢false, cases_lt, leb-true, leb-false, ltb-true, ltb-false, eqb-true, and_parts}
+use Rattle.std.proofs.lemmas.Bool.{true≢false, cases_lt, leb-true, leb-false, ltb-false, eqb-true}
 use Rattle.std.proofs.lemmas.Nat.{div-add-mod', mod_below}
 use Rattle.std.proofs.lemmas.Map.Views.{tells_apart}
 use Rattle.std.proofs.lemmas.Map.Lookups.{exact_unsigned}
@@ -19,7 +19,7 @@ use Rattle.sn_overlay.specs.declared.node.NodeState.{NodeState}
 use Rattle.sn_overlay.specs.Pieces.{zeros, piece, joined, zeroed}
 use Rattle.sn_overlay.specs.Keys.{place_cmp, block_place}
 use Rattle.sn_overlay.specs.Layers.{Layer, through, hides_names, block_seen, node_seen, name_seen}
-use Rattle.sn_overlay.specs.Overlays.{no_changes, with_node, with_block}
+use Rattle.sn_overlay.specs.Overlays.{no_changes, with_node}
 use Rattle.sn_overlay.specs.ChangeLayers.{state_of, size_state, cuts_block, with_tail, cut_layer, size_layer}
 use Rattle.sn_overlay.proofs.OverlaidLemmas.{exact_places, places_total}
 use Rattle.sn_overlay.proofs.PieceLemmas.{joined_alike, joined-piece}

@@ -1,5 +1,5 @@
 -- The layer of a change is whole, and fits the tree that it changes.
-use Rattle.std.proofs.Common.{◌≡◌, ℕ, zero, suc, ◌+◌, ◌*◌, ◌<◌, ◌≤◌, Bool, true, false, cond, ◌||◌, leb, List, length, get_or, Option, Some, None, is_some, refl, sym, ap, subst, ◌∙◌, ◌⊎◌, inl, inr, arith}
+use Rattle.std.proofs.Common.{◌≡◌, ℕ, zero, suc, ◌+◌, ◌*◌, ◌<◌, ◌≤◌, Bool, true, false, cond, List, length, get_or, Option, Some, None, is_some, refl, sym, ap, subst, ◌∙◌, arith}
 use Rattle.std.specs.declared.cmp.Ordering.{Ordering}
 use Rattle.std.specs.Option.{unwrap_or}
 use Rattle.std.specs.Ordering.{nat_cmp, eq_by_cmp}
@@ -12,7 +12,6 @@ use Rattle.std.proofs.lemmas.Map.Lookups.{CmpEqualImpliesEq, exact_unsigned}
 use Rattle.sn_walk.specs.declared.view.Kind.{Kind}
 use Rattle.sn_walk.specs.Views.{is_directory}
 use Rattle.sn_model.specs.declared.change.Ownership.{Ownership}
-use Rattle.sn_model.specs.declared.link.Link.{Link}
 use Rattle.sn_model.specs.Tree.{Node, Tree, link_cmp}
 use Rattle.sn_model.proofs.ChainLemmas.{some_same, some_none}
 use Rattle.sn_model.proofs.MapLemmas.{get_inserted}
@@ -164,16 +163,19 @@ abbrev pub IsWhole : Layer → Tree → Type 0
 IsWhole layer tree = IsLayer layer × Fits layer tree
 
 pub whole_names : (layer : Layer) (tree : Tree) (names : map.FinMap link_cmp (Option ℕ)) → IsSoundLayer layer tree → AreIn layer names → IsWhole (record layer { names = names }) tree
-whole_names layer tree names h are = (record {
-  names = λ link e. let s = some_is _ e in are link s.0 s.1;
-  blocks = λ place e. absurd (true≢false (sym e ∙ ap is_some (no_block place)));
-  lengths = λ place bytes e. absurd (some_none _ _ e (no_block place));
-  cuts = λ number state e. (h.nodes number (Changed state) e).cut;
-}, record {
-  there = λ number state e f. (h.nodes number (Changed state) e).there f;
-  zeros = λ number state index at e b k. ap (λ found. get_or (unwrap_or found (cond (hides_block (Some (Changed state)) index) (zeros 4096) (piece 4096 (bytes_of (map.get tree.nodes number)) index))) at 0) (no_block (block_place number index))
-      ∙ (h.nodes number (Changed state) e).zeros index at b k;
-})
+whole_names layer tree names h are = (
+  record {
+    names = λ link e. let s = some_is _ e in are link s.0 s.1;
+    blocks = λ place e. absurd (true≢false (sym e ∙ ap is_some (no_block place)));
+    lengths = λ place bytes e. absurd (some_none _ _ e (no_block place));
+    cuts = λ number state e. (h.nodes number (Changed state) e).cut;
+  },
+  record {
+    there = λ number state e f. (h.nodes number (Changed state) e).there f;
+    zeros = λ number state index at e b k. ap (λ found. get_or (unwrap_or found (cond (hides_block (Some (Changed state)) index) (zeros 4096) (piece 4096 (bytes_of (map.get tree.nodes number)) index))) at 0) (no_block (block_place number index))
+        ∙ (h.nodes number (Changed state) e).zeros index at b k;
+  },
+)
   where
     no_block : (place : BlockPlace) → map.get layer.blocks place ≡ None
     no_block place = ap (λ m. map.get m place) h.blocks ∙ map.get-empty place_cmp place
@@ -195,17 +197,20 @@ AreBlocks number blocks = Every blocks (λ place bytes. (place.file ≡ number) 
 -- a layer of one file and its blocks is whole, and fits
 pub whole_file : (layer : Layer) (tree : Tree) (number : ℕ) (s : NodeState) (node : Node) (new : List ℕ) → layer.nodes ≡ map.insert map.empty number (Changed s) → layer.names ≡ map.empty → AreBlocks number layer.blocks
     → map.get tree.nodes number ≡ Some node → s.cut ≤ s.size → length new ≡ s.size → ((index : ℕ) → block_seen layer number s node.bytes index ≡ piece 4096 new index) → IsWhole layer tree
-whole_file layer tree number s node new nodes names blocks there cut size seen = (record {
-  names = λ link e. absurd (true≢false (sym e ∙ ap is_some (ap (λ m. map.get m link) names ∙ map.get-empty link_cmp link)));
-  blocks = λ place e.
-      let found = some_is _ e in
-      ap (λ q. is_some (map.get layer.nodes q)) (blocks place found.0 found.1).0 ∙ ap (λ m. is_some (map.get m number)) nodes ∙ ap is_some (get_inserted nat_cmp_total map.empty number (Changed s));
-  lengths = λ place bytes e. (blocks place bytes e).1;
-  cuts = λ q state e. (every q (Changed state) e).cut;
-}, record {
-  there = λ q state e f. (every q (Changed state) e).there;
-  zeros = λ q state index at e b k. (every q (Changed state) e).zeros index at b k;
-})
+whole_file layer tree number s node new nodes names blocks there cut size seen = (
+  record {
+    names = λ link e. absurd (true≢false (sym e ∙ ap is_some (ap (λ m. map.get m link) names ∙ map.get-empty link_cmp link)));
+    blocks = λ place e.
+        let found = some_is _ e in
+        ap (λ q. is_some (map.get layer.nodes q)) (blocks place found.0 found.1).0 ∙ ap (λ m. is_some (map.get m number)) nodes ∙ ap is_some (get_inserted nat_cmp_total map.empty number (Changed s));
+    lengths = λ place bytes e. (blocks place bytes e).1;
+    cuts = λ q state e. (every q (Changed state) e).cut;
+  },
+  record {
+    there = λ q state e f. (every q (Changed state) e).there;
+    zeros = λ q state index at e b k. (every q (Changed state) e).zeros index at b k;
+  },
+)
   where
     here : IsFileState layer tree number s
     here = record {

@@ -1,5 +1,5 @@
 -- What is seen through the layer of a write.
-use Rattle.std.proofs.Common.{◌≡◌, ℕ, zero, suc, ◌+◌, ◌-◌, ◌*◌, ◌/◌, ◌<◌, ◌≤◌, Bool, true, false, cond, leb, nat_lt, nat_le, List, length, Option, Some, None, refl, sym, ap, ◌∙◌, ◌⊎◌, inl, inr, arith}
+use Rattle.std.proofs.Common.{◌≡◌, ℕ, zero, suc, ◌+◌, ◌-◌, ◌*◌, ◌/◌, ◌<◌, ◌≤◌, Bool, true, false, cond, leb, nat_lt, nat_le, List, length, Some, refl, sym, ap, ◌∙◌, ◌⊎◌, inl, inr, arith}
 use Rattle.std.specs.List.{list_all}
 use Rattle.std.specs.Option.{unwrap_or}
 use Rattle.std.specs.Ordering.{eq_by_cmp}

@@ -9,7 +9,6 @@ use Rattle.sn_model.specs.declared.change.Ownership.{Ownership}
 use Rattle.sn_model.specs.declared.link.Link.{Link}
 use Rattle.sn_model.specs.Tree.{Node, Tree, link_to, link_count, names_for}
 use Rattle.sn_model.specs.Changes.{ownership_of, same_number, overwritten}
-use Rattle.sn_overlay.specs.declared.node.NodeChange.{NodeChange}
 use Rattle.sn_overlay.specs.declared.node.NodeChange.TheVariants.{Gone, Changed}
 use Rattle.sn_overlay.specs.declared.node.NodeState.{NodeState}
 use Rattle.sn_overlay.specs.Pieces.{piece, zeroed}

@@ -38,7 +38,10 @@ fn make<B: Below>(
     let parent = node_of(below, link.directory)?;
     let mut overlay = with_room(alloc, 2, 1, 0)?;
     touch(&mut overlay, link.directory, parent);
-    overlay.set_node(number, NodeChange::Changed(NodeState::made(kind, ownership)));
+    overlay.set_node(
+        number,
+        NodeChange::Changed(NodeState::made(kind, ownership)),
+    );
     overlay.set_name(link, Some(number));
     Ok(overlay)
 }
@@ -106,7 +109,10 @@ fn own<B: Below>(
         return Ok(Overlay::new(alloc));
     };
     let mut overlay = with_room(alloc, 1, 0, 0)?;
-    overlay.set_node(number, NodeChange::Changed(NodeState::kept(seen).owned(ownership)));
+    overlay.set_node(
+        number,
+        NodeChange::Changed(NodeState::kept(seen).owned(ownership)),
+    );
     Ok(overlay)
 }
 
@@ -265,7 +271,10 @@ fn write<B: Below>(
     let end = offset.saturating_add(bytes.len() as u64);
     let count = (end - 1) / BLOCK_SIZE as u64 - offset / BLOCK_SIZE as u64 + 1;
     let mut overlay = with_room(alloc, 1, 0, count as usize)?;
-    overlay.set_node(number, NodeChange::Changed(NodeState::kept(seen).written(end)));
+    overlay.set_node(
+        number,
+        NodeChange::Changed(NodeState::kept(seen).written(end)),
+    );
     write_blocks(alloc, below, &mut overlay, number, offset, bytes, count)?;
     Ok(overlay)
 }
@@ -288,7 +297,10 @@ fn resize<B: Below>(
     };
     let cuts_block = size < seen.size && size % BLOCK_SIZE as u64 != 0;
     let mut overlay = with_room(alloc, 1, 0, 1)?;
-    overlay.set_node(number, NodeChange::Changed(NodeState::kept(seen).resized(size)));
+    overlay.set_node(
+        number,
+        NodeChange::Changed(NodeState::kept(seen).resized(size)),
+    );
     if cuts_block {
         let place = BlockPlace {
             file: number,

@@ -45,7 +45,12 @@ pub use below::Below;
 pub use changing::of_change;
 pub use fault::LayerFault;
 pub use laws::{
-    attributes_show, changes_are_layers, changes_are_paid, changes_count, changes_need, changes_show, cuts_keep, cuts_zero, drops_are_paid, layers_show_names, layers_show_nodes, links_show, makes_show, merges_are_layers, merges_count, merges_fit, merges_lie, merges_show_both, merges_stay_paid, needs_add, removes_show, renames_show, sizes_show, two_levels_are_charged, versions_are_charged, writes_keep, writes_show, writes_span, writes_splice,
+    attributes_show, changes_are_layers, changes_are_paid, changes_count, changes_need,
+    changes_show, cuts_keep, cuts_zero, drops_are_paid, layers_show_names, layers_show_nodes,
+    links_show, makes_show, merges_are_layers, merges_count, merges_fit, merges_lie,
+    merges_show_both, merges_stay_paid, needs_add, removes_show, renames_show, sizes_show,
+    two_levels_are_charged, versions_are_charged, writes_keep, writes_show, writes_span,
+    writes_splice,
 };
 pub use node::{NodeChange, NodeState, SeenNode};
 pub use overlay::Overlay;

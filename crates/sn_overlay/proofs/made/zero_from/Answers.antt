@@ -1,4 +1,4 @@
-use Rattle.std.proofs.Common.{◌≡◌, ◌-◌, List, [], ◌++◌, length, take, drop, replicate, ap, ◌∙◌, arith, length-drop}
+use Rattle.std.proofs.Common.{◌≡◌, ◌-◌, [], ◌++◌, length, take, drop, replicate, ap, ◌∙◌, arith, length-drop}
 use Rattle.std.proofs.lemmas.List.{append-nil, drop_all, length-take}
 use Rattle.sn_overlay.specs.Pieces.{zeros}
 use Rattle.sn_overlay.proofs.made.zero_from.Goals as goal

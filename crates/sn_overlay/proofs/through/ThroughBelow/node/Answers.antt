@@ -1,4 +1,4 @@
-use Rattle.std.proofs.Common.{◌≡◌, Option, Some, None, IfOk, sym, ap, subst, ◌∙◌}
+use Rattle.std.proofs.Common.{◌≡◌, Option, Some, IfOk, sym, ap, subst, ◌∙◌}
 use Rattle.std.specs.Option.{option_copied}
 use Rattle.sn_overlay.specs.declared.node.SeenNode.{SeenNode}
 use Rattle.sn_overlay.specs.declared.node.NodeChange.{NodeChange}
