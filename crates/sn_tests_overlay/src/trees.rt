@@ -102,7 +102,13 @@ impl Trees {
     }
 
     /// So many bytes of a block from a place on, with a dot for each zero.
-    pub fn bytes(&self, place: BlockPlace, from: usize, count: usize, text: &mut String) -> Result<()> {
+    pub fn bytes(
+        &self,
+        place: BlockPlace,
+        from: usize,
+        count: usize,
+        text: &mut String,
+    ) -> Result<()> {
         let mut root = Root;
         let mut frozen = Through {
             overlay: &self.bottom,
