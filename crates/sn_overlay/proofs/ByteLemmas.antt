@@ -1,6 +1,6 @@
 -- The bytes of a file that was cut off, made longer or written to, at each place and in each block.
-use Rattle.std.proofs.Common.{◌≡◌, ℕ, zero, suc, ◌+◌, ◌-◌, ◌*◌, ◌/◌, ◌%◌, ◌<◌, ◌≤◌, Bool, true, false, cond, ◌||◌, leb, List, [], ◌++◌, length, get_or, take, drop, replicate, Option, Some, None, min, refl, sym, ap, ◌∙◌, ◌⊎◌, inl, inr, arith, length-append, length-drop}
-use Rattle.std.proofs.lemmas.Bool.{cases_lt, leb-true}
+use Rattle.std.proofs.Common.{◌≡◌, ℕ, ◌+◌, ◌-◌, ◌*◌, ◌<◌, ◌≤◌, List, ◌++◌, length, get_or, take, drop, replicate, refl, sym, ap, ◌∙◌, ◌⊎◌, inl, inr, arith, length-append, length-drop}
+use Rattle.std.proofs.lemmas.Bool.{cases_lt}
 use Rattle.std.proofs.lemmas.List.{length-take, length-replicate, get_or-replicate, get_or-take, get_or-drop, get_or_append_left, get_or-append_right, get_or_past, ext_get_or}
 use Rattle.sn_model.specs.Changes.{resized, overwritten}
 use Rattle.sn_overlay.specs.Pieces.{zeros, piece, zeroed, spliced}
@@ -9,7 +9,7 @@ use Rattle.sn_overlay.proofs.PieceLemmas.{length-zeros, get_or-zeros, length-pie
 same_place : (index from at : ℕ) → from ≤ at → index * 4096 + at - (index * 4096 + from) ≡ at - from
 same_place index from at h = omega arith
 
-past_place : (from n at : ℕ) → from + n ≤ at → from + n + (at - from - n) ≡ at
+pub past_place : (from n at : ℕ) → from + n ≤ at → from + n + (at - from - n) ≡ at
 past_place from n at h = omega arith
 
 -- zeros behind some bytes read as the end does
@@ -68,6 +68,9 @@ piece-resized bytes size index (inr h) = same_piece 4096 _ _ index (λ at k. tol
     told at (inl k) = get_or-resized bytes size (index * 4096 + at) k
     told at (inr k) = get_or_past (resized bytes size) (index * 4096 + at) 0 (omega (arith, length-resized bytes size)) ∙ sym (get_or_past bytes (index * 4096 + at) 0 (omega arith))
 
+pub length-zeroed : (from : ℕ) (block : List ℕ) → length block ≡ 4096 → from ≤ 4096 → length (zeroed from block) ≡ 4096
+length-zeroed from block long h = omega (arith, length-append (take from block) (zeros (4096 - from)), length-take from block, length-zeros (4096 - from))
+
 -- the block in which a file is cut off has zeros from there on
 pub piece-cut : (bytes : List ℕ) (index from : ℕ) → from ≤ 4096 → piece 4096 (resized bytes (index * 4096 + from)) index ≡ zeroed from (piece 4096 bytes index)
 piece-cut bytes index from h = ext_get_or 0 _ _ (length-piece 4096 (resized bytes (index * 4096 + from)) index ∙ sym long) (λ at k.
@@ -78,7 +81,7 @@ piece-cut bytes index from h = ext_get_or 0 _ _ (length-piece 4096 (resized byte
     front = omega (arith, length-take from (piece 4096 bytes index), length-piece 4096 bytes index)
 
     long : length (zeroed from (piece 4096 bytes index)) ≡ 4096
-    long = omega (arith, length-append (take from (piece 4096 bytes index)) (zeros (4096 - from)), front, length-zeros (4096 - from))
+    long = length-zeroed from (piece 4096 bytes index) (length-piece 4096 bytes index) h
 
     told : (at : ℕ) → at < 4096 → (at < from) ⊎ (from ≤ at) → get_or (resized bytes (index * 4096 + from)) (index * 4096 + at) 0 ≡ get_or (zeroed from (piece 4096 bytes index)) at 0
     told at b (inl k) = get_or-resized bytes (index * 4096 + from) (index * 4096 + at) (omega arith)

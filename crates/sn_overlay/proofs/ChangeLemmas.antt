@@ -70,22 +70,22 @@ state_shown layer number s node none size cut old = ap (λ bytes. Some (node_wit
         ∙ hidden index (leb (length node.bytes) (index * 4096)) refl
 
 -- what is seen of a node depends on the blocks alone
-same_blocks : (a b : Layer) (q : ℕ) (change : Option NodeChange) (below : Option Node) → a.blocks ≡ b.blocks → node_seen a q change below ≡ node_seen b q change below
+pub same_blocks : (a b : Layer) (q : ℕ) (change : Option NodeChange) (below : Option Node) → a.blocks ≡ b.blocks → node_seen a q change below ≡ node_seen b q change below
 same_blocks a b q None below e = refl
 same_blocks a b q (Some (Gone by_close)) below e = refl
 same_blocks a b q (Some (Changed s)) below e = ap (λ blocks. Some (node_with s.kind s.ownership (joined 4096 s.size (λ index. unwrap_or (map.get blocks (block_place q index)) (cond (hides_block (Some (Changed s)) index) (zeros 4096) (piece 4096 (bytes_of below) index)))))) e
 
-same_seen : (a b : Layer) (tree : Tree) (q : ℕ) → a.blocks ≡ b.blocks → node_seen a q (map.get a.nodes q) (map.get tree.nodes q) ≡ node_seen b q (map.get a.nodes q) (map.get tree.nodes q)
+pub same_seen : (a b : Layer) (tree : Tree) (q : ℕ) → a.blocks ≡ b.blocks → node_seen a q (map.get a.nodes q) (map.get tree.nodes q) ≡ node_seen b q (map.get a.nodes q) (map.get tree.nodes q)
 same_seen a b tree q e = same_blocks a b q (map.get a.nodes q) (map.get tree.nodes q) e
 
 -- a layer through which nothing is another yet: what it has of nodes is as below
-record IsPlain (layer : Layer) (tree : Tree) : Type 0 where
-  nodes : (q : ℕ) → node_seen layer q (map.get layer.nodes q) (map.get tree.nodes q) ≡ map.get tree.nodes q
-  names : layer.names ≡ map.empty
-  blocks : layer.blocks ≡ map.empty
-  hides : (q : ℕ) → hides_names (map.get layer.nodes q) ≡ false
+pub record IsPlain (layer : Layer) (tree : Tree) : Type 0 where
+  pub nodes : (q : ℕ) → node_seen layer q (map.get layer.nodes q) (map.get tree.nodes q) ≡ map.get tree.nodes q
+  pub names : layer.names ≡ map.empty
+  pub blocks : layer.blocks ≡ map.empty
+  pub hides : (q : ℕ) → hides_names (map.get layer.nodes q) ≡ false
 
-plain_none : (tree : Tree) → IsPlain no_changes tree
+pub plain_none : (tree : Tree) → IsPlain no_changes tree
 plain_none tree = record {
   nodes = λ q. ap (λ c. node_seen no_changes q c (map.get tree.nodes q)) (map.get-empty nat_cmp q);
   names = refl;
@@ -94,7 +94,7 @@ plain_none tree = record {
 }
 
 -- what is seen at each number once one of them has another change
-nodes_with : (layer : Layer) (tree : Tree) (number : ℕ) (change : NodeChange) (seen : Option Node) → IsPlain layer tree → node_seen layer number (Some change) (map.get tree.nodes number) ≡ seen
+pub nodes_with : (layer : Layer) (tree : Tree) (number : ℕ) (change : NodeChange) (seen : Option Node) → IsPlain layer tree → node_seen layer number (Some change) (map.get tree.nodes number) ≡ seen
     → (q : ℕ) → node_seen layer q (map.get (map.insert layer.nodes number change) q) (map.get tree.nodes q) ≡ cond (eq_by_cmp nat_cmp q number) seen (map.get tree.nodes q)
 nodes_with layer tree number change seen plain is q = ap (λ c. node_seen layer q c (map.get tree.nodes q)) (map.get-insert nat_cmp_total layer.nodes number change q) ∙ told (eq_by_cmp nat_cmp q number) refl
   where
@@ -102,7 +102,7 @@ nodes_with layer tree number change seen plain is q = ap (λ c. node_seen layer 
     told true e = ap (λ n. node_seen layer n (Some change) (map.get tree.nodes n)) (tells_apart exact_unsigned q number e) ∙ is
     told false e = plain.nodes q
 
-hides_with : (layer : Layer) (number : ℕ) (change : NodeChange) → ((q : ℕ) → hides_names (map.get layer.nodes q) ≡ false)
+pub hides_with : (layer : Layer) (number : ℕ) (change : NodeChange) → ((q : ℕ) → hides_names (map.get layer.nodes q) ≡ false)
     → (q : ℕ) → hides_names (map.get (map.insert layer.nodes number change) q) ≡ cond (eq_by_cmp nat_cmp q number) (hides_names (Some change)) false
 hides_with layer number change none q = ap hides_names (map.get-insert nat_cmp_total layer.nodes number change q) ∙ told (eq_by_cmp nat_cmp q number)
   where
@@ -122,17 +122,17 @@ same_false true = refl
 same_false false = refl
 
 -- a change of how many names a node has leaves it plain
-abbrev CountsNames : (NodeState → NodeState) → Type 0
+abbrev pub CountsNames : (NodeState → NodeState) → Type 0
 CountsNames f = (s : NodeState) → ((f s).kind ≡ s.kind) × ((f s).ownership ≡ s.ownership) × ((f s).size ≡ s.size) × ((f s).cut ≡ s.cut) × ((f s).fresh ≡ s.fresh)
 
-counted_shown : (layer : Layer) (tree : Tree) (number : ℕ) (f : NodeState → NodeState) (node : Node) → CountsNames f → layer.blocks ≡ map.empty → node_seen layer number (Some (Changed (f (state_of tree number node)))) (Some node) ≡ Some node
+pub counted_shown : (layer : Layer) (tree : Tree) (number : ℕ) (f : NodeState → NodeState) (node : Node) → CountsNames f → layer.blocks ≡ map.empty → node_seen layer number (Some (Changed (f (state_of tree number node)))) (Some node) ≡ Some node
 counted_shown layer tree number f node same none =
     let s = same (state_of tree number node) in
     state_shown layer number (f (state_of tree number node)) node none s.2 s.3 s.4
     ∙ ap (λ k. Some (node_with k (f (state_of tree number node)).ownership node.bytes)) s.0
     ∙ ap (λ o. Some (node_with node.kind o node.bytes)) s.1
 
-plain_changed : (layer : Layer) (tree : Tree) (number : ℕ) (f : NodeState → NodeState) (node : Node) → CountsNames f → IsPlain layer tree → map.get tree.nodes number ≡ Some node → IsPlain (with_node layer number (Changed (f (state_of tree number node)))) tree
+pub plain_changed : (layer : Layer) (tree : Tree) (number : ℕ) (f : NodeState → NodeState) (node : Node) → CountsNames f → IsPlain layer tree → map.get tree.nodes number ≡ Some node → IsPlain (with_node layer number (Changed (f (state_of tree number node)))) tree
 plain_changed layer tree number f node same plain e = record {
   nodes = λ q. same_seen (with_node layer number (Changed (f (state_of tree number node)))) layer tree q refl ∙ nodes_with layer tree number (Changed (f (state_of tree number node))) (Some node) plain
       (ap (node_seen layer number (Some (Changed (f (state_of tree number node))))) e ∙ counted_shown layer tree number f node same plain.blocks) q
@@ -143,21 +143,21 @@ plain_changed layer tree number f node same plain e = record {
       ∙ ap (λ b. cond (eq_by_cmp nat_cmp q number) b false) (same (state_of tree number node)).4 ∙ same_false (eq_by_cmp nat_cmp q number);
 }
 
-plain_changing : (layer : Layer) (tree : Tree) (number : ℕ) (f : NodeState → NodeState) → CountsNames f → IsPlain layer tree → IsPlain (changing tree number f layer) tree
+pub plain_changing : (layer : Layer) (tree : Tree) (number : ℕ) (f : NodeState → NodeState) → CountsNames f → IsPlain layer tree → IsPlain (changing tree number f layer) tree
 plain_changing layer tree number f same plain = told (map.get tree.nodes number) refl
   where
     told : (found : Option Node) → map.get tree.nodes number ≡ found → IsPlain (with_change tree number f layer found) tree
     told None e = plain
     told (Some node) e = plain_changed layer tree number f node same plain e
 
-counts_same : CountsNames (λ state. state)
+pub counts_same : CountsNames (λ state. state)
 counts_same s = (refl, refl, refl, refl, refl)
 
-plain_touching : (tree : Tree) (number : ℕ) → IsPlain (touching tree number no_changes) tree
+pub plain_touching : (tree : Tree) (number : ℕ) → IsPlain (touching tree number no_changes) tree
 plain_touching tree number = plain_changing no_changes tree number (λ state. state) counts_same (plain_none tree)
 
 -- a name that is set or taken in a layer without other names
-names_seen : (layer : Layer) (link : Link) (value : Option ℕ) → layer.names ≡ map.empty → (q : Link) (below : Option ℕ)
+pub names_seen : (layer : Layer) (link : Link) (value : Option ℕ) → layer.names ≡ map.empty → (q : Link) (below : Option ℕ)
     → name_seen (with_name layer link value) q (map.get (map.insert layer.names link value) q) below ≡ cond (eq_by_cmp link_cmp q link) value (cond (hides_names (map.get layer.nodes q.directory)) None below)
 names_seen layer link value none q below =
     ap (λ found. name_seen (with_name layer link value) q found below) (map.get-insert links_total layer.names link value q)
@@ -174,11 +174,11 @@ names_with : (layer : Layer) (tree : Tree) (link : Link) (value : Option ℕ) �
     → (q : Link) → name_seen (with_name layer link value) q (map.get (map.insert layer.names link value) q) (map.get tree.links q) ≡ cond (eq_by_cmp link_cmp q link) value (map.get tree.links q)
 names_with layer tree link value none hides q = names_seen layer link value none q (map.get tree.links q) ∙ ap (cond (eq_by_cmp link_cmp q link) value) (hides q)
 
-nothing_hidden : (layer : Layer) (tree : Tree) → ((q : ℕ) → hides_names (map.get layer.nodes q) ≡ false) → (q : Link) → cond (hides_names (map.get layer.nodes q.directory)) None (map.get tree.links q) ≡ map.get tree.links q
+pub nothing_hidden : (layer : Layer) (tree : Tree) → ((q : ℕ) → hides_names (map.get layer.nodes q) ≡ false) → (q : Link) → cond (hides_names (map.get layer.nodes q.directory)) None (map.get tree.links q) ≡ map.get tree.links q
 nothing_hidden layer tree hides q = ap (λ b. cond b None (map.get tree.links q)) (hides q.directory)
 
 -- a number in which no names were hides none of them
-none_under : (layer : Layer) (tree : Tree) (number : ℕ) (change : NodeChange) → ((q : ℕ) → hides_names (map.get layer.nodes q) ≡ false) → hides_names (Some change) ≡ true
+pub none_under : (layer : Layer) (tree : Tree) (number : ℕ) (change : NodeChange) → ((q : ℕ) → hides_names (map.get layer.nodes q) ≡ false) → hides_names (Some change) ≡ true
     → ((q : Link) → q.directory ≡ number → map.get tree.links q ≡ None)
     → (q : Link) → cond (hides_names (map.get (map.insert layer.nodes number change) q.directory)) None (map.get tree.links q) ≡ map.get tree.links q
 none_under layer tree number change hides anew none q =
@@ -206,10 +206,10 @@ attributes_show tree after number o e =
     ∙ ap (λ b. cond b None (map.get tree.links q)) (hides_with no_changes number (Changed s) plain.hides q.directory ∙ same_false (eq_by_cmp nat_cmp q.directory number)))
     ∙ p.gives
 
-counts_more : CountsNames one_name_more
+pub counts_more : CountsNames one_name_more
 counts_more s = (refl, refl, refl, refl, refl)
 
-counts_less : CountsNames one_name_less
+pub counts_less : CountsNames one_name_less
 counts_less s = (refl, refl, refl, refl, refl)
 
 -- one more name of a file
@@ -223,7 +223,7 @@ links_show limits tree after link number e =
     ∙ (linked_is limits tree link number after e).gives
 
 -- a free number is no directory's
-not_a_directory : (limits : Limits) (tree : Tree) (number : ℕ) → is_free_number limits tree number ≡ true → HasKind tree number Directory → ⊥
+pub not_a_directory : (limits : Limits) (tree : Tree) (number : ℕ) → is_free_number limits tree number ≡ true → HasKind tree number Directory → ⊥
 not_a_directory limits tree number e = told (map.get tree.nodes number) refl (and_right (nat_lt 2 number && nat_le number limits.largest_number) _ e)
   where
     of_file : (found : Option Node) → file_at tree number ≡ found → is_some found ≡ true → IsSomeAnd (map.get tree.nodes number) (λ x. x.kind ≡ Directory) → ⊥
@@ -238,7 +238,7 @@ not_a_directory limits tree number e = told (map.get tree.nodes number) refl (an
     told (Some x) f g h = of_file (file_at tree number) refl (and_left (is_some (file_at tree number)) (names_for tree number == 0) g) h
 
 -- a number that isn't a directory's has no names in it
-no_names : (tree : Tree) (number : ℕ) → IsHierarchy tree → (HasKind tree number Directory → ⊥) → (q : Link) → q.directory ≡ number → map.get tree.links q ≡ None
+pub no_names : (tree : Tree) (number : ℕ) → IsHierarchy tree → (HasKind tree number Directory → ⊥) → (q : Link) → q.directory ≡ number → map.get tree.links q ≡ None
 no_names tree number h file q same = told (map.get tree.links q) refl
   where
     told : (found : Option ℕ) → map.get tree.links q ≡ found → found ≡ None
@@ -263,7 +263,7 @@ makes_show limits tree after link number kind o h e =
     ∙ p.gives
 
 -- no names are in what counts none
-none_in : (tree : Tree) (number : ℕ) → (names_in tree number == 0) ≡ true → (q : Link) → q.directory ≡ number → map.get tree.links q ≡ None
+pub none_in : (tree : Tree) (number : ℕ) → (names_in tree number == 0) ≡ true → (q : Link) → q.directory ≡ number → map.get tree.links q ≡ None
 none_in tree number empty q same = told (map.get tree.links q) refl
   where
     told : (found : Option ℕ) → map.get tree.links q ≡ found → found ≡ None

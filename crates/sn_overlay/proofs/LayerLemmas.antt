@@ -1,26 +1,17 @@
 -- What is seen through a layer, and through the merge of two.
-use Rattle.std.proofs.Common.{◌≡◌, ℕ, ◌+◌, ◌*◌, ◌<◌, ◌≤◌, Bool, true, false, cond, not, ◌||◌, leb, List, [], length, get_or, Option, Some, None, is_some, min, refl, sym, ap, subst, ◌∙◌, ◌⊎◌, inl, inr, arith}
-use Rattle.std.specs.Prelude.{nat_le}
+use Rattle.std.proofs.Common.{◌≡◌, ℕ, Bool, true, false, cond, not, Option, Some, None, refl, sym, ap, ◌∙◌}
 use Rattle.std.specs.Option.{option_map, unwrap_or}
-use Rattle.std.specs.Ordering.{nat_cmp}
 use Rattle.std.specs.Cmp.{nat_cmp_total}
 use Rattle.std.specs.FinMap as map
-use Rattle.std.proofs.lemmas.Bool.{true≢false}
 use Rattle.std.proofs.lemmas.Map.Lookups.{exact_unsigned}
 use Rattle.sn_model.specs.declared.link.Link.{Link}
-use Rattle.sn_model.specs.Tree.{Node, Tree, link_cmp}
-use Rattle.sn_model.specs.Changes.{node_with}
+use Rattle.sn_model.specs.Tree.{Node, Tree}
 use Rattle.sn_model.proofs.LinkLemmas.{exact_links, links_total}
-use Rattle.sn_model.proofs.ChainLemmas.{some_same, some_none}
 use Rattle.sn_overlay.specs.declared.place.BlockPlace.{BlockPlace}
 use Rattle.sn_overlay.specs.declared.node.NodeChange.{NodeChange}
 use Rattle.sn_overlay.specs.declared.node.NodeChange.TheVariants.{Gone, Changed}
-use Rattle.sn_overlay.specs.declared.node.NodeState.{NodeState}
-use Rattle.sn_overlay.specs.Pieces.{zeros, piece, joined}
-use Rattle.sn_overlay.specs.Keys.{place_cmp, block_place}
-use Rattle.sn_overlay.specs.Layers.{Layer, IsLayer, Fits, through, hides_names, hides_block, block_seen, bytes_of, node_seen, name_seen}
-use Rattle.sn_overlay.specs.Merges.{merge, change_over, state_over}
-use Rattle.sn_overlay.proofs.PieceLemmas.{length-zeros, get_or-zeros, length-piece, joined_alike, piece-joined}
+use Rattle.sn_overlay.specs.Layers.{Layer, through, hides_names, hides_block, node_seen, name_seen}
+use Rattle.sn_overlay.specs.Merges.{merge, change_over}
 use Rattle.sn_overlay.proofs.OverlaidLemmas.{exact_places, places_total, get-laid, get-overlaid, get-kept}
 
 -- the layer's answer where it has one, else what is below

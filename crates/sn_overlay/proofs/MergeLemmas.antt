@@ -1,5 +1,5 @@
 -- The merge of two layers shows what both show.
-use Rattle.std.proofs.Common.{◌≡◌, ℕ, ◌+◌, ◌*◌, ◌<◌, ◌≤◌, Bool, true, false, cond, not, ◌||◌, leb, List, [], length, get_or, Option, Some, None, is_some, min, refl, sym, ap, subst, ◌∙◌, ◌⊎◌, inl, inr, arith}
+use Rattle.std.proofs.Common.{◌≡◌, ℕ, ◌+◌, ◌*◌, ◌<◌, ◌≤◌, Bool, true, false, cond, ◌||◌, leb, List, [], length, get_or, Option, Some, None, is_some, min, refl, sym, ap, subst, ◌∙◌, arith}
 use Rattle.std.specs.Option.{unwrap_or}
 use Rattle.std.specs.Cmp.{nat_cmp_total}
 use Rattle.std.specs.FinMap as map
@@ -11,14 +11,13 @@ use Rattle.sn_model.specs.Tree.{Node, Tree}
 use Rattle.sn_model.specs.Changes.{node_with}
 use Rattle.sn_model.proofs.LinkLemmas.{exact_links, links_total}
 use Rattle.sn_model.proofs.ChainLemmas.{some_same, some_none}
-use Rattle.sn_overlay.specs.declared.place.BlockPlace.{BlockPlace}
 use Rattle.sn_overlay.specs.declared.node.NodeChange.{NodeChange}
 use Rattle.sn_overlay.specs.declared.node.NodeChange.TheVariants.{Gone, Changed}
 use Rattle.sn_overlay.specs.declared.node.NodeState.{NodeState}
 use Rattle.sn_overlay.specs.Pieces.{zeros, piece, joined}
 use Rattle.sn_overlay.specs.Keys.{block_place}
 use Rattle.sn_overlay.specs.Layers.{Layer, IsLayer, Fits, through, hides_names, hides_block, block_seen, bytes_of, node_seen, name_seen}
-use Rattle.sn_overlay.specs.Merges.{merge, change_over, state_over}
+use Rattle.sn_overlay.specs.Merges.{merge, state_over}
 use Rattle.sn_overlay.proofs.PieceLemmas.{length-zeros, length-piece, joined_alike, piece-joined}
 use Rattle.sn_overlay.proofs.LayerLemmas.{get-through_nodes, get-through_links, get-merge_nodes, get-merge_names, get-merge_blocks, nodes_over, kept_under}
 

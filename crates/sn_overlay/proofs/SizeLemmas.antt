@@ -1,10 +1,10 @@
 -- What is seen through the layer of a setting of a size.
-use Rattle.std.proofs.Common.{◌≡◌, ℕ, ◌+◌, ◌*◌, ◌/◌, ◌%◌, ◌<◌, ◌≤◌, Bool, true, false, cond, not, ◌&&◌, eqb, ltb, leb, List, length, Option, Some, None, min, refl, sym, ap, ◌∙◌, ◌⊎◌, inl, inr, arith}
+use Rattle.std.proofs.Common.{◌≡◌, ℕ, ◌+◌, ◌*◌, ◌/◌, ◌%◌, ◌<◌, ◌≤◌, Bool, true, false, cond, not, ◌&&◌, eqb, ltb, leb, List, length, Some, None, min, refl, sym, ap, ◌∙◌, ◌⊎◌, inl, inr, arith}
 use Rattle.std.specs.Option.{unwrap_or}
 use Rattle.std.specs.Ordering.{nat_cmp, eq_by_cmp}
 use Rattle.std.specs.Cmp.{nat_cmp_total, eq_by_cmp_equiv}
 use Rattle.std.specs.FinMap as map
-use Rattle.std.proofs.lemmas.Bool.{true≢false, cases_lt, leb-true, leb-false, ltb-true, ltb-false, eqb-true, and_parts}
+use Rattle.std.proofs.lemmas.Bool.{true≢false, cases_lt, leb-true, leb-false, ltb-false, eqb-true}
 use Rattle.std.proofs.lemmas.Nat.{div-add-mod', mod_below}
 use Rattle.std.proofs.lemmas.Map.Views.{tells_apart}
 use Rattle.std.proofs.lemmas.Map.Lookups.{exact_unsigned}
@@ -19,7 +19,7 @@ use Rattle.sn_overlay.specs.declared.node.NodeState.{NodeState}
 use Rattle.sn_overlay.specs.Pieces.{zeros, piece, joined, zeroed}
 use Rattle.sn_overlay.specs.Keys.{place_cmp, block_place}
 use Rattle.sn_overlay.specs.Layers.{Layer, through, hides_names, block_seen, node_seen, name_seen}
-use Rattle.sn_overlay.specs.Overlays.{no_changes, with_node, with_block}
+use Rattle.sn_overlay.specs.Overlays.{no_changes, with_node}
 use Rattle.sn_overlay.specs.ChangeLayers.{state_of, size_state, cuts_block, with_tail, cut_layer, size_layer}
 use Rattle.sn_overlay.proofs.OverlaidLemmas.{exact_places, places_total}
 use Rattle.sn_overlay.proofs.PieceLemmas.{joined_alike, joined-piece}
@@ -86,20 +86,21 @@ module _ (tree : Tree) (number size : ℕ) (node : Node) where
           apart : index ≡ size / 4096 → ⊥
           apart same = true≢false (sym ((eq_by_cmp_equiv places_total).refl (block_place number index)) ∙ ap (λ i. eq_by_cmp place_cmp (block_place number index) (block_place number i)) same ∙ e)
 
-  seen_cut : (b : Bool) → cuts_block node.bytes size ≡ b → node_seen (with_tail b bare number size node.bytes) number (Some (Changed state)) (Some node) ≡ Some (node_with node.kind (ownership_of node) (resized node.bytes size))
-  seen_cut b e = ap (λ bytes. Some (node_with node.kind (ownership_of node) bytes))
-      (joined_alike 4096 size _ _ (blocks b e)
-      ∙ ap (λ n. joined 4096 n (piece 4096 (resized node.bytes size))) (sym (length-resized node.bytes size))
-      ∙ joined-piece 4096 (resized node.bytes size) (omega arith))
+  -- each block is one of the file that was cut off
+  pub cut_block : (b : Bool) → cuts_block node.bytes size ≡ b → (index : ℕ) → block_seen (with_tail b bare number size node.bytes) number state node.bytes index ≡ piece 4096 (resized node.bytes size) index
+  cut_block true e index = tail_block index
+  cut_block false e index = bare_block index (whole (ltb size (length node.bytes)) (eqb (size % 4096) 0) refl refl e)
     where
       whole : (l m : Bool) → ltb size (length node.bytes) ≡ l → eqb (size % 4096) 0 ≡ m → (l && not m) ≡ false → (length node.bytes ≤ size) ⊎ (size % 4096 ≡ 0)
       whole false m f g h = inl (ltb-false size (length node.bytes) f)
       whole true true f g h = inr (eqb-true (size % 4096) 0 g)
       whole true false f g h = absurd (true≢false h)
 
-      blocks : (b : Bool) → cuts_block node.bytes size ≡ b → (index : ℕ) → block_seen (with_tail b bare number size node.bytes) number state node.bytes index ≡ piece 4096 (resized node.bytes size) index
-      blocks true e index = tail_block index
-      blocks false e index = bare_block index (whole (ltb size (length node.bytes)) (eqb (size % 4096) 0) refl refl e)
+  seen_cut : (b : Bool) → cuts_block node.bytes size ≡ b → node_seen (with_tail b bare number size node.bytes) number (Some (Changed state)) (Some node) ≡ Some (node_with node.kind (ownership_of node) (resized node.bytes size))
+  seen_cut b e = ap (λ bytes. Some (node_with node.kind (ownership_of node) bytes))
+      (joined_alike 4096 size _ _ (cut_block b e)
+      ∙ ap (λ n. joined 4096 n (piece 4096 (resized node.bytes size))) (sym (length-resized node.bytes size))
+      ∙ joined-piece 4096 (resized node.bytes size) (omega arith))
 
 -- a layer of one node that stays
 pub one_node_shows : (layer : Layer) (tree : Tree) (number : ℕ) (s : NodeState) (node seen : Node) → layer.nodes ≡ map.insert map.empty number (Changed s) → layer.names ≡ map.empty → s.fresh ≡ false → map.get tree.nodes number ≡ Some node

@@ -1,5 +1,5 @@
 -- The layer of one change over a tree: what the change makes different there, and nothing else.
-use Rattle.std.specs.Prelude.{ℕ, ◌+◌, ◌-◌, ◌/◌, ◌%◌, Bool, true, false, not, ◌&&◌, ◌==◌, nat_lt, min, List, length, Option, None, Some, if◌then◌else◌}
+use Rattle.std.specs.Prelude.{ℕ, zero, suc, ◌+◌, ◌-◌, ◌/◌, ◌%◌, Bool, true, false, not, ◌&&◌, ◌==◌, nat_lt, min, max, List, length, Option, None, Some, if◌then◌else◌}
 use Rattle.std.specs.FinMap as map
 use Rattle.sn_limits.specs.declared.kind.Kind.{Kind}
 use Rattle.sn_walk.specs.Views.{is_directory}
@@ -8,14 +8,14 @@ use Rattle.sn_model.specs.declared.change.Change.TheVariants.{Make, AddLink, Rem
 use Rattle.sn_model.specs.declared.change.Ownership.{Ownership}
 use Rattle.sn_model.specs.declared.link.Link.{Link}
 use Rattle.sn_model.specs.Tree.{Node, Tree, link_to, link_count, names_for}
-use Rattle.sn_model.specs.Changes.{ownership_of}
-use Rattle.sn_overlay.specs.declared.node.NodeChange.{NodeChange}
+use Rattle.sn_model.specs.Changes.{ownership_of, same_number, overwritten}
 use Rattle.sn_overlay.specs.declared.node.NodeChange.TheVariants.{Gone, Changed}
 use Rattle.sn_overlay.specs.declared.node.NodeState.{NodeState}
 use Rattle.sn_overlay.specs.Pieces.{piece, zeroed}
 use Rattle.sn_overlay.specs.Keys.{block_place}
 use Rattle.sn_overlay.specs.Layers.{Layer}
 use Rattle.sn_overlay.specs.Overlays.{no_changes, with_node, with_name, with_block}
+use Rattle.sn_overlay.specs.Needs.{spanned}
 
 -- a node that is there, as it is
 abbrev pub state_of : Tree → ℕ → Node → NodeState
@@ -88,3 +88,47 @@ cut_layer tree number size (Some node) = with_tail (cuts_block node.bytes size) 
 
 abbrev pub size_layer : Tree → ℕ → ℕ → Layer
 size_layer tree number size = cut_layer tree number size (map.get tree.nodes number)
+
+-- what has the new name of a rename loses it, if anything has it
+abbrev pub replacing : Tree → Layer → Option ℕ → Layer
+replacing tree layer None = layer
+replacing tree layer (Some number) = without_name tree number layer (map.get tree.nodes number)
+
+-- a name exchanged for another: both directories, what loses the new name, and both names
+abbrev pub exchange_layer : Tree → Link → Link → ℕ → Layer
+exchange_layer tree old new number = with_name (with_name (replacing tree (touching tree new.directory (touching tree old.directory no_changes)) (map.get tree.links new)) old None) new (Some number)
+
+-- where both names are of one object, nothing changes
+abbrev pub renaming : Tree → Link → Link → Option ℕ → Layer
+renaming tree old new None = no_changes
+renaming tree old new (Some number) = if same_number number (map.get tree.links new) then no_changes else exchange_layer tree old new number
+
+abbrev pub rename_layer : Tree → Link → Link → Layer
+rename_layer tree old new = renaming tree old new (map.get tree.links old)
+
+-- so many blocks of a file from one on, each as a function gives it
+unfoldable pub with_blocks : Layer → ℕ → (ℕ → List ℕ) → ℕ → ℕ → Layer
+with_blocks layer number block first zero = layer
+with_blocks layer number block first (suc more) = with_block (with_blocks layer number block first more) (block_place number (first + more)) (block (first + more))
+
+-- a file that ends no sooner than what is written
+abbrev pub written_state : ℕ → NodeState → NodeState
+written_state end state = record state { size = max state.size end }
+
+-- each block that bytes are written to, as it is afterwards
+abbrev pub writing : Tree → ℕ → ℕ → List ℕ → Option Node → Layer
+writing tree number offset bytes None = no_changes
+writing tree number offset bytes (Some node) = with_blocks (with_node no_changes number (Changed (written_state (offset + length bytes) (state_of tree number node)))) number (piece 4096 (overwritten node.bytes offset bytes)) (offset / 4096) (spanned offset (length bytes))
+
+abbrev pub write_layer : Tree → ℕ → ℕ → List ℕ → Layer
+write_layer tree number offset bytes = writing tree number offset bytes (map.get tree.nodes number)
+
+-- the layer of a change
+abbrev pub layer_of_change : Tree → Change → Layer
+layer_of_change tree (Make directory name number kind o) = make_layer tree (link_to directory name) number kind o
+layer_of_change tree (AddLink directory name number) = link_layer tree (link_to directory name) number
+layer_of_change tree (Remove directory name) = remove_layer tree (link_to directory name)
+layer_of_change tree (Rename old_directory old_name new_directory new_name) = rename_layer tree (link_to old_directory old_name) (link_to new_directory new_name)
+layer_of_change tree (Write number offset bytes) = write_layer tree number offset bytes
+layer_of_change tree (SetSize number size) = size_layer tree number size
+layer_of_change tree (SetAttributes number o) = ownership_layer tree number o

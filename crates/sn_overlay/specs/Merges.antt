@@ -1,8 +1,8 @@
 -- A newer layer over an older one, as one layer.
-use Rattle.std.specs.Prelude.{ℕ, not, min, ◌||◌, Option, None, Some, map, if◌then◌else◌}
+use Rattle.std.specs.Prelude.{not, min, ◌||◌, Option, Some, map, if◌then◌else◌}
 use Rattle.std.specs.FinMap as map
 use Rattle.sn_overlay.specs.declared.node.NodeChange.{NodeChange}
-use Rattle.sn_overlay.specs.declared.node.NodeChange.TheVariants.{Gone, Changed}
+use Rattle.sn_overlay.specs.declared.node.NodeChange.TheVariants.{Changed}
 use Rattle.sn_overlay.specs.declared.node.NodeState.{NodeState}
 use Rattle.sn_overlay.specs.Overlaid.{overlaid}
 use Rattle.sn_overlay.specs.Layers.{Layer, hides_names, hides_block}

@@ -1,5 +1,5 @@
 -- What an overlay in memory holds, as a layer.
-use Rattle.std.specs.Prelude.{◌≡◌, ℕ, ◌+◌, ◌≤◌, List, Option, vec_len, vec_capacity}
+use Rattle.std.specs.Prelude.{ℕ, ◌+◌, ◌≤◌, List, Option, vec_len, vec_capacity}
 use Rattle.std.specs.Ordering.{nat_cmp}
 use Rattle.std.specs.declared.boxed.Box.{Box}
 use Rattle.std.specs.Global.{Global}
@@ -39,6 +39,12 @@ pub record HasRoom (it : Overlay) (more : Counts) : Type 0 where
   pub nodes : vec_len it.nodes.entries + more.nodes ≤ vec_capacity it.nodes.entries
   pub names : vec_len it.names.entries + more.names ≤ vec_capacity it.names.entries
   pub blocks : vec_len it.blocks.entries + more.blocks ≤ vec_capacity it.blocks.entries
+
+-- of the room that there was, at most so much is taken
+pub record TakesRoom (old new : Overlay) (taken : Counts) : Type 0 where
+  pub nodes : vec_capacity old.nodes.entries + vec_len new.nodes.entries ≤ vec_capacity new.nodes.entries + vec_len old.nodes.entries + taken.nodes
+  pub names : vec_capacity old.names.entries + vec_len new.names.entries ≤ vec_capacity new.names.entries + vec_len old.names.entries + taken.names
+  pub blocks : vec_capacity old.blocks.entries + vec_len new.blocks.entries ≤ vec_capacity new.blocks.entries + vec_len old.blocks.entries + taken.blocks
 
 -- how many it has
 abbrev pub sizes_of : Overlay → Counts

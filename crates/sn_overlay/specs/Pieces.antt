@@ -20,3 +20,7 @@ zeroed from block = take from block ++ zeros (4096 - from)
 -- a block with other bytes from a place on
 abbrev pub spliced : ℕ → List ℕ → List ℕ → List ℕ
 spliced from new block = take from block ++ (new ++ drop (from + length new) block)
+
+-- the bytes from an offset on that lie in a block
+abbrev pub part_in : ℕ → List ℕ → ℕ → List ℕ
+part_in offset new index = take (4096 - (offset - index * 4096)) (drop (index * 4096 - offset) new)

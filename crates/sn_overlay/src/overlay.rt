@@ -1,9 +1,9 @@
 //! What changed of a tree since a root.
-ghost use Rattle.std.specs.Prelude.{◌≡◌, ◌+◌, ℕ, IfOk, OnOk};
+ghost use Rattle.std.specs.Prelude.{◌≡◌, IfOk, OnOk};
 ghost use Rattle.std.specs.Option.{option_copied};
 ghost use Rattle.std.specs.FinMap as map;
 ghost use Rattle.sn_overlay.specs.Merges.{merge};
-ghost use Rattle.sn_overlay.specs.Overlays.{layer_of, no_changes, Counts, HasRoom, sizes_of, with_node, with_name, with_block};
+ghost use Rattle.sn_overlay.specs.Overlays.{layer_of, no_changes, HasRoom, TakesRoom, sizes_of, with_node, with_name, with_block};
 
 use crate::place::Block;
 use crate::sorted::SortedMap;
@@ -60,7 +60,7 @@ impl Overlay {
     pub fn reserve(&mut self, nodes: usize, names: usize, blocks: usize) -> Result<(), AllocError>
         ensures same { layer_of self.new ≡ layer_of self.old }
         ensures room { OnOk result (HasRoom self.new (record { nodes = nodes; names = names; blocks = blocks })) }
-        ensures kept { (more : Counts) → HasRoom self.old more → HasRoom self.new more }
+        ensures kept { TakesRoom self.old self.new (record { nodes = 0; names = 0; blocks = 0 }) }
     {
         self.nodes.reserve(nodes)?;
         self.names.reserve(names)?;
@@ -72,7 +72,7 @@ impl Overlay {
     pub fn reserve_for(&mut self, newer: &Overlay) -> Result<(), AllocError>
         ensures same { layer_of self.new ≡ layer_of self.old }
         ensures room { OnOk result (HasRoom self.new (sizes_of newer.now)) }
-        ensures kept { (more : Counts) → HasRoom self.old more → HasRoom self.new more }
+        ensures kept { TakesRoom self.old self.new (record { nodes = 0; names = 0; blocks = 0 }) }
     {
         self.reserve(newer.nodes.len(), newer.names.len(), newer.blocks.len())
     }
@@ -95,7 +95,7 @@ impl Overlay {
     pub fn set_node(&mut self, number: u16, change: NodeChange)
         requires { HasRoom self.old (record { nodes = 1; names = 0; blocks = 0 }) }
         ensures layer { layer_of self.new ≡ with_node (layer_of self.old) number change }
-        ensures kept { (more : Counts) → HasRoom self.old (record more { nodes = more.nodes + 1 }) → HasRoom self.new more }
+        ensures taken { TakesRoom self.old self.new (record { nodes = 1; names = 0; blocks = 0 }) }
     {
         self.nodes.insert(number, change);
     }
@@ -104,7 +104,7 @@ impl Overlay {
     pub fn set_name(&mut self, link: Link, number: Option<u16>)
         requires { HasRoom self.old (record { nodes = 0; names = 1; blocks = 0 }) }
         ensures layer { layer_of self.new ≡ with_name (layer_of self.old) link number }
-        ensures kept { (more : Counts) → HasRoom self.old (record more { names = more.names + 1 }) → HasRoom self.new more }
+        ensures taken { TakesRoom self.old self.new (record { nodes = 0; names = 1; blocks = 0 }) }
     {
         self.names.insert(link, number);
     }
@@ -113,7 +113,7 @@ impl Overlay {
     pub fn set_block(&mut self, place: BlockPlace, block: Box<Block>)
         requires { HasRoom self.old (record { nodes = 0; names = 0; blocks = 1 }) }
         ensures layer { layer_of self.new ≡ with_block (layer_of self.old) place block.value }
-        ensures kept { (more : Counts) → HasRoom self.old (record more { blocks = more.blocks + 1 }) → HasRoom self.new more }
+        ensures taken { TakesRoom self.old self.new (record { nodes = 0; names = 0; blocks = 1 }) }
     {
         self.blocks.insert(place, block);
     }

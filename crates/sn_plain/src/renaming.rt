@@ -9,9 +9,8 @@ ghost use Rattle.sn_model.specs.Tree.{Node, names_in, names_for};
 use crate::error::ApplyError;
 use crate::tests::{is_directory, is_hidden_name};
 use crate::tree::PlainTree;
-use sn_limits::Limits;
+use sn_limits::{Kind, Limits, is_name};
 use sn_model::Link;
-use sn_walk::{Kind, is_name};
 
 impl PlainTree {
     ghost use Rattle.sn_plain.specs.Plain.{tree_of, Applies};

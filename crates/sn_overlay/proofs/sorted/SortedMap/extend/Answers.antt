@@ -1,4 +1,4 @@
-use Rattle.std.proofs.Common.{◌≡◌, ◌∷◌, [], length, sym, ap, ◌∙◌, arith}
+use Rattle.std.proofs.Common.{◌≡◌, [], length, sym, ap, ◌∙◌, arith}
 use Rattle.std.specs.Vec.Iter.{into_iter_items}
 use Rattle.sn_overlay.specs.Sorted.{newer_value, put_each}
 use Rattle.sn_overlay.proofs.PutLemmas.{put_each-cons, put_each-none, nothing_left}

@@ -1,4 +1,4 @@
-use Rattle.std.proofs.Common.{set, sym, ap, ◌∙◌, rules}
+use Rattle.std.proofs.Common.{set, sym, ap, ◌∙◌}
 use Rattle.std.specs.FinMap.Entries.{is_sorted}
 use Rattle.sn_overlay.proofs.SortedLemmas.{put-at, put-gap, sorted-put}
 use Rattle.sn_overlay.proofs.sorted.SortedMap.insert.Goals as goal

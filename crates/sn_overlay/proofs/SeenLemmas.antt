@@ -1,0 +1,47 @@
+-- What is read of a tree through a layer.
+use Rattle.std.proofs.Common.{◌≡◌, ℕ, Bool, true, false, cond, List, [], length, Option, Some, None, refl, sym, ap, ◌∙◌, arith}
+use Rattle.std.specs.Option.{option_map, unwrap_or}
+use Rattle.std.specs.FinMap as map
+use Rattle.sn_model.specs.Tree.{Node, Tree, link_count}
+use Rattle.sn_model.specs.Changes.{ownership_of, node_with}
+use Rattle.sn_overlay.specs.declared.place.BlockPlace.{BlockPlace}
+use Rattle.sn_overlay.specs.declared.node.NodeChange.{NodeChange}
+use Rattle.sn_overlay.specs.declared.node.NodeChange.TheVariants.{Gone, Changed}
+use Rattle.sn_overlay.specs.declared.node.SeenNode.{SeenNode}
+use Rattle.sn_overlay.specs.Pieces.{zeros, piece, joined}
+use Rattle.sn_overlay.specs.Layers.{Layer, through, hides_block, block_seen, bytes_of, node_seen}
+use Rattle.sn_overlay.specs.Seen.{seen_of, seen_node, seen_block, CountsNames, LiesOver, shown_state, node_shown, block_shown}
+use Rattle.sn_overlay.proofs.PieceLemmas.{length-zeros, length-piece, length-joined, piece-joined}
+use Rattle.sn_overlay.proofs.ChangeLemmas.{piece_past}
+use Rattle.sn_overlay.proofs.LayerLemmas.{get-through_nodes}
+
+seen_with : ℕ → Node → SeenNode
+seen_with names node = record { kind = node.kind; ownership = ownership_of node; links = link_count node.kind names; size = length node.bytes }
+
+pub seen_node-through : (layer : Layer) (tree : Tree) (number : ℕ) → CountsNames layer tree (through layer tree) → seen_node (through layer tree) number ≡ node_shown (map.get layer.nodes number) (seen_node tree number)
+unfolding seen_with
+seen_node-through layer tree number h = ap (option_map (seen_of (through layer tree) number)) (get-through_nodes layer tree number) ∙ told (map.get layer.nodes number) refl
+  where
+    told : (c : Option NodeChange) → map.get layer.nodes number ≡ c → option_map (seen_of (through layer tree) number) (node_seen layer number c (map.get tree.nodes number)) ≡ node_shown c (seen_node tree number)
+    told None e = ap (λ (names : ℕ). option_map (seen_with names) (map.get tree.nodes number)) (h.others number e)
+    told (Some (Gone by_close)) e = refl
+    told (Some (Changed s)) e =
+        let size = length-joined 4096 s.size (block_seen layer number s (bytes_of (map.get tree.nodes number))) in
+        let links = sym (h.changed number s e) in
+        let both : seen_of (through layer tree) number (node_with s.kind s.ownership (joined 4096 s.size (block_seen layer number s (bytes_of (map.get tree.nodes number))))) ≡ shown_state s = λ i. record { kind = s.kind; ownership = s.ownership; links = links i; size = size i } in
+        ap (λ (n : SeenNode). Some n) both
+
+pub seen_block-through : (layer : Layer) (tree : Tree) (place : BlockPlace) → LiesOver layer tree → seen_block (through layer tree) place ≡ block_shown (map.get layer.nodes place.file) (map.get layer.blocks place) place.index (seen_block tree place)
+seen_block-through layer tree place h = ap (λ (n : Option Node). piece 4096 (bytes_of n) place.index) (get-through_nodes layer tree place.file) ∙ told (map.get layer.nodes place.file) refl
+  where
+    long : (found : Option (List ℕ)) (b : Bool) → map.get layer.blocks place ≡ found → length (unwrap_or found (cond b (zeros 4096) (seen_block tree place))) ≡ 4096
+    long (Some bytes) b e = h.whole.lengths place bytes e
+    long None true e = length-zeros 4096
+    long None false e = length-piece 4096 (bytes_of (map.get tree.nodes place.file)) place.index
+
+    told : (c : Option NodeChange) → map.get layer.nodes place.file ≡ c → piece 4096 (bytes_of (node_seen layer place.file c (map.get tree.nodes place.file))) place.index ≡ block_shown c (map.get layer.blocks place) place.index (seen_block tree place)
+    told None e = refl
+    told (Some (Gone by_close)) e = piece_past 4096 [] place.index (omega arith)
+    told (Some (Changed s)) e = piece-joined 4096 s.size (block_seen layer place.file s (bytes_of (map.get tree.nodes place.file))) place.index
+        (long (map.get layer.blocks place) (hides_block (Some (Changed s)) place.index) refl)
+        (λ at b k. h.fits.zeros place.file s place.index at e b k)

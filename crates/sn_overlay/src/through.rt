@@ -1,0 +1,105 @@
+//! A tree seen through an overlay.
+ghost use Rattle.std.specs.Prelude.{◌≡◌, ℕ, List, true, false};
+ghost use Rattle.std.specs.Option.{option_copied};
+ghost use Rattle.sn_overlay.specs.Seen.{block_shown};
+
+use crate::made::zero_from;
+use crate::node::{hides_block, hides_names};
+use crate::{Below, Block, BlockPlace, NodeChange, Overlay, SeenNode};
+use sn_model::Link;
+
+// Puts a block as an overlay shows it, unless that is the block below.
+fn shows_block(
+    change: Option<&NodeChange>,
+    written: Option<&Block>,
+    index: u64,
+    block: &mut Block,
+) -> bool
+    ensures shown { result ≡ true → (below : List ℕ) → block_shown (option_copied change.entry) (option_copied written.entry) index below ≡ block.new }
+    ensures below { result ≡ false → (below : List ℕ) → block_shown (option_copied change.entry) (option_copied written.entry) index below ≡ below }
+{
+    match change {
+        None => false,
+        Some(NodeChange::Gone { .. }) => {
+            zero_from(block, 0);
+            true
+        }
+        Some(NodeChange::Changed(_)) => match written {
+            Some(written) => {
+                *block = *written;
+                true
+            }
+            None => {
+                let is_hidden = hides_block(change, index);
+                if is_hidden {
+                    zero_from(block, 0);
+                }
+                is_hidden
+            }
+        },
+    }
+}
+
+/// A tree seen through an overlay that lies over it.
+///
+/// ```text
+/// let mut live = Through { overlay: &top, below: &mut Through { overlay: &bottom, below: &mut image } };
+/// let newer = of_change(alloc, &limits, &mut live, &change)?;
+/// ```
+#[derive(Drop)]
+pub struct Through<'a, B> {
+    pub overlay: &'a Overlay,
+    pub below: &'a mut B,
+}
+
+impl<'a, B: Below> Below for Through<'a, B> {
+    ghost use Rattle.std.specs.Prelude.{◌≡◌, IsTrue};
+    ghost use Rattle.sn_overlay.specs.Layers.{through};
+    ghost use Rattle.sn_overlay.specs.Overlays.{layer_of};
+    ghost use Rattle.sn_overlay.specs.Seen.{LiesOver};
+
+    type Fault = B::Fault;
+
+    ghost is_told = { B.is_told };
+
+    ghost shows = { λ s. through (layer_of s.overlay.now) (B.shows s.below.now) };
+
+    ghost holds = { λ s. B.holds s.below.now × (IsTrue B.is_told → LiesOver (layer_of s.overlay.now) (B.shows s.below.now)) };
+
+    ghost follows = { λ u v. B.follows u.below.now v.below.now };
+
+    ghost causes = { λ u v f. B.causes u.below.now v.below.now f };
+
+    fn node(&mut self, number: u16) -> Result<Option<SeenNode>, B::Fault> {
+        match self.overlay.node(number) {
+            Some(NodeChange::Gone { .. }) => Ok(None),
+            Some(NodeChange::Changed(state)) => Ok(Some(state.shown())),
+            None => self.below.node(number),
+        }
+    }
+
+    fn link(&mut self, link: &Link) -> Result<Option<u16>, B::Fault> {
+        if let Some(number) = self.overlay.name(link) {
+            return Ok(number);
+        }
+        if hides_names(self.overlay.node(link.directory)) {
+            return Ok(None);
+        }
+        self.below.link(link)
+    }
+
+    fn read_block(&mut self, place: BlockPlace, block: &mut Block) -> Result<(), B::Fault> {
+        let change = self.overlay.node(place.file);
+        let written = self.overlay.block(place);
+        if shows_block(change, written, place.index, block) {
+            return Ok(());
+        }
+        self.below.read_block(place, block)
+    }
+
+    ghost follows_itself = { λ v. B.follows_itself v.below.now };
+
+    ghost follows_on = { λ u v w p q. B.follows_on u.below.now v.below.now w.below.now p q };
+
+    ghost causes_later = { λ u v w f p q. B.causes_later u.below.now v.below.now w.below.now f p q };
+}

@@ -1,0 +1,153 @@
+//! Lists of steps: changes, and questions of what is seen.
+
+use crate::root::ownership;
+use crate::trees::Trees;
+use anyhow::{Context, Result, bail};
+use sn_model::{Bytes, Change};
+use sn_overlay::BlockPlace;
+use sn_table::Case;
+use sn_walk::Kind;
+use std::alloc::Global;
+
+/// A word of a case: what is done and to what, with colons between.
+#[derive(Clone, Copy)]
+struct Step<'a> {
+    text: &'a str,
+}
+
+impl<'a> Step<'a> {
+    fn part(self, at: usize) -> Result<&'a str> {
+        self.text
+            .split(':')
+            .nth(at)
+            .context(format_args!("no part {at} in: {}", self.text))
+    }
+
+    fn number(self, at: usize) -> Result<u64> {
+        let part = self.part(at)?;
+        part.parse().context(format_args!("no number: {part}"))
+    }
+
+    fn short(self, at: usize) -> Result<u16> {
+        let part = self.part(at)?;
+        part.parse().context(format_args!("no number: {part}"))
+    }
+
+    fn bytes(self, at: usize) -> Result<Bytes<'a>> {
+        Ok(Bytes::new(self.part(at)?.as_bytes()))
+    }
+
+    fn kind(self, at: usize) -> Result<Kind> {
+        match self.part(at)? {
+            "file" => Ok(Kind::File),
+            "directory" => Ok(Kind::Directory),
+            other => bail!("no kind: {other}"),
+        }
+    }
+}
+
+/// A change of names.
+fn naming(step: Step<'_>) -> Result<Option<Change<'_>>> {
+    Ok(Some(match step.part(0)? {
+        "make" => Change::Make {
+            directory: step.short(1)?,
+            name: step.bytes(2)?,
+            number: step.short(3)?,
+            kind: step.kind(4)?,
+            ownership: ownership(7),
+        },
+        "link" => Change::AddLink {
+            directory: step.short(1)?,
+            name: step.bytes(2)?,
+            number: step.short(3)?,
+        },
+        "remove" => Change::Remove {
+            directory: step.short(1)?,
+            name: step.bytes(2)?,
+        },
+        "rename" => Change::Rename {
+            old_directory: step.short(1)?,
+            old_name: step.bytes(2)?,
+            new_directory: step.short(3)?,
+            new_name: step.bytes(4)?,
+        },
+        _ => return Ok(None),
+    }))
+}
+
+/// A change of one node.
+fn changing(step: Step<'_>) -> Result<Option<Change<'_>>> {
+    Ok(Some(match step.part(0)? {
+        "write" => Change::Write {
+            number: step.short(1)?,
+            offset: step.number(2)?,
+            bytes: step.bytes(3)?,
+        },
+        "size" => Change::SetSize {
+            number: step.short(1)?,
+            size: step.number(2)?,
+        },
+        "own" => Change::SetAttributes {
+            number: step.short(1)?,
+            ownership: ownership(9),
+        },
+        _ => return Ok(None),
+    }))
+}
+
+/// So many bytes `x` are written at an offset.
+fn fill(alloc: Global, trees: &mut Trees, step: Step<'_>) -> Result<()> {
+    let mut bytes = Vec::new(alloc);
+    for _count in 0..step.short(3)? {
+        bytes.push(b'x')?;
+    }
+    trees.change(&Change::Write {
+        number: step.short(1)?,
+        offset: step.number(2)?,
+        bytes: Bytes::new(bytes.as_slice()),
+    })
+}
+
+fn ask(trees: &Trees, step: Step<'_>, text: &mut String) -> Result<()> {
+    if !text.is_empty() {
+        text.push(' ')?;
+    }
+    match step.part(0)? {
+        "node" => trees.node(step.short(1)?, text),
+        "name" => trees.name(step.short(1)?, step.part(2)?, text),
+        "bytes" => {
+            let place = BlockPlace {
+                file: step.short(1)?,
+                index: step.number(2)?,
+            };
+            let (from, count) = (step.short(3)?, step.short(4)?);
+            trees.bytes(place, usize::from(from), usize::from(count), text)
+        }
+        other => bail!("no step: {other}"),
+    }
+}
+
+fn take(alloc: Global, trees: &mut Trees, step: Step<'_>, text: &mut String) -> Result<()> {
+    match step.part(0)? {
+        "settle" => return trees.settle(),
+        "fill" => return fill(alloc, trees, step),
+        _ => {}
+    }
+    if let Some(change) = naming(step)? {
+        return trees.change(&change);
+    }
+    if let Some(change) = changing(step)? {
+        return trees.change(&change);
+    }
+    ask(trees, step, text)
+}
+
+/// The answers to the questions of a list of steps.
+pub fn answers(alloc: Global, case: Case<'_>) -> Result<String> {
+    let mut trees = Trees::new(alloc);
+    let mut text = String::new(alloc);
+    for word in case.text().split_ascii_whitespace() {
+        take(alloc, &mut trees, Step { text: word }, &mut text)?;
+    }
+    Ok(text)
+}
