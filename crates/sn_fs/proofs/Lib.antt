@@ -1,0 +1,3 @@
+pub mod MeaningLemmas
+pub mod DecisionLemmas
+pub mod CallLemmas
