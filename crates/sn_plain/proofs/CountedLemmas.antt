@@ -17,8 +17,8 @@ use Rattle.sn_model.proofs.NameLemmas.{is_unnamed}
 use Rattle.sn_plain.specs.Maps.{updated}
 use Rattle.sn_plain.specs.declared.nodes.Counts.{Counts}
 use Rattle.sn_plain.specs.declared.nodes.StoredNode.{StoredNode}
-use Rattle.sn_plain.specs.Stored.{IsCounted, Recounts, recount, more_at, fewer_at}
-use Rattle.sn_plain.proofs.MapLemmas.{get-updated}
+use Rattle.sn_plain.specs.Stored.{IsCounted, Recounts, recount, more_at, fewer_at, under}
+use Rattle.sn_plain.proofs.MapLemmas.{get-updated_each, get-updated_other}
 
 abbrev pub Stored : Type 0
 Stored = map.FinMap nat_cmp StoredNode
@@ -27,15 +27,15 @@ pub nothing : {A : Type 0} (x : A) → None ≢ Some x
 nothing x e = cc
 
 -- a node after a recount, and the node that it was
-was_counted : (f : StoredNode → StoredNode) (o : Option StoredNode) (s : StoredNode) → option_map f o ≡ Some s → (x : StoredNode) × (o ≡ Some x) × (f x ≡ s)
+pub was_counted : (f : StoredNode → StoredNode) (o : Option StoredNode) (s : StoredNode) → option_map f o ≡ Some s → (x : StoredNode) × (o ≡ Some x) × (f x ≡ s)
 was_counted f None s e = cc
 was_counted f (Some x) s e = (x, refl, cc)
 
-none_counted : (f : StoredNode → StoredNode) (o : Option StoredNode) → option_map f o ≡ None → o ≡ None
+pub none_counted : (f : StoredNode → StoredNode) (o : Option StoredNode) → option_map f o ≡ None → o ≡ None
 none_counted f None e = refl
 none_counted f (Some x) e = cc
 
-some_counted : (f : StoredNode → StoredNode) (o : Option StoredNode) → is_some o ≡ true → is_some (option_map f o) ≡ true
+pub some_counted : (f : StoredNode → StoredNode) (o : Option StoredNode) → is_some o ≡ true → is_some (option_map f o) ≡ true
 some_counted f None e = e
 some_counted f (Some x) e = refl
 
@@ -226,12 +226,7 @@ counted_alike stored tree first number f same h = record {
 }
   where
     is_change : (k : ℕ) → map.get (updated stored number f) k ≡ option_map (λ s. cond (eq_by_cmp nat_cmp k number) (f s) s) (map.get stored k)
-    is_change k = get-updated nat_cmp_total exact_unsigned stored number f k ∙ told (eq_by_cmp nat_cmp k number) (map.get stored k)
-      where
-        told : (b : Bool) (o : Option StoredNode) → cond b (option_map f o) o ≡ option_map (λ s. cond b (f s) s) o
-        told true o = refl
-        told false None = refl
-        told false (Some s) = refl
+    is_change k = get-updated_each nat_cmp_total exact_unsigned stored number f k
 
     kept : (b : Bool) (x : StoredNode) → ((cond b (f x) x).kind ≡ x.kind) × ((cond b (f x) x).counts ≡ x.counts)
     kept true x = same x
@@ -248,6 +243,44 @@ counted_alike stored tree first number f same h = record {
 
     stays : (k : ℕ) → is_some (map.get stored k) ≡ true → is_some (map.get (updated stored number f) k) ≡ true
     stays k e = ap is_some (is_change k) ∙ some_counted (λ x. cond (eq_by_cmp nat_cmp k number) (f x) x) (map.get stored k) e
+
+-- a node in another directory, where no name leads to it if it is one
+pub counted_under : (stored : Stored) (tree : Tree) (first number directory : ℕ) → ((s : StoredNode) → map.get stored number ≡ Some s → s.kind ≡ kind.Directory → names_for tree number ≡ 0) → IsCounted stored tree first → IsCounted (updated stored number (under directory)) tree first
+counted_under stored tree first number directory alone h = record {
+  names = λ k s e. let b = before k s e in b.3 ∙ h.names k b.0 b.1;
+  links = λ k s e. let b = before k s e in b.4 ∙ h.links k b.0 b.1;
+  parents = λ l k s g e d. parents l k s g e d (same_or_apart nat_cmp_total exact_unsigned k number);
+  files = λ k s e g. let b = before k s e in h.files k b.0 b.1 (sym b.2 ∙ g);
+  no_names = λ k e. h.no_names k (none k e);
+  no_links = λ k e. h.no_links k (none k e);
+  used = λ k low high. ap is_some (is_change k) ∙ some_counted (at k) (map.get stored k) (h.used k low high);
+  low = h.low;
+}
+  where
+    at : ℕ → StoredNode → StoredNode
+    at k x = cond (eq_by_cmp nat_cmp k number) (under directory x) x
+
+    is_change : (k : ℕ) → map.get (updated stored number (under directory)) k ≡ option_map (at k) (map.get stored k)
+    is_change k = get-updated_each nat_cmp_total exact_unsigned stored number (under directory) k
+
+    kept : (b : Bool) (x : StoredNode) → ((cond b (under directory x) x).kind ≡ x.kind) × ((cond b (under directory x) x).counts.names ≡ x.counts.names) × ((cond b (under directory x) x).counts.links ≡ x.counts.links)
+    kept true x = (refl, refl, refl)
+    kept false x = (refl, refl, refl)
+
+    before : (k : ℕ) (s : StoredNode) → map.get (updated stored number (under directory)) k ≡ Some s → (x : StoredNode) × (map.get stored k ≡ Some x) × (s.kind ≡ x.kind) × (s.counts.names ≡ x.counts.names) × (s.counts.links ≡ x.counts.links)
+    before k s e =
+        let b = was_counted (at k) (map.get stored k) s (sym (is_change k) ∙ e) in
+        let q = kept (eq_by_cmp nat_cmp k number) b.0 in
+        (b.0, b.1, ap (λ (x : StoredNode). x.kind) (sym b.2) ∙ q.0, ap (λ (x : StoredNode). x.counts.names) (sym b.2) ∙ q.1, ap (λ (x : StoredNode). x.counts.links) (sym b.2) ∙ q.2)
+
+    none : (k : ℕ) → map.get (updated stored number (under directory)) k ≡ None → map.get stored k ≡ None
+    none k e = none_counted (at k) (map.get stored k) (sym (is_change k) ∙ e)
+
+    parents : (l : Link) (k : ℕ) (s : StoredNode) → map.get tree.links l ≡ Some k → map.get (updated stored number (under directory)) k ≡ Some s → s.kind ≡ kind.Directory → (k ≡ number) ⊎ (k ≢ number) → s.counts.parent ≡ l.directory
+    parents l k s g e d (inl same) =
+        let b = before k s e in
+        absurd (is_unnamed tree number (alone b.0 (ap (map.get stored) (sym same) ∙ b.1) (sym b.2 ∙ d)) l (g ∙ ap (λ (n : ℕ). Some n) same))
+    parents l k s g e d (inr apart) = h.parents l k s g (sym (get-updated_other nat_cmp_total exact_unsigned stored number (under directory) k apart) ∙ e) d
 
 -- the first number that may be unused, once one is
 abbrev pub after_loss : ℕ → ℕ → ℕ

@@ -6,3 +6,4 @@ pub mod NumberLemmas
 pub mod OwnershipLemmas
 pub mod MakingLemmas
 pub mod SettledLemmas
+pub mod RenamingLemmas

@@ -1,12 +1,17 @@
 -- Maps in memory against the finite maps that they stand for.
-use Rattle.std.proofs.Common.{◌≡◌, Bool, true, false, cond, List, [], ◌∷◌, Option, Some, None, map, refl, sym, ap, ◌∙◌}
+use Rattle.std.proofs.Common.{◌≡◌, ◌≢◌, ◌+◌, Bool, true, false, cond, List, [], ◌∷◌, Option, Some, None, is_some, length, map, refl, sym, ap, ◌∙◌, arith}
 use Rattle.std.specs.declared.cmp.Ordering.{Ordering}
+use Rattle.std.specs.declared.cmp.Ordering.TheVariants.{Less}
 use Rattle.std.specs.Option.{option_map}
-use Rattle.std.specs.Ordering.{eq_by_cmp}
+use Rattle.std.specs.Ordering.{eq_by_cmp, is_eq}
 use Rattle.std.specs.Cmp.{IsTotalOrder, eq_by_cmp_equiv}
 use Rattle.std.specs.Map.{lookup}
 use Rattle.std.specs.BTreeMap.{is_at}
 use Rattle.std.specs.FinMap as fin
+use Rattle.std.specs.List.{AllByRecursion}
+use Rattle.std.specs.List.Sorted.{IsStrictlySortedBy}
+use Rattle.std.specs.Map.{keys_of}
+use Rattle.std.proofs.lemmas.Bool.{false_from_ne_true}
 use Rattle.std.proofs.lemmas.Map.Lookups.{CmpEqualImpliesEq}
 use Rattle.std.proofs.lemmas.Map.Views.{tells_apart}
 use Rattle.sn_plain.specs.Maps.{restored, seen_by, updated, updated_at}
@@ -51,6 +56,20 @@ remove-insert {K} {X} {R} o exact m k v absent = fin.same_map o exact _ _ (λ q.
     at_key q true e = rw e (sym absent ∙ ap (fin.get m) (sym (tells_apart exact q k e)))
     at_key q false e = rw e refl
 
+-- keys that ascend are all there
+module _ {K X Y : Type 0} (R : K → K → Ordering) (f : X → Y) (o : IsTotalOrder R) where
+  not_found : (q : K) (es : List (K × X)) → AllByRecursion (λ k. R q k ≡ Less) (keys_of es) → fin.find R q (map (λ e. (e.0, f e.1)) es) ≡ None
+  not_found q [] h = refl
+  not_found q (e ∷ es) h = ap (λ r. cond (is_eq r) (Some (f e.1)) (fin.find R q (map (λ e. (e.0, f e.1)) es))) h.0 ∙ not_found q es h.1
+
+  pub len-seen_by : (es : List (K × X)) → IsStrictlySortedBy R (keys_of es) → fin.len (seen_by R f es) ≡ length es
+  unfolding IsStrictlySortedBy
+  len-seen_by [] h = fin.len-empty R Y
+  len-seen_by (e ∷ es) h =
+      let absent : fin.get (seen_by R f es) e.0 ≡ None = fin.get-from_entries o _ e.0 ∙ not_found e.0 es h.0 in
+      let rest = len-seen_by es h.1 in
+      fin.len-insert o (seen_by R f es) e.0 (f e.1) ∙ ap (λ v. cond (is_some v) (fin.len (seen_by R f es)) (fin.len (seen_by R f es) + 1)) absent ∙ omega (arith, rest)
+
 option_map_same : {X : Type 0} (o : Option X) → option_map (λ x. x) o ≡ o
 option_map_same None = refl
 option_map_same (Some x) = refl
@@ -92,6 +111,18 @@ get-updated {K} {X} {R} o exact m k g q = told (fin.get m k) refl (eq_by_cmp R q
     told None e false t = rw t refl
     told (Some x) e true t = fin.get-insert o m k (g x) q ∙ rw t (sym (ap (option_map g) (ap (fin.get m) (tells_apart exact q k t) ∙ e)))
     told (Some x) e false t = fin.get-insert o m k (g x) q ∙ rw t refl
+
+-- the same, each value by a function of its own
+pub get-updated_each : {K X : Type 0} {R : K → K → Ordering} → IsTotalOrder R → CmpEqualImpliesEq R → (m : fin.FinMap R X) (k : K) (g : X → X) (q : K) → fin.get (updated m k g) q ≡ option_map (λ x. cond (eq_by_cmp R q k) (g x) x) (fin.get m q)
+get-updated_each {K} {X} {R} o exact m k g q = get-updated o exact m k g q ∙ told (eq_by_cmp R q k) (fin.get m q)
+  where
+    told : (b : Bool) (v : Option X) → cond b (option_map g v) v ≡ option_map (λ x. cond b (g x) x) v
+    told true v = refl
+    told false None = refl
+    told false (Some x) = refl
+
+pub get-updated_other : {K X : Type 0} {R : K → K → Ordering} → IsTotalOrder R → CmpEqualImpliesEq R → (m : fin.FinMap R X) (k : K) (g : X → X) (q : K) → q ≢ k → fin.get (updated m k g) q ≡ fin.get m q
+get-updated_other {K} {X} {R} o exact m k g q apart = get-updated o exact m k g q ∙ ap (λ b. cond b (option_map g (fin.get m q)) (fin.get m q)) (false_from_ne_true (eq_by_cmp R q k) (λ e. apart (tells_apart exact q k e)))
 
 -- what was put at a key goes again, and what was there comes back
 pub restored-insert : {K X : Type 0} {R : K → K → Ordering} → IsTotalOrder R → CmpEqualImpliesEq R → (m : fin.FinMap R X) (k : K) (v : X) (old : Option X) → fin.get m k ≡ old → restored (fin.insert m k v) k old ≡ m

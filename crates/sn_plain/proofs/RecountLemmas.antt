@@ -15,7 +15,7 @@ use Rattle.sn_plain.proofs.MapLemmas.{get-updated}
 abbrev Stored : Type 0
 Stored = fin.FinMap nat_cmp StoredNode
 
-turned : (a b : ℕ) → (a == b) ≡ (b == a)
+pub turned : (a b : ℕ) → (a == b) ≡ (b == a)
 turned a b = told (a == b) refl (b == a) refl
   where
     told : (t : Bool) → (a == b) ≡ t → (u : Bool) → (b == a) ≡ u → (a == b) ≡ (b == a)

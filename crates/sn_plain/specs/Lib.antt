@@ -1,4 +1,5 @@
 pub mod Bytes
 pub mod Maps
+pub mod Moves
 pub mod Plain
 pub mod Stored

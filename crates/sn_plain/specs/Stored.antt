@@ -6,6 +6,9 @@ use Rattle.std.specs.FinMap as map
 use Rattle.sn_walk.specs.declared.view.Kind.TheVariants as kind
 use Rattle.sn_walk.specs.Views.{is_directory}
 use Rattle.sn_model.specs.declared.link.Link.{Link}
+use Rattle.sn_limits.specs.declared.limits.Limits.{Limits}
+use Rattle.sn_model.specs.Changes.{put_link, replaced, take_link}
+use Rattle.sn_model.specs.NameTree.{IsTree}
 use Rattle.sn_model.specs.Tree.{Node, Tree, link_cmp, names_in, names_for}
 use Rattle.sn_plain.specs.Maps.{seen_by}
 use Rattle.sn_plain.specs.declared.nodes.Counts.{Counts}
@@ -89,3 +92,24 @@ IsFresh s = (s.counts.names ≡ 0) × (s.counts.links ≡ 0)
 -- what a settling keeps: directories, and files with a name
 abbrev pub is_kept : StoredNode → Bool
 is_kept s = is_directory s.kind || not (s.counts.links == 0)
+
+-- a node in another directory
+abbrev pub under : ℕ → StoredNode → StoredNode
+under directory s = record s { counts = record s.counts { parent = directory } }
+
+-- The nodes without what has a name that another number gets: they, and what is kept beside them, are those of the tree that the model has then.
+abbrev pub Clears : ℕ → Option ℕ → Nodes → ℕ → Nodes → ℕ → Type 0
+Clears directory target old first new first' = (l : Limits) (tree cleared : Tree) (link : Link) (node : Node) → IsTree l tree → tree.nodes ≡ nodes_of old → IsCounted (stored_of old) tree first
+    → link.directory ≡ directory → map.get tree.links link ≡ target → replaced tree link node target ≡ Some cleared → (cleared.nodes ≡ nodes_of new) × IsCounted (stored_of new) cleared first'
+
+-- what is kept of a number is fit for a new name: a file, or a directory that lost its name
+abbrev pub IsMovable : Tree → ℕ → map.FinMap nat_cmp StoredNode → Type 0
+IsMovable tree number stored = (s : StoredNode) × (map.get stored number ≡ Some s) × (s.kind ≡ kind.Directory → names_for tree number ≡ 0)
+
+abbrev pub HasDirectory : ℕ → map.FinMap nat_cmp StoredNode → Type 0
+HasDirectory number stored = (s : StoredNode) × (map.get stored number ≡ Some s) × (s.kind ≡ kind.Directory)
+
+-- What is kept beside the nodes agrees with the names after one was moved.
+abbrev pub Moves : ℕ → ℕ → ℕ → map.FinMap nat_cmp StoredNode → map.FinMap nat_cmp StoredNode → Type 0
+Moves from to number old new = (tree : Tree) (first : ℕ) (a b : Link) → IsCounted old tree first → a.directory ≡ from → b.directory ≡ to → map.get tree.links a ≡ Some number → map.get (take_link tree a).links b ≡ None
+    → HasDirectory to old → IsMovable (take_link tree a) number old → IsCounted new (put_link (take_link tree a) b number) first

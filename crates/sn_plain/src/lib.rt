@@ -12,12 +12,15 @@
 //! have one change each: first its test, then all that takes memory, then the rest.
 #![tactic(auto)]
 
+mod applying;
 mod bytes;
 mod error;
 mod linking;
 mod links;
 mod making;
+mod moving;
 mod nodes;
+mod renaming;
 mod settling;
 mod stored;
 mod tests;

@@ -13,7 +13,7 @@ use sn_limits::Limits;
 use sn_model::Link;
 
 /// The first number that may be unused, once a number is unused.
-fn after_loss(first: u32, number: u16) -> u32
+pub(crate) fn after_loss(first: u32, number: u16) -> u32
     ensures { result ≡ (if nat_lt number first then number else first) }
 {
     if u32::from(number) < first {
@@ -29,10 +29,7 @@ impl PlainTree {
     fn is_file(&self, number: u16) -> bool
         ensures { result ≡ is_some (file_at (tree_of self.now) number) }
     {
-        match self.nodes.get(number) {
-            Some(node) => !is_directory(node.kind),
-            None => false,
-        }
+        self.nodes.is_file(number)
     }
 
     #[tactic(auto, unfolding(sn_model::specs::Changes::linked))]

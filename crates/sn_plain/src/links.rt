@@ -47,6 +47,13 @@ impl Links {
         }
     }
 
+    /// How many names there are.
+    pub fn len(&self) -> usize
+        ensures { result ≡ map.len (links_of self.now) }
+    {
+        self.map.len()
+    }
+
     pub fn remove(&mut self, link: &Link)
         ensures { links_of self.new ≡ map.remove (links_of self.old) link.now }
     {

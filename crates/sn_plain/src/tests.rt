@@ -9,7 +9,7 @@ use sn_model::{Link, Ownership};
 use sn_walk::{Kind, ROOT_NUMBER, is_name};
 
 /// The name under which the root has the directory of snapshots.
-fn is_hidden_name(directory: u16, name: &[u8]) -> bool
+pub(crate) fn is_hidden_name(directory: u16, name: &[u8]) -> bool
     ensures { result ≡ is_hidden_name directory name.now }
 {
     directory == ROOT_NUMBER && name == b".snapshot".as_slice()
