@@ -47,7 +47,7 @@ stopped_answers h session c (Stopped before after) m = kept h true (Stopped befo
 
 -- ---- of one that runs, in the world that it holds
 
-OfWorld : Held → Bool → ℕ → Call → Reply → Held → Type 0
+abbrev OfWorld : Held → Bool → ℕ → Call → Reply → Held → Type 0
 OfWorld h has_stopped session c reply new = Runs h h.world → AnswersFrom (Running h.world) (event.Call session c) reply h new has_stopped
 
 in_world : (h new : Held) (has_stopped : Bool) (session : ℕ) (c : Call) (reply : Reply) → OfWorld h has_stopped session c reply new → Answers (event.Call session c) reply h false new has_stopped
@@ -55,7 +55,7 @@ in_world h new has_stopped session c reply f (Running w) m =
     subst (λ (x : World). AnswersFrom (Running x) (event.Call session c) reply h new has_stopped) m.1.is (f (subst (λ (x : World). Runs h x) (sym m.1.is) m.1))
 in_world h new has_stopped session c reply f (Stopped before after) m = absurd (true≢false (sym m.0))
 
-reply_of : CallError → Reply
+abbrev pub reply_of : CallError → Reply
 reply_of (lack.Refused r) = answer.Refused r
 reply_of lack.Memory = refused Enomem
 
@@ -148,14 +148,11 @@ pub told_answers : (old new : Held) (session : ℕ) (c : Call) (o : Outcome) →
     → new ≡ record old { world = with_caller old.world session o.caller } → Answers (event.Call session c) o.told old false new false
 told_answers old new session c o whole decided chosen is = in_world old new false session c o.told told
   where
-    abbrev next : World
-    next = with_caller old.world session o.caller
-    abbrev after : Held
-    after = record old { world = next }
-    live : next.live ≡ old.world.live
-    live = caller_live old.world session o.caller
     told : Runs old old.world → AnswersFrom (Running old.world) (event.Call session c) o.told old new false
     told r =
+        let next = with_caller old.world session o.caller in
+        let after : Held = record old { world = next } in
+        let live = caller_live old.world session o.caller in
         let on : Runs after next = record {
           is = refl;
           frozen = caller_frozen old.world session o.caller ∙ r.frozen;
@@ -172,3 +169,9 @@ told_answers old new session c o whole decided chosen is = in_world old new fals
           means = (refl, on);
           lasts = record { moments = LeavesOnly-start old.disk (λ d. ShowsState ground (Running old.world) d ⊎ ShowsState ground (Running next) d) (λ d crash. inr (shows d crash)); answered = shows };
         })
+
+-- where a change isn't made and the mount goes on, its world is the one from before
+pub still_whole : (told : Bool) (f : ChangeFault) (change : Change) (old new : Held) → FailsChange told f change old new → stops f ≡ false → IsWorld version_1 old.world → IsWorld version_1 new.world
+still_whole told fault.Space change old new fails runs whole = subst (λ (h : Held). IsWorld version_1 h.world) (sym fails.1) whole
+still_whole told fault.Memory change old new fails runs whole = subst (λ (h : Held). IsWorld version_1 h.world) (sym fails) whole
+still_whole told fault.Device change old new fails runs whole = absurd (true≢false runs)

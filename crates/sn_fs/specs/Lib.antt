@@ -1,4 +1,5 @@
 pub mod Answers
 pub mod Changing
+pub mod Filesystem
 pub mod Held
 pub mod Mounted

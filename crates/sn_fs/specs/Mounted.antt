@@ -9,7 +9,6 @@ use Rattle.sn_block.specs.declared.blocks.Blocks.{Blocks}
 use Rattle.sn_log.specs.Places.{LogPosition}
 use Rattle.sn_core.specs.declared.world.PlainWorld.{PlainWorld}
 use Rattle.sn_core.specs.Plain.{IsPlainWorld, world_of}
-use Rattle.sn_fs.specs.declared.fs.Fs.{Fs}
 use Rattle.sn_fs.specs.Held.{Held, IsOnGround}
 
 -- Its log is on a device that has all its sectors, and unless a failure has stopped it, its world is one.
@@ -22,10 +21,3 @@ pub record IsMounted (status : Status) (at : LogPosition) (world : PlainWorld) (
 -- what these parts hold
 abbrev pub holding : {D : Type 0} (g : Ghosts D) → Blocks D g → LogPosition → PlainWorld → Held
 holding g blocks at world = record { world = world_of world; at = at; disk = g.disk (device_of blocks); status = g.status (device_of blocks) }
-
-module _ {D : Type 0} {g : Ghosts D} where
-  abbrev pub held : Fs D g → Held
-  held fs = holding g fs.blocks fs.log fs.world
-
-  abbrev pub has_stopped : Fs D g → Bool
-  has_stopped fs = fs.has_stopped

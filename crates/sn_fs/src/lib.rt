@@ -1,6 +1,8 @@
 //! A file system over a device.
 #![tactic(auto)]
 
+mod calling;
+mod changing;
 mod fault;
 mod fs;
 
