@@ -3,3 +3,4 @@ pub mod Changing
 pub mod Filesystem
 pub mod Held
 pub mod Mounted
+pub mod Mounting

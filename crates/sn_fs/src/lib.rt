@@ -5,5 +5,6 @@ mod calling;
 mod changing;
 mod fault;
 mod fs;
+mod mounting;
 
 pub use fs::Fs;

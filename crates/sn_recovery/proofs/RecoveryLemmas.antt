@@ -75,7 +75,7 @@ kept_opens limits d at changes root live k c crash =
 
 -- ---- one change more
 
-spelled_more : (cs : List Change) (change : Change) → AreSpelled cs → IsSpelled change → AreSpelled (cs ++ change ∷ [])
+pub spelled_more : (cs : List Change) (change : Change) → AreSpelled cs → IsSpelled change → AreSpelled (cs ++ change ∷ [])
 spelled_more [] change fits fit = (fit, tt)
 spelled_more (c ∷ cs) change fits fit = (fits.0, spelled_more cs change fits.1 fit)
 
@@ -85,7 +85,7 @@ record More (limits : Limits) (changes : List Change) (change : Change) (root af
   applied : apply_all limits (changes ++ change ∷ []) root ≡ Some tree
   covers : Covers tree after
 
-applied_one : (limits : Limits) (change : Change) (tree after : Tree) → apply limits change tree ≡ Some after → apply_all limits (change ∷ []) tree ≡ Some after
+pub applied_one : (limits : Limits) (change : Change) (tree after : Tree) → apply limits change tree ≡ Some after → apply_all limits (change ∷ []) tree ≡ Some after
 unfolding apply_all
 applied_one limits change tree after e = ap (λ o. o >>= (λ t. Some t)) e
 

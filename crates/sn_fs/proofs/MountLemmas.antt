@@ -1,0 +1,81 @@
+-- Replay, record by record.
+use Rattle.std.proofs.Common.{◌≡◌, ◌⊎◌, inl, inr, ℕ, ◌+◌, ◌<◌, ◌≤◌, Bool, true, false, List, [], ◌∷◌, ◌++◌, length, Option, Some, None, Result, Ok, Err, refl, sym, ap, subst, ◌∙◌, arith}
+use Rattle.std.specs.Prelude.{MatchBool}
+use Rattle.sn_device.specs.Sectors.{AreSectors, Contents}
+use Rattle.sn_device.specs.Status.{has_ended}
+use Rattle.sn_device.specs.declared.status.Status.{Status}
+use Rattle.sn_limits.specs.Versions.{version_1}
+use Rattle.sn_model.specs.declared.change.Change.{Change as TheChange}
+use Rattle.sn_model.specs.Chains.{◌>>=◌}
+use Rattle.sn_model.specs.Changes.{apply, apply_all}
+use Rattle.sn_model.specs.Tree.{Tree}
+use Rattle.sn_model.specs.World.{World, new_tree, new_world}
+use Rattle.sn_model.proofs.ListLemmas.{lists_join}
+use Rattle.sn_block.specs.Counts.{CountsRead, FailsRead}
+use Rattle.sn_block.specs.declared.fault.ReadFault.{ReadFault}
+use Rattle.sn_block.specs.declared.fault.ReadFault.TheVariants as read
+use Rattle.sn_ondisk.specs.LogHalf.{ReplaysTo, base_of}
+use Rattle.sn_ondisk.specs.OneAnswer.{IsOnDisk}
+use Rattle.sn_record.proofs.OneSpelling.{one_spelling}
+use Rattle.sn_log.specs.Places.{LogPosition, IsBehind, base_at, behind, payloads_of}
+use Rattle.sn_log.specs.Laws.{IsNextOf}
+use Rattle.sn_log.specs.Replaying.{Finds}
+use Rattle.sn_log.specs.declared.replay.Found.{Found}
+use Rattle.sn_log.specs.declared.replay.Found.TheVariants.{Change, End, Misspelt}
+use Rattle.sn_log.proofs.LawLemmas.{replay-finds}
+use Rattle.sn_recovery.specs.Moments.{OpensOn}
+use Rattle.sn_recovery.proofs.RecoveryLemmas.{applied_one, spelled_more}
+use Rattle.sn_fs.specs.Answers.{HasFailed}
+use Rattle.sn_fs.specs.Held.{IsOnGround, ground}
+use Rattle.sn_fs.specs.Mounting.{HasReplayed, IsSoOf, OpensToNone, read_fault}
+
+-- the half lies on a disk that has all its sectors
+pub lies_on : (c : Contents) (at : LogPosition) → IsOnGround at → AreSectors c → 2048 ≤ length c → IsOnDisk c (base_at at)
+lies_on c at place whole count =
+    let base : base_at at ≡ 304 = ap (λ (n : ℕ). base_of n at.epoch) place.blocks ∙ ap (λ (e : ℕ). base_of 256 e) place.epoch in
+    record { whole = whole; within = omega (arith, base, count) }
+
+none_never : {A : Type 0} (tree : Tree) → None ≡ Some tree → A
+none_never tree e = cc
+
+-- the next of all the changes that replay finds
+module _ (c : Contents) (at : LogPosition) (tree : Tree) (place : IsOnGround at) (on_disk : IsOnDisk c (base_at at)) (done : HasReplayed c at tree) where
+  next_of : (world : World) (found : Found) (opens : OpensOn ground c world) → Finds c at found → IsNextOf done.changes opens.changes found
+  next_of world found opens finds =
+      let end = opens.replays.records.0 in
+      let here : ReplaysTo c (base_at at) at.epoch (payloads_of opens.changes) end =
+          subst (λ (e : ℕ). ReplaysTo c (base_of at.blocks e) e (payloads_of opens.changes) end) (sym place.epoch)
+          (subst (λ (n : ℕ). ReplaysTo c (base_of n 1) 1 (payloads_of opens.changes) end) (sym place.blocks) opens.replays.records.1) in
+      replay-finds one_spelling c at done.changes opens.changes end found on_disk done.spelled opens.replays.spelled done.behind here finds
+
+  -- a record that is misspelt
+  pub misspelt_none : (block : ℕ) → Finds c at (Misspelt block) → OpensToNone c
+  misspelt_none block finds world opens = next_of world (Misspelt block) opens finds
+
+  front_applied : (change : TheChange) (rest : List TheChange) (o : Option Tree) → apply version_1 change tree ≡ o → apply_all version_1 (done.changes ++ change ∷ rest) new_tree ≡ (o >>= apply_all version_1 rest)
+  unfolding apply_all
+  front_applied change rest o e = lists_join version_1 done.changes (change ∷ rest) new_tree ∙ ap (λ x. x >>= apply_all version_1 (change ∷ rest)) done.applied ∙ ap (λ x. x >>= apply_all version_1 rest) e
+
+  -- a change that can't be applied
+  pub inapplicable_none : (change : TheChange) → Finds c at (Change change) → apply version_1 change tree ≡ None → OpensToNone c
+  inapplicable_none change finds e world opens =
+      let next = next_of world (Change change) opens finds in
+      none_never opens.tree (sym (front_applied change next.0 None e) ∙ ap (λ cs. apply_all version_1 cs new_tree) (sym next.1) ∙ opens.applied)
+
+  -- one more
+  pub replayed_more : (change : TheChange) (after : Tree) → Finds c at (Change change) → apply version_1 change tree ≡ Some after → IsBehind (behind at change) (done.changes ++ change ∷ []) c → HasReplayed c (behind at change) after
+  replayed_more change after finds e is = record {
+    changes = done.changes ++ change ∷ [];
+    spelled = spelled_more done.changes change done.spelled finds.1;
+    behind = is;
+    applied = lists_join version_1 done.changes (change ∷ []) new_tree ∙ ap (λ x. x >>= apply_all version_1 (change ∷ [])) done.applied ∙ applied_one version_1 change tree after e;
+  }
+
+-- a read that fails
+failed_read : (b : Bool) (old new : Status) → has_ended old ≡ b → MatchBool b (new ≡ old) (new ≡ record old { failures = old.failures + 1 }) → HasFailed old new
+failed_read true old new e same = inr (ap has_ended same ∙ e)
+failed_read false old new e more = inl (let rose : new.failures ≡ old.failures + 1 = ap (λ (s : Status). s.failures) more in omega (arith, rose))
+
+pub read_failed : {T : Type 0} (result : Result T ReadFault) (f : ReadFault) (old new : Status) → CountsRead result old new → result ≡ Err f → IsSoOf (read_fault f) old new
+read_failed result read.Device old new counts e = failed_read (has_ended old) old new refl (counts.device e)
+read_failed result read.Memory old new counts e = tt
