@@ -44,7 +44,7 @@ caller_frozen w session Stays = refl
 caller_frozen w session (LogsIn s) = refl
 
 -- what is opened at a position on the ground
-opens_here : (at : LogPosition) (c : Contents) (w : World) → IsOnGround at → OpensAt version_1 c at new_world w → OpensOn ground c w
+pub opens_here : (at : LogPosition) (c : Contents) (w : World) → IsOnGround at → OpensAt version_1 c at new_world w → OpensOn ground c w
 opens_here at c w place h =
     subst (λ (b : ℕ). Opens version_1 c (base_of b 1) 1 new_world w) place.blocks
     (subst (λ (e : ℕ). Opens version_1 c (base_of at.blocks e) e new_world w) place.epoch h)

@@ -1,6 +1,10 @@
 -- Replay, record by record.
 use Rattle.std.proofs.Common.{◌≡◌, ◌⊎◌, inl, inr, ℕ, ◌+◌, ◌<◌, ◌≤◌, Bool, true, false, List, [], ◌∷◌, ◌++◌, length, Option, Some, None, Result, Ok, Err, refl, sym, ap, subst, ◌∙◌, arith}
-use Rattle.std.specs.Prelude.{MatchBool}
+use Rattle.std.specs.Prelude.{IsTrue, MatchBool}
+use Rattle.std.specs.FinMap as map
+use Rattle.sn_device.specs.Disk.{Disk, Always, IsSynced, reads}
+use Rattle.sn_device.specs.Crash.{LeavesOnly, Touches}
+use Rattle.sn_device.proofs.CrashLemmas.{LeavesOnly-now, LeavesOnly-weaker}
 use Rattle.sn_device.specs.Sectors.{AreSectors, Contents}
 use Rattle.sn_device.specs.Status.{has_ended}
 use Rattle.sn_device.specs.declared.status.Status.{Status}
@@ -17,17 +21,23 @@ use Rattle.sn_block.specs.declared.fault.ReadFault.TheVariants as read
 use Rattle.sn_ondisk.specs.LogHalf.{ReplaysTo, base_of}
 use Rattle.sn_ondisk.specs.OneAnswer.{IsOnDisk}
 use Rattle.sn_record.proofs.OneSpelling.{one_spelling}
-use Rattle.sn_log.specs.Places.{LogPosition, IsBehind, base_at, behind, payloads_of}
+use Rattle.sn_block.specs.Effects.{Nowhere}
+use Rattle.sn_ondisk.specs.Gates.{IsClosed}
+use Rattle.sn_log.specs.Clearing.{Clears, CountsClearing}
+use Rattle.sn_log.specs.Places.{LogPosition, IsBehind, base_at, behind, first_of, payloads_of}
 use Rattle.sn_log.specs.Laws.{IsNextOf}
 use Rattle.sn_log.specs.Replaying.{Finds}
 use Rattle.sn_log.specs.declared.replay.Found.{Found}
 use Rattle.sn_log.specs.declared.replay.Found.TheVariants.{Change, End, Misspelt}
 use Rattle.sn_log.proofs.LawLemmas.{replay-finds}
+use Rattle.sn_recovery.specs.Laws.{OpensAt, ReplaysUpTo, settled_at}
 use Rattle.sn_recovery.specs.Moments.{OpensOn}
-use Rattle.sn_recovery.proofs.RecoveryLemmas.{applied_one, spelled_more}
+use Rattle.sn_recovery.proofs.RecoveryLemmas.{applied_one, mount_keeps, opens_to_one, replayed_opens, spelled_more}
+use Rattle.sn_fs.proofs.MeaningLemmas.{opens_here}
+use Rattle.sn_fs.specs.Recovering.{IsRecovered}
 use Rattle.sn_fs.specs.Answers.{HasFailed}
 use Rattle.sn_fs.specs.Held.{IsOnGround, ground}
-use Rattle.sn_fs.specs.Mounting.{HasReplayed, IsSoOf, OpensToNone, read_fault}
+use Rattle.sn_fs.specs.Mounting.{HasAll, HasCause, HasReplayed, IsSoOf, KeepsTheWorld, LeavesTheWorld, OpensToNone, read_fault}
 
 -- the half lies on a disk that has all its sectors
 pub lies_on : (c : Contents) (at : LogPosition) → IsOnGround at → AreSectors c → 2048 ≤ length c → IsOnDisk c (base_at at)
@@ -79,3 +89,71 @@ failed_read false old new e more = inl (let rose : new.failures ≡ old.failures
 pub read_failed : {T : Type 0} (result : Result T ReadFault) (f : ReadFault) (old new : Status) → CountsRead result old new → result ≡ Err f → IsSoOf (read_fault f) old new
 read_failed result read.Device old new counts e = failed_read (has_ended old) old new refl (counts.device e)
 read_failed result read.Memory old new counts e = tt
+
+-- the first place of the log
+pub starts : (c : Contents) (at : LogPosition) (w : World) → at ≡ first_of 256 1 → w ≡ new_world → HasReplayed c at w.live
+unfolding apply_all
+starts c at w e f = record {
+  changes = [];
+  spelled = tt;
+  behind = record { count = ap (λ (p : LogPosition). p.count) e; leads = sym (ap (λ (p : LogPosition). p.place) e) };
+  applied = ap (λ (x : World). Some x.live) (sym f);
+}
+
+-- clearing a place that fails
+pub clear_failed : {T : Type 0} (result : Result T ReadFault) (f : ReadFault) (old mid new : Status) → CountsClearing result mid new → result ≡ Err f → mid.failures ≡ old.failures → IsSoOf (read_fault f) old new
+clear_failed result read.Device old mid new counts e same = subst (λ (n : ℕ). (n < new.failures) ⊎ IsTrue (has_ended new)) same (counts.device e)
+clear_failed result read.Memory old mid new counts e same = tt
+
+-- ---- what all records come to
+
+module _ (old mid new : Disk) (at : LogPosition) (tree : Tree) (place : IsOnGround at) (on_disk : IsOnDisk (reads mid) (base_at at)) (first : Touches Nowhere old mid) (same : reads mid ≡ reads old) (synced : IsSynced mid) (all : HasAll (reads mid) at tree) {T E : Type 0} (result : Result T E) (clears : Clears (base_at at) at.place result mid new) where
+  -- the world that the disk opens to
+  abbrev pub found : World
+  found = settled_at new_world tree
+
+  moments : LeavesOnly mid new (ReplaysUpTo at all.replayed.changes)
+  moments = clears.keeps at.epoch (payloads_of all.replayed.changes) synced (record { leads = all.replayed.behind.leads; stops = all.stops })
+
+  pub found_leaves : LeavesTheWorld old new found
+  found_leaves = record {
+    mid = mid;
+    first = first;
+    same = same;
+    synced = synced;
+    moments = LeavesOnly-weaker mid new (λ c. OpensAt version_1 c at new_world found) (λ c. OpensOn ground c found) (λ c h. opens_here at c found place h)
+        (replayed_opens version_1 mid new at all.replayed.changes new_world tree all.replayed.spelled all.replayed.applied moments);
+  }
+
+  pub found_opens : OpensOn ground (reads old) found
+  found_opens = subst (λ (c : Contents). OpensOn ground c found) same (opens_here at (reads mid) found place (record {
+    changes = all.replayed.changes;
+    replays = record { spelled = all.replayed.spelled; records = (at.place, record { leads = all.replayed.behind.leads; stops = all.stops }) };
+    tree = tree;
+    applied = all.replayed.applied;
+    settled = refl;
+  }))
+
+  -- it is recovered
+  pub is_recovered : (w : World) (p : LogPosition) → w ≡ found → p ≡ at → Always new (λ c. IsClosed c (base_at at + at.place)) → IsRecovered p w old new
+  is_recovered w p e f closed =
+      let keeps = mount_keeps version_1 new at all.replayed.changes new_tree tree all.replayed.spelled all.replayed.behind.count all.replayed.applied (LeavesOnly-now mid new (ReplaysUpTo at all.replayed.changes) moments) closed in
+      subst (λ (x : World). IsRecovered p x old new) (sym e) (subst (λ (q : LogPosition). IsRecovered q found old new) (sym f) (record {
+        opens = found_opens;
+        frozen = refl;
+        changes = all.replayed.changes;
+        keeps = keeps;
+        leaves = found_leaves;
+      }))
+
+  -- and is there in any case
+  pub found_kept : KeepsTheWorld old new
+  found_kept world opens =
+      let base : base_at at ≡ base_of 256 1 = ap (λ (n : ℕ). base_of n at.epoch) place.blocks ∙ ap (λ (e : ℕ). base_of 256 e) place.epoch in
+      let here : IsOnDisk (reads old) (base_of 256 1) = subst (λ (c : Contents). IsOnDisk c (base_of 256 1)) same (subst (IsOnDisk (reads mid)) base on_disk) in
+      inr (subst (LeavesTheWorld old new) (opens_to_one version_1 (reads old) (base_of 256 1) 1 new_world found world here found_opens opens) found_leaves)
+
+-- a fault of a read says nothing of the log
+pub read_cause : (f : ReadFault) (c : Contents) → HasCause (read_fault f) c
+read_cause read.Device c = tt
+read_cause read.Memory c = tt

@@ -4,3 +4,4 @@ pub mod Filesystem
 pub mod Held
 pub mod Mounted
 pub mod Mounting
+pub mod Recovering

@@ -84,3 +84,12 @@ IsSoOf Memory old new = Unit {0}
 
 abbrev pub FailsAs : {T : Type 0} → Result T MountFault → Status → Status → Type 0
 FailsAs result old new = IfErr result (λ fault. IsSoOf fault old new)
+
+abbrev pub ReplaysAll : Result LogPosition MountFault → Contents → Tree → Type 0
+ReplaysAll (Ok at) c tree = HasAll c at tree
+ReplaysAll (Err fault) c tree = HasCause fault c
+
+-- the records before the position were replayed, and unless there may be more, these are all
+abbrev pub ReplaysSo : Bool → Contents → LogPosition → Tree → Type 0
+ReplaysSo true c at tree = HasReplayed c at tree
+ReplaysSo false c at tree = HasAll c at tree

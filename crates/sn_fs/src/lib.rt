@@ -6,5 +6,7 @@ mod changing;
 mod fault;
 mod fs;
 mod mounting;
+mod recovering;
+mod replaying;
 
 pub use fs::Fs;

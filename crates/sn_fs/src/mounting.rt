@@ -1,73 +1,10 @@
-//! Replay.
-ghost use Rattle.std.specs.Prelude.{◌≡◌, ◌≤◌, ◌<◌, true, IsTrue, IfOk, OnOk};
-ghost use Rattle.sn_device.specs.Disk.{reads};
-ghost use Rattle.sn_block.specs.Lending.{device_of};
-ghost use Rattle.sn_core.specs.Plain.{IsPlainWorld, world_of};
-ghost use Rattle.sn_limits.specs.Versions.{version_1};
-ghost use Rattle.sn_model.specs.NameTree.{IsTree};
-ghost use Rattle.sn_model.specs.Steps.{with_live};
-ghost use Rattle.sn_fs.specs.Held.{IsOnGround};
-ghost use Rattle.sn_fs.specs.Mounting.{FailsAs, HasReplayed, ReplaysOne, read_fault};
-
-use sn_block::{Blocks, ReadFault};
+//! What a mount finds.
 use sn_core::PlainWorld;
-use sn_device::Device;
-use sn_log::{Buffer, Found, Replay};
-use sn_model::{Damage, MountFault};
-use sn_plain::ApplyError;
-use std::alloc::Global;
+use sn_log::Log;
 
-fn fault_of(fault: ReadFault) -> MountFault
-    ensures { result ≡ read_fault fault }
-{
-    match fault {
-        ReadFault::Device => MountFault::Device,
-        ReadFault::Memory => MountFault::Memory,
-    }
-}
-
-/// Replays the next record of the log, if there is one.
-pub(crate) fn replay_next<D: Device>(
-    alloc: Global,
-    blocks: &mut Blocks<D>,
-    buffer: &mut Buffer,
-    replay: &mut Replay,
-    world: &mut PlainWorld,
-) -> Result<bool, MountFault>
-    requires plain { IsPlainWorld world.old }
-    requires whole { IsTree version_1 (world_of world.old).live }
-    requires place { IsOnGround replay.old }
-    requires sectors { 2048 ≤ (D.status (device_of blocks.old)).sectors }
-    ensures replayed { IsTrue D.tells_bytes
-        → HasReplayed (reads (D.disk (device_of blocks.old))) replay.old (world_of world.old).live
-        → ReplaysOne result (reads (D.disk (device_of blocks.old))) replay.old (world_of world.old).live replay.new (world_of world.new).live }
-    ensures rest { world_of world.new ≡ with_live (world_of world.old) (world_of world.new).live }
-    ensures sound { IsPlainWorld world.new }
-    ensures whole { IsTree version_1 (world_of world.new).live }
-    ensures place { IsOnGround replay.new }
-    ensures further { IfOk result (λ more. more ≡ true → replay.old.place < replay.new.place) }
-    ensures within { replay.old.place ≤ 255 }
-    ensures same { IsTrue D.tells_bytes → D.disk (device_of blocks.new) ≡ D.disk (device_of blocks.old) }
-    ensures sectors { (D.status (device_of blocks.new)).sectors ≡ (D.status (device_of blocks.old)).sectors }
-    ensures failed { FailsAs result (D.status (device_of blocks.old)) (D.status (device_of blocks.new)) }
-{
-    let at = replay.position();
-    // It bounds the place.
-    let _place = at.place();
-    match replay.next(blocks, buffer) {
-        Ok(Found::Change(change)) => match world.apply(alloc, &change) {
-            Ok(()) => Ok(true),
-            Err(ApplyError::Memory) => Err(MountFault::Memory),
-            Err(ApplyError::CannotApply) => Err(MountFault::Damaged {
-                damage: Damage::Log,
-                block: at.block(),
-            }),
-        },
-        Ok(Found::End) => Ok(false),
-        Ok(Found::Misspelt { block }) => Err(MountFault::Damaged {
-            damage: Damage::Log,
-            block,
-        }),
-        Err(fault) => Err(fault_of(fault)),
-    }
+/// What a mount has found: the world, and where its log goes on.
+#[derive(Drop)]
+pub(crate) struct Recovered {
+    pub log: Log,
+    pub world: PlainWorld,
 }

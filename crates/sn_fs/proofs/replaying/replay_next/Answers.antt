@@ -11,7 +11,7 @@ use Rattle.sn_log.specs.declared.replay.Found.{Found}
 use Rattle.sn_core.specs.Plain.{world_of}
 use Rattle.sn_fs.specs.Mounting.{HasReplayed}
 use Rattle.sn_fs.proofs.MountLemmas.{inapplicable_none, lies_on, misspelt_none, replayed_more}
-use Rattle.sn_fs.proofs.mounting.replay_next.Goals as goal
+use Rattle.sn_fs.proofs.replaying.replay_next.Goals as goal
 
 pub returns-in-Ok-clause-replayed : goal.returns-in-Ok-clause-replayed
 returns-in-Ok-clause-replayed g c told done =
