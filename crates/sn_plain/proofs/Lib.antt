@@ -1,5 +1,4 @@
 pub mod MapLemmas
-pub mod BytesLemmas
 pub mod RecountLemmas
 pub mod CountedLemmas
 pub mod NumberLemmas
@@ -7,3 +6,4 @@ pub mod OwnershipLemmas
 pub mod MakingLemmas
 pub mod SettledLemmas
 pub mod RenamingLemmas
+pub mod WritingLemmas

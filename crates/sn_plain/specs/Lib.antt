@@ -1,4 +1,3 @@
-pub mod Bytes
 pub mod Maps
 pub mod Moves
 pub mod Plain

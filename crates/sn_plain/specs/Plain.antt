@@ -1,7 +1,5 @@
 -- The tree that the maps in memory stand for, and what a change of it answers.
 use Rattle.std.specs.Prelude.{◌≡◌, Result, Ok, Err, Option, Some, None}
-use Rattle.sn_model.specs.declared.change.Change.{Change}
-use Rattle.sn_model.specs.declared.change.Change.TheVariants.{Write, SetSize}
 use Rattle.sn_model.specs.Tree.{Tree}
 use Rattle.sn_plain.specs.Stored.{tree_with}
 use Rattle.sn_plain.specs.declared.error.ApplyError.{ApplyError}
@@ -19,9 +17,3 @@ FailsBy Memory asked old new = new ≡ old
 abbrev pub Applies : Result (Unit {0}) ApplyError → Option Tree → Tree → Tree → Type 0
 Applies (Ok _) asked old new = asked ≡ Some new
 Applies (Err e) asked old new = FailsBy e asked old new
-
--- the changes that stand
-abbrev pub Stands : Change → Type 0
-Stands (Write number offset bytes) = ⊥
-Stands (SetSize number size) = ⊥
-Stands _ = Unit {0}

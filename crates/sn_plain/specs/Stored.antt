@@ -1,5 +1,5 @@
 -- What the maps in memory stand for, and what is kept beside them.
-use Rattle.std.specs.Prelude.{◌≡◌, ℕ, ◌+◌, ◌-◌, ◌<◌, ◌≤◌, ◌==◌, Bool, not, ◌||◌, Option, Some, None, true, is_some, if◌then◌else◌}
+use Rattle.std.specs.Prelude.{◌≡◌, ℕ, ◌+◌, ◌-◌, ◌<◌, ◌≤◌, ◌==◌, Bool, not, ◌||◌, List, Option, Some, None, true, is_some, if◌then◌else◌}
 use Rattle.std.specs.Option.{option_map}
 use Rattle.std.specs.Ordering.{nat_cmp}
 use Rattle.std.specs.FinMap as map
@@ -38,6 +38,13 @@ with_ownership ownership s = record s { ownership = ownership }
 
 abbrev pub owned_by : StoredOwnership → Node → Node
 owned_by o node = record node { owner = o.owner; group = o.group; set_gid = o.set_gid; sticky = o.sticky; acl = o.acl; default_acl = o.default_acl }
+
+-- the same with other bytes
+abbrev pub bytes_by : (List ℕ → List ℕ) → StoredNode → StoredNode
+bytes_by f s = record s { bytes = f s.bytes }
+
+abbrev pub node_bytes_by : (List ℕ → List ℕ) → Node → Node
+node_bytes_by f node = record node { bytes = f node.bytes }
 
 -- the nodes as they are stored, and as the model has them
 unfoldable pub stored_of : Nodes → map.FinMap nat_cmp StoredNode

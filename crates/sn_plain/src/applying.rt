@@ -19,18 +19,17 @@ fn owned_link(alloc: Global, directory: u16, name: &Bytes<'_>) -> Result<Link, A
 }
 
 impl PlainTree {
-    ghost use Rattle.sn_plain.specs.Plain.{tree_of, Applies, Stands};
+    ghost use Rattle.sn_plain.specs.Plain.{tree_of, Applies};
 
-    /// Makes a change. All memory that it needs is taken before anything is changed, so that at
-    /// `Memory` the tree is as it was.
+    /// Makes a change of the tree, as replay and a logged call need it: rights were looked at when it
+    /// was decided. All memory is taken before anything is changed.
     pub fn apply(
         &mut self,
         alloc: Global,
         limits: &Limits,
         change: &Change<'_>,
     ) -> Result<(), ApplyError>
-        requires whole { (l : Limits) × IsTree l (tree_of self.old) }
-        requires stands { Stands change.now }
+        requires { (l : Limits) × IsTree l (tree_of self.old) }
         ensures { Applies result (apply limits.now change.now (tree_of self.old)) (tree_of self.old) (tree_of self.new) }
     {
         match change {
@@ -66,7 +65,12 @@ impl PlainTree {
                 let new = owned_link(alloc, *new_directory, new_name)?;
                 self.rename(limits, &old, new)
             }
-            Change::Write { .. } | Change::SetSize { .. } => unreachable!(),
+            Change::Write {
+                number,
+                offset,
+                bytes,
+            } => self.write(alloc, limits, *number, *offset, bytes.as_slice()),
+            Change::SetSize { number, size } => self.set_size(limits, *number, *size),
             Change::SetAttributes { number, ownership } => {
                 self.set_attributes(alloc, *number, ownership)
             }

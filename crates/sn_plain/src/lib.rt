@@ -8,12 +8,13 @@
 //!
 //! `nodes` and `links` are the two maps. Beside each node stands how many names it has and how many
 //! stand for it, and the directory that it is in (`IsCounted` in `specs/Stored`), so that no call
-//! counts over the whole tree. `tests` has the tests that changes share; `making` and its neighbours
-//! have one change each: first its test, then all that takes memory, then the rest.
+//! counts over the whole tree. `tests` has the tests that changes share; `making`, `linking`,
+//! `renaming` and `writing` have the changes, each with its test first, then all that takes memory,
+//! then the rest (`moving` has that of a rename, over the nodes). `applying` makes any change, as the
+//! model's `apply` does.
 #![tactic(auto)]
 
 mod applying;
-mod bytes;
 mod error;
 mod linking;
 mod links;
@@ -25,6 +26,7 @@ mod settling;
 mod stored;
 mod tests;
 mod tree;
+mod writing;
 
 pub use error::ApplyError;
 pub use tree::PlainTree;

@@ -26,7 +26,7 @@ pub(crate) fn after_loss(first: u32, number: u16) -> u32
 impl PlainTree {
     ghost use Rattle.sn_plain.specs.Plain.{tree_of, Applies};
 
-    fn is_file(&self, number: u16) -> bool
+    pub(crate) fn is_file(&self, number: u16) -> bool
         ensures { result ≡ is_some (file_at (tree_of self.now) number) }
     {
         self.nodes.is_file(number)

@@ -3,12 +3,12 @@ ghost use Rattle.sn_model.specs.Changes.{made, node_with, owned};
 ghost use Rattle.sn_model.specs.Tree.{names_in, names_for};
 ghost use Rattle.sn_plain.specs.Stored.{node_of, owned_by, IsFresh};
 
-use crate::bytes::FileBytes;
 use crate::error::ApplyError;
 use crate::nodes::{Counts, StoredNode, StoredOwnership};
 use crate::stored::StoredAcl;
 use crate::tests::is_ownership;
 use crate::tree::PlainTree;
+use sn_file_bytes::FileBytes;
 use sn_limits::Limits;
 use sn_model::{Link, Ownership};
 use sn_walk::Kind;

@@ -1,10 +1,11 @@
-ghost use Rattle.std.specs.Prelude.{◌≡◌, ℕ, ◌+◌, ◌<◌, ◌≤◌, ◌^◌, true, is_some, IfOk, OnOk, OnErr, Some, None};
+ghost use Rattle.std.specs.Prelude.{◌≡◌, ℕ, ◌+◌, ◌<◌, ◌≤◌, ◌^◌, true, is_some, length, IfOk, OnOk, OnErr, Some, None};
+ghost use Rattle.sn_model.specs.Changes.{overwritten, resized};
 ghost use Rattle.std.specs.Option.{option_map, option_copied};
 ghost use Rattle.std.specs.FinMap as map;
 
-use crate::bytes::FileBytes;
 use crate::stored::StoredAcl;
 use crate::tests::is_directory;
+use sn_file_bytes::FileBytes;
 use sn_walk::{Attributes, Kind};
 use std::alloc::{AllocError, Global};
 use std::collections::BTreeMap;
@@ -81,7 +82,7 @@ pub(crate) struct Nodes {
 
 impl Nodes {
     ghost use Rattle.sn_plain.specs.Maps.{filtered, restored, updated};
-    ghost use Rattle.sn_plain.specs.Stored.{node_of, nodes_of, stored_of, with_counts, with_ownership, owned_by, counts_of, Recounts, more_at, fewer_at, is_kept};
+    ghost use Rattle.sn_plain.specs.Stored.{node_of, nodes_of, stored_of, with_counts, with_ownership, owned_by, bytes_by, node_bytes_by, counts_of, Recounts, more_at, fewer_at, is_kept};
 
     pub fn new(alloc: Global) -> Nodes
         ensures nodes { nodes_of result ≡ map.empty }
@@ -171,6 +172,36 @@ impl Nodes {
     {
         if let Some(node) = self.map.get_mut(&number) {
             node.ownership = ownership;
+        }
+    }
+
+    /// Puts bytes over those of a file, from an offset on.
+    pub fn write(
+        &mut self,
+        alloc: Global,
+        number: u16,
+        offset: u64,
+        bytes: &[u8],
+    ) -> Result<(), AllocError>
+        requires { offset + length bytes.now < 2 ^ 64 }
+        ensures nodes { OnOk result (nodes_of self.new ≡ updated (nodes_of self.old) number (node_bytes_by (λ old. overwritten old offset bytes.now))) }
+        ensures stored { OnOk result (stored_of self.new ≡ updated (stored_of self.old) number (bytes_by (λ old. overwritten old offset bytes.now))) }
+        ensures same_nodes { OnErr result (nodes_of self.new ≡ nodes_of self.old) }
+        ensures same_stored { OnErr result (stored_of self.new ≡ stored_of self.old) }
+    {
+        if let Some(node) = self.map.get_mut(&number) {
+            node.bytes.write(alloc, offset, bytes)?;
+        }
+        Ok(())
+    }
+
+    /// Cuts a file off, or puts zeros behind its end.
+    pub fn set_size(&mut self, number: u16, size: u64)
+        ensures nodes { nodes_of self.new ≡ updated (nodes_of self.old) number (node_bytes_by (λ old. resized old size)) }
+        ensures stored { stored_of self.new ≡ updated (stored_of self.old) number (bytes_by (λ old. resized old size)) }
+    {
+        if let Some(node) = self.map.get_mut(&number) {
+            node.bytes.set_size(size);
         }
     }
 

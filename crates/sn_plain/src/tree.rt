@@ -5,11 +5,11 @@ ghost use Rattle.sn_model.specs.Tree.{viewed, least_unused, names_in, names_for}
 ghost use Rattle.sn_model.specs.World.{new_root, new_tree};
 ghost use Rattle.sn_plain.specs.Stored.{IsCountedIn, node_of, IsFresh};
 
-use crate::bytes::FileBytes;
 use crate::links::Links;
 use crate::nodes::{Counts, Nodes, StoredNode, StoredOwnership};
 use crate::stored::StoredAcl;
 use sn_acl::{Acl, Mode, Permissions};
+use sn_file_bytes::FileBytes;
 use sn_limits::Limits;
 use sn_model::{Errno, Link, Refusal};
 use sn_walk::{Attributes, Kind, ROOT_NUMBER};

@@ -1,0 +1,27 @@
+ghost use Rattle.std.specs.Prelude.{◌≡◌, ℕ, ◌+◌, ◌≤◌, length, slice_index};
+ghost use Rattle.sn_file_bytes.specs.Blocks.{cut_at, over};
+
+/// How many bytes a block has.
+pub(crate) const BLOCK_SIZE: u64 = 4096;
+
+/// What is in one block.
+pub(crate) type Block = [u8; 4096];
+
+/// A block that nothing was written to.
+pub(crate) const ZEROS: Block = [0; 4096];
+
+/// Puts bytes into a block, from a place on.
+pub(crate) fn put(block: &mut Block, from: usize, piece: &[u8])
+    requires { from + length piece.now ≤ 4096 }
+    ensures { (i : ℕ) → slice_index block.new i ≡ over (slice_index block.old) from piece.now i }
+{
+    block[from..from + piece.len()].copy_from_slice(piece);
+}
+
+/// Puts zeros into a block, from a place on.
+pub(crate) fn clear_from(block: &mut Block, from: usize)
+    requires { from ≤ 4096 }
+    ensures { (i : ℕ) → slice_index block.new i ≡ cut_at (slice_index block.old) from i }
+{
+    block[from..].fill(0);
+}

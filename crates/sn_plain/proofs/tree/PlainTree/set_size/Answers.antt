@@ -1,0 +1,24 @@
+use Rattle.std.proofs.Common.{List, ℕ, ap, sym, refl, ◌∙◌, Some}
+use Rattle.sn_model.specs.Changes.{resized}
+use Rattle.sn_model.specs.Tree.{Tree}
+use Rattle.sn_model.proofs.PartLemmas.{cut_is, file_is}
+use Rattle.sn_plain.specs.Maps.{updated_at}
+use Rattle.sn_plain.specs.Plain.{tree_of}
+use Rattle.sn_plain.specs.Stored.{nodes_of, stored_of, tree_with, node_bytes_by}
+use Rattle.sn_plain.proofs.MakingLemmas.{some_of}
+use Rattle.sn_plain.proofs.WritingLemmas.{counted_bytes}
+use Rattle.sn_plain.proofs.tree.PlainTree.set_size.Goals as goal
+
+pub invariant_of-self : goal.invariant_of-self
+invariant_of-self c =
+    let old = c.args.self.now in
+    record { counted = counted_bytes (stored_of old.nodes) (stored_of c.set_size.new.self) (tree_of old) (tree_with c.set_size.new.self old.links) old.first c.args.number (λ (b : List ℕ). resized b c.args.size) refl old.counted c.set_size.ensures.stored }
+
+pub returns : goal.returns
+returns c =
+    let old = c.args.self.now in
+    let t = some_of _ (sym c.can_cut.ensures ∙ c.if-not-can_cut.false) in
+    let m = cut_is c.args.limits.now (tree_of old) c.args.number c.args.size t.0 t.1 in
+    let there = ap (updated_at (nodes_of old.nodes) c.args.number (node_bytes_by (λ (b : List ℕ). resized b c.args.size))) (file_is (tree_of old) c.args.number m.node m.file).0 in
+    let nodes = c.set_size.ensures.nodes ∙ there in
+    t.1 ∙ ap (λ (x : Tree). Some x) (sym m.gives) ∙ (λ i. Some (record { nodes = sym nodes i; links = (tree_of old).links }))
