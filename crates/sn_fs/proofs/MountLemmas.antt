@@ -34,9 +34,11 @@ use Rattle.sn_recovery.specs.Laws.{OpensAt, ReplaysUpTo, settled_at}
 use Rattle.sn_recovery.specs.Moments.{OpensOn}
 use Rattle.sn_recovery.proofs.RecoveryLemmas.{applied_one, mount_keeps, opens_to_one, replayed_opens, spelled_more}
 use Rattle.sn_fs.proofs.MeaningLemmas.{opens_here}
-use Rattle.sn_fs.specs.Recovering.{IsRecovered}
+use Rattle.sn_fs.specs.Recovering.{IsLeft, IsNotRecovered, IsRecovered, Mounts, Refuses}
+use Rattle.sn_model.specs.declared.mount.MountFault.{MountFault}
+use Rattle.sn_model.specs.declared.mount.MountFault.TheVariants as fault
 use Rattle.sn_fs.specs.Answers.{HasFailed}
-use Rattle.sn_fs.specs.Held.{IsOnGround, ground}
+use Rattle.sn_fs.specs.Held.{Held, IsOnGround, ground}
 use Rattle.sn_fs.specs.Mounting.{HasAll, HasCause, HasReplayed, IsSoOf, KeepsTheWorld, LeavesTheWorld, OpensToNone, read_fault}
 
 -- the half lies on a disk that has all its sectors
@@ -96,7 +98,7 @@ unfolding apply_all
 starts c at w e f = record {
   changes = [];
   spelled = tt;
-  behind = record { count = ap (λ (p : LogPosition). p.count) e; leads = sym (ap (λ (p : LogPosition). p.place) e) };
+  behind = record { count = ap (λ (p : LogPosition). p.count) e; leads = ap (λ (p : LogPosition). p.place) e };
   applied = ap (λ (x : World). Some x.live) (sym f);
 }
 
@@ -157,3 +159,23 @@ module _ (old mid new : Disk) (at : LogPosition) (tree : Tree) (place : IsOnGrou
 pub read_cause : (f : ReadFault) (c : Contents) → HasCause (read_fault f) c
 read_cause read.Device c = tt
 read_cause read.Memory c = tt
+
+-- the cause of a recovery that failed, as one of a mount
+pub refuses : (f : MountFault) (c : Contents) (sectors : ℕ) → HasCause f c → Refuses f c sectors
+refuses (fault.Damaged damage block) c sectors h = h
+refuses fault.NotFormatted c sectors h = absurd h
+refuses fault.Version c sectors h = absurd h
+refuses fault.NoRoot c sectors h = absurd h
+refuses fault.Memory c sectors h = tt
+refuses fault.Device c sectors h = tt
+
+pub mounts : (old : Disk) (h : Held) → IsOnGround h.at → IsRecovered h.at h.world old h.disk → Mounts old h false
+mounts old h place r = record {
+  world = h.world;
+  opens = r.opens;
+  means = (refl, record { is = refl; frozen = r.frozen; place = place; changes = r.changes; keeps = r.keeps });
+  leaves = r.leaves;
+}
+
+pub is_left : (f : MountFault) (old new : Disk) (sectors : ℕ) → IsNotRecovered f old new → IsLeft f old new sectors
+is_left f old new sectors n = record { cause = refuses f (reads old) sectors n.cause; keeps = n.keeps }

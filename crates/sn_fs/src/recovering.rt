@@ -8,7 +8,7 @@ ghost use Rattle.sn_fs.specs.Held.{IsOnGround};
 ghost use Rattle.sn_fs.specs.Mounting.{FailsAs};
 ghost use Rattle.sn_fs.specs.Recovering.{Recovers};
 
-use crate::mounting::Recovered;
+use crate::found::Recovered;
 use crate::replaying::{EPOCH, fault_of, places, replay_all};
 use sn_block::Blocks;
 use sn_core::PlainWorld;

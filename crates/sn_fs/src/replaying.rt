@@ -48,6 +48,7 @@ pub(crate) fn replay_next<D: Device>(
     ensures whole { IsTree version_1 (world_of world.new).live }
     ensures place { IsOnGround replay.new }
     ensures further { IfOk result (λ more. more ≡ true → replay.old.place < replay.new.place) }
+    ensures onward { OnOk result (replay.old.place ≤ replay.new.place) }
     ensures within { replay.old.place ≤ 255 }
     ensures same { IsTrue D.tells_bytes → D.disk (device_of blocks.new) ≡ D.disk (device_of blocks.old) }
     ensures idle { OnOk result (D.status (device_of blocks.new) ≡ D.status (device_of blocks.old)) }

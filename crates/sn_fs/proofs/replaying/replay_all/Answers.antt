@@ -1,4 +1,4 @@
-use Rattle.std.proofs.Common.{◌≡◌, refl, sym, ap, subst, ◌∙◌}
+use Rattle.std.proofs.Common.{◌≡◌, ℕ, ◌+◌, ◌-◌, ◌<◌, ◌≤◌, Bool, true, false, if◌then◌else◌, refl, sym, ap, subst, ◌∙◌, arith}
 use Rattle.sn_limits.specs.Versions.{version_1}
 use Rattle.sn_model.specs.NameTree.{IsTree}
 use Rattle.sn_model.specs.Steps.{with_live}
@@ -22,3 +22,14 @@ loop-more-init g c =
       same = λ told. refl;
       status = refl;
     }
+
+smaller : (old new : ℕ) (more : Bool) → old ≤ 255 → old ≤ new → (more ≡ true → old < new) → 256 - new + (if more then 1 else 0) < 256 - old + 1
+smaller old new true within onward further = let h = further refl in omega (arith, within, h)
+smaller old new false within onward further = omega (arith, within, onward)
+
+pub loop-more-smaller : goal.loop-more-smaller
+loop-more-smaller g c =
+    let old = c.loop-more.replay.place in
+    let new = c.replay_next.new.replay.place in
+    let h = smaller old new c.in_ok-more.more c.replay_next.ensures.within c.in_ok-more.ensures.onward c.in_ok-more.ensures.further in
+    subst (λ (b : Bool). 256 - new + (if c.in_ok-more.more then 1 else 0) < 256 - old + (if b then 1 else 0)) (sym c.loop-more-test.true) h
