@@ -1,5 +1,5 @@
 -- What a call comes to once its tests have passed.
-use Rattle.std.proofs.Common.{◌≡◌, ◌≢◌, ℕ, true, false, ◌<◌, arith, get_or, length, List, [], ◌∷◌, ◌++◌, Option, Some, None, Result, Ok, Err, is_some, refl, sym, ap, subst, ◌∙◌, ◌⊎◌, inl, inr, lit<, lit≤}
+use Rattle.std.proofs.Common.{◌≡◌, ◌≢◌, ℕ, true, false, ◌<◌, arith, get_or, length, List, [], ◌∷◌, ◌++◌, Option, Some, None, Result, Ok, Err, is_none, is_some, refl, sym, ap, subst, ◌∙◌, ◌⊎◌, inl, inr, lit<, lit≤}
 use Rattle.std.specs.FinMap as map
 use Rattle.std.specs.Cmp.{nat_cmp_total}
 use Rattle.std.specs.Prelude.{IsOk, slice_get}
@@ -21,11 +21,20 @@ use Rattle.sn_model.specs.declared.reply.Errno.TheVariants.{Enomem}
 use Rattle.sn_model.specs.declared.reply.Progress.TheVariants.{Done as Ended}
 use Rattle.sn_model.specs.declared.reply.Reply.TheVariants.{Done, Progress, Refused}
 use Rattle.sn_model.specs.declared.session.Session.{Session}
-use Rattle.sn_model.specs.Changes.{node_with}
-use Rattle.sn_model.specs.Outcomes.{tells, opens, makes}
+use Rattle.sn_model.specs.Changes.{apply, made, node_with}
+use Rattle.sn_model.specs.declared.change.Change.{Change}
+use Rattle.sn_model.specs.Outcomes.{opens, makes}
+use Rattle.sn_model.specs.declared.outcome.Pending.{Pending}
+use Rattle.sn_model.specs.declared.outcome.Pending.TheVariants.{Nothing}
+use Rattle.sn_model.specs.declared.outcome.Caller.{Caller}
+use Rattle.sn_model.specs.declared.outcome.Caller.TheVariants.{Stays, LogsIn}
+use Rattle.sn_plain.specs.Plain.{Applies}
+use Rattle.sn_plain.specs.declared.error.ApplyError.{ApplyError}
+use Rattle.sn_plain.specs.declared.error.ApplyError.TheVariants as lack
 use Rattle.sn_model.specs.declared.outcome.Outcome.{Outcome}
-use Rattle.sn_model.specs.Calls.{mkdir_outcome, new_session, ready, seen, stat_outcome}
-use Rattle.sn_model.specs.Steps.{Becomes, Comes, TakesMemory, changed, decision, with_live, with_session}
+use Rattle.sn_walk.proofs.ChainLemmas.{bind_ok}
+use Rattle.sn_model.specs.Calls.{Ready, mkdir_outcome, new_session, outcome_of, ready, seen, stat_outcome}
+use Rattle.sn_model.specs.Steps.{Becomes, Comes, IsNumberFor, TakesMemory, changed, decision, with_caller, with_live}
 use Rattle.sn_model.specs.Tests.{logged_in, logged_out, path_argument, new_mode_argument, plain}
 use Rattle.sn_model.specs.Tree.{Tree, least_unused, with_node}
 use Rattle.sn_model.specs.World.{World, trees_of, viewed_trees}
@@ -33,12 +42,17 @@ use Rattle.sn_model.specs.Worlds.{IsCall, IsWorld}
 use Rattle.sn_model.proofs.MapLemmas.{same_or_apart, get_other}
 use Rattle.sn_model.proofs.PartLemmas.{made_is}
 use Rattle.sn_model.proofs.HierarchyLemmas.{least_is_number}
-use Rattle.sn_model.proofs.DecidedLemmas.{decided_applies}
+use Rattle.sn_model.proofs.DecidedLemmas.{IsDecided, decided_applies, decided_is}
+use Rattle.sn_model.proofs.DecidedLemmas as shape
+use Rattle.sn_model.proofs.DecisionLemmas as found
+use Rattle.sn_model.proofs.DecisionLemmas.{same_ok}
+use Rattle.sn_model.specs.Calls as calls
 use Rattle.sn_model.proofs.WorldLemmas.{step_world}
 use Rattle.sn_model.specs.Machine.{State, Running, Memory, OfMemory, Run}
 use Rattle.sn_model.specs.Settling.{settle}
 use Rattle.sn_core.proofs.RestartLemmas.{settled_least}
 use Rattle.sn_core.specs.PlainRuns.{PlainRun, PlainStep, TakesLeast}
+use Rattle.sn_core.specs.Served.{Chooses, HasNumber, MakesChange}
 
 pub mkdir_decided : (world : World) (session : ℕ) (path : List ℕ) (mode : ℕ) (caller : Session) (names : List (List ℕ)) (bits : Mode) (outcome : Outcome) → logged_in world session ≡ Ok caller → path_argument path ≡ Ok names → new_mode_argument mode ≡ Ok bits → mkdir_outcome version_1 (seen version_1 world) caller names bits ≡ Ok outcome → decision version_1 world session (Mkdir path mode) ≡ Ok outcome
 mkdir_decided world session path mode caller names bits outcome a b d e = rw (a, b, d, e)
@@ -46,15 +60,12 @@ mkdir_decided world session path mode caller names bits outcome a b d e = rw (a,
 pub stat_decided : (world : World) (session : ℕ) (path : List ℕ) (caller : Session) (names : List (List ℕ)) (outcome : Outcome) → logged_in world session ≡ Ok caller → path_argument path ≡ Ok names → stat_outcome (viewed_trees (trees_of world)) caller names ≡ Ok outcome → decision version_1 world session (Stat path) ≡ Ok outcome
 stat_decided world session path caller names outcome a b e = rw (a, b, e)
 
+pub login_decided : (world : World) (session uid gid : ℕ) (groups : List ℕ) (outcome : Outcome) → logged_out world session ≡ Ok tt → outcome ≡ opens (new_session uid gid groups) → decision version_1 world session (Login uid gid groups) ≡ Ok outcome
+login_decided world session uid gid groups outcome out e = rw out (ap (λ (o : Outcome). Ok o) (sym e))
+
 -- where nothing changes, nothing new has a number
 pub same_least : (old new : World) → new.live ≡ old.live → TakesLeast old new
 same_least old new same number none some = absurd (true≢false (sym some ∙ ap (λ (t : Tree). is_some (map.get t.nodes number)) same ∙ ap is_some none))
-
-pub tells_comes : (world : World) (session : ℕ) (answer : Reply) → Comes version_1 world session (tells answer) world
-tells_comes world session answer = record { number = 0; free = tt; tree = world.live; applied = refl; world = refl }
-
-pub opens_comes : (world : World) (session : ℕ) (s : Session) → Comes version_1 world session (opens s) (with_session world session s)
-opens_comes world session s = record { number = 0; free = tt; tree = world.live; applied = refl; world = refl }
 
 some_of : (o : Option Tree) → is_some o ≡ true → (tree : Tree) × (o ≡ Some tree)
 some_of None e = absurd (true≢false (sym e))
@@ -86,29 +97,87 @@ IsServed old session c answer new = Becomes version_1 old session (decision vers
 served : (old new : World) (session : ℕ) (c : Call) (o : Outcome) → decision version_1 old session c ≡ Ok o → Comes version_1 old session o new → TakesLeast old new → IsServed old session c o.told new
 served old new session c o e comes least = (subst (λ (d : Result Outcome Refusal). Becomes version_1 old session d o.told new) (sym e) (refl, comes), least)
 
-pub stat_served : (old : World) (session : ℕ) (c : Call) (answer : Reply) → decision version_1 old session c ≡ Ok (tells answer) → IsServed old session c answer old
-stat_served old session c answer e = served old old session c (tells answer) e (tells_comes old session answer) (same_least old old refl)
-
--- one of the sessions, with nobody logged in
-pub free_session : (world : World) (session : ℕ) (one : Option Session) → session < 64 → length world.sessions ≡ 64 → one ≡ get_or world.sessions session one → is_some one ≡ false → logged_out world session ≡ Ok tt
-free_session world session one low count here free =
-    let at : slice_get world.sessions session ≡ Some None = slice_get-get_or world.sessions session one (omega arith) ∙ ap (λ (o : Option Session). Some o) (sym here ∙ none_of one free) in
-    rw (lt-ltb session 64 low, at) refl
-  where
-    none_of : (o : Option Session) → is_some o ≡ false → o ≡ None
-    none_of None e = refl
-    none_of (Some s) e = absurd (true≢false e)
-
-pub login_served : (old : World) (session uid gid : ℕ) (groups : List ℕ) (s : Session) → logged_out old session ≡ Ok tt → new_session uid gid groups ≡ s → IsServed old session (Login uid gid groups) Done (with_session old session s)
-login_served old session uid gid groups s out same =
-    let decided : decision version_1 old session (Login uid gid groups) ≡ Ok (opens s) = rw out (ap (λ (x : Session). Ok (opens x)) same) in
-    served old (with_session old session s) session (Login uid gid groups) (opens s) decided (opens_comes old session s) (same_least old (with_session old session s) refl)
-
 pub makes_served : (old : World) (session : ℕ) (c : Call) (charge : ℕ) (link : Link) (own : Ownership) (number : ℕ) (tree : Tree) → IsWorld version_1 old → decision version_1 old session c ≡ Ok (makes charge link Directory own) → least_unused version_1 old.live ≡ Some number → tree ≡ with_node old.live number link (node_with Directory own [])
     → IsServed old session c Done (with_live old tree)
 makes_served old session c charge link own number tree whole decided least e =
     subst (λ (t : Tree). IsServed old session c Done (with_live old t)) (sym e)
     (served old (with_live old (with_node old.live number link (node_with Directory own []))) session c (makes charge link Directory own) decided (makes_comes old session c charge link own number whole decided least) (makes_least old session c charge link own number whole decided least))
+
+-- a change of the tree is one of the world
+pub made_so : (r : Result (Unit {0}) ApplyError) (c : Change) (old new : World) (tree : Tree) → new ≡ with_live old tree → Applies r (apply version_1 c old.live) old.live tree → MakesChange r c old new
+made_so (Ok u) c old new tree e h = (tree, h, e)
+made_so (Err lack.CannotApply) c old new tree e h = (h.0, e ∙ ap (with_live old) h.1)
+made_so (Err lack.Memory) c old new tree e h = e ∙ ap (with_live old) h
+
+-- what isn't made changes nothing
+pub lacking : (e : ApplyError) (c : Change) (old new : World) → MakesChange (Err e) c old new → new ≡ old
+lacking lack.CannotApply c old new h = h.1
+lacking lack.Memory c old new h = h
+
+-- a call that was decided has a number left for the node that it makes
+pub has_number : (world : World) (session : ℕ) (c : Call) (o : Outcome) → decision version_1 world session c ≡ Ok o → HasNumber world.live o.change
+has_number world session c o e = told (decided_is version_1 world session c o e)
+  where
+    told : IsDecided version_1 world session c o → HasNumber world.live o.change
+    told (shape.Login s k f) = subst (λ (x : Outcome). HasNumber world.live x.change) (sym f) tt
+    told (shape.Tells a f) = subst (λ (x : Outcome). HasNumber world.live x.change) (sym f) tt
+    told (shape.Makes s names mode k b n p) = subst (λ (x : Outcome). HasNumber world.live x.change) (sym p.made) (λ none. true≢false (sym (ap is_none none) ∙ p.number))
+
+-- the tree after the change that was chosen, if one was
+abbrev pub MadeBy : Option Change → Tree → Tree → Type 0
+MadeBy None old new = new ≡ old
+MadeBy (Some c) old new = apply version_1 c old ≡ Some new
+
+caller_keeps : (world : World) (session : ℕ) (caller : Caller) → (with_caller world session caller).live ≡ world.live
+caller_keeps world session Stays = refl
+caller_keeps world session (LogsIn s) = refl
+
+-- a call whose change was chosen and made was served
+module _ (old : World) (session : ℕ) (c : Call) (o : Outcome) (change : Option Change) (tree : Tree) (whole : IsWorld version_1 old) (decided : decision version_1 old session c ≡ Ok o) (chosen : Chooses old.live o.change change) (done : MadeBy change old.live tree) where
+  nothing_served : o.change ≡ Nothing → IsServed old session c o.told (with_caller (with_live old tree) session o.caller)
+  nothing_served q =
+      let none : change ≡ None = subst (λ (x : Pending). Chooses old.live x change) q chosen in
+      let same : tree ≡ old.live = subst (λ (x : Option Change). MadeBy x old.live tree) none done in
+      let new = with_caller (with_live old tree) session o.caller in
+      let comes : Comes version_1 old session o new = record {
+        number = 0;
+        free = subst (λ (x : Pending). IsNumberFor version_1 old.live 0 x) (sym q) tt;
+        tree = tree;
+        applied = ap (λ (x : Pending). changed version_1 0 x old.live) q ∙ ap (λ (t : Tree). Some t) (sym same);
+        world = refl;
+      } in
+      served old new session c o decided comes (same_least old new (caller_keeps (with_live old tree) session o.caller ∙ same))
+
+  made_served : (charge : ℕ) (link : Link) (own : Ownership) → o ≡ makes charge link Directory own → IsServed old session c o.told (with_caller (with_live old tree) session o.caller)
+  made_served charge link own q =
+      let picked : Chooses old.live (makes charge link Directory own).change change = subst (λ (x : Outcome). Chooses old.live x.change change) q chosen in
+      let e : made version_1 old.live link picked.0 Directory own ≡ Some tree = subst (λ (x : Option Change). MadeBy x old.live tree) picked.2 done in
+      let m = made_is version_1 old.live link picked.0 Directory own tree e in
+      subst (λ (x : Outcome). IsServed old session c x.told (with_caller (with_live old tree) session x.caller)) (sym q)
+      (makes_served old session c charge link own picked.0 tree whole (decided ∙ ap (λ (x : Outcome). Ok x) q) picked.1 (sym m.gives))
+
+  pub chosen_served : IsServed old session c o.told (with_caller (with_live old tree) session o.caller)
+  chosen_served = told (decided_is version_1 old session c o decided)
+    where
+      told : IsDecided version_1 old session c o → IsServed old session c o.told (with_caller (with_live old tree) session o.caller)
+      told (shape.Login s k f) = nothing_served (ap (λ (x : Outcome). x.change) f)
+      told (shape.Tells a f) = nothing_served (ap (λ (x : Outcome). x.change) f)
+      told (shape.Makes s names mode k b n p) = made_served _ _ _ p.made
+
+-- the tests of the session and of the arguments have passed
+ready_passed : (old : World) (session : ℕ) (c : Call) (o : Outcome) → decision version_1 old session c ≡ Ok o → IsOk (ready old session c)
+ready_passed old session c o e = let r = bind_ok (ready old session c) (outcome_of version_1 old) o e in subst (λ (x : Result Ready Refusal). IsOk x) (sym r.1) refl
+
+-- a call that changes something may find no memory
+pub change_takes : (old : World) (session : ℕ) (c : Call) (o : Outcome) (change : Change) → decision version_1 old session c ≡ Ok o → Chooses old.live o.change (Some change) → TakesMemory c × IsOk (ready old session c)
+change_takes old session (Mkdir path mode) o change e chosen = (tt, ready_passed old session (Mkdir path mode) o e)
+change_takes old session (Stat path) o change e chosen = (tt, ready_passed old session (Stat path) o e)
+change_takes old session (Login uid gid groups) o change e chosen =
+    let r = bind_ok (ready old session (Login uid gid groups)) (outcome_of version_1 old) o e in
+    let p = bind_ok (logged_out old session) (λ _. found.ok (calls.Login (new_session uid gid groups))) r.0 r.1 in
+    let same : calls.Login (new_session uid gid groups) ≡ r.0 = same_ok _ _ p.2 in
+    let opened : opens (new_session uid gid groups) ≡ o = same_ok _ _ (subst (λ (x : Ready). outcome_of version_1 old x ≡ Ok o) (sym same) r.2) in
+    let none : Some change ≡ None = subst (λ (x : Outcome). Chooses old.live x.change (Some change)) (sym opened) chosen in cc
 
 -- what was served leaves a world
 pub served_whole : (old new : World) (session : ℕ) (c : Call) (answer : Reply) → IsServed old session c answer new → IsCall c → IsWorld version_1 old → IsWorld version_1 new

@@ -1,14 +1,23 @@
--- A call that was served: its reply, or why it isn't done, and the world after it.
-use Rattle.std.specs.Prelude.{◌≡◌, ℕ, Result, Ok, Err, IsOk}
+-- The parts of serving a call, and a call that was served: its reply, or why it isn't done, and the world after it.
+use Rattle.std.specs.Prelude.{◌≡◌, ◌≢◌, ℕ, Option, None, Some, Result, Ok, Err, IsOk}
 use Rattle.sn_walk.specs.declared.failure.Failure.{Failure}
 use Rattle.sn_walk.specs.declared.failure.Failure.TheVariants as failure
 use Rattle.sn_model.specs.declared.call.Call.{Call}
 use Rattle.sn_model.specs.declared.reply.Refusal.{Refusal}
 use Rattle.sn_model.specs.declared.reply.Reply.{Reply}
+use Rattle.sn_model.specs.declared.change.Change.{Change}
+use Rattle.sn_model.specs.declared.change.Change.TheVariants.{Make}
+use Rattle.sn_model.specs.Changes.{apply}
+use Rattle.sn_model.specs.declared.outcome.Outcome.{Outcome}
+use Rattle.sn_model.specs.declared.outcome.Pending.{Pending}
+use Rattle.sn_model.specs.declared.outcome.Pending.TheVariants.{Nothing, Makes, Does}
+use Rattle.sn_model.specs.Tree.{Tree, least_unused}
 use Rattle.sn_model.specs.World.{World}
 use Rattle.sn_limits.specs.Versions.{version_1}
 use Rattle.sn_model.specs.Calls.{ready}
-use Rattle.sn_model.specs.Steps.{Becomes, TakesMemory, decision}
+use Rattle.sn_model.specs.Steps.{Becomes, TakesMemory, decision, with_live}
+use Rattle.sn_plain.specs.declared.error.ApplyError.{ApplyError}
+use Rattle.sn_plain.specs.declared.error.ApplyError.TheVariants as lack
 use Rattle.sn_core.specs.PlainRuns.{TakesLeast}
 use Rattle.sn_core.specs.declared.error.CallError.{CallError}
 use Rattle.sn_core.specs.declared.error.CallError.TheVariants.{Refused, Memory}
@@ -17,6 +26,38 @@ use Rattle.sn_core.specs.declared.error.CallError.TheVariants.{Refused, Memory}
 abbrev pub as_error : {F : Type 0} → Failure Refusal F → CallError
 as_error (failure.Refused r) = Refused r
 as_error (failure.Fault f) = Memory
+
+-- why a call has no outcome
+abbrev pub HasNone : CallError → World → ℕ → Call → Type 0
+HasNone (Refused r) world session c = decision version_1 world session c ≡ Err r
+HasNone Memory world session c = TakesMemory c × IsOk (ready world session c)
+
+-- what a call comes to
+abbrev pub Decides : World → ℕ → Call → Result Outcome CallError → Type 0
+Decides world session c (Ok o) = decision version_1 world session c ≡ Ok o
+Decides world session c (Err e) = HasNone e world session c
+
+-- a number is left for a node that is to be made
+abbrev pub HasNumber : Tree → Pending → Type 0
+HasNumber tree Nothing = Unit {0}
+HasNumber tree (Makes directory name kind o) = least_unused version_1 tree ≢ None
+HasNumber tree (Does c) = Unit {0}
+
+-- the change that is pending, where a new node has the least unused number
+abbrev pub Chooses : Tree → Pending → Option Change → Type 0
+Chooses tree Nothing change = change ≡ None
+Chooses tree (Makes directory name kind o) change = (number : ℕ) × (least_unused version_1 tree ≡ Some number) × (change ≡ Some (Make directory name number kind o))
+Chooses tree (Does c) change = change ≡ Some c
+
+-- why a change isn't made
+abbrev pub LacksFor : ApplyError → Change → World → World → Type 0
+LacksFor lack.CannotApply c old new = (apply version_1 c old.live ≡ None) × (new ≡ old)
+LacksFor lack.Memory c old new = new ≡ old
+
+-- a change of the live tree is made, or the world stays
+abbrev pub MakesChange : Result (Unit {0}) ApplyError → Change → World → World → Type 0
+MakesChange (Ok _) c old new = (tree : Tree) × (apply version_1 c old.live ≡ Some tree) × (new ≡ with_live old tree)
+MakesChange (Err e) c old new = LacksFor e c old new
 
 abbrev pub FailsTo : CallError → World → ℕ → Call → World → Type 0
 FailsTo (Refused r) old session c new = (decision version_1 old session c ≡ Err r) × (new ≡ old)

@@ -7,7 +7,7 @@ use std::alloc::AllocError;
 
 /// Why a call isn't done.
 #[derive(Drop)]
-pub(crate) enum CallError {
+pub enum CallError {
     Refused(Refusal),
     Memory,
 }

@@ -11,10 +11,11 @@
 //! ```
 #![tactic(auto)]
 
-mod decided;
 mod error;
 mod plain;
 mod view;
 mod world;
 
+pub use error::CallError;
 pub use plain::run_plain;
+pub use world::PlainWorld;

@@ -1,20 +1,29 @@
-ghost use Rattle.std.specs.Prelude.{◌≡◌, IfOk, None, replicate, vec_len};
-ghost use Rattle.sn_model.specs.Tests.{logged_in};
+ghost use Rattle.std.specs.Prelude.{◌≡◌, ◌<◌, ◌^◌, IfOk, None, replicate, vec_len};
+ghost use Rattle.sn_model.specs.Calls.{new_session};
+ghost use Rattle.sn_model.specs.NameTree.{IsTree};
+ghost use Rattle.sn_model.specs.Outcomes.{opens};
+ghost use Rattle.sn_model.specs.Settling.{settle};
+ghost use Rattle.sn_model.specs.Steps.{with_caller};
+ghost use Rattle.sn_model.specs.Tests.{logged_in, logged_out};
 ghost use Rattle.sn_limits.specs.Versions.{version_1};
-ghost use Rattle.sn_model.specs.Worlds.{IsWorld};
+ghost use Rattle.sn_model.specs.Worlds.{IsCall, IsWorld};
 ghost use Rattle.sn_core.specs.PlainRuns.{PlainStep};
 ghost use Rattle.sn_model.specs.World.{new_world};
-ghost use Rattle.sn_model.specs.declared.call.Call.TheVariants.{Login, Mkdir, Stat};
+ghost use Rattle.sn_model.specs.declared.call.Call.TheVariants.{Mkdir, Stat};
 ghost use Rattle.sn_walk.specs.Gives.{Answers};
-ghost use Rattle.sn_core.specs.Served.{Serves};
+ghost use Rattle.sn_core.specs.Served.{Chooses, Decides, HasNumber, MakesChange, Serves};
 
-use crate::decided;
 use crate::error::CallError;
+use crate::view::PlainView;
 use sn_acl::{Cred, Mode, Permissions};
+use sn_core_decide as decide;
 use sn_core_decide::{new_mode_argument, path_argument};
-use sn_limits::{Kind, Limits};
-use sn_model::{Call, Errno, Event, Groups, Progress, Refusal, Reply, Session, Word};
-use sn_plain::PlainTree;
+use sn_limits::Limits;
+use sn_model::{
+    Call, Caller, Change, Errno, Event, Groups, Outcome, Pending, Progress, Refusal, Reply,
+    Session, Word,
+};
+use sn_plain::{ApplyError, PlainTree};
 use std::alloc::{AllocError, Global};
 
 /// How many sessions there are.
@@ -22,7 +31,7 @@ const SESSIONS: u32 = 64;
 
 /// The live tree, and who is logged in.
 #[derive(Drop)]
-pub(crate) struct PlainWorld {
+pub struct PlainWorld {
     tree: PlainTree,
     sessions: Vec<Option<Session>>,
 }
@@ -45,6 +54,27 @@ fn log_all_out(sessions: &mut Vec<Option<Session>>)
 {
     for session in 0..sessions.len() {
         sessions[session] = None;
+    }
+}
+
+/// What a login comes to.
+fn login(uid: u32, gid: u32, groups: &Groups) -> Outcome<'static>
+    ensures outcome { result ≡ opens (new_session uid gid groups.now) }
+    ensures uid { uid < 2 ^ 32 }
+    ensures gid { gid < 2 ^ 32 }
+{
+    Outcome {
+        charge: 0,
+        change: Pending::Nothing,
+        caller: Caller::LogsIn(Session {
+            cred: Cred::new(uid, gid, groups.as_slice()),
+            umask: Mode {
+                owner: Permissions::NONE,
+                group: Permissions::WRITE,
+                other: Permissions::WRITE,
+            },
+        }),
+        told: Reply::Done,
     }
 }
 
@@ -77,73 +107,144 @@ impl PlainWorld {
         }
     }
 
-    fn login(
-        &mut self,
-        session: u32,
-        uid: u32,
-        gid: u32,
-        groups: &Groups,
-    ) -> Result<Reply, CallError>
-        requires plain { IsPlainWorld self.old }
-        requires whole { IsWorld version_1 (world_of self.old) }
-        ensures served { Serves (world_of self.old) session (Login uid gid groups.now) result (world_of self.new) }
-        ensures sound { IsPlainWorld self.new }
-        ensures whole { IsWorld version_1 (world_of self.new) }
+    /// Whether nobody is logged in under this number.
+    fn logged_out(&self, session: u32) -> Result<(), Refusal>
+        requires { IsPlainWorld self.now }
+        ensures { result ≡ logged_out (world_of self.now) session }
     {
         if session >= SESSIONS {
-            return Err(CallError::Refused(Refusal::plain(Errno::Einval)));
+            return Err(Refusal::plain(Errno::Einval));
         }
-        let at = session as usize;
-        if self.sessions[at].is_some() {
-            return Err(CallError::Refused(Refusal::plain(Errno::Ebusy)));
+        if self.sessions[session as usize].is_some() {
+            return Err(Refusal::plain(Errno::Ebusy));
         }
-        self.sessions[at] = Some(Session {
-            cred: Cred::new(uid, gid, groups.as_slice()),
-            umask: Mode {
-                owner: Permissions::NONE,
-                group: Permissions::WRITE,
-                other: Permissions::WRITE,
-            },
-        });
-        Ok(Reply::Done)
+        Ok(())
     }
 
-    fn mkdir(
-        &mut self,
+    fn decide_mkdir<'a>(
+        &self,
         alloc: Global,
         session: u32,
-        path: &Word,
+        path: &'a Word,
         mode: u16,
-    ) -> Result<Reply, CallError>
-        requires plain { IsPlainWorld self.old }
-        requires whole { IsWorld version_1 (world_of self.old) }
-        ensures served { Serves (world_of self.old) session (Mkdir path.now mode) result (world_of self.new) }
-        ensures sound { IsPlainWorld self.new }
-        ensures whole { IsWorld version_1 (world_of self.new) }
+    ) -> Result<Outcome<'a>, CallError>
+        requires { IsPlainWorld self.now }
+        ensures { Decides (world_of self.now) session (Mkdir path.now mode) result }
     {
         let caller = self.logged_in(session)?;
         let path = path_argument(path)?;
         let mode = new_mode_argument(mode)?;
-        let (link, number, ownership) = decided::mkdir(alloc, &self.tree, caller, &path, mode)?;
-        let limits = Limits::VERSION_1;
-        let kind = Kind::Directory;
-        match self
-            .tree
-            .make(alloc, &limits, link, number, kind, &ownership)
-        {
-            Ok(()) => Ok(Reply::Done),
-            // What was decided can be applied, so that memory alone can lack.
-            Err(_) => Err(CallError::Memory),
-        }
+        let mut view = PlainView {
+            alloc,
+            tree: &self.tree,
+        };
+        Ok(decide::mkdir(
+            &Limits::VERSION_1,
+            &mut view,
+            caller,
+            &path,
+            mode,
+        )?)
     }
 
-    fn stat(&self, alloc: Global, session: u32, path: &Word) -> Result<Reply, CallError>
+    fn decide_stat<'a>(
+        &self,
+        alloc: Global,
+        session: u32,
+        path: &'a Word,
+    ) -> Result<Outcome<'a>, CallError>
         requires { IsPlainWorld self.now }
-        ensures { Serves (world_of self.now) session (Stat path.now) result (world_of self.now) }
+        ensures { Decides (world_of self.now) session (Stat path.now) result }
     {
         let caller = self.logged_in(session)?;
         let path = path_argument(path)?;
-        Ok(decided::stat(alloc, &self.tree, caller, &path)?)
+        let mut view = PlainView {
+            alloc,
+            tree: &self.tree,
+        };
+        Ok(decide::stat(&mut view, caller, &path)?)
+    }
+
+    /// What a call comes to, or its first refusal. `Memory` comes only once its session and arguments
+    /// have passed. Nothing changes.
+    pub fn decide<'a>(
+        &self,
+        alloc: Global,
+        session: u32,
+        call: &'a Call,
+    ) -> Result<Outcome<'a>, CallError>
+        requires { IsPlainWorld self.now }
+        ensures decided { Decides (world_of self.now) session call.now result }
+        ensures numbers { IfOk result (λ o. IsCall call.now) }
+    {
+        match call {
+            Call::Login { uid, gid, groups } => {
+                self.logged_out(session)?;
+                Ok(login(*uid, *gid, groups))
+            }
+            Call::Mkdir { path, mode } => self.decide_mkdir(alloc, session, path, *mode),
+            Call::Stat { path } => self.decide_stat(alloc, session, path),
+        }
+    }
+
+    /// The change that is pending, if one is. A new node gets the least number that no node has, of
+    /// which there has to be one.
+    pub fn choose<'a>(&self, pending: Pending<'a>) -> Option<Change<'a>>
+        requires { HasNumber (world_of self.now).live pending }
+        ensures { Chooses (world_of self.now).live pending.entry result }
+    {
+        match pending {
+            Pending::Nothing => None,
+            Pending::Makes {
+                directory,
+                name,
+                kind,
+                ownership,
+            } => match self.tree.least_unused(&Limits::VERSION_1) {
+                Some(number) => Some(Change::Make {
+                    directory,
+                    name,
+                    number,
+                    kind,
+                    ownership,
+                }),
+                None => unreachable!(),
+            },
+            Pending::Does(change) => Some(change),
+        }
+    }
+
+    /// Makes a change of the live tree.
+    pub fn apply(&mut self, alloc: Global, change: &Change<'_>) -> Result<(), ApplyError>
+        requires plain { IsPlainWorld self.old }
+        requires whole { IsTree version_1 (world_of self.old).live }
+        ensures made { MakesChange result change.now (world_of self.old) (world_of self.new) }
+        ensures sound { IsPlainWorld self.new }
+    {
+        self.tree.apply(alloc, &Limits::VERSION_1, change)
+    }
+
+    /// Sets what becomes of a caller's session.
+    pub fn set_caller(&mut self, session: u32, caller: Caller)
+        requires { IsPlainWorld self.old }
+        ensures world { world_of self.new ≡ with_caller (world_of self.old) session caller }
+        ensures sound { IsPlainWorld self.new }
+    {
+        if let Caller::LogsIn(new) = caller
+            && let Some(slot) = self.sessions.get_mut(session as usize)
+        {
+            *slot = Some(new);
+        }
+    }
+
+    /// Logs all out, and takes all files away that no name stands for.
+    pub fn settle(&mut self)
+        requires { IsPlainWorld self.old }
+        ensures world { world_of self.new ≡ settle (world_of self.old) }
+        ensures sound { IsPlainWorld self.new }
+    {
+        self.tree.settle();
+        log_all_out(&mut self.sessions);
     }
 
     fn served(&mut self, alloc: Global, session: u32, call: &Call) -> Result<Reply, CallError>
@@ -153,11 +254,22 @@ impl PlainWorld {
         ensures sound { IsPlainWorld self.new }
         ensures whole { IsWorld version_1 (world_of self.new) }
     {
-        match call {
-            Call::Login { uid, gid, groups } => self.login(session, *uid, *gid, groups),
-            Call::Mkdir { path, mode } => self.mkdir(alloc, session, path, *mode),
-            Call::Stat { path } => self.stat(alloc, session, path),
+        let Outcome {
+            change,
+            caller,
+            told,
+            ..
+        } = self.decide(alloc, session, call)?;
+        match self.choose(change) {
+            Some(change) => match self.apply(alloc, &change) {
+                Ok(()) => {}
+                // What was decided can be applied, so that memory alone can lack.
+                Err(_) => return Err(CallError::Memory),
+            },
+            None => {}
         }
+        self.set_caller(session, caller);
+        Ok(told)
     }
 
     /// Answers a call.
@@ -183,8 +295,7 @@ impl PlainWorld {
         ensures sound { IsPlainWorld self.new }
         ensures whole { IsWorld version_1 (world_of self.new) }
     {
-        self.tree.settle();
-        log_all_out(&mut self.sessions);
+        self.settle();
         Reply::Done
     }
 

@@ -94,7 +94,7 @@ impl Position {
     }
 
     /// The block of the gate.
-    pub(crate) fn block(self) -> u32
+    pub fn block(self) -> u32
         ensures { result ≡ (base_at self + self.place) / 8 }
     {
         self.start() + (self.place / 8) as u32

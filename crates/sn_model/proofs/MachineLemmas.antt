@@ -18,7 +18,7 @@ use Rattle.sn_model.specs.declared.session.Session.{Session}
 use Rattle.sn_model.specs.Tests.{plain}
 use Rattle.sn_model.specs.Tree.{Tree, Node, names_for}
 use Rattle.sn_model.specs.World.{World, descriptor_cmp, new_world}
-use Rattle.sn_model.specs.NameTree.{HasKind}
+use Rattle.sn_model.specs.NameTree.{HasKind, IsTree}
 use Rattle.sn_model.specs.Settling.{is_nameless, settled, settle}
 use Rattle.sn_model.specs.Steps.{decision}
 use Rattle.sn_model.specs.Machine as machine
@@ -39,16 +39,20 @@ all_named tree n k z =
     let gone = get_without (λ _. false) tree n ∙ ap (λ (o : Option Node). cond (not (is_nameless tree n o) || false) o None) was ∙ ap (λ b. cond (not b || false) (Some s.0) None) (nameless_file tree n s.0 s.2 z) in
     let never : Some s.0 ≡ None = sym s.1 ∙ gone in cc
 
-settle_world : (limits : Limits) (world : World) → IsWorld limits world → IsWorld limits (settle world)
-settle_world limits world w = record {
-  live = dropping_tree limits world.live (λ _. false) w.live;
+-- a name tree in place of a world's live one, settled
+pub settle_tree : (limits : Limits) (world : World) (tree : Tree) → IsWorld limits world → IsTree limits tree → IsWorld limits (settle (record world { live = tree }))
+settle_tree limits world tree w whole = record {
+  live = dropping_tree limits tree (λ _. false) whole;
   frozen = w.frozen;
   few_snapshots = w.few_snapshots;
   count = length-replicate {A = Option Session} 64 None;
   callers = free_sessions 64;
   open_files = λ i fd d e. let never : None ≡ Some d = sym (map.get-empty descriptor_cmp (i, fd)) ∙ e in cc;
-  held = λ n k z. absurd (all_named world.live n k z);
+  held = λ n k z. absurd (all_named tree n k z);
 }
+
+settle_world : (limits : Limits) (world : World) → IsWorld limits world → IsWorld limits (settle world)
+settle_world limits world w = settle_tree limits world world.live w w.live
 
 settle_settled : (world : World) → IsSettled (settle world)
 settle_settled world = record {

@@ -15,9 +15,8 @@ ghost use Rattle.std.specs.FinMap as map;
 use crate::below::{block_of, node_of, number_of};
 use crate::made::{add_name, boxed, lose_name, splice, touch, with_room, zero_from};
 use crate::{BLOCK_SIZE, Below, Block, BlockPlace, LayerFault, NodeChange, NodeState, Overlay};
-use sn_limits::Limits;
+use sn_limits::{Kind, Limits};
 use sn_model::{Bytes, Change, Link, Ownership, Word};
-use sn_walk::Kind;
 use std::alloc::{AllocError, Global};
 
 fn make<B: Below>(

@@ -6,7 +6,7 @@ ghost use Rattle.sn_overlay.specs.Pieces.{spliced, zeroed};
 ghost use Rattle.sn_overlay.specs.Seen.{with_seen, with_loss};
 
 use crate::{BLOCK_SIZE, Block, NodeChange, NodeState, Overlay, SeenNode};
-use sn_walk::Kind;
+use sn_limits::Kind;
 use std::alloc::{AllocError, Global};
 
 // Nothing changed yet, with room for so many nodes, names and blocks.

@@ -1,2 +1,3 @@
 pub mod RecoveryLemmas
 pub mod MomentLemmas
+pub mod SpelledLemmas

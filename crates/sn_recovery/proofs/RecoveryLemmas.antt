@@ -1,5 +1,5 @@
 -- What a disk opens to, and how that passes an append.
-use Rattle.std.proofs.Common.{◌≡◌, ◌⊎◌, inl, inr, ℕ, ◌+◌, Bool, false, List, [], ◌∷◌, ◌++◌, Some, refl, sym, ap, ◌∙◌}
+use Rattle.std.proofs.Common.{◌≡◌, ◌⊎◌, inl, inr, ℕ, ◌+◌, Bool, false, List, [], ◌∷◌, ◌++◌, Some, refl, sym, ap, ◌∙◌, length}
 use Rattle.sn_device.specs.Sectors.{Contents}
 use Rattle.sn_device.specs.Disk.{Disk, Always}
 use Rattle.sn_device.specs.Crash.{LeavesOnly}
@@ -20,11 +20,11 @@ use Rattle.sn_model.proofs.SettlingLemmas.{settle_alike, dropping_kept}
 use Rattle.sn_record.specs.Payload.{IsSpelled, payload_bytes}
 use Rattle.sn_record.proofs.OneSpelling.{one_spelling}
 use Rattle.sn_ondisk.specs.Gates.{IsClosed}
-use Rattle.sn_ondisk.specs.LogHalf.{ReplaysTo}
 use Rattle.sn_ondisk.specs.OneAnswer.{IsOnDisk}
 use Rattle.sn_ondisk.proofs.OneLemmas.{ready_replays, replay_is_one}
-use Rattle.sn_recovery.specs.Opens.{AreSpelled, payloads_of, IsReady, Opens, Keeps}
-use Rattle.sn_recovery.specs.Laws.{settled_at}
+use Rattle.sn_log.specs.Places.{LogPosition, IsReadyAt, base_at, behind, payloads_of}
+use Rattle.sn_recovery.specs.Opens.{AreSpelled, Opens, Keeps}
+use Rattle.sn_recovery.specs.Laws.{OpensAt, ReplaysUpTo, settled_at}
 
 same_head : {A : Type 0} (a b : A) (xs ys : List A) → a ∷ xs ≡ b ∷ ys → (a ≡ b) × (xs ≡ ys)
 same_head a b xs ys e = (cc, cc)
@@ -52,13 +52,13 @@ opens_to_one limits c base epoch root world other on_disk a b =
     a.settled ∙ ap (λ t. settle (with_live root t)) tree ∙ sym b.settled
 
 -- where an append can go on, the disk opens to what covers settles to
-pub ready_opens : (limits : Limits) (c : Contents) (base epoch place : ℕ) (changes : List Change) (root : World) (tree live : Tree)
+pub ready_opens : (limits : Limits) (c : Contents) (at : LogPosition) (changes : List Change) (root : World) (tree live : Tree)
     → AreSpelled changes → apply_all limits changes root.live ≡ Some tree → Covers tree live
-    → IsReady c base epoch changes place
-    → Opens limits c base epoch root (settled_at root live)
-ready_opens limits c base epoch place changes root tree live spelled applied covers ready = record {
+    → IsReadyAt at changes c
+    → OpensAt limits c at root (settled_at root live)
+ready_opens limits c at changes root tree live spelled applied covers is_ready = record {
   changes = changes;
-  replays = record { spelled = spelled; records = (place, ready_replays c base epoch place (payloads_of changes) ready) };
+  replays = record { spelled = spelled; records = (at.place, ready_replays c (base_at at) at.epoch at.place (payloads_of changes) is_ready.ready) };
   tree = tree;
   applied = applied;
   settled = ap (λ t. settle_to t) (sym (settle_alike tree live covers));
@@ -67,15 +67,15 @@ ready_opens limits c base epoch place changes root tree live spelled applied cov
     settle_to : Tree → World
     settle_to t = record (settle root) { live = t }
 
-pub kept_opens : (limits : Limits) (d : Disk) (base epoch place : ℕ) (changes : List Change) (root : World) (live : Tree)
-    → Keeps limits d base epoch changes place root.live live
-    → Always d (λ c. Opens limits c base epoch root (settled_at root live))
-kept_opens limits d base epoch place changes root live k c crash =
-    ready_opens limits c base epoch place changes root k.tree live k.spelled k.applied k.covers (k.ready c crash)
+pub kept_opens : (limits : Limits) (d : Disk) (at : LogPosition) (changes : List Change) (root : World) (live : Tree)
+    → Keeps limits d at changes root.live live
+    → Always d (λ c. OpensAt limits c at root (settled_at root live))
+kept_opens limits d at changes root live k c crash =
+    ready_opens limits c at changes root k.tree live k.spelled k.applied k.covers (k.ready c crash)
 
 -- ---- one change more
 
-spelled_more : (cs : List Change) (change : Change) → AreSpelled cs → IsSpelled change → AreSpelled (cs ++ change ∷ [])
+pub spelled_more : (cs : List Change) (change : Change) → AreSpelled cs → IsSpelled change → AreSpelled (cs ++ change ∷ [])
 spelled_more [] change fits fit = (fit, tt)
 spelled_more (c ∷ cs) change fits fit = (fits.0, spelled_more cs change fits.1 fit)
 
@@ -85,7 +85,7 @@ record More (limits : Limits) (changes : List Change) (change : Change) (root af
   applied : apply_all limits (changes ++ change ∷ []) root ≡ Some tree
   covers : Covers tree after
 
-applied_one : (limits : Limits) (change : Change) (tree after : Tree) → apply limits change tree ≡ Some after → apply_all limits (change ∷ []) tree ≡ Some after
+pub applied_one : (limits : Limits) (change : Change) (tree after : Tree) → apply limits change tree ≡ Some after → apply_all limits (change ∷ []) tree ≡ Some after
 unfolding apply_all
 applied_one limits change tree after e = ap (λ o. o >>= (λ t. Some t)) e
 
@@ -100,29 +100,29 @@ one_more limits changes change root tree live after applied covers e =
       covers = more.2;
     }
 
-pub append_opens : (limits : Limits) (old new : Disk) (base epoch place end : ℕ) (changes : List Change) (change : Change) (root : World) (live after : Tree)
-    → Keeps limits old base epoch changes place root.live live
+pub append_opens : (limits : Limits) (old new : Disk) (at : LogPosition) (changes : List Change) (change : Change) (root : World) (live after : Tree)
+    → Keeps limits old at changes root.live live
     → IsSpelled change → apply limits change live ≡ Some after
-    → LeavesOnly old new (λ c. IsReady c base epoch changes place ⊎ IsReady c base epoch (changes ++ change ∷ []) end)
-    → LeavesOnly old new (λ c. Opens limits c base epoch root (settled_at root live) ⊎ Opens limits c base epoch root (settled_at root after))
-append_opens limits old new base epoch place end changes change root live after k fits e leaves =
+    → LeavesOnly old new (λ c. IsReadyAt at changes c ⊎ IsReadyAt (behind at change) (changes ++ change ∷ []) c)
+    → LeavesOnly old new (λ c. OpensAt limits c at root (settled_at root live) ⊎ OpensAt limits c at root (settled_at root after))
+append_opens limits old new at changes change root live after k fits e leaves =
     let more = one_more limits changes change root.live k.tree live after k.applied k.covers e in
-    LeavesOnly-weaker old new (λ c. IsReady c base epoch changes place ⊎ IsReady c base epoch (changes ++ change ∷ []) end)
-    (λ c. Opens limits c base epoch root (settled_at root live) ⊎ Opens limits c base epoch root (settled_at root after))
+    LeavesOnly-weaker old new (λ c. IsReadyAt at changes c ⊎ IsReadyAt (behind at change) (changes ++ change ∷ []) c)
+    (λ c. OpensAt limits c at root (settled_at root live) ⊎ OpensAt limits c at root (settled_at root after))
     (λ c. either c more) leaves
   where
     either : (c : Contents) → More limits changes change root.live after
-        → IsReady c base epoch changes place ⊎ IsReady c base epoch (changes ++ change ∷ []) end
-        → Opens limits c base epoch root (settled_at root live) ⊎ Opens limits c base epoch root (settled_at root after)
-    either c more (inl ready) = inl (ready_opens limits c base epoch place changes root k.tree live k.spelled k.applied k.covers ready)
-    either c more (inr ready) = inr (ready_opens limits c base epoch end (changes ++ change ∷ []) root more.tree after (spelled_more changes change k.spelled fits) more.applied more.covers ready)
+        → IsReadyAt at changes c ⊎ IsReadyAt (behind at change) (changes ++ change ∷ []) c
+        → OpensAt limits c at root (settled_at root live) ⊎ OpensAt limits c at root (settled_at root after)
+    either c more (inl ready) = inl (ready_opens limits c at changes root k.tree live k.spelled k.applied k.covers ready)
+    either c more (inr ready) = inr (ready_opens limits c (behind at change) (changes ++ change ∷ []) root more.tree after (spelled_more changes change k.spelled fits) more.applied more.covers ready)
 
-pub append_keeps : (limits : Limits) (old new : Disk) (base epoch place end : ℕ) (changes : List Change) (change : Change) (root live after : Tree)
-    → Keeps limits old base epoch changes place root live
+pub append_keeps : (limits : Limits) (old new : Disk) (at : LogPosition) (changes : List Change) (change : Change) (root live after : Tree)
+    → Keeps limits old at changes root live
     → IsSpelled change → apply limits change live ≡ Some after
-    → Always new (λ c. IsReady c base epoch (changes ++ change ∷ []) end)
-    → Keeps limits new base epoch (changes ++ change ∷ []) end root after
-append_keeps limits old new base epoch place end changes change root live after k fits e ready =
+    → Always new (IsReadyAt (behind at change) (changes ++ change ∷ []))
+    → Keeps limits new (behind at change) (changes ++ change ∷ []) root after
+append_keeps limits old new at changes change root live after k fits e ready =
     let more = one_more limits changes change root k.tree live after k.applied k.covers e in
     record {
       spelled = spelled_more changes change k.spelled fits;
@@ -132,10 +132,10 @@ append_keeps limits old new base epoch place end changes change root live after 
       covers = more.covers;
     }
 
-pub dropping_keeps : (limits : Limits) (d : Disk) (base epoch place : ℕ) (changes : List Change) (root live : Tree) (held : ℕ → Bool)
-    → Keeps limits d base epoch changes place root live
-    → Keeps limits d base epoch changes place root (without_nameless held live)
-dropping_keeps limits d base epoch place changes root live held k = record {
+pub dropping_keeps : (limits : Limits) (d : Disk) (at : LogPosition) (changes : List Change) (root live : Tree) (held : ℕ → Bool)
+    → Keeps limits d at changes root live
+    → Keeps limits d at changes root (without_nameless held live)
+dropping_keeps limits d at changes root live held k = record {
   spelled = k.spelled;
   ready = k.ready;
   tree = k.tree;
@@ -145,27 +145,27 @@ dropping_keeps limits d base epoch place changes root live held k = record {
 
 -- ---- at a mount
 
-pub replayed_opens : (limits : Limits) (old new : Disk) (base epoch end : ℕ) (changes : List Change) (root : World) (tree : Tree)
+pub replayed_opens : (limits : Limits) (old new : Disk) (at : LogPosition) (changes : List Change) (root : World) (tree : Tree)
     → AreSpelled changes → apply_all limits changes root.live ≡ Some tree
-    → LeavesOnly old new (λ c. ReplaysTo c base epoch (payloads_of changes) end)
-    → LeavesOnly old new (λ c. Opens limits c base epoch root (settled_at root tree))
-replayed_opens limits old new base epoch end changes root tree spelled applied leaves =
-    LeavesOnly-weaker old new (λ c. ReplaysTo c base epoch (payloads_of changes) end) (λ c. Opens limits c base epoch root (settled_at root tree)) (λ c to. record {
+    → LeavesOnly old new (ReplaysUpTo at changes)
+    → LeavesOnly old new (λ c. OpensAt limits c at root (settled_at root tree))
+replayed_opens limits old new at changes root tree spelled applied leaves =
+    LeavesOnly-weaker old new (ReplaysUpTo at changes) (λ c. OpensAt limits c at root (settled_at root tree)) (λ c to. record {
       changes = changes;
-      replays = record { spelled = spelled; records = (end, to) };
+      replays = record { spelled = spelled; records = (at.place, to) };
       tree = tree;
       applied = applied;
       settled = refl;
     }) leaves
 
-pub mount_keeps : (limits : Limits) (d : Disk) (base epoch end : ℕ) (changes : List Change) (root tree : Tree)
-    → AreSpelled changes → apply_all limits changes root ≡ Some tree
-    → Always d (λ c. ReplaysTo c base epoch (payloads_of changes) end)
-    → Always d (λ c. IsClosed c (base + end))
-    → Keeps limits d base epoch changes end root (settled tree)
-mount_keeps limits d base epoch end changes root tree spelled applied to shut = record {
+pub mount_keeps : (limits : Limits) (d : Disk) (at : LogPosition) (changes : List Change) (root tree : Tree)
+    → AreSpelled changes → at.count ≡ length changes → apply_all limits changes root ≡ Some tree
+    → Always d (ReplaysUpTo at changes)
+    → Always d (λ c. IsClosed c (base_at at + at.place))
+    → Keeps limits d at changes root (settled tree)
+mount_keeps limits d at changes root tree spelled count applied to shut = record {
   spelled = spelled;
-  ready = λ c crash. record { leads = (to c crash).leads; closed = shut c crash };
+  ready = λ c crash. record { count = count; ready = record { leads = (to c crash).leads; closed = shut c crash } };
   tree = tree;
   applied = applied;
   covers = dropping_kept tree tree (λ n. false) (covers_itself tree);

@@ -1,5 +1,5 @@
 -- What the contents of a disk open to, and what a mount that runs knows of that.
-use Rattle.std.specs.Prelude.{◌≡◌, ℕ, List, Some, map}
+use Rattle.std.specs.Prelude.{◌≡◌, ℕ, List, Some}
 use Rattle.std.specs.List.{AllByRecursion}
 use Rattle.sn_device.specs.Sectors.{Contents}
 use Rattle.sn_device.specs.Disk.{Disk, Always}
@@ -11,24 +11,18 @@ use Rattle.sn_model.specs.Changes.{apply_all}
 use Rattle.sn_model.specs.Covers.{Covers}
 use Rattle.sn_model.specs.Settling.{settle}
 use Rattle.sn_model.specs.Steps.{with_live}
-use Rattle.sn_record.specs.Payload.{IsSpelled, payload_bytes}
-use Rattle.sn_ondisk.specs.LogHalf.{Replays as ReplaysPayloads, IsReady as IsReadyFor}
+use Rattle.sn_record.specs.Payload.{IsSpelled}
+use Rattle.sn_ondisk.specs.LogHalf.{Replays as ReplaysPayloads}
+use Rattle.sn_log.specs.Places.{LogPosition, IsReadyAt, payloads_of}
 
 -- changes that have payloads
 abbrev pub AreSpelled : List Change → Type 0
 AreSpelled = AllByRecursion IsSpelled
 
-abbrev pub payloads_of : List Change → List (List ℕ)
-payloads_of = map payload_bytes
-
 -- Replay of the epoch finds these changes, in their order.
 pub record Replays (c : Contents) (base epoch : ℕ) (changes : List Change) : Type 0 where
   pub spelled : AreSpelled changes
   pub records : ReplaysPayloads c base epoch (payloads_of changes)
-
--- The half has these changes from its first place on, and an append goes on at this place.
-abbrev pub IsReady : Contents → ℕ → ℕ → List Change → ℕ → Type 0
-IsReady c base epoch changes place = IsReadyFor c base epoch (payloads_of changes) place
 
 -- A mount finds this world on a disk whose newest root has the other one: the changes of the root's epoch are made, nobody is logged in, nothing is open, and no file is without a name.
 pub record Opens (limits : Limits) (c : Contents) (base epoch : ℕ) (root world : World) : Type 0 where
@@ -38,10 +32,10 @@ pub record Opens (limits : Limits) (c : Contents) (base epoch : ℕ) (root world
   pub applied : apply_all limits changes root.live ≡ Some tree
   pub settled : world ≡ settle (with_live root tree)
 
--- What a mount that runs over a live tree knows: these changes stand in its log, whatever a crash leaves, and they make of the root's tree one that covers the live one.
-pub record Keeps (limits : Limits) (d : Disk) (base epoch : ℕ) (changes : List Change) (place : ℕ) (root live : Tree) : Type 0 where
+-- What a mount that runs over a live tree knows: these changes stand in its log before this position, whatever a crash leaves, and they make of the root's tree one that covers the live one.
+pub record Keeps (limits : Limits) (d : Disk) (at : LogPosition) (changes : List Change) (root live : Tree) : Type 0 where
   pub spelled : AreSpelled changes
-  pub ready : Always d (λ c. IsReady c base epoch changes place)
+  pub ready : Always d (IsReadyAt at changes)
   pub tree : Tree
   pub applied : apply_all limits changes root ≡ Some tree
   pub covers : Covers tree live

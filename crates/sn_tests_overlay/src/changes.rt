@@ -6,7 +6,7 @@ use anyhow::{Context, Result, bail};
 use sn_model::{Bytes, Change};
 use sn_overlay::BlockPlace;
 use sn_table::Case;
-use sn_walk::Kind;
+use sn_limits::Kind;
 use std::alloc::Global;
 
 /// A word of a case: what is done and to what, with colons between.

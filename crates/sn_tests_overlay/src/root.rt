@@ -3,7 +3,8 @@
 use sn_acl::{Acl, Mode, Permissions};
 use sn_model::{Link, Ownership};
 use sn_overlay::{BLOCK_SIZE, Below, Block, BlockPlace, SeenNode};
-use sn_walk::{Kind, ROOT_NUMBER};
+use sn_limits::Kind;
+use sn_walk::ROOT_NUMBER;
 use std::alloc::AllocError;
 
 /// Its clauses promise nothing: the table says what is seen.

@@ -2,10 +2,9 @@
 
 use crate::root::Root;
 use anyhow::{Result, bail};
-use sn_limits::Limits;
+use sn_limits::{Kind, Limits};
 use sn_model::{Change, Link, Word};
 use sn_overlay::{BLOCK_SIZE, Below, BlockPlace, Overlay, Through, of_change};
-use sn_walk::Kind;
 use std::alloc::Global;
 
 #[derive(Drop)]

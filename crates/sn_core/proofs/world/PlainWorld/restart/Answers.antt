@@ -1,20 +1,16 @@
-use Rattle.std.proofs.Common.{refl, None}
+use Rattle.std.proofs.Common.{None}
 use Rattle.sn_limits.specs.Versions.{version_1}
 use Rattle.sn_model.specs.declared.call.Event.TheVariants.{Restart}
 use Rattle.sn_model.specs.declared.reply.Reply.TheVariants.{Done}
 use Rattle.sn_model.specs.Machine.{Running}
 use Rattle.sn_model.proofs.MachineLemmas.{events_keep}
-use Rattle.sn_core.specs.declared.world.PlainWorld.{PlainWorld}
 use Rattle.sn_core.specs.Plain.{world_of}
 use Rattle.sn_core.specs.PlainRuns.{PlainStep}
 use Rattle.sn_core.proofs.StepLemmas.{restart_step}
-use Rattle.sn_core.proofs.RestartLemmas.{settles}
 use Rattle.sn_core.proofs.world.PlainWorld.restart.Goals as goal
 
-restarted : (c : goal.After-log_all_out) → PlainStep (world_of c.args.self.now) Restart Done (world_of (record { tree = c.settle.new.self; sessions = c.log_all_out.new.sessions }))
-restarted c =
-    let after : PlainWorld = record { tree = c.settle.new.self; sessions = c.log_all_out.new.sessions } in
-    restart_step (world_of c.args.self.now) (world_of after) (settles c.args.self.now after c.settle.ensures c.log_all_out.ensures)
+restarted : (c : goal.After-settle) → PlainStep (world_of c.args.self.now) Restart Done (world_of c.settle.new.self)
+restarted c = restart_step (world_of c.args.self.now) (world_of c.settle.new.self) c.settle.ensures.world
 
 pub returns-clause-step : goal.returns-clause-step
 returns-clause-step c = restarted c

@@ -1,0 +1,177 @@
+-- What a call answers, by how it ends.
+use Rattle.std.proofs.Common.{◌≡◌, ◌⊎◌, inr, ℕ, ◌<◌, Bool, true, false, Option, Some, None, Result, Ok, Err, refl, sym, ap, subst, ◌∙◌}
+use Rattle.std.specs.FinMap as map
+use Rattle.std.proofs.lemmas.Bool.{true≢false}
+use Rattle.sn_device.specs.declared.status.Status.{Status}
+use Rattle.sn_limits.specs.Versions.{version_1}
+use Rattle.sn_model.specs.declared.call.Call.{Call}
+use Rattle.sn_model.specs.declared.call.Event.TheVariants as event
+use Rattle.sn_model.specs.declared.change.Change.{Change}
+use Rattle.sn_model.specs.declared.outcome.Outcome.{Outcome}
+use Rattle.sn_model.specs.declared.reply.Errno.TheVariants.{Estopped, Enomem, Eio}
+use Rattle.sn_model.specs.declared.reply.Refusal.{Refusal}
+use Rattle.sn_model.specs.declared.reply.Reply.{Reply}
+use Rattle.sn_model.specs.declared.reply.Reply.TheVariants as answer
+use Rattle.sn_model.specs.Changes.{apply}
+use Rattle.sn_model.specs.Machine.{State, Running, Stopped, Mishap, Memory, Write, Space, EventStep, refused}
+use Rattle.sn_model.specs.Settling.{settle}
+use Rattle.sn_model.specs.Steps.{Becomes, Comes, decision, with_caller, with_live}
+use Rattle.sn_model.specs.Tree.{Tree}
+use Rattle.sn_model.specs.World.{World, new_tree}
+use Rattle.sn_model.specs.Worlds.{IsWorld}
+use Rattle.sn_log.specs.Places.{HasRoom}
+use Rattle.sn_core.specs.Served.{Chooses, HasNone}
+use Rattle.sn_core.specs.declared.error.CallError.{CallError}
+use Rattle.sn_core.specs.declared.error.CallError.TheVariants as lack
+use Rattle.sn_core.proofs.StepLemmas.{chosen_served, change_takes}
+use Rattle.sn_device.proofs.CrashLemmas.{LeavesOnly-start}
+use Rattle.sn_recovery.specs.Moments.{LastsOver, ShowsState}
+use Rattle.sn_recovery.specs.Opens.{Keeps}
+use Rattle.sn_fs.specs.Answers.{Answers, AnswersFrom, HasFailed, MayMeet}
+use Rattle.sn_fs.specs.Changing.{Changes, FailsChange, IsCut, IsLogged, errno_of, stops}
+use Rattle.sn_fs.specs.declared.fault.ChangeFault.{ChangeFault}
+use Rattle.sn_fs.specs.declared.fault.ChangeFault.TheVariants as fault
+use Rattle.sn_fs.specs.Held.{Held, Means, Runs, ground}
+use Rattle.sn_fs.proofs.DecisionLemmas.{CanBeMade, can_be_made, is_charged}
+use Rattle.sn_fs.proofs.MeaningLemmas.{caller_frozen, caller_live, caller_settles, means_show, runs_lasts, runs_on, runs_show, stays_lasts, stops_between, stops_lasts}
+
+-- an event that a state answers with a refusal, and that changes nothing
+kept : (h : Held) (has_stopped : Bool) (s : State) (session : ℕ) (c : Call) (met : Option Mishap) (reply : Reply) → Means h has_stopped s → MayMeet h (event.Call session c) met h.status → EventStep version_1 s (event.Call session c) met reply s
+    → AnswersFrom s (event.Call session c) reply h h has_stopped
+kept h has_stopped s session c met reply m may step = record { met = met; may = may; next = s; step = step; means = m; lasts = stays_lasts h has_stopped s m }
+
+-- one that has stopped
+pub stopped_answers : (h : Held) (session : ℕ) (c : Call) → Answers (event.Call session c) (refused Estopped) h true h true
+stopped_answers h session c (Running w) m = absurd (true≢false m.0)
+stopped_answers h session c (Stopped before after) m = kept h true (Stopped before after) session c None (refused Estopped) m tt (refl, refl)
+
+-- ---- of one that runs, in the world that it holds
+
+abbrev OfWorld : Held → Bool → ℕ → Call → Reply → Held → Type 0
+OfWorld h has_stopped session c reply new = Runs h h.world → AnswersFrom (Running h.world) (event.Call session c) reply h new has_stopped
+
+in_world : (h new : Held) (has_stopped : Bool) (session : ℕ) (c : Call) (reply : Reply) → OfWorld h has_stopped session c reply new → Answers (event.Call session c) reply h false new has_stopped
+in_world h new has_stopped session c reply f (Running w) m =
+    subst (λ (x : World). AnswersFrom (Running x) (event.Call session c) reply h new has_stopped) m.1.is (f (subst (λ (x : World). Runs h x) (sym m.1.is) m.1))
+in_world h new has_stopped session c reply f (Stopped before after) m = absurd (true≢false (sym m.0))
+
+abbrev pub reply_of : CallError → Reply
+reply_of (lack.Refused r) = answer.Refused r
+reply_of lack.Memory = refused Enomem
+
+-- the call has no outcome
+pub undecided_answers : (h : Held) (session : ℕ) (c : Call) (e : CallError) → HasNone e h.world session c → Answers (event.Call session c) (reply_of e) h false h false
+undecided_answers h session c e none = in_world h h false session c (reply_of e) (λ r. told r e none)
+  where
+    told : Runs h h.world → (e : CallError) → HasNone e h.world session c → AnswersFrom (Running h.world) (event.Call session c) (reply_of e) h h false
+    told r (lack.Refused refusal) none = kept h false (Running h.world) session c None (answer.Refused refusal) (refl, r) tt
+        (record { next = h.world; becomes = subst (λ (d : Result Outcome Refusal). Becomes version_1 h.world session d (answer.Refused refusal) h.world) (sym none) (refl, refl); runs = refl })
+    told r lack.Memory none = kept h false (Running h.world) session c (Some Memory) (refused Enomem) (refl, r) tt (none, record { told = refl; same = refl })
+
+-- the call has an outcome, and a change was chosen
+module _ (old : Held) (session : ℕ) (c : Call) (o : Outcome) (change : Change) (whole : IsWorld version_1 old.world) (decided : decision version_1 old.world session c ≡ Ok o) (chosen : Chooses old.world.live o.change (Some change)) where
+  can : CanBeMade old.world change
+  can = can_be_made old.world session c o change whole decided chosen
+
+  -- the world that it makes
+  abbrev pub next_with : Tree → World
+  next_with tree = with_caller (with_live old.world tree) session o.caller
+
+  comes : (tree : Tree) → apply version_1 change old.world.live ≡ Some tree → Comes version_1 old.world session o (next_with tree)
+  comes tree e =
+      let served = chosen_served old.world session c o (Some change) tree whole decided chosen e in
+      (subst (λ (d : Result Outcome Refusal). Becomes version_1 old.world session d o.told (next_with tree)) decided served.0).1
+
+  becomes : (tree : Tree) → apply version_1 change old.world.live ≡ Some tree → Becomes version_1 old.world session (decision version_1 old.world session c) o.told (next_with tree)
+  becomes tree e = (chosen_served old.world session c o (Some change) tree whole decided chosen e).0
+
+  live_of : (tree : Tree) → (next_with tree).live ≡ tree
+  live_of tree = caller_live (with_live old.world tree) session o.caller
+
+  frozen_of : (tree : Tree) → Runs old old.world → (next_with tree).frozen ≡ map.empty
+  frozen_of tree r = caller_frozen (with_live old.world tree) session o.caller ∙ r.frozen
+
+  -- its record has no room, there is no memory for it, or the device fails
+  pub unmade_answers : (new : Held) (f : ChangeFault) → FailsChange true f change old new → Answers (event.Call session c) (refused (errno_of f)) old false new (stops f)
+  unmade_answers new f fails = in_world old new (stops f) session c (refused (errno_of f)) (λ r. told f r fails)
+    where
+      same : (new : Held) (f : ChangeFault) → new ≡ old → AnswersFrom (Running old.world) (event.Call session c) (refused (errno_of f)) old old (stops f) → AnswersFrom (Running old.world) (event.Call session c) (refused (errno_of f)) old new (stops f)
+      same new f e a = subst (λ (x : Held). AnswersFrom (Running old.world) (event.Call session c) (refused (errno_of f)) old x (stops f)) (sym e) a
+      told : (f : ChangeFault) → Runs old old.world → FailsChange true f change old new → AnswersFrom (Running old.world) (event.Call session c) (refused (errno_of f)) old new (stops f)
+      told fault.Space r fails = same new fault.Space fails.1 (kept old false (Running old.world) session c (Some Space) (refused (errno_of fault.Space)) (refl, r)
+          (record { outcome = o; decided = decided; change = change; chosen = chosen; none = fails.0 })
+          ((o, decided, is_charged old.world session c o change decided chosen), record { told = refl; same = refl }))
+      told fault.Memory r fails = same new fault.Memory fails (kept old false (Running old.world) session c (Some Memory) (refused (errno_of fault.Memory)) (refl, r) tt
+          (change_takes old.world session c o change decided chosen, record { told = refl; same = refl }))
+      told fault.Device r fails =
+          let tree = fails.made.tree in
+          let next = next_with tree in
+          let between = stops_between old new old.world next change tree r can.spelled fails.made.applied (live_of tree) (frozen_of tree r) (fails.moments refl) in
+          record {
+            met = Some Write;
+            may = fails.failed;
+            next = Stopped (settle old.world) (settle next);
+            step = record {
+              outcome = o;
+              decided = decided;
+              charged = is_charged old.world session c o change decided chosen;
+              next = next;
+              comes = comes tree fails.made.applied;
+              stops = record { told = refl; left = refl };
+            };
+            means = (refl, between);
+            lasts = stops_lasts old new old.world next change tree r can.spelled fails.made.applied (live_of tree) (frozen_of tree r) (fails.moments refl);
+          }
+
+  -- it is made and logged
+  pub made_answers : (mid new : Held) → IsLogged true change old mid → new ≡ record mid { world = with_caller mid.world session o.caller } → Answers (event.Call session c) o.told old false new false
+  made_answers mid new logged is = in_world old new false session c o.told told
+    where
+      told : Runs old old.world → AnswersFrom (Running old.world) (event.Call session c) o.told old new false
+      told r =
+          let tree = logged.made.tree in
+          let next = next_with tree in
+          let made : with_caller mid.world session o.caller ≡ next = ap (λ (x : World). with_caller x session o.caller) logged.made.world in
+          let on : Runs (record mid { world = with_caller mid.world session o.caller }) next =
+              runs_on old (record mid { world = with_caller mid.world session o.caller }) old.world next change tree r can.spelled logged.made.applied (live_of tree) (frozen_of tree r) (logged.acknowledged refl) logged.at made in
+          subst (λ (x : Held). AnswersFrom (Running old.world) (event.Call session c) o.told old x false) (sym is) (record {
+            met = None;
+            may = tt;
+            next = Running next;
+            step = record { next = next; becomes = becomes tree logged.made.applied; runs = refl };
+            means = (refl, on);
+            lasts = runs_lasts old (record mid { world = with_caller mid.world session o.caller }) old.world next change tree r can.spelled logged.made.applied (live_of tree) (frozen_of tree r) (logged.moments refl) on;
+          })
+
+-- a call that changes nothing of the tree
+pub told_answers : (old new : Held) (session : ℕ) (c : Call) (o : Outcome) → IsWorld version_1 old.world → decision version_1 old.world session c ≡ Ok o → Chooses old.world.live o.change None
+    → new ≡ record old { world = with_caller old.world session o.caller } → Answers (event.Call session c) o.told old false new false
+told_answers old new session c o whole decided chosen is = in_world old new false session c o.told told
+  where
+    told : Runs old old.world → AnswersFrom (Running old.world) (event.Call session c) o.told old new false
+    told r =
+        let next = with_caller old.world session o.caller in
+        let after : Held = record old { world = next } in
+        let live = caller_live old.world session o.caller in
+        let on : Runs after next = record {
+          is = refl;
+          frozen = caller_frozen old.world session o.caller ∙ r.frozen;
+          place = r.place;
+          changes = r.changes;
+          keeps = subst (λ (t : Tree). Keeps version_1 old.disk old.at r.changes new_tree t) (sym live) r.keeps;
+        } in
+        let shows = runs_show after next on in
+        subst (λ (x : Held). AnswersFrom (Running old.world) (event.Call session c) o.told old x false) (sym is) (record {
+          met = None;
+          may = tt;
+          next = Running next;
+          step = record { next = next; becomes = (chosen_served old.world session c o None old.world.live whole decided chosen refl).0; runs = refl };
+          means = (refl, on);
+          lasts = record { moments = LeavesOnly-start old.disk (λ d. ShowsState ground (Running old.world) d ⊎ ShowsState ground (Running next) d) (λ d crash. inr (shows d crash)); answered = shows };
+        })
+
+-- where a change isn't made and the mount goes on, its world is the one from before
+pub still_whole : (told : Bool) (f : ChangeFault) (change : Change) (old new : Held) → FailsChange told f change old new → stops f ≡ false → IsWorld version_1 old.world → IsWorld version_1 new.world
+still_whole told fault.Space change old new fails runs whole = subst (λ (h : Held). IsWorld version_1 h.world) (sym fails.1) whole
+still_whole told fault.Memory change old new fails runs whole = subst (λ (h : Held). IsWorld version_1 h.world) (sym fails) whole
+still_whole told fault.Device change old new fails runs whole = absurd (true≢false runs)

@@ -1,0 +1,4 @@
+pub mod MeaningLemmas
+pub mod DecisionLemmas
+pub mod CallLemmas
+pub mod MountLemmas

@@ -1,0 +1,20 @@
+use Rattle.sn_fs.proofs.changing.make_change.Goals as goal
+
+pub returns-in-Ok-append-clause-made : goal.returns-in-Ok-append-clause-made
+returns-in-Ok-append-clause-made g c =
+    let made = c.in-Ok.ensures.made in
+    record {
+      made = record { tree = made.0; applied = made.1; world = made.2 };
+      at = c.in-Ok-append.ensures.moves;
+      moments = λ told. (c.in-Ok-append.ensures.disk told).any_moment;
+      acknowledged = λ told. (c.in-Ok-append.ensures.disk told).acknowledged;
+    }
+
+pub returns-in-Err-append-clause-made : goal.returns-in-Err-append-clause-made
+returns-in-Err-append-clause-made g c =
+    let made = c.in-Ok.ensures.made in
+    record {
+      made = record { tree = made.0; applied = made.1; world = made.2 };
+      moments = λ told. (c.in-Err-append.ensures.disk told).any_moment;
+      failed = c.in-Err-append.ensures.counts.cause;
+    }

@@ -1,0 +1,57 @@
+-- What an event leads a mounted file system to, on its disk too.
+use Rattle.std.specs.Prelude.{◌≡◌, ◌⊎◌, ℕ, ◌<◌, Bool, Option, None, Some, Ok, IsTrue}
+use Rattle.sn_device.specs.Status.{has_ended}
+use Rattle.sn_device.specs.declared.status.Status.{Status}
+use Rattle.sn_limits.specs.Versions.{version_1}
+use Rattle.sn_model.specs.declared.call.Call.{Call}
+use Rattle.sn_model.specs.declared.call.Event.{Event}
+use Rattle.sn_model.specs.declared.call.Event.TheVariants as event
+use Rattle.sn_model.specs.declared.change.Change.{Change}
+use Rattle.sn_model.specs.declared.outcome.Outcome.{Outcome}
+use Rattle.sn_model.specs.declared.reply.Reply.{Reply}
+use Rattle.sn_model.specs.Machine.{State, Mishap, Memory, Read, Write, Space, Age, EventStep}
+use Rattle.sn_model.specs.Steps.{decision}
+use Rattle.sn_model.specs.World.{World}
+use Rattle.sn_log.specs.Places.{LogPosition, HasRoom}
+use Rattle.sn_core.specs.Served.{Chooses}
+use Rattle.sn_recovery.specs.Moments.{LastsOver}
+use Rattle.sn_fs.specs.Held.{Held, Means, ground}
+
+-- the device has failed, or has come to its end
+abbrev pub HasFailed : Status → Status → Type 0
+HasFailed old new = (old.failures < new.failures) ⊎ IsTrue (has_ended new)
+
+-- the record of a call's change has no room behind the position
+pub record HasNoRoom (at : LogPosition) (world : World) (session : ℕ) (c : Call) : Type 0 where
+  pub outcome : Outcome
+  pub decided : decision version_1 world session c ≡ Ok outcome
+  pub change : Change
+  pub chosen : Chooses world.live outcome.change (Some change)
+  pub none : HasRoom at change → ⊥
+
+abbrev pub LacksRoom : Held → Event → Type 0
+LacksRoom h (event.Call session c) = HasNoRoom h.at h.world session c
+LacksRoom h event.Step = ⊥
+LacksRoom h event.Restart = ⊥
+
+-- what an event may meet with: EIO only where the device failed, and ENOSPC only where the record has no room
+abbrev pub MayMeet : Held → Event → Option Mishap → Status → Type 0
+MayMeet h e None new = Unit {0}
+MayMeet h e (Some Memory) new = Unit {0}
+MayMeet h e (Some Read) new = HasFailed h.status new
+MayMeet h e (Some Write) new = HasFailed h.status new
+MayMeet h e (Some Space) new = LacksRoom h e
+MayMeet h e (Some Age) new = ⊥
+
+-- The event is a step of the machine, from this state to the next: a crash at any moment of its course leaves one of the two, and once it is answered the next alone.
+pub record AnswersFrom (s : State) (e : Event) (reply : Reply) (old new : Held) (has_stopped : Bool) : Type 0 where
+  pub met : Option Mishap
+  pub may : MayMeet old e met new.status
+  pub next : State
+  pub step : EventStep version_1 s e met reply next
+  pub means : Means new has_stopped next
+  pub lasts : LastsOver ground s next old.disk new.disk
+
+-- so it is from each state that is meant
+abbrev pub Answers : Event → Reply → Held → Bool → Held → Bool → Type 0
+Answers e reply old had_stopped new has_stopped = (s : State) → Means old had_stopped s → AnswersFrom s e reply old new has_stopped

@@ -1,0 +1,68 @@
+-- A change that is made in memory and then appended to the log.
+use Rattle.std.specs.Prelude.{◌≡◌, ◌⊎◌, Bool, true, false, List, [], ◌∷◌, ◌++◌, Some, Result, Ok, Err, IsTrue}
+use Rattle.sn_device.specs.Disk.{Disk, Always}
+use Rattle.sn_device.specs.Crash.{LeavesOnly}
+use Rattle.sn_limits.specs.Versions.{version_1}
+use Rattle.sn_model.specs.declared.change.Change.{Change}
+use Rattle.sn_model.specs.Changes.{apply}
+use Rattle.sn_model.specs.Steps.{with_live}
+use Rattle.sn_model.specs.Tree.{Tree}
+use Rattle.sn_model.specs.World.{World}
+use Rattle.sn_model.specs.declared.reply.Errno.{Errno}
+use Rattle.sn_model.specs.declared.reply.Errno.TheVariants.{Enospc, Enomem, Eio}
+use Rattle.sn_log.specs.Places.{LogPosition, HasRoom, IsReadyAt, behind}
+use Rattle.sn_fs.specs.Answers.{HasFailed}
+use Rattle.sn_fs.specs.Held.{Held}
+use Rattle.sn_fs.specs.declared.fault.ChangeFault.{ChangeFault}
+use Rattle.sn_fs.specs.declared.fault.ChangeFault.TheVariants.{Space, Memory, Device}
+
+-- the world with the change
+pub record IsMade (change : Change) (old new : World) : Type 0 where
+  pub tree : Tree
+  pub applied : apply version_1 change old.live ≡ Some tree
+  pub world : new ≡ with_live old tree
+
+-- A crash in the course of the append leaves the records of before, or one more.
+abbrev pub LeavesEither : LogPosition → Change → Disk → Disk → Type 0
+LeavesEither at change old new = (changes : List Change) → Always old (IsReadyAt at changes)
+    → LeavesOnly old new (λ c. IsReadyAt at changes c ⊎ IsReadyAt (behind at change) (changes ++ change ∷ []) c)
+
+-- After it each crash leaves one more.
+abbrev pub LeavesMore : LogPosition → Change → Disk → Disk → Type 0
+LeavesMore at change old new = (changes : List Change) → Always old (IsReadyAt at changes)
+    → Always new (IsReadyAt (behind at change) (changes ++ change ∷ []))
+
+-- it is made, and its record stands in the log
+pub record IsLogged (told : Bool) (change : Change) (old new : Held) : Type 0 where
+  pub made : IsMade change old.world new.world
+  pub at : new.at ≡ behind old.at change
+  pub moments : IsTrue told → LeavesEither old.at change old.disk new.disk
+  pub acknowledged : IsTrue told → LeavesMore old.at change old.disk new.disk
+
+-- the device failed while its record was appended
+pub record IsCut (told : Bool) (change : Change) (old new : Held) : Type 0 where
+  pub made : IsMade change old.world new.world
+  pub moments : IsTrue told → LeavesEither old.at change old.disk new.disk
+  pub failed : HasFailed old.status new.status
+
+abbrev pub FailsChange : Bool → ChangeFault → Change → Held → Held → Type 0
+FailsChange told Space change old new = (HasRoom old.at change → ⊥) × (new ≡ old)
+FailsChange told Memory change old new = new ≡ old
+FailsChange told Device change old new = IsCut told change old new
+
+-- At `Ok` the change is made and logged. Where the device fails, it may be logged or not. Else nothing has changed.
+abbrev pub Changes : Bool → Result (Unit {0}) ChangeFault → Change → Held → Held → Type 0
+Changes told (Ok _) change old new = IsLogged told change old new
+Changes told (Err e) change old new = FailsChange told e change old new
+
+-- what a call is refused with
+abbrev pub errno_of : ChangeFault → Errno
+errno_of Space = Enospc
+errno_of Memory = Enomem
+errno_of Device = Eio
+
+-- the failure of the device stops the mount
+abbrev pub stops : ChangeFault → Bool
+stops Space = false
+stops Memory = false
+stops Device = true

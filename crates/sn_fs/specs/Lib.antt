@@ -1,0 +1,7 @@
+pub mod Answers
+pub mod Changing
+pub mod Filesystem
+pub mod Held
+pub mod Mounted
+pub mod Mounting
+pub mod Recovering

@@ -1,0 +1,23 @@
+-- What a mounted file system is made of.
+use Rattle.std.specs.Prelude.{◌≡◌, ◌≤◌, Bool, false}
+use Rattle.sn_device.specs.declared.device.Device.{Ghosts}
+use Rattle.sn_device.specs.declared.status.Status.{Status}
+use Rattle.sn_limits.specs.Versions.{version_1}
+use Rattle.sn_model.specs.Worlds.{IsWorld}
+use Rattle.sn_block.specs.Lending.{device_of}
+use Rattle.sn_block.specs.declared.blocks.Blocks.{Blocks}
+use Rattle.sn_log.specs.Places.{LogPosition}
+use Rattle.sn_core.specs.declared.world.PlainWorld.{PlainWorld}
+use Rattle.sn_core.specs.Plain.{IsPlainWorld, world_of}
+use Rattle.sn_fs.specs.Held.{Held, IsOnGround}
+
+-- Its log is on a device that has all its sectors, and unless a failure has stopped it, its world is one.
+pub record IsMounted (status : Status) (at : LogPosition) (world : PlainWorld) (has_stopped : Bool) : Type 0 where
+  pub sectors : 2048 ≤ status.sectors
+  pub place : IsOnGround at
+  pub plain : IsPlainWorld world
+  pub whole : has_stopped ≡ false → IsWorld version_1 (world_of world)
+
+-- what these parts hold
+abbrev pub holding : {D : Type 0} (g : Ghosts D) → Blocks D g → LogPosition → PlainWorld → Held
+holding g blocks at world = record { world = world_of world; at = at; disk = g.disk (device_of blocks); status = g.status (device_of blocks) }

@@ -1,0 +1,58 @@
+//! Calls.
+ghost use Rattle.std.specs.Prelude.{◌≡◌, IsTrue};
+ghost use Rattle.sn_model.specs.declared.call.Event.TheVariants as event;
+ghost use Rattle.sn_fs.specs.Answers.{Answers};
+ghost use Rattle.sn_fs.specs.Filesystem.{IsFs, has_stopped, held};
+
+use crate::Fs;
+use crate::changing::make_change;
+use sn_core::CallError;
+use sn_device::Device;
+use sn_model::{Call, Errno, Outcome, Refusal, Reply};
+
+impl<D: Device> Fs<D> {
+    /// Answers a call. Once it is answered, a crash loses nothing of it. ENOSPC comes where the record
+    /// of its change has no room in the log, and EIO where the device fails while it is written, which
+    /// stops the mount: then every call is ESTOPPED.
+    pub fn call(&mut self, session: u32, call: &Call) -> Reply
+        requires { IsFs self.old }
+        ensures answered { IsTrue D.tells_bytes → Answers (event.Call session call.now) result
+            (held self.old) (has_stopped self.old) (held self.new) (has_stopped self.new) }
+        ensures sound { IsFs self.new }
+    {
+        if self.has_stopped {
+            return Reply::Refused(Refusal::plain(Errno::Estopped));
+        }
+        let outcome = match self.world.decide(self.alloc, session, call) {
+            Ok(outcome) => outcome,
+            Err(CallError::Refused(refusal)) => return Reply::Refused(refusal),
+            Err(CallError::Memory) => return Reply::Refused(Refusal::plain(Errno::Enomem)),
+        };
+        let Outcome {
+            change,
+            caller,
+            told,
+            ..
+        } = outcome;
+        match self.world.choose(change) {
+            Some(change) => {
+                match make_change(
+                    self.alloc,
+                    &mut self.blocks,
+                    &mut self.log,
+                    &mut self.world,
+                    &change,
+                ) {
+                    Ok(()) => {}
+                    Err(fault) => {
+                        self.has_stopped = fault.stops();
+                        return Reply::Refused(Refusal::plain(fault.errno()));
+                    }
+                }
+            }
+            None => {}
+        }
+        self.world.set_caller(session, caller);
+        told
+    }
+}

@@ -1,0 +1,50 @@
+//! A change in memory and in the log.
+ghost use Rattle.std.specs.Prelude.{◌≡◌, ◌≤◌};
+ghost use Rattle.sn_block.specs.Lending.{device_of};
+ghost use Rattle.sn_core.specs.Plain.{IsPlainWorld, world_of};
+ghost use Rattle.sn_limits.specs.Versions.{version_1};
+ghost use Rattle.sn_model.specs.NameTree.{IsTree};
+ghost use Rattle.sn_record.specs.Payload.{IsSpelled};
+ghost use Rattle.sn_fs.specs.Changing.{Changes};
+ghost use Rattle.sn_fs.specs.Held.{IsOnGround};
+ghost use Rattle.sn_fs.specs.Mounted.{holding};
+
+use crate::fault::ChangeFault;
+use sn_block::Blocks;
+use sn_core::PlainWorld;
+use sn_device::Device;
+use sn_log::Log;
+use sn_model::Change;
+use std::alloc::Global;
+
+/// Makes a change in memory, and appends its record. All memory that it needs is taken before the
+/// first write.
+pub(crate) fn make_change<D: Device>(
+    alloc: Global,
+    blocks: &mut Blocks<D>,
+    log: &mut Log,
+    world: &mut PlainWorld,
+    change: &Change<'_>,
+) -> Result<(), ChangeFault>
+    requires plain { IsPlainWorld world.old }
+    requires whole { IsTree version_1 (world_of world.old).live }
+    requires spelled { IsSpelled change.now }
+    requires place { IsOnGround log.old }
+    requires sectors { 2048 ≤ (D.status (device_of blocks.old)).sectors }
+    ensures made { Changes D.tells_bytes result change.now (holding D.Device blocks.old log.old world.old) (holding D.Device blocks.new log.new world.new) }
+    ensures sound { IsPlainWorld world.new }
+    ensures place { IsOnGround log.new }
+    ensures sectors { (D.status (device_of blocks.new)).sectors ≡ (D.status (device_of blocks.old)).sectors }
+{
+    if !log.has_room(change) {
+        return Err(ChangeFault::Space);
+    }
+    match world.apply(alloc, change) {
+        Ok(()) => {}
+        Err(_) => return Err(ChangeFault::Memory),
+    }
+    match log.append(blocks, change) {
+        Ok(()) => Ok(()),
+        Err(_) => Err(ChangeFault::Device),
+    }
+}

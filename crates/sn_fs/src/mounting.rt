@@ -1,0 +1,71 @@
+//! Mount and unmount.
+ghost use Rattle.std.specs.Prelude.{◌≡◌, IsTrue, IfOk, IfErr};
+ghost use Rattle.sn_fs.specs.Filesystem.{IsFs, has_stopped, held};
+ghost use Rattle.sn_fs.specs.Mounting.{IsSoOf};
+ghost use Rattle.sn_fs.specs.Recovering.{IsLeft, Mounts};
+
+use crate::Fs;
+use crate::found::{Recovered, Unmounted};
+use crate::recovering::recover;
+use sn_block::Blocks;
+use sn_device::Device;
+use sn_model::MountFault;
+use std::alloc::Global;
+
+/// How many sectors the disk has.
+const SECTORS: u64 = 2_048;
+
+/// Mounts a device: syncs it, replays its log into an empty tree, drops the files that no name stands
+/// for, and clears the place where the log goes on. A device of zeros is an empty file system.
+/// `NotFormatted` comes where the device has fewer than 2,048 sectors, `Damaged` where a record of the
+/// log is misspelt or can't be applied, with the block of its gate.
+pub fn mount<D: Device>(alloc: Global, device: D) -> Result<Fs<D>, Unmounted<D>>
+    ensures mounted { IsTrue D.tells_bytes → IfOk result (λ fs. Mounts (D.disk device) (held fs) (has_stopped fs)) }
+    ensures sound { IfOk result IsFs }
+    ensures unmounted { IsTrue D.tells_bytes → IfErr result (λ u. IsLeft u.fault (D.disk device) (D.disk u.device) (D.status device).sectors) }
+    ensures failed { IfErr result (λ u. IsSoOf u.fault (D.status device) (D.status u.device)) }
+{
+    if device.sectors() < SECTORS {
+        return Err(Unmounted {
+            fault: MountFault::NotFormatted,
+            device,
+        });
+    }
+    let mut blocks = match Blocks::new(alloc, device) {
+        Ok(blocks) => blocks,
+        Err(refused) => {
+            return Err(Unmounted {
+                fault: MountFault::Memory,
+                device: refused.value,
+            });
+        }
+    };
+    match recover(alloc, &mut blocks) {
+        Ok(Recovered { log, world }) => Ok(Fs {
+            alloc,
+            blocks,
+            log,
+            world,
+            has_stopped: false,
+        }),
+        Err(fault) => Err(Unmounted {
+            fault,
+            device: blocks.into_device(),
+        }),
+    }
+}
+
+impl<D: Device> Fs<D> {
+    /// Unmounts: hands the device back, and calls nothing of it.
+    pub fn into_device(self) -> D
+        ensures disk { D.disk result ≡ (held self).disk }
+        ensures status { D.status result ≡ (held self).status }
+    {
+        let Fs {
+            blocks, log, world, ..
+        } = self;
+        drop(log);
+        drop(world);
+        blocks.into_device()
+    }
+}
