@@ -35,7 +35,7 @@ use Rattle.sn_model.proofs.PartLemmas.{made_is}
 use Rattle.sn_model.proofs.HierarchyLemmas.{least_is_number}
 use Rattle.sn_model.proofs.DecidedLemmas.{decided_applies}
 use Rattle.sn_model.proofs.WorldLemmas.{step_world}
-use Rattle.sn_model.specs.Machine.{State, Running, Memory, OfMemory, Run}
+use Rattle.sn_model.specs.Machine.{Running, Memory, OfMemory, Run}
 use Rattle.sn_model.specs.Settling.{settle}
 use Rattle.sn_core.proofs.RestartLemmas.{settled_least}
 use Rattle.sn_core.specs.PlainRuns.{PlainRun, PlainStep, TakesLeast}
