@@ -48,7 +48,7 @@ use Rattle.sn_model.proofs.DecisionLemmas as found
 use Rattle.sn_model.proofs.DecisionLemmas.{same_ok}
 use Rattle.sn_model.specs.Calls as calls
 use Rattle.sn_model.proofs.WorldLemmas.{step_world}
-use Rattle.sn_model.specs.Machine.{State, Running, Memory, OfMemory, Run}
+use Rattle.sn_model.specs.Machine.{Running, Memory, OfMemory, Run}
 use Rattle.sn_model.specs.Settling.{settle}
 use Rattle.sn_core.proofs.RestartLemmas.{settled_least}
 use Rattle.sn_core.specs.PlainRuns.{PlainRun, PlainStep, TakesLeast}

@@ -1,5 +1,5 @@
 -- Each EACCES of a call is of a place where the access rule denies.
-use Rattle.std.proofs.Common.{◌≡◌, ◌⊎◌, inl, inr, ℕ, zero, suc, ◌+◌, ◌*◌, ◌==◌, Bool, true, false, cond, List, [], ◌∷◌, take, Option, Some, None, Result, Ok, Err, nat_lt, nat_le, is_none, refl, sym, ap, subst, ◌∙◌, arith, length}
+use Rattle.std.proofs.Common.{◌≡◌, ◌⊎◌, inl, inr, ℕ, suc, ◌+◌, ◌*◌, Bool, true, false, cond, List, [], ◌∷◌, take, Option, Some, None, Result, Ok, Err, nat_lt, nat_le, is_none, refl, sym, ap, ◌∙◌, arith}
 use Rattle.std.specs.Option.{option_and_then}
 use Rattle.std.specs.Prelude.{slice_get}
 use Rattle.sn_acl.specs.declared.entries.Entry.{Entry}
@@ -12,7 +12,6 @@ use Rattle.sn_walk.specs.declared.object.Object.{Object}
 use Rattle.sn_walk.specs.declared.path.PathFault.{PathFault}
 use Rattle.sn_walk.specs.declared.path.PathFault.TheVariants.{Misspelt, TooLong}
 use Rattle.sn_walk.specs.declared.view.Attributes.{Attributes}
-use Rattle.sn_limits.specs.declared.kind.Kind.{Kind}
 use Rattle.sn_walk.specs.declared.walking.Found.{Found}
 use Rattle.sn_walk.specs.declared.walking.Obstacle.{Obstacle}
 use Rattle.sn_walk.specs.declared.walking.Obstacle.TheVariants.{NotADirectory, Denied, Missing}

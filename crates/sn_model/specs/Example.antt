@@ -1,5 +1,5 @@
 -- The machine on one small world: a snapshot, a file without a name that a session holds, and two sessions.
-use Rattle.std.specs.Prelude.{◌≡◌, ℕ, true, false, List, [], ◌∷◌, Option, None, Some, Err, codes, replicate, slice_set, slice_get}
+use Rattle.std.specs.Prelude.{◌≡◌, ℕ, true, false, List, [], None, Some, Err, codes, replicate, slice_set, slice_get}
 use Rattle.std.specs.FinMap as map
 use Rattle.sn_acl.specs.Modes.{three_entries}
 use Rattle.sn_limits.specs.declared.kind.Kind.TheVariants.{File, Directory}
@@ -8,10 +8,9 @@ use Rattle.sn_model.specs.declared.call.Call.TheVariants.{Login, Stat}
 use Rattle.sn_model.specs.declared.call.Event.TheVariants as event
 use Rattle.sn_model.specs.declared.reply.Errno.TheVariants.{Ebadf, Ebusy, Eio, Estopped}
 use Rattle.sn_model.specs.declared.reply.Reply.TheVariants as answer
-use Rattle.sn_model.specs.declared.session.Session.{Session}
 use Rattle.sn_model.specs.Tree.{Node, Tree, link_to, with_node}
 use Rattle.sn_walk.specs.declared.object.Home.TheVariants.{Live}
-use Rattle.sn_model.specs.World.{World, Descriptor, new_tree}
+use Rattle.sn_model.specs.World.{World, new_tree}
 use Rattle.sn_model.specs.Changes.{put_node}
 use Rattle.sn_model.specs.Settling.{settle}
 use Rattle.sn_model.specs.Tests.{plain}

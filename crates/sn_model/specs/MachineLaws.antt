@@ -1,5 +1,5 @@
 -- What the machine comes to over events, runs and lives, said as a user would say it.
-use Rattle.std.specs.Prelude.{◌≡◌, ◌≢◌, ◌⊎◌, ℕ, List, Option, Some}
+use Rattle.std.specs.Prelude.{◌≡◌, ◌≢◌, List, Option}
 use Rattle.std.specs.List.{AllByRecursion}
 use Rattle.sn_limits.specs.Versions.{version_1}
 use Rattle.sn_limits.specs.declared.limits.Limits.{Limits}
@@ -10,9 +10,8 @@ use Rattle.sn_model.specs.declared.reply.Refusal.{Refusal}
 use Rattle.sn_model.specs.declared.reply.Reply.{Reply}
 use Rattle.sn_model.specs.declared.reply.Reply.TheVariants as answer
 use Rattle.sn_model.specs.World.{World, new_world}
-use Rattle.sn_model.specs.Settling.{settle}
 use Rattle.sn_model.specs.Machine.{State, Running, Stopped, Mishap, Anything, EventStep, Run, Life, refused}
-use Rattle.sn_model.specs.Worlds.{IsEvent, IsFound, IsSettled, IsState, IsWorld}
+use Rattle.sn_model.specs.Worlds.{IsEvent, IsFound, IsSettled, IsState}
 
 -- A stopped machine answers ESTOPPED to each call and step, and stays as it is.
 abbrev pub StoppedStays : Type 0

@@ -1,4 +1,4 @@
-use Rattle.std.proofs.Common.{Some, None, refl, inl, inr, subst}
+use Rattle.std.proofs.Common.{None, refl, inr, subst}
 use Rattle.sn_model.specs.World.{World}
 use Rattle.sn_model.specs.Machine.{Running}
 use Rattle.sn_core.specs.Plain.{world_of}
