@@ -1,0 +1,65 @@
+#!/bin/bash
+# Times changes through overlays, and look-ups through two of them, by runs of the test program of overlays
+# and of snapfs. Run by hand.
+#
+# Prints the time of 1,000 makes of a directory, each laid over an overlay of those before, beside 1,000 mkdir in
+# the tree in memory, where the program also walks and checks access; and the time of 10,000 look-ups of a name
+# through two overlays of 300 names each, beside as many through two of none. Each time is the least of ten runs,
+# without that of a run with an empty table or script.
+set -eu
+top=$(cd "$(dirname "$0")/.." && pwd)
+work=$(mktemp -d)
+trap 'rm -rf "$work"' EXIT
+(cd "$top/crates/sn_tests_overlay" && rt run -- data > "$work/log" 2>&1) || { tail -n 20 "$work/log"; exit 1; }
+"$top/snapfs" run none /dev/null
+
+python3 - "$top" "$work" <<'P'
+import subprocess
+import sys
+import time
+from pathlib import Path
+
+top, work = Path(sys.argv[1]), Path(sys.argv[2])
+overlays = top / "crates/sn_tests_overlay/out/sn_tests_overlay"
+snapfs = top / "crates/sn_bin/out/sn_bin"
+
+
+def least(*command):
+    times = []
+    for _ in range(10):
+        start = time.perf_counter()
+        subprocess.run(command, stdout=subprocess.DEVNULL, stderr=subprocess.DEVNULL, check=True)
+        times.append(time.perf_counter() - start)
+    return min(times)
+
+
+def table(steps, answers):
+    """The time of a table of one case over that of an empty one."""
+    folder = work / "data"
+    folder.mkdir(exist_ok=True)
+    (folder / "changes.txt").write_text("")
+    empty = least(overlays, folder)
+    (folder / "changes.txt").write_text(" ".join(steps) + " => " + " ".join(answers) + "\n")
+    return least(overlays, folder) - empty
+
+
+def script(lines):
+    file = work / "script"
+    file.write_text("0 login 0 0 -\n")
+    empty = least(snapfs, "run", "none", file)
+    file.write_text("0 login 0 0 -\n" + "".join(line + "\n" for line in lines))
+    return least(snapfs, "run", "none", file) - empty
+
+
+makes = [f"make:2:n{i}:{i}:directory" for i in range(3, 1003)]
+through = table(makes + ["name:2:n1002"], ["1002"])
+plain = script([f"0 mkdir /n{i} 0755" for i in range(3, 1003)])
+print(f"1,000 makes through an overlay: {through * 1e3:.1f} ms, {through / plain:.2f} of the tree in memory ({plain * 1e3:.1f} ms)")
+
+asks = [f"name:2:n{3 + i % 600}" for i in range(10000)]
+halves = makes[:300] + ["settle"] + makes[300:600]
+known = table(halves + asks[:1], ["3"])
+found = table(halves + asks, [str(3 + i % 600) for i in range(10000)]) - known
+none = table(asks, ["none"] * 10000)
+print(f"10,000 look-ups through two overlays of 300: {found * 1e3:.1f} ms, {found / none:.2f} of two that are empty ({none * 1e3:.1f} ms)")
+P
