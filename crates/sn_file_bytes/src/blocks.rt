@@ -1,4 +1,4 @@
-ghost use Rattle.std.specs.Prelude.{◌≡◌, ℕ, ◌+◌, ◌/◌, ◌%◌, ◌≤◌, ◌<◌, ◌^◌, ◌&&◌, ◌==◌, ◌++◌, ◌-◌, ◌*◌, true, length, nat_lt, nat_le, OnOk, if◌then◌else◌};
+ghost use Rattle.std.specs.Prelude.{◌≡◌, ◌≢◌, ℕ, ◌+◌, ◌/◌, ◌%◌, ◌≤◌, ◌<◌, ◌^◌, ◌&&◌, ◌==◌, ◌++◌, ◌-◌, ◌*◌, true, length, nat_lt, nat_le, OnOk, if◌then◌else◌};
 
 use crate::block::{self, BLOCK_SIZE, Block, ZEROS};
 use std::alloc::{AllocError, Global};
@@ -26,6 +26,7 @@ impl Blocks {
     fn fill_one(&mut self, alloc: Global, index: u64) -> Result<(), AllocError>
         ensures same { (k : ℕ) → byte_of self.new k ≡ byte_of self.old k }
         ensures there { OnOk result (has_block self.new index ≡ true) }
+        ensures others { (i : ℕ) → i ≢ index → has_block self.new i ≡ has_block self.old i }
         ensures kept { (i : ℕ) → has_block self.old i ≡ true → has_block self.new i ≡ true }
     {
         if self.map.contains_key(&index) {
@@ -40,6 +41,7 @@ impl Blocks {
     pub fn fill(&mut self, alloc: Global, first: u64, end: u64) -> Result<(), AllocError>
         ensures same { (k : ℕ) → byte_of self.new k ≡ byte_of self.old k }
         ensures there { OnOk result ((i : ℕ) → first ≤ i → i < end → has_block self.new i ≡ true) }
+        ensures below { (i : ℕ) → i < first → has_block self.new i ≡ has_block self.old i }
     {
         for index in first..end {
             self.fill_one(alloc, index)?;

@@ -7,4 +7,5 @@ abbrev pub invariant-loop-index : goal.invariant-loop-index
 invariant-loop-index l = record {
   same : (k : ℕ) → byte_of l.self k ≡ byte_of l.fn.self k;
   there : (i : ℕ) → l.first ≤ i → i < l.index → has_block l.self i ≡ true;
+  below : (i : ℕ) → i < l.first → has_block l.self i ≡ has_block l.fn.self i;
 }
