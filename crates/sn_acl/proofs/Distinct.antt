@@ -5,7 +5,7 @@ use Rattle.std.proofs.Math.Dec.{eqb}
 use Rattle.sn_acl.specs.declared.entries.Tag.{Tag}
 use Rattle.sn_acl.specs.declared.entries.Entry.{Entry}
 use Rattle.std.proofs.lemmas.Bool.Decides.{nat_tests}
-use Rattle.sn_acl.specs.Entries.{precedes, place_of, qualifier_of}
+use Rattle.sn_acl.specs.Entries.{precedes, rank_of, qualifier_of}
 use Rattle.sn_acl.specs.AccessList.{is_canonical}
 use Rattle.sn_acl.specs.Laws.{HasDistinctTags}
 use Rattle.sn_acl.proofs.ModeLemmas.{both}
@@ -21,10 +21,10 @@ before-not_self : (a b : ℕ) → Before a b a b ≡ true → ⊥
 before-not_self a b h = grind (arith, nat_tests)
 
 precedes-trans : (a b c : Tag) → precedes a b ≡ true → precedes b c ≡ true → precedes a c ≡ true
-precedes-trans a b c = before-trans (place_of a) (qualifier_of a) (place_of b) (qualifier_of b) (place_of c) (qualifier_of c)
+precedes-trans a b c = before-trans (rank_of a) (qualifier_of a) (rank_of b) (qualifier_of b) (rank_of c) (qualifier_of c)
 
 precedes-not_self : (a : Tag) → precedes a a ≡ true → ⊥
-precedes-not_self a = before-not_self (place_of a) (qualifier_of a)
+precedes-not_self a = before-not_self (rank_of a) (qualifier_of a)
 
 -- the first entry precedes each other
 first-precedes : (e : Entry) (es : List Entry) (j : ℕ) (d : Entry) → is_canonical (e ∷ es) ≡ true → j < length es → precedes e.tag (get_or es j d).tag ≡ true

@@ -31,13 +31,13 @@ is_named (Group _) = true
 is_named _ = false
 
 -- where entries of this kind stand in canonical order: the owner, users, the group, groups, the mask, others
-abbrev pub place_of : Tag → ℕ
-place_of UserObj = 0
-place_of (User _) = 1
-place_of GroupObj = 2
-place_of (Group _) = 3
-place_of Mask = 4
-place_of Other = 5
+abbrev pub rank_of : Tag → ℕ
+rank_of UserObj = 0
+rank_of (User _) = 1
+rank_of GroupObj = 2
+rank_of (Group _) = 3
+rank_of Mask = 4
+rank_of Other = 5
 
 -- the user or group number, 0 where the tag has none
 abbrev pub qualifier_of : Tag → ℕ
@@ -47,4 +47,4 @@ qualifier_of _ = 0
 
 -- canonical order: by kind, then by qualifier
 abbrev pub precedes : Tag → Tag → Bool
-precedes a b = nat_lt (place_of a) (place_of b) || (place_of a == place_of b && nat_lt (qualifier_of a) (qualifier_of b))
+precedes a b = nat_lt (rank_of a) (rank_of b) || (rank_of a == rank_of b && nat_lt (qualifier_of a) (qualifier_of b))

@@ -1,5 +1,5 @@
 ghost use Rattle.std.specs.Prelude.{◌≡◌};
-ghost use Rattle.sn_acl.specs.Entries.{is_user_obj, is_user, is_group_obj, is_mask, is_other, is_named, place_of, qualifier_of, precedes};
+ghost use Rattle.sn_acl.specs.Entries.{is_user_obj, is_user, is_group_obj, is_mask, is_other, is_named, rank_of, qualifier_of, precedes};
 
 use crate::{Mode, Permissions};
 use std::fmt;
@@ -96,12 +96,12 @@ impl Tag {
     pub fn precedes(self, other: Tag) -> bool
         ensures { result ≡ precedes self other }
     {
-        self.place() < other.place()
-            || (self.place() == other.place() && self.qualifier() < other.qualifier())
+        self.rank() < other.rank()
+            || (self.rank() == other.rank() && self.qualifier() < other.qualifier())
     }
 
-    fn place(self) -> u8
-        ensures { result ≡ place_of self }
+    fn rank(self) -> u8
+        ensures { result ≡ rank_of self }
     {
         match self {
             Tag::UserObj => 0,

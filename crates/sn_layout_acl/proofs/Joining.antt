@@ -9,7 +9,7 @@ use Rattle.sn_acl.specs.declared.entries.Tag.{Tag}
 use Rattle.sn_acl.specs.declared.entries.Tag.TheVariants.{UserObj, User, GroupObj, Group, Mask, Other}
 use Rattle.sn_acl.specs.declared.entries.Entry.{Entry}
 use Rattle.sn_acl.specs.declared.modes.Mode.{Mode}
-use Rattle.sn_acl.specs.Entries.{is_user_obj, is_group_obj, is_mask, is_other, is_named, place_of, qualifier_of, precedes}
+use Rattle.sn_acl.specs.Entries.{is_user_obj, is_group_obj, is_mask, is_other, is_named, rank_of, qualifier_of, precedes}
 use Rattle.sn_acl.specs.AccessList.{IsValid, count_of, is_canonical, is_entry}
 use Rattle.sn_acl.proofs.ModeLemmas.{both}
 use Rattle.sn_layout_acl.specs.Mode.{IsMode}
@@ -123,11 +123,11 @@ Before p q p' q' = ltb p p' || (eqb p p' && ltb q q')
 before_le : (p q p' q' : ℕ) → Before p q p' q' ≡ true → p ≤ p'
 before_le p q p' q' h = grind (arith, nat_tests)
 
-rises : (a b : Tag) → precedes a b ≡ true → place_of a ≤ place_of b
-rises a b = before_le (place_of a) (qualifier_of a) (place_of b) (qualifier_of b)
+rises : (a b : Tag) → precedes a b ≡ true → rank_of a ≤ rank_of b
+rises a b = before_le (rank_of a) (qualifier_of a) (rank_of b) (qualifier_of b)
 
 abbrev AllFrom : ℕ → List Entry → Type 0
-AllFrom k es = AllByRecursion (λ e. k ≤ place_of e.tag) es
+AllFrom k es = AllByRecursion (λ e. k ≤ rank_of e.tag) es
 
 from_less : (j k : ℕ) (es : List Entry) → j ≤ k → AllFrom k es → AllFrom j es
 from_less j k [] le h = tt
@@ -138,14 +138,14 @@ rest_canonical e [] h = refl
 rest_canonical e (f ∷ es) h = (both (precedes e.tag f.tag) (is_canonical (f ∷ es)) h).1
 
 -- no entry stands before the first
-from_first : (e : Entry) (es : List Entry) → is_canonical (e ∷ es) ≡ true → AllFrom (place_of e.tag) es
+from_first : (e : Entry) (es : List Entry) → is_canonical (e ∷ es) ≡ true → AllFrom (rank_of e.tag) es
 from_first e [] h = tt
 from_first e (f ∷ es) h =
     let parts = both (precedes e.tag f.tag) (is_canonical (f ∷ es)) h in
     let le = rises e.tag f.tag parts.0 in
-    (le, from_less (place_of e.tag) (place_of f.tag) es le (from_first f es parts.1))
+    (le, from_less (rank_of e.tag) (rank_of f.tag) es le (from_first f es parts.1))
 
-no_owner : (t : Tag) → 1 ≤ place_of t → one_if (is_user_obj t) ≡ 0
+no_owner : (t : Tag) → 1 ≤ rank_of t → one_if (is_user_obj t) ≡ 0
 no_owner UserObj h = absurd (omega arith)
 no_owner (User n) h = refl
 no_owner GroupObj h = refl
@@ -153,7 +153,7 @@ no_owner (Group n) h = refl
 no_owner Mask h = refl
 no_owner Other h = refl
 
-no_group : (t : Tag) → 3 ≤ place_of t → one_if (is_group_obj t) ≡ 0
+no_group : (t : Tag) → 3 ≤ rank_of t → one_if (is_group_obj t) ≡ 0
 no_group UserObj h = absurd (omega arith)
 no_group (User n) h = absurd (omega arith)
 no_group GroupObj h = absurd (omega arith)
@@ -199,7 +199,7 @@ alone p (f ∷ es) h = absurd (none_after f.tag (both (precedes Other f.tag) (is
 tail_more : (e : Entry) (es : List Entry) → is_user e.tag ≡ false → HasTail es → HasTail (e ∷ es)
 tail_more e es here (others, other, t) = (e ∷ others, other, record { begins = here; whole = ap (λ (r : List Entry). e ∷ r) t.whole })
 
-tail_step : (tag : Tag) (p : ℕ) (es : List Entry) → is_canonical (entry tag p ∷ es) ≡ true → 2 ≤ place_of tag → count_of is_group_obj (entry tag p ∷ es) ≡ 0
+tail_step : (tag : Tag) (p : ℕ) (es : List Entry) → is_canonical (entry tag p ∷ es) ≡ true → 2 ≤ rank_of tag → count_of is_group_obj (entry tag p ∷ es) ≡ 0
     → count_of is_other (entry tag p ∷ es) ≡ 1 → (count_of is_other es ≡ 1 → HasTail es) → HasTail (entry tag p ∷ es)
 tail_step UserObj p es ordered le none one more = absurd (omega arith)
 tail_step (User n) p es ordered le none one more = absurd (omega arith)

@@ -6,11 +6,11 @@ use Rattle.sn_model.specs.Changes.{resized, overwritten}
 use Rattle.sn_overlay.specs.Pieces.{zeros, piece, zeroed, spliced}
 use Rattle.sn_overlay.proofs.PieceLemmas.{length-zeros, get_or-zeros, length-piece, get_or-piece}
 
-same_place : (index from at : ℕ) → from ≤ at → index * 4096 + at - (index * 4096 + from) ≡ at - from
-same_place index from at h = omega arith
+same_file_block : (index from at : ℕ) → from ≤ at → index * 4096 + at - (index * 4096 + from) ≡ at - from
+same_file_block index from at h = omega arith
 
-pub past_place : (from n at : ℕ) → from + n ≤ at → from + n + (at - from - n) ≡ at
-past_place from n at h = omega arith
+pub past_file_block : (from n at : ℕ) → from + n ≤ at → from + n + (at - from - n) ≡ at
+past_file_block from n at h = omega arith
 
 -- zeros behind some bytes read as the end does
 padded : (bytes : List ℕ) (n at : ℕ) → get_or (bytes ++ replicate n 0) at 0 ≡ get_or bytes at 0
@@ -46,7 +46,7 @@ get_or-overwritten_out bytes offset new at (inr h) =
     get_or-append_right (resized bytes offset) (new ++ drop (offset + length new) bytes) offset at 0 (length-resized bytes offset) (omega arith)
     ∙ get_or-append_right new (drop (offset + length new) bytes) (length new) (at - offset) 0 refl (omega arith)
     ∙ get_or-drop (offset + length new) bytes (at - offset - length new) 0
-    ∙ ap (λ i. get_or bytes i 0) (past_place offset (length new) at h)
+    ∙ ap (λ i. get_or bytes i 0) (past_file_block offset (length new) at h)
 
 -- pieces are alike where their bytes are
 pub same_piece : (width : ℕ) (a b : List ℕ) (index : ℕ) → ((at : ℕ) → at < width → get_or a (index * width + at) 0 ≡ get_or b (index * width + at) 0) → piece width a index ≡ piece width b index
@@ -107,13 +107,13 @@ module _ (bytes : List ℕ) (index from : ℕ) (new : List ℕ) (fits : from + l
   spliced_at at b (inl k) _ = get_or-overwritten_out bytes (index * 4096 + from) new (index * 4096 + at) (inl (omega arith))
       ∙ sym (get_or_append_left (take from old) (new ++ drop (from + length new) old) 0 at (omega (arith, front)) ∙ get_or-take from old at 0 k ∙ get_or-piece 4096 bytes index at b)
   spliced_at at b (inr k) (inl l) = get_or-overwritten_in bytes (index * 4096 + from) new (index * 4096 + at) (omega arith) (omega arith)
-      ∙ ap (λ i. get_or new i 0) (same_place index from at k)
+      ∙ ap (λ i. get_or new i 0) (same_file_block index from at k)
       ∙ sym (get_or-append_right (take from old) (new ++ drop (from + length new) old) from at 0 front k ∙ get_or_append_left new (drop (from + length new) old) 0 (at - from) (omega arith))
   spliced_at at b (inr k) (inr l) = get_or-overwritten_out bytes (index * 4096 + from) new (index * 4096 + at) (inr (omega arith))
       ∙ sym (get_or-append_right (take from old) (new ++ drop (from + length new) old) from at 0 front k
       ∙ get_or-append_right new (drop (from + length new) old) (length new) (at - from) 0 refl (omega arith)
       ∙ get_or-drop (from + length new) old (at - from - length new) 0
-      ∙ ap (λ i. get_or old i 0) (past_place from (length new) at l)
+      ∙ ap (λ i. get_or old i 0) (past_file_block from (length new) at l)
       ∙ get_or-piece 4096 bytes index at b)
 
   pub piece-spliced : piece 4096 (overwritten bytes (index * 4096 + from) new) index ≡ spliced from new (piece 4096 bytes index)

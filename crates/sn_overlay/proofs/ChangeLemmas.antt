@@ -26,7 +26,7 @@ use Rattle.sn_overlay.specs.declared.node.NodeChange.{NodeChange}
 use Rattle.sn_overlay.specs.declared.node.NodeChange.TheVariants.{Gone, Changed}
 use Rattle.sn_overlay.specs.declared.node.NodeState.{NodeState}
 use Rattle.sn_overlay.specs.Pieces.{zeros, piece, joined}
-use Rattle.sn_overlay.specs.Keys.{place_cmp, block_place}
+use Rattle.sn_overlay.specs.Keys.{file_block_cmp, file_block_at}
 use Rattle.sn_overlay.specs.Layers.{Layer, through, hides_names, hides_block, block_seen, bytes_of, node_seen, name_seen}
 use Rattle.sn_overlay.specs.Overlays.{no_changes, with_node, with_name}
 use Rattle.sn_overlay.specs.ChangeLayers.{state_of, new_state, with_change, changing, touching, one_name_more, one_name_less, without_name, removing, make_layer, link_layer, remove_layer, ownership_layer, with_ownership}
@@ -63,8 +63,8 @@ state_shown layer number s node none size cut old = ap (λ bytes. Some (node_wit
 
     piece_shown : (index : ℕ) → block_seen layer number s node.bytes index ≡ piece 4096 node.bytes index
     piece_shown index =
-        ap (λ blocks. unwrap_or (map.get blocks (block_place number index)) (cond (hides_block (Some (Changed s)) index) (zeros 4096) (piece 4096 node.bytes index))) none
-        ∙ ap (λ found. unwrap_or found (cond (hides_block (Some (Changed s)) index) (zeros 4096) (piece 4096 node.bytes index))) (map.get-empty place_cmp (block_place number index))
+        ap (λ blocks. unwrap_or (map.get blocks (file_block_at number index)) (cond (hides_block (Some (Changed s)) index) (zeros 4096) (piece 4096 node.bytes index))) none
+        ∙ ap (λ found. unwrap_or found (cond (hides_block (Some (Changed s)) index) (zeros 4096) (piece 4096 node.bytes index))) (map.get-empty file_block_cmp (file_block_at number index))
         ∙ ap (λ b. cond (b || leb s.cut (index * 4096)) (zeros 4096) (piece 4096 node.bytes index)) old
         ∙ ap (λ n. cond (leb n (index * 4096)) (zeros 4096) (piece 4096 node.bytes index)) cut
         ∙ hidden index (leb (length node.bytes) (index * 4096)) refl
@@ -73,7 +73,7 @@ state_shown layer number s node none size cut old = ap (λ bytes. Some (node_wit
 pub same_blocks : (a b : Layer) (q : ℕ) (change : Option NodeChange) (below : Option Node) → a.blocks ≡ b.blocks → node_seen a q change below ≡ node_seen b q change below
 same_blocks a b q None below e = refl
 same_blocks a b q (Some (Gone by_close)) below e = refl
-same_blocks a b q (Some (Changed s)) below e = ap (λ blocks. Some (node_with s.kind s.ownership (joined 4096 s.size (λ index. unwrap_or (map.get blocks (block_place q index)) (cond (hides_block (Some (Changed s)) index) (zeros 4096) (piece 4096 (bytes_of below) index)))))) e
+same_blocks a b q (Some (Changed s)) below e = ap (λ blocks. Some (node_with s.kind s.ownership (joined 4096 s.size (λ index. unwrap_or (map.get blocks (file_block_at q index)) (cond (hides_block (Some (Changed s)) index) (zeros 4096) (piece 4096 (bytes_of below) index)))))) e
 
 pub same_seen : (a b : Layer) (tree : Tree) (q : ℕ) → a.blocks ≡ b.blocks → node_seen a q (map.get a.nodes q) (map.get tree.nodes q) ≡ node_seen b q (map.get a.nodes q) (map.get tree.nodes q)
 same_seen a b tree q e = same_blocks a b q (map.get a.nodes q) (map.get tree.nodes q) e

@@ -17,12 +17,12 @@ use Rattle.sn_model.proofs.PartLemmas.{made_is, linked_is, removed_is, renamed_i
 use Rattle.sn_model.proofs.LinkLemmas.{exact_links, links_total}
 use Rattle.sn_overlay.specs.declared.node.NodeChange.TheVariants.{Changed}
 use Rattle.sn_overlay.specs.Pieces.{piece, zeroed}
-use Rattle.sn_overlay.specs.Keys.{place_cmp, block_place}
+use Rattle.sn_overlay.specs.Keys.{file_block_cmp, file_block_at}
 use Rattle.sn_overlay.specs.Layers.{Layer, IsLayer, Fits}
 use Rattle.sn_overlay.specs.Overlays.{no_changes, with_node}
 use Rattle.sn_overlay.specs.ChangeLayers.{state_of, new_state, changing, touching, one_name_more, without_name, removing, with_ownership, make_layer, link_layer, remove_layer, ownership_layer, size_layer, cut_layer, size_state, cuts_block, with_tail, replacing, exchange_layer, renaming, rename_layer, writing, written_state, write_layer, layer_of_change}
 use Rattle.sn_overlay.specs.Needs.{spanned}
-use Rattle.sn_overlay.proofs.OverlaidLemmas.{exact_places, places_total}
+use Rattle.sn_overlay.proofs.OverlaidLemmas.{exact_file_blocks, file_blocks_total}
 use Rattle.sn_overlay.proofs.PieceLemmas.{length-piece}
 use Rattle.sn_overlay.proofs.ByteLemmas.{length-resized, length-zeroed}
 use Rattle.sn_overlay.proofs.SizeLemmas.{cut_block}
@@ -67,7 +67,7 @@ make_whole limits tree after link number kind o e =
     let parent = touching tree link.directory no_changes in
     named (with_node parent number (Changed (new_state kind o))) tree link (Some number)
     (sound_with parent tree number (Changed (new_state kind o)) (sound_touching no_changes tree link.directory (sound_none tree)) (sound_new tree number kind o))
-    (has_with parent number (Changed (new_state kind o)) link.directory (has_changed no_changes tree link.directory (λ state. state) (parent_there limits tree link number p.place)))
+    (has_with parent number (Changed (new_state kind o)) link.directory (has_changed no_changes tree link.directory (λ state. state) (parent_there limits tree link number p.file_block)))
 
 keeps_more : KeepsBytes one_name_more
 keeps_more s = (refl, refl)
@@ -78,7 +78,7 @@ link_whole limits tree after link number e =
     let parent = touching tree link.directory no_changes in
     named (changing tree number one_name_more parent) tree link (Some number)
     (sound_changing parent tree number one_name_more keeps_more (sound_touching no_changes tree link.directory (sound_none tree)))
-    (has_changing parent tree number one_name_more link.directory (has_changed no_changes tree link.directory (λ state. state) (parent_there limits tree link number p.place)))
+    (has_changing parent tree number one_name_more link.directory (has_changed no_changes tree link.directory (λ state. state) (parent_there limits tree link number p.file_block)))
 
 remove_whole : (tree after : Tree) (link : Link) → IsHierarchy tree → removed tree link ≡ Some after → IsWhole (remove_layer tree link) tree
 remove_whole tree after link h e =
@@ -142,7 +142,7 @@ write_whole limits tree after number offset bytes e =
         whole_file (writing tree number offset bytes (Some node)) tree number s node new
         (nodes-with_blocks bare number (piece 4096 new) (offset / 4096) (spanned offset (length bytes)))
         (names-with_blocks bare number (piece 4096 new) (offset / 4096) (spanned offset (length bytes)))
-        (blocks_written bare number (piece 4096 new) (offset / 4096) (spanned offset (length bytes)) (every_none place_cmp (λ place b. (place.file ≡ number) × (length b ≡ 4096))) (length-piece 4096 new))
+        (blocks_written bare number (piece 4096 new) (offset / 4096) (spanned offset (length bytes)) (every_none file_block_cmp (λ file_block b. (file_block.file ≡ number) × (length b ≡ 4096))) (length-piece 4096 new))
         there (omega arith) (length-new tree number offset bytes node some) (written_block tree number offset bytes node some)
 
 cut_whole : (limits : Limits) (tree after : Tree) (number size : ℕ) → cut limits tree number size ≡ Some after → IsWhole (size_layer tree number size) tree
@@ -154,12 +154,12 @@ cut_whole limits tree after number size e =
   where
     of_node : (node : Node) → map.get tree.nodes number ≡ Some node → (b : Bool) → cuts_block node.bytes size ≡ b → IsWhole (with_tail b (with_node no_changes number (Changed (size_state size (state_of tree number node)))) number size node.bytes) tree
     of_node node there false f =
-        whole_file _ tree number (size_state size (state_of tree number node)) node (resized node.bytes size) refl refl (every_none place_cmp (λ place b. (place.file ≡ number) × (length b ≡ 4096)))
+        whole_file _ tree number (size_state size (state_of tree number node)) node (resized node.bytes size) refl refl (every_none file_block_cmp (λ file_block b. (file_block.file ≡ number) × (length b ≡ 4096)))
         there (omega arith) (length-resized node.bytes size) (cut_block tree number size node false f)
     of_node node there true f =
         whole_file _ tree number (size_state size (state_of tree number node)) node (resized node.bytes size) refl refl
-        (every_with places_total exact_places map.empty (λ place b. (place.file ≡ number) × (length b ≡ 4096)) (block_place number (size / 4096)) (zeroed (size % 4096) (piece 4096 node.bytes (size / 4096)))
-        (every_none place_cmp (λ place b. (place.file ≡ number) × (length b ≡ 4096))) (refl, length-zeroed (size % 4096) (piece 4096 node.bytes (size / 4096)) (length-piece 4096 node.bytes (size / 4096)) (omega (arith, mod_below size 4096 (omega arith)))))
+        (every_with file_blocks_total exact_file_blocks map.empty (λ file_block b. (file_block.file ≡ number) × (length b ≡ 4096)) (file_block_at number (size / 4096)) (zeroed (size % 4096) (piece 4096 node.bytes (size / 4096)))
+        (every_none file_block_cmp (λ file_block b. (file_block.file ≡ number) × (length b ≡ 4096))) (refl, length-zeroed (size % 4096) (piece 4096 node.bytes (size / 4096)) (length-piece 4096 node.bytes (size / 4096)) (omega (arith, mod_below size 4096 (omega arith)))))
         there (omega arith) (length-resized node.bytes size) (cut_block tree number size node true f)
 
 pub changes_are_whole : (limits : Limits) (change : Change) (tree after : Tree) → IsHierarchy tree → apply limits change tree ≡ Some after → IsLayer (layer_of_change tree change) × Fits (layer_of_change tree change) tree

@@ -14,17 +14,17 @@ use Rattle.sn_model.specs.declared.link.Link.{Link}
 use Rattle.sn_model.specs.Tree.{Node, Tree, link_cmp, link_to}
 use Rattle.sn_model.specs.Changes.{same_number, overwritten}
 use Rattle.sn_model.proofs.LinkLemmas.{links_total}
-use Rattle.sn_overlay.specs.declared.place.BlockPlace.{BlockPlace}
+use Rattle.sn_overlay.specs.declared.file_block.FileBlock.{FileBlock}
 use Rattle.sn_overlay.specs.declared.node.NodeChange.{NodeChange}
 use Rattle.sn_overlay.specs.declared.node.NodeChange.TheVariants.{Gone, Changed}
 use Rattle.sn_overlay.specs.declared.node.NodeState.{NodeState}
 use Rattle.sn_overlay.specs.Pieces.{piece}
-use Rattle.sn_overlay.specs.Keys.{place_cmp, block_place}
+use Rattle.sn_overlay.specs.Keys.{file_block_cmp, file_block_at}
 use Rattle.sn_overlay.specs.Layers.{Layer}
 use Rattle.sn_overlay.specs.Needs.{levels, need, need_of, counts_for, spanned}
 use Rattle.sn_overlay.specs.Overlays.{no_changes, with_node, with_name, with_block}
 use Rattle.sn_overlay.specs.ChangeLayers.{state_of, new_state, with_change, changing, touching, one_name_more, one_name_less, without_name, removing, with_ownership, size_state, cuts_block, with_tail, cut_layer, replacing, exchange_layer, renaming, with_blocks, written_state, writing, layer_of_change}
-use Rattle.sn_overlay.proofs.OverlaidLemmas.{places_total}
+use Rattle.sn_overlay.proofs.OverlaidLemmas.{file_blocks_total}
 
 len-inserted : {K X : Type 0} {R : K → K → Ordering} → IsTotalOrder R → (m : fin.FinMap R X) (k : K) (v : X) → fin.len (fin.insert m k v) ≤ fin.len m + 1
 len-inserted o m k v = told (fin.contains_key m k) (fin.len-insert o m k v)
@@ -40,7 +40,7 @@ record IsWithin (layer : Layer) (n m b : ℕ) : Type 0 where
   blocks : fin.len layer.blocks ≤ b
 
 within_none : IsWithin no_changes 0 0 0
-within_none = record { nodes = omega (arith, fin.len-empty nat_cmp NodeChange); names = omega (arith, fin.len-empty link_cmp (Option ℕ)); blocks = omega (arith, fin.len-empty place_cmp (List ℕ)) }
+within_none = record { nodes = omega (arith, fin.len-empty nat_cmp NodeChange); names = omega (arith, fin.len-empty link_cmp (Option ℕ)); blocks = omega (arith, fin.len-empty file_block_cmp (List ℕ)) }
 
 within_more : (layer : Layer) (n m b n' m' b' : ℕ) → IsWithin layer n m b → n ≤ n' → m ≤ m' → b ≤ b' → IsWithin layer n' m' b'
 within_more layer n m b n' m' b' h f g k = record { nodes = omega (arith, h.nodes); names = omega (arith, h.names); blocks = omega (arith, h.blocks) }
@@ -51,8 +51,8 @@ within_node layer n m b number change h = record { nodes = omega (arith, h.nodes
 within_name : (layer : Layer) (n m b : ℕ) (link : Link) (value : Option ℕ) → IsWithin layer n m b → IsWithin (with_name layer link value) n (m + 1) b
 within_name layer n m b link value h = record { nodes = h.nodes; names = omega (arith, h.names, len-inserted links_total layer.names link value); blocks = h.blocks }
 
-within_block : (layer : Layer) (n m b : ℕ) (place : BlockPlace) (bytes : List ℕ) → IsWithin layer n m b → IsWithin (with_block layer place bytes) n m (b + 1)
-within_block layer n m b place bytes h = record { nodes = h.nodes; names = h.names; blocks = omega (arith, h.blocks, len-inserted places_total layer.blocks place bytes) }
+within_block : (layer : Layer) (n m b : ℕ) (file_block : FileBlock) (bytes : List ℕ) → IsWithin layer n m b → IsWithin (with_block layer file_block bytes) n m (b + 1)
+within_block layer n m b file_block bytes h = record { nodes = h.nodes; names = h.names; blocks = omega (arith, h.blocks, len-inserted file_blocks_total layer.blocks file_block bytes) }
 
 within_change : (layer : Layer) (n m b : ℕ) (tree : Tree) (number : ℕ) (f : NodeState → NodeState) (found : Option Node) → IsWithin layer n m b → IsWithin (with_change tree number f layer found) (n + 1) m b
 within_change layer n m b tree number f None h = within_more layer n m b (n + 1) m b h (omega arith) (omega arith) (omega arith)
@@ -72,12 +72,12 @@ within_blocks : (layer : Layer) (n m b number : ℕ) (block : ℕ → List ℕ) 
 unfolding with_blocks
 within_blocks layer n m b number block first zero h = within_more layer n m b n m (b + 0) h (omega arith) (omega arith) (omega arith)
 within_blocks layer n m b number block first (suc more) h =
-    within_more (with_block (with_blocks layer number block first more) (block_place number (first + more)) (block (first + more))) n m (b + more + 1) n m (b + suc more)
-    (within_block (with_blocks layer number block first more) n m (b + more) (block_place number (first + more)) (block (first + more)) (within_blocks layer n m b number block first more h)) (omega arith) (omega arith) (omega arith)
+    within_more (with_block (with_blocks layer number block first more) (file_block_at number (first + more)) (block (first + more))) n m (b + more + 1) n m (b + suc more)
+    (within_block (with_blocks layer number block first more) n m (b + more) (file_block_at number (first + more)) (block (first + more)) (within_blocks layer n m b number block first more h)) (omega arith) (omega arith) (omega arith)
 
 within_tail : (cuts : Bool) (layer : Layer) (n m b number size : ℕ) (bytes : List ℕ) → IsWithin layer n m b → IsWithin (with_tail cuts layer number size bytes) n m (b + 1)
 within_tail false layer n m b number size bytes h = within_more layer n m b n m (b + 1) h (omega arith) (omega arith) (omega arith)
-within_tail true layer n m b number size bytes h = within_block layer n m b (block_place number (size / 4096)) _ h
+within_tail true layer n m b number size bytes h = within_block layer n m b (file_block_at number (size / 4096)) _ h
 
 within_removing : (tree : Tree) (link : Link) (found : Option ℕ) → IsWithin (removing tree link found) 2 1 0
 within_removing tree link None = within_more no_changes 0 0 0 2 1 0 within_none (omega arith) (omega arith) (omega arith)

@@ -7,12 +7,12 @@ use Rattle.std.proofs.lemmas.Map.Lookups.{exact_unsigned}
 use Rattle.sn_model.specs.declared.link.Link.{Link}
 use Rattle.sn_model.specs.Tree.{Node, Tree}
 use Rattle.sn_model.proofs.LinkLemmas.{exact_links, links_total}
-use Rattle.sn_overlay.specs.declared.place.BlockPlace.{BlockPlace}
+use Rattle.sn_overlay.specs.declared.file_block.FileBlock.{FileBlock}
 use Rattle.sn_overlay.specs.declared.node.NodeChange.{NodeChange}
 use Rattle.sn_overlay.specs.declared.node.NodeChange.TheVariants.{Gone, Changed}
 use Rattle.sn_overlay.specs.Layers.{Layer, through, hides_names, hides_block, node_seen, name_seen}
 use Rattle.sn_overlay.specs.Merges.{merge, change_over}
-use Rattle.sn_overlay.proofs.OverlaidLemmas.{exact_places, places_total, get-laid, get-overlaid, get-kept}
+use Rattle.sn_overlay.proofs.OverlaidLemmas.{exact_file_blocks, file_blocks_total, get-laid, get-overlaid, get-kept}
 
 -- the layer's answer where it has one, else what is below
 seen-laid : (layer : Layer) (number : ℕ) (change : Option NodeChange) (below : Option Node) → unwrap_or (option_map (λ c. node_seen layer number (Some c) below) change) below ≡ node_seen layer number change below
@@ -42,7 +42,7 @@ get-through_links layer tree link =
     ∙ ap (unwrap_or (map.get layer.names link)) (get-kept exact_links tree.links (λ l. not (hides_names (map.get layer.nodes l.directory))) link)
     ∙ named-laid layer link (map.get layer.names link) (map.get tree.links link)
 
--- what a merge has at a number, a name and a place
+-- what a merge has at a number, a name and a block of a file
 abbrev pub nodes_over : Option NodeChange → Option NodeChange → Option NodeChange
 nodes_over older None = older
 nodes_over older (Some newer) = Some (change_over older newer)
@@ -75,9 +75,9 @@ get-merge_names older newer link =
     ∙ ap (unwrap_or (option_map (λ v. Some v) (map.get newer.names link))) (get-kept exact_links older.names (λ l. not (hides_names (map.get newer.nodes l.directory))) link)
     ∙ kept-laid (map.get newer.names link) (hides_names (map.get newer.nodes link.directory)) (map.get older.names link)
 
-pub get-merge_blocks : (older newer : Layer) (place : BlockPlace) → map.get (merge older newer).blocks place ≡ kept_under (map.get newer.blocks place) (hides_block (map.get newer.nodes place.file) place.index) (map.get older.blocks place)
+pub get-merge_blocks : (older newer : Layer) (file_block : FileBlock) → map.get (merge older newer).blocks file_block ≡ kept_under (map.get newer.blocks file_block) (hides_block (map.get newer.nodes file_block.file) file_block.index) (map.get older.blocks file_block)
 unfolding merge
-get-merge_blocks older newer place =
-    get-laid places_total exact_places (λ _ v. Some v) newer.blocks (map.retain_keys older.blocks (λ p. not (hides_block (map.get newer.nodes p.file) p.index))) place
-    ∙ ap (unwrap_or (option_map (λ v. Some v) (map.get newer.blocks place))) (get-kept exact_places older.blocks (λ p. not (hides_block (map.get newer.nodes p.file) p.index)) place)
-    ∙ kept-laid (map.get newer.blocks place) (hides_block (map.get newer.nodes place.file) place.index) (map.get older.blocks place)
+get-merge_blocks older newer file_block =
+    get-laid file_blocks_total exact_file_blocks (λ _ v. Some v) newer.blocks (map.retain_keys older.blocks (λ p. not (hides_block (map.get newer.nodes p.file) p.index))) file_block
+    ∙ ap (unwrap_or (option_map (λ v. Some v) (map.get newer.blocks file_block))) (get-kept exact_file_blocks older.blocks (λ p. not (hides_block (map.get newer.nodes p.file) p.index)) file_block)
+    ∙ kept-laid (map.get newer.blocks file_block) (hides_block (map.get newer.nodes file_block.file) file_block.index) (map.get older.blocks file_block)

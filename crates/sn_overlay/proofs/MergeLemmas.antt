@@ -15,7 +15,7 @@ use Rattle.sn_overlay.specs.declared.node.NodeChange.{NodeChange}
 use Rattle.sn_overlay.specs.declared.node.NodeChange.TheVariants.{Gone, Changed}
 use Rattle.sn_overlay.specs.declared.node.NodeState.{NodeState}
 use Rattle.sn_overlay.specs.Pieces.{zeros, piece, joined}
-use Rattle.sn_overlay.specs.Keys.{block_place}
+use Rattle.sn_overlay.specs.Keys.{file_block_at}
 use Rattle.sn_overlay.specs.Layers.{Layer, IsLayer, Fits, through, hides_names, hides_block, block_seen, bytes_of, node_seen, name_seen}
 use Rattle.sn_overlay.specs.Merges.{merge, state_over}
 use Rattle.sn_overlay.proofs.PieceLemmas.{length-zeros, length-piece, joined_alike, piece-joined}
@@ -49,8 +49,8 @@ absent None b h e = refl
 absent (Some x) b h e = absurd (true≢false (sym (h refl) ∙ e))
 
 -- a number that a layer doesn't have has no block and no name in it
-unstored : (layer : Layer) → IsLayer layer → (number index : ℕ) → map.get layer.nodes number ≡ None → map.get layer.blocks (block_place number index) ≡ None
-unstored layer h number index e = absent _ _ (h.blocks (block_place number index)) (ap is_some e)
+unstored : (layer : Layer) → IsLayer layer → (number index : ℕ) → map.get layer.nodes number ≡ None → map.get layer.blocks (file_block_at number index) ≡ None
+unstored layer h number index e = absent _ _ (h.blocks (file_block_at number index)) (ap is_some e)
 
 unnamed : (layer : Layer) → IsLayer layer → (link : Link) → map.get layer.nodes link.directory ≡ None → map.get layer.names link ≡ None
 unnamed layer h link e = absent _ _ (h.names link) (ap is_some e)
@@ -64,19 +64,19 @@ under_seen None y z = refl
 under_seen (Some x) y z = refl
 
 module _ (older newer : Layer) (ho : IsLayer older) (hn : IsLayer newer) where
-  stored : (number index : ℕ) (change : Option NodeChange) → map.get newer.nodes number ≡ change → map.get (merge older newer).blocks (block_place number index) ≡ kept_under (map.get newer.blocks (block_place number index)) (hides_block change index) (map.get older.blocks (block_place number index))
-  stored number index change e = get-merge_blocks older newer (block_place number index)
-      ∙ ap (λ c. kept_under (map.get newer.blocks (block_place number index)) (hides_block c index) (map.get older.blocks (block_place number index))) e
+  stored : (number index : ℕ) (change : Option NodeChange) → map.get newer.nodes number ≡ change → map.get (merge older newer).blocks (file_block_at number index) ≡ kept_under (map.get newer.blocks (file_block_at number index)) (hides_block change index) (map.get older.blocks (file_block_at number index))
+  stored number index change e = get-merge_blocks older newer (file_block_at number index)
+      ∙ ap (λ c. kept_under (map.get newer.blocks (file_block_at number index)) (hides_block c index) (map.get older.blocks (file_block_at number index))) e
 
   -- a number that the newer one doesn't have
   pub block_below : (number index : ℕ) (state : NodeState) (bytes : List ℕ) → map.get newer.nodes number ≡ None → block_seen (merge older newer) number state bytes index ≡ block_seen older number state bytes index
   block_below number index state bytes e = ap (λ b. unwrap_or b (cond (hides_block (Some (Changed state)) index) (zeros 4096) (piece 4096 bytes index)))
-      (stored number index None e ∙ ap (λ b. kept_under b false (map.get older.blocks (block_place number index))) (unstored newer hn number index e))
+      (stored number index None e ∙ ap (λ b. kept_under b false (map.get older.blocks (file_block_at number index))) (unstored newer hn number index e))
 
   -- a number that the older one doesn't have
   pub block_above : (number index : ℕ) (state : NodeState) (bytes : List ℕ) → map.get older.nodes number ≡ None → map.get newer.nodes number ≡ Some (Changed state) → block_seen (merge older newer) number state bytes index ≡ block_seen newer number state bytes index
   block_above number index state bytes e f = ap (λ b. unwrap_or b (cond (hides_block (Some (Changed state)) index) (zeros 4096) (piece 4096 bytes index)))
-      (stored number index (Some (Changed state)) f ∙ ap (kept_under (map.get newer.blocks (block_place number index)) (hides_block (Some (Changed state)) index)) (unstored older ho number index e) ∙ alone (map.get newer.blocks (block_place number index)) (hides_block (Some (Changed state)) index))
+      (stored number index (Some (Changed state)) f ∙ ap (kept_under (map.get newer.blocks (file_block_at number index)) (hides_block (Some (Changed state)) index)) (unstored older ho number index e) ∙ alone (map.get newer.blocks (file_block_at number index)) (hides_block (Some (Changed state)) index))
     where
       alone : {X : Type 0} (x : Option X) (b : Bool) → kept_under x b None ≡ x
       alone (Some x) b = refl
@@ -87,16 +87,16 @@ module _ (older newer : Layer) (ho : IsLayer older) (hn : IsLayer newer) where
   pub block_fresh : (number index : ℕ) (state : NodeState) (bytes other : List ℕ) → map.get newer.nodes number ≡ Some (Changed state) → state.fresh ≡ true → block_seen (merge older newer) number state bytes index ≡ block_seen newer number state other index
   block_fresh number index state bytes other e f =
       let hidden : hides_block (Some (Changed state)) index ≡ true = ap (λ b. b || leb state.cut (index * 4096)) f in
-      ap (λ h. unwrap_or (map.get (merge older newer).blocks (block_place number index)) (cond h (zeros 4096) (piece 4096 bytes index))) hidden
-      ∙ ap (λ b. unwrap_or b (zeros 4096)) (stored number index (Some (Changed state)) e ∙ ap (λ h. kept_under (map.get newer.blocks (block_place number index)) h (map.get older.blocks (block_place number index))) hidden)
-      ∙ under_hidden (map.get newer.blocks (block_place number index)) (map.get older.blocks (block_place number index)) (zeros 4096)
-      ∙ sym (ap (λ h. unwrap_or (map.get newer.blocks (block_place number index)) (cond h (zeros 4096) (piece 4096 other index))) hidden)
+      ap (λ h. unwrap_or (map.get (merge older newer).blocks (file_block_at number index)) (cond h (zeros 4096) (piece 4096 bytes index))) hidden
+      ∙ ap (λ b. unwrap_or b (zeros 4096)) (stored number index (Some (Changed state)) e ∙ ap (λ h. kept_under (map.get newer.blocks (file_block_at number index)) h (map.get older.blocks (file_block_at number index))) hidden)
+      ∙ under_hidden (map.get newer.blocks (file_block_at number index)) (map.get older.blocks (file_block_at number index)) (zeros 4096)
+      ∙ sym (ap (λ h. unwrap_or (map.get newer.blocks (file_block_at number index)) (cond h (zeros 4096) (piece 4096 other index))) hidden)
 
   block_long : (number index : ℕ) (state : NodeState) (bytes : List ℕ) → length (block_seen older number state bytes index) ≡ 4096
-  block_long number index state bytes = told (map.get older.blocks (block_place number index)) refl (hides_block (Some (Changed state)) index)
+  block_long number index state bytes = told (map.get older.blocks (file_block_at number index)) refl (hides_block (Some (Changed state)) index)
     where
-      told : (x : Option (List ℕ)) → map.get older.blocks (block_place number index) ≡ x → (b : Bool) → length (unwrap_or x (cond b (zeros 4096) (piece 4096 bytes index))) ≡ 4096
-      told (Some block) e b = ho.lengths (block_place number index) block e
+      told : (x : Option (List ℕ)) → map.get older.blocks (file_block_at number index) ≡ x → (b : Bool) → length (unwrap_or x (cond b (zeros 4096) (piece 4096 bytes index))) ≡ 4096
+      told (Some block) e b = ho.lengths (file_block_at number index) block e
       told None e true = length-zeros 4096
       told None e false = length-piece 4096 bytes index
 
@@ -108,16 +108,16 @@ module _ (older newer : Layer) (ho : IsLayer older) (hn : IsLayer newer) where
     where
       told : (h : Bool) → hides_block (Some (Changed new)) index ≡ h → block_seen (merge older newer) number (state_over old new) bytes index ≡ block_seen newer number new (joined 4096 old.size (block_seen older number old bytes)) index
       told true h =
-          ap (λ b. unwrap_or (map.get (merge older newer).blocks (block_place number index)) (cond b (zeros 4096) (piece 4096 bytes index))) (hidden_still old.fresh new.fresh old.cut new.cut (index * 4096) h)
-          ∙ ap (λ b. unwrap_or b (zeros 4096)) (stored number index (Some (Changed new)) e ∙ ap (λ b. kept_under (map.get newer.blocks (block_place number index)) b (map.get older.blocks (block_place number index))) h)
-          ∙ under_hidden (map.get newer.blocks (block_place number index)) (map.get older.blocks (block_place number index)) (zeros 4096)
-          ∙ sym (ap (λ b. unwrap_or (map.get newer.blocks (block_place number index)) (cond b (zeros 4096) (piece 4096 (joined 4096 old.size (block_seen older number old bytes)) index))) h)
+          ap (λ b. unwrap_or (map.get (merge older newer).blocks (file_block_at number index)) (cond b (zeros 4096) (piece 4096 bytes index))) (hidden_still old.fresh new.fresh old.cut new.cut (index * 4096) h)
+          ∙ ap (λ b. unwrap_or b (zeros 4096)) (stored number index (Some (Changed new)) e ∙ ap (λ b. kept_under (map.get newer.blocks (file_block_at number index)) b (map.get older.blocks (file_block_at number index))) h)
+          ∙ under_hidden (map.get newer.blocks (file_block_at number index)) (map.get older.blocks (file_block_at number index)) (zeros 4096)
+          ∙ sym (ap (λ b. unwrap_or (map.get newer.blocks (file_block_at number index)) (cond b (zeros 4096) (piece 4096 (joined 4096 old.size (block_seen older number old bytes)) index))) h)
       told false h =
-          ap (λ b. unwrap_or (map.get (merge older newer).blocks (block_place number index)) (cond b (zeros 4096) (piece 4096 bytes index))) (hidden_by_older old.fresh new.fresh old.cut new.cut (index * 4096) h)
-          ∙ ap (λ b. unwrap_or b (cond (hides_block (Some (Changed old)) index) (zeros 4096) (piece 4096 bytes index))) (stored number index (Some (Changed new)) e ∙ ap (λ b. kept_under (map.get newer.blocks (block_place number index)) b (map.get older.blocks (block_place number index))) h)
-          ∙ under_seen (map.get newer.blocks (block_place number index)) (map.get older.blocks (block_place number index)) (cond (hides_block (Some (Changed old)) index) (zeros 4096) (piece 4096 bytes index))
-          ∙ ap (unwrap_or (map.get newer.blocks (block_place number index))) (sym (piece-joined 4096 old.size (block_seen older number old bytes) index (block_long number index old bytes) past))
-          ∙ sym (ap (λ b. unwrap_or (map.get newer.blocks (block_place number index)) (cond b (zeros 4096) (piece 4096 (joined 4096 old.size (block_seen older number old bytes)) index))) h)
+          ap (λ b. unwrap_or (map.get (merge older newer).blocks (file_block_at number index)) (cond b (zeros 4096) (piece 4096 bytes index))) (hidden_by_older old.fresh new.fresh old.cut new.cut (index * 4096) h)
+          ∙ ap (λ b. unwrap_or b (cond (hides_block (Some (Changed old)) index) (zeros 4096) (piece 4096 bytes index))) (stored number index (Some (Changed new)) e ∙ ap (λ b. kept_under (map.get newer.blocks (file_block_at number index)) b (map.get older.blocks (file_block_at number index))) h)
+          ∙ under_seen (map.get newer.blocks (file_block_at number index)) (map.get older.blocks (file_block_at number index)) (cond (hides_block (Some (Changed old)) index) (zeros 4096) (piece 4096 bytes index))
+          ∙ ap (unwrap_or (map.get newer.blocks (file_block_at number index))) (sym (piece-joined 4096 old.size (block_seen older number old bytes) index (block_long number index old bytes) past))
+          ∙ sym (ap (λ b. unwrap_or (map.get newer.blocks (file_block_at number index)) (cond b (zeros 4096) (piece 4096 (joined 4096 old.size (block_seen older number old bytes)) index))) h)
 
   module _ (tree : Tree) (fo : Fits older tree) (fn : Fits newer (through older tree)) where
     -- what isn't made anew is seen below
@@ -308,7 +308,7 @@ module _ (older newer : Layer) (ho : IsLayer older) (hn : IsLayer newer) where
   pub merge_is_layer : IsLayer (merge older newer)
   merge_is_layer = record {
     names = λ link h. ap is_some (get-merge_nodes older newer link.directory) ∙ kept_some (map.get newer.names link) (map.get older.names link) (map.get older.nodes link.directory) (map.get newer.nodes link.directory) (hides_names (map.get newer.nodes link.directory)) (hn.names link) (ho.names link) (ap is_some (sym (get-merge_names older newer link)) ∙ h);
-    blocks = λ place h. ap is_some (get-merge_nodes older newer place.file) ∙ kept_some (map.get newer.blocks place) (map.get older.blocks place) (map.get older.nodes place.file) (map.get newer.nodes place.file) (hides_block (map.get newer.nodes place.file) place.index) (hn.blocks place) (ho.blocks place) (ap is_some (sym (get-merge_blocks older newer place)) ∙ h);
-    lengths = λ place bytes e. kept_long (map.get newer.blocks place) (map.get older.blocks place) (hides_block (map.get newer.nodes place.file) place.index) bytes (hn.lengths place) (ho.lengths place) (sym (get-merge_blocks older newer place) ∙ e);
+    blocks = λ file_block h. ap is_some (get-merge_nodes older newer file_block.file) ∙ kept_some (map.get newer.blocks file_block) (map.get older.blocks file_block) (map.get older.nodes file_block.file) (map.get newer.nodes file_block.file) (hides_block (map.get newer.nodes file_block.file) file_block.index) (hn.blocks file_block) (ho.blocks file_block) (ap is_some (sym (get-merge_blocks older newer file_block)) ∙ h);
+    lengths = λ file_block bytes e. kept_long (map.get newer.blocks file_block) (map.get older.blocks file_block) (hides_block (map.get newer.nodes file_block.file) file_block.index) bytes (hn.lengths file_block) (ho.lengths file_block) (sym (get-merge_blocks older newer file_block) ∙ e);
     cuts = λ number state e. cut_over number state (map.get older.nodes number) (map.get newer.nodes number) refl refl (sym (get-merge_nodes older newer number) ∙ e);
   }

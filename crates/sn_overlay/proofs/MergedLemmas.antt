@@ -11,14 +11,14 @@ use Rattle.std.proofs.lemmas.Map.Lookups.{exact_unsigned}
 use Rattle.sn_model.specs.declared.link.Link.{Link}
 use Rattle.sn_model.specs.Tree.{link_cmp}
 use Rattle.sn_model.proofs.LinkLemmas.{exact_links, links_total}
-use Rattle.sn_overlay.specs.declared.place.BlockPlace.{BlockPlace}
+use Rattle.sn_overlay.specs.declared.file_block.FileBlock.{FileBlock}
 use Rattle.sn_overlay.specs.declared.node.NodeChange.{NodeChange}
-use Rattle.sn_overlay.specs.Keys.{place_cmp}
+use Rattle.sn_overlay.specs.Keys.{file_block_cmp}
 use Rattle.sn_overlay.specs.Layers.{Layer, hides_names, hides_block}
 use Rattle.sn_overlay.specs.Merges.{merge, change_over}
 use Rattle.sn_overlay.specs.Overlays.{nodes_of, names_of, blocks_of}
 use Rattle.sn_overlay.specs.Sorted.{put_each, newer_value}
-use Rattle.sn_overlay.proofs.OverlaidLemmas.{exact_places, places_total}
+use Rattle.sn_overlay.proofs.OverlaidLemmas.{exact_file_blocks, file_blocks_total}
 use Rattle.sn_overlay.proofs.OverlayLemmas.{get-nodes_of, get-names_of, get-blocks_of}
 use Rattle.sn_overlay.proofs.LayerLemmas.{get-merge_nodes, get-merge_names, get-merge_blocks, nodes_over, kept_under}
 use Rattle.sn_overlay.proofs.PutLemmas.{find-put_each, value_over}
@@ -40,7 +40,7 @@ read_kept (Some x) o b = refl
 read_kept None o true = refl
 read_kept None o false = refl
 
-module _ (nodes newer_nodes : List (ℕ × NodeChange)) (names newer_names : List (Link × Option ℕ)) (blocks newer_blocks : List (BlockPlace × Box (List ℕ) Global)) where
+module _ (nodes newer_nodes : List (ℕ × NodeChange)) (names newer_names : List (Link × Option ℕ)) (blocks newer_blocks : List (FileBlock × Box (List ℕ) Global)) where
   abbrev older : Layer
   older = record { nodes = nodes_of nodes; names = names_of names; blocks = blocks_of blocks }
 
@@ -66,15 +66,15 @@ module _ (nodes newer_nodes : List (ℕ × NodeChange)) (names newer_names : Lis
       ∙ ap (λ n. kept_under n (hides_names (fin.get (nodes_of newer_nodes) q.directory)) (find link_cmp q names)) (get-names_of newer_names q)
       ∙ ap (λ c. kept_under (find link_cmp q newer_names) (hides_names c) (find link_cmp q names)) (get-nodes_of newer_nodes q.directory)))
 
-  pub merged_blocks : is_sorted place_cmp newer_blocks ≡ true → blocks_of (put_each place_cmp newer_value newer_blocks (where_key place_cmp (λ place. not (hides_block (find nat_cmp place.file newer_nodes) place.index)) blocks)) ≡ (merge older newer).blocks
-  merged_blocks h = fin.same_map places_total exact_places _ _ (λ q.
-      let seen = λ (place : BlockPlace). not (hides_block (find nat_cmp place.file newer_nodes) place.index) in
-      get-blocks_of (put_each place_cmp newer_value newer_blocks (where_key place_cmp seen blocks)) q
-      ∙ ap (option_map (λ (x : Bytes). x.value)) (find-put_each places_total newer_value newer_blocks (where_key place_cmp seen blocks) q h
-      ∙ ap (value_over newer_value (find place_cmp q newer_blocks)) (find-where_key place_cmp seen q (λ x e. ap seen (sym (exact_places q x e))) blocks)
-      ∙ over_kept (find place_cmp q newer_blocks) (find place_cmp q blocks) (hides_block (find nat_cmp q.file newer_nodes) q.index))
-      ∙ read_kept (find place_cmp q newer_blocks) (find place_cmp q blocks) (hides_block (find nat_cmp q.file newer_nodes) q.index)
+  pub merged_blocks : is_sorted file_block_cmp newer_blocks ≡ true → blocks_of (put_each file_block_cmp newer_value newer_blocks (where_key file_block_cmp (λ file_block. not (hides_block (find nat_cmp file_block.file newer_nodes) file_block.index)) blocks)) ≡ (merge older newer).blocks
+  merged_blocks h = fin.same_map file_blocks_total exact_file_blocks _ _ (λ q.
+      let seen = λ (file_block : FileBlock). not (hides_block (find nat_cmp file_block.file newer_nodes) file_block.index) in
+      get-blocks_of (put_each file_block_cmp newer_value newer_blocks (where_key file_block_cmp seen blocks)) q
+      ∙ ap (option_map (λ (x : Bytes). x.value)) (find-put_each file_blocks_total newer_value newer_blocks (where_key file_block_cmp seen blocks) q h
+      ∙ ap (value_over newer_value (find file_block_cmp q newer_blocks)) (find-where_key file_block_cmp seen q (λ x e. ap seen (sym (exact_file_blocks q x e))) blocks)
+      ∙ over_kept (find file_block_cmp q newer_blocks) (find file_block_cmp q blocks) (hides_block (find nat_cmp q.file newer_nodes) q.index))
+      ∙ read_kept (find file_block_cmp q newer_blocks) (find file_block_cmp q blocks) (hides_block (find nat_cmp q.file newer_nodes) q.index)
       ∙ sym (get-merge_blocks older newer q
       ∙ ap (λ o. kept_under (fin.get (blocks_of newer_blocks) q) (hides_block (fin.get (nodes_of newer_nodes) q.file) q.index) o) (get-blocks_of blocks q)
-      ∙ ap (λ n. kept_under n (hides_block (fin.get (nodes_of newer_nodes) q.file) q.index) (option_map (λ (x : Bytes). x.value) (find place_cmp q blocks))) (get-blocks_of newer_blocks q)
-      ∙ ap (λ c. kept_under (option_map (λ (x : Bytes). x.value) (find place_cmp q newer_blocks)) (hides_block c q.index) (option_map (λ (x : Bytes). x.value) (find place_cmp q blocks))) (get-nodes_of newer_nodes q.file)))
+      ∙ ap (λ n. kept_under n (hides_block (fin.get (nodes_of newer_nodes) q.file) q.index) (option_map (λ (x : Bytes). x.value) (find file_block_cmp q blocks))) (get-blocks_of newer_blocks q)
+      ∙ ap (λ c. kept_under (option_map (λ (x : Bytes). x.value) (find file_block_cmp q newer_blocks)) (hides_block c q.index) (option_map (λ (x : Bytes). x.value) (find file_block_cmp q blocks))) (get-nodes_of newer_nodes q.file)))

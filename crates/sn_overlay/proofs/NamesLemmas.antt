@@ -108,7 +108,7 @@ make_counts limits tree after link number kind o h e =
     subst (λ (t : Tree). CountsNames (make_layer tree link number kind o) tree t) p.gives
     (counts (make_layer tree link number kind o) tree (put_link there link number)
     (every_with nat_cmp_total exact_unsigned parent.nodes (Counted (put_link there link number)) number change
-    (every_touching no_changes tree (put_link there link number) link.directory (placed_directory limits tree link number p.place) (every_none _ (Counted (put_link there link number))))
+    (every_touching no_changes tree (put_link there link number) link.directory (placed_directory limits tree link number p.file_block) (every_none _ (Counted (put_link there link number))))
     (first_link kind (names_for (put_link there link number) number) (names_for_more there link number absent number refl ∙ ap (λ n. n + 1) zero)))
     (λ q none. names_for_other there link number absent q (apart_from (with_node parent number change) number q (has_it parent number change) none)))
 
@@ -122,7 +122,7 @@ link_counts limits tree after link number e =
     subst (λ (t : Tree). CountsNames (link_layer tree link number) tree t) p.gives
     (counts (link_layer tree link number) tree new
     (every_change parent tree number one_name_more (map.get tree.nodes number) (Counted new) refl
-    (every_touching no_changes tree new link.directory (placed_directory limits tree link number p.place) (every_none _ (Counted new)))
+    (every_touching no_changes tree new link.directory (placed_directory limits tree link number p.file_block) (every_none _ (Counted new)))
     (λ node f. more_link node.kind (names_for tree number) (names_for new number)
     (ap (λ (n : Node). is_file n.kind) (some_same _ _ (sym f ∙ is.0)) ∙ is.1)
     (names_for_more tree link number absent number refl)))

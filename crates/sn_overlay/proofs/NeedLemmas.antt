@@ -14,11 +14,11 @@ use Rattle.sn_model.specs.declared.link.Link.{Link}
 use Rattle.sn_model.proofs.LinkLemmas.{exact_links, links_total}
 use Rattle.sn_model.proofs.EntryLemmas.{entries-retain}
 use Rattle.sn_overlay.specs.Overlaid.{overlaid, set_or_take}
-use Rattle.sn_overlay.specs.declared.place.BlockPlace.{BlockPlace}
+use Rattle.sn_overlay.specs.declared.file_block.FileBlock.{FileBlock}
 use Rattle.sn_overlay.specs.Layers.{Layer, hides_names, hides_block}
 use Rattle.sn_overlay.specs.Merges.{merge, change_over}
 use Rattle.sn_overlay.specs.Needs.{levels, need, IsPaid}
-use Rattle.sn_overlay.proofs.OverlaidLemmas.{exact_places, places_total}
+use Rattle.sn_overlay.proofs.OverlaidLemmas.{exact_file_blocks, file_blocks_total}
 
 length-where_key : {K X : Type 0} (R : K → K → Ordering) (p : K → Bool) (es : List (K × X)) → length (where_key R p es) ≤ length es
 length-where_key R p [] = omega arith
@@ -65,8 +65,8 @@ len-names older newer =
 len-blocks : (older newer : Layer) → fin.len (merge older newer).blocks ≤ fin.len older.blocks + fin.len newer.blocks
 unfolding merge
 len-blocks older newer =
-    let kept = λ (place : BlockPlace). not (hides_block (fin.get newer.nodes place.file) place.index) in
-    omega (arith, len-laid places_total exact_places (fin.entries newer.blocks) (λ e. Some e.1) (fin.retain_keys older.blocks kept), len-kept places_total exact_places older.blocks kept, fin.len-entries newer.blocks)
+    let kept = λ (file_block : FileBlock). not (hides_block (fin.get newer.nodes file_block.file) file_block.index) in
+    omega (arith, len-laid file_blocks_total exact_file_blocks (fin.entries newer.blocks) (λ e. Some e.1) (fin.retain_keys older.blocks kept), len-kept file_blocks_total exact_file_blocks older.blocks kept, fin.len-entries newer.blocks)
 
 some_grows : (n n' n'' : ℕ) → n'' ≤ n + n' → cond (eqb n'' 0) 0 2 ≤ cond (eqb n 0) 0 2 + cond (eqb n' 0) 0 2
 some_grows n n' n'' h = grind (arith, nat_tests)

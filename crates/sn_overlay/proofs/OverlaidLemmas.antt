@@ -9,14 +9,14 @@ use Rattle.std.proofs.lemmas.Cmp.{on_total, then_total}
 use Rattle.std.proofs.lemmas.Map.Lookups.{CmpEqualImpliesEq, exact_unsigned, exact_pairs}
 use Rattle.std.proofs.lemmas.Map.Views.{tells_apart}
 use Rattle.std.specs.Ordering.{nat_cmp}
-use Rattle.sn_overlay.specs.Keys.{place_cmp, block_place}
+use Rattle.sn_overlay.specs.Keys.{file_block_cmp, file_block_at}
 use Rattle.sn_overlay.specs.Overlaid.{overlaid, set_or_take}
 
-pub exact_places : CmpEqualImpliesEq place_cmp
-exact_places a b h = ap (λ p. block_place p.0 p.1) (exact_pairs nat_cmp nat_cmp exact_unsigned exact_unsigned (a.file, a.index) (b.file, b.index) h)
+pub exact_file_blocks : CmpEqualImpliesEq file_block_cmp
+exact_file_blocks a b h = ap (λ p. file_block_at p.0 p.1) (exact_pairs nat_cmp nat_cmp exact_unsigned exact_unsigned (a.file, a.index) (b.file, b.index) h)
 
-pub places_total : IsTotalOrder place_cmp
-places_total = then_total (on_total (λ p. p.file) nat_cmp_total) (on_total (λ p. p.index) nat_cmp_total)
+pub file_blocks_total : IsTotalOrder file_block_cmp
+file_blocks_total = then_total (on_total (λ p. p.file) nat_cmp_total) (on_total (λ p. p.index) nat_cmp_total)
 
 module _ {K X : Type 0} {R : K → K → Ordering} (o : IsTotalOrder R) where
   get-set_or_take : (m : fin.FinMap R X) (k : K) (v : Option X) (q : K) → fin.get (set_or_take m k v) q ≡ cond (eq_by_cmp R q k) v (fin.get m q)

@@ -12,11 +12,11 @@ use Rattle.std.proofs.lemmas.Map.Lookups.{CmpEqualImpliesEq, exact_unsigned}
 use Rattle.sn_model.specs.declared.link.Link.{Link}
 use Rattle.sn_model.specs.Tree.{link_cmp}
 use Rattle.sn_model.proofs.LinkLemmas.{exact_links, links_total}
-use Rattle.sn_overlay.specs.declared.place.BlockPlace.{BlockPlace}
+use Rattle.sn_overlay.specs.declared.file_block.FileBlock.{FileBlock}
 use Rattle.sn_overlay.specs.declared.node.NodeChange.{NodeChange}
-use Rattle.sn_overlay.specs.Keys.{place_cmp}
+use Rattle.sn_overlay.specs.Keys.{file_block_cmp}
 use Rattle.sn_overlay.specs.Overlays.{nodes_of, names_of, blocks_of}
-use Rattle.sn_overlay.proofs.OverlaidLemmas.{exact_places, places_total, find-mapped}
+use Rattle.sn_overlay.proofs.OverlaidLemmas.{exact_file_blocks, file_blocks_total, find-mapped}
 
 pub from_entries-put : {K X : Type 0} {R : K → K → Ordering} → IsTotalOrder R → CmpEqualImpliesEq R → (es : List (K × X)) (k : K) (v : X) → fin.from_entries {R = R} (put R k v es) ≡ fin.insert (fin.from_entries es) k v
 from_entries-put {K} {X} {R} o exact es k v = fin.same_map o exact _ _ (λ q.
@@ -31,9 +31,9 @@ pub get-names_of : (es : List (Link × Option ℕ)) (q : Link) → fin.get (name
 unfolding names_of
 get-names_of es q = fin.get-from_entries links_total es q
 
-pub get-blocks_of : (es : List (BlockPlace × Box (List ℕ) Global)) (q : BlockPlace) → fin.get (blocks_of es) q ≡ option_map (λ (b : Box (List ℕ) Global). b.value) (fin.find place_cmp q es)
+pub get-blocks_of : (es : List (FileBlock × Box (List ℕ) Global)) (q : FileBlock) → fin.get (blocks_of es) q ≡ option_map (λ (b : Box (List ℕ) Global). b.value) (fin.find file_block_cmp q es)
 unfolding blocks_of
-get-blocks_of es q = fin.get-from_entries places_total (map (λ e. (e.0, e.1.value)) es) q ∙ find-mapped place_cmp exact_places (λ _ (b : Box (List ℕ) Global). b.value) es q
+get-blocks_of es q = fin.get-from_entries file_blocks_total (map (λ e. (e.0, e.1.value)) es) q ∙ find-mapped file_block_cmp exact_file_blocks (λ _ (b : Box (List ℕ) Global). b.value) es q
 
 pub nodes_of-put : (es : List (ℕ × NodeChange)) (k : ℕ) (v : NodeChange) → nodes_of (put nat_cmp k v es) ≡ fin.insert (nodes_of es) k v
 unfolding nodes_of
@@ -47,9 +47,9 @@ map-cond : {X Y : Type 0} (f : X → Y) (b : Bool) (x : X) (o : Option X) → op
 map-cond f true x o = refl
 map-cond f false x o = refl
 
-pub blocks_of-put : (es : List (BlockPlace × Box (List ℕ) Global)) (k : BlockPlace) (v : Box (List ℕ) Global) → blocks_of (put place_cmp k v es) ≡ fin.insert (blocks_of es) k v.value
-blocks_of-put es k v = fin.same_map places_total exact_places _ _ (λ q.
-    get-blocks_of (put place_cmp k v es) q
-    ∙ ap (option_map (λ (b : Box (List ℕ) Global). b.value)) (find-put place_cmp places_total q k v es)
-    ∙ map-cond (λ (b : Box (List ℕ) Global). b.value) (eq_by_cmp place_cmp q k) v (fin.find place_cmp q es)
-    ∙ sym (fin.get-insert places_total (blocks_of es) k v.value q ∙ ap (cond (eq_by_cmp place_cmp q k) (Some v.value)) (get-blocks_of es q)))
+pub blocks_of-put : (es : List (FileBlock × Box (List ℕ) Global)) (k : FileBlock) (v : Box (List ℕ) Global) → blocks_of (put file_block_cmp k v es) ≡ fin.insert (blocks_of es) k v.value
+blocks_of-put es k v = fin.same_map file_blocks_total exact_file_blocks _ _ (λ q.
+    get-blocks_of (put file_block_cmp k v es) q
+    ∙ ap (option_map (λ (b : Box (List ℕ) Global). b.value)) (find-put file_block_cmp file_blocks_total q k v es)
+    ∙ map-cond (λ (b : Box (List ℕ) Global). b.value) (eq_by_cmp file_block_cmp q k) v (fin.find file_block_cmp q es)
+    ∙ sym (fin.get-insert file_blocks_total (blocks_of es) k v.value q ∙ ap (cond (eq_by_cmp file_block_cmp q k) (Some v.value)) (get-blocks_of es q)))

@@ -35,9 +35,9 @@ pub length-joined : (width size : ℕ) (pieces : ℕ → List ℕ) → length (j
 unfolding joined
 length-joined width size pieces = length-map-range_with_len _ 0 size
 
-pub get_or-joined : (width size : ℕ) (pieces : ℕ → List ℕ) (place : ℕ) → place < size → get_or (joined width size pieces) place 0 ≡ get_or (pieces (place / width)) (place % width) 0
+pub get_or-joined : (width size : ℕ) (pieces : ℕ → List ℕ) (file_block : ℕ) → file_block < size → get_or (joined width size pieces) file_block 0 ≡ get_or (pieces (file_block / width)) (file_block % width) 0
 unfolding joined
-get_or-joined width size pieces place h = get_or-map-range_with_len (λ p. get_or (pieces (p / width)) (p % width) 0) 0 size place place 0 h (omega arith)
+get_or-joined width size pieces file_block h = get_or-map-range_with_len (λ p. get_or (pieces (p / width)) (p % width) 0) 0 size file_block file_block 0 h (omega arith)
 
 -- the same, where the piece and the place in it are known
 pub get_or-joined_at : (width size : ℕ) (pieces : ℕ → List ℕ) (index at : ℕ) → at < width → index * width + at < size → get_or (joined width size pieces) (index * width + at) 0 ≡ get_or (pieces index) at 0
@@ -62,8 +62,8 @@ piece-joined width size pieces index long past = ext_get_or 0 _ _ (length-piece 
 
 -- bytes are joined from their pieces
 pub joined-piece : (width : ℕ) (bytes : List ℕ) → 0 < width → joined width (length bytes) (piece width bytes) ≡ bytes
-joined-piece width bytes some = ext_get_or 0 _ _ (length-joined width _ _) (λ place h.
-    let short : place < length bytes = rw (← length-joined width (length bytes) (piece width bytes)) h in
-    get_or-joined width (length bytes) (piece width bytes) place short
-    ∙ get_or-piece width bytes (place / width) (place % width) (mod_below place width some)
-    ∙ ap (λ p. get_or bytes p 0) (div-add-mod' place width))
+joined-piece width bytes some = ext_get_or 0 _ _ (length-joined width _ _) (λ file_block h.
+    let short : file_block < length bytes = rw (← length-joined width (length bytes) (piece width bytes)) h in
+    get_or-joined width (length bytes) (piece width bytes) file_block short
+    ∙ get_or-piece width bytes (file_block / width) (file_block % width) (mod_below file_block width some)
+    ∙ ap (λ p. get_or bytes p 0) (div-add-mod' file_block width))

@@ -4,7 +4,7 @@ use Rattle.std.specs.Option.{option_map, unwrap_or}
 use Rattle.std.specs.FinMap as map
 use Rattle.sn_model.specs.Tree.{Node, Tree, link_count}
 use Rattle.sn_model.specs.Changes.{ownership_of, node_with}
-use Rattle.sn_overlay.specs.declared.place.BlockPlace.{BlockPlace}
+use Rattle.sn_overlay.specs.declared.file_block.FileBlock.{FileBlock}
 use Rattle.sn_overlay.specs.declared.node.NodeChange.{NodeChange}
 use Rattle.sn_overlay.specs.declared.node.NodeChange.TheVariants.{Gone, Changed}
 use Rattle.sn_overlay.specs.declared.node.SeenNode.{SeenNode}
@@ -31,17 +31,17 @@ seen_node-through layer tree number h = ap (option_map (seen_of (through layer t
         let both : seen_of (through layer tree) number (node_with s.kind s.ownership (joined 4096 s.size (block_seen layer number s (bytes_of (map.get tree.nodes number))))) ≡ shown_state s = λ i. record { kind = s.kind; ownership = s.ownership; links = links i; size = size i } in
         ap (λ (n : SeenNode). Some n) both
 
-pub seen_block-through : (layer : Layer) (tree : Tree) (place : BlockPlace) → LiesOver layer tree → seen_block (through layer tree) place ≡ block_shown (map.get layer.nodes place.file) (map.get layer.blocks place) place.index (seen_block tree place)
-seen_block-through layer tree place h = ap (λ (n : Option Node). piece 4096 (bytes_of n) place.index) (get-through_nodes layer tree place.file) ∙ told (map.get layer.nodes place.file) refl
+pub seen_block-through : (layer : Layer) (tree : Tree) (file_block : FileBlock) → LiesOver layer tree → seen_block (through layer tree) file_block ≡ block_shown (map.get layer.nodes file_block.file) (map.get layer.blocks file_block) file_block.index (seen_block tree file_block)
+seen_block-through layer tree file_block h = ap (λ (n : Option Node). piece 4096 (bytes_of n) file_block.index) (get-through_nodes layer tree file_block.file) ∙ told (map.get layer.nodes file_block.file) refl
   where
-    long : (found : Option (List ℕ)) (b : Bool) → map.get layer.blocks place ≡ found → length (unwrap_or found (cond b (zeros 4096) (seen_block tree place))) ≡ 4096
-    long (Some bytes) b e = h.whole.lengths place bytes e
+    long : (found : Option (List ℕ)) (b : Bool) → map.get layer.blocks file_block ≡ found → length (unwrap_or found (cond b (zeros 4096) (seen_block tree file_block))) ≡ 4096
+    long (Some bytes) b e = h.whole.lengths file_block bytes e
     long None true e = length-zeros 4096
-    long None false e = length-piece 4096 (bytes_of (map.get tree.nodes place.file)) place.index
+    long None false e = length-piece 4096 (bytes_of (map.get tree.nodes file_block.file)) file_block.index
 
-    told : (c : Option NodeChange) → map.get layer.nodes place.file ≡ c → piece 4096 (bytes_of (node_seen layer place.file c (map.get tree.nodes place.file))) place.index ≡ block_shown c (map.get layer.blocks place) place.index (seen_block tree place)
+    told : (c : Option NodeChange) → map.get layer.nodes file_block.file ≡ c → piece 4096 (bytes_of (node_seen layer file_block.file c (map.get tree.nodes file_block.file))) file_block.index ≡ block_shown c (map.get layer.blocks file_block) file_block.index (seen_block tree file_block)
     told None e = refl
-    told (Some (Gone by_close)) e = piece_past 4096 [] place.index (omega arith)
-    told (Some (Changed s)) e = piece-joined 4096 s.size (block_seen layer place.file s (bytes_of (map.get tree.nodes place.file))) place.index
-        (long (map.get layer.blocks place) (hides_block (Some (Changed s)) place.index) refl)
-        (λ at b k. h.fits.zeros place.file s place.index at e b k)
+    told (Some (Gone by_close)) e = piece_past 4096 [] file_block.index (omega arith)
+    told (Some (Changed s)) e = piece-joined 4096 s.size (block_seen layer file_block.file s (bytes_of (map.get tree.nodes file_block.file))) file_block.index
+        (long (map.get layer.blocks file_block) (hides_block (Some (Changed s)) file_block.index) refl)
+        (λ at b k. h.fits.zeros file_block.file s file_block.index at e b k)

@@ -13,15 +13,15 @@ use Rattle.sn_model.specs.declared.link.Link.{Link}
 use Rattle.sn_model.specs.Tree.{Node, Tree, link_cmp}
 use Rattle.sn_model.specs.Changes.{node_with, ownership_of, put_node, with_bytes, resized, cut}
 use Rattle.sn_model.proofs.PartLemmas.{cut_is, file_is}
-use Rattle.sn_overlay.specs.declared.place.BlockPlace.{BlockPlace}
+use Rattle.sn_overlay.specs.declared.file_block.FileBlock.{FileBlock}
 use Rattle.sn_overlay.specs.declared.node.NodeChange.TheVariants.{Changed}
 use Rattle.sn_overlay.specs.declared.node.NodeState.{NodeState}
 use Rattle.sn_overlay.specs.Pieces.{zeros, piece, joined, zeroed}
-use Rattle.sn_overlay.specs.Keys.{place_cmp, block_place}
+use Rattle.sn_overlay.specs.Keys.{file_block_cmp, file_block_at}
 use Rattle.sn_overlay.specs.Layers.{Layer, through, hides_names, block_seen, node_seen, name_seen}
 use Rattle.sn_overlay.specs.Overlays.{no_changes, with_node}
 use Rattle.sn_overlay.specs.ChangeLayers.{state_of, size_state, cuts_block, with_tail, cut_layer, size_layer}
-use Rattle.sn_overlay.proofs.OverlaidLemmas.{exact_places, places_total}
+use Rattle.sn_overlay.proofs.OverlaidLemmas.{exact_file_blocks, file_blocks_total}
 use Rattle.sn_overlay.proofs.PieceLemmas.{joined_alike, joined-piece}
 use Rattle.sn_overlay.proofs.ByteLemmas.{length-resized, piece-resized, piece-cut}
 use Rattle.sn_overlay.proofs.ChangeLemmas.{through_is, piece_past}
@@ -52,7 +52,7 @@ module _ (tree : Tree) (number size : ℕ) (node : Node) where
   -- without a tail, nothing is kept
   bare_block : (index : ℕ) → (length node.bytes ≤ size) ⊎ (size % 4096 ≡ 0) → block_seen bare number state node.bytes index ≡ piece 4096 (resized node.bytes size) index
   bare_block index whole =
-      ap (λ found. unwrap_or found (cond (leb (min size (length node.bytes)) (index * 4096)) (zeros 4096) (piece 4096 node.bytes index))) (map.get-empty place_cmp (block_place number index))
+      ap (λ found. unwrap_or found (cond (leb (min size (length node.bytes)) (index * 4096)) (zeros 4096) (piece 4096 node.bytes index))) (map.get-empty file_block_cmp (file_block_at number index))
       ∙ unkept node.bytes size index (told whole (cases_lt (index * 4096) size)) (leb (min size (length node.bytes)) (index * 4096)) refl
     where
       told : (length node.bytes ≤ size) ⊎ (size % 4096 ≡ 0) → (index * 4096 < size) ⊎ (size ≤ index * 4096) → ((index + 1) * 4096 ≤ size) ⊎ (length node.bytes ≤ size) ⊎ (size ≤ index * 4096)
@@ -63,9 +63,9 @@ module _ (tree : Tree) (number size : ℕ) (node : Node) where
   -- with one, it is the block through which the cut goes
   tail_block : (index : ℕ) → block_seen (with_tail true bare number size node.bytes) number state node.bytes index ≡ piece 4096 (resized node.bytes size) index
   tail_block index =
-      ap (λ found. unwrap_or found (cond (leb (min size (length node.bytes)) (index * 4096)) (zeros 4096) (piece 4096 node.bytes index))) (map.get-insert places_total map.empty (block_place number (size / 4096)) (zeroed (size % 4096) (piece 4096 node.bytes (size / 4096))) (block_place number index)
-      ∙ ap (cond (eq_by_cmp place_cmp (block_place number index) (block_place number (size / 4096))) (Some (zeroed (size % 4096) (piece 4096 node.bytes (size / 4096))))) (map.get-empty place_cmp (block_place number index)))
-      ∙ told (eq_by_cmp place_cmp (block_place number index) (block_place number (size / 4096))) refl
+      ap (λ found. unwrap_or found (cond (leb (min size (length node.bytes)) (index * 4096)) (zeros 4096) (piece 4096 node.bytes index))) (map.get-insert file_blocks_total map.empty (file_block_at number (size / 4096)) (zeroed (size % 4096) (piece 4096 node.bytes (size / 4096))) (file_block_at number index)
+      ∙ ap (cond (eq_by_cmp file_block_cmp (file_block_at number index) (file_block_at number (size / 4096))) (Some (zeroed (size % 4096) (piece 4096 node.bytes (size / 4096))))) (map.get-empty file_block_cmp (file_block_at number index)))
+      ∙ told (eq_by_cmp file_block_cmp (file_block_at number index) (file_block_at number (size / 4096))) refl
     where
       other : (index ≡ size / 4096 → ⊥) → (index * 4096 < size) ⊎ (size ≤ index * 4096) → ((index + 1) * 4096 ≤ size) ⊎ (length node.bytes ≤ size) ⊎ (size ≤ index * 4096)
       other apart (inl k) = inl (below (cases_lt index (size / 4096)))
@@ -75,16 +75,16 @@ module _ (tree : Tree) (number size : ℕ) (node : Node) where
           below (inr h) = absurd (apart (omega (arith, div-add-mod' size 4096)))
       other apart (inr k) = inr (inr k)
 
-      told : (b : Bool) → eq_by_cmp place_cmp (block_place number index) (block_place number (size / 4096)) ≡ b → unwrap_or (cond b (Some (zeroed (size % 4096) (piece 4096 node.bytes (size / 4096)))) None) (cond (leb (min size (length node.bytes)) (index * 4096)) (zeros 4096) (piece 4096 node.bytes index)) ≡ piece 4096 (resized node.bytes size) index
+      told : (b : Bool) → eq_by_cmp file_block_cmp (file_block_at number index) (file_block_at number (size / 4096)) ≡ b → unwrap_or (cond b (Some (zeroed (size % 4096) (piece 4096 node.bytes (size / 4096)))) None) (cond (leb (min size (length node.bytes)) (index * 4096)) (zeros 4096) (piece 4096 node.bytes index)) ≡ piece 4096 (resized node.bytes size) index
       told true e =
-          let same : index ≡ size / 4096 = ap (λ (p : BlockPlace). p.index) (tells_apart exact_places (block_place number index) (block_place number (size / 4096)) e) in
+          let same : index ≡ size / 4096 = ap (λ (p : FileBlock). p.index) (tells_apart exact_file_blocks (file_block_at number index) (file_block_at number (size / 4096)) e) in
           sym (ap (λ i. piece 4096 (resized node.bytes size) i) same
           ∙ ap (λ n. piece 4096 (resized node.bytes n) (size / 4096)) (sym (div-add-mod' size 4096))
           ∙ piece-cut node.bytes (size / 4096) (size % 4096) (omega (arith, mod_below size 4096 (omega arith))))
       told false e = unkept node.bytes size index (other apart (cases_lt (index * 4096) size)) (leb (min size (length node.bytes)) (index * 4096)) refl
         where
           apart : index ≡ size / 4096 → ⊥
-          apart same = true≢false (sym ((eq_by_cmp_equiv places_total).refl (block_place number index)) ∙ ap (λ i. eq_by_cmp place_cmp (block_place number index) (block_place number i)) same ∙ e)
+          apart same = true≢false (sym ((eq_by_cmp_equiv file_blocks_total).refl (file_block_at number index)) ∙ ap (λ i. eq_by_cmp file_block_cmp (file_block_at number index) (file_block_at number i)) same ∙ e)
 
   -- each block is one of the file that was cut off
   pub cut_block : (b : Bool) → cuts_block node.bytes size ≡ b → (index : ℕ) → block_seen (with_tail b bare number size node.bytes) number state node.bytes index ≡ piece 4096 (resized node.bytes size) index

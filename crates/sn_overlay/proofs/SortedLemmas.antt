@@ -11,7 +11,7 @@ use Rattle.std.proofs.lemmas.Bool.{and_parts}
 use Rattle.std.proofs.lemmas.List.Sorted.{searchable_from_sorted}
 use Rattle.std.specs.declared.boxed.Box.{Box}
 use Rattle.std.specs.Global.{Global}
-use Rattle.sn_overlay.specs.Sorted.{IsAt, IsGap, FindsKey, bytes_by_place}
+use Rattle.sn_overlay.specs.Sorted.{IsAt, IsGap, FindsKey, bytes_by_file_block}
 
 is_less : (r : Ordering) → is_lt r ≡ true → r ≡ Less
 is_less Less h = refl
@@ -96,13 +96,13 @@ sorted-kept R p es h = passed _ (is_sorted-where_key R p es (subst T (sym h) tt)
 
 -- entries with the same bytes at the same places are sorted alike
 module _ {K : Type 0} (R : K → K → Ordering) where
-  below-bytes : (x : K) (es : List (K × Box (List ℕ) Global)) → below_all R x (bytes_by_place es) ≡ below_all R x es
+  below-bytes : (x : K) (es : List (K × Box (List ℕ) Global)) → below_all R x (bytes_by_file_block es) ≡ below_all R x es
   below-bytes x [] = refl
   below-bytes x (e ∷ es) = ap (λ b. is_lt (R x e.0) && b) (below-bytes x es)
 
-  sorted-bytes : (es : List (K × Box (List ℕ) Global)) → is_sorted R (bytes_by_place es) ≡ is_sorted R es
+  sorted-bytes : (es : List (K × Box (List ℕ) Global)) → is_sorted R (bytes_by_file_block es) ≡ is_sorted R es
   sorted-bytes [] = refl
-  sorted-bytes (e ∷ es) = ap (λ b. b && is_sorted R (bytes_by_place es)) (below-bytes e.0 es) ∙ ap (λ b. below_all R e.0 es && b) (sorted-bytes es)
+  sorted-bytes (e ∷ es) = ap (λ b. b && is_sorted R (bytes_by_file_block es)) (below-bytes e.0 es) ∙ ap (λ b. below_all R e.0 es && b) (sorted-bytes es)
 
-  pub sorted_alike : (es fs : List (K × Box (List ℕ) Global)) → bytes_by_place es ≡ bytes_by_place fs → is_sorted R fs ≡ true → is_sorted R es ≡ true
+  pub sorted_alike : (es fs : List (K × Box (List ℕ) Global)) → bytes_by_file_block es ≡ bytes_by_file_block fs → is_sorted R fs ≡ true → is_sorted R es ≡ true
   sorted_alike es fs same h = sym (sorted-bytes es) ∙ ap (is_sorted R) same ∙ sorted-bytes fs ∙ h

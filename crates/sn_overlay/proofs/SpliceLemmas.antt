@@ -5,7 +5,7 @@ use Rattle.std.proofs.lemmas.List.{drop_all, take_all, length-take, get_or-take,
 use Rattle.sn_model.specs.Changes.{overwritten}
 use Rattle.sn_overlay.specs.Pieces.{piece, spliced, part_in}
 use Rattle.sn_overlay.proofs.PieceLemmas.{length-piece, get_or-piece}
-use Rattle.sn_overlay.proofs.ByteLemmas.{get_or-overwritten_in, get_or-overwritten_out, past_place}
+use Rattle.sn_overlay.proofs.ByteLemmas.{get_or-overwritten_in, get_or-overwritten_out, past_file_block}
 
 module _ (bytes : List ℕ) (offset : ℕ) (new : List ℕ) (index : ℕ) (high : offset < (index + 1) * 4096) (low : index * 4096 < offset + length new) where
   abbrev from : ℕ
@@ -48,7 +48,7 @@ module _ (bytes : List ℕ) (offset : ℕ) (new : List ℕ) (index : ℕ) (high 
       ∙ sym (get_or-append_right (take from old) (part ++ drop (from + length part) old) from at 0 front k
       ∙ get_or-append_right part (drop (from + length part) old) (length part) (at - from) 0 refl (omega arith)
       ∙ get_or-drop (from + length part) old (at - from - length part) 0
-      ∙ ap (λ i. get_or old i 0) (past_place from (length part) at l)
+      ∙ ap (λ i. get_or old i 0) (past_file_block from (length part) at l)
       ∙ get_or-piece 4096 bytes index at b)
 
   pub writes_span : piece 4096 (overwritten bytes offset new) index ≡ spliced (offset - index * 4096) (part_in offset new index) (piece 4096 bytes index)

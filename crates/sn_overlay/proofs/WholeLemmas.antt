@@ -15,16 +15,16 @@ use Rattle.sn_model.specs.declared.change.Ownership.{Ownership}
 use Rattle.sn_model.specs.Tree.{Node, Tree, link_cmp}
 use Rattle.sn_model.proofs.ChainLemmas.{some_same, some_none}
 use Rattle.sn_model.proofs.MapLemmas.{get_inserted}
-use Rattle.sn_overlay.specs.declared.place.BlockPlace.{BlockPlace}
+use Rattle.sn_overlay.specs.declared.file_block.FileBlock.{FileBlock}
 use Rattle.sn_overlay.specs.declared.node.NodeChange.{NodeChange}
 use Rattle.sn_overlay.specs.declared.node.NodeChange.TheVariants.{Gone, Changed}
 use Rattle.sn_overlay.specs.declared.node.NodeState.{NodeState}
 use Rattle.sn_overlay.specs.Pieces.{zeros, piece}
-use Rattle.sn_overlay.specs.Keys.{place_cmp, block_place}
+use Rattle.sn_overlay.specs.Keys.{file_block_cmp, file_block_at}
 use Rattle.sn_overlay.specs.Layers.{Layer, IsLayer, Fits, hides_block, block_seen, bytes_of}
 use Rattle.sn_overlay.specs.Overlays.{no_changes, with_node}
 use Rattle.sn_overlay.specs.ChangeLayers.{state_of, new_state, with_change, changing, touching, one_name_less, without_name, with_blocks}
-use Rattle.sn_overlay.proofs.OverlaidLemmas.{exact_places, places_total}
+use Rattle.sn_overlay.proofs.OverlaidLemmas.{exact_file_blocks, file_blocks_total}
 use Rattle.sn_overlay.proofs.PieceLemmas.{get_or-zeros, get_or-piece}
 
 -- each entry of a map
@@ -166,19 +166,19 @@ pub whole_names : (layer : Layer) (tree : Tree) (names : map.FinMap link_cmp (Op
 whole_names layer tree names h are = (
   record {
     names = λ link e. let s = some_is _ e in are link s.0 s.1;
-    blocks = λ place e. absurd (true≢false (sym e ∙ ap is_some (no_block place)));
-    lengths = λ place bytes e. absurd (some_none _ _ e (no_block place));
+    blocks = λ file_block e. absurd (true≢false (sym e ∙ ap is_some (no_block file_block)));
+    lengths = λ file_block bytes e. absurd (some_none _ _ e (no_block file_block));
     cuts = λ number state e. (h.nodes number (Changed state) e).cut;
   },
   record {
     there = λ number state e f. (h.nodes number (Changed state) e).there f;
-    zeros = λ number state index at e b k. ap (λ found. get_or (unwrap_or found (cond (hides_block (Some (Changed state)) index) (zeros 4096) (piece 4096 (bytes_of (map.get tree.nodes number)) index))) at 0) (no_block (block_place number index))
+    zeros = λ number state index at e b k. ap (λ found. get_or (unwrap_or found (cond (hides_block (Some (Changed state)) index) (zeros 4096) (piece 4096 (bytes_of (map.get tree.nodes number)) index))) at 0) (no_block (file_block_at number index))
         ∙ (h.nodes number (Changed state) e).zeros index at b k;
   },
 )
   where
-    no_block : (place : BlockPlace) → map.get layer.blocks place ≡ None
-    no_block place = ap (λ m. map.get m place) h.blocks ∙ map.get-empty place_cmp place
+    no_block : (file_block : FileBlock) → map.get layer.blocks file_block ≡ None
+    no_block file_block = ap (λ m. map.get m file_block) h.blocks ∙ map.get-empty file_block_cmp file_block
 
 -- the state of a file whose blocks a layer has
 record IsFileState (layer : Layer) (tree : Tree) (number : ℕ) (s : NodeState) : Type 0 where
@@ -191,8 +191,8 @@ FileState layer tree number (Gone by_close) = Unit {0}
 FileState layer tree number (Changed s) = IsFileState layer tree number s
 
 -- blocks of one file
-abbrev pub AreBlocks : ℕ → map.FinMap place_cmp (List ℕ) → Type 0
-AreBlocks number blocks = Every blocks (λ place bytes. (place.file ≡ number) × (length bytes ≡ 4096))
+abbrev pub AreBlocks : ℕ → map.FinMap file_block_cmp (List ℕ) → Type 0
+AreBlocks number blocks = Every blocks (λ file_block bytes. (file_block.file ≡ number) × (length bytes ≡ 4096))
 
 -- a layer of one file and its blocks is whole, and fits
 pub whole_file : (layer : Layer) (tree : Tree) (number : ℕ) (s : NodeState) (node : Node) (new : List ℕ) → layer.nodes ≡ map.insert map.empty number (Changed s) → layer.names ≡ map.empty → AreBlocks number layer.blocks
@@ -200,10 +200,10 @@ pub whole_file : (layer : Layer) (tree : Tree) (number : ℕ) (s : NodeState) (n
 whole_file layer tree number s node new nodes names blocks there cut size seen = (
   record {
     names = λ link e. absurd (true≢false (sym e ∙ ap is_some (ap (λ m. map.get m link) names ∙ map.get-empty link_cmp link)));
-    blocks = λ place e.
+    blocks = λ file_block e.
         let found = some_is _ e in
-        ap (λ q. is_some (map.get layer.nodes q)) (blocks place found.0 found.1).0 ∙ ap (λ m. is_some (map.get m number)) nodes ∙ ap is_some (get_inserted nat_cmp_total map.empty number (Changed s));
-    lengths = λ place bytes e. (blocks place bytes e).1;
+        ap (λ q. is_some (map.get layer.nodes q)) (blocks file_block found.0 found.1).0 ∙ ap (λ m. is_some (map.get m number)) nodes ∙ ap is_some (get_inserted nat_cmp_total map.empty number (Changed s));
+    lengths = λ file_block bytes e. (blocks file_block bytes e).1;
     cuts = λ q state e. (every q (Changed state) e).cut;
   },
   record {
@@ -228,5 +228,5 @@ whole_file layer tree number s node new nodes names blocks there cut size seen =
 pub blocks_written : (layer : Layer) (number : ℕ) (block : ℕ → List ℕ) (first n : ℕ) → AreBlocks number layer.blocks → ((index : ℕ) → length (block index) ≡ 4096) → AreBlocks number (with_blocks layer number block first n).blocks
 unfolding with_blocks
 blocks_written layer number block first zero h long = h
-blocks_written layer number block first (suc n) h long = every_with places_total exact_places (with_blocks layer number block first n).blocks (λ place bytes. (place.file ≡ number) × (length bytes ≡ 4096))
-    (block_place number (first + n)) (block (first + n)) (blocks_written layer number block first n h long) (refl, long (first + n))
+blocks_written layer number block first (suc n) h long = every_with file_blocks_total exact_file_blocks (with_blocks layer number block first n).blocks (λ file_block bytes. (file_block.file ≡ number) × (length bytes ≡ 4096))
+    (file_block_at number (first + n)) (block (first + n)) (blocks_written layer number block first n h long) (refl, long (first + n))

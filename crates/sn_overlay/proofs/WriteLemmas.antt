@@ -13,16 +13,16 @@ use Rattle.sn_model.specs.Tree.{Node, Tree}
 use Rattle.sn_model.specs.Changes.{node_with, ownership_of, overwritten, with_bytes, written}
 use Rattle.sn_model.proofs.ChainLemmas.{and_left}
 use Rattle.sn_model.proofs.PartLemmas.{Written, written_is, file_is}
-use Rattle.sn_overlay.specs.declared.place.BlockPlace.{BlockPlace}
+use Rattle.sn_overlay.specs.declared.file_block.FileBlock.{FileBlock}
 use Rattle.sn_overlay.specs.declared.node.NodeChange.TheVariants.{Changed}
 use Rattle.sn_overlay.specs.declared.node.NodeState.{NodeState}
 use Rattle.sn_overlay.specs.Pieces.{zeros, piece, joined}
-use Rattle.sn_overlay.specs.Keys.{place_cmp, block_place}
+use Rattle.sn_overlay.specs.Keys.{file_block_cmp, file_block_at}
 use Rattle.sn_overlay.specs.Layers.{Layer, through, block_seen, node_seen}
 use Rattle.sn_overlay.specs.Overlays.{no_changes, with_node, with_block}
 use Rattle.sn_overlay.specs.Needs.{spanned}
 use Rattle.sn_overlay.specs.ChangeLayers.{state_of, with_blocks, written_state, writing, write_layer}
-use Rattle.sn_overlay.proofs.OverlaidLemmas.{exact_places, places_total}
+use Rattle.sn_overlay.proofs.OverlaidLemmas.{exact_file_blocks, file_blocks_total}
 use Rattle.sn_overlay.proofs.PieceLemmas.{joined_alike, joined-piece}
 use Rattle.sn_overlay.proofs.ByteLemmas.{length-overwritten, piece-overwritten}
 use Rattle.sn_overlay.proofs.ChangeLemmas.{piece_past}
@@ -33,7 +33,7 @@ pub blocks_none : (layer : Layer) (number : ℕ) (block : ℕ → List ℕ) (fir
 unfolding with_blocks
 blocks_none layer number block first = refl
 
-pub blocks_next : (layer : Layer) (number : ℕ) (block : ℕ → List ℕ) (first n : ℕ) → with_blocks layer number block first (n + 1) ≡ with_block (with_blocks layer number block first n) (block_place number (first + n)) (block (first + n))
+pub blocks_next : (layer : Layer) (number : ℕ) (block : ℕ → List ℕ) (first n : ℕ) → with_blocks layer number block first (n + 1) ≡ with_block (with_blocks layer number block first n) (file_block_at number (first + n)) (block (first + n))
 unfolding with_blocks
 blocks_next layer number block first n = let next : n + 1 ≡ suc n = omega arith in ap (with_blocks layer number block first) next
 
@@ -49,49 +49,49 @@ names-with_blocks layer number block first zero = refl
 names-with_blocks layer number block first (suc n) = names-with_blocks layer number block first n
 
 -- a block among them is as the function gives it
-pub get-blocks_in : (layer : Layer) (number : ℕ) (block : ℕ → List ℕ) (first n index : ℕ) → first ≤ index → index < first + n → map.get (with_blocks layer number block first n).blocks (block_place number index) ≡ Some (block index)
+pub get-blocks_in : (layer : Layer) (number : ℕ) (block : ℕ → List ℕ) (first n index : ℕ) → first ≤ index → index < first + n → map.get (with_blocks layer number block first n).blocks (file_block_at number index) ≡ Some (block index)
 unfolding with_blocks
 get-blocks_in layer number block first zero index h k = absurd (omega arith)
 get-blocks_in layer number block first (suc n) index h k =
-    map.get-insert places_total (with_blocks layer number block first n).blocks (block_place number (first + n)) (block (first + n)) (block_place number index)
-    ∙ told (eq_by_cmp place_cmp (block_place number index) (block_place number (first + n))) refl (λ l. get-blocks_in layer number block first n index h l)
+    map.get-insert file_blocks_total (with_blocks layer number block first n).blocks (file_block_at number (first + n)) (block (first + n)) (file_block_at number index)
+    ∙ told (eq_by_cmp file_block_cmp (file_block_at number index) (file_block_at number (first + n))) refl (λ l. get-blocks_in layer number block first n index h l)
   where
-    told : (b : Bool) → eq_by_cmp place_cmp (block_place number index) (block_place number (first + n)) ≡ b → (index < first + n → map.get (with_blocks layer number block first n).blocks (block_place number index) ≡ Some (block index))
-        → cond b (Some (block (first + n))) (map.get (with_blocks layer number block first n).blocks (block_place number index)) ≡ Some (block index)
-    told true e before = ap (λ i. Some (block i)) (sym (ap (λ (p : BlockPlace). p.index) (tells_apart exact_places (block_place number index) (block_place number (first + n)) e)))
+    told : (b : Bool) → eq_by_cmp file_block_cmp (file_block_at number index) (file_block_at number (first + n)) ≡ b → (index < first + n → map.get (with_blocks layer number block first n).blocks (file_block_at number index) ≡ Some (block index))
+        → cond b (Some (block (first + n))) (map.get (with_blocks layer number block first n).blocks (file_block_at number index)) ≡ Some (block index)
+    told true e before = ap (λ i. Some (block i)) (sym (ap (λ (p : FileBlock). p.index) (tells_apart exact_file_blocks (file_block_at number index) (file_block_at number (first + n)) e)))
     told false e before = before (below (cases_lt index (first + n)))
       where
         below : (index < first + n) ⊎ (first + n ≤ index) → index < first + n
         below (inl l) = l
         below (inr l) =
             let same : index ≡ first + n = omega arith in
-            absurd (true≢false (sym ((eq_by_cmp_equiv places_total).refl (block_place number index)) ∙ ap (λ i. eq_by_cmp place_cmp (block_place number index) (block_place number i)) same ∙ e))
+            absurd (true≢false (sym ((eq_by_cmp_equiv file_blocks_total).refl (file_block_at number index)) ∙ ap (λ i. eq_by_cmp file_block_cmp (file_block_at number index) (file_block_at number i)) same ∙ e))
 
 -- another place
-abbrev pub IsOutside : ℕ → ℕ → ℕ → BlockPlace → Type 0
-IsOutside number first n place = (place.file ≡ number → ⊥) ⊎ (place.index < first) ⊎ (first + n ≤ place.index)
+abbrev pub IsOutside : ℕ → ℕ → ℕ → FileBlock → Type 0
+IsOutside number first n file_block = (file_block.file ≡ number → ⊥) ⊎ (file_block.index < first) ⊎ (first + n ≤ file_block.index)
 
 -- and every other place is as before
-pub get-blocks_out : (layer : Layer) (number : ℕ) (block : ℕ → List ℕ) (first n : ℕ) (place : BlockPlace) → IsOutside number first n place → map.get (with_blocks layer number block first n).blocks place ≡ map.get layer.blocks place
+pub get-blocks_out : (layer : Layer) (number : ℕ) (block : ℕ → List ℕ) (first n : ℕ) (file_block : FileBlock) → IsOutside number first n file_block → map.get (with_blocks layer number block first n).blocks file_block ≡ map.get layer.blocks file_block
 unfolding with_blocks
-get-blocks_out layer number block first zero place h = refl
-get-blocks_out layer number block first (suc n) place h =
-    map.get-insert places_total (with_blocks layer number block first n).blocks (block_place number (first + n)) (block (first + n)) place
-    ∙ told (eq_by_cmp place_cmp place (block_place number (first + n))) refl (λ l. get-blocks_out layer number block first n place l)
+get-blocks_out layer number block first zero file_block h = refl
+get-blocks_out layer number block first (suc n) file_block h =
+    map.get-insert file_blocks_total (with_blocks layer number block first n).blocks (file_block_at number (first + n)) (block (first + n)) file_block
+    ∙ told (eq_by_cmp file_block_cmp file_block (file_block_at number (first + n))) refl (λ l. get-blocks_out layer number block first n file_block l)
   where
-    fewer : IsOutside number first (suc n) place → IsOutside number first n place
+    fewer : IsOutside number first (suc n) file_block → IsOutside number first n file_block
     fewer (inl a) = inl a
     fewer (inr (inl a)) = inr (inl a)
     fewer (inr (inr a)) = inr (inr (omega arith))
 
-    never : place ≡ block_place number (first + n) → IsOutside number first (suc n) place → ⊥
-    never same (inl a) = a (ap (λ (p : BlockPlace). p.file) same)
-    never same (inr (inl a)) = let index : place.index ≡ first + n = ap (λ (p : BlockPlace). p.index) same in omega arith
-    never same (inr (inr a)) = let index : place.index ≡ first + n = ap (λ (p : BlockPlace). p.index) same in omega arith
+    never : file_block ≡ file_block_at number (first + n) → IsOutside number first (suc n) file_block → ⊥
+    never same (inl a) = a (ap (λ (p : FileBlock). p.file) same)
+    never same (inr (inl a)) = let index : file_block.index ≡ first + n = ap (λ (p : FileBlock). p.index) same in omega arith
+    never same (inr (inr a)) = let index : file_block.index ≡ first + n = ap (λ (p : FileBlock). p.index) same in omega arith
 
-    told : (b : Bool) → eq_by_cmp place_cmp place (block_place number (first + n)) ≡ b → (IsOutside number first n place → map.get (with_blocks layer number block first n).blocks place ≡ map.get layer.blocks place)
-        → cond b (Some (block (first + n))) (map.get (with_blocks layer number block first n).blocks place) ≡ map.get layer.blocks place
-    told true e before = absurd (never (tells_apart exact_places place (block_place number (first + n)) e) h)
+    told : (b : Bool) → eq_by_cmp file_block_cmp file_block (file_block_at number (first + n)) ≡ b → (IsOutside number first n file_block → map.get (with_blocks layer number block first n).blocks file_block ≡ map.get layer.blocks file_block)
+        → cond b (Some (block (first + n))) (map.get (with_blocks layer number block first n).blocks file_block) ≡ map.get layer.blocks file_block
+    told true e before = absurd (never (tells_apart exact_file_blocks file_block (file_block_at number (first + n)) e) h)
     told false e before = before (fewer h)
 
 module _ (tree : Tree) (number offset : ℕ) (bytes : List ℕ) (node : Node) (some : 0 < length bytes) where
@@ -127,7 +127,7 @@ module _ (tree : Tree) (number offset : ℕ) (bytes : List ℕ) (node : Node) (s
     where
       out : ((index < first) ⊎ (first + many ≤ index)) → block_seen layer number state node.bytes index ≡ piece 4096 new index
       out h = ap (λ found. unwrap_or found (cond (leb (length node.bytes) (index * 4096)) (zeros 4096) (piece 4096 node.bytes index)))
-          (get-blocks_out bare number (piece 4096 new) first many (block_place number index) (inr h) ∙ map.get-empty place_cmp (block_place number index))
+          (get-blocks_out bare number (piece 4096 new) first many (file_block_at number index) (inr h) ∙ map.get-empty file_block_cmp (file_block_at number index))
           ∙ unwritten index h (leb (length node.bytes) (index * 4096)) refl
 
       told : (index < first) ⊎ (first ≤ index) → (index < first + many) ⊎ (first + many ≤ index) → block_seen layer number state node.bytes index ≡ piece 4096 new index

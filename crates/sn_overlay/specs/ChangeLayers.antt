@@ -12,7 +12,7 @@ use Rattle.sn_model.specs.Changes.{ownership_of, same_number, overwritten}
 use Rattle.sn_overlay.specs.declared.node.NodeChange.TheVariants.{Gone, Changed}
 use Rattle.sn_overlay.specs.declared.node.NodeState.{NodeState}
 use Rattle.sn_overlay.specs.Pieces.{piece, zeroed}
-use Rattle.sn_overlay.specs.Keys.{block_place}
+use Rattle.sn_overlay.specs.Keys.{file_block_at}
 use Rattle.sn_overlay.specs.Layers.{Layer}
 use Rattle.sn_overlay.specs.Overlays.{no_changes, with_node, with_name, with_block}
 use Rattle.sn_overlay.specs.Needs.{spanned}
@@ -80,7 +80,7 @@ cuts_block bytes size = nat_lt size (length bytes) && not (size % 4096 == 0)
 -- that block, with zeros from there on
 abbrev pub with_tail : Bool → Layer → ℕ → ℕ → List ℕ → Layer
 with_tail false layer number size bytes = layer
-with_tail true layer number size bytes = with_block layer (block_place number (size / 4096)) (zeroed (size % 4096) (piece 4096 bytes (size / 4096)))
+with_tail true layer number size bytes = with_block layer (file_block_at number (size / 4096)) (zeroed (size % 4096) (piece 4096 bytes (size / 4096)))
 
 abbrev pub cut_layer : Tree → ℕ → ℕ → Option Node → Layer
 cut_layer tree number size None = no_changes
@@ -109,7 +109,7 @@ rename_layer tree old new = renaming tree old new (map.get tree.links old)
 -- so many blocks of a file from one on, each as a function gives it
 unfoldable pub with_blocks : Layer → ℕ → (ℕ → List ℕ) → ℕ → ℕ → Layer
 with_blocks layer number block first zero = layer
-with_blocks layer number block first (suc more) = with_block (with_blocks layer number block first more) (block_place number (first + more)) (block (first + more))
+with_blocks layer number block first (suc more) = with_block (with_blocks layer number block first more) (file_block_at number (first + more)) (block (first + more))
 
 -- a file that ends no sooner than what is written
 abbrev pub written_state : ℕ → NodeState → NodeState

@@ -6,19 +6,19 @@ use Rattle.std.specs.FinMap as map
 use Rattle.sn_model.specs.declared.link.Link.{Link}
 use Rattle.sn_model.specs.Tree.{Node, Tree, link_cmp}
 use Rattle.sn_model.specs.Changes.{node_with}
-use Rattle.sn_overlay.specs.declared.place.BlockPlace.{BlockPlace}
+use Rattle.sn_overlay.specs.declared.file_block.FileBlock.{FileBlock}
 use Rattle.sn_overlay.specs.declared.node.NodeChange.{NodeChange}
 use Rattle.sn_overlay.specs.declared.node.NodeChange.TheVariants.{Gone, Changed}
 use Rattle.sn_overlay.specs.declared.node.NodeState.{NodeState}
 use Rattle.sn_overlay.specs.Pieces.{zeros, piece, joined}
-use Rattle.sn_overlay.specs.Keys.{place_cmp, block_place}
+use Rattle.sn_overlay.specs.Keys.{file_block_cmp, file_block_at}
 use Rattle.sn_overlay.specs.Overlaid.{overlaid}
 
 -- what changed: nodes by number, names (a number, or none), and blocks of files
 pub record Layer : Type 0 where
   pub nodes : map.FinMap nat_cmp NodeChange
   pub names : map.FinMap link_cmp (Option ℕ)
-  pub blocks : map.FinMap place_cmp (List ℕ)
+  pub blocks : map.FinMap file_block_cmp (List ℕ)
 
 -- what is gone or made anew hides the names that the number had
 abbrev pub hides_names : Option NodeChange → Bool
@@ -34,7 +34,7 @@ hides_block (Some (Changed state)) index = state.fresh || nat_le state.cut (inde
 
 -- the block of a changed file: the layer's, or zeros where what is below is hidden, or what is below
 abbrev pub block_seen : Layer → ℕ → NodeState → List ℕ → ℕ → List ℕ
-block_seen layer number state below index = unwrap_or (map.get layer.blocks (block_place number index)) (if hides_block (Some (Changed state)) index then zeros 4096 else piece 4096 below index)
+block_seen layer number state below index = unwrap_or (map.get layer.blocks (file_block_at number index)) (if hides_block (Some (Changed state)) index then zeros 4096 else piece 4096 below index)
 
 abbrev pub bytes_of : Option Node → List ℕ
 bytes_of None = []
@@ -59,8 +59,8 @@ through layer tree = record {
 -- A layer is whole: what it has of names and blocks belongs to numbers that it has, blocks have 4,096 bytes, and nothing is cut behind its end.
 pub record IsLayer (layer : Layer) : Type 0 where
   pub names : (link : Link) → is_some (map.get layer.names link) ≡ true → is_some (map.get layer.nodes link.directory) ≡ true
-  pub blocks : (place : BlockPlace) → is_some (map.get layer.blocks place) ≡ true → is_some (map.get layer.nodes place.file) ≡ true
-  pub lengths : (place : BlockPlace) (bytes : List ℕ) → map.get layer.blocks place ≡ Some bytes → length bytes ≡ 4096
+  pub blocks : (file_block : FileBlock) → is_some (map.get layer.blocks file_block) ≡ true → is_some (map.get layer.nodes file_block.file) ≡ true
+  pub lengths : (file_block : FileBlock) (bytes : List ℕ) → map.get layer.blocks file_block ≡ Some bytes → length bytes ≡ 4096
   pub cuts : (number : ℕ) (state : NodeState) → map.get layer.nodes number ≡ Some (Changed state) → state.cut ≤ state.size
 
 -- It fits a tree below: what isn't made anew is there, and blocks are zeros past the end of their file.

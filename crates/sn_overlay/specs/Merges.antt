@@ -19,5 +19,5 @@ unfoldable pub merge : Layer → Layer → Layer
 merge older newer = record {
   nodes = overlaid (map (λ e. (e.0, Some (change_over (map.get older.nodes e.0) e.1))) (map.entries newer.nodes)) older.nodes;
   names = overlaid (map (λ e. (e.0, Some e.1)) (map.entries newer.names)) (map.retain_keys older.names (λ link. not (hides_names (map.get newer.nodes link.directory))));
-  blocks = overlaid (map (λ e. (e.0, Some e.1)) (map.entries newer.blocks)) (map.retain_keys older.blocks (λ place. not (hides_block (map.get newer.nodes place.file) place.index)));
+  blocks = overlaid (map (λ e. (e.0, Some e.1)) (map.entries newer.blocks)) (map.retain_keys older.blocks (λ file_block. not (hides_block (map.get newer.nodes file_block.file) file_block.index)));
 }

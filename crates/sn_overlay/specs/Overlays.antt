@@ -6,11 +6,11 @@ use Rattle.std.specs.Global.{Global}
 use Rattle.std.specs.FinMap.{FinMap, empty, insert, from_entries}
 use Rattle.sn_model.specs.declared.link.Link.{Link}
 use Rattle.sn_model.specs.Tree.{link_cmp}
-use Rattle.sn_overlay.specs.declared.place.BlockPlace.{BlockPlace}
+use Rattle.sn_overlay.specs.declared.file_block.FileBlock.{FileBlock}
 use Rattle.sn_overlay.specs.declared.node.NodeChange.{NodeChange}
 use Rattle.sn_overlay.specs.declared.overlay.Overlay.{Overlay}
-use Rattle.sn_overlay.specs.Keys.{place_cmp}
-use Rattle.sn_overlay.specs.Sorted.{bytes_by_place}
+use Rattle.sn_overlay.specs.Keys.{file_block_cmp}
+use Rattle.sn_overlay.specs.Sorted.{bytes_by_file_block}
 use Rattle.sn_overlay.specs.Layers.{Layer}
 
 unfoldable pub nodes_of : List (ℕ × NodeChange) → FinMap nat_cmp NodeChange
@@ -19,8 +19,8 @@ nodes_of entries = from_entries entries
 unfoldable pub names_of : List (Link × Option ℕ) → FinMap link_cmp (Option ℕ)
 names_of entries = from_entries entries
 
-unfoldable pub blocks_of : List (BlockPlace × Box (List ℕ) Global) → FinMap place_cmp (List ℕ)
-blocks_of entries = from_entries (bytes_by_place entries)
+unfoldable pub blocks_of : List (FileBlock × Box (List ℕ) Global) → FinMap file_block_cmp (List ℕ)
+blocks_of entries = from_entries (bytes_by_file_block entries)
 
 abbrev pub layer_of : Overlay → Layer
 layer_of it = record { nodes = nodes_of it.nodes.entries.items; names = names_of it.names.entries.items; blocks = blocks_of it.blocks.entries.items }
@@ -56,5 +56,5 @@ with_node layer number change = record layer { nodes = insert layer.nodes number
 abbrev pub with_name : Layer → Link → Option ℕ → Layer
 with_name layer link number = record layer { names = insert layer.names link number }
 
-abbrev pub with_block : Layer → BlockPlace → List ℕ → Layer
-with_block layer place bytes = record layer { blocks = insert layer.blocks place bytes }
+abbrev pub with_block : Layer → FileBlock → List ℕ → Layer
+with_block layer file_block bytes = record layer { blocks = insert layer.blocks file_block bytes }

@@ -11,7 +11,7 @@ piece width bytes index = take width (drop (index * width) bytes ++ zeros width)
 
 -- so many bytes, each from its piece
 unfoldable pub joined : ℕ → ℕ → (ℕ → List ℕ) → List ℕ
-joined width size pieces = map (λ place. slice_index (pieces (place / width)) (place % width)) (range_with_len 0 size)
+joined width size pieces = map (λ file_block. slice_index (pieces (file_block / width)) (file_block % width)) (range_with_len 0 size)
 
 -- a block with zeros from a place on
 abbrev pub zeroed : ℕ → List ℕ → List ℕ

@@ -9,7 +9,7 @@ use Rattle.sn_overlay.specs.declared.node.NodeChange.{NodeChange}
 use Rattle.sn_overlay.specs.declared.node.NodeChange.TheVariants.{Gone, Changed}
 use Rattle.sn_overlay.specs.declared.node.NodeState.{NodeState}
 use Rattle.sn_overlay.specs.declared.node.SeenNode.{SeenNode}
-use Rattle.sn_overlay.specs.declared.place.BlockPlace.{BlockPlace}
+use Rattle.sn_overlay.specs.declared.file_block.FileBlock.{FileBlock}
 use Rattle.sn_overlay.specs.Pieces.{zeros, piece}
 use Rattle.sn_overlay.specs.Layers.{Layer, IsLayer, Fits, through, hides_block, bytes_of}
 use Rattle.sn_overlay.specs.Overlays.{with_node}
@@ -23,8 +23,8 @@ abbrev pub seen_node : Tree → ℕ → Option SeenNode
 seen_node tree number = option_map (seen_of tree number) (map.get tree.nodes number)
 
 -- a block of a file, with zeros behind its end
-abbrev pub seen_block : Tree → BlockPlace → List ℕ
-seen_block tree place = piece 4096 (bytes_of (map.get tree.nodes place.file)) place.index
+abbrev pub seen_block : Tree → FileBlock → List ℕ
+seen_block tree file_block = piece 4096 (bytes_of (map.get tree.nodes file_block.file)) file_block.index
 
 -- a node that was seen, as a layer has it where nothing of it changes
 abbrev pub kept_state : SeenNode → NodeState

@@ -4,7 +4,7 @@ ghost use Rattle.std.specs.FinMap as map;
 ghost use Rattle.sn_overlay.specs.Faults.{IfBelow};
 ghost use Rattle.sn_overlay.specs.Seen.{seen_node, seen_block};
 
-use crate::{Block, BlockPlace, LayerFault, SeenNode};
+use crate::{Block, FileBlock, LayerFault, SeenNode};
 use sn_model::Link;
 
 /// A tree below an overlay, as it is read.
@@ -53,12 +53,12 @@ pub trait Below {
         ensures cause { IfErr result (λ f. causes self.old self.new f) };
 
     /// Reads a block of a file, which is zeros where the file has ended. At `Err` the block may be any.
-    fn read_block(&mut self, place: BlockPlace, block: &mut Block) -> Result<(), Self::Fault>
+    fn read_block(&mut self, file_block: FileBlock, block: &mut Block) -> Result<(), Self::Fault>
         requires { holds self.old }
         ensures kept { holds self.new }
         ensures follows { follows self.old self.new }
         ensures same { IsTrue is_told → shows self.new ≡ shows self.old }
-        ensures found { IsTrue is_told → OnOk result (block.new ≡ seen_block (shows self.old) place) }
+        ensures found { IsTrue is_told → OnOk result (block.new ≡ seen_block (shows self.old) file_block) }
         ensures cause { IfErr result (λ f. causes self.old self.new f) };
 
     ghost follows_itself: { (v : Self) → follows v v };
@@ -104,17 +104,17 @@ pub(crate) fn number_of<B: Below>(
 
 pub(crate) fn block_of<B: Below>(
     below: &mut B,
-    place: BlockPlace,
+    file_block: FileBlock,
     block: &mut Block,
 ) -> Result<(), LayerFault<B::Fault>>
     requires { B.holds below.old }
     ensures kept { B.holds below.new }
     ensures follows { B.follows below.old below.new }
     ensures same { IsTrue B.is_told → B.shows below.new ≡ B.shows below.old }
-    ensures found { IsTrue B.is_told → OnOk result (block.new ≡ seen_block (B.shows below.old) place) }
+    ensures found { IsTrue B.is_told → OnOk result (block.new ≡ seen_block (B.shows below.old) file_block) }
     ensures cause { IfBelow result (λ f. B.causes below.old below.new f) }
 {
-    match below.read_block(place, block) {
+    match below.read_block(file_block, block) {
         Ok(()) => Ok(()),
         Err(fault) => Err(LayerFault::Below(fault)),
     }

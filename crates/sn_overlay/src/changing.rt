@@ -14,7 +14,7 @@ ghost use Rattle.std.specs.FinMap as map;
 
 use crate::below::{block_of, node_of, number_of};
 use crate::made::{add_name, boxed, lose_name, splice, touch, with_room, zero_from};
-use crate::{BLOCK_SIZE, Below, Block, BlockPlace, LayerFault, NodeChange, NodeState, Overlay};
+use crate::{BLOCK_SIZE, Below, Block, FileBlock, LayerFault, NodeChange, NodeState, Overlay};
 use sn_limits::{Kind, Limits};
 use sn_model::{Bytes, Change, Link, Ownership, Word};
 use std::alloc::{AllocError, Global};
@@ -171,7 +171,7 @@ fn rename<B: Below>(
 // A block as it is below. Where so many bytes fill it, it isn't read, and zeros stand for it.
 fn old_block<B: Below>(
     below: &mut B,
-    place: BlockPlace,
+    file_block: FileBlock,
     count: usize,
 ) -> Result<Block, LayerFault<B::Fault>>
     requires { B.holds below.old }
@@ -179,12 +179,12 @@ fn old_block<B: Below>(
     ensures follows { B.follows below.old below.new }
     ensures same { IsTrue B.is_told → B.shows below.new ≡ B.shows below.old }
     ensures long { IfOk result (λ block. length block ≡ 4096) }
-    ensures block { IsTrue B.is_told → count < 4096 → IfOk result (λ block. block ≡ seen_block (B.shows below.old) place) }
+    ensures block { IsTrue B.is_told → count < 4096 → IfOk result (λ block. block ≡ seen_block (B.shows below.old) file_block) }
     ensures cause { IfBelow result (λ f. B.causes below.old below.new f) }
 {
     let mut block = [0; BLOCK_SIZE];
     if count < BLOCK_SIZE {
-        block_of(below, place, &mut block)?;
+        block_of(below, file_block, &mut block)?;
     }
     Ok(block)
 }
@@ -193,25 +193,25 @@ fn old_block<B: Below>(
 fn written_block<B: Below>(
     alloc: Global,
     below: &mut B,
-    place: BlockPlace,
+    file_block: FileBlock,
     offset: u64,
     bytes: &[u8],
 ) -> Result<Box<Block>, LayerFault<B::Fault>>
     requires holds { B.holds below.old }
-    requires high { offset < (place.index + 1) * 4096 }
-    requires low { place.index * 4096 < offset + length bytes.now }
-    requires fits { place.index * 4096 < 2 ^ 64 }
+    requires high { offset < (file_block.index + 1) * 4096 }
+    requires low { file_block.index * 4096 < offset + length bytes.now }
+    requires fits { file_block.index * 4096 < 2 ^ 64 }
     ensures kept { B.holds below.new }
     ensures follows { B.follows below.old below.new }
     ensures same { IsTrue B.is_told → B.shows below.new ≡ B.shows below.old }
-    ensures block { IsTrue B.is_told → IfOk result (λ b. b.value ≡ piece 4096 (overwritten (bytes_of (map.get (B.shows below.old).nodes place.file)) offset bytes.now) place.index) }
+    ensures block { IsTrue B.is_told → IfOk result (λ b. b.value ≡ piece 4096 (overwritten (bytes_of (map.get (B.shows below.old).nodes file_block.file)) offset bytes.now) file_block.index) }
     ensures cause { IfBelow result (λ f. B.causes below.old below.new f) }
 {
-    let start = place.index * BLOCK_SIZE as u64;
+    let start = file_block.index * BLOCK_SIZE as u64;
     let from = offset.saturating_sub(start) as usize;
     let skip = start.saturating_sub(offset) as usize;
     let count = (bytes.len() - skip).min(BLOCK_SIZE - from);
-    let mut block = old_block(below, place, count)?;
+    let mut block = old_block(below, file_block, count)?;
     splice(&mut block, from, &bytes[skip..skip + count]);
     Ok(boxed(alloc, block)?)
 }
@@ -237,12 +237,12 @@ fn write_blocks<B: Below>(
     ensures cause { IfBelow result (λ f. B.causes below.old below.new f) }
 {
     for i in 0..count {
-        let place = BlockPlace {
+        let file_block = FileBlock {
             file: number,
             index: offset / BLOCK_SIZE as u64 + i,
         };
-        let block = written_block(alloc, below, place, offset, bytes)?;
-        overlay.set_block(place, block);
+        let block = written_block(alloc, below, file_block, offset, bytes)?;
+        overlay.set_block(file_block, block);
     }
     Ok(())
 }
@@ -301,14 +301,14 @@ fn resize<B: Below>(
         NodeChange::Changed(NodeState::kept(seen).resized(size)),
     );
     if cuts_block {
-        let place = BlockPlace {
+        let file_block = FileBlock {
             file: number,
             index: size / BLOCK_SIZE as u64,
         };
         let mut block = [0; BLOCK_SIZE];
-        block_of(below, place, &mut block)?;
+        block_of(below, file_block, &mut block)?;
         zero_from(&mut block, (size % BLOCK_SIZE as u64) as usize);
-        overlay.set_block(place, boxed(alloc, block)?);
+        overlay.set_block(file_block, boxed(alloc, block)?);
     }
     Ok(overlay)
 }

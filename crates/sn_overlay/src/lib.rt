@@ -33,17 +33,18 @@
 mod below;
 mod changing;
 mod fault;
+mod file_block;
 mod laws;
 mod made;
 mod node;
 mod overlay;
-mod place;
 mod sorted;
 mod through;
 
 pub use below::Below;
 pub use changing::of_change;
 pub use fault::LayerFault;
+pub use file_block::{BLOCK_SIZE, Block, FileBlock};
 pub use laws::{
     attributes_show, changes_are_layers, changes_are_paid, changes_count, changes_need,
     changes_show, cuts_keep, cuts_zero, drops_are_paid, layers_show_names, layers_show_nodes,
@@ -54,5 +55,4 @@ pub use laws::{
 };
 pub use node::{NodeChange, NodeState, SeenNode};
 pub use overlay::Overlay;
-pub use place::{BLOCK_SIZE, Block, BlockPlace};
 pub use through::Through;

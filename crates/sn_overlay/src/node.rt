@@ -2,7 +2,7 @@ ghost use Rattle.std.specs.Prelude.{◌≡◌};
 ghost use Rattle.std.specs.Option.{option_copied};
 ghost use Rattle.sn_overlay.specs.Layers.{hides_block, hides_names};
 
-use crate::place::BLOCK_SIZE;
+use crate::file_block::BLOCK_SIZE;
 use sn_limits::Kind;
 use sn_model::Ownership;
 
@@ -72,7 +72,7 @@ impl NodeState {
     {
         SeenNode {
             kind: self.kind,
-            ownership: copied_ownership(&self.ownership),
+            ownership: self.ownership.copy(),
             links: self.links,
             size: self.size,
         }
@@ -84,7 +84,7 @@ impl NodeState {
     {
         NodeState {
             kind,
-            ownership: copied_ownership(ownership),
+            ownership: ownership.copy(),
             links: 1,
             size: 0,
             cut: 0,
@@ -96,7 +96,7 @@ impl NodeState {
     pub(crate) fn owned(mut self, ownership: &Ownership) -> NodeState
         ensures { result ≡ with_ownership ownership.now self }
     {
-        self.ownership = copied_ownership(ownership);
+        self.ownership = ownership.copy();
         self.acl_changed = true;
         self
     }

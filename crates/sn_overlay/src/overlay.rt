@@ -5,9 +5,9 @@ ghost use Rattle.std.specs.FinMap as map;
 ghost use Rattle.sn_overlay.specs.Merges.{merge};
 ghost use Rattle.sn_overlay.specs.Overlays.{layer_of, no_changes, HasRoom, TakesRoom, sizes_of, with_node, with_name, with_block};
 
-use crate::place::Block;
+use crate::file_block::Block;
 use crate::sorted::SortedMap;
-use crate::{BlockPlace, NodeChange};
+use crate::{FileBlock, NodeChange};
 use sn_model::Link;
 use std::alloc::{AllocError, Global};
 
@@ -16,7 +16,7 @@ use std::alloc::{AllocError, Global};
 pub struct Overlay {
     nodes: SortedMap<u16, NodeChange>,
     names: SortedMap<Link, Option<u16>>,
-    blocks: SortedMap<BlockPlace, Box<Block>>,
+    blocks: SortedMap<FileBlock, Box<Block>>,
 }
 
 impl Overlay {
@@ -46,10 +46,10 @@ impl Overlay {
     }
 
     /// A block that was written.
-    pub fn block(&self, place: BlockPlace) -> Option<&Block>
-        ensures { option_copied result ≡ map.get (layer_of self.now).blocks place }
+    pub fn block(&self, file_block: FileBlock) -> Option<&Block>
+        ensures { option_copied result ≡ map.get (layer_of self.now).blocks file_block }
     {
-        match self.blocks.get(&place) {
+        match self.blocks.get(&file_block) {
             Some(block) => Some(block),
             None => None,
         }
@@ -110,12 +110,12 @@ impl Overlay {
     }
 
     /// A block was written. It takes no memory.
-    pub fn set_block(&mut self, place: BlockPlace, block: Box<Block>)
+    pub fn set_block(&mut self, file_block: FileBlock, block: Box<Block>)
         requires { HasRoom self.old (record { nodes = 0; names = 0; blocks = 1 }) }
-        ensures layer { layer_of self.new ≡ with_block (layer_of self.old) place block.value }
+        ensures layer { layer_of self.new ≡ with_block (layer_of self.old) file_block block.value }
         ensures taken { TakesRoom self.old self.new (record { nodes = 0; names = 0; blocks = 1 }) }
     {
-        self.blocks.insert(place, block);
+        self.blocks.insert(file_block, block);
     }
 
     /// Lays a newer overlay over this one, for which there is room. It takes no memory.

@@ -2,11 +2,11 @@
 ghost use Rattle.std.specs.Prelude.{◌≡◌, ◌+◌, ◌<◌, ◌≤◌, ℕ, [], IsTrue, IfOk, OnOk, vec_len, vec_capacity};
 ghost use Rattle.std.specs.Option.{option_copied};
 ghost use Rattle.std.specs.FinMap.Entries.{find, put, is_sorted};
-ghost use Rattle.sn_overlay.specs.Sorted.{FindsKey, newer_value, put_each, bytes_by_place};
+ghost use Rattle.sn_overlay.specs.Sorted.{FindsKey, newer_value, put_each, bytes_by_file_block};
 
+use crate::file_block::Block;
 use crate::node::{hides_block, hides_names};
-use crate::place::Block;
-use crate::{BlockPlace, NodeChange};
+use crate::{FileBlock, NodeChange};
 use sn_model::{Link, Word};
 use std::alloc::{AllocError, Global};
 
@@ -150,10 +150,10 @@ fn copied_link(alloc: Global, link: &Link) -> Result<Link, AllocError>
     })
 }
 
-impl SortedMap<BlockPlace, Box<Block>> {
+impl SortedMap<FileBlock, Box<Block>> {
     /// A copy: the same bytes at the same places.
     pub fn copy(&self, alloc: Global) -> Result<Self, AllocError>
-        ensures { IfOk result (λ copy. bytes_by_place copy.entries.items ≡ bytes_by_place self.now.entries.items) }
+        ensures { IfOk result (λ copy. bytes_by_file_block copy.entries.items ≡ bytes_by_file_block self.now.entries.items) }
     {
         let mut entries = Vec::with_capacity(alloc, self.entries.len())?;
         for entry in &self.entries {
@@ -165,12 +165,12 @@ impl SortedMap<BlockPlace, Box<Block>> {
     ghost use Rattle.std.specs.Prelude.{not};
     ghost use Rattle.std.specs.Ordering.{nat_cmp};
     ghost use Rattle.std.specs.FinMap.Entries.{where_key};
-    ghost use Rattle.sn_overlay.specs.Keys.{place_cmp};
+    ghost use Rattle.sn_overlay.specs.Keys.{file_block_cmp};
     ghost use Rattle.sn_overlay.specs.Layers.{hides_block};
 
     /// Lets those blocks go that newer changes of nodes hide.
     pub fn retain_seen(&mut self, nodes: &SortedMap<u16, NodeChange>)
-        ensures entries { self.new.entries.items ≡ where_key place_cmp (λ place. not (hides_block (find nat_cmp place.file nodes.now.entries.items) place.index)) self.old.entries.items }
+        ensures entries { self.new.entries.items ≡ where_key file_block_cmp (λ file_block. not (hides_block (find nat_cmp file_block.file nodes.now.entries.items) file_block.index)) self.old.entries.items }
         ensures len { vec_len self.new.entries ≤ vec_len self.old.entries }
         ensures kept { vec_capacity self.new.entries ≡ vec_capacity self.old.entries }
     {

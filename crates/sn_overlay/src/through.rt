@@ -5,7 +5,7 @@ ghost use Rattle.sn_overlay.specs.Seen.{block_shown};
 
 use crate::made::zero_from;
 use crate::node::{hides_block, hides_names};
-use crate::{Below, Block, BlockPlace, NodeChange, Overlay, SeenNode};
+use crate::{Below, Block, FileBlock, NodeChange, Overlay, SeenNode};
 use sn_model::Link;
 
 // Puts a block as an overlay shows it, unless that is the block below.
@@ -88,13 +88,13 @@ impl<'a, B: Below> Below for Through<'a, B> {
         self.below.link(link)
     }
 
-    fn read_block(&mut self, place: BlockPlace, block: &mut Block) -> Result<(), B::Fault> {
-        let change = self.overlay.node(place.file);
-        let written = self.overlay.block(place);
-        if shows_block(change, written, place.index, block) {
+    fn read_block(&mut self, file_block: FileBlock, block: &mut Block) -> Result<(), B::Fault> {
+        let change = self.overlay.node(file_block.file);
+        let written = self.overlay.block(file_block);
+        if shows_block(change, written, file_block.index, block) {
             return Ok(());
         }
-        self.below.read_block(place, block)
+        self.below.read_block(file_block, block)
     }
 
     ghost follows_itself = { λ v. B.follows_itself v.below.now };

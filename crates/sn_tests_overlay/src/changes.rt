@@ -3,10 +3,10 @@
 use crate::root::ownership;
 use crate::trees::Trees;
 use anyhow::{Context, Result, bail};
-use sn_model::{Bytes, Change};
-use sn_overlay::BlockPlace;
-use sn_table::Case;
 use sn_limits::Kind;
+use sn_model::{Bytes, Change};
+use sn_overlay::FileBlock;
+use sn_table::Case;
 use std::alloc::Global;
 
 /// A word of a case: what is done and to what, with colons between.
@@ -116,12 +116,12 @@ fn ask(trees: &Trees, step: Step<'_>, text: &mut String) -> Result<()> {
         "node" => trees.node(step.short(1)?, text),
         "name" => trees.name(step.short(1)?, step.part(2)?, text),
         "bytes" => {
-            let place = BlockPlace {
+            let file_block = FileBlock {
                 file: step.short(1)?,
                 index: step.number(2)?,
             };
             let (from, count) = (step.short(3)?, step.short(4)?);
-            trees.bytes(place, usize::from(from), usize::from(count), text)
+            trees.bytes(file_block, usize::from(from), usize::from(count), text)
         }
         other => bail!("no step: {other}"),
     }

@@ -1,9 +1,9 @@
 //! The tree below both overlays: a root directory without names.
 
 use sn_acl::{Acl, Mode, Permissions};
-use sn_model::{Link, Ownership};
-use sn_overlay::{BLOCK_SIZE, Below, Block, BlockPlace, SeenNode};
 use sn_limits::Kind;
+use sn_model::{Link, Ownership};
+use sn_overlay::{BLOCK_SIZE, Below, Block, FileBlock, SeenNode};
 use sn_walk::ROOT_NUMBER;
 use std::alloc::AllocError;
 
@@ -58,7 +58,7 @@ impl Below for Root {
         Ok(None)
     }
 
-    fn read_block(&mut self, _place: BlockPlace, block: &mut Block) -> Result<(), AllocError> {
+    fn read_block(&mut self, _file_block: FileBlock, block: &mut Block) -> Result<(), AllocError> {
         *block = [0; BLOCK_SIZE];
         Ok(())
     }

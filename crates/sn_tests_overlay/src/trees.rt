@@ -4,7 +4,7 @@ use crate::root::Root;
 use anyhow::{Result, bail};
 use sn_limits::{Kind, Limits};
 use sn_model::{Change, Link, Word};
-use sn_overlay::{BLOCK_SIZE, Below, BlockPlace, Overlay, Through, of_change};
+use sn_overlay::{BLOCK_SIZE, Below, FileBlock, Overlay, Through, of_change};
 use std::alloc::Global;
 
 #[derive(Drop)]
@@ -103,7 +103,7 @@ impl Trees {
     /// So many bytes of a block from a place on, with a dot for each zero.
     pub fn bytes(
         &self,
-        place: BlockPlace,
+        file_block: FileBlock,
         from: usize,
         count: usize,
         text: &mut String,
@@ -118,7 +118,7 @@ impl Trees {
             below: &mut frozen,
         };
         let mut block = [0; BLOCK_SIZE];
-        shown.read_block(place, &mut block)?;
+        shown.read_block(file_block, &mut block)?;
         for byte in block.iter().skip(from).take(count) {
             text.push(if *byte == 0 { '.' } else { char::from(*byte) })?;
         }

@@ -3,7 +3,7 @@ use Rattle.std.specs.FinMap as map
 use Rattle.sn_model.specs.Tree.{Tree}
 use Rattle.sn_model.specs.Changes.{overwritten}
 use Rattle.sn_overlay.specs.ChangeLayers.{with_blocks}
-use Rattle.sn_overlay.specs.Keys.{block_place}
+use Rattle.sn_overlay.specs.Keys.{file_block_at}
 use Rattle.sn_overlay.specs.Layers.{bytes_of}
 use Rattle.sn_overlay.specs.Overlays.{layer_of, with_block}
 use Rattle.sn_overlay.specs.Pieces.{piece}
@@ -31,8 +31,8 @@ loop-i-preserved g c =
       same = λ told. c.written_block.ensures.same told ∙ c.loop-i.invariant.same told;
       layer = λ told.
           c.set_block.ensures.layer
-          ∙ ap (λ layer. with_block layer (block_place number (first + c.loop-i.i)) c.in_ok-block.block.value) (c.loop-i.invariant.layer told)
-          ∙ ap (λ bytes. with_block (with_blocks (layer_of c.args.overlay.now) number (piece 4096 (new tree)) first c.loop-i.i) (block_place number (first + c.loop-i.i)) bytes)
+          ∙ ap (λ layer. with_block layer (file_block_at number (first + c.loop-i.i)) c.in_ok-block.block.value) (c.loop-i.invariant.layer told)
+          ∙ ap (λ bytes. with_block (with_blocks (layer_of c.args.overlay.now) number (piece 4096 (new tree)) first c.loop-i.i) (file_block_at number (first + c.loop-i.i)) bytes)
           (c.in_ok-block.ensures.block told ∙ ap (λ t. piece 4096 (new t) (first + c.loop-i.i)) (c.loop-i.invariant.same told))
           ∙ sym (blocks_next (layer_of c.args.overlay.now) number (piece 4096 (new tree)) first c.loop-i.i);
       room = record {

@@ -7,5 +7,5 @@ use Rattle.sn_overlay.proofs.changing.written_block.Goals as goal
 pub returns-clause-block : goal.returns-clause-block
 returns-clause-block g c told =
     c.in_ok-boxed.ensures ∙ c.splice.ensures
-    ∙ block_written (bytes_of (map.get (g.B.Below.shows c.args.below.now).nodes c.args.place.file)) c.args.offset c.args.bytes.now c.args.place.index c.in_ok-block.block
+    ∙ block_written (bytes_of (map.get (g.B.Below.shows c.args.below.now).nodes c.args.file_block.file)) c.args.offset c.args.bytes.now c.args.file_block.index c.in_ok-block.block
     c.saturating_sub-from.result c.saturating_sub-skip.result c.min-count.result c.requires.high c.requires.low c.in_ok-block.ensures.long (omega arith) (omega arith) (omega arith) (λ few. c.in_ok-block.ensures.block told few)

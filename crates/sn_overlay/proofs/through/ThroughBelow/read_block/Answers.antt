@@ -12,19 +12,19 @@ pub returns-then-shows_block-clause-found : goal.returns-then-shows_block-clause
 returns-then-shows_block-clause-found g c told =
     let layer = layer_of c.args.self.now.overlay.now in
     let tree = g.B.Below.shows c.args.self.now.below.now in
-    let place = c.args.place in
-    sym (seen_block-through layer tree place (c.requires.1 told)
-    ∙ ap (λ (change : Option NodeChange). block_shown change (map.get layer.blocks place) place.index (seen_block tree place)) (sym c.node-change.ensures)
-    ∙ ap (λ (written : Option (List ℕ)). block_shown (option_copied c.node-change.result) written place.index (seen_block tree place)) (sym c.block-written.ensures)
-    ∙ c.shows_block.ensures.shown c.if-shows_block.true (seen_block tree place))
+    let file_block = c.args.file_block in
+    sym (seen_block-through layer tree file_block (c.requires.1 told)
+    ∙ ap (λ (change : Option NodeChange). block_shown change (map.get layer.blocks file_block) file_block.index (seen_block tree file_block)) (sym c.node-change.ensures)
+    ∙ ap (λ (written : Option (List ℕ)). block_shown (option_copied c.node-change.result) written file_block.index (seen_block tree file_block)) (sym c.block-written.ensures)
+    ∙ c.shows_block.ensures.shown c.if-shows_block.true (seen_block tree file_block))
 
 pub returns-clause-found : goal.returns-clause-found
 returns-clause-found g c told =
     let layer = layer_of c.args.self.now.overlay.now in
     let tree = g.B.Below.shows c.args.self.now.below.now in
-    let place = c.args.place in
-    let same : seen_block tree place ≡ seen_block (through layer tree) place = sym (seen_block-through layer tree place (c.requires.1 told)
-    ∙ ap (λ (change : Option NodeChange). block_shown change (map.get layer.blocks place) place.index (seen_block tree place)) (sym c.node-change.ensures)
-    ∙ ap (λ (written : Option (List ℕ)). block_shown (option_copied c.node-change.result) written place.index (seen_block tree place)) (sym c.block-written.ensures)
-    ∙ c.shows_block.ensures.below c.if-shows_block.false (seen_block tree place)) in
+    let file_block = c.args.file_block in
+    let same : seen_block tree file_block ≡ seen_block (through layer tree) file_block = sym (seen_block-through layer tree file_block (c.requires.1 told)
+    ∙ ap (λ (change : Option NodeChange). block_shown change (map.get layer.blocks file_block) file_block.index (seen_block tree file_block)) (sym c.node-change.ensures)
+    ∙ ap (λ (written : Option (List ℕ)). block_shown (option_copied c.node-change.result) written file_block.index (seen_block tree file_block)) (sym c.block-written.ensures)
+    ∙ c.shows_block.ensures.below c.if-shows_block.false (seen_block tree file_block)) in
     subst (λ (bytes : List ℕ). OnOk c.read_block.result (c.read_block.new.block ≡ bytes)) same (c.read_block.ensures.found told)

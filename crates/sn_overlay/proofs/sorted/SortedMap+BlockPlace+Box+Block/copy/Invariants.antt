@@ -1,6 +1,0 @@
-use Rattle.std.proofs.Common.{◌≡◌, take}
-use Rattle.sn_overlay.specs.Sorted.{bytes_by_place}
-use Rattle.sn_overlay.proofs.sorted.SortedMap+BlockPlace+Box+Block.copy.Given as goal
-
-abbrev pub invariant-loop-entry : goal.invariant-loop-entry
-invariant-loop-entry l = bytes_by_place l.entries.items ≡ bytes_by_place (take l.entry-index l.self.entries.items)
