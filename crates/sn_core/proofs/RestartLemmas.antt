@@ -11,10 +11,6 @@ use Rattle.sn_core.specs.declared.world.PlainWorld.{PlainWorld}
 use Rattle.sn_core.specs.Plain.{world_of}
 use Rattle.sn_core.specs.PlainRuns.{TakesLeast}
 
--- files without names go, and nobody is logged in any more
-pub settles : (old new : PlainWorld) → tree_of new.tree ≡ settled (tree_of old.tree) → new.sessions.items ≡ replicate 64 None → world_of new ≡ settle (world_of old)
-settles old new tree out = λ i. record { live = tree i; frozen = map.empty; sessions = out i; descriptors = map.empty }
-
 none_of_both : (b : Bool) → cond {A = Option Node} b None None ≡ None
 none_of_both true = refl
 none_of_both false = refl

@@ -54,15 +54,6 @@ use Rattle.sn_core.proofs.RestartLemmas.{settled_least}
 use Rattle.sn_core.specs.PlainRuns.{PlainRun, PlainStep, TakesLeast}
 use Rattle.sn_core.specs.Served.{Chooses, HasNumber, MakesChange}
 
-pub mkdir_decided : (world : World) (session : ℕ) (path : List ℕ) (mode : ℕ) (caller : Session) (names : List (List ℕ)) (bits : Mode) (outcome : Outcome) → logged_in world session ≡ Ok caller → path_argument path ≡ Ok names → new_mode_argument mode ≡ Ok bits → mkdir_outcome version_1 (seen version_1 world) caller names bits ≡ Ok outcome → decision version_1 world session (Mkdir path mode) ≡ Ok outcome
-mkdir_decided world session path mode caller names bits outcome a b d e = rw (a, b, d, e)
-
-pub stat_decided : (world : World) (session : ℕ) (path : List ℕ) (caller : Session) (names : List (List ℕ)) (outcome : Outcome) → logged_in world session ≡ Ok caller → path_argument path ≡ Ok names → stat_outcome (viewed_trees (trees_of world)) caller names ≡ Ok outcome → decision version_1 world session (Stat path) ≡ Ok outcome
-stat_decided world session path caller names outcome a b e = rw (a, b, e)
-
-pub login_decided : (world : World) (session uid gid : ℕ) (groups : List ℕ) (outcome : Outcome) → logged_out world session ≡ Ok tt → outcome ≡ opens (new_session uid gid groups) → decision version_1 world session (Login uid gid groups) ≡ Ok outcome
-login_decided world session uid gid groups outcome out e = rw out (ap (λ (o : Outcome). Ok o) (sym e))
-
 -- where nothing changes, nothing new has a number
 pub same_least : (old new : World) → new.live ≡ old.live → TakesLeast old new
 same_least old new same number none some = absurd (true≢false (sym some ∙ ap (λ (t : Tree). is_some (map.get t.nodes number)) same ∙ ap is_some none))

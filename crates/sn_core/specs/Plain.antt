@@ -1,21 +1,14 @@
 -- What the live tree in memory and the sessions stand for.
 use Rattle.std.specs.Prelude.{◌≡◌, vec_len}
 use Rattle.std.specs.FinMap as map
-use Rattle.sn_limits.specs.Versions.{version_1}
-use Rattle.sn_model.specs.Calls.{Seen}
-use Rattle.sn_model.specs.Tests.{has_room}
 use Rattle.sn_model.specs.Tree.{Tree}
-use Rattle.sn_model.specs.World.{Trees, World, viewed_trees}
+use Rattle.sn_model.specs.World.{Trees, World}
 use Rattle.sn_plain.specs.Plain.{tree_of}
 use Rattle.sn_core.specs.declared.world.PlainWorld.{PlainWorld}
 
 -- there are no snapshots yet
 abbrev pub plain_trees : Tree → Trees
 plain_trees tree = record { live = tree; frozen = map.empty }
-
--- what is decided over
-abbrev pub seen_in : Tree → Seen
-seen_in tree = record { trees = viewed_trees (plain_trees tree); room = has_room version_1 tree }
 
 -- there are no snapshots and no open files yet
 abbrev pub world_of : PlainWorld → World

@@ -20,7 +20,7 @@ links_fit limits tree after link number most e =
     let p = linked_is limits tree link number after e in
     let is = file_is tree number p.node p.file in
     subst (λ (found : Option Node). IfSome (option_map (seen_of tree number) found) (λ file. file.links + 1 < 2 ^ 16)) (sym is.0)
-    (fewer p.node (ap (λ kind. link_count kind (names_for tree number)) (file_kind p.node.kind is.1)) (ltb-true (names_for tree number) limits.links p.file_block.links))
+    (fewer p.node (ap (λ kind. link_count kind (names_for tree number)) (file_kind p.node.kind is.1)) (ltb-true (names_for tree number) limits.links p.room.links))
   where
     fewer : (node : Node) → link_count node.kind (names_for tree number) ≡ names_for tree number → names_for tree number < limits.links → (seen_of tree number node).links + 1 < 2 ^ 16
     fewer node same less = omega arith

@@ -13,7 +13,7 @@ use Rattle.sn_model.specs.declared.link.Link.{Link}
 use Rattle.sn_model.specs.Tree.{Node, Tree, link_cmp, link_to}
 use Rattle.sn_model.specs.Changes.{made, linked, removed, renamed, written, cut, overwritten, resized, apply}
 use Rattle.sn_model.specs.NameTree.{IsHierarchy}
-use Rattle.sn_model.proofs.PartLemmas.{made_is, linked_is, removed_is, renamed_is, written_is, cut_is, file_is, directory_is, Placed, Renamed, IsRenamed}
+use Rattle.sn_model.proofs.PartLemmas.{made_is, linked_is, removed_is, renamed_is, written_is, cut_is, file_is, directory_is, HasRoomFor, Renamed, IsRenamed}
 use Rattle.sn_model.proofs.LinkLemmas.{exact_links, links_total}
 use Rattle.sn_overlay.specs.declared.node.NodeChange.TheVariants.{Changed}
 use Rattle.sn_overlay.specs.Pieces.{piece, zeroed}
@@ -33,7 +33,7 @@ some_there : (o : Option Node) (node : Node) → o ≡ Some node → is_some o �
 some_there o node e = ap is_some e
 
 -- a directory that has a name
-parent_there : (limits : Limits) (tree : Tree) (link : Link) (number : ℕ) → Placed limits tree link number → is_some (map.get tree.nodes link.directory) ≡ true
+parent_there : (limits : Limits) (tree : Tree) (link : Link) (number : ℕ) → HasRoomFor limits tree link number → is_some (map.get tree.nodes link.directory) ≡ true
 parent_there limits tree link number p = some_there (map.get tree.nodes link.directory) p.directory (directory_is tree link.directory p.directory p.parent).0
 
 held_there : (tree : Tree) (link : Link) (number : ℕ) → IsHierarchy tree → map.get tree.links link ≡ Some number → is_some (map.get tree.nodes link.directory) ≡ true
@@ -67,7 +67,7 @@ make_whole limits tree after link number kind o e =
     let parent = touching tree link.directory no_changes in
     named (with_node parent number (Changed (new_state kind o))) tree link (Some number)
     (sound_with parent tree number (Changed (new_state kind o)) (sound_touching no_changes tree link.directory (sound_none tree)) (sound_new tree number kind o))
-    (has_with parent number (Changed (new_state kind o)) link.directory (has_changed no_changes tree link.directory (λ state. state) (parent_there limits tree link number p.file_block)))
+    (has_with parent number (Changed (new_state kind o)) link.directory (has_changed no_changes tree link.directory (λ state. state) (parent_there limits tree link number p.room)))
 
 keeps_more : KeepsBytes one_name_more
 keeps_more s = (refl, refl)
@@ -78,7 +78,7 @@ link_whole limits tree after link number e =
     let parent = touching tree link.directory no_changes in
     named (changing tree number one_name_more parent) tree link (Some number)
     (sound_changing parent tree number one_name_more keeps_more (sound_touching no_changes tree link.directory (sound_none tree)))
-    (has_changing parent tree number one_name_more link.directory (has_changed no_changes tree link.directory (λ state. state) (parent_there limits tree link number p.file_block)))
+    (has_changing parent tree number one_name_more link.directory (has_changed no_changes tree link.directory (λ state. state) (parent_there limits tree link number p.room)))
 
 remove_whole : (tree after : Tree) (link : Link) → IsHierarchy tree → removed tree link ≡ Some after → IsWhole (remove_layer tree link) tree
 remove_whole tree after link h e =

@@ -22,7 +22,7 @@ use Rattle.sn_model.proofs.CountLemmas.{count_inserted, count_removed}
 use Rattle.sn_model.proofs.KeepLemmas.{vacant_absent, replaced_clears}
 use Rattle.sn_model.proofs.LinkLemmas.{exact_links, links_total}
 use Rattle.sn_model.proofs.NameLemmas.{names_for_more, names_for_other, no_names_for}
-use Rattle.sn_model.proofs.PartLemmas.{made_is, linked_is, removed_is, renamed_is, replaced_is, unlinked_is, written_is, cut_is, owned_is, file_is, directory_is, Placed, Unlinked, Renamed, IsRenamed}
+use Rattle.sn_model.proofs.PartLemmas.{made_is, linked_is, removed_is, renamed_is, replaced_is, unlinked_is, written_is, cut_is, owned_is, file_is, directory_is, HasRoomFor, Unlinked, Renamed, IsRenamed}
 use Rattle.sn_overlay.specs.declared.node.NodeChange.{NodeChange}
 use Rattle.sn_overlay.specs.declared.node.NodeChange.TheVariants.{Gone, Changed}
 use Rattle.sn_overlay.specs.declared.node.NodeState.{NodeState}
@@ -65,7 +65,7 @@ more_link Directory a b e h = absurd (true≢false (sym e))
 abbrev IsDirectory : Tree → ℕ → Type 0
 IsDirectory tree number = (node : Node) → map.get tree.nodes number ≡ Some node → is_directory node.kind ≡ true
 
-placed_directory : (limits : Limits) (tree : Tree) (link : Link) (number : ℕ) → Placed limits tree link number → IsDirectory tree link.directory
+placed_directory : (limits : Limits) (tree : Tree) (link : Link) (number : ℕ) → HasRoomFor limits tree link number → IsDirectory tree link.directory
 placed_directory limits tree link number p node e =
     let is = directory_is tree link.directory p.directory p.parent in
     ap (λ (n : Node). is_directory n.kind) (some_same _ _ (sym e ∙ is.0)) ∙ is.1
@@ -108,7 +108,7 @@ make_counts limits tree after link number kind o h e =
     subst (λ (t : Tree). CountsNames (make_layer tree link number kind o) tree t) p.gives
     (counts (make_layer tree link number kind o) tree (put_link there link number)
     (every_with nat_cmp_total exact_unsigned parent.nodes (Counted (put_link there link number)) number change
-    (every_touching no_changes tree (put_link there link number) link.directory (placed_directory limits tree link number p.file_block) (every_none _ (Counted (put_link there link number))))
+    (every_touching no_changes tree (put_link there link number) link.directory (placed_directory limits tree link number p.room) (every_none _ (Counted (put_link there link number))))
     (first_link kind (names_for (put_link there link number) number) (names_for_more there link number absent number refl ∙ ap (λ n. n + 1) zero)))
     (λ q none. names_for_other there link number absent q (apart_from (with_node parent number change) number q (has_it parent number change) none)))
 
@@ -122,7 +122,7 @@ link_counts limits tree after link number e =
     subst (λ (t : Tree). CountsNames (link_layer tree link number) tree t) p.gives
     (counts (link_layer tree link number) tree new
     (every_change parent tree number one_name_more (map.get tree.nodes number) (Counted new) refl
-    (every_touching no_changes tree new link.directory (placed_directory limits tree link number p.file_block) (every_none _ (Counted new)))
+    (every_touching no_changes tree new link.directory (placed_directory limits tree link number p.room) (every_none _ (Counted new)))
     (λ node f. more_link node.kind (names_for tree number) (names_for new number)
     (ap (λ (n : Node). is_file n.kind) (some_same _ _ (sym f ∙ is.0)) ∙ is.1)
     (names_for_more tree link number absent number refl)))

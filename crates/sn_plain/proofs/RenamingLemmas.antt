@@ -12,7 +12,7 @@ use Rattle.sn_walk.specs.Views.{is_directory}
 use Rattle.sn_limits.specs.declared.limits.Limits.{Limits}
 use Rattle.sn_model.specs.declared.link.Link.{Link}
 use Rattle.sn_model.specs.Tree.{Node, Tree, link_cmp, names_in, names_for}
-use Rattle.sn_model.specs.Changes.{chain_up, directory_at, exchanged, file_at, has_place, is_new_name, moved, put_link, removed, renamed, replaced, same_number, take_link, take_node}
+use Rattle.sn_model.specs.Changes.{chain_up, directory_at, exchanged, file_at, has_room_for, is_new_name, moved, put_link, removed, renamed, replaced, same_number, take_link, take_node}
 use Rattle.sn_model.specs.Chains.{◌>>=◌, only_if}
 use Rattle.sn_model.specs.NameTree.{HasKind, IsHierarchy, IsTree}
 use Rattle.sn_model.proofs.ChainLemmas.{some_bind, some_same}
@@ -26,7 +26,7 @@ use Rattle.sn_model.proofs.PartLemmas.{directory_is, replaced_is, Replaced, remo
 use Rattle.sn_plain.specs.declared.nodes.Nodes.{Nodes}
 use Rattle.sn_plain.specs.declared.nodes.StoredNode.{StoredNode}
 use Rattle.sn_plain.specs.Maps.{updated}
-use Rattle.sn_plain.specs.Moves.{has_place_left, names_left}
+use Rattle.sn_plain.specs.Moves.{has_room_left, names_left}
 use Rattle.sn_plain.specs.Stored.{counts_of, nodes_of, stored_of, node_of, Clears, fewer_at, more_at, recount, under, HasDirectory, IsCounted, IsMovable, Moves, Recounts}
 use Rattle.sn_plain.proofs.CountedLemmas.{Stored, after_loss, was_counted, counted_link, counted_loss, counted_tree, counted_under, counted_unlink}
 use Rattle.sn_plain.proofs.MakingLemmas.{directory_removed, file_removed, is_directory_kind, links_kept, names_kept, no_links_left, no_names_left, number_low, only_name, stored_there}
@@ -273,38 +273,38 @@ module _ (limits : Limits) (tree : Tree) (old new : Link) (number : ℕ) (node :
   some_only true = refl
   some_only false = refl
 
-  room_left : (d : Node) (cleared : Tree) → directory_at tree new.directory ≡ Some d → replaced tree new node target ≡ Some cleared → is_some (exchanged limits cleared old new number) ≡ has_place_left limits tree old new number target
+  room_left : (d : Node) (cleared : Tree) → directory_at tree new.directory ≡ Some d → replaced tree new node target ≡ Some cleared → is_some (exchanged limits cleared old new number) ≡ has_room_left limits tree old new number target
   room_left d cleared g e =
       let c = cleared_is tree new node cleared target there e in
       let same : directory_at (take_link cleared old) new.directory ≡ Some d = ap (λ (o : Option Node). o >>= (λ x. only_if (is_directory x.kind) >>= (λ _. Some x))) c.place ∙ g in
       let test = λ (o : Option Node). is_some (o >>= (λ _. only_if (nat_lt (names_in (take_link cleared old) new.directory) limits.names && nat_lt (names_for (take_link cleared old) number) limits.links))) in
-      some_then (has_place limits (take_link cleared old) new number) (put_link (take_link cleared old) new number)
+      some_then (has_room_for limits (take_link cleared old) new number) (put_link (take_link cleared old) new number)
       ∙ ap test same
       ∙ some_only _
       ∙ (λ i. nat_lt (names_are_left tree old new number target cleared named there apart c i) limits.names && nat_lt (links_left tree old new number target cleared named there apart c i) limits.links)
 
-  pub moved_tested : is_some (moved limits tree old new number node) ≡ (is_some (directory_at tree new.directory) && (is_new_name tree new number node && (is_some (replaced tree new node target) && has_place_left limits tree old new number target)))
+  pub moved_tested : is_some (moved limits tree old new number node) ≡ (is_some (directory_at tree new.directory) && (is_new_name tree new number node && (is_some (replaced tree new node target) && has_room_left limits tree old new number target)))
   moved_tested =
       ap (λ (t : Option ℕ). is_some (directory_at tree new.directory >>= (λ _. only_if (is_new_name tree new number node) >>= (λ _. replaced tree new node t >>= (λ cleared. exchanged limits cleared old new number))))) there
       ∙ told (directory_at tree new.directory) refl (is_new_name tree new number node) (replaced tree new node target) refl
     where
-      told : (d : Option Node) → directory_at tree new.directory ≡ d → (b : Bool) (c : Option Tree) → replaced tree new node target ≡ c → is_some (d >>= (λ _. only_if b >>= (λ _. c >>= (λ cleared. exchanged limits cleared old new number)))) ≡ (is_some d && (b && (is_some c && has_place_left limits tree old new number target)))
+      told : (d : Option Node) → directory_at tree new.directory ≡ d → (b : Bool) (c : Option Tree) → replaced tree new node target ≡ c → is_some (d >>= (λ _. only_if b >>= (λ _. c >>= (λ cleared. exchanged limits cleared old new number)))) ≡ (is_some d && (b && (is_some c && has_room_left limits tree old new number target)))
       told None g b c e = refl
       told (Some d) g false c e = refl
       told (Some d) g true None e = refl
       told (Some d) g true (Some cleared) e = room_left d cleared g e
 
   pub no_directory : is_some (directory_at tree new.directory) ≡ false → false ≡ is_some (moved limits tree old new number node)
-  no_directory e = sym (moved_tested ∙ first_false (is_some (directory_at tree new.directory)) (is_new_name tree new number node) (is_some (replaced tree new node target)) (has_place_left limits tree old new number target) e)
+  no_directory e = sym (moved_tested ∙ first_false (is_some (directory_at tree new.directory)) (is_new_name tree new number node) (is_some (replaced tree new node target)) (has_room_left limits tree old new number target) e)
 
   pub no_name : is_new_name tree new number node ≡ false → false ≡ is_some (moved limits tree old new number node)
-  no_name e = sym (moved_tested ∙ second_false (is_some (directory_at tree new.directory)) (is_new_name tree new number node) (is_some (replaced tree new node target)) (has_place_left limits tree old new number target) e)
+  no_name e = sym (moved_tested ∙ second_false (is_some (directory_at tree new.directory)) (is_new_name tree new number node) (is_some (replaced tree new node target)) (has_room_left limits tree old new number target) e)
 
   pub not_replaced : is_some (replaced tree new node target) ≡ false → false ≡ is_some (moved limits tree old new number node)
-  not_replaced e = sym (moved_tested ∙ third_false (is_some (directory_at tree new.directory)) (is_new_name tree new number node) (is_some (replaced tree new node target)) (has_place_left limits tree old new number target) e)
+  not_replaced e = sym (moved_tested ∙ third_false (is_some (directory_at tree new.directory)) (is_new_name tree new number node) (is_some (replaced tree new node target)) (has_room_left limits tree old new number target) e)
 
-  pub room_decides : is_some (directory_at tree new.directory) ≡ true → is_new_name tree new number node ≡ true → is_some (replaced tree new node target) ≡ true → has_place_left limits tree old new number target ≡ is_some (moved limits tree old new number node)
-  room_decides e f g = sym (moved_tested ∙ all_true (is_some (directory_at tree new.directory)) (is_new_name tree new number node) (is_some (replaced tree new node target)) (has_place_left limits tree old new number target) e f g)
+  pub room_decides : is_some (directory_at tree new.directory) ≡ true → is_new_name tree new number node ≡ true → is_some (replaced tree new node target) ≡ true → has_room_left limits tree old new number target ≡ is_some (moved limits tree old new number node)
+  room_decides e f g = sym (moved_tested ∙ all_true (is_some (directory_at tree new.directory)) (is_new_name tree new number node) (is_some (replaced tree new node target)) (has_room_left limits tree old new number target) e f g)
 
 -- a name that isn't there can't be moved
 pub renamed_none : (limits : Limits) (tree : Tree) (old new : Link) → map.get tree.links old ≡ None → renamed limits tree old new ≡ None
@@ -404,12 +404,12 @@ module _ (limits l : Limits) (tree : Tree) (whole : IsTree l tree) (old new : Li
       exchange cleared None e = absurd (true≢false (sym e))
       exchange cleared (Some u) e = refl
 
-      told : (d : Option Node) → directory_at tree new.directory ≡ d → (b : Bool) → is_new_name tree new number node ≡ b → (c : Option Tree) → replaced tree new node target ≡ c → (is_some d && (b && (is_some c && has_place_left limits tree old new number target))) ≡ true → IsMoved
+      told : (d : Option Node) → directory_at tree new.directory ≡ d → (b : Bool) → is_new_name tree new number node ≡ b → (c : Option Tree) → replaced tree new node target ≡ c → (is_some d && (b && (is_some c && has_room_left limits tree old new number target))) ≡ true → IsMoved
       told None g b e c f h = absurd (true≢false (sym h))
       told (Some d) g false e c f h = absurd (true≢false (sym h))
       told (Some d) g true e None f h = absurd (true≢false (sym h))
       told (Some d) g true e (Some cleared) f h =
-          let room : is_some (has_place limits (take_link cleared old) new number) ≡ true = sym (some_then limits tree old new number node target named there apart (has_place limits (take_link cleared old) new number) (put_link (take_link cleared old) new number)) ∙ room_left limits tree old new number node target named there apart d cleared g f ∙ h in
+          let room : is_some (has_room_for limits (take_link cleared old) new number) ≡ true = sym (some_then limits tree old new number node target named there apart (has_room_for limits (take_link cleared old) new number) (put_link (take_link cleared old) new number)) ∙ room_left limits tree old new number node target named there apart d cleared g f ∙ h in
           record {
             directory = d;
             parent = g;
@@ -419,7 +419,7 @@ module _ (limits l : Limits) (tree : Tree) (whole : IsTree l tree) (old new : Li
                 given ∙ ap (λ (o : Option Node). o >>= (λ _. only_if (is_new_name tree new number node) >>= (λ _. replaced tree new node target >>= (λ cleared. exchanged limits cleared old new number)))) g
                 ∙ ap (λ b. only_if b >>= (λ _. replaced tree new node target >>= (λ cleared. exchanged limits cleared old new number))) e
                 ∙ ap (λ (o : Option Tree). o >>= (λ cleared. exchanged limits cleared old new number)) f
-                ∙ exchange cleared (has_place limits (take_link cleared old) new number) room;
+                ∙ exchange cleared (has_room_for limits (take_link cleared old) new number) room;
           }
 
   left : Cleared tree new target parts.cleared

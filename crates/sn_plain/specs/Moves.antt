@@ -9,5 +9,5 @@ abbrev pub names_left : Tree → Link → Link → Option ℕ → ℕ
 names_left tree old new target = names_in tree new.directory - ((if is_some target then 1 else 0) + (if old.directory == new.directory then 1 else 0))
 
 -- there is a place for one more
-abbrev pub has_place_left : Limits → Tree → Link → Link → ℕ → Option ℕ → Bool
-has_place_left limits tree old new number target = nat_lt (names_left tree old new target) limits.names && nat_lt (names_for tree number - 1) limits.links
+abbrev pub has_room_left : Limits → Tree → Link → Link → ℕ → Option ℕ → Bool
+has_room_left limits tree old new number target = nat_lt (names_left tree old new target) limits.names && nat_lt (names_for tree number - 1) limits.links

@@ -14,7 +14,7 @@ use sn_model::Link;
 
 impl PlainTree {
     ghost use Rattle.sn_plain.specs.Plain.{tree_of, Applies};
-    ghost use Rattle.sn_plain.specs.Moves.{has_place_left, names_left};
+    ghost use Rattle.sn_plain.specs.Moves.{has_room_left, names_left};
 
     fn is_directory_at(&self, number: u16) -> bool
         ensures { result ≡ is_some (directory_at (tree_of self.now) number) }
@@ -73,7 +73,7 @@ impl PlainTree {
 
     /// Whether the new directory has a place for the name, and the number may have it, once the old
     /// name is gone and what had the new one.
-    fn has_place_left(
+    fn has_room_left(
         &self,
         limits: &Limits,
         old: &Link,
@@ -81,7 +81,7 @@ impl PlainTree {
         number: u16,
         target: Option<u16>,
     ) -> bool
-        ensures exact { result ≡ has_place_left limits.now (tree_of self.now) old.now new.now number target }
+        ensures exact { result ≡ has_room_left limits.now (tree_of self.now) old.now new.now number target }
         ensures names { IsTrue result → names_left (tree_of self.now) old.now new.now target + 1 < 2 ^ 64 }
         ensures links { IsTrue result → names_for (tree_of self.now) number - 1 + 1 < 2 ^ 16 }
     {
@@ -119,7 +119,7 @@ impl PlainTree {
         if !self.is_new_name(new, number, node.kind) {
             return false;
         }
-        self.has_place_left(limits, old, new, number, target)
+        self.has_room_left(limits, old, new, number, target)
     }
 
     /// Moves a name. What had the new name loses it, as by `remove`. Where both are names of one

@@ -46,13 +46,13 @@ applied_spelled tree after directory name number kind o whole e =
     let first = nat_lt 2 number in
     let within = nat_le number 65535 in
     let free = is_none (map.get tree.nodes number) || (is_some (file_at tree number) && names_for tree number == 0) in
-    let parent = directory_is tree directory m.place.directory m.place.parent in
+    let parent = directory_is tree directory m.room.directory m.room.parent in
     let named = is_name name in
     let shown = not (is_hidden_name directory name) in
     let few = leb-true number 65535 (and_right first within (and_left (first && within) free m.free)) in
     (
       (
-        fits_two directory (whole.nodes.nodes directory m.place.directory parent.0).within,
+        fits_two directory (whole.nodes.nodes directory m.room.directory parent.0).within,
         fits_two number few,
         ownership_is kind o m.owned,
       ),
