@@ -1,0 +1,185 @@
+//! Lists of calls that a failure of the device cuts short, and crashes.
+//!
+//! What is wanted is that all is there that was acknowledged, and beside it at most what was in flight;
+//! that a mount that is cut short and crashes leaves that as it is; and that the calls go on behind it.
+
+use crate::directories::{ALL, make, present};
+use crate::disk::{FILLS, fill_of, new_device};
+use anyhow::Result;
+use sn_device::{Fill, MemDevice};
+use sn_fs::mount;
+use sn_model::MountFault;
+use sn_table::{Report, Tally};
+use std::alloc::Global;
+
+/// More writes than a mount and the list make.
+const STOPS: u32 = 18;
+
+/// More reads, writes and syncs than a mount and the list make.
+const FAILURES: u32 = 48;
+
+/// As many writes as a mount and two directories of the list make, and more.
+const FIRST_STOPS: u32 = 9;
+
+/// More writes than a mount makes.
+const MOUNT_STOPS: u32 = 3;
+
+/// More reads, writes and syncs than a mount of a short log makes.
+const MOUNT_FAILURES: u32 = 12;
+
+/// Where the device fails.
+#[derive(Clone, Copy)]
+enum Cut {
+    /// So many writes succeed, and no later call.
+    Stop(u64),
+    /// One call fails, behind so many.
+    Failure(u64),
+}
+
+fn cut_of(number: u32, stops: u32) -> Cut {
+    if number < stops {
+        Cut::Stop(u64::from(number))
+    } else {
+        Cut::Failure(u64::from(number - stops))
+    }
+}
+
+fn set(device: &mut MemDevice, cut: Cut) {
+    match cut {
+        Cut::Stop(count) => device.stop_at(count),
+        Cut::Failure(count) => device.fail_at(count.saturating_add(1)),
+    }
+}
+
+pub fn run(report: &mut Report<'_>) -> Result<()> {
+    let tally = lists(report)?;
+    report.add("calls cut short", tally)?;
+    let tally = mounts(report)?;
+    report.add("mounts cut short", tally)
+}
+
+/// What a crash left of a life, and how many directories were acknowledged before.
+#[derive(Drop)]
+struct Left {
+    device: MemDevice,
+    acknowledged: Option<usize>,
+}
+
+/// Mounts a disk of zeros, makes the list until the device fails, and crashes.
+fn life(alloc: Global, cut: Cut, fill: Fill) -> Result<Left> {
+    let mut device = new_device(alloc)?;
+    set(&mut device, cut);
+    match mount(alloc, device) {
+        Ok(mut mounted) => {
+            let acknowledged = make(alloc, &mut mounted, 0)?;
+            Ok(Left {
+                device: mounted.into_device().crash(fill),
+                acknowledged,
+            })
+        }
+        Err(unmounted) => Ok(Left {
+            device: unmounted.device.crash(fill),
+            acknowledged: (unmounted.fault == MountFault::Device).then_some(0),
+        }),
+    }
+}
+
+/// Whether so many may be there after so many were acknowledged.
+fn may_follow(acknowledged: Option<usize>, found: Option<usize>) -> bool {
+    match (acknowledged, found) {
+        (Some(acknowledged), Some(found)) => {
+            acknowledged <= found && found <= acknowledged.saturating_add(1)
+        }
+        _ => false,
+    }
+}
+
+/// How many of the list are on a device that has no fault, where it mounts.
+fn found_on(alloc: Global, device: MemDevice) -> Result<Option<usize>> {
+    match mount(alloc, device) {
+        Ok(mut mounted) => present(alloc, &mut mounted),
+        Err(_) => Ok(None),
+    }
+}
+
+/// A life that is cut short, a mount of what a crash left, the rest of the list, and one more crash.
+fn is_list_right(alloc: Global, cut: Cut, fill: u32) -> Result<bool> {
+    let left = life(alloc, cut, fill_of(fill))?;
+    let Ok(mut mounted) = mount(alloc, left.device) else {
+        return Ok(false);
+    };
+    let found = present(alloc, &mut mounted)?;
+    if !may_follow(left.acknowledged, found) {
+        return Ok(false);
+    }
+    let device = mounted
+        .into_device()
+        .crash(fill_of(fill.saturating_add(20)));
+    let Ok(mut mounted) = mount(alloc, device) else {
+        return Ok(false);
+    };
+    let made = make(alloc, &mut mounted, found.unwrap_or(0))?;
+    let device = mounted.into_device().crash(fill_of(fill));
+    Ok(made == Some(ALL) && found_on(alloc, device)? == Some(ALL))
+}
+
+fn lists(report: &Report<'_>) -> Result<Tally> {
+    let mut tally = Tally::new();
+    for number in 0..STOPS + FAILURES {
+        for fill in 0..FILLS {
+            let is_right = is_list_right(report.alloc(), cut_of(number, STOPS), fill)?;
+            tally.check(report.runtime(), is_right, &[number, fill])?;
+        }
+    }
+    Ok(tally)
+}
+
+/// What is found after a mount that is cut short and a crash.
+fn found_after(
+    alloc: Global,
+    mut device: MemDevice,
+    cut: Cut,
+    fill: Fill,
+) -> Result<Option<usize>> {
+    set(&mut device, cut);
+    let device = match mount(alloc, device) {
+        Ok(mounted) => mounted.into_device(),
+        Err(unmounted) => {
+            if unmounted.fault != MountFault::Device {
+                return Ok(None);
+            }
+            unmounted.device
+        }
+    };
+    found_on(alloc, device.crash(fill))
+}
+
+/// A life, and a mount of what a crash left.
+fn found_at_once(alloc: Global, cut: Cut, fill: u32) -> Result<Option<usize>> {
+    let left = life(alloc, cut, fill_of(fill))?;
+    found_on(alloc, left.device)
+}
+
+/// The same life, and a mount in between that is cut short.
+fn found_later(alloc: Global, cut: Cut, fill: u32, again: u32) -> Result<Option<usize>> {
+    let left = life(alloc, cut, fill_of(fill))?;
+    let second = fill_of(fill.saturating_add(20));
+    found_after(alloc, left.device, cut_of(again, MOUNT_STOPS), second)
+}
+
+fn mounts(report: &Report<'_>) -> Result<Tally> {
+    let alloc = report.alloc();
+    let mut tally = Tally::new();
+    for number in 0..FIRST_STOPS {
+        for fill in 0..FILLS {
+            let cut = cut_of(number, FIRST_STOPS);
+            let wanted = found_at_once(alloc, cut, fill)?;
+            for again in 0..MOUNT_STOPS + MOUNT_FAILURES {
+                let found = found_later(alloc, cut, fill, again)?;
+                let is_right = wanted.is_some() && wanted == found;
+                tally.check(report.runtime(), is_right, &[number, fill, again])?;
+            }
+        }
+    }
+    Ok(tally)
+}

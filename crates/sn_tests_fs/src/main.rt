@@ -1,0 +1,30 @@
+//! Cases of the file system over a device: calls, and what of them a crash leaves.
+//!
+//! `data/` has the tables of the cases: their head lines say where the answers come from. `disk` has a
+//! file system on a device in memory and the calls of it, `lives` the tables over them, `cuts` cuts
+//! lists of calls and mounts short at each call of the device, and `hostile` mounts logs of any bytes.
+//! What is printed is compared with `stdout`. The argument is the folder of the tables, as in
+//!
+//! ```text
+//! rt run -- data
+//! ```
+#![tactic(auto)]
+
+mod cuts;
+mod directories;
+mod disk;
+mod hostile;
+mod lives;
+mod sizes;
+
+use anyhow::Result;
+use sn_table::Report;
+
+fn main(rt: HostRuntime) -> Result<()> {
+    let mut report = Report::new(&rt)?;
+    lives::run(&mut report)?;
+    sizes::run(&mut report)?;
+    cuts::run(&mut report)?;
+    hostile::run(&mut report)?;
+    report.end()
+}
