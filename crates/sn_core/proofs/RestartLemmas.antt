@@ -1,14 +1,11 @@
 -- A restart over maps in memory.
-use Rattle.std.proofs.Common.{◌≡◌, ℕ, Bool, true, false, not, ◌||◌, cond, None, Option, is_some, replicate, refl, sym, ap, ◌∙◌}
+use Rattle.std.proofs.Common.{◌≡◌, ℕ, Bool, true, false, not, ◌||◌, cond, None, Option, is_some, refl, sym, ap, ◌∙◌}
 use Rattle.std.specs.FinMap as map
 use Rattle.std.proofs.lemmas.Bool.{true≢false}
 use Rattle.sn_model.specs.Tree.{Node, Tree}
 use Rattle.sn_model.specs.World.{World}
 use Rattle.sn_model.specs.Settling.{is_nameless, settle, settled}
 use Rattle.sn_model.proofs.SettlingLemmas.{get_without}
-use Rattle.sn_plain.specs.Plain.{tree_of}
-use Rattle.sn_core.specs.declared.world.PlainWorld.{PlainWorld}
-use Rattle.sn_core.specs.Plain.{world_of}
 use Rattle.sn_core.specs.PlainRuns.{TakesLeast}
 
 none_of_both : (b : Bool) → cond {A = Option Node} b None None ≡ None

@@ -1,12 +1,10 @@
 -- What a call comes to once its tests have passed.
-use Rattle.std.proofs.Common.{◌≡◌, ◌≢◌, ℕ, true, false, ◌<◌, arith, get_or, length, List, [], ◌∷◌, ◌++◌, Option, Some, None, Result, Ok, Err, is_none, is_some, refl, sym, ap, subst, ◌∙◌, ◌⊎◌, inl, inr, lit<, lit≤}
+use Rattle.std.proofs.Common.{◌≡◌, ◌≢◌, ℕ, true, List, [], ◌∷◌, ◌++◌, Option, Some, None, Result, Ok, Err, is_none, is_some, refl, sym, ap, subst, ◌∙◌, ◌⊎◌, inl, inr, lit<, lit≤}
 use Rattle.std.specs.FinMap as map
 use Rattle.std.specs.Cmp.{nat_cmp_total}
-use Rattle.std.specs.Prelude.{IsOk, slice_get}
-use Rattle.std.proofs.lemmas.Bool.{true≢false, lt-ltb}
-use Rattle.std.proofs.lemmas.Option.{slice_get-get_or}
+use Rattle.std.specs.Prelude.{IsOk}
+use Rattle.std.proofs.lemmas.Bool.{true≢false}
 use Rattle.std.proofs.lemmas.Map.Lookups.{exact_unsigned}
-use Rattle.sn_acl.specs.declared.modes.Mode.{Mode}
 use Rattle.sn_limits.specs.declared.kind.Kind.TheVariants.{Directory}
 use Rattle.sn_limits.specs.Versions.{version_1}
 use Rattle.sn_model.specs.declared.call.Call.{Call}
@@ -20,7 +18,6 @@ use Rattle.sn_model.specs.declared.reply.Reply.{Reply}
 use Rattle.sn_model.specs.declared.reply.Errno.TheVariants.{Enomem}
 use Rattle.sn_model.specs.declared.reply.Progress.TheVariants.{Done as Ended}
 use Rattle.sn_model.specs.declared.reply.Reply.TheVariants.{Done, Progress, Refused}
-use Rattle.sn_model.specs.declared.session.Session.{Session}
 use Rattle.sn_model.specs.Changes.{apply, made, node_with}
 use Rattle.sn_model.specs.declared.change.Change.{Change}
 use Rattle.sn_model.specs.Outcomes.{opens, makes}
@@ -35,9 +32,9 @@ use Rattle.sn_model.specs.declared.outcome.Outcome.{Outcome}
 use Rattle.sn_walk.proofs.ChainLemmas.{bind_ok}
 use Rattle.sn_model.specs.Calls.{Ready, mkdir_outcome, new_session, outcome_of, ready, seen, stat_outcome}
 use Rattle.sn_model.specs.Steps.{Becomes, Comes, IsNumberFor, TakesMemory, changed, decision, with_caller, with_live}
-use Rattle.sn_model.specs.Tests.{logged_in, logged_out, path_argument, new_mode_argument, plain}
+use Rattle.sn_model.specs.Tests.{logged_out, plain}
 use Rattle.sn_model.specs.Tree.{Tree, least_unused, with_node}
-use Rattle.sn_model.specs.World.{World, trees_of, viewed_trees}
+use Rattle.sn_model.specs.World.{World}
 use Rattle.sn_model.specs.Worlds.{IsCall, IsWorld}
 use Rattle.sn_model.proofs.MapLemmas.{same_or_apart, get_other}
 use Rattle.sn_model.proofs.PartLemmas.{made_is}

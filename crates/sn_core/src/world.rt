@@ -138,13 +138,7 @@ impl PlainWorld {
             alloc,
             tree: &self.tree,
         };
-        Ok(decide::mkdir(
-            &Limits::VERSION_1,
-            &mut view,
-            caller,
-            &path,
-            mode,
-        )?)
+        Ok(decide::mkdir(&Limits::VERSION_1, &mut view, caller, &path, mode)?)
     }
 
     fn decide_stat<'a>(

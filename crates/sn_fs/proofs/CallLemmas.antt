@@ -1,14 +1,13 @@
 -- What a call answers, by how it ends.
-use Rattle.std.proofs.Common.{◌≡◌, ◌⊎◌, inr, ℕ, ◌<◌, Bool, true, false, Option, Some, None, Result, Ok, Err, refl, sym, ap, subst, ◌∙◌}
+use Rattle.std.proofs.Common.{◌≡◌, ◌⊎◌, inr, ℕ, Bool, true, false, Option, Some, None, Result, Ok, refl, sym, ap, subst, ◌∙◌}
 use Rattle.std.specs.FinMap as map
 use Rattle.std.proofs.lemmas.Bool.{true≢false}
-use Rattle.sn_device.specs.declared.status.Status.{Status}
 use Rattle.sn_limits.specs.Versions.{version_1}
 use Rattle.sn_model.specs.declared.call.Call.{Call}
 use Rattle.sn_model.specs.declared.call.Event.TheVariants as event
 use Rattle.sn_model.specs.declared.change.Change.{Change}
 use Rattle.sn_model.specs.declared.outcome.Outcome.{Outcome}
-use Rattle.sn_model.specs.declared.reply.Errno.TheVariants.{Estopped, Enomem, Eio}
+use Rattle.sn_model.specs.declared.reply.Errno.TheVariants.{Estopped, Enomem}
 use Rattle.sn_model.specs.declared.reply.Refusal.{Refusal}
 use Rattle.sn_model.specs.declared.reply.Reply.{Reply}
 use Rattle.sn_model.specs.declared.reply.Reply.TheVariants as answer
@@ -19,21 +18,20 @@ use Rattle.sn_model.specs.Steps.{Becomes, Comes, decision, with_caller, with_liv
 use Rattle.sn_model.specs.Tree.{Tree}
 use Rattle.sn_model.specs.World.{World, new_tree}
 use Rattle.sn_model.specs.Worlds.{IsWorld}
-use Rattle.sn_log.specs.Places.{HasRoom}
 use Rattle.sn_core.specs.Served.{Chooses, HasNone}
 use Rattle.sn_core.specs.declared.error.CallError.{CallError}
 use Rattle.sn_core.specs.declared.error.CallError.TheVariants as lack
 use Rattle.sn_core.proofs.StepLemmas.{chosen_served, change_takes}
 use Rattle.sn_device.proofs.CrashLemmas.{LeavesOnly-start}
-use Rattle.sn_recovery.specs.Moments.{LastsOver, ShowsState}
+use Rattle.sn_recovery.specs.Moments.{ShowsState}
 use Rattle.sn_recovery.specs.Opens.{Keeps}
-use Rattle.sn_fs.specs.Answers.{Answers, AnswersFrom, HasFailed, MayMeet}
-use Rattle.sn_fs.specs.Changing.{Changes, FailsChange, IsCut, IsLogged, errno_of, stops}
+use Rattle.sn_fs.specs.Answers.{Answers, AnswersFrom, MayMeet}
+use Rattle.sn_fs.specs.Changing.{FailsChange, IsLogged, errno_of, stops}
 use Rattle.sn_fs.specs.declared.fault.ChangeFault.{ChangeFault}
 use Rattle.sn_fs.specs.declared.fault.ChangeFault.TheVariants as fault
 use Rattle.sn_fs.specs.Held.{Held, Means, Runs, ground}
 use Rattle.sn_fs.proofs.DecisionLemmas.{CanBeMade, can_be_made, is_charged}
-use Rattle.sn_fs.proofs.MeaningLemmas.{caller_frozen, caller_live, caller_settles, means_show, runs_lasts, runs_on, runs_show, stays_lasts, stops_between, stops_lasts}
+use Rattle.sn_fs.proofs.MeaningLemmas.{caller_frozen, caller_live, runs_lasts, runs_on, runs_show, stays_lasts, stops_between, stops_lasts}
 
 -- an event that a state answers with a refusal, and that changes nothing
 kept : (h : Held) (has_stopped : Bool) (s : State) (session : ℕ) (c : Call) (met : Option Mishap) (reply : Reply) → Means h has_stopped s → MayMeet h (event.Call session c) met h.status → EventStep version_1 s (event.Call session c) met reply s
@@ -97,6 +95,7 @@ module _ (old : Held) (session : ℕ) (c : Call) (o : Outcome) (change : Change)
     where
       same : (new : Held) (f : ChangeFault) → new ≡ old → AnswersFrom (Running old.world) (event.Call session c) (refused (errno_of f)) old old (stops f) → AnswersFrom (Running old.world) (event.Call session c) (refused (errno_of f)) old new (stops f)
       same new f e a = subst (λ (x : Held). AnswersFrom (Running old.world) (event.Call session c) (refused (errno_of f)) old x (stops f)) (sym e) a
+
       told : (f : ChangeFault) → Runs old old.world → FailsChange true f change old new → AnswersFrom (Running old.world) (event.Call session c) (refused (errno_of f)) old new (stops f)
       told fault.Space r fails = same new fault.Space fails.1 (kept old false (Running old.world) session c (Some Space) (refused (errno_of fault.Space)) (refl, r)
           (record { outcome = o; decided = decided; change = change; chosen = chosen; none = fails.0 })
@@ -133,7 +132,7 @@ module _ (old : Held) (session : ℕ) (c : Call) (o : Outcome) (change : Change)
           let next = next_with tree in
           let made : with_caller mid.world session o.caller ≡ next = ap (λ (x : World). with_caller x session o.caller) logged.made.world in
           let on : Runs (record mid { world = with_caller mid.world session o.caller }) next =
-              runs_on old (record mid { world = with_caller mid.world session o.caller }) old.world next change tree r can.spelled logged.made.applied (live_of tree) (frozen_of tree r) (logged.acknowledged refl) logged.at made in
+          runs_on old (record mid { world = with_caller mid.world session o.caller }) old.world next change tree r can.spelled logged.made.applied (live_of tree) (frozen_of tree r) (logged.acknowledged refl) logged.at made in
           subst (λ (x : Held). AnswersFrom (Running old.world) (event.Call session c) o.told old x false) (sym is) (record {
             met = None;
             may = tt;

@@ -1,5 +1,5 @@
 -- What is so of the change that a call has decided.
-use Rattle.std.proofs.Common.{◌≡◌, ◌≢◌, ℕ, ◌+◌, ◌<◌, Bool, true, false, Option, Some, None, Ok, is_some, refl, sym, ap, subst, ◌∙◌, lit<, lit≤, arith}
+use Rattle.std.proofs.Common.{◌≡◌, ℕ, ◌<◌, true, Option, Some, None, Ok, is_some, refl, sym, ap, subst, ◌∙◌, lit<, lit≤}
 use Rattle.std.proofs.lemmas.Bool.{true≢false}
 use Rattle.sn_limits.specs.declared.kind.Kind.TheVariants.{Directory}
 use Rattle.sn_limits.specs.Versions.{version_1}
@@ -11,10 +11,10 @@ use Rattle.sn_model.specs.declared.link.Link.{Link}
 use Rattle.sn_model.specs.declared.outcome.Outcome.{Outcome}
 use Rattle.sn_model.specs.declared.outcome.Pending.{Pending}
 use Rattle.sn_model.specs.declared.outcome.Pending.TheVariants.{Nothing}
-use Rattle.sn_model.specs.Changes.{apply, made}
+use Rattle.sn_model.specs.Changes.{apply}
 use Rattle.sn_model.specs.Outcomes.{makes}
 use Rattle.sn_model.specs.Steps.{changed, decision}
-use Rattle.sn_model.specs.Tree.{Tree, link_to}
+use Rattle.sn_model.specs.Tree.{Tree}
 use Rattle.sn_model.specs.World.{World}
 use Rattle.sn_model.specs.Worlds.{IsWorld}
 use Rattle.sn_model.proofs.DecidedLemmas as shape
@@ -57,6 +57,7 @@ can_be_made w session c o change whole e chosen = told (decided_is version_1 w s
         let t = some_of (changed version_1 picked.0 (makes charge link Directory own).change w.live) (decided_applies version_1 w session c (makes charge link Directory own) picked.0 (lit< tt) whole (e ∙ ap (λ (x : Outcome). Ok x) q) free) in
         let applied : apply version_1 change w.live ≡ Some t.0 = ap (λ (x : Change). apply version_1 x w.live) is ∙ t.1 in
         record { tree = t.0; applied = applied; spelled = subst IsSpelled (sym is) (applied_spelled w.live t.0 link.directory link.name picked.0 Directory own whole.live t.1) }
+
     told : IsDecided version_1 w session c o → CanBeMade w change
     told (shape.Login s k f) = never w.live o change (ap (λ (x : Outcome). x.change) f) chosen
     told (shape.Tells a f) = never w.live o change (ap (λ (x : Outcome). x.change) f) chosen

@@ -1,9 +1,8 @@
 -- What a mounted file system means, and what its disk opens to.
-use Rattle.std.proofs.Common.{◌≡◌, ◌⊎◌, inl, inr, ℕ, ◌+◌, Bool, true, false, List, [], ◌∷◌, ◌++◌, Some, None, replicate, refl, sym, ap, subst, ◌∙◌}
+use Rattle.std.proofs.Common.{◌≡◌, ◌⊎◌, inl, inr, ℕ, Bool, [], ◌∷◌, ◌++◌, Some, None, replicate, refl, sym, ap, subst, ◌∙◌}
 use Rattle.std.specs.FinMap as map
-use Rattle.std.proofs.lemmas.Bool.{true≢false}
 use Rattle.sn_device.specs.Sectors.{Contents}
-use Rattle.sn_device.specs.Disk.{Disk, Always}
+use Rattle.sn_device.specs.Disk.{Always}
 use Rattle.sn_device.specs.Crash.{LeavesOnly}
 use Rattle.sn_device.proofs.CrashLemmas.{LeavesOnly-start, LeavesOnly-weaker, LeavesOnly-now}
 use Rattle.sn_limits.specs.Versions.{version_1}
@@ -13,7 +12,7 @@ use Rattle.sn_model.specs.declared.outcome.Caller.TheVariants.{Stays, LogsIn}
 use Rattle.sn_model.specs.Changes.{apply}
 use Rattle.sn_model.specs.Machine.{State, Running, Stopped}
 use Rattle.sn_model.specs.Settling.{settle, settled}
-use Rattle.sn_model.specs.Steps.{with_caller, with_live}
+use Rattle.sn_model.specs.Steps.{with_caller}
 use Rattle.sn_model.specs.Tree.{Tree}
 use Rattle.sn_model.specs.World.{World, new_tree, new_world}
 use Rattle.sn_ondisk.specs.LogHalf.{base_of}

@@ -1,7 +1,6 @@
 -- Replay, record by record.
-use Rattle.std.proofs.Common.{◌≡◌, ◌⊎◌, inl, inr, ℕ, ◌+◌, ◌<◌, ◌≤◌, Bool, true, false, List, [], ◌∷◌, ◌++◌, length, Option, Some, None, Result, Ok, Err, refl, sym, ap, subst, ◌∙◌, arith}
+use Rattle.std.proofs.Common.{◌≡◌, ◌⊎◌, inl, inr, ℕ, ◌+◌, ◌<◌, ◌≤◌, Bool, true, false, List, [], ◌∷◌, ◌++◌, length, Option, Some, None, Result, Err, refl, sym, ap, subst, ◌∙◌, arith}
 use Rattle.std.specs.Prelude.{IsTrue, MatchBool}
-use Rattle.std.specs.FinMap as map
 use Rattle.sn_device.specs.Disk.{Disk, Always, IsSynced, reads}
 use Rattle.sn_device.specs.Crash.{LeavesOnly, Touches}
 use Rattle.sn_device.proofs.CrashLemmas.{LeavesOnly-now, LeavesOnly-weaker}
@@ -15,7 +14,7 @@ use Rattle.sn_model.specs.Changes.{apply, apply_all}
 use Rattle.sn_model.specs.Tree.{Tree}
 use Rattle.sn_model.specs.World.{World, new_tree, new_world}
 use Rattle.sn_model.proofs.ListLemmas.{lists_join}
-use Rattle.sn_block.specs.Counts.{CountsRead, FailsRead}
+use Rattle.sn_block.specs.Counts.{CountsRead}
 use Rattle.sn_block.specs.declared.fault.ReadFault.{ReadFault}
 use Rattle.sn_block.specs.declared.fault.ReadFault.TheVariants as read
 use Rattle.sn_ondisk.specs.LogHalf.{ReplaysTo, base_of}
@@ -28,7 +27,7 @@ use Rattle.sn_log.specs.Places.{LogPosition, IsBehind, base_at, behind, first_of
 use Rattle.sn_log.specs.Laws.{IsNextOf}
 use Rattle.sn_log.specs.Replaying.{Finds}
 use Rattle.sn_log.specs.declared.replay.Found.{Found}
-use Rattle.sn_log.specs.declared.replay.Found.TheVariants.{Change, End, Misspelt}
+use Rattle.sn_log.specs.declared.replay.Found.TheVariants.{Change, Misspelt}
 use Rattle.sn_log.proofs.LawLemmas.{replay-finds}
 use Rattle.sn_recovery.specs.Laws.{OpensAt, ReplaysUpTo, settled_at}
 use Rattle.sn_recovery.specs.Moments.{OpensOn}
@@ -56,8 +55,8 @@ module _ (c : Contents) (at : LogPosition) (tree : Tree) (place : IsOnGround at)
   next_of world found opens finds =
       let end = opens.replays.records.0 in
       let here : ReplaysTo c (base_at at) at.epoch (payloads_of opens.changes) end =
-          subst (λ (e : ℕ). ReplaysTo c (base_of at.blocks e) e (payloads_of opens.changes) end) (sym place.epoch)
-          (subst (λ (n : ℕ). ReplaysTo c (base_of n 1) 1 (payloads_of opens.changes) end) (sym place.blocks) opens.replays.records.1) in
+      subst (λ (e : ℕ). ReplaysTo c (base_of at.blocks e) e (payloads_of opens.changes) end) (sym place.epoch)
+      (subst (λ (n : ℕ). ReplaysTo c (base_of n 1) 1 (payloads_of opens.changes) end) (sym place.blocks) opens.replays.records.1) in
       replay-finds one_spelling c at done.changes opens.changes end found on_disk done.spelled opens.replays.spelled done.behind here finds
 
   -- a record that is misspelt

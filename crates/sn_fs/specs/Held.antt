@@ -1,5 +1,5 @@
 -- What a mounted file system holds, and what that means.
-use Rattle.std.specs.Prelude.{◌≡◌, ℕ, Bool, true, false, List}
+use Rattle.std.specs.Prelude.{◌≡◌, Bool, true, false, List}
 use Rattle.std.specs.FinMap as map
 use Rattle.sn_device.specs.Disk.{Disk, Always}
 use Rattle.sn_device.specs.declared.status.Status.{Status}

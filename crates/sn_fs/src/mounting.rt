@@ -62,7 +62,10 @@ impl<D: Device> Fs<D> {
         ensures status { D.status result ≡ (held self).status }
     {
         let Fs {
-            blocks, log, world, ..
+            blocks,
+            log,
+            world,
+            ..
         } = self;
         drop(log);
         drop(world);

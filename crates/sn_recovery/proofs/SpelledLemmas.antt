@@ -1,5 +1,5 @@
 -- A change that can be applied has a record.
-use Rattle.std.proofs.Common.{◌≡◌, ℕ, ◌<◌, ◌≤◌, ◌^◌, ◌&&◌, ◌||◌, ◌==◌, Bool, true, not, List, Option, Some, None, is_none, is_some, nat_lt, nat_le, arith}
+use Rattle.std.proofs.Common.{◌≡◌, ℕ, ◌<◌, ◌≤◌, ◌^◌, ◌&&◌, ◌||◌, ◌==◌, true, not, List, Option, Some, None, is_none, is_some, nat_lt, nat_le, arith}
 use Rattle.std.specs.FinMap as map
 use Rattle.std.proofs.lemmas.Bool.{ltb-true, leb-true}
 use Rattle.sn_acl.specs.declared.entries.Entry.{Entry}
@@ -49,8 +49,7 @@ applied_spelled tree after directory name number kind o whole e =
     let parent = directory_is tree directory m.room.directory m.room.parent in
     let named = is_name name in
     let shown = not (is_hidden_name directory name) in
-    let few = leb-true number 65535 (and_right first within (and_left (first && within) free m.free)) in
-    (
+    let few = leb-true number 65535 (and_right first within (and_left (first && within) free m.free)) in (
       (
         fits_two directory (whole.nodes.nodes directory m.room.directory parent.0).within,
         fits_two number few,

@@ -1,7 +1,6 @@
-use Rattle.std.proofs.Common.{false, refl, sym, ap, subst}
+use Rattle.std.proofs.Common.{false, sym, ap, subst}
 use Rattle.sn_device.specs.Disk.{Disk}
 use Rattle.sn_block.specs.Lending.{device_of}
-use Rattle.sn_core.specs.Plain.{world_of}
 use Rattle.sn_fs.specs.Mounted.{holding}
 use Rattle.sn_fs.specs.Recovering.{IsLeft, Mounts}
 use Rattle.sn_fs.proofs.MountLemmas.{is_left, mounts}

@@ -1,14 +1,12 @@
-use Rattle.std.proofs.Common.{◌≡◌, ◌+◌, ◌*◌, ◌≤◌, ℕ, refl, sym, ap, subst, ◌∙◌}
-use Rattle.sn_device.specs.Disk.{Disk, IsSynced, reads}
-use Rattle.sn_device.specs.Crash.{Touches}
+use Rattle.std.proofs.Common.{◌≡◌, ◌≤◌, ℕ, sym, ap, subst, ◌∙◌}
+use Rattle.sn_device.specs.Disk.{Disk, reads}
 use Rattle.sn_device.specs.declared.status.Status.{Status}
 use Rattle.sn_limits.specs.Versions.{version_1}
 use Rattle.sn_model.specs.Settling.{settle}
-use Rattle.sn_model.specs.World.{World, new_world}
+use Rattle.sn_model.specs.World.{new_world}
 use Rattle.sn_model.specs.Worlds.{IsWorld}
 use Rattle.sn_model.proofs.MachineLemmas.{settle_tree}
 use Rattle.sn_model.proofs.WorldLemmas.{new_is_world}
-use Rattle.sn_layout.specs.declared.places.LogHalf.{LogHalf}
 use Rattle.sn_ondisk.specs.LogHalf.{base_of}
 use Rattle.sn_block.specs.Lending.{device_of}
 use Rattle.sn_log.specs.Clearing.{Clears}

@@ -1,7 +1,6 @@
-use Rattle.std.proofs.Common.{◌≡◌, ◌≤◌, ◌++◌, ◌∷◌, [], Some, refl, sym, ap, subst, ◌∙◌}
+use Rattle.std.proofs.Common.{◌≤◌, ◌++◌, ◌∷◌, [], Some, refl, sym, ap, subst, ◌∙◌}
 use Rattle.sn_device.specs.Disk.{reads}
 use Rattle.sn_limits.specs.Versions.{version_1}
-use Rattle.sn_model.specs.Tree.{Tree}
 use Rattle.sn_model.specs.World.{World}
 use Rattle.sn_model.proofs.TreeLemmas.{tree_kept}
 use Rattle.sn_block.specs.Lending.{device_of}

@@ -1,4 +1,3 @@
-use Rattle.std.proofs.Common.{None}
 use Rattle.sn_limits.specs.Versions.{version_1}
 use Rattle.sn_model.specs.declared.call.Event.TheVariants.{Restart}
 use Rattle.sn_model.specs.declared.reply.Reply.TheVariants.{Done}

@@ -1,5 +1,4 @@
 use Rattle.std.proofs.Common.{◌≡◌, Some, None, refl, sym, ap, subst, ◌∙◌}
-use Rattle.sn_limits.specs.Versions.{version_1}
 use Rattle.sn_model.specs.Steps.{with_caller, with_live}
 use Rattle.sn_model.specs.World.{World}
 use Rattle.sn_core.specs.declared.world.PlainWorld.{PlainWorld}
@@ -23,11 +22,11 @@ served_so c =
     let after = λ (w : World). with_caller w c.args.session o.caller in
     let so = λ (w : World) (e : world_of c.set_caller.new.self ≡ w) (s : IsServed old c.args.session c.args.call.now o.told w). subst (λ (x : World). IsServed old c.args.session c.args.call.now o.told x) (sym e) s in
     elim c.match-choose.branch [
-      in-Some+in-Ok w ↦
+      | in-Some+in-Ok w ↦
           let made = w.in-Ok.ensures.made in
           so (after (with_live old made.0)) (c.set_caller.ensures.world ∙ ap (λ (x : PlainWorld). after (world_of x)) w.self-is ∙ ap after made.2)
           (chosen_served old c.args.session c.args.call.now o (Some w.in-Some.change) made.0 c.requires.whole c.in_ok-change.ensures.decided w.in-Some.ensures made.1)
-    | in-None w ↦
+      | in-None w ↦
           so (after old) (c.set_caller.ensures.world ∙ ap (λ (x : PlainWorld). after (world_of x)) w.self-is)
           (chosen_served old c.args.session c.args.call.now o None old.live c.requires.whole c.in_ok-change.ensures.decided w.in-None.ensures refl)
     ]

@@ -1,9 +1,6 @@
 use Rattle.std.proofs.Common.{◌≡◌, ◌≤◌, Bool, true, false, Some, None, refl, sym, ap, subst, ◌∙◌}
-use Rattle.sn_device.specs.declared.status.Status.{Status}
-use Rattle.sn_limits.specs.Versions.{version_1}
 use Rattle.sn_model.specs.declared.call.Event.{Event}
 use Rattle.sn_model.specs.declared.call.Event.TheVariants.{Call}
-use Rattle.sn_model.specs.declared.reply.Errno.{Errno}
 use Rattle.sn_model.specs.declared.reply.Errno.TheVariants.{Estopped, Enomem}
 use Rattle.sn_model.specs.declared.reply.Refusal.{Refusal}
 use Rattle.sn_model.specs.declared.reply.Reply.{Reply}
@@ -12,15 +9,13 @@ use Rattle.sn_model.specs.Machine.{refused}
 use Rattle.sn_model.specs.Steps.{with_caller, with_live}
 use Rattle.sn_model.specs.Tests.{plain}
 use Rattle.sn_model.specs.World.{World}
-use Rattle.sn_model.specs.Worlds.{IsWorld}
 use Rattle.sn_block.specs.Lending.{device_of}
-use Rattle.sn_log.specs.Places.{LogPosition}
 use Rattle.sn_core.specs.declared.error.CallError.TheVariants as lack
 use Rattle.sn_core.specs.Plain.{world_of}
 use Rattle.sn_core.proofs.StepLemmas.{IsServed, chosen_served, has_number, served_whole}
 use Rattle.sn_fs.specs.declared.fs.Fs.{Fs}
 use Rattle.sn_fs.specs.Answers.{Answers}
-use Rattle.sn_fs.specs.Changing.{FailsChange, IsLogged, errno_of, stops}
+use Rattle.sn_fs.specs.Changing.{FailsChange, IsLogged, errno_of}
 use Rattle.sn_fs.specs.Filesystem.{held}
 use Rattle.sn_fs.specs.Held.{Held, IsOnGround}
 use Rattle.sn_fs.specs.Mounted.{holding}
@@ -89,9 +84,9 @@ returns-clause-answered g c told =
     let whole = c.requires.whole c.if-self.false in
     let new = holding g.D.Device c.match-choose.self.blocks c.match-choose.self.log c.set_caller.new.self in
     let ends = λ (d : Bool) (same : d ≡ c.args.self.now.has_stopped) (a : Answers e o.told h false new false).
-        subst (λ (b : Bool). Answers e o.told h c.args.self.now.has_stopped new b) (sym same) (flagged e o.told h new c.args.self.now.has_stopped false c.if-self.false a) in
+    subst (λ (b : Bool). Answers e o.told h c.args.self.now.has_stopped new b) (sym same) (flagged e o.told h new c.args.self.now.has_stopped false c.if-self.false a) in
     elim c.match-choose.branch [
-      in-Some+in-Ok-make_change w ↦
+      | in-Some+in-Ok-make_change w ↦
           let mid = holding g.D.Device w.make_change.new.blocks w.make_change.new.log w.make_change.new.world in
           let logged = subst (λ (b : Bool). IsLogged b w.in-Some.change h mid) told w.in-Ok-make_change.ensures.made in
           let is : new ≡ record mid { world = with_caller mid.world c.args.session o.caller } = λ i. record {
@@ -102,7 +97,7 @@ returns-clause-answered g c told =
           } in
           ends c.match-choose.self.has_stopped (ap (λ (x : Fs g.row.D.Denot g.D.Device). x.has_stopped) w.self-is)
           (made_answers h c.args.session c.args.call.now o w.in-Some.change whole c.in-Ok.ensures.decided w.in-Some.ensures mid new logged is)
-    | in-None w ↦
+      | in-None w ↦
           let is : new ≡ record h { world = with_caller h.world c.args.session o.caller } = λ i. record {
             world = (c.set_caller.ensures.world ∙ ap (λ (x : Fs g.row.D.Denot g.D.Device). with_caller (world_of x.world) c.args.session o.caller) w.self-is) i;
             at = ap (λ (x : Fs g.row.D.Denot g.D.Device). x.log) w.self-is i;
@@ -120,22 +115,22 @@ returns-clause-sound g c =
     let after = λ (w : World). with_caller w c.args.session o.caller in
     let so = λ (w : World) (e : world_of c.set_caller.new.self ≡ w) (s : IsServed old c.args.session c.args.call.now o.told w). subst (λ (x : World). IsServed old c.args.session c.args.call.now o.told x) (sym e) s in
     let served : IsServed old c.args.session c.args.call.now o.told (world_of c.set_caller.new.self) = elim c.match-choose.branch [
-      in-Some+in-Ok-make_change w ↦
+      | in-Some+in-Ok-make_change w ↦
           let made = w.in-Ok-make_change.ensures.made.made in
           so (after (with_live old made.tree)) (c.set_caller.ensures.world ∙ ap (λ (x : Fs g.row.D.Denot g.D.Device). after (world_of x.world)) w.self-is ∙ ap after made.world)
           (chosen_served old c.args.session c.args.call.now o (Some w.in-Some.change) made.tree (c.requires.whole c.if-self.false) c.in-Ok.ensures.decided w.in-Some.ensures made.applied)
-    | in-None w ↦
+      | in-None w ↦
           so (after old) (c.set_caller.ensures.world ∙ ap (λ (x : Fs g.row.D.Denot g.D.Device). after (world_of x.world)) w.self-is)
           (chosen_served old c.args.session c.args.call.now o None old.live (c.requires.whole c.if-self.false) c.in-Ok.ensures.decided w.in-None.ensures refl)
     ] in record {
-  sectors = elim c.match-choose.branch [
-    in-Some+in-Ok-make_change w ↦ subst (λ n. 2048 ≤ n) (sym (ap (λ (x : Fs g.row.D.Denot g.D.Device). (g.D.Device.status (device_of x.blocks)).sectors) w.self-is ∙ w.in-Ok-make_change.ensures.sectors)) c.requires.sectors
-  | in-None w ↦ subst (λ n. 2048 ≤ n) (sym (ap (λ (x : Fs g.row.D.Denot g.D.Device). (g.D.Device.status (device_of x.blocks)).sectors) w.self-is)) c.requires.sectors
-  ];
-  place = elim c.match-choose.branch [
-    in-Some+in-Ok-make_change w ↦ subst IsOnGround (sym (ap (λ (x : Fs g.row.D.Denot g.D.Device). x.log) w.self-is)) w.in-Ok-make_change.ensures.place
-  | in-None w ↦ subst IsOnGround (sym (ap (λ (x : Fs g.row.D.Denot g.D.Device). x.log) w.self-is)) c.requires.place
-  ];
-  plain = c.set_caller.ensures.sound;
-  whole = λ _. served_whole (world_of c.args.self.now.world) (world_of c.set_caller.new.self) c.args.session c.args.call.now c.in-Ok.outcome.told served c.in-Ok.ensures.numbers (c.requires.whole c.if-self.false);
-}
+      sectors = elim c.match-choose.branch [
+        | in-Some+in-Ok-make_change w ↦ subst (λ n. 2048 ≤ n) (sym (ap (λ (x : Fs g.row.D.Denot g.D.Device). (g.D.Device.status (device_of x.blocks)).sectors) w.self-is ∙ w.in-Ok-make_change.ensures.sectors)) c.requires.sectors
+        | in-None w ↦ subst (λ n. 2048 ≤ n) (sym (ap (λ (x : Fs g.row.D.Denot g.D.Device). (g.D.Device.status (device_of x.blocks)).sectors) w.self-is)) c.requires.sectors
+      ];
+      place = elim c.match-choose.branch [
+        | in-Some+in-Ok-make_change w ↦ subst IsOnGround (sym (ap (λ (x : Fs g.row.D.Denot g.D.Device). x.log) w.self-is)) w.in-Ok-make_change.ensures.place
+        | in-None w ↦ subst IsOnGround (sym (ap (λ (x : Fs g.row.D.Denot g.D.Device). x.log) w.self-is)) c.requires.place
+      ];
+      plain = c.set_caller.ensures.sound;
+      whole = λ _. served_whole (world_of c.args.self.now.world) (world_of c.set_caller.new.self) c.args.session c.args.call.now c.in-Ok.outcome.told served c.in-Ok.ensures.numbers (c.requires.whole c.if-self.false);
+    }
