@@ -45,7 +45,7 @@ use Rattle.sn_model.proofs.DecisionLemmas as found
 use Rattle.sn_model.proofs.DecisionLemmas.{same_ok}
 use Rattle.sn_model.specs.Calls as calls
 use Rattle.sn_model.proofs.WorldLemmas.{step_world}
-use Rattle.sn_model.specs.Machine.{Running, Memory, OfMemory, Run}
+use Rattle.sn_model.specs.Machine.{Running, Memory, OfMemory, Run, RunBy}
 use Rattle.sn_model.specs.Settling.{settle}
 use Rattle.sn_core.proofs.RestartLemmas.{settled_least}
 use Rattle.sn_core.specs.PlainRuns.{PlainRun, PlainStep, TakesLeast}
@@ -172,11 +172,11 @@ pub served_whole : (old new : World) (session : ℕ) (c : Call) (answer : Reply)
 served_whole old new session c answer h numbers whole = step_world version_1 old new session c answer (inl h.0) numbers whole
 
 -- a run goes on by one step
-pub run_more : (old mid new : World) (events : List Event) (replies : List Reply) (e : Event) (reply : Reply) → PlainRun old events replies mid → PlainStep mid e reply new → PlainRun old (events ++ e ∷ []) (replies ++ reply ∷ []) new
-run_more old mid new [] [] e reply run step = (new, subst (λ (w : World). PlainStep w e reply new) run step, refl)
-run_more old mid new [] (r ∷ replies) e reply run step = absurd run
-run_more old mid new (f ∷ events) [] e reply run step = absurd run
-run_more old mid new (f ∷ events) (r ∷ replies) e reply run step = (run.0, run.1, run_more run.0 mid new events replies e reply run.2 step)
+pub run_more : {S : Type 0} (By : S → Event → Reply → S → Type 0) (old mid new : S) (events : List Event) (replies : List Reply) (e : Event) (reply : Reply) → RunBy By old events replies mid → By mid e reply new → RunBy By old (events ++ e ∷ []) (replies ++ reply ∷ []) new
+run_more {S} By old mid new [] [] e reply run step = (new, subst (λ (x : S). By x e reply new) run step, refl)
+run_more By old mid new [] (r ∷ replies) e reply run step = absurd run
+run_more By old mid new (f ∷ events) [] e reply run step = absurd run
+run_more By old mid new (f ∷ events) (r ∷ replies) e reply run step = (run.0, run.1, run_more By run.0 mid new events replies e reply run.2 step)
 
 -- it is one of the machine
 pub machine_run : (old new : World) (events : List Event) (replies : List Reply) → PlainRun old events replies new → Run OfMemory version_1 (Running old) events replies (Running new)

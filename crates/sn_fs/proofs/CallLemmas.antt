@@ -1,5 +1,5 @@
 -- What a call answers, by how it ends.
-use Rattle.std.proofs.Common.{◌≡◌, ◌⊎◌, inr, ℕ, Bool, true, false, Option, Some, None, Result, Ok, refl, sym, ap, subst, ◌∙◌}
+use Rattle.std.proofs.Common.{◌≡◌, ◌⊎◌, inl, inr, ℕ, Bool, true, false, Option, Some, None, Result, Ok, refl, sym, ap, subst, ◌∙◌}
 use Rattle.std.specs.FinMap as map
 use Rattle.std.proofs.lemmas.Bool.{true≢false}
 use Rattle.sn_limits.specs.Versions.{version_1}
@@ -21,11 +21,11 @@ use Rattle.sn_model.specs.Worlds.{IsWorld}
 use Rattle.sn_core.specs.Served.{Chooses, HasNone}
 use Rattle.sn_core.specs.declared.error.CallError.{CallError}
 use Rattle.sn_core.specs.declared.error.CallError.TheVariants as lack
-use Rattle.sn_core.proofs.StepLemmas.{chosen_served, change_takes}
+use Rattle.sn_core.proofs.StepLemmas.{chosen_served, change_takes, same_least}
 use Rattle.sn_device.proofs.CrashLemmas.{LeavesOnly-start}
 use Rattle.sn_recovery.specs.Moments.{ShowsState}
 use Rattle.sn_recovery.specs.Opens.{Keeps}
-use Rattle.sn_fs.specs.Answers.{Answers, AnswersFrom, MayMeet}
+use Rattle.sn_fs.specs.Answers.{Answers, AnswersFrom, Costs, IsChangeOf, MayMeet, TakesLeastIn}
 use Rattle.sn_fs.specs.Changing.{FailsChange, IsLogged, errno_of, stops}
 use Rattle.sn_fs.specs.declared.fault.ChangeFault.{ChangeFault}
 use Rattle.sn_fs.specs.declared.fault.ChangeFault.TheVariants as fault
@@ -33,15 +33,20 @@ use Rattle.sn_fs.specs.Held.{Held, Means, Runs, ground}
 use Rattle.sn_fs.proofs.DecisionLemmas.{CanBeMade, can_be_made, is_charged}
 use Rattle.sn_fs.proofs.MeaningLemmas.{caller_frozen, caller_live, runs_lasts, runs_on, runs_show, stays_lasts, stops_between, stops_lasts}
 
+-- no node is new
+stays_least : (s : State) → TakesLeastIn s s
+stays_least (Running w) = same_least w w refl
+stays_least (Stopped before after) = tt
+
 -- an event that a state answers with a refusal, and that changes nothing
-kept : (h : Held) (has_stopped : Bool) (s : State) (session : ℕ) (c : Call) (met : Option Mishap) (reply : Reply) → Means h has_stopped s → MayMeet h (event.Call session c) met h.status → EventStep version_1 s (event.Call session c) met reply s
-    → AnswersFrom s (event.Call session c) reply h h has_stopped
-kept h has_stopped s session c met reply m may step = record { met = met; may = may; next = s; step = step; means = m; lasts = stays_lasts h has_stopped s m }
+kept : (h : Held) (has_stopped : Bool) (s : State) (session : ℕ) (c : Call) (met : Option Mishap) (reply : Reply) → Means h has_stopped s → MayMeet h (event.Call session c) met h.status → Costs h (event.Call session c) met h.status
+    → EventStep version_1 s (event.Call session c) met reply s → AnswersFrom s (event.Call session c) reply h h has_stopped
+kept h has_stopped s session c met reply m may costs step = record { met = met; may = may; next = s; step = step; means = m; lasts = stays_lasts h has_stopped s m; least = stays_least s; costs = costs }
 
 -- one that has stopped
 pub stopped_answers : (h : Held) (session : ℕ) (c : Call) → Answers (event.Call session c) (refused Estopped) h true h true
 stopped_answers h session c (Running w) m = absurd (true≢false m.0)
-stopped_answers h session c (Stopped before after) m = kept h true (Stopped before after) session c None (refused Estopped) m tt (refl, refl)
+stopped_answers h session c (Stopped before after) m = kept h true (Stopped before after) session c None (refused Estopped) m tt (inl refl) (refl, refl)
 
 -- ---- of one that runs, in the world that it holds
 
@@ -62,14 +67,17 @@ pub undecided_answers : (h : Held) (session : ℕ) (c : Call) (e : CallError) �
 undecided_answers h session c e none = in_world h h false session c (reply_of e) (λ r. told r e none)
   where
     told : Runs h h.world → (e : CallError) → HasNone e h.world session c → AnswersFrom (Running h.world) (event.Call session c) (reply_of e) h h false
-    told r (lack.Refused refusal) none = kept h false (Running h.world) session c None (answer.Refused refusal) (refl, r) tt
+    told r (lack.Refused refusal) none = kept h false (Running h.world) session c None (answer.Refused refusal) (refl, r) tt (inl refl)
         (record { next = h.world; becomes = subst (λ (d : Result Outcome Refusal). Becomes version_1 h.world session d (answer.Refused refusal) h.world) (sym none) (refl, refl); runs = refl })
-    told r lack.Memory none = kept h false (Running h.world) session c (Some Memory) (refused Enomem) (refl, r) tt (none, record { told = refl; same = refl })
+    told r lack.Memory none = kept h false (Running h.world) session c (Some Memory) (refused Enomem) (refl, r) tt refl (none, record { told = refl; same = refl })
 
 -- the call has an outcome, and a change was chosen
 module _ (old : Held) (session : ℕ) (c : Call) (o : Outcome) (change : Change) (whole : IsWorld version_1 old.world) (decided : decision version_1 old.world session c ≡ Ok o) (chosen : Chooses old.world.live o.change (Some change)) where
   can : CanBeMade old.world change
   can = can_be_made old.world session c o change whole decided chosen
+
+  is_change : IsChangeOf old.world session c change
+  is_change = record { outcome = o; decided = decided; chosen = chosen }
 
   -- the world that it makes
   abbrev pub next_with : Tree → World
@@ -98,9 +106,9 @@ module _ (old : Held) (session : ℕ) (c : Call) (o : Outcome) (change : Change)
 
       told : (f : ChangeFault) → Runs old old.world → FailsChange true f change old new → AnswersFrom (Running old.world) (event.Call session c) (refused (errno_of f)) old new (stops f)
       told fault.Space r fails = same new fault.Space fails.1 (kept old false (Running old.world) session c (Some Space) (refused (errno_of fault.Space)) (refl, r)
-          (record { outcome = o; decided = decided; change = change; chosen = chosen; none = fails.0 })
+          (record { change = change; is = is_change; none = fails.0 }) refl
           ((o, decided, is_charged old.world session c o change decided chosen), record { told = refl; same = refl }))
-      told fault.Memory r fails = same new fault.Memory fails (kept old false (Running old.world) session c (Some Memory) (refused (errno_of fault.Memory)) (refl, r) tt
+      told fault.Memory r fails = same new fault.Memory fails (kept old false (Running old.world) session c (Some Memory) (refused (errno_of fault.Memory)) (refl, r) tt refl
           (change_takes old.world session c o change decided chosen, record { told = refl; same = refl }))
       told fault.Device r fails =
           let tree = fails.made.tree in
@@ -120,6 +128,8 @@ module _ (old : Held) (session : ℕ) (c : Call) (o : Outcome) (change : Change)
             };
             means = (refl, between);
             lasts = stops_lasts old new old.world next change tree r can.spelled fails.made.applied (live_of tree) (frozen_of tree r) (fails.moments refl);
+            least = tt;
+            costs = (change, is_change, fails.costs);
           }
 
   -- it is made and logged
@@ -140,6 +150,8 @@ module _ (old : Held) (session : ℕ) (c : Call) (o : Outcome) (change : Change)
             step = record { next = next; becomes = becomes tree logged.made.applied; runs = refl };
             means = (refl, on);
             lasts = runs_lasts old (record mid { world = with_caller mid.world session o.caller }) old.world next change tree r can.spelled logged.made.applied (live_of tree) (frozen_of tree r) (logged.moments refl) on;
+            least = (chosen_served old.world session c o (Some change) tree whole decided chosen logged.made.applied).1;
+            costs = inr (change, is_change, logged.costs);
           })
 
 -- a call that changes nothing of the tree
@@ -160,13 +172,16 @@ told_answers old new session c o whole decided chosen is = in_world old new fals
           keeps = subst (λ (t : Tree). Keeps version_1 old.disk old.at r.changes new_tree t) (sym live) r.keeps;
         } in
         let shows = runs_show after next on in
+        let served = chosen_served old.world session c o None old.world.live whole decided chosen refl in
         subst (λ (x : Held). AnswersFrom (Running old.world) (event.Call session c) o.told old x false) (sym is) (record {
           met = None;
           may = tt;
           next = Running next;
-          step = record { next = next; becomes = (chosen_served old.world session c o None old.world.live whole decided chosen refl).0; runs = refl };
+          step = record { next = next; becomes = served.0; runs = refl };
           means = (refl, on);
           lasts = record { moments = LeavesOnly-start old.disk (λ d. ShowsState ground (Running old.world) d ⊎ ShowsState ground (Running next) d) (λ d crash. inr (shows d crash)); answered = shows };
+          least = served.1;
+          costs = inl refl;
         })
 
 -- where a change isn't made and the mount goes on, its world is the one from before

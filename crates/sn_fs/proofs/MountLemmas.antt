@@ -1,5 +1,5 @@
 -- Replay, record by record.
-use Rattle.std.proofs.Common.{◌≡◌, ◌⊎◌, inl, inr, ℕ, ◌+◌, ◌<◌, ◌≤◌, Bool, true, false, List, [], ◌∷◌, ◌++◌, length, Option, Some, None, Result, Err, refl, sym, ap, subst, ◌∙◌, arith}
+use Rattle.std.proofs.Common.{◌≡◌, ◌⊎◌, inl, inr, ℕ, ◌+◌, ◌<◌, ◌≤◌, Bool, true, false, List, [], ◌∷◌, ◌++◌, length, Option, Some, None, Result, Ok, Err, refl, sym, ap, subst, ◌∙◌, arith}
 use Rattle.std.specs.Prelude.{IsTrue, MatchBool}
 use Rattle.sn_device.specs.Disk.{Disk, Always, IsSynced, reads}
 use Rattle.sn_device.specs.Crash.{LeavesOnly, Touches}
@@ -36,9 +36,9 @@ use Rattle.sn_fs.proofs.MeaningLemmas.{opens_here}
 use Rattle.sn_fs.specs.Recovering.{IsLeft, IsNotRecovered, IsRecovered, Mounts, Refuses}
 use Rattle.sn_model.specs.declared.mount.MountFault.{MountFault}
 use Rattle.sn_model.specs.declared.mount.MountFault.TheVariants as fault
-use Rattle.sn_fs.specs.Answers.{HasFailed}
+use Rattle.sn_fs.specs.Answers.{CostsAtMost, HasFailed}
 use Rattle.sn_fs.specs.Held.{Held, IsOnGround, ground}
-use Rattle.sn_fs.specs.Mounting.{HasAll, HasCause, HasReplayed, IsSoOf, KeepsTheWorld, LeavesTheWorld, OpensToNone, read_fault}
+use Rattle.sn_fs.specs.Mounting.{HasAll, HasCause, HasReplayed, IsSoOf, KeepsTheWorld, LeavesTheWorld, OpensToNone, WritesNothing, read_fault}
 
 -- the half lies on a disk that has all its sectors
 pub lies_on : (c : Contents) (at : LogPosition) → IsOnGround at → AreSectors c → 2048 ≤ length c → IsOnDisk c (base_at at)
@@ -90,6 +90,23 @@ failed_read false old new e more = inl (let rose : new.failures ≡ old.failures
 pub read_failed : {T : Type 0} (result : Result T ReadFault) (f : ReadFault) (old new : Status) → CountsRead result old new → result ≡ Err f → IsSoOf (read_fault f) old new
 read_failed result read.Device old new counts e = failed_read (has_ended old) old new refl (counts.device e)
 read_failed result read.Memory old new counts e = tt
+
+fails_reading : (b : Bool) (old new : Status) → MatchBool b (new ≡ old) (new ≡ record old { failures = old.failures + 1 }) → WritesNothing old new
+fails_reading true old new same = record { writes = ap (λ (s : Status). s.writes) same; syncs = ap (λ (s : Status). s.syncs) same }
+fails_reading false old new more = record { writes = ap (λ (s : Status). s.writes) more; syncs = ap (λ (s : Status). s.syncs) more }
+
+-- a read writes nothing
+pub reads_only : {T : Type 0} (result : Result T ReadFault) (old new : Status) → CountsRead result old new → WritesNothing old new
+reads_only (Ok x) old new counts = record { writes = ap (λ (s : Status). s.writes) counts.done; syncs = ap (λ (s : Status). s.syncs) counts.done }
+reads_only (Err read.Device) old new counts = fails_reading (has_ended old) old new (counts.device refl)
+reads_only (Err read.Memory) old new counts = let same = counts.memory refl in record { writes = ap (λ (s : Status). s.writes) same; syncs = ap (λ (s : Status). s.syncs) same }
+
+-- a sync, reads, and clearing a place
+pub mount_costs : {T : Type 0} (result : Result T ReadFault) (old mid read new : Status) → CostsAtMost 0 1 old mid → WritesNothing mid read → CountsClearing result read new → CostsAtMost 1 2 old new
+mount_costs result old mid read new first same last = record {
+  writes = omega (arith, first.writes, same.writes, last.writes);
+  syncs = omega (arith, first.syncs, same.syncs, last.syncs);
+}
 
 -- the first place of the log
 pub starts : (c : Contents) (at : LogPosition) (w : World) → at ≡ first_of 256 1 → w ≡ new_world → HasReplayed c at w.live

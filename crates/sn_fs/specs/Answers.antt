@@ -1,5 +1,5 @@
 -- What an event leads a mounted file system to, on its disk too.
-use Rattle.std.specs.Prelude.{◌≡◌, ◌⊎◌, ℕ, ◌<◌, Bool, Option, None, Some, Ok, IsTrue}
+use Rattle.std.specs.Prelude.{◌≡◌, ◌⊎◌, ℕ, ◌+◌, ◌<◌, ◌≤◌, Bool, Option, None, Some, Ok, IsTrue}
 use Rattle.sn_device.specs.Status.{has_ended}
 use Rattle.sn_device.specs.declared.status.Status.{Status}
 use Rattle.sn_limits.specs.Versions.{version_1}
@@ -9,10 +9,14 @@ use Rattle.sn_model.specs.declared.call.Event.TheVariants as event
 use Rattle.sn_model.specs.declared.change.Change.{Change}
 use Rattle.sn_model.specs.declared.outcome.Outcome.{Outcome}
 use Rattle.sn_model.specs.declared.reply.Reply.{Reply}
-use Rattle.sn_model.specs.Machine.{State, Mishap, Memory, Read, Write, Space, Age, EventStep}
+use Rattle.sn_model.specs.Machine.{State, Running, Stopped, Mishap, Memory, Read, Write, Space, Age, EventStep}
 use Rattle.sn_model.specs.Steps.{decision}
 use Rattle.sn_model.specs.World.{World}
+use Rattle.sn_block.specs.Counts.{called}
+use Rattle.sn_ondisk.specs.LogHalf.{body_sectors}
+use Rattle.sn_record.specs.Payload.{payload_bytes}
 use Rattle.sn_log.specs.Places.{LogPosition, HasRoom}
+use Rattle.sn_core.specs.PlainRuns.{TakesLeast}
 use Rattle.sn_core.specs.Served.{Chooses}
 use Rattle.sn_recovery.specs.Moments.{LastsOver}
 use Rattle.sn_fs.specs.Held.{Held, Means, ground}
@@ -21,12 +25,16 @@ use Rattle.sn_fs.specs.Held.{Held, Means, ground}
 abbrev pub HasFailed : Status → Status → Type 0
 HasFailed old new = (old.failures < new.failures) ⊎ IsTrue (has_ended new)
 
--- the record of a call's change has no room behind the position
-pub record HasNoRoom (at : LogPosition) (world : World) (session : ℕ) (c : Call) : Type 0 where
+-- the change that a call comes to
+pub record IsChangeOf (world : World) (session : ℕ) (c : Call) (change : Change) : Type 0 where
   pub outcome : Outcome
   pub decided : decision version_1 world session c ≡ Ok outcome
-  pub change : Change
   pub chosen : Chooses world.live outcome.change (Some change)
+
+-- the record of a call's change has no room behind the position
+pub record HasNoRoom (at : LogPosition) (world : World) (session : ℕ) (c : Call) : Type 0 where
+  pub change : Change
+  pub is : IsChangeOf world session c change
   pub none : HasRoom at change → ⊥
 
 abbrev pub LacksRoom : Held → Event → Type 0
@@ -43,6 +51,36 @@ MayMeet h e (Some Write) new = HasFailed h.status new
 MayMeet h e (Some Space) new = LacksRoom h e
 MayMeet h e (Some Age) new = ⊥
 
+-- a new node has the least number that was unused
+abbrev pub TakesLeastIn : State → State → Type 0
+TakesLeastIn (Running old) (Running new) = TakesLeast old new
+TakesLeastIn (Running old) (Stopped before after) = Unit {0}
+TakesLeastIn (Stopped before after) new = Unit {0}
+
+-- at most so many writes and syncs, failed or not
+pub record CostsAtMost (w y : ℕ) (old new : Status) : Type 0 where
+  pub writes : new.writes ≤ old.writes + w
+  pub syncs : new.syncs ≤ old.syncs + y
+
+-- the writes of a record: its body's sectors, the next gate closed and its own gate opened
+abbrev pub writes_of : Change → ℕ
+writes_of change = body_sectors (payload_bytes change) + 2
+
+-- A call that comes to a change makes the writes and the two syncs of its record, and any other, or one that is refused, none.
+abbrev pub CostsCall : Held → ℕ → Call → Option Mishap → Status → Type 0
+CostsCall h session c None new = (new ≡ h.status) ⊎ ((change : Change) × IsChangeOf h.world session c change × (new ≡ called (writes_of change) 2 h.status))
+CostsCall h session c (Some Memory) new = new ≡ h.status
+CostsCall h session c (Some Read) new = new ≡ h.status
+CostsCall h session c (Some Write) new = (change : Change) × IsChangeOf h.world session c change × CostsAtMost (writes_of change) 2 h.status new
+CostsCall h session c (Some Space) new = new ≡ h.status
+CostsCall h session c (Some Age) new = new ≡ h.status
+
+-- a mount makes one write and two syncs
+abbrev pub Costs : Held → Event → Option Mishap → Status → Type 0
+Costs h (event.Call session c) met new = CostsCall h session c met new
+Costs h event.Step met new = new ≡ h.status
+Costs h event.Restart met new = CostsAtMost 1 2 h.status new
+
 -- The event is a step of the machine, from this state to the next: a crash at any moment of its course leaves one of the two, and once it is answered the next alone.
 pub record AnswersFrom (s : State) (e : Event) (reply : Reply) (old new : Held) (has_stopped : Bool) : Type 0 where
   pub met : Option Mishap
@@ -51,6 +89,8 @@ pub record AnswersFrom (s : State) (e : Event) (reply : Reply) (old new : Held) 
   pub step : EventStep version_1 s e met reply next
   pub means : Means new has_stopped next
   pub lasts : LastsOver ground s next old.disk new.disk
+  pub least : TakesLeastIn s next
+  pub costs : Costs old e met new.status
 
 -- so it is from each state that is meant
 abbrev pub Answers : Event → Reply → Held → Bool → Held → Bool → Type 0

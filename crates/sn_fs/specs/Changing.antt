@@ -11,7 +11,8 @@ use Rattle.sn_model.specs.World.{World}
 use Rattle.sn_model.specs.declared.reply.Errno.{Errno}
 use Rattle.sn_model.specs.declared.reply.Errno.TheVariants.{Enospc, Enomem, Eio}
 use Rattle.sn_log.specs.Places.{LogPosition, HasRoom, IsReadyAt, behind}
-use Rattle.sn_fs.specs.Answers.{HasFailed}
+use Rattle.sn_block.specs.Counts.{called}
+use Rattle.sn_fs.specs.Answers.{CostsAtMost, HasFailed, writes_of}
 use Rattle.sn_fs.specs.Held.{Held}
 use Rattle.sn_fs.specs.declared.fault.ChangeFault.{ChangeFault}
 use Rattle.sn_fs.specs.declared.fault.ChangeFault.TheVariants.{Space, Memory, Device}
@@ -38,12 +39,14 @@ pub record IsLogged (told : Bool) (change : Change) (old new : Held) : Type 0 wh
   pub at : new.at ≡ behind old.at change
   pub moments : IsTrue told → LeavesEither old.at change old.disk new.disk
   pub acknowledged : IsTrue told → LeavesMore old.at change old.disk new.disk
+  pub costs : new.status ≡ called (writes_of change) 2 old.status
 
 -- the device failed while its record was appended
 pub record IsCut (told : Bool) (change : Change) (old new : Held) : Type 0 where
   pub made : IsMade change old.world new.world
   pub moments : IsTrue told → LeavesEither old.at change old.disk new.disk
   pub failed : HasFailed old.status new.status
+  pub costs : CostsAtMost (writes_of change) 2 old.status new.status
 
 abbrev pub FailsChange : Bool → ChangeFault → Change → Held → Held → Type 0
 FailsChange told Space change old new = (HasRoom old.at change → ⊥) × (new ≡ old)

@@ -68,6 +68,11 @@ pub record LeavesTheWorld (old new : Disk) (world : World) : Type 0 where
 abbrev pub KeepsTheWorld : Disk → Disk → Type 0
 KeepsTheWorld old new = (world : World) → OpensOn ground (reads old) world → Touches Nowhere old new ⊎ LeavesTheWorld old new world
 
+-- nothing was written or synced
+pub record WritesNothing (old new : Status) : Type 0 where
+  pub writes : new.writes ≡ old.writes
+  pub syncs : new.syncs ≡ old.syncs
+
 -- what a read that fails makes of a mount
 abbrev pub read_fault : ReadFault → MountFault
 read_fault read.Device = Device

@@ -11,6 +11,13 @@ use sn_device::Device;
 use sn_model::{Call, Errno, Outcome, Refusal, Reply};
 
 impl<D: Device> Fs<D> {
+    /// Whether a failure of the device has stopped it, so that every call is refused.
+    pub fn has_stopped(&self) -> bool
+        ensures { result ≡ has_stopped self.now }
+    {
+        self.has_stopped
+    }
+
     /// Answers a call. Once it is answered, a crash loses nothing of it. ENOSPC comes where the record
     /// of its change has no room in the log, and EIO where the device fails while it is written, which
     /// stops the mount: then every call is ESTOPPED.

@@ -1,5 +1,6 @@
 //! Mount and unmount.
 ghost use Rattle.std.specs.Prelude.{◌≡◌, IsTrue, IfOk, IfErr};
+ghost use Rattle.sn_fs.specs.Answers.{CostsAtMost};
 ghost use Rattle.sn_fs.specs.Filesystem.{IsFs, has_stopped, held};
 ghost use Rattle.sn_fs.specs.Mounting.{IsSoOf};
 ghost use Rattle.sn_fs.specs.Recovering.{IsLeft, Mounts};
@@ -24,6 +25,9 @@ pub fn mount<D: Device>(alloc: Global, device: D) -> Result<Fs<D>, Unmounted<D>>
     ensures sound { IfOk result IsFs }
     ensures unmounted { IsTrue D.tells_bytes → IfErr result (λ u. IsLeft u.fault (D.disk device) (D.disk u.device) (D.status device).sectors) }
     ensures failed { IfErr result (λ u. IsSoOf u.fault (D.status device) (D.status u.device)) }
+    ensures sectors { IfErr result (λ u. (D.status u.device).sectors ≡ (D.status device).sectors) }
+    ensures costs { IfOk result (λ fs. CostsAtMost 1 2 (D.status device) (held fs).status) }
+    ensures tries { IfErr result (λ u. CostsAtMost 1 2 (D.status device) (D.status u.device)) }
 {
     if device.sectors() < SECTORS {
         return Err(Unmounted {

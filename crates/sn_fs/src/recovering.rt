@@ -4,6 +4,7 @@ ghost use Rattle.sn_block.specs.Lending.{device_of};
 ghost use Rattle.sn_core.specs.Plain.{IsPlainWorld, world_of};
 ghost use Rattle.sn_limits.specs.Versions.{version_1};
 ghost use Rattle.sn_model.specs.Worlds.{IsWorld};
+ghost use Rattle.sn_fs.specs.Answers.{CostsAtMost};
 ghost use Rattle.sn_fs.specs.Held.{IsOnGround};
 ghost use Rattle.sn_fs.specs.Mounting.{FailsAs};
 ghost use Rattle.sn_fs.specs.Recovering.{Recovers};
@@ -30,6 +31,7 @@ pub(crate) fn recover<D: Device>(
     ensures place { IfOk result (λ r. IsOnGround r.log) }
     ensures sectors { (D.status (device_of blocks.new)).sectors ≡ (D.status (device_of blocks.old)).sectors }
     ensures failed { FailsAs result (D.status (device_of blocks.old)) (D.status (device_of blocks.new)) }
+    ensures costs { CostsAtMost 1 2 (D.status (device_of blocks.old)) (D.status (device_of blocks.new)) }
 {
     let Ok(mut buffer) = Buffer::new(alloc) else {
         return Err(MountFault::Memory);

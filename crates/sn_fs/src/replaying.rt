@@ -8,7 +8,7 @@ ghost use Rattle.sn_model.specs.NameTree.{IsTree};
 ghost use Rattle.sn_model.specs.Steps.{with_live};
 ghost use Rattle.sn_fs.specs.Held.{IsOnGround};
 ghost use Rattle.sn_model.specs.World.{new_world};
-ghost use Rattle.sn_fs.specs.Mounting.{FailsAs, HasReplayed, ReplaysAll, ReplaysOne, read_fault};
+ghost use Rattle.sn_fs.specs.Mounting.{FailsAs, HasReplayed, ReplaysAll, ReplaysOne, WritesNothing, read_fault};
 
 use sn_block::{Blocks, ReadFault};
 use sn_core::PlainWorld;
@@ -52,6 +52,7 @@ pub(crate) fn replay_next<D: Device>(
     ensures within { replay.old.place ≤ 255 }
     ensures same { IsTrue D.tells_bytes → D.disk (device_of blocks.new) ≡ D.disk (device_of blocks.old) }
     ensures idle { OnOk result (D.status (device_of blocks.new) ≡ D.status (device_of blocks.old)) }
+    ensures reads { WritesNothing (D.status (device_of blocks.old)) (D.status (device_of blocks.new)) }
     ensures sectors { (D.status (device_of blocks.new)).sectors ≡ (D.status (device_of blocks.old)).sectors }
     ensures failed { FailsAs result (D.status (device_of blocks.old)) (D.status (device_of blocks.new)) }
 {
@@ -108,6 +109,7 @@ pub(crate) fn replay_all<D: Device>(
     ensures place { IfOk result (λ at. IsOnGround at) }
     ensures same { IsTrue D.tells_bytes → D.disk (device_of blocks.new) ≡ D.disk (device_of blocks.old) }
     ensures idle { OnOk result (D.status (device_of blocks.new) ≡ D.status (device_of blocks.old)) }
+    ensures reads { WritesNothing (D.status (device_of blocks.old)) (D.status (device_of blocks.new)) }
     ensures sectors { (D.status (device_of blocks.new)).sectors ≡ (D.status (device_of blocks.old)).sectors }
     ensures failed { FailsAs result (D.status (device_of blocks.old)) (D.status (device_of blocks.new)) }
 {

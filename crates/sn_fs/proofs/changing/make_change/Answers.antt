@@ -8,6 +8,7 @@ returns-in-Ok-append-clause-made g c =
       at = c.in-Ok-append.ensures.moves;
       moments = λ told. (c.in-Ok-append.ensures.disk told).any_moment;
       acknowledged = λ told. (c.in-Ok-append.ensures.disk told).acknowledged;
+      costs = c.in-Ok-append.ensures.counts.done;
     }
 
 pub returns-in-Err-append-clause-made : goal.returns-in-Err-append-clause-made
@@ -17,4 +18,5 @@ returns-in-Err-append-clause-made g c =
       made = record { tree = made.0; applied = made.1; world = made.2 };
       moments = λ told. (c.in-Err-append.ensures.disk told).any_moment;
       failed = c.in-Err-append.ensures.counts.cause;
+      costs = record { writes = c.in-Err-append.ensures.counts.writes.1; syncs = c.in-Err-append.ensures.counts.syncs.1 };
     }

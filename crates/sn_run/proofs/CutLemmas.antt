@@ -1,0 +1,234 @@
+-- What a crash in an event leaves, in the machine's words.
+use Rattle.std.proofs.Common.{◌≡◌, ◌⊎◌, inl, inr, ℕ, Bool, false, List, [], ◌∷◌, ◌++◌, take, Option, Some, None, Result, Ok, refl, sym, ap, subst, ◌∙◌, replicate}
+use Rattle.std.specs.FinMap as map
+use Rattle.sn_device.specs.Sectors.{Contents}
+use Rattle.sn_device.specs.Disk.{Always}
+use Rattle.sn_device.specs.Crash.{LeavesOnly}
+use Rattle.sn_device.proofs.CrashLemmas.{LeavesOnly-join, LeavesOnly-start, LeavesOnly-weaker}
+use Rattle.sn_limits.specs.Versions.{version_1}
+use Rattle.sn_model.specs.declared.call.Call.{Call}
+use Rattle.sn_model.specs.declared.call.Event.{Event}
+use Rattle.sn_model.specs.declared.call.Event.TheVariants as event
+use Rattle.sn_model.specs.declared.outcome.Outcome.{Outcome}
+use Rattle.sn_model.specs.declared.reply.Refusal.{Refusal}
+use Rattle.sn_model.specs.declared.reply.Reply.{Reply}
+use Rattle.sn_model.specs.Machine as machine
+use Rattle.sn_model.specs.Machine.{State, Running, Stopped, Mishap, Anything, CallStep, CutRun, EventStep, IsAnswered, IsCutOff, IsRefused, IsStopped, IsUnmounted, Left, LeftAfter, LeftIn, MountStep, PointFails, PointStep, RestartStep, Run, RunBy, StepOf, StoppedStep}
+use Rattle.sn_model.specs.Settling.{settle, settled}
+use Rattle.sn_model.specs.Steps.{Becomes, decision}
+use Rattle.sn_model.specs.Tree.{Tree}
+use Rattle.sn_model.specs.World.{World}
+use Rattle.sn_model.proofs.ListLemmas.{covers_itself}
+use Rattle.sn_model.proofs.SettlingLemmas.{dropping_kept, settle_alike}
+use Rattle.sn_recovery.specs.Moments.{OpensOn, ShowsState}
+use Rattle.sn_fs.specs.Held.{ground}
+use Rattle.sn_run.specs.Runs.{Goes, OpensToCut, OpensToSome, Standing}
+
+-- ---- settling twice
+
+pub settled_twice : (tree : Tree) → settled (settled tree) ≡ settled tree
+settled_twice tree = sym (settle_alike tree (settled tree) (dropping_kept tree tree (λ _. false) (covers_itself tree)))
+
+pub settles_twice : (w : World) → settle (settle w) ≡ settle w
+settles_twice w = ap (λ (t : Tree). record { live = t; frozen = w.frozen; sessions = replicate 64 None; descriptors = map.empty }) (settled_twice w.live)
+
+-- the worlds of a stopped machine are settled
+abbrev pub AreSettled : State → Type 0
+AreSettled (Running w) = Unit {0}
+AreSettled (Stopped before after) = (settle before ≡ before) × (settle after ≡ after)
+
+stopped_settled : (a b : World) (reply : Reply) (next : State) → IsStopped (settle a) (settle b) reply next → AreSettled next
+stopped_settled a b reply next h = subst AreSettled (sym h.left) (settles_twice a, settles_twice b)
+
+refused_settled : (old : World) (m : Mishap) (reply : Reply) (next : State) → IsRefused old m reply next → AreSettled next
+refused_settled old m reply next h = subst AreSettled (sym h.same) tt
+
+call_settled : (old : World) (session : ℕ) (c : Call) (met : Option Mishap) (reply : Reply) (next : State) → CallStep version_1 old session c met reply next → AreSettled next
+call_settled old session c None reply next h = subst AreSettled (sym h.runs) tt
+call_settled old session c (Some machine.Write) reply next h = stopped_settled old h.next reply next h.stops
+call_settled old session c (Some machine.Memory) reply next h = refused_settled old machine.Memory reply next h.1
+call_settled old session c (Some machine.Read) reply next h = refused_settled old machine.Read reply next h.1
+call_settled old session c (Some machine.Space) reply next h = refused_settled old machine.Space reply next h.1
+call_settled old session c (Some machine.Age) reply next h = refused_settled old machine.Age reply next h.1
+
+fails_settled : (old : World) (m : Mishap) (reply : Reply) (next : State) → PointFails old m reply next → AreSettled next
+fails_settled old machine.Write reply next h = stopped_settled old old reply next h
+fails_settled old machine.Space reply next h = absurd h
+fails_settled old machine.Memory reply next h = refused_settled old machine.Memory reply next h
+fails_settled old machine.Read reply next h = refused_settled old machine.Read reply next h
+fails_settled old machine.Age reply next h = refused_settled old machine.Age reply next h
+
+pub step_settled : (s : State) (e : Event) (met : Option Mishap) (reply : Reply) (next : State) → AreSettled s → EventStep version_1 s e met reply next → AreSettled next
+step_settled (Running old) (event.Call session c) met reply next here h = call_settled old session c met reply next h
+step_settled (Running old) event.Step None reply next here h = subst AreSettled (sym h.1) tt
+step_settled (Running old) event.Step (Some m) reply next here h = fails_settled old m reply next h
+step_settled (Running old) event.Restart None reply next here h = subst AreSettled (sym h.1) tt
+step_settled (Running old) event.Restart (Some m) reply next here (inl h) = fails_settled old m reply next h
+step_settled (Running old) event.Restart (Some m) reply next here (inr h) = subst AreSettled (sym h.left) (settles_twice old, settles_twice old)
+step_settled (Stopped before after) (event.Call session c) None reply next here h = subst AreSettled (sym h.1) here
+step_settled (Stopped before after) (event.Call session c) (Some m) reply next here h = absurd h
+step_settled (Stopped before after) event.Step None reply next here h = subst AreSettled (sym h.1) here
+step_settled (Stopped before after) event.Step (Some m) reply next here h = absurd h
+step_settled (Stopped before after) event.Restart None reply next here (told, inl h) = subst AreSettled (sym h) tt
+step_settled (Stopped before after) event.Restart None reply next here (told, inr h) = subst AreSettled (sym h) tt
+step_settled (Stopped before after) event.Restart (Some m) reply next here h = subst AreSettled (sym h.left) here
+
+-- ---- one event
+
+-- the contents open to a world that a crash in an event leaves
+abbrev OpensToLeft : State → Event → Contents → Type 0
+OpensToLeft s e c = (w : World) × OpensOn ground c w × LeftIn version_1 s e w
+
+abbrev OpensToNow : State → Contents → Type 0
+OpensToNow s c = (w : World) × OpensOn ground c w × Left s w
+
+opens_now : (s : State) (c : Contents) → ShowsState ground s c → OpensToNow s c
+opens_now (Running w) c h = (settle w, h, refl)
+opens_now (Stopped before after) c (inl h) = (before, h, inl refl)
+opens_now (Stopped before after) c (inr h) = (after, h, inr refl)
+
+left_in : (s : State) (e : Event) (w : World) → Left s w → LeftIn version_1 s e w
+left_in (Running old) (event.Call session c) w h = inl h
+left_in (Running old) event.Step w h = h
+left_in (Running old) event.Restart w h = h
+left_in (Stopped before after) (event.Call session c) w h = h
+left_in (Stopped before after) event.Step w h = h
+left_in (Stopped before after) event.Restart w h = h
+
+left_now : (s : State) (e : Event) (c : Contents) → OpensToNow s c → OpensToLeft s e c
+left_now s e c h = (h.0, h.1, left_in s e h.0 h.2)
+
+-- what a state shows that is one of the two
+shown_same : (s next : State) (e : Event) (c : Contents) → next ≡ s → ShowsState ground next c → OpensToLeft s e c
+shown_same s next e c same h = left_now s e c (opens_now s c (subst (λ (x : State). ShowsState ground x c) same h))
+
+shown_stopped : (old : World) (next : State) (e : Event) (c : Contents) → next ≡ Stopped (settle old) (settle old) → ShowsState ground next c → OpensToLeft (Running old) e c
+shown_stopped old next e c same h = told (subst (λ (x : State). ShowsState ground x c) same h)
+  where
+    told : OpensOn ground c (settle old) ⊎ OpensOn ground c (settle old) → OpensToLeft (Running old) e c
+    told (inl k) = left_now (Running old) e c (settle old, k, refl)
+    told (inr k) = left_now (Running old) e c (settle old, k, refl)
+
+-- after a call that was answered
+after_answer : (old : World) (session : ℕ) (x : Call) (reply : Reply) (next : State) (c : Contents) → IsAnswered version_1 old session x reply next → ShowsState ground next c → OpensToLeft (Running old) (event.Call session x) c
+after_answer old session x reply next c h shows =
+    (settle h.next, subst (λ (s : State). ShowsState ground s c) h.runs shows, inr (record { reply = reply; next = h.next; becomes = h.becomes; left = refl }))
+
+-- and one that was cut off
+after_cut : (old : World) (session : ℕ) (x : Call) (reply : Reply) (next : State) (c : Contents) → IsCutOff version_1 old session x reply next → ShowsState ground next c → OpensToLeft (Running old) (event.Call session x) c
+after_cut old session x reply next c h shows = told (subst (λ (s : State). ShowsState ground s c) h.stops.left shows)
+  where
+    told : OpensOn ground c (settle old) ⊎ OpensOn ground c (settle h.next) → OpensToLeft (Running old) (event.Call session x) c
+    told (inl k) = left_now (Running old) (event.Call session x) c (settle old, k, refl)
+    told (inr k) = (settle h.next, k, inr (record {
+      reply = h.outcome.told;
+      next = h.next;
+      becomes = subst (λ (d : Result Outcome Refusal). Becomes version_1 old session d h.outcome.told h.next) (sym h.decided) (refl, h.comes);
+      left = refl;
+    }))
+
+after_call : (old : World) (session : ℕ) (x : Call) (met : Option Mishap) (reply : Reply) (next : State) (c : Contents) → CallStep version_1 old session x met reply next → ShowsState ground next c → OpensToLeft (Running old) (event.Call session x) c
+after_call old session x None reply next c h shows = after_answer old session x reply next c h shows
+after_call old session x (Some machine.Write) reply next c h shows = after_cut old session x reply next c h shows
+after_call old session x (Some machine.Memory) reply next c h shows = shown_same (Running old) next (event.Call session x) c h.1.same shows
+after_call old session x (Some machine.Read) reply next c h shows = shown_same (Running old) next (event.Call session x) c h.1.same shows
+after_call old session x (Some machine.Space) reply next c h shows = shown_same (Running old) next (event.Call session x) c h.1.same shows
+after_call old session x (Some machine.Age) reply next c h shows = shown_same (Running old) next (event.Call session x) c h.1.same shows
+
+after_failing : (old : World) (e : Event) (m : Mishap) (reply : Reply) (next : State) (c : Contents) → PointFails old m reply next → ShowsState ground next c → OpensToLeft (Running old) e c
+after_failing old e machine.Write reply next c h shows = shown_stopped old next e c h.left shows
+after_failing old e machine.Space reply next c h shows = absurd h
+after_failing old e machine.Memory reply next c h shows = shown_same (Running old) next e c h.same shows
+after_failing old e machine.Read reply next c h shows = shown_same (Running old) next e c h.same shows
+after_failing old e machine.Age reply next c h shows = shown_same (Running old) next e c h.same shows
+
+after_restart : (old : World) (met : Option Mishap) (reply : Reply) (next : State) (c : Contents) → RestartStep old met reply next → ShowsState ground next c → OpensToLeft (Running old) event.Restart c
+after_restart old None reply next c h shows =
+    (settle old, subst (OpensOn ground c) (settles_twice old) (subst (λ (s : State). ShowsState ground s c) h.1 shows), refl)
+after_restart old (Some m) reply next c (inl h) shows = after_failing old event.Restart m reply next c h shows
+after_restart old (Some m) reply next c (inr h) shows = shown_stopped old next event.Restart c h.left shows
+
+after_mount : (before after : World) (met : Option Mishap) (reply : Reply) (next : State) (c : Contents) → AreSettled (Stopped before after) → MountStep before after met reply next → ShowsState ground next c → OpensToLeft (Stopped before after) event.Restart c
+after_mount before after None reply next c here (told, inl h) shows = (before, subst (OpensOn ground c) here.0 (subst (λ (s : State). ShowsState ground s c) h shows), inl refl)
+after_mount before after None reply next c here (told, inr h) shows = (after, subst (OpensOn ground c) here.1 (subst (λ (s : State). ShowsState ground s c) h shows), inr refl)
+after_mount before after (Some m) reply next c here h shows = shown_same (Stopped before after) next event.Restart c h.left shows
+
+after_event : (s : State) (e : Event) (met : Option Mishap) (reply : Reply) (next : State) (c : Contents) → AreSettled s → EventStep version_1 s e met reply next → ShowsState ground next c → OpensToLeft s e c
+after_event (Running old) (event.Call session x) met reply next c here h shows = after_call old session x met reply next c h shows
+after_event (Running old) event.Step None reply next c here h shows = shown_same (Running old) next event.Step c h.1 shows
+after_event (Running old) event.Step (Some m) reply next c here h shows = after_failing old event.Step m reply next c h shows
+after_event (Running old) event.Restart met reply next c here h shows = after_restart old met reply next c h shows
+after_event (Stopped before after) (event.Call session x) None reply next c here h shows = shown_same (Stopped before after) next (event.Call session x) c h.1 shows
+after_event (Stopped before after) (event.Call session x) (Some m) reply next c here h shows = absurd h
+after_event (Stopped before after) event.Step None reply next c here h shows = shown_same (Stopped before after) next event.Step c h.1 shows
+after_event (Stopped before after) event.Step (Some m) reply next c here h shows = absurd h
+after_event (Stopped before after) event.Restart met reply next c here h shows = after_mount before after met reply next c here h shows
+
+-- a crash in its course
+in_event : (s : State) (e : Event) (met : Option Mishap) (reply : Reply) (next : State) (c : Contents) → AreSettled s → EventStep version_1 s e met reply next → ShowsState ground s c ⊎ ShowsState ground next c → OpensToLeft s e c
+in_event s e met reply next c here h (inl shows) = left_now s e c (opens_now s c shows)
+in_event s e met reply next c here h (inr shows) = after_event s e met reply next c here h shows
+
+-- ---- events of a run
+
+-- a step of the machine
+step_of : (old new : Standing) (e : Event) (reply : Reply) → Goes old e reply new → StepOf Anything version_1 old.state e reply new.state
+step_of old new e reply goes = (goes.answers.met, tt, subst (λ (s : State). EventStep version_1 old.state e goes.answers.met reply s) (sym goes.next) goes.answers.step)
+
+goes_settled : (old new : Standing) (e : Event) (reply : Reply) → AreSettled old.state → Goes old e reply new → AreSettled new.state
+goes_settled old new e reply here goes = let step = step_of old new e reply goes in step_settled old.state e step.0 reply new.state here step.2
+
+goes_shows : (old new : Standing) (e : Event) (reply : Reply) → Goes old e reply new → Always new.held.disk (λ c. ShowsState ground new.state c)
+goes_shows old new e reply goes = subst (λ (s : State). Always new.held.disk (λ c. ShowsState ground s c)) (sym goes.next) goes.answers.lasts.answered
+
+goes_leaves : (old new : Standing) (e : Event) (reply : Reply) → AreSettled old.state → Goes old e reply new → LeavesOnly old.held.disk new.held.disk (OpensToLeft old.state e)
+goes_leaves old new e reply here goes =
+    let a = goes.answers in
+    LeavesOnly-weaker old.held.disk new.held.disk (λ c. ShowsState ground old.state c ⊎ ShowsState ground a.next c) (OpensToLeft old.state e)
+    (λ c. in_event old.state e a.met reply a.next c here a.step) a.lasts.moments
+
+-- of the machine
+pub machine_run : (first last : Standing) (events : List Event) (replies : List Reply) → RunBy Goes first events replies last → Run Anything version_1 first.state events replies last.state
+machine_run first last [] [] run = ap (λ (x : Standing). x.state) run
+machine_run first last [] (reply ∷ replies) run = absurd run
+machine_run first last (e ∷ events) [] run = absurd run
+machine_run first last (e ∷ events) (reply ∷ replies) run = (run.0.state, step_of first run.0 e reply run.1, machine_run run.0 last events replies run.2)
+
+-- a crash in the event behind these
+pub cut_in : (first mid next : Standing) (done todo : List Event) (e : Event) (said : List Reply) (reply : Reply) → AreSettled first.state → RunBy Goes first done said mid → Goes mid e reply next
+    → LeavesOnly mid.held.disk next.held.disk (OpensToCut first.state (done ++ e ∷ todo) said)
+cut_in first mid next [] todo e [] reply here run goes =
+    LeavesOnly-weaker mid.held.disk next.held.disk (OpensToLeft mid.state e) (OpensToCut first.state (e ∷ todo) [])
+    (λ c h. subst (λ (x : Standing). OpensToLeft x.state e c) run h) (goes_leaves mid next e reply (subst (λ (x : Standing). AreSettled x.state) (sym run) here) goes)
+cut_in first mid next [] todo e (r ∷ said) reply here run goes = absurd run
+cut_in first mid next (d ∷ done) todo e [] reply here run goes = absurd run
+cut_in first mid next (d ∷ done) todo e (r ∷ said) reply here run goes =
+    LeavesOnly-weaker mid.held.disk next.held.disk (OpensToCut run.0.state (done ++ e ∷ todo) said) (OpensToCut first.state (d ∷ (done ++ e ∷ todo)) (r ∷ said))
+    (λ c h. (h.0, h.1, (run.0.state, step_of first run.0 d r run.1, h.2)))
+    (cut_in run.0 mid next done todo e said reply (goes_settled first run.0 d r here run.1) run.2 goes)
+
+-- a crash at any moment of a run
+pub run_leaves : (first last : Standing) (events : List Event) (replies : List Reply) → AreSettled first.state → Always first.held.disk (λ c. ShowsState ground first.state c) → RunBy Goes first events replies last
+    → LeavesOnly first.held.disk last.held.disk (OpensToSome first.state events replies)
+run_leaves first last [] [] here shows run =
+    subst (λ (x : Standing). LeavesOnly first.held.disk x.held.disk (OpensToSome first.state [] [])) (sym run)
+    (LeavesOnly-start first.held.disk (OpensToSome first.state [] []) (λ c crash. (0, opens_now first.state c (shows c crash))))
+run_leaves first last [] (reply ∷ replies) here shows run = absurd run
+run_leaves first last (e ∷ events) [] here shows run = absurd run
+run_leaves first last (e ∷ events) (reply ∷ replies) here shows run =
+    let mid = run.0 in
+    let P = OpensToSome first.state (e ∷ events) (reply ∷ replies) in
+    LeavesOnly-join first.held.disk mid.held.disk last.held.disk P
+    (LeavesOnly-weaker first.held.disk mid.held.disk (OpensToLeft first.state e) P (λ c h. (0, h)) (goes_leaves first mid e reply here run.1))
+    (LeavesOnly-weaker mid.held.disk last.held.disk (OpensToSome mid.state events replies) P
+    (λ c h. (suc h.0, (h.1.0, h.1.1, (mid.state, step_of first mid e reply run.1, h.1.2))))
+    (run_leaves mid last events replies (goes_settled first mid e reply here run.1) (goes_shows first mid e reply run.1) run.2))
+
+-- before the first event
+pub cut_now : (world : World) (events : List Event) → settle world ≡ world → CutRun Anything version_1 (Running world) events [] world
+cut_now world [] settled = sym settled
+cut_now world (e ∷ events) settled = left_in (Running world) e world (sym settled)
+
+-- what contents open to is settled
+pub found_settled : (c : Contents) (world : World) → OpensOn ground c world → settle world ≡ world
+found_settled c world h = ap settle h.settled ∙ settles_twice _ ∙ sym h.settled

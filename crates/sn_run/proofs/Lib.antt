@@ -1,0 +1,3 @@
+mod CutLemmas
+mod RestartLemmas
+mod RunLemmas

@@ -1,0 +1,159 @@
+-- Whole runs.
+use Rattle.std.proofs.Common.{◌≡◌, ◌⊎◌, inl, inr, ℕ, ◌≤◌, Bool, true, false, length, List, [], ◌∷◌, ◌++◌, Option, Some, None, refl, sym, ap, subst, ◌∙◌}
+use Rattle.std.proofs.lemmas.Bool.{true≢false}
+use Rattle.sn_device.specs.Sectors.{AreSectors, Contents}
+use Rattle.sn_device.specs.Disk.{Disk, Always, reads}
+use Rattle.sn_device.specs.Crash.{LeavesOnly, Touches}
+use Rattle.sn_device.specs.declared.status.Status.{Status}
+use Rattle.sn_device.proofs.CrashLemmas.{LeavesOnly-join, LeavesOnly-weaker, Touches-start}
+use Rattle.sn_block.specs.Effects.{Nowhere}
+use Rattle.sn_limits.specs.Versions.{version_1}
+use Rattle.sn_model.specs.declared.call.Event.{Event}
+use Rattle.sn_model.specs.declared.mount.End.{End}
+use Rattle.sn_model.specs.declared.mount.End.TheVariants as ending
+use Rattle.sn_model.specs.declared.mount.MountFault.{MountFault}
+use Rattle.sn_model.specs.declared.reply.Reply.{Reply}
+use Rattle.sn_model.specs.Machine.{State, Running, Stopped, Anything, CutRun, Ends, HasRun, Life, Run, RunBy, WholeRun}
+use Rattle.sn_model.specs.World.{World, new_world}
+use Rattle.sn_ondisk.specs.LogHalf.{base_of}
+use Rattle.sn_log.specs.Places.{first_of}
+use Rattle.sn_core.proofs.StepLemmas.{run_more}
+use Rattle.sn_recovery.specs.Moments.{OpensOn, ShowsState}
+use Rattle.sn_recovery.proofs.RecoveryLemmas.{opens_to_one}
+use Rattle.sn_fs.specs.Answers.{Answers, CostsAtMost}
+use Rattle.sn_fs.specs.Held.{Held, Means, ground}
+use Rattle.sn_fs.specs.Mounting.{IsSoOf, LeavesTheWorld}
+use Rattle.sn_fs.specs.Recovering.{IsLeft, Mounts}
+use Rattle.sn_fs.proofs.MeaningLemmas.{means_show}
+use Rattle.sn_run.specs.Laws.{LivesOn}
+use Rattle.sn_run.specs.Runs.{AnswersAll, Goes, IsAnswered, IsRunOf, LeavesItsRun, NotMounted, OpensToSome, RunsTo, Served, Standing}
+use Rattle.sn_run.proofs.CutLemmas.{AreSettled, cut_now, found_settled, machine_run, run_leaves}
+use Rattle.sn_run.proofs.RestartLemmas.{met_with, one_of}
+
+-- ---- event by event
+
+pub answers_none : (h : Held) (has : Bool) → AnswersAll [] [] h has h has
+answers_none h has s means = record { state = s; means = means; run = refl }
+
+pub answers_more : (events : List Event) (replies : List Reply) (e : Event) (reply : Reply) (old mid new : Held) (had was has : Bool) → AnswersAll events replies old had mid was → Answers e reply mid was new has
+    → AnswersAll (events ++ e ∷ []) (replies ++ reply ∷ []) old had new has
+answers_more events replies e reply old mid new had was has all next s means =
+    let so_far = all s means in
+    let x = next so_far.state so_far.means in
+    record {
+      state = x.next;
+      means = x.means;
+      run = run_more Goes (record { state = s; held = old; has_stopped = had }) (record { state = so_far.state; held = mid; has_stopped = was }) (record { state = x.next; held = new; has_stopped = has })
+          events replies e reply so_far.run (record { answers = x; next = refl });
+    }
+
+-- ---- a run that was served
+
+ends_clean : (h : Held) (s : State) → Means h false s → Ends s None ending.Clean
+ends_clean h (Running w) means = refl
+ends_clean h (Stopped before after) means = absurd (true≢false (sym means.0))
+
+ends_stopped : (h : Held) (s : State) → Means h true s → Ends s None ending.Stopped
+ends_stopped h (Running w) means = absurd (true≢false means.0)
+ends_stopped h (Stopped before after) means = refl
+
+module _ (events : List Event) (replies : List Reply) (disk last_disk : Disk) (status last_status : Status) (h new : Held) (had : Bool) (m : Mounts disk h had) (costs : CostsAtMost 1 2 status h.status) (same_disk : last_disk ≡ new.disk) (same_status : last_status ≡ new.status) where
+  served : (has : Bool) (end : End) → AnswersAll events replies h had new has → ((s : State) → Means new has s → Ends s None end) → Served events replies end disk status last_disk last_status
+  served has end all ends =
+      let a = all (Running m.world) m.means in
+      record {
+        world = m.world;
+        opens = m.opens;
+        first = record { state = Running m.world; held = h; has_stopped = had };
+        mounted = refl;
+        means = m.means;
+        leaves = m.leaves;
+        costs = costs;
+        last = record { state = a.state; held = new; has_stopped = has };
+        run = a.run;
+        ends = ends a.state a.means;
+        disk = sym same_disk;
+        status = sym same_status;
+      }
+
+  pub served_clean : AnswersAll events replies h had new false → Served events replies ending.Clean disk status last_disk last_status
+  served_clean all = served false ending.Clean all (ends_clean new)
+
+  pub served_stopped : AnswersAll events replies h had new true → Served events replies ending.Stopped disk status last_disk last_status
+  served_stopped all = served true ending.Stopped all (ends_stopped new)
+
+-- ---- in the machine's words
+
+-- a device alone
+abbrev bare : Disk → Status → Held
+bare disk status = record { world = new_world; at = first_of 256 1; disk = disk; status = status }
+
+module _ (events : List Event) (replies : List Reply) (disk last_disk : Disk) (status last_status : Status) (world : World) (whole : AreSectors (reads disk)) (count : 2048 ≤ length (reads disk)) (enough : 2048 ≤ status.sectors) (opens : OpensOn ground (reads disk) world) where
+  served_leaves : (end : End) (s : Served events replies end disk status last_disk last_status) → s.world ≡ world → LeavesItsRun world events replies disk last_disk
+  served_leaves end s same =
+      let P = OpensToSome (Running world) events replies in
+      let starts : s.first.state ≡ Running world = s.mounted ∙ ap (λ (w : World). Running w) same in
+      let settled = found_settled (reads disk) world opens in
+      let rest = run_leaves s.first s.last events replies (subst AreSettled (sym starts) tt) (means_show s.first.held s.first.has_stopped s.first.state s.means) s.run in
+      record {
+        mid = s.leaves.mid;
+        first = s.leaves.first;
+        same = s.leaves.same;
+        synced = s.leaves.synced;
+        moments = LeavesOnly-join s.leaves.mid s.first.held.disk last_disk P
+            (LeavesOnly-weaker s.leaves.mid s.first.held.disk (λ c. OpensOn ground c s.world) P (λ c h. (0, (world, subst (OpensOn ground c) same h, cut_now world events settled))) s.leaves.moments)
+            (subst (λ (d : Disk). LeavesOnly s.first.held.disk d P) s.disk (subst (λ (x : State). LeavesOnly s.first.held.disk s.last.held.disk (OpensToSome x events replies)) starts rest));
+      }
+
+  served_run : (end : End) → Served events replies end disk status last_disk last_status → IsRunOf world events replies end disk last_disk
+  served_run end s =
+      let same = one_of (reads disk) s.world world whole count s.opens opens in
+      let starts : s.first.state ≡ Running world = s.mounted ∙ ap (λ (w : World). Running w) same in
+      record {
+        run = inr (inr (record {
+          last = s.last.state;
+          run = subst (λ (x : State). Run Anything version_1 x events replies s.last.state) starts (machine_run s.first s.last events replies s.run);
+          met = None;
+          may = tt;
+          ends = s.ends;
+        }));
+        crash = inr (served_leaves end s same);
+      }
+
+  left_so : Touches Nowhere disk last_disk ⊎ LeavesTheWorld disk last_disk world → Touches Nowhere disk last_disk ⊎ LeavesItsRun world events replies disk last_disk
+  left_so (inl touches) = inl touches
+  left_so (inr leaves) = inr (record {
+    mid = leaves.mid;
+    first = leaves.first;
+    same = leaves.same;
+    synced = leaves.synced;
+    moments = LeavesOnly-weaker leaves.mid last_disk (λ c. OpensOn ground c world) (OpensToSome (Running world) events replies)
+        (λ c h. (0, (world, h, cut_now world events (found_settled (reads disk) world opens)))) leaves.moments;
+  })
+
+  unserved_run : (f : MountFault) → NotMounted f replies disk status last_disk last_status → IsRunOf world events replies (ending.Mount f) disk last_disk
+  unserved_run f n =
+      let met = met_with f (reads disk) world status.sectors (bare disk status) (bare last_disk last_status) opens enough n.left.cause n.failed in
+      record {
+        run = inr (inl (record { met = met.0; may = tt; fault = f; is = met.1; none = n.none; ends = refl }));
+        crash = left_so (n.left.keeps world opens);
+      }
+
+  pub is_run : (end : End) → RunsTo end events replies disk status last_disk last_status → IsRunOf world events replies end disk last_disk
+  is_run ending.Clean h = served_run ending.Clean h
+  is_run ending.Stopped h = served_run ending.Stopped h
+  is_run ending.Memory h = record {
+    run = inl (record { may = tt; none = h.none; ends = refl });
+    crash = inl (subst (λ (d : Disk). Touches Nowhere disk d) (sym h.disk) (Touches-start Nowhere disk));
+  }
+  is_run (ending.Mount f) h = unserved_run f h
+
+-- ---- lives
+
+pub lives : (c last : Contents) (runs : List (List Event × List Reply)) (first : World) → OpensOn ground c first → LivesOn c runs last → (world : World) × OpensOn ground last world × Life Anything version_1 first runs world
+lives c last [] first opens life = (first, subst (λ (x : Contents). OpensOn ground x first) (sym life) opens, refl)
+lives c last (r ∷ rs) first opens life =
+    let cut = life.1 in
+    let same = opens_to_one version_1 c (base_of 256 1) 1 new_world cut.world first cut.here cut.opens opens in
+    let rest = lives life.0 last rs cut.cut.0 cut.cut.1 life.2 in
+    (rest.0, rest.1, (cut.cut.0, subst (λ (w : World). CutRun Anything version_1 (Running w) r.0 r.1 cut.cut.0) same cut.cut.2, rest.2))

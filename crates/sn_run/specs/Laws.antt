@@ -1,0 +1,37 @@
+-- What crashes leave of runs: event by event, and life by life.
+use Rattle.std.specs.Prelude.{◌≡◌, List, [], ◌∷◌, ◌++◌}
+use Rattle.sn_device.specs.Sectors.{Contents}
+use Rattle.sn_device.specs.Crash.{LeavesOnly}
+use Rattle.sn_limits.specs.Versions.{version_1}
+use Rattle.sn_model.specs.declared.call.Event.{Event}
+use Rattle.sn_model.specs.declared.reply.Reply.{Reply}
+use Rattle.sn_model.specs.Machine.{Running, Anything, Life, RunBy}
+use Rattle.sn_model.specs.World.{World}
+use Rattle.sn_ondisk.specs.LogHalf.{base_of}
+use Rattle.sn_ondisk.specs.OneAnswer.{IsOnDisk}
+use Rattle.sn_recovery.specs.Moments.{OpensOn}
+use Rattle.sn_fs.specs.Held.{ground}
+use Rattle.sn_run.specs.Runs.{Standing, Goes, OpensToCut}
+
+-- A run has answered some events, and a crash comes in the next: it leaves what the machine's run leaves that is cut short there. So what was answered isn't lost.
+abbrev pub CrashesInEvents : Type 0
+CrashesInEvents = (world : World) (first mid next : Standing) (done todo : List Event) (e : Event) (said : List Reply) (reply : Reply)
+    → first.state ≡ Running world → RunBy Goes first done said mid → Goes mid e reply next
+    → LeavesOnly mid.held.disk next.held.disk (OpensToCut (Running world) (done ++ e ∷ todo) said)
+
+-- a run from what the contents open to, of which a crash left the others
+pub record Cuts (c : Contents) (events : List Event) (said : List Reply) (left : Contents) : Type 0 where
+  pub world : World
+  pub opens : OpensOn ground c world
+  pub cut : OpensToCut (Running world) events said left
+  pub here : IsOnDisk c (base_of 256 1)
+
+-- runs, each from what a crash in the run before has left
+abbrev pub LivesOn : Contents → List (List Event × List Reply) → Contents → Type 0
+LivesOn c [] last = last ≡ c
+LivesOn c (r ∷ rs) last = (next : Contents) × Cuts c r.0 r.1 next × LivesOn next rs last
+
+-- They are a life of the machine, whose last world the last contents open to.
+abbrev pub LivesAreLives : Type 0
+LivesAreLives = (c last : Contents) (runs : List (List Event × List Reply)) (first : World) → OpensOn ground c first → LivesOn c runs last
+    → (world : World) × OpensOn ground last world × Life Anything version_1 first runs world

@@ -1,0 +1,3 @@
+pub mod Servers
+pub mod Runs
+pub mod Laws

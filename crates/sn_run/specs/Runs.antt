@@ -1,0 +1,97 @@
+-- Runs over a device, and what a crash leaves of them.
+use Rattle.std.specs.Prelude.{◌≡◌, ◌⊎◌, ℕ, Bool, List, [], None, take}
+use Rattle.sn_device.specs.Sectors.{Contents}
+use Rattle.sn_device.specs.Disk.{Disk, IsSynced, reads}
+use Rattle.sn_device.specs.Crash.{LeavesOnly, Touches}
+use Rattle.sn_device.specs.declared.status.Status.{Status}
+use Rattle.sn_block.specs.Effects.{Nowhere}
+use Rattle.sn_limits.specs.Versions.{version_1}
+use Rattle.sn_model.specs.declared.call.Event.{Event}
+use Rattle.sn_model.specs.declared.mount.End.{End}
+use Rattle.sn_model.specs.declared.mount.End.TheVariants as ending
+use Rattle.sn_model.specs.declared.mount.MountFault.{MountFault}
+use Rattle.sn_model.specs.declared.reply.Reply.{Reply}
+use Rattle.sn_model.specs.Machine.{State, Running, Anything, CutRun, Ends, RunBy, WholeRun}
+use Rattle.sn_model.specs.World.{World}
+use Rattle.sn_recovery.specs.Moments.{OpensOn}
+use Rattle.sn_fs.specs.Answers.{AnswersFrom, CostsAtMost}
+use Rattle.sn_fs.specs.Held.{Held, Means, ground}
+use Rattle.sn_fs.specs.Mounting.{IsSoOf, LeavesTheWorld}
+use Rattle.sn_fs.specs.Recovering.{IsLeft}
+
+-- where a run stands between two events: the state of the machine, and what is held
+pub record Standing : Type 0 where
+  pub state : State
+  pub held : Held
+  pub has_stopped : Bool
+
+-- an event leads from one to the next
+pub record Goes (old : Standing) (e : Event) (reply : Reply) (new : Standing) : Type 0 where
+  pub answers : AnswersFrom old.state e reply old.held new.held new.has_stopped
+  pub next : new.state ≡ answers.next
+
+-- from this state on
+pub record IsAnswered (s : State) (events : List Event) (replies : List Reply) (old : Held) (had_stopped : Bool) (new : Held) (has_stopped : Bool) : Type 0 where
+  pub state : State
+  pub means : Means new has_stopped state
+  pub run : RunBy Goes (record { state = s; held = old; has_stopped = had_stopped }) events replies (record { state = state; held = new; has_stopped = has_stopped })
+
+-- events lead from what is held to what is held, from each state that it means
+abbrev pub AnswersAll : List Event → List Reply → Held → Bool → Held → Bool → Type 0
+AnswersAll events replies old had_stopped new has_stopped = (s : State) → Means old had_stopped s → IsAnswered s events replies old had_stopped new has_stopped
+
+-- The world that the device opened to was mounted, and the events were answered; the last unmount calls nothing.
+pub record Served (events : List Event) (replies : List Reply) (end : End) (disk : Disk) (status : Status) (last_disk : Disk) (last_status : Status) : Type 0 where
+  pub world : World
+  pub opens : OpensOn ground (reads disk) world
+  pub first : Standing
+  pub mounted : first.state ≡ Running world
+  pub means : Means first.held first.has_stopped first.state
+  pub leaves : LeavesTheWorld disk first.held.disk world
+  pub costs : CostsAtMost 1 2 status first.held.status
+  pub last : Standing
+  pub run : RunBy Goes first events replies last
+  pub ends : Ends last.state None end
+  pub disk : last.held.disk ≡ last_disk
+  pub status : last.held.status ≡ last_status
+
+-- There was no mount, for a cause, and the world that the device opens to, if any, is still there.
+pub record NotMounted (fault : MountFault) (replies : List Reply) (disk : Disk) (status : Status) (last_disk : Disk) (last_status : Status) : Type 0 where
+  pub none : replies ≡ []
+  pub left : IsLeft fault disk last_disk status.sectors
+  pub failed : IsSoOf fault status last_status
+  pub costs : CostsAtMost 1 2 status last_status
+
+-- nothing was done, not even a mount
+pub record NothingDone (replies : List Reply) (disk : Disk) (status : Status) (last_disk : Disk) (last_status : Status) : Type 0 where
+  pub none : replies ≡ []
+  pub disk : last_disk ≡ disk
+  pub status : last_status ≡ status
+
+-- a run, by its end
+abbrev pub RunsTo : End → List Event → List Reply → Disk → Status → Disk → Status → Type 0
+RunsTo ending.Clean events replies disk status last_disk last_status = Served events replies ending.Clean disk status last_disk last_status
+RunsTo ending.Stopped events replies disk status last_disk last_status = Served events replies ending.Stopped disk status last_disk last_status
+RunsTo ending.Memory events replies disk status last_disk last_status = NothingDone replies disk status last_disk last_status
+RunsTo (ending.Mount fault) events replies disk status last_disk last_status = NotMounted fault replies disk status last_disk last_status
+
+-- the contents open to a world that the machine's run, cut short after these replies, leaves
+abbrev pub OpensToCut : State → List Event → List Reply → Contents → Type 0
+OpensToCut s events said c = (world : World) × OpensOn ground c world × CutRun Anything version_1 s events said world
+
+-- after some of the replies
+abbrev pub OpensToSome : State → List Event → List Reply → Contents → Type 0
+OpensToSome s events replies c = (n : ℕ) × OpensToCut s events (take n replies) c
+
+-- Up to a first sync that succeeds nothing is written. From then on a crash at any moment leaves what the machine's run, cut short, leaves.
+pub record LeavesItsRun (world : World) (events : List Event) (replies : List Reply) (old new : Disk) : Type 0 where
+  pub mid : Disk
+  pub first : Touches Nowhere old mid
+  pub same : reads mid ≡ reads old
+  pub synced : IsSynced mid
+  pub moments : LeavesOnly mid new (OpensToSome (Running world) events replies)
+
+-- Where the device opens to a world, this is a run of the machine from that world, and it is all that a crash leaves.
+pub record IsRunOf (world : World) (events : List Event) (replies : List Reply) (end : End) (old new : Disk) : Type 0 where
+  pub run : WholeRun Anything version_1 world events replies end
+  pub crash : Touches Nowhere old new ⊎ LeavesItsRun world events replies old new

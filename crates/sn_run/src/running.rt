@@ -1,0 +1,94 @@
+//! Whole runs.
+ghost use Rattle.std.specs.Prelude.{◌≡◌, ◌≤◌, [], IsTrue, IfOk, length, vec_capacity};
+ghost use Rattle.sn_device.specs.Disk.{reads};
+ghost use Rattle.sn_model.specs.World.{World};
+ghost use Rattle.sn_recovery.specs.Moments.{OpensOn};
+ghost use Rattle.sn_fs.specs.Held.{ground};
+ghost use Rattle.sn_run.specs.Runs.{AnswersAll, IsRunOf, RunsTo};
+ghost use Rattle.sn_run.specs.Servers.{IsServer, is_stopped, standing};
+
+use crate::Server;
+use sn_device::Device;
+use sn_fs::{Unmounted, mount};
+use sn_model::{End, Event, Reply};
+use std::alloc::{AllocError, Global};
+
+/// What a run has answered, how it ended, and the device.
+#[derive(Drop)]
+pub struct Ran<D: Device> {
+    /// A reply for each event; none where there was no mount.
+    pub replies: Vec<Reply>,
+    pub end: End,
+    pub device: D,
+}
+
+/// Room for the replies to so many events.
+fn room_for(alloc: Global, count: usize) -> Result<Vec<Reply>, AllocError>
+    ensures { IfOk result (λ v. (v.items ≡ []) × (count ≤ vec_capacity v)) }
+{
+    Vec::with_capacity(alloc, count)
+}
+
+/// Answers events in their order, into a list that has room for the replies.
+fn answer_all<D: Device>(
+    alloc: Global,
+    server: Server<D>,
+    events: &[Event],
+    replies: &mut Vec<Reply>,
+) -> Server<D>
+    requires sound { IsServer server }
+    requires empty { replies.old.items ≡ [] }
+    requires room { length events.now ≤ vec_capacity replies.old }
+    ensures answered { IsTrue D.tells_bytes → AnswersAll events.now replies.new.items
+        (standing server) (is_stopped server) (standing result) (is_stopped result) }
+    ensures sound { IsServer result }
+{
+    let mut server = server;
+    for event in events {
+        let (reply, next) = server.answer(alloc, event);
+        replies.push_reserved(reply);
+        server = next;
+    }
+    server
+}
+
+/// Mounts a device, answers events in their order, and unmounts. A device of zeros, of 2,048 sectors and
+/// more, is an empty file system.
+///
+/// The room for the replies is looked for first: without it nothing is done, and the end is `Memory`.
+/// Where there is no mount the end has its cause, and no event is answered. It is `Stopped` where a
+/// failure of the device has stopped the mount, or a restart found none, and `Clean` otherwise.
+pub fn run<D: Device>(alloc: Global, device: D, events: &[Event]) -> Ran<D>
+    ensures runs { IsTrue D.tells_bytes → RunsTo result.end events.now result.replies.items
+        (D.disk device) (D.status device) (D.disk result.device) (D.status result.device) }
+    ensures machine { IsTrue D.tells_bytes → (world : World) → 2048 ≤ (D.status device).sectors → OpensOn ground (reads (D.disk device)) world
+        → IsRunOf world events.now result.replies.items result.end (D.disk device) (D.disk result.device) }
+{
+    let Ok(mut replies) = room_for(alloc, events.len()) else {
+        return Ran {
+            replies: Vec::new(alloc),
+            end: End::Memory,
+            device,
+        };
+    };
+    match mount(alloc, device) {
+        Ok(fs) => {
+            let server = answer_all(alloc, Server::Mounted(fs), events, &mut replies);
+            let end = if server.is_stopped() {
+                End::Stopped
+            } else {
+                End::Clean
+            };
+            Ran {
+                replies,
+                end,
+                device: server.into_device(),
+            }
+        }
+        Err(Unmounted { fault, device }) => Ran {
+            replies,
+            end: End::Mount(fault),
+            device,
+        },
+    }
+}

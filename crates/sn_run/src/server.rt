@@ -1,0 +1,101 @@
+//! What serves events.
+ghost use Rattle.std.specs.Prelude.{◌≡◌, IsTrue};
+ghost use Rattle.sn_model.specs.declared.call.Event.TheVariants as event;
+ghost use Rattle.sn_fs.specs.Answers.{Answers};
+ghost use Rattle.sn_run.specs.Servers.{IsServer, is_stopped, standing};
+
+use sn_device::Device;
+use sn_fs::{Fs, Unmounted, mount};
+use sn_model::{Call, Errno, Event, Progress, Refusal, Reply};
+use std::alloc::Global;
+
+/// A file system that answers events.
+#[derive(Drop)]
+pub enum Server<D: Device> {
+    Mounted(Fs<D>),
+    /// The last mount failed. Every event but a restart is refused with ESTOPPED.
+    Unmounted(D),
+}
+
+impl<D: Device> Server<D> {
+    /// Whether it has stopped: what stands on the disk isn't known, or it isn't mounted.
+    pub fn is_stopped(&self) -> bool
+        ensures { result ≡ is_stopped self.now }
+    {
+        match self {
+            Server::Mounted(fs) => fs.has_stopped(),
+            Server::Unmounted(_) => true,
+        }
+    }
+
+    /// Unmounts: hands the device back, and calls nothing of it.
+    pub fn into_device(self) -> D
+        ensures disk { D.disk result ≡ (standing self).disk }
+        ensures status { D.status result ≡ (standing self).status }
+    {
+        match self {
+            Server::Mounted(fs) => fs.into_device(),
+            Server::Unmounted(device) => device,
+        }
+    }
+
+    fn call(self, session: u32, call: &Call) -> (Reply, Server<D>)
+        requires { IsServer self }
+        ensures answered { IsTrue D.tells_bytes → Answers (event.Call session call.now) result.0
+            (standing self) (is_stopped self) (standing result.1) (is_stopped result.1) }
+        ensures sound { IsServer result.1 }
+    {
+        match self {
+            Server::Mounted(mut fs) => {
+                let reply = fs.call(session, call);
+                (reply, Server::Mounted(fs))
+            }
+            Server::Unmounted(device) => (
+                Reply::Refused(Refusal::plain(Errno::Estopped)),
+                Server::Unmounted(device),
+            ),
+        }
+    }
+
+    /// There are no consistency points yet, so that a step is always done.
+    fn step(self) -> (Reply, Server<D>)
+        requires { IsServer self }
+        ensures answered { IsTrue D.tells_bytes → Answers event.Step result.0
+            (standing self) (is_stopped self) (standing result.1) (is_stopped result.1) }
+        ensures sound { IsServer result.1 }
+    {
+        if self.is_stopped() {
+            return (Reply::Refused(Refusal::plain(Errno::Estopped)), self);
+        }
+        (Reply::Progress(Progress::Done), self)
+    }
+
+    fn restart(self, alloc: Global) -> (Reply, Server<D>)
+        requires { IsServer self }
+        ensures answered { IsTrue D.tells_bytes → Answers event.Restart result.0
+            (standing self) (is_stopped self) (standing result.1) (is_stopped result.1) }
+        ensures sound { IsServer result.1 }
+    {
+        match mount(alloc, self.into_device()) {
+            Ok(fs) => (Reply::Done, Server::Mounted(fs)),
+            Err(Unmounted { fault, device }) => {
+                (Reply::Unmounted(fault), Server::Unmounted(device))
+            }
+        }
+    }
+
+    /// Answers an event. A restart unmounts and mounts, or mounts alone where it has stopped: where the
+    /// mount fails, the reply has its cause, and all but a restart is refused from then on.
+    pub fn answer(self, alloc: Global, event: &Event) -> (Reply, Server<D>)
+        requires { IsServer self }
+        ensures answered { IsTrue D.tells_bytes → Answers event.now result.0
+            (standing self) (is_stopped self) (standing result.1) (is_stopped result.1) }
+        ensures sound { IsServer result.1 }
+    {
+        match event {
+            Event::Call { session, call } => self.call(*session, call),
+            Event::Step => self.step(),
+            Event::Restart => self.restart(alloc),
+        }
+    }
+}
