@@ -1,5 +1,5 @@
 -- What a crash in an event leaves, in the machine's words.
-use Rattle.std.proofs.Common.{◌≡◌, ◌⊎◌, inl, inr, ℕ, Bool, false, List, [], ◌∷◌, ◌++◌, take, Option, Some, None, Result, Ok, refl, sym, ap, subst, ◌∙◌, replicate}
+use Rattle.std.proofs.Common.{◌≡◌, ◌⊎◌, inl, inr, ℕ, suc, Bool, false, List, [], ◌∷◌, ◌++◌, take, Option, Some, None, Result, Ok, refl, sym, ap, subst, ◌∙◌, replicate}
 use Rattle.std.specs.FinMap as map
 use Rattle.sn_device.specs.Sectors.{Contents}
 use Rattle.sn_device.specs.Disk.{Always}
@@ -15,9 +15,9 @@ use Rattle.sn_model.specs.declared.reply.Reply.{Reply}
 use Rattle.sn_model.specs.Machine as machine
 use Rattle.sn_model.specs.Machine.{State, Running, Stopped, Mishap, Anything, CallStep, CutRun, EventStep, IsAnswered, IsCutOff, IsRefused, IsStopped, IsUnmounted, Left, LeftAfter, LeftIn, MountStep, PointFails, PointStep, RestartStep, Run, RunBy, StepOf, StoppedStep}
 use Rattle.sn_model.specs.Settling.{settle, settled}
-use Rattle.sn_model.specs.Steps.{Becomes, decision}
+use Rattle.sn_model.specs.Steps.{Becomes, decision, with_live}
 use Rattle.sn_model.specs.Tree.{Tree}
-use Rattle.sn_model.specs.World.{World}
+use Rattle.sn_model.specs.World.{World, new_world}
 use Rattle.sn_model.proofs.ListLemmas.{covers_itself}
 use Rattle.sn_model.proofs.SettlingLemmas.{dropping_kept, settle_alike}
 use Rattle.sn_recovery.specs.Moments.{OpensOn, ShowsState}
@@ -231,4 +231,4 @@ cut_now world (e ∷ events) settled = left_in (Running world) e world (sym sett
 
 -- what contents open to is settled
 pub found_settled : (c : Contents) (world : World) → OpensOn ground c world → settle world ≡ world
-found_settled c world h = ap settle h.settled ∙ settles_twice _ ∙ sym h.settled
+found_settled c world h = ap settle h.settled ∙ settles_twice (with_live new_world h.tree) ∙ sym h.settled

@@ -1,3 +1,4 @@
 mod CutLemmas
 mod RestartLemmas
 mod RunLemmas
+mod ServerLemmas

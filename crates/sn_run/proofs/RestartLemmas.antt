@@ -1,5 +1,5 @@
 -- What a mount answers to a restart, and steps.
-use Rattle.std.proofs.Common.{◌≡◌, ◌⊎◌, inl, inr, ℕ, ◌<◌, ◌≤◌, Bool, true, false, length, Option, Some, None, refl, sym, ap, subst, ◌∙◌, arith}
+use Rattle.std.proofs.Common.{◌≡◌, ◌⊎◌, inl, inr, ℕ, ◌<◌, ◌≤◌, Bool, true, false, length, [], Option, Some, None, refl, sym, ap, subst, ◌∙◌, arith}
 use Rattle.std.proofs.lemmas.Bool.{true≢false}
 use Rattle.std.proofs.lemmas.List.{same_lists, get_or_default}
 use Rattle.sn_device.specs.Sectors.{AgreesOutside, AreSectors, Contents, sector_at}
@@ -118,7 +118,7 @@ module _ (old new : Held) (had : Bool) (whole : AreSectors (reads old.disk)) (co
 -- ---- mounts that fail
 
 -- the mishap of a fault, where the contents open to a world
-met_with : (f : MountFault) (c : Contents) (world : World) (sectors : ℕ) (old new : Held) → OpensOn ground c world → 2048 ≤ sectors → Refuses f c sectors → IsSoOf f old.status new.status
+pub met_with : (f : MountFault) (c : Contents) (world : World) (sectors : ℕ) (old new : Held) → OpensOn ground c world → 2048 ≤ sectors → Refuses f c sectors → IsSoOf f old.status new.status
     → (m : Mishap) × (mount_fault_of m ≡ Some f) × MayMeet old event.Restart (Some m) new.status
 met_with (fault.Damaged damage block) c world sectors old new opens count cause failed = absurd (cause.1 world opens)
 met_with fault.NotFormatted c world sectors old new opens count cause failed = absurd (omega arith)

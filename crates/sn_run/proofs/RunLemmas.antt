@@ -72,8 +72,8 @@ module _ (events : List Event) (replies : List Reply) (disk last_disk : Disk) (s
         last = record { state = a.state; held = new; has_stopped = has };
         run = a.run;
         ends = ends a.state a.means;
-        disk = sym same_disk;
-        status = sym same_status;
+        left = sym same_disk;
+        counted = sym same_status;
       }
 
   pub served_clean : AnswersAll events replies h had new false → Served events replies ending.Clean disk status last_disk last_status
@@ -102,7 +102,7 @@ module _ (events : List Event) (replies : List Reply) (disk last_disk : Disk) (s
         synced = s.leaves.synced;
         moments = LeavesOnly-join s.leaves.mid s.first.held.disk last_disk P
             (LeavesOnly-weaker s.leaves.mid s.first.held.disk (λ c. OpensOn ground c s.world) P (λ c h. (0, (world, subst (OpensOn ground c) same h, cut_now world events settled))) s.leaves.moments)
-            (subst (λ (d : Disk). LeavesOnly s.first.held.disk d P) s.disk (subst (λ (x : State). LeavesOnly s.first.held.disk s.last.held.disk (OpensToSome x events replies)) starts rest));
+            (subst (λ (d : Disk). LeavesOnly s.first.held.disk d P) s.left (subst (λ (x : State). LeavesOnly s.first.held.disk s.last.held.disk (OpensToSome x events replies)) starts rest));
       }
 
   served_run : (end : End) → Served events replies end disk status last_disk last_status → IsRunOf world events replies end disk last_disk
@@ -144,7 +144,7 @@ module _ (events : List Event) (replies : List Reply) (disk last_disk : Disk) (s
   is_run ending.Stopped h = served_run ending.Stopped h
   is_run ending.Memory h = record {
     run = inl (record { may = tt; none = h.none; ends = refl });
-    crash = inl (subst (λ (d : Disk). Touches Nowhere disk d) (sym h.disk) (Touches-start Nowhere disk));
+    crash = inl (subst (λ (d : Disk). Touches Nowhere disk d) (sym h.left) (Touches-start Nowhere disk));
   }
   is_run (ending.Mount f) h = unserved_run f h
 

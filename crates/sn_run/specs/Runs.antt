@@ -52,8 +52,8 @@ pub record Served (events : List Event) (replies : List Reply) (end : End) (disk
   pub last : Standing
   pub run : RunBy Goes first events replies last
   pub ends : Ends last.state None end
-  pub disk : last.held.disk ≡ last_disk
-  pub status : last.held.status ≡ last_status
+  pub left : last.held.disk ≡ last_disk
+  pub counted : last.held.status ≡ last_status
 
 -- There was no mount, for a cause, and the world that the device opens to, if any, is still there.
 pub record NotMounted (fault : MountFault) (replies : List Reply) (disk : Disk) (status : Status) (last_disk : Disk) (last_status : Status) : Type 0 where
@@ -65,8 +65,8 @@ pub record NotMounted (fault : MountFault) (replies : List Reply) (disk : Disk) 
 -- nothing was done, not even a mount
 pub record NothingDone (replies : List Reply) (disk : Disk) (status : Status) (last_disk : Disk) (last_status : Status) : Type 0 where
   pub none : replies ≡ []
-  pub disk : last_disk ≡ disk
-  pub status : last_status ≡ status
+  pub left : last_disk ≡ disk
+  pub counted : last_status ≡ status
 
 -- a run, by its end
 abbrev pub RunsTo : End → List Event → List Reply → Disk → Status → Disk → Status → Type 0

@@ -1,0 +1,18 @@
+use Rattle.std.proofs.Common.{sym, subst, true}
+use Rattle.sn_model.specs.declared.call.Event.TheVariants.{Call}
+use Rattle.sn_model.specs.declared.reply.Refusal.{Refusal}
+use Rattle.sn_model.specs.declared.reply.Reply.TheVariants.{Refused}
+use Rattle.sn_fs.specs.Answers.{Answers}
+use Rattle.sn_fs.proofs.CallLemmas.{stopped_answers}
+use Rattle.sn_run.specs.declared.server.Server.{Server}
+use Rattle.sn_run.specs.Servers.{is_stopped, standing}
+use Rattle.sn_run.proofs.server.Server.call.Goals as goal
+
+pub returns-in-Unmounted-clause-answered : goal.returns-in-Unmounted-clause-answered
+returns-in-Unmounted-clause-answered g c told =
+    let e = Call c.args.session c.args.call.now in
+    let S = Server g.row.D.Denot g.D.Device in
+    let self : S = Server.Unmounted c.in-Unmounted.device in
+    let h = standing self in
+    subst (λ (r : Refusal). Answers e (Refused r) (standing c.args.self) (is_stopped c.args.self) h true) (sym c.plain.ensures)
+    (subst (λ (x : S). Answers e (Refused _) (standing x) (is_stopped x) h true) (sym c.in-Unmounted.is) (stopped_answers h c.args.session c.args.call.now))
