@@ -6,7 +6,7 @@ use Rattle.std.specs.List.{flat_map}
 use Rattle.sn_limits.specs.Versions.{version_1}
 use Rattle.sn_model.specs.declared.call.Event.{Event}
 use Rattle.sn_model.specs.declared.reply.Reply.{Reply}
-use Rattle.sn_model.specs.Machine.{State, Running, OfMemory, Run}
+use Rattle.sn_model.specs.Machine.{State, Running, Anything, Run}
 use Rattle.sn_model.specs.World.{World, new_world}
 use Rattle.sn_script.specs.Replies.{reply_line}
 use Rattle.sn_script.specs.Scripts.{IsScript}
@@ -17,7 +17,7 @@ pub record IsAnswer (script text : List ℕ) : Type 0 where
   pub replies : List Reply
   pub last : State
   pub read : IsScript events script
-  pub run : Run OfMemory version_1 (Running new_world) events replies last
+  pub run : Run Anything version_1 (Running new_world) events replies last
   pub printed : text ≡ flat_map reply_line replies
 
 -- what an output had, and then the front of a text

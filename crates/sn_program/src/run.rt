@@ -10,13 +10,17 @@ ghost use Rattle.sn_program.specs.declared.fault.Fault.TheVariants as fault;
 use crate::fault::{Fault, tell};
 use crate::output::write_replies;
 use sn_command::{Task, parse};
-use sn_core::run_plain;
+use sn_device::MemDevice;
+use sn_run::{Ran, run};
 use sn_script::{SCRIPT_MAX, read_script};
 use std::alloc::Global;
 use std::convert::AsStr;
 use std::fs;
 use std::io::{Read, Write};
 use std::rt::Files;
+
+/// How many sectors the device in memory has that a script runs on.
+const SECTORS: u64 = 2_048;
 
 /// The bytes of a script, and no more than one byte past the most that a script may have.
 fn read_bytes<R: Read + Drop>(alloc: Global, reader: R) -> Result<Vec<u8>, Fault>
@@ -46,7 +50,8 @@ pub fn answer<W: Write>(alloc: Global, script: &[u8], out: &mut W) -> Result<(),
     ensures words { IfErr result (λ why. why ≢ fault.Usage) }
 {
     let events = read_script(alloc, script)?;
-    let (replies, end) = run_plain(alloc, events.as_slice());
+    let device = MemDevice::new(alloc, SECTORS)?;
+    let Ran { replies, end, .. } = run(alloc, device, events.as_slice());
     let written = write_replies(alloc, replies.as_slice(), out);
     Fault::of_end(end)?;
     written

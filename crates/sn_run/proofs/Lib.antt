@@ -1,4 +1,5 @@
 mod CutLemmas
+mod NewDiskLemmas
 mod RestartLemmas
 mod RunLemmas
 mod ServerLemmas

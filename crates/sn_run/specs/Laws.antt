@@ -1,12 +1,12 @@
 -- What crashes leave of runs: event by event, and life by life.
-use Rattle.std.specs.Prelude.{◌≡◌, List, [], ◌∷◌, ◌++◌}
+use Rattle.std.specs.Prelude.{◌≡◌, ℕ, ◌≤◌, List, [], ◌∷◌, ◌++◌, replicate}
 use Rattle.sn_device.specs.Sectors.{Contents}
 use Rattle.sn_device.specs.Crash.{LeavesOnly}
 use Rattle.sn_limits.specs.Versions.{version_1}
 use Rattle.sn_model.specs.declared.call.Event.{Event}
 use Rattle.sn_model.specs.declared.reply.Reply.{Reply}
 use Rattle.sn_model.specs.Machine.{Running, Anything, Life, RunBy}
-use Rattle.sn_model.specs.World.{World}
+use Rattle.sn_model.specs.World.{World, new_world}
 use Rattle.sn_ondisk.specs.LogHalf.{base_of}
 use Rattle.sn_ondisk.specs.OneAnswer.{IsOnDisk}
 use Rattle.sn_recovery.specs.Moments.{OpensOn}
@@ -35,3 +35,7 @@ LivesOn c (r ∷ rs) last = (next : Contents) × Cuts c r.0 r.1 next × LivesOn 
 abbrev pub LivesAreLives : Type 0
 LivesAreLives = (c last : Contents) (runs : List (List Event × List Reply)) (first : World) → OpensOn ground c first → LivesOn c runs last
     → (world : World) × OpensOn ground last world × Life Anything version_1 first runs world
+
+-- A disk of zeros is an empty file system.
+abbrev pub ZerosAreNew : Type 0
+ZerosAreNew = (n : ℕ) → 2048 ≤ n → OpensOn ground (replicate n (replicate 512 0)) new_world
