@@ -1,5 +1,5 @@
 mod CutLemmas
-mod NewDiskLemmas
+pub mod NewDiskLemmas
 mod RestartLemmas
 mod RunLemmas
 mod ServerLemmas
