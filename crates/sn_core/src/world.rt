@@ -123,7 +123,6 @@ impl PlainWorld {
 
     fn decide_mkdir<'a>(
         &self,
-        alloc: Global,
         session: u32,
         path: &'a Word,
         mode: u16,
@@ -134,39 +133,23 @@ impl PlainWorld {
         let caller = self.logged_in(session)?;
         let path = path_argument(path)?;
         let mode = new_mode_argument(mode)?;
-        let mut view = PlainView {
-            alloc,
-            tree: &self.tree,
-        };
+        let mut view = PlainView { tree: &self.tree };
         Ok(decide::mkdir(&Limits::VERSION_1, &mut view, caller, &path, mode)?)
     }
 
-    fn decide_stat<'a>(
-        &self,
-        alloc: Global,
-        session: u32,
-        path: &'a Word,
-    ) -> Result<Outcome<'a>, CallError>
+    fn decide_stat<'a>(&self, session: u32, path: &'a Word) -> Result<Outcome<'a>, CallError>
         requires { IsPlainWorld self.now }
         ensures { Decides (world_of self.now) session (Stat path.now) result }
     {
         let caller = self.logged_in(session)?;
         let path = path_argument(path)?;
-        let mut view = PlainView {
-            alloc,
-            tree: &self.tree,
-        };
+        let mut view = PlainView { tree: &self.tree };
         Ok(decide::stat(&mut view, caller, &path)?)
     }
 
-    /// What a call comes to, or its first refusal. `Memory` comes only once its session and arguments
-    /// have passed. Nothing changes.
-    pub fn decide<'a>(
-        &self,
-        alloc: Global,
-        session: u32,
-        call: &'a Call,
-    ) -> Result<Outcome<'a>, CallError>
+    /// What a call comes to, or its first refusal. Nothing changes. No memory is taken either; the
+    /// contract leaves room for `Memory`, once the session and the arguments have passed.
+    pub fn decide<'a>(&self, session: u32, call: &'a Call) -> Result<Outcome<'a>, CallError>
         requires { IsPlainWorld self.now }
         ensures decided { Decides (world_of self.now) session call.now result }
         ensures numbers { IfOk result (λ o. IsCall call.now) }
@@ -176,8 +159,8 @@ impl PlainWorld {
                 self.logged_out(session)?;
                 Ok(login(*uid, *gid, groups))
             }
-            Call::Mkdir { path, mode } => self.decide_mkdir(alloc, session, path, *mode),
-            Call::Stat { path } => self.decide_stat(alloc, session, path),
+            Call::Mkdir { path, mode } => self.decide_mkdir(session, path, *mode),
+            Call::Stat { path } => self.decide_stat(session, path),
         }
     }
 
@@ -253,7 +236,7 @@ impl PlainWorld {
             caller,
             told,
             ..
-        } = self.decide(alloc, session, call)?;
+        } = self.decide(session, call)?;
         match self.choose(change) {
             Some(change) => match self.apply(alloc, &change) {
                 Ok(()) => {}
