@@ -147,9 +147,14 @@ impl PlainWorld {
         Ok(decide::stat(&mut view, caller, &path)?)
     }
 
-    /// What a call comes to, or its first refusal. Nothing changes. No memory is taken either; the
-    /// contract leaves room for `Memory`, once the session and the arguments have passed.
-    pub fn decide<'a>(&self, session: u32, call: &'a Call) -> Result<Outcome<'a>, CallError>
+    /// What a call comes to, or its first refusal. `Memory` comes only once its session and arguments
+    /// have passed. Nothing changes.
+    pub fn decide<'a>(
+        &self,
+        alloc: Global,
+        session: u32,
+        call: &'a Call,
+    ) -> Result<Outcome<'a>, CallError>
         requires { IsPlainWorld self.now }
         ensures decided { Decides (world_of self.now) session call.now result }
         ensures numbers { IfOk result (λ o. IsCall call.now) }
@@ -236,7 +241,7 @@ impl PlainWorld {
             caller,
             told,
             ..
-        } = self.decide(session, call)?;
+        } = self.decide(alloc, session, call)?;
         match self.choose(change) {
             Some(change) => match self.apply(alloc, &change) {
                 Ok(()) => {}

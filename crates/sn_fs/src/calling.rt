@@ -23,7 +23,7 @@ impl<D: Device> Fs<D> {
         if self.has_stopped {
             return Reply::Refused(Refusal::plain(Errno::Estopped));
         }
-        let outcome = match self.world.decide(session, call) {
+        let outcome = match self.world.decide(self.alloc, session, call) {
             Ok(outcome) => outcome,
             Err(CallError::Refused(refusal)) => return Reply::Refused(refusal),
             Err(CallError::Memory) => return Reply::Refused(Refusal::plain(Errno::Enomem)),
