@@ -1,27 +1,25 @@
 -- A name that is moved, over what is stored.
-use Rattle.std.proofs.Common.{◌≡◌, ◌≢◌, ℕ, zero, suc, ◌+◌, ◌-◌, ◌<◌, ◌^◌, Bool, true, false, cond, ◌&&◌, ◌||◌, ◌==◌, nat_lt, flat_map, filter, Option, Some, None, is_some, refl, sym, ap, subst, ◌∙◌, ◌⊎◌, inl, inr, arith, eqb-true, eq-eqb}
-use Rattle.std.specs.List.{list_any}
+use Rattle.std.proofs.Common.{◌≡◌, ◌≢◌, ℕ, ◌+◌, ◌-◌, ◌<◌, ◌^◌, Bool, true, false, cond, ◌&&◌, ◌==◌, nat_lt, Option, Some, None, is_some, refl, sym, ap, subst, ◌∙◌, ◌⊎◌, inl, inr, arith, eqb-true, eq-eqb}
 use Rattle.std.specs.Option.{option_eq, option_map}
 use Rattle.std.specs.Ordering.{nat_cmp, eq_by_cmp}
 use Rattle.std.specs.Cmp.{nat_cmp_total, eq_by_cmp_equiv}
 use Rattle.std.specs.FinMap as map
-use Rattle.std.proofs.lemmas.Bool.{true≢false, false_from_ne_true}
+use Rattle.std.proofs.lemmas.Bool.{true≢false}
 use Rattle.std.proofs.lemmas.Map.Lookups.{exact_unsigned}
 use Rattle.sn_limits.specs.declared.kind.Kind.TheVariants as kind
 use Rattle.sn_walk.specs.Views.{is_directory}
 use Rattle.sn_limits.specs.declared.limits.Limits.{Limits}
 use Rattle.sn_model.specs.declared.link.Link.{Link}
 use Rattle.sn_model.specs.Tree.{Node, Tree, link_cmp, names_in, names_for}
-use Rattle.sn_model.specs.Changes.{chain_up, directory_at, exchanged, file_at, has_room_for, is_new_name, moved, put_link, removed, renamed, replaced, same_number, take_link, take_node}
+use Rattle.sn_model.specs.Changes.{directory_at, exchanged, file_at, has_room_for, is_new_name, moved, put_link, removed, renamed, replaced, same_number, take_link, take_node}
 use Rattle.sn_model.specs.Chains.{◌>>=◌, only_if}
-use Rattle.sn_model.specs.NameTree.{HasKind, IsHierarchy, IsTree}
+use Rattle.sn_model.specs.NameTree.{HasKind, IsTree}
 use Rattle.sn_model.proofs.ChainLemmas.{some_bind, some_same}
-use Rattle.sn_model.proofs.CountLemmas.{count_found, count_removed}
-use Rattle.sn_model.proofs.EntryLemmas.{any_entry, from_entry}
+use Rattle.sn_model.proofs.CountLemmas.{count_removed}
 use Rattle.sn_model.proofs.LinkLemmas.{exact_links, links_total}
 use Rattle.sn_model.proofs.MapLemmas.{same_or_apart, get_inserted, get_other, get_left, get_removed}
-use Rattle.sn_model.proofs.NameLemmas.{is_unnamed, not_in}
-use Rattle.sn_model.proofs.MoveLemmas.{is_kind, some_node}
+use Rattle.sn_model.proofs.NameLemmas.{not_in}
+use Rattle.sn_model.proofs.MoveLemmas.{is_kind}
 use Rattle.sn_model.proofs.PartLemmas.{directory_is, replaced_is, Replaced, removed_of, unlinked_is, Unlinked}
 use Rattle.sn_plain.specs.declared.nodes.Nodes.{Nodes}
 use Rattle.sn_plain.specs.declared.nodes.StoredNode.{StoredNode}
