@@ -4,6 +4,7 @@ ghost use Rattle.sn_core.specs.declared.error.CallError.TheVariants.{Memory, Ref
 use sn_model::Refusal;
 use sn_walk::Failure;
 use std::alloc::AllocError;
+use std::convert::Infallible;
 
 /// Why a call isn't done.
 #[derive(Drop)]
@@ -20,16 +21,16 @@ impl From<Refusal> for CallError {
     }
 }
 
-impl From<Failure<Refusal, AllocError>> for CallError {
+impl From<Failure<Refusal, Infallible>> for CallError {
     ghost use Rattle.std.specs.Prelude.{◌≡◌};
     ghost use Rattle.sn_core.specs.Served.{as_error};
 
     ghost from_gives = { λ failure e. e ≡ as_error failure };
 
-    fn from(failure: Failure<Refusal, AllocError>) -> CallError {
+    fn from(failure: Failure<Refusal, Infallible>) -> CallError {
         match failure {
             Failure::Refused(refusal) => CallError::Refused(refusal),
-            Failure::Fault(_) => CallError::Memory,
+            Failure::Fault(fault) => match fault {},
         }
     }
 }

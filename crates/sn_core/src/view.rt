@@ -1,16 +1,15 @@
 use sn_acl::Acl;
 use sn_core_decide::CallView;
 use sn_limits::{Limits, SnapshotName};
-use sn_model::{Link, Refusal, Word};
+use sn_model::Refusal;
 use sn_plain::PlainTree;
 use sn_walk::{Attributes, Failure, Home, TreeView};
-use std::alloc::{AllocError, Global};
+use std::convert::Infallible;
 
-/// The live tree in memory as walks and decisions see it; there are no snapshots yet. A look-up of a
-/// name takes memory for a copy of the name.
+/// The live tree in memory as walks and decisions see it; there are no snapshots yet. No look-up
+/// takes memory, and none fails.
 #[derive(Drop)]
 pub(crate) struct PlainView<'a> {
-    pub alloc: Global,
     pub tree: &'a PlainTree,
 }
 
@@ -21,7 +20,7 @@ impl<'a> TreeView for PlainView<'a> {
     ghost use Rattle.sn_plain.specs.Plain.{tree_of};
     ghost use Rattle.sn_core.specs.Plain.{plain_trees};
 
-    type Fault = AllocError;
+    type Fault = Infallible;
 
     ghost is_told = { true };
 
@@ -34,10 +33,10 @@ impl<'a> TreeView for PlainView<'a> {
     // look-ups leave no trace
     ghost looked_up = { λ looks u v. Unit {0} };
 
-    // memory may be refused at any time
-    ghost causes = { λ u v f. Unit {0} };
+    // no look-up has a fault
+    ghost causes = { λ u v f. ⊥ };
 
-    fn node(&mut self, home: &Home, number: u16) -> Result<Option<Attributes>, AllocError> {
+    fn node(&mut self, home: &Home, number: u16) -> Result<Option<Attributes>, Infallible> {
         match home {
             Home::Live => Ok(self.tree.attributes(number)),
             Home::Frozen(_) => Ok(None),
@@ -49,25 +48,21 @@ impl<'a> TreeView for PlainView<'a> {
         home: &Home,
         directory: u16,
         name: &[u8],
-    ) -> Result<Option<u16>, AllocError> {
-        if let Home::Frozen(_) = home {
-            return Ok(None);
+    ) -> Result<Option<u16>, Infallible> {
+        match home {
+            Home::Live => Ok(self.tree.link(directory, name)),
+            Home::Frozen(_) => Ok(None),
         }
-        let link = Link {
-            directory,
-            name: Word::new(self.alloc, name)?,
-        };
-        Ok(self.tree.link(&link))
     }
 
-    fn default_acl(&mut self, home: &Home, number: u16) -> Result<Option<Acl>, AllocError> {
+    fn default_acl(&mut self, home: &Home, number: u16) -> Result<Option<Acl>, Infallible> {
         match home {
             Home::Live => Ok(self.tree.default_acl(number)),
             Home::Frozen(_) => Ok(None),
         }
     }
 
-    fn has_snapshot(&mut self, _name: &SnapshotName) -> Result<bool, AllocError> {
+    fn has_snapshot(&mut self, _name: &SnapshotName) -> Result<bool, Infallible> {
         Ok(false)
     }
 
@@ -79,7 +74,7 @@ impl<'a> TreeView for PlainView<'a> {
 
     ghost looked_up_more = { λ looks more u v w p q. tt };
 
-    ghost causes_later = { λ u v w f p q. tt };
+    ghost causes_later = { λ u v w f p q. q };
 }
 
 impl<'a> CallView for PlainView<'a> {
@@ -90,7 +85,7 @@ impl<'a> CallView for PlainView<'a> {
 
     ghost room = { λ v. has_room version_1 (tree_of v.tree.now) };
 
-    fn has_room(&mut self, directory: u16) -> Result<(), Failure<Refusal, AllocError>> {
+    fn has_room(&mut self, directory: u16) -> Result<(), Failure<Refusal, Infallible>> {
         match self.tree.has_room(&Limits::VERSION_1, directory) {
             Ok(_) => Ok(()),
             Err(refusal) => Err(Failure::Refused(refusal)),

@@ -123,7 +123,6 @@ impl PlainWorld {
 
     fn decide_mkdir<'a>(
         &self,
-        alloc: Global,
         session: u32,
         path: &'a Word,
         mode: u16,
@@ -134,28 +133,17 @@ impl PlainWorld {
         let caller = self.logged_in(session)?;
         let path = path_argument(path)?;
         let mode = new_mode_argument(mode)?;
-        let mut view = PlainView {
-            alloc,
-            tree: &self.tree,
-        };
+        let mut view = PlainView { tree: &self.tree };
         Ok(decide::mkdir(&Limits::VERSION_1, &mut view, caller, &path, mode)?)
     }
 
-    fn decide_stat<'a>(
-        &self,
-        alloc: Global,
-        session: u32,
-        path: &'a Word,
-    ) -> Result<Outcome<'a>, CallError>
+    fn decide_stat<'a>(&self, session: u32, path: &'a Word) -> Result<Outcome<'a>, CallError>
         requires { IsPlainWorld self.now }
         ensures { Decides (world_of self.now) session (Stat path.now) result }
     {
         let caller = self.logged_in(session)?;
         let path = path_argument(path)?;
-        let mut view = PlainView {
-            alloc,
-            tree: &self.tree,
-        };
+        let mut view = PlainView { tree: &self.tree };
         Ok(decide::stat(&mut view, caller, &path)?)
     }
 
@@ -176,8 +164,8 @@ impl PlainWorld {
                 self.logged_out(session)?;
                 Ok(login(*uid, *gid, groups))
             }
-            Call::Mkdir { path, mode } => self.decide_mkdir(alloc, session, path, *mode),
-            Call::Stat { path } => self.decide_stat(alloc, session, path),
+            Call::Mkdir { path, mode } => self.decide_mkdir(session, path, *mode),
+            Call::Stat { path } => self.decide_stat(session, path),
         }
     }
 

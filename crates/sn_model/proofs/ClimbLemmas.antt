@@ -23,7 +23,7 @@ climb_of : (tree : Tree) (top d : ℕ) → IsBelow tree top d → (ls : List Lin
 climb_of tree top d here = ([], refl)
 climb_of tree top d (under link n b e) = let c = climb_of tree top link.directory b in (link ∷ c.0, (e, c.1))
 
-climb_root : (tree : Tree) (d : ℕ) → Reaches tree d → (ls : List Link) × Climbs tree 2 ls d
+pub climb_root : (tree : Tree) (d : ℕ) → Reaches tree d → (ls : List Link) × Climbs tree 2 ls d
 climb_root tree d root = ([], refl)
 climb_root tree d (below p name n r e) = let c = climb_root tree p r in (link_to p name ∷ c.0, (e, c.1))
 
@@ -33,7 +33,7 @@ pub record IsClimbed (tree : Tree) : Type 0 where
   pub held : (link : Link) (number : ℕ) → map.get tree.links link ≡ Some number → HasKind tree link.directory Directory
   pub once : (a b : Link) (number : ℕ) → HasKind tree number Directory → map.get tree.links a ≡ Some number → map.get tree.links b ≡ Some number → a ≡ b
 
-climbed : (tree : Tree) → IsHierarchy tree → IsClimbed tree
+pub climbed : (tree : Tree) → IsHierarchy tree → IsClimbed tree
 climbed tree h = record { unnamed = h.unnamed; held = h.held; once = h.once }
 
 climbed_left : (tree : Tree) (link : Link) → IsClimbed tree → IsClimbed (take_link tree link)

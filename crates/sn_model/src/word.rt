@@ -38,6 +38,13 @@ impl Word {
     {
         self.bytes.as_slice()
     }
+
+    /// The bytes themselves, without a copy.
+    pub fn into_bytes(self) -> Vec<u8>
+        ensures { result.items ≡ self }
+    {
+        self.bytes
+    }
 }
 
 impl PartialEq for Word {

@@ -4,6 +4,8 @@ pub mod CountedLemmas
 pub mod NumberLemmas
 pub mod OwnershipLemmas
 pub mod MakingLemmas
+pub mod NamesLemmas
 pub mod SettledLemmas
 pub mod RenamingLemmas
+pub mod WayLemmas
 pub mod WritingLemmas

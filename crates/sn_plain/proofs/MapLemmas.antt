@@ -1,20 +1,16 @@
 -- Maps in memory against the finite maps that they stand for.
-use Rattle.std.proofs.Common.{◌≡◌, ◌≢◌, ◌+◌, Bool, true, false, cond, List, [], ◌∷◌, Option, Some, None, is_some, length, map, refl, sym, ap, ◌∙◌, arith}
+use Rattle.std.proofs.Common.{◌≡◌, ◌≢◌, Bool, true, false, cond, List, [], ◌∷◌, Option, Some, None, length, map, refl, sym, ap, ◌∙◌, arith}
 use Rattle.std.specs.declared.cmp.Ordering.{Ordering}
-use Rattle.std.specs.declared.cmp.Ordering.TheVariants.{Less}
 use Rattle.std.specs.Option.{option_map}
-use Rattle.std.specs.Ordering.{eq_by_cmp, is_eq}
+use Rattle.std.specs.Ordering.{eq_by_cmp}
 use Rattle.std.specs.Cmp.{IsTotalOrder, eq_by_cmp_equiv}
-use Rattle.std.specs.Map.{lookup}
-use Rattle.std.specs.BTreeMap.{is_at}
+use Rattle.std.specs.Map.{lookup, KeepsOthers}
+use Rattle.std.specs.BTreeMap.{BTreeMap, UpdatesBy, is_at}
 use Rattle.std.specs.FinMap as fin
-use Rattle.std.specs.List.{AllByRecursion}
-use Rattle.std.specs.List.Sorted.{IsStrictlySortedBy}
-use Rattle.std.specs.Map.{keys_of}
 use Rattle.std.proofs.lemmas.Bool.{false_from_ne_true}
 use Rattle.std.proofs.lemmas.Map.Lookups.{CmpEqualImpliesEq}
 use Rattle.std.proofs.lemmas.Map.Views.{tells_apart}
-use Rattle.sn_plain.specs.Maps.{restored, seen_by, updated, updated_at}
+use Rattle.sn_plain.specs.Maps.{restored, seen_as, seen_by, updated, updated_at}
 
 map_cond : {X Y : Type 0} (f : X → Y) (b : Bool) (x : X) (o : Option X) → option_map f (cond b (Some x) o) ≡ cond b (Some (f x)) (option_map f o)
 map_cond f true x o = refl
@@ -24,28 +20,76 @@ none_cond : {X Y : Type 0} (f : X → Y) (b : Bool) (o : Option X) → option_ma
 none_cond f true o = refl
 none_cond f false o = refl
 
-module _ {K X Y : Type 0} (R : K → K → Ordering) (f : X → Y) where
-  find-mapped : (es : List (K × X)) (q : K) → fin.find R q (map (λ e. (e.0, f e.1)) es) ≡ option_map f (lookup (is_at (R q)) es)
+some≢none : {X : Type 0} (x : X) → Some x ≢ None
+some≢none x e = cc
+
+module _ {K L X Y : Type 0} (R : L → L → Ordering) (key : K → L) (f : X → Y) where
+  find-mapped : (es : List (K × X)) (q : L) → fin.find R q (map (λ e. (key e.0, f e.1)) es) ≡ option_map f (lookup (is_at (λ k. R q (key k))) es)
   find-mapped [] q = refl
-  find-mapped (e ∷ es) q = ap (cond (is_at (R q) e.0) (Some (f e.1))) (find-mapped es q) ∙ sym (map_cond f (is_at (R q) e.0) e.1 (lookup (is_at (R q)) es))
+  find-mapped (e ∷ es) q = ap (cond (eq_by_cmp R q (key e.0)) (Some (f e.1))) (find-mapped es q) ∙ sym (map_cond f (eq_by_cmp R q (key e.0)) e.1 (lookup (is_at (λ k. R q (key k))) es))
 
   -- what the finite map has at a key is what a look-up finds, as it is seen
-  pub get-seen_by : IsTotalOrder R → (es : List (K × X)) (q : K) → fin.get (seen_by R f es) q ≡ option_map f (lookup (is_at (R q)) es)
-  get-seen_by o es q = fin.get-from_entries o _ q ∙ find-mapped es q
+  pub get-seen_as : IsTotalOrder R → (es : List (K × X)) (q : L) → fin.get (seen_as R key f es) q ≡ option_map f (lookup (is_at (λ k. R q (key k))) es)
+  get-seen_as o es q = fin.get-from_entries o _ q ∙ find-mapped es q
 
   -- entries that differ at one key make finite maps that differ there
-  pub insert-seen_by : IsTotalOrder R → CmpEqualImpliesEq R → (es fs : List (K × X)) (k : K) (v : X) → ((q : K) → lookup (is_at (R q)) fs ≡ cond (is_at (R k) q) (Some v) (lookup (is_at (R q)) es)) → seen_by R f fs ≡ fin.insert (seen_by R f es) k (f v)
-  insert-seen_by o exact es fs k v h = fin.same_map o exact _ _ (λ q.
-      get-seen_by o fs q ∙ ap (option_map f) (h q) ∙ map_cond f (is_at (R k) q) v (lookup (is_at (R q)) es)
-      ∙ ap (λ b. cond b (Some (f v)) (option_map f (lookup (is_at (R q)) es))) ((eq_by_cmp_equiv o).symm k q)
-      ∙ sym (fin.get-insert o (seen_by R f es) k (f v) q ∙ ap (cond (is_at (R q) k) (Some (f v))) (get-seen_by o es q)))
+  pub insert-seen_as : IsTotalOrder R → CmpEqualImpliesEq R → (es fs : List (K × X)) (k : L) (v : X) → ((q : L) → lookup (is_at (λ k. R q (key k))) fs ≡ cond (is_at (R k) q) (Some v) (lookup (is_at (λ k. R q (key k))) es)) → seen_as R key f fs ≡ fin.insert (seen_as R key f es) k (f v)
+  insert-seen_as o exact es fs k v h = fin.same_map o exact _ _ (λ q.
+      get-seen_as o fs q ∙ ap (option_map f) (h q) ∙ map_cond f (is_at (R k) q) v (lookup (is_at (λ k. R q (key k))) es)
+      ∙ ap (λ b. cond b (Some (f v)) (option_map f (lookup (is_at (λ k. R q (key k))) es))) ((eq_by_cmp_equiv o).symm k q)
+      ∙ sym (fin.get-insert o (seen_as R key f es) k (f v) q ∙ ap (cond (is_at (R q) k) (Some (f v))) (get-seen_as o es q)))
 
   -- the same where a key goes
-  pub remove-seen_by : IsTotalOrder R → CmpEqualImpliesEq R → (es fs : List (K × X)) (k : K) → ((q : K) → lookup (is_at (R q)) fs ≡ cond (is_at (R k) q) None (lookup (is_at (R q)) es)) → seen_by R f fs ≡ fin.remove (seen_by R f es) k
-  remove-seen_by o exact es fs k h = fin.same_map o exact _ _ (λ q.
-      get-seen_by o fs q ∙ ap (option_map f) (h q) ∙ none_cond f (is_at (R k) q) (lookup (is_at (R q)) es)
-      ∙ ap (λ b. cond b None (option_map f (lookup (is_at (R q)) es))) ((eq_by_cmp_equiv o).symm k q)
-      ∙ sym (fin.get-remove o (seen_by R f es) k q ∙ ap (cond (is_at (R q) k) None) (get-seen_by o es q)))
+  pub remove-seen_as : IsTotalOrder R → CmpEqualImpliesEq R → (es fs : List (K × X)) (k : L) → ((q : L) → lookup (is_at (λ k. R q (key k))) fs ≡ cond (is_at (R k) q) None (lookup (is_at (λ k. R q (key k))) es)) → seen_as R key f fs ≡ fin.remove (seen_as R key f es) k
+  remove-seen_as o exact es fs k h = fin.same_map o exact _ _ (λ q.
+      get-seen_as o fs q ∙ ap (option_map f) (h q) ∙ none_cond f (is_at (R k) q) (lookup (is_at (λ k. R q (key k))) es)
+      ∙ ap (λ b. cond b None (option_map f (lookup (is_at (λ k. R q (key k))) es))) ((eq_by_cmp_equiv o).symm k q)
+      ∙ sym (fin.get-remove o (seen_as R key f es) k q ∙ ap (cond (is_at (R q) k) None) (get-seen_as o es q)))
+
+  -- no entries are no map's
+  pub empty-seen_as : (es : List (K × X)) → length es ≡ 0 → seen_as R key f es ≡ fin.empty
+  empty-seen_as [] e = refl
+  empty-seen_as (x ∷ es) e = absurd (omega arith)
+
+  pub seen_as-empty : IsTotalOrder R → (es : List (K × X)) → seen_as R key f es ≡ fin.empty → length es ≡ 0
+  seen_as-empty o [] e = refl
+  seen_as-empty o (x ∷ es) e =
+      let k = key x.0 in
+      let there : fin.get (seen_as R key f (x ∷ es)) k ≡ Some (f x.1) = fin.get-insert o (seen_as R key f es) k (f x.1) k ∙ ap (λ b. cond b (Some (f x.1)) (fin.get (seen_as R key f es) k)) ((eq_by_cmp_equiv o).refl k) in
+      let none : fin.get (seen_as R key f (x ∷ es)) k ≡ None = ap (λ (m : fin.FinMap R Y). fin.get m k) e ∙ fin.get-empty R k in
+      absurd (some≢none (f x.1) (sym there ∙ none))
+
+-- what a call left at one key, for keys that are compared as they are seen: at any key that can be seen
+module _ {K L X : Type 0} (R : L → L → Ordering) (key : K → L) (o : IsTotalOrder R) (exact : CmpEqualImpliesEq R) (m n : BTreeMap K X) (k : L) (w : Option X) where
+  pub updates-seen_as : UpdatesBy (λ x y. R (key x) (key y)) (λ x. R k (key x)) m n w → (q : L) → lookup (is_at (λ x. R q (key x))) n.entries ≡ cond (is_at (R k) q) w (lookup (is_at (λ x. R q (key x))) m.entries)
+  unfolding KeepsOthers
+  updates-seen_as h q = told (is_at (R k) q) refl
+    where
+      apart : eq_by_cmp R k q ≡ false → (x : K) → eq_by_cmp R k (key x) ≡ true → eq_by_cmp R q (key x) ≡ false
+      apart e x y = ap (eq_by_cmp R q) (sym (tells_apart exact k (key x) y)) ∙ (eq_by_cmp_equiv o).symm q k ∙ e
+
+      told : (b : Bool) → eq_by_cmp R k q ≡ b → lookup (is_at (λ x. R q (key x))) n.entries ≡ cond b w (lookup (is_at (λ x. R q (key x))) m.entries)
+      told true e = ap (λ z. lookup (is_at (λ x. R z (key x))) n.entries) (sym (tells_apart exact k q e)) ∙ h.1
+      told false e = h.3 (λ x. eq_by_cmp R q (key x)) (λ x y. (eq_by_cmp_equiv o).congr q (key x) (key y)) (apart e)
+
+-- the same for keys that are seen as they are
+module _ {K X Y : Type 0} (R : K → K → Ordering) (f : X → Y) (o : IsTotalOrder R) where
+  pub get-seen_by : (es : List (K × X)) (q : K) → fin.get (seen_by R f es) q ≡ option_map f (lookup (is_at (R q)) es)
+  get-seen_by es q = get-seen_as R (λ k. k) f o es q
+
+  pub insert-seen_by : CmpEqualImpliesEq R → (es fs : List (K × X)) (k : K) (v : X) → ((q : K) → lookup (is_at (R q)) fs ≡ cond (is_at (R k) q) (Some v) (lookup (is_at (R q)) es)) → seen_by R f fs ≡ fin.insert (seen_by R f es) k (f v)
+  insert-seen_by exact es fs k v h = insert-seen_as R (λ k. k) f o exact es fs k v h
+
+  pub remove-seen_by : CmpEqualImpliesEq R → (es fs : List (K × X)) (k : K) → ((q : K) → lookup (is_at (R q)) fs ≡ cond (is_at (R k) q) None (lookup (is_at (R q)) es)) → seen_by R f fs ≡ fin.remove (seen_by R f es) k
+  remove-seen_by exact es fs k h = remove-seen_as R (λ k. k) f o exact es fs k h
+
+-- what isn't there needn't go
+pub remove-absent : {K X : Type 0} {R : K → K → Ordering} → IsTotalOrder R → CmpEqualImpliesEq R → (m : fin.FinMap R X) (k : K) → fin.get m k ≡ None → fin.remove m k ≡ m
+remove-absent {K} {X} {R} o exact m k absent = fin.same_map o exact _ _ (λ q. fin.get-remove o m k q ∙ at_key q (eq_by_cmp R q k) refl)
+  where
+    at_key : (q : K) (b : Bool) → eq_by_cmp R q k ≡ b → cond b None (fin.get m q) ≡ fin.get m q
+    at_key q true e = sym absent ∙ ap (fin.get m) (sym (tells_apart exact q k e))
+    at_key q false e = refl
 
 -- what was put at a new key, and goes again, leaves the map as it was
 pub remove-insert : {K X : Type 0} {R : K → K → Ordering} → IsTotalOrder R → CmpEqualImpliesEq R → (m : fin.FinMap R X) (k : K) (v : X) → fin.get m k ≡ None → fin.remove (fin.insert m k v) k ≡ m
@@ -56,21 +100,7 @@ remove-insert {K} {X} {R} o exact m k v absent = fin.same_map o exact _ _ (λ q.
     at_key q true e = rw e (sym absent ∙ ap (fin.get m) (sym (tells_apart exact q k e)))
     at_key q false e = rw e refl
 
--- keys that ascend are all there
-module _ {K X Y : Type 0} (R : K → K → Ordering) (f : X → Y) (o : IsTotalOrder R) where
-  not_found : (q : K) (es : List (K × X)) → AllByRecursion (λ k. R q k ≡ Less) (keys_of es) → fin.find R q (map (λ e. (e.0, f e.1)) es) ≡ None
-  not_found q [] h = refl
-  not_found q (e ∷ es) h = ap (λ r. cond (is_eq r) (Some (f e.1)) (fin.find R q (map (λ e. (e.0, f e.1)) es))) h.0 ∙ not_found q es h.1
-
-  pub len-seen_by : (es : List (K × X)) → IsStrictlySortedBy R (keys_of es) → fin.len (seen_by R f es) ≡ length es
-  unfolding IsStrictlySortedBy
-  len-seen_by [] h = fin.len-empty R Y
-  len-seen_by (e ∷ es) h =
-      let absent : fin.get (seen_by R f es) e.0 ≡ None = fin.get-from_entries o _ e.0 ∙ not_found e.0 es h.0 in
-      let rest = len-seen_by es h.1 in
-      fin.len-insert o (seen_by R f es) e.0 (f e.1) ∙ ap (λ v. cond (is_some v) (fin.len (seen_by R f es)) (fin.len (seen_by R f es) + 1)) absent ∙ omega (arith, rest)
-
-option_map_same : {X : Type 0} (o : Option X) → option_map (λ x. x) o ≡ o
+pub option_map_same : {X : Type 0} (o : Option X) → option_map (λ x. x) o ≡ o
 option_map_same None = refl
 option_map_same (Some x) = refl
 

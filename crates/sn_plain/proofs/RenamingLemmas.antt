@@ -1,27 +1,25 @@
 -- A name that is moved, over what is stored.
-use Rattle.std.proofs.Common.{◌≡◌, ◌≢◌, ℕ, zero, suc, ◌+◌, ◌-◌, ◌<◌, ◌^◌, Bool, true, false, cond, ◌&&◌, ◌||◌, ◌==◌, nat_lt, flat_map, filter, Option, Some, None, is_some, refl, sym, ap, subst, ◌∙◌, ◌⊎◌, inl, inr, arith, eqb-true, eq-eqb}
-use Rattle.std.specs.List.{list_any}
+use Rattle.std.proofs.Common.{◌≡◌, ◌≢◌, ℕ, ◌+◌, ◌-◌, ◌<◌, ◌^◌, Bool, true, false, cond, ◌&&◌, ◌==◌, nat_lt, Option, Some, None, is_some, refl, sym, ap, subst, ◌∙◌, ◌⊎◌, inl, inr, arith, eqb-true, eq-eqb}
 use Rattle.std.specs.Option.{option_eq, option_map}
 use Rattle.std.specs.Ordering.{nat_cmp, eq_by_cmp}
 use Rattle.std.specs.Cmp.{nat_cmp_total, eq_by_cmp_equiv}
 use Rattle.std.specs.FinMap as map
-use Rattle.std.proofs.lemmas.Bool.{true≢false, false_from_ne_true}
+use Rattle.std.proofs.lemmas.Bool.{true≢false}
 use Rattle.std.proofs.lemmas.Map.Lookups.{exact_unsigned}
 use Rattle.sn_limits.specs.declared.kind.Kind.TheVariants as kind
 use Rattle.sn_walk.specs.Views.{is_directory}
 use Rattle.sn_limits.specs.declared.limits.Limits.{Limits}
 use Rattle.sn_model.specs.declared.link.Link.{Link}
 use Rattle.sn_model.specs.Tree.{Node, Tree, link_cmp, names_in, names_for}
-use Rattle.sn_model.specs.Changes.{chain_up, directory_at, exchanged, file_at, has_room_for, is_new_name, moved, put_link, removed, renamed, replaced, same_number, take_link, take_node}
+use Rattle.sn_model.specs.Changes.{directory_at, exchanged, file_at, has_room_for, is_new_name, moved, put_link, removed, renamed, replaced, same_number, take_link, take_node}
 use Rattle.sn_model.specs.Chains.{◌>>=◌, only_if}
-use Rattle.sn_model.specs.NameTree.{HasKind, IsHierarchy, IsTree}
+use Rattle.sn_model.specs.NameTree.{HasKind, IsTree}
 use Rattle.sn_model.proofs.ChainLemmas.{some_bind, some_same}
-use Rattle.sn_model.proofs.CountLemmas.{count_found, count_removed}
-use Rattle.sn_model.proofs.EntryLemmas.{any_entry, from_entry}
+use Rattle.sn_model.proofs.CountLemmas.{count_removed}
 use Rattle.sn_model.proofs.LinkLemmas.{exact_links, links_total}
 use Rattle.sn_model.proofs.MapLemmas.{same_or_apart, get_inserted, get_other, get_left, get_removed}
-use Rattle.sn_model.proofs.NameLemmas.{is_unnamed, not_in}
-use Rattle.sn_model.proofs.MoveLemmas.{is_kind, some_node}
+use Rattle.sn_model.proofs.NameLemmas.{not_in}
+use Rattle.sn_model.proofs.MoveLemmas.{is_kind}
 use Rattle.sn_model.proofs.PartLemmas.{directory_is, replaced_is, Replaced, removed_of, unlinked_is, Unlinked}
 use Rattle.sn_plain.specs.declared.nodes.Nodes.{Nodes}
 use Rattle.sn_plain.specs.declared.nodes.StoredNode.{StoredNode}
@@ -33,59 +31,6 @@ use Rattle.sn_plain.proofs.MakingLemmas.{directory_removed, file_removed, is_dir
 use Rattle.sn_plain.proofs.MapLemmas.{get-updated_each}
 use Rattle.sn_plain.proofs.NumberLemmas.{seen}
 use Rattle.sn_plain.proofs.RecountLemmas.{turned}
-
--- the way up by one: each name of a directory is in the one that is kept beside it
-module _ (tree : Tree) (top d parent : ℕ) (up : (link : Link) → map.get tree.links link ≡ Some d → link.directory ≡ parent) where
-  abbrev is_top : ℕ → Bool
-  is_top x = x == top
-
-  abbrev ways : ℕ → Bool
-  ways more = list_any is_top (flat_map (λ e. chain_up tree more e.0.directory) (filter (λ e. e.1 == d) (map.entries tree.links)))
-
-  way_found : (more : ℕ) → ways more ≡ true → list_any is_top (chain_up tree more parent) ≡ true
-  way_found more e =
-      let r = from_entry links_total exact_links is_top (λ x. chain_up tree more x.0.directory) (λ x. x.1 == d) tree.links e in
-      let named : map.get tree.links r.0 ≡ Some d = r.2 ∙ ap (λ (j : ℕ). Some j) (eqb-true r.1 d r.3) in
-      ap (λ (k : ℕ). list_any is_top (chain_up tree more k)) (sym (up r.0 named)) ∙ r.4
-
-  way_there : (more : ℕ) → names_for tree d ≢ 0 → list_any is_top (chain_up tree more parent) ≡ true → ways more ≡ true
-  way_there more some e =
-      let w = count_found links_total exact_links (λ x. x.1 == d) tree.links (omega (arith, some)) in
-      let named : map.get tree.links w.0 ≡ Some d = w.2 ∙ ap (λ (j : ℕ). Some j) (eqb-true w.1 d w.3) in
-      any_entry links_total exact_links is_top (λ x. chain_up tree more x.0.directory) (λ x. x.1 == d) tree.links w.0 w.1 w.2 w.3
-      (ap (λ (k : ℕ). list_any is_top (chain_up tree more k)) (up w.0 named) ∙ e)
-
-  same_bool : (a b : Bool) → (a ≡ true → b ≡ true) → (b ≡ true → a ≡ true) → a ≡ b
-  same_bool true b f g = sym (f refl)
-  same_bool false true f g = g refl
-  same_bool false false f g = refl
-
-  pub chain_step : (more : ℕ) → names_for tree d ≢ 0 → (d == top) ≡ false → list_any is_top (chain_up tree (suc more) d) ≡ list_any is_top (chain_up tree more parent)
-  unfolding chain_up
-  chain_step more some apart = ap (λ b. b || ways more) apart ∙ same_bool _ _ (way_found more) (way_there more some)
-
--- a directory without a name is the end
-pub chain_end : (tree : Tree) (top d more : ℕ) → names_for tree d ≡ 0 → (d == top) ≡ false → list_any (λ x. x == top) (chain_up tree more d) ≡ false
-unfolding chain_up
-chain_end tree top d zero none apart = ap (λ b. b || false) apart
-chain_end tree top d (suc more) none apart =
-    ap (λ b. b || list_any (λ x. x == top) (flat_map (λ e. chain_up tree more e.0.directory) (filter (λ e. e.1 == d) (map.entries tree.links)))) apart
-    ∙ false_from_ne_true _ (λ e.
-    let r = from_entry links_total exact_links (λ x. x == top) (λ x. chain_up tree more x.0.directory) (λ x. x.1 == d) tree.links e in
-    is_unnamed tree d none r.0 (r.2 ∙ ap (λ (j : ℕ). Some j) (eqb-true r.1 d r.3)))
-
-pub chain_here : (tree : Tree) (top d more : ℕ) → (d == top) ≡ true → list_any (λ x. x == top) (chain_up tree more d) ≡ true
-unfolding chain_up
-chain_here tree top d zero e = ap (λ b. b || false) e
-chain_here tree top d (suc more) e = ap (λ b. b || list_any (λ x. x == top) (flat_map (λ e. chain_up tree more e.0.directory) (filter (λ e. e.1 == d) (map.entries tree.links)))) e
-
-pub chain_last : (tree : Tree) (top d : ℕ) → list_any (λ x. x == top) (chain_up tree 0 d) ≡ (d == top)
-unfolding chain_up
-chain_last tree top d = told (d == top)
-  where
-    told : (b : Bool) → (b || false) ≡ b
-    told true = refl
-    told false = refl
 
 -- one name after another directory, over what is stored
 module _ (from to number : ℕ) (s0 s1 s2 : Stored) (r : Recounts (fewer_at from) (fewer_at number) s0 s1) (e : s2 ≡ updated s1 number (under to)) where
@@ -370,20 +315,6 @@ module _ (directory number : ℕ) (old one : Nodes) (first : ℕ) (same : nodes_
 
   pub clears_directory : (two : Nodes) → ((links : map.FinMap link_cmp ℕ) → is_some (file_at (record { nodes = nodes_of one; links = links }) number) ≡ false) → nodes_of two ≡ map.remove (nodes_of one) number → stored_of two ≡ map.remove (stored_of one) number → (first' : ℕ) → first' ≡ after_loss first number → Clears directory (Some number) old first two first'
   clears_directory two f nodes stored first' after l tree cleared link node whole here h place named e = directory_cleared l tree cleared link node whole here h place named e two first' (file_is_at l tree cleared link node whole here h place named e false f) nodes stored after
-
--- a directory, the one that it is in, and what is stored of it
-module _ (stored : Stored) (tree : Tree) (first : ℕ) (see : (k : ℕ) → map.get tree.nodes k ≡ option_map node_of (map.get stored k)) (h : IsCounted stored tree first) (d : ℕ) (is : HasKind tree d kind.Directory) where
-  pub up_parent : (link : Link) → map.get tree.links link ≡ Some d → link.directory ≡ (counts_of (map.get stored d)).parent
-  up_parent link e =
-      let n = some_node _ kind.Directory is in
-      let s = stored_there (map.get stored d) n.0 (sym (see d) ∙ n.1) in
-      sym (ap (λ (o : Option StoredNode). (counts_of o).parent) s.1 ∙ h.parents link d s.0 e s.1 (ap (λ (x : Node). x.kind) s.2 ∙ n.2))
-
-  pub parent_is : IsHierarchy tree → names_for tree d ≢ 0 → HasKind tree (counts_of (map.get stored d)).parent kind.Directory
-  parent_is whole some =
-      let w = count_found links_total exact_links (λ x. x.1 == d) tree.links (omega (arith, some)) in
-      let named : map.get tree.links w.0 ≡ Some d = w.2 ∙ ap (λ (j : ℕ). Some j) (eqb-true w.1 d w.3) in
-      subst (λ (j : ℕ). HasKind tree j kind.Directory) (up_parent w.0 named) (whole.held w.0 d named)
 
 -- a name that is moved: what is stored then, and the tree
 module _ (limits l : Limits) (tree : Tree) (whole : IsTree l tree) (old new : Link) (number : ℕ) (node : Node) (target : Option ℕ) (named : map.get tree.links old ≡ Some number) (there : map.get tree.links new ≡ target) (apart : same_number number target ≡ false) (here : map.get tree.nodes number ≡ Some node) (can : is_some (moved limits tree old new number node) ≡ true) where

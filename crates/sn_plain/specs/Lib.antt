@@ -1,4 +1,5 @@
 pub mod Maps
 pub mod Moves
+pub mod Names
 pub mod Plain
 pub mod Stored

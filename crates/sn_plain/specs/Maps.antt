@@ -1,10 +1,14 @@
--- A list of entries as a finite map, each value seen by a function.
+-- A list of entries as a finite map, each key and each value seen by a function.
 use Rattle.std.specs.Prelude.{Bool, List, map, Option, None, Some, if◌then◌else◌}
 use Rattle.std.specs.declared.cmp.Ordering.{Ordering}
 use Rattle.std.specs.FinMap.{FinMap, from_entries, get, insert, remove}
 
+abbrev pub seen_as : {K L X Y : Type 0} (R : L → L → Ordering) → (K → L) → (X → Y) → List (K × X) → FinMap R Y
+seen_as R key f entries = from_entries {R = R} (map (λ e. (key e.0, f e.1)) entries)
+
+-- the same with the keys as they are
 abbrev pub seen_by : {K X Y : Type 0} (R : K → K → Ordering) → (X → Y) → List (K × X) → FinMap R Y
-seen_by R f entries = from_entries {R = R} (map (λ e. (e.0, f e.1)) entries)
+seen_by R f entries = seen_as R (λ k. k) f entries
 
 -- a map with a function over the value of a key that it has
 abbrev pub updated_at : {K X : Type 0} {R : K → K → Ordering} → FinMap R X → K → (X → X) → Option X → FinMap R X

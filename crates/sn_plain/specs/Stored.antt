@@ -2,6 +2,8 @@
 use Rattle.std.specs.Prelude.{◌≡◌, ℕ, ◌+◌, ◌-◌, ◌<◌, ◌≤◌, ◌==◌, Bool, not, ◌||◌, List, Option, Some, None, true, is_some, if◌then◌else◌}
 use Rattle.std.specs.Option.{option_map}
 use Rattle.std.specs.Ordering.{nat_cmp}
+use Rattle.std.specs.Cmp.Lexicographic.{slice_cmp}
+use Rattle.std.specs.Vec.{vec_items}
 use Rattle.std.specs.FinMap as map
 use Rattle.sn_limits.specs.declared.kind.Kind.TheVariants as kind
 use Rattle.sn_walk.specs.Views.{is_directory}
@@ -10,11 +12,13 @@ use Rattle.sn_limits.specs.declared.limits.Limits.{Limits}
 use Rattle.sn_model.specs.Changes.{put_link, replaced, take_link}
 use Rattle.sn_model.specs.NameTree.{IsTree}
 use Rattle.sn_model.specs.Tree.{Node, Tree, link_cmp, names_in, names_for}
-use Rattle.sn_plain.specs.Maps.{seen_by}
+use Rattle.sn_plain.specs.Maps.{seen_as, seen_by}
+use Rattle.sn_plain.specs.Names.{Named, all_links}
 use Rattle.sn_plain.specs.declared.nodes.Counts.{Counts}
 use Rattle.sn_plain.specs.declared.nodes.StoredOwnership.{StoredOwnership}
 use Rattle.sn_plain.specs.declared.nodes.StoredNode.{StoredNode}
 use Rattle.sn_plain.specs.declared.nodes.Nodes.{Nodes}
+use Rattle.sn_plain.specs.declared.names.Names.{Names}
 use Rattle.sn_plain.specs.declared.links.Links.{Links}
 
 abbrev pub node_of : StoredNode → Node
@@ -53,8 +57,15 @@ stored_of n = seen_by nat_cmp (λ s. s) n.map.entries
 unfoldable pub nodes_of : Nodes → map.FinMap nat_cmp Node
 nodes_of n = seen_by nat_cmp node_of n.map.entries
 
+-- the names of one directory, of each, and of all
+unfoldable pub names_of : Names → Named
+names_of n = seen_as (slice_cmp nat_cmp) vec_items (λ number. number) n.map.entries
+
+unfoldable pub directories_of : Links → map.FinMap nat_cmp Named
+directories_of l = seen_by nat_cmp names_of l.directories.entries
+
 unfoldable pub links_of : Links → map.FinMap link_cmp ℕ
-links_of l = seen_by link_cmp (λ number. number) l.map.entries
+links_of l = all_links (directories_of l)
 
 abbrev pub tree_with : Nodes → Links → Tree
 tree_with nodes links = record { nodes = nodes_of nodes; links = links_of links }

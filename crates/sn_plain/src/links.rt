@@ -1,32 +1,54 @@
-ghost use Rattle.std.specs.Prelude.{◌≡◌, OnOk, OnErr, Some, None};
+ghost use Rattle.std.specs.Prelude.{◌≡◌, OnOk, OnErr, None};
 ghost use Rattle.std.specs.FinMap as map;
 
-use sn_model::Link;
+use crate::names::Names;
+use sn_model::{Link, Word};
 use std::alloc::{AllocError, Global};
 use std::collections::BTreeMap;
 
-/// The numbers by directory and name.
+/// The numbers by directory and name. A directory without names isn't there.
 #[derive(Drop)]
 pub(crate) struct Links {
-    map: BTreeMap<Link, u16>,
+    directories: BTreeMap<u16, Names>,
+    alloc: Global,
 }
 
 impl Links {
-    ghost use Rattle.sn_plain.specs.Maps.{updated};
-    ghost use Rattle.sn_plain.specs.Stored.{links_of};
+    ghost use Rattle.sn_model.specs.Tree.{link_to};
+    ghost use Rattle.sn_plain.specs.Stored.{directories_of, links_of};
 
     pub fn new(alloc: Global) -> Links
         ensures { links_of result ≡ map.empty }
     {
         Links {
-            map: BTreeMap::new(alloc),
+            directories: BTreeMap::new(alloc),
+            alloc,
         }
+    }
+
+    /// The number of a name that is lent.
+    pub fn named(&self, directory: u16, name: &[u8]) -> Option<u16>
+        ensures { result ≡ map.get (links_of self.now) (link_to directory name.now) }
+    {
+        self.directories.get(&directory)?.get(name)
     }
 
     pub fn get(&self, link: &Link) -> Option<u16>
         ensures { result ≡ map.get (links_of self.now) link.now }
     {
-        self.map.get(link).copied()
+        self.named(link.directory, link.name.as_bytes())
+    }
+
+    /// Gives a directory that has no names its first one.
+    fn insert_first(&mut self, directory: u16, name: Word, number: u16) -> Result<(), AllocError>
+        requires { map.get (directories_of self.old) directory ≡ None }
+        ensures ok { OnOk result (links_of self.new ≡ map.insert (links_of self.old) (link_to directory name) number) }
+        ensures err { OnErr result (links_of self.new ≡ links_of self.old) }
+    {
+        let mut names = Names::new(self.alloc);
+        names.insert(name, number)?;
+        self.directories.insert(directory, names)?;
+        Ok(())
     }
 
     /// Gives a name a number.
@@ -34,29 +56,37 @@ impl Links {
         ensures ok { OnOk result (links_of self.new ≡ map.insert (links_of self.old) link number) }
         ensures err { OnErr result (links_of self.new ≡ links_of self.old) }
     {
-        self.map.insert(link, number)?;
-        Ok(())
-    }
-
-    /// Gives a name that is there another number. It takes no memory.
-    pub fn redirect(&mut self, link: &Link, number: u16)
-        ensures { links_of self.new ≡ updated (links_of self.old) link.now (λ _. number) }
-    {
-        if let Some(place) = self.map.get_mut(link) {
-            *place = number;
+        let Link { directory, name } = link;
+        match self.directories.get_mut(&directory) {
+            Some(names) => names.insert(name, number),
+            None => self.insert_first(directory, name, number),
         }
     }
 
-    /// How many names there are.
-    pub fn len(&self) -> usize
-        ensures { result ≡ map.len (links_of self.now) }
+    /// Takes a name out of its directory, which may be left without names.
+    fn take(&mut self, link: &Link)
+        ensures { links_of self.new ≡ map.remove (links_of self.old) link.now }
     {
-        self.map.len()
+        if let Some(names) = self.directories.get_mut(&link.directory) {
+            names.remove(link.name.as_bytes());
+        }
+    }
+
+    /// Frees what is kept for a directory that is left without names.
+    fn forget(&mut self, directory: u16)
+        ensures { links_of self.new ≡ links_of self.old }
+    {
+        if let Some(names) = self.directories.get(&directory)
+            && names.is_empty()
+        {
+            self.directories.remove(&directory);
+        }
     }
 
     pub fn remove(&mut self, link: &Link)
         ensures { links_of self.new ≡ map.remove (links_of self.old) link.now }
     {
-        self.map.remove(link);
+        self.take(link);
+        self.forget(link.directory);
     }
 }

@@ -33,17 +33,14 @@ impl PlainTree {
         ensures { result ≡ is_at_or_below (tree_of self.now) top directory }
     {
         let mut current = directory;
-        for _step in 0..self.links.len() {
-            if current == top {
-                return true;
-            }
+        while current != top {
             let counts = self.nodes.counts(current);
             if counts.links == 0 {
                 return false;
             }
             current = counts.parent;
         }
-        current == top
+        true
     }
 
     /// Whether it is a name that what is moved can get: no directory comes to lie in itself.

@@ -1,5 +1,4 @@
 ghost use Rattle.std.specs.Prelude.{◌≡◌, IfOk, IfErr, OnOk};
-ghost use Rattle.std.specs.FinMap as map;
 ghost use Rattle.sn_model.specs.Tests.{has_room};
 ghost use Rattle.sn_model.specs.Tree.{viewed, least_unused, names_in, names_for};
 ghost use Rattle.sn_model.specs.World.{new_root, new_tree};
@@ -10,7 +9,7 @@ use crate::nodes::{Counts, Nodes, StoredNode, StoredOwnership};
 use sn_acl::{Acl, Mode, Permissions};
 use sn_file_bytes::FileBytes;
 use sn_limits::{Kind, Limits};
-use sn_model::{Errno, Link, Refusal, StoredAcl};
+use sn_model::{Errno, Refusal, StoredAcl};
 use sn_walk::{Attributes, ROOT_NUMBER};
 use std::alloc::{AllocError, Global};
 
@@ -82,10 +81,11 @@ impl PlainTree {
         }
     }
 
-    pub fn link(&self, link: &Link) -> Option<u16>
-        ensures { result ≡ map.get (tree_of self.now).links link.now }
+    /// The number that a name of a directory stands for. The name isn't copied.
+    pub fn link(&self, directory: u16, name: &[u8]) -> Option<u16>
+        ensures { result ≡ (viewed (tree_of self.now)).link directory name.now }
     {
-        self.links.get(link)
+        self.links.named(directory, name)
     }
 
     /// How many names a directory has; 0 of any other number.

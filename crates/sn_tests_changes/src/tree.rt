@@ -52,6 +52,6 @@ impl Tree {
     }
 
     pub fn link(&self, link: &Link) -> Option<u16> {
-        self.plain.link(link)
+        self.plain.link(link.directory, link.name.as_bytes())
     }
 }

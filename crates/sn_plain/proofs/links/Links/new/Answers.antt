@@ -1,9 +1,12 @@
-use Rattle.std.proofs.Common.{ap}
-use Rattle.sn_model.specs.Tree.{link_cmp}
+use Rattle.std.proofs.Common.{ℕ, List, ap, ◌∙◌}
+use Rattle.std.specs.Ordering.{nat_cmp}
+use Rattle.sn_plain.specs.declared.names.Names.{Names}
 use Rattle.sn_plain.specs.Maps.{seen_by}
-use Rattle.sn_plain.specs.Stored.{links_of}
+use Rattle.sn_plain.specs.Names.{all_links}
+use Rattle.sn_plain.specs.Stored.{directories_of, links_of, names_of}
+use Rattle.sn_plain.proofs.NamesLemmas.{all_links-empty}
 use Rattle.sn_plain.proofs.links.Links.new.Goals as goal
 
 pub returns : goal.returns
-unfolding links_of
-returns c = ap (seen_by link_cmp (λ number. number)) c.new.ensures.empty
+unfolding links_of directories_of
+returns c = ap (λ (es : List (ℕ × Names)). all_links (seen_by nat_cmp names_of es)) c.new.ensures.empty ∙ all_links-empty
