@@ -33,12 +33,13 @@ use Rattle.sn_model.proofs.DenialLemmas.{IsDeniedAt, bind_err, mkdir_denied, sta
 
 -- ---- sessions and arguments
 
+-- a test that passes or is refused with EINVAL
+tested_other : {A : Type 0} (b : Bool) (x : A) (r : Refusal) → cond b (Ok x) (Err (plain Einval)) ≡ Err r → r.errno ≡ Eacces → ⊥
+tested_other true x r e is = cc e
+tested_other false x r e is = let never : Einval ≡ Eacces = (let same : plain Einval ≡ r = cc e in ap (λ (x : Refusal). x.errno) same ∙ is) in cc never
+
 session_other : (world : World) (session : ℕ) (r : Refusal) → session_at world session ≡ Err r → r.errno ≡ Eacces → ⊥
-session_other world session r e is = told (nat_lt session 64) e
-  where
-    told : (b : Bool) → cond b (Ok (flat (slice_get world.sessions session))) (Err (plain Einval)) ≡ Err r → ⊥
-    told true f = cc f
-    told false f = let never : Einval ≡ Eacces = (let same : plain Einval ≡ r = cc f in ap (λ (x : Refusal). x.errno) same ∙ is) in cc never
+session_other world session r e is = tested_other (nat_lt session 64) (flat (slice_get world.sessions session)) r e is
 
 open_other : (o : Option Session) (r : Refusal) → is_open o ≡ Err r → r.errno ≡ Eacces → ⊥
 open_other None r e is = let never : Ebadf ≡ Eacces = (let same : plain Ebadf ≡ r = cc e in ap (λ (x : Refusal). x.errno) same ∙ is) in cc never
@@ -57,11 +58,7 @@ path_other word r e is = told (parsed word) e
     told (Err TooLong) f = let never : Enametoolong ≡ Eacces = (let same : plain Enametoolong ≡ r = cc f in ap (λ (x : Refusal). x.errno) same ∙ is) in cc never
 
 mode_other : (bits : ℕ) (r : Refusal) → new_mode_argument bits ≡ Err r → r.errno ≡ Eacces → ⊥
-mode_other bits r e is = told (nat_lt bits 512) e
-  where
-    told : (b : Bool) → cond b (Ok (mode_from_bits bits)) (Err (plain Einval)) ≡ Err r → ⊥
-    told true f = cc f
-    told false f = let never : Einval ≡ Eacces = (let same : plain Einval ≡ r = cc f in ap (λ (x : Refusal). x.errno) same ∙ is) in cc never
+mode_other bits r e is = tested_other (nat_lt bits 512) (mode_from_bits bits) r e is
 
 -- a chain is refused so only where one of its tests is
 chain_other : {A B : Type 0} (a : Result A Refusal) (f : A → Result B Refusal) (r : Refusal) → (a ≡ Err r → ⊥) → ((x : A) → f x ≡ Err r → ⊥) → (a >>= f) ≡ Err r → ⊥
@@ -75,11 +72,7 @@ caller_other : (world : World) (session : ℕ) (r : Refusal) → logged_in world
 caller_other world session r e is = chain_other (session_at world session) is_open r (λ h. session_other world session r h is) (λ o h. open_other o r h is) e
 
 bits_other : (bits : ℕ) (r : Refusal) → mode_bits_argument bits ≡ Err r → r.errno ≡ Eacces → ⊥
-bits_other bits r e is = told (nat_lt bits 2048) e
-  where
-    told : (b : Bool) → cond b (Ok (mode_bits_from bits)) (Err (plain Einval)) ≡ Err r → ⊥
-    told true f = cc f
-    told false f = let never : Einval ≡ Eacces = (let same : plain Einval ≡ r = cc f in ap (λ (x : Refusal). x.errno) same ∙ is) in cc never
+bits_other bits r e is = tested_other (nat_lt bits 2048) (mode_bits_from bits) r e is
 
 new_acl_other : (o : Option (List Entry)) (kind : AclKind) (r : Refusal) → new_acl kind o ≡ Err r → r.errno ≡ Eacces → ⊥
 new_acl_other None kind r e is = let never : Einval ≡ Eacces = (let same : plain Einval ≡ r = cc e in ap (λ (x : Refusal). x.errno) same ∙ is) in cc never

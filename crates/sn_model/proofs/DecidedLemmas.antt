@@ -157,14 +157,17 @@ open_is : (o : Option Session) (s : Session) → is_open o ≡ Ok s → o ≡ So
 open_is None s e = cc
 open_is (Some x) s e = ap (λ (y : Session). Some y) (same_ok x s e)
 
-caller_is : (world : World) (session : ℕ) (s : Session) → AllByRecursion IsSession world.sessions → logged_in world session ≡ Ok s → IsCaller s
-caller_is world session s all e =
+pub seat_of : (world : World) (session : ℕ) (s : Session) → logged_in world session ≡ Ok s → slice_get world.sessions session ≡ Some (Some s)
+seat_of world session s e =
     let p = bind_ok (session_at world session) is_open s e in
     told (nat_lt session 64) (p.1 ∙ ap (λ (o : Option Session). found.ok o) (open_is p.0 s p.2))
   where
-    told : (b : Bool) → cond b (found.ok (flat (slice_get world.sessions session))) (Err (plain Einval)) ≡ Ok (Some s) → IsCaller s
-    told true f = caller_at world.sessions session s all (flat_is (slice_get world.sessions session) s (same_ok _ _ f))
+    told : (b : Bool) → cond b (found.ok (flat (slice_get world.sessions session))) (Err (plain Einval)) ≡ Ok (Some s) → slice_get world.sessions session ≡ Some (Some s)
+    told true f = flat_is (slice_get world.sessions session) s (same_ok _ _ f)
     told false f = cc
+
+caller_is : (world : World) (session : ℕ) (s : Session) → AllByRecursion IsSession world.sessions → logged_in world session ≡ Ok s → IsCaller s
+caller_is world session s all e = caller_at world.sessions session s all (seat_of world session s e)
 
 -- an answer that isn't a refusal
 abbrev pub IsAnswer : Reply → Type 0

@@ -27,3 +27,4 @@ pub mod StepLemmas
 pub mod AccessCallLemmas
 pub mod AccessDenialLemmas
 pub mod CallDenialLemmas
+pub mod UmaskLemmas

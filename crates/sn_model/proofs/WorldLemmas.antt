@@ -94,6 +94,24 @@ opened limits world session s w k = seated limits world session (Some s) w k (λ
 remasked : (limits : Limits) (world : World) (session : ℕ) (mask : Mode) → IsWorld limits world → IsWorld limits (with_umask world session mask)
 remasked limits world session mask w = seated limits world session (masked mask (slice_get world.sessions session)) w (masked_is world.sessions session mask w.callers) (masked_in mask (slice_get world.sessions session))
 
+-- another live tree, in which files stay, and one without names was one before
+with_tree : (limits : Limits) (world : World) (tree : Tree) → IsWorld limits world → IsTree limits tree → ((n : ℕ) → HasKind world.live n File → HasKind tree n File)
+    → ((n : ℕ) → HasKind tree n File → names_for tree n ≡ 0 → HasKind world.live n File × (names_for world.live n ≡ 0)) → IsWorld limits (with_live world tree)
+with_tree limits world tree w whole stays was = record {
+  live = whole;
+  frozen = w.frozen;
+  few_snapshots = w.few_snapshots;
+  count = w.count;
+  callers = w.callers;
+  open_files = λ i fd d e. let f = w.open_files i fd d e in record {
+    caller = f.caller;
+    number = f.number;
+    file = with_files world (with_live world tree) d.home d.number stays refl f.file;
+    offset = f.offset;
+  };
+  held = λ n h z. let before = was n h z in w.held n before.0 before.1;
+}
+
 -- a new node under a new name
 module _ (limits : Limits) (world : World) (number : ℕ) (link : Link) (node : Node) (w : IsWorld limits world) (unused : map.get world.live.nodes number ≡ None) (absent : map.get world.live.links link ≡ None) (whole : IsTree limits (with_node world.live number link node)) where
   abbrev next : World
@@ -102,28 +120,15 @@ module _ (limits : Limits) (world : World) (number : ℕ) (link : Link) (node : 
   file_stays : (n : ℕ) → HasKind world.live n File → HasKind next.live n File
   file_stays n h = kind_at _ _ File (get_other nat_cmp_total exact_unsigned world.live.nodes number node n (λ q. is_there _ File h (ap (map.get world.live.nodes) q ∙ unused))) h
 
-  held_next : (n : ℕ) → HasKind next.live n File → names_for next.live n ≡ 0 → (session : ℕ) × (fd : ℕ) × IsSomeAnd (map.get world.descriptors (session, fd)) (λ d. (d.home ≡ Live) × (d.number ≡ n))
-  held_next n h z = told (same_or_apart nat_cmp_total exact_unsigned n number)
+  was_nameless : (n : ℕ) → HasKind next.live n File → names_for next.live n ≡ 0 → HasKind world.live n File × (names_for world.live n ≡ 0)
+  was_nameless n h z = told (same_or_apart nat_cmp_total exact_unsigned n number)
     where
-      told : (n ≡ number) ⊎ (n ≢ number) → (session : ℕ) × (fd : ℕ) × IsSomeAnd (map.get world.descriptors (session, fd)) (λ d. (d.home ≡ Live) × (d.number ≡ n))
+      told : (n ≡ number) ⊎ (n ≢ number) → HasKind world.live n File × (names_for world.live n ≡ 0)
       told (inl q) = absurd (omega (arith, z, names_for_more world.live link number absent n (sym q)))
-      told (inr q) = w.held n (kind_at _ _ File (sym (get_other nat_cmp_total exact_unsigned world.live.nodes number node n q)) h) (sym (names_for_other world.live link number absent n (λ r. q (sym r))) ∙ z)
+      told (inr q) = (kind_at _ _ File (sym (get_other nat_cmp_total exact_unsigned world.live.nodes number node n q)) h, sym (names_for_other world.live link number absent n (λ r. q (sym r))) ∙ z)
 
   pub world_made : IsWorld limits (with_live world (with_node world.live number link node))
-  world_made = record {
-    live = whole;
-    frozen = w.frozen;
-    few_snapshots = w.few_snapshots;
-    count = w.count;
-    callers = w.callers;
-    open_files = λ i fd d e. let f = w.open_files i fd d e in record {
-      caller = f.caller;
-      number = f.number;
-      file = with_files world next d.home d.number file_stays refl f.file;
-      offset = f.offset;
-    };
-    held = held_next;
-  }
+  world_made = with_tree limits world (with_node world.live number link node) w whole file_stays was_nameless
 
 -- a node that other attributes are set of
 module _ (limits : Limits) (world : World) (number : ℕ) (node set : Node) (w : IsWorld limits world) (there : map.get world.live.nodes number ≡ Some node) (kind : set.kind ≡ node.kind) (whole : IsTree limits (put_node world.live number set)) where
@@ -151,20 +156,7 @@ module _ (limits : Limits) (world : World) (number : ℕ) (node set : Node) (w :
       told (inr q) = kind_at _ _ File (get_other nat_cmp_total exact_unsigned world.live.nodes number set n q) h
 
   world_assigned : IsWorld limits (with_live world (put_node world.live number set))
-  world_assigned = record {
-    live = whole;
-    frozen = w.frozen;
-    few_snapshots = w.few_snapshots;
-    count = w.count;
-    callers = w.callers;
-    open_files = λ i fd d e. let f = w.open_files i fd d e in record {
-      caller = f.caller;
-      number = f.number;
-      file = with_files world assigned d.home d.number still_file refl f.file;
-      offset = f.offset;
-    };
-    held = λ n h z. w.held n (was_file n h) z;
-  }
+  world_assigned = with_tree limits world (put_node world.live number set) w whole still_file (λ n h z. (was_file n h, z))
 
 pub comes_world : (limits : Limits) (old new : World) (session : ℕ) (c : Call) (o : Outcome) → IsDecided limits old session c o → Comes limits old session o new → IsCall c → IsWorld limits old → IsWorld limits new
 comes_world limits old new session c o (decided.Login s k e) h numbers w =

@@ -51,7 +51,7 @@ pub use laws::{
     dropping_keeps_the_tree, events_keep_the_state, example_holds, lists_join, lists_keep_covers,
     lists_keep_the_tree, lives_keep_the_world, makes_one_more, refusals_change_nothing,
     refused_events_change_nothing, restarts_settle, runs_keep_the_world, setacl_sets_one_acl,
-    stopped_stays, test_is_below,
+    stopped_stays, test_is_below, umask_sets_the_mask,
 };
 pub use link::Link;
 pub use lists::{Content, Names, StoredAcl};

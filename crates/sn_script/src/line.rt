@@ -50,11 +50,11 @@ fn mkdir(alloc: Global, arguments: &[&[u8]]) -> Result<Call, LineFault>
 fn chmod(alloc: Global, arguments: &[&[u8]]) -> Result<Call, LineFault>
     ensures { IsRead (λ c. c) result (chmod_of (map (λ w. w.now) arguments.now)) }
 {
-    let &[path, mode] = arguments else {
+    let &[path, bits] = arguments else {
         return Err(LineFault::Bad);
     };
     let path = word(alloc, path)?;
-    let mode = octal(mode)?;
+    let mode = octal(bits)?;
     Ok(Call::Chmod { path, mode })
 }
 

@@ -245,7 +245,7 @@ fn acl(alloc: Global, text: &[u8]) -> Result<Reply> {
     Ok(Reply::Acl(Some(StoredAcl::new(alloc, &acl)?)))
 }
 
-/// The answers of calls that aren't served yet.
+/// The other answers, some of calls that aren't served yet.
 fn later_replies(alloc: Global) -> Result<Vec<Reply>> {
     let mut replies = Vec::new(alloc);
     replies.push(Reply::Mode(FILE.mode))?;
