@@ -8,7 +8,7 @@ use Rattle.std.proofs.lemmas.Map.Lookups.{exact_unsigned}
 use Rattle.sn_limits.specs.declared.kind.Kind.TheVariants.{Directory}
 use Rattle.sn_limits.specs.Versions.{version_1}
 use Rattle.sn_model.specs.declared.call.Call.{Call}
-use Rattle.sn_model.specs.declared.call.Call.TheVariants.{Login, Mkdir, Stat}
+use Rattle.sn_model.specs.declared.call.Call.TheVariants.{Access, Chmod, GetAcl, Login, Mkdir, SetAcl, Stat, Umask}
 use Rattle.sn_model.specs.declared.call.Event.{Event}
 use Rattle.sn_model.specs.declared.call.Event.TheVariants as event
 use Rattle.sn_model.specs.declared.change.Ownership.{Ownership}
@@ -18,13 +18,15 @@ use Rattle.sn_model.specs.declared.reply.Reply.{Reply}
 use Rattle.sn_model.specs.declared.reply.Errno.TheVariants.{Enomem}
 use Rattle.sn_model.specs.declared.reply.Progress.TheVariants.{Done as Ended}
 use Rattle.sn_model.specs.declared.reply.Reply.TheVariants.{Done, Progress, Refused}
-use Rattle.sn_model.specs.Changes.{apply, made, node_with}
+use Rattle.sn_model.specs.AccessCalls.{sets, umask_outcome}
+use Rattle.sn_model.specs.Changes.{apply, made, node_with, owned}
 use Rattle.sn_model.specs.declared.change.Change.{Change}
+use Rattle.sn_model.specs.declared.change.Change.TheVariants.{SetAttributes}
 use Rattle.sn_model.specs.Outcomes.{opens, makes}
 use Rattle.sn_model.specs.declared.outcome.Pending.{Pending}
 use Rattle.sn_model.specs.declared.outcome.Pending.TheVariants.{Nothing}
 use Rattle.sn_model.specs.declared.outcome.Caller.{Caller}
-use Rattle.sn_model.specs.declared.outcome.Caller.TheVariants.{Stays, LogsIn}
+use Rattle.sn_model.specs.declared.outcome.Caller.TheVariants.{Stays, LogsIn, SetsUmask}
 use Rattle.sn_plain.specs.Plain.{Applies}
 use Rattle.sn_plain.specs.declared.error.ApplyError.{ApplyError}
 use Rattle.sn_plain.specs.declared.error.ApplyError.TheVariants as lack
@@ -32,12 +34,13 @@ use Rattle.sn_model.specs.declared.outcome.Outcome.{Outcome}
 use Rattle.sn_walk.proofs.ChainLemmas.{bind_ok}
 use Rattle.sn_model.specs.Calls.{Ready, mkdir_outcome, new_session, outcome_of, ready, seen, stat_outcome}
 use Rattle.sn_model.specs.Steps.{Becomes, Comes, IsNumberFor, TakesMemory, changed, decision, with_caller, with_live}
-use Rattle.sn_model.specs.Tests.{logged_out, plain}
+use Rattle.sn_walk.specs.Chains.{◌>>=◌}
+use Rattle.sn_model.specs.Tests.{logged_in, logged_out, new_mode_argument, plain}
 use Rattle.sn_model.specs.Tree.{Tree, least_unused, with_node}
 use Rattle.sn_model.specs.World.{World}
 use Rattle.sn_model.specs.Worlds.{IsCall, IsWorld}
 use Rattle.sn_model.proofs.MapLemmas.{same_or_apart, get_other}
-use Rattle.sn_model.proofs.PartLemmas.{made_is}
+use Rattle.sn_model.proofs.PartLemmas.{Owned, made_is, owned_is}
 use Rattle.sn_model.proofs.HierarchyLemmas.{least_is_number}
 use Rattle.sn_model.proofs.DecidedLemmas.{IsDecided, decided_applies, decided_is}
 use Rattle.sn_model.proofs.DecidedLemmas as shape
@@ -108,7 +111,9 @@ has_number world session c o e = told (decided_is version_1 world session c o e)
   where
     told : IsDecided version_1 world session c o → HasNumber world.live o.change
     told (shape.Login s k f) = subst (λ (x : Outcome). HasNumber world.live x.change) (sym f) tt
-    told (shape.Tells a f) = subst (λ (x : Outcome). HasNumber world.live x.change) (sym f) tt
+    told (shape.Masks s mask f) = subst (λ (x : Outcome). HasNumber world.live x.change) (sym f) tt
+    told (shape.Tells a k f) = subst (λ (x : Outcome). HasNumber world.live x.change) (sym f) tt
+    told (shape.Assigns is can) = subst (λ (x : Outcome). HasNumber world.live x.change) (sym is.2) tt
     told (shape.Makes s names mode k b n p) = subst (λ (x : Outcome). HasNumber world.live x.change) (sym p.made) (λ none. true≢false (sym (ap is_none none) ∙ p.number))
 
 -- the tree after the change that was chosen, if one was
@@ -119,6 +124,21 @@ MadeBy (Some c) old new = apply version_1 c old ≡ Some new
 caller_keeps : (world : World) (session : ℕ) (caller : Caller) → (with_caller world session caller).live ≡ world.live
 caller_keeps world session Stays = refl
 caller_keeps world session (LogsIn s) = refl
+caller_keeps world session (SetsUmask mask) = refl
+
+-- a node that other attributes are set of had its number before
+assigned_least : (old : World) (number : ℕ) (own : Ownership) (tree : Tree) → owned old.live number own ≡ Some tree → TakesLeast old (with_live old tree)
+assigned_least old number own tree e n none some = told (same_or_apart nat_cmp_total exact_unsigned n number)
+  where
+    p : Owned old.live number own tree
+    p = owned_is old.live number own tree e
+
+    at : map.get tree.nodes n ≡ map.get (map.insert old.live.nodes number (node_with p.node.kind own p.node.bytes)) n
+    at = ap (λ (t : Tree). map.get t.nodes n) (sym p.gives)
+
+    told : (n ≡ number) ⊎ (n ≢ number) → least_unused version_1 old.live ≡ Some n
+    told (inl q) = let never : None ≡ Some p.node = sym none ∙ ap (map.get old.live.nodes) q ∙ p.there in absurd cc
+    told (inr q) = absurd (true≢false (sym some ∙ ap is_some (at ∙ get_other nat_cmp_total exact_unsigned old.live.nodes number (node_with p.node.kind own p.node.bytes) n q ∙ none)))
 
 -- a call whose change was chosen and made was served
 module _ (old : World) (session : ℕ) (c : Call) (o : Outcome) (change : Option Change) (tree : Tree) (whole : IsWorld version_1 old) (decided : decision version_1 old session c ≡ Ok o) (chosen : Chooses old.live o.change change) (done : MadeBy change old.live tree) where
@@ -144,28 +164,58 @@ module _ (old : World) (session : ℕ) (c : Call) (o : Outcome) (change : Option
       subst (λ (x : Outcome). IsServed old session c x.told (with_caller (with_live old tree) session x.caller)) (sym q)
       (makes_served old session c charge link own picked.0 tree whole (decided ∙ ap (λ (x : Outcome). Ok x) q) picked.1 (sym m.gives))
 
+  assigned_served : (number : ℕ) (own : Ownership) → o ≡ sets version_1.inode_charge number own → IsServed old session c o.told (with_caller (with_live old tree) session o.caller)
+  assigned_served number own q =
+      let is : change ≡ Some (SetAttributes number own) = subst (λ (x : Outcome). Chooses old.live x.change change) q chosen in
+      let e : owned old.live number own ≡ Some tree = subst (λ (x : Option Change). MadeBy x old.live tree) is done in
+      let comes : Comes version_1 old session (sets version_1.inode_charge number own) (with_live old tree) = record { number = 0; free = tt; tree = tree; applied = e; world = refl } in
+      subst (λ (x : Outcome). IsServed old session c x.told (with_caller (with_live old tree) session x.caller)) (sym q)
+      (served old (with_live old tree) session c (sets version_1.inode_charge number own) (decided ∙ ap (λ (x : Outcome). Ok x) q) comes (assigned_least old number own tree e))
+
   pub chosen_served : IsServed old session c o.told (with_caller (with_live old tree) session o.caller)
   chosen_served = told (decided_is version_1 old session c o decided)
     where
       told : IsDecided version_1 old session c o → IsServed old session c o.told (with_caller (with_live old tree) session o.caller)
       told (shape.Login s k f) = nothing_served (ap (λ (x : Outcome). x.change) f)
-      told (shape.Tells a f) = nothing_served (ap (λ (x : Outcome). x.change) f)
+      told (shape.Masks s mask f) = nothing_served (ap (λ (x : Outcome). x.change) f)
+      told (shape.Tells a k f) = nothing_served (ap (λ (x : Outcome). x.change) f)
+      told (shape.Assigns is can) = assigned_served is.0 is.1 is.2
       told (shape.Makes s names mode k b n p) = made_served _ _ _ p.made
 
 -- the tests of the session and of the arguments have passed
 ready_passed : (old : World) (session : ℕ) (c : Call) (o : Outcome) → decision version_1 old session c ≡ Ok o → IsOk (ready old session c)
 ready_passed old session c o e = let r = bind_ok (ready old session c) (outcome_of version_1 old) o e in subst (λ (x : Result Ready Refusal). IsOk x) (sym r.1) refl
 
--- a call that changes something may find no memory
-pub change_takes : (old : World) (session : ℕ) (c : Call) (o : Outcome) (change : Change) → decision version_1 old session c ≡ Ok o → Chooses old.live o.change (Some change) → TakesMemory c × IsOk (ready old session c)
-change_takes old session (Mkdir path mode) o change e chosen = (tt, ready_passed old session (Mkdir path mode) o e)
-change_takes old session (Stat path) o change e chosen = (tt, ready_passed old session (Stat path) o e)
-change_takes old session (Login uid gid groups) o change e chosen =
+-- a call that changes nothing has no change
+no_change : {A : Type 0} (old : World) (o : Outcome) (change : Change) → o.change ≡ Nothing → Chooses old.live o.change (Some change) → A
+no_change old o change q chosen = let none : Some change ≡ None = subst (λ (x : Pending). Chooses old.live x (Some change)) q chosen in absurd cc
+
+-- what the calls that take no memory come to
+login_changes : (old : World) (session uid gid : ℕ) (groups : List ℕ) (o : Outcome) → decision version_1 old session (Login uid gid groups) ≡ Ok o → o.change ≡ Nothing
+login_changes old session uid gid groups o e =
     let r = bind_ok (ready old session (Login uid gid groups)) (outcome_of version_1 old) o e in
     let p = bind_ok (logged_out old session) (λ _. found.ok (calls.Login (new_session uid gid groups))) r.0 r.1 in
-    let same : calls.Login (new_session uid gid groups) ≡ r.0 = same_ok _ _ p.2 in
-    let opened : opens (new_session uid gid groups) ≡ o = same_ok _ _ (subst (λ (x : Ready). outcome_of version_1 old x ≡ Ok o) (sym same) r.2) in
-    let none : Some change ≡ None = subst (λ (x : Outcome). Chooses old.live x.change (Some change)) (sym opened) chosen in cc
+    let opened : opens (new_session uid gid groups) ≡ o = same_ok _ _ (subst (λ (x : Ready). outcome_of version_1 old x ≡ Ok o) (sym (same_ok _ _ p.2)) r.2) in
+    ap (λ (x : Outcome). x.change) (sym opened)
+
+umask_changes : (old : World) (session mask : ℕ) (o : Outcome) → decision version_1 old session (Umask mask) ≡ Ok o → o.change ≡ Nothing
+umask_changes old session mask o e =
+    let r = bind_ok (ready old session (Umask mask)) (outcome_of version_1 old) o e in
+    let p = bind_ok (logged_in old session) (λ s. new_mode_argument mask >>= (λ bits. found.ok (calls.Umask s bits))) r.0 r.1 in
+    let q = bind_ok (new_mode_argument mask) (λ bits. found.ok (calls.Umask p.0 bits)) r.0 p.2 in
+    let masked : umask_outcome p.0 q.0 ≡ o = same_ok _ _ (subst (λ (x : Ready). outcome_of version_1 old x ≡ Ok o) (sym (same_ok _ _ q.2)) r.2) in
+    ap (λ (x : Outcome). x.change) (sym masked)
+
+-- a call that changes something may find no memory
+pub change_takes : (old : World) (session : ℕ) (c : Call) (o : Outcome) (change : Change) → decision version_1 old session c ≡ Ok o → Chooses old.live o.change (Some change) → TakesMemory c × IsOk (ready old session c)
+change_takes old session (Login uid gid groups) o change e chosen = no_change old o change (login_changes old session uid gid groups o e) chosen
+change_takes old session (Umask mask) o change e chosen = no_change old o change (umask_changes old session mask o e) chosen
+change_takes old session (Mkdir path mode) o change e chosen = (tt, ready_passed old session (Mkdir path mode) o e)
+change_takes old session (Chmod path mode) o change e chosen = (tt, ready_passed old session (Chmod path mode) o e)
+change_takes old session (Stat path) o change e chosen = (tt, ready_passed old session (Stat path) o e)
+change_takes old session (Access path want) o change e chosen = (tt, ready_passed old session (Access path want) o e)
+change_takes old session (GetAcl path kind) o change e chosen = (tt, ready_passed old session (GetAcl path kind) o e)
+change_takes old session (SetAcl path kind acl) o change e chosen = (tt, ready_passed old session (SetAcl path kind acl) o e)
 
 -- what was served leaves a world
 pub served_whole : (old new : World) (session : ℕ) (c : Call) (answer : Reply) → IsServed old session c answer new → IsCall c → IsWorld version_1 old → IsWorld version_1 new

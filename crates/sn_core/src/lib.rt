@@ -3,7 +3,7 @@
 //!
 //! [`run_plain`] answers a list of events, and its contract is the machine of `sn_model`: the replies
 //! are a run of it from the empty world. Below it, `world` keeps the sessions and serves one call,
-//! `decided` has what `sn_core_decide` decides over the tree by `view`, and the tree of `sn_plain` makes
+//! `deciding` has what `sn_core_decide` decides over the tree by `view`, and the tree of `sn_plain` makes
 //! it so. `specs/Plain` says which world this stands for.
 //!
 //! ```text
@@ -11,6 +11,7 @@
 //! ```
 #![tactic(auto)]
 
+mod deciding;
 mod error;
 mod plain;
 mod view;

@@ -1,27 +1,21 @@
-ghost use Rattle.std.specs.Prelude.{◌≡◌, ◌<◌, ◌^◌, IfOk, None, replicate, vec_len};
-ghost use Rattle.sn_model.specs.Calls.{new_session};
+ghost use Rattle.std.specs.Prelude.{◌≡◌, IfOk, None, replicate, vec_len};
 ghost use Rattle.sn_model.specs.NameTree.{IsTree};
-ghost use Rattle.sn_model.specs.Outcomes.{opens};
 ghost use Rattle.sn_model.specs.Settling.{settle};
-ghost use Rattle.sn_model.specs.Steps.{with_caller};
+ghost use Rattle.sn_model.specs.Steps.{masked, with_caller};
 ghost use Rattle.sn_model.specs.Tests.{logged_in, logged_out};
 ghost use Rattle.sn_limits.specs.Versions.{version_1};
-ghost use Rattle.sn_model.specs.Worlds.{IsCall, IsWorld};
+ghost use Rattle.sn_model.specs.Worlds.{IsWorld};
 ghost use Rattle.sn_core.specs.PlainRuns.{PlainStep};
 ghost use Rattle.sn_model.specs.World.{new_world};
-ghost use Rattle.sn_model.specs.declared.call.Call.TheVariants.{Mkdir, Stat};
 ghost use Rattle.sn_walk.specs.Gives.{Answers};
-ghost use Rattle.sn_core.specs.Served.{Chooses, Decides, HasNumber, MakesChange, Serves};
+ghost use Rattle.sn_core.specs.Served.{Chooses, HasNumber, MakesChange, Serves};
 
 use crate::error::CallError;
 use crate::view::PlainView;
-use sn_acl::{Cred, Mode, Permissions};
-use sn_core_decide as decide;
-use sn_core_decide::{new_mode_argument, path_argument};
+use sn_acl::Mode;
 use sn_limits::Limits;
 use sn_model::{
-    Call, Caller, Change, Errno, Event, Groups, Outcome, Pending, Progress, Refusal, Reply,
-    Session, Word,
+    Call, Caller, Change, Errno, Event, Outcome, Pending, Progress, Refusal, Reply, Session,
 };
 use sn_plain::{ApplyError, PlainTree};
 use std::alloc::{AllocError, Global};
@@ -57,24 +51,12 @@ fn log_all_out(sessions: &mut Vec<Option<Session>>)
     }
 }
 
-/// What a login comes to.
-fn login(uid: u32, gid: u32, groups: &Groups) -> Outcome<'static>
-    ensures outcome { result ≡ opens (new_session uid gid groups.now) }
-    ensures uid { uid < 2 ^ 32 }
-    ensures gid { gid < 2 ^ 32 }
+/// Sets the umask of whoever is logged in there.
+fn set_umask(slot: &mut Option<Session>, mask: Mode)
+    ensures { slot.new ≡ masked mask (Some slot.old) }
 {
-    Outcome {
-        charge: 0,
-        change: Pending::Nothing,
-        caller: Caller::LogsIn(Session {
-            cred: Cred::new(uid, gid, groups.as_slice()),
-            umask: Mode {
-                owner: Permissions::NONE,
-                group: Permissions::WRITE,
-                other: Permissions::WRITE,
-            },
-        }),
-        told: Reply::Done,
+    if let Some(caller) = slot {
+        caller.umask = mask;
     }
 }
 
@@ -94,7 +76,7 @@ impl PlainWorld {
     }
 
     /// The session with this number, which has to be logged in.
-    fn logged_in(&self, session: u32) -> Result<&Session, Refusal>
+    pub(crate) fn logged_in(&self, session: u32) -> Result<&Session, Refusal>
         requires { IsPlainWorld self.now }
         ensures { Answers (λ s. s.now) result (logged_in (world_of self.now) session) }
     {
@@ -108,7 +90,7 @@ impl PlainWorld {
     }
 
     /// Whether nobody is logged in under this number.
-    fn logged_out(&self, session: u32) -> Result<(), Refusal>
+    pub(crate) fn logged_out(&self, session: u32) -> Result<(), Refusal>
         requires { IsPlainWorld self.now }
         ensures { result ≡ logged_out (world_of self.now) session }
     {
@@ -121,52 +103,11 @@ impl PlainWorld {
         Ok(())
     }
 
-    fn decide_mkdir<'a>(
-        &self,
-        session: u32,
-        path: &'a Word,
-        mode: u16,
-    ) -> Result<Outcome<'a>, CallError>
-        requires { IsPlainWorld self.now }
-        ensures { Decides (world_of self.now) session (Mkdir path.now mode) result }
+    /// The live tree, as walks and decisions see it.
+    pub(crate) fn view(&self) -> PlainView<'_>
+        ensures { result.tree.now ≡ self.now.tree }
     {
-        let caller = self.logged_in(session)?;
-        let path = path_argument(path)?;
-        let mode = new_mode_argument(mode)?;
-        let mut view = PlainView { tree: &self.tree };
-        Ok(decide::mkdir(&Limits::VERSION_1, &mut view, caller, &path, mode)?)
-    }
-
-    fn decide_stat<'a>(&self, session: u32, path: &'a Word) -> Result<Outcome<'a>, CallError>
-        requires { IsPlainWorld self.now }
-        ensures { Decides (world_of self.now) session (Stat path.now) result }
-    {
-        let caller = self.logged_in(session)?;
-        let path = path_argument(path)?;
-        let mut view = PlainView { tree: &self.tree };
-        Ok(decide::stat(&mut view, caller, &path)?)
-    }
-
-    /// What a call comes to, or its first refusal. `Memory` comes only once its session and arguments
-    /// have passed. Nothing changes.
-    pub fn decide<'a>(
-        &self,
-        alloc: Global,
-        session: u32,
-        call: &'a Call,
-    ) -> Result<Outcome<'a>, CallError>
-        requires { IsPlainWorld self.now }
-        ensures decided { Decides (world_of self.now) session call.now result }
-        ensures numbers { IfOk result (λ o. IsCall call.now) }
-    {
-        match call {
-            Call::Login { uid, gid, groups } => {
-                self.logged_out(session)?;
-                Ok(login(*uid, *gid, groups))
-            }
-            Call::Mkdir { path, mode } => self.decide_mkdir(session, path, *mode),
-            Call::Stat { path } => self.decide_stat(session, path),
-        }
+        PlainView { tree: &self.tree }
     }
 
     /// The change that is pending, if one is. A new node gets the least number that no node has, of
@@ -212,10 +153,13 @@ impl PlainWorld {
         ensures world { world_of self.new ≡ with_caller (world_of self.old) session caller }
         ensures sound { IsPlainWorld self.new }
     {
-        if let Caller::LogsIn(new) = caller
-            && let Some(slot) = self.sessions.get_mut(session as usize)
-        {
-            *slot = Some(new);
+        let Some(slot) = self.sessions.get_mut(session as usize) else {
+            return;
+        };
+        match caller {
+            Caller::Stays => {}
+            Caller::LogsIn(new) => *slot = Some(new),
+            Caller::SetsUmask(mask) => set_umask(slot, mask),
         }
     }
 

@@ -1,10 +1,15 @@
 ghost use Rattle.std.specs.Prelude.{◌≡◌, ◌≤◌, IsTrue, IfOk};
+ghost use Rattle.sn_acl.specs.Access.{denial_of};
+ghost use Rattle.sn_model.specs.AccessCalls as calls;
 ghost use Rattle.sn_model.specs.Tests as tests;
 ghost use Rattle.sn_walk.specs.Gives.{Answers, Gives, IfFault};
 ghost use Rattle.sn_walk.specs.Walks.{end_of};
 
-use sn_acl::{Cred, Mode, Permissions, Tag, check};
-use sn_model::{Access, Denial, Errno, PathNumber, Refusal, Rule, Word};
+use sn_acl::{Acl, Cred, Mode, Permissions, Tag, check};
+use sn_limits::Kind;
+use sn_model::{
+    Access, AclKind, Denial, Errno, ModeBits, NewAcl, PathNumber, Refusal, Rule, Word,
+};
 use sn_walk::{
     Attributes, Failure, Found, Object, Obstacle, Path, PathFault, TreeView, WalkRefusal, Walked,
     attributes_of, reached, walk,
@@ -28,6 +33,47 @@ pub fn new_mode_argument(bits: u16) -> Result<Mode, Refusal>
 {
     match Mode::from_bits(bits) {
         Some(mode) => Ok(mode),
+        None => Err(Refusal::plain(Errno::Einval)),
+    }
+}
+
+/// An argument that is the mode of an object: EINVAL where it has other bits than 03777.
+pub fn mode_bits_argument(bits: u16) -> Result<ModeBits, Refusal>
+    ensures { result ≡ calls.mode_bits_argument bits }
+{
+    if bits >= 2048 {
+        return Err(Refusal::plain(Errno::Einval));
+    }
+    let mode = new_mode_argument(bits % 512)?;
+    Ok(ModeBits {
+        mode,
+        set_gid: bits / 1024 == 1,
+        sticky: bits / 512 % 2 == 1,
+    })
+}
+
+/// An argument that is an ACL: EINVAL where it is no valid ACL's one spelling. A dash is no default
+/// ACL, and EINVAL for an access ACL.
+pub fn acl_argument(kind: AclKind, word: &Word) -> Result<NewAcl, Refusal>
+    ensures { result ≡ calls.acl_argument kind word.now }
+{
+    match kind {
+        AclKind::Access => match Acl::parse(word.as_bytes()) {
+            Some(acl) => Ok(NewAcl::Access(acl)),
+            None => Err(Refusal::plain(Errno::Einval)),
+        },
+        AclKind::Default => default_acl_argument(word.as_bytes()),
+    }
+}
+
+fn default_acl_argument(word: &[u8]) -> Result<NewAcl, Refusal>
+    ensures { result ≡ calls.acl_argument AclKind.Default word.now }
+{
+    if let b"-" = word {
+        return Ok(NewAcl::Default(None));
+    }
+    match Acl::parse(word) {
+        Some(acl) => Ok(NewAcl::Default(Some(acl))),
         None => Err(Refusal::plain(Errno::Einval)),
     }
 }
@@ -159,6 +205,45 @@ pub fn one_tree(directory: &Object, other: &Object) -> Result<(), Refusal>
     Ok(())
 }
 
+/// What is to be written to is in the live tree: EROFS where it is in another.
+pub fn live_if(is_written: bool, object: &Object) -> Result<(), Refusal>
+    ensures { result ≡ calls.live_if is_written object.now }
+{
+    if !is_written {
+        return Ok(());
+    }
+    match live(object) {
+        Ok(_) => Ok(()),
+        Err(refusal) => Err(refusal),
+    }
+}
+
+/// The rights that an access needs.
+fn rights_of(want: Access) -> Permissions
+    ensures { result ≡ tests.rights_of want }
+{
+    let read = if want.read { 4 } else { 0 };
+    let write = if want.write { 2 } else { 0 };
+    let execute = if want.execute { 1 } else { 0 };
+    Permissions::from_bits(read + write + execute).unwrap()
+}
+
+/// An access is asked of what is at a place: EACCES, by the entry that denies it.
+pub fn granted(
+    cred: &Cred,
+    which: PathNumber,
+    place: u16,
+    want: Access,
+    a: &Attributes,
+) -> Result<(), Refusal>
+    ensures { result ≡ tests.unless_denied which place want (denial_of cred.now a.now.owner a.now.group a.now.acl (tests.rights_of want)) }
+{
+    match check(cred, a.owner, a.group, &a.acl, rights_of(want)) {
+        Ok(()) => Ok(()),
+        Err(entry) => Err(denied(which, place, want, entry.tag)),
+    }
+}
+
 /// Write is asked of the directory of a path's last name: EACCES, at the directory's place.
 pub fn writable_parent<V: TreeView>(
     view: &mut V,
@@ -179,10 +264,8 @@ pub fn writable_parent<V: TreeView>(
         Ok(None) => return Err(Failure::Refused(Refusal::plain(Errno::Enoent))),
         Err(fault) => return Err(Failure::Fault(fault)),
     };
-    match check(cred, a.owner, a.group, &a.acl, Permissions::WRITE) {
-        Ok(()) => Ok(a),
-        Err(entry) => Err(Failure::Refused(denied(which, place, Access::WRITE, entry.tag))),
-    }
+    granted(cred, which, place, Access::WRITE, &a)?;
+    Ok(a)
 }
 
 /// From a directory with S_ISVTX a caller removes what it owns, or anything where it owns the
@@ -201,4 +284,26 @@ pub fn sticky(
         return Err(forbidden(which, found.place, Rule::Sticky));
     }
     Ok(())
+}
+
+/// Only the owner of an object and the user 0 set its mode and ACLs: EPERM by `not-owner` otherwise, at
+/// the object's place.
+pub fn by_owner(cred: &Cred, which: PathNumber, found: &Found) -> Result<(), Refusal>
+    ensures { result ≡ calls.by_owner cred.now which found.now }
+{
+    let uid = cred.uid();
+    if uid == 0 || uid == found.attributes.owner {
+        return Ok(());
+    }
+    Err(forbidden(which, found.place, Rule::NotOwner))
+}
+
+/// A default ACL is that of a directory: EINVAL for one of a file.
+pub fn has_acl(kind: AclKind, a: &Attributes) -> Result<(), Refusal>
+    ensures { result ≡ calls.has_acl kind a.now }
+{
+    match (kind, a.kind) {
+        (AclKind::Default, Kind::File) => Err(Refusal::plain(Errno::Einval)),
+        _ => Ok(()),
+    }
 }

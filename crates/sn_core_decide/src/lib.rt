@@ -4,7 +4,7 @@
 //! A decision makes a call's tests in their order, as `sn_model` lists them ([`mkdir`], [`stat`]),
 //! and answers the model's [`Outcome`](sn_model::Outcome). Beside a refusal there may be a fault of
 //! the view: then nothing is known of the call. [`CallView`] is what a decision asks beside a walk.
-//! `checks` has the tests, each once for all calls.
+//! `checks` has the tests, each once for all calls, `decisions` and `access_calls` the calls.
 //!
 //! ```text
 //! let path = path_argument(&word)?;
@@ -12,13 +12,15 @@
 //! ```
 #![tactic(auto)]
 
+mod access_calls;
 mod checks;
 mod decisions;
 mod view;
 
+pub use access_calls::{access, chmod, getacl, setacl, umask};
 pub use checks::{
-    full, live, new_mode_argument, not_present, one_tree, path_argument, prefix, sticky,
-    writable_parent,
+    acl_argument, by_owner, full, granted, has_acl, live, live_if, mode_bits_argument,
+    new_mode_argument, not_present, one_tree, path_argument, prefix, sticky, writable_parent,
 };
 pub use decisions::{mkdir, stat};
 pub use view::CallView;

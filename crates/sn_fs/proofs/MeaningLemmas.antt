@@ -8,7 +8,7 @@ use Rattle.sn_device.proofs.CrashLemmas.{LeavesOnly-start, LeavesOnly-weaker, Le
 use Rattle.sn_limits.specs.Versions.{version_1}
 use Rattle.sn_model.specs.declared.change.Change.{Change}
 use Rattle.sn_model.specs.declared.outcome.Caller.{Caller}
-use Rattle.sn_model.specs.declared.outcome.Caller.TheVariants.{Stays, LogsIn}
+use Rattle.sn_model.specs.declared.outcome.Caller.TheVariants.{Stays, LogsIn, SetsUmask}
 use Rattle.sn_model.specs.Changes.{apply}
 use Rattle.sn_model.specs.Machine.{State, Running, Stopped}
 use Rattle.sn_model.specs.Settling.{settle, settled}
@@ -33,14 +33,17 @@ settles_alike w e = λ i. record { live = settled w.live; frozen = sym e i; sess
 pub caller_settles : (w : World) (session : ℕ) (caller : Caller) → settle (with_caller w session caller) ≡ settle w
 caller_settles w session Stays = refl
 caller_settles w session (LogsIn s) = refl
+caller_settles w session (SetsUmask mask) = refl
 
 pub caller_live : (w : World) (session : ℕ) (caller : Caller) → (with_caller w session caller).live ≡ w.live
 caller_live w session Stays = refl
 caller_live w session (LogsIn s) = refl
+caller_live w session (SetsUmask mask) = refl
 
 pub caller_frozen : (w : World) (session : ℕ) (caller : Caller) → (with_caller w session caller).frozen ≡ w.frozen
 caller_frozen w session Stays = refl
 caller_frozen w session (LogsIn s) = refl
+caller_frozen w session (SetsUmask mask) = refl
 
 -- what is opened at a position on the ground
 pub opens_here : (at : LogPosition) (c : Contents) (w : World) → IsOnGround at → OpensAt version_1 c at new_world w → OpensOn ground c w

@@ -26,16 +26,20 @@ use Rattle.sn_walk.specs.Objects.{root}
 use Rattle.sn_walk.specs.Views.{ViewedTrees, attributes_at, is_directory}
 use Rattle.sn_walk.specs.Walks.{found_as, found_at}
 use Rattle.sn_walk.proofs.ChainLemmas.{bind_ok}
+use Rattle.sn_model.specs.declared.change.Change.{Change}
+use Rattle.sn_model.specs.declared.change.Change.TheVariants.{SetAttributes}
 use Rattle.sn_model.specs.declared.change.Ownership.{Ownership}
+use Rattle.sn_model.specs.declared.reply.Access.{Access}
 use Rattle.sn_model.specs.declared.reply.Errno.TheVariants.{Einval}
+use Rattle.sn_model.specs.declared.reply.Reply.TheVariants as reply
 use Rattle.sn_model.specs.declared.reply.Rule.TheVariants as rule
 use Rattle.sn_model.specs.declared.session.Session.{Session}
-use Rattle.sn_model.specs.AccessCalls.{AclKind, OfAccess, OfDefault, ModeBits, NewAcl, NewAccess, NewDefault, acl_argument, by_owner, chmod_outcome, default_acl_at, has_acl, kind_of, mode_bits_argument, mode_bits_from, new_acl, ownership_at, setacl_outcome, sets, with_acl, with_mode_bits}
+use Rattle.sn_model.specs.AccessCalls.{AclKind, OfAccess, OfDefault, ModeBits, NewAcl, NewAccess, NewDefault, access_outcome, acl_argument, acl_at, by_owner, chmod_outcome, default_acl_at, getacl_outcome, has_acl, kind_of, live_if, mode_bits_argument, mode_bits_from, new_acl, ownership_at, setacl_outcome, sets, with_acl, with_mode_bits}
 use Rattle.sn_model.specs.AccessLaws.{Sets, SetsAcl, ShowsMode}
-use Rattle.sn_model.specs.Changes.{is_default_acl, is_ownership, node_with, owned, ownership_of, put_node}
+use Rattle.sn_model.specs.Changes.{apply, is_default_acl, is_ownership, node_with, owned, ownership_of, put_node}
 use Rattle.sn_model.specs.NameTree.{IsNode}
-use Rattle.sn_model.specs.Outcomes.{Outcome}
-use Rattle.sn_model.specs.Tests.{forbidden, full, live, plain, prefix, there}
+use Rattle.sn_model.specs.Outcomes.{Outcome, Does, tells}
+use Rattle.sn_model.specs.Tests.{forbidden, full, granted, live, plain, prefix, there}
 use Rattle.sn_model.specs.Tree.{Node, Tree}
 use Rattle.sn_model.specs.World.{World, trees_of, viewed_trees}
 use Rattle.sn_model.specs.Worlds.{IsWorld}
@@ -277,3 +281,50 @@ setacl_is limits world s names kind argument acl o whole a e =
     let n = bind_ok (live f.0.object) (λ n. by_owner s.cred 1 f.0 >>= (λ _. last f.0 n)) o h.2 in
     let u = bind_ok (by_owner s.cred 1 f.0) (λ _. last f.0 n.0) o n.2 in
     setacl_sets limits world s f.0 n.0 acl o h.0 u.0 whole (argument_valid kind argument acl a) (live_found world s names f.0 n.0 f.1 n.1) h.1 u.1 (sym (same_ok _ o u.2))
+
+-- ---- what the calls come to
+
+-- attributes that are set, whatever they are
+abbrev pub SetsSome : Limits → Outcome → Type 0
+SetsSome limits o = (number : ℕ) × (new : Ownership) × (o ≡ sets limits.inode_charge number new)
+
+-- what is set so can be set
+pub can_be_set : (limits : Limits) (world : World) (s : Session) (o : Outcome) (Follows : Node → Ownership → Type 0) (is : SetsSome limits o) → Sets limits world s o Follows → is_some (owned world.live is.0 is.1) ≡ true
+can_be_set limits world s o Follows is h =
+    let change : Does (SetAttributes h.number h.new) ≡ Does (SetAttributes is.0 is.1) = sym h.change ∙ ap (λ (x : Outcome). x.change) is.2 in
+    let same : SetAttributes h.number h.new ≡ SetAttributes is.0 is.1 = cc change in
+    subst (λ (c : Change). is_some (apply limits c world.live) ≡ true) same h.applies
+
+pub chmod_some : (limits : Limits) (trees : ViewedTrees) (s : Session) (names : List (List ℕ)) (bits : ModeBits) (o : Outcome) → chmod_outcome limits trees s names bits ≡ Ok o → SetsSome limits o
+unfolding chmod_outcome
+chmod_some limits trees s names bits o e =
+    let last = λ (f : Found) (n : ℕ). ok (sets limits.inode_charge n (with_mode_bits s.cred f.attributes bits (ownership_at trees f))) in
+    let f = bind_ok (full trees s.cred 1 names) (λ f. live f.object >>= (λ n. by_owner s.cred 1 f >>= (λ _. last f n))) o e in
+    let n = bind_ok (live f.0.object) (λ n. by_owner s.cred 1 f.0 >>= (λ _. last f.0 n)) o f.2 in
+    let u = bind_ok (by_owner s.cred 1 f.0) (λ _. last f.0 n.0) o n.2 in
+    (n.0, with_mode_bits s.cred f.0.attributes bits (ownership_at trees f.0), sym (same_ok _ o u.2))
+
+pub setacl_some : (limits : Limits) (trees : ViewedTrees) (s : Session) (names : List (List ℕ)) (acl : NewAcl) (o : Outcome) → setacl_outcome limits trees s names acl ≡ Ok o → SetsSome limits o
+unfolding setacl_outcome
+setacl_some limits trees s names acl o e =
+    let last = λ (f : Found) (n : ℕ). ok (sets limits.inode_charge n (with_acl acl (ownership_at trees f))) in
+    let f = bind_ok (full trees s.cred 1 names) (λ f. has_acl (kind_of acl) f.attributes >>= (λ _. live f.object >>= (λ n. by_owner s.cred 1 f >>= (λ _. last f n)))) o e in
+    let h = bind_ok (has_acl (kind_of acl) f.0.attributes) (λ _. live f.0.object >>= (λ n. by_owner s.cred 1 f.0 >>= (λ _. last f.0 n))) o f.2 in
+    let n = bind_ok (live f.0.object) (λ n. by_owner s.cred 1 f.0 >>= (λ _. last f.0 n)) o h.2 in
+    let u = bind_ok (by_owner s.cred 1 f.0) (λ _. last f.0 n.0) o n.2 in
+    (n.0, with_acl acl (ownership_at trees f.0), sym (same_ok _ o u.2))
+
+pub access_tells : (trees : ViewedTrees) (s : Session) (names : List (List ℕ)) (want : Access) (o : Outcome) → access_outcome trees s names want ≡ Ok o → o ≡ tells reply.Done
+unfolding access_outcome
+access_tells trees s names want o e =
+    let x = bind_ok (full trees s.cred 1 names) (λ x. live_if want.write x.object >>= (λ _. granted s.cred 1 x.place want (Some x.attributes) >>= (λ _. ok (tells reply.Done)))) o e in
+    let l = bind_ok (live_if want.write x.0.object) (λ _. granted s.cred 1 x.0.place want (Some x.0.attributes) >>= (λ _. ok (tells reply.Done))) o x.2 in
+    let g = bind_ok (granted s.cred 1 x.0.place want (Some x.0.attributes)) (λ _. ok (tells reply.Done)) o l.2 in
+    sym (same_ok _ o g.2)
+
+pub getacl_tells : (trees : ViewedTrees) (s : Session) (names : List (List ℕ)) (kind : AclKind) (o : Outcome) → getacl_outcome trees s names kind ≡ Ok o → (acl : Option (List Entry)) × (o ≡ tells (reply.Acl acl))
+unfolding getacl_outcome
+getacl_tells trees s names kind o e =
+    let x = bind_ok (full trees s.cred 1 names) (λ x. has_acl kind x.attributes >>= (λ _. ok (tells (reply.Acl (acl_at trees kind x))))) o e in
+    let h = bind_ok (has_acl kind x.0.attributes) (λ _. ok (tells (reply.Acl (acl_at trees kind x.0)))) o x.2 in
+    (acl_at trees kind x.0, sym (same_ok _ o h.2))

@@ -16,22 +16,26 @@ use Rattle.sn_walk.specs.declared.path.PathFault.TheVariants.{Misspelt, TooLong}
 use Rattle.sn_limits.specs.declared.kind.Kind.TheVariants.{Directory}
 use Rattle.sn_limits.specs.Names.{is_name_spelled, has_name_length, is_name}
 use Rattle.sn_walk.specs.Paths.{last_after, parsed, of_word, of_names, of_length, components}
-use Rattle.sn_walk.specs.Views.{is_directory}
+use Rattle.sn_walk.specs.Views.{ViewedTrees, is_directory}
 use Rattle.sn_model.specs.declared.call.Call.{Call}
 use Rattle.sn_model.specs.declared.call.Call.TheVariants as call
 use Rattle.sn_model.specs.declared.reply.Errno.TheVariants.{Einval}
 use Rattle.sn_model.specs.declared.session.Session.{Session}
 use Rattle.sn_model.specs.Tree.{Tree, Node, attributes_of, link_to, names_in, names_for, with_node}
-use Rattle.sn_model.specs.World.{World}
+use Rattle.sn_model.specs.World.{World, trees_of, viewed_trees}
 use Rattle.sn_model.specs.NameTree.{IsNode, IsTree}
-use Rattle.sn_model.specs.Changes.{is_default_acl, is_ownership, is_free_number, file_at, node_with, made}
+use Rattle.sn_model.specs.Changes.{is_default_acl, is_ownership, is_free_number, file_at, node_with, made, owned}
 use Rattle.sn_walk.specs.Chains.{◌>>=◌}
 use Rattle.sn_model.specs.Tests.{plain, logged_out, flat, session_at, is_open, logged_in, read_path, path_argument, mode_from_bits, new_mode_argument}
+use Rattle.sn_model.specs.declared.reply.Access as access
+use Rattle.sn_model.specs.declared.reply.Refusal.{Refusal}
+use Rattle.sn_model.specs.declared.reply.Reply.{Reply}
 use Rattle.sn_model.specs.declared.reply.Reply.TheVariants as reply
-use Rattle.sn_model.specs.declared.reply.Status.{Status}
 use Rattle.sn_limits.specs.declared.limits.Limits.{Limits}
 use Rattle.sn_model.specs.declared.change.Ownership.{Ownership}
 use Rattle.sn_model.specs.Outcomes.{Outcome, opens, tells}
+use Rattle.sn_model.specs.AccessCalls.{AclKind, acl_argument, mode_bits_argument, umask_outcome}
+use Rattle.sn_model.specs.AccessLaws.{SetsAcl, ShowsMode}
 use Rattle.sn_model.specs.Calls as calls
 use Rattle.sn_model.specs.Calls.{Ready, ready, outcome_of, new_session, new_directory, last_name}
 use Rattle.sn_model.specs.Steps.{IsNumber, IsNumberFor, changed, decision}
@@ -41,7 +45,8 @@ use Rattle.sn_model.proofs.NameLemmas.{no_names_for}
 use Rattle.sn_model.proofs.PartLemmas.{is_directory_at, made_of}
 use Rattle.sn_walk.proofs.ChainLemmas.{bind_ok}
 use Rattle.sn_model.proofs.DecisionLemmas as found
-use Rattle.sn_model.proofs.DecisionLemmas.{Made, same_ok, mkdir_is, stat_is}
+use Rattle.sn_model.proofs.DecisionLemmas.{Made, called, same_ok, mkdir_is, stat_is}
+use Rattle.sn_model.proofs.AccessCallLemmas.{SetsSome, access_tells, can_be_set, chmod_is, chmod_some, getacl_tells, setacl_is, setacl_some}
 
 -- the ACLs of a new object are valid
 three_acl : (mode : Mode) → IsMode mode → is_acl (three_entries mode) ≡ true
@@ -152,62 +157,105 @@ open_is : (o : Option Session) (s : Session) → is_open o ≡ Ok s → o ≡ So
 open_is None s e = cc
 open_is (Some x) s e = ap (λ (y : Session). Some y) (same_ok x s e)
 
-caller_is : (world : World) (session : ℕ) (s : Session) → AllByRecursion IsSession world.sessions → logged_in world session ≡ Ok s → IsCaller s
-caller_is world session s all e =
+pub seat_of : (world : World) (session : ℕ) (s : Session) → logged_in world session ≡ Ok s → slice_get world.sessions session ≡ Some (Some s)
+seat_of world session s e =
     let p = bind_ok (session_at world session) is_open s e in
     told (nat_lt session 64) (p.1 ∙ ap (λ (o : Option Session). found.ok o) (open_is p.0 s p.2))
   where
-    told : (b : Bool) → cond b (found.ok (flat (slice_get world.sessions session))) (Err (plain Einval)) ≡ Ok (Some s) → IsCaller s
-    told true f = caller_at world.sessions session s all (flat_is (slice_get world.sessions session) s (same_ok _ _ f))
+    told : (b : Bool) → cond b (found.ok (flat (slice_get world.sessions session))) (Err (plain Einval)) ≡ Ok (Some s) → slice_get world.sessions session ≡ Some (Some s)
+    told true f = flat_is (slice_get world.sessions session) s (same_ok _ _ f)
     told false f = cc
 
--- what a call comes to, by the call that it was
+caller_is : (world : World) (session : ℕ) (s : Session) → AllByRecursion IsSession world.sessions → logged_in world session ≡ Ok s → IsCaller s
+caller_is world session s all e = caller_at world.sessions session s all (seat_of world session s e)
+
+-- an answer that isn't a refusal
+abbrev pub IsAnswer : Reply → Type 0
+IsAnswer answer = (refusal : Refusal) → reply.Refused refusal ≡ answer → ⊥
+
+-- what a call comes to
 pub data IsDecided (limits : Limits) (world : World) (session : ℕ) (c : Call) (o : Outcome) : Type 0 where
   Login : (s : Session) → (IsCall c → IsCaller s) → o ≡ opens s → IsDecided limits world session c o
-  Tells : (answer : Status) → o ≡ tells (reply.Status answer) → IsDecided limits world session c o
+  Masks : (s : Session) (mask : Mode) → o ≡ umask_outcome s mask → IsDecided limits world session c o
+  Tells : (answer : Reply) → IsAnswer answer → o ≡ tells answer → IsDecided limits world session c o
   Makes : (s : Session) (names : List (List ℕ)) (mode : Mode) → logged_in world session ≡ Ok s → IsMode mode → AreNames names → Made limits world.live s names mode o → IsDecided limits world session c o
+  Assigns : (is : SetsSome limits o) → (IsWorld limits world → is_some (owned world.live is.0 is.1) ≡ true) → IsDecided limits world session c o
 
-login_decided : (limits : Limits) (world : World) (session : ℕ) (c : Call) (s : Session) (o : Outcome) → ready world session c ≡ Ok (calls.Login s) → opens s ≡ o → IsDecided limits world session c o
-login_decided limits world session (call.Login uid gid groups) s o e f =
-    let p = bind_ok (logged_out world session) (λ _. found.ok (calls.Login (new_session uid gid groups))) (calls.Login s) e in
-    let same : calls.Login (new_session uid gid groups) ≡ calls.Login s = same_ok _ _ p.2 in
-    let who : new_session uid gid groups ≡ s = cc same in
-    Login s (λ k. subst IsCaller who (record { uid = k.0; gid = k.1 })) (sym f)
-login_decided limits world session (call.Stat path) s o e f =
-    let p = bind_ok (logged_in world session) (λ x. path_argument path >>= (λ ns. found.ok (calls.Stat x ns))) (calls.Login s) e in
-    let q = bind_ok (path_argument path) (λ ns. found.ok (calls.Stat p.0 ns)) (calls.Login s) p.2 in
-    let never : calls.Stat p.0 q.0 ≡ calls.Login s = same_ok _ _ q.2 in cc
-login_decided limits world session (call.Mkdir path m) s o e f =
-    let p = bind_ok (logged_in world session) (λ x. path_argument path >>= (λ ns. new_mode_argument m >>= (λ bits. found.ok (calls.Mkdir x ns bits)))) (calls.Login s) e in
-    let q = bind_ok (path_argument path) (λ ns. new_mode_argument m >>= (λ bits. found.ok (calls.Mkdir p.0 ns bits))) (calls.Login s) p.2 in
-    let r = bind_ok (new_mode_argument m) (λ bits. found.ok (calls.Mkdir p.0 q.0 bits)) (calls.Login s) q.2 in
-    let never : calls.Mkdir p.0 q.0 r.0 ≡ calls.Login s = same_ok _ _ r.2 in cc
+module _ (limits : Limits) (world : World) (session : ℕ) where
+  abbrev trees : ViewedTrees
+  trees = viewed_trees (trees_of world)
 
-mkdir_decided : (limits : Limits) (world : World) (session : ℕ) (c : Call) (s : Session) (names : List (List ℕ)) (mode : Mode) (o : Outcome) → ready world session c ≡ Ok (calls.Mkdir s names mode) → Made limits world.live s names mode o → IsDecided limits world session c o
-mkdir_decided limits world session (call.Login uid gid groups) s names mode o e f =
-    let p = bind_ok (logged_out world session) (λ _. found.ok (calls.Login (new_session uid gid groups))) (calls.Mkdir s names mode) e in
-    let never : calls.Login (new_session uid gid groups) ≡ calls.Mkdir s names mode = same_ok _ _ p.2 in cc
-mkdir_decided limits world session (call.Stat path) s names mode o e f =
-    let p = bind_ok (logged_in world session) (λ x. path_argument path >>= (λ ns. found.ok (calls.Stat x ns))) (calls.Mkdir s names mode) e in
-    let q = bind_ok (path_argument path) (λ ns. found.ok (calls.Stat p.0 ns)) (calls.Mkdir s names mode) p.2 in
-    let never : calls.Stat p.0 q.0 ≡ calls.Mkdir s names mode = same_ok _ _ q.2 in cc
-mkdir_decided limits world session (call.Mkdir path m) s names mode o e f =
-    let p = bind_ok (logged_in world session) (λ x. path_argument path >>= (λ ns. new_mode_argument m >>= (λ bits. found.ok (calls.Mkdir x ns bits)))) (calls.Mkdir s names mode) e in
-    let q = bind_ok (path_argument path) (λ ns. new_mode_argument m >>= (λ bits. found.ok (calls.Mkdir p.0 ns bits))) (calls.Mkdir s names mode) p.2 in
-    let r = bind_ok (new_mode_argument m) (λ bits. found.ok (calls.Mkdir p.0 q.0 bits)) (calls.Mkdir s names mode) q.2 in
-    let same : calls.Mkdir p.0 q.0 r.0 ≡ calls.Mkdir s names mode = same_ok _ _ r.2 in
-    let caller : p.0 ≡ s = cc same in
-    let called : q.0 ≡ names = cc same in
-    let moded : r.0 ≡ mode = cc same in
-    Makes s names mode (p.1 ∙ ap (λ (x : Session). found.ok x) caller) (subst IsMode moded (mode_is m r.0 r.1)) (subst AreNames called (path_names path q.0 q.1)) f
+  -- what follows the tests of the session and of the arguments
+  abbrev ReadyTo : Call → Outcome → Type 0
+  ReadyTo c o = (r : Ready) × (ready world session c ≡ Ok r) × (outcome_of limits world r ≡ Ok o)
 
-pub decided_is : (limits : Limits) (world : World) (session : ℕ) (c : Call) (o : Outcome) → decision limits world session c ≡ Ok o → IsDecided limits world session c o
-decided_is limits world session c o e = let r = bind_ok (ready world session c) (outcome_of limits world) o e in told r.0 r.1 r.2
-  where
-    told : (r : Ready) → ready world session c ≡ Ok r → outcome_of limits world r ≡ Ok o → IsDecided limits world session c o
-    told (calls.Login s) f g = login_decided limits world session c s o f (same_ok _ _ g)
-    told (calls.Stat s names) f g = let t = stat_is world s names o g in Tells t.0 t.1
-    told (calls.Mkdir s names mode) f g = mkdir_decided limits world session c s names mode o f (mkdir_is limits world s names mode o g)
+  goes_on : (r q : Ready) (o : Outcome) → found.ok r ≡ Ok q → outcome_of limits world q ≡ Ok o → outcome_of limits world r ≡ Ok o
+  goes_on r q o same e = subst (λ (x : Ready). outcome_of limits world x ≡ Ok o) (sym (same_ok r q same)) e
+
+  login_decided : (uid gid : ℕ) (groups : List ℕ) (o : Outcome) → ReadyTo (call.Login uid gid groups) o → IsDecided limits world session (call.Login uid gid groups) o
+  login_decided uid gid groups o r =
+      let s = new_session uid gid groups in
+      let p = bind_ok (logged_out world session) (λ _. found.ok (calls.Login s)) r.0 r.1 in
+      Login s (λ k. record { uid = k.0; gid = k.1 }) (sym (same_ok _ _ (goes_on (calls.Login s) r.0 o p.2 r.2)))
+
+  umask_decided : (mask : ℕ) (o : Outcome) → ReadyTo (call.Umask mask) o → IsDecided limits world session (call.Umask mask) o
+  umask_decided mask o r =
+      let p = bind_ok (logged_in world session) (λ s. new_mode_argument mask >>= (λ bits. found.ok (calls.Umask s bits))) r.0 r.1 in
+      let q = bind_ok (new_mode_argument mask) (λ bits. found.ok (calls.Umask p.0 bits)) r.0 p.2 in
+      Masks p.0 q.0 (sym (same_ok _ _ (goes_on (calls.Umask p.0 q.0) r.0 o q.2 r.2)))
+
+  mkdir_decided : (path : List ℕ) (mode : ℕ) (o : Outcome) → ReadyTo (call.Mkdir path mode) o → IsDecided limits world session (call.Mkdir path mode) o
+  mkdir_decided path mode o r =
+      let k = called world session path (λ s names. new_mode_argument mode >>= (λ bits. found.ok (calls.Mkdir s names bits))) r.0 r.1 in
+      let m = bind_ok (new_mode_argument mode) (λ bits. found.ok (calls.Mkdir k.caller k.names bits)) r.0 k.passed in
+      Makes k.caller k.names m.0 k.called_by (mode_is mode m.0 m.1) (path_names path k.names k.read)
+      (mkdir_is limits world k.caller k.names m.0 o (goes_on (calls.Mkdir k.caller k.names m.0) r.0 o m.2 r.2))
+
+  chmod_decided : (path : List ℕ) (mode : ℕ) (o : Outcome) → ReadyTo (call.Chmod path mode) o → IsDecided limits world session (call.Chmod path mode) o
+  chmod_decided path mode o r =
+      let k = called world session path (λ s names. mode_bits_argument mode >>= (λ bits. found.ok (calls.Chmod s names bits))) r.0 r.1 in
+      let m = bind_ok (mode_bits_argument mode) (λ bits. found.ok (calls.Chmod k.caller k.names bits)) r.0 k.passed in
+      let e = goes_on (calls.Chmod k.caller k.names m.0) r.0 o m.2 r.2 in
+      let is = chmod_some limits trees k.caller k.names m.0 o e in
+      Assigns is (λ whole. can_be_set limits world k.caller o (ShowsMode k.caller m.0) is (chmod_is limits world k.caller k.names mode m.0 o whole m.1 e))
+
+  stat_decided : (path : List ℕ) (o : Outcome) → ReadyTo (call.Stat path) o → IsDecided limits world session (call.Stat path) o
+  stat_decided path o r =
+      let k = called world session path (λ s names. found.ok (calls.Stat s names)) r.0 r.1 in
+      let t = stat_is world k.caller k.names o (goes_on (calls.Stat k.caller k.names) r.0 o k.passed r.2) in
+      Tells (reply.Status t.0) (λ refusal e. cc e) t.1
+
+  access_decided : (path : List ℕ) (want : access.Access) (o : Outcome) → ReadyTo (call.Access path want) o → IsDecided limits world session (call.Access path want) o
+  access_decided path want o r =
+      let k = called world session path (λ s names. found.ok (calls.Access s names want)) r.0 r.1 in
+      Tells reply.Done (λ refusal e. cc e) (access_tells trees k.caller k.names want o (goes_on (calls.Access k.caller k.names want) r.0 o k.passed r.2))
+
+  getacl_decided : (path : List ℕ) (kind : AclKind) (o : Outcome) → ReadyTo (call.GetAcl path kind) o → IsDecided limits world session (call.GetAcl path kind) o
+  getacl_decided path kind o r =
+      let k = called world session path (λ s names. found.ok (calls.GetAcl s names kind)) r.0 r.1 in
+      let t = getacl_tells trees k.caller k.names kind o (goes_on (calls.GetAcl k.caller k.names kind) r.0 o k.passed r.2) in
+      Tells (reply.Acl t.0) (λ refusal e. cc e) t.1
+
+  setacl_decided : (path : List ℕ) (kind : AclKind) (acl : List ℕ) (o : Outcome) → ReadyTo (call.SetAcl path kind acl) o → IsDecided limits world session (call.SetAcl path kind acl) o
+  setacl_decided path kind acl o r =
+      let k = called world session path (λ s names. acl_argument kind acl >>= (λ new. found.ok (calls.SetAcl s names new))) r.0 r.1 in
+      let a = bind_ok (acl_argument kind acl) (λ new. found.ok (calls.SetAcl k.caller k.names new)) r.0 k.passed in
+      let e = goes_on (calls.SetAcl k.caller k.names a.0) r.0 o a.2 r.2 in
+      let is = setacl_some limits trees k.caller k.names a.0 o e in
+      Assigns is (λ whole. can_be_set limits world k.caller o (SetsAcl a.0) is (setacl_is limits world k.caller k.names kind acl a.0 o whole a.1 e))
+
+  by_call : (c : Call) (o : Outcome) → ReadyTo c o → IsDecided limits world session c o
+  by_call (call.Login uid gid groups) o r = login_decided uid gid groups o r
+  by_call (call.Umask mask) o r = umask_decided mask o r
+  by_call (call.Mkdir path mode) o r = mkdir_decided path mode o r
+  by_call (call.Chmod path mode) o r = chmod_decided path mode o r
+  by_call (call.Stat path) o r = stat_decided path o r
+  by_call (call.Access path want) o r = access_decided path want o r
+  by_call (call.GetAcl path kind) o r = getacl_decided path kind o r
+  by_call (call.SetAcl path kind acl) o r = setacl_decided path kind acl o r
+
+  pub decided_is : (c : Call) (o : Outcome) → decision limits world session c ≡ Ok o → IsDecided limits world session c o
+  decided_is c o e = by_call c o (bind_ok (ready world session c) (outcome_of limits world) o e)
 
 -- the change that mkdir has decided can be applied
 module _ (limits : Limits) (tree : Tree) (s : Session) (names : List (List ℕ)) (mode : Mode) (o : Outcome) (number : ℕ) (some_links : 0 < limits.links) (whole : IsTree limits tree) (caller : IsCaller s) (bits : IsMode mode) (are : AreNames names) (p : Made limits tree s names mode o) (free : IsNumber limits tree number) where
@@ -243,7 +291,9 @@ decided_applies limits world session c o number some_links whole e free = told (
   where
     told : IsDecided limits world session c o → is_some (changed limits number o.change world.live) ≡ true
     told (Login s k f) = ap (λ (x : Outcome). is_some (changed limits number x.change world.live)) f
-    told (Tells a f) = ap (λ (x : Outcome). is_some (changed limits number x.change world.live)) f
+    told (Masks s mask f) = ap (λ (x : Outcome). is_some (changed limits number x.change world.live)) f
+    told (Tells a k f) = ap (λ (x : Outcome). is_some (changed limits number x.change world.live)) f
+    told (Assigns is can) = ap (λ (x : Outcome). is_some (changed limits number x.change world.live)) is.2 ∙ can whole
     told (Makes s names mode k b n p) =
         let is = subst (λ (x : Outcome). IsNumberFor limits world.live number x.change) p.made free in
         ap (λ (x : Outcome). is_some (changed limits number x.change world.live)) p.made

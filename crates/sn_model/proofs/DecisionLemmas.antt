@@ -30,7 +30,7 @@ use Rattle.sn_model.specs.declared.session.Session.{Session}
 use Rattle.sn_model.specs.Tree.{Tree, Node, attributes_of, link_to, names_in, least_unused, viewed}
 use Rattle.sn_model.specs.World.{World, trees_of, viewed_trees}
 use Rattle.sn_walk.specs.Chains.{◌>>=◌}
-use Rattle.sn_model.specs.Tests.{plain, prefix, walked, there, not_present, vacant, live, rights_of, unless_denied, granted, write, writable_parent, has_room, full}
+use Rattle.sn_model.specs.Tests.{plain, logged_in, path_argument, prefix, walked, there, not_present, vacant, live, rights_of, unless_denied, granted, write, writable_parent, has_room, full}
 use Rattle.sn_model.specs.declared.reply.Reply.TheVariants as reply
 use Rattle.sn_limits.specs.declared.limits.Limits.{Limits}
 use Rattle.sn_model.specs.Outcomes.{Outcome, tells, makes}
@@ -161,3 +161,17 @@ unfolding stat_outcome
 stat_is world s names o e =
     let x = bind_ok (full (viewed_trees (trees_of world)) s.cred 1 names) (λ (x : Found). ok (tells (reply.Status (status_of (number_of x.object) x.attributes)))) o e in
     (status_of (number_of x.0.object) x.0.attributes, sym (same_ok _ o x.2))
+
+-- a call of a session that is logged in, whose first argument is a path
+pub record IsCalled {A : Type 0} (world : World) (session : ℕ) (path : List ℕ) (more : Session → List (List ℕ) → Result A Refusal) (x : A) : Type 0 where
+  pub caller : Session
+  pub names : List (List ℕ)
+  pub called_by : logged_in world session ≡ Ok caller
+  pub read : path_argument path ≡ Ok names
+  pub passed : more caller names ≡ Ok x
+
+pub called : {A : Type 0} (world : World) (session : ℕ) (path : List ℕ) (more : Session → List (List ℕ) → Result A Refusal) (x : A) → (logged_in world session >>= (λ s. path_argument path >>= (λ names. more s names))) ≡ Ok x → IsCalled world session path more x
+called world session path more x e =
+    let p = bind_ok (logged_in world session) (λ s. path_argument path >>= (λ names. more s names)) x e in
+    let q = bind_ok (path_argument path) (λ names. more p.0 names) x p.2 in
+    record { caller = p.0; names = q.0; called_by = p.1; read = q.1; passed = q.2 }

@@ -1,4 +1,4 @@
--- Each EACCES of a call is of a place where the access rule denies.
+-- Each EACCES of a walk, and of a call that makes a node or looks at one, is of a place where the access rule denies.
 use Rattle.std.proofs.Common.{◌≡◌, ◌⊎◌, inl, inr, ℕ, suc, ◌+◌, ◌*◌, Bool, true, false, cond, List, [], ◌∷◌, take, Option, Some, None, Result, Ok, Err, nat_lt, nat_le, is_none, refl, sym, ap, ◌∙◌, arith}
 use Rattle.std.specs.Option.{option_and_then}
 use Rattle.std.specs.Prelude.{slice_get}
@@ -330,7 +330,7 @@ module _ (limits : Limits) (world : World) (s : Session) (names : List (List ℕ
       told (inl h) = absurd (not_present_other w r h is)
       told (inr h) = in_live h.0 (vacant_at trees s.cred names w h.0 f h.1) h.2
 
-  mkdir_denied : mkdir_outcome limits (seen limits world) s names mode ≡ Err r → Denied_there
+  pub mkdir_denied : mkdir_outcome limits (seen limits world) s names mode ≡ Err r → Denied_there
   unfolding mkdir_outcome
   mkdir_denied e = told (bind_err (prefix trees s.cred 1 names) (λ w. not_present w >>= alive) r e)
     where
@@ -341,152 +341,10 @@ module _ (limits : Limits) (world : World) (s : Session) (names : List (List ℕ
   abbrev stat_tells : Found → Result Outcome Refusal
   stat_tells found = Ok (tells (reply.Status (status_of (number_of found.object) found.attributes)))
 
-  stat_denied : stat_outcome trees s names ≡ Err r → Denied_there
+  pub stat_denied : stat_outcome trees s names ≡ Err r → Denied_there
   unfolding stat_outcome
   stat_denied e = told (bind_err (full trees s.cred 1 names) stat_tells r e)
     where
       told : (full trees s.cred 1 names ≡ Err r) ⊎ ((x : Found) × (full trees s.cred 1 names ≡ Ok x) × (stat_tells x ≡ Err r)) → Denied_there
       told (inl h) = full_denied trees s.cred 1 names r h is
       told (inr h) = let never = h.2 in cc never
-
--- ---- sessions and arguments
-
-session_other : (world : World) (session : ℕ) (r : Refusal) → session_at world session ≡ Err r → r.errno ≡ Eacces → ⊥
-session_other world session r e is = told (nat_lt session 64) e
-  where
-    told : (b : Bool) → cond b (Ok (flat (slice_get world.sessions session))) (Err (plain Einval)) ≡ Err r → ⊥
-    told true f = cc f
-    told false f = let never : Einval ≡ Eacces = (let same : plain Einval ≡ r = cc f in ap (λ (x : Refusal). x.errno) same ∙ is) in cc never
-
-open_other : (o : Option Session) (r : Refusal) → is_open o ≡ Err r → r.errno ≡ Eacces → ⊥
-open_other None r e is = let never : Ebadf ≡ Eacces = (let same : plain Ebadf ≡ r = cc e in ap (λ (x : Refusal). x.errno) same ∙ is) in cc never
-open_other (Some s) r e is = cc e
-
-free_other : (o : Option Session) (r : Refusal) → is_free o ≡ Err r → r.errno ≡ Eacces → ⊥
-free_other None r e is = cc e
-free_other (Some s) r e is = let never : Ebusy ≡ Eacces = (let same : plain Ebusy ≡ r = cc e in ap (λ (x : Refusal). x.errno) same ∙ is) in cc never
-
-path_other : (word : List ℕ) (r : Refusal) → path_argument word ≡ Err r → r.errno ≡ Eacces → ⊥
-path_other word r e is = told (parsed word) e
-  where
-    told : (p : Result (List (List ℕ)) PathFault) → read_path p ≡ Err r → ⊥
-    told (Ok names) f = cc f
-    told (Err Misspelt) f = let never : Einval ≡ Eacces = (let same : plain Einval ≡ r = cc f in ap (λ (x : Refusal). x.errno) same ∙ is) in cc never
-    told (Err TooLong) f = let never : Enametoolong ≡ Eacces = (let same : plain Enametoolong ≡ r = cc f in ap (λ (x : Refusal). x.errno) same ∙ is) in cc never
-
-mode_other : (bits : ℕ) (r : Refusal) → new_mode_argument bits ≡ Err r → r.errno ≡ Eacces → ⊥
-mode_other bits r e is = told (nat_lt bits 512) e
-  where
-    told : (b : Bool) → cond b (Ok (mode_from_bits bits)) (Err (plain Einval)) ≡ Err r → ⊥
-    told true f = cc f
-    told false f = let never : Einval ≡ Eacces = (let same : plain Einval ≡ r = cc f in ap (λ (x : Refusal). x.errno) same ∙ is) in cc never
-
--- a chain is refused so only where one of its tests is
-chain_other : {A B : Type 0} (a : Result A Refusal) (f : A → Result B Refusal) (r : Refusal) → (a ≡ Err r → ⊥) → ((x : A) → f x ≡ Err r → ⊥) → (a >>= f) ≡ Err r → ⊥
-chain_other a f r first more e = told (bind_err a f r e)
-  where
-    told : (a ≡ Err r) ⊎ ((x : _) × (a ≡ Ok x) × (f x ≡ Err r)) → ⊥
-    told (inl h) = first h
-    told (inr h) = more h.0 h.2
-
-caller_other : (world : World) (session : ℕ) (r : Refusal) → logged_in world session ≡ Err r → r.errno ≡ Eacces → ⊥
-caller_other world session r e is = chain_other (session_at world session) is_open r (λ h. session_other world session r h is) (λ o h. open_other o r h is) e
-
-abbrev ready_ok : calls.Ready → Result calls.Ready Refusal
-ready_ok x = Ok x
-
-never_ok : (x : calls.Ready) (r : Refusal) → ready_ok x ≡ Err r → ⊥
-never_ok x r e = cc e
-
-ready_other : (world : World) (session : ℕ) (c : Call) (r : Refusal) → ready world session c ≡ Err r → r.errno ≡ Eacces → ⊥
-ready_other world session (call.Login uid gid groups) r e is =
-    chain_other (logged_out world session) (λ _. ready_ok (calls.Login (new_session uid gid groups))) r
-    (chain_other (session_at world session) is_free r (λ h. session_other world session r h is) (λ o h. free_other o r h is)) (λ _ h. never_ok _ r h) e
-ready_other world session (call.Mkdir path mode) r e is =
-    chain_other (logged_in world session) (λ s. path_argument path >>= (λ names. new_mode_argument mode >>= (λ bits. ready_ok (calls.Mkdir s names bits)))) r (λ h. caller_other world session r h is)
-    (λ s. chain_other (path_argument path) (λ names. new_mode_argument mode >>= (λ bits. ready_ok (calls.Mkdir s names bits))) r (λ h. path_other path r h is)
-    (λ names. chain_other (new_mode_argument mode) (λ bits. ready_ok (calls.Mkdir s names bits)) r (λ h. mode_other mode r h is) (λ bits h. never_ok _ r h))) e
-ready_other world session (call.Stat path) r e is =
-    chain_other (logged_in world session) (λ s. path_argument path >>= (λ names. ready_ok (calls.Stat s names))) r (λ h. caller_other world session r h is)
-    (λ s. chain_other (path_argument path) (λ names. ready_ok (calls.Stat s names)) r (λ h. path_other path r h is) (λ names h. never_ok _ r h)) e
-
--- who called, and which path
-record IsOfPath (world : World) (session : ℕ) (c : Call) (s : Session) (names : List (List ℕ)) : Type 0 where
-  pub word : List ℕ
-  pub called_by : logged_in world session ≡ Ok s
-  pub path : path_of c 1 ≡ Some word
-  pub spelled : parsed word ≡ Ok names
-
-read_ok : (p : Result (List (List ℕ)) PathFault) (names : List (List ℕ)) → read_path p ≡ Ok names → p ≡ Ok names
-read_ok (Ok all) names e = let same : all ≡ names = cc e in ap (λ (x : List (List ℕ)). Ok x) same
-read_ok (Err fault) names e = cc e
-
-same_ready : (x y : calls.Ready) → ready_ok x ≡ Ok y → x ≡ y
-same_ready x y e = cc e
-
-of_path : (world : World) (session : ℕ) (c : Call) (word : List ℕ) (s t : Session) (names all : List (List ℕ)) → path_of c 1 ≡ Some word → logged_in world session ≡ Ok t → path_argument word ≡ Ok all → t ≡ s → all ≡ names → IsOfPath world session c s names
-of_path world session c word s t names all is by read caller same = record {
-  word = word;
-  called_by = by ∙ ap (λ (x : Session). Ok x) caller;
-  path = is;
-  spelled = read_ok (parsed word) all read ∙ ap (λ (x : List (List ℕ)). Ok x) same;
-}
-
-ready_mkdir : (world : World) (session : ℕ) (c : Call) (s : Session) (names : List (List ℕ)) (mode : Mode) → ready world session c ≡ Ok (calls.Mkdir s names mode) → IsOfPath world session c s names
-ready_mkdir world session (call.Login uid gid groups) s names mode e =
-    let p = bind_ok (logged_out world session) (λ _. ready_ok (calls.Login (new_session uid gid groups))) (calls.Mkdir s names mode) e in
-    let never = same_ready _ _ p.2 in cc never
-ready_mkdir world session (call.Stat path) s names mode e =
-    let p = bind_ok (logged_in world session) (λ x. path_argument path >>= (λ ns. ready_ok (calls.Stat x ns))) (calls.Mkdir s names mode) e in
-    let q = bind_ok (path_argument path) (λ ns. ready_ok (calls.Stat p.0 ns)) (calls.Mkdir s names mode) p.2 in
-    let never = same_ready _ _ q.2 in cc never
-ready_mkdir world session (call.Mkdir path m) s names mode e =
-    let p = bind_ok (logged_in world session) (λ x. path_argument path >>= (λ ns. new_mode_argument m >>= (λ bits. ready_ok (calls.Mkdir x ns bits)))) (calls.Mkdir s names mode) e in
-    let q = bind_ok (path_argument path) (λ ns. new_mode_argument m >>= (λ bits. ready_ok (calls.Mkdir p.0 ns bits))) (calls.Mkdir s names mode) p.2 in
-    let b = bind_ok (new_mode_argument m) (λ bits. ready_ok (calls.Mkdir p.0 q.0 bits)) (calls.Mkdir s names mode) q.2 in
-    let same : calls.Mkdir p.0 q.0 b.0 ≡ calls.Mkdir s names mode = same_ready _ _ b.2 in
-    let caller : p.0 ≡ s = cc same in
-    let called : q.0 ≡ names = cc same in
-    of_path world session (call.Mkdir path m) path s p.0 names q.0 refl p.1 q.1 caller called
-
-ready_stat : (world : World) (session : ℕ) (c : Call) (s : Session) (names : List (List ℕ)) → ready world session c ≡ Ok (calls.Stat s names) → IsOfPath world session c s names
-ready_stat world session (call.Login uid gid groups) s names e =
-    let p = bind_ok (logged_out world session) (λ _. ready_ok (calls.Login (new_session uid gid groups))) (calls.Stat s names) e in
-    let never = same_ready _ _ p.2 in cc never
-ready_stat world session (call.Mkdir path m) s names e =
-    let p = bind_ok (logged_in world session) (λ x. path_argument path >>= (λ ns. new_mode_argument m >>= (λ bits. ready_ok (calls.Mkdir x ns bits)))) (calls.Stat s names) e in
-    let q = bind_ok (path_argument path) (λ ns. new_mode_argument m >>= (λ bits. ready_ok (calls.Mkdir p.0 ns bits))) (calls.Stat s names) p.2 in
-    let b = bind_ok (new_mode_argument m) (λ bits. ready_ok (calls.Mkdir p.0 q.0 bits)) (calls.Stat s names) q.2 in
-    let never = same_ready _ _ b.2 in cc never
-ready_stat world session (call.Stat path) s names e =
-    let p = bind_ok (logged_in world session) (λ x. path_argument path >>= (λ ns. ready_ok (calls.Stat x ns))) (calls.Stat s names) e in
-    let q = bind_ok (path_argument path) (λ ns. ready_ok (calls.Stat p.0 ns)) (calls.Stat s names) p.2 in
-    let same : calls.Stat p.0 q.0 ≡ calls.Stat s names = same_ready _ _ q.2 in
-    let caller : p.0 ≡ s = cc same in
-    let called : q.0 ≡ names = cc same in
-    of_path world session (call.Stat path) path s p.0 names q.0 refl p.1 q.1 caller called
-
-is_denied : (world : World) (session : ℕ) (c : Call) (r : Refusal) (s : Session) (names : List (List ℕ)) → IsOfPath world session c s names → IsDeniedAt (viewed_trees (trees_of world)) s.cred 1 names r → IsDenied world session c r
-is_denied world session c r s names p d = record {
-  denial = d.denial;
-  carried = d.carried;
-  caller = s;
-  called_by = p.called_by;
-  word = p.word;
-  path = ap (path_of c) d.path_is ∙ p.path;
-  names = names;
-  spelled = p.spelled;
-  by_rule = d.by_rule;
-}
-
-pub access_denied : (limits : Limits) (world : World) (session : ℕ) (c : Call) (r : Refusal) → decision limits world session c ≡ Err r → r.errno ≡ Eacces → IsDenied world session c r
-access_denied limits world session c r e is = told (bind_err (ready world session c) (outcome_of limits world) r e)
-  where
-    decided : (x : calls.Ready) → ready world session c ≡ Ok x → outcome_of limits world x ≡ Err r → IsDenied world session c r
-    decided (calls.Login s) f g = let never = g in cc never
-    decided (calls.Mkdir s names mode) f g = is_denied world session c r s names (ready_mkdir world session c s names mode f) (mkdir_denied limits world s names mode r is g)
-    decided (calls.Stat s names) f g = is_denied world session c r s names (ready_stat world session c s names f) (stat_denied limits world s names (record { owner = 0; group = 0; other = 0 }) r is g)
-
-    told : (ready world session c ≡ Err r) ⊎ ((x : calls.Ready) × (ready world session c ≡ Ok x) × (outcome_of limits world x ≡ Err r)) → IsDenied world session c r
-    told (inl h) = absurd (ready_other world session c r h is)
-    told (inr h) = decided h.0 h.1 h.2

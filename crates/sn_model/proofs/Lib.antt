@@ -26,3 +26,5 @@ pub mod ExampleLemmas
 pub mod StepLemmas
 pub mod AccessCallLemmas
 pub mod AccessDenialLemmas
+pub mod CallDenialLemmas
+pub mod UmaskLemmas

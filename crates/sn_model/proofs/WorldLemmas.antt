@@ -11,7 +11,8 @@ use Rattle.std.proofs.lemmas.Map.Lookups.{exact_unsigned}
 use Rattle.sn_limits.specs.declared.kind.Kind.TheVariants.{File, Directory}
 use Rattle.sn_limits.specs.Versions.{version_1}
 use Rattle.sn_model.specs.declared.call.Call.{Call}
-use Rattle.sn_model.specs.declared.change.Change.TheVariants.{Make}
+use Rattle.sn_acl.specs.declared.modes.Mode.{Mode}
+use Rattle.sn_model.specs.declared.change.Change.TheVariants.{Make, SetAttributes}
 use Rattle.sn_model.specs.declared.link.Link.{Link}
 use Rattle.sn_model.specs.declared.reply.Refusal.{Refusal}
 use Rattle.sn_model.specs.declared.reply.Reply.{Reply}
@@ -21,56 +22,94 @@ use Rattle.sn_walk.specs.declared.object.Home.{Home}
 use Rattle.sn_walk.specs.declared.object.Home.TheVariants.{Live, Frozen}
 use Rattle.sn_model.specs.World.{World, descriptor_cmp, new_root, new_tree, new_world, tree_in, trees_of}
 use Rattle.sn_model.specs.NameTree.{HasKind, IsHierarchy, IsNode, IsTree, Reaches, root}
-use Rattle.sn_model.specs.Changes.{node_with}
+use Rattle.sn_model.specs.Changes.{node_with, put_node}
 use Rattle.sn_limits.specs.declared.limits.Limits.{Limits}
 use Rattle.sn_model.specs.Outcomes.{Outcome}
 use Rattle.sn_model.specs.Calls.{new_directory, last_name}
-use Rattle.sn_model.specs.Steps.{Becomes, Comes, Step, decision, with_session, with_live}
+use Rattle.sn_model.specs.Steps.{Becomes, Comes, Step, decision, masked, with_session, with_umask, with_live}
 use Rattle.sn_model.specs.Worlds.{IsCaller, IsSession, IsCall, IsWorld}
 use Rattle.sn_model.proofs.LinkLemmas.{exact_links, links_total}
 use Rattle.sn_model.proofs.MapLemmas.{same_or_apart, get_inserted, get_other}
 use Rattle.sn_model.proofs.CountLemmas.{count_none}
 use Rattle.sn_model.proofs.NameLemmas.{names_for_more, names_for_other}
 use Rattle.sn_model.proofs.ChainLemmas.{some_same}
-use Rattle.sn_model.proofs.PartLemmas.{made_is}
+use Rattle.sn_model.proofs.PartLemmas.{made_is, owned_is}
 use Rattle.sn_model.proofs.MoveLemmas.{kind_at, some_node, is_there}
 use Rattle.sn_acl.proofs.Validity.{valid-from_test}
 use Rattle.sn_model.proofs.TreeLemmas.{tree_kept}
 use Rattle.sn_model.proofs.DecidedLemmas as decided
 use Rattle.sn_model.proofs.DecidedLemmas.{IsDecided, decided_is}
 
--- a session that is opened leaves the others
-all_set : (sessions : List (Option Session)) (i : ℕ) (s : Session) → IsCaller s → AllByRecursion IsSession sessions → AllByRecursion IsSession (slice_set sessions i (Some s))
-all_set [] i s k all = tt
-all_set (one ∷ sessions) zero s k all = (k, all.1)
-all_set (one ∷ sessions) (suc i) s k all = (all.0, all_set sessions i s k all.1)
+-- a session that is opened, or gets another umask, leaves the others
+all_set : (sessions : List (Option Session)) (i : ℕ) (o : Option Session) → IsSession o → AllByRecursion IsSession sessions → AllByRecursion IsSession (slice_set sessions i o)
+all_set [] i o k all = tt
+all_set (one ∷ sessions) zero o k all = (k, all.1)
+all_set (one ∷ sessions) (suc i) o k all = (all.0, all_set sessions i o k all.1)
 
-still_in : (sessions : List (Option Session)) (i j : ℕ) (s : Session) → IsSomeAnd (slice_get sessions j) (λ o. is_some o ≡ true) → IsSomeAnd (slice_get (slice_set sessions i (Some s)) j) (λ o. is_some o ≡ true)
-still_in [] i j s h = h
-still_in (one ∷ sessions) zero zero s h = refl
-still_in (one ∷ sessions) zero (suc j) s h = h
-still_in (one ∷ sessions) (suc i) zero s h = h
-still_in (one ∷ sessions) (suc i) (suc j) s h = still_in sessions i j s h
+abbrev IsIn : List (Option Session) → ℕ → Type 0
+IsIn sessions i = IsSomeAnd (slice_get sessions i) (λ o. is_some o ≡ true)
+
+still_in : (sessions : List (Option Session)) (i j : ℕ) (o : Option Session) → (IsIn sessions i → is_some o ≡ true) → IsIn sessions j → IsIn (slice_set sessions i o) j
+still_in [] i j o k h = h
+still_in (one ∷ sessions) zero zero o k h = k h
+still_in (one ∷ sessions) zero (suc j) o k h = h
+still_in (one ∷ sessions) (suc i) zero o k h = h
+still_in (one ∷ sessions) (suc i) (suc j) o k h = still_in sessions i j o k h
+
+masked_is : (sessions : List (Option Session)) (i : ℕ) (mask : Mode) → AllByRecursion IsSession sessions → IsSession (masked mask (slice_get sessions i))
+masked_is [] i mask all = tt
+masked_is (None ∷ sessions) zero mask all = tt
+masked_is (Some s ∷ sessions) zero mask all = record { uid = all.0.uid; gid = all.0.gid }
+masked_is (one ∷ sessions) (suc i) mask all = masked_is sessions i mask all.1
+
+masked_in : (mask : Mode) (o : Option (Option Session)) → IsSomeAnd o (λ s. is_some s ≡ true) → is_some (masked mask o) ≡ true
+masked_in mask None h = absurd h
+masked_in mask (Some None) h = h
+masked_in mask (Some (Some s)) h = refl
 
 -- the tree of an open file, where only sessions change, or only the live tree
 with_files : (a b : World) (home : Home) (number : ℕ) → ((n : ℕ) → HasKind a.live n File → HasKind b.live n File) → a.frozen ≡ b.frozen → IsSomeAnd (tree_in (trees_of a) home) (λ tree. HasKind tree number File) → IsSomeAnd (tree_in (trees_of b) home) (λ tree. HasKind tree number File)
 with_files a b Live number live frozen h = live number h
 with_files a b (Frozen name) number live frozen h = subst (λ f. IsSomeAnd (map.get f name) (λ tree. HasKind tree number File)) frozen h
 
-pub opened : (limits : Limits) (world : World) (session : ℕ) (s : Session) → IsWorld limits world → IsCaller s → IsWorld limits (with_session world session s)
-opened limits world session s w k = record {
+seated : (limits : Limits) (world : World) (session : ℕ) (o : Option Session) → IsWorld limits world → IsSession o → (IsIn world.sessions session → is_some o ≡ true) → IsWorld limits (record world { sessions = slice_set world.sessions session o })
+seated limits world session o w k stays = record {
   live = w.live;
   frozen = w.frozen;
   few_snapshots = w.few_snapshots;
-  count = length-set world.sessions session (Some s) ∙ w.count;
-  callers = all_set world.sessions session s k w.callers;
+  count = length-set world.sessions session o ∙ w.count;
+  callers = all_set world.sessions session o k w.callers;
   open_files = λ i fd d e. let f = w.open_files i fd d e in record {
-    caller = still_in world.sessions session i s f.caller;
+    caller = still_in world.sessions session i o stays f.caller;
     number = f.number;
-    file = with_files world (with_session world session s) d.home d.number (λ n h. h) refl f.file;
+    file = with_files world (record world { sessions = slice_set world.sessions session o }) d.home d.number (λ n h. h) refl f.file;
     offset = f.offset;
   };
   held = w.held;
+}
+
+pub opened : (limits : Limits) (world : World) (session : ℕ) (s : Session) → IsWorld limits world → IsCaller s → IsWorld limits (with_session world session s)
+opened limits world session s w k = seated limits world session (Some s) w k (λ h. refl)
+
+remasked : (limits : Limits) (world : World) (session : ℕ) (mask : Mode) → IsWorld limits world → IsWorld limits (with_umask world session mask)
+remasked limits world session mask w = seated limits world session (masked mask (slice_get world.sessions session)) w (masked_is world.sessions session mask w.callers) (masked_in mask (slice_get world.sessions session))
+
+-- another live tree, in which files stay, and one without names was one before
+with_tree : (limits : Limits) (world : World) (tree : Tree) → IsWorld limits world → IsTree limits tree → ((n : ℕ) → HasKind world.live n File → HasKind tree n File)
+    → ((n : ℕ) → HasKind tree n File → names_for tree n ≡ 0 → HasKind world.live n File × (names_for world.live n ≡ 0)) → IsWorld limits (with_live world tree)
+with_tree limits world tree w whole stays was = record {
+  live = whole;
+  frozen = w.frozen;
+  few_snapshots = w.few_snapshots;
+  count = w.count;
+  callers = w.callers;
+  open_files = λ i fd d e. let f = w.open_files i fd d e in record {
+    caller = f.caller;
+    number = f.number;
+    file = with_files world (with_live world tree) d.home d.number stays refl f.file;
+    offset = f.offset;
+  };
+  held = λ n h z. let before = was n h z in w.held n before.0 before.1;
 }
 
 -- a new node under a new name
@@ -81,35 +120,60 @@ module _ (limits : Limits) (world : World) (number : ℕ) (link : Link) (node : 
   file_stays : (n : ℕ) → HasKind world.live n File → HasKind next.live n File
   file_stays n h = kind_at _ _ File (get_other nat_cmp_total exact_unsigned world.live.nodes number node n (λ q. is_there _ File h (ap (map.get world.live.nodes) q ∙ unused))) h
 
-  held_next : (n : ℕ) → HasKind next.live n File → names_for next.live n ≡ 0 → (session : ℕ) × (fd : ℕ) × IsSomeAnd (map.get world.descriptors (session, fd)) (λ d. (d.home ≡ Live) × (d.number ≡ n))
-  held_next n h z = told (same_or_apart nat_cmp_total exact_unsigned n number)
+  was_nameless : (n : ℕ) → HasKind next.live n File → names_for next.live n ≡ 0 → HasKind world.live n File × (names_for world.live n ≡ 0)
+  was_nameless n h z = told (same_or_apart nat_cmp_total exact_unsigned n number)
     where
-      told : (n ≡ number) ⊎ (n ≢ number) → (session : ℕ) × (fd : ℕ) × IsSomeAnd (map.get world.descriptors (session, fd)) (λ d. (d.home ≡ Live) × (d.number ≡ n))
+      told : (n ≡ number) ⊎ (n ≢ number) → HasKind world.live n File × (names_for world.live n ≡ 0)
       told (inl q) = absurd (omega (arith, z, names_for_more world.live link number absent n (sym q)))
-      told (inr q) = w.held n (kind_at _ _ File (sym (get_other nat_cmp_total exact_unsigned world.live.nodes number node n q)) h) (sym (names_for_other world.live link number absent n (λ r. q (sym r))) ∙ z)
+      told (inr q) = (kind_at _ _ File (sym (get_other nat_cmp_total exact_unsigned world.live.nodes number node n q)) h, sym (names_for_other world.live link number absent n (λ r. q (sym r))) ∙ z)
 
   pub world_made : IsWorld limits (with_live world (with_node world.live number link node))
-  world_made = record {
-    live = whole;
-    frozen = w.frozen;
-    few_snapshots = w.few_snapshots;
-    count = w.count;
-    callers = w.callers;
-    open_files = λ i fd d e. let f = w.open_files i fd d e in record {
-      caller = f.caller;
-      number = f.number;
-      file = with_files world next d.home d.number file_stays refl f.file;
-      offset = f.offset;
-    };
-    held = held_next;
-  }
+  world_made = with_tree limits world (with_node world.live number link node) w whole file_stays was_nameless
+
+-- a node that other attributes are set of
+module _ (limits : Limits) (world : World) (number : ℕ) (node set : Node) (w : IsWorld limits world) (there : map.get world.live.nodes number ≡ Some node) (kind : set.kind ≡ node.kind) (whole : IsTree limits (put_node world.live number set)) where
+  abbrev assigned : World
+  assigned = with_live world (put_node world.live number set)
+
+  was_file : (n : ℕ) → HasKind assigned.live n File → HasKind world.live n File
+  was_file n h = told (same_or_apart nat_cmp_total exact_unsigned n number)
+    where
+      told : (n ≡ number) ⊎ (n ≢ number) → HasKind world.live n File
+      told (inl q) =
+          let s = some_node (map.get assigned.live.nodes n) File h in
+          let same = some_same set s.0 (sym (get_inserted nat_cmp_total world.live.nodes number set) ∙ ap (map.get assigned.live.nodes) (sym q) ∙ s.1) in
+          kind_at (map.get world.live.nodes n) (Some node) File (ap (map.get world.live.nodes) q ∙ there) (sym kind ∙ ap (λ (x : Node). x.kind) same ∙ s.2)
+      told (inr q) = kind_at _ _ File (sym (get_other nat_cmp_total exact_unsigned world.live.nodes number set n q)) h
+
+  still_file : (n : ℕ) → HasKind world.live n File → HasKind assigned.live n File
+  still_file n h = told (same_or_apart nat_cmp_total exact_unsigned n number)
+    where
+      told : (n ≡ number) ⊎ (n ≢ number) → HasKind assigned.live n File
+      told (inl q) =
+          let s = some_node (map.get world.live.nodes n) File h in
+          let same = some_same node s.0 (sym there ∙ ap (map.get world.live.nodes) (sym q) ∙ s.1) in
+          kind_at (map.get assigned.live.nodes n) (Some set) File (ap (map.get assigned.live.nodes) q ∙ get_inserted nat_cmp_total world.live.nodes number set) (kind ∙ ap (λ (x : Node). x.kind) same ∙ s.2)
+      told (inr q) = kind_at _ _ File (get_other nat_cmp_total exact_unsigned world.live.nodes number set n q) h
+
+  world_assigned : IsWorld limits (with_live world (put_node world.live number set))
+  world_assigned = with_tree limits world (put_node world.live number set) w whole still_file (λ n h z. (was_file n h, z))
 
 pub comes_world : (limits : Limits) (old new : World) (session : ℕ) (c : Call) (o : Outcome) → IsDecided limits old session c o → Comes limits old session o new → IsCall c → IsWorld limits old → IsWorld limits new
 comes_world limits old new session c o (decided.Login s k e) h numbers w =
     let h' = subst (λ (x : Outcome). Comes limits old session x new) e h in
     let live : h'.tree ≡ old.live = sym (some_same _ _ h'.applied) in
     subst (IsWorld limits) (sym (h'.world ∙ ap (λ (t : Tree). with_session (with_live old t) session s) live)) (opened limits old session s w (k numbers))
-comes_world limits old new session c o (decided.Tells a e) h numbers w =
+comes_world limits old new session c o (decided.Masks s mask e) h numbers w =
+    let h' = subst (λ (x : Outcome). Comes limits old session x new) e h in
+    let live : h'.tree ≡ old.live = sym (some_same _ _ h'.applied) in
+    subst (IsWorld limits) (sym (h'.world ∙ ap (λ (t : Tree). with_umask (with_live old t) session mask) live)) (remasked limits old session mask w)
+comes_world limits old new session c o (decided.Assigns is can) h numbers w =
+    let h' = subst (λ (x : Outcome). Comes limits old session x new) is.2 h in
+    let p = owned_is old.live is.0 is.1 h'.tree h'.applied in
+    let whole = tree_kept limits (SetAttributes is.0 is.1) old.live h'.tree w.live h'.applied in
+    subst (IsWorld limits) (sym (h'.world ∙ ap (with_live old) (sym p.gives)))
+    (world_assigned limits old is.0 p.node (node_with p.node.kind is.1 p.node.bytes) w p.there refl (subst (IsTree limits) (sym p.gives) whole))
+comes_world limits old new session c o (decided.Tells a k e) h numbers w =
     let h' = subst (λ (x : Outcome). Comes limits old session x new) e h in
     let live : h'.tree ≡ old.live = sym (some_same _ _ h'.applied) in
     subst (IsWorld limits) (sym (h'.world ∙ ap (with_live old) live)) w

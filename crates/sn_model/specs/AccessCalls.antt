@@ -21,16 +21,15 @@ use Rattle.sn_model.specs.declared.reply.Refusal.{Refusal}
 use Rattle.sn_model.specs.declared.reply.Reply.TheVariants as reply
 use Rattle.sn_model.specs.declared.reply.Rule.TheVariants as rule
 use Rattle.sn_model.specs.declared.session.Session.{Session}
-use Rattle.sn_model.specs.Outcomes.{Outcome, Nothing, Does, Stays, LogsIn, tells}
+use Rattle.sn_model.specs.Outcomes.{Outcome, Nothing, Does, Stays, SetsUmask, tells}
 use Rattle.sn_model.specs.Tests.{plain, mode_from_bits, full, live, granted, forbidden}
+pub use Rattle.sn_model.specs.declared.argument.AclKind.{AclKind}
+pub use Rattle.sn_model.specs.declared.argument.AclKind.TheVariants.{Access as OfAccess, Default as OfDefault}
+pub use Rattle.sn_model.specs.declared.argument.ModeBits.{ModeBits}
+pub use Rattle.sn_model.specs.declared.argument.NewAcl.{NewAcl}
+pub use Rattle.sn_model.specs.declared.argument.NewAcl.TheVariants.{Access as NewAccess, Default as NewDefault}
 
 -- ---- arguments
-
--- the bits of a mode: the nine permission bits, and S_ISGID and S_ISVTX above them
-pub record ModeBits : Type 0 where
-  pub mode : Mode
-  pub set_gid : Bool
-  pub sticky : Bool
 
 abbrev pub mode_bits_from : ℕ → ModeBits
 mode_bits_from bits = record { mode = mode_from_bits (bits % 512); set_gid = bits / 1024 == 1; sticky = bits / 512 % 2 == 1 }
@@ -38,16 +37,6 @@ mode_bits_from bits = record { mode = mode_from_bits (bits % 512); set_gid = bit
 -- an argument that is the mode of an object: 03777 at the most
 abbrev pub mode_bits_argument : ℕ → Result ModeBits Refusal
 mode_bits_argument bits = if nat_lt bits 2048 then Ok (mode_bits_from bits) else Err (plain Einval)
-
--- which of the ACLs of an object
-pub data AclKind : Type 0 where
-  OfAccess : AclKind
-  OfDefault : AclKind
-
--- an ACL to be set: a default ACL may be none
-pub data NewAcl : Type 0 where
-  NewAccess : List Entry → NewAcl
-  NewDefault : Option (List Entry) → NewAcl
 
 abbrev pub kind_of : NewAcl → AclKind
 kind_of (NewAccess acl) = OfAccess
@@ -115,7 +104,7 @@ sets charge number o = record { charge = charge; change = Does (SetAttributes nu
 
 -- umask: it is told what it was
 abbrev pub umask_outcome : Session → Mode → Outcome
-umask_outcome session mask = record { charge = 0; change = Nothing; caller = LogsIn (record session { umask = mask }); told = reply.Mode session.umask }
+umask_outcome session mask = record { charge = 0; change = Nothing; caller = SetsUmask mask; told = reply.Mode session.umask }
 
 -- chmod: Full; live; not-owner
 unfoldable pub chmod_outcome : Limits → ViewedTrees → Session → List (List ℕ) → ModeBits → Result Outcome Refusal

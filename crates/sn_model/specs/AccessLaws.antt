@@ -3,6 +3,7 @@ use Rattle.std.specs.Prelude.{◌≡◌, ◌≢◌, ◌⊎◌, ℕ, true, false,
 use Rattle.std.specs.FinMap as map
 use Rattle.sn_acl.specs.Access.{denial_of}
 use Rattle.sn_acl.specs.Credential.{Credential, is_member}
+use Rattle.sn_acl.specs.declared.modes.Mode.{Mode}
 use Rattle.sn_acl.specs.Modes.{mode_of}
 use Rattle.sn_limits.specs.declared.limits.Limits.{Limits}
 use Rattle.sn_walk.specs.declared.object.Object.{Object}
@@ -10,18 +11,22 @@ use Rattle.sn_walk.specs.declared.view.Attributes.{Attributes}
 use Rattle.sn_limits.specs.declared.kind.Kind.TheVariants.{File, Directory}
 use Rattle.sn_walk.specs.Objects.{root}
 use Rattle.sn_walk.specs.Views.{ViewedTrees, attributes_at}
+use Rattle.sn_model.specs.declared.call.Call.TheVariants as call
 use Rattle.sn_model.specs.declared.change.Change.TheVariants.{SetAttributes}
 use Rattle.sn_model.specs.declared.change.Ownership.{Ownership}
 use Rattle.sn_model.specs.declared.reply.Access.{Access}
 use Rattle.sn_model.specs.declared.reply.Denial.{Denial}
 use Rattle.sn_model.specs.declared.reply.Errno.TheVariants.{Eacces}
 use Rattle.sn_model.specs.declared.reply.Refusal.{Refusal}
+use Rattle.sn_model.specs.declared.reply.Reply.{Reply}
+use Rattle.sn_model.specs.declared.reply.Reply.TheVariants as answer
 use Rattle.sn_model.specs.declared.session.Session.{Session}
 use Rattle.sn_model.specs.AccessCalls.{AclKind, ModeBits, NewAcl, NewAccess, NewDefault, access_outcome, acl_argument, chmod_outcome, getacl_outcome, mode_bits_argument, setacl_outcome}
 use Rattle.sn_model.specs.Changes.{apply}
 use Rattle.sn_model.specs.Denials.{IsByRule, led_to}
 use Rattle.sn_model.specs.Outcomes.{Outcome, Does}
-use Rattle.sn_model.specs.Tests.{rights_of}
+use Rattle.sn_model.specs.Steps.{Step, with_session}
+use Rattle.sn_model.specs.Tests.{logged_in, new_mode_argument, rights_of}
 use Rattle.sn_model.specs.Tree.{Node}
 use Rattle.sn_model.specs.World.{World, trees_of, viewed_trees}
 use Rattle.sn_model.specs.Worlds.{IsWorld}
@@ -100,3 +105,8 @@ pub record EachDeniesByRule (limits : Limits) (trees : ViewedTrees) (s : Session
 
 abbrev pub AccessCallsDenyByRule : Type 0
 AccessCallsDenyByRule = (limits : Limits) (trees : ViewedTrees) (s : Session) (names : List (List ℕ)) → EachDeniesByRule limits trees s names
+
+-- umask tells the mask from before, and sets the one that was asked for, and nothing else.
+abbrev pub UmaskSetsTheMask : Type 0
+UmaskSetsTheMask = (limits : Limits) (old new : World) (session argument : ℕ) (s : Session) (mask : Mode) (reply : Reply) → logged_in old session ≡ Ok s → new_mode_argument argument ≡ Ok mask
+    → Step limits old session (call.Umask argument) reply new → (reply ≡ answer.Mode s.umask) × (new ≡ with_session old session (record s { umask = mask }))

@@ -1,4 +1,4 @@
--- Each call as the list of its tests, in their order, with what it comes to where all pass: POSIX.1-2017, mkdir() and stat(); sessions and the order of the tests are rules of this project.
+-- Each call as the list of its tests, in their order, with what it comes to where all pass: POSIX.1-2017, mkdir() and stat(); sessions and the order of the tests are rules of this project. The calls that ask for rights and set them are in `AccessCalls`.
 use Rattle.std.specs.Prelude.{ℕ, ◌+◌, ◌*◌, true, false, List, [], Option, Result, Ok, unwrap_or, if◌then◌else◌}
 use Rattle.sn_acl.specs.declared.entries.Entry.{Entry}
 use Rattle.sn_acl.specs.declared.modes.Mode.{Mode}
@@ -11,12 +11,14 @@ use Rattle.sn_walk.specs.Objects.{number_of}
 use Rattle.sn_walk.specs.Paths.{last_of}
 use Rattle.sn_model.specs.declared.call.Call.{Call}
 use Rattle.sn_model.specs.declared.call.Call.TheVariants as call
+use Rattle.sn_model.specs.declared.reply.Access as access
 use Rattle.sn_model.specs.declared.reply.Refusal.{Refusal}
 use Rattle.sn_model.specs.declared.reply.Reply.TheVariants.{Status}
 use Rattle.sn_model.specs.declared.reply.Status as status
 use Rattle.sn_limits.specs.declared.limits.Limits.{Limits}
 use Rattle.sn_model.specs.declared.change.Ownership.{Ownership}
 use Rattle.sn_model.specs.Outcomes.{Outcome, tells, opens, makes}
+use Rattle.sn_model.specs.AccessCalls.{AclKind, ModeBits, NewAcl, access_outcome, acl_argument, chmod_outcome, getacl_outcome, mode_bits_argument, setacl_outcome, umask_outcome}
 use Rattle.sn_model.specs.Tree.{link_to}
 use Rattle.sn_model.specs.declared.session.Session.{Session}
 use Rattle.sn_model.specs.World.{World, trees_of, viewed_trees}
@@ -27,8 +29,13 @@ use Rattle.sn_model.specs.Tests.{logged_in, logged_out, path_argument, new_mode_
 -- a call whose session and arguments have passed
 pub data Ready : Type 0 where
   Login : Session → Ready
+  Umask : Session → Mode → Ready
   Mkdir : Session → List (List ℕ) → Mode → Ready
+  Chmod : Session → List (List ℕ) → ModeBits → Ready
   Stat : Session → List (List ℕ) → Ready
+  Access : Session → List (List ℕ) → access.Access → Ready
+  GetAcl : Session → List (List ℕ) → AclKind → Ready
+  SetAcl : Session → List (List ℕ) → NewAcl → Ready
 
 -- the umask of a new session, 0022
 abbrev pub first_umask : Mode
@@ -40,8 +47,13 @@ new_session uid gid groups = record { cred = record { uid = uid; gid = gid; grou
 -- the tests of the session, and of the arguments in the order in which they are written
 abbrev pub ready : World → ℕ → Call → Result Ready Refusal
 ready world session (call.Login uid gid groups) = logged_out world session >>= (λ _. Ok (Login (new_session uid gid groups)))
+ready world session (call.Umask mask) = logged_in world session >>= (λ s. new_mode_argument mask >>= (λ bits. Ok (Umask s bits)))
 ready world session (call.Mkdir path mode) = logged_in world session >>= (λ s. path_argument path >>= (λ names. new_mode_argument mode >>= (λ bits. Ok (Mkdir s names bits))))
+ready world session (call.Chmod path mode) = logged_in world session >>= (λ s. path_argument path >>= (λ names. mode_bits_argument mode >>= (λ bits. Ok (Chmod s names bits))))
 ready world session (call.Stat path) = logged_in world session >>= (λ s. path_argument path >>= (λ names. Ok (Stat s names)))
+ready world session (call.Access path want) = logged_in world session >>= (λ s. path_argument path >>= (λ names. Ok (Access s names want)))
+ready world session (call.GetAcl path kind) = logged_in world session >>= (λ s. path_argument path >>= (λ names. Ok (GetAcl s names kind)))
+ready world session (call.SetAcl path kind acl) = logged_in world session >>= (λ s. path_argument path >>= (λ names. acl_argument kind acl >>= (λ new. Ok (SetAcl s names new))))
 
 -- the last name of a path that isn't `/`
 abbrev pub last_name : List (List ℕ) → List ℕ
@@ -97,5 +109,10 @@ stat_outcome trees session names = do
 
 abbrev pub outcome_of : Limits → World → Ready → Result Outcome Refusal
 outcome_of limits world (Login session) = Ok (opens session)
+outcome_of limits world (Umask session mask) = Ok (umask_outcome session mask)
 outcome_of limits world (Mkdir session names mode) = mkdir_outcome limits (seen limits world) session names mode
+outcome_of limits world (Chmod session names bits) = chmod_outcome limits (viewed_trees (trees_of world)) session names bits
 outcome_of limits world (Stat session names) = stat_outcome (viewed_trees (trees_of world)) session names
+outcome_of limits world (Access session names want) = access_outcome (viewed_trees (trees_of world)) session names want
+outcome_of limits world (GetAcl session names kind) = getacl_outcome (viewed_trees (trees_of world)) session names kind
+outcome_of limits world (SetAcl session names acl) = setacl_outcome limits (viewed_trees (trees_of world)) session names acl

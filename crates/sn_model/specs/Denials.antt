@@ -33,8 +33,13 @@ at_place trees names place = led_to trees root (take place names)
 -- a call's path: 1 is its first
 abbrev pub path_of : Call → ℕ → Option (List ℕ)
 path_of (call.Login uid gid groups) which = None
+path_of (call.Umask mask) which = None
 path_of (call.Mkdir path mode) which = if which == 1 then Some path else None
+path_of (call.Chmod path mode) which = if which == 1 then Some path else None
 path_of (call.Stat path) which = if which == 1 then Some path else None
+path_of (call.Access path want) which = if which == 1 then Some path else None
+path_of (call.GetAcl path kind) which = if which == 1 then Some path else None
+path_of (call.SetAcl path kind acl) which = if which == 1 then Some path else None
 
 -- the object at the denial's place has an ACL whose entry denies what was wanted
 pub record IsByRule (trees : ViewedTrees) (cred : Credential) (names : List (List ℕ)) (denial : Denial) : Type 0 where

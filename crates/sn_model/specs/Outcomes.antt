@@ -9,7 +9,7 @@ use Rattle.sn_model.specs.declared.session.Session.{Session}
 pub use Rattle.sn_model.specs.declared.outcome.Pending.{Pending}
 pub use Rattle.sn_model.specs.declared.outcome.Pending.TheVariants.{Nothing, Makes, Does}
 pub use Rattle.sn_model.specs.declared.outcome.Caller.{Caller}
-pub use Rattle.sn_model.specs.declared.outcome.Caller.TheVariants.{Stays, LogsIn}
+pub use Rattle.sn_model.specs.declared.outcome.Caller.TheVariants.{Stays, LogsIn, SetsUmask}
 pub use Rattle.sn_model.specs.declared.outcome.Outcome.{Outcome}
 
 -- nothing changes

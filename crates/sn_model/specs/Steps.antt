@@ -1,6 +1,8 @@
 -- What a call may answer while nothing fails, and the world that it leaves.
-use Rattle.std.specs.Prelude.{◌≡◌, ◌⊎◌, ℕ, ◌≤◌, ◌<◌, Option, None, Some, Result, Ok, Err, IsOk, slice_set}
+use Rattle.std.specs.Prelude.{◌≡◌, ◌⊎◌, ℕ, ◌≤◌, ◌<◌, Option, None, Some, Result, Ok, Err, IsOk, slice_get, slice_set}
 use Rattle.std.specs.FinMap as map
+use Rattle.std.specs.Option.{option_map}
+use Rattle.sn_acl.specs.declared.modes.Mode.{Mode}
 use Rattle.sn_limits.specs.declared.limits.Limits.{Limits}
 use Rattle.sn_model.specs.declared.call.Call.{Call}
 use Rattle.sn_model.specs.declared.call.Call.TheVariants as call
@@ -13,9 +15,9 @@ use Rattle.sn_model.specs.declared.session.Session.{Session}
 use Rattle.sn_model.specs.Tree.{Tree}
 use Rattle.sn_model.specs.World.{World}
 use Rattle.sn_model.specs.Changes.{apply}
-use Rattle.sn_model.specs.Outcomes.{Pending, Nothing, Makes, Does, Caller, Stays, LogsIn, Outcome}
+use Rattle.sn_model.specs.Outcomes.{Pending, Nothing, Makes, Does, Caller, Stays, LogsIn, SetsUmask, Outcome}
 use Rattle.sn_walk.specs.Chains.{◌>>=◌}
-use Rattle.sn_model.specs.Tests.{plain}
+use Rattle.sn_model.specs.Tests.{plain, flat}
 use Rattle.sn_model.specs.Calls.{ready, outcome_of}
 
 -- the first refusal of a call, or what it comes to
@@ -25,9 +27,20 @@ decision limits world session c = ready world session c >>= outcome_of limits wo
 abbrev pub with_session : World → ℕ → Session → World
 with_session world session s = record world { sessions = slice_set world.sessions session (Some s) }
 
+-- whoever is logged in there, with another umask
+abbrev pub with_mask : Mode → Session → Session
+with_mask mask s = record s { umask = mask }
+
+abbrev pub masked : Mode → Option (Option Session) → Option Session
+masked mask found = option_map (with_mask mask) (flat found)
+
+abbrev pub with_umask : World → ℕ → Mode → World
+with_umask world session mask = record world { sessions = slice_set world.sessions session (masked mask (slice_get world.sessions session)) }
+
 abbrev pub with_caller : World → ℕ → Caller → World
 with_caller world session Stays = world
 with_caller world session (LogsIn s) = with_session world session s
+with_caller world session (SetsUmask mask) = with_umask world session mask
 
 abbrev pub with_live : World → Tree → World
 with_live world tree = record world { live = tree }
@@ -65,8 +78,13 @@ Becomes limits world session (Ok o) reply new = (reply ≡ o.told) × Comes limi
 -- the calls that may find no memory, or reach the device
 abbrev pub TakesMemory : Call → Type 0
 TakesMemory (call.Login uid gid groups) = ⊥
+TakesMemory (call.Umask mask) = ⊥
 TakesMemory (call.Mkdir path mode) = Unit {0}
+TakesMemory (call.Chmod path mode) = Unit {0}
 TakesMemory (call.Stat path) = Unit {0}
+TakesMemory (call.Access path want) = Unit {0}
+TakesMemory (call.GetAcl path kind) = Unit {0}
+TakesMemory (call.SetAcl path kind acl) = Unit {0}
 
 -- a call may find no memory once its session and arguments have passed, and then changes nothing
 pub record LacksMemory (world : World) (session : ℕ) (c : Call) (reply : Reply) (new : World) : Type 0 where

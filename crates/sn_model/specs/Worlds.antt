@@ -63,8 +63,13 @@ IsState limits (Stopped before after) = IsFound limits before × IsFound limits 
 -- the numbers of a call are those of its types
 abbrev pub IsCall : Call → Type 0
 IsCall (call.Login uid gid groups) = (uid < 2 ^ 32) × (gid < 2 ^ 32)
+IsCall (call.Umask mask) = Unit {0}
 IsCall (call.Mkdir path mode) = Unit {0}
+IsCall (call.Chmod path mode) = Unit {0}
 IsCall (call.Stat path) = Unit {0}
+IsCall (call.Access path want) = Unit {0}
+IsCall (call.GetAcl path kind) = Unit {0}
+IsCall (call.SetAcl path kind acl) = Unit {0}
 
 abbrev pub IsEvent : Event → Type 0
 IsEvent (event.Call session c) = IsCall c

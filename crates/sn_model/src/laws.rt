@@ -1,5 +1,5 @@
 ghost use Rattle.sn_model.specs.Denials.{AccessIsDeniedByRule};
-ghost use Rattle.sn_model.specs.AccessLaws.{AccessCallsDenyByRule, AccessIsGrantedByRule, ChmodSetsTheMode, SetaclSetsOneAcl};
+ghost use Rattle.sn_model.specs.AccessLaws.{AccessCallsDenyByRule, AccessIsGrantedByRule, ChmodSetsTheMode, SetaclSetsOneAcl, UmaskSetsTheMask};
 ghost use Rattle.sn_model.specs.ChangeLaws.{ChangesBring, ChangesKeepCovers, ChangesKeepTheTree, CoveredSettleAlike, CoversItself, CoversJoin, DroppingKeepsCovers, DroppingKeepsTheTree, ListsJoin, ListsKeepCovers, ListsKeepTheTree, TestIsBelow};
 ghost use Rattle.sn_model.specs.Example.{Answers, Settles};
 ghost use Rattle.sn_model.specs.MachineLaws.{EventsKeepTheState, LivesKeepTheWorld, RefusedEventsChangeNothing, RestartsSettle, RunsKeepTheWorld, StoppedStays};
@@ -127,6 +127,11 @@ pub fn example_holds()
 /// what was wanted, by the entry that the denial names.
 pub fn access_is_denied_by_rule()
     ensures { AccessIsDeniedByRule }
+{}
+
+/// umask tells the mask from before, and sets the one that was asked for, and nothing else.
+pub fn umask_sets_the_mask()
+    ensures { UmaskSetsTheMask }
 {}
 
 /// chmod sets the mode that was asked for, for the owner and the user 0 alone, and leaves owner, group and

@@ -13,7 +13,7 @@
 //! 7. `Tests`: the tests that calls are made of, each of which refuses or hands on what it found.
 //! 8. `Outcomes` and `Calls`: each call as the list of its tests, and what it comes to where all of
 //!    them pass: a charge, a change, what becomes of the session, and what is told. `AccessCalls` has
-//!    those that ask for rights and set them, which no [`Call`] is yet.
+//!    those that ask for rights and set them.
 //! 9. `Steps`: what a call may answer and the world that it leaves, while nothing fails.
 //! 10. `Machine`: a mount that runs, or one that a failure has stopped; what it answers to an event and
 //!     the mishap that the event met with; runs, their ends, and lives of many crashes.
@@ -22,10 +22,11 @@
 //! 12. `Example`: the machine on one small world.
 //! 13. `Texts`: how refusals, faults and their parts are printed.
 //!
-//! A call is added by a variant of [`Call`] and one equation each in `ready`, `outcome_of` and
-//! `TakesMemory`.
+//! A call is added by a variant of [`Call`] and one equation each in `ready`, `outcome_of`,
+//! `TakesMemory`, `IsCall` and `path_of`.
 #![tactic(auto)]
 
+mod argument;
 mod call;
 mod change;
 mod groups;
@@ -39,6 +40,7 @@ mod session;
 mod text;
 mod word;
 
+pub use argument::{AclKind, ModeBits, NewAcl};
 pub use call::{Call, Event};
 pub use change::{Bytes, Change, Ownership};
 pub use groups::Groups;
@@ -49,7 +51,7 @@ pub use laws::{
     dropping_keeps_the_tree, events_keep_the_state, example_holds, lists_join, lists_keep_covers,
     lists_keep_the_tree, lives_keep_the_world, makes_one_more, refusals_change_nothing,
     refused_events_change_nothing, restarts_settle, runs_keep_the_world, setacl_sets_one_acl,
-    stopped_stays, test_is_below,
+    stopped_stays, test_is_below, umask_sets_the_mask,
 };
 pub use link::Link;
 pub use lists::{Content, Names, StoredAcl};

@@ -1,4 +1,5 @@
 use crate::{Bytes, Change, Ownership, Reply, Session};
+use sn_acl::Mode;
 use sn_limits::Kind;
 
 /// What changes in the live tree.
@@ -20,6 +21,7 @@ pub enum Pending<'a> {
 pub enum Caller {
     Stays,
     LogsIn(Session),
+    SetsUmask(Mode),
 }
 
 /// What a call comes to once its tests have passed: fields that don't depend on one another.

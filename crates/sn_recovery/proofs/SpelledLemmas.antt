@@ -9,13 +9,13 @@ use Rattle.sn_limits.specs.declared.kind.Kind.{Kind}
 use Rattle.sn_limits.specs.Names.{is_name}
 use Rattle.sn_walk.specs.Views.{is_directory, is_hidden_name}
 use Rattle.sn_limits.specs.Versions.{version_1}
-use Rattle.sn_model.specs.declared.change.Change.TheVariants.{Make}
+use Rattle.sn_model.specs.declared.change.Change.TheVariants.{Make, SetAttributes}
 use Rattle.sn_model.specs.declared.change.Ownership.{Ownership}
-use Rattle.sn_model.specs.Changes.{file_at, is_default_acl, is_ownership, made}
+use Rattle.sn_model.specs.Changes.{file_at, is_default_acl, is_ownership, made, owned}
 use Rattle.sn_model.specs.NameTree.{IsTree}
 use Rattle.sn_model.specs.Tree.{Tree, link_to, names_for}
 use Rattle.sn_model.proofs.ChainLemmas.{and_left, and_right}
-use Rattle.sn_model.proofs.PartLemmas.{directory_is, made_is}
+use Rattle.sn_model.proofs.PartLemmas.{directory_is, made_is, owned_is}
 use Rattle.sn_layout_acl.specs.AclBlock.{IsDefault}
 use Rattle.sn_record.specs.Payload.{IsOwnership, IsSpelled}
 
@@ -57,3 +57,9 @@ applied_spelled tree after directory name number kind o whole e =
       ),
       and_left named shown (and_left (named && shown) (is_none (map.get tree.links (link_to directory name))) m.vacant),
     )
+
+-- the same of attributes that are set
+pub set_spelled : (tree after : Tree) (number : ℕ) (o : Ownership) → IsTree version_1 tree → owned tree number o ≡ Some after → IsSpelled (SetAttributes number o)
+set_spelled tree after number o whole e =
+    let p = owned_is tree number o after e in
+    ((fits_two number (whole.nodes.nodes number p.node p.there).within, ownership_is p.node.kind o p.fits), tt)

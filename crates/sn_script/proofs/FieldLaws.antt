@@ -1,16 +1,20 @@
 -- The words of a line other than numbers: what is read is spelled so, and what is spelled so is read.
 use Rattle.std.proofs.Common.{◌≡◌, ℕ, ◌+◌, ◌-◌, ◌*◌, ◌/◌, ◌%◌, ◌^◌, ◌<◌, ◌≤◌, inl, inr, Bool, true, false, cond, leb, List, [], ◌∷◌, length, map, Some, None, refl, sym, ap, subst, ◌∙◌, lit≤, lit<, arith}
-use Rattle.std.specs.Prelude.{◌&&◌, decimal, codes}
-use Rattle.std.specs.List.{AllByRecursion, join_with_byte}
+use Rattle.std.specs.Prelude.{◌&&◌, ◌==◌, decimal, codes}
+use Rattle.std.specs.Char.{is_ascii_graphic}
+use Rattle.std.specs.List.{AllByRecursion, join_with_byte, list_all}
 use Rattle.std.specs.Str.{bytes_eq}
-use Rattle.std.proofs.lemmas.Bool.{leb-true, le-leb}
+use Rattle.std.proofs.lemmas.Bool.{eqb-true, leb-true, le-leb}
 use Rattle.std.proofs.lemmas.List.{length-map}
 use Rattle.std.proofs.lemmas.List.Splits.{join_with_byte-slice_split}
 use Rattle.std.proofs.lemmas.Slice.Eq.{bytes_eq-Decides}
 use Rattle.sn_model.specs.Chains.{◌>>=◌}
 use Rattle.sn_model.proofs.ChainLemmas.{bind_some, some_same}
-use Rattle.sn_script.specs.Fields.{parts, octal, numbers_word, is_word}
-use Rattle.sn_script.specs.Reading.{octal_digit_of, octal_of, numbers_of, groups_of, word_of}
+use Rattle.sn_model.specs.declared.reply.Access.{Access}
+use Rattle.sn_model.specs.AccessCalls.{AclKind, OfAccess, OfDefault}
+use Rattle.sn_model.specs.Texts.{access_text}
+use Rattle.sn_script.specs.Fields.{parts, octal, numbers_word, is_word, kind_word}
+use Rattle.sn_script.specs.Reading.{octal_digit_of, octal_of, right_of, want_of, kind_named, numbers_of, groups_of, word_of}
 use Rattle.sn_script.proofs.Options.{chosen, passed, both_true}
 use Rattle.sn_script.proofs.Numbers.{numbers_again, numbers_take}
 use Rattle.sn_script.proofs.Parts.{some_parts}
@@ -80,6 +84,99 @@ octal_again n lt =
     let d = digit_again (n % 8) (omega arith) in
     let whole : octal_value (n / 512) (n / 64 % 8) (n / 8 % 8) (n % 8) ≡ n = omega arith in
     rw (a, b, c, d, whole) refl
+
+-- ---- rights that are asked, and kinds of ACLs
+
+abbrev pub asked : Bool → Bool → Bool → Access
+asked r w x = record { read = r; write = w; execute = x }
+
+letter : ℕ → Bool → ℕ
+letter l true = l
+letter l false = 45
+
+right_takes : (l b : ℕ) (t : Bool) → right_of l b ≡ Some t → b ≡ letter l t
+unfolding letter
+right_takes l b t e =
+    elim (chosen (b == l) (Some true) (cond (b == 45) (Some false) None) (Some t) e) [
+      | inl h ↦ let is : true ≡ t = some_same true t h.1 in subst (λ (s : Bool). b ≡ letter l s) is (eqb-true b l h.0)
+      | inr h ↦
+          let p = passed (b == 45) (Some false) t h.1 in
+          let is : false ≡ t = some_same false t p.1 in
+          subst (λ (s : Bool). b ≡ letter l s) is (eqb-true b 45 p.0)
+    ]
+
+asked_text : (r w x : Bool) → letter 114 r ∷ letter 119 w ∷ letter 120 x ∷ [] ≡ access_text (asked r w x)
+unfolding letter
+asked_text true true true = refl
+asked_text true true false = refl
+asked_text true false true = refl
+asked_text true false false = refl
+asked_text false true true = refl
+asked_text false true false = refl
+asked_text false false true = refl
+asked_text false false false = refl
+
+pub want_takes : (word : List ℕ) (want : Access) → want_of word ≡ Some want → word ≡ access_text want
+unfolding want_of
+want_takes [] want e = absurd cc
+want_takes (a ∷ []) want e = absurd cc
+want_takes (a ∷ b ∷ []) want e = absurd cc
+want_takes (a ∷ b ∷ c ∷ d ∷ more) want e = absurd cc
+want_takes (a ∷ b ∷ c ∷ []) want e =
+    let r = bind_some (right_of 114 a) (λ r. right_of 119 b >>= (λ w. right_of 120 c >>= (λ x. Some (asked r w x)))) want e in
+    let w = bind_some (right_of 119 b) (λ w. right_of 120 c >>= (λ x. Some (asked r.0 w x))) want r.2 in
+    let x = bind_some (right_of 120 c) (λ x. Some (asked r.0 w.0 x)) want w.2 in
+    let p = right_takes 114 a r.0 r.1 in
+    let q = right_takes 119 b w.0 w.1 in
+    let s = right_takes 120 c x.0 x.1 in
+    let letters : a ∷ b ∷ c ∷ [] ≡ letter 114 r.0 ∷ letter 119 w.0 ∷ letter 120 x.0 ∷ [] = rw (p, q, s) refl in
+    letters ∙ asked_text r.0 w.0 x.0 ∙ ap access_text (some_same (asked r.0 w.0 x.0) want x.2)
+
+asked_again : (r w x : Bool) → want_of (access_text (asked r w x)) ≡ Some (asked r w x)
+unfolding want_of
+asked_again true true true = refl
+asked_again true true false = refl
+asked_again true false true = refl
+asked_again true false false = refl
+asked_again false true true = refl
+asked_again false true false = refl
+asked_again false false true = refl
+asked_again false false false = refl
+
+pub want_again : (want : Access) → want_of (access_text want) ≡ Some want
+want_again want = asked_again want.read want.write want.execute
+
+asked_graphic : (r w x : Bool) → list_all is_ascii_graphic (access_text (asked r w x)) ≡ true
+asked_graphic true true true = refl
+asked_graphic true true false = refl
+asked_graphic true false true = refl
+asked_graphic true false false = refl
+asked_graphic false true true = refl
+asked_graphic false true false = refl
+asked_graphic false false true = refl
+asked_graphic false false false = refl
+
+pub want_graphic : (want : Access) → list_all is_ascii_graphic (access_text want) ≡ true
+want_graphic want = asked_graphic want.read want.write want.execute
+
+pub kind_takes : (word : List ℕ) (kind : AclKind) → kind_named word ≡ Some kind → word ≡ kind_word kind
+unfolding kind_named
+kind_takes word kind e =
+    elim (chosen (bytes_eq word (codes "a")) (Some OfAccess) (cond (bytes_eq word (codes "d")) (Some OfDefault) None) (Some kind) e) [
+      | inl h ↦ (bytes_eq-Decides word (codes "a")).0 h.0 ∙ ap kind_word (some_same OfAccess kind h.1)
+      | inr h ↦
+          let p = passed (bytes_eq word (codes "d")) (Some OfDefault) kind h.1 in
+          (bytes_eq-Decides word (codes "d")).0 p.0 ∙ ap kind_word (some_same OfDefault kind p.1)
+    ]
+
+pub kind_again : (kind : AclKind) → kind_named (kind_word kind) ≡ Some kind
+unfolding kind_named
+kind_again OfAccess = refl
+kind_again OfDefault = refl
+
+pub kind_graphic : (kind : AclKind) → list_all is_ascii_graphic (kind_word kind) ≡ true
+kind_graphic OfAccess = refl
+kind_graphic OfDefault = refl
 
 -- ---- words
 

@@ -14,16 +14,17 @@ use Rattle.sn_model.specs.declared.call.Event.{Event}
 use Rattle.sn_model.specs.declared.call.Event.TheVariants as event
 use Rattle.sn_model.specs.Chains.{◌>>=◌}
 use Rattle.sn_model.proofs.ChainLemmas.{bind_some, some_same}
-use Rattle.sn_script.specs.Fields.{parts, octal, numbers_word, is_word}
+use Rattle.sn_model.specs.Texts.{access_text}
+use Rattle.sn_script.specs.Fields.{parts, octal, numbers_word, is_word, kind_word}
 use Rattle.sn_script.specs.Lines.{name_of, arguments_of, words_of, line_of, IsCall, IsEvent}
 use Rattle.sn_script.specs.Scripts.{BeginsBadly}
 use Rattle.sn_script.specs.declared.fault.LineFault.{LineFault}
 use Rattle.sn_script.specs.declared.fault.LineFault.TheVariants.{Bad, Memory}
-use Rattle.sn_script.specs.Reading.{IsRead, number_below, octal_of, groups_of, word_of, login_of, mkdir_of, stat_of, call_of, event_of, line_event}
+use Rattle.sn_script.specs.Reading.{IsRead, number_below, octal_of, groups_of, word_of, want_of, kind_named, login_of, umask_of, mkdir_of, chmod_of, stat_of, access_of, getacl_of, setacl_of, call_of, event_of, line_event}
 use Rattle.sn_script.proofs.Options.{chosen, passed, both_true}
 use Rattle.sn_script.proofs.Numbers.{number_again, number_takes}
 use Rattle.sn_script.proofs.Bytes.{Within, Within-wider, Within-join, decimal_within, graphic_within, Lacks, Lacks-append, lacks_outside, parts_join}
-use Rattle.sn_script.proofs.FieldLaws.{octal_takes, octal_again, word_takes, word_again, groups_take, groups_again}
+use Rattle.sn_script.proofs.FieldLaws.{octal_takes, octal_again, word_takes, word_again, groups_take, groups_again, want_takes, want_again, want_graphic, kind_takes, kind_again, kind_graphic}
 
 -- what was read as this call
 abbrev Reads : List ℕ → List (List ℕ) → Call → Type 0
@@ -54,6 +55,15 @@ login_takes (uid ∷ gid ∷ groups ∷ []) c e =
     subst (Reads (codes "login") (uid ∷ gid ∷ groups ∷ [])) (some_same (call.Login u.0 g.0 others.0) c others.2)
     (refl, three uid gid groups (decimal u.0) (decimal g.0) (numbers_word others.0) p.0 q.0 r.0, (p.1, q.1, r.1, r.2))
 
+umask_takes : (arguments : List (List ℕ)) (c : Call) → umask_of arguments ≡ Some c → Reads (codes "umask") arguments c
+unfolding umask_of
+umask_takes [] c e = absurd cc
+umask_takes (mask ∷ more ∷ others) c e = absurd cc
+umask_takes (mask ∷ []) c e =
+    let m = bind_some (octal_of mask) (λ m. Some (call.Umask m)) c e in
+    let q = octal_takes mask m.0 m.1 in
+    subst (Reads (codes "umask") (mask ∷ [])) (some_same (call.Umask m.0) c m.2) (refl, one mask (octal m.0) q.0, q.1)
+
 mkdir_takes : (arguments : List (List ℕ)) (c : Call) → mkdir_of arguments ≡ Some c → Reads (codes "mkdir") arguments c
 unfolding mkdir_of
 mkdir_takes [] c e = absurd cc
@@ -65,6 +75,19 @@ mkdir_takes (path ∷ mode ∷ []) c e =
     let p = word_takes path w.0 w.1 in
     let q = octal_takes mode m.0 m.1 in
     subst (Reads (codes "mkdir") (path ∷ mode ∷ [])) (some_same (call.Mkdir w.0 m.0) c m.2)
+    (refl, two path mode w.0 (octal m.0) p.0 q.0, (p.1, q.1))
+
+chmod_takes : (arguments : List (List ℕ)) (c : Call) → chmod_of arguments ≡ Some c → Reads (codes "chmod") arguments c
+unfolding chmod_of
+chmod_takes [] c e = absurd cc
+chmod_takes (path ∷ []) c e = absurd cc
+chmod_takes (path ∷ mode ∷ more ∷ others) c e = absurd cc
+chmod_takes (path ∷ mode ∷ []) c e =
+    let w = bind_some (word_of path) (λ p. octal_of mode >>= (λ m. Some (call.Chmod p m))) c e in
+    let m = bind_some (octal_of mode) (λ m. Some (call.Chmod w.0 m)) c w.2 in
+    let p = word_takes path w.0 w.1 in
+    let q = octal_takes mode m.0 m.1 in
+    subst (Reads (codes "chmod") (path ∷ mode ∷ [])) (some_same (call.Chmod w.0 m.0) c m.2)
     (refl, two path mode w.0 (octal m.0) p.0 q.0, (p.1, q.1))
 
 stat_takes : (arguments : List (List ℕ)) (c : Call) → stat_of arguments ≡ Some c → Reads (codes "stat") arguments c
@@ -79,24 +102,79 @@ stat_takes (path ∷ []) c e =
 named : (name other : List ℕ) (arguments : List (List ℕ)) (c : Call) → bytes_eq name other ≡ true → Reads other arguments c → Reads name arguments c
 named name other arguments c e r = ((bytes_eq-Decides name other).0 e ∙ r.0, r.1, r.2)
 
-call_takes : (name : List ℕ) (arguments : List (List ℕ)) (c : Call) → call_of name arguments ≡ Some c → Reads name arguments c
-unfolding call_of
-call_takes name arguments c e =
-    elim (chosen (bytes_eq name (codes "login")) (login_of arguments) (cond (bytes_eq name (codes "mkdir")) (mkdir_of arguments) (cond (bytes_eq name (codes "stat")) (stat_of arguments) None)) (Some c) e) [
-      | inl h ↦ named name (codes "login") arguments c h.0 (login_takes arguments c h.1)
-      | inr i ↦ elim (chosen (bytes_eq name (codes "mkdir")) (mkdir_of arguments) (cond (bytes_eq name (codes "stat")) (stat_of arguments) None) (Some c) i.1) [
-        | inl h ↦ named name (codes "mkdir") arguments c h.0 (mkdir_takes arguments c h.1)
-        | inr j ↦
-            let t = passed (bytes_eq name (codes "stat")) (stat_of arguments) c j.1 in
-            named name (codes "stat") arguments c t.0 (stat_takes arguments c t.1)
+access_takes : (arguments : List (List ℕ)) (c : Call) → access_of arguments ≡ Some c → Reads (codes "access") arguments c
+unfolding access_of
+access_takes [] c e = absurd cc
+access_takes (path ∷ []) c e = absurd cc
+access_takes (path ∷ want ∷ more ∷ others) c e = absurd cc
+access_takes (path ∷ want ∷ []) c e =
+    let w = bind_some (word_of path) (λ p. want_of want >>= (λ a. Some (call.Access p a))) c e in
+    let a = bind_some (want_of want) (λ a. Some (call.Access w.0 a)) c w.2 in
+    let p = word_takes path w.0 w.1 in
+    subst (Reads (codes "access") (path ∷ want ∷ [])) (some_same (call.Access w.0 a.0) c a.2)
+    (refl, two path want w.0 (access_text a.0) p.0 (want_takes want a.0 a.1), p.1)
+
+getacl_takes : (arguments : List (List ℕ)) (c : Call) → getacl_of arguments ≡ Some c → Reads (codes "getacl") arguments c
+unfolding getacl_of
+getacl_takes [] c e = absurd cc
+getacl_takes (path ∷ []) c e = absurd cc
+getacl_takes (path ∷ kind ∷ more ∷ others) c e = absurd cc
+getacl_takes (path ∷ kind ∷ []) c e =
+    let w = bind_some (word_of path) (λ p. kind_named kind >>= (λ k. Some (call.GetAcl p k))) c e in
+    let k = bind_some (kind_named kind) (λ k. Some (call.GetAcl w.0 k)) c w.2 in
+    let p = word_takes path w.0 w.1 in
+    subst (Reads (codes "getacl") (path ∷ kind ∷ [])) (some_same (call.GetAcl w.0 k.0) c k.2)
+    (refl, two path kind w.0 (kind_word k.0) p.0 (kind_takes kind k.0 k.1), p.1)
+
+setacl_takes : (arguments : List (List ℕ)) (c : Call) → setacl_of arguments ≡ Some c → Reads (codes "setacl") arguments c
+unfolding setacl_of
+setacl_takes [] c e = absurd cc
+setacl_takes (path ∷ []) c e = absurd cc
+setacl_takes (path ∷ kind ∷ []) c e = absurd cc
+setacl_takes (path ∷ kind ∷ acl ∷ more ∷ others) c e = absurd cc
+setacl_takes (path ∷ kind ∷ acl ∷ []) c e =
+    let w = bind_some (word_of path) (λ p. kind_named kind >>= (λ k. word_of acl >>= (λ a. Some (call.SetAcl p k a)))) c e in
+    let k = bind_some (kind_named kind) (λ k. word_of acl >>= (λ a. Some (call.SetAcl w.0 k a))) c w.2 in
+    let a = bind_some (word_of acl) (λ a. Some (call.SetAcl w.0 k.0 a)) c k.2 in
+    let p = word_takes path w.0 w.1 in
+    let q = word_takes acl a.0 a.1 in
+    subst (Reads (codes "setacl") (path ∷ kind ∷ acl ∷ [])) (some_same (call.SetAcl w.0 k.0 a.0) c a.2)
+    (refl, three path kind acl w.0 (kind_word k.0) a.0 p.0 (kind_takes kind k.0 k.1) q.0, (p.1, q.1))
+
+module _ (name : List ℕ) (arguments : List (List ℕ)) (c : Call) where
+  named : (other : List ℕ) → bytes_eq name other ≡ true → Reads other arguments c → Reads name arguments c
+  named other e r = ((bytes_eq-Decides name other).0 e ∙ r.0, r.1, r.2)
+
+  -- the words of the call of this name, or of another's
+  picked : (other : List ℕ) (read others : Option Call) → (read ≡ Some c → Reads other arguments c) → (others ≡ Some c → Reads name arguments c) → cond (bytes_eq name other) read others ≡ Some c → Reads name arguments c
+  picked other read others takes more e =
+      elim (chosen (bytes_eq name other) read others (Some c) e) [
+        | inl h ↦ named other h.0 (takes h.1)
+        | inr h ↦ more h.1
       ]
-    ]
+
+  call_takes : call_of name arguments ≡ Some c → Reads name arguments c
+  unfolding call_of
+  call_takes =
+      picked (codes "login") (login_of arguments) _ (login_takes arguments c)
+      (picked (codes "umask") (umask_of arguments) _ (umask_takes arguments c)
+      (picked (codes "mkdir") (mkdir_of arguments) _ (mkdir_takes arguments c)
+      (picked (codes "chmod") (chmod_of arguments) _ (chmod_takes arguments c)
+      (picked (codes "stat") (stat_of arguments) _ (stat_takes arguments c)
+      (picked (codes "access") (access_of arguments) _ (access_takes arguments c)
+      (picked (codes "getacl") (getacl_of arguments) _ (getacl_takes arguments c)
+      (picked (codes "setacl") (setacl_of arguments) None (setacl_takes arguments c) (λ e. absurd cc))))))))
 
 call_again : (c : Call) → IsCall c → call_of (name_of c) (arguments_of c) ≡ Some c
-unfolding call_of login_of mkdir_of stat_of
+unfolding call_of login_of umask_of mkdir_of chmod_of stat_of access_of getacl_of setacl_of
 call_again (call.Login uid gid groups) h = rw (number_again (2 ^ 32) uid (lit≤ tt) h.0, number_again (2 ^ 32) gid (lit≤ tt) h.1, groups_again groups h.2 h.3) refl
+call_again (call.Umask mask) h = rw (octal_again mask h) refl
 call_again (call.Mkdir path mode) h = rw (word_again path h.0, octal_again mode h.1) refl
+call_again (call.Chmod path mode) h = rw (word_again path h.0, octal_again mode h.1) refl
 call_again (call.Stat path) h = rw (word_again path h) refl
+call_again (call.Access path want) h = rw (word_again path h, want_again want) refl
+call_again (call.GetAcl path kind) h = rw (word_again path h, kind_again kind) refl
+call_again (call.SetAcl path kind acl) h = rw (word_again path h.0, kind_again kind, word_again acl h.1) refl
 
 event_takes : (words : List (List ℕ)) (e : Event) → event_of words ≡ Some e → (words ≡ words_of e) × IsEvent e
 unfolding event_of
@@ -146,8 +224,13 @@ word_graphic w h = graphic_within w (both_true (not (length w == 0)) (list_all i
 
 call_graphic : (c : Call) → IsCall c → AllByRecursion IsGraphic (name_of c ∷ arguments_of c)
 call_graphic (call.Login uid gid groups) h = (graphic_within (codes "login") refl, (number_graphic uid h.0, (number_graphic gid h.1, (numbers_graphic groups h.2, tt))))
+call_graphic (call.Umask mask) h = (graphic_within (codes "umask") refl, (octal_graphic mask h, tt))
 call_graphic (call.Mkdir path mode) h = (graphic_within (codes "mkdir") refl, (word_graphic path h.0, (octal_graphic mode h.1, tt)))
+call_graphic (call.Chmod path mode) h = (graphic_within (codes "chmod") refl, (word_graphic path h.0, (octal_graphic mode h.1, tt)))
 call_graphic (call.Stat path) h = (graphic_within (codes "stat") refl, (word_graphic path h, tt))
+call_graphic (call.Access path want) h = (graphic_within (codes "access") refl, (word_graphic path h, (graphic_within (access_text want) (want_graphic want), tt)))
+call_graphic (call.GetAcl path kind) h = (graphic_within (codes "getacl") refl, (word_graphic path h, (graphic_within (kind_word kind) (kind_graphic kind), tt)))
+call_graphic (call.SetAcl path kind acl) h = (graphic_within (codes "setacl") refl, (word_graphic path h.0, (graphic_within (kind_word kind) (kind_graphic kind), (word_graphic acl h.1, tt))))
 
 words_graphic : (e : Event) → IsEvent e → AllByRecursion IsGraphic (words_of e)
 words_graphic (event.Call session c) h = (number_graphic session h.0, call_graphic c h.1)
@@ -167,8 +250,13 @@ text_lacks e h = lacks_outside 32 126 10 (text_of e) (inl (lit< tt)) (Within-joi
 
 few_words : (e : Event) → leb (length (words_of e)) 5 ≡ true
 few_words (event.Call session (call.Login uid gid groups)) = refl
+few_words (event.Call session (call.Umask mask)) = refl
 few_words (event.Call session (call.Mkdir path mode)) = refl
+few_words (event.Call session (call.Chmod path mode)) = refl
 few_words (event.Call session (call.Stat path)) = refl
+few_words (event.Call session (call.Access path want)) = refl
+few_words (event.Call session (call.GetAcl path kind)) = refl
+few_words (event.Call session (call.SetAcl path kind acl)) = refl
 few_words event.Step = refl
 few_words event.Restart = refl
 

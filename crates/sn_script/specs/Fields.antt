@@ -1,7 +1,8 @@
 -- How the words of a script's line are spelled.
-use Rattle.std.specs.Prelude.{ℕ, ◌+◌, ◌/◌, ◌%◌, ◌==◌, Bool, ◌&&◌, not, List, [], ◌∷◌, length, map, decimal}
+use Rattle.std.specs.Prelude.{ℕ, ◌+◌, ◌/◌, ◌%◌, ◌==◌, Bool, ◌&&◌, not, List, [], ◌∷◌, length, map, codes, decimal}
 use Rattle.std.specs.Char.{is_ascii_graphic}
 use Rattle.std.specs.List.{join_with_byte, list_all, slice_split}
+use Rattle.sn_model.specs.AccessCalls.{AclKind, OfAccess, OfDefault}
 
 -- the parts of a text between the bytes that separate them
 abbrev pub parts : ℕ → List ℕ → List (List ℕ)
@@ -19,3 +20,8 @@ numbers_word (n ∷ ns) = join_with_byte 44 (map decimal (n ∷ ns))
 -- a word: one or more graphic bytes of ASCII, 0x21 to 0x7E
 abbrev pub is_word : List ℕ → Bool
 is_word bytes = not (length bytes == 0) && list_all is_ascii_graphic bytes
+
+-- which of an object's ACLs
+abbrev pub kind_word : AclKind → List ℕ
+kind_word OfAccess = codes "a"
+kind_word OfDefault = codes "d"

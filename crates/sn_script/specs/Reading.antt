@@ -1,5 +1,5 @@
 -- What the words of a line say, from left to right.
-use Rattle.std.specs.Prelude.{◌≡◌, ℕ, ◌+◌, ◌-◌, ◌*◌, ◌^◌, ◌&&◌, nat_le, nat_lt, List, [], ◌∷◌, length, Option, Some, None, Result, Ok, Err, if◌then◌else◌, codes, decimal}
+use Rattle.std.specs.Prelude.{◌≡◌, ℕ, ◌+◌, ◌-◌, ◌*◌, ◌^◌, ◌==◌, ◌&&◌, Bool, true, false, nat_le, nat_lt, List, [], ◌∷◌, length, Option, Some, None, Result, Ok, Err, if◌then◌else◌, codes, decimal}
 use Rattle.std.specs.Str.{bytes_eq}
 use Rattle.std.specs.Str.Parse.{digits_value}
 use Rattle.sn_model.specs.Chains.{◌>>=◌}
@@ -7,6 +7,8 @@ use Rattle.sn_model.specs.declared.call.Call.{Call}
 use Rattle.sn_model.specs.declared.call.Call.TheVariants as call
 use Rattle.sn_model.specs.declared.call.Event.{Event}
 use Rattle.sn_model.specs.declared.call.Event.TheVariants as event
+use Rattle.sn_model.specs.declared.reply.Access.{Access}
+use Rattle.sn_model.specs.AccessCalls.{AclKind, OfAccess, OfDefault}
 use Rattle.sn_script.specs.declared.fault.LineFault.{LineFault}
 use Rattle.sn_script.specs.declared.fault.LineFault.TheVariants.{Bad, Memory}
 use Rattle.sn_script.specs.Fields.{is_word, parts}
@@ -51,6 +53,23 @@ groups_of word =
 abbrev pub word_of : List ℕ → Option (List ℕ)
 word_of bytes = if is_word bytes then Some bytes else None
 
+-- a letter, or a dash
+abbrev pub right_of : ℕ → ℕ → Option Bool
+right_of letter b = if b == letter then Some true else (if b == 45 then Some false else None)
+
+-- `r` or a dash, `w` or a dash, and `x` or a dash
+unfoldable pub want_of : List ℕ → Option Access
+want_of (a ∷ b ∷ c ∷ []) = do
+  r ← right_of 114 a
+  w ← right_of 119 b
+  x ← right_of 120 c
+  Some (record { read = r; write = w; execute = x })
+want_of _ = None
+
+-- `a` or `d`
+unfoldable pub kind_named : List ℕ → Option AclKind
+kind_named word = if bytes_eq word (codes "a") then Some OfAccess else (if bytes_eq word (codes "d") then Some OfDefault else None)
+
 unfoldable pub login_of : List (List ℕ) → Option Call
 login_of (uid ∷ gid ∷ groups ∷ []) = do
   u ← number_below (2 ^ 32) uid
@@ -59,6 +78,12 @@ login_of (uid ∷ gid ∷ groups ∷ []) = do
   Some (call.Login u g others)
 login_of _ = None
 
+unfoldable pub umask_of : List (List ℕ) → Option Call
+umask_of (mask ∷ []) = do
+  m ← octal_of mask
+  Some (call.Umask m)
+umask_of _ = None
+
 unfoldable pub mkdir_of : List (List ℕ) → Option Call
 mkdir_of (path ∷ mode ∷ []) = do
   p ← word_of path
@@ -66,17 +91,51 @@ mkdir_of (path ∷ mode ∷ []) = do
   Some (call.Mkdir p m)
 mkdir_of _ = None
 
+unfoldable pub chmod_of : List (List ℕ) → Option Call
+chmod_of (path ∷ mode ∷ []) = do
+  p ← word_of path
+  m ← octal_of mode
+  Some (call.Chmod p m)
+chmod_of _ = None
+
 unfoldable pub stat_of : List (List ℕ) → Option Call
 stat_of (path ∷ []) = do
   p ← word_of path
   Some (call.Stat p)
 stat_of _ = None
 
+unfoldable pub access_of : List (List ℕ) → Option Call
+access_of (path ∷ want ∷ []) = do
+  p ← word_of path
+  w ← want_of want
+  Some (call.Access p w)
+access_of _ = None
+
+unfoldable pub getacl_of : List (List ℕ) → Option Call
+getacl_of (path ∷ kind ∷ []) = do
+  p ← word_of path
+  k ← kind_named kind
+  Some (call.GetAcl p k)
+getacl_of _ = None
+
+unfoldable pub setacl_of : List (List ℕ) → Option Call
+setacl_of (path ∷ kind ∷ acl ∷ []) = do
+  p ← word_of path
+  k ← kind_named kind
+  a ← word_of acl
+  Some (call.SetAcl p k a)
+setacl_of _ = None
+
 unfoldable pub call_of : List ℕ → List (List ℕ) → Option Call
 call_of name arguments =
     if bytes_eq name (codes "login") then login_of arguments else
+    if bytes_eq name (codes "umask") then umask_of arguments else
     if bytes_eq name (codes "mkdir") then mkdir_of arguments else
-    if bytes_eq name (codes "stat") then stat_of arguments else None
+    if bytes_eq name (codes "chmod") then chmod_of arguments else
+    if bytes_eq name (codes "stat") then stat_of arguments else
+    if bytes_eq name (codes "access") then access_of arguments else
+    if bytes_eq name (codes "getacl") then getacl_of arguments else
+    if bytes_eq name (codes "setacl") then setacl_of arguments else None
 
 unfoldable pub event_of : List (List ℕ) → Option Event
 event_of (session ∷ name ∷ arguments) = do

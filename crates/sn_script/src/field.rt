@@ -2,14 +2,14 @@ ghost use Rattle.std.specs.Prelude.{◌≡◌, ◌^◌, ◌≤◌, ◌∷◌, []
 ghost use Rattle.std.specs.Char.{is_ascii_graphic};
 ghost use Rattle.std.specs.List.{list_all};
 ghost use Rattle.sn_script.specs.Fields.{is_word};
-ghost use Rattle.sn_script.specs.Reading.{IsRead, number_below, octal_digit_of, octal_of, numbers_of, groups_of, word_of};
+ghost use Rattle.sn_script.specs.Reading.{IsRead, number_below, octal_digit_of, octal_of, right_of, want_of, kind_named, numbers_of, groups_of, word_of};
 
 use crate::cut::parts;
 use crate::fault::LineFault;
 use arrayvec::ArrayVec;
 use itoa::Buffer;
 use sn_acl::MAX_GROUPS;
-use sn_model::{Groups, Word};
+use sn_model::{Access, AclKind, Groups, Word};
 use std::alloc::Global;
 
 /// A decimal number without leading zeros.
@@ -53,6 +53,49 @@ pub(crate) fn octal(word: &[u8]) -> Result<u16, LineFault>
     let third = octal_digit(third)?;
     let fourth = octal_digit(fourth)?;
     Ok(512 * first + 64 * second + 8 * third + fourth)
+}
+
+/// Whether a letter stands there, and not a dash.
+fn right(letter: u8, byte: u8) -> Result<bool, LineFault>
+    ensures { IsRead (λ b. b) result (right_of letter byte) }
+{
+    if byte == letter {
+        Ok(true)
+    } else if byte == b'-' {
+        Ok(false)
+    } else {
+        Err(LineFault::Bad)
+    }
+}
+
+/// Three letters of `r`, `w` and `x`, with a dash for each right that isn't asked.
+#[tactic(auto, unfolding(crate::specs::Reading::want_of))]
+pub(crate) fn want(word: &[u8]) -> Result<Access, LineFault>
+    ensures { IsRead (λ a. a) result (want_of word.now) }
+{
+    let &[read, write, execute] = word else {
+        return Err(LineFault::Bad);
+    };
+    let read = right(b'r', read)?;
+    let write = right(b'w', write)?;
+    let execute = right(b'x', execute)?;
+    Ok(Access {
+        read,
+        write,
+        execute,
+    })
+}
+
+/// `a` or `d`.
+#[tactic(auto, unfolding(crate::specs::Reading::kind_named))]
+pub(crate) fn acl_kind(word: &[u8]) -> Result<AclKind, LineFault>
+    ensures { IsRead (λ k. k) result (kind_named word.now) }
+{
+    match word {
+        b"a" => Ok(AclKind::Access),
+        b"d" => Ok(AclKind::Default),
+        _ => Err(LineFault::Bad),
+    }
 }
 
 /// A word of printable bytes.

@@ -1,9 +1,9 @@
 ghost use Rattle.std.specs.Prelude.{map};
-ghost use Rattle.sn_script.specs.Reading.{IsRead, login_of, mkdir_of, stat_of, call_of, event_of, line_event};
+ghost use Rattle.sn_script.specs.Reading.{IsRead, login_of, umask_of, mkdir_of, chmod_of, stat_of, access_of, getacl_of, setacl_of, call_of, event_of, line_event};
 
 use crate::cut::parts;
 use crate::fault::LineFault;
-use crate::field::{groups, number, octal, word};
+use crate::field::{acl_kind, groups, number, octal, want, word};
 use sn_model::{Call, Event};
 use std::alloc::Global;
 
@@ -23,6 +23,17 @@ fn login(alloc: Global, arguments: &[&[u8]]) -> Result<Call, LineFault>
     Ok(Call::Login { uid, gid, groups })
 }
 
+#[tactic(auto, unfolding(crate::specs::Reading::umask_of))]
+fn umask(arguments: &[&[u8]]) -> Result<Call, LineFault>
+    ensures { IsRead (λ c. c) result (umask_of (map (λ w. w.now) arguments.now)) }
+{
+    let &[mask] = arguments else {
+        return Err(LineFault::Bad);
+    };
+    let mask = octal(mask)?;
+    Ok(Call::Umask { mask })
+}
+
 #[tactic(auto, unfolding(crate::specs::Reading::mkdir_of))]
 fn mkdir(alloc: Global, arguments: &[&[u8]]) -> Result<Call, LineFault>
     ensures { IsRead (λ c. c) result (mkdir_of (map (λ w. w.now) arguments.now)) }
@@ -33,6 +44,18 @@ fn mkdir(alloc: Global, arguments: &[&[u8]]) -> Result<Call, LineFault>
     let path = word(alloc, path)?;
     let mode = octal(mode)?;
     Ok(Call::Mkdir { path, mode })
+}
+
+#[tactic(auto, unfolding(crate::specs::Reading::chmod_of))]
+fn chmod(alloc: Global, arguments: &[&[u8]]) -> Result<Call, LineFault>
+    ensures { IsRead (λ c. c) result (chmod_of (map (λ w. w.now) arguments.now)) }
+{
+    let &[path, bits] = arguments else {
+        return Err(LineFault::Bad);
+    };
+    let path = word(alloc, path)?;
+    let mode = octal(bits)?;
+    Ok(Call::Chmod { path, mode })
 }
 
 #[tactic(auto, unfolding(crate::specs::Reading::stat_of))]
@@ -46,14 +69,56 @@ fn stat(alloc: Global, arguments: &[&[u8]]) -> Result<Call, LineFault>
     Ok(Call::Stat { path })
 }
 
+#[tactic(auto, unfolding(crate::specs::Reading::access_of))]
+fn access(alloc: Global, arguments: &[&[u8]]) -> Result<Call, LineFault>
+    ensures { IsRead (λ c. c) result (access_of (map (λ w. w.now) arguments.now)) }
+{
+    let &[path, rights] = arguments else {
+        return Err(LineFault::Bad);
+    };
+    let path = word(alloc, path)?;
+    let want = want(rights)?;
+    Ok(Call::Access { path, want })
+}
+
+#[tactic(auto, unfolding(crate::specs::Reading::getacl_of))]
+fn getacl(alloc: Global, arguments: &[&[u8]]) -> Result<Call, LineFault>
+    ensures { IsRead (λ c. c) result (getacl_of (map (λ w. w.now) arguments.now)) }
+{
+    let &[path, kind] = arguments else {
+        return Err(LineFault::Bad);
+    };
+    let path = word(alloc, path)?;
+    let kind = acl_kind(kind)?;
+    Ok(Call::GetAcl { path, kind })
+}
+
+#[tactic(auto, unfolding(crate::specs::Reading::setacl_of))]
+fn setacl(alloc: Global, arguments: &[&[u8]]) -> Result<Call, LineFault>
+    ensures { IsRead (λ c. c) result (setacl_of (map (λ w. w.now) arguments.now)) }
+{
+    let &[path, kind, acl] = arguments else {
+        return Err(LineFault::Bad);
+    };
+    let path = word(alloc, path)?;
+    let kind = acl_kind(kind)?;
+    let acl = word(alloc, acl)?;
+    Ok(Call::SetAcl { path, kind, acl })
+}
+
 #[tactic(auto, unfolding(crate::specs::Reading::call_of))]
 fn call(alloc: Global, name: &[u8], arguments: &[&[u8]]) -> Result<Call, LineFault>
     ensures { IsRead (λ c. c) result (call_of name.now (map (λ w. w.now) arguments.now)) }
 {
     match name {
         b"login" => login(alloc, arguments),
+        b"umask" => umask(arguments),
         b"mkdir" => mkdir(alloc, arguments),
+        b"chmod" => chmod(alloc, arguments),
         b"stat" => stat(alloc, arguments),
+        b"access" => access(alloc, arguments),
+        b"getacl" => getacl(alloc, arguments),
+        b"setacl" => setacl(alloc, arguments),
         _ => Err(LineFault::Bad),
     }
 }

@@ -4,7 +4,7 @@ use anyhow::{Context, Result, bail, ensure};
 use sn_acl::{Acl, Mode, Permissions, Tag};
 use sn_limits::Kind;
 use sn_model::{
-    Access, Call, Content, Damage, Denial, Errno, Event, MountFault, Names, PathNumber, Progress,
+    Access, AclKind, Call, Content, Damage, Denial, Errno, Event, MountFault, Names, PathNumber, Progress,
     Refusal, Reply, Rule, Status, StoredAcl, Word,
 };
 use sn_script::{SCRIPT_MAX, ScriptFault, print_replies, read_script};
@@ -122,25 +122,56 @@ fn line(alloc: Global, case: Case<'_>) -> Result<String> {
     told(alloc, events.as_slice().get(1).context("one event")?)
 }
 
+fn kind_word(kind: AclKind) -> &'static str {
+    match kind {
+        AclKind::Access => "a",
+        AclKind::Default => "d",
+    }
+}
+
+/// A call, field by field.
+fn told_call(alloc: Global, call: &Call) -> Result<String> {
+    Ok(match call {
+        Call::Login { uid, gid, groups } => {
+            let groups = groups.as_slice();
+            format!(in alloc; "login, uid {uid}, gid {gid}, groups {groups:?}")?
+        }
+        Call::Umask { mask } => format!(in alloc; "umask, mask {mask}")?,
+        Call::Mkdir { path, mode } => {
+            let path = str::from_utf8(path.as_bytes())?;
+            format!(in alloc; "mkdir, path {path}, mode {mode}")?
+        }
+        Call::Chmod { path, mode } => {
+            let path = str::from_utf8(path.as_bytes())?;
+            format!(in alloc; "chmod, path {path}, mode {mode}")?
+        }
+        Call::Stat { path } => {
+            let path = str::from_utf8(path.as_bytes())?;
+            format!(in alloc; "stat, path {path}")?
+        }
+        Call::Access { path, want } => {
+            let path = str::from_utf8(path.as_bytes())?;
+            format!(in alloc; "access, path {path}, want {want}")?
+        }
+        Call::GetAcl { path, kind } => {
+            let path = str::from_utf8(path.as_bytes())?;
+            format!(in alloc; "getacl, path {path}, kind {}", kind_word(*kind))?
+        }
+        Call::SetAcl { path, kind, acl } => {
+            let path = str::from_utf8(path.as_bytes())?;
+            let acl = str::from_utf8(acl.as_bytes())?;
+            format!(in alloc; "setacl, path {path}, kind {}, ACL {acl}", kind_word(*kind))?
+        }
+    })
+}
+
 /// An event, field by field.
 fn told(alloc: Global, event: &Event) -> Result<String> {
     let Event::Call { session, call } = event else {
         bail!("no call");
     };
-    Ok(match call {
-        Call::Login { uid, gid, groups } => {
-            let groups = groups.as_slice();
-            format!(in alloc; "session {session}: login, uid {uid}, gid {gid}, groups {groups:?}")?
-        }
-        Call::Mkdir { path, mode } => {
-            let path = str::from_utf8(path.as_bytes())?;
-            format!(in alloc; "session {session}: mkdir, path {path}, mode {mode}")?
-        }
-        Call::Stat { path } => {
-            let path = str::from_utf8(path.as_bytes())?;
-            format!(in alloc; "session {session}: stat, path {path}")?
-        }
-    })
+    let call = told_call(alloc, call)?;
+    Ok(format!(in alloc; "session {session}: {call}")?)
 }
 
 /// The fault of a script that is none. That there was no memory is no answer.
@@ -214,7 +245,7 @@ fn acl(alloc: Global, text: &[u8]) -> Result<Reply> {
     Ok(Reply::Acl(Some(StoredAcl::new(alloc, &acl)?)))
 }
 
-/// The answers of calls that aren't served yet.
+/// The other answers, some of calls that aren't served yet.
 fn later_replies(alloc: Global) -> Result<Vec<Reply>> {
     let mut replies = Vec::new(alloc);
     replies.push(Reply::Mode(FILE.mode))?;

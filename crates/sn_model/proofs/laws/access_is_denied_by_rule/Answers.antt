@@ -1,4 +1,4 @@
-use Rattle.sn_model.proofs.DenialLemmas.{access_denied}
+use Rattle.sn_model.proofs.CallDenialLemmas.{access_denied}
 use Rattle.sn_model.proofs.laws.access_is_denied_by_rule.Goals as goal
 
 pub returns : goal.returns
