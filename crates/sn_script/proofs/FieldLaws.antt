@@ -11,7 +11,8 @@ use Rattle.std.proofs.lemmas.Slice.Eq.{bytes_eq-Decides}
 use Rattle.sn_model.specs.Chains.{◌>>=◌}
 use Rattle.sn_model.proofs.ChainLemmas.{bind_some, some_same}
 use Rattle.sn_model.specs.declared.reply.Access.{Access}
-use Rattle.sn_model.specs.AccessCalls.{AclKind, OfAccess, OfDefault}
+use Rattle.sn_model.specs.declared.argument.AclKind.{AclKind}
+use Rattle.sn_model.specs.declared.argument.AclKind.TheVariants.{Access as OfAccess, Default as OfDefault}
 use Rattle.sn_model.specs.Texts.{access_text}
 use Rattle.sn_script.specs.Fields.{parts, octal, numbers_word, is_word, kind_word}
 use Rattle.sn_script.specs.Reading.{octal_digit_of, octal_of, right_of, want_of, kind_named, numbers_of, groups_of, word_of}
@@ -116,6 +117,9 @@ asked_text false true false = refl
 asked_text false false true = refl
 asked_text false false false = refl
 
+letters : (a b c x y z : ℕ) → a ≡ x → b ≡ y → c ≡ z → a ∷ b ∷ c ∷ [] ≡ x ∷ y ∷ z ∷ []
+letters a b c x y z p q r = cc
+
 pub want_takes : (word : List ℕ) (want : Access) → want_of word ≡ Some want → word ≡ access_text want
 unfolding want_of
 want_takes [] want e = absurd cc
@@ -129,8 +133,7 @@ want_takes (a ∷ b ∷ c ∷ []) want e =
     let p = right_takes 114 a r.0 r.1 in
     let q = right_takes 119 b w.0 w.1 in
     let s = right_takes 120 c x.0 x.1 in
-    let letters : a ∷ b ∷ c ∷ [] ≡ letter 114 r.0 ∷ letter 119 w.0 ∷ letter 120 x.0 ∷ [] = rw (p, q, s) refl in
-    letters ∙ asked_text r.0 w.0 x.0 ∙ ap access_text (some_same (asked r.0 w.0 x.0) want x.2)
+    letters a b c (letter 114 r.0) (letter 119 w.0) (letter 120 x.0) p q s ∙ asked_text r.0 w.0 x.0 ∙ ap access_text (some_same (asked r.0 w.0 x.0) want x.2)
 
 asked_again : (r w x : Bool) → want_of (access_text (asked r w x)) ≡ Some (asked r w x)
 unfolding want_of

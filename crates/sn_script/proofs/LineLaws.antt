@@ -20,7 +20,7 @@ use Rattle.sn_script.specs.Lines.{name_of, arguments_of, words_of, line_of, IsCa
 use Rattle.sn_script.specs.Scripts.{BeginsBadly}
 use Rattle.sn_script.specs.declared.fault.LineFault.{LineFault}
 use Rattle.sn_script.specs.declared.fault.LineFault.TheVariants.{Bad, Memory}
-use Rattle.sn_script.specs.Reading.{IsRead, number_below, octal_of, groups_of, word_of, want_of, kind_named, login_of, umask_of, mkdir_of, chmod_of, stat_of, access_of, getacl_of, setacl_of, call_of, event_of, line_event}
+use Rattle.sn_script.specs.Reading.{IsRead, number_below, octal_of, groups_of, word_of, want_of, kind_named, login_of, umask_of, mkdir_of, chmod_of, stat_of, access_of, getacl_of, setacl_of, access_call_of, call_of, event_of, line_event}
 use Rattle.sn_script.proofs.Options.{chosen, passed, both_true}
 use Rattle.sn_script.proofs.Numbers.{number_again, number_takes}
 use Rattle.sn_script.proofs.Bytes.{Within, Within-wider, Within-join, decimal_within, graphic_within, Lacks, Lacks-append, lacks_outside, parts_join}
@@ -99,9 +99,6 @@ stat_takes (path ∷ []) c e =
     let p = word_takes path w.0 w.1 in
     subst (Reads (codes "stat") (path ∷ [])) (some_same (call.Stat w.0) c w.2) (refl, one path w.0 p.0, p.1)
 
-named : (name other : List ℕ) (arguments : List (List ℕ)) (c : Call) → bytes_eq name other ≡ true → Reads other arguments c → Reads name arguments c
-named name other arguments c e r = ((bytes_eq-Decides name other).0 e ∙ r.0, r.1, r.2)
-
 access_takes : (arguments : List (List ℕ)) (c : Call) → access_of arguments ≡ Some c → Reads (codes "access") arguments c
 unfolding access_of
 access_takes [] c e = absurd cc
@@ -153,20 +150,24 @@ module _ (name : List ℕ) (arguments : List (List ℕ)) (c : Call) where
         | inr h ↦ more h.1
       ]
 
+  access_call_takes : access_call_of name arguments ≡ Some c → Reads name arguments c
+  unfolding access_call_of
+  access_call_takes =
+      picked (codes "chmod") (chmod_of arguments) _ (chmod_takes arguments c)
+      (picked (codes "access") (access_of arguments) _ (access_takes arguments c)
+      (picked (codes "getacl") (getacl_of arguments) _ (getacl_takes arguments c)
+      (picked (codes "setacl") (setacl_of arguments) None (setacl_takes arguments c) (λ e. absurd cc))))
+
   call_takes : call_of name arguments ≡ Some c → Reads name arguments c
   unfolding call_of
   call_takes =
       picked (codes "login") (login_of arguments) _ (login_takes arguments c)
       (picked (codes "umask") (umask_of arguments) _ (umask_takes arguments c)
       (picked (codes "mkdir") (mkdir_of arguments) _ (mkdir_takes arguments c)
-      (picked (codes "chmod") (chmod_of arguments) _ (chmod_takes arguments c)
-      (picked (codes "stat") (stat_of arguments) _ (stat_takes arguments c)
-      (picked (codes "access") (access_of arguments) _ (access_takes arguments c)
-      (picked (codes "getacl") (getacl_of arguments) _ (getacl_takes arguments c)
-      (picked (codes "setacl") (setacl_of arguments) None (setacl_takes arguments c) (λ e. absurd cc))))))))
+      (picked (codes "stat") (stat_of arguments) (access_call_of name arguments) (stat_takes arguments c) access_call_takes)))
 
 call_again : (c : Call) → IsCall c → call_of (name_of c) (arguments_of c) ≡ Some c
-unfolding call_of login_of umask_of mkdir_of chmod_of stat_of access_of getacl_of setacl_of
+unfolding call_of access_call_of login_of umask_of mkdir_of chmod_of stat_of access_of getacl_of setacl_of
 call_again (call.Login uid gid groups) h = rw (number_again (2 ^ 32) uid (lit≤ tt) h.0, number_again (2 ^ 32) gid (lit≤ tt) h.1, groups_again groups h.2 h.3) refl
 call_again (call.Umask mask) h = rw (octal_again mask h) refl
 call_again (call.Mkdir path mode) h = rw (word_again path h.0, octal_again mode h.1) refl

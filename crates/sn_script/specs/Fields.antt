@@ -2,7 +2,8 @@
 use Rattle.std.specs.Prelude.{ℕ, ◌+◌, ◌/◌, ◌%◌, ◌==◌, Bool, ◌&&◌, not, List, [], ◌∷◌, length, map, codes, decimal}
 use Rattle.std.specs.Char.{is_ascii_graphic}
 use Rattle.std.specs.List.{join_with_byte, list_all, slice_split}
-use Rattle.sn_model.specs.AccessCalls.{AclKind, OfAccess, OfDefault}
+use Rattle.sn_model.specs.declared.argument.AclKind.{AclKind}
+use Rattle.sn_model.specs.declared.argument.AclKind.TheVariants.{Access as OfAccess, Default as OfDefault}
 
 -- the parts of a text between the bytes that separate them
 abbrev pub parts : ℕ → List ℕ → List (List ℕ)

@@ -8,7 +8,8 @@ use Rattle.sn_model.specs.declared.call.Call.TheVariants as call
 use Rattle.sn_model.specs.declared.call.Event.{Event}
 use Rattle.sn_model.specs.declared.call.Event.TheVariants as event
 use Rattle.sn_model.specs.declared.reply.Access.{Access}
-use Rattle.sn_model.specs.AccessCalls.{AclKind, OfAccess, OfDefault}
+use Rattle.sn_model.specs.declared.argument.AclKind.{AclKind}
+use Rattle.sn_model.specs.declared.argument.AclKind.TheVariants.{Access as OfAccess, Default as OfDefault}
 use Rattle.sn_script.specs.declared.fault.LineFault.{LineFault}
 use Rattle.sn_script.specs.declared.fault.LineFault.TheVariants.{Bad, Memory}
 use Rattle.sn_script.specs.Fields.{is_word, parts}
@@ -126,16 +127,20 @@ setacl_of (path ∷ kind ∷ acl ∷ []) = do
   Some (call.SetAcl p k a)
 setacl_of _ = None
 
+-- the calls of modes and ACLs
+unfoldable pub access_call_of : List ℕ → List (List ℕ) → Option Call
+access_call_of name arguments =
+    if bytes_eq name (codes "chmod") then chmod_of arguments else
+    if bytes_eq name (codes "access") then access_of arguments else
+    if bytes_eq name (codes "getacl") then getacl_of arguments else
+    if bytes_eq name (codes "setacl") then setacl_of arguments else None
+
 unfoldable pub call_of : List ℕ → List (List ℕ) → Option Call
 call_of name arguments =
     if bytes_eq name (codes "login") then login_of arguments else
     if bytes_eq name (codes "umask") then umask_of arguments else
     if bytes_eq name (codes "mkdir") then mkdir_of arguments else
-    if bytes_eq name (codes "chmod") then chmod_of arguments else
-    if bytes_eq name (codes "stat") then stat_of arguments else
-    if bytes_eq name (codes "access") then access_of arguments else
-    if bytes_eq name (codes "getacl") then getacl_of arguments else
-    if bytes_eq name (codes "setacl") then setacl_of arguments else None
+    if bytes_eq name (codes "stat") then stat_of arguments else access_call_of name arguments
 
 unfoldable pub event_of : List (List ℕ) → Option Event
 event_of (session ∷ name ∷ arguments) = do

@@ -1,5 +1,5 @@
 ghost use Rattle.std.specs.Prelude.{map};
-ghost use Rattle.sn_script.specs.Reading.{IsRead, login_of, umask_of, mkdir_of, chmod_of, stat_of, access_of, getacl_of, setacl_of, call_of, event_of, line_event};
+ghost use Rattle.sn_script.specs.Reading.{IsRead, login_of, umask_of, mkdir_of, chmod_of, stat_of, access_of, getacl_of, setacl_of, access_call_of, call_of, event_of, line_event};
 
 use crate::cut::parts;
 use crate::fault::LineFault;
@@ -9,6 +9,15 @@ use std::alloc::Global;
 
 /// The most words that a line has.
 pub(crate) const MAX_WORDS: usize = 5;
+
+// Names that are compared: a pattern of six bytes isn't proved.
+const CHMOD: &[u8] = b"chmod";
+
+const ACCESS: &[u8] = b"access";
+
+const GETACL: &[u8] = b"getacl";
+
+const SETACL: &[u8] = b"setacl";
 
 #[tactic(auto, unfolding(crate::specs::Reading::login_of))]
 fn login(alloc: Global, arguments: &[&[u8]]) -> Result<Call, LineFault>
@@ -106,6 +115,26 @@ fn setacl(alloc: Global, arguments: &[&[u8]]) -> Result<Call, LineFault>
     Ok(Call::SetAcl { path, kind, acl })
 }
 
+/// A call of modes and ACLs.
+#[tactic(auto, unfolding(crate::specs::Reading::access_call_of))]
+fn access_call(alloc: Global, name: &[u8], arguments: &[&[u8]]) -> Result<Call, LineFault>
+    ensures { IsRead (λ c. c) result (access_call_of name.now (map (λ w. w.now) arguments.now)) }
+{
+    if name == CHMOD {
+        return chmod(alloc, arguments);
+    }
+    if name == ACCESS {
+        return access(alloc, arguments);
+    }
+    if name == GETACL {
+        return getacl(alloc, arguments);
+    }
+    if name == SETACL {
+        return setacl(alloc, arguments);
+    }
+    Err(LineFault::Bad)
+}
+
 #[tactic(auto, unfolding(crate::specs::Reading::call_of))]
 fn call(alloc: Global, name: &[u8], arguments: &[&[u8]]) -> Result<Call, LineFault>
     ensures { IsRead (λ c. c) result (call_of name.now (map (λ w. w.now) arguments.now)) }
@@ -114,12 +143,8 @@ fn call(alloc: Global, name: &[u8], arguments: &[&[u8]]) -> Result<Call, LineFau
         b"login" => login(alloc, arguments),
         b"umask" => umask(arguments),
         b"mkdir" => mkdir(alloc, arguments),
-        b"chmod" => chmod(alloc, arguments),
         b"stat" => stat(alloc, arguments),
-        b"access" => access(alloc, arguments),
-        b"getacl" => getacl(alloc, arguments),
-        b"setacl" => setacl(alloc, arguments),
-        _ => Err(LineFault::Bad),
+        _ => access_call(alloc, name, arguments),
     }
 }
 
