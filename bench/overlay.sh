@@ -1,6 +1,6 @@
 #!/bin/bash
-# Times changes through overlays, and look-ups through two of them, by runs of the test program of overlays
-# and of snapfs. Run by hand.
+# Times changes through overlays, and look-ups through two of them, by runs of the test programs of overlays
+# and of runs. Run by hand.
 #
 # Prints the time of 1,000 makes of a directory, each laid over an overlay of those before, beside 1,000 mkdir in
 # the tree in memory, where the program also walks and checks access; and the time of 10,000 look-ups of a name
@@ -11,7 +11,7 @@ top=$(cd "$(dirname "$0")/.." && pwd)
 work=$(mktemp -d)
 trap 'rm -rf "$work"' EXIT
 (cd "$top/crates/sn_tests_overlay" && rt run -- data > "$work/log" 2>&1) || { tail -n 20 "$work/log"; exit 1; }
-"$top/snapfs" run none /dev/null
+(cd "$top/crates/sn_tests_run" && rt run -- data > "$work/log" 2>&1) || { tail -n 20 "$work/log"; exit 1; }
 
 python3 - "$top" "$work" <<'P'
 import subprocess
@@ -21,7 +21,7 @@ from pathlib import Path
 
 top, work = Path(sys.argv[1]), Path(sys.argv[2])
 overlays = top / "crates/sn_tests_overlay/out/sn_tests_overlay"
-snapfs = top / "crates/sn_bin/out/sn_bin"
+runs = top / "crates/sn_tests_run/out/sn_tests_run"
 
 
 def least(*command):
@@ -43,17 +43,16 @@ def table(steps, answers):
     return least(overlays, folder) - empty
 
 
-def script(lines):
-    file = work / "script"
-    file.write_text("0 login 0 0 -\n")
-    empty = least(snapfs, "run", "none", file)
-    file.write_text("0 login 0 0 -\n" + "".join(line + "\n" for line in lines))
-    return least(snapfs, "run", "none", file) - empty
+def in_memory():
+    """The time of ten times 100 mkdir in the tree in memory."""
+    told = subprocess.run([runs, "time"], capture_output=True, text=True, check=True).stdout
+    rows = {count: int(memory) for count, _, memory in (line.split() for line in told.splitlines())}
+    return 10 * (rows["100"] - rows["0"]) / 1e9
 
 
 makes = [f"make:2:n{i}:{i}:directory" for i in range(3, 1003)]
 through = table(makes + ["name:2:n1002"], ["1002"])
-plain = script([f"0 mkdir /n{i} 0755" for i in range(3, 1003)])
+plain = in_memory()
 print(f"1,000 makes through an overlay: {through * 1e3:.1f} ms, {through / plain:.2f} of the tree in memory ({plain * 1e3:.1f} ms)")
 
 asks = [f"name:2:n{3 + i % 600}" for i in range(10000)]

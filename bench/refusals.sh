@@ -3,9 +3,11 @@
 # at what they answer. Run by hand: it wants gcc, since the refusals come from a small library that stands before
 # the C library's malloc.
 #
-# A run of the program with one refusal may end with status 1, `snapfs: memory` or `snapfs: M5`, and the first
-# replies of the run without it. Else one reply at the most is `err ENOMEM`; a directory that wasn't made by that
-# call is made by the next one, which is the same; and all other replies stay.
+# A run of the program with one refusal may end with status 1, `snapfs: memory`, `snapfs: M5` or, where it is the disk
+# in memory that can't grow, `snapfs: M6`, and the first replies of the run without it. Else one reply at the most is
+# `err ENOMEM`; a directory that wasn't made by that call is made by the next one, which is the same; and all other
+# replies stay. Or one is `err EIO`, since the disk in memory can't grow: then all after it are `err ESTOPPED`, and the
+# run ends with `snapfs: stopped`.
 #
 # A test program with one refusal may say that it found no memory, or that the device in memory has come to its end for
 # want of it. Each case that it finds wrong has to be so for
@@ -82,14 +84,19 @@ honest() {
         NR == FNR { whole[NR] = $0; lines = NR; next }
         {
             seen = FNR
-            if ($0 == "err ENOMEM" && !wants) {
+            if (stopped) {
+                if ($0 != "err ESTOPPED") bad = 1
+            } else if ($0 == "err EIO" && !wants) {
+                wants = stopped = 1
+            } else if ($0 == "err ENOMEM" && !wants) {
                 wants = 1
                 if (whole[FNR] == "ok") whole[FNR + 1] = "ok"
             } else if ($0 != whole[FNR]) bad = 1
         }
         END {
+            if (stopped) exit bad || seen != lines || status != 1 || err != "snapfs: stopped"
             if (status == 0) exit bad || seen != lines || err != ""
-            exit bad || status != 1 || (err != "snapfs: memory" && err != "snapfs: M5")
+            exit bad || status != 1 || (err != "snapfs: memory" && err != "snapfs: M5" && err != "snapfs: M6")
         }' "$work/whole" "$work/out"
 }
 
@@ -128,7 +135,7 @@ judge=honest
 each_refused "$program" run none "$work/script"
 
 judge=tested
-for crate in sn_tests sn_tests_disk sn_tests_block sn_tests_layout sn_tests_log sn_tests_overlay; do
+for crate in sn_tests sn_tests_disk sn_tests_block sn_tests_layout sn_tests_log sn_tests_overlay sn_tests_run; do
     folder=$top/crates/$crate
     (cd "$folder" && rt run -- data > "$work/log" 2>&1) || { tail -n 20 "$work/log"; exit 1; }
     "$folder/out/$crate" "$folder/data" > "$work/whole"

@@ -1,11 +1,10 @@
 #!/bin/bash
-# Times whole runs of the program, with their peak memory: many directories in one directory, and scripts of
+# Times whole runs of the program, with their peak memory: as many directories as the log holds, and scripts of
 # 16 MiB. Run by hand, from any folder: builds the program where it isn't up to date, and works in a folder
 # that it removes.
 #
 # Prints for each script the least time of five runs, how many times that is what awk takes to go through the same
-# lines and print them, and the peak beside the script's size; what 20,000 mkdir take beside 10,000 in this run; and
-# what the wrapper adds to a run.
+# lines and print them, and the peak beside the script's size; and what the wrapper adds to a run.
 set -eu
 top=$(cd "$(dirname "$0")/.." && pwd)
 program=$top/crates/sn_bin/out/sn_bin
@@ -23,8 +22,7 @@ many() {
     yes "$1" | head -c 16777000 | head -n -1
 }
 
-mkdirs 10000 > "$work/mkdirs_10000"
-mkdirs 20000 > "$work/mkdirs_20000"
+mkdirs 127 > "$work/mkdirs"
 { many '0 stat /'; echo bad; } > "$work/read_alone"
 many '0 stat /' > "$work/nobody_logged_in"
 { echo '0 login 0 0 -'; many '0 stat /'; } > "$work/statuses"
@@ -44,7 +42,7 @@ least() {
 
 declare -A times
 printf '%-18s %10s %9s %8s %10s %10s\n' script bytes ms run/awk 'peak KiB' peak/size
-for script in mkdirs_10000 mkdirs_20000 read_alone nobody_logged_in statuses one_line; do
+for script in mkdirs read_alone nobody_logged_in statuses one_line; do
     times[$script]=$(least "$program" run image "$work/$script")
     bytes=$(wc -c < "$work/$script")
     lines=$(least awk 1 "$work/$script")
@@ -54,7 +52,4 @@ for script in mkdirs_10000 mkdirs_20000 read_alone nobody_logged_in statuses one
 done
 direct=$(least "$program" run image "$work/nothing")
 wrapped=$(least "$top/snapfs" run image "$work/nothing")
-awk -v a="${times[mkdirs_10000]}" -v b="${times[mkdirs_20000]}" -v d="$direct" -v w="$wrapped" 'BEGIN {
-    printf "20,000 mkdir take %.2f times as long as 10,000\n", b / a
-    printf "the wrapper adds %.1f ms\n", (w - d) / 1000
-}'
+awk -v d="$direct" -v w="$wrapped" 'BEGIN { printf "the wrapper adds %.1f ms\n", (w - d) / 1000 }'

@@ -1,0 +1,47 @@
+//! Events as lines of text.
+
+use anyhow::{Context, Result, ensure};
+use sn_device::MemDevice;
+use sn_model::{End, Event};
+use sn_run::{Ran, run};
+use sn_script::{print_replies, read_script};
+use std::alloc::Global;
+use std::str;
+
+/// The blocks of the disk.
+pub const BLOCKS: u32 = 256;
+
+/// Its sectors.
+pub const SECTORS: u64 = 2048;
+
+/// A restart, a step, or the call of a script's line.
+pub fn event_of(alloc: Global, line: &str) -> Result<Event> {
+    match line {
+        "restart" => Ok(Event::Restart),
+        "step" => Ok(Event::Step),
+        _ => {
+            let script = format!(in alloc; "{line}\n")?;
+            let mut events = read_script(alloc, script.as_str().as_bytes())?;
+            events.pop().context(format_args!("no call: {line}"))
+        }
+    }
+}
+
+/// The events of a text, one a line.
+pub fn events_of(alloc: Global, text: &str) -> Result<Vec<Event>> {
+    let mut events = Vec::new(alloc);
+    for line in text.lines() {
+        events.push(event_of(alloc, line)?)?;
+    }
+    Ok(events)
+}
+
+/// A line for each event of a run on a new disk, which has to end well.
+pub fn replies(alloc: Global, text: &str) -> Result<String> {
+    let events = events_of(alloc, text)?;
+    let device = MemDevice::new(alloc, SECTORS)?;
+    let Ran { replies, end, .. } = run(alloc, device, events.as_slice());
+    ensure!(end == End::Clean, "the run has stopped");
+    let lines = print_replies(alloc, replies.as_slice())?;
+    Ok(String::from_str(alloc, str::from_utf8(lines.as_slice())?)?)
+}
