@@ -78,10 +78,10 @@ reach_has_none s tree pointer among = but_holes-none (all_pointers s (levels_of 
 
 module _ (s r : Store) where
   -- the same stands behind each of these pointers that isn't a hole
-  abbrev Agree : List ℕ → Type 0
+  abbrev pub Agree : List ℕ → Type 0
   Agree ps = (p : ℕ) → Contains ps p → (p == 0) ≡ false → r p ≡ s p
 
-  named-same : (p : ℕ) → ((p == 0) ≡ false → r p ≡ s p) → named_by r p ≡ named_by s p
+  pub named-same : (p : ℕ) → ((p == 0) ≡ false → r p ≡ s p) → named_by r p ≡ named_by s p
   unfolding named_by
   named-same p agree = choose (p == 0) (zeros 4096) (r p) (s p) agree
 
@@ -100,17 +100,17 @@ module _ (s r : Store) where
   unfolding all_pointers
   above depth ps agree p among = agree p (Contains-append_left (all_pointers s depth ps) (pointers_at s (suc depth) ps) p among)
 
-  of_level : (depth : ℕ) (ps : List ℕ) → Agree (all_pointers s depth ps) → Agree (pointers_at s depth ps)
+  pub of_level : (depth : ℕ) (ps : List ℕ) → Agree (all_pointers s depth ps) → Agree (pointers_at s depth ps)
   of_level depth ps agree p among = agree p (level_among s ps depth depth p (omega arith) among)
 
-  pointers-same : (depth : ℕ) (ps : List ℕ) → Agree (all_pointers s depth ps) → pointers_at r depth ps ≡ pointers_at s depth ps
+  pub pointers-same : (depth : ℕ) (ps : List ℕ) → Agree (all_pointers s depth ps) → pointers_at r depth ps ≡ pointers_at s depth ps
   unfolding pointers_at
   pointers-same zero ps agree = refl
   pointers-same (suc depth) ps agree =
       let upper = above depth ps agree in
       ap (flat_map (below r)) (pointers-same depth ps upper) ∙ all-same (below s) (below r) below-same (pointers_at s depth ps) (of_level depth ps upper)
 
-  all_pointers-same : (depth : ℕ) (ps : List ℕ) → Agree (all_pointers s depth ps) → all_pointers r depth ps ≡ all_pointers s depth ps
+  pub all_pointers-same : (depth : ℕ) (ps : List ℕ) → Agree (all_pointers s depth ps) → all_pointers r depth ps ≡ all_pointers s depth ps
   unfolding all_pointers
   all_pointers-same zero ps agree = refl
   all_pointers-same (suc depth) ps agree =
@@ -149,7 +149,7 @@ unfolding place_in
 place_in-4096 zero k = omega arith
 place_in-4096 (suc i) k = omega (arith, place_in-4096 i k)
 
-length-below : (s : Store) (p : ℕ) → length (below s p) ≡ 1024
+pub length-below : (s : Store) (p : ℕ) → length (below s p) ≡ 1024
 unfolding below
 length-below s p = either (p == 0)
   where

@@ -18,8 +18,8 @@ use sn_layout_node::IndirectBlock;
 
 const SECTORS_PER_BLOCK: u64 = 8;
 
-// Whether a pointer is a hole, or names a block of the device.
-fn lies_on(sectors: u64, pointer: u32) -> bool
+/// Whether a pointer is a hole, or names a block of a device of so many sectors.
+pub fn lies_on(sectors: u64, pointer: u32) -> bool
     ensures { result ≡ lies_on sectors pointer }
 {
     pointer == 0 || SECTORS_PER_BLOCK * u64::from(pointer) + SECTORS_PER_BLOCK <= sectors

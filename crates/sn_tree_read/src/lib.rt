@@ -26,7 +26,7 @@ mod fault;
 mod laws;
 mod reads;
 
-pub use entries::{entry, fetch_data};
+pub use entries::{entry, fetch_data, lies_on};
 pub use fault::TreeFault;
 pub use laws::read_laws;
 pub use reads::read;

@@ -1,0 +1,24 @@
+-- Dirty blocks, whose indices rise.
+use Rattle.std.specs.Prelude.{ℕ, ◌+◌, ◌≤◌, ◌==◌, if◌then◌else◌, List, [], ◌∷◌, nat_lt}
+use Rattle.sn_layout.specs.Bytes.{zeros}
+use Rattle.sn_tree.specs.declared.new_block.DirtyBlock.{DirtyBlock}
+
+-- the indices rise, from this one on
+abbrev pub IsFrom : ℕ → List DirtyBlock → Type 0
+IsFrom least [] = Unit {0}
+IsFrom least (d ∷ ds) = (least ≤ d.index) × IsFrom (d.index + 1) ds
+
+-- the dirty blocks from an index on, of those that rise
+unfoldable pub after : ℕ → List DirtyBlock → List DirtyBlock
+after end [] = []
+after end (d ∷ ds) = if nat_lt d.index end then after end ds else d ∷ ds
+
+-- What data block i is to be: the dirty block with its index if there is one, else what it was if it is among those that stay, else zeros.
+unfoldable pub block_after : ℕ → List DirtyBlock → ℕ → List ℕ → List ℕ
+block_after keep [] i old = if nat_lt i keep then old else zeros 4096
+block_after keep (d ∷ ds) i old = if d.index == i then d.bytes.value else block_after keep ds i old
+
+-- what data blocks from i on are to be
+unfoldable pub blocks_after : ℕ → List DirtyBlock → ℕ → List (List ℕ) → List (List ℕ)
+blocks_after keep dirty i [] = []
+blocks_after keep dirty i (old ∷ rest) = block_after keep dirty i old ∷ blocks_after keep dirty (i + 1) rest

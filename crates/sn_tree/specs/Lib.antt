@@ -1,0 +1,7 @@
+pub mod Fault
+pub mod Drafts
+pub mod Build
+pub mod Dirty
+pub mod Plans
+pub mod Steps
+pub mod Replanned

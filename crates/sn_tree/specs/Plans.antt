@@ -1,0 +1,43 @@
+-- What planning makes of pointers and of the data blocks below them.
+use Rattle.std.specs.Prelude.{◌≡◌, ◌≢◌, ℕ, ◌+◌, ◌-◌, ◌*◌, ◌<◌, ◌&&◌, ◌==◌, if◌then◌else◌, List, length, map, nat_lt, count_by, All}
+use Rattle.sn_ondisk.specs.Trees.{Store, named_by, pointers_at, all_pointers}
+use Rattle.sn_tree.specs.Drafts.{numbers_of}
+use Rattle.sn_tree.specs.Dirty.{after, blocks_after}
+use Rattle.sn_tree.specs.declared.new_block.NewBlock.{NewBlock}
+use Rattle.sn_tree.specs.declared.new_block.DirtyBlock.{DirtyBlock}
+
+-- how often a block stands in a list
+abbrev pub times : ℕ → List ℕ → ℕ
+times block blocks = count_by (λ b. b == block) blocks
+
+-- These new blocks stand in their places.
+abbrev pub Holds : Store → List NewBlock → Type 0
+Holds s added = All (λ (block : NewBlock). s block.number ≡ block.bytes.value) added
+
+-- The blocks behind these pointers stand alike in both.
+abbrev pub SameAmong : Store → Store → List ℕ → Type 0
+SameAmong s r pointers = (block : ℕ) → block ≢ 0 → 0 < times block pointers → r block ≡ s block
+
+-- the bytes of the data blocks so many levels below these pointers, in order
+abbrev pub contents : Store → ℕ → List ℕ → List (List ℕ)
+contents s depth pointers = map (named_by s) (pointers_at s depth pointers)
+
+-- New pointers, where these were reached and the data blocks had those bytes, the first of them block `base`: in any store that has the new blocks and agrees with the old one in what was reached.
+pub record PlansTo (s : Store) (was : List ℕ) (had : List (List ℕ)) (depth base keep : ℕ) (dirty : List DirtyBlock) (new : List ℕ) (added : List NewBlock) (released : List ℕ) : Type 0 where
+  -- the data blocks below them are those that are wanted
+  pub content : (r : Store) → SameAmong s r was → Holds r added → contents r depth new ≡ blocks_after keep dirty base had
+  -- what they reach, with what is released, is what was reached with what is added, each block as often
+  pub reach : (r : Store) → SameAmong s r was → Holds r added → (block : ℕ) → block ≢ 0
+      → times block (all_pointers r depth new) + times block released ≡ times block was + times block (numbers_of added)
+
+-- the same in place of pointers at the same height
+abbrev pub Plans : Store → ℕ → ℕ → ℕ → List DirtyBlock → List ℕ → List ℕ → List NewBlock → List ℕ → Type 0
+Plans s depth base keep dirty old new added released = PlansTo s (all_pointers s depth old) (contents s depth old) depth base keep dirty new added released
+
+-- one where the end of what stays lies within a range, and not at its ends
+abbrev pub straddles : ℕ → ℕ → ℕ → ℕ
+straddles base end keep = if nat_lt base keep && nat_lt keep end then 1 else 0
+
+-- the most new blocks that a range takes: a path for each dirty block, and one for the end of what stays
+abbrev pub most_added : ℕ → ℕ → ℕ → ℕ → List DirtyBlock → ℕ
+most_added depth base end keep dirty = (depth + 1) * (length dirty - length (after end dirty)) + depth * straddles base end keep

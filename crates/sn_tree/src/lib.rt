@@ -1,0 +1,37 @@
+//! Planning block trees: what a tree with other data blocks is made of, before anything is written.
+//!
+//! The model is that of `sn_ondisk`: pointers level by level, the data blocks behind the last of them,
+//! and the blocks that a tree reaches. A `Build` is seen as a `Draft` of `specs/Drafts.antt`: the words
+//! of the block map that blocks are taken from, the new blocks with their bytes, and the blocks of the
+//! old trees that the new ones no longer reach. A plan only reads. It says of the new tree what stands
+//! in it in every store that has the new blocks and agrees with the old one in what the old tree
+//! reaches, so writes elsewhere don't matter, and no old block is written: a data block is the dirty one
+//! if there is one, the old one if it stays, and else zeros (`block_after`). What the new tree reaches
+//! with what is released is what the old one reached with what was added, each block as often, so the
+//! map's bits follow from the two lists. The new blocks are at most a path for each dirty block and one
+//! path more (`most_added`).
+//!
+//! The way through: `plan_tree` plans the sixteen pointers by `plan_pointers`, and that each of them by
+//! `plan_pointer`, which goes down to the pointers below: a recursion over levels, so a tree of three
+//! levels is no case of its own. A pointer stays where no dirty block lies below it and all below it
+//! stays, or it is a hole. An indirect block is copied once, where a pointer in it changes, and is a hole
+//! where all of its pointers are.
+//!
+//! ```text
+//! let mut build = Build::new(alloc, allocator);
+//! let tree = plan_tree(&mut build, &mut blocks, &tree, Dirty { size, keep, blocks: changed })?;
+//! for block in build.added() { .. }
+//! ```
+#![tactic(auto)]
+
+mod build;
+mod children;
+mod fault;
+mod new_block;
+mod plan;
+mod tree;
+
+pub use build::Build;
+pub use fault::PlanFault;
+pub use new_block::{DirtyBlock, NewBlock};
+pub use tree::{Dirty, plan_tree};

@@ -1,0 +1,195 @@
+//! The pointers of a tree, planned from the top down.
+ghost use Rattle.std.specs.Prelude.{◌≡◌, ◌≢◌, ◌⊎◌, ◌+◌, ◌*◌, ◌^◌, ◌<◌, ◌≤◌, ◌↔◌, ℕ, [], ◌∷◌, false, length, Err, All, IsTrue, IsNone, IsSome, IfNone, IfSome, IfOk, OnOk, MatchOption};
+ghost use Rattle.sn_device.specs.Disk.{reads};
+ghost use Rattle.sn_alloc.specs.Taking.{free_data};
+ghost use Rattle.sn_block.specs.Lending.{device_of};
+ghost use Rattle.sn_image.specs.Reach.{block_reach};
+ghost use Rattle.sn_layout_node.specs.Indirect.{ArePointers, pointers_bytes};
+ghost use Rattle.sn_ondisk.specs.Trees.{store_of, all_pointers};
+ghost use Rattle.sn_tree.specs.Drafts.{grown};
+ghost use Rattle.sn_tree.specs.Dirty.{IsFrom, after};
+ghost use Rattle.sn_tree.specs.Plans.{contents, most_added};
+ghost use Rattle.sn_tree.specs.Steps.{AreHoles, Planned, IsPut, IsReplaced, IsTooFull, LeadsOutside, CountsPlan};
+ghost use Rattle.sn_tree.specs.declared.fault.PlanFault.TheVariants.{Tree, Full};
+ghost use Rattle.sn_tree_read.specs.declared.fault.TreeFault.{TreeFault as TheFault};
+ghost use Rattle.sn_tree_read.specs.declared.fault.TreeFault.TheVariants.{Damaged};
+
+use crate::children::pointers_below;
+use crate::{Build, DirtyBlock, PlanFault};
+use sn_block::Blocks;
+use sn_device::Device;
+use sn_layout::BLOCK_SIZE;
+use sn_layout_node::{IndirectBlock, POINTERS_PER_BLOCK};
+use std::collections::VecDeque;
+
+// How many data blocks lie below a pointer that stands so many levels above them.
+fn span_of(depth: u32) -> u64
+    requires { depth ≤ 3 }
+    ensures value { result ≡ 1024 ^ depth }
+    ensures some { 0 < result }
+    ensures most { result ≤ 1073741824 }
+{
+    1024u64.pow(depth)
+}
+
+// Whether no dirty block comes before an index.
+fn is_clean(dirty: &VecDeque<DirtyBlock>, end: u64) -> bool
+    ensures clean { IsTrue result → (least : ℕ) → IsFrom least dirty.now.items → IsFrom end dirty.now.items }
+    ensures dirty { result ≡ false → length (after end dirty.now.items) < length dirty.now.items }
+{
+    match dirty.front() {
+        Some(block) => block.index >= end,
+        None => true,
+    }
+}
+
+// Takes out the dirty block that comes before an index, if one does.
+fn take_before(dirty: &mut VecDeque<DirtyBlock>, end: u64) -> Option<DirtyBlock>
+    ensures some { IfSome result (λ block. (dirty.old.items ≡ block ∷ dirty.new.items) × (block.index < end)) }
+    ensures none { IfNone result (dirty.new.items ≡ dirty.old.items) }
+    ensures clean { IfNone result ((least : ℕ) → IsFrom least dirty.old.items → IsFrom end dirty.old.items) }
+{
+    if is_clean(dirty, end) {
+        return None;
+    }
+    dirty.pop_front()
+}
+
+// Whether a pointer stays whose data blocks come before an index: none of them is dirty, and all stay
+// or are holes.
+fn stays(dirty: &VecDeque<DirtyBlock>, keep: u64, pointer: u32, end: u64) -> bool
+    ensures stays { IsTrue result → (least : ℕ) → IsFrom least dirty.now.items
+        → IsFrom end dirty.now.items × ((end ≤ keep) ⊎ (pointer ≡ 0)) }
+    ensures touched { result ≡ false
+        → length (after end dirty.now.items) ≡ length dirty.now.items → keep < end }
+{
+    if !is_clean(dirty, end) {
+        return false;
+    }
+    end <= keep || pointer == 0
+}
+
+// The new pointer in place of one to a data block: that of the dirty block, or a hole.
+fn replace_block(
+    build: &mut Build,
+    pointer: u32,
+    dirty: Option<DirtyBlock>,
+) -> Result<u32, PlanFault>
+    ensures none { IsNone dirty → IfOk result (λ new. (new ≡ 0)
+        × (build.new ≡ grown build.old [] (block_reach pointer))) }
+    ensures some { IfSome dirty (λ block. IfOk result
+        (λ new. IsPut build.old build.new pointer new block.bytes.value)) }
+    ensures filled { result ≡ Err Full → IsSome dirty }
+    ensures full { result ≡ Err Full → free_data build.old.words build.old.first ≤ length build.old.added }
+    ensures own { (fault : TheFault) → result ≢ Err (Tree fault) }
+{
+    build.release(pointer)?;
+    match dirty {
+        Some(DirtyBlock { index: _, bytes }) => build.put(bytes),
+        None => Ok(0),
+    }
+}
+
+fn are_holes(pointers: &[u32; POINTERS_PER_BLOCK]) -> bool
+    ensures holes { IsTrue result ↔ All (λ p. p ≡ 0) pointers.now }
+    ensures are { ArePointers pointers.now }
+{
+    pointers.iter().all(|pointer| *pointer == 0)
+}
+
+// The new pointer in place of one to an indirect block: that of a block of these pointers, or a hole
+// where all of them are.
+fn replace_pointers(
+    build: &mut Build,
+    pointer: u32,
+    pointers: &[u32; POINTERS_PER_BLOCK],
+) -> Result<u32, PlanFault>
+    ensures replaced { IfOk result (IsReplaced build.old build.new pointer pointers.now) }
+    ensures full { result ≡ Err Full → free_data build.old.words build.old.first ≤ length build.old.added }
+    ensures filled { result ≡ Err Full → ¬ AreHoles pointers.now }
+    ensures own { (fault : TheFault) → result ≢ Err (Tree fault) }
+{
+    build.release(pointer)?;
+    if are_holes(pointers) {
+        return Ok(0);
+    }
+    let mut block = [0; BLOCK_SIZE];
+    IndirectBlock::encode(pointers, &mut block);
+    let block = build.boxed(block)?;
+    build.put(block)
+}
+
+// The new pointer in place of one that stands so many levels above its data blocks, of which the first
+// has this index.
+#[cycle(plan)]
+fn plan_pointer<D: Device>(
+    build: &mut Build,
+    blocks: &mut Blocks<D>,
+    dirty: &mut VecDeque<DirtyBlock>,
+    keep: u64,
+    pointer: u32,
+    depth: u32,
+    first: u64,
+) -> Result<u32, PlanFault>
+    requires depth { depth ≤ 3 }
+    requires room { first + 1024 ^ depth ≤ 2 ^ 62 }
+    requires rise { IsFrom first dirty.old.items }
+    ensures planned { IfOk result (λ new. Planned (IsTrue D.tells_bytes) (store_of (reads (D.disk (device_of blocks.old))))
+        (all_pointers (store_of (reads (D.disk (device_of blocks.old)))) depth (pointer ∷ []))
+        (contents (store_of (reads (D.disk (device_of blocks.old)))) depth (pointer ∷ []))
+        depth first (first + 1024 ^ depth) keep dirty.old.items dirty.new.items (new ∷ []) build.old build.new) }
+    ensures full { IsTooFull result build.old
+        (most_added depth first (first + 1024 ^ depth) keep dirty.old.items) }
+    ensures damaged { IsTrue D.tells_bytes → result ≡ Err (Tree Damaged)
+        → LeadsOutside (D.status (device_of blocks.old)).sectors
+        (all_pointers (store_of (reads (D.disk (device_of blocks.old)))) depth (pointer ∷ [])) }
+    ensures same { IsTrue D.tells_bytes → D.disk (device_of blocks.new) ≡ D.disk (device_of blocks.old) }
+    ensures counts { CountsPlan result (D.status (device_of blocks.old)) (D.status (device_of blocks.new)) }
+{
+    let end = first + span_of(depth);
+    if stays(dirty, keep, pointer, end) {
+        return Ok(pointer);
+    }
+    if depth == 0 {
+        let block = take_before(dirty, end);
+        return replace_block(build, pointer, block);
+    }
+    let mut pointers = pointers_below(blocks, pointer)?;
+    plan_pointers(build, blocks, dirty, keep, &mut pointers, depth - 1, first)?;
+    replace_pointers(build, pointer, &pointers)
+}
+
+// The same for pointers that stand side by side, in their place.
+#[cycle(plan)]
+pub(crate) fn plan_pointers<D: Device>(
+    build: &mut Build,
+    blocks: &mut Blocks<D>,
+    dirty: &mut VecDeque<DirtyBlock>,
+    keep: u64,
+    pointers: &mut [u32],
+    depth: u32,
+    first: u64,
+) -> Result<(), PlanFault>
+    requires depth { depth ≤ 3 }
+    requires room { first + length pointers.old * 1024 ^ depth ≤ 2 ^ 62 }
+    requires rise { IsFrom first dirty.old.items }
+    ensures planned { OnOk result (Planned (IsTrue D.tells_bytes) (store_of (reads (D.disk (device_of blocks.old))))
+        (all_pointers (store_of (reads (D.disk (device_of blocks.old)))) depth pointers.old)
+        (contents (store_of (reads (D.disk (device_of blocks.old)))) depth pointers.old)
+        depth first (first + length pointers.old * 1024 ^ depth) keep dirty.old.items dirty.new.items pointers.new build.old build.new) }
+    ensures full { IsTooFull result build.old
+        (most_added depth first (first + length pointers.old * 1024 ^ depth) keep dirty.old.items) }
+    ensures damaged { IsTrue D.tells_bytes → result ≡ Err (Tree Damaged)
+        → LeadsOutside (D.status (device_of blocks.old)).sectors
+        (all_pointers (store_of (reads (D.disk (device_of blocks.old)))) depth pointers.old) }
+    ensures same { IsTrue D.tells_bytes → D.disk (device_of blocks.new) ≡ D.disk (device_of blocks.old) }
+    ensures counts { CountsPlan result (D.status (device_of blocks.old)) (D.status (device_of blocks.new)) }
+{
+    let span = span_of(depth);
+    for k in 0..pointers.len() {
+        let at = first + span * k as u64;
+        let new = plan_pointer(build, blocks, dirty, keep, pointers[k], depth, at)?;
+        pointers[k] = new;
+    }
+    Ok(())
+}

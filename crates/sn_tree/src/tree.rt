@@ -1,0 +1,68 @@
+//! A tree with other data blocks.
+ghost use Rattle.std.specs.Prelude.{◌≡◌, ◌+◌, ◌*◌, length, Err, IsTrue, IfOk};
+ghost use Rattle.sn_device.specs.Disk.{reads};
+ghost use Rattle.sn_block.specs.Lending.{device_of};
+ghost use Rattle.sn_layout.specs.Pointers.{levels_of};
+ghost use Rattle.sn_ondisk.specs.Trees.{store_of, tree_reach};
+ghost use Rattle.sn_tree.specs.Dirty.{IsFrom};
+ghost use Rattle.sn_tree.specs.Replanned.{IsPlanned};
+ghost use Rattle.sn_tree.specs.Steps.{IsTooFull, LeadsOutside, CountsPlan};
+ghost use Rattle.sn_tree.specs.declared.fault.PlanFault.TheVariants.{Tree};
+ghost use Rattle.sn_tree_read.specs.declared.fault.TreeFault.TheVariants.{Damaged};
+
+use crate::plan::plan_pointers;
+use crate::{Build, DirtyBlock, PlanFault};
+use sn_block::Blocks;
+use sn_device::Device;
+use sn_layout::{BlockTree, POINTERS, Pointers};
+use std::collections::VecDeque;
+
+/// What is to become of a tree.
+#[derive(Drop)]
+pub struct Dirty {
+    /// How many bytes it is to have.
+    pub size: u64,
+    /// How many of its data blocks stay, counted from the first one, where they aren't dirty. Those
+    /// behind them are cut off.
+    pub keep: u64,
+    /// The data blocks with other bytes, their indices rising.
+    pub blocks: VecDeque<DirtyBlock>,
+}
+
+/// Plans a tree with other data blocks, and as many levels as before. A changed block and those on the
+/// way to it become new ones; the old ones are released and not written. After an error the build can
+/// only be given up. `Full` comes only where fewer blocks are left than a path for each dirty block and
+/// one more, and `Damaged` only where a block that the old tree reaches isn't on the device.
+pub fn plan_tree<D: Device>(
+    build: &mut Build,
+    blocks: &mut Blocks<D>,
+    tree: &BlockTree,
+    dirty: Dirty,
+) -> Result<BlockTree, PlanFault>
+    requires height { levels_of dirty.size ≡ levels_of tree.now.size }
+    requires rise { IsFrom 0 dirty.blocks.items }
+    ensures size { IfOk result (λ new. new.size ≡ dirty.size) }
+    ensures planned { IfOk result (λ new. IsPlanned (IsTrue D.tells_bytes) (store_of (reads (D.disk (device_of blocks.old))))
+        tree.now new dirty.keep dirty.blocks.items build.old build.new) }
+    ensures full { IsTooFull result build.old
+        ((levels_of dirty.size + 1) * (length dirty.blocks.items + 1)) }
+    ensures damaged { IsTrue D.tells_bytes → result ≡ Err (Tree Damaged)
+        → LeadsOutside (D.status (device_of blocks.old)).sectors
+        (tree_reach (store_of (reads (D.disk (device_of blocks.old)))) tree.now) }
+    ensures same { IsTrue D.tells_bytes → D.disk (device_of blocks.new) ≡ D.disk (device_of blocks.old) }
+    ensures counts { CountsPlan result (D.status (device_of blocks.old)) (D.status (device_of blocks.new)) }
+{
+    let Dirty {
+        size,
+        keep,
+        blocks: mut changed,
+    } = dirty;
+    let levels = BlockTree::levels_of(tree.size);
+    let mut pointers = [0; POINTERS];
+    pointers.copy_from_slice(tree.pointers.as_slice());
+    plan_pointers(build, blocks, &mut changed, keep, &mut pointers, levels, 0)?;
+    Ok(BlockTree {
+        size,
+        pointers: Pointers::new(&pointers),
+    })
+}
