@@ -26,3 +26,4 @@ pub mod ExampleLemmas
 pub mod StepLemmas
 pub mod AccessCallLemmas
 pub mod AccessDenialLemmas
+pub mod SearchLemmas
