@@ -77,3 +77,18 @@ all_below table session fd past far = map.same_map descriptors_total exact_descr
     split q false e =
         let none = far q.0 q.1 (ltb-false q.1 64 e) in
         ap (λ (o : Option Descriptor). cond (not (is_below session fd q)) o None) none ∙ both_same (not (is_below session fd q)) (not (q.0 == session)) None ∙ sym (ap (λ (o : Option Descriptor). cond (not (q.0 == session)) o None) none)
+
+-- a session that is closed has none, and the others keep theirs
+pub without_own : (table : Descriptors) (session fd : ℕ) → map.get (without_session table session) (session, fd) ≡ None
+without_own table session fd = get_kept table (λ k. not (k.0 == session)) (session, fd) ∙ ap (λ (b : Bool). cond (not b) (map.get table (session, fd)) None) (eq-eqb session session refl)
+
+pub without_none : (table : Descriptors) (session s fd : ℕ) → map.get table (s, fd) ≡ None → map.get (without_session table session) (s, fd) ≡ None
+without_none table session s fd none = get_kept table (λ k. not (k.0 == session)) (s, fd) ∙ ap (λ (o : Option Descriptor). cond (not (s == session)) o None) none ∙ each (not (s == session)) None
+  where
+    each : (b : Bool) (o : Option Descriptor) → cond b o o ≡ o
+    each true o = refl
+    each false o = refl
+
+-- where no session has a descriptor, nothing is open
+pub all_none : (table : Descriptors) → ((s fd : ℕ) → map.get table (s, fd) ≡ None) → table ≡ map.empty
+all_none table none = map.same_map descriptors_total exact_descriptors _ _ (λ q. none q.0 q.1 ∙ sym (map.get-empty descriptor_cmp q))

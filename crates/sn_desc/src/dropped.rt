@@ -51,3 +51,12 @@ pub(crate) fn end_point(drops: &mut [Dropped])
         *dropped = dropped.forgotten();
     }
 }
+
+/// Nothing was dropped.
+pub(crate) fn clear(drops: &mut [Dropped])
+    ensures { drops.new ≡ replicate (length drops.old) Dropped.Never }
+{
+    for dropped in drops.iter_mut() {
+        *dropped = Dropped::Never;
+    }
+}

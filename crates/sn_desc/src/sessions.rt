@@ -1,4 +1,4 @@
-ghost use Rattle.std.specs.Prelude.{◌≡◌, ◌+◌, ◌-◌, ◌*◌, ◌<◌, ◌≤◌, map, replicate, slice_index_or, slice_set, vec_len, option_copied, None, Some, IsOk, IfOk, OnOk, OnErr};
+ghost use Rattle.std.specs.Prelude.{◌≡◌, ◌+◌, length, ◌-◌, ◌*◌, ◌<◌, ◌≤◌, map, replicate, slice_index_or, slice_set, vec_len, option_copied, None, Some, IsOk, IfOk, OnOk, OnErr};
 ghost use Rattle.std.specs.Option.{option_map};
 ghost use Rattle.std.specs.FinMap as finite;
 ghost use Rattle.sn_model.specs.Descriptors.{at_offset, closed, descriptor_at, is_held_in, moved_to, next_descriptor, opened, readable_at, sought, without_session, writable_at};
@@ -288,6 +288,25 @@ impl Sessions {
         let released = self.close_all(session);
         self.sessions[session as usize] = None;
         released
+    }
+
+    /// Logs everybody out, closes everything and forgets what was dropped, as when the sessions were
+    /// made.
+    pub fn clear(&mut self)
+        ensures in_use { in_use_of self.new ≡ nothing_in_use (in_use_of self.new).room }
+        ensures room { (in_use_of self.old).room ≤ (in_use_of self.new).room }
+    {
+        for session in 0..SESSIONS {
+            self.logout(session);
+        }
+        self.forget_drops();
+    }
+
+    /// Forgets what was dropped.
+    fn forget_drops(&mut self)
+        ensures { in_use_of self.new ≡ record (in_use_of self.old) { dropped = replicate (length (in_use_of self.old).dropped) drop.Never } }
+    {
+        dropped::clear(self.dropped.as_mut_slice());
     }
 
     /// Whether a descriptor has the live file with this number.

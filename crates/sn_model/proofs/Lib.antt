@@ -27,3 +27,4 @@ pub mod StepLemmas
 pub mod AccessCallLemmas
 pub mod AccessDenialLemmas
 pub mod SearchLemmas
+pub mod FileCallLemmas
