@@ -1,5 +1,5 @@
 -- How many descriptors a live file has, by the places and by the finite map.
-use Rattle.std.proofs.Common.{◌≡◌, ℕ, zero, suc, ◌+◌, ◌<◌, ◌==◌, ◌||◌, Bool, true, false, nat_lt, cond, List, [], ◌∷◌, Option, Some, None, length, get_or, replicate, count_by, refl, sym, ap, ◌∙◌, arith}
+use Rattle.std.proofs.Common.{◌≡◌, ℕ, zero, suc, ◌+◌, ◌==◌, ◌||◌, Bool, true, false, nat_lt, cond, List, [], ◌∷◌, Option, Some, None, length, get_or, replicate, count_by, refl, sym, ap, ◌∙◌, arith}
 use Rattle.std.specs.FinMap as map
 use Rattle.std.specs.List.{list_any}
 use Rattle.std.specs.Option.{option_map}
@@ -41,10 +41,12 @@ unfolding placed_from
 placed_count [] first number = count_none descriptors_total exact_descriptors (is_holder number) map.empty (λ k v e. let never : None ≡ Some v = sym (map.get-empty descriptor_cmp k) ∙ e in absurd cc)
 placed_count (None ∷ rest) first number = omega (arith, placed_count rest (first + 1) number, sum_by-cons (λ (o : Option OpenFile). cond (is_live_file number o) 1 0) None rest)
 placed_count (Some f ∷ rest) first number =
-    omega (arith,
-    count_inserted descriptors_total exact_descriptors (is_holder number) (placed_from (first + 1) rest) (key first) (descriptor_of f) (placed_below rest (first + 1) first (omega arith)),
-    placed_count rest (first + 1) number,
-    sum_by-cons (λ (o : Option OpenFile). cond (is_live_file number o) 1 0) (Some f) rest)
+    omega (
+      arith,
+      count_inserted descriptors_total exact_descriptors (is_holder number) (placed_from (first + 1) rest) (key first) (descriptor_of f) (placed_below rest (first + 1) first (omega arith)),
+      placed_count rest (first + 1) number,
+      sum_by-cons (λ (o : Option OpenFile). cond (is_live_file number o) 1 0) (Some f) rest,
+    )
 
 -- whether a file is held, by the places
 pub held_is : (files : List (Option OpenFile)) (number : ℕ) → is_held_in (descriptors_in files) number ≡ nat_lt 0 (holders_of number files)

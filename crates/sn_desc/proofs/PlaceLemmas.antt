@@ -1,5 +1,5 @@
 -- Descriptors by session and number, against the files at their places.
-use Rattle.std.proofs.Common.{◌≡◌, ◌≢◌, ◌⊎◌, inl, inr, ℕ, zero, suc, ◌+◌, ◌*◌, ◌/◌, ◌%◌, ◌<◌, ◌≤◌, Bool, true, false, nat_lt, cond, List, [], ◌∷◌, Option, Some, None, length, get_or, set, replicate, refl, sym, ap, ◌∙◌, arith, add-zero, zero-add}
+use Rattle.std.proofs.Common.{◌≡◌, ◌≢◌, ◌⊎◌, inl, inr, ℕ, zero, suc, ◌+◌, ◌*◌, ◌/◌, ◌%◌, ◌<◌, ◌≤◌, Bool, true, false, nat_lt, List, [], ◌∷◌, Option, Some, None, length, get_or, set, replicate, refl, sym, ap, ◌∙◌, arith, add-zero, zero-add}
 use Rattle.std.specs.FinMap as map
 use Rattle.std.specs.Option.{option_map}
 use Rattle.std.specs.Ordering.{nat_cmp}
@@ -11,8 +11,8 @@ use Rattle.std.proofs.lemmas.Nat.{div-mul-add, mod-mul-add, mod_below}
 use Rattle.std.proofs.Math.Nat.{div-add-mod}
 use Rattle.std.proofs.lemmas.List.{get_or_past, get_or-set_same, get_or-set_other}
 use Rattle.sn_model.proofs.MapLemmas.{same_or_apart, get_inserted, get_other, get_removed, get_left}
-use Rattle.sn_model.specs.World.{Descriptor, descriptor_cmp}
-use Rattle.sn_model.specs.Descriptors.{Descriptors, at_offset, closed, moved_if, moved_to, opened}
+use Rattle.sn_model.specs.World.{descriptor_cmp}
+use Rattle.sn_model.specs.Descriptors.{closed, moved_if, moved_to, opened}
 use Rattle.sn_desc.specs.declared.open_file.OpenFile.{OpenFile}
 use Rattle.sn_desc.specs.Files.{with_offset}
 use Rattle.sn_desc.specs.InUse.{descriptor_of, descriptors_in, placed_from}

@@ -1,7 +1,5 @@
 -- How many descriptors each live file has.
-use Rattle.std.specs.Prelude.{◌≡◌, ℕ, ◌<◌, ◌==◌, Bool, false, List, Option, None, Some, count_by, length, slice_index, if◌then◌else◌}
-use Rattle.sn_walk.specs.declared.object.Home.{Home}
-use Rattle.sn_walk.specs.declared.object.Home.TheVariants.{Live, Frozen}
+use Rattle.std.specs.Prelude.{◌≡◌, ℕ, ◌<◌, Bool, false, List, Option, None, Some, count_by, length, slice_index, if◌then◌else◌}
 use Rattle.sn_model.specs.Settling.{is_of_live}
 use Rattle.sn_desc.specs.declared.open_file.OpenFile.{OpenFile}
 

@@ -4,7 +4,7 @@ use Rattle.std.specs.FinMap as map
 use Rattle.sn_acl.specs.declared.modes.Mode.{Mode}
 use Rattle.sn_model.specs.declared.session.Session.{Session}
 use Rattle.sn_model.specs.Descriptors.{Descriptors}
-use Rattle.sn_model.specs.World.{Descriptor, World, descriptor_cmp}
+use Rattle.sn_model.specs.World.{Descriptor, World}
 use Rattle.sn_desc.specs.declared.dropped.Dropped.{Dropped}
 use Rattle.sn_desc.specs.declared.dropped.Dropped.TheVariants.{Never}
 use Rattle.sn_desc.specs.declared.open_file.OpenFile.{OpenFile}

@@ -1,4 +1,4 @@
-use Rattle.std.proofs.Common.{◌≡◌, ◌<◌, ℕ, length, replicate, sym, ◌∙◌, arith}
+use Rattle.std.proofs.Common.{◌≡◌, length, replicate, sym, ◌∙◌, arith}
 use Rattle.std.proofs.lemmas.List.{ext_get_or, get_or-replicate, length-replicate}
 use Rattle.sn_desc.specs.declared.dropped.Dropped.TheVariants.{Never}
 use Rattle.sn_desc.proofs.dropped.clear.Goals as goal

@@ -1,6 +1,3 @@
-use Rattle.std.proofs.Common.{◌≡◌, ℕ, List, length, replicate, Option, None, refl, sym, ap, ◌∙◌}
-use Rattle.std.proofs.lemmas.List.{length-replicate}
-use Rattle.sn_desc.specs.declared.open_file.OpenFile.{OpenFile}
 use Rattle.sn_desc.proofs.HeldLemmas.{none_counted}
 use Rattle.sn_desc.proofs.open_files.OpenFiles.new.Goals as goal
 

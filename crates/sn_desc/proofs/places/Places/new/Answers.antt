@@ -1,4 +1,4 @@
-use Rattle.std.proofs.Common.{◌∙◌, ap, sym, rules}
+use Rattle.std.proofs.Common.{◌∙◌, ap, rules}
 use Rattle.sn_desc.specs.Places.{files_under}
 use Rattle.sn_desc.proofs.KeyLemmas.{none_placed}
 use Rattle.sn_desc.proofs.places.Places.new.Goals as goal

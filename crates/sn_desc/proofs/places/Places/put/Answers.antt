@@ -1,4 +1,4 @@
-use Rattle.std.proofs.Common.{refl, sym, arith, ◌∙◌, length}
+use Rattle.std.proofs.Common.{refl, arith}
 use Rattle.std.proofs.lemmas.List.{length-map}
 use Rattle.sn_desc.specs.Places.{file_under}
 use Rattle.sn_desc.proofs.KeyLemmas.{put_files, put_placed}

@@ -1,4 +1,4 @@
-use Rattle.std.proofs.Common.{refl, sym, ◌∙◌}
+use Rattle.std.proofs.Common.{refl, sym}
 use Rattle.sn_desc.proofs.KeyLemmas.{still_none, take_files, take_placed}
 use Rattle.sn_desc.proofs.places.Places.take.Goals as goal
 

@@ -1,13 +1,12 @@
-use Rattle.std.proofs.Common.{◌≡◌, ◌≢◌, ◌⊎◌, inl, inr, ℕ, ◌+◌, ◌<◌, ◌≤◌, Bool, true, false, nat_lt, List, Option, None, get_or, length, replicate, set, refl, ap, sym, ◌∙◌, arith}
+use Rattle.std.proofs.Common.{◌≡◌, ◌≢◌, ◌⊎◌, inl, inr, ℕ, ◌+◌, ◌<◌, ◌≤◌, Bool, true, false, nat_lt, Option, None, get_or, length, replicate, set, refl, ap, sym, ◌∙◌, arith}
 use Rattle.std.specs.FinMap as map
 use Rattle.std.proofs.lemmas.Bool.{cases_eq, ltb-true, ltb-false}
 use Rattle.std.proofs.lemmas.List.{ext_get_or, get_or-replicate, get_or-set_other, get_or-set_same, length-replicate}
 use Rattle.sn_model.specs.Descriptors.{without_session}
 use Rattle.sn_model.specs.declared.session.Session.{Session}
-use Rattle.sn_desc.specs.declared.dropped.Dropped.{Dropped}
 use Rattle.sn_desc.specs.declared.dropped.Dropped.TheVariants.{Never}
 use Rattle.sn_desc.specs.InUse.{InUse}
-use Rattle.sn_desc.specs.OpenFiles.{files_of, room_of}
+use Rattle.sn_desc.specs.OpenFiles.{files_of}
 use Rattle.sn_desc.specs.Sessions.{in_use_of}
 use Rattle.sn_desc.proofs.LogoutLemmas.{all_none, without_none, without_own}
 use Rattle.sn_desc.proofs.PlaceLemmas.{get_past}
@@ -42,8 +41,8 @@ returns-clause-in_use c =
     let past : 64 ≤ c.loop-session.session = omega arith in
     let count : length u.sessions ≡ 64 = omega (arith, last.sessions_are_64, last.sessions.ok.0) in
     let out : u.sessions ≡ replicate 64 None =
-        ext_get_or None u.sessions (replicate 64 None) (count ∙ sym (length-replicate {A = Option Session} 64 None))
-        (λ k low. i.out k (omega (arith, low, count, past)) ∙ sym (get_or-replicate {A = Option Session} 64 k None None (omega (arith, low, count)))) in
+    ext_get_or None u.sessions (replicate 64 None) (count ∙ sym (length-replicate {A = Option Session} 64 None))
+    (λ k low. i.out k (omega (arith, low, count, past)) ∙ sym (get_or-replicate {A = Option Session} 64 k None None (omega (arith, low, count)))) in
     let none = all_none u.descriptors (λ s fd. split s fd (nat_lt s 64) refl) in
     let size : length u.dropped ≡ 65536 = omega (arith, last.each_number, last.dropped.ok.0) in
     let cleared = ap (λ (n : ℕ). replicate n Never) size in

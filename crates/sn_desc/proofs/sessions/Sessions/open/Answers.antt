@@ -1,6 +1,6 @@
-use Rattle.std.proofs.Common.{ap, sym, ◌∙◌, ◌-◌, arith}
+use Rattle.std.proofs.Common.{ap, ◌∙◌}
 use Rattle.sn_desc.specs.InUse.{descriptors_in}
-use Rattle.sn_desc.specs.OpenFiles.{files_of, room_of}
+use Rattle.sn_desc.specs.OpenFiles.{files_of}
 use Rattle.sn_desc.proofs.SessionLemmas.{opens, vacant}
 use Rattle.sn_desc.proofs.sessions.Sessions.open.Goals as goal
 
