@@ -77,7 +77,7 @@ fn logout(sessions: &mut Sessions, session: u32, text: &mut String) -> Result<()
     }
     let released = sessions.logout(session);
     say(text, "logged-out")?;
-    for number in &released {
+    for number in released.as_slice() {
         say(text, number)?;
     }
     Ok(())
