@@ -7,7 +7,7 @@ use Rattle.sn_walk.specs.Chains.{◌>>=◌}
 use Rattle.sn_model.specs.declared.reply.Errno.TheVariants.{Ebadf}
 use Rattle.sn_model.specs.declared.reply.Refusal.{Refusal}
 use Rattle.sn_model.specs.declared.reply.Reply.TheVariants.{Number}
-use Rattle.sn_model.specs.Descriptors.{descriptor_at, for_reading, found, readable_at, writable_at}
+use Rattle.sn_model.specs.Descriptors.{for_reading, found, readable_at, writable_at}
 use Rattle.sn_model.specs.FileCalls.{FileOutcome, Keeps, open_bytes, read_outcome, reads, turns, write_offset, write_outcome}
 use Rattle.sn_model.specs.Tests.{plain}
 use Rattle.sn_model.specs.World.{Descriptor, World}

@@ -1,5 +1,5 @@
 -- A search for the first number that doesn't pass a test.
-use Rattle.std.proofs.Common.{◌≡◌, ℕ, zero, suc, ◌+◌, ◌<◌, ◌≤◌, Bool, true, false, Option, Some, None, refl, sym, ap, ◌∙◌, arith, add-zero}
+use Rattle.std.proofs.Common.{◌≡◌, ℕ, zero, suc, ◌+◌, ◌<◌, ◌≤◌, Bool, true, false, Some, None, refl, sym, ap, ◌∙◌, arith, add-zero}
 use Rattle.sn_model.specs.Descriptors.{first_without}
 
 -- it ends at the first number that doesn't pass

@@ -1,5 +1,5 @@
 -- The calls on files and descriptors, each as the list of its tests, in their order, with what it comes to where all pass: POSIX.1-2017, open(), close(), read(), write(), lseek(), ftruncate() and unlink(). The order of the tests is a rule of this project, and so is that a write is whole or not at all.
-use Rattle.std.specs.Prelude.{ℕ, ◌+◌, ◌-◌, ◌*◌, ◌/◌, ◌==◌, ◌&&◌, ◌||◌, not, Bool, true, false, nat_le, List, [], Option, None, Some, Result, Ok, Err, length, take, drop, slice_set, if◌then◌else◌}
+use Rattle.std.specs.Prelude.{ℕ, ◌+◌, ◌-◌, ◌*◌, ◌/◌, ◌==◌, ◌&&◌, ◌||◌, not, Bool, false, nat_le, List, [], Option, None, Some, Result, Ok, Err, length, take, drop, slice_set, if◌then◌else◌}
 use Rattle.std.specs.FinMap as map
 use Rattle.std.specs.Option.{option_and_then}
 use Rattle.sn_acl.specs.declared.entries.Entry.{Entry}
@@ -31,7 +31,7 @@ use Rattle.sn_model.specs.AccessCalls.{live_if}
 use Rattle.sn_model.specs.Calls.{Seen, last_name}
 use Rattle.sn_model.specs.Descriptors.{Descriptors, closed, descriptor_at, is_offset, moved_to, next_descriptor, opened, readable_at, without_session, writable_at}
 use Rattle.sn_model.specs.Outcomes.{Pending, Nothing, Makes, Does}
-use Rattle.sn_model.specs.Tests.{plain, new_mode_argument, prefix, there, live, granted, writable_parent, sticky}
+use Rattle.sn_model.specs.Tests.{plain, prefix, there, live, granted, writable_parent, sticky}
 use Rattle.sn_model.specs.Tree.{Node as TreeNode}
 use Rattle.sn_model.specs.World.{Descriptor, World, tree_in, trees_of}
 
