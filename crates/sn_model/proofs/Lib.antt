@@ -28,3 +28,5 @@ pub mod AccessCallLemmas
 pub mod AccessDenialLemmas
 pub mod CallDenialLemmas
 pub mod UmaskLemmas
+pub mod SearchLemmas
+pub mod FileCallLemmas

@@ -19,3 +19,5 @@ pub mod AccessLaws
 pub mod MachineLaws
 pub mod Example
 pub mod Denials
+pub mod Descriptors
+pub mod FileCalls

@@ -1,0 +1,78 @@
+-- How many descriptors a live file has, by the places and by the finite map.
+use Rattle.std.proofs.Common.{◌≡◌, ℕ, zero, suc, ◌+◌, ◌==◌, ◌||◌, Bool, true, false, nat_lt, cond, List, [], ◌∷◌, Option, Some, None, length, get_or, replicate, count_by, refl, sym, ap, ◌∙◌, arith}
+use Rattle.std.specs.FinMap as map
+use Rattle.std.specs.List.{list_any}
+use Rattle.std.specs.Option.{option_map}
+use Rattle.std.proofs.lemmas.Bool.{lt-ltb, ne_eqb}
+use Rattle.std.proofs.lemmas.List.Sums.{sum_by-cons}
+use Rattle.std.proofs.lemmas.List.{get_or-replicate, length-replicate}
+use Rattle.sn_walk.specs.declared.object.Home.{Home}
+use Rattle.sn_walk.specs.declared.object.Home.TheVariants.{Live, Frozen}
+use Rattle.sn_model.proofs.CountLemmas.{count, count_inserted, count_none}
+use Rattle.sn_model.specs.Settling.{is_of_live}
+use Rattle.sn_model.specs.World.{Descriptor, descriptor_cmp}
+use Rattle.sn_model.specs.Descriptors.{Descriptors, is_held_in, released_at}
+use Rattle.sn_desc.specs.declared.open_file.OpenFile.{OpenFile}
+use Rattle.sn_desc.specs.Closing.{released_if}
+use Rattle.sn_desc.specs.Holders.{IsCounted, holders_of, is_live_file, one}
+use Rattle.sn_desc.specs.InUse.{descriptor_of, descriptors_in, placed_from}
+use Rattle.sn_desc.specs.OpenFiles.{released_file, released_from}
+use Rattle.sn_desc.proofs.PlaceLemmas.{descriptors_total, exact_descriptors, key, placed_below}
+
+abbrev pub is_holder : ℕ → (ℕ × ℕ) × Descriptor → Bool
+is_holder number e = is_of_live number e.1.home e.1.number
+
+-- a test that some element passes counts some
+any_counts : {A : Type 0} (p : A → Bool) (xs : List A) → list_any p xs ≡ nat_lt 0 (count_by p xs)
+any_counts p [] = refl
+any_counts {A} p (x ∷ xs) =
+    let all = sum_by-cons (λ (y : A). cond (p y) 1 0) x xs in
+    elim (p x) as (λ b. (b || list_any p xs) ≡ nat_lt 0 (cond b 1 0 + count_by p xs)) [
+      | true ↦ sym (lt-ltb 0 (1 + count_by p xs) (omega arith))
+      | false ↦ any_counts p xs ∙ ap (nat_lt 0) (let none : count_by p xs ≡ 0 + count_by p xs = omega arith in none)
+    ] ∙ ap (nat_lt 0) (sym all)
+
+-- a file is held where some descriptor counts
+pub held_count : (table : Descriptors) (number : ℕ) → is_held_in table number ≡ nat_lt 0 (count (is_holder number) table)
+held_count table number = any_counts (is_holder number) (map.entries table)
+
+placed_count : (files : List (Option OpenFile)) (first number : ℕ) → count (is_holder number) (placed_from first files) ≡ holders_of number files
+unfolding placed_from
+placed_count [] first number = count_none descriptors_total exact_descriptors (is_holder number) map.empty (λ k v e. let never : None ≡ Some v = sym (map.get-empty descriptor_cmp k) ∙ e in absurd cc)
+placed_count (None ∷ rest) first number = omega (arith, placed_count rest (first + 1) number, sum_by-cons (λ (o : Option OpenFile). cond (is_live_file number o) 1 0) None rest)
+placed_count (Some f ∷ rest) first number =
+    omega (
+      arith,
+      count_inserted descriptors_total exact_descriptors (is_holder number) (placed_from (first + 1) rest) (key first) (descriptor_of f) (placed_below rest (first + 1) first (omega arith)),
+      placed_count rest (first + 1) number,
+      sum_by-cons (λ (o : Option OpenFile). cond (is_live_file number o) 1 0) (Some f) rest,
+    )
+
+-- whether a file is held, by the places
+pub held_is : (files : List (Option OpenFile)) (number : ℕ) → is_held_in (descriptors_in files) number ≡ nat_lt 0 (holders_of number files)
+held_is files number = held_count (descriptors_in files) number ∙ ap (nat_lt 0) (placed_count files 0 number)
+
+-- what is released, by the places
+none_or : (n number : ℕ) → cond (n == 0) (Some number) None ≡ cond (nat_lt 0 n) None (Some number)
+none_or zero number = refl
+none_or (suc n) number = ap (λ b. cond b (Some number) None) (ne_eqb (suc n) 0 (λ e. omega (arith, e))) ∙ sym (ap (λ b. cond b None (Some number)) (lt-ltb 0 (suc n) (omega arith)))
+
+released_by : (files : List (Option OpenFile)) (home : Home) (number : ℕ) → released_from files home number ≡ released_at (descriptors_in files) home number
+released_by files Live number = none_or (holders_of number files) number ∙ ap (λ b. cond b None (Some number)) (sym (held_is files number))
+released_by files (Frozen name) number = refl
+
+pub released_is : (files : List (Option OpenFile)) (x : Option OpenFile) → released_file files x ≡ released_if (descriptors_in files) (option_map descriptor_of x)
+released_is files None = refl
+released_is files (Some f) = released_by files f.home f.number
+
+-- nothing is open, and nothing counts
+none_of_none : (n number : ℕ) → holders_of number (replicate n None) ≡ 0
+none_of_none zero number = refl
+none_of_none (suc n) number = omega (arith, none_of_none n number, sum_by-cons (one number) None (replicate n None))
+
+pub none_counted : (files : List (Option OpenFile)) (holders : List ℕ) → files ≡ replicate 4096 None → holders ≡ replicate 65536 0 → IsCounted files holders
+none_counted files holders none zeros = record {
+  places = ap length none ∙ length-replicate {A = Option OpenFile} 4096 None;
+  numbers = ap length zeros ∙ length-replicate {A = ℕ} 65536 0;
+  counted = λ m low. ap (λ (xs : List ℕ). get_or xs m 0) zeros ∙ get_or-replicate {A = ℕ} 65536 m 0 0 low ∙ sym (ap (holders_of m) none ∙ none_of_none 4096 m);
+}

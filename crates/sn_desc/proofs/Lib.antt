@@ -1,0 +1,6 @@
+pub mod KeyLemmas
+pub mod PlaceLemmas
+pub mod HeldLemmas
+pub mod ReleaseLemmas
+pub mod SessionLemmas
+pub mod LogoutLemmas

@@ -1,0 +1,21 @@
+-- How many descriptors each live file has.
+use Rattle.std.specs.Prelude.{◌≡◌, ℕ, ◌<◌, Bool, false, List, Option, None, Some, count_by, length, slice_index, if◌then◌else◌}
+use Rattle.sn_model.specs.Settling.{is_of_live}
+use Rattle.sn_desc.specs.declared.open_file.OpenFile.{OpenFile}
+
+abbrev pub is_live_file : ℕ → Option OpenFile → Bool
+is_live_file number None = false
+is_live_file number (Some file) = is_of_live number file.home file.number
+
+-- a file counts once where it is the live file with a number
+abbrev pub one : ℕ → Option OpenFile → ℕ
+one number o = if is_live_file number o then 1 else 0
+
+-- so many places have it
+abbrev pub holders_of : ℕ → List (Option OpenFile) → ℕ
+holders_of number files = count_by (is_live_file number) files
+
+pub record IsCounted (files : List (Option OpenFile)) (holders : List ℕ) : Type 0 where
+  pub places : length files ≡ 4096
+  pub numbers : length holders ≡ 65536
+  pub counted : (number : ℕ) → number < 65536 → slice_index holders number ≡ holders_of number files

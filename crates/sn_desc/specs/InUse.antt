@@ -1,0 +1,47 @@
+-- Who is logged in, what is open, and which files were dropped.
+use Rattle.std.specs.Prelude.{ℕ, ◌+◌, ◌*◌, ◌/◌, ◌%◌, ◌&&◌, nat_lt, List, [], ◌∷◌, Option, None, Some, replicate, if◌then◌else◌}
+use Rattle.std.specs.FinMap as map
+use Rattle.sn_acl.specs.declared.modes.Mode.{Mode}
+use Rattle.sn_model.specs.declared.session.Session.{Session}
+use Rattle.sn_model.specs.Descriptors.{Descriptors}
+use Rattle.sn_model.specs.World.{Descriptor, World}
+use Rattle.sn_desc.specs.declared.dropped.Dropped.{Dropped}
+use Rattle.sn_desc.specs.declared.dropped.Dropped.TheVariants.{Never}
+use Rattle.sn_desc.specs.declared.open_file.OpenFile.{OpenFile}
+
+abbrev pub descriptor_of : OpenFile → Descriptor
+descriptor_of f = record { home = f.home; number = f.number; readable = f.readable; writable = f.writable; appends = f.appends; offset = f.offset }
+
+-- the descriptors whose files lie at places from one on: each session has 64 places
+unfoldable pub placed_from : ℕ → List (Option OpenFile) → Descriptors
+placed_from place [] = map.empty
+placed_from place (None ∷ rest) = placed_from (place + 1) rest
+placed_from place (Some file ∷ rest) = map.insert (placed_from (place + 1) rest) (place / 64, place % 64) (descriptor_of file)
+
+abbrev pub descriptors_in : List (Option OpenFile) → Descriptors
+descriptors_in files = placed_from 0 files
+
+-- the place of a descriptor, where a session can have one with that number
+abbrev pub place_of : ℕ → ℕ → Option ℕ
+place_of session fd = if nat_lt session 64 && nat_lt fd 64 then Some (session * 64 + fd) else None
+
+pub record InUse : Type 0 where
+  -- None where nobody is logged in
+  pub sessions : List (Option Session)
+  pub descriptors : Descriptors
+  -- by number, whether the file that had it was dropped
+  pub dropped : List Dropped
+  -- so many more files can be opened without memory
+  pub room : ℕ
+
+abbrev pub nothing_in_use : ℕ → InUse
+nothing_in_use room = record { sessions = replicate 64 None; descriptors = map.empty; dropped = replicate 65536 Never; room = room }
+
+-- a world with these sessions and descriptors
+abbrev pub in_world : InUse → World → World
+in_world u world = record world { sessions = u.sessions; descriptors = u.descriptors }
+
+-- a session with another umask, if somebody is logged in
+abbrev pub with_umask : Mode → Option Session → Option Session
+with_umask mask None = None
+with_umask mask (Some s) = Some (record s { umask = mask })

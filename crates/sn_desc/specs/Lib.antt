@@ -1,0 +1,9 @@
+pub mod Places
+pub mod Files
+pub mod Holders
+pub mod OpenFiles
+pub mod Drops
+pub mod InUse
+pub mod Closing
+pub mod Seeking
+pub mod Sessions

@@ -1,0 +1,14 @@
+use sn_walk::Home;
+
+/// A file that is open: what open() makes, and a descriptor stands for.
+#[derive(Drop)]
+pub struct OpenFile {
+    pub home: Home,
+    pub number: u16,
+    pub readable: bool,
+    pub writable: bool,
+    /// Each write goes to the file's end.
+    pub appends: bool,
+    /// Where the next read or write begins.
+    pub offset: u64,
+}

@@ -1,0 +1,100 @@
+ghost use Rattle.std.specs.Prelude.{◌≡◌, ◌-◌, ◌<◌, ◌≤◌, replicate, length, slice_index_or, slice_set, option_copied, nat_lt, count_by, None, Some, IsOk, IfOk, OnOk};
+ghost use Rattle.std.specs.Option.{option_map};
+ghost use Rattle.sn_desc.specs.Holders.{IsCounted, is_live_file};
+ghost use Rattle.sn_desc.specs.Files.{files_at, with_offset, room_at};
+
+use crate::holders;
+use crate::open_file::OpenFile;
+use crate::places::Places;
+use sn_walk::Home;
+use std::alloc::{AllocError, Global};
+
+/// How many places there are.
+pub(crate) const PLACES: usize = 4096;
+
+/// How many numbers a file can have.
+pub(crate) const NUMBERS: usize = 65_536;
+
+/// Open files by their places, with how many there are of each live file.
+#[derive(Drop)]
+pub(crate) struct OpenFiles {
+    places: Places,
+    holders: Vec<u16>,
+    ghost counted: { IsCounted (files_at places) holders.items },
+}
+
+impl OpenFiles {
+    ghost use Rattle.sn_desc.specs.OpenFiles.{files_of, room_of, released_file};
+
+    pub fn new(alloc: Global) -> Result<OpenFiles, AllocError>
+        ensures files { IfOk result (λ f. files_of f ≡ replicate 4096 None) }
+    {
+        Ok(OpenFiles {
+            places: Places::new(alloc, PLACES)?,
+            holders: vec![in alloc; 0; NUMBERS]?,
+        })
+    }
+
+    pub fn get(&self, place: usize) -> Option<&OpenFile>
+        ensures { option_copied result ≡ slice_index_or (files_of self.now) place None }
+    {
+        self.places.get(place)
+    }
+
+    /// How many descriptors have the live file with this number.
+    pub fn holders(&self, number: u16) -> u16
+        ensures { result ≡ count_by (is_live_file number) (files_of self.now) }
+    {
+        self.holders[number as usize]
+    }
+
+    /// The live file that was closed, where no descriptor has it any more.
+    fn released(&self, file: &OpenFile) -> Option<u16>
+        ensures { result ≡ released_file (files_of self.now) (Some file.now) }
+    {
+        match file.home {
+            Home::Live if self.holders(file.number) == 0 => Some(file.number),
+            _ => None,
+        }
+    }
+
+    /// Makes room for one more file. Where memory is refused nothing changes.
+    pub fn reserve(&mut self) -> Result<(), AllocError>
+        ensures ok { OnOk result (0 < room_of self.new) }
+        ensures files { files_of self.new ≡ files_of self.old }
+        ensures room { room_of self.old ≤ room_of self.new }
+        ensures there_already { 0 < room_of self.old → IsOk result }
+    {
+        self.places.reserve()
+    }
+
+    /// Opens a file at a place that has none.
+    pub fn open(&mut self, place: usize, file: OpenFile)
+        requires within { place < 4096 }
+        requires vacant { slice_index_or (files_of self.old) place None ≡ None }
+        requires room { 0 < room_of self.old }
+        ensures files { files_of self.new ≡ slice_set (files_of self.old) place (Some file) }
+        ensures room { room_of self.new ≡ room_of self.old - 1 }
+    {
+        holders::add(self.holders.as_mut_slice(), &file);
+        self.places.put(place, file);
+    }
+
+    /// Closes what is at a place, and tells the live file that this was the last descriptor of.
+    pub fn close(&mut self, place: usize) -> Option<u16>
+        ensures files { files_of self.new ≡ slice_set (files_of self.old) place None }
+        ensures released { result ≡ released_file (files_of self.new) (slice_index_or (files_of self.old) place None) }
+        ensures room { room_of self.old ≤ room_of self.new }
+    {
+        let file = self.places.take(place)?;
+        holders::remove(self.holders.as_mut_slice(), &file);
+        self.released(&file)
+    }
+
+    pub fn set_offset(&mut self, place: usize, offset: u64)
+        ensures files { files_of self.new ≡ slice_set (files_of self.old) place (option_map (with_offset offset) (slice_index_or (files_of self.old) place None)) }
+        ensures room { room_of self.new ≡ room_of self.old }
+    {
+        self.places.set_offset(place, offset)
+    }
+}

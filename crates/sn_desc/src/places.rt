@@ -1,0 +1,94 @@
+ghost use Rattle.std.specs.Prelude.{◌≡◌, ◌≢◌, ◌+◌, ◌-◌, ◌<◌, ◌≤◌, ℕ, replicate, length, is_some, slice_index_or, slice_set, option_copied, true, None, Some, IsOk, IfOk, OnOk, OnSome};
+ghost use Rattle.std.specs.Option.{option_map};
+ghost use Rattle.sn_desc.specs.Places.{IsPlaced};
+
+use crate::open_file::OpenFile;
+use slab::Slab;
+use std::alloc::{AllocError, Global};
+
+/// Open files by their places.
+#[derive(Drop)]
+pub(crate) struct Places {
+    keys: Vec<Option<usize>>,
+    files: Slab<OpenFile>,
+    ghost placed: { IsPlaced files keys.items },
+}
+
+impl Places {
+    ghost use Rattle.sn_desc.specs.Files.{files_at, with_offset, room_at};
+
+    /// So many places, with nothing open.
+    pub fn new(alloc: Global, count: usize) -> Result<Places, AllocError>
+        ensures files { IfOk result (λ p. files_at p ≡ replicate count None) }
+    {
+        Ok(Places {
+            keys: vec![in alloc; None; count]?,
+            files: Slab::new(alloc),
+        })
+    }
+
+    /// The key of what is at a place.
+    fn key(&self, place: usize) -> Option<usize>
+        ensures { result ≡ slice_index_or self.now.keys.items place None }
+    {
+        match self.keys.get(place) {
+            Some(key) => *key,
+            None => None,
+        }
+    }
+
+    pub fn get(&self, place: usize) -> Option<&OpenFile>
+        ensures { option_copied result ≡ slice_index_or (files_at self.now) place None }
+    {
+        match self.key(place) {
+            Some(key) => self.files.get(key),
+            None => None,
+        }
+    }
+
+    /// Makes room for one more file. Where memory is refused nothing changes.
+    pub fn reserve(&mut self) -> Result<(), AllocError>
+        ensures ok { OnOk result (0 < room_at self.new) }
+        ensures files { files_at self.new ≡ files_at self.old }
+        ensures room { room_at self.old ≤ room_at self.new }
+        ensures there_already { 0 < room_at self.old → IsOk result }
+    {
+        self.files.reserve(1)
+    }
+
+    /// Puts a file at a place that has none.
+    pub fn put(&mut self, place: usize, file: OpenFile)
+        requires within { place < length (files_at self.old) }
+        requires vacant { slice_index_or (files_at self.old) place None ≡ None }
+        requires room { 0 < room_at self.old }
+        ensures files { files_at self.new ≡ slice_set (files_at self.old) place (Some file) }
+        ensures room { room_at self.new ≡ room_at self.old - 1 }
+    {
+        let key = self.files.insert_reserved(file);
+        self.keys[place] = Some(key);
+    }
+
+    /// Takes away what is at a place.
+    pub fn take(&mut self, place: usize) -> Option<OpenFile>
+        ensures value { result ≡ slice_index_or (files_at self.old) place None }
+        ensures files { files_at self.new ≡ slice_set (files_at self.old) place None }
+        ensures room { room_at self.old ≤ room_at self.new }
+    {
+        let key = self.key(place)?;
+        self.keys[place] = None;
+        self.files.try_remove(key)
+    }
+
+    /// Sets the offset of the file at a place, if there is one.
+    pub fn set_offset(&mut self, place: usize, offset: u64)
+        ensures files { files_at self.new ≡ slice_set (files_at self.old) place (option_map (with_offset offset) (slice_index_or (files_at self.old) place None)) }
+        ensures room { room_at self.new ≡ room_at self.old }
+    {
+        let Some(key) = self.key(place) else {
+            return;
+        };
+        if let Some(file) = self.files.get_mut(key) {
+            file.offset = offset;
+        }
+    }
+}

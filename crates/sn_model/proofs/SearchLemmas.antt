@@ -1,0 +1,23 @@
+-- A search for the first number that doesn't pass a test.
+use Rattle.std.proofs.Common.{◌≡◌, ℕ, zero, suc, ◌+◌, ◌<◌, ◌≤◌, Bool, true, false, Some, None, refl, sym, ap, ◌∙◌, arith, add-zero}
+use Rattle.sn_model.specs.Descriptors.{first_without}
+
+-- it ends at the first number that doesn't pass
+pub first_found : (used : ℕ → Bool) (first n more : ℕ) → ((k : ℕ) → first ≤ k → k < first + n → used k ≡ true) → used (first + n) ≡ false → n < more → first_without used first more ≡ Some (first + n)
+unfolding first_without
+first_found used first n zero all none lt = absurd (omega arith)
+first_found used first zero (suc more) all none lt =
+    let here : used first ≡ false = ap used (sym (add-zero first)) ∙ none in
+    rw here (ap (λ k. Some k) (sym (add-zero first)))
+first_found used first (suc n) (suc more) all none lt =
+    let here : used first ≡ true = all first (omega arith) (omega arith) in
+    let shift : first + 1 + n ≡ first + suc n = omega arith in
+    rw here (first_found used (first + 1) n more (λ k low high. all k (omega arith) (omega arith)) (ap used shift ∙ none) (omega arith) ∙ ap (λ k. Some k) shift)
+
+-- and finds none where all pass
+pub none_without : (used : ℕ → Bool) (first more : ℕ) → ((k : ℕ) → first ≤ k → k < first + more → used k ≡ true) → first_without used first more ≡ None
+unfolding first_without
+none_without used first zero all = refl
+none_without used first (suc more) all =
+    let here : used first ≡ true = all first (omega arith) (omega arith) in
+    rw here (none_without used (first + 1) more (λ k low high. all k (omega arith) (omega arith)))
