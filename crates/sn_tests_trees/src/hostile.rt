@@ -5,9 +5,11 @@
 use crate::disk::{BLOCK_SIZE, Image, blocks_of};
 use crate::files::tree_of;
 use crate::plain::{File, byte};
-use anyhow::Result;
+use anyhow::{Result, bail};
 use rand_core::Rng;
 use rand_pcg::Pcg32;
+use sn_block::Blocks;
+use sn_device::MemDevice;
 use sn_layout_node::Content;
 use sn_table::{Report, Tally};
 use sn_tree_read::{TreeFault, read};
@@ -23,12 +25,14 @@ const READS: u32 = 16;
 const SIZES: [u64; 4] = [65_536, 65_537, 67_108_864, 68_719_476_736];
 
 pub fn run(report: &mut Report<'_>) -> Result<()> {
-    let mut tally = Tally::new();
+    let mut whole = Tally::new();
+    let mut damaged = Tally::new();
     let mut random = Pcg32::new(1, 0);
     for disk in 0..DISKS {
-        disk_of(report, &mut random, disk, &mut tally)?;
+        disk_of(report, &mut random, disk, (&mut whole, &mut damaged))?;
     }
-    report.add("files of any pointers", tally)
+    report.add("parts of files of any pointers", whole)?;
+    report.add("parts that lead off the disk", damaged)
 }
 
 /// A block's number: mostly a hole, one that is there, or one of the first that isn't.
@@ -62,25 +66,44 @@ fn drawn(alloc: Global, random: &mut Pcg32) -> Result<Image> {
     Ok(image)
 }
 
-fn disk_of(report: &Report<'_>, random: &mut Pcg32, disk: u32, tally: &mut Tally) -> Result<()> {
+fn disk_of(
+    report: &Report<'_>,
+    random: &mut Pcg32,
+    disk: u32,
+    (whole, damaged): (&mut Tally, &mut Tally),
+) -> Result<()> {
     let alloc = report.alloc();
     let image = drawn(alloc, random)?;
     let mut blocks = blocks_of(alloc, image.bytes())?;
     for number in 0..READS {
         let file = file(random);
-        let content = Content::Tree(tree_of(&file));
         let offset = random.next_u64() % file.size.max(1);
         let count = (random.next_u32() % 9_000) as usize;
-        let found = read(alloc, &mut blocks, &content, offset, count);
-        let wanted = plain_bytes(alloc, image.bytes(), &file, offset, count)?;
-        let is_right = match (found, wanted) {
-            (Ok(found), Some(wanted)) => found.as_slice() == wanted.as_slice(),
-            (Err(fault), None) => fault == TreeFault::Damaged,
-            _ => false,
-        };
-        tally.check(report.runtime(), is_right, &[disk, number])?;
+        let found = found(alloc, &mut blocks, &file, offset, count)?;
+        match plain_bytes(alloc, image.bytes(), &file, offset, count)? {
+            Some(wanted) => {
+                let is_right = found.is_some_and(|found| found.as_slice() == wanted.as_slice());
+                whole.check(report.runtime(), is_right, &[disk, number])?;
+            }
+            None => damaged.check(report.runtime(), found.is_none(), &[disk, number])?,
+        }
     }
     Ok(())
+}
+
+/// The bytes that are read, or none where the disk is told to be damaged.
+fn found(
+    alloc: Global,
+    blocks: &mut Blocks<MemDevice>,
+    file: &File,
+    offset: u64,
+    count: usize,
+) -> Result<Option<Vec<u8>>> {
+    match read(alloc, blocks, &Content::Tree(tree_of(file)), offset, count) {
+        Ok(bytes) => Ok(Some(bytes)),
+        Err(TreeFault::Damaged) => Ok(None),
+        Err(fault) => bail!("{fault}"),
+    }
 }
 
 /// The bytes from an offset on, if all blocks that they need lie on the disk.
