@@ -24,7 +24,10 @@ fn grow(random: &mut Pcg32, pool: &[u8], base: &mut Tree, tree: &mut Tree) -> Re
     for _at in 0..below(random, BASE_CHANGES) {
         let change = any(random, pool);
         let is_made = base.apply(&change)?;
-        ensure!(tree.apply(&change)? == is_made, "a change of one tree alone");
+        ensure!(
+            tree.apply(&change)? == is_made,
+            "a change of one tree alone"
+        );
         if is_made {
             made = made.saturating_add(1);
         }

@@ -131,8 +131,10 @@ fn is_list_right(alloc: Global, cut: Cut, fill: u32) -> Result<bool> {
     let found = present(alloc, &mut mounted)?;
     let second = fill_of(fill.saturating_add(20));
     let device = mounted.into_device().crash(second);
-    Ok(may_follow(left.acknowledged, found)
-        && is_rest_right(alloc, device, found.unwrap_or(0), fill_of(fill))?)
+    Ok(
+        may_follow(left.acknowledged, found)
+            && is_rest_right(alloc, device, found.unwrap_or(0), fill_of(fill))?,
+    )
 }
 
 /// The rest of the list, and one more crash.

@@ -60,7 +60,11 @@ fn is_made(alloc: Global, mounted: &mut Fs<MemDevice>, number: u32) -> Result<bo
 {
     let path = format!(in alloc; "/{number}")?;
     let line = told(alloc, mounted, &mkdir(alloc, path.as_str(), 0o755)?)?;
-    let wanted = if number < ROOM { "ok\n" } else { "err ENOSPC\n" };
+    let wanted = if number < ROOM {
+        "ok\n"
+    } else {
+        "err ENOSPC\n"
+    };
     Ok(line.as_str() == wanted)
 }
 

@@ -23,7 +23,8 @@ impl Shape {
 
     /// Whether a block is there, and no hole.
     pub fn has_block(self, index: u64) -> bool {
-        let is_end = matches!(index % 1024, 0 | 1 | 1023) || index == self.blocks().saturating_sub(1);
+        let is_end = matches!(index % 1024, 0 | 1 | 1023)
+            || index == self.blocks().saturating_sub(1);
         index < self.blocks() && (self.is_dense || is_end)
     }
 

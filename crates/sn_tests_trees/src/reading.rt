@@ -14,21 +14,8 @@ use sn_tree_read::{entry, fetch_data, read};
 /// Around the bytes of an inode, of a block, of sixteen pointers, and of an indirect block under each. The last
 /// two lie under two levels.
 const SIZES: [u64; 15] = [
-    0,
-    1,
-    63,
-    64,
-    65,
-    4_095,
-    4_096,
-    4_097,
-    65_535,
-    65_536,
-    65_537,
-    67_108_863,
-    67_108_864,
-    67_108_865,
-    71_303_169,
+    0, 1, 63, 64, 65, 4_095, 4_096, 4_097, 65_535, 65_536, 65_537, 67_108_863, 67_108_864,
+    67_108_865, 71_303_169,
 ];
 
 /// No larger file is written with all its blocks.
@@ -87,7 +74,11 @@ fn file(
     for (at, offset) in OFFSETS.iter().enumerate() {
         for count in COUNTS {
             let is_right = is_part(report, &mut device, &content, shape, *offset, count)?;
-            parts.check(report.runtime(), is_right, &[number, at as u32, count as u32])?;
+            parts.check(
+                report.runtime(),
+                is_right,
+                &[number, at as u32, count as u32],
+            )?;
         }
     }
     if shape.size > 64 {
@@ -113,17 +104,17 @@ fn is_part(
     let from_end = shape.size.saturating_sub(offset);
     let first = read(report.alloc(), blocks, content, offset, count)?;
     let last = read(report.alloc(), blocks, content, from_end, count)?;
-    Ok(are_bytes(shape, offset, count, first.as_slice())
-        && are_bytes(shape, from_end, count, last.as_slice()))
+    Ok(
+        are_bytes(shape, offset, count, first.as_slice())
+            && are_bytes(shape, from_end, count, last.as_slice()),
+    )
 }
 
 fn are_bytes(shape: Shape, offset: u64, count: usize, bytes: &[u8]) -> bool {
     let wanted = shape.size.saturating_sub(offset).min(count as u64);
     bytes.len() as u64 == wanted
-        && bytes
-            .iter()
-            .enumerate()
-            .all(|(at, byte)| *byte == shape.byte(offset.saturating_add(at as u64)))
+        && bytes.iter().enumerate().all(|(at, byte)| *byte
+            == shape.byte(offset.saturating_add(at as u64)))
 }
 
 /// Whether a data block is lent with its bytes, or told to be a hole.
@@ -139,9 +130,11 @@ fn is_block(
     let start = index.saturating_mul(BLOCK_SIZE as u64);
     let count = shape.size.saturating_sub(start).min(BLOCK_SIZE as u64) as usize;
     let block = blocks.fetched();
-    Ok(shape.has_block(index)
-        && are_bytes(shape, start, BLOCK_SIZE, &block[..count])
-        && block[count..].iter().all(|byte| *byte == 0))
+    Ok(
+        shape.has_block(index)
+            && are_bytes(shape, start, BLOCK_SIZE, &block[..count])
+            && block[count..].iter().all(|byte| *byte == 0),
+    )
 }
 
 /// Whether the pointer to a data block is that of the bytes.
