@@ -135,7 +135,7 @@ judge=honest
 each_refused "$program" run none "$work/script"
 
 judge=tested
-for crate in sn_tests sn_tests_disk sn_tests_block sn_tests_layout sn_tests_log sn_tests_overlay sn_tests_run; do
+for crate in sn_tests sn_tests_disk sn_tests_block sn_tests_layout sn_tests_log sn_tests_overlay sn_tests_run sn_tests_root; do
     folder=$top/crates/$crate
     (cd "$folder" && rt run -- data > "$work/log" 2>&1) || { tail -n 20 "$work/log"; exit 1; }
     "$folder/out/$crate" "$folder/data" > "$work/whole"

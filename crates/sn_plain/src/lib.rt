@@ -12,7 +12,7 @@
 //! counts over the whole tree. `tests` has the tests that changes share; `making`, `linking`,
 //! `renaming` and `writing` have the changes, each with its test first, then all that takes memory,
 //! then the rest (`moving` has that of a rename, over the nodes). `applying` makes any change, as the
-//! model's `apply` does.
+//! model's `apply` does. `reading` hands out the bytes of a file.
 #![tactic(auto)]
 
 mod applying;
@@ -23,6 +23,7 @@ mod making;
 mod moving;
 mod names;
 mod nodes;
+mod reading;
 mod renaming;
 mod settling;
 mod tests;

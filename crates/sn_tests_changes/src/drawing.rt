@@ -166,7 +166,7 @@ fn rename(random: &mut Pcg32) -> Change<'static> {
 }
 
 /// Bytes of the pool, from none to more than two blocks.
-pub fn write<'a>(random: &mut Pcg32, pool: &'a [u8]) -> Change<'a> {
+fn write<'a>(random: &mut Pcg32, pool: &'a [u8]) -> Change<'a> {
     let from = below(random, BLOCK_SIZE as u32) as usize;
     let count = match below(random, 4) {
         0 => 2 * BLOCK_SIZE - below(random, 3) as usize,
@@ -181,7 +181,7 @@ pub fn write<'a>(random: &mut Pcg32, pool: &'a [u8]) -> Change<'a> {
 }
 
 /// A change of one of the six kinds that bring no bytes.
-pub fn change(random: &mut Pcg32) -> Change<'static> {
+fn change(random: &mut Pcg32) -> Change<'static> {
     match below(random, 12) {
         0..=2 => make(random),
         3 => Change::AddLink {
@@ -203,4 +203,12 @@ pub fn change(random: &mut Pcg32) -> Change<'static> {
             ownership: ownership(random),
         },
     }
+}
+
+/// A change, a write one time in four.
+pub fn any<'a>(random: &mut Pcg32, pool: &'a [u8]) -> Change<'a> {
+    if below(random, 4) == 0 {
+        return write(random, pool);
+    }
+    change(random)
 }

@@ -1,24 +1,25 @@
 //! Changes that a seed draws, made of the tree in memory and, as overlays, of a tree that is seen through two
 //! of them.
 //!
-//! The tree in memory (`tree`) tells whether a change can be made, and what nodes and names are there then;
-//! `bytes` keeps the bytes of its files as plain lists. `overlays` has the same tree through overlays over a
-//! root without names (`root`). After each change `comparing` looks at each node, name and block of both.
-//! `drawing` has the changes: over few numbers, directories and names, so that many can be made, and some
-//! that no tree takes. What is printed is compared with `stdout`. The arguments are how many seeds there are,
-//! and how many changes each draws, as in
+//! Each seed first draws a tree, by changes of the tree in memory (`tree`); it lies below the overlays (`base`),
+//! which only read it. Of the changes behind it the tree in memory tells whether each can be made, and what
+//! nodes, names and bytes are there then; `overlays` has the same tree through overlays. `beside` makes a
+//! change of both, and `comparing` looks at each node, name and block of both: after each change, and each time
+//! that memory is refused to the overlays. `drawing` has the changes: over few numbers, directories and names,
+//! so that many can be made, and some that no tree takes. What is printed is compared with `stdout`. The
+//! arguments are how many seeds there are, and how many changes each makes behind its first tree, as in
 //!
 //! ```text
 //! rt run -- 20 250
 //! ```
 #![tactic(auto)]
 
-mod bytes;
+mod base;
+mod beside;
 mod comparing;
 mod drawing;
 mod making;
 mod overlays;
-mod root;
 mod tree;
 
 use anyhow::{Context, Result, ensure};

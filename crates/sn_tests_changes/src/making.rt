@@ -1,58 +1,48 @@
 //! The changes of one seed.
+ghost use Rattle.std.specs.Prelude.{IfOk};
 ghost use Rattle.sn_limits.specs.Versions.{version_1};
 ghost use Rattle.sn_model.specs.NameTree.{IsTree};
 ghost use Rattle.sn_plain.specs.Plain.{tree_of};
 
-use crate::bytes::Lists;
-use crate::comparing::{differences, links};
-use crate::drawing::{NUMBERS, below, change, pool, write};
-use crate::overlays::Overlays;
+use crate::beside::Beside;
+use crate::drawing::{any, below, pool};
 use crate::tree::Tree;
-use anyhow::{Result, bail};
+use anyhow::{Result, ensure};
 use rand_pcg::Pcg32;
-use sn_model::Change;
-use sn_plain::ApplyError;
 use std::alloc::Global;
 
-/// Makes a change of both trees, where it can be made, and says whether it was.
-fn apply(
-    alloc: Global,
-    tree: &mut Tree,
-    lists: &mut Lists,
-    overlays: &mut Overlays,
-    change: &Change<'_>,
-) -> Result<bool>
-    requires { IsTree version_1 (tree_of tree.old.plain) }
-    ensures { IsTree version_1 (tree_of tree.new.plain) }
+/// The tree below the overlays has fewer drawn changes behind it.
+const BASE_CHANGES: u32 = 250;
+
+/// Makes the same drawn changes of two trees, where they can be made, and says how many could be.
+fn grow(random: &mut Pcg32, pool: &[u8], base: &mut Tree, tree: &mut Tree) -> Result<u32>
+    requires base { IsTree version_1 (tree_of base.old.plain) }
+    requires tree { IsTree version_1 (tree_of tree.old.plain) }
+    ensures tree { IsTree version_1 (tree_of tree.new.plain) }
 {
-    match tree.apply(alloc, change) {
-        Ok(()) => {}
-        Err(ApplyError::CannotApply) => return Ok(false),
-        Err(ApplyError::Memory) => bail!("no memory for a change of the tree"),
+    let mut made = 0_u32;
+    for _at in 0..below(random, BASE_CHANGES) {
+        let change = any(random, pool);
+        let is_made = base.apply(&change)?;
+        ensure!(
+            tree.apply(&change)? == is_made,
+            "a change of one tree alone"
+        );
+        if is_made {
+            made = made.saturating_add(1);
+        }
     }
-    lists.apply(change)?;
-    overlays.apply(alloc, change)?;
-    Ok(true)
+    Ok(made)
 }
 
-/// Draws a change, a write one time in four, and makes it.
-fn apply_drawn(
-    alloc: Global,
-    random: &mut Pcg32,
-    pool: &[u8],
-    tree: &mut Tree,
-    lists: &mut Lists,
-    overlays: &mut Overlays,
-) -> Result<bool>
-    requires { IsTree version_1 (tree_of tree.old.plain) }
-    ensures { IsTree version_1 (tree_of tree.new.plain) }
+/// A tree that is drawn, and beside it the same tree with nothing laid over it.
+fn drawn(alloc: Global, random: &mut Pcg32, pool: &[u8]) -> Result<(Beside, u32)>
+    ensures { IfOk result (λ drawn. IsTree version_1 (tree_of drawn.0.tree.plain)) }
 {
-    if below(random, 4) == 0 {
-        let change = write(random, pool);
-        return apply(alloc, tree, lists, overlays, &change);
-    }
-    let change = change(random);
-    apply(alloc, tree, lists, overlays, &change)
+    let mut base = Tree::new(alloc)?;
+    let mut tree = Tree::new(alloc)?;
+    let made = grow(random, pool, &mut base, &mut tree)?;
+    Ok((Beside::new(alloc, base, tree)?, made))
 }
 
 /// Prints what came of the changes that a seed draws, and gives how many differences were seen.
@@ -60,33 +50,20 @@ pub fn run(rt: &HostRuntime, seed: u32, changes: u32) -> Result<u64> {
     let alloc = rt.alloc();
     let mut random = Pcg32::new(u64::from(seed), 0);
     let pool = pool(alloc, &mut random)?;
-    let links = links(alloc)?;
-    let mut tree = Tree::new(alloc)?;
-    let mut lists = Lists::new(alloc, NUMBERS)?;
-    let mut overlays = Overlays::new(alloc);
+    let (mut beside, below) = drawn(alloc, &mut random, pool.as_slice())?;
     let mut made = 0_u32;
-    let mut differing = 0_u64;
     for at in 0..changes {
-        let is_made = apply_drawn(
-            alloc,
-            &mut random,
-            pool.as_slice(),
-            &mut tree,
-            &mut lists,
-            &mut overlays,
-        )?;
-        if is_made {
+        if beside.apply(&any(&mut random, pool.as_slice()))? {
             made = made.saturating_add(1);
         }
         if at % 16 == 15 {
-            overlays.settle(alloc)?;
+            beside.settle()?;
         }
-        let found = differences(&overlays, &tree, &lists, links.as_slice())?;
-        differing = differing.saturating_add(found);
+        beside.look()?;
     }
-    let refused = changes.saturating_sub(made);
+    let (refused, differing) = (changes.saturating_sub(made), beside.differing());
     println!(rt;
-        "seed {seed}: {made} changes made, {refused} could not be applied, {differing} differences"
+        "seed {seed}: over {below} changes {made} made, {refused} could not be applied, {differing} differences"
     )?;
     Ok(differing)
 }

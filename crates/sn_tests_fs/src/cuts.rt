@@ -2,30 +2,36 @@
 //!
 //! What is wanted is that all is there that was acknowledged, and beside it at most what was in flight;
 //! that a mount that is cut short and crashes leaves that as it is; and that the calls go on behind it.
+//! Each record takes two sectors, so that a crash may leave one of them without the other.
 
 use crate::directories::{ALL, make, present};
-use crate::disk::{FILLS, fill_of, new_device};
+use crate::disk::{FILLS, fill_of, remounted};
+use crate::inheriting::inheriting_device;
 use anyhow::Result;
-use sn_device::{Fill, MemDevice};
+use sn_device::{Device, Fill, MemDevice};
 use sn_fs::mount;
 use sn_model::MountFault;
 use sn_table::{Report, Tally};
 use std::alloc::Global;
 
-/// More writes than a mount and the list make.
-const STOPS: u32 = 18;
+/// The writes of a mount, which clears a place, and of the list: each directory's body in two sectors, the
+/// gate behind it, and its own gate.
+const WRITES: u32 = 1 + 4 * ALL as u32;
 
 /// More reads, writes and syncs than a mount and the list make.
-const FAILURES: u32 = 48;
+const FAILURES: u32 = 56;
 
-/// As many writes as a mount and two directories of the list make, and more.
-const FIRST_STOPS: u32 = 9;
+/// The writes of a mount and of two directories of the list.
+const FIRST_WRITES: u32 = 9;
+
+/// The fills of the crash before a mount that is cut short.
+const FIRST_FILLS: u32 = 12;
 
 /// More writes than a mount makes.
 const MOUNT_STOPS: u32 = 3;
 
 /// More reads, writes and syncs than a mount of a short log makes.
-const MOUNT_FAILURES: u32 = 12;
+const MOUNT_FAILURES: u32 = 24;
 
 /// Where the device fails.
 #[derive(Clone, Copy)]
@@ -52,6 +58,8 @@ fn set(device: &mut MemDevice, cut: Cut) {
 }
 
 pub fn run(report: &mut Report<'_>) -> Result<()> {
+    let tally = whole(report)?;
+    report.add("writes of calls that aren't cut short", tally)?;
     let tally = lists(report)?;
     report.add("calls cut short", tally)?;
     let tally = mounts(report)?;
@@ -65,9 +73,21 @@ struct Left {
     acknowledged: Option<usize>,
 }
 
-/// Mounts a disk of zeros, makes the list until the device fails, and crashes.
+/// All is made by as many writes as the lists are cut at.
+fn whole(report: &Report<'_>) -> Result<Tally> {
+    let alloc = report.alloc();
+    let mut tally = Tally::new();
+    let mut mounted = remounted(alloc, inheriting_device(alloc)?)?;
+    let made = make(alloc, &mut mounted, 0)?;
+    let writes = mounted.into_device().status().writes;
+    let is_right = made == Some(ALL) && writes == u64::from(WRITES);
+    tally.check(report.runtime(), is_right, &[])?;
+    Ok(tally)
+}
+
+/// Mounts the disk, makes the list until the device fails, and crashes.
 fn life(alloc: Global, cut: Cut, fill: Fill) -> Result<Left> {
-    let mut device = new_device(alloc)?;
+    let mut device = inheriting_device(alloc)?;
     set(&mut device, cut);
     match mount(alloc, device) {
         Ok(mut mounted) => {
@@ -102,32 +122,36 @@ fn found_on(alloc: Global, device: MemDevice) -> Result<Option<usize>> {
     }
 }
 
-/// A life that is cut short, a mount of what a crash left, the rest of the list, and one more crash.
+/// A life that is cut short, a mount of what a crash left, and one more crash.
 fn is_list_right(alloc: Global, cut: Cut, fill: u32) -> Result<bool> {
     let left = life(alloc, cut, fill_of(fill))?;
     let Ok(mut mounted) = mount(alloc, left.device) else {
         return Ok(false);
     };
     let found = present(alloc, &mut mounted)?;
-    if !may_follow(left.acknowledged, found) {
-        return Ok(false);
-    }
-    let device = mounted
-        .into_device()
-        .crash(fill_of(fill.saturating_add(20)));
+    let second = fill_of(fill.saturating_add(20));
+    let device = mounted.into_device().crash(second);
+    Ok(
+        may_follow(left.acknowledged, found)
+            && is_rest_right(alloc, device, found.unwrap_or(0), fill_of(fill))?,
+    )
+}
+
+/// The rest of the list, and one more crash.
+fn is_rest_right(alloc: Global, device: MemDevice, from: usize, fill: Fill) -> Result<bool> {
     let Ok(mut mounted) = mount(alloc, device) else {
         return Ok(false);
     };
-    let made = make(alloc, &mut mounted, found.unwrap_or(0))?;
-    let device = mounted.into_device().crash(fill_of(fill));
+    let made = make(alloc, &mut mounted, from)?;
+    let device = mounted.into_device().crash(fill);
     Ok(made == Some(ALL) && found_on(alloc, device)? == Some(ALL))
 }
 
 fn lists(report: &Report<'_>) -> Result<Tally> {
     let mut tally = Tally::new();
-    for number in 0..STOPS + FAILURES {
+    for number in 0..WRITES + 1 + FAILURES {
         for fill in 0..FILLS {
-            let is_right = is_list_right(report.alloc(), cut_of(number, STOPS), fill)?;
+            let is_right = is_list_right(report.alloc(), cut_of(number, WRITES + 1), fill)?;
             tally.check(report.runtime(), is_right, &[number, fill])?;
         }
     }
@@ -170,9 +194,9 @@ fn found_later(alloc: Global, cut: Cut, fill: u32, again: u32) -> Result<Option<
 fn mounts(report: &Report<'_>) -> Result<Tally> {
     let alloc = report.alloc();
     let mut tally = Tally::new();
-    for number in 0..FIRST_STOPS {
-        for fill in 0..FILLS {
-            let cut = cut_of(number, FIRST_STOPS);
+    for number in 0..FIRST_WRITES + 1 {
+        for fill in 0..FIRST_FILLS {
+            let cut = Cut::Stop(u64::from(number));
             let wanted = found_at_once(alloc, cut, fill)?;
             for again in 0..MOUNT_STOPS + MOUNT_FAILURES {
                 let found = found_later(alloc, cut, fill, again)?;

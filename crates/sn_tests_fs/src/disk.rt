@@ -5,8 +5,10 @@ ghost use Rattle.sn_fs.specs.Filesystem.{IsFs};
 use anyhow::{Result, bail};
 use sn_device::{Fill, MemDevice};
 use sn_fs::{Fs, mount};
-use sn_model::{Call, Groups, Word};
+use sn_model::{Call, Groups, Reply, Word};
+use sn_script::print_replies;
 use std::alloc::Global;
+use std::{slice, str};
 
 /// The sectors of the disk.
 const SECTORS: u64 = 2048;
@@ -48,8 +50,23 @@ pub fn stat(alloc: Global, path: &str) -> Result<Call> {
     })
 }
 
-/// How many fills there are for a crash: the five of one kind, and seven seeds.
-pub const FILLS: u32 = 12;
+/// The line of a reply.
+pub fn line_of(alloc: Global, reply: &Reply) -> Result<String> {
+    let line = print_replies(alloc, slice::from_ref(reply))?;
+    Ok(String::from_str(alloc, str::from_utf8(line.as_slice())?)?)
+}
+
+/// The line of the reply to a call of session 0.
+pub fn told(alloc: Global, mounted: &mut Fs<MemDevice>, call: &Call) -> Result<String>
+    requires { IsFs mounted.old }
+    ensures sound { IsFs mounted.new }
+{
+    let reply = mounted.call(0, call);
+    line_of(alloc, &reply)
+}
+
+/// How many fills there are for a crash: the five of one kind, and fifteen seeds.
+pub const FILLS: u32 = 20;
 
 /// The five fills of one kind first, and then seeds.
 pub fn fill_of(number: u32) -> Fill {

@@ -3,14 +3,13 @@
 //! What is wanted is a tree, the same at the next mount, or the block of the half that is damaged.
 ghost use Rattle.sn_fs.specs.Filesystem.{IsFs};
 
-use crate::disk::{login, mkdir, new_device, remounted, stat};
+use crate::disk::{login, mkdir, new_device, remounted, stat, told as line_told};
 use anyhow::{Result, ensure};
 use rand_core::Rng;
 use rand_pcg::Pcg32;
 use sn_device::{Device, Fill, MemDevice, SECTOR_SIZE, Sector};
 use sn_fs::{Fs, mount};
 use sn_model::{Damage, MountFault};
-use sn_script::print_replies;
 use sn_table::{Report, Tally};
 use std::alloc::Global;
 
@@ -19,13 +18,16 @@ const HALVES: u32 = 3_000;
 /// The first sector of the half.
 const FIRST: u64 = 304;
 
-/// The names of directories, and of those in them.
-const NAMES: [&str; 4] = ["a", "b", "c", "d"];
+/// The directories that may be there: four, and four in each of them.
+const PATHS: [&str; 20] = [
+    "/a", "/b", "/c", "/d", "/a/a", "/a/b", "/a/c", "/a/d", "/b/a", "/b/b", "/b/c", "/b/d", "/c/a",
+    "/c/b", "/c/c", "/c/d", "/d/a", "/d/b", "/d/c", "/d/d",
+];
 
 /// What a mount comes to, and the device.
 #[derive(Drop)]
 enum Ending {
-    Tree(Vec<u8>, MemDevice),
+    Tree(String, MemDevice),
     Damaged(u32, MemDevice),
     Wrong,
 }
@@ -47,7 +49,7 @@ fn halves(report: &Report<'_>, trees: &mut Tally, damaged: &mut Tally) -> Result
         change_some(&mut device, &mut random)?;
         match found(alloc, device.crash(Fill::New))? {
             Ending::Tree(told, device) => {
-                let is_right = is_tree_again(alloc, &told, device)?;
+                let is_right = is_tree_again(alloc, told.as_str(), device)?;
                 trees.check(rt, is_right, &[half])?;
             }
             Ending::Damaged(block, device) => {
@@ -60,9 +62,9 @@ fn halves(report: &Report<'_>, trees: &mut Tally, damaged: &mut Tally) -> Result
     Ok(())
 }
 
-fn is_tree_again(alloc: Global, told: &Vec<u8>, device: MemDevice) -> Result<bool> {
+fn is_tree_again(alloc: Global, told: &str, device: MemDevice) -> Result<bool> {
     Ok(match found(alloc, device.crash(Fill::Old))? {
-        Ending::Tree(again, _) => again.as_slice() == told.as_slice(),
+        Ending::Tree(again, _) => again.as_str() == told,
         _ => false,
     })
 }
@@ -91,25 +93,28 @@ fn found(alloc: Global, device: MemDevice) -> Result<Ending> {
     }
 }
 
-fn told(alloc: Global, mounted: &mut Fs<MemDevice>) -> Result<Vec<u8>>
+/// What is told of each directory that may be there.
+fn told(alloc: Global, mounted: &mut Fs<MemDevice>) -> Result<String>
     requires { IsFs mounted.old }
     ensures sound { IsFs mounted.new }
 {
-    let mut replies = Vec::new(alloc);
-    replies.push(mounted.call(0, &login(alloc)?))?;
-    for first in &NAMES {
-        let path = format!(in alloc; "/{first}")?;
-        replies.push(mounted.call(0, &stat(alloc, path.as_str())?))?;
-        for second in &NAMES {
-            let path = format!(in alloc; "/{first}/{second}")?;
-            replies.push(mounted.call(0, &stat(alloc, path.as_str())?))?;
-        }
+    let mut lines = String::new(alloc);
+    mounted.call(0, &login(alloc)?);
+    for path in &PATHS {
+        let line = line_told(alloc, mounted, &stat(alloc, path)?)?;
+        lines.push_str(line.as_str())?;
     }
-    Ok(print_replies(alloc, replies.as_slice())?)
+    Ok(lines)
 }
 
-fn name(random: &mut Pcg32) -> &'static str {
-    NAMES[(random.next_u32() % 4) as usize]
+/// One of the four, or one in them.
+fn path(random: &mut Pcg32) -> &'static str {
+    let first = random.next_u32() % 4;
+    let at = match random.next_u32() % 2 {
+        0 => first,
+        _ => 4 + 4 * first + random.next_u32() % 4,
+    };
+    PATHS[at as usize]
 }
 
 /// A device with a log of drawn directories. Some calls are refused, and leave no record.
@@ -117,12 +122,7 @@ fn filled(alloc: Global, random: &mut Pcg32) -> Result<MemDevice> {
     let mut mounted = remounted(alloc, new_device(alloc)?)?;
     mounted.call(0, &login(alloc)?);
     for _ in 0..random.next_u32() % 20 {
-        let first = name(random);
-        let path = match random.next_u32() % 2 {
-            0 => format!(in alloc; "/{first}")?,
-            _ => format!(in alloc; "/{first}/{}", name(random))?,
-        };
-        mounted.call(0, &mkdir(alloc, path.as_str(), 0o755)?);
+        mounted.call(0, &mkdir(alloc, path(random), 0o755)?);
     }
     Ok(mounted.into_device())
 }

@@ -1,25 +1,18 @@
 //! The tables of calls and of crashes.
 ghost use Rattle.sn_fs.specs.Filesystem.{IsFs};
 
-use crate::disk::{login, mkdir, new_device, remounted, stat};
+use crate::disk::{line_of, login, mkdir, new_device, remounted, stat, told};
 use anyhow::{Context, Result, bail};
 use sn_device::{Fill, MemDevice};
 use sn_fs::{Fs, mount};
 use sn_model::{Event, Reply};
-use sn_script::{print_replies, read_script};
+use sn_script::read_script;
 use sn_table::{Case, Report};
 use std::alloc::Global;
-use std::str;
 
 pub fn run(report: &mut Report<'_>) -> Result<()> {
     report.script("calls.txt", replies)?;
     report.table("stops.txt", stops)
-}
-
-fn line_of(alloc: Global, reply: Reply) -> Result<String> {
-    let replies = vec![in alloc; reply]?;
-    let line = print_replies(alloc, replies.as_slice())?;
-    Ok(String::from_str(alloc, str::from_utf8(line.as_slice())?)?)
 }
 
 fn fill_of(word: &str) -> Result<Fill> {
@@ -46,7 +39,7 @@ fn replies(alloc: Global, script: &str) -> Result<String> {
             }
             _ => {
                 let reply = asked(alloc, &mut mounted, line)?;
-                text.push_str(line_of(alloc, reply)?.as_str())?;
+                text.push_str(line_of(alloc, &reply)?.as_str())?;
             }
         }
     }
@@ -99,8 +92,7 @@ fn push_answers(alloc: Global, mounted: &mut Fs<MemDevice>, text: &mut String) -
     ensures sound { IsFs mounted.new }
 {
     for call in [login(alloc)?, mkdir(alloc, "/x", 0o755)?] {
-        let reply = mounted.call(0, &call);
-        text.push_str(line_of(alloc, reply)?.as_str().trim())?;
+        text.push_str(told(alloc, mounted, &call)?.as_str().trim())?;
         text.push_str(", ")?;
     }
     Ok(())
@@ -110,7 +102,7 @@ fn push_answers(alloc: Global, mounted: &mut Fs<MemDevice>, text: &mut String) -
 fn push_found(alloc: Global, device: MemDevice, text: &mut String) -> Result<()> {
     let mut mounted = remounted(alloc, device)?;
     mounted.call(0, &login(alloc)?);
-    let reply = mounted.call(0, &stat(alloc, "/x")?);
-    text.push_str(line_of(alloc, reply)?.as_str().trim())?;
+    let line = told(alloc, &mut mounted, &stat(alloc, "/x")?)?;
+    text.push_str(line.as_str().trim())?;
     Ok(())
 }

@@ -2,7 +2,8 @@
 //!
 //! `data/` has the tables of the cases: their head lines say where the answers come from. `disk` has a
 //! file system on a device in memory and the calls of it, `lives` the tables over them, `cuts` cuts
-//! lists of calls and mounts short at each call of the device, and `hostile` mounts logs of any bytes.
+//! lists of calls and mounts short at each call of the device, on the disk of `inheriting`, and `hostile`
+//! mounts logs of any bytes.
 //! What is printed is compared with `stdout`. The argument is the folder of the tables, as in
 //!
 //! ```text
@@ -14,6 +15,7 @@ mod cuts;
 mod directories;
 mod disk;
 mod hostile;
+mod inheriting;
 mod lives;
 mod sizes;
 

@@ -1,11 +1,11 @@
 //! Devices of too few sectors, and a log that is full.
 ghost use Rattle.sn_fs.specs.Filesystem.{IsFs};
 
-use crate::disk::{login, mkdir, new_device, remounted, stat};
+use crate::disk::{login, mkdir, new_device, remounted, stat, told};
 use anyhow::Result;
 use sn_device::{Fill, MemDevice};
 use sn_fs::{Fs, mount};
-use sn_model::{Errno, MountFault, Reply};
+use sn_model::MountFault;
 use sn_table::{Report, Tally};
 use std::alloc::Global;
 
@@ -32,13 +32,6 @@ fn sizes(report: &Report<'_>) -> Result<Tally> {
     Ok(tally)
 }
 
-fn is_refused(reply: &Reply, errno: Errno) -> bool {
-    match reply {
-        Reply::Refused(refusal) => refusal.errno == errno,
-        _ => false,
-    }
-}
-
 /// Each of so many directories is made, and none behind them, also after a crash.
 fn directories(report: &Report<'_>) -> Result<Tally> {
     let alloc = report.alloc();
@@ -46,35 +39,46 @@ fn directories(report: &Report<'_>) -> Result<Tally> {
     let mut mounted = remounted(alloc, new_device(alloc)?)?;
     mounted.call(0, &login(alloc)?);
     for number in 0..ROOM + 2 {
-        let is_made = is_made(alloc, &mut mounted, number)?;
-        tally.check(report.runtime(), is_made == (number < ROOM), &[number])?;
+        let is_right = is_made(alloc, &mut mounted, number)?;
+        tally.check(report.runtime(), is_right, &[number])?;
     }
     let mut mounted = remounted(alloc, mounted.into_device().crash(Fill::Junk))?;
     mounted.call(0, &login(alloc)?);
     for number in 0..ROOM + 2 {
-        let is_there = is_there(alloc, &mut mounted, number)?;
-        tally.check(report.runtime(), is_there == (number < ROOM), &[number])?;
+        let is_right = is_there(alloc, &mut mounted, number)?;
+        tally.check(report.runtime(), is_right, &[number])?;
     }
-    let is_made = is_made(alloc, &mut mounted, ROOM)?;
-    tally.check(report.runtime(), !is_made, &[])?;
+    let is_right = is_made(alloc, &mut mounted, ROOM)?;
+    tally.check(report.runtime(), is_right, &[])?;
     Ok(tally)
 }
 
-/// Makes a directory, or finds that the log has no room.
+/// Whether a directory is made while the log has room, and else refused for want of it.
 fn is_made(alloc: Global, mounted: &mut Fs<MemDevice>, number: u32) -> Result<bool>
     requires { IsFs mounted.old }
     ensures sound { IsFs mounted.new }
 {
     let path = format!(in alloc; "/{number}")?;
-    let reply = mounted.call(0, &mkdir(alloc, path.as_str(), 0o755)?);
-    Ok(!is_refused(&reply, Errno::Enospc))
+    let line = told(alloc, mounted, &mkdir(alloc, path.as_str(), 0o755)?)?;
+    let wanted = if number < ROOM {
+        "ok\n"
+    } else {
+        "err ENOSPC\n"
+    };
+    Ok(line.as_str() == wanted)
 }
 
+/// Whether those that were made are there, and no other.
 fn is_there(alloc: Global, mounted: &mut Fs<MemDevice>, number: u32) -> Result<bool>
     requires { IsFs mounted.old }
     ensures sound { IsFs mounted.new }
 {
     let path = format!(in alloc; "/{number}")?;
-    let reply = mounted.call(0, &stat(alloc, path.as_str())?);
-    Ok(!is_refused(&reply, Errno::Enoent))
+    let line = told(alloc, mounted, &stat(alloc, path.as_str())?)?;
+    let wanted = if number < ROOM {
+        "ok d 0755 1 0 0 0\n"
+    } else {
+        "err ENOENT\n"
+    };
+    Ok(line.as_str() == wanted)
 }

@@ -1,6 +1,6 @@
 //! Each write of a replacement cut short, once, twice and three times in a row.
 
-use crate::disk::{Held, blocks_of, crashed, disk_of, generation_of, image_of, tree_of};
+use crate::disk::{Held, blocks_of, crashed, disk_of, generation_of, image_of, is_done, tree_of};
 use crate::point::{Form, SECTORS, renew};
 use anyhow::{Result, ensure};
 use sn_block::Blocks;
@@ -80,8 +80,8 @@ fn cut(
     device.stop_at(u64::from(writes));
     let mut blocks = blocks_of(alloc, device)?;
     ensure!(blocks.sectors() >= SECTORS, "a smaller disk");
-    let _answer = renew(&mut blocks, tree_of(generation.wrapping_add(1)), form);
-    ensure!(!blocks.status().is_spent, "no memory for a call");
+    let answer = renew(&mut blocks, tree_of(generation.wrapping_add(1)), form);
+    is_done(&blocks, answer)?;
     let (blocks, found) = crashed(alloc, blocks, fill)?;
     Ok((blocks, generation_of(&found)))
 }

@@ -2,7 +2,7 @@
 
 use crate::point::SECTORS;
 use anyhow::{Result, bail, ensure};
-use sn_block::Blocks;
+use sn_block::{Blocks, ReadFault};
 use sn_device::{Fill, MemDevice, SECTOR_SIZE};
 use sn_layout::{BLOCK_SIZE, BlockTree, RootBody, Slot, Snapshots};
 use sn_limits::Limits;
@@ -92,8 +92,22 @@ pub fn generation_of(found: &NewestRoot) -> Option<u64> {
     (found.root == root_of(generation)).then_some(generation)
 }
 
-/// What is found on a disk.
+/// What is found on a disk: a fault of the device is an answer, and want of memory an error.
 pub fn find(blocks: &mut Blocks<MemDevice>) -> Result<Result<NewestRoot, RootFault>> {
     ensure!(blocks.sectors() >= 32, "a smaller disk");
-    Ok(newest(blocks))
+    let found = newest(blocks);
+    if let Err(RootFault::Read(ReadFault::Memory)) = found {
+        bail!("no memory for a block");
+    }
+    Ok(found)
+}
+
+/// Whether a call was done that the device may have failed. Where it wasn't and the device didn't fail,
+/// that is for want of memory, an error.
+pub fn is_done(blocks: &Blocks<MemDevice>, answer: Result<()>) -> Result<bool> {
+    let status = blocks.status();
+    let is_done = answer.is_ok();
+    ensure!(!status.is_spent, "no memory for a call");
+    ensure!(is_done || status.failures > 0, "no memory for a block");
+    Ok(is_done)
 }

@@ -1,6 +1,6 @@
 //! Each call of the device failing in turn.
 
-use crate::disk::{Held, blocks_of, crashed, find, generation_of, image_of, tree_of};
+use crate::disk::{Held, blocks_of, crashed, find, generation_of, image_of, is_done, tree_of};
 use crate::point::{Form, SECTORS, renew};
 use anyhow::{Result, ensure};
 use sn_block::ReadFault;
@@ -70,7 +70,8 @@ fn calls(report: &Report<'_>) -> Result<Tally> {
         for fill in [Fill::New, Fill::Seeded(u64::from(call))] {
             let mut blocks = blocks_of(alloc, failing(report, image.as_slice(), call)?)?;
             ensure!(blocks.sectors() >= SECTORS, "a smaller disk");
-            let is_ok = renew(&mut blocks, tree_of(6), Form::InParts).is_ok();
+            let answer = renew(&mut blocks, tree_of(6), Form::InParts);
+            let is_ok = is_done(&blocks, answer)?;
             let (mut blocks, found) = crashed(alloc, blocks, fill)?;
             let generation = generation_of(&found).unwrap_or(0);
             ensure!(blocks.sectors() >= SECTORS, "a smaller disk");

@@ -5,4 +5,4 @@ use Rattle.sn_tests_changes.proofs.making.run.Given as goal
 
 -- the tree is a name tree
 abbrev pub invariant-loop-at : goal.invariant-loop-at
-invariant-loop-at l = IsTree version_1 (tree_of l.tree.plain)
+invariant-loop-at l = IsTree version_1 (tree_of l.beside.tree.plain)
