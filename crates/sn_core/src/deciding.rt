@@ -82,11 +82,7 @@ impl PlainWorld {
         Ok(decide::chmod(&Limits::VERSION_1, &mut view, caller, &path, bits)?)
     }
 
-    fn decide_stat<'a>(
-        &self,
-        session: u32,
-        path: &'a Word,
-    ) -> Result<Outcome<'a>, CallError>
+    fn decide_stat<'a>(&self, session: u32, path: &'a Word) -> Result<Outcome<'a>, CallError>
         requires { IsPlainWorld self.now }
         ensures { Decides (world_of self.now) session (Call.Stat path.now) result }
     {
@@ -174,9 +170,7 @@ impl PlainWorld {
             Call::Stat { path } => self.decide_stat(session, path),
             Call::Access { path, want } => self.decide_access(session, path, *want),
             Call::GetAcl { path, kind } => self.decide_getacl(alloc, session, path, *kind),
-            Call::SetAcl { path, kind, acl } => {
-                self.decide_setacl(session, path, *kind, acl)
-            }
+            Call::SetAcl { path, kind, acl } => { self.decide_setacl(session, path, *kind, acl) }
         }
     }
 }

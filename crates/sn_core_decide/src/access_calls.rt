@@ -158,7 +158,13 @@ pub fn access<V: TreeView>(
 {
     let found = full(view, &caller.cred, PathNumber::FIRST, path)?;
     live_if(want.write, &found.object)?;
-    granted(&caller.cred, PathNumber::FIRST, found.place, want, &found.attributes)?;
+    granted(
+        &caller.cred,
+        PathNumber::FIRST,
+        found.place,
+        want,
+        &found.attributes,
+    )?;
     Ok(Outcome {
         charge: 0,
         change: Pending::Nothing,

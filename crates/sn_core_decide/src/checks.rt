@@ -7,9 +7,7 @@ ghost use Rattle.sn_walk.specs.Walks.{end_of};
 
 use sn_acl::{Acl, Cred, Mode, Permissions, Tag, check};
 use sn_limits::Kind;
-use sn_model::{
-    Access, AclKind, Denial, Errno, ModeBits, NewAcl, PathNumber, Refusal, Rule, Word,
-};
+use sn_model::{Access, AclKind, Denial, Errno, ModeBits, NewAcl, PathNumber, Refusal, Rule, Word};
 use sn_walk::{
     Attributes, Failure, Found, Object, Obstacle, Path, PathFault, TreeView, WalkRefusal, Walked,
     attributes_of, reached, walk,

@@ -4,19 +4,39 @@ use crate::{Access, AclKind, Groups, Word};
 #[derive(Drop)]
 pub enum Call {
     /// Opens the session, with a credential and the umask 0022.
-    Login { uid: u32, gid: u32, groups: Groups },
+    Login {
+        uid: u32,
+        gid: u32,
+        groups: Groups,
+    },
     /// POSIX.1-2017 umask(): sets the bits that new objects lose. A mask over 0777 is refused.
-    Umask { mask: u16 },
+    Umask {
+        mask: u16,
+    },
     /// POSIX.1-2017 mkdir(): makes a directory. A mode over 0777 is refused.
-    Mkdir { path: Word, mode: u16 },
+    Mkdir {
+        path: Word,
+        mode: u16,
+    },
     /// POSIX.1-2017 chmod(): sets the permission bits, S_ISGID and S_ISVTX. A mode over 03777 is refused.
-    Chmod { path: Word, mode: u16 },
+    Chmod {
+        path: Word,
+        mode: u16,
+    },
     /// POSIX.1-2017 stat().
-    Stat { path: Word },
+    Stat {
+        path: Word,
+    },
     /// POSIX.1-2017 access(): asks for rights, by the credential of the session.
-    Access { path: Word, want: Access },
+    Access {
+        path: Word,
+        want: Access,
+    },
     /// An ACL of an object.
-    GetAcl { path: Word, kind: AclKind },
+    GetAcl {
+        path: Word,
+        kind: AclKind,
+    },
     /// Sets an ACL of an object to the one that a text spells. A dash takes a default ACL away.
     SetAcl {
         path: Word,

@@ -120,12 +120,16 @@ after_cut old session x reply next c h shows = told (subst (λ (s : State). Show
   where
     told : OpensOn ground c (settle old) ⊎ OpensOn ground c (settle h.next) → OpensToLeft (Running old) (event.Call session x) c
     told (inl k) = left_now (Running old) (event.Call session x) c (settle old, k, refl)
-    told (inr k) = (settle h.next, k, inr (record {
-      reply = h.outcome.told;
-      next = h.next;
-      becomes = subst (λ (d : Result Outcome Refusal). Becomes version_1 old session d h.outcome.told h.next) (sym h.decided) (refl, h.comes);
-      left = refl;
-    }))
+    told (inr k) = (
+      settle h.next,
+      k,
+      inr (record {
+        reply = h.outcome.told;
+        next = h.next;
+        becomes = subst (λ (d : Result Outcome Refusal). Becomes version_1 old session d h.outcome.told h.next) (sym h.decided) (refl, h.comes);
+        left = refl;
+      }),
+    )
 
 after_call : (old : World) (session : ℕ) (x : Call) (met : Option Mishap) (reply : Reply) (next : State) (c : Contents) → CallStep version_1 old session x met reply next → ShowsState ground next c → OpensToLeft (Running old) (event.Call session x) c
 after_call old session x None reply next c h shows = after_answer old session x reply next c h shows

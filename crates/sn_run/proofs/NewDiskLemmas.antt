@@ -28,8 +28,8 @@ at_new q = map.get-insert nat_cmp_total map.empty 2 new_root q ∙ ap (cond (eq_
 settled_new : settled new_tree ≡ new_tree
 settled_new = ap (λ (nodes : map.FinMap nat_cmp Node). record { nodes = nodes; links = map.empty })
     (map.same_map nat_cmp_total exact_unsigned _ _ (λ q.
-        get_without (λ _. false) new_tree q
-        ∙ subst (λ (o : Option Node). cond (not (is_nameless new_tree q o) || false) o None ≡ o) (sym (at_new q)) (stays q (eq_by_cmp nat_cmp q 2))))
+    get_without (λ _. false) new_tree q
+    ∙ subst (λ (o : Option Node). cond (not (is_nameless new_tree q o) || false) o None ≡ o) (sym (at_new q)) (stays q (eq_by_cmp nat_cmp q 2))))
 
 new_settles : new_world ≡ settle (with_live new_world new_tree)
 new_settles = sym (ap (λ (t : Tree). with_live new_world t) settled_new)

@@ -4,8 +4,8 @@ use anyhow::{Context, Result, bail, ensure};
 use sn_acl::{Acl, Mode, Permissions, Tag};
 use sn_limits::Kind;
 use sn_model::{
-    Access, AclKind, Call, Content, Damage, Denial, Errno, Event, MountFault, Names, PathNumber, Progress,
-    Refusal, Reply, Rule, Status, StoredAcl, Word,
+    Access, AclKind, Call, Content, Damage, Denial, Errno, Event, MountFault, Names, PathNumber,
+    Progress, Refusal, Reply, Rule, Status, StoredAcl, Word,
 };
 use sn_script::{SCRIPT_MAX, ScriptFault, print_replies, read_script};
 use sn_table::{Case, Report, Tally};

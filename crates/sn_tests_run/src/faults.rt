@@ -9,7 +9,8 @@ use sn_table::{Report, Tally};
 use std::alloc::Global;
 
 /// Two directories, with a restart behind each, and what is there in the end.
-const EVENTS: &str = "0 login 0 0 -\n0 mkdir /a 0755\nrestart\n0 login 0 0 -\n0 mkdir /b 0755\nrestart\n0 login 0 0 -\n0 stat /a\n0 stat /b\n";
+const EVENTS: &str =
+    "0 login 0 0 -\n0 mkdir /a 0755\nrestart\n0 login 0 0 -\n0 mkdir /b 0755\nrestart\n0 login 0 0 -\n0 stat /a\n0 stat /b\n";
 
 /// No run of these events makes as many calls of its device.
 const MOST_CALLS: u64 = 1_000;

@@ -60,13 +60,13 @@ pub fn times(rt: &HostRuntime) -> Result<()> {
 
 /// Makes so many directories on a new file.
 pub fn on_file(rt: &HostRuntime, path: &str, count: &str) -> Result<()> {
-    let count = count
-        .parse()
-        .context(format_args!("no number: {count}"))?;
+    let count = count.parse().context(format_args!("no number: {count}"))?;
     let device = FileDevice::create(rt.alloc(), rt, path, BLOCKS)?;
     let events = makes(rt.alloc(), count)?;
     let Ran {
-        replies, device, ..
+        replies,
+        device,
+        ..
     } = run(rt.alloc(), device, events.as_slice());
     if replies.len() != events.len() || device.failures() != 0 {
         bail!("the device failed");
