@@ -16,6 +16,7 @@ const EVENTS: &str =
 const MOST_CALLS: u64 = 1_000;
 
 /// What a run with one refused call may still answer.
+#[derive(Drop)]
 struct Course {
     /// The refused call has been told.
     is_told: bool,
