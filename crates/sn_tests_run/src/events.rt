@@ -41,7 +41,7 @@ pub fn replies(alloc: Global, text: &str) -> Result<String> {
     let events = events_of(alloc, text)?;
     let device = MemDevice::new(alloc, SECTORS)?;
     let Ran { replies, end, .. } = run(alloc, device, events.as_slice());
-    ensure!(end == End::Clean, "the run has stopped");
+    ensure!(end == End::Clean, "no memory for the run");
     let lines = print_replies(alloc, replies.as_slice())?;
     Ok(String::from_str(alloc, str::from_utf8(lines.as_slice())?)?)
 }
