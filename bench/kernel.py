@@ -284,8 +284,8 @@ class Drawn:
         return ",".join(f"{LETTERS[tag]}:{name}:{self.rights()}" for tag, name in [*entries, (OTHER, "")])
 
     def mode(self, largest):
-        bits = self.random.randrange(largest + 1)
-        return f"{bits | self.random.choice((0, 0o700, 0o755)):04o}"
+        bits = self.random.randrange(largest + 1) | self.random.choice((0, 0o700, 0o755, 0o1777))
+        return f"{bits & largest:04o}"
 
     def line(self):
         path, draw = self.path(), self.random.random()
