@@ -14,6 +14,10 @@ What isn't compared, since it is this project's own rule:
   are 1 and 0 here;
 - who loses S_ISGID: the kernel takes it from a directory too where somebody outside of its group sets its mode or its
   access ACL; here a directory keeps what it was given, so the bit is put back;
+- a MASK without any right: the kernel then leaves the named entries out, and whoever they name has the rights of
+  others; here, as acl(5) says, they are denied what the MASK lacks;
+- a directory whose group entries grant search by one and write by another: to make or remove a name takes two checks
+  here, and one of both rights there;
 - arguments that the kernel knows no limit of: a mode of chmod is at most 03777 here, one of mkdir and a umask at most
   0777, an ACL has its entries in one order, and a path has at most 1,023 bytes of printable ASCII. They are `EINVAL`
   or `ENAMETOOLONG` before any walk, and so are they here;
@@ -261,7 +265,11 @@ def by_program(lines):
 
 
 class Drawn:
-    """Scripts that are drawn, of few users, groups and names, so that they meet."""
+    """Scripts that are drawn, of few users, groups and names, so that they meet.
+
+    Each mode and each MASK lets the group search, and so does each entry of a group that grants write, so that no script
+    comes to what isn't compared.
+    """
 
     USERS, GROUPS, NAMES = (1000, 1001, 1002), (100, 101, 102), ("a", "b", "c")
 
@@ -275,17 +283,23 @@ class Drawn:
     def rights(self):
         return "".join(self.random.choice((letter, letter, "-")) for letter in "rwx")
 
+    def entry(self, tag, name):
+        granted = self.rights()
+        if tag == MASK or tag in (GROUP_OBJ, GROUP) and "w" in granted:
+            granted = granted[:2] + "x"
+        return f"{LETTERS[tag]}:{name}:{granted}"
+
     def acl(self):
         users = sorted(self.random.sample(self.USERS, self.random.randrange(3)))
         groups = sorted(self.random.sample(self.GROUPS, self.random.randrange(3)))
         entries = [(USER_OBJ, ""), *((USER, it) for it in users), (GROUP_OBJ, ""), *((GROUP, it) for it in groups)]
         if users or groups or self.random.random() < 0.3:
             entries.append((MASK, ""))
-        return ",".join(f"{LETTERS[tag]}:{name}:{self.rights()}" for tag, name in [*entries, (OTHER, "")])
+        return ",".join(self.entry(tag, name) for tag, name in [*entries, (OTHER, "")])
 
     def mode(self, largest):
         bits = self.random.randrange(largest + 1) | self.random.choice((0, 0o700, 0o755, 0o1777))
-        return f"{bits & largest:04o}"
+        return f"{bits & largest | 0o010:04o}"
 
     def line(self):
         path, draw = self.path(), self.random.random()
