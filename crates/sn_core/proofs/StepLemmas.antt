@@ -8,7 +8,7 @@ use Rattle.std.proofs.lemmas.Map.Lookups.{exact_unsigned}
 use Rattle.sn_limits.specs.declared.kind.Kind.TheVariants.{Directory}
 use Rattle.sn_limits.specs.Versions.{version_1}
 use Rattle.sn_model.specs.declared.call.Call.{Call}
-use Rattle.sn_model.specs.declared.call.Call.TheVariants.{Access, Chmod, GetAcl, Login, Mkdir, SetAcl, Stat, Umask}
+use Rattle.sn_model.specs.declared.call.Call.TheVariants.{Access, Chmod, Chown, GetAcl, Login, Mkdir, SetAcl, Stat, Umask}
 use Rattle.sn_model.specs.declared.call.Event.{Event}
 use Rattle.sn_model.specs.declared.call.Event.TheVariants as event
 use Rattle.sn_model.specs.declared.change.Ownership.{Ownership}
@@ -212,6 +212,7 @@ change_takes old session (Login uid gid groups) o change e chosen = no_change ol
 change_takes old session (Umask mask) o change e chosen = no_change old o change (umask_changes old session mask o e) chosen
 change_takes old session (Mkdir path mode) o change e chosen = (tt, ready_passed old session (Mkdir path mode) o e)
 change_takes old session (Chmod path mode) o change e chosen = (tt, ready_passed old session (Chmod path mode) o e)
+change_takes old session (Chown path uid gid) o change e chosen = (tt, ready_passed old session (Chown path uid gid) o e)
 change_takes old session (Stat path) o change e chosen = (tt, ready_passed old session (Stat path) o e)
 change_takes old session (Access path want) o change e chosen = (tt, ready_passed old session (Access path want) o e)
 change_takes old session (GetAcl path kind) o change e chosen = (tt, ready_passed old session (GetAcl path kind) o e)

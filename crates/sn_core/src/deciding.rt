@@ -10,7 +10,9 @@ use crate::PlainWorld;
 use crate::error::CallError;
 use sn_acl::{Cred, Mode, Permissions};
 use sn_core_decide as decide;
-use sn_core_decide::{acl_argument, mode_bits_argument, new_mode_argument, path_argument};
+use sn_core_decide::{
+    acl_argument, id_argument, mode_bits_argument, new_mode_argument, path_argument,
+};
 use sn_limits::Limits;
 use sn_model::{
     Access, AclKind, Call, Caller, Groups, Outcome, Pending, Reply, Session, StoredAcl, Word,
@@ -80,6 +82,24 @@ impl PlainWorld {
         let bits = mode_bits_argument(mode)?;
         let mut view = self.view();
         Ok(decide::chmod(&Limits::VERSION_1, &mut view, caller, &path, bits)?)
+    }
+
+    fn decide_chown(
+        &self,
+        session: u32,
+        path: &Word,
+        uid: Option<u32>,
+        gid: Option<u32>,
+    ) -> Result<Outcome<'static>, CallError>
+        requires { IsPlainWorld self.now }
+        ensures { Decides (world_of self.now) session (Call.Chown path.now uid gid) result }
+    {
+        let caller = self.logged_in(session)?;
+        let path = path_argument(path)?;
+        let uid = id_argument(uid)?;
+        let gid = id_argument(gid)?;
+        let mut view = self.view();
+        Ok(decide::chown(&Limits::VERSION_1, &mut view, caller, &path, uid, gid)?)
     }
 
     fn decide_stat<'a>(&self, session: u32, path: &'a Word) -> Result<Outcome<'a>, CallError>
@@ -167,6 +187,7 @@ impl PlainWorld {
             Call::Umask { mask } => self.decide_umask(session, *mask),
             Call::Mkdir { path, mode } => self.decide_mkdir(session, path, *mode),
             Call::Chmod { path, mode } => self.decide_chmod(session, path, *mode),
+            Call::Chown { path, uid, gid } => self.decide_chown(session, path, *uid, *gid),
             Call::Stat { path } => self.decide_stat(session, path),
             Call::Access { path, want } => self.decide_access(session, path, *want),
             Call::GetAcl { path, kind } => self.decide_getacl(alloc, session, path, *kind),

@@ -4,7 +4,7 @@ ghost use Rattle.sn_model.specs.AccessCalls as calls;
 ghost use Rattle.sn_model.specs.Outcomes.{tells};
 ghost use Rattle.sn_walk.specs.Gives.{Gives, IfFault};
 
-use crate::checks::{by_owner, full, granted, has_acl, live, live_if};
+use crate::checks::{by_owner, full, granted, has_acl, live, live_if, to_group, to_owner};
 use sn_acl::{Acl, Cred, Mode};
 use sn_limits::{Kind, Limits};
 use sn_model::{
@@ -68,6 +68,28 @@ fn with_mode_bits(
     ownership.acl.chmod(bits.mode);
     ownership.set_gid = bits.set_gid && may_set_gid(cred, a);
     ownership.sticky = bits.sticky;
+    ownership
+}
+
+/// S_ISGID stays with a directory, and with a file that the user 0 gives.
+fn keeps_set_gid(cred: &Cred, a: &Attributes) -> bool
+    ensures { result ≡ calls.keeps_set_gid cred.now a.now }
+{
+    matches!(a.kind, Kind::Directory) || cred.uid() == 0
+}
+
+fn given_to(
+    cred: &Cred,
+    a: &Attributes,
+    uid: Option<u32>,
+    gid: Option<u32>,
+    mut ownership: Ownership,
+) -> Ownership
+    ensures { result ≡ calls.given_to cred.now a.now uid gid ownership }
+{
+    ownership.owner = uid.unwrap_or(ownership.owner);
+    ownership.group = gid.unwrap_or(ownership.group);
+    ownership.set_gid = ownership.set_gid && keeps_set_gid(cred, a);
     ownership
 }
 
@@ -138,6 +160,36 @@ pub fn chmod<V: TreeView>(
         Err(fault) => return Err(Failure::Fault(fault)),
     };
     let ownership = with_mode_bits(&caller.cred, &found.attributes, bits, ownership);
+    Ok(sets(limits, number, ownership))
+}
+
+/// What chown comes to.
+#[tactic(auto, unfolding(sn_model::specs::AccessCalls::chown_outcome))]
+pub fn chown<V: TreeView>(
+    limits: &Limits,
+    view: &mut V,
+    caller: &Session,
+    path: &Path<'_>,
+    uid: Option<u32>,
+    gid: Option<u32>,
+) -> Result<Outcome<'static>, Failure<Refusal, V::Fault>>
+    requires { V.holds view.old }
+    ensures kept { V.holds view.new }
+    ensures follows { V.follows view.old view.new }
+    ensures same { IsTrue V.is_told → V.shows view.new ≡ V.shows view.old }
+    ensures exact { IsTrue V.is_told → Gives (λ o. o) result (calls.chown_outcome limits.now (V.shows view.old) caller.now path.now uid gid) }
+    ensures cause { IfFault result (λ f. V.causes view.old view.new f) }
+{
+    let found = full(view, &caller.cred, PathNumber::FIRST, path)?;
+    let number = live(&found.object)?;
+    by_owner(&caller.cred, PathNumber::FIRST, &found)?;
+    to_owner(&caller.cred, PathNumber::FIRST, &found, uid)?;
+    to_group(&caller.cred, PathNumber::FIRST, &found, gid)?;
+    let ownership = match ownership_at(view, &found) {
+        Ok(ownership) => ownership,
+        Err(fault) => return Err(Failure::Fault(fault)),
+    };
+    let ownership = given_to(&caller.cred, &found.attributes, uid, gid, ownership);
     Ok(sets(limits, number, ownership))
 }
 

@@ -64,6 +64,17 @@ pub fn acl_argument(kind: AclKind, word: &Word) -> Result<NewAcl, Refusal>
     }
 }
 
+/// An argument that is the number of a user or a group, or none for the one that is there. Each number
+/// of 32 bits is one.
+pub fn id_argument(id: Option<u32>) -> Result<Option<u32>, Refusal>
+    ensures { result ≡ calls.id_argument id }
+{
+    match id {
+        Some(number) => Ok(Some(number)),
+        None => Ok(None),
+    }
+}
+
 fn default_acl_argument(word: &[u8]) -> Result<NewAcl, Refusal>
     ensures { result ≡ calls.acl_argument AclKind.Default word.now }
 {
@@ -284,8 +295,8 @@ pub fn sticky(
     Ok(())
 }
 
-/// Only the owner of an object and the user 0 set its mode and ACLs: EPERM by `not-owner` otherwise, at
-/// the object's place.
+/// Only the owner of an object and the user 0 set its mode, owner, group and ACLs: EPERM by `not-owner`
+/// otherwise, at the object's place.
 pub fn by_owner(cred: &Cred, which: PathNumber, found: &Found) -> Result<(), Refusal>
     ensures { result ≡ calls.by_owner cred.now which found.now }
 {
@@ -294,6 +305,40 @@ pub fn by_owner(cred: &Cred, which: PathNumber, found: &Found) -> Result<(), Ref
         return Ok(());
     }
     Err(forbidden(which, found.place, Rule::NotOwner))
+}
+
+/// Only the user 0 gives an object to another user: EPERM by `not-root` otherwise, at the object's place.
+pub fn to_owner(
+    cred: &Cred,
+    which: PathNumber,
+    found: &Found,
+    uid: Option<u32>,
+) -> Result<(), Refusal>
+    ensures { result ≡ calls.to_owner cred.now which found.now uid }
+{
+    let owner = found.attributes.owner;
+    if cred.uid() == 0 || uid.unwrap_or(owner) == owner {
+        return Ok(());
+    }
+    Err(forbidden(which, found.place, Rule::NotRoot))
+}
+
+/// Only the user 0 gives an object to another group that it isn't in: EPERM by `not-member` otherwise, at
+/// the object's place.
+pub fn to_group(
+    cred: &Cred,
+    which: PathNumber,
+    found: &Found,
+    gid: Option<u32>,
+) -> Result<(), Refusal>
+    ensures { result ≡ calls.to_group cred.now which found.now gid }
+{
+    let old = found.attributes.group;
+    let new = gid.unwrap_or(old);
+    if cred.uid() == 0 || new == old || cred.is_member(new) {
+        return Ok(());
+    }
+    Err(forbidden(which, found.place, Rule::NotMember))
 }
 
 /// A default ACL is that of a directory: EINVAL for one of a file.

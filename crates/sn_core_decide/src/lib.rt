@@ -17,10 +17,11 @@ mod checks;
 mod decisions;
 mod view;
 
-pub use access_calls::{access, chmod, getacl, setacl, umask};
+pub use access_calls::{access, chmod, chown, getacl, setacl, umask};
 pub use checks::{
-    acl_argument, by_owner, full, granted, has_acl, live, live_if, mode_bits_argument,
-    new_mode_argument, not_present, one_tree, path_argument, prefix, sticky, writable_parent,
+    acl_argument, by_owner, full, granted, has_acl, id_argument, live, live_if, mode_bits_argument,
+    new_mode_argument, not_present, one_tree, path_argument, prefix, sticky, to_group, to_owner,
+    writable_parent,
 };
 pub use decisions::{mkdir, stat};
 pub use view::CallView;

@@ -1,6 +1,6 @@
 -- What the calls that set rights have found, and that what they decide can be applied.
-use Rattle.std.proofs.Common.{◌≡◌, ℕ, ◌^◌, Bool, true, false, cond, ◌&&◌, nat_lt, List, Option, Some, None, Ok, Err, is_some, refl, sym, ap, subst, ◌∙◌, arith, ◌||◌, ◌==◌, ◌⊎◌, inl, inr, eq-eqb, eqb-true}
-use Rattle.std.specs.Prelude.{IfSome, codes}
+use Rattle.std.proofs.Common.{◌≡◌, ℕ, ◌^◌, Bool, true, false, cond, ◌&&◌, nat_lt, List, Option, Some, None, Ok, Err, is_some, refl, sym, ap, subst, ◌∙◌, arith, ◌||◌, ◌==◌, ◌≢◌, ◌<◌, ◌⊎◌, inl, inr, eq-eqb, eqb-true, ltb-true}
+use Rattle.std.specs.Prelude.{IfSome, codes, unwrap_or}
 use Rattle.std.specs.FinMap as map
 use Rattle.std.specs.Str.{bytes_eq}
 use Rattle.std.proofs.lemmas.Bool.{lt-ltb, ne_eqb}
@@ -34,8 +34,8 @@ use Rattle.sn_model.specs.declared.reply.Errno.TheVariants.{Einval}
 use Rattle.sn_model.specs.declared.reply.Reply.TheVariants as reply
 use Rattle.sn_model.specs.declared.reply.Rule.TheVariants as rule
 use Rattle.sn_model.specs.declared.session.Session.{Session}
-use Rattle.sn_model.specs.AccessCalls.{AclKind, OfAccess, OfDefault, ModeBits, NewAcl, NewAccess, NewDefault, access_outcome, acl_argument, acl_at, by_owner, chmod_outcome, default_acl_at, getacl_outcome, has_acl, kind_of, live_if, mode_bits_argument, mode_bits_from, new_acl, ownership_at, setacl_outcome, sets, with_acl, with_mode_bits}
-use Rattle.sn_model.specs.AccessLaws.{Sets, SetsAcl, ShowsMode}
+use Rattle.sn_model.specs.AccessCalls.{AclKind, OfAccess, OfDefault, ModeBits, NewAcl, NewAccess, NewDefault, access_outcome, acl_argument, acl_at, by_owner, chmod_outcome, chown_outcome, default_acl_at, getacl_outcome, given_to, has_acl, id_argument, kind_of, live_if, mode_bits_argument, mode_bits_from, new_acl, ownership_at, setacl_outcome, sets, to_group, to_owner, with_acl, with_mode_bits}
+use Rattle.sn_model.specs.AccessLaws.{GivesTo, Sets, SetsAcl, ShowsMode}
 use Rattle.sn_model.specs.Changes.{apply, is_default_acl, is_ownership, node_with, owned, ownership_of, put_node}
 use Rattle.sn_model.specs.NameTree.{IsNode}
 use Rattle.sn_model.specs.Outcomes.{Outcome, Does, tells}
@@ -43,7 +43,7 @@ use Rattle.sn_model.specs.Tests.{forbidden, full, granted, live, plain, prefix, 
 use Rattle.sn_model.specs.Tree.{Node, Tree}
 use Rattle.sn_model.specs.World.{World, trees_of, viewed_trees}
 use Rattle.sn_model.specs.Worlds.{IsWorld}
-use Rattle.sn_model.proofs.ChainLemmas.{and_both}
+use Rattle.sn_model.proofs.ChainLemmas.{and_both, or_right}
 use Rattle.sn_model.proofs.DecisionLemmas.{default_at, live_node, ok, same_ok, seen_node}
 use Rattle.sn_model.proofs.PartLemmas.{owned_of}
 
@@ -172,9 +172,9 @@ module _ (limits : Limits) (world : World) (s : Session) (bits : ModeBits) (foun
     new = given;
     change = ap (λ (x : Outcome). x.change) (is ∙ ap (λ (x : Ownership). sets limits.inode_charge number (with_mode_bits s.cred found.attributes bits x)) found_live.had);
     by_owner = owner_is world s found number found_live u owns;
-    owner = refl;
-    group = refl;
     follows = record {
+      owner = refl;
+      group = refl;
       mode = mode_of-with_mode bits.mode found_live.node.acl chmod_node.acl;
       default_acl = refl;
       sticky = refl;
@@ -199,6 +199,119 @@ chmod_is limits world s names argument bits o whole a e =
     let n = bind_ok (live f.0.object) (λ n. by_owner s.cred 1 f.0 >>= (λ _. last f.0 n)) o f.2 in
     let u = bind_ok (by_owner s.cred 1 f.0) (λ _. last f.0 n.0) o n.2 in
     chmod_sets limits world s bits f.0 n.0 whole (mode_within argument bits a) (live_found world s names f.0 n.0 f.1 n.1) u.0 u.1 o (sym (same_ok _ o u.2))
+
+-- ---- chown
+
+-- a number that passes has 32 bits
+abbrev IsNumber : Option ℕ → Type 0
+IsNumber id = IfSome id (λ n. n < 2 ^ 32)
+
+id_within : (argument id : Option ℕ) → id_argument argument ≡ Ok id → IsNumber id
+id_within None id e = subst IsNumber (same_ok None id e) tt
+id_within (Some n) id e = told (nat_lt n (2 ^ 32)) refl e
+  where
+    told : (b : Bool) → nat_lt n (2 ^ 32) ≡ b → cond b (ok (Some n)) (Err (plain Einval)) ≡ Ok id → IsNumber id
+    told true t f = subst IsNumber (same_ok (Some n) id f) (ltb-true n (2 ^ 32) t)
+    told false t f = cc
+
+id_fits : (id : Option ℕ) (old : ℕ) → IsNumber id → old < 2 ^ 32 → nat_lt (unwrap_or id old) (2 ^ 32) ≡ true
+id_fits None old h k = lt-ltb old (2 ^ 32) k
+id_fits (Some n) old h k = lt-ltb n (2 ^ 32) h
+
+neither : (a b : Bool) → a ≡ false → b ≡ false → (a || b) ≡ false
+neither a b e f = rw (e, f) refl
+
+-- whoever isn't the user 0 leaves the owner, and the group or a group of its own
+owner_kept : (s : Session) (found : Found) (uid : Option ℕ) (u : Unit {0}) → to_owner s.cred 1 found uid ≡ Ok u → s.cred.uid ≢ 0 → unwrap_or uid found.attributes.owner ≡ found.attributes.owner
+owner_kept s found uid u e other = told (s.cred.uid == 0) (unwrap_or uid found.attributes.owner == found.attributes.owner) refl refl e
+  where
+    told : (a b : Bool) → (s.cred.uid == 0) ≡ a → (unwrap_or uid found.attributes.owner == found.attributes.owner) ≡ b → cond (a || b) (ok tt) (Err (forbidden 1 found.place rule.NotRoot)) ≡ Ok u → unwrap_or uid found.attributes.owner ≡ found.attributes.owner
+    told true b f g h = absurd (other (eqb-true s.cred.uid 0 f))
+    told false true f g h = eqb-true (unwrap_or uid found.attributes.owner) found.attributes.owner g
+    told false false f g h = cc h
+
+group_kept : (s : Session) (found : Found) (gid : Option ℕ) (u : Unit {0}) → to_group s.cred 1 found gid ≡ Ok u → s.cred.uid ≢ 0
+    → (unwrap_or gid found.attributes.group ≡ found.attributes.group) ⊎ (is_member s.cred (unwrap_or gid found.attributes.group) ≡ true)
+group_kept s found gid u e other = told (s.cred.uid == 0) (unwrap_or gid found.attributes.group == found.attributes.group) (is_member s.cred (unwrap_or gid found.attributes.group)) refl refl refl e
+  where
+    told : (a b d : Bool) → (s.cred.uid == 0) ≡ a → (unwrap_or gid found.attributes.group == found.attributes.group) ≡ b → is_member s.cred (unwrap_or gid found.attributes.group) ≡ d
+        → cond (a || b || d) (ok tt) (Err (forbidden 1 found.place rule.NotMember)) ≡ Ok u → (unwrap_or gid found.attributes.group ≡ found.attributes.group) ⊎ (is_member s.cred (unwrap_or gid found.attributes.group) ≡ true)
+    told true b d f g m h = absurd (other (eqb-true s.cred.uid 0 f))
+    told false true d f g m h = inl (eqb-true (unwrap_or gid found.attributes.group) found.attributes.group g)
+    told false false true f g m h = inr m
+    told false false false f g m h = cc h
+
+-- what chown has found, and what it comes to
+record HasGiven (limits : Limits) (trees : ViewedTrees) (s : Session) (names : List (List ℕ)) (uid gid : Option ℕ) (o : Outcome) : Type 0 where
+  found : Found
+  number : ℕ
+  leads : full trees s.cred 1 names ≡ Ok found
+  in_live : live found.object ≡ Ok number
+  owns : (u : Unit {0}) × (by_owner s.cred 1 found ≡ Ok u)
+  keeps : (u : Unit {0}) × (to_owner s.cred 1 found uid ≡ Ok u)
+  joins : (u : Unit {0}) × (to_group s.cred 1 found gid ≡ Ok u)
+  is : o ≡ sets limits.inode_charge number (given_to s.cred found.attributes uid gid (ownership_at trees found))
+
+has_given : (limits : Limits) (trees : ViewedTrees) (s : Session) (names : List (List ℕ)) (uid gid : Option ℕ) (o : Outcome) → chown_outcome limits trees s names uid gid ≡ Ok o → HasGiven limits trees s names uid gid o
+unfolding chown_outcome
+has_given limits trees s names uid gid o e =
+    let last = λ (f : Found) (n : ℕ). ok (sets limits.inode_charge n (given_to s.cred f.attributes uid gid (ownership_at trees f))) in
+    let f = bind_ok (full trees s.cred 1 names) (λ f. live f.object >>= (λ n. by_owner s.cred 1 f >>= (λ _. to_owner s.cred 1 f uid >>= (λ _. to_group s.cred 1 f gid >>= (λ _. last f n))))) o e in
+    let n = bind_ok (live f.0.object) (λ n. by_owner s.cred 1 f.0 >>= (λ _. to_owner s.cred 1 f.0 uid >>= (λ _. to_group s.cred 1 f.0 gid >>= (λ _. last f.0 n)))) o f.2 in
+    let u = bind_ok (by_owner s.cred 1 f.0) (λ _. to_owner s.cred 1 f.0 uid >>= (λ _. to_group s.cred 1 f.0 gid >>= (λ _. last f.0 n.0))) o n.2 in
+    let v = bind_ok (to_owner s.cred 1 f.0 uid) (λ _. to_group s.cred 1 f.0 gid >>= (λ _. last f.0 n.0)) o u.2 in
+    let w = bind_ok (to_group s.cred 1 f.0 gid) (λ _. last f.0 n.0) o v.2 in
+    record { found = f.0; number = n.0; leads = f.1; in_live = n.1; owns = (u.0, u.1); keeps = (v.0, v.1); joins = (w.0, w.1); is = sym (same_ok _ o w.2) }
+
+module _ (limits : Limits) (world : World) (s : Session) (names : List (List ℕ)) (uid gid : Option ℕ) (o : Outcome) (whole : IsWorld limits world) (user : IsNumber uid) (member : IsNumber gid) (p : HasGiven limits (viewed_trees (trees_of world)) s names uid gid o) where
+  given_node : IsLive world p.found p.number
+  given_node = live_found world s names p.found p.number p.leads p.in_live
+
+  given_away : Ownership
+  given_away = given_to s.cred p.found.attributes uid gid (ownership_of given_node.node)
+
+  kept_node : IsNode limits p.number given_node.node
+  kept_node = whole.live.nodes.nodes p.number given_node.node given_node.there
+
+  gives : GivesTo s uid gid given_node.node given_away
+  unfolding given_away
+  gives = record {
+    owner = refl;
+    group = refl;
+    acl = refl;
+    default_acl = refl;
+    sticky = refl;
+    of_directory = λ e. as_asked given_node.node.set_gid _ (ap (λ (k : Kind). is_directory k || s.cred.uid == 0) (given_node.kind ∙ e));
+    of_root = λ e. as_asked given_node.node.set_gid _ (or_right (is_directory p.found.attributes.kind) (s.cred.uid == 0) (eq-eqb s.cred.uid 0 e));
+    of_file = λ file other. not_asked given_node.node.set_gid _ (neither (is_directory p.found.attributes.kind) (s.cred.uid == 0) (ap is_directory (given_node.kind ∙ file)) (ne_eqb s.cred.uid 0 other));
+    same_owner = λ other. subst (λ (n : ℕ). unwrap_or uid n ≡ n) given_node.owner (owner_kept s p.found uid p.keeps.0 p.keeps.1 other);
+    own_group = λ other. subst (λ (n : ℕ). (unwrap_or gid n ≡ n) ⊎ (is_member s.cred (unwrap_or gid n) ≡ true)) given_node.group (group_kept s p.found gid p.joins.0 p.joins.1 other);
+  }
+
+  given_applies : is_some (owned world.live p.number given_away) ≡ true
+  unfolding given_away
+  given_applies = set_applies world.live p.number given_node.node given_away given_node.there
+      (and_both _ _
+      (and_both _ _ (and_both _ _ (id_fits uid given_node.node.owner user kept_node.owner) (id_fits gid given_node.node.group member kept_node.group)) (test-from_valid given_node.node.acl kept_node.acl))
+      (default_fits limits p.number given_node.node kept_node))
+
+  chown_sets : Sets limits world s o (GivesTo s uid gid)
+  unfolding given_away
+  chown_sets = record {
+    number = p.number;
+    node = given_node.node;
+    there = given_node.there;
+    by_owner = owner_is world s p.found p.number given_node p.owns.0 p.owns.1;
+    new = given_away;
+    change = ap (λ (x : Outcome). x.change) (p.is ∙ ap (λ (x : Ownership). sets limits.inode_charge p.number (given_to s.cred p.found.attributes uid gid x)) given_node.had);
+    follows = gives;
+    applies = given_applies;
+  }
+
+pub chown_is : (limits : Limits) (world : World) (s : Session) (names : List (List ℕ)) (user uid member gid : Option ℕ) (o : Outcome) → IsWorld limits world
+    → id_argument user ≡ Ok uid → id_argument member ≡ Ok gid → chown_outcome limits (viewed_trees (trees_of world)) s names uid gid ≡ Ok o → Sets limits world s o (GivesTo s uid gid)
+chown_is limits world s names user uid member gid o whole a b e =
+    chown_sets limits world s names uid gid o whole (id_within user uid a) (id_within member gid b) (has_given limits (viewed_trees (trees_of world)) s names uid gid o e)
 
 -- ---- setacl
 
@@ -240,16 +353,8 @@ acl_fits limits number node (NewAccess acl) is valid directory = and_both _ _ (a
 acl_fits limits number node (NewDefault acl) is valid directory = and_both _ _ (and_both _ _ (owner_fits limits number node is) (test-from_valid node.acl is.acl)) (default_new node.kind acl (directory refl) valid)
 
 acl_set : (acl : NewAcl) (node : Node) → SetsAcl acl node (with_acl acl (ownership_of node))
-acl_set (NewAccess acl) node = record { which = (refl, refl); set_gid = refl; sticky = refl }
-acl_set (NewDefault acl) node = record { which = (refl, refl); set_gid = refl; sticky = refl }
-
-owner_stays : (acl : NewAcl) (o : Ownership) → (with_acl acl o).owner ≡ o.owner
-owner_stays (NewAccess acl) o = refl
-owner_stays (NewDefault acl) o = refl
-
-group_stays : (acl : NewAcl) (o : Ownership) → (with_acl acl o).group ≡ o.group
-group_stays (NewAccess acl) o = refl
-group_stays (NewDefault acl) o = refl
+acl_set (NewAccess acl) node = record { owner = refl; group = refl; which = (refl, refl); set_gid = refl; sticky = refl }
+acl_set (NewDefault acl) node = record { owner = refl; group = refl; which = (refl, refl); set_gid = refl; sticky = refl }
 
 setacl_sets : (limits : Limits) (world : World) (s : Session) (found : Found) (number : ℕ) (acl : NewAcl) (o : Outcome) (u v : Unit {0}) → IsWorld limits world → IsNew acl → IsLive world found number → has_acl (kind_of acl) found.attributes ≡ Ok u → by_owner s.cred 1 found ≡ Ok v
     → o ≡ sets limits.inode_charge number (with_acl acl (ownership_at (viewed_trees (trees_of world)) found)) → Sets limits world s o (SetsAcl acl)
@@ -262,8 +367,6 @@ setacl_sets limits world s found number acl o u v whole valid found_live has own
       new = with_acl acl (ownership_of found_live.node);
       change = ap (λ (x : Outcome). x.change) (is ∙ ap (λ (x : Ownership). sets limits.inode_charge number (with_acl acl x)) found_live.had);
       by_owner = owner_is world s found number found_live v owns;
-      owner = owner_stays acl (ownership_of found_live.node);
-      group = group_stays acl (ownership_of found_live.node);
       follows = acl_set acl found_live.node;
       applies = set_applies world.live number found_live.node (with_acl acl (ownership_of found_live.node)) found_live.there
           (acl_fits limits number found_live.node acl node valid (λ default.
@@ -303,6 +406,11 @@ chmod_some limits trees s names bits o e =
     let n = bind_ok (live f.0.object) (λ n. by_owner s.cred 1 f.0 >>= (λ _. last f.0 n)) o f.2 in
     let u = bind_ok (by_owner s.cred 1 f.0) (λ _. last f.0 n.0) o n.2 in
     (n.0, with_mode_bits s.cred f.0.attributes bits (ownership_at trees f.0), sym (same_ok _ o u.2))
+
+pub chown_some : (limits : Limits) (trees : ViewedTrees) (s : Session) (names : List (List ℕ)) (uid gid : Option ℕ) (o : Outcome) → chown_outcome limits trees s names uid gid ≡ Ok o → SetsSome limits o
+chown_some limits trees s names uid gid o e =
+    let p = has_given limits trees s names uid gid o e in
+    (p.number, given_to s.cred p.found.attributes uid gid (ownership_at trees p.found), p.is)
 
 pub setacl_some : (limits : Limits) (trees : ViewedTrees) (s : Session) (names : List (List ℕ)) (acl : NewAcl) (o : Outcome) → setacl_outcome limits trees s names acl ≡ Ok o → SetsSome limits o
 unfolding setacl_outcome

@@ -1,5 +1,6 @@
 -- The calls that ask for rights and set them refuse an access, and grant one, by the access rule.
 use Rattle.std.proofs.Common.{◌≡◌, ◌⊎◌, inl, inr, ℕ, ◌+◌, Bool, true, false, cond, List, [], ◌∷◌, length, take, Option, Some, None, Result, Ok, Err, ◌||◌, ◌==◌, refl, sym, ap, ◌∙◌, arith}
+use Rattle.std.specs.Prelude.{unwrap_or}
 use Rattle.std.specs.Option.{option_and_then}
 use Rattle.std.proofs.Math.Seq.{take-length}
 use Rattle.sn_acl.specs.declared.entries.Entry.{Entry}
@@ -21,9 +22,10 @@ use Rattle.sn_model.specs.declared.reply.Errno.{Errno}
 use Rattle.sn_model.specs.declared.reply.Errno.TheVariants.{Eacces, Einval, Eperm}
 use Rattle.sn_model.specs.declared.reply.Refusal.{Refusal}
 use Rattle.sn_model.specs.declared.reply.Reply.TheVariants as reply
+use Rattle.sn_model.specs.declared.reply.Rule.{Rule}
 use Rattle.sn_model.specs.declared.reply.Rule.TheVariants as rule
 use Rattle.sn_model.specs.declared.session.Session.{Session}
-use Rattle.sn_model.specs.AccessCalls.{AclKind, OfAccess, OfDefault, ModeBits, NewAcl, access_outcome, acl_at, by_owner, chmod_outcome, getacl_outcome, has_acl, kind_of, live_if, ownership_at, setacl_outcome, sets, with_acl, with_mode_bits}
+use Rattle.sn_model.specs.AccessCalls.{AclKind, OfAccess, OfDefault, ModeBits, NewAcl, access_outcome, acl_at, by_owner, chmod_outcome, chown_outcome, getacl_outcome, given_to, has_acl, kind_of, live_if, may_join, ownership_at, setacl_outcome, sets, to_group, to_owner, with_acl, with_mode_bits}
 use Rattle.sn_model.specs.AccessLaws.{IsGranted, IsDeniedOn, EachDeniesByRule}
 use Rattle.sn_model.specs.Denials.{at_place, led_to}
 use Rattle.sn_model.specs.Outcomes.{Outcome, tells}
@@ -96,12 +98,19 @@ pass = Ok tt
 not_so : (x r : Refusal) (e : Errno) → x ≡ r → r.errno ≡ Eacces → x.errno ≡ e → e ≡ Eacces
 not_so x r e same is has = sym has ∙ ap (λ (y : Refusal). y.errno) same ∙ is
 
+-- a rule that is no entry refuses with EPERM
+pub rule_other : (b : Bool) (place : ℕ) (which : Rule) (r : Refusal) → cond b pass (Err (forbidden 1 place which)) ≡ Err r → r.errno ≡ Eacces → ⊥
+rule_other true place which r e is = cc e
+rule_other false place which r e is = let same : forbidden 1 place which ≡ r = cc e in let never = not_so (forbidden 1 place which) r Eperm same is refl in cc never
+
 owner_other : (cred : Credential) (found : Found) (r : Refusal) → by_owner cred 1 found ≡ Err r → r.errno ≡ Eacces → ⊥
-owner_other cred found r e is = told (cred.uid == 0 || cred.uid == found.attributes.owner) e
-  where
-    told : (b : Bool) → cond b pass (Err (forbidden 1 found.place rule.NotOwner)) ≡ Err r → ⊥
-    told true f = cc f
-    told false f = let same : forbidden 1 found.place rule.NotOwner ≡ r = cc f in let never = not_so (forbidden 1 found.place rule.NotOwner) r Eperm same is refl in cc never
+owner_other cred found r = rule_other (cred.uid == 0 || cred.uid == found.attributes.owner) found.place rule.NotOwner r
+
+to_owner_other : (cred : Credential) (found : Found) (uid : Option ℕ) (r : Refusal) → to_owner cred 1 found uid ≡ Err r → r.errno ≡ Eacces → ⊥
+to_owner_other cred found uid r = rule_other (cred.uid == 0 || unwrap_or uid found.attributes.owner == found.attributes.owner) found.place rule.NotRoot r
+
+to_group_other : (cred : Credential) (found : Found) (gid : Option ℕ) (r : Refusal) → to_group cred 1 found gid ≡ Err r → r.errno ≡ Eacces → ⊥
+to_group_other cred found gid r = rule_other (may_join cred found.attributes.group (unwrap_or gid found.attributes.group)) found.place rule.NotMember r
 
 acl_other : (kind : AclKind) (a : Attributes) (r : Refusal) → has_acl kind a ≡ Err r → r.errno ≡ Eacces → ⊥
 acl_other OfAccess a r e is = cc e
@@ -152,6 +161,18 @@ module _ (trees : ViewedTrees) (s : Session) (names : List (List ℕ)) (r : Refu
       behind (live x.object) (λ n. by_owner s.cred 1 x >>= (λ _. last x n)) (λ h. live_other x.object r h is) (λ n.
       behind (by_owner s.cred 1 x) (λ _. last x n) (λ h. owner_other s.cred x r h is) (λ _ h. cc h)))
 
+  chown_denied : (limits : Limits) (uid gid : Option ℕ) → chown_outcome limits trees s names uid gid ≡ Err r → Denied_here
+  unfolding chown_outcome
+  chown_denied limits uid gid =
+      let last = λ (x : Found) (n : ℕ). ok (sets limits.inode_charge n (given_to s.cred x.attributes uid gid (ownership_at trees x))) in
+      let joined = λ (x : Found) (n : ℕ). to_group s.cred 1 x gid >>= (λ _. last x n) in
+      let kept = λ (x : Found) (n : ℕ). to_owner s.cred 1 x uid >>= (λ _. joined x n) in
+      behind_full (λ x. live x.object >>= (λ n. by_owner s.cred 1 x >>= (λ _. kept x n))) (λ x _.
+      behind (live x.object) (λ n. by_owner s.cred 1 x >>= (λ _. kept x n)) (λ h. live_other x.object r h is) (λ n.
+      behind (by_owner s.cred 1 x) (λ _. kept x n) (λ h. owner_other s.cred x r h is) (λ _.
+      behind (to_owner s.cred 1 x uid) (λ _. joined x n) (λ h. to_owner_other s.cred x uid r h is) (λ _.
+      behind (to_group s.cred 1 x gid) (λ _. last x n) (λ h. to_group_other s.cred x gid r h is) (λ _ h. cc h)))))
+
   access_denied : (want : Access) → access_outcome trees s names want ≡ Err r → Denied_here
   unfolding access_outcome
   access_denied want =
@@ -183,6 +204,7 @@ module _ (trees : ViewedTrees) (s : Session) (names : List (List ℕ)) (r : Refu
 pub denies : (limits : Limits) (trees : ViewedTrees) (s : Session) (names : List (List ℕ)) → EachDeniesByRule limits trees s names
 denies limits trees s names = record {
   chmod = λ bits r e is. chmod_denied trees s names r is limits bits e;
+  chown = λ uid gid r e is. chown_denied trees s names r is limits uid gid e;
   access = λ want r e is. access_denied trees s names r is want e;
   getacl = λ kind r e is. getacl_denied trees s names r is kind e;
   setacl = λ acl r e is. setacl_denied trees s names r is limits acl e;

@@ -1,5 +1,5 @@
 -- Each EACCES of a call is of a place of its path where the access rule denies.
-use Rattle.std.proofs.Common.{◌≡◌, ◌⊎◌, inl, inr, ℕ, Bool, true, false, cond, List, [], ◌∷◌, Option, Some, None, Result, Ok, Err, nat_lt, refl, ap, subst, sym, ◌∙◌}
+use Rattle.std.proofs.Common.{◌≡◌, ◌⊎◌, inl, inr, ℕ, ◌^◌, Bool, true, false, cond, List, [], ◌∷◌, Option, Some, None, Result, Ok, Err, nat_lt, refl, ap, subst, sym, ◌∙◌}
 use Rattle.std.specs.Prelude.{codes, slice_get}
 use Rattle.std.specs.Str.{bytes_eq}
 use Rattle.sn_acl.specs.declared.entries.Entry.{Entry}
@@ -19,7 +19,7 @@ use Rattle.sn_model.specs.declared.reply.Access as access
 use Rattle.sn_model.specs.declared.reply.Errno.TheVariants.{Eacces, Einval, Enametoolong, Ebusy, Ebadf}
 use Rattle.sn_model.specs.declared.reply.Refusal.{Refusal}
 use Rattle.sn_model.specs.declared.session.Session.{Session}
-use Rattle.sn_model.specs.AccessCalls.{AclKind, OfAccess, OfDefault, ModeBits, NewAcl, NewAccess, NewDefault, acl_argument, mode_bits_argument, mode_bits_from, new_acl}
+use Rattle.sn_model.specs.AccessCalls.{AclKind, OfAccess, OfDefault, ModeBits, NewAcl, NewAccess, NewDefault, acl_argument, id_argument, mode_bits_argument, mode_bits_from, new_acl}
 use Rattle.sn_model.specs.AccessLaws.{DeniesByRule}
 use Rattle.sn_model.specs.Calls as calls
 use Rattle.sn_model.specs.Calls.{new_session, outcome_of, ready}
@@ -74,6 +74,10 @@ caller_other world session r e is = chain_other (session_at world session) is_op
 bits_other : (bits : ℕ) (r : Refusal) → mode_bits_argument bits ≡ Err r → r.errno ≡ Eacces → ⊥
 bits_other bits r e is = tested_other (nat_lt bits 2048) (mode_bits_from bits) r e is
 
+id_other : (id : Option ℕ) (r : Refusal) → id_argument id ≡ Err r → r.errno ≡ Eacces → ⊥
+id_other None r e is = cc e
+id_other (Some number) r e is = tested_other (nat_lt number (2 ^ 32)) (Some number) r e is
+
 new_acl_other : (o : Option (List Entry)) (kind : AclKind) (r : Refusal) → new_acl kind o ≡ Err r → r.errno ≡ Eacces → ⊥
 new_acl_other None kind r e is = let never : Einval ≡ Eacces = (let same : plain Einval ≡ r = cc e in ap (λ (x : Refusal). x.errno) same ∙ is) in cc never
 new_acl_other (Some acl) OfAccess r e is = cc e
@@ -114,6 +118,10 @@ module _ (world : World) (session : ℕ) (r : Refusal) (is : r.errno ≡ Eacces)
   ready_other (call.Chmod path mode) =
       behind_path path (λ s names. mode_bits_argument mode >>= (λ bits. ready_ok (calls.Chmod s names bits)))
       (λ s names. chain_other (mode_bits_argument mode) (λ bits. ready_ok (calls.Chmod s names bits)) r (λ h. bits_other mode r h is) (λ bits h. never_ok _ r h))
+  ready_other (call.Chown path uid gid) =
+      behind_path path (λ s names. id_argument uid >>= (λ owner. id_argument gid >>= (λ group. ready_ok (calls.Chown s names owner group))))
+      (λ s names. chain_other (id_argument uid) (λ owner. id_argument gid >>= (λ group. ready_ok (calls.Chown s names owner group))) r (λ h. id_other uid r h is)
+      (λ owner. chain_other (id_argument gid) (λ group. ready_ok (calls.Chown s names owner group)) r (λ h. id_other gid r h is) (λ group h. never_ok _ r h)))
   ready_other (call.Stat path) = behind_path path (λ s names. ready_ok (calls.Stat s names)) (λ s names h. never_ok _ r h)
   ready_other (call.Access path want) = behind_path path (λ s names. ready_ok (calls.Access s names want)) (λ s names h. never_ok _ r h)
   ready_other (call.GetAcl path kind) = behind_path path (λ s names. ready_ok (calls.GetAcl s names kind)) (λ s names h. never_ok _ r h)
@@ -183,6 +191,14 @@ module _ (limits : Limits) (world : World) (session : ℕ) (r : Refusal) (is : r
       let m = bind_ok (mode_bits_argument mode) (λ bits. ready_ok (calls.Chmod k.caller k.names bits)) x k.passed in
       of_path (call.Chmod path mode) path more x k refl (at_first k.caller k.names _ ((denies limits trees k.caller k.names).chmod m.0) (goes_on (calls.Chmod k.caller k.names m.0) x m.2 g))
 
+  chown_denies : (path : List ℕ) (uid gid : Option ℕ) → Denies (call.Chown path uid gid)
+  chown_denies path uid gid x f g =
+      let more = λ (s : Session) (names : List (List ℕ)). id_argument uid >>= (λ owner. id_argument gid >>= (λ group. ready_ok (calls.Chown s names owner group))) in
+      let k = called world session path more x f in
+      let a = bind_ok (id_argument uid) (λ owner. id_argument gid >>= (λ group. ready_ok (calls.Chown k.caller k.names owner group))) x k.passed in
+      let b = bind_ok (id_argument gid) (λ group. ready_ok (calls.Chown k.caller k.names a.0 group)) x a.2 in
+      of_path (call.Chown path uid gid) path more x k refl (at_first k.caller k.names _ ((denies limits trees k.caller k.names).chown a.0 b.0) (goes_on (calls.Chown k.caller k.names a.0 b.0) x b.2 g))
+
   stat_denies : (path : List ℕ) → Denies (call.Stat path)
   stat_denies path x f g =
       let more = λ (s : Session) (names : List (List ℕ)). ready_ok (calls.Stat s names) in
@@ -213,6 +229,7 @@ module _ (limits : Limits) (world : World) (session : ℕ) (r : Refusal) (is : r
   decided_denies (call.Umask mask) = umask_denies mask
   decided_denies (call.Mkdir path mode) = mkdir_denies path mode
   decided_denies (call.Chmod path mode) = chmod_denies path mode
+  decided_denies (call.Chown path uid gid) = chown_denies path uid gid
   decided_denies (call.Stat path) = stat_denies path
   decided_denies (call.Access path want) = access_denies path want
   decided_denies (call.GetAcl path kind) = getacl_denies path kind

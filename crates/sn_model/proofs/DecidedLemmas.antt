@@ -34,8 +34,8 @@ use Rattle.sn_model.specs.declared.reply.Reply.TheVariants as reply
 use Rattle.sn_limits.specs.declared.limits.Limits.{Limits}
 use Rattle.sn_model.specs.declared.change.Ownership.{Ownership}
 use Rattle.sn_model.specs.Outcomes.{Outcome, opens, tells}
-use Rattle.sn_model.specs.AccessCalls.{AclKind, acl_argument, mode_bits_argument, umask_outcome}
-use Rattle.sn_model.specs.AccessLaws.{SetsAcl, ShowsMode}
+use Rattle.sn_model.specs.AccessCalls.{AclKind, acl_argument, id_argument, mode_bits_argument, umask_outcome}
+use Rattle.sn_model.specs.AccessLaws.{GivesTo, SetsAcl, ShowsMode}
 use Rattle.sn_model.specs.Calls as calls
 use Rattle.sn_model.specs.Calls.{Ready, ready, outcome_of, new_session, new_directory, last_name}
 use Rattle.sn_model.specs.Steps.{IsNumber, IsNumberFor, changed, decision}
@@ -46,7 +46,7 @@ use Rattle.sn_model.proofs.PartLemmas.{is_directory_at, made_of}
 use Rattle.sn_walk.proofs.ChainLemmas.{bind_ok}
 use Rattle.sn_model.proofs.DecisionLemmas as found
 use Rattle.sn_model.proofs.DecisionLemmas.{Made, called, same_ok, mkdir_is, stat_is}
-use Rattle.sn_model.proofs.AccessCallLemmas.{SetsSome, access_tells, can_be_set, chmod_is, chmod_some, getacl_tells, setacl_is, setacl_some}
+use Rattle.sn_model.proofs.AccessCallLemmas.{SetsSome, access_tells, can_be_set, chmod_is, chmod_some, chown_is, chown_some, getacl_tells, setacl_is, setacl_some}
 
 -- the ACLs of a new object are valid
 three_acl : (mode : Mode) → IsMode mode → is_acl (three_entries mode) ≡ true
@@ -219,6 +219,15 @@ module _ (limits : Limits) (world : World) (session : ℕ) where
       let is = chmod_some limits trees k.caller k.names m.0 o e in
       Assigns is (λ whole. can_be_set limits world k.caller o (ShowsMode k.caller m.0) is (chmod_is limits world k.caller k.names mode m.0 o whole m.1 e))
 
+  chown_decided : (path : List ℕ) (uid gid : Option ℕ) (o : Outcome) → ReadyTo (call.Chown path uid gid) o → IsDecided limits world session (call.Chown path uid gid) o
+  chown_decided path uid gid o r =
+      let k = called world session path (λ s names. id_argument uid >>= (λ owner. id_argument gid >>= (λ group. found.ok (calls.Chown s names owner group)))) r.0 r.1 in
+      let a = bind_ok (id_argument uid) (λ owner. id_argument gid >>= (λ group. found.ok (calls.Chown k.caller k.names owner group))) r.0 k.passed in
+      let b = bind_ok (id_argument gid) (λ group. found.ok (calls.Chown k.caller k.names a.0 group)) r.0 a.2 in
+      let e = goes_on (calls.Chown k.caller k.names a.0 b.0) r.0 o b.2 r.2 in
+      let is = chown_some limits trees k.caller k.names a.0 b.0 o e in
+      Assigns is (λ whole. can_be_set limits world k.caller o (GivesTo k.caller a.0 b.0) is (chown_is limits world k.caller k.names uid a.0 gid b.0 o whole a.1 b.1 e))
+
   stat_decided : (path : List ℕ) (o : Outcome) → ReadyTo (call.Stat path) o → IsDecided limits world session (call.Stat path) o
   stat_decided path o r =
       let k = called world session path (λ s names. found.ok (calls.Stat s names)) r.0 r.1 in
@@ -249,6 +258,7 @@ module _ (limits : Limits) (world : World) (session : ℕ) where
   by_call (call.Umask mask) o r = umask_decided mask o r
   by_call (call.Mkdir path mode) o r = mkdir_decided path mode o r
   by_call (call.Chmod path mode) o r = chmod_decided path mode o r
+  by_call (call.Chown path uid gid) o r = chown_decided path uid gid o r
   by_call (call.Stat path) o r = stat_decided path o r
   by_call (call.Access path want) o r = access_decided path want o r
   by_call (call.GetAcl path kind) o r = getacl_decided path kind o r

@@ -1,5 +1,5 @@
--- The calls that ask for rights and set them, each as the list of its tests, in their order, with what it comes to where all pass: POSIX.1-2017, umask(), chmod() and access(), and acl(5). That ACLs are read and set by calls, and the order of the tests, are rules of this project.
-use Rattle.std.specs.Prelude.{ℕ, ◌/◌, ◌%◌, ◌==◌, ◌&&◌, ◌||◌, Bool, true, false, nat_lt, List, Option, None, Some, Result, Ok, Err, codes, if◌then◌else◌}
+-- The calls that ask for rights and set them, each as the list of its tests, in their order, with what it comes to where all pass: POSIX.1-2017, umask(), chmod(), chown() and access(), and acl(5). That ACLs are read and set by calls, and the order of the tests, are rules of this project.
+use Rattle.std.specs.Prelude.{ℕ, ◌/◌, ◌%◌, ◌^◌, ◌==◌, ◌&&◌, ◌||◌, Bool, true, false, nat_lt, List, Option, None, Some, Result, Ok, Err, codes, unwrap_or, if◌then◌else◌}
 use Rattle.std.specs.Str.{bytes_eq}
 use Rattle.sn_acl.specs.declared.entries.Entry.{Entry}
 use Rattle.sn_acl.specs.declared.modes.Mode.{Mode}
@@ -38,6 +38,11 @@ mode_bits_from bits = record { mode = mode_from_bits (bits % 512); set_gid = bit
 abbrev pub mode_bits_argument : ℕ → Result ModeBits Refusal
 mode_bits_argument bits = if nat_lt bits 2048 then Ok (mode_bits_from bits) else Err (plain Einval)
 
+-- an argument that is the number of a user or a group, or none for the one that is there: a number has 32 bits (POSIX.1-2017, chown(), EINVAL)
+abbrev pub id_argument : Option ℕ → Result (Option ℕ) Refusal
+id_argument None = Ok None
+id_argument (Some number) = if nat_lt number (2 ^ 32) then Ok (Some number) else Err (plain Einval)
+
 abbrev pub kind_of : NewAcl → AclKind
 kind_of (NewAccess acl) = OfAccess
 kind_of (NewDefault acl) = OfDefault
@@ -54,9 +59,20 @@ acl_argument OfDefault word = if bytes_eq word (codes "-") then Ok (NewDefault N
 
 -- ---- tests
 
--- not-owner: only the owner of an object and the user 0 set its mode and ACLs
+-- not-owner: only the owner of an object and the user 0 set its mode, owner, group and ACLs
 abbrev pub by_owner : Credential → ℕ → Found → Result (Unit {0}) Refusal
 by_owner cred path found = if cred.uid == 0 || cred.uid == found.attributes.owner then Ok tt else Err (forbidden path found.place rule.NotOwner)
+
+-- not-root: only the user 0 gives an object to another user
+abbrev pub to_owner : Credential → ℕ → Found → Option ℕ → Result (Unit {0}) Refusal
+to_owner cred path found uid = if cred.uid == 0 || unwrap_or uid found.attributes.owner == found.attributes.owner then Ok tt else Err (forbidden path found.place rule.NotRoot)
+
+-- not-member: only the user 0 gives an object to another group that it isn't in
+abbrev pub may_join : Credential → ℕ → ℕ → Bool
+may_join cred old new = cred.uid == 0 || new == old || is_member cred new
+
+abbrev pub to_group : Credential → ℕ → Found → Option ℕ → Result (Unit {0}) Refusal
+to_group cred path found gid = if may_join cred found.attributes.group (unwrap_or gid found.attributes.group) then Ok tt else Err (forbidden path found.place rule.NotMember)
 
 -- a default ACL is that of a directory
 abbrev pub has_acl : AclKind → Attributes → Result (Unit {0}) Refusal
@@ -92,6 +108,13 @@ may_set_gid cred a = is_directory a.kind || cred.uid == 0 || is_member cred a.gr
 abbrev pub with_mode_bits : Credential → Attributes → ModeBits → Ownership → Ownership
 with_mode_bits cred a bits o = record o { acl = with_mode bits.mode o.acl; set_gid = bits.set_gid && may_set_gid cred a; sticky = bits.sticky }
 
+-- S_ISGID stays with a directory, and with a file that the user 0 gives
+abbrev pub keeps_set_gid : Credential → Attributes → Bool
+keeps_set_gid cred a = is_directory a.kind || cred.uid == 0
+
+abbrev pub given_to : Credential → Attributes → Option ℕ → Option ℕ → Ownership → Ownership
+given_to cred a uid gid o = record o { owner = unwrap_or uid o.owner; group = unwrap_or gid o.group; set_gid = o.set_gid && keeps_set_gid cred a }
+
 abbrev pub with_acl : NewAcl → Ownership → Ownership
 with_acl (NewAccess acl) o = record o { acl = acl }
 with_acl (NewDefault acl) o = record o { default_acl = acl }
@@ -113,6 +136,16 @@ chmod_outcome limits trees session names bits = do
   number ← live found.object
   _ ← by_owner session.cred 1 found
   Ok (sets limits.inode_charge number (with_mode_bits session.cred found.attributes bits (ownership_at trees found)))
+
+-- chown: Full; live; not-owner; not-root; not-member
+unfoldable pub chown_outcome : Limits → ViewedTrees → Session → List (List ℕ) → Option ℕ → Option ℕ → Result Outcome Refusal
+chown_outcome limits trees session names uid gid = do
+  found ← full trees session.cred 1 names
+  number ← live found.object
+  _ ← by_owner session.cred 1 found
+  _ ← to_owner session.cred 1 found uid
+  _ ← to_group session.cred 1 found gid
+  Ok (sets limits.inode_charge number (given_to session.cred found.attributes uid gid (ownership_at trees found)))
 
 -- access: Full; live where w is wanted; the access
 unfoldable pub access_outcome : ViewedTrees → Session → List (List ℕ) → Access → Result Outcome Refusal

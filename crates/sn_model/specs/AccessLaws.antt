@@ -1,5 +1,5 @@
 -- What the calls that set rights come to, said as a user of a file system would say it.
-use Rattle.std.specs.Prelude.{◌≡◌, ◌≢◌, ◌⊎◌, ℕ, true, false, List, None, Some, Result, Ok, Err, is_some}
+use Rattle.std.specs.Prelude.{◌≡◌, ◌≢◌, ◌⊎◌, ℕ, true, false, List, Option, None, Some, Result, Ok, Err, is_some, unwrap_or}
 use Rattle.std.specs.FinMap as map
 use Rattle.sn_acl.specs.Access.{denial_of}
 use Rattle.sn_acl.specs.Credential.{Credential, is_member}
@@ -21,7 +21,7 @@ use Rattle.sn_model.specs.declared.reply.Refusal.{Refusal}
 use Rattle.sn_model.specs.declared.reply.Reply.{Reply}
 use Rattle.sn_model.specs.declared.reply.Reply.TheVariants as answer
 use Rattle.sn_model.specs.declared.session.Session.{Session}
-use Rattle.sn_model.specs.AccessCalls.{AclKind, ModeBits, NewAcl, NewAccess, NewDefault, access_outcome, acl_argument, chmod_outcome, getacl_outcome, mode_bits_argument, setacl_outcome}
+use Rattle.sn_model.specs.AccessCalls.{AclKind, ModeBits, NewAcl, NewAccess, NewDefault, access_outcome, acl_argument, chmod_outcome, chown_outcome, getacl_outcome, id_argument, mode_bits_argument, setacl_outcome}
 use Rattle.sn_model.specs.Changes.{apply}
 use Rattle.sn_model.specs.Denials.{IsByRule, led_to}
 use Rattle.sn_model.specs.Outcomes.{Outcome, Does}
@@ -31,7 +31,7 @@ use Rattle.sn_model.specs.Tree.{Node}
 use Rattle.sn_model.specs.World.{World, trees_of, viewed_trees}
 use Rattle.sn_model.specs.Worlds.{IsWorld}
 
--- The owner of a live node, or the user 0, has its S bits and ACLs set to what follows from the node, and its owner and group stay; this can be applied.
+-- The owner of a live node, or the user 0, has its owner, group, S bits and ACLs set to what follows from the node; this can be applied.
 pub record Sets (limits : Limits) (world : World) (s : Session) (o : Outcome) (Follows : Node → Ownership → Type 0) : Type 0 where
   pub number : ℕ
   pub node : Node
@@ -39,13 +39,13 @@ pub record Sets (limits : Limits) (world : World) (s : Session) (o : Outcome) (F
   pub by_owner : (s.cred.uid ≡ 0) ⊎ (s.cred.uid ≡ node.owner)
   pub new : Ownership
   pub change : o.change ≡ Does (SetAttributes number new)
-  pub owner : new.owner ≡ node.owner
-  pub group : new.group ≡ node.group
   pub follows : Follows node new
   pub applies : is_some (apply limits (SetAttributes number new) world.live) ≡ true
 
--- The ACL shows the mode that was asked for, and the default ACL stays. The S bits are as asked, but a caller who is neither the user 0 nor in a file's group doesn't get S_ISGID there.
+-- The ACL shows the mode that was asked for, and owner, group and default ACL stay. The S bits are as asked, but a caller who is neither the user 0 nor in a file's group doesn't get S_ISGID there.
 pub record ShowsMode (s : Session) (bits : ModeBits) (node : Node) (new : Ownership) : Type 0 where
+  pub owner : new.owner ≡ node.owner
+  pub group : new.group ≡ node.group
   pub mode : mode_of new.acl ≡ bits.mode
   pub default_acl : new.default_acl ≡ node.default_acl
   pub sticky : new.sticky ≡ bits.sticky
@@ -59,12 +59,32 @@ abbrev pub ChmodSetsTheMode : Type 0
 ChmodSetsTheMode = (limits : Limits) (world : World) (s : Session) (names : List (List ℕ)) (argument : ℕ) (bits : ModeBits) (o : Outcome) → IsWorld limits world
     → mode_bits_argument argument ≡ Ok bits → chmod_outcome limits (viewed_trees (trees_of world)) s names bits ≡ Ok o → Sets limits world s o (ShowsMode s bits)
 
--- One ACL is the one that was asked for; the other stays, and so do the S bits.
+-- Owner and group are those that were asked for, or stay; the ACLs and S_ISVTX stay. S_ISGID stays with a directory and where the user 0 asks, and a file loses it else. Nobody but the user 0 gives a node to another user, or to another group that it isn't in.
+pub record GivesTo (s : Session) (uid gid : Option ℕ) (node : Node) (new : Ownership) : Type 0 where
+  pub owner : new.owner ≡ unwrap_or uid node.owner
+  pub group : new.group ≡ unwrap_or gid node.group
+  pub acl : new.acl ≡ node.acl
+  pub default_acl : new.default_acl ≡ node.default_acl
+  pub sticky : new.sticky ≡ node.sticky
+  pub of_directory : node.kind ≡ Directory → new.set_gid ≡ node.set_gid
+  pub of_root : s.cred.uid ≡ 0 → new.set_gid ≡ node.set_gid
+  pub of_file : node.kind ≡ File → s.cred.uid ≢ 0 → new.set_gid ≡ false
+  pub same_owner : s.cred.uid ≢ 0 → new.owner ≡ node.owner
+  pub own_group : s.cred.uid ≢ 0 → (new.group ≡ node.group) ⊎ (is_member s.cred new.group ≡ true)
+
+-- chown sets owner and group.
+abbrev pub ChownSetsOwnerAndGroup : Type 0
+ChownSetsOwnerAndGroup = (limits : Limits) (world : World) (s : Session) (names : List (List ℕ)) (user uid member gid : Option ℕ) (o : Outcome) → IsWorld limits world
+    → id_argument user ≡ Ok uid → id_argument member ≡ Ok gid → chown_outcome limits (viewed_trees (trees_of world)) s names uid gid ≡ Ok o → Sets limits world s o (GivesTo s uid gid)
+
+-- One ACL is the one that was asked for; the other stays, and so do owner, group and the S bits.
 abbrev pub SetsWhich : NewAcl → Node → Ownership → Type 0
 SetsWhich (NewAccess acl) node new = (new.acl ≡ acl) × (new.default_acl ≡ node.default_acl)
 SetsWhich (NewDefault acl) node new = (new.acl ≡ node.acl) × (new.default_acl ≡ acl)
 
 pub record SetsAcl (acl : NewAcl) (node : Node) (new : Ownership) : Type 0 where
+  pub owner : new.owner ≡ node.owner
+  pub group : new.group ≡ node.group
   pub which : SetsWhich acl node new
   pub set_gid : new.set_gid ≡ node.set_gid
   pub sticky : new.sticky ≡ node.sticky
@@ -99,6 +119,7 @@ DeniesByRule trees s names decided = (refusal : Refusal) → decided ≡ Err ref
 -- the same of each call that asks for rights or sets them
 pub record EachDeniesByRule (limits : Limits) (trees : ViewedTrees) (s : Session) (names : List (List ℕ)) : Type 0 where
   pub chmod : (bits : ModeBits) → DeniesByRule trees s names (chmod_outcome limits trees s names bits)
+  pub chown : (uid gid : Option ℕ) → DeniesByRule trees s names (chown_outcome limits trees s names uid gid)
   pub access : (want : Access) → DeniesByRule trees s names (access_outcome trees s names want)
   pub getacl : (kind : AclKind) → DeniesByRule trees s names (getacl_outcome trees s names kind)
   pub setacl : (acl : NewAcl) → DeniesByRule trees s names (setacl_outcome limits trees s names acl)

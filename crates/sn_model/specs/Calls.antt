@@ -18,7 +18,7 @@ use Rattle.sn_model.specs.declared.reply.Status as status
 use Rattle.sn_limits.specs.declared.limits.Limits.{Limits}
 use Rattle.sn_model.specs.declared.change.Ownership.{Ownership}
 use Rattle.sn_model.specs.Outcomes.{Outcome, tells, opens, makes}
-use Rattle.sn_model.specs.AccessCalls.{AclKind, ModeBits, NewAcl, access_outcome, acl_argument, chmod_outcome, getacl_outcome, mode_bits_argument, setacl_outcome, umask_outcome}
+use Rattle.sn_model.specs.AccessCalls.{AclKind, ModeBits, NewAcl, access_outcome, acl_argument, chmod_outcome, chown_outcome, getacl_outcome, id_argument, mode_bits_argument, setacl_outcome, umask_outcome}
 use Rattle.sn_model.specs.Tree.{link_to}
 use Rattle.sn_model.specs.declared.session.Session.{Session}
 use Rattle.sn_model.specs.World.{World, trees_of, viewed_trees}
@@ -32,6 +32,7 @@ pub data Ready : Type 0 where
   Umask : Session → Mode → Ready
   Mkdir : Session → List (List ℕ) → Mode → Ready
   Chmod : Session → List (List ℕ) → ModeBits → Ready
+  Chown : Session → List (List ℕ) → Option ℕ → Option ℕ → Ready
   Stat : Session → List (List ℕ) → Ready
   Access : Session → List (List ℕ) → access.Access → Ready
   GetAcl : Session → List (List ℕ) → AclKind → Ready
@@ -50,6 +51,7 @@ ready world session (call.Login uid gid groups) = logged_out world session >>= (
 ready world session (call.Umask mask) = logged_in world session >>= (λ s. new_mode_argument mask >>= (λ bits. Ok (Umask s bits)))
 ready world session (call.Mkdir path mode) = logged_in world session >>= (λ s. path_argument path >>= (λ names. new_mode_argument mode >>= (λ bits. Ok (Mkdir s names bits))))
 ready world session (call.Chmod path mode) = logged_in world session >>= (λ s. path_argument path >>= (λ names. mode_bits_argument mode >>= (λ bits. Ok (Chmod s names bits))))
+ready world session (call.Chown path uid gid) = logged_in world session >>= (λ s. path_argument path >>= (λ names. id_argument uid >>= (λ owner. id_argument gid >>= (λ group. Ok (Chown s names owner group)))))
 ready world session (call.Stat path) = logged_in world session >>= (λ s. path_argument path >>= (λ names. Ok (Stat s names)))
 ready world session (call.Access path want) = logged_in world session >>= (λ s. path_argument path >>= (λ names. Ok (Access s names want)))
 ready world session (call.GetAcl path kind) = logged_in world session >>= (λ s. path_argument path >>= (λ names. Ok (GetAcl s names kind)))
@@ -112,6 +114,7 @@ outcome_of limits world (Login session) = Ok (opens session)
 outcome_of limits world (Umask session mask) = Ok (umask_outcome session mask)
 outcome_of limits world (Mkdir session names mode) = mkdir_outcome limits (seen limits world) session names mode
 outcome_of limits world (Chmod session names bits) = chmod_outcome limits (viewed_trees (trees_of world)) session names bits
+outcome_of limits world (Chown session names uid gid) = chown_outcome limits (viewed_trees (trees_of world)) session names uid gid
 outcome_of limits world (Stat session names) = stat_outcome (viewed_trees (trees_of world)) session names
 outcome_of limits world (Access session names want) = access_outcome (viewed_trees (trees_of world)) session names want
 outcome_of limits world (GetAcl session names kind) = getacl_outcome (viewed_trees (trees_of world)) session names kind

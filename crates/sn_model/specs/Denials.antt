@@ -36,6 +36,7 @@ path_of (call.Login uid gid groups) which = None
 path_of (call.Umask mask) which = None
 path_of (call.Mkdir path mode) which = if which == 1 then Some path else None
 path_of (call.Chmod path mode) which = if which == 1 then Some path else None
+path_of (call.Chown path uid gid) which = if which == 1 then Some path else None
 path_of (call.Stat path) which = if which == 1 then Some path else None
 path_of (call.Access path want) which = if which == 1 then Some path else None
 path_of (call.GetAcl path kind) which = if which == 1 then Some path else None

@@ -81,6 +81,7 @@ TakesMemory (call.Login uid gid groups) = ⊥
 TakesMemory (call.Umask mask) = ⊥
 TakesMemory (call.Mkdir path mode) = Unit {0}
 TakesMemory (call.Chmod path mode) = Unit {0}
+TakesMemory (call.Chown path uid gid) = Unit {0}
 TakesMemory (call.Stat path) = Unit {0}
 TakesMemory (call.Access path want) = Unit {0}
 TakesMemory (call.GetAcl path kind) = Unit {0}

@@ -66,6 +66,7 @@ IsCall (call.Login uid gid groups) = (uid < 2 ^ 32) × (gid < 2 ^ 32)
 IsCall (call.Umask mask) = Unit {0}
 IsCall (call.Mkdir path mode) = Unit {0}
 IsCall (call.Chmod path mode) = Unit {0}
+IsCall (call.Chown path uid gid) = Unit {0}
 IsCall (call.Stat path) = Unit {0}
 IsCall (call.Access path want) = Unit {0}
 IsCall (call.GetAcl path kind) = Unit {0}

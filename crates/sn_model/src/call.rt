@@ -23,6 +23,12 @@ pub enum Call {
         path: Word,
         mode: u16,
     },
+    /// POSIX.1-2017 chown(): sets owner and group. None leaves the one that is there.
+    Chown {
+        path: Word,
+        uid: Option<u32>,
+        gid: Option<u32>,
+    },
     /// POSIX.1-2017 stat().
     Stat {
         path: Word,

@@ -1,5 +1,5 @@
 ghost use Rattle.sn_model.specs.Denials.{AccessIsDeniedByRule};
-ghost use Rattle.sn_model.specs.AccessLaws.{AccessCallsDenyByRule, AccessIsGrantedByRule, ChmodSetsTheMode, SetaclSetsOneAcl, UmaskSetsTheMask};
+ghost use Rattle.sn_model.specs.AccessLaws.{AccessCallsDenyByRule, AccessIsGrantedByRule, ChmodSetsTheMode, ChownSetsOwnerAndGroup, SetaclSetsOneAcl, UmaskSetsTheMask};
 ghost use Rattle.sn_model.specs.ChangeLaws.{ChangesBring, ChangesKeepCovers, ChangesKeepTheTree, CoveredSettleAlike, CoversItself, CoversJoin, DroppingKeepsCovers, DroppingKeepsTheTree, ListsJoin, ListsKeepCovers, ListsKeepTheTree, TestIsBelow};
 ghost use Rattle.sn_model.specs.Example.{Answers, Settles};
 ghost use Rattle.sn_model.specs.MachineLaws.{EventsKeepTheState, LivesKeepTheWorld, RefusedEventsChangeNothing, RestartsSettle, RunsKeepTheWorld, StoppedStays};
@@ -140,6 +140,12 @@ pub fn chmod_sets_the_mode()
     ensures { ChmodSetsTheMode }
 {}
 
+/// chown sets the owner and the group that were asked for, for the owner and the user 0 alone, and no ACL;
+/// a file that the user 0 doesn't give loses S_ISGID. What it has decided can be applied.
+pub fn chown_sets_owner_and_group()
+    ensures { ChownSetsOwnerAndGroup }
+{}
+
 /// setacl sets one ACL, for the owner and the user 0 alone, and nothing else, no S bit either. What it has
 /// decided can be applied.
 pub fn setacl_sets_one_acl()
@@ -152,8 +158,8 @@ pub fn access_is_granted_by_rule()
     ensures { AccessIsGrantedByRule }
 {}
 
-/// chmod, access, getacl and setacl that are refused with EACCES carry a denial: what is at that place of
-/// the path has an ACL that denies what was wanted, by the entry that the denial names.
+/// chmod, chown, access, getacl and setacl that are refused with EACCES carry a denial: what is at that
+/// place of the path has an ACL that denies what was wanted, by the entry that the denial names.
 pub fn access_calls_deny_by_rule()
     ensures { AccessCallsDenyByRule }
 {}

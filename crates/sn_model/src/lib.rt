@@ -46,8 +46,8 @@ pub use change::{Bytes, Change, Ownership};
 pub use groups::Groups;
 pub use laws::{
     access_calls_deny_by_rule, access_is_denied_by_rule, access_is_granted_by_rule, changes_bring,
-    changes_keep_covers, changes_keep_the_tree, chmod_sets_the_mode, covered_settle_alike,
-    covers_itself, covers_join, decided_changes_apply, dropping_keeps_covers,
+    changes_keep_covers, changes_keep_the_tree, chmod_sets_the_mode, chown_sets_owner_and_group,
+    covered_settle_alike, covers_itself, covers_join, decided_changes_apply, dropping_keeps_covers,
     dropping_keeps_the_tree, events_keep_the_state, example_holds, lists_join, lists_keep_covers,
     lists_keep_the_tree, lives_keep_the_world, makes_one_more, refusals_change_nothing,
     refused_events_change_nothing, restarts_settle, runs_keep_the_world, setacl_sets_one_acl,

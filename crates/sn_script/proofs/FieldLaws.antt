@@ -1,6 +1,6 @@
 -- The words of a line other than numbers: what is read is spelled so, and what is spelled so is read.
-use Rattle.std.proofs.Common.{◌≡◌, ℕ, ◌+◌, ◌-◌, ◌*◌, ◌/◌, ◌%◌, ◌^◌, ◌<◌, ◌≤◌, inl, inr, Bool, true, false, cond, leb, List, [], ◌∷◌, length, map, Some, None, refl, sym, ap, subst, ◌∙◌, lit≤, lit<, arith}
-use Rattle.std.specs.Prelude.{◌&&◌, ◌==◌, decimal, codes}
+use Rattle.std.proofs.Common.{◌≡◌, ℕ, ◌+◌, ◌-◌, ◌*◌, ◌/◌, ◌%◌, ◌^◌, ◌<◌, ◌≤◌, inl, inr, Bool, true, false, cond, leb, List, [], ◌∷◌, length, map, Option, Some, None, refl, sym, ap, subst, ◌∙◌, lit≤, lit<, arith}
+use Rattle.std.specs.Prelude.{◌&&◌, ◌==◌, IfSome, decimal, codes}
 use Rattle.std.specs.Char.{is_ascii_graphic}
 use Rattle.std.specs.List.{AllByRecursion, join_with_byte, list_all}
 use Rattle.std.specs.Str.{bytes_eq}
@@ -14,10 +14,10 @@ use Rattle.sn_model.specs.declared.reply.Access.{Access}
 use Rattle.sn_model.specs.declared.argument.AclKind.{AclKind}
 use Rattle.sn_model.specs.declared.argument.AclKind.TheVariants.{Access as OfAccess, Default as OfDefault}
 use Rattle.sn_model.specs.Texts.{access_text}
-use Rattle.sn_script.specs.Fields.{parts, octal, numbers_word, is_word, kind_word}
-use Rattle.sn_script.specs.Reading.{octal_digit_of, octal_of, right_of, want_of, kind_named, numbers_of, groups_of, word_of}
+use Rattle.sn_script.specs.Fields.{parts, octal, id_word, numbers_word, is_word, kind_word}
+use Rattle.sn_script.specs.Reading.{octal_digit_of, octal_of, right_of, want_of, kind_named, number_below, numbers_of, groups_of, id_of, word_of}
 use Rattle.sn_script.proofs.Options.{chosen, passed, both_true}
-use Rattle.sn_script.proofs.Numbers.{numbers_again, numbers_take}
+use Rattle.sn_script.proofs.Numbers.{number_again, number_takes, numbers_again, numbers_take}
 use Rattle.sn_script.proofs.Parts.{some_parts}
 use Rattle.sn_script.proofs.Bytes.{Within, Lacks, decimal_within, lacks_outside, parts_join}
 
@@ -256,3 +256,28 @@ groups_take word ns e =
         let first = parts_first 44 word ns cut in
         let whole : word ≡ join_with_byte 44 (map decimal ns) = sym (join_with_byte-slice_split 44 word) ∙ ap (join_with_byte 44) cut in
         rw first.2 (subst (λ (k : List ℕ). word ≡ join_with_byte 44 (map decimal k)) first.2 whole)
+
+-- ---- users and groups, or none
+
+abbrev IsId : List ℕ → Option ℕ → Type 0
+IsId word id = (word ≡ id_word id) × IfSome id (λ n. n < 2 ^ 32)
+
+pub id_takes : (word : List ℕ) (id : Option ℕ) → id_of word ≡ Some id → (word ≡ id_word id) × IfSome id (λ n. n < 2 ^ 32)
+unfolding id_of
+id_takes word id e =
+    elim (chosen (bytes_eq word (codes "-")) (Some None) (number_below (2 ^ 32) word >>= (λ n. Some (Some n))) (Some id) e) [
+      | inl dash ↦
+          let same : word ≡ codes "-" = (bytes_eq-Decides word (codes "-")).0 dash.0 in
+          let none : None ≡ id = some_same None id dash.1 in
+          subst (IsId word) none (same, tt)
+      | inr more ↦
+          let n = bind_some (number_below (2 ^ 32) word) (λ n. Some (Some n)) id more.1 in
+          subst (IsId word) (some_same (Some n.0) id n.2) (number_takes (2 ^ 32) n.0 word n.1)
+    ]
+
+pub id_again : (id : Option ℕ) → IfSome id (λ n. n < 2 ^ 32) → id_of (id_word id) ≡ Some id
+unfolding id_of
+id_again None h = refl
+id_again (Some n) h =
+    let other : bytes_eq (decimal n) (codes "-") ≡ false = is_false (bytes_eq (decimal n) (codes "-")) (λ e. digit_first n h ((bytes_eq-Decides (decimal n) (codes "-")).0 e)) in
+    rw (other, number_again (2 ^ 32) n (lit≤ tt) h) refl

@@ -1,6 +1,6 @@
 -- An event that is read from a line is the line's, and the event of a line is read from it.
 use Rattle.std.proofs.Common.{◌≡◌, ℕ, ◌^◌, ◌<◌, inl, inr, true, false, cond, eqb, leb, All, List, [], ◌∷◌, ◌++◌, length, map, Option, Some, None, refl, sym, ap, subst, ◌∙◌, append_assoc, lit≤, lit<, arith}
-use Rattle.std.specs.Prelude.{◌==◌, not, Err, decimal, codes}
+use Rattle.std.specs.Prelude.{◌==◌, not, Err, IfSome, decimal, codes}
 use Rattle.std.specs.List.{AllByRecursion, join_with_byte, list_all}
 use Rattle.std.specs.Char.{is_ascii_graphic}
 use Rattle.std.specs.Str.{bytes_eq}
@@ -15,16 +15,16 @@ use Rattle.sn_model.specs.declared.call.Event.TheVariants as event
 use Rattle.sn_model.specs.Chains.{◌>>=◌}
 use Rattle.sn_model.proofs.ChainLemmas.{bind_some, some_same}
 use Rattle.sn_model.specs.Texts.{access_text}
-use Rattle.sn_script.specs.Fields.{parts, octal, numbers_word, is_word, kind_word}
+use Rattle.sn_script.specs.Fields.{parts, octal, id_word, numbers_word, is_word, kind_word}
 use Rattle.sn_script.specs.Lines.{name_of, arguments_of, words_of, line_of, IsCall, IsEvent}
 use Rattle.sn_script.specs.Scripts.{BeginsBadly}
 use Rattle.sn_script.specs.declared.fault.LineFault.{LineFault}
 use Rattle.sn_script.specs.declared.fault.LineFault.TheVariants.{Bad, Memory}
-use Rattle.sn_script.specs.Reading.{IsRead, number_below, octal_of, groups_of, word_of, want_of, kind_named, login_of, umask_of, mkdir_of, chmod_of, stat_of, access_of, getacl_of, setacl_of, access_call_of, call_of, event_of, line_event}
+use Rattle.sn_script.specs.Reading.{IsRead, number_below, octal_of, groups_of, id_of, word_of, want_of, kind_named, login_of, umask_of, mkdir_of, chmod_of, chown_of, stat_of, access_of, getacl_of, setacl_of, access_call_of, call_of, event_of, line_event}
 use Rattle.sn_script.proofs.Options.{chosen, passed, both_true}
 use Rattle.sn_script.proofs.Numbers.{number_again, number_takes}
 use Rattle.sn_script.proofs.Bytes.{Within, Within-wider, Within-join, decimal_within, graphic_within, Lacks, Lacks-append, lacks_outside, parts_join}
-use Rattle.sn_script.proofs.FieldLaws.{octal_takes, octal_again, word_takes, word_again, groups_take, groups_again, want_takes, want_again, want_graphic, kind_takes, kind_again, kind_graphic}
+use Rattle.sn_script.proofs.FieldLaws.{octal_takes, octal_again, word_takes, word_again, groups_take, groups_again, id_takes, id_again, want_takes, want_again, want_graphic, kind_takes, kind_again, kind_graphic}
 
 -- what was read as this call
 abbrev Reads : List ℕ → List (List ℕ) → Call → Type 0
@@ -90,6 +90,22 @@ chmod_takes (path ∷ mode ∷ []) c e =
     subst (Reads (codes "chmod") (path ∷ mode ∷ [])) (some_same (call.Chmod w.0 m.0) c m.2)
     (refl, two path mode w.0 (octal m.0) p.0 q.0, (p.1, q.1))
 
+chown_takes : (arguments : List (List ℕ)) (c : Call) → chown_of arguments ≡ Some c → Reads (codes "chown") arguments c
+unfolding chown_of
+chown_takes [] c e = absurd cc
+chown_takes (path ∷ []) c e = absurd cc
+chown_takes (path ∷ uid ∷ []) c e = absurd cc
+chown_takes (path ∷ uid ∷ gid ∷ more ∷ others) c e = absurd cc
+chown_takes (path ∷ uid ∷ gid ∷ []) c e =
+    let w = bind_some (word_of path) (λ p. id_of uid >>= (λ u. id_of gid >>= (λ g. Some (call.Chown p u g)))) c e in
+    let u = bind_some (id_of uid) (λ u. id_of gid >>= (λ g. Some (call.Chown w.0 u g))) c w.2 in
+    let g = bind_some (id_of gid) (λ g. Some (call.Chown w.0 u.0 g)) c u.2 in
+    let p = word_takes path w.0 w.1 in
+    let q = id_takes uid u.0 u.1 in
+    let r = id_takes gid g.0 g.1 in
+    subst (Reads (codes "chown") (path ∷ uid ∷ gid ∷ [])) (some_same (call.Chown w.0 u.0 g.0) c g.2)
+    (refl, three path uid gid w.0 (id_word u.0) (id_word g.0) p.0 q.0 r.0, (p.1, q.1, r.1))
+
 stat_takes : (arguments : List (List ℕ)) (c : Call) → stat_of arguments ≡ Some c → Reads (codes "stat") arguments c
 unfolding stat_of
 stat_takes [] c e = absurd cc
@@ -154,9 +170,10 @@ module _ (name : List ℕ) (arguments : List (List ℕ)) (c : Call) where
   unfolding access_call_of
   access_call_takes =
       picked (codes "chmod") (chmod_of arguments) _ (chmod_takes arguments c)
+      (picked (codes "chown") (chown_of arguments) _ (chown_takes arguments c)
       (picked (codes "access") (access_of arguments) _ (access_takes arguments c)
       (picked (codes "getacl") (getacl_of arguments) _ (getacl_takes arguments c)
-      (picked (codes "setacl") (setacl_of arguments) None (setacl_takes arguments c) (λ e. absurd cc))))
+      (picked (codes "setacl") (setacl_of arguments) None (setacl_takes arguments c) (λ e. absurd cc)))))
 
   call_takes : call_of name arguments ≡ Some c → Reads name arguments c
   unfolding call_of
@@ -167,11 +184,12 @@ module _ (name : List ℕ) (arguments : List (List ℕ)) (c : Call) where
       (picked (codes "stat") (stat_of arguments) (access_call_of name arguments) (stat_takes arguments c) access_call_takes)))
 
 call_again : (c : Call) → IsCall c → call_of (name_of c) (arguments_of c) ≡ Some c
-unfolding call_of access_call_of login_of umask_of mkdir_of chmod_of stat_of access_of getacl_of setacl_of
+unfolding call_of access_call_of login_of umask_of mkdir_of chmod_of chown_of stat_of access_of getacl_of setacl_of
 call_again (call.Login uid gid groups) h = rw (number_again (2 ^ 32) uid (lit≤ tt) h.0, number_again (2 ^ 32) gid (lit≤ tt) h.1, groups_again groups h.2 h.3) refl
 call_again (call.Umask mask) h = rw (octal_again mask h) refl
 call_again (call.Mkdir path mode) h = rw (word_again path h.0, octal_again mode h.1) refl
 call_again (call.Chmod path mode) h = rw (word_again path h.0, octal_again mode h.1) refl
+call_again (call.Chown path uid gid) h = rw (word_again path h.0, id_again uid h.1, id_again gid h.2) refl
 call_again (call.Stat path) h = rw (word_again path h) refl
 call_again (call.Access path want) h = rw (word_again path h, want_again want) refl
 call_again (call.GetAcl path kind) h = rw (word_again path h, kind_again kind) refl
@@ -223,11 +241,16 @@ octal_graphic n lt = ((omega arith, omega arith), ((omega arith, omega arith), (
 word_graphic : (w : List ℕ) → is_word w ≡ true → IsGraphic w
 word_graphic w h = graphic_within w (both_true (not (length w == 0)) (list_all is_ascii_graphic w) h).1
 
+id_graphic : (id : Option ℕ) → IfSome id (λ n. n < 2 ^ 32) → IsGraphic (id_word id)
+id_graphic None h = graphic_within (codes "-") refl
+id_graphic (Some n) h = number_graphic n h
+
 call_graphic : (c : Call) → IsCall c → AllByRecursion IsGraphic (name_of c ∷ arguments_of c)
 call_graphic (call.Login uid gid groups) h = (graphic_within (codes "login") refl, (number_graphic uid h.0, (number_graphic gid h.1, (numbers_graphic groups h.2, tt))))
 call_graphic (call.Umask mask) h = (graphic_within (codes "umask") refl, (octal_graphic mask h, tt))
 call_graphic (call.Mkdir path mode) h = (graphic_within (codes "mkdir") refl, (word_graphic path h.0, (octal_graphic mode h.1, tt)))
 call_graphic (call.Chmod path mode) h = (graphic_within (codes "chmod") refl, (word_graphic path h.0, (octal_graphic mode h.1, tt)))
+call_graphic (call.Chown path uid gid) h = (graphic_within (codes "chown") refl, (word_graphic path h.0, (id_graphic uid h.1, (id_graphic gid h.2, tt))))
 call_graphic (call.Stat path) h = (graphic_within (codes "stat") refl, (word_graphic path h, tt))
 call_graphic (call.Access path want) h = (graphic_within (codes "access") refl, (word_graphic path h, (graphic_within (access_text want) (want_graphic want), tt)))
 call_graphic (call.GetAcl path kind) h = (graphic_within (codes "getacl") refl, (word_graphic path h, (graphic_within (kind_word kind) (kind_graphic kind), tt)))
@@ -254,6 +277,7 @@ few_words (event.Call session (call.Login uid gid groups)) = refl
 few_words (event.Call session (call.Umask mask)) = refl
 few_words (event.Call session (call.Mkdir path mode)) = refl
 few_words (event.Call session (call.Chmod path mode)) = refl
+few_words (event.Call session (call.Chown path uid gid)) = refl
 few_words (event.Call session (call.Stat path)) = refl
 few_words (event.Call session (call.Access path want)) = refl
 few_words (event.Call session (call.GetAcl path kind)) = refl

@@ -1,5 +1,5 @@
 -- How the words of a script's line are spelled.
-use Rattle.std.specs.Prelude.{ℕ, ◌+◌, ◌/◌, ◌%◌, ◌==◌, Bool, ◌&&◌, not, List, [], ◌∷◌, length, map, codes, decimal}
+use Rattle.std.specs.Prelude.{ℕ, ◌+◌, ◌/◌, ◌%◌, ◌==◌, Bool, ◌&&◌, not, List, [], ◌∷◌, Option, Some, None, length, map, codes, decimal}
 use Rattle.std.specs.Char.{is_ascii_graphic}
 use Rattle.std.specs.List.{join_with_byte, list_all, slice_split}
 use Rattle.sn_model.specs.declared.argument.AclKind.{AclKind}
@@ -17,6 +17,11 @@ octal n = (48 + n / 512) ∷ (48 + n / 64 % 8) ∷ (48 + n / 8 % 8) ∷ (48 + n 
 abbrev pub numbers_word : List ℕ → List ℕ
 numbers_word [] = 45 ∷ []
 numbers_word (n ∷ ns) = join_with_byte 44 (map decimal (n ∷ ns))
+
+-- the number of a user or a group, or a dash for none
+abbrev pub id_word : Option ℕ → List ℕ
+id_word None = codes "-"
+id_word (Some n) = decimal n
 
 -- a word: one or more graphic bytes of ASCII, 0x21 to 0x7E
 abbrev pub is_word : List ℕ → Bool

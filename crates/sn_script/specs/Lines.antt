@@ -1,18 +1,19 @@
 -- The line of an event: its words, with a space between each two, and a line feed.
-use Rattle.std.specs.Prelude.{ℕ, ◌^◌, ◌<◌, ◌≤◌, List, [], ◌∷◌, ◌++◌, length, IsTrue, codes, decimal}
+use Rattle.std.specs.Prelude.{ℕ, ◌^◌, ◌<◌, ◌≤◌, List, [], ◌∷◌, ◌++◌, length, IfSome, IsTrue, codes, decimal}
 use Rattle.std.specs.List.{AllByRecursion, join_with_byte}
 use Rattle.sn_model.specs.declared.call.Call.{Call}
 use Rattle.sn_model.specs.declared.call.Call.TheVariants as call
 use Rattle.sn_model.specs.declared.call.Event.{Event}
 use Rattle.sn_model.specs.declared.call.Event.TheVariants as event
 use Rattle.sn_model.specs.Texts.{access_text}
-use Rattle.sn_script.specs.Fields.{kind_word, numbers_word, octal, is_word}
+use Rattle.sn_script.specs.Fields.{id_word, kind_word, numbers_word, octal, is_word}
 
 abbrev pub name_of : Call → List ℕ
 name_of (call.Login uid gid groups) = codes "login"
 name_of (call.Umask mask) = codes "umask"
 name_of (call.Mkdir path mode) = codes "mkdir"
 name_of (call.Chmod path mode) = codes "chmod"
+name_of (call.Chown path uid gid) = codes "chown"
 name_of (call.Stat path) = codes "stat"
 name_of (call.Access path want) = codes "access"
 name_of (call.GetAcl path kind) = codes "getacl"
@@ -23,6 +24,7 @@ arguments_of (call.Login uid gid groups) = decimal uid ∷ decimal gid ∷ numbe
 arguments_of (call.Umask mask) = octal mask ∷ []
 arguments_of (call.Mkdir path mode) = path ∷ octal mode ∷ []
 arguments_of (call.Chmod path mode) = path ∷ octal mode ∷ []
+arguments_of (call.Chown path uid gid) = path ∷ id_word uid ∷ id_word gid ∷ []
 arguments_of (call.Stat path) = path ∷ []
 arguments_of (call.Access path want) = path ∷ access_text want ∷ []
 arguments_of (call.GetAcl path kind) = path ∷ kind_word kind ∷ []
@@ -42,6 +44,7 @@ IsCall (call.Login uid gid groups) = (uid < 2 ^ 32) × (gid < 2 ^ 32) × AllByRe
 IsCall (call.Umask mask) = mask < 4096
 IsCall (call.Mkdir path mode) = IsTrue (is_word path) × (mode < 4096)
 IsCall (call.Chmod path mode) = IsTrue (is_word path) × (mode < 4096)
+IsCall (call.Chown path uid gid) = IsTrue (is_word path) × IfSome uid (λ n. n < 2 ^ 32) × IfSome gid (λ n. n < 2 ^ 32)
 IsCall (call.Stat path) = IsTrue (is_word path)
 IsCall (call.Access path want) = IsTrue (is_word path)
 IsCall (call.GetAcl path kind) = IsTrue (is_word path)

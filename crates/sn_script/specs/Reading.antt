@@ -71,6 +71,10 @@ want_of _ = None
 unfoldable pub kind_named : List ℕ → Option AclKind
 kind_named word = if bytes_eq word (codes "a") then Some OfAccess else (if bytes_eq word (codes "d") then Some OfDefault else None)
 
+-- a dash for none, or a number
+unfoldable pub id_of : List ℕ → Option (Option ℕ)
+id_of word = if bytes_eq word (codes "-") then Some None else (number_below (2 ^ 32) word >>= (λ n. Some (Some n)))
+
 unfoldable pub login_of : List (List ℕ) → Option Call
 login_of (uid ∷ gid ∷ groups ∷ []) = do
   u ← number_below (2 ^ 32) uid
@@ -98,6 +102,14 @@ chmod_of (path ∷ mode ∷ []) = do
   m ← octal_of mode
   Some (call.Chmod p m)
 chmod_of _ = None
+
+unfoldable pub chown_of : List (List ℕ) → Option Call
+chown_of (path ∷ uid ∷ gid ∷ []) = do
+  p ← word_of path
+  u ← id_of uid
+  g ← id_of gid
+  Some (call.Chown p u g)
+chown_of _ = None
 
 unfoldable pub stat_of : List (List ℕ) → Option Call
 stat_of (path ∷ []) = do
@@ -127,10 +139,11 @@ setacl_of (path ∷ kind ∷ acl ∷ []) = do
   Some (call.SetAcl p k a)
 setacl_of _ = None
 
--- the calls of modes and ACLs
+-- the calls of modes, owners and ACLs
 unfoldable pub access_call_of : List ℕ → List (List ℕ) → Option Call
 access_call_of name arguments =
     if bytes_eq name (codes "chmod") then chmod_of arguments else
+    if bytes_eq name (codes "chown") then chown_of arguments else
     if bytes_eq name (codes "access") then access_of arguments else
     if bytes_eq name (codes "getacl") then getacl_of arguments else
     if bytes_eq name (codes "setacl") then setacl_of arguments else None

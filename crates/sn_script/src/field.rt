@@ -2,7 +2,7 @@ ghost use Rattle.std.specs.Prelude.{◌≡◌, ◌^◌, ◌≤◌, ◌∷◌, []
 ghost use Rattle.std.specs.Char.{is_ascii_graphic};
 ghost use Rattle.std.specs.List.{list_all};
 ghost use Rattle.sn_script.specs.Fields.{is_word};
-ghost use Rattle.sn_script.specs.Reading.{IsRead, number_below, octal_digit_of, octal_of, right_of, want_of, kind_named, numbers_of, groups_of, word_of};
+ghost use Rattle.sn_script.specs.Reading.{IsRead, number_below, octal_digit_of, octal_of, right_of, want_of, kind_named, numbers_of, groups_of, id_of, word_of};
 
 use crate::cut::parts;
 use crate::fault::LineFault;
@@ -145,4 +145,16 @@ pub(crate) fn groups(alloc: Global, word: &[u8]) -> Result<Groups, LineFault>
     };
     let numbers = numbers(words.as_slice())?;
     Ok(Groups::new(alloc, numbers.as_slice())?)
+}
+
+/// The number of a user or a group, or a dash for none.
+#[tactic(auto, unfolding(crate::specs::Reading::id_of))]
+pub(crate) fn id(word: &[u8]) -> Result<Option<u32>, LineFault>
+    ensures { IsRead (λ n. n) result (id_of word.now) }
+{
+    if let b"-" = word {
+        return Ok(None);
+    }
+    let number = number(word)?;
+    Ok(Some(number))
 }

@@ -1,9 +1,9 @@
 ghost use Rattle.std.specs.Prelude.{map};
-ghost use Rattle.sn_script.specs.Reading.{IsRead, login_of, umask_of, mkdir_of, chmod_of, stat_of, access_of, getacl_of, setacl_of, access_call_of, call_of, event_of, line_event};
+ghost use Rattle.sn_script.specs.Reading.{IsRead, login_of, umask_of, mkdir_of, chmod_of, chown_of, stat_of, access_of, getacl_of, setacl_of, access_call_of, call_of, event_of, line_event};
 
 use crate::cut::parts;
 use crate::fault::LineFault;
-use crate::field::{acl_kind, groups, number, octal, want, word};
+use crate::field::{acl_kind, groups, id, number, octal, want, word};
 use sn_model::{Call, Event};
 use std::alloc::Global;
 
@@ -12,6 +12,8 @@ pub(crate) const MAX_WORDS: usize = 5;
 
 // Names that are compared: a pattern of six bytes isn't proved.
 const CHMOD: &[u8] = b"chmod";
+
+const CHOWN: &[u8] = b"chown";
 
 const ACCESS: &[u8] = b"access";
 
@@ -67,6 +69,19 @@ fn chmod(alloc: Global, arguments: &[&[u8]]) -> Result<Call, LineFault>
     Ok(Call::Chmod { path, mode })
 }
 
+#[tactic(auto, unfolding(crate::specs::Reading::chown_of))]
+fn chown(alloc: Global, arguments: &[&[u8]]) -> Result<Call, LineFault>
+    ensures { IsRead (λ c. c) result (chown_of (map (λ w. w.now) arguments.now)) }
+{
+    let &[path, uid, gid] = arguments else {
+        return Err(LineFault::Bad);
+    };
+    let path = word(alloc, path)?;
+    let uid = id(uid)?;
+    let gid = id(gid)?;
+    Ok(Call::Chown { path, uid, gid })
+}
+
 #[tactic(auto, unfolding(crate::specs::Reading::stat_of))]
 fn stat(alloc: Global, arguments: &[&[u8]]) -> Result<Call, LineFault>
     ensures { IsRead (λ c. c) result (stat_of (map (λ w. w.now) arguments.now)) }
@@ -115,13 +130,16 @@ fn setacl(alloc: Global, arguments: &[&[u8]]) -> Result<Call, LineFault>
     Ok(Call::SetAcl { path, kind, acl })
 }
 
-/// A call of modes and ACLs.
+/// A call of modes, owners and ACLs.
 #[tactic(auto, unfolding(crate::specs::Reading::access_call_of))]
 fn access_call(alloc: Global, name: &[u8], arguments: &[&[u8]]) -> Result<Call, LineFault>
     ensures { IsRead (λ c. c) result (access_call_of name.now (map (λ w. w.now) arguments.now)) }
 {
     if name == CHMOD {
         return chmod(alloc, arguments);
+    }
+    if name == CHOWN {
+        return chown(alloc, arguments);
     }
     if name == ACCESS {
         return access(alloc, arguments);

@@ -129,6 +129,13 @@ fn kind_word(kind: AclKind) -> &'static str {
     }
 }
 
+fn id_word(alloc: Global, id: Option<u32>) -> Result<String> {
+    match id {
+        Some(number) => Ok(format!(in alloc; "{number}")?),
+        None => Ok(format!(in alloc; "-")?),
+    }
+}
+
 /// A call, field by field.
 fn told_call(alloc: Global, call: &Call) -> Result<String> {
     Ok(match call {
@@ -144,6 +151,12 @@ fn told_call(alloc: Global, call: &Call) -> Result<String> {
         Call::Chmod { path, mode } => {
             let path = str::from_utf8(path.as_bytes())?;
             format!(in alloc; "chmod, path {path}, mode {mode}")?
+        }
+        Call::Chown { path, uid, gid } => {
+            let path = str::from_utf8(path.as_bytes())?;
+            let uid = id_word(alloc, *uid)?;
+            let gid = id_word(alloc, *gid)?;
+            format!(in alloc; "chown, path {path}, uid {uid}, gid {gid}")?
         }
         Call::Stat { path } => {
             let path = str::from_utf8(path.as_bytes())?;
