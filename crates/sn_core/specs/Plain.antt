@@ -1,8 +1,8 @@
 -- What the live tree in memory and the sessions stand for.
-use Rattle.std.specs.Prelude.{◌≡◌, vec_len}
 use Rattle.std.specs.FinMap as map
 use Rattle.sn_model.specs.Tree.{Tree}
 use Rattle.sn_model.specs.World.{Trees, World}
+use Rattle.sn_desc.specs.Sessions.{in_use_of}
 use Rattle.sn_plain.specs.Plain.{tree_of}
 use Rattle.sn_core.specs.declared.world.PlainWorld.{PlainWorld}
 
@@ -10,9 +10,5 @@ use Rattle.sn_core.specs.declared.world.PlainWorld.{PlainWorld}
 abbrev pub plain_trees : Tree → Trees
 plain_trees tree = record { live = tree; frozen = map.empty }
 
--- there are no snapshots and no open files yet
 abbrev pub world_of : PlainWorld → World
-world_of w = record { live = tree_of w.tree; frozen = map.empty; sessions = w.sessions.items; descriptors = map.empty }
-
-pub record IsPlainWorld (w : PlainWorld) : Type 0 where
-  pub sessions : vec_len w.sessions ≡ 64
+world_of w = record { live = tree_of w.tree; frozen = map.empty; sessions = (in_use_of w.sessions).sessions; descriptors = (in_use_of w.sessions).descriptors }

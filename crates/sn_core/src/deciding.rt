@@ -41,10 +41,9 @@ fn login(uid: u32, gid: u32, groups: &Groups) -> Outcome<'static>
 }
 
 impl PlainWorld {
-    ghost use Rattle.sn_core.specs.Plain.{IsPlainWorld, world_of};
+    ghost use Rattle.sn_core.specs.Plain.{world_of};
 
     fn decide_umask(&self, session: u32, mask: u16) -> Result<Outcome<'static>, CallError>
-        requires { IsPlainWorld self.now }
         ensures { Decides (world_of self.now) session (Call.Umask mask) result }
     {
         let caller = self.logged_in(session)?;
@@ -58,7 +57,6 @@ impl PlainWorld {
         path: &'a Word,
         mode: u16,
     ) -> Result<Outcome<'a>, CallError>
-        requires { IsPlainWorld self.now }
         ensures { Decides (world_of self.now) session (Call.Mkdir path.now mode) result }
     {
         let caller = self.logged_in(session)?;
@@ -74,7 +72,6 @@ impl PlainWorld {
         path: &Word,
         mode: u16,
     ) -> Result<Outcome<'static>, CallError>
-        requires { IsPlainWorld self.now }
         ensures { Decides (world_of self.now) session (Call.Chmod path.now mode) result }
     {
         let caller = self.logged_in(session)?;
@@ -103,7 +100,6 @@ impl PlainWorld {
     }
 
     fn decide_stat<'a>(&self, session: u32, path: &'a Word) -> Result<Outcome<'a>, CallError>
-        requires { IsPlainWorld self.now }
         ensures { Decides (world_of self.now) session (Call.Stat path.now) result }
     {
         let caller = self.logged_in(session)?;
@@ -118,7 +114,6 @@ impl PlainWorld {
         path: &Word,
         want: Access,
     ) -> Result<Outcome<'static>, CallError>
-        requires { IsPlainWorld self.now }
         ensures { Decides (world_of self.now) session (Call.Access path.now want) result }
     {
         let caller = self.logged_in(session)?;
@@ -134,7 +129,6 @@ impl PlainWorld {
         path: &Word,
         kind: AclKind,
     ) -> Result<Outcome<'static>, CallError>
-        requires { IsPlainWorld self.now }
         ensures { Decides (world_of self.now) session (Call.GetAcl path.now kind) result }
     {
         let caller = self.logged_in(session)?;
@@ -157,7 +151,6 @@ impl PlainWorld {
         kind: AclKind,
         acl: &Word,
     ) -> Result<Outcome<'static>, CallError>
-        requires { IsPlainWorld self.now }
         ensures { Decides (world_of self.now) session (Call.SetAcl path.now kind acl.now) result }
     {
         let caller = self.logged_in(session)?;
@@ -175,7 +168,6 @@ impl PlainWorld {
         session: u32,
         call: &'a Call,
     ) -> Result<Outcome<'a>, CallError>
-        requires { IsPlainWorld self.now }
         ensures decided { Decides (world_of self.now) session call.now result }
         ensures numbers { IfOk result (λ o. IsCall call.now) }
     {

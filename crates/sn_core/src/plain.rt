@@ -1,5 +1,5 @@
 ghost use Rattle.std.specs.Prelude.{◌≡◌, ◌≢◌, ◌≤◌, [], IfOk, length, vec_capacity};
-ghost use Rattle.sn_core.specs.Plain.{IsPlainWorld, world_of};
+ghost use Rattle.sn_core.specs.Plain.{world_of};
 ghost use Rattle.sn_model.specs.Machine.{OfMemory, WholeRun};
 ghost use Rattle.sn_model.specs.World.{World, new_world};
 ghost use Rattle.sn_limits.specs.Versions.{version_1};
@@ -19,7 +19,6 @@ fn room_for(alloc: Global, count: usize) -> Result<Vec<Reply>, AllocError>
 
 /// Answers events in their order, into a list that has room for the replies.
 fn answer(alloc: Global, world: &mut PlainWorld, events: &[Event], replies: &mut Vec<Reply>)
-    requires sound { IsPlainWorld world.old }
     requires whole { IsWorld version_1 (world_of world.old) }
     requires empty { replies.old.items ≡ [] }
     requires room { length events.now ≤ vec_capacity replies.old }

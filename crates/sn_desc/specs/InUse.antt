@@ -1,7 +1,6 @@
 -- Who is logged in, what is open, and which files were dropped.
 use Rattle.std.specs.Prelude.{ℕ, ◌+◌, ◌*◌, ◌/◌, ◌%◌, ◌&&◌, nat_lt, List, [], ◌∷◌, Option, None, Some, replicate, if◌then◌else◌}
 use Rattle.std.specs.FinMap as map
-use Rattle.sn_acl.specs.declared.modes.Mode.{Mode}
 use Rattle.sn_model.specs.declared.session.Session.{Session}
 use Rattle.sn_model.specs.Descriptors.{Descriptors}
 use Rattle.sn_model.specs.World.{Descriptor, World}
@@ -40,8 +39,3 @@ nothing_in_use room = record { sessions = replicate 64 None; descriptors = map.e
 -- a world with these sessions and descriptors
 abbrev pub in_world : InUse → World → World
 in_world u world = record world { sessions = u.sessions; descriptors = u.descriptors }
-
--- a session with another umask, if somebody is logged in
-abbrev pub with_umask : Mode → Option Session → Option Session
-with_umask mask None = None
-with_umask mask (Some s) = Some (record s { umask = mask })

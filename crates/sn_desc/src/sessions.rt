@@ -1,7 +1,8 @@
-ghost use Rattle.std.specs.Prelude.{◌≡◌, ◌+◌, length, ◌-◌, ◌*◌, ◌<◌, ◌≤◌, map, replicate, slice_index_or, slice_set, vec_len, option_copied, None, Some, IsOk, IfOk, OnOk, OnErr};
+ghost use Rattle.std.specs.Prelude.{◌≡◌, ◌+◌, length, ◌-◌, ◌*◌, ◌<◌, ◌≤◌, map, replicate, slice_get, slice_index_or, slice_set, vec_len, option_copied, None, Some, IsOk, IfOk, OnOk, OnErr};
 ghost use Rattle.std.specs.Option.{option_map};
 ghost use Rattle.std.specs.FinMap as finite;
 ghost use Rattle.sn_model.specs.Descriptors.{at_offset, closed, descriptor_at, is_held_in, moved_to, next_descriptor, opened, readable_at, sought, without_session, writable_at};
+ghost use Rattle.sn_model.specs.Steps.{masked};
 ghost use Rattle.sn_model.specs.Tests.{logged_in, logged_out};
 ghost use Rattle.sn_model.specs.World.{World};
 ghost use Rattle.sn_walk.specs.Gives.{Answers};
@@ -9,7 +10,7 @@ ghost use Rattle.arrayvec.specs.ArrayVec.{array_vec_len};
 ghost use Rattle.sn_desc.specs.Closing.{AreReleased, closing, pushed, released_if};
 ghost use Rattle.sn_desc.specs.Drops.{aged, forgotten, is_dropped};
 ghost use Rattle.sn_desc.specs.Seeking.{Seeks};
-ghost use Rattle.sn_desc.specs.InUse.{descriptor_of, in_world, nothing_in_use, place_of, with_umask};
+ghost use Rattle.sn_desc.specs.InUse.{descriptor_of, in_world, nothing_in_use, place_of};
 ghost use Rattle.sn_desc.specs.declared.dropped.Dropped.TheVariants as drop;
 
 use crate::dropped::{self, Dropped};
@@ -59,6 +60,15 @@ fn place_of(session: u32, fd: u32) -> Option<usize>
         return Some(session as usize * 64 + fd as usize);
     }
     None
+}
+
+/// Sets the umask of whoever is logged in at a place.
+fn set_mask(slot: &mut Option<Session>, mask: Mode)
+    ensures { slot.new ≡ masked mask (Some slot.old) }
+{
+    if let Some(caller) = slot {
+        caller.umask = mask;
+    }
 }
 
 /// Puts a number behind a list, if there is one.
@@ -114,21 +124,21 @@ impl Sessions {
         Ok(())
     }
 
-    /// Logs a caller in.
+    /// Logs a caller in, where there is such a session.
     pub fn login(&mut self, session: u32, caller: Session)
-        requires { session < 64 }
         ensures { in_use_of self.new ≡ record (in_use_of self.old) { sessions = slice_set (in_use_of self.old).sessions session (Some caller) } }
     {
-        self.sessions[session as usize] = Some(caller);
+        if let Some(slot) = self.sessions.get_mut(session as usize) {
+            *slot = Some(caller);
+        }
     }
 
     /// Sets the umask of a session, if somebody is logged in.
     pub fn set_umask(&mut self, session: u32, mask: Mode)
-        requires { session < 64 }
-        ensures { in_use_of self.new ≡ record (in_use_of self.old) { sessions = slice_set (in_use_of self.old).sessions session (with_umask mask (slice_index_or (in_use_of self.old).sessions session None)) } }
+        ensures { in_use_of self.new ≡ record (in_use_of self.old) { sessions = slice_set (in_use_of self.old).sessions session (masked mask (slice_get (in_use_of self.old).sessions session)) } }
     {
-        if let Some(caller) = &mut self.sessions[session as usize] {
-            caller.umask = mask;
+        if let Some(slot) = self.sessions.get_mut(session as usize) {
+            set_mask(slot, mask);
         }
     }
 
@@ -280,13 +290,14 @@ impl Sessions {
     /// Logs a session out and closes all that it has open, and tells the live files that no descriptor
     /// has any more.
     pub fn logout(&mut self, session: u32) -> Released
-        requires { session < 64 }
         ensures in_use { in_use_of self.new ≡ record (in_use_of self.old) { sessions = slice_set (in_use_of self.old).sessions session None; descriptors = without_session (in_use_of self.old).descriptors session; room = (in_use_of self.new).room } }
         ensures released { AreReleased (in_use_of self.old).descriptors (in_use_of self.new).descriptors result.items }
         ensures room { (in_use_of self.old).room ≤ (in_use_of self.new).room }
     {
         let released = self.close_all(session);
-        self.sessions[session as usize] = None;
+        if let Some(slot) = self.sessions.get_mut(session as usize) {
+            *slot = None;
+        }
         released
     }
 

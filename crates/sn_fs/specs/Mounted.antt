@@ -8,14 +8,13 @@ use Rattle.sn_block.specs.Lending.{device_of}
 use Rattle.sn_block.specs.declared.blocks.Blocks.{Blocks}
 use Rattle.sn_log.specs.Places.{LogPosition}
 use Rattle.sn_core.specs.declared.world.PlainWorld.{PlainWorld}
-use Rattle.sn_core.specs.Plain.{IsPlainWorld, world_of}
+use Rattle.sn_core.specs.Plain.{world_of}
 use Rattle.sn_fs.specs.Held.{Held, IsOnGround}
 
 -- Its log is on a device that has all its sectors, and unless a failure has stopped it, its world is one.
 pub record IsMounted (status : Status) (at : LogPosition) (world : PlainWorld) (has_stopped : Bool) : Type 0 where
   pub sectors : 2048 ≤ status.sectors
   pub place : IsOnGround at
-  pub plain : IsPlainWorld world
   pub whole : has_stopped ≡ false → IsWorld version_1 (world_of world)
 
 -- what these parts hold

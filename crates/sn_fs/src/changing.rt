@@ -1,7 +1,7 @@
 //! A change in memory and in the log.
 ghost use Rattle.std.specs.Prelude.{◌≡◌, ◌≤◌};
 ghost use Rattle.sn_block.specs.Lending.{device_of};
-ghost use Rattle.sn_core.specs.Plain.{IsPlainWorld, world_of};
+ghost use Rattle.sn_core.specs.Plain.{world_of};
 ghost use Rattle.sn_limits.specs.Versions.{version_1};
 ghost use Rattle.sn_model.specs.NameTree.{IsTree};
 ghost use Rattle.sn_record.specs.Payload.{IsSpelled};
@@ -26,13 +26,11 @@ pub(crate) fn make_change<D: Device>(
     world: &mut PlainWorld,
     change: &Change<'_>,
 ) -> Result<(), ChangeFault>
-    requires plain { IsPlainWorld world.old }
     requires whole { IsTree version_1 (world_of world.old).live }
     requires spelled { IsSpelled change.now }
     requires place { IsOnGround log.old }
     requires sectors { 2048 ≤ (D.status (device_of blocks.old)).sectors }
     ensures made { Changes D.tells_bytes result change.now (holding D.Device blocks.old log.old world.old) (holding D.Device blocks.new log.new world.new) }
-    ensures sound { IsPlainWorld world.new }
     ensures place { IsOnGround log.new }
     ensures sectors { (D.status (device_of blocks.new)).sectors ≡ (D.status (device_of blocks.old)).sectors }
 {

@@ -1,7 +1,7 @@
 //! Recovery: replay of the log, and clearing the place where it ends.
 ghost use Rattle.std.specs.Prelude.{◌≡◌, ◌≤◌, IsTrue, IfOk};
 ghost use Rattle.sn_block.specs.Lending.{device_of};
-ghost use Rattle.sn_core.specs.Plain.{IsPlainWorld, world_of};
+ghost use Rattle.sn_core.specs.Plain.{world_of};
 ghost use Rattle.sn_limits.specs.Versions.{version_1};
 ghost use Rattle.sn_model.specs.Worlds.{IsWorld};
 ghost use Rattle.sn_fs.specs.Answers.{CostsAtMost};
@@ -26,7 +26,6 @@ pub(crate) fn recover<D: Device>(
 ) -> Result<Recovered, MountFault>
     requires { 2048 ≤ (D.status (device_of blocks.old)).sectors }
     ensures recovers { IsTrue D.tells_bytes → Recovers result (D.disk (device_of blocks.old)) (D.disk (device_of blocks.new)) }
-    ensures sound { IfOk result (λ r. IsPlainWorld r.world) }
     ensures whole { IfOk result (λ r. IsWorld version_1 (world_of r.world)) }
     ensures place { IfOk result (λ r. IsOnGround r.log) }
     ensures sectors { (D.status (device_of blocks.new)).sectors ≡ (D.status (device_of blocks.old)).sectors }

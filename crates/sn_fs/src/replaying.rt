@@ -2,7 +2,7 @@
 ghost use Rattle.std.specs.Prelude.{◌≡◌, ◌≤◌, ◌<◌, true, IsTrue, IfOk, OnOk};
 ghost use Rattle.sn_device.specs.Disk.{reads};
 ghost use Rattle.sn_block.specs.Lending.{device_of};
-ghost use Rattle.sn_core.specs.Plain.{IsPlainWorld, world_of};
+ghost use Rattle.sn_core.specs.Plain.{world_of};
 ghost use Rattle.sn_limits.specs.Versions.{version_1};
 ghost use Rattle.sn_model.specs.NameTree.{IsTree};
 ghost use Rattle.sn_model.specs.Steps.{with_live};
@@ -36,7 +36,6 @@ pub(crate) fn replay_next<D: Device>(
     replay: &mut Replay,
     world: &mut PlainWorld,
 ) -> Result<bool, MountFault>
-    requires plain { IsPlainWorld world.old }
     requires whole { IsTree version_1 (world_of world.old).live }
     requires place { IsOnGround replay.old }
     requires sectors { 2048 ≤ (D.status (device_of blocks.old)).sectors }
@@ -44,7 +43,6 @@ pub(crate) fn replay_next<D: Device>(
         → HasReplayed (reads (D.disk (device_of blocks.old))) replay.old (world_of world.old).live
         → ReplaysOne result (reads (D.disk (device_of blocks.old))) replay.old (world_of world.old).live replay.new (world_of world.new).live }
     ensures rest { world_of world.new ≡ with_live (world_of world.old) (world_of world.new).live }
-    ensures sound { IsPlainWorld world.new }
     ensures whole { IsTree version_1 (world_of world.new).live }
     ensures place { IsOnGround replay.new }
     ensures further { IfOk result (λ more. more ≡ true → replay.old.place < replay.new.place) }
@@ -99,12 +97,10 @@ pub(crate) fn replay_all<D: Device>(
     buffer: &mut Buffer,
     world: &mut PlainWorld,
 ) -> Result<Position, MountFault>
-    requires plain { IsPlainWorld world.old }
     requires empty { world_of world.old ≡ new_world }
     requires sectors { 2048 ≤ (D.status (device_of blocks.old)).sectors }
     ensures replayed { IsTrue D.tells_bytes → ReplaysAll result (reads (D.disk (device_of blocks.old))) (world_of world.new).live }
     ensures rest { world_of world.new ≡ with_live new_world (world_of world.new).live }
-    ensures sound { IsPlainWorld world.new }
     ensures whole { IsTree version_1 (world_of world.new).live }
     ensures place { IfOk result (λ at. IsOnGround at) }
     ensures same { IsTrue D.tells_bytes → D.disk (device_of blocks.new) ≡ D.disk (device_of blocks.old) }

@@ -12,7 +12,6 @@ loop-event-preserved c =
     let more = run_more PlainStep _ _ _ _ _ e c.answer-reply.result c.loop-event.invariant.run c.answer-reply.ensures.step in
     record {
       run = rw (events, c.push_reserved.ensures.items) more;
-      sound = c.answer-reply.ensures.sound;
       whole = c.answer-reply.ensures.whole;
       count = search rules;
       room = search rules;

@@ -16,7 +16,6 @@ loop-more-init g c =
     record {
       replayed = λ told. starts _ c.new-replay.result (world_of c.args.world.now) first c.requires.empty;
       rest = subst (λ (w : World). w ≡ with_live new_world w.live) (sym c.requires.empty) refl;
-      plain = c.requires.plain;
       whole = subst (λ (w : World). IsTree version_1 w.live) (sym c.requires.empty) new_is_world.live;
       place = subst IsOnGround (sym first) (record { blocks = refl; epoch = refl });
       same = λ told. refl;

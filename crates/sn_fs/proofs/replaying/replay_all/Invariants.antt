@@ -6,7 +6,7 @@ use Rattle.sn_model.specs.NameTree.{IsTree}
 use Rattle.sn_model.specs.Steps.{with_live}
 use Rattle.sn_model.specs.World.{new_world}
 use Rattle.sn_block.specs.Lending.{device_of}
-use Rattle.sn_core.specs.Plain.{IsPlainWorld, world_of}
+use Rattle.sn_core.specs.Plain.{world_of}
 use Rattle.sn_fs.specs.Held.{IsOnGround}
 use Rattle.sn_fs.specs.Mounting.{ReplaysSo}
 use Rattle.sn_fs.proofs.replaying.replay_all.Given as goal
@@ -16,7 +16,6 @@ abbrev pub invariant-loop-more : goal.invariant-loop-more
 invariant-loop-more g l = record {
   replayed : IsTrue g.D.Device.tells_bytes → ReplaysSo l.more (reads (g.D.Device.disk (device_of l.fn.blocks))) l.replay (world_of l.world).live;
   rest : world_of l.world ≡ with_live new_world (world_of l.world).live;
-  plain : IsPlainWorld l.world;
   whole : IsTree version_1 (world_of l.world).live;
   place : IsOnGround l.replay;
   same : IsTrue g.D.Device.tells_bytes → g.D.Device.disk (device_of l.blocks) ≡ g.D.Device.disk (device_of l.fn.blocks);

@@ -1,9 +1,14 @@
-use Rattle.std.proofs.Common.{sym, subst}
+use Rattle.std.proofs.Common.{◌≡◌, sym, subst}
 use Rattle.std.specs.FinMap as map
 use Rattle.sn_limits.specs.Versions.{version_1}
+use Rattle.sn_model.specs.World.{World, new_world}
 use Rattle.sn_model.specs.Worlds.{IsWorld}
 use Rattle.sn_model.proofs.WorldLemmas.{new_is_world}
+use Rattle.sn_core.specs.Plain.{world_of}
 use Rattle.sn_core.proofs.world.PlainWorld.new.Goals as goal
 
+pub returns-clause-world : goal.returns-clause-world
+returns-clause-world c = λ i. record { live = c.in_ok-tree.ensures i; frozen = map.empty; sessions = (c.in_ok-sessions.ensures i).sessions; descriptors = (c.in_ok-sessions.ensures i).descriptors }
+
 pub returns-clause-whole : goal.returns-clause-whole
-returns-clause-whole c = subst (IsWorld version_1) (λ i. record { live = sym c.in_ok-new.ensures i; frozen = map.empty; sessions = sym c.in_ok-free_sessions.ensures i; descriptors = map.empty }) new_is_world
+returns-clause-whole c = subst (IsWorld version_1) (λ i. record { live = sym c.in_ok-tree.ensures i; frozen = map.empty; sessions = (sym c.in_ok-sessions.ensures i).sessions; descriptors = (sym c.in_ok-sessions.ensures i).descriptors }) new_is_world

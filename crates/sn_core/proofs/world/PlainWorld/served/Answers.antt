@@ -25,14 +25,14 @@ served_so c =
       | in-Some+in-Ok w ↦
           let made = w.in-Ok.ensures.made in
           so (after (with_live old made.0)) (c.set_caller.ensures.world ∙ ap (λ (x : PlainWorld). after (world_of x)) w.self-is ∙ ap after made.2)
-          (chosen_served old c.args.session c.args.call.now o (Some w.in-Some.change) made.0 c.requires.whole c.in_ok-change.ensures.decided w.in-Some.ensures made.1)
+          (chosen_served old c.args.session c.args.call.now o (Some w.in-Some.change) made.0 c.requires c.in_ok-change.ensures.decided w.in-Some.ensures made.1)
       | in-None w ↦
           so (after old) (c.set_caller.ensures.world ∙ ap (λ (x : PlainWorld). after (world_of x)) w.self-is)
-          (chosen_served old c.args.session c.args.call.now o None old.live c.requires.whole c.in_ok-change.ensures.decided w.in-None.ensures refl)
+          (chosen_served old c.args.session c.args.call.now o None old.live c.requires c.in_ok-change.ensures.decided w.in-None.ensures refl)
     ]
 
 pub returns-clause-served : goal.returns-clause-served
 returns-clause-served c = served_so c
 
 pub returns-clause-whole : goal.returns-clause-whole
-returns-clause-whole c = served_whole (world_of c.args.self.now) (world_of c.set_caller.new.self) c.args.session c.args.call.now c.in_ok-change.field-0.told (served_so c) c.in_ok-change.ensures.numbers c.requires.whole
+returns-clause-whole c = served_whole (world_of c.args.self.now) (world_of c.set_caller.new.self) c.args.session c.args.call.now c.in_ok-change.field-0.told (served_so c) c.in_ok-change.ensures.numbers c.requires

@@ -72,7 +72,6 @@ pub returns-in-Err-clause-sound : goal.returns-in-Err-clause-sound
 returns-in-Err-clause-sound g c = record {
   sectors = subst (λ n. 2048 ≤ n) (sym c.in-Err.ensures.sectors) c.requires.sectors;
   place = c.in-Err.ensures.place;
-  plain = c.in-Err.ensures.sound;
   whole = λ running. still_whole g.D.Device.tells_bytes c.in-Err.fault c.in-Some.change _ _ c.in-Err.ensures.made (sym c.stops-self.ensures ∙ running) (c.requires.whole c.if-self.false);
 }
 
@@ -131,6 +130,5 @@ returns-clause-sound g c =
         | in-Some+in-Ok-make_change w ↦ subst IsOnGround (sym (ap (λ (x : Fs g.row.D.Denot g.D.Device). x.log) w.self-is)) w.in-Ok-make_change.ensures.place
         | in-None w ↦ subst IsOnGround (sym (ap (λ (x : Fs g.row.D.Denot g.D.Device). x.log) w.self-is)) c.requires.place
       ];
-      plain = c.set_caller.ensures.sound;
       whole = λ _. served_whole (world_of c.args.self.now.world) (world_of c.set_caller.new.self) c.args.session c.args.call.now c.in-Ok.outcome.told served c.in-Ok.ensures.numbers (c.requires.whole c.if-self.false);
     }

@@ -3,10 +3,18 @@ use Rattle.sn_model.specs.declared.call.Event.TheVariants.{Call}
 use Rattle.sn_model.specs.declared.reply.Refusal.{Refusal}
 use Rattle.sn_model.specs.declared.reply.Reply.TheVariants.{Refused}
 use Rattle.sn_fs.specs.Answers.{Answers}
+use Rattle.sn_fs.specs.Filesystem.{has_stopped, held}
 use Rattle.sn_fs.proofs.CallLemmas.{stopped_answers}
 use Rattle.sn_run.specs.declared.server.Server.{Server}
 use Rattle.sn_run.specs.Servers.{is_stopped, standing}
 use Rattle.sn_run.proofs.server.Server.call.Goals as goal
+
+pub returns-in-Mounted-clause-answered : goal.returns-in-Mounted-clause-answered
+returns-in-Mounted-clause-answered g c told =
+    let e = Call c.args.session c.args.call.now in
+    let S = Server g.row.D.Denot g.D.Device in
+    let new = c.call-reply.new.self in
+    subst (λ (x : S). Answers e c.call-reply.result (standing x) (is_stopped x) (held new) (has_stopped new)) (sym c.in-Mounted.is) (c.call-reply.ensures.answered told)
 
 pub returns-in-Unmounted-clause-answered : goal.returns-in-Unmounted-clause-answered
 returns-in-Unmounted-clause-answered g c told =
