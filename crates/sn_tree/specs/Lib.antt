@@ -5,3 +5,4 @@ pub mod Dirty
 pub mod Plans
 pub mod Steps
 pub mod Replanned
+pub mod Laws

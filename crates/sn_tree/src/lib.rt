@@ -8,8 +8,9 @@
 //! reaches, so writes elsewhere don't matter, and no old block is written: a data block is the dirty one
 //! if there is one, the old one if it stays, and else zeros (`block_after`). What the new tree reaches
 //! with what is released is what the old one reached with what was added, each block as often, so the
-//! map's bits follow from the two lists. The new blocks are at most a path for each dirty block and one
-//! path more (`most_added`).
+//! map's bits follow from the two lists. Where what is wanted ends at the new size, so does the tree: the
+//! pointers of places past it are holes, and the bytes past it zeros (`plan_laws` says when that is). The
+//! new blocks are at most a path for each dirty block and one path more (`most_added`).
 //!
 //! The way through: `plan_tree` plans the sixteen pointers by `plan_pointers`, and that each of them by
 //! `plan_pointer`, which goes down to the pointers below: a recursion over levels, so a tree of three
@@ -27,11 +28,13 @@
 mod build;
 mod children;
 mod fault;
+mod laws;
 mod new_block;
 mod plan;
 mod tree;
 
 pub use build::Build;
 pub use fault::PlanFault;
+pub use laws::plan_laws;
 pub use new_block::{DirtyBlock, NewBlock};
 pub use tree::{Dirty, plan_tree};
