@@ -54,7 +54,7 @@ length-after end (d ∷ ds) = either (length-after end ds) (nat_lt d.index end)
     either later false = omega arith
 
 -- where none are left behind an index, none are of those behind another
-after-nil : (end : ℕ) → after end [] ≡ []
+pub after-nil : (end : ℕ) → after end [] ≡ []
 unfolding after
 after-nil end = refl
 

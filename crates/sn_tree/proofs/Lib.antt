@@ -7,3 +7,5 @@ pub mod FaultLemmas
 pub mod ReplannedLemmas
 pub mod LoopLemmas
 pub mod LawLemmas
+pub mod FrontLemmas
+pub mod LevelLemmas

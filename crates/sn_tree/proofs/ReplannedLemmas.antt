@@ -10,12 +10,11 @@ use Rattle.sn_layout.specs.declared.tree.BlockTree.{BlockTree}
 use Rattle.sn_ondisk.specs.Trees.{Store, named_by, entry, pointers_at, all_pointers, data_block, tree_reach}
 use Rattle.sn_ondisk.specs.TreeLaws.{SameIn}
 use Rattle.sn_ondisk.proofs.TreeLemmas.{but_holes-has, entry-level}
-use Rattle.sn_image.specs.Sound.{EndsAtSize}
 use Rattle.sn_tree.specs.Dirty.{after, block_after, blocks_after}
 use Rattle.sn_tree.specs.Plans.{times, Holds, SameAmong, contents, PlansTo}
 use Rattle.sn_tree.specs.Drafts.{Draft}
 use Rattle.sn_tree.specs.Steps.{Planned, LeadsOutside}
-use Rattle.sn_tree.specs.Replanned.{EndsAt, IsReplanned, IsPlanned}
+use Rattle.sn_tree.specs.Replanned.{IsReplanned, IsPlanned}
 use Rattle.sn_tree.specs.declared.new_block.NewBlock.{NewBlock}
 use Rattle.sn_tree.specs.declared.new_block.DirtyBlock.{DirtyBlock}
 use Rattle.sn_tree.proofs.CountLemmas.{times-cons, times-other, times_among, length-pointers_at}

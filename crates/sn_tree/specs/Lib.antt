@@ -6,3 +6,4 @@ pub mod Plans
 pub mod Steps
 pub mod Replanned
 pub mod Laws
+pub mod Fronts
