@@ -9,6 +9,8 @@
 //! ```
 #![tactic(auto)]
 
+mod changes;
+mod disk;
 mod plans;
 
 use anyhow::Result;

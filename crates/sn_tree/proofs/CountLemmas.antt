@@ -65,7 +65,7 @@ times-all_append s block (suc depth) ps qs =
     let last = ap (times block) (pointers_at-append s (suc depth) ps qs) ∙ times-append block (pointers_at s (suc depth) ps) (pointers_at s (suc depth) qs) in
     omega arith
 
-at_0 : (s : Store) (qs : List ℕ) → pointers_at s 0 qs ≡ qs
+pub at_0 : (s : Store) (qs : List ℕ) → pointers_at s 0 qs ≡ qs
 unfolding pointers_at
 at_0 s qs = refl
 
@@ -124,6 +124,9 @@ span_some depth = one-le-pow depth 1024 (omega arith)
 
 pub span_most : (depth : ℕ) → depth ≤ 3 → 1024 ^ depth ≤ 1073741824
 span_most depth within = pow-le-pow_right (omega arith) within
+
+pub span_more : (depth above : ℕ) → depth ≤ above → 1024 ^ depth ≤ 1024 ^ above
+span_more depth above within = pow-le-pow_right (omega arith) within
 
 pub span_down : (depth : ℕ) → depth ≢ 0 → 1024 * 1024 ^ (depth - 1) ≡ 1024 ^ depth
 span_down zero some = absurd (some refl)

@@ -1,9 +1,9 @@
 -- Dirty blocks whose indices rise, and what they make of the data blocks.
-use Rattle.std.proofs.Common.{◌≡◌, ℕ, zero, suc, ◌+◌, ◌-◌, ◌*◌, ◌<◌, ◌≤◌, ◌&&◌, Bool, true, false, List, [], ◌∷◌, ◌++◌, length, get_or, replicate, map, refl, sym, ap, subst, ◌∙◌, arith, if◌then◌else◌}
+use Rattle.std.proofs.Common.{◌≡◌, ⊎_elim, ℕ, zero, suc, ◌+◌, ◌-◌, ◌*◌, ◌<◌, ◌≤◌, ◌&&◌, ◌==◌, Bool, true, false, List, [], ◌∷◌, ◌++◌, length, get_or, replicate, map, refl, sym, ap, subst, ◌∙◌, arith, if◌then◌else◌}
 use Rattle.std.specs.Prelude.{nat_lt, Option, Some, None, IfSome, option_to_list}
 use Rattle.std.specs.List.{flat_map, AllByRecursion}
 use Rattle.std.proofs.Math.Nat.{mul-le-mul_left}
-use Rattle.std.proofs.lemmas.Bool.{eq-eqb, ne_eqb, ltb-true, ltb-false, lt-ltb, le-ltb}
+use Rattle.std.proofs.lemmas.Bool.{cases_lt, eq-eqb, ne_eqb, ltb-true, ltb-false, lt-ltb, le-ltb}
 use Rattle.sn_layout.specs.Bytes.{zeros}
 use Rattle.sn_ondisk.specs.Trees.{Store, named_by, below, pointers_at}
 use Rattle.sn_tree.specs.Dirty.{IsFrom, after, block_after, blocks_after}
@@ -53,6 +53,17 @@ length-after end (d ∷ ds) = either (length-after end ds) (nat_lt d.index end)
     either later true = omega (arith, later)
     either later false = omega arith
 
+-- where none are left behind an index, none are of those behind another
+pub after-nil : (end : ℕ) → after end [] ≡ []
+unfolding after
+after-nil end = refl
+
+pub after-empty : (next end : ℕ) (ds : List DirtyBlock) → after end ds ≡ [] → after end (after next ds) ≡ []
+after-empty next end ds none = ⊎_elim
+    (λ (low : next < end). after-after next end ds (omega (arith, low)) ∙ none)
+    (λ (high : end ≤ next). ap (after end) (sym (after-after end next ds high) ∙ ap (after next) none ∙ after-nil next) ∙ after-nil end)
+    (cases_lt next end)
+
 -- ---- what the data blocks are to be
 
 pub block_after-after : (keep end i : ℕ) (ds : List DirtyBlock) (old : List ℕ) → end ≤ i → block_after keep (after end ds) i old ≡ block_after keep ds i old
@@ -79,6 +90,11 @@ blocks_after-append keep i ds [] ys = let here : i ≡ i + 0 = omega arith in ap
 blocks_after-append keep i ds (x ∷ xs) ys =
     let there : i + 1 + length xs ≡ i + length (x ∷ xs) = omega arith in
     ap (λ (zs : List (List ℕ)). block_after keep ds i x ∷ zs) (blocks_after-append keep (i + 1) ds xs ys ∙ ap (λ (n : ℕ). blocks_after keep ds (i + 1) xs ++ blocks_after keep ds n ys) there)
+
+pub length-blocks_after : (keep base : ℕ) (ds : List DirtyBlock) (xs : List (List ℕ)) → length (blocks_after keep ds base xs) ≡ length xs
+unfolding blocks_after
+length-blocks_after keep base ds [] = refl
+length-blocks_after keep base ds (x ∷ xs) = ap (λ n. suc n) (length-blocks_after keep (base + 1) ds xs)
 
 -- the dirty block itself
 pub block_after-dirty : (keep : ℕ) (d : DirtyBlock) (ds : List DirtyBlock) (old : List ℕ) → block_after keep (d ∷ ds) d.index old ≡ d.bytes.value
@@ -118,6 +134,23 @@ blocks_after-holes keep i ds (x ∷ xs) is holes =
     either true = refl
     either false = sym holes.0
 
+-- where they were zeros, it doesn't matter how many stay
+block_after-zeros : (a b i : ℕ) (ds : List DirtyBlock) (old : List ℕ) → old ≡ zeros 4096 → block_after a ds i old ≡ block_after b ds i old
+unfolding block_after
+block_after-zeros a b i [] old is = either (nat_lt i a) ∙ sym (either (nat_lt i b))
+  where
+    either : (c : Bool) → (if c then old else zeros 4096) ≡ zeros 4096
+    either true = is
+    either false = refl
+block_after-zeros a b i (d ∷ ds) old is = ap (λ (x : List ℕ). if d.index == i then d.bytes.value else x) (block_after-zeros a b i ds old is)
+
+pub blocks_after-zeros : (a b i : ℕ) (ds : List DirtyBlock) (xs : List (List ℕ)) → AllByRecursion (λ (x : List ℕ). x ≡ zeros 4096) xs → blocks_after a ds i xs ≡ blocks_after b ds i xs
+unfolding blocks_after
+blocks_after-zeros a b i ds [] all = refl
+blocks_after-zeros a b i ds (x ∷ xs) all =
+    ap (λ (y : List ℕ). y ∷ blocks_after a ds (i + 1) xs) (block_after-zeros a b i ds x all.0)
+    ∙ ap (λ (ys : List (List ℕ)). block_after b ds i x ∷ ys) (blocks_after-zeros a b (i + 1) ds xs all.1)
+
 -- ---- holes
 
 pub AreHoles-append : (ps qs : List ℕ) → AreHoles ps → AreHoles qs → AreHoles (ps ++ qs)
@@ -136,12 +169,12 @@ AreHoles-flat : (s : Store) (ps : List ℕ) → AreHoles ps → AreHoles (flat_m
 AreHoles-flat s [] holes = tt
 AreHoles-flat s (p ∷ ps) holes = AreHoles-append (below s p) (flat_map (below s) ps) (AreHoles-below s p holes.0) (AreHoles-flat s ps holes.1)
 
-AreHoles-at : (s : Store) (depth : ℕ) (ps : List ℕ) → AreHoles ps → AreHoles (pointers_at s depth ps)
+pub AreHoles-at : (s : Store) (depth : ℕ) (ps : List ℕ) → AreHoles ps → AreHoles (pointers_at s depth ps)
 unfolding pointers_at
 AreHoles-at s zero ps holes = holes
 AreHoles-at s (suc depth) ps holes = AreHoles-flat s (pointers_at s depth ps) (AreHoles-at s depth ps holes)
 
-named-zeros : (s : Store) (p : ℕ) → p ≡ 0 → named_by s p ≡ zeros 4096
+pub named-zeros : (s : Store) (p : ℕ) → p ≡ 0 → named_by s p ≡ zeros 4096
 unfolding named_by
 named-zeros s p hole = ap (λ (b : Bool). if b then zeros 4096 else s p) (eq-eqb p 0 hole)
 
@@ -202,7 +235,7 @@ most_added-one depth b e keep ds some = told depth (length ds - length (after e 
 pub straddled : (b e keep : ℕ) → b < keep → keep < e → straddles b e keep ≡ 1
 straddled b e keep low high = ap (λ (c : Bool). if c && nat_lt keep e then 1 else 0) (lt-ltb b keep low) ∙ ap (λ (c : Bool). if c then 1 else 0) (lt-ltb keep e high)
 
-straddles-once : (b e keep : ℕ) → straddles b e keep ≤ 1
+pub straddles-once : (b e keep : ℕ) → straddles b e keep ≤ 1
 straddles-once b e keep = told (nat_lt b keep && nat_lt keep e)
   where
     told : (c : Bool) → (if c then 1 else 0) ≤ 1
@@ -243,6 +276,9 @@ used_first d ds end used = either (nat_lt d.index end) refl used
     either : (b : Bool) → nat_lt d.index end ≡ b → length (if b then after end ds else d ∷ ds) < length (d ∷ ds) → d.index < end
     either true is _ = ltb-true d.index end is
     either false is used = absurd (omega (arith, used))
+
+pub first_before : (end : ℕ) (d : DirtyBlock) (ds : List DirtyBlock) → after end (d ∷ ds) ≡ [] → d.index < end
+first_before end d ds none = let count : length (after end (d ∷ ds)) ≡ 0 = ap (λ (l : List DirtyBlock). length l) none in used_first d ds end (omega (arith, count))
 
 pub taken_first : (first : Option DirtyBlock) (old new : List DirtyBlock) (end : ℕ) → old ≡ option_to_list first ++ new → length (after end old) < length old → IfSome first (λ (d : DirtyBlock). (old ≡ d ∷ new) × (d.index < end))
 taken_first None old new end is used = tt

@@ -1,7 +1,11 @@
 pub mod CountLemmas
 pub mod DirtyLemmas
+pub mod EndLemmas
 pub mod PlanLemmas
 pub mod StepLemmas
 pub mod FaultLemmas
 pub mod ReplannedLemmas
 pub mod LoopLemmas
+pub mod LawLemmas
+pub mod FrontLemmas
+pub mod LevelLemmas

@@ -1,5 +1,5 @@
 -- Plans of pointers: of one, of lists that are joined, of one level more.
-use Rattle.std.proofs.Common.{◌≡◌, ◌≢◌, ℕ, suc, ◌+◌, ◌*◌, ◌≤◌, Bool, List, [], ◌∷◌, ◌++◌, length, replicate, map, refl, sym, ap, subst, ◌∙◌, arith, if◌then◌else◌}
+use Rattle.std.proofs.Common.{◌≡◌, ◌≢◌, ℕ, suc, ◌+◌, ◌*◌, ◌<◌, ◌≤◌, Bool, List, [], ◌∷◌, ◌++◌, length, replicate, map, refl, sym, ap, subst, ◌∙◌, arith, if◌then◌else◌}
 use Rattle.std.specs.Prelude.{◌^◌, All}
 use Rattle.std.proofs.lemmas.Bool.{eqb-false, ne_eqb}
 use Rattle.std.proofs.lemmas.List.{map-append, length-map}
@@ -10,13 +10,14 @@ use Rattle.sn_image.specs.Reach.{block_reach}
 use Rattle.sn_ondisk.specs.Trees.{Store, named_by, below, pointers_at, all_pointers}
 use Rattle.sn_ondisk.proofs.TreeLemmas.{Agree, named-same, pointers-same, all_pointers-same, of_level}
 use Rattle.sn_tree.specs.Drafts.{numbers_of}
-use Rattle.sn_tree.specs.Dirty.{IsFrom, block_after, blocks_after}
-use Rattle.sn_tree.specs.Plans.{times, Holds, SameAmong, contents, PlansTo, Plans}
+use Rattle.sn_tree.specs.Dirty.{IsFrom, after, block_after, blocks_after}
+use Rattle.sn_tree.specs.Plans.{times, Holds, SameAmong, contents, EndsBefore, PlansTo, Plans}
 use Rattle.sn_tree.specs.Steps.{AreHoles}
 use Rattle.sn_tree.specs.declared.new_block.NewBlock.{NewBlock}
 use Rattle.sn_tree.specs.declared.new_block.DirtyBlock.{DirtyBlock}
 use Rattle.sn_tree.proofs.CountLemmas.{times-append, times-other, among_times, times-all_append, times-down, pointers-down, pointers_at-append, length-pointers_at, times-block_reach}
-use Rattle.sn_tree.proofs.DirtyLemmas.{blocks_after-append, block_after-cut, blocks_after-kept, blocks_after-holes, contents-holes}
+use Rattle.sn_tree.proofs.DirtyLemmas.{blocks_after-append, length-blocks_after, block_after-cut, blocks_after-kept, blocks_after-holes, contents-holes}
+use Rattle.sn_tree.proofs.EndLemmas.{ends_kept, ends_holes, ends_joined, ends_leaf, ends_up, ends_all}
 
 -- ---- lists of new blocks
 
@@ -60,30 +61,33 @@ numbers_of-append a b = map-append (λ (block : NewBlock). block.number) a b
 -- ---- pointers that stay
 
 module _ (s : Store) (depth base keep : ℕ) (ds : List DirtyBlock) where
-  pub plan_stays : (ps : List ℕ) → blocks_after keep ds base (contents s depth ps) ≡ contents s depth ps → Plans s depth base keep ds ps ps [] []
-  plan_stays ps stay = record {
+  pub plan_stays : (ps : List ℕ) → blocks_after keep ds base (contents s depth ps) ≡ contents s depth ps → ((r : Store) (end : ℕ) → keep ≤ end → EndsBefore r depth base end ps) → Plans s depth base keep ds ps ps [] []
+  plan_stays ps stay past = record {
     content = λ r same held. contents-same s r depth ps same ∙ sym stay;
     reach = λ r same held block some. ap (λ (xs : List ℕ). times block xs + times block []) (all_pointers-same s r depth ps (agreed s r depth ps same));
+    ends = λ r same held end low none. past r end low;
   }
 
   pub plan_kept : (ps : List ℕ) (end : ℕ) → end ≡ base + length ps * 1024 ^ depth → IsFrom end ds → end ≤ keep → Plans s depth base keep ds ps ps [] []
   plan_kept ps end is rise within =
       let there : end ≡ base + length (contents s depth ps) = is ∙ ap (λ n. base + n) (sym (length-contents s depth ps)) in
       plan_stays ps (blocks_after-kept keep base ds (contents s depth ps) (subst (λ (n : ℕ). IsFrom n ds) there rise) (subst (λ (n : ℕ). n ≤ keep) there within))
+      (λ r bound low. ends_kept r depth base bound ps (omega (arith, is, within, low)))
 
   pub plan_holes : (ps : List ℕ) (end : ℕ) → end ≡ base + length ps * 1024 ^ depth → IsFrom end ds → AreHoles ps → Plans s depth base keep ds ps ps [] []
   plan_holes ps end is rise holes =
       let there : end ≡ base + length (contents s depth ps) = is ∙ ap (λ n. base + n) (sym (length-contents s depth ps)) in
       plan_stays ps (blocks_after-holes keep base ds (contents s depth ps) (subst (λ (n : ℕ). IsFrom n ds) there rise) (contents-holes s depth ps holes))
+      (λ r bound low. ends_holes r depth base bound ps holes)
 
 -- ---- lists that are joined
 
 module _ (s : Store) (depth base keep : ℕ) (ds : List DirtyBlock) where
   pub plans_joined : (was was1 was2 : List ℕ) (had had1 had2 : List (List ℕ)) (news more : List ℕ) (a b : List NewBlock) (x y : List ℕ) (later : List DirtyBlock) (next : ℕ)
       → ((block : ℕ) → times block was ≡ times block was1 + times block was2) → had ≡ had1 ++ had2 → next ≡ base + length had1
-      → ((olds : List (List ℕ)) → blocks_after keep later next olds ≡ blocks_after keep ds next olds)
+      → ((olds : List (List ℕ)) → blocks_after keep later next olds ≡ blocks_after keep ds next olds) → ((end : ℕ) → after end ds ≡ [] → after end later ≡ [])
       → PlansTo s was1 had1 depth base keep ds news a x → PlansTo s was2 had2 depth next keep later more b y → PlansTo s was had depth base keep ds (news ++ more) (a ++ b) (x ++ y)
-  plans_joined was was1 was2 had had1 had2 news more a b x y later next count parts is same_after front back = record {
+  plans_joined was was1 was2 had had1 had2 news more a b x y later next count parts is same_after used front back = record {
     content = λ r same held.
         let left = front.content r (λ block some there. same block some (omega (arith, there, count block))) (All-front (λ (block : NewBlock). r block.number ≡ block.bytes.value) a b held) in
         let right = back.content r (λ block some there. same block some (omega (arith, there, count block))) (All-back (λ (block : NewBlock). r block.number ≡ block.bytes.value) a b held) in
@@ -98,24 +102,33 @@ module _ (s : Store) (depth base keep : ℕ) (ds : List DirtyBlock) where
         let gone = times-append block x y in
         let numbers = ap (times block) (numbers_of-append a b) ∙ times-append block (numbers_of a) (numbers_of b) in
         omega (arith, left, right, news_are, count block, gone, numbers);
+    ends = λ r same held end low none.
+        let of_front = All-front (λ (block : NewBlock). r block.number ≡ block.bytes.value) a b held in
+        let of_back = All-back (λ (block : NewBlock). r block.number ≡ block.bytes.value) a b held in
+        let among : SameAmong s r was1 = (λ block some there. same block some (omega (arith, there, count block))) in
+        let behind : SameAmong s r was2 = (λ block some there. same block some (omega (arith, there, count block))) in
+        let long : length had1 ≡ length news * 1024 ^ depth = sym (length-blocks_after keep base ds had1) ∙ ap (λ (xs : List (List ℕ)). length xs) (sym (front.content r among of_front)) ∙ length-contents r depth news in
+        ends_joined r depth base next end news more (is ∙ ap (λ n. base + n) long) (front.ends r among of_front end low none) (back.ends r behind of_back end low (used end none));
   }
 
   pub plan_joined : (ps qs news more : List ℕ) (a b : List NewBlock) (x y : List ℕ) (later : List DirtyBlock) (next : ℕ) → next ≡ base + length ps * 1024 ^ depth
-      → ((olds : List (List ℕ)) → blocks_after keep later next olds ≡ blocks_after keep ds next olds)
+      → ((olds : List (List ℕ)) → blocks_after keep later next olds ≡ blocks_after keep ds next olds) → ((end : ℕ) → after end ds ≡ [] → after end later ≡ [])
       → Plans s depth base keep ds ps news a x → Plans s depth next keep later qs more b y → Plans s depth base keep ds (ps ++ qs) (news ++ more) (a ++ b) (x ++ y)
-  plan_joined ps qs news more a b x y later next is same_after front back =
+  plan_joined ps qs news more a b x y later next is same_after used front back =
       plans_joined (all_pointers s depth (ps ++ qs)) (all_pointers s depth ps) (all_pointers s depth qs) (contents s depth (ps ++ qs)) (contents s depth ps) (contents s depth qs) news more a b x y later next
-      (λ block. times-all_append s block depth ps qs) (contents-append s depth ps qs) (is ∙ ap (λ n. base + n) (sym (length-contents s depth ps))) same_after front back
+      (λ block. times-all_append s block depth ps qs) (contents-append s depth ps qs) (is ∙ ap (λ n. base + n) (sym (length-contents s depth ps))) same_after used front back
 
 -- ---- one data block
 
 module _ (s : Store) (base keep : ℕ) (ds : List DirtyBlock) (p : ℕ) where
   plan_leaf : (n : ℕ) (added : List NewBlock) → ((r : Store) → Holds r added → named_by r n ≡ block_after keep ds base (named_by s p))
-      → ((block : ℕ) → block ≢ 0 → times block (n ∷ []) ≡ times block (numbers_of added)) → Plans s 0 base keep ds (p ∷ []) (n ∷ []) added (block_reach p)
+      → ((block : ℕ) → block ≢ 0 → times block (n ∷ []) ≡ times block (numbers_of added)) → ((end : ℕ) → after end ds ≡ [] → end ≤ base → n ≡ 0)
+      → Plans s 0 base keep ds (p ∷ []) (n ∷ []) added (block_reach p)
   unfolding pointers_at all_pointers blocks_after
-  plan_leaf n added bytes numbers = record {
+  plan_leaf n added bytes numbers top = record {
     content = λ r same held. ap (λ (x : List ℕ). x ∷ []) (bytes r held);
     reach = λ r same held block some. omega (arith, numbers block some, times-block_reach block p some);
+    ends = λ r same held end low none. ends_leaf r base end n (top end none);
   }
 
   named-there : (r : Store) (n : ℕ) → n ≢ 0 → named_by r n ≡ r n
@@ -126,15 +139,18 @@ module _ (s : Store) (base keep : ℕ) (ds : List DirtyBlock) (p : ℕ) where
   unfolding named_by
   named-hole r = refl
 
-  pub plan_written : (block : NewBlock) → block.number ≢ 0 → block.bytes.value ≡ block_after keep ds base (named_by s p) → Plans s 0 base keep ds (p ∷ []) (block.number ∷ []) (block ∷ []) (block_reach p)
-  plan_written block some bytes = plan_leaf block.number (block ∷ [])
+  pub plan_written : (block : NewBlock) → block.number ≢ 0 → block.bytes.value ≡ block_after keep ds base (named_by s p) → ((end : ℕ) → after end ds ≡ [] → base < end)
+      → Plans s 0 base keep ds (p ∷ []) (block.number ∷ []) (block ∷ []) (block_reach p)
+  plan_written block some bytes used = plan_leaf block.number (block ∷ [])
       (λ r held. named-there r block.number some ∙ All-head (λ (block : NewBlock). r block.number ≡ block.bytes.value) block [] held ∙ bytes)
       (λ other _. refl)
+      (λ end none past. absurd (omega (arith, past, used end none)))
 
   pub plan_cut : keep ≤ base → IsFrom (base + 1) ds → Plans s 0 base keep ds (p ∷ []) (0 ∷ []) [] (block_reach p)
   plan_cut cut rise = plan_leaf 0 []
       (λ r held. named-hole r ∙ sym (block_after-cut keep base ds (named_by s p) rise cut))
       (λ other some. times-other other 0 (λ same. some (sym same)))
+      (λ end none past. refl)
 
 -- ---- one level more
 
@@ -146,8 +162,9 @@ module _ (s : Store) (was : List ℕ) (had : List (List ℕ)) (depth base keep :
   module _ (all gone : List ℕ) (count : (block : ℕ) → block ≢ 0 → times block all ≡ times block was + times block gone) where
     plans_up : (n : ℕ) (added : List NewBlock) → ((r : Store) → Holds r added → Holds r a) → ((r : Store) → Holds r added → below r n ≡ news)
         → ((block : ℕ) → block ≢ 0 → times block (numbers_of added) ≡ times block (numbers_of a) + times block (n ∷ []))
+        → ((r : Store) → SameAmong s r all → Holds r added → (end : ℕ) → keep ≤ end → after end ds ≡ [] → end ≤ base → n ≡ 0)
         → PlansTo s all had (suc depth) base keep ds (n ∷ []) added (x ++ gone)
-    plans_up n added front is numbers = record {
+    plans_up n added front is numbers top = record {
       content = λ r same held.
           contents-down r depth n
           ∙ ap (contents r depth) (is r held)
@@ -157,18 +174,24 @@ module _ (s : Store) (was : List ℕ) (had : List (List ℕ)) (depth base keep :
           let new = times-down r block depth n ∙ ap (λ (ps : List ℕ). times block (n ∷ []) + times block (all_pointers r depth ps)) (is r held) in
           let left = times-append block x gone in
           omega (arith, lower, new, count block some, left, numbers block some);
+      ends = λ r same held end low none.
+          ends_up r depth base end n news (is r held) (top r same held end low none)
+          (plan.ends r (λ block some there. same block some (omega (arith, there, count block some))) (front r held) end low none);
     }
 
-    pub plans_put : (block : NewBlock) → block.number ≢ 0 → ((r : Store) → r block.number ≡ block.bytes.value → below r block.number ≡ news)
+    pub plans_put : (block : NewBlock) → block.number ≢ 0 → ¬ AreHoles news → ((r : Store) → r block.number ≡ block.bytes.value → below r block.number ≡ news)
         → PlansTo s all had (suc depth) base keep ds (block.number ∷ []) (a ++ block ∷ []) (x ++ gone)
-    plans_put block some is = plans_up block.number (a ++ block ∷ [])
+    plans_put block some filled is = plans_up block.number (a ++ block ∷ [])
         (λ r held. All-front (λ (block : NewBlock). r block.number ≡ block.bytes.value) a (block ∷ []) held)
         (λ r held. is r (All-head (λ (block : NewBlock). r block.number ≡ block.bytes.value) block [] (All-back (λ (block : NewBlock). r block.number ≡ block.bytes.value) a (block ∷ []) held)))
         (λ other _. ap (times other) (numbers_of-append a (block ∷ [])) ∙ times-append other (numbers_of a) (block.number ∷ []))
+        (λ r same held end low none past. absurd (filled (ends_all r depth base end news past
+        (plan.ends r (λ other some there. same other some (omega (arith, there, count other some))) (All-front (λ (block : NewBlock). r block.number ≡ block.bytes.value) a (block ∷ []) held) end low none))))
 
     pub plans_dropped : news ≡ replicate 1024 0 → PlansTo s all had (suc depth) base keep ds (0 ∷ []) a (x ++ gone)
     plans_dropped none = plans_up 0 a (λ r held. held) (λ r held. below-none r ∙ sym none)
         (λ block some. omega (arith, times-other block 0 (λ same. some (sym same))))
+        (λ r same held end low left past. refl)
 
 module _ (s : Store) (depth base keep : ℕ) (ds : List DirtyBlock) (p : ℕ) (news : List ℕ) (a : List NewBlock) (x : List ℕ) (plan : Plans s depth base keep ds (below s p) news a x) where
   counted : (block : ℕ) → block ≢ 0 → times block (all_pointers s (suc depth) (p ∷ [])) ≡ times block (all_pointers s depth (below s p)) + times block (block_reach p)
@@ -177,10 +200,10 @@ module _ (s : Store) (depth base keep : ℕ) (ds : List DirtyBlock) (p : ℕ) (n
   to_upper : (new : List ℕ) (added : List NewBlock) (y : List ℕ) → PlansTo s (all_pointers s (suc depth) (p ∷ [])) (contents s depth (below s p)) (suc depth) base keep ds new added y → Plans s (suc depth) base keep ds (p ∷ []) new added y
   to_upper new added y plans = subst (λ (had : List (List ℕ)). PlansTo s (all_pointers s (suc depth) (p ∷ [])) had (suc depth) base keep ds new added y) (sym (contents-down s depth p)) plans
 
-  pub plan_put : (block : NewBlock) → block.number ≢ 0 → ((r : Store) → r block.number ≡ block.bytes.value → below r block.number ≡ news)
+  pub plan_put : (block : NewBlock) → block.number ≢ 0 → ¬ AreHoles news → ((r : Store) → r block.number ≡ block.bytes.value → below r block.number ≡ news)
       → Plans s (suc depth) base keep ds (p ∷ []) (block.number ∷ []) (a ++ block ∷ []) (x ++ block_reach p)
-  plan_put block some is = to_upper (block.number ∷ []) (a ++ block ∷ []) (x ++ block_reach p)
-      (plans_put s (all_pointers s depth (below s p)) (contents s depth (below s p)) depth base keep ds news a x plan (all_pointers s (suc depth) (p ∷ [])) (block_reach p) counted block some is)
+  plan_put block some filled is = to_upper (block.number ∷ []) (a ++ block ∷ []) (x ++ block_reach p)
+      (plans_put s (all_pointers s depth (below s p)) (contents s depth (below s p)) depth base keep ds news a x plan (all_pointers s (suc depth) (p ∷ [])) (block_reach p) counted block some filled is)
 
   pub plan_dropped : news ≡ replicate 1024 0 → Plans s (suc depth) base keep ds (p ∷ []) (0 ∷ []) a (x ++ block_reach p)
   plan_dropped none = to_upper (0 ∷ []) a (x ++ block_reach p)
@@ -193,7 +216,7 @@ unfolding blocks_after
 after_none keep base ds = refl
 
 pub plan_nothing : (s : Store) (depth base keep : ℕ) (ds : List DirtyBlock) → Plans s depth base keep ds [] [] [] []
-plan_nothing s depth base keep ds = plan_stays s depth base keep ds [] (none (contents s depth []) (length-contents s depth []))
+plan_nothing s depth base keep ds = plan_stays s depth base keep ds [] (none (contents s depth []) (length-contents s depth [])) (λ r bound low. ends_holes r depth base bound [] tt)
   where
     none : (xs : List (List ℕ)) → length xs ≡ 0 * 1024 ^ depth → blocks_after keep ds base xs ≡ xs
     none [] e = after_none keep base ds

@@ -1,23 +1,24 @@
 -- A tree whose sixteen pointers were planned.
-use Rattle.std.proofs.Common.{◌≡◌, ◌≢◌, ℕ, zero, suc, ◌+◌, ◌*◌, ◌<◌, ◌≤◌, ◌==◌, not, Bool, true, false, List, [], ◌∷◌, length, get_or, refl, sym, ap, subst, ◌∙◌, arith, if◌then◌else◌}
+use Rattle.std.proofs.Common.{◌≡◌, ◌≢◌, ⊎_elim, ℕ, zero, suc, ◌+◌, ◌-◌, ◌*◌, ◌/◌, ◌<◌, ◌≤◌, ◌==◌, not, Bool, true, false, List, [], ◌∷◌, length, get_or, refl, sym, ap, subst, ◌∙◌, arith, if◌then◌else◌}
 use Rattle.std.specs.Prelude.{◌^◌}
-use Rattle.std.specs.List.{filter}
-use Rattle.std.proofs.lemmas.Bool.{eqb-true}
-use Rattle.std.proofs.lemmas.List.{get_or-map}
+use Rattle.std.specs.List.{filter, AllByRecursion}
+use Rattle.std.proofs.lemmas.Bool.{cases_lt, eqb-true}
+use Rattle.std.proofs.lemmas.List.{get_or-map, get_or-replicate, get_or_past}
+use Rattle.sn_layout.specs.Bytes.{zeros}
 use Rattle.sn_layout.specs.Pointers.{levels_of}
 use Rattle.sn_layout.specs.declared.tree.BlockTree.{BlockTree}
 use Rattle.sn_ondisk.specs.Trees.{Store, named_by, entry, pointers_at, all_pointers, data_block, tree_reach}
 use Rattle.sn_ondisk.specs.TreeLaws.{SameIn}
 use Rattle.sn_ondisk.proofs.TreeLemmas.{but_holes-has, entry-level}
-use Rattle.sn_tree.specs.Dirty.{block_after, blocks_after}
-use Rattle.sn_tree.specs.Plans.{times, SameAmong, contents, Plans}
+use Rattle.sn_tree.specs.Dirty.{after, block_after, blocks_after}
+use Rattle.sn_tree.specs.Plans.{times, Holds, SameAmong, contents, PlansTo}
 use Rattle.sn_tree.specs.Drafts.{Draft}
 use Rattle.sn_tree.specs.Steps.{Planned, LeadsOutside}
 use Rattle.sn_tree.specs.Replanned.{IsReplanned, IsPlanned}
 use Rattle.sn_tree.specs.declared.new_block.NewBlock.{NewBlock}
 use Rattle.sn_tree.specs.declared.new_block.DirtyBlock.{DirtyBlock}
 use Rattle.sn_tree.proofs.CountLemmas.{times-cons, times-other, times_among, length-pointers_at}
-use Rattle.sn_tree.proofs.DirtyLemmas.{most_added-whole}
+use Rattle.sn_tree.proofs.DirtyLemmas.{after-first, named-zeros, most_added-whole}
 use Rattle.sn_tree.proofs.PlanLemmas.{length-contents}
 
 blocks_after-at : (keep base : ℕ) (ds : List DirtyBlock) (xs : List (List ℕ)) (i : ℕ) → i < length xs → get_or (blocks_after keep ds base xs) i [] ≡ block_after keep ds (base + i) (get_or xs i [])
@@ -54,25 +55,61 @@ module _ (s : Store) (tree : BlockTree) where
       ∙ ap (named_by s) (entry-level s depth tree.pointers i)
       ∙ sym (get_or-map (named_by s) (pointers_at s depth tree.pointers) i 0 [] (omega (arith, within, many)))
 
-module _ (s : Store) (old new : BlockTree) (keep : ℕ) (ds : List DirtyBlock) (added : List NewBlock) (released : List ℕ) where
-  pub replanned : levels_of new.size ≡ levels_of old.size → length old.pointers ≡ 16 → length new.pointers ≡ 16
-      → Plans s (levels_of old.size) 0 keep ds old.pointers new.pointers added released → IsReplanned s old new keep ds added released
-  replanned levels of_old of_new plan = record {
-    content = λ r same held i within.
-        let depth = levels_of old.size in
-        let inside : i < 16 * 1024 ^ depth = subst (λ (n : ℕ). i < 16 * 1024 ^ n) levels within in
-        let many : length (contents s depth old.pointers) ≡ 16 * 1024 ^ depth = length-contents s depth old.pointers ∙ ap (λ n. n * 1024 ^ depth) of_old in
-        data-at r new depth (sym levels) of_new i inside
-        ∙ ap (λ (xs : List (List ℕ)). get_or xs i []) (plan.content r (same-among s old r same) held)
-        ∙ blocks_after-at keep 0 ds (contents s depth old.pointers) i (omega (arith, inside, many))
-        ∙ ap (λ (n : ℕ). block_after keep ds n (get_or (contents s depth old.pointers) i [])) (let at : 0 + i ≡ i = omega arith in at)
-        ∙ ap (block_after keep ds i) (sym (data-at s old depth refl of_old i inside));
+  -- past them
+  pub data-past : length tree.pointers ≡ 16 → (i : ℕ) → 16 * 1024 ^ levels_of tree.size ≤ i → data_block s tree i ≡ zeros 4096
+  unfolding data_block
+  data-past count i past =
+      let depth = levels_of tree.size in
+      let many : length (pointers_at s depth tree.pointers) ≡ 16 * 1024 ^ depth = length-pointers_at s depth tree.pointers ∙ ap (λ n. n * 1024 ^ depth) count in
+      named-zeros s (entry s depth tree.pointers i) (entry-level s depth tree.pointers i ∙ get_or_past (pointers_at s depth tree.pointers) i 0 (omega (arith, past, many)))
+
+-- ---- the end of a tree
+
+none_past : (size : ℕ) (ds : List DirtyBlock) → AllByRecursion (λ (d : DirtyBlock). 4096 * d.index < size) ds → after ((size + 4095) / 4096) ds ≡ []
+unfolding after
+none_past size [] begins = refl
+none_past size (d ∷ ds) begins = let first : 4096 * d.index < size = begins.0 in after-first ((size + 4095) / 4096) d ds (omega (arith, first)) ∙ none_past size ds begins.1
+
+zeros-at : (k : ℕ) → k < 4096 → get_or (zeros 4096) k 0 ≡ 0
+unfolding zeros
+zeros-at k within = get_or-replicate 4096 k 0 0 within
+
+past_end : (size i width : ℕ) → size ≤ i * (4096 * width) → (size + 4095) / 4096 ≤ 0 + i * width
+past_end size i width far = let joined : i * (4096 * width) ≡ 4096 * (i * width) = omega arith in omega (arith, far, joined)
+
+module _ (s : Store) (old new : BlockTree) (keep : ℕ) (ds : List DirtyBlock) (was : List ℕ) (had : List (List ℕ)) (added : List NewBlock) (released : List ℕ) where
+  pub replanned : length new.pointers ≡ 16 → length had ≡ 16 * 1024 ^ levels_of new.size
+      → ((block : ℕ) → block ≢ 0 → times block was ≡ times block (all_pointers s (levels_of old.size) old.pointers))
+      → ((i : ℕ) → i < 16 * 1024 ^ levels_of new.size → get_or had i [] ≡ data_block s old i)
+      → PlansTo s was had (levels_of new.size) 0 keep ds new.pointers added released → IsReplanned s old new keep ds added released
+  replanned of_new many count is plan = record {
+    content = λ r same held i within. blocks r same held i within;
     reach = λ r same held block some.
-        let planned = plan.reach r (same-among s old r same) held block some in
-        let new_reach = times-reach r new block some ∙ ap (λ (d : ℕ). times block (all_pointers r d new.pointers)) levels in
+        let planned = plan.reach r (among r same) held block some in
+        let new_reach = times-reach r new block some in
         let old_reach = times-reach s old block some in
-        omega (arith, planned, new_reach, old_reach);
+        omega (arith, planned, new_reach, old_reach, count block some);
+    ends = λ r same held wanted. record {
+      pointers = λ level i within far.
+          entry-level r level new.pointers i
+          ∙ plan.ends r (among r same) held ((new.size + 4095) / 4096) (let low : 4096 * keep < new.size + 4096 = wanted.stays in omega (arith, low)) (none_past new.size ds wanted.begins) level i within (past_end new.size i (1024 ^ (levels_of new.size - level)) far);
+      bytes = λ i k inside far. ⊎_elim
+          (λ (within : i < 16 * 1024 ^ levels_of new.size). ap (λ (x : List ℕ). get_or x k 0) (blocks r same held i within) ∙ wanted.past i k inside far)
+          (λ (past : 16 * 1024 ^ levels_of new.size ≤ i). ap (λ (x : List ℕ). get_or x k 0) (data-past r new of_new i past) ∙ zeros-at k inside)
+          (cases_lt i (16 * 1024 ^ levels_of new.size));
+    };
   }
+    where
+      among : (r : Store) → SameIn (tree_reach s old) s r → SameAmong s r was
+      among r same block some there = same-among s old r same block some (omega (arith, there, count block some))
+
+      blocks : (r : Store) → SameIn (tree_reach s old) s r → Holds r added → (i : ℕ) → i < 16 * 1024 ^ levels_of new.size → data_block r new i ≡ block_after keep ds i (data_block s old i)
+      blocks r same held i within =
+          data-at r new (levels_of new.size) refl of_new i within
+          ∙ ap (λ (xs : List (List ℕ)). get_or xs i []) (plan.content r (among r same) held)
+          ∙ blocks_after-at keep 0 ds had i (omega (arith, within, many))
+          ∙ ap (λ (n : ℕ). block_after keep ds n (get_or had i [])) (let at : 0 + i ≡ i = omega arith in at)
+          ∙ ap (block_after keep ds i) (is i within)
 
 -- ---- a plan of a tree
 
@@ -93,5 +130,9 @@ module _ (Told : Type 0) (s : Store) (old new : BlockTree) (keep : ℕ) (ds left
     released = step.released;
     grew = step.grew;
     few = subst (λ (n : ℕ). length step.added ≤ (n + 1) * (length ds + 1)) (sym levels) (omega (arith, step.few, most_added-whole (levels_of old.size) 0 end keep ds));
-    plans = λ told. replanned s old new keep ds step.added step.released levels of_old of_new (step.plans told);
+    plans = λ told. replanned s old new keep ds (all_pointers s (levels_of old.size) old.pointers) (contents s (levels_of old.size) old.pointers) step.added step.released of_new
+        (length-contents s (levels_of old.size) old.pointers ∙ ap (λ n. n * 1024 ^ levels_of old.size) of_old ∙ ap (λ n. 16 * 1024 ^ n) (sym levels))
+        (λ block some. refl)
+        (λ i within. sym (data-at s old (levels_of old.size) refl of_old i (subst (λ (n : ℕ). i < 16 * 1024 ^ n) levels within)))
+        (subst (λ (n : ℕ). PlansTo s (all_pointers s (levels_of old.size) old.pointers) (contents s (levels_of old.size) old.pointers) n 0 keep ds new.pointers step.added step.released) (sym levels) (step.plans told));
   }

@@ -15,15 +15,15 @@ use Rattle.sn_tree.specs.Steps.{AreHoles, Planned, IsPut, IsReplaced}
 use Rattle.sn_tree.specs.declared.fault.PlanFault.{PlanFault}
 use Rattle.sn_tree.specs.declared.new_block.NewBlock.{NewBlock}
 use Rattle.sn_tree.specs.declared.new_block.DirtyBlock.{DirtyBlock}
-use Rattle.sn_tree.proofs.DirtyLemmas.{IsFrom-weaker, after-none, after-first, after-after, length-after, AreHoles-append, blocks_after-after, block_after-dirty, most_added-joined, most_added-up, most_added-one, straddled}
+use Rattle.sn_tree.proofs.DirtyLemmas.{IsFrom-weaker, after-none, after-first, after-after, after-empty, first_before, length-after, AreHoles-append, blocks_after-after, block_after-dirty, most_added-joined, most_added-up, most_added-one, straddled}
 use Rattle.sn_tree.proofs.PlanLemmas.{plan_kept, plan_holes, plan_joined, plan_written, plan_cut, plan_put, plan_dropped, plan_nothing}
 
-grown-grown : (draft : Draft) (a b : List NewBlock) (x y : List ℕ) → grown (grown draft a x) b y ≡ grown draft (a ++ b) (x ++ y)
+pub grown-grown : (draft : Draft) (a b : List NewBlock) (x y : List ℕ) → grown (grown draft a x) b y ≡ grown draft (a ++ b) (x ++ y)
 grown-grown draft a b x y =
     ap (λ (added : List NewBlock). record draft { added = added; released = (draft.released ++ x) ++ y }) (append_assoc draft.added a b)
     ∙ ap (λ (released : List ℕ). record draft { added = draft.added ++ (a ++ b); released = released }) (append_assoc draft.released x y)
 
-grown-none : (draft : Draft) → draft ≡ grown draft [] []
+pub grown-none : (draft : Draft) → draft ≡ grown draft [] []
 grown-none draft = sym (ap (λ (added : List NewBlock). record draft { added = added; released = draft.released ++ [] }) (append-nil draft.added)
     ∙ ap (λ (released : List ℕ). record draft { released = released }) (append-nil draft.released))
 
@@ -105,7 +105,8 @@ module _ (Told : Type 0) (s : Store) (keep : ℕ) where
         few = omega (arith, count);
         rest = sym left;
         cut = λ _ same. absurd (omega (arith, same, count));
-        plans = λ _. plan_written s base keep (d ∷ ds) p block some (bytes ∙ sym (block_after-dirty keep d ds (named_by s p)) ∙ ap (λ (i : ℕ). block_after keep (d ∷ ds) i (named_by s p)) here);
+        plans = λ _. plan_written s base keep (d ∷ ds) p block some (bytes ∙ sym (block_after-dirty keep d ds (named_by s p)) ∙ ap (λ (i : ℕ). block_after keep (d ∷ ds) i (named_by s p)) here)
+            (λ bound none. omega (arith, first_before bound d ds none, here));
       }
 
   -- pointers one after the other
@@ -131,6 +132,7 @@ module _ (Told : Type 0) (s : Store) (keep : ℕ) where
             (back.cut (omega (arith, cut, low)) (omega (arith, same, length-after next ds, length-after end mid, mid_length, end_length)));
         plans = λ told. plan_joined s depth base keep ds ps qs news more front.added back.added front.released back.released mid next is
             (λ olds. ap (λ (l : List DirtyBlock). blocks_after keep l next olds) front.rest ∙ blocks_after-after keep next next ds olds (omega arith))
+            (λ bound none. ap (after bound) front.rest ∙ after-empty next bound ds none)
             (front.plans told) (back.plans told);
       }
 
@@ -177,12 +179,12 @@ module _ (Told : Type 0) (s : Store) (keep : ℕ) where
     few = omega (arith, length-append step.added (block ∷ []), step.few, a_path depth base end ds news step.cut filled touched);
     rest = step.rest;
     cut = λ low same. absurd (filled (step.cut low same));
-    plans = λ told. plan_put s depth base keep ds p news step.added step.released (step.plans told) block some is;
+    plans = λ told. plan_put s depth base keep ds p news step.added step.released (step.plans told) block some filled is;
   }
 
 -- ---- what the calls of one step come to
 
-holes-list : (ps : List ℕ) → AreHoles ps → ps ≡ replicate (length ps) 0
+pub holes-list : (ps : List ℕ) → AreHoles ps → ps ≡ replicate (length ps) 0
 holes-list [] holes = refl
 holes-list (p ∷ ps) holes = ap (λ (q : ℕ). q ∷ ps) holes.0 ∙ ap (λ (qs : List ℕ). 0 ∷ qs) (holes-list ps holes.1)
 

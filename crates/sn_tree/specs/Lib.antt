@@ -5,3 +5,5 @@ pub mod Dirty
 pub mod Plans
 pub mod Steps
 pub mod Replanned
+pub mod Laws
+pub mod Fronts

@@ -1,5 +1,5 @@
 -- What planning makes of pointers and of the data blocks below them.
-use Rattle.std.specs.Prelude.{◌≡◌, ◌≢◌, ℕ, ◌+◌, ◌-◌, ◌*◌, ◌<◌, ◌&&◌, ◌==◌, if◌then◌else◌, List, length, map, nat_lt, count_by, All}
+use Rattle.std.specs.Prelude.{◌≡◌, ◌≢◌, ℕ, ◌+◌, ◌-◌, ◌*◌, ◌^◌, ◌<◌, ◌≤◌, ◌&&◌, ◌==◌, if◌then◌else◌, List, [], length, map, slice_index, nat_lt, count_by, All}
 use Rattle.sn_ondisk.specs.Trees.{Store, named_by, pointers_at, all_pointers}
 use Rattle.sn_tree.specs.Drafts.{numbers_of}
 use Rattle.sn_tree.specs.Dirty.{after, blocks_after}
@@ -22,6 +22,10 @@ SameAmong s r pointers = (block : ℕ) → block ≢ 0 → 0 < times block point
 abbrev pub contents : Store → ℕ → List ℕ → List (List ℕ)
 contents s depth pointers = map (named_by s) (pointers_at s depth pointers)
 
+-- From data block `end` on there are holes alone, on every level below these pointers, which stand so many levels above their data blocks, the first of them block `base`.
+abbrev pub EndsBefore : Store → ℕ → ℕ → ℕ → List ℕ → Type 0
+EndsBefore s depth base end pointers = (level i : ℕ) → level ≤ depth → end ≤ base + i * 1024 ^ (depth - level) → slice_index (pointers_at s level pointers) i ≡ 0
+
 -- New pointers, where these were reached and the data blocks had those bytes, the first of them block `base`: in any store that has the new blocks and agrees with the old one in what was reached.
 pub record PlansTo (s : Store) (was : List ℕ) (had : List (List ℕ)) (depth base keep : ℕ) (dirty : List DirtyBlock) (new : List ℕ) (added : List NewBlock) (released : List ℕ) : Type 0 where
   -- the data blocks below them are those that are wanted
@@ -29,6 +33,8 @@ pub record PlansTo (s : Store) (was : List ℕ) (had : List (List ℕ)) (depth b
   -- what they reach, with what is released, is what was reached with what is added, each block as often
   pub reach : (r : Store) → SameAmong s r was → Holds r added → (block : ℕ) → block ≢ 0
       → times block (all_pointers r depth new) + times block released ≡ times block was + times block (numbers_of added)
+  -- from where nothing stays and nothing is dirty on, they are holes, and so are all below them
+  pub ends : (r : Store) → SameAmong s r was → Holds r added → (end : ℕ) → keep ≤ end → after end dirty ≡ [] → EndsBefore r depth base end new
 
 -- the same in place of pointers at the same height
 abbrev pub Plans : Store → ℕ → ℕ → ℕ → List DirtyBlock → List ℕ → List ℕ → List NewBlock → List ℕ → Type 0

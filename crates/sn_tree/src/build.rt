@@ -7,10 +7,11 @@ ghost use Rattle.sn_tree.specs.Drafts.{Draft, numbers_of, grown, IsFresh};
 ghost use Rattle.sn_tree.specs.declared.fault.PlanFault.TheVariants.{Tree, Full};
 ghost use Rattle.sn_tree_read.specs.declared.fault.TreeFault.{TreeFault};
 
-use crate::{NewBlock, PlanFault};
+use crate::{DirtyBlock, NewBlock, PlanFault};
 use sn_alloc::BlockAllocator;
 use sn_layout::Block;
 use std::alloc::{AllocError, Global};
+use std::collections::VecDeque;
 use std::marker::Model;
 
 /// A tree in the making: blocks taken from the allocator with the bytes that they are to have, and
@@ -111,6 +112,13 @@ impl Build {
         ensures released { result.2.items ≡ self.released }
     {
         (self.allocator, self.added, self.released)
+    }
+
+    // No dirty block.
+    pub(crate) fn no_dirty(&self) -> VecDeque<DirtyBlock>
+        ensures { result.items ≡ [] }
+    {
+        VecDeque::new(*self.added.allocator())
     }
 
     // A block of its own with these bytes.

@@ -1,4 +1,5 @@
-//! Planning block trees: what a tree with other data blocks is made of, before anything is written.
+//! Planning block trees: what a tree with another size and other data blocks is made of, before anything
+//! is written.
 //!
 //! The model is that of `sn_ondisk`: pointers level by level, the data blocks behind the last of them,
 //! and the blocks that a tree reaches. A `Build` is seen as a `Draft` of `specs/Drafts.antt`: the words
@@ -8,14 +9,17 @@
 //! reaches, so writes elsewhere don't matter, and no old block is written: a data block is the dirty one
 //! if there is one, the old one if it stays, and else zeros (`block_after`). What the new tree reaches
 //! with what is released is what the old one reached with what was added, each block as often, so the
-//! map's bits follow from the two lists. The new blocks are at most a path for each dirty block and one
-//! path more (`most_added`).
+//! map's bits follow from the two lists. Where what is wanted ends at the new size, so does the tree: the
+//! pointers of places past it are holes, and the bytes past it zeros (`plan_laws` says when that is). The
+//! new blocks are at most a path for each dirty block and one path more (`most_added`).
 //!
-//! The way through: `plan_tree` plans the sixteen pointers by `plan_pointers`, and that each of them by
-//! `plan_pointer`, which goes down to the pointers below: a recursion over levels, so a tree of three
-//! levels is no case of its own. A pointer stays where no dirty block lies below it and all below it
-//! stays, or it is a hole. An indirect block is copied once, where a pointer in it changes, and is a hole
-//! where all of its pointers are.
+//! The way through: `plan_tree` takes the sixteen pointers at the lesser of the old and the new height
+//! (`lowered`), plans them by `plan_pointers`, and raises them to the new height (`raised`), one level
+//! after the other: the sixteen become the first pointers of an indirect block, with holes behind them.
+//! `plan_pointers` plans each pointer by `plan_pointer`, which goes down to the pointers below: a recursion
+//! over levels, so a tree of three levels is no case of its own. A pointer stays where no dirty block lies
+//! below it and all below it stays, or it is a hole. An indirect block is copied once, where a pointer in
+//! it changes, and is a hole where all of its pointers are.
 //!
 //! ```text
 //! let mut build = Build::new(alloc, allocator);
@@ -27,11 +31,15 @@
 mod build;
 mod children;
 mod fault;
+mod laws;
+mod levels;
 mod new_block;
+mod parts;
 mod plan;
 mod tree;
 
 pub use build::Build;
 pub use fault::PlanFault;
+pub use laws::plan_laws;
 pub use new_block::{DirtyBlock, NewBlock};
 pub use tree::{Dirty, plan_tree};

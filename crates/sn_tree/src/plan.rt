@@ -23,7 +23,7 @@ use sn_layout_node::{IndirectBlock, POINTERS_PER_BLOCK};
 use std::collections::VecDeque;
 
 // How many data blocks lie below a pointer that stands so many levels above them.
-fn span_of(depth: u32) -> u64
+pub(crate) fn span_of(depth: u32) -> u64
     requires { depth ≤ 3 }
     ensures value { result ≡ 1024 ^ depth }
     ensures some { 0 < result }
@@ -99,7 +99,7 @@ fn are_holes(pointers: &[u32; POINTERS_PER_BLOCK]) -> bool
 
 // The new pointer in place of one to an indirect block: that of a block of these pointers, or a hole
 // where all of them are.
-fn replace_pointers(
+pub(crate) fn replace_pointers(
     build: &mut Build,
     pointer: u32,
     pointers: &[u32; POINTERS_PER_BLOCK],

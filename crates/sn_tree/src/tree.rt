@@ -10,11 +10,12 @@ ghost use Rattle.sn_tree.specs.Steps.{IsTooFull, LeadsOutside, CountsPlan};
 ghost use Rattle.sn_tree.specs.declared.fault.PlanFault.TheVariants.{Tree};
 ghost use Rattle.sn_tree_read.specs.declared.fault.TreeFault.TheVariants.{Damaged};
 
+use crate::levels::{lowered, raised};
 use crate::plan::plan_pointers;
 use crate::{Build, DirtyBlock, PlanFault};
 use sn_block::Blocks;
 use sn_device::Device;
-use sn_layout::{BlockTree, POINTERS, Pointers};
+use sn_layout::{BlockTree, Pointers};
 use std::collections::VecDeque;
 
 /// What is to become of a tree.
@@ -29,18 +30,19 @@ pub struct Dirty {
     pub blocks: VecDeque<DirtyBlock>,
 }
 
-/// Plans a tree with other data blocks, and as many levels as before. A changed block and those on the
-/// way to it become new ones; the old ones are released and not written. After an error the build can
-/// only be given up. `Full` comes only where fewer blocks are left than a path for each dirty block and
-/// one more, and `Damaged` only where a block that the old tree reaches isn't on the device.
+/// Plans a tree with another size and other data blocks. A changed block and those on the way to it
+/// become new ones; the old ones are released and not written. Where the new size takes more levels, the
+/// old pointers become the first ones of new indirect blocks; where it takes fewer, the first pointers
+/// below are left. After an error the build can only be given up. `Full` comes only where fewer blocks are
+/// left than a path for each dirty block and one more, and `Damaged` only where a block that the old tree
+/// reaches isn't on the device.
 pub fn plan_tree<D: Device>(
     build: &mut Build,
     blocks: &mut Blocks<D>,
     tree: &BlockTree,
     dirty: Dirty,
 ) -> Result<BlockTree, PlanFault>
-    requires height { levels_of dirty.size ≡ levels_of tree.now.size }
-    requires rise { IsFrom 0 dirty.blocks.items }
+    requires { IsFrom 0 dirty.blocks.items }
     ensures size { IfOk result (λ new. new.size ≡ dirty.size) }
     ensures planned { IfOk result (λ new. IsPlanned (IsTrue D.tells_bytes) (store_of (reads (D.disk (device_of blocks.old))))
         tree.now new dirty.keep dirty.blocks.items build.old build.new) }
@@ -57,12 +59,13 @@ pub fn plan_tree<D: Device>(
         keep,
         blocks: mut changed,
     } = dirty;
-    let levels = BlockTree::levels_of(tree.size);
-    let mut pointers = [0; POINTERS];
-    pointers.copy_from_slice(tree.pointers.as_slice());
-    plan_pointers(build, blocks, &mut changed, keep, &mut pointers, levels, 0)?;
+    let levels = BlockTree::levels_of(size);
+    let least = levels.min(BlockTree::levels_of(tree.size));
+    let mut pointers = lowered(build, blocks, tree, least)?;
+    plan_pointers(build, blocks, &mut changed, keep, &mut pointers, least, 0)?;
+    let tops = raised(build, blocks, &mut changed, &pointers, least, levels)?;
     Ok(BlockTree {
         size,
-        pointers: Pointers::new(&pointers),
+        pointers: Pointers::new(&tops),
     })
 }

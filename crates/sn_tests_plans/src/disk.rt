@@ -1,0 +1,66 @@
+//! A disk in memory, on which plans are carried out.
+
+use anyhow::{Result, ensure};
+use sn_alloc::BlockAllocator;
+use sn_block::Blocks;
+use sn_device::MemDevice;
+use sn_map::Map;
+use sn_tree::Build;
+use std::alloc::{AllocError, Global};
+
+const DISK: u32 = 256;
+
+const FIRST: u32 = 70;
+
+/// The blocks of a new disk, which are zeros.
+pub fn new_blocks(alloc: Global) -> Result<Blocks<MemDevice>> {
+    let device = MemDevice::new(alloc, 8 * u64::from(DISK))?;
+    Ok(Blocks::new(alloc, device).map_err(AllocError::from)?)
+}
+
+/// A map in which nothing is taken.
+pub fn new_map(alloc: Global) -> Result<Map> {
+    Ok(Map::new(alloc, DISK)?)
+}
+
+/// A build over a map.
+pub fn new_build(alloc: Global, taken: Map) -> Result<Build> {
+    ensure!(taken.len() == DISK, "another map");
+    Ok(Build::new(alloc, BlockAllocator::new(alloc, taken, FIRST)))
+}
+
+/// Tells the blocks that a build takes and releases.
+pub fn push_build(build: &Build, text: &mut String) -> Result<()> {
+    if !text.is_empty() {
+        write!(text, " ")?;
+    }
+    write!(text, "new")?;
+    for block in build.added() {
+        let number = block.number;
+        write!(text, " {number}")?;
+    }
+    let released = build.released();
+    let left = build.left();
+    write!(text, ", released {released:?}, {left} left")?;
+    Ok(())
+}
+
+/// Writes the new blocks, and sets the map to what is reached then.
+pub fn settled(build: Build, blocks: &mut Blocks<MemDevice>) -> Result<Map> {
+    let (allocator, added, released) = build.into_parts();
+    let mut map = allocator.give_up();
+    for block in &added {
+        let number = block.number;
+        ensure!(
+            number < map.len() && 8 * u64::from(number) + 8 <= blocks.sectors(),
+            "no block {number}"
+        );
+        blocks.write_block(number, &block.bytes)?;
+        map.set_word(number, 1);
+    }
+    for number in &released {
+        ensure!(*number < map.len(), "no block {number}");
+        map.set_word(*number, 0);
+    }
+    Ok(map)
+}

@@ -1,0 +1,8 @@
+use Rattle.sn_tree.proofs.LawLemmas.{grown_end, cut_end}
+use Rattle.sn_tree.proofs.laws.plan_laws.Goals as goal
+
+pub returns-clause-grown : goal.returns-clause-grown
+returns-clause-grown c = grown_end
+
+pub returns-clause-cut : goal.returns-clause-cut
+returns-clause-cut c = cut_end
