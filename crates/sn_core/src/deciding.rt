@@ -88,7 +88,6 @@ impl PlainWorld {
         uid: Option<u32>,
         gid: Option<u32>,
     ) -> Result<Outcome<'static>, CallError>
-        requires { IsPlainWorld self.now }
         ensures { Decides (world_of self.now) session (Call.Chown path.now uid gid) result }
     {
         let caller = self.logged_in(session)?;
