@@ -1,0 +1,59 @@
+-- One block of a directory: where it is there, and what stands in it.
+use Rattle.std.proofs.Common.{◌≡◌, ◌≢◌, ℕ, ◌≤◌, true, false, List, [], ◌∷◌, length, sym, ap, subst, ◌∙◌, arith}
+use Rattle.std.proofs.lemmas.Bool.{true≢false, and_parts}
+use Rattle.sn_layout.specs.Pointers.{levels_of}
+use Rattle.sn_layout.specs.declared.tree.BlockTree.{BlockTree}
+use Rattle.sn_layout_node.specs.Directory.{Link, Spells, IsDirectoryBlock, links_bytes}
+use Rattle.sn_layout_node.proofs.Links.{length-links}
+use Rattle.sn_ondisk.specs.Trees.{Store, entry, data_block}
+use Rattle.sn_image.specs.Names.{names_in}
+use Rattle.sn_image.proofs.DecodeLemmas.{directory_read}
+use Rattle.sn_tree_read.specs.Paths.{lies_on, path_lies_on}
+use Rattle.sn_tree_read.proofs.PointerLemmas.{both_lie}
+use Rattle.sn_dir.specs.Blocks.{IsThere, CanRead}
+
+-- ---- where it is there
+
+module _ (sectors : ℕ) (s : Store) (tree : BlockTree) (i levels pointer : ℕ) (all : levels ≡ levels_of tree.size) where
+  same_path : path_lies_on sectors s (levels_of tree.size) tree.pointers i ≡ path_lies_on sectors s levels tree.pointers i
+  same_path = ap (λ (n : ℕ). path_lies_on sectors s n tree.pointers i) (sym all)
+
+  pub path_not_there : path_lies_on sectors s levels tree.pointers i ≡ false → IsThere sectors s tree i → ⊥
+  path_not_there off there =
+      let parts = and_parts (path_lies_on sectors s (levels_of tree.size) tree.pointers i) (lies_on sectors (entry s (levels_of tree.size) tree.pointers i)) there.lies in
+      true≢false (sym parts.0 ∙ same_path ∙ off)
+
+  module _ (is : pointer ≡ entry s levels tree.pointers i) where
+    last_pointer : pointer ≡ entry s (levels_of tree.size) tree.pointers i
+    last_pointer = is ∙ ap (λ (n : ℕ). entry s n tree.pointers i) all
+
+    pub hole_not_there : pointer ≡ 0 → IsThere sectors s tree i → ⊥
+    hole_not_there hole there = there.no_hole (sym last_pointer ∙ hole)
+
+    pub off_not_there : lies_on sectors pointer ≡ false → IsThere sectors s tree i → ⊥
+    off_not_there off there =
+        let parts = and_parts (path_lies_on sectors s (levels_of tree.size) tree.pointers i) (lies_on sectors (entry s (levels_of tree.size) tree.pointers i)) there.lies in
+        true≢false (sym parts.1 ∙ ap (lies_on sectors) (sym last_pointer) ∙ off)
+
+    pub is_there : path_lies_on sectors s levels tree.pointers i ≡ true → lies_on sectors pointer ≡ true → pointer ≢ 0 → IsThere sectors s tree i
+    is_there path lies some = record {
+      lies = both_lie _ _ (same_path ∙ path) (ap (lies_on sectors) (sym last_pointer) ∙ lies);
+      no_hole = λ none. some (last_pointer ∙ none);
+    }
+
+-- ---- what stands in it
+
+-- the names of a block are those that its bytes spell
+pub names_read : (bytes block : List ℕ) (names : List Link) → bytes ≡ block → Spells bytes names → names ≡ names_in block
+names_read bytes block names same spells = sym (directory_read bytes names spells) ∙ ap names_in same
+
+pub few_names : (names : List Link) → length names ≤ length (links_bytes names)
+few_names [] = omega arith
+few_names (link ∷ names) = omega (arith, length-links link names, few_names names)
+
+module _ (sectors : ℕ) (s : Store) (tree : BlockTree) (i : ℕ) (bytes : List ℕ) (same : bytes ≡ data_block s tree i) where
+  pub can_read : (names : List Link) → IsThere sectors s tree i → Spells bytes names → CanRead sectors s tree i
+  can_read names there spells = record { there = there; spelled = (names, subst (λ (b : List ℕ). Spells b names) same spells) }
+
+  pub cannot_read : (IsDirectoryBlock bytes → ⊥) → CanRead sectors s tree i → ⊥
+  cannot_read none can = none (subst (λ (b : List ℕ). IsDirectoryBlock b) (sym same) can.spelled)

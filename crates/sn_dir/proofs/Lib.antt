@@ -1,0 +1,4 @@
+mod BlockLemmas
+mod ListedLemmas
+mod NameLemmas
+mod ReadingLemmas

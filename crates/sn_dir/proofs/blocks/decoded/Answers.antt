@@ -1,0 +1,5 @@
+use Rattle.std.proofs.Common.{refl}
+use Rattle.sn_dir.proofs.blocks.decoded.Goals as goal
+
+pub returns-in-None-clause-damaged : goal.returns-in-None-clause-damaged
+returns-in-None-clause-damaged c = (refl, λ spelled. cc (c.in-None.ensures.only spelled.0 spelled.1))

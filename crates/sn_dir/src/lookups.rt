@@ -1,0 +1,130 @@
+//! The number under a name, and how many names there are.
+ghost use Rattle.std.specs.Prelude.{[], ◌≡◌, ◌==◌, ◌≤◌, ⊤, None, Err, length, IsTrue, IfOk, OnOk};
+ghost use Rattle.sn_device.specs.Disk.{reads};
+ghost use Rattle.sn_block.specs.Lending.{device_of};
+ghost use Rattle.sn_layout_node.specs.Directory.{number_of};
+ghost use Rattle.sn_layout_node.specs.declared.content.Content.TheVariants.{Tree};
+ghost use Rattle.sn_ondisk.specs.Trees.{store_of, data_block};
+ghost use Rattle.sn_image.specs.Names.{names_in, names_of};
+ghost use Rattle.sn_tree_read.specs.Counts.{CountsTree};
+ghost use Rattle.sn_tree_read.specs.declared.fault.TreeFault.TheVariants.{Damaged};
+ghost use Rattle.sn_dir.specs.Blocks.{CanRead, IsDamaged};
+
+use crate::blocks::{block_count, decoded, fetch_block};
+use sn_block::Blocks;
+use sn_device::Device;
+use sn_layout::BlockTree;
+use sn_tree_read::TreeFault;
+
+// The number under a name in one block of a directory.
+fn find_in<D: Device>(
+    blocks: &mut Blocks<D>,
+    tree: &BlockTree,
+    i: u64,
+    name: &[u8],
+) -> Result<Option<u16>, TreeFault>
+    ensures number { IsTrue D.tells_bytes → IfOk result (λ number. number
+        ≡ number_of name.now (names_in (data_block (store_of (reads (D.disk (device_of blocks.old)))) tree.now i))) }
+    ensures read { IsTrue D.tells_bytes → OnOk result (CanRead (D.status (device_of blocks.old)).sectors
+        (store_of (reads (D.disk (device_of blocks.old)))) tree.now i) }
+    ensures damaged { IsTrue D.tells_bytes → result ≡ Err Damaged
+        → CanRead (D.status (device_of blocks.old)).sectors
+        (store_of (reads (D.disk (device_of blocks.old)))) tree.now i → ⊥ }
+    ensures same { IsTrue D.tells_bytes → D.disk (device_of blocks.new) ≡ D.disk (device_of blocks.old) }
+    ensures counts { CountsTree result (D.status (device_of blocks.old)) (D.status (device_of blocks.new)) }
+{
+    fetch_block(blocks, tree, i)?;
+    let names = decoded(blocks.fetched())?;
+    Ok(names.find(name))
+}
+
+// How many names there are in one block of a directory.
+fn count_in<D: Device>(blocks: &mut Blocks<D>, tree: &BlockTree, i: u64) -> Result<u64, TreeFault>
+    ensures count { IsTrue D.tells_bytes → IfOk result (λ count. count
+        ≡ length (names_in (data_block (store_of (reads (D.disk (device_of blocks.old)))) tree.now i))) }
+    ensures few { IfOk result (λ count. count ≤ 4096) }
+    ensures read { IsTrue D.tells_bytes → OnOk result (CanRead (D.status (device_of blocks.old)).sectors
+        (store_of (reads (D.disk (device_of blocks.old)))) tree.now i) }
+    ensures damaged { IsTrue D.tells_bytes → result ≡ Err Damaged
+        → CanRead (D.status (device_of blocks.old)).sectors
+        (store_of (reads (D.disk (device_of blocks.old)))) tree.now i → ⊥ }
+    ensures same { IsTrue D.tells_bytes → D.disk (device_of blocks.new) ≡ D.disk (device_of blocks.old) }
+    ensures counts { CountsTree result (D.status (device_of blocks.old)) (D.status (device_of blocks.new)) }
+{
+    fetch_block(blocks, tree, i)?;
+    let names = decoded(blocks.fetched())?;
+    Ok(names.len() as u64)
+}
+
+/// The number under a name of a directory. The blocks are read in turn, up to the one that has the name,
+/// and `Damaged` comes exactly where one that is read so isn't on the device, is a hole, or doesn't spell
+/// names. Where a name stands twice, the first one counts.
+pub fn lookup<D: Device>(
+    blocks: &mut Blocks<D>,
+    tree: &BlockTree,
+    name: &[u8],
+) -> Result<Option<u16>, TreeFault>
+    ensures number { IsTrue D.tells_bytes → IfOk result (λ number. number
+        ≡ number_of name.now (names_of (store_of (reads (D.disk (device_of blocks.old)))) (Tree tree.now))) }
+    ensures whole { IsTrue D.tells_bytes → OnOk result (IsDamaged (λ names. number_of name.now names ≡ None)
+        (D.status (device_of blocks.old)).sectors
+        (store_of (reads (D.disk (device_of blocks.old)))) tree.now → ⊥) }
+    ensures damaged { IsTrue D.tells_bytes → result ≡ Err Damaged
+        → IsDamaged (λ names. number_of name.now names ≡ None) (D.status (device_of blocks.old)).sectors
+        (store_of (reads (D.disk (device_of blocks.old)))) tree.now }
+    ensures same { IsTrue D.tells_bytes → D.disk (device_of blocks.new) ≡ D.disk (device_of blocks.old) }
+    ensures counts { CountsTree result (D.status (device_of blocks.old)) (D.status (device_of blocks.new)) }
+{
+    for i in 0..block_count(tree) {
+        let found = find_in(blocks, tree, i, name)?;
+        if found.is_some() {
+            return Ok(found);
+        }
+    }
+    Ok(None)
+}
+
+/// How many names a directory has. All its blocks are read, and `Damaged` comes exactly where one of them
+/// isn't on the device, is a hole, or doesn't spell names.
+pub fn count<D: Device>(blocks: &mut Blocks<D>, tree: &BlockTree) -> Result<u64, TreeFault>
+    ensures count { IsTrue D.tells_bytes → IfOk result (λ count. count
+        ≡ length (names_of (store_of (reads (D.disk (device_of blocks.old)))) (Tree tree.now))) }
+    ensures whole { IsTrue D.tells_bytes → OnOk result (IsDamaged (λ names. ⊤)
+        (D.status (device_of blocks.old)).sectors
+        (store_of (reads (D.disk (device_of blocks.old)))) tree.now → ⊥) }
+    ensures damaged { IsTrue D.tells_bytes → result ≡ Err Damaged
+        → IsDamaged (λ names. ⊤) (D.status (device_of blocks.old)).sectors
+        (store_of (reads (D.disk (device_of blocks.old)))) tree.now }
+    ensures same { IsTrue D.tells_bytes → D.disk (device_of blocks.new) ≡ D.disk (device_of blocks.old) }
+    ensures counts { CountsTree result (D.status (device_of blocks.old)) (D.status (device_of blocks.new)) }
+{
+    let mut count = 0;
+    for i in 0..block_count(tree) {
+        let names = count_in(blocks, tree, i)?;
+        count += names;
+    }
+    Ok(count)
+}
+
+/// Whether a directory has no names. The blocks are read in turn, up to the first that has one, and
+/// `Damaged` comes exactly where one that is read so isn't on the device, is a hole, or doesn't spell names.
+pub fn is_empty<D: Device>(blocks: &mut Blocks<D>, tree: &BlockTree) -> Result<bool, TreeFault>
+    ensures none { IsTrue D.tells_bytes → IfOk result (λ is_empty. is_empty
+        ≡ (length (names_of (store_of (reads (D.disk (device_of blocks.old)))) (Tree tree.now)) == 0)) }
+    ensures whole { IsTrue D.tells_bytes → OnOk result (IsDamaged (λ names. names ≡ [])
+        (D.status (device_of blocks.old)).sectors
+        (store_of (reads (D.disk (device_of blocks.old)))) tree.now → ⊥) }
+    ensures damaged { IsTrue D.tells_bytes → result ≡ Err Damaged
+        → IsDamaged (λ names. names ≡ []) (D.status (device_of blocks.old)).sectors
+        (store_of (reads (D.disk (device_of blocks.old)))) tree.now }
+    ensures same { IsTrue D.tells_bytes → D.disk (device_of blocks.new) ≡ D.disk (device_of blocks.old) }
+    ensures counts { CountsTree result (D.status (device_of blocks.old)) (D.status (device_of blocks.new)) }
+{
+    for i in 0..block_count(tree) {
+        let names = count_in(blocks, tree, i)?;
+        if names > 0 {
+            return Ok(false);
+        }
+    }
+    Ok(true)
+}
