@@ -100,7 +100,8 @@ honest() {
         }' "$work/whole" "$work/out"
 }
 
-# each_refused COMMAND..: runs it with each allocation refused in turn, in the current folder; `honest` judges
+# each_refused COMMAND..: runs it with each allocation refused in turn, or each `step`th; `judge` judges
+step=1
 each_refused() {
     local at=1 answered=0 ended=0 status
     while :; do
@@ -113,9 +114,9 @@ each_refused() {
             exit 1
         fi
         if [ "$status" = 0 ]; then answered=$((answered + 1)); else ended=$((ended + 1)); fi
-        at=$((at + 1))
+        at=$((at + step))
     done
-    echo "${1##*/}: $((at - 1)) allocations refused in turn: $answered runs went on, $ended ended for memory"
+    echo "${1##*/}: $((answered + ended)) allocations refused in turn: $answered runs went on, $ended ended for memory"
 }
 
 # tested STATUS: whether what a test program printed is such as it may be
@@ -135,13 +136,17 @@ judge=honest
 each_refused "$program" run none "$work/script"
 
 judge=tested
-for crate in sn_tests sn_tests_disk sn_tests_block sn_tests_layout sn_tests_log sn_tests_overlay sn_tests_run sn_tests_root; do
+for crate in sn_tests sn_tests_disk sn_tests_block sn_tests_layout sn_tests_log sn_tests_overlay sn_tests_root; do
+    # The tests of roots have over 60,000 allocations, nearly all of them in devices that are made anew.
+    step=1
+    if [ "$crate" = sn_tests_root ]; then step=61; fi
     folder=$top/crates/$crate
     (cd "$folder" && rt run -- data > "$work/log" 2>&1) || { tail -n 20 "$work/log"; exit 1; }
     "$folder/out/$crate" "$folder/data" > "$work/whole"
     each_refused "$folder/out/$crate" "$folder/data"
 done
 
+step=1
 folder=$top/crates/sn_tests_changes
 (cd "$folder" && rt run -- 1 40 > "$work/log" 2>&1) || { tail -n 20 "$work/log"; exit 1; }
 "$folder/out/sn_tests_changes" 1 40 > "$work/whole"
