@@ -21,6 +21,7 @@ What isn't compared, since it is this project's own rule:
 - arguments that the kernel knows no limit of: a mode of chmod is at most 03777 here, one of mkdir and a umask at most
   0777, an ACL has its entries in one order, and a path has at most 1,023 bytes of printable ASCII. They are `EINVAL`
   or `ENAMETOOLONG` before any walk, and so are they here;
+- a chown that keeps user and group is for the owner and user 0 here, and for anybody there;
 - `/.snapshot`, a full log, and memory: scripts that come to these differ.
 """
 
@@ -126,6 +127,9 @@ class Kernel:
 
     def chmod(self, path, mode):
         os.chmod(path, mode_of(mode, 0o3777))
+
+    def chown(self, path, user, group):
+        os.chown(path, *(int(it) if it != "-" else -1 for it in (user, group)))
 
     def stat(self, path):
         it = os.stat(path)
@@ -305,8 +309,10 @@ class Drawn:
         path, draw = self.path(), self.random.random()
         if draw < 0.3:
             return f"mkdir {path} {self.mode(0o777)}"
-        if draw < 0.4:
+        if draw < 0.38:
             return f"chmod {path} {self.mode(0o3777)}"
+        if draw < 0.45:
+            return f"chown {path} {self.random.choice(('-', *self.USERS))} {self.random.choice(self.GROUPS)}"
         if draw < 0.55:
             kind = self.random.choice("ad")
             return f"setacl {path} {kind} {self.acl() if kind == 'a' or self.random.random() < 0.8 else '-'}"
