@@ -17,7 +17,10 @@ const MISSPELLINGS: [(Misspelling, &str); 18] = [
     (Misspelling::Sequence, "another sequence"),
     (Misspelling::NoPayload, "a payload of no bytes"),
     (Misspelling::LongPayload, "a payload that is too long"),
-    (Misspelling::NoRoom, "a payload that the half has no room for"),
+    (
+        Misspelling::NoRoom,
+        "a payload that the half has no room for",
+    ),
     (Misspelling::Padding, "no zeros behind the payload"),
     (Misspelling::UnknownChange, "an unknown change"),
     (Misspelling::CutOff, "a field that is cut off"),
@@ -36,36 +39,132 @@ const MISSPELLINGS: [(Misspelling, &str); 18] = [
 
 /// What keeps a record from being applied.
 const OBSTACLES: [(ChangeKind, Obstacle, &str); 30] = [
-    (ChangeKind::Make, Obstacle::ReservedNumber, "make: a reserved number"),
-    (ChangeKind::Make, Obstacle::TakenNumber, "make: a taken number"),
-    (ChangeKind::Make, Obstacle::NoDirectory, "make: no directory"),
-    (ChangeKind::Make, Obstacle::FileAsDirectory, "make: a file as the directory"),
-    (ChangeKind::Make, Obstacle::HiddenName, "make: the hidden name"),
+    (
+        ChangeKind::Make,
+        Obstacle::ReservedNumber,
+        "make: a reserved number",
+    ),
+    (
+        ChangeKind::Make,
+        Obstacle::TakenNumber,
+        "make: a taken number",
+    ),
+    (
+        ChangeKind::Make,
+        Obstacle::NoDirectory,
+        "make: no directory",
+    ),
+    (
+        ChangeKind::Make,
+        Obstacle::FileAsDirectory,
+        "make: a file as the directory",
+    ),
+    (
+        ChangeKind::Make,
+        Obstacle::HiddenName,
+        "make: the hidden name",
+    ),
     (ChangeKind::Make, Obstacle::TakenName, "make: a taken name"),
-    (ChangeKind::Make, Obstacle::DefaultAcl, "make: a default ACL of a file"),
+    (
+        ChangeKind::Make,
+        Obstacle::DefaultAcl,
+        "make: a default ACL of a file",
+    ),
     (ChangeKind::AddLink, Obstacle::NoFile, "link: no file"),
-    (ChangeKind::AddLink, Obstacle::DirectoryAsFile, "link: a directory as the file"),
-    (ChangeKind::AddLink, Obstacle::NoDirectory, "link: no directory"),
-    (ChangeKind::AddLink, Obstacle::FileAsDirectory, "link: a file as the directory"),
-    (ChangeKind::AddLink, Obstacle::HiddenName, "link: the hidden name"),
-    (ChangeKind::AddLink, Obstacle::TakenName, "link: a taken name"),
+    (
+        ChangeKind::AddLink,
+        Obstacle::DirectoryAsFile,
+        "link: a directory as the file",
+    ),
+    (
+        ChangeKind::AddLink,
+        Obstacle::NoDirectory,
+        "link: no directory",
+    ),
+    (
+        ChangeKind::AddLink,
+        Obstacle::FileAsDirectory,
+        "link: a file as the directory",
+    ),
+    (
+        ChangeKind::AddLink,
+        Obstacle::HiddenName,
+        "link: the hidden name",
+    ),
+    (
+        ChangeKind::AddLink,
+        Obstacle::TakenName,
+        "link: a taken name",
+    ),
     (ChangeKind::Remove, Obstacle::NoName, "remove: no such name"),
-    (ChangeKind::Remove, Obstacle::NotEmpty, "remove: a directory with names"),
+    (
+        ChangeKind::Remove,
+        Obstacle::NotEmpty,
+        "remove: a directory with names",
+    ),
     (ChangeKind::Rename, Obstacle::NoName, "rename: no such name"),
-    (ChangeKind::Rename, Obstacle::NoDirectory, "rename: no directory"),
-    (ChangeKind::Rename, Obstacle::FileAsDirectory, "rename: a file as the directory"),
-    (ChangeKind::Rename, Obstacle::HiddenName, "rename: the hidden name"),
-    (ChangeKind::Rename, Obstacle::BelowItself, "rename: a directory below itself"),
-    (ChangeKind::Rename, Obstacle::OtherKind, "rename: over another kind"),
-    (ChangeKind::Rename, Obstacle::NotEmpty, "rename: over a directory with names"),
+    (
+        ChangeKind::Rename,
+        Obstacle::NoDirectory,
+        "rename: no directory",
+    ),
+    (
+        ChangeKind::Rename,
+        Obstacle::FileAsDirectory,
+        "rename: a file as the directory",
+    ),
+    (
+        ChangeKind::Rename,
+        Obstacle::HiddenName,
+        "rename: the hidden name",
+    ),
+    (
+        ChangeKind::Rename,
+        Obstacle::BelowItself,
+        "rename: a directory below itself",
+    ),
+    (
+        ChangeKind::Rename,
+        Obstacle::OtherKind,
+        "rename: over another kind",
+    ),
+    (
+        ChangeKind::Rename,
+        Obstacle::NotEmpty,
+        "rename: over a directory with names",
+    ),
     (ChangeKind::Write, Obstacle::NoFile, "write: no file"),
-    (ChangeKind::Write, Obstacle::DirectoryAsFile, "write: a directory"),
-    (ChangeKind::Write, Obstacle::TooLarge, "write: past the largest file"),
+    (
+        ChangeKind::Write,
+        Obstacle::DirectoryAsFile,
+        "write: a directory",
+    ),
+    (
+        ChangeKind::Write,
+        Obstacle::TooLarge,
+        "write: past the largest file",
+    ),
     (ChangeKind::SetSize, Obstacle::NoFile, "set size: no file"),
-    (ChangeKind::SetSize, Obstacle::DirectoryAsFile, "set size: a directory"),
-    (ChangeKind::SetSize, Obstacle::TooLarge, "set size: past the largest file"),
-    (ChangeKind::SetAttributes, Obstacle::NoNode, "set attributes: no node"),
-    (ChangeKind::SetAttributes, Obstacle::DefaultAcl, "set attributes: a default ACL of a file"),
+    (
+        ChangeKind::SetSize,
+        Obstacle::DirectoryAsFile,
+        "set size: a directory",
+    ),
+    (
+        ChangeKind::SetSize,
+        Obstacle::TooLarge,
+        "set size: past the largest file",
+    ),
+    (
+        ChangeKind::SetAttributes,
+        Obstacle::NoNode,
+        "set attributes: no node",
+    ),
+    (
+        ChangeKind::SetAttributes,
+        Obstacle::DefaultAcl,
+        "set attributes: a default ACL of a file",
+    ),
 ];
 
 /// The changes of records that were applied.
@@ -81,8 +180,11 @@ const KINDS: [(ChangeKind, &str); 7] = [
 
 /// Where the tallies of a table begin, one for each of its lines.
 const MISSPELT_AT: usize = 3;
+
 const OBSTRUCTED_AT: usize = 21;
+
 const APPLIED_AT: usize = 51;
+
 const TALLIES: usize = 58;
 
 /// A tally for each line of the tables.

@@ -40,7 +40,7 @@ pub fn name(random: &mut Pcg32) -> &'static str {
     if is_odd(random) {
         return MISSPELT[below(random, 6) as usize];
     }
-    if is_odd(random) {
+    if is_once_in(random, 12) {
         return ".snapshot";
     }
     plain_name(random)
@@ -51,7 +51,7 @@ pub fn number(random: &mut Pcg32) -> u16 {
     match below(random, 24) {
         0 => below(random, 3) as u16,
         1 => u16::MAX - below(random, 2) as u16,
-        _ => 3 + below(random, 12) as u16,
+        _ => 3 + below(random, 9) as u16,
     }
 }
 

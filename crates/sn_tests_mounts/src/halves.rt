@@ -4,7 +4,7 @@ use crate::calls;
 use crate::counts::Counts;
 use crate::drawing::{below, is_once_in};
 use crate::payloads::payloads;
-use crate::records::{change_list, fill_up, lay};
+use crate::records::{change_list, lay_list};
 use crate::sectors::{EPOCH, FIRST_BLOCK, change_some, draw, half_of};
 use crate::trees::{is_made, is_tree};
 use anyhow::Result;
@@ -63,10 +63,7 @@ fn draw_half(
             if is_once_in(random, 2) {
                 change_list(alloc, &mut list, random)?;
             }
-            if is_once_in(random, 48) {
-                fill_up(alloc, &mut list)?;
-            }
-            lay(alloc, device, list.as_slice(), random)?;
+            lay_list(alloc, device, &mut list, random)?;
         }
     }
     if is_once_in(random, 2) {

@@ -39,7 +39,9 @@ fn push_object(text: &mut String, tag: Tag, rights: u16) -> Result<()> {
 /// Those entries of a list that are of users, or those that aren't.
 fn push_entries(text: &mut String, list: &[u8], is_user: bool) -> Result<()> {
     for bytes in list.chunks_exact(ENTRY_SIZE) {
-        if let Ok(entry) = Entry::read(bytes) && (entry.tag == Tag::User) == is_user {
+        if let Ok(entry) = Entry::read(bytes)
+            && (entry.tag == Tag::User) == is_user
+        {
             push_entry(text, &entry)?;
         }
     }
@@ -77,7 +79,9 @@ pub fn default_line(alloc: Global, node: &Node<'_>) -> Result<String> {
 fn mode(attributes: &Attributes<'_>) -> u16 {
     let mut group = attributes.rights / 8 % 8;
     for bytes in attributes.access.chunks_exact(ENTRY_SIZE) {
-        if let Ok(entry) = Entry::read(bytes) && entry.tag == Tag::Mask {
+        if let Ok(entry) = Entry::read(bytes)
+            && entry.tag == Tag::Mask
+        {
             group = u16::from(entry.rights % 8);
         }
     }
@@ -87,7 +91,7 @@ fn mode(attributes: &Attributes<'_>) -> u16 {
         2 => 0o1000,
         _ => 0o3000,
     };
-    special + attributes.rights / 64 % 8 * 64 + group * 8 + attributes.rights % 8
+    special + attributes.rights / 64 % 8 * 64 + group % 8 * 8 + attributes.rights % 8
 }
 
 /// What stat answers.

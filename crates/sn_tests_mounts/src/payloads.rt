@@ -3,7 +3,7 @@
 use crate::drawing::{below, directory, is_odd, is_once_in, name, number, offset};
 use crate::entries::{access_acl, default_acl};
 use rand_pcg::Pcg32;
-use sn_reading::{Change, Tree};
+use sn_reading::{Change, Obstacle, Tree};
 use std::alloc::{AllocError, Global};
 
 /// How many payloads are drawn for a half.
@@ -26,11 +26,7 @@ impl Spelling {
         self.put(name.as_bytes())
     }
 
-    fn put_entries(
-        &mut self,
-        random: &mut Pcg32,
-        entries: &[(u8, u32)],
-    ) -> Result<(), AllocError> {
+    fn put_entries(&mut self, random: &mut Pcg32, entries: &[(u8, u32)]) -> Result<(), AllocError> {
         for (tag, number) in entries {
             let rights = if is_once_in(random, 400) {
                 8
@@ -135,7 +131,7 @@ impl Spelling {
 pub fn payload(alloc: Global, random: &mut Pcg32) -> Result<Vec<u8>, AllocError> {
     let kind = match below(random, 128) {
         0 => 0,
-        1..=56 => 1,
+        1..=48 => 1,
         at => 2 + at % 6,
     };
     let mut spelling = Spelling {
@@ -147,6 +143,23 @@ pub fn payload(alloc: Global, random: &mut Pcg32) -> Result<Vec<u8>, AllocError>
     Ok(bytes)
 }
 
+/// Whether a payload that can't be applied is kept, one for a common cause more seldom than another.
+fn is_kept_anyhow(random: &mut Pcg32, obstacle: Obstacle) -> bool {
+    match obstacle {
+        Obstacle::NoDirectory
+        | Obstacle::TakenNumber
+        | Obstacle::NoFile
+        | Obstacle::NoName
+        | Obstacle::NoNode => is_once_in(random, 120),
+        Obstacle::ReservedNumber
+        | Obstacle::FileAsDirectory
+        | Obstacle::DirectoryAsFile
+        | Obstacle::TakenName
+        | Obstacle::DefaultAcl => is_once_in(random, 12),
+        _ => is_once_in(random, 2),
+    }
+}
+
 /// Whether a payload goes behind those that have made a tree: where it can be applied, which is done then,
 /// and else now and then.
 fn is_kept<'a>(
@@ -154,14 +167,14 @@ fn is_kept<'a>(
     tree: &mut Tree<'a>,
     payload: &'a [u8],
 ) -> Result<bool, AllocError> {
-    match Change::read(payload) {
-        Ok(change) if tree.test(&change).is_ok() => {
-            tree.apply(&change)?;
-            Ok(true)
-        }
-        Ok(_) => Ok(is_once_in(random, 60)),
-        Err(_) => Ok(is_once_in(random, 6)),
+    let Ok(change) = Change::read(payload) else {
+        return Ok(is_once_in(random, 16));
+    };
+    if let Err(obstacle) = tree.test(&change) {
+        return Ok(is_kept_anyhow(random, obstacle));
     }
+    tree.apply(&change)?;
+    Ok(true)
 }
 
 /// Payloads that can be applied one after the other, but for a few.

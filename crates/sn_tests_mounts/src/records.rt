@@ -78,12 +78,28 @@ pub fn change_list(alloc: Global, list: &mut Vec<Vec<u8>>, random: &mut Pcg32) -
     Ok(())
 }
 
-/// Sets the attributes of the root directory over and over, more often than the half has room for.
-pub fn fill_up(alloc: Global, list: &mut Vec<Vec<u8>>) -> Result<()> {
+/// Sets the attributes of the root directory over and over, more often than the half has room for, and
+/// answers which of the records gets an odd head: one in the second part of the half.
+fn fill_up(alloc: Global, list: &mut Vec<Vec<u8>>, random: &mut Pcg32) -> Result<usize> {
     for _ in 0..PLACES / 2 {
         list.push(Vec::from_slice(alloc, &ROOT)?)?;
     }
-    Ok(())
+    Ok(64 + below(random, 64) as usize)
+}
+
+/// Lays a list of payloads, which now and then is filled up.
+pub fn lay_list(
+    alloc: Global,
+    device: &mut MemDevice,
+    list: &mut Vec<Vec<u8>>,
+    random: &mut Pcg32,
+) -> Result<()> {
+    let odd = if is_once_in(random, 24) {
+        fill_up(alloc, list, random)?
+    } else {
+        one_of(random, list.len().saturating_mul(3))
+    };
+    lay(alloc, device, list.as_slice(), odd, random)
 }
 
 /// Changes one field of a head.
@@ -91,7 +107,7 @@ fn change_head(head: &mut Head, random: &mut Pcg32) {
     match below(random, 4) {
         0 => head.epoch = u64::from(below(random, 4)),
         1 => head.sequence = below(random, 8),
-        2 => head.size = below(random, 70_000),
+        2 => head.size = 30_000 + below(random, 40_000),
         _ => head.size = below(random, 40),
     }
 }
@@ -124,15 +140,15 @@ fn put_body(device: &mut MemDevice, place: u64, body: &[u8]) -> Result<u64> {
     Ok(place.saturating_add(1))
 }
 
-/// Lays the payloads as records from the first place on, now and then one with a head that isn't its own.
-/// Behind them stands a closed gate, or now and then what stood there.
-pub fn lay(
+/// Lays the payloads as records from the first place on, one of them, where there is one at `odd`, with a head
+/// that isn't its own. Behind them stands a closed gate, or now and then what stood there.
+fn lay(
     alloc: Global,
     device: &mut MemDevice,
     payloads: &[Vec<u8>],
+    odd: usize,
     random: &mut Pcg32,
 ) -> Result<()> {
-    let odd = below(random, 64) as usize;
     let mut place = 0;
     for (at, payload) in payloads.iter().enumerate() {
         let mut head = Head {

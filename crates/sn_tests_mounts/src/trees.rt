@@ -130,9 +130,17 @@ fn free_number(tree: &Tree<'_>) -> Option<u16> {
     (3..u16::MAX).find(|number| tree.name_for(*number).is_none())
 }
 
-/// Whether a directory is made behind the records, and gets that number: files without names have gone.
+/// Whether a directory is made behind the records, and gets that number: files without names have gone. One
+/// of an earlier half may be there.
 pub fn is_made(alloc: Global, mounted: &mut Mounted, reading: &Reading<'_>) -> Result<bool> {
     let call = mkdir(alloc, "/new", 0o700)?;
+    let link = Link {
+        directory: 2,
+        name: "new".as_bytes(),
+    };
+    if reading.tree.object(&link).is_some() {
+        return is_told(alloc, mounted, &call, "err EEXIST\n");
+    }
     if reading.place > LAST_GATE {
         return is_told(alloc, mounted, &call, "err ENOSPC\n");
     }
