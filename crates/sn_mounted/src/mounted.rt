@@ -1,0 +1,77 @@
+//! A mounted file system, and its device.
+
+use crate::asking::line_of;
+use anyhow::{Context, Result, bail};
+use sn_device::MemDevice;
+use sn_fs::{Fs, Unmounted, mount};
+use sn_model::{Call, Event, Reply};
+use sn_script::read_script;
+use std::alloc::Global;
+use std::marker::Model;
+
+/// The sectors of the disk.
+const SECTORS: u64 = 2048;
+
+/// A mounted file system.
+#[derive(Drop)]
+pub struct Mounted {
+    fs: Fs<MemDevice>,
+}
+
+impl Model for Mounted {
+    ghost use Rattle.sn_fs.specs.Filesystem.{IsFs};
+
+    ghost Value = { Unit {0} };
+
+    ghost view = { λ m. tt };
+
+    ghost invariant = { λ m. IsFs m.fs };
+}
+
+impl Mounted {
+    /// Mounts a device, or says why not.
+    pub fn new(alloc: Global, device: MemDevice) -> Result<Mounted, Unmounted<MemDevice>> {
+        match mount(alloc, device) {
+            Ok(fs) => Ok(Mounted { fs }),
+            Err(unmounted) => Err(unmounted),
+        }
+    }
+
+    pub fn call(&mut self, session: u32, call: &Call) -> Reply {
+        self.fs.call(session, call)
+    }
+
+    /// The line of the reply to a call of session 0.
+    pub fn told(&mut self, alloc: Global, call: &Call) -> Result<String> {
+        let reply = self.call(0, call);
+        line_of(alloc, &reply)
+    }
+
+    /// The reply to the call of a script's line.
+    pub fn asked(&mut self, alloc: Global, line: &str) -> Result<Reply> {
+        let script = format!(in alloc; "{line}\n")?;
+        let mut events = read_script(alloc, script.as_str().as_bytes())?;
+        match events.pop().context("one event")? {
+            Event::Call { session, call } => Ok(self.call(session, &call)),
+            _ => bail!("no call: {line}"),
+        }
+    }
+
+    pub fn into_device(self) -> MemDevice {
+        let Mounted { fs } = self;
+        fs.into_device()
+    }
+}
+
+/// A disk of zeros.
+pub fn new_device(alloc: Global) -> Result<MemDevice> {
+    Ok(MemDevice::new(alloc, SECTORS)?)
+}
+
+/// Mounts a device that has no fault, and whose log is one.
+pub fn remounted(alloc: Global, device: MemDevice) -> Result<Mounted> {
+    match Mounted::new(alloc, device) {
+        Ok(mounted) => Ok(mounted),
+        Err(_) => bail!("no mount where there is no fault"),
+    }
+}

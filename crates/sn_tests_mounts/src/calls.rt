@@ -1,0 +1,65 @@
+//! Records that real calls leave.
+
+use crate::drawing::{below, is_once_in, plain_name};
+use crate::sectors::{EPOCH, half_of};
+use anyhow::Result;
+use rand_pcg::Pcg32;
+use sn_mounted::{login, new_device, remounted};
+use sn_reading::Records;
+use std::alloc::Global;
+
+/// ACLs of objects, and default ACLs of directories.
+const ACLS: [&str; 4] = [
+    "u::rwx,g::r-x,o::---",
+    "u::rw-,g::r--,m::rwx,o::r--",
+    "u::rwx,u:7:r--,u:1001:rwx,g::r-x,g:50:-w-,m::r-x,o::--x",
+    "u::---,g::rwx,g:0:r-x,m::---,o::rwx",
+];
+
+/// A path of one to three names.
+fn path(alloc: Global, random: &mut Pcg32) -> Result<String> {
+    let mut path = String::new(alloc);
+    for _ in 0..1 + below(random, 3) {
+        path.push_str("/")?;
+        path.push_str(plain_name(random))?;
+    }
+    Ok(path)
+}
+
+/// A line of a script that changes the tree where it isn't refused.
+fn line(alloc: Global, random: &mut Pcg32) -> Result<String> {
+    let path = path(alloc, random)?;
+    let acl = ACLS[below(random, 4) as usize];
+    Ok(match below(random, 8) {
+        0 => {
+            let mode = below(random, 0o4000);
+            format!(in alloc; "0 chmod {path} {mode:04o}")?
+        }
+        1 => format!(in alloc; "0 setacl {path} a {acl}")?,
+        2 => format!(in alloc; "0 setacl {path} d {acl}")?,
+        3 if is_once_in(random, 4) => format!(in alloc; "0 setacl {path} d -")?,
+        _ => {
+            let mode = below(random, 0o1000);
+            format!(in alloc; "0 mkdir {path} {mode:04o}")?
+        }
+    })
+}
+
+/// The payloads of a log of drawn calls. Some calls are refused, and leave none.
+pub fn payloads(alloc: Global, random: &mut Pcg32) -> Result<Vec<Vec<u8>>> {
+    let mut mounted = remounted(alloc, new_device(alloc)?)?;
+    mounted.call(0, &login(alloc)?);
+    for _ in 0..below(random, 24) {
+        let line = line(alloc, random)?;
+        mounted.asked(alloc, line.as_str())?;
+    }
+    let half = half_of(alloc, &mounted.into_device())?;
+    let mut records = Records::new(half.as_slice(), EPOCH);
+    let mut payloads = Vec::new(alloc);
+    for _ in 0..24 {
+        if let Ok(payload) = records.read_next() {
+            payloads.push(Vec::from_slice(alloc, payload)?)?;
+        }
+    }
+    Ok(payloads)
+}

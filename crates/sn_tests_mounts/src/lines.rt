@@ -1,0 +1,107 @@
+//! What calls answer of a node, as lines.
+
+use anyhow::Result;
+use sn_reading::{Attributes, Entry, Kind, Node, Tag, Tree};
+use std::alloc::Global;
+
+/// The bytes of an entry.
+const ENTRY_SIZE: usize = 8;
+
+const RIGHTS: [&str; 8] = ["---", "--x", "-w-", "-wx", "r--", "r-x", "rw-", "rwx"];
+
+fn push_entry(text: &mut String, entry: &Entry) -> Result<()> {
+    if !text.is_empty() {
+        text.push_str(",")?;
+    }
+    let rights = RIGHTS[usize::from(entry.rights % 8)];
+    let number = entry.number;
+    match entry.tag {
+        Tag::UserObj => write!(text, "u::{rights}")?,
+        Tag::User => write!(text, "u:{number}:{rights}")?,
+        Tag::GroupObj => write!(text, "g::{rights}")?,
+        Tag::Group => write!(text, "g:{number}:{rights}")?,
+        Tag::Mask => write!(text, "m::{rights}")?,
+        Tag::Other => write!(text, "o::{rights}")?,
+    }
+    Ok(())
+}
+
+/// One of the entries that the rights of a node have.
+fn push_object(text: &mut String, tag: Tag, rights: u16) -> Result<()> {
+    let entry = Entry {
+        tag,
+        rights: (rights % 8) as u8,
+        number: 0,
+    };
+    push_entry(text, &entry)
+}
+
+/// Those entries of a list that are of users, or those that aren't.
+fn push_entries(text: &mut String, list: &[u8], is_user: bool) -> Result<()> {
+    for bytes in list.chunks_exact(ENTRY_SIZE) {
+        if let Ok(entry) = Entry::read(bytes)
+            && (entry.tag == Tag::User) == is_user
+        {
+            push_entry(text, &entry)?;
+        }
+    }
+    Ok(())
+}
+
+/// What getacl answers of the access ACL.
+pub fn access_line(alloc: Global, attributes: &Attributes<'_>) -> Result<String> {
+    let mut text = String::new(alloc);
+    let rights = attributes.rights;
+    push_object(&mut text, Tag::UserObj, rights / 64)?;
+    push_entries(&mut text, attributes.access, true)?;
+    push_object(&mut text, Tag::GroupObj, rights / 8)?;
+    push_entries(&mut text, attributes.access, false)?;
+    push_object(&mut text, Tag::Other, rights)?;
+    Ok(format!(in alloc; "ok {text}\n")?)
+}
+
+/// What getacl answers of the default ACL.
+pub fn default_line(alloc: Global, node: &Node<'_>) -> Result<String> {
+    let mut text = String::new(alloc);
+    for bytes in node.attributes.default.chunks_exact(ENTRY_SIZE) {
+        if let Ok(entry) = Entry::read(bytes) {
+            push_entry(&mut text, &entry)?;
+        }
+    }
+    Ok(match (node.kind, text.is_empty()) {
+        (Kind::File, _) => String::from_str(alloc, "err EINVAL\n")?,
+        (Kind::Directory, true) => String::from_str(alloc, "ok -\n")?,
+        (Kind::Directory, false) => format!(in alloc; "ok {text}\n")?,
+    })
+}
+
+/// The mode: the bits of the group are those of the MASK, where there is one.
+fn mode(attributes: &Attributes<'_>) -> u16 {
+    let mut group = attributes.rights / 8 % 8;
+    for bytes in attributes.access.chunks_exact(ENTRY_SIZE) {
+        if let Ok(entry) = Entry::read(bytes)
+            && entry.tag == Tag::Mask
+        {
+            group = u16::from(entry.rights % 8);
+        }
+    }
+    let special = match attributes.special {
+        0 => 0,
+        1 => 0o2000,
+        2 => 0o1000,
+        _ => 0o3000,
+    };
+    special + attributes.rights / 64 % 8 * 64 + group % 8 * 8 + attributes.rights % 8
+}
+
+/// What stat answers.
+pub fn status_line(alloc: Global, tree: &Tree<'_>, node: &Node<'_>) -> Result<String> {
+    let (kind, links) = match node.kind {
+        Kind::File => ("f", tree.names_for(node.number)),
+        Kind::Directory => ("d", 1),
+    };
+    let mode = mode(&node.attributes);
+    let (owner, group) = (node.attributes.owner, node.attributes.group);
+    let size = node.size;
+    Ok(format!(in alloc; "ok {kind} {mode:04o} {links} {owner} {group} {size}\n")?)
+}

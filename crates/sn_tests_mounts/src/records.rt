@@ -1,0 +1,172 @@
+//! Lists of payloads that are changed, and laid in the half as records.
+
+use crate::drawing::{below, is_once_in};
+use crate::payloads::payload;
+use crate::sectors::{EPOCH, PLACES, put};
+use anyhow::Result;
+use rand_pcg::Pcg32;
+use sn_device::{MemDevice, SECTOR_SIZE, Sector};
+use std::alloc::Global;
+
+/// The attributes of the root directory, as a new disk has them.
+const ROOT: [u8; 16] = [7, 2, 0, 0, 0xed, 1, 0, 0, 0, 0, 0, 0, 0, 0, 0, 0];
+
+/// What stands before the payload of a record.
+#[derive(Clone, Copy)]
+struct Head {
+    epoch: u64,
+    sequence: u32,
+    size: u32,
+}
+
+/// A gate that is open.
+fn gate() -> Sector {
+    let mut sector = [0; SECTOR_SIZE];
+    sector[0] = 1;
+    sector
+}
+
+/// Which of so many, or 0 where there is none.
+fn one_of(random: &mut Pcg32, count: usize) -> usize {
+    if count == 0 {
+        return 0;
+    }
+    below(random, count.min(256) as u32) as usize
+}
+
+/// Changes one of the bytes, or how many there are.
+fn change_payload(bytes: &mut Vec<u8>, random: &mut Pcg32) -> Result<()> {
+    let at = one_of(random, bytes.len());
+    match below(random, 4) {
+        0 => bytes.truncate(at),
+        1 => bytes.push(below(random, 2) as u8)?,
+        _ => {
+            if let Some(byte) = bytes.get_mut(at) {
+                *byte = below(random, 12) as u8;
+            }
+        }
+    }
+    Ok(())
+}
+
+/// Changes a list: one is dropped, stands there twice or elsewhere, is changed, or a drawn one stands
+/// before it.
+pub fn change_list(alloc: Global, list: &mut Vec<Vec<u8>>, random: &mut Pcg32) -> Result<()> {
+    let at = one_of(random, list.len());
+    if at >= list.len() {
+        return Ok(());
+    }
+    match below(random, 6) {
+        0 => {
+            list.remove(at);
+        }
+        1 => {
+            let twice = Vec::from_slice(alloc, list[at].as_slice())?;
+            list.insert(at, twice)?;
+        }
+        2 => {
+            let moved = list.remove(at);
+            list.push(moved)?;
+        }
+        3 => list.insert(at, payload(alloc, random)?)?,
+        _ => {
+            if let Some(bytes) = list.get_mut(at) {
+                change_payload(bytes, random)?;
+            }
+        }
+    }
+    Ok(())
+}
+
+/// Sets the attributes of the root directory over and over, more often than the half has room for, and
+/// answers which of the records gets an odd head: one in the second part of the half.
+fn fill_up(alloc: Global, list: &mut Vec<Vec<u8>>, random: &mut Pcg32) -> Result<usize> {
+    for _ in 0..PLACES / 2 {
+        list.push(Vec::from_slice(alloc, &ROOT)?)?;
+    }
+    Ok(64 + below(random, 64) as usize)
+}
+
+/// Lays a list of payloads, which now and then is filled up.
+pub fn lay_list(
+    alloc: Global,
+    device: &mut MemDevice,
+    list: &mut Vec<Vec<u8>>,
+    random: &mut Pcg32,
+) -> Result<()> {
+    let odd = if is_once_in(random, 24) {
+        fill_up(alloc, list, random)?
+    } else {
+        one_of(random, list.len().saturating_mul(3))
+    };
+    lay(alloc, device, list.as_slice(), odd, random)
+}
+
+/// Changes one field of a head.
+fn change_head(head: &mut Head, random: &mut Pcg32) {
+    match below(random, 4) {
+        0 => head.epoch = u64::from(below(random, 4)),
+        1 => head.sequence = below(random, 8),
+        2 => head.size = 30_000 + below(random, 40_000),
+        _ => head.size = below(random, 40),
+    }
+}
+
+/// A body: its head, its payload, and zeros to the end of the sector.
+fn body(alloc: Global, head: Head, payload: &[u8]) -> Result<Vec<u8>> {
+    let mut body = Vec::new(alloc);
+    body.extend_from_slice(&head.epoch.to_le_bytes())?;
+    body.extend_from_slice(&head.sequence.to_le_bytes())?;
+    body.extend_from_slice(&head.size.to_le_bytes())?;
+    body.extend_from_slice(payload)?;
+    // The last sector is filled up, and what is behind it left out.
+    let zeros = [0; SECTOR_SIZE];
+    body.extend_from_slice(&zeros[1..])?;
+    Ok(body)
+}
+
+/// Puts a body behind a gate, and answers the place behind it.
+fn put_body(device: &mut MemDevice, place: u64, body: &[u8]) -> Result<u64> {
+    let mut place = place;
+    for bytes in body.chunks_exact(SECTOR_SIZE) {
+        place = place.saturating_add(1);
+        if place >= PLACES {
+            break;
+        }
+        let mut sector = [0; SECTOR_SIZE];
+        sector.copy_from_slice(bytes);
+        put(device, place, &sector)?;
+    }
+    Ok(place.saturating_add(1))
+}
+
+/// Lays the payloads as records from the first place on, one of them, where there is one at `odd`, with a head
+/// that isn't its own. Behind them stands a closed gate, or now and then what stood there.
+fn lay(
+    alloc: Global,
+    device: &mut MemDevice,
+    payloads: &[Vec<u8>],
+    odd: usize,
+    random: &mut Pcg32,
+) -> Result<()> {
+    let mut place = 0;
+    for (at, payload) in payloads.iter().enumerate() {
+        let mut head = Head {
+            epoch: EPOCH,
+            sequence: (at % 256) as u32,
+            size: (payload.len() % 70_000) as u32,
+        };
+        if at == odd {
+            change_head(&mut head, random);
+        }
+        let body = body(alloc, head, payload.as_slice())?;
+        if place < PLACES {
+            put(device, place, &gate())?;
+            place = put_body(device, place, body.as_slice())?;
+        }
+    }
+    if place < PLACES && !is_once_in(random, 12) {
+        put(device, place, &[0; SECTOR_SIZE])?;
+    }
+    Ok(())
+}

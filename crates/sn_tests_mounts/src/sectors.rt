@@ -1,0 +1,110 @@
+//! The sectors of the half, and bytes that are drawn for them.
+
+use crate::drawing::{below, is_once_in};
+use anyhow::{Result, ensure};
+use rand_core::Rng;
+use rand_pcg::Pcg32;
+use sn_device::{Device, MemDevice, SECTOR_SIZE, Sector};
+use std::alloc::Global;
+
+/// The epoch of the records.
+pub const EPOCH: u64 = 1;
+
+/// The first block of the half.
+pub const FIRST_BLOCK: u32 = 38;
+
+/// The first sector of the half.
+const FIRST: u64 = 304;
+
+/// The sectors of a half.
+pub const PLACES: u64 = 256;
+
+/// The places of a half of random sectors.
+const RANDOM: u64 = 12;
+
+/// The bytes of the half, as reads give them.
+pub fn half_of(alloc: Global, device: &MemDevice) -> Result<Vec<u8>> {
+    let mut half = Vec::new(alloc);
+    for sector in device
+        .contents()
+        .iter()
+        .skip(FIRST as usize)
+        .take(PLACES as usize)
+    {
+        half.extend_from_slice(sector)?;
+    }
+    Ok(half)
+}
+
+/// Writes a sector of the half.
+pub fn put(device: &mut MemDevice, place: u64, sector: &Sector) -> Result<()> {
+    ensure!(
+        place < PLACES && FIRST + PLACES <= device.sectors(),
+        "no place {place}"
+    );
+    let is_written = device.write(FIRST + place, sector).is_ok();
+    ensure!(is_written, "a device without a fault");
+    Ok(())
+}
+
+fn get(device: &mut MemDevice, place: u64) -> Result<Sector> {
+    ensure!(
+        place < PLACES && FIRST + PLACES <= device.sectors(),
+        "no place {place}"
+    );
+    let mut sector = [0; SECTOR_SIZE];
+    let is_read = device.read(FIRST + place, &mut sector).is_ok();
+    ensure!(is_read, "a device without a fault");
+    Ok(sector)
+}
+
+/// Bytes that are random, behind the front of a gate or of a body more often than not.
+fn random_sector(random: &mut Pcg32) -> Sector {
+    let mut sector = [0; SECTOR_SIZE];
+    random.fill_bytes(&mut sector);
+    if below(random, 4) > 0 {
+        sector[..8].copy_from_slice(&EPOCH.to_le_bytes());
+    }
+    if below(random, 2) > 0 {
+        let sequence = below(random, 2);
+        let size = below(random, 600);
+        sector[8..12].copy_from_slice(&sequence.to_le_bytes());
+        sector[12..16].copy_from_slice(&size.to_le_bytes());
+    }
+    if is_once_in(random, 3) {
+        sector[16] = below(random, 9) as u8;
+    }
+    sector
+}
+
+/// A half that begins with random sectors.
+pub fn draw(device: &mut MemDevice, random: &mut Pcg32) -> Result<()> {
+    for place in 0..RANDOM {
+        put(device, place, &random_sector(random))?;
+    }
+    Ok(())
+}
+
+fn change(sector: &mut Sector, random: &mut Pcg32) {
+    match below(random, 8) {
+        0 => random.fill_bytes(sector),
+        1 => sector[0] = 1,
+        2 => sector[SECTOR_SIZE - 1] = 1,
+        _ => sector[below(random, 48) as usize] = below(random, 8) as u8,
+    }
+}
+
+/// Draws a few sectors of the half, and in each of them a byte of its head, or all of them.
+pub fn change_some(device: &mut MemDevice, random: &mut Pcg32) -> Result<()> {
+    for _ in 0..below(random, 4) {
+        let place = if is_once_in(random, 4) {
+            below(random, 256)
+        } else {
+            below(random, 32)
+        };
+        let mut sector = get(device, u64::from(place))?;
+        change(&mut sector, random);
+        put(device, u64::from(place), &sector)?;
+    }
+    Ok(())
+}
