@@ -55,7 +55,7 @@ fn filled(alloc: Global, random: &mut Pcg32) -> Result<Blocks<MemDevice>> {
             _ => 1 + random.next_u32() % 600,
         };
         let answer = append(alloc, &mut blocks, &mut log, Added::Write(count as usize))?;
-        ensure!(answer != Appended::Failed, "an append without a fault");
+        ensure!(answer != Appended::Failed, "the device failed at an append");
     }
     Ok(blocks)
 }
