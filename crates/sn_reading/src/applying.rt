@@ -33,7 +33,9 @@ impl<'a> Tree<'a> {
     fn remove(&mut self, link: &Link<'_>) {
         let object = self.object(link);
         self.names.retain(|name| !name.link.is_same(link));
-        if let Some(gone) = object && gone.kind == Kind::Directory {
+        if let Some(gone) = object
+            && gone.kind == Kind::Directory
+        {
             self.nodes.retain(|node| node.number != gone.number);
         }
     }
@@ -43,7 +45,9 @@ impl<'a> Tree<'a> {
         let (Some(moved), there) = (self.object(from), self.object(&to)) else {
             return Ok(());
         };
-        if let Some(node) = there && node.number == moved.number {
+        if let Some(node) = there
+            && node.number == moved.number
+        {
             return Ok(());
         }
         self.remove(&to);

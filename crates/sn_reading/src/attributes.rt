@@ -95,7 +95,9 @@ impl Sorts {
         let mut before = None;
         for bytes in list.chunks_exact(ENTRY_SIZE) {
             let entry = Entry::read(bytes)?;
-            if let Some(last) = before && !Entry::precedes(last, entry) {
+            if let Some(last) = before
+                && !Entry::precedes(last, entry)
+            {
                 return Err(Misspelling::Order);
             }
             sorts.count(entry.tag);

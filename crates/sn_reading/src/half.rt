@@ -61,7 +61,10 @@ impl<'a> Records<'a> {
     /// The payload of the next record. Where there is none, the place stays.
     pub fn read_next(&mut self) -> Result<&'a [u8], Ending> {
         let payload = self.payload()?;
-        self.place = self.place.saturating_add(sectors_of(payload.len())).saturating_add(1);
+        self.place = self
+            .place
+            .saturating_add(sectors_of(payload.len()))
+            .saturating_add(1);
         self.count = self.count.saturating_add(1);
         Ok(payload)
     }

@@ -112,7 +112,9 @@ impl<'a> Tree<'a> {
     fn may_move(&self, from: &Link<'_>, to: &Link<'_>) -> Result<(), Obstacle> {
         let moved = self.named(from)?;
         let there = self.object(to);
-        if let Some(node) = there && node.number == moved.number {
+        if let Some(node) = there
+            && node.number == moved.number
+        {
             return Ok(());
         }
         self.directory(to.directory)?;

@@ -63,11 +63,7 @@ fn next<'a>(records: &mut Records<'a>, tree: &Tree<'a>) -> Result<Change<'a>, Ou
 }
 
 /// Reads the records of an epoch in the 256 sectors of a half.
-pub fn read_half<'a>(
-    alloc: Global,
-    half: &'a [u8],
-    epoch: u64,
-) -> Result<Reading<'a>, AllocError> {
+pub fn read_half<'a>(alloc: Global, half: &'a [u8], epoch: u64) -> Result<Reading<'a>, AllocError> {
     let mut tree = Tree::new(alloc)?;
     let mut made = Vec::new(alloc);
     let mut records = Records::new(half, epoch);
