@@ -5,12 +5,12 @@
 //! Each record takes two sectors, so that a crash may leave one of them without the other.
 
 use crate::directories::{ALL, make, present};
-use crate::fills::{FILLS, fill_of};
+use crate::disk::{FILLS, fill_of, remounted};
 use crate::inheriting::inheriting_device;
 use anyhow::Result;
 use sn_device::{Device, Fill, MemDevice};
+use sn_fs::mount;
 use sn_model::MountFault;
-use sn_mounted::{Mounted, remounted};
 use sn_table::{Report, Tally};
 use std::alloc::Global;
 
@@ -89,7 +89,7 @@ fn whole(report: &Report<'_>) -> Result<Tally> {
 fn life(alloc: Global, cut: Cut, fill: Fill) -> Result<Left> {
     let mut device = inheriting_device(alloc)?;
     set(&mut device, cut);
-    match Mounted::new(alloc, device) {
+    match mount(alloc, device) {
         Ok(mut mounted) => {
             let acknowledged = make(alloc, &mut mounted, 0)?;
             Ok(Left {
@@ -116,7 +116,7 @@ fn may_follow(acknowledged: Option<usize>, found: Option<usize>) -> bool {
 
 /// How many of the list are on a device that has no fault, where it mounts.
 fn found_on(alloc: Global, device: MemDevice) -> Result<Option<usize>> {
-    match Mounted::new(alloc, device) {
+    match mount(alloc, device) {
         Ok(mut mounted) => present(alloc, &mut mounted),
         Err(_) => Ok(None),
     }
@@ -125,7 +125,7 @@ fn found_on(alloc: Global, device: MemDevice) -> Result<Option<usize>> {
 /// A life that is cut short, a mount of what a crash left, and one more crash.
 fn is_list_right(alloc: Global, cut: Cut, fill: u32) -> Result<bool> {
     let left = life(alloc, cut, fill_of(fill))?;
-    let Ok(mut mounted) = Mounted::new(alloc, left.device) else {
+    let Ok(mut mounted) = mount(alloc, left.device) else {
         return Ok(false);
     };
     let found = present(alloc, &mut mounted)?;
@@ -139,7 +139,7 @@ fn is_list_right(alloc: Global, cut: Cut, fill: u32) -> Result<bool> {
 
 /// The rest of the list, and one more crash.
 fn is_rest_right(alloc: Global, device: MemDevice, from: usize, fill: Fill) -> Result<bool> {
-    let Ok(mut mounted) = Mounted::new(alloc, device) else {
+    let Ok(mut mounted) = mount(alloc, device) else {
         return Ok(false);
     };
     let made = make(alloc, &mut mounted, from)?;
@@ -166,7 +166,7 @@ fn found_after(
     fill: Fill,
 ) -> Result<Option<usize>> {
     set(&mut device, cut);
-    let device = match Mounted::new(alloc, device) {
+    let device = match mount(alloc, device) {
         Ok(mounted) => mounted.into_device(),
         Err(unmounted) => {
             if unmounted.fault != MountFault::Device {

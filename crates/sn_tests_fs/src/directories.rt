@@ -1,8 +1,11 @@
 //! A list of directories that is made, and how much of it is there.
+ghost use Rattle.sn_fs.specs.Filesystem.{IsFs};
 
+use crate::disk::{line_of, login, mkdir, stat, told};
 use anyhow::Result;
+use sn_device::MemDevice;
+use sn_fs::Fs;
 use sn_model::Reply;
-use sn_mounted::{Mounted, line_of, login, mkdir, stat};
 use std::alloc::Global;
 
 /// How many directories are made.
@@ -19,12 +22,15 @@ const DIRECTORIES: [(&str, u16, &str); 5] = [
 
 /// Logs in, and makes the directories from a place of the list on. How many of the list are there then
 /// that were acknowledged, where the answers are right: done, then at most one EIO, and behind it ESTOPPED.
-pub fn make(alloc: Global, mounted: &mut Mounted, from: usize) -> Result<Option<usize>> {
+pub fn make(alloc: Global, mounted: &mut Fs<MemDevice>, from: usize) -> Result<Option<usize>>
+    requires { IsFs mounted.old }
+    ensures sound { IsFs mounted.new }
+{
     mounted.call(0, &login(alloc)?);
     let mut count = from;
     let mut has_stopped = false;
     for (path, mode, _status) in DIRECTORIES.iter().skip(from) {
-        let line = mounted.told(alloc, &mkdir(alloc, path, *mode)?)?;
+        let line = told(alloc, mounted, &mkdir(alloc, path, *mode)?)?;
         match (line.as_str(), has_stopped) {
             ("ok\n", false) => count = count.saturating_add(1),
             ("err EIO\n", false) => has_stopped = true,
@@ -45,7 +51,10 @@ fn number_of(reply: &Reply) -> Option<u16> {
 
 /// Logs in, and asks for each directory. How many of the list are there, where these are the first of
 /// it, each as it was made, and of the others there is none.
-pub fn present(alloc: Global, mounted: &mut Mounted) -> Result<Option<usize>> {
+pub fn present(alloc: Global, mounted: &mut Fs<MemDevice>) -> Result<Option<usize>>
+    requires { IsFs mounted.old }
+    ensures sound { IsFs mounted.new }
+{
     mounted.call(0, &login(alloc)?);
     let mut count = 0_usize;
     let mut has_ended = false;

@@ -3,9 +3,9 @@
 //! Its log has one record, by which the root directory has that ACL. The bytes are those of
 //! docs/FORMAT.md.
 
+use crate::disk::new_device;
 use anyhow::{Result, ensure};
 use sn_device::{Device, Fill, MemDevice, SECTOR_SIZE, Sector};
-use sn_mounted::new_device;
 use std::alloc::Global;
 
 /// The first place of the log of epoch 1.

@@ -1,8 +1,12 @@
 //! The tables of calls and of crashes.
+ghost use Rattle.sn_fs.specs.Filesystem.{IsFs};
 
+use crate::disk::{line_of, login, mkdir, new_device, remounted, stat, told};
 use anyhow::{Context, Result, bail};
 use sn_device::{Fill, MemDevice};
-use sn_mounted::{Mounted, line_of, login, mkdir, new_device, remounted, stat};
+use sn_fs::{Fs, mount};
+use sn_model::{Event, Reply};
+use sn_script::read_script;
 use sn_table::{Case, Report};
 use std::alloc::Global;
 
@@ -34,12 +38,24 @@ fn replies(alloc: Global, script: &str) -> Result<String> {
                 text.push_str("mounted\n")?;
             }
             _ => {
-                let reply = mounted.asked(alloc, line)?;
+                let reply = asked(alloc, &mut mounted, line)?;
                 text.push_str(line_of(alloc, &reply)?.as_str())?;
             }
         }
     }
     Ok(text)
+}
+
+fn asked(alloc: Global, mounted: &mut Fs<MemDevice>, line: &str) -> Result<Reply>
+    requires { IsFs mounted.old }
+    ensures sound { IsFs mounted.new }
+{
+    let script = format!(in alloc; "{line}\n")?;
+    let mut events = read_script(alloc, script.as_str().as_bytes())?;
+    match events.pop().context("one event")? {
+        Event::Call { session, call } => Ok(mounted.call(session, &call)),
+        _ => bail!("no call: {line}"),
+    }
 }
 
 /// What the first life answers, and what is found in the end.
@@ -51,7 +67,7 @@ fn stops(alloc: Global, case: Case<'_>) -> Result<String> {
             .split_once(':')
             .context(format_args!("no fill in: {word}"))?;
         device.stop_at(stop.parse().context("a number")?);
-        device = match Mounted::new(alloc, device) {
+        device = match mount(alloc, device) {
             Ok(mounted) if at > 0 => mounted.into_device(),
             Ok(mut mounted) => {
                 push_answers(alloc, &mut mounted, &mut text)?;
@@ -71,9 +87,12 @@ fn stops(alloc: Global, case: Case<'_>) -> Result<String> {
 }
 
 /// The answers to a login and the making of `/x`.
-fn push_answers(alloc: Global, mounted: &mut Mounted, text: &mut String) -> Result<()> {
+fn push_answers(alloc: Global, mounted: &mut Fs<MemDevice>, text: &mut String) -> Result<()>
+    requires { IsFs mounted.old }
+    ensures sound { IsFs mounted.new }
+{
     for call in [login(alloc)?, mkdir(alloc, "/x", 0o755)?] {
-        text.push_str(mounted.told(alloc, &call)?.as_str().trim())?;
+        text.push_str(told(alloc, mounted, &call)?.as_str().trim())?;
         text.push_str(", ")?;
     }
     Ok(())
@@ -83,7 +102,7 @@ fn push_answers(alloc: Global, mounted: &mut Mounted, text: &mut String) -> Resu
 fn push_found(alloc: Global, device: MemDevice, text: &mut String) -> Result<()> {
     let mut mounted = remounted(alloc, device)?;
     mounted.call(0, &login(alloc)?);
-    let line = mounted.told(alloc, &stat(alloc, "/x")?)?;
+    let line = told(alloc, &mut mounted, &stat(alloc, "/x")?)?;
     text.push_str(line.as_str().trim())?;
     Ok(())
 }

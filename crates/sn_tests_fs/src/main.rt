@@ -1,8 +1,9 @@
 //! Cases of the file system over a device: calls, and what of them a crash leaves.
 //!
-//! `data/` has the tables of the cases: their head lines say where the answers come from. `lives` has the
-//! tables over a file system on a device in memory, `sizes` devices of too few sectors and a log that is full,
-//! and `cuts` cuts lists of calls and mounts short at each call of the device, on the disk of `inheriting`.
+//! `data/` has the tables of the cases: their head lines say where the answers come from. `disk` has a
+//! file system on a device in memory and the calls of it, `lives` the tables over them, `cuts` cuts
+//! lists of calls and mounts short at each call of the device, on the disk of `inheriting`, and `hostile`
+//! mounts logs of any bytes.
 //! What is printed is compared with `stdout`. The argument is the folder of the tables, as in
 //!
 //! ```text
@@ -12,7 +13,8 @@
 
 mod cuts;
 mod directories;
-mod fills;
+mod disk;
+mod hostile;
 mod inheriting;
 mod lives;
 mod sizes;
@@ -25,5 +27,6 @@ fn main(rt: HostRuntime) -> Result<()> {
     lives::run(&mut report)?;
     sizes::run(&mut report)?;
     cuts::run(&mut report)?;
+    hostile::run(&mut report)?;
     report.end()
 }

@@ -1,9 +1,11 @@
 //! Devices of too few sectors, and a log that is full.
+ghost use Rattle.sn_fs.specs.Filesystem.{IsFs};
 
+use crate::disk::{login, mkdir, new_device, remounted, stat, told};
 use anyhow::Result;
 use sn_device::{Fill, MemDevice};
+use sn_fs::{Fs, mount};
 use sn_model::MountFault;
-use sn_mounted::{Mounted, login, mkdir, new_device, remounted, stat};
 use sn_table::{Report, Tally};
 use std::alloc::Global;
 
@@ -21,7 +23,7 @@ fn sizes(report: &Report<'_>) -> Result<Tally> {
     let mut tally = Tally::new();
     for sectors in [0_u32, 1, 2047, 2048, 2049] {
         let device = MemDevice::new(report.alloc(), u64::from(sectors))?;
-        let fault = Mounted::new(report.alloc(), device)
+        let fault = mount(report.alloc(), device)
             .err()
             .map(|unmounted| unmounted.fault);
         let wanted = (sectors < 2048).then_some(MountFault::NotFormatted);
@@ -52,9 +54,12 @@ fn directories(report: &Report<'_>) -> Result<Tally> {
 }
 
 /// Whether a directory is made while the log has room, and else refused for want of it.
-fn is_made(alloc: Global, mounted: &mut Mounted, number: u32) -> Result<bool> {
+fn is_made(alloc: Global, mounted: &mut Fs<MemDevice>, number: u32) -> Result<bool>
+    requires { IsFs mounted.old }
+    ensures sound { IsFs mounted.new }
+{
     let path = format!(in alloc; "/{number}")?;
-    let line = mounted.told(alloc, &mkdir(alloc, path.as_str(), 0o755)?)?;
+    let line = told(alloc, mounted, &mkdir(alloc, path.as_str(), 0o755)?)?;
     let wanted = if number < ROOM {
         "ok\n"
     } else {
@@ -64,9 +69,12 @@ fn is_made(alloc: Global, mounted: &mut Mounted, number: u32) -> Result<bool> {
 }
 
 /// Whether those that were made are there, and no other.
-fn is_there(alloc: Global, mounted: &mut Mounted, number: u32) -> Result<bool> {
+fn is_there(alloc: Global, mounted: &mut Fs<MemDevice>, number: u32) -> Result<bool>
+    requires { IsFs mounted.old }
+    ensures sound { IsFs mounted.new }
+{
     let path = format!(in alloc; "/{number}")?;
-    let line = mounted.told(alloc, &stat(alloc, path.as_str())?)?;
+    let line = told(alloc, mounted, &stat(alloc, path.as_str())?)?;
     let wanted = if number < ROOM {
         "ok d 0755 1 0 0 0\n"
     } else {

@@ -60,7 +60,7 @@ fn is_cut_right(alloc: Global, cut: u64, seed: u64, again: u64) -> Result<bool> 
     let mut log = log_at(alloc, Position::first(places()?, EPOCH))?;
     for count in &LIST[..2] {
         let answer = append(alloc, &mut blocks, &mut log, Added::Write(*count))?;
-        ensure!(answer == Appended::Done, "the device failed at an append");
+        ensure!(answer == Appended::Done, "an append without a fault");
     }
     let mut list = vec![in alloc; 700, 3000]?;
     let first = cut_append(alloc, blocks, log.position(), LIST[2], cut, fill_of(seed))?;

@@ -3,13 +3,13 @@
 use crate::disk::{
     Added, Appended, Ending, append, blocks_of, log_at, new_blocks, places, replayed,
 };
-use anyhow::{Result, bail, ensure};
+use anyhow::{Result, ensure};
 use rand_core::Rng;
 use rand_pcg::Pcg32;
 use sn_block::Blocks;
 use sn_device::{Fill, MemDevice, SECTOR_SIZE, Sector};
 use sn_log::Position;
-use sn_reading::{Change, Ending as End, Records};
+use sn_record::decode;
 use sn_table::{Report, Tally};
 use std::alloc::Global;
 
@@ -55,7 +55,7 @@ fn filled(alloc: Global, random: &mut Pcg32) -> Result<Blocks<MemDevice>> {
             _ => 1 + random.next_u32() % 600,
         };
         let answer = append(alloc, &mut blocks, &mut log, Added::Write(count as usize))?;
-        ensure!(answer != Appended::Failed, "the device failed at an append");
+        ensure!(answer != Appended::Failed, "an append without a fault");
     }
     Ok(blocks)
 }
@@ -92,25 +92,68 @@ fn change(sector: &mut Sector, random: &mut Pcg32) {
 
 /// How many records the bytes of a disk spell, and how they end, read off the format.
 fn plain_of(alloc: Global, disk: &[Sector]) -> Result<(usize, Ending)> {
-    let mut half = Vec::new(alloc);
+    let mut bytes = Vec::new(alloc);
     for sector in disk.iter().skip(FIRST as usize).take(256) {
-        half.extend_from_slice(sector)?;
+        bytes.extend_from_slice(sector)?;
     }
-    let mut records = Records::new(half.as_slice(), EPOCH);
-    for count in 0..256 {
-        let place = records.place();
-        let is_misspelt = match records.read_next() {
-            Ok(payload) => Change::read(payload).is_err(),
-            Err(ending) => matches!(ending, End::Misspelt(_)),
-        };
-        if is_misspelt {
-            let block = 38 + (place.min(255) / 8) as u32;
-            return Ok((count, Ending::Misspelt { block }));
+    let mut place = 0_usize;
+    let mut count = 0_usize;
+    for _ in 0..256 {
+        match plain_record(bytes.as_slice(), place, count) {
+            Plain::Record { sectors } => {
+                place = place.saturating_add(sectors.min(256) + 1);
+            }
+            Plain::End => break,
+            Plain::Misspelt => {
+                let block = 38 + (place.min(255) / 8) as u32;
+                return Ok((count, Ending::Misspelt { block }));
+            }
         }
-        if records.place() == place {
-            let place = place as u64;
-            return Ok((count, Ending::End { place }));
-        }
+        count = count.saturating_add(1);
     }
-    bail!("the half has no end")
+    let place = place as u64;
+    Ok((count, Ending::End { place }))
+}
+
+enum Plain {
+    Record { sectors: usize },
+    End,
+    Misspelt,
+}
+
+/// The number in so many bytes of the half, the lowest first.
+fn plain_number(half: &[u8], at: usize, count: usize) -> u64 {
+    let mut number = 0;
+    for byte in half.iter().skip(at).take(count).rev() {
+        number = (number % (1 << 56)) * 256 + u64::from(*byte);
+    }
+    number
+}
+
+fn plain_record(half: &[u8], place: usize, count: usize) -> Plain {
+    let gate = 512 * place.min(256);
+    if place > 253 || plain_number(half, gate, 1) != 1 {
+        return Plain::End;
+    }
+    if plain_number(half, gate + 512, 8) != EPOCH {
+        return Plain::End;
+    }
+    let size = plain_number(half, gate + 524, 4) as usize % (1 << 32);
+    let sectors = (size + 16 + 511) / 512;
+    if size == 0 || size > 65_547 || place + sectors + 1 > 255 {
+        return Plain::Misspelt;
+    }
+    let is_next = plain_number(half, gate + 520, 4) == count as u64;
+    let Some(body) = half.get(gate + 512..gate + 512 + 512 * sectors) else {
+        return Plain::Misspelt;
+    };
+    let Some(payload) = body.get(16..16 + size) else {
+        return Plain::Misspelt;
+    };
+    let is_zero = body.iter().skip(16 + size).all(|byte| *byte == 0);
+    if is_next && is_zero && decode(payload).is_some() {
+        Plain::Record { sectors }
+    } else {
+        Plain::Misspelt
+    }
 }
