@@ -8,7 +8,8 @@
 //! rt run -- data
 //! ```
 //!
-//! With the word `time`, or `file` and a path and a number, it runs what `bench/run.sh` measures (`times`).
+//! With the word `time`, `once` and a place and a number, or `file` and a path and a number, it runs what
+//! `bench/run.sh` measures (`times`).
 #![tactic(auto)]
 
 mod events;
@@ -27,6 +28,10 @@ fn argument(rt: &HostRuntime, at: usize) -> Result<String> {
 fn main(rt: HostRuntime) -> Result<()> {
     match argument(&rt, 1)?.as_str() {
         "time" => times::times(&rt),
+        "once" => {
+            let (place, count) = (argument(&rt, 2)?, argument(&rt, 3)?);
+            times::once(&rt, place.as_str(), count.as_str())
+        }
         "file" => {
             let (path, count) = (argument(&rt, 2)?, argument(&rt, 3)?);
             times::on_file(&rt, path.as_str(), count.as_str())

@@ -1,4 +1,4 @@
-//! What runs cost, for the benches: in time beside the tree in memory, and on a file.
+//! What runs cost, for the benches: in time and memory beside the tree in memory, and on a file.
 
 use crate::events::{BLOCKS, SECTORS, event_of};
 use anyhow::{Context, Result, bail};
@@ -58,11 +58,27 @@ pub fn times(rt: &HostRuntime) -> Result<()> {
     Ok(())
 }
 
+fn number(count: &str) -> Result<u32> {
+    count.parse().context(format_args!("no number: {count}"))
+}
+
+/// Makes so many directories once: over a device in memory, in the tree in memory, or nowhere, where only the
+/// list of events is made.
+pub fn once(rt: &HostRuntime, place: &str, count: &str) -> Result<()> {
+    let events = makes(rt.alloc(), number(count)?)?;
+    match place {
+        "device" => over_device(rt, events.as_slice())?,
+        "tree" => in_memory(rt, events.as_slice())?,
+        "nowhere" => Duration::ZERO,
+        _ => bail!("no place for directories: {place}"),
+    };
+    Ok(())
+}
+
 /// Makes so many directories on a new file.
 pub fn on_file(rt: &HostRuntime, path: &str, count: &str) -> Result<()> {
-    let count = count.parse().context(format_args!("no number: {count}"))?;
     let device = FileDevice::create(rt.alloc(), rt, path, BLOCKS)?;
-    let events = makes(rt.alloc(), count)?;
+    let events = makes(rt.alloc(), number(count)?)?;
     let Ran {
         replies,
         device,
