@@ -1,3 +1,4 @@
+pub mod CallerLemmas
 pub mod StepLemmas
 pub mod ViewLemmas
 pub mod RestartLemmas

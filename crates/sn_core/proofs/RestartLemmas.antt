@@ -1,16 +1,13 @@
 -- A restart over maps in memory.
-use Rattle.std.proofs.Common.{◌≡◌, ℕ, Bool, true, false, not, ◌||◌, cond, None, Option, is_some, refl, sym, ap, ◌∙◌}
+use Rattle.std.proofs.Common.{◌≡◌, ℕ, false, not, ◌||◌, cond, None, Option, is_some, sym, ap, ◌∙◌}
 use Rattle.std.specs.FinMap as map
 use Rattle.std.proofs.lemmas.Bool.{true≢false}
 use Rattle.sn_model.specs.Tree.{Node, Tree}
 use Rattle.sn_model.specs.World.{World}
 use Rattle.sn_model.specs.Settling.{is_nameless, settle, settled}
+use Rattle.sn_model.proofs.LoseLemmas.{none_of_both}
 use Rattle.sn_model.proofs.SettlingLemmas.{get_without}
 use Rattle.sn_core.specs.PlainRuns.{TakesLeast}
-
-none_of_both : (b : Bool) → cond {A = Option Node} b None None ≡ None
-none_of_both true = refl
-none_of_both false = refl
 
 none_settled : (tree : Tree) (number : ℕ) → map.get tree.nodes number ≡ None → map.get (settled tree).nodes number ≡ None
 none_settled tree number none =

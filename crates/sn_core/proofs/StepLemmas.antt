@@ -1,85 +1,65 @@
 -- What a call comes to once its tests have passed.
-use Rattle.std.proofs.Common.{◌≡◌, ◌≢◌, ℕ, true, List, [], ◌∷◌, ◌++◌, Option, Some, None, Result, Ok, Err, is_none, is_some, refl, sym, ap, subst, ◌∙◌, ◌⊎◌, inl, inr, lit<, lit≤}
+use Rattle.std.proofs.Common.{◌≡◌, ◌≢◌, ℕ, true, List, [], ◌∷◌, ◌++◌, Option, Some, None, Result, Ok, Err, is_none, is_some, refl, sym, ap, subst, ◌∙◌, ◌⊎◌, inl, inr, lit≤}
 use Rattle.std.specs.FinMap as map
 use Rattle.std.specs.Cmp.{nat_cmp_total}
 use Rattle.std.specs.Prelude.{IsOk}
 use Rattle.std.proofs.lemmas.Bool.{true≢false}
 use Rattle.std.proofs.lemmas.Map.Lookups.{exact_unsigned}
-use Rattle.sn_limits.specs.declared.kind.Kind.TheVariants.{Directory}
+use Rattle.sn_limits.specs.declared.kind.Kind.{Kind}
 use Rattle.sn_limits.specs.Versions.{version_1}
 use Rattle.sn_model.specs.declared.call.Call.{Call}
-use Rattle.sn_model.specs.declared.call.Call.TheVariants.{Access, Chmod, Chown, GetAcl, Login, Mkdir, SetAcl, Stat, Umask}
 use Rattle.sn_model.specs.declared.call.Event.{Event}
 use Rattle.sn_model.specs.declared.call.Event.TheVariants as event
+use Rattle.sn_model.specs.declared.change.Change.{Change}
 use Rattle.sn_model.specs.declared.change.Ownership.{Ownership}
 use Rattle.sn_model.specs.declared.link.Link.{Link}
+use Rattle.sn_model.specs.declared.outcome.Caller.{Caller}
+use Rattle.sn_model.specs.declared.outcome.Caller.TheVariants.{Stays, LogsIn, SetsUmask, LogsOut, Opens, OpensNew, Closes, Moves}
+use Rattle.sn_model.specs.declared.outcome.Outcome.{Outcome}
+use Rattle.sn_model.specs.declared.outcome.Pending.{Pending}
+use Rattle.sn_model.specs.declared.outcome.Pending.TheVariants.{Nothing, Makes, Does}
 use Rattle.sn_model.specs.declared.reply.Refusal.{Refusal}
 use Rattle.sn_model.specs.declared.reply.Reply.{Reply}
 use Rattle.sn_model.specs.declared.reply.Errno.TheVariants.{Enomem}
 use Rattle.sn_model.specs.declared.reply.Progress.TheVariants.{Done as Ended}
 use Rattle.sn_model.specs.declared.reply.Reply.TheVariants.{Done, Progress, Refused}
-use Rattle.sn_model.specs.AccessCalls.{sets, umask_outcome}
-use Rattle.sn_model.specs.Changes.{apply, made, node_with, owned}
-use Rattle.sn_model.specs.declared.change.Change.{Change}
-use Rattle.sn_model.specs.declared.change.Change.TheVariants.{SetAttributes}
-use Rattle.sn_model.specs.Outcomes.{opens, makes}
-use Rattle.sn_model.specs.declared.outcome.Pending.{Pending}
-use Rattle.sn_model.specs.declared.outcome.Pending.TheVariants.{Nothing}
-use Rattle.sn_model.specs.declared.outcome.Caller.{Caller}
-use Rattle.sn_model.specs.declared.outcome.Caller.TheVariants.{Stays, LogsIn, SetsUmask}
+use Rattle.sn_model.specs.Calls.{Ready, outcome_of, ready}
+use Rattle.sn_model.specs.Changes.{apply, made, node_with}
+use Rattle.sn_model.specs.Machine.{Memory, OfMemory, Run, RunBy, Running}
+use Rattle.sn_model.specs.NameTree.{IsTree}
+use Rattle.sn_model.specs.Outcomes.{is_opening}
+use Rattle.sn_model.specs.Settling.{OnlyLost, dropped, is_held, settle}
+use Rattle.sn_model.specs.Steps.{Becomes, Comes, IsNumberFor, TakesMemory, changed, decision, filled, with_caller, with_live}
+use Rattle.sn_model.specs.Tests.{plain}
+use Rattle.sn_model.specs.Tree.{Node, Tree, least_unused, link_to}
+use Rattle.sn_model.specs.World.{World}
+use Rattle.sn_model.specs.Worlds.{IsCall, IsWorld}
 use Rattle.sn_plain.specs.Plain.{Applies}
 use Rattle.sn_plain.specs.declared.error.ApplyError.{ApplyError}
 use Rattle.sn_plain.specs.declared.error.ApplyError.TheVariants as lack
-use Rattle.sn_model.specs.declared.outcome.Outcome.{Outcome}
 use Rattle.sn_walk.proofs.ChainLemmas.{bind_ok}
-use Rattle.sn_model.specs.Calls.{Ready, mkdir_outcome, new_session, outcome_of, ready, seen, stat_outcome}
-use Rattle.sn_model.specs.Steps.{Becomes, Comes, IsNumberFor, TakesMemory, changed, decision, with_caller, with_live}
-use Rattle.sn_walk.specs.Chains.{◌>>=◌}
-use Rattle.sn_model.specs.Tests.{logged_in, logged_out, new_mode_argument, plain}
-use Rattle.sn_model.specs.Tree.{Tree, least_unused, with_node}
-use Rattle.sn_model.specs.World.{World}
-use Rattle.sn_model.specs.Worlds.{IsCall, IsWorld}
+use Rattle.sn_model.proofs.DecidedLemmas.{IsDecided, decided_is}
+use Rattle.sn_model.proofs.DropLemmas.{without_was}
+use Rattle.sn_model.proofs.LoseLemmas.{done_loss, made_loss, no_loss}
 use Rattle.sn_model.proofs.MapLemmas.{same_or_apart, get_other}
-use Rattle.sn_model.proofs.PartLemmas.{Owned, made_is, owned_is}
+use Rattle.sn_model.proofs.OutcomeLemmas.{DoesToOld, FitsCaller, HasLeft, IsOfOld, MakesFile, OnChange}
+use Rattle.sn_model.proofs.PartLemmas.{Made, made_is}
 use Rattle.sn_model.proofs.HierarchyLemmas.{least_is_number}
-use Rattle.sn_model.proofs.DecidedLemmas.{IsDecided, decided_applies, decided_is}
-use Rattle.sn_model.proofs.DecidedLemmas as shape
-use Rattle.sn_model.proofs.DecisionLemmas as found
-use Rattle.sn_model.proofs.DecisionLemmas.{same_ok}
-use Rattle.sn_model.specs.Calls as calls
+use Rattle.sn_model.proofs.StayLemmas.{change_stays, none_stays}
+use Rattle.sn_model.proofs.TreeLemmas.{tree_kept}
 use Rattle.sn_model.proofs.WorldLemmas.{step_world}
-use Rattle.sn_model.specs.Machine.{Running, Memory, OfMemory, Run, RunBy}
-use Rattle.sn_model.specs.Settling.{settle}
+use Rattle.sn_core.proofs.CallerLemmas.{caller_live, can_turn, can_turn_filled}
 use Rattle.sn_core.proofs.RestartLemmas.{settled_least}
-use Rattle.sn_core.specs.PlainRuns.{PlainRun, PlainStep, TakesLeast}
+use Rattle.sn_core.specs.declared.choosing.Chosen.{Chosen}
+use Rattle.sn_core.specs.declared.world.PlainWorld.{PlainWorld}
+use Rattle.sn_core.specs.Called.{CanTurn, HasRoom}
+use Rattle.sn_core.specs.Plain.{room_of, world_of}
+use Rattle.sn_core.specs.PlainRuns.{PlainStep, PlainRun, TakesLeast}
 use Rattle.sn_core.specs.Served.{Chooses, HasNumber, MakesChange}
 
 -- where nothing changes, nothing new has a number
 pub same_least : (old new : World) → new.live ≡ old.live → TakesLeast old new
 same_least old new same number none some = absurd (true≢false (sym some ∙ ap (λ (t : Tree). is_some (map.get t.nodes number)) same ∙ ap is_some none))
-
-some_of : (o : Option Tree) → is_some o ≡ true → (tree : Tree) × (o ≡ Some tree)
-some_of None e = absurd (true≢false (sym e))
-some_of (Some tree) e = (tree, refl)
-
--- the new node of a call that makes one
-module _ (old : World) (session : ℕ) (c : Call) (charge : ℕ) (link : Link) (own : Ownership) (number : ℕ) (whole : IsWorld version_1 old) (decided : decision version_1 old session c ≡ Ok (makes charge link Directory own)) (least : least_unused version_1 old.live ≡ Some number) where
-  abbrev pub grown : Tree
-  grown = with_node old.live number link (node_with Directory own [])
-
-  pub makes_comes : Comes version_1 old session (makes charge link Directory own) (with_live old grown)
-  makes_comes =
-      let free = least_is_number version_1 old.live number whole.live.hierarchy.root (lit≤ tt) least in
-      let t = some_of (changed version_1 number (makes charge link Directory own).change old.live) (decided_applies version_1 old session c (makes charge link Directory own) number (lit< tt) whole decided free) in
-      let m = made_is version_1 old.live link number Directory own t.0 t.1 in
-      record { number = number; free = free; tree = grown; applied = t.1 ∙ ap (λ (x : Tree). Some x) (sym m.gives); world = refl }
-
-  pub makes_least : TakesLeast old (with_live old grown)
-  makes_least n none some = told (same_or_apart nat_cmp_total exact_unsigned n number)
-    where
-      told : (n ≡ number) ⊎ (n ≢ number) → least_unused version_1 old.live ≡ Some n
-      told (inl q) = least ∙ ap (λ (k : ℕ). Some k) (sym q)
-      told (inr q) = absurd (true≢false (sym some ∙ ap is_some (get_other nat_cmp_total exact_unsigned old.live.nodes number (node_with Directory own []) n q ∙ none)))
 
 -- a reply and a world, where a call was decided
 abbrev pub IsServed : World → ℕ → Call → Reply → World → Type 0
@@ -87,12 +67,6 @@ IsServed old session c answer new = Becomes version_1 old session (decision vers
 
 served : (old new : World) (session : ℕ) (c : Call) (o : Outcome) → decision version_1 old session c ≡ Ok o → Comes version_1 old session o new → TakesLeast old new → IsServed old session c o.told new
 served old new session c o e comes least = (subst (λ (d : Result Outcome Refusal). Becomes version_1 old session d o.told new) (sym e) (refl, comes), least)
-
-pub makes_served : (old : World) (session : ℕ) (c : Call) (charge : ℕ) (link : Link) (own : Ownership) (number : ℕ) (tree : Tree) → IsWorld version_1 old → decision version_1 old session c ≡ Ok (makes charge link Directory own) → least_unused version_1 old.live ≡ Some number → tree ≡ with_node old.live number link (node_with Directory own [])
-    → IsServed old session c Done (with_live old tree)
-makes_served old session c charge link own number tree whole decided least e =
-    subst (λ (t : Tree). IsServed old session c Done (with_live old t)) (sym e)
-    (served old (with_live old (with_node old.live number link (node_with Directory own []))) session c (makes charge link Directory own) decided (makes_comes old session c charge link own number whole decided least) (makes_least old session c charge link own number whole decided least))
 
 -- a change of the tree is one of the world
 pub made_so : (r : Result (Unit {0}) ApplyError) (c : Change) (old new : World) (tree : Tree) → new ≡ with_live old tree → Applies r (apply version_1 c old.live) old.live tree → MakesChange r c old new
@@ -107,116 +81,177 @@ lacking lack.Memory c old new h = h
 
 -- a call that was decided has a number left for the node that it makes
 pub has_number : (world : World) (session : ℕ) (c : Call) (o : Outcome) → decision version_1 world session c ≡ Ok o → HasNumber world.live o.change
-has_number world session c o e = told (decided_is version_1 world session c o e)
+has_number world session c o e = told o.change (decided_is version_1 world session c o e).left
   where
-    told : IsDecided version_1 world session c o → HasNumber world.live o.change
-    told (shape.Login s k f) = subst (λ (x : Outcome). HasNumber world.live x.change) (sym f) tt
-    told (shape.Masks s mask f) = subst (λ (x : Outcome). HasNumber world.live x.change) (sym f) tt
-    told (shape.Tells a k f) = subst (λ (x : Outcome). HasNumber world.live x.change) (sym f) tt
-    told (shape.Assigns is can) = subst (λ (x : Outcome). HasNumber world.live x.change) (sym is.2) tt
-    told (shape.Makes s names mode k b n p) = subst (λ (x : Outcome). HasNumber world.live x.change) (sym p.made) (λ none. true≢false (sym (ap is_none none) ∙ p.number))
+    told : (change : Pending) → HasLeft version_1 world.live change → HasNumber world.live change
+    told Nothing h = tt
+    told (Makes directory name kind own) h = λ none. true≢false (sym (ap is_none none) ∙ h)
+    told (Does c) h = tt
+
+-- the tests of the session and of the arguments have passed
+ready_passed : (old : World) (session : ℕ) (c : Call) (o : Outcome) → decision version_1 old session c ≡ Ok o → IsOk (ready old session c)
+ready_passed old session c o e = let r = bind_ok (ready old session c) (outcome_of version_1 old) o e in subst (λ (x : Result Ready Refusal). IsOk x) (sym r.1) refl
+
+-- a call that opens something may find no memory
+pub opening_takes : (old : World) (session : ℕ) (c : Call) (o : Outcome) → decision version_1 old session c ≡ Ok o → is_opening o.caller ≡ true → TakesMemory c × IsOk (ready old session c)
+opening_takes old session c o e opens = ((decided_is version_1 old session c o e).opens opens, ready_passed old session c o e)
 
 -- the tree after the change that was chosen, if one was
 abbrev pub MadeBy : Option Change → Tree → Tree → Type 0
 MadeBy None old new = new ≡ old
 MadeBy (Some c) old new = apply version_1 c old ≡ Some new
 
-caller_keeps : (world : World) (session : ℕ) (caller : Caller) → (with_caller world session caller).live ≡ world.live
-caller_keeps world session Stays = refl
-caller_keeps world session (LogsIn s) = refl
-caller_keeps world session (SetsUmask mask) = refl
+-- what was chosen has been made over a world
+pub record IsMade (old : World) (chosen : Chosen) (room : ℕ) (mid : PlainWorld) : Type 0 where
+  pub tree : Tree
+  pub world : world_of mid ≡ with_live old tree
+  pub done : MadeBy chosen.change old.live tree
+  pub room_is : room_of mid ≡ room
 
--- a node that other attributes are set of had its number before
-assigned_least : (old : World) (number : ℕ) (own : Ownership) (tree : Tree) → owned old.live number own ≡ Some tree → TakesLeast old (with_live old tree)
-assigned_least old number own tree e n none some = told (same_or_apart nat_cmp_total exact_unsigned n number)
-  where
-    p : Owned old.live number own tree
-    p = owned_is old.live number own tree e
+pub some_made : (old before : World) (chosen : Chosen) (room : ℕ) (mid : PlainWorld) (change : Change) → before ≡ old → chosen.change ≡ Some change → MakesChange (Ok tt) change before (world_of mid) → room_of mid ≡ room → IsMade old chosen room mid
+some_made old before chosen room mid change same is made room_is = record {
+  tree = made.0;
+  world = made.2 ∙ ap (λ (w : World). with_live w made.0) same;
+  done = subst (λ (x : Option Change). MadeBy x old.live made.0) (sym is) (ap (λ (w : World). apply version_1 change w.live) (sym same) ∙ made.1);
+  room_is = room_is;
+}
 
-    at : map.get tree.nodes n ≡ map.get (map.insert old.live.nodes number (node_with p.node.kind own p.node.bytes)) n
-    at = ap (λ (t : Tree). map.get t.nodes n) (sym p.gives)
-
-    told : (n ≡ number) ⊎ (n ≢ number) → least_unused version_1 old.live ≡ Some n
-    told (inl q) = let never : None ≡ Some p.node = sym none ∙ ap (map.get old.live.nodes) q ∙ p.there in absurd cc
-    told (inr q) = absurd (true≢false (sym some ∙ ap is_some (at ∙ get_other nat_cmp_total exact_unsigned old.live.nodes number (node_with p.node.kind own p.node.bytes) n q ∙ none)))
-
--- a call whose change was chosen and made was served
-module _ (old : World) (session : ℕ) (c : Call) (o : Outcome) (change : Option Change) (tree : Tree) (whole : IsWorld version_1 old) (decided : decision version_1 old session c ≡ Ok o) (chosen : Chooses old.live o.change change) (done : MadeBy change old.live tree) where
-  nothing_served : o.change ≡ Nothing → IsServed old session c o.told (with_caller (with_live old tree) session o.caller)
-  nothing_served q =
-      let none : change ≡ None = subst (λ (x : Pending). Chooses old.live x change) q chosen in
-      let same : tree ≡ old.live = subst (λ (x : Option Change). MadeBy x old.live tree) none done in
-      let new = with_caller (with_live old tree) session o.caller in
-      let comes : Comes version_1 old session o new = record {
-        number = 0;
-        free = subst (λ (x : Pending). IsNumberFor version_1 old.live 0 x) (sym q) tt;
-        tree = tree;
-        applied = ap (λ (x : Pending). changed version_1 0 x old.live) q ∙ ap (λ (t : Tree). Some t) (sym same);
-        world = refl;
-      } in
-      served old new session c o decided comes (same_least old new (caller_keeps (with_live old tree) session o.caller ∙ same))
-
-  made_served : (charge : ℕ) (link : Link) (own : Ownership) → o ≡ makes charge link Directory own → IsServed old session c o.told (with_caller (with_live old tree) session o.caller)
-  made_served charge link own q =
-      let picked : Chooses old.live (makes charge link Directory own).change change = subst (λ (x : Outcome). Chooses old.live x.change change) q chosen in
-      let e : made version_1 old.live link picked.0 Directory own ≡ Some tree = subst (λ (x : Option Change). MadeBy x old.live tree) picked.2 done in
-      let m = made_is version_1 old.live link picked.0 Directory own tree e in
-      subst (λ (x : Outcome). IsServed old session c x.told (with_caller (with_live old tree) session x.caller)) (sym q)
-      (makes_served old session c charge link own picked.0 tree whole (decided ∙ ap (λ (x : Outcome). Ok x) q) picked.1 (sym m.gives))
-
-  assigned_served : (number : ℕ) (own : Ownership) → o ≡ sets version_1.inode_charge number own → IsServed old session c o.told (with_caller (with_live old tree) session o.caller)
-  assigned_served number own q =
-      let is : change ≡ Some (SetAttributes number own) = subst (λ (x : Outcome). Chooses old.live x.change change) q chosen in
-      let e : owned old.live number own ≡ Some tree = subst (λ (x : Option Change). MadeBy x old.live tree) is done in
-      let comes : Comes version_1 old session (sets version_1.inode_charge number own) (with_live old tree) = record { number = 0; free = tt; tree = tree; applied = e; world = refl } in
-      subst (λ (x : Outcome). IsServed old session c x.told (with_caller (with_live old tree) session x.caller)) (sym q)
-      (served old (with_live old tree) session c (sets version_1.inode_charge number own) (decided ∙ ap (λ (x : Outcome). Ok x) q) comes (assigned_least old number own tree e))
-
-  pub chosen_served : IsServed old session c o.told (with_caller (with_live old tree) session o.caller)
-  chosen_served = told (decided_is version_1 old session c o decided)
-    where
-      told : IsDecided version_1 old session c o → IsServed old session c o.told (with_caller (with_live old tree) session o.caller)
-      told (shape.Login s k f) = nothing_served (ap (λ (x : Outcome). x.change) f)
-      told (shape.Masks s mask f) = nothing_served (ap (λ (x : Outcome). x.change) f)
-      told (shape.Tells a k f) = nothing_served (ap (λ (x : Outcome). x.change) f)
-      told (shape.Assigns is can) = assigned_served is.0 is.1 is.2
-      told (shape.Makes s names mode k b n p) = made_served _ _ _ p.made
-
--- the tests of the session and of the arguments have passed
-ready_passed : (old : World) (session : ℕ) (c : Call) (o : Outcome) → decision version_1 old session c ≡ Ok o → IsOk (ready old session c)
-ready_passed old session c o e = let r = bind_ok (ready old session c) (outcome_of version_1 old) o e in subst (λ (x : Result Ready Refusal). IsOk x) (sym r.1) refl
-
--- a call that changes nothing has no change
-no_change : {A : Type 0} (old : World) (o : Outcome) (change : Change) → o.change ≡ Nothing → Chooses old.live o.change (Some change) → A
-no_change old o change q chosen = let none : Some change ≡ None = subst (λ (x : Pending). Chooses old.live x (Some change)) q chosen in absurd cc
-
--- what the calls that take no memory come to
-login_changes : (old : World) (session uid gid : ℕ) (groups : List ℕ) (o : Outcome) → decision version_1 old session (Login uid gid groups) ≡ Ok o → o.change ≡ Nothing
-login_changes old session uid gid groups o e =
-    let r = bind_ok (ready old session (Login uid gid groups)) (outcome_of version_1 old) o e in
-    let p = bind_ok (logged_out old session) (λ _. found.ok (calls.Login (new_session uid gid groups))) r.0 r.1 in
-    let opened : opens (new_session uid gid groups) ≡ o = same_ok _ _ (subst (λ (x : Ready). outcome_of version_1 old x ≡ Ok o) (sym (same_ok _ _ p.2)) r.2) in
-    ap (λ (x : Outcome). x.change) (sym opened)
-
-umask_changes : (old : World) (session mask : ℕ) (o : Outcome) → decision version_1 old session (Umask mask) ≡ Ok o → o.change ≡ Nothing
-umask_changes old session mask o e =
-    let r = bind_ok (ready old session (Umask mask)) (outcome_of version_1 old) o e in
-    let p = bind_ok (logged_in old session) (λ s. new_mode_argument mask >>= (λ bits. found.ok (calls.Umask s bits))) r.0 r.1 in
-    let q = bind_ok (new_mode_argument mask) (λ bits. found.ok (calls.Umask p.0 bits)) r.0 p.2 in
-    let masked : umask_outcome p.0 q.0 ≡ o = same_ok _ _ (subst (λ (x : Ready). outcome_of version_1 old x ≡ Ok o) (sym (same_ok _ _ q.2)) r.2) in
-    ap (λ (x : Outcome). x.change) (sym masked)
+pub none_made : (old : World) (chosen : Chosen) (room : ℕ) (mid : PlainWorld) → world_of mid ≡ old → chosen.change ≡ None → room_of mid ≡ room → IsMade old chosen room mid
+none_made old chosen room mid same is room_is = record {
+  tree = old.live;
+  world = same;
+  done = subst (λ (x : Option Change). MadeBy x old.live old.live) (sym is) refl;
+  room_is = room_is;
+}
 
 -- a call that changes something may find no memory
-pub change_takes : (old : World) (session : ℕ) (c : Call) (o : Outcome) (change : Change) → decision version_1 old session c ≡ Ok o → Chooses old.live o.change (Some change) → TakesMemory c × IsOk (ready old session c)
-change_takes old session (Login uid gid groups) o change e chosen = no_change old o change (login_changes old session uid gid groups o e) chosen
-change_takes old session (Umask mask) o change e chosen = no_change old o change (umask_changes old session mask o e) chosen
-change_takes old session (Mkdir path mode) o change e chosen = (tt, ready_passed old session (Mkdir path mode) o e)
-change_takes old session (Chmod path mode) o change e chosen = (tt, ready_passed old session (Chmod path mode) o e)
-change_takes old session (Chown path uid gid) o change e chosen = (tt, ready_passed old session (Chown path uid gid) o e)
-change_takes old session (Stat path) o change e chosen = (tt, ready_passed old session (Stat path) o e)
-change_takes old session (Access path want) o change e chosen = (tt, ready_passed old session (Access path want) o e)
-change_takes old session (GetAcl path kind) o change e chosen = (tt, ready_passed old session (GetAcl path kind) o e)
-change_takes old session (SetAcl path kind acl) o change e chosen = (tt, ready_passed old session (SetAcl path kind acl) o e)
+pub change_takes : (old : World) (session : ℕ) (c : Call) (o : Outcome) (chosen : Chosen) (change : Change) → decision version_1 old session c ≡ Ok o → Chooses old.live o.change o.caller chosen → chosen.change ≡ Some change → TakesMemory c × IsOk (ready old session c)
+change_takes old session c o chosen change e is some = (told o.change (decided_is version_1 old session c o e).takes is, ready_passed old session c o e)
+  where
+    told : (pending : Pending) → OnChange (TakesMemory c) pending → Chooses old.live pending o.caller chosen → TakesMemory c
+    told Nothing takes is = let never : None ≡ Some change = sym (ap (λ (x : Chosen). x.change) is) ∙ some in absurd cc
+    told (Makes directory name kind own) takes is = takes
+    told (Does d) takes is = takes
+
+-- no number is given out but the one that a new node gets
+some_of : (o : Option Node) → is_some o ≡ true → (x : Node) × (o ≡ Some x)
+some_of None e = absurd (true≢false (sym e))
+some_of (Some x) e = (x, refl)
+
+abbrev GivesLeast : World → Tree → Type 0
+GivesLeast old tree = (n : ℕ) → map.get old.live.nodes n ≡ None → is_some (map.get tree.nodes n) ≡ true → least_unused version_1 old.live ≡ Some n
+
+dropped_least : (old : World) (session : ℕ) (tree : Tree) (caller : Caller) → GivesLeast old tree → TakesLeast old (dropped (with_caller (with_live old tree) session caller))
+dropped_least old session tree caller least n none some =
+    let left = with_caller (with_live old tree) session caller in
+    let x = some_of (map.get (dropped left).live.nodes n) some in
+    least n none (ap (λ (t : Tree). is_some (map.get t.nodes n)) (sym (caller_live (with_live old tree) session caller)) ∙ ap is_some (without_was (is_held left) left.live n x.0 x.1))
+
+made_least : (old : World) (link : Link) (number : ℕ) (kind : Kind) (own : Ownership) (tree : Tree) → made version_1 old.live link number kind own ≡ Some tree → least_unused version_1 old.live ≡ Some number → GivesLeast old tree
+made_least old link number kind own tree e least n none some = told (same_or_apart nat_cmp_total exact_unsigned n number)
+  where
+    m : Made version_1 old.live link number kind own tree
+    m = made_is version_1 old.live link number kind own tree e
+
+    told : (n ≡ number) ⊎ (n ≢ number) → least_unused version_1 old.live ≡ Some n
+    told (inl q) = least ∙ ap (λ (k : ℕ). Some k) (sym q)
+    told (inr q) = absurd (true≢false (sym some ∙ ap (λ (t : Tree). is_some (map.get t.nodes n)) (sym m.gives) ∙ ap is_some (get_other nat_cmp_total exact_unsigned old.live.nodes number (node_with kind own []) n q ∙ none)))
+
+done_least : (old : World) (change : Change) (tree : Tree) → IsOfOld change → apply version_1 change old.live ≡ Some tree → GivesLeast old tree
+done_least old change tree of_old e n none some =
+    absurd (true≢false (sym some ∙ ap is_some (none_stays (map.get old.live.nodes n) (map.get tree.nodes n) (change_stays version_1 change old.live tree of_old e n) none)))
+
+-- a number isn't filled in where nothing is made
+unfilled : (old : World) (session number : ℕ) (change : Pending) (caller : Caller) → FitsCaller version_1 old session change caller → (MakesFile change → ⊥) → filled number caller ≡ caller
+unfilled old session number change Stays fits none = refl
+unfilled old session number change (LogsIn s) fits none = refl
+unfilled old session number change (SetsUmask mask) fits none = refl
+unfilled old session number change LogsOut fits none = refl
+unfilled old session number change (Opens fd home n flags) fits none = refl
+unfilled old session number change (OpensNew fd flags) fits none = absurd (none fits.1)
+unfilled old session number change (Closes fd) fits none = refl
+unfilled old session number change (Moves fd offset) fits none = refl
+
+-- a call whose change was chosen and made was served
+module _ (old : World) (session : ℕ) (c : Call) (o : Outcome) (chosen : Chosen) (tree : Tree) (numbers : IsCall c) (whole : IsWorld version_1 old) (decided : decision version_1 old session c ≡ Ok o) (is : Chooses old.live o.change o.caller chosen) (done : MadeBy chosen.change old.live tree) where
+  d : IsDecided version_1 old session c o
+  d = decided_is version_1 old session c o decided
+
+  abbrev after : World
+  after = dropped (with_caller (with_live old tree) session chosen.caller)
+
+  -- what becomes of the caller is as it was decided
+  called : (number : ℕ) → chosen.caller ≡ filled number o.caller → after ≡ dropped (with_caller (with_live old tree) session (filled number o.caller))
+  called number e = ap (λ (k : Caller). dropped (with_caller (with_live old tree) session k)) e
+
+  by_change : (change : Pending) → o.change ≡ change → Chooses old.live change o.caller chosen → FitsCaller version_1 old session change o.caller → DoesToOld change → IsServed old session c o.told after
+  by_change Nothing e is fits of_old =
+      let same : tree ≡ old.live = subst (λ (x : Option Change). MadeBy x old.live tree) (ap (λ (x : Chosen). x.change) is) done in
+      let comes : Comes version_1 old session o after = record {
+        number = 0;
+        free = subst (λ (x : Pending). IsNumberFor version_1 old.live 0 x) (sym e) tt;
+        tree = tree;
+        applied = ap (λ (x : Pending). changed version_1 0 x old.live) e ∙ ap (λ (t : Tree). Some t) (sym same);
+        world = called 0 (ap (λ (x : Chosen). x.caller) is ∙ sym (unfilled old session 0 Nothing o.caller fits (λ h. h)));
+      } in
+      served old after session c o decided comes (dropped_least old session tree chosen.caller (λ n none some. absurd (true≢false (sym some ∙ ap (λ (t : Tree). is_some (map.get t.nodes n)) same ∙ ap is_some none))))
+  by_change (Makes directory name kind own) e is fits of_old =
+      let number = is.0 in
+      let link = link_to directory name in
+      let applied : made version_1 old.live link number kind own ≡ Some tree = subst (λ (x : Option Change). MadeBy x old.live tree) (ap (λ (x : Chosen). x.change) is.2) done in
+      let comes : Comes version_1 old session o after = record {
+        number = number;
+        free = subst (λ (x : Pending). IsNumberFor version_1 old.live number x) (sym e) (least_is_number version_1 old.live number whole.live.hierarchy.root (lit≤ tt) is.1);
+        tree = tree;
+        applied = ap (λ (x : Pending). changed version_1 number x old.live) e ∙ applied;
+        world = called number (ap (λ (x : Chosen). x.caller) is.2);
+      } in
+      served old after session c o decided comes (dropped_least old session tree chosen.caller (made_least old link number kind own tree applied is.1))
+  by_change (Does change) e is fits of_old =
+      let applied : apply version_1 change old.live ≡ Some tree = subst (λ (x : Option Change). MadeBy x old.live tree) (ap (λ (x : Chosen). x.change) is) done in
+      let comes : Comes version_1 old session o after = record {
+        number = 0;
+        free = subst (λ (x : Pending). IsNumberFor version_1 old.live 0 x) (sym e) tt;
+        tree = tree;
+        applied = ap (λ (x : Pending). changed version_1 0 x old.live) e ∙ applied;
+        world = called 0 (ap (λ (x : Chosen). x.caller) is ∙ sym (unfilled old session 0 (Does change) o.caller fits (λ h. h)));
+      } in
+      served old after session c o decided comes (dropped_least old session tree chosen.caller (done_least old change tree of_old applied))
+
+  pub chosen_served : IsServed old session c o.told after
+  chosen_served = by_change o.change refl is (d.fits numbers whole) d.of_old
+
+  -- only what the change took a name of may be left to nobody
+  lost_by : (change : Pending) → Chooses old.live change o.caller chosen → DoesToOld change → OnlyLost (with_live old tree) chosen.lost
+  lost_by Nothing is of_old =
+      let same : tree ≡ old.live = subst (λ (x : Option Change). MadeBy x old.live tree) (ap (λ (x : Chosen). x.change) is) done in
+      subst (λ (x : Option ℕ). OnlyLost (with_live old tree) x) (sym (ap (λ (x : Chosen). x.lost) is)) (subst (λ (t : Tree). OnlyLost (with_live old t) None) (sym same) (no_loss version_1 old whole))
+  lost_by (Makes directory name kind own) is of_old =
+      let applied : made version_1 old.live (link_to directory name) is.0 kind own ≡ Some tree = subst (λ (x : Option Change). MadeBy x old.live tree) (ap (λ (x : Chosen). x.change) is.2) done in
+      subst (λ (x : Option ℕ). OnlyLost (with_live old tree) x) (sym (ap (λ (x : Chosen). x.lost) is.2)) (made_loss version_1 old tree whole directory name is.0 kind own applied)
+  lost_by (Does change) is of_old =
+      let applied : apply version_1 change old.live ≡ Some tree = subst (λ (x : Option Change). MadeBy x old.live tree) (ap (λ (x : Chosen). x.change) is) done in
+      subst (λ (x : Option ℕ). OnlyLost (with_live old tree) x) (sym (ap (λ (x : Chosen). x.lost) is)) (done_loss version_1 old tree whole change of_old applied)
+
+  pub chosen_lost : OnlyLost (with_live old tree) chosen.lost
+  chosen_lost = lost_by o.change is d.of_old
+
+  -- what is opened gets the next descriptor
+  pub chosen_turns : (room : ℕ) → HasRoom o.caller room → CanTurn old.descriptors room session chosen.caller
+  chosen_turns room has = told o.change is (d.fits numbers whole)
+    where
+      told : (change : Pending) → Chooses old.live change o.caller chosen → FitsCaller version_1 old session change o.caller → CanTurn old.descriptors room session chosen.caller
+      told Nothing is fits = subst (CanTurn old.descriptors room session) (sym (ap (λ (x : Chosen). x.caller) is)) (can_turn old session room whole.count Nothing o.caller fits has)
+      told (Makes directory name kind own) is fits = subst (CanTurn old.descriptors room session) (sym (ap (λ (x : Chosen). x.caller) is.2)) (can_turn_filled old session room whole.count (Makes directory name kind own) o.caller is.0 fits has)
+      told (Does change) is fits = subst (CanTurn old.descriptors room session) (sym (ap (λ (x : Chosen). x.caller) is)) (can_turn old session room whole.count (Does change) o.caller fits has)
+
+  -- the tree is a name tree still
+  pub chosen_whole : IsTree version_1 tree
+  chosen_whole = told chosen.change done
+    where
+      told : (change : Option Change) → MadeBy change old.live tree → IsTree version_1 tree
+      told None e = subst (IsTree version_1) (sym e) whole.live
+      told (Some change) e = tree_kept version_1 change old.live tree whole.live e
 
 -- what was served leaves a world
 pub served_whole : (old new : World) (session : ℕ) (c : Call) (answer : Reply) → IsServed old session c answer new → IsCall c → IsWorld version_1 old → IsWorld version_1 new

@@ -1,14 +1,26 @@
 -- What is seen of the tree in memory, and what was decided over it.
-use Rattle.std.proofs.Common.{◌≡◌, ℕ, false, List, is_some, ap, ◌∙◌}
+use Rattle.std.proofs.Common.{◌≡◌, ℕ, false, List, [], Option, Result, is_some, ap, ◌∙◌}
+use Rattle.std.specs.Option.{option_and_then}
 use Rattle.std.specs.Ordering.{nat_cmp}
 use Rattle.std.specs.Cmp.Lexicographic.{slice_cmp}
 use Rattle.std.specs.FinMap as fin
+use Rattle.std.specs.declared.convert.Infallible.{Infallible}
 use Rattle.sn_walk.specs.declared.object.Home.{Home}
 use Rattle.sn_walk.specs.declared.object.Home.TheVariants.{Frozen}
+use Rattle.sn_walk.specs.declared.failure.Failure.{Failure}
+use Rattle.sn_walk.specs.declared.failure.Failure.TheVariants.{Refused, Fault}
+use Rattle.sn_walk.specs.Gives.{Fails}
 use Rattle.sn_walk.specs.Views.{nothing}
+use Rattle.sn_limits.specs.Versions.{version_1}
+use Rattle.sn_model.specs.declared.call.Call.{Call}
+use Rattle.sn_model.specs.declared.outcome.Outcome.{Outcome}
+use Rattle.sn_model.specs.declared.reply.Refusal.{Refusal}
+use Rattle.sn_model.specs.FileCalls.{bytes_of}
 use Rattle.sn_model.specs.Tree.{Tree}
-use Rattle.sn_model.specs.World.{tree_in, viewed_if}
+use Rattle.sn_model.specs.Steps.{decision}
+use Rattle.sn_model.specs.World.{World, tree_in, viewed_if}
 use Rattle.sn_core.specs.Plain.{plain_trees}
+use Rattle.sn_core.specs.Served.{HasNone, as_error}
 
 -- nothing is seen of a frozen tree
 pub none_frozen : (tree : Tree) (home : Home) (name : List ℕ) → home ≡ Frozen name → viewed_if (tree_in (plain_trees tree) home) ≡ nothing
@@ -16,3 +28,14 @@ none_frozen tree home name e = ap (λ (h : Home). viewed_if (tree_in (plain_tree
 
 pub no_snapshot : (tree : Tree) (name : List ℕ) → fin.contains_key (plain_trees tree).frozen name ≡ false
 no_snapshot tree name = ap is_some (fin.get-empty (slice_cmp nat_cmp) name)
+
+-- and no bytes of a file in one
+pub frozen_bytes : (tree : Tree) (number : ℕ) (home : Home) (name : List ℕ) → home ≡ Frozen name → bytes_of (option_and_then (λ (t : Tree). fin.get t.nodes number) (tree_in (plain_trees tree) home)) ≡ []
+frozen_bytes tree number home name e =
+    ap (λ (h : Home). bytes_of (option_and_then (λ (t : Tree). fin.get t.nodes number) (tree_in (plain_trees tree) h))) e
+    ∙ ap (λ (o : Option Tree). bytes_of (option_and_then (λ (t : Tree). fin.get t.nodes number) o)) (fin.get-empty (slice_cmp nat_cmp) name)
+
+-- a look-up has no fault, so that what failed was refused
+pub gives_none : (world : World) (session : ℕ) (c : Call) (decided : Result Outcome Refusal) (e : Failure Refusal Infallible) → Fails e decided → decision version_1 world session c ≡ decided → HasNone (as_error e) world session c
+gives_none world session c decided (Refused r) fails is = is ∙ fails
+gives_none world session c decided (Fault f) fails is = elim f [ ]

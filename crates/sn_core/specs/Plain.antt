@@ -1,4 +1,5 @@
 -- What the live tree in memory and the sessions stand for.
+use Rattle.std.specs.Prelude.{ℕ}
 use Rattle.std.specs.FinMap as map
 use Rattle.sn_model.specs.Tree.{Tree}
 use Rattle.sn_model.specs.World.{Trees, World}
@@ -12,3 +13,7 @@ plain_trees tree = record { live = tree; frozen = map.empty }
 
 abbrev pub world_of : PlainWorld → World
 world_of w = record { live = tree_of w.tree; frozen = map.empty; sessions = (in_use_of w.sessions).sessions; descriptors = (in_use_of w.sessions).descriptors }
+
+-- so many more files can be opened without memory
+abbrev pub room_of : PlainWorld → ℕ
+room_of w = (in_use_of w.sessions).room

@@ -1,5 +1,5 @@
 -- The parts of serving a call, and a call that was served: its reply, or why it isn't done, and the world after it.
-use Rattle.std.specs.Prelude.{◌≡◌, ◌≢◌, ℕ, Option, None, Some, Result, Ok, Err, IsOk}
+use Rattle.std.specs.Prelude.{◌≡◌, ◌≢◌, ℕ, None, Some, Result, Ok, Err, IsOk}
 use Rattle.sn_walk.specs.declared.failure.Failure.{Failure}
 use Rattle.sn_walk.specs.declared.failure.Failure.TheVariants as failure
 use Rattle.sn_model.specs.declared.call.Call.{Call}
@@ -8,6 +8,7 @@ use Rattle.sn_model.specs.declared.reply.Reply.{Reply}
 use Rattle.sn_model.specs.declared.change.Change.{Change}
 use Rattle.sn_model.specs.declared.change.Change.TheVariants.{Make}
 use Rattle.sn_model.specs.Changes.{apply}
+use Rattle.sn_model.specs.declared.outcome.Caller.{Caller}
 use Rattle.sn_model.specs.declared.outcome.Outcome.{Outcome}
 use Rattle.sn_model.specs.declared.outcome.Pending.{Pending}
 use Rattle.sn_model.specs.declared.outcome.Pending.TheVariants.{Nothing, Makes, Does}
@@ -15,10 +16,12 @@ use Rattle.sn_model.specs.Tree.{Tree, least_unused}
 use Rattle.sn_model.specs.World.{World}
 use Rattle.sn_limits.specs.Versions.{version_1}
 use Rattle.sn_model.specs.Calls.{ready}
-use Rattle.sn_model.specs.Steps.{Becomes, TakesMemory, decision, with_live}
+use Rattle.sn_model.specs.Settling.{loses}
+use Rattle.sn_model.specs.Steps.{Becomes, TakesMemory, decision, filled, with_live}
 use Rattle.sn_plain.specs.declared.error.ApplyError.{ApplyError}
 use Rattle.sn_plain.specs.declared.error.ApplyError.TheVariants as lack
 use Rattle.sn_core.specs.PlainRuns.{TakesLeast}
+use Rattle.sn_core.specs.declared.choosing.Chosen.{Chosen}
 use Rattle.sn_core.specs.declared.error.CallError.{CallError}
 use Rattle.sn_core.specs.declared.error.CallError.TheVariants.{Refused, Memory}
 
@@ -43,11 +46,11 @@ HasNumber tree Nothing = Unit {0}
 HasNumber tree (Makes directory name kind o) = least_unused version_1 tree ≢ None
 HasNumber tree (Does c) = Unit {0}
 
--- the change that is pending, where a new node has the least unused number
-abbrev pub Chooses : Tree → Pending → Option Change → Type 0
-Chooses tree Nothing change = change ≡ None
-Chooses tree (Makes directory name kind o) change = (number : ℕ) × (least_unused version_1 tree ≡ Some number) × (change ≡ Some (Make directory name number kind o))
-Chooses tree (Does c) change = change ≡ Some c
+-- what is pending, where a new node has the least unused number
+abbrev pub Chooses : Tree → Pending → Caller → Chosen → Type 0
+Chooses tree Nothing caller chosen = chosen ≡ record { change = None; caller = caller; lost = None }
+Chooses tree (Makes directory name kind o) caller chosen = (number : ℕ) × (least_unused version_1 tree ≡ Some number) × (chosen ≡ record { change = Some (Make directory name number kind o); caller = filled number caller; lost = None })
+Chooses tree (Does c) caller chosen = chosen ≡ record { change = Some c; caller = caller; lost = loses c tree }
 
 -- why a change isn't made
 abbrev pub LacksFor : ApplyError → Change → World → World → Type 0

@@ -2,21 +2,27 @@
 //! that are to come.
 //!
 //! [`run_plain`] answers a list of events, and its contract is the machine of `sn_model`: the replies
-//! are a run of it from the empty world. Below it, `world` has the tree and the sessions of `sn_desc`, and serves
-//! one call, `deciding` has what `sn_core_decide` decides over the tree by `view`, and the tree of `sn_plain` makes
-//! it so. `specs/Plain` says which world this stands for.
+//! are a run of it from the empty world. Below it, `world` has the tree of `sn_plain` and the sessions of
+//! `sn_desc`, and serves one call: `deciding` and `deciding_files` have what it comes to, the most of it by
+//! `sn_core_decide` over the tree as `view` shows it; `choosing` fills in a new node's number; the tree makes the
+//! change; and `calling` sets what becomes of the session and its descriptors, and drops a file that nobody has
+//! and no name stands for. `specs/Plain` says which world this stands for.
 //!
 //! ```text
 //! let (replies, end) = run_plain(alloc, &events);
 //! ```
 #![tactic(auto)]
 
+mod calling;
+mod choosing;
 mod deciding;
+mod deciding_files;
 mod error;
 mod plain;
 mod view;
 mod world;
 
+pub use choosing::Chosen;
 pub use error::CallError;
 pub use plain::run_plain;
 pub use world::PlainWorld;

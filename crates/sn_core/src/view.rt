@@ -80,7 +80,9 @@ impl<'a> TreeView for PlainView<'a> {
 impl<'a> CallView for PlainView<'a> {
     ghost use Rattle.std.proofs.Common.{ap};
     ghost use Rattle.sn_limits.specs.Versions.{version_1};
+    ghost use Rattle.sn_model.specs.Seen.{seen_names};
     ghost use Rattle.sn_model.specs.Tests.{has_room};
+    ghost use Rattle.sn_core.specs.Plain.{plain_trees};
     ghost use Rattle.sn_plain.specs.Plain.{tree_of};
 
     ghost room = { λ v. has_room version_1 (tree_of v.tree.now) };
@@ -92,5 +94,20 @@ impl<'a> CallView for PlainView<'a> {
         }
     }
 
+    ghost names = { λ v. seen_names version_1 (plain_trees (tree_of v.tree.now)) };
+
+    fn has_room_for_name(&mut self, directory: u16) -> Result<(), Failure<Refusal, Infallible>> {
+        match self.tree.has_room_for_name(&Limits::VERSION_1, directory) {
+            Ok(()) => Ok(()),
+            Err(refusal) => Err(Failure::Refused(refusal)),
+        }
+    }
+
+    fn is_empty(&mut self, directory: u16) -> Result<bool, Infallible> {
+        Ok(self.tree.names_in(directory) == 0)
+    }
+
     ghost room_stays = { λ u v told e. ap (λ w. has_room version_1 (tree_of w.tree.now)) e };
+
+    ghost names_stay = { λ u v told e. ap (λ w. seen_names version_1 (plain_trees (tree_of w.tree.now))) e };
 }

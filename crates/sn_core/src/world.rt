@@ -1,34 +1,34 @@
 ghost use Rattle.std.specs.Prelude.{◌≡◌, IfOk};
 ghost use Rattle.sn_model.specs.NameTree.{IsTree};
 ghost use Rattle.sn_model.specs.Settling.{settle};
-ghost use Rattle.sn_model.specs.Steps.{with_caller};
 ghost use Rattle.sn_model.specs.Tests.{logged_in, logged_out};
 ghost use Rattle.sn_limits.specs.Versions.{version_1};
 ghost use Rattle.sn_model.specs.Worlds.{IsWorld};
 ghost use Rattle.sn_core.specs.PlainRuns.{PlainStep};
+ghost use Rattle.sn_model.specs.Tree.{least_unused, link_to};
 ghost use Rattle.sn_model.specs.World.{new_world};
+ghost use Rattle.std.specs.FinMap as map;
 ghost use Rattle.sn_walk.specs.Gives.{Answers};
-ghost use Rattle.sn_core.specs.Served.{Chooses, HasNumber, MakesChange, Serves};
+ghost use Rattle.sn_core.specs.Served.{MakesChange, Serves};
 
+use crate::choosing::Chosen;
 use crate::error::CallError;
 use crate::view::PlainView;
 use sn_desc::Sessions;
 use sn_limits::Limits;
-use sn_model::{
-    Call, Caller, Change, Errno, Event, Outcome, Pending, Progress, Refusal, Reply, Session,
-};
+use sn_model::{Call, Change, Errno, Event, Outcome, Progress, Refusal, Reply, Session};
 use sn_plain::{ApplyError, PlainTree};
 use std::alloc::{AllocError, Global};
 
 /// The live tree, and who is logged in.
 #[derive(Drop)]
 pub struct PlainWorld {
-    tree: PlainTree,
-    sessions: Sessions,
+    pub(crate) tree: PlainTree,
+    pub(crate) sessions: Sessions,
 }
 
 impl PlainWorld {
-    ghost use Rattle.sn_core.specs.Plain.{world_of};
+    ghost use Rattle.sn_core.specs.Plain.{room_of, world_of};
 
     /// A root directory alone, and nobody logged in.
     pub fn new(alloc: Global) -> Result<PlainWorld, AllocError>
@@ -61,50 +61,26 @@ impl PlainWorld {
         PlainView { tree: &self.tree }
     }
 
-    /// The change that is pending, if one is. A new node gets the least number that no node has, of
-    /// which there has to be one.
-    pub fn choose<'a>(&self, pending: Pending<'a>) -> Option<Change<'a>>
-        requires { HasNumber (world_of self.now).live pending }
-        ensures { Chooses (world_of self.now).live pending.entry result }
+    /// The number that a name of a directory of the live tree stands for.
+    pub(crate) fn link(&self, directory: u16, name: &[u8]) -> Option<u16>
+        ensures { result ≡ map.get (world_of self.now).live.links (link_to directory name.now) }
     {
-        match pending {
-            Pending::Nothing => None,
-            Pending::Makes {
-                directory,
-                name,
-                kind,
-                ownership,
-            } => match self.tree.least_unused(&Limits::VERSION_1) {
-                Some(number) => Some(Change::Make {
-                    directory,
-                    name,
-                    number,
-                    kind,
-                    ownership,
-                }),
-                None => unreachable!(),
-            },
-            Pending::Does(change) => Some(change),
-        }
+        self.tree.link(directory, name)
+    }
+
+    pub(crate) fn least_unused(&self, limits: &Limits) -> Option<u16>
+        ensures { result ≡ least_unused limits.now (world_of self.now).live }
+    {
+        self.tree.least_unused(limits)
     }
 
     /// Makes a change of the live tree.
     pub fn apply(&mut self, alloc: Global, change: &Change<'_>) -> Result<(), ApplyError>
         requires { IsTree version_1 (world_of self.old).live }
         ensures made { MakesChange result change.now (world_of self.old) (world_of self.new) }
+        ensures room { room_of self.new ≡ room_of self.old }
     {
         self.tree.apply(alloc, &Limits::VERSION_1, change)
-    }
-
-    /// Sets what becomes of a caller's session.
-    pub fn set_caller(&mut self, session: u32, caller: Caller)
-        ensures world { world_of self.new ≡ with_caller (world_of self.old) session caller }
-    {
-        match caller {
-            Caller::Stays => {}
-            Caller::LogsIn(new) => self.sessions.login(session, new),
-            Caller::SetsUmask(mask) => self.sessions.set_umask(session, mask),
-        }
     }
 
     /// Logs all out, and takes all files away that no name stands for.
@@ -126,7 +102,13 @@ impl PlainWorld {
             told,
             ..
         } = self.decide(alloc, session, call)?;
-        match self.choose(change) {
+        self.prepare(&caller)?;
+        let Chosen {
+            change,
+            caller,
+            lost,
+        } = self.choose(change, caller);
+        match change {
             Some(change) => match self.apply(alloc, &change) {
                 Ok(()) => {}
                 // What was decided can be applied, so that memory alone can lack.
@@ -134,7 +116,7 @@ impl PlainWorld {
             },
             None => {}
         }
-        self.set_caller(session, caller);
+        self.set_caller(session, caller, lost);
         Ok(told)
     }
 

@@ -1,13 +1,17 @@
 ghost use Rattle.std.specs.Prelude.{◌≡◌, ◌≤◌, IsTrue, IfOk};
 ghost use Rattle.sn_acl.specs.Access.{denial_of};
 ghost use Rattle.sn_model.specs.AccessCalls as calls;
+ghost use Rattle.sn_model.specs.FileCalls as files;
+ghost use Rattle.sn_model.specs.Seen as seen;
 ghost use Rattle.sn_model.specs.Tests as tests;
 ghost use Rattle.sn_walk.specs.Gives.{Answers, Gives, IfFault};
-ghost use Rattle.sn_walk.specs.Walks.{end_of};
+ghost use Rattle.sn_walk.specs.Walks.{end_of, found_at};
 
 use sn_acl::{Acl, Cred, Mode, Permissions, Tag, check};
 use sn_limits::Kind;
-use sn_model::{Access, AclKind, Denial, Errno, ModeBits, NewAcl, PathNumber, Refusal, Rule, Word};
+use sn_model::{
+    Access, AclKind, Denial, Errno, ModeBits, NewAcl, OpenFlags, PathNumber, Refusal, Rule, Word,
+};
 use sn_walk::{
     Attributes, Failure, Found, Object, Obstacle, Path, PathFault, TreeView, WalkRefusal, Walked,
     attributes_of, reached, walk,
@@ -73,6 +77,41 @@ pub fn id_argument(id: Option<u32>) -> Result<Option<u32>, Refusal>
         Some(number) => Ok(Some(number)),
         None => Ok(None),
     }
+}
+
+/// An argument that is how to open a file: EINVAL where neither reading nor writing is asked for, where
+/// what isn't written to is to be appended to or truncated, and where what isn't to be created is to be
+/// exclusive.
+pub fn flags_argument(flags: OpenFlags) -> Result<OpenFlags, Refusal>
+    ensures { result ≡ files.flags_argument flags }
+{
+    let is_for_something = flags.read || flags.write;
+    let writes = flags.write || !(flags.append || flags.truncate);
+    let creates = flags.create || !flags.exclusive;
+    if is_for_something && writes && creates {
+        return Ok(flags);
+    }
+    Err(Refusal::plain(Errno::Einval))
+}
+
+/// An argument that is how many bytes to read: EINVAL over 65,536.
+pub fn count_argument(count: u64) -> Result<u64, Refusal>
+    ensures { result ≡ files.count_argument count }
+{
+    if count > 65_536 {
+        return Err(Refusal::plain(Errno::Einval));
+    }
+    Ok(count)
+}
+
+/// An argument that is the bytes to write: EINVAL where they are more than 65,536.
+pub fn bytes_argument(bytes: &[u8]) -> Result<&[u8], Refusal>
+    ensures { Answers (λ b. b.now) result (files.bytes_argument bytes.now) }
+{
+    if bytes.len() > 65_536 {
+        return Err(Refusal::plain(Errno::Einval));
+    }
+    Ok(bytes)
 }
 
 fn default_acl_argument(word: &[u8]) -> Result<NewAcl, Refusal>
@@ -158,6 +197,23 @@ pub fn prefix<V: TreeView>(
     }
 }
 
+/// What the last name of a walk stands for, which has to be there: ENOENT where it is absent.
+pub fn there<V: TreeView>(view: &mut V, walked: Walked) -> Result<Found, Failure<Refusal, V::Fault>>
+    requires holds { V.holds view.old }
+    requires few { end_of walked ≤ 1023 }
+    ensures kept { V.holds view.new }
+    ensures follows { V.follows view.old view.new }
+    ensures same { IsTrue V.is_told → V.shows view.new ≡ V.shows view.old }
+    ensures exact { IsTrue V.is_told → Gives (λ f. f) result (tests.there (found_at (V.shows view.old) walked)) }
+    ensures cause { IfFault result (λ f. V.causes view.old view.new f) }
+{
+    match reached(view, walked) {
+        Ok(Some(found)) => Ok(found),
+        Ok(None) => Err(Failure::Refused(Refusal::plain(Errno::Enoent))),
+        Err(fault) => Err(Failure::Fault(fault)),
+    }
+}
+
 /// What a path leads to, which has to be there: ENOENT where the last name is absent.
 pub fn full<V: TreeView>(
     view: &mut V,
@@ -173,11 +229,7 @@ pub fn full<V: TreeView>(
     ensures cause { IfFault result (λ f. V.causes view.old view.new f) }
 {
     let walked = prefix(view, cred, which, path)?;
-    match reached(view, walked) {
-        Ok(Some(found)) => Ok(found),
-        Ok(None) => Err(Failure::Refused(Refusal::plain(Errno::Enoent))),
-        Err(fault) => Err(Failure::Fault(fault)),
-    }
+    there(view, walked)
 }
 
 /// The directory and the place of a name that isn't there yet: EEXIST where it is.
@@ -191,6 +243,20 @@ pub fn not_present(walked: Walked) -> Result<(Object, u16), Refusal>
             object: None,
         } => Ok((directory, place)),
         _ => Err(Refusal::plain(Errno::Eexist)),
+    }
+}
+
+/// The directory that has the last name, and its place. `/` is in none, which is refused with this error.
+pub fn parent_of(without: Errno, walked: &Walked) -> Result<(Object, u16), Refusal>
+    ensures { result ≡ seen.parent_of without walked.now }
+{
+    match walked {
+        Walked::Root => Err(Refusal::plain(without)),
+        Walked::Name {
+            directory,
+            place,
+            ..
+        } => Ok((directory.copy(), *place)),
     }
 }
 

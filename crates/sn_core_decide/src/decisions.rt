@@ -49,7 +49,7 @@ pub fn mkdir<'a, V: CallView>(
     ensures kept { V.holds view.new }
     ensures follows { V.follows view.old view.new }
     ensures same { IsTrue V.is_told → V.shows view.new ≡ V.shows view.old }
-    ensures exact { IsTrue V.is_told → Gives (λ o. o) result (mkdir_outcome limits.now (seen_by (V.shows view.old) (V.room view.old)) caller.now path.now mode) }
+    ensures exact { IsTrue V.is_told → Gives (λ o. o) result (mkdir_outcome limits.now (seen_by (V.shows view.old) (V.room view.old) (V.names view.old)) caller.now path.now mode) }
     ensures cause { IfFault result (λ f. V.causes view.old view.new f) }
 {
     let walked = prefix(view, &caller.cred, PathNumber::FIRST, path)?;

@@ -1,7 +1,6 @@
 -- How many descriptors a live file has, by the places and by the finite map.
-use Rattle.std.proofs.Common.{◌≡◌, ℕ, zero, suc, ◌+◌, ◌==◌, ◌||◌, Bool, true, false, nat_lt, cond, List, [], ◌∷◌, Option, Some, None, length, get_or, replicate, count_by, refl, sym, ap, ◌∙◌, arith}
+use Rattle.std.proofs.Common.{◌≡◌, ℕ, zero, suc, ◌+◌, ◌==◌, Bool, true, false, nat_lt, cond, List, [], ◌∷◌, Option, Some, None, length, get_or, replicate, count_by, refl, sym, ap, ◌∙◌, arith}
 use Rattle.std.specs.FinMap as map
-use Rattle.std.specs.List.{list_any}
 use Rattle.std.specs.Option.{option_map}
 use Rattle.std.proofs.lemmas.Bool.{lt-ltb, ne_eqb}
 use Rattle.std.proofs.lemmas.List.Sums.{sum_by-cons}
@@ -9,6 +8,7 @@ use Rattle.std.proofs.lemmas.List.{get_or-replicate, length-replicate}
 use Rattle.sn_walk.specs.declared.object.Home.{Home}
 use Rattle.sn_walk.specs.declared.object.Home.TheVariants.{Live, Frozen}
 use Rattle.sn_model.proofs.CountLemmas.{count, count_inserted, count_none}
+use Rattle.sn_model.proofs.HeldLemmas.{descriptors_total, exact_descriptors, held_count, is_holder}
 use Rattle.sn_model.specs.Settling.{is_of_live}
 use Rattle.sn_model.specs.World.{Descriptor, descriptor_cmp}
 use Rattle.sn_model.specs.Descriptors.{Descriptors, is_held_in, released_at}
@@ -17,24 +17,7 @@ use Rattle.sn_desc.specs.Closing.{released_if}
 use Rattle.sn_desc.specs.Holders.{IsCounted, holders_of, is_live_file, one}
 use Rattle.sn_desc.specs.InUse.{descriptor_of, descriptors_in, placed_from}
 use Rattle.sn_desc.specs.OpenFiles.{released_file, released_from}
-use Rattle.sn_desc.proofs.PlaceLemmas.{descriptors_total, exact_descriptors, key, placed_below}
-
-abbrev pub is_holder : ℕ → (ℕ × ℕ) × Descriptor → Bool
-is_holder number e = is_of_live number e.1.home e.1.number
-
--- a test that some element passes counts some
-any_counts : {A : Type 0} (p : A → Bool) (xs : List A) → list_any p xs ≡ nat_lt 0 (count_by p xs)
-any_counts p [] = refl
-any_counts {A} p (x ∷ xs) =
-    let all = sum_by-cons (λ (y : A). cond (p y) 1 0) x xs in
-    elim (p x) as (λ b. (b || list_any p xs) ≡ nat_lt 0 (cond b 1 0 + count_by p xs)) [
-      | true ↦ sym (lt-ltb 0 (1 + count_by p xs) (omega arith))
-      | false ↦ any_counts p xs ∙ ap (nat_lt 0) (let none : count_by p xs ≡ 0 + count_by p xs = omega arith in none)
-    ] ∙ ap (nat_lt 0) (sym all)
-
--- a file is held where some descriptor counts
-pub held_count : (table : Descriptors) (number : ℕ) → is_held_in table number ≡ nat_lt 0 (count (is_holder number) table)
-held_count table number = any_counts (is_holder number) (map.entries table)
+use Rattle.sn_desc.proofs.PlaceLemmas.{key, placed_below}
 
 placed_count : (files : List (Option OpenFile)) (first number : ℕ) → count (is_holder number) (placed_from first files) ≡ holders_of number files
 unfolding placed_from

@@ -6,7 +6,7 @@ use Rattle.sn_model.proofs.ChainLemmas.{and_right}
 use Rattle.sn_model.proofs.MapLemmas.{same_or_apart, get_left, get_removed}
 use Rattle.sn_model.specs.Descriptors.{Descriptors, closed, without_session}
 use Rattle.sn_model.specs.World.{Descriptor, descriptor_cmp}
-use Rattle.sn_desc.proofs.PlaceLemmas.{descriptors_total, exact_descriptors}
+use Rattle.sn_model.proofs.HeldLemmas.{descriptors_total, exact_descriptors}
 
 -- the descriptors of a session up to a number
 abbrev pub is_below : ℕ → ℕ → ℕ × ℕ → Bool

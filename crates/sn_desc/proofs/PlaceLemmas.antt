@@ -2,26 +2,17 @@
 use Rattle.std.proofs.Common.{◌≡◌, ◌≢◌, ◌⊎◌, inl, inr, ℕ, zero, suc, ◌+◌, ◌*◌, ◌/◌, ◌%◌, ◌<◌, ◌≤◌, Bool, true, false, nat_lt, List, [], ◌∷◌, Option, Some, None, length, get_or, set, replicate, refl, sym, ap, ◌∙◌, arith, add-zero, zero-add}
 use Rattle.std.specs.FinMap as map
 use Rattle.std.specs.Option.{option_map}
-use Rattle.std.specs.Ordering.{nat_cmp}
-use Rattle.std.specs.Cmp.{IsTotalOrder, nat_cmp_total}
 use Rattle.std.proofs.lemmas.Bool.{ltb-true, ltb-false}
-use Rattle.std.proofs.lemmas.Cmp.{on_total, then_total}
-use Rattle.std.proofs.lemmas.Map.Lookups.{CmpEqualImpliesEq, exact_unsigned, exact_pairs}
 use Rattle.std.proofs.lemmas.Nat.{div-mul-add, mod-mul-add, mod_below}
 use Rattle.std.proofs.Math.Nat.{div-add-mod}
 use Rattle.std.proofs.lemmas.List.{get_or_past, get_or-set_same, get_or-set_other}
+use Rattle.sn_model.proofs.HeldLemmas.{descriptors_total, exact_descriptors}
 use Rattle.sn_model.proofs.MapLemmas.{same_or_apart, get_inserted, get_other, get_removed, get_left}
 use Rattle.sn_model.specs.World.{descriptor_cmp}
 use Rattle.sn_model.specs.Descriptors.{closed, moved_if, moved_to, opened}
 use Rattle.sn_desc.specs.declared.open_file.OpenFile.{OpenFile}
 use Rattle.sn_desc.specs.Files.{with_offset}
 use Rattle.sn_desc.specs.InUse.{descriptor_of, descriptors_in, placed_from}
-
-pub descriptors_total : IsTotalOrder descriptor_cmp
-descriptors_total = then_total (on_total (λ k. k.0) nat_cmp_total) (on_total (λ k. k.1) nat_cmp_total)
-
-pub exact_descriptors : CmpEqualImpliesEq descriptor_cmp
-exact_descriptors = exact_pairs nat_cmp nat_cmp exact_unsigned exact_unsigned
 
 -- the session and the number of a place
 abbrev pub key : ℕ → ℕ × ℕ

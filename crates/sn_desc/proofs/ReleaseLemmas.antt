@@ -13,8 +13,7 @@ use Rattle.sn_model.specs.Settling.{is_of_live}
 use Rattle.sn_model.specs.World.{Descriptor}
 use Rattle.sn_model.specs.Descriptors.{Descriptors, closed, is_held_in, released_at}
 use Rattle.sn_desc.specs.Closing.{AreReleased, LostTheLast, pushed, released_if}
-use Rattle.sn_desc.proofs.HeldLemmas.{held_count, is_holder}
-use Rattle.sn_desc.proofs.PlaceLemmas.{descriptors_total, exact_descriptors}
+use Rattle.sn_model.proofs.HeldLemmas.{descriptors_total, exact_descriptors, held_count, is_holder}
 
 -- one descriptor goes
 module _ (table : Descriptors) (k : ℕ × ℕ) where

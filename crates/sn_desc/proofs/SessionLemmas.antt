@@ -17,7 +17,8 @@ use Rattle.sn_desc.specs.Closing.{closing, released_if}
 use Rattle.sn_desc.specs.declared.open_file.OpenFile.{OpenFile}
 use Rattle.sn_desc.specs.Files.{with_offset}
 use Rattle.sn_desc.specs.InUse.{descriptor_of, descriptors_in, place_of}
-use Rattle.sn_desc.proofs.PlaceLemmas.{descriptors_total, exact_descriptors, get_far, get_past, get_placed, moved_is, put_is, taken_is}
+use Rattle.sn_model.proofs.HeldLemmas.{descriptors_total, exact_descriptors}
+use Rattle.sn_desc.proofs.PlaceLemmas.{get_far, get_past, get_placed, moved_is, put_is, taken_is}
 
 -- a place, and the session and number that it is of
 pub record IsPlaceOf (session fd place : ℕ) : Type 0 where

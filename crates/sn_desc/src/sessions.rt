@@ -224,8 +224,8 @@ impl Sessions {
         }
     }
 
-    /// Closes a descriptor, if it is open.
-    fn close_if_open(&mut self, session: u32, fd: u32) -> Option<u16>
+    /// Closes a descriptor, if it is open, and tells the live file that no descriptor has any more.
+    pub fn close_if_open(&mut self, session: u32, fd: u32) -> Option<u16>
         ensures in_use { in_use_of self.new ≡ record (in_use_of self.old) { descriptors = closed (in_use_of self.old).descriptors session fd; room = (in_use_of self.new).room } }
         ensures released { result ≡ released_if (closed (in_use_of self.old).descriptors session fd) (finite.get (in_use_of self.old).descriptors (session, fd)) }
         ensures room { (in_use_of self.old).room ≤ (in_use_of self.new).room }

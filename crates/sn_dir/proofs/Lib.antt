@@ -1,4 +1,4 @@
-mod BlockLemmas
-mod ListedLemmas
-mod NameLemmas
-mod ReadingLemmas
+pub mod BlockLemmas
+pub mod ListedLemmas
+pub mod NameLemmas
+pub mod ReadingLemmas

@@ -46,7 +46,7 @@ module _ (name : List ℕ) where
 
 -- ---- block by block
 
-range-more : (a n : ℕ) → range_with_len a (suc n) ≡ range_with_len a n ++ (a + n) ∷ []
+pub range-more : (a n : ℕ) → range_with_len a (suc n) ≡ range_with_len a n ++ (a + n) ∷ []
 range-more a zero = let here : a ≡ a + 0 = omega arith in ap (λ (k : ℕ). k ∷ []) here
 range-more a (suc n) =
     let there : a + 1 + n ≡ a + suc n = omega arith in

@@ -15,7 +15,7 @@ use sn_layout_node::DirectoryBlock;
 use sn_tree_read::{TreeFault, entry, lies_on};
 
 /// How many blocks a directory has.
-pub(crate) fn block_count(tree: &BlockTree) -> u64
+pub fn block_count(tree: &BlockTree) -> u64
     ensures value { result ≡ tree.now.size / 4096 }
     ensures most { result < 2 ^ 52 }
 {
@@ -24,7 +24,7 @@ pub(crate) fn block_count(tree: &BlockTree) -> u64
 
 /// Makes block `i` of a directory the one that `blocks.fetched()` lends. `Damaged` comes exactly where it
 /// isn't there.
-pub(crate) fn fetch_block<D: Device>(
+pub fn fetch_block<D: Device>(
     blocks: &mut Blocks<D>,
     tree: &BlockTree,
     i: u64,
@@ -54,7 +54,7 @@ pub(crate) fn fetch_block<D: Device>(
 }
 
 /// The names that a block spells. `Damaged` comes exactly where it spells none.
-pub(crate) fn decoded(block: &Block) -> Result<DirectoryBlock<'_>, TreeFault>
+pub fn decoded(block: &Block) -> Result<DirectoryBlock<'_>, TreeFault>
     ensures spelled { IfOk result (λ names. Spells block.now names) }
     ensures damaged { IfErr result (λ fault. (fault ≡ Damaged) × (IsDirectoryBlock block.now → ⊥)) }
 {

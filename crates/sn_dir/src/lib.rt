@@ -14,7 +14,7 @@
 //! memory of their own; blocks that aren't kept do.
 //!
 //! The way through: `blocks` fetches and decodes one block, `lookups` goes over them, `listings` copies the
-//! names and sorts them.
+//! names and sorts them. A block by itself, by `fetch_block` and `decoded`, is for those who change names.
 //!
 //! ```text
 //! let number = lookup(blocks, &tree, b"passwd")?;
@@ -27,6 +27,7 @@ mod laws;
 mod listings;
 mod lookups;
 
+pub use blocks::{block_count, decoded, fetch_block};
 pub use laws::directory_laws;
 pub use listings::{ListedName, names};
 pub use lookups::{count, is_empty, lookup};

@@ -13,15 +13,17 @@ use Rattle.sn_model.specs.declared.reply.Reply.{Reply}
 use Rattle.sn_model.specs.declared.reply.Reply.TheVariants as answer
 use Rattle.sn_model.specs.Changes.{apply}
 use Rattle.sn_model.specs.Machine.{State, Running, Stopped, Mishap, Memory, Write, Space, EventStep, refused}
-use Rattle.sn_model.specs.Settling.{settle}
+use Rattle.sn_model.specs.Outcomes.{is_opening}
+use Rattle.sn_model.specs.Settling.{dropped, settle}
 use Rattle.sn_model.specs.Steps.{Becomes, Comes, decision, with_caller, with_live}
 use Rattle.sn_model.specs.Tree.{Tree}
 use Rattle.sn_model.specs.World.{World, new_tree}
-use Rattle.sn_model.specs.Worlds.{IsWorld}
+use Rattle.sn_model.specs.Worlds.{IsCall, IsWorld}
+use Rattle.sn_core.specs.declared.choosing.Chosen.{Chosen}
 use Rattle.sn_core.specs.Served.{Chooses, HasNone}
 use Rattle.sn_core.specs.declared.error.CallError.{CallError}
 use Rattle.sn_core.specs.declared.error.CallError.TheVariants as lack
-use Rattle.sn_core.proofs.StepLemmas.{chosen_served, change_takes, same_least}
+use Rattle.sn_core.proofs.StepLemmas.{IsServed, MadeBy, chosen_served, change_takes, opening_takes, same_least}
 use Rattle.sn_device.proofs.CrashLemmas.{LeavesOnly-start}
 use Rattle.sn_recovery.specs.Moments.{ShowsState}
 use Rattle.sn_recovery.specs.Opens.{Keeps}
@@ -31,7 +33,7 @@ use Rattle.sn_fs.specs.declared.fault.ChangeFault.{ChangeFault}
 use Rattle.sn_fs.specs.declared.fault.ChangeFault.TheVariants as fault
 use Rattle.sn_fs.specs.Held.{Held, Means, Runs, ground}
 use Rattle.sn_fs.proofs.DecisionLemmas.{CanBeMade, can_be_made, is_charged}
-use Rattle.sn_fs.proofs.MeaningLemmas.{caller_frozen, caller_live, runs_lasts, runs_on, runs_show, stays_lasts, stops_between, stops_lasts}
+use Rattle.sn_fs.proofs.MeaningLemmas.{IsOfTree, left_keeps, left_of_tree, runs_lasts, runs_on, runs_show, stays_lasts, stops_between, stops_lasts}
 
 -- no node is new
 stays_least : (s : State) → TakesLeastIn s s
@@ -72,30 +74,25 @@ undecided_answers h session c e none = in_world h h false session c (reply_of e)
     told r lack.Memory none = kept h false (Running h.world) session c (Some Memory) (refused Enomem) (refl, r) tt refl (none, record { told = refl; same = refl })
 
 -- the call has an outcome, and a change was chosen
-module _ (old : Held) (session : ℕ) (c : Call) (o : Outcome) (change : Change) (whole : IsWorld version_1 old.world) (decided : decision version_1 old.world session c ≡ Ok o) (chosen : Chooses old.world.live o.change (Some change)) where
+module _ (old : Held) (session : ℕ) (c : Call) (o : Outcome) (picked : Chosen) (change : Change) (numbers : IsCall c) (whole : IsWorld version_1 old.world) (decided : decision version_1 old.world session c ≡ Ok o) (chosen : Chooses old.world.live o.change o.caller picked) (some : picked.change ≡ Some change) where
   can : CanBeMade old.world change
-  can = can_be_made old.world session c o change whole decided chosen
+  can = can_be_made old.world session c o picked change whole decided chosen some
 
   is_change : IsChangeOf old.world session c change
-  is_change = record { outcome = o; decided = decided; chosen = chosen }
+  is_change = record { outcome = o; decided = decided; picked = picked; chosen = chosen; is = some }
 
   -- the world that it makes
   abbrev pub next_with : Tree → World
-  next_with tree = with_caller (with_live old.world tree) session o.caller
+  next_with tree = dropped (with_caller (with_live old.world tree) session picked.caller)
+
+  served : (tree : Tree) → apply version_1 change old.world.live ≡ Some tree → IsServed old.world session c o.told (next_with tree)
+  served tree e = chosen_served old.world session c o picked tree numbers whole decided chosen (subst (λ (x : Option Change). MadeBy x old.world.live tree) (sym some) e)
 
   comes : (tree : Tree) → apply version_1 change old.world.live ≡ Some tree → Comes version_1 old.world session o (next_with tree)
-  comes tree e =
-      let served = chosen_served old.world session c o (Some change) tree whole decided chosen e in
-      (subst (λ (d : Result Outcome Refusal). Becomes version_1 old.world session d o.told (next_with tree)) decided served.0).1
+  comes tree e = (subst (λ (d : Result Outcome Refusal). Becomes version_1 old.world session d o.told (next_with tree)) decided (served tree e).0).1
 
-  becomes : (tree : Tree) → apply version_1 change old.world.live ≡ Some tree → Becomes version_1 old.world session (decision version_1 old.world session c) o.told (next_with tree)
-  becomes tree e = (chosen_served old.world session c o (Some change) tree whole decided chosen e).0
-
-  live_of : (tree : Tree) → (next_with tree).live ≡ tree
-  live_of tree = caller_live (with_live old.world tree) session o.caller
-
-  frozen_of : (tree : Tree) → Runs old old.world → (next_with tree).frozen ≡ map.empty
-  frozen_of tree r = caller_frozen (with_live old.world tree) session o.caller ∙ r.frozen
+  of_tree : (tree : Tree) → IsOfTree old.world tree (next_with tree)
+  of_tree tree = left_of_tree old.world session picked.caller tree
 
   -- its record has no room, there is no memory for it, or the device fails
   pub unmade_answers : (new : Held) (f : ChangeFault) → FailsChange true f change old new → Answers (event.Call session c) (refused (errno_of f)) old false new (stops f)
@@ -107,13 +104,13 @@ module _ (old : Held) (session : ℕ) (c : Call) (o : Outcome) (change : Change)
       told : (f : ChangeFault) → Runs old old.world → FailsChange true f change old new → AnswersFrom (Running old.world) (event.Call session c) (refused (errno_of f)) old new (stops f)
       told fault.Space r fails = same new fault.Space fails.1 (kept old false (Running old.world) session c (Some Space) (refused (errno_of fault.Space)) (refl, r)
           (record { change = change; is = is_change; none = fails.0 }) refl
-          ((o, decided, is_charged old.world session c o change decided chosen), record { told = refl; same = refl }))
+          ((o, decided, is_charged old.world session c o picked change decided chosen some), record { told = refl; same = refl }))
       told fault.Memory r fails = same new fault.Memory fails (kept old false (Running old.world) session c (Some Memory) (refused (errno_of fault.Memory)) (refl, r) tt refl
-          (change_takes old.world session c o change decided chosen, record { told = refl; same = refl }))
+          (change_takes old.world session c o picked change decided chosen some, record { told = refl; same = refl }))
       told fault.Device r fails =
           let tree = fails.made.tree in
           let next = next_with tree in
-          let between = stops_between old new old.world next change tree r can.spelled fails.made.applied (live_of tree) (frozen_of tree r) (fails.moments refl) in
+          let between = stops_between old new old.world next change tree r can.spelled fails.made.applied (of_tree tree) (fails.moments refl) in
           record {
             met = Some Write;
             may = fails.failed;
@@ -121,58 +118,58 @@ module _ (old : Held) (session : ℕ) (c : Call) (o : Outcome) (change : Change)
             step = record {
               outcome = o;
               decided = decided;
-              charged = is_charged old.world session c o change decided chosen;
+              charged = is_charged old.world session c o picked change decided chosen some;
               next = next;
               comes = comes tree fails.made.applied;
               stops = record { told = refl; left = refl };
             };
             means = (refl, between);
-            lasts = stops_lasts old new old.world next change tree r can.spelled fails.made.applied (live_of tree) (frozen_of tree r) (fails.moments refl);
+            lasts = stops_lasts old new old.world next change tree r can.spelled fails.made.applied (of_tree tree) (fails.moments refl);
             least = tt;
             costs = (change, is_change, fails.costs);
           }
 
   -- it is made and logged
-  pub made_answers : (mid new : Held) → IsLogged true change old mid → new ≡ record mid { world = with_caller mid.world session o.caller } → Answers (event.Call session c) o.told old false new false
+  pub made_answers : (mid new : Held) → IsLogged true change old mid → new ≡ record mid { world = dropped (with_caller mid.world session picked.caller) } → Answers (event.Call session c) o.told old false new false
   made_answers mid new logged is = in_world old new false session c o.told told
     where
       told : Runs old old.world → AnswersFrom (Running old.world) (event.Call session c) o.told old new false
       told r =
           let tree = logged.made.tree in
           let next = next_with tree in
-          let made : with_caller mid.world session o.caller ≡ next = ap (λ (x : World). with_caller x session o.caller) logged.made.world in
-          let on : Runs (record mid { world = with_caller mid.world session o.caller }) next =
-          runs_on old (record mid { world = with_caller mid.world session o.caller }) old.world next change tree r can.spelled logged.made.applied (live_of tree) (frozen_of tree r) (logged.acknowledged refl) logged.at made in
+          let after : Held = record mid { world = dropped (with_caller mid.world session picked.caller) } in
+          let made : after.world ≡ next = ap (λ (x : World). dropped (with_caller x session picked.caller)) logged.made.world in
+          let on : Runs after next = runs_on old after old.world next change tree r can.spelled logged.made.applied (of_tree tree) (logged.acknowledged refl) logged.at made in
           subst (λ (x : Held). AnswersFrom (Running old.world) (event.Call session c) o.told old x false) (sym is) (record {
             met = None;
             may = tt;
             next = Running next;
-            step = record { next = next; becomes = becomes tree logged.made.applied; runs = refl };
+            step = record { next = next; becomes = (served tree logged.made.applied).0; runs = refl };
             means = (refl, on);
-            lasts = runs_lasts old (record mid { world = with_caller mid.world session o.caller }) old.world next change tree r can.spelled logged.made.applied (live_of tree) (frozen_of tree r) (logged.moments refl) on;
-            least = (chosen_served old.world session c o (Some change) tree whole decided chosen logged.made.applied).1;
+            lasts = runs_lasts old after old.world next change tree r can.spelled logged.made.applied (of_tree tree) (logged.moments refl) on;
+            least = (served tree logged.made.applied).1;
             costs = inr (change, is_change, logged.costs);
           })
 
--- a call that changes nothing of the tree
-pub told_answers : (old new : Held) (session : ℕ) (c : Call) (o : Outcome) → IsWorld version_1 old.world → decision version_1 old.world session c ≡ Ok o → Chooses old.world.live o.change None
-    → new ≡ record old { world = with_caller old.world session o.caller } → Answers (event.Call session c) o.told old false new false
-told_answers old new session c o whole decided chosen is = in_world old new false session c o.told told
+-- a call that changes nothing of the tree, but for files that nobody has
+pub told_answers : (old new : Held) (session : ℕ) (c : Call) (o : Outcome) (picked : Chosen) → IsCall c → IsWorld version_1 old.world → decision version_1 old.world session c ≡ Ok o → Chooses old.world.live o.change o.caller picked → picked.change ≡ None
+    → new ≡ record old { world = dropped (with_caller old.world session picked.caller) } → Answers (event.Call session c) o.told old false new false
+told_answers old new session c o picked numbers whole decided chosen none is = in_world old new false session c o.told told
   where
     told : Runs old old.world → AnswersFrom (Running old.world) (event.Call session c) o.told old new false
     told r =
-        let next = with_caller old.world session o.caller in
+        let next = dropped (with_caller old.world session picked.caller) in
         let after : Held = record old { world = next } in
-        let live = caller_live old.world session o.caller in
+        let of = left_of_tree old.world session picked.caller old.world.live in
         let on : Runs after next = record {
           is = refl;
-          frozen = caller_frozen old.world session o.caller ∙ r.frozen;
+          frozen = of.frozen ∙ r.frozen;
           place = r.place;
           changes = r.changes;
-          keeps = subst (λ (t : Tree). Keeps version_1 old.disk old.at r.changes new_tree t) (sym live) r.keeps;
+          keeps = left_keeps old.disk old.at r.changes old.world.live next.live of.held of.live r.keeps;
         } in
         let shows = runs_show after next on in
-        let served = chosen_served old.world session c o None old.world.live whole decided chosen refl in
+        let served = chosen_served old.world session c o picked old.world.live numbers whole decided chosen (subst (λ (x : Option Change). MadeBy x old.world.live old.world.live) (sym none) refl) in
         subst (λ (x : Held). AnswersFrom (Running old.world) (event.Call session c) o.told old x false) (sym is) (record {
           met = None;
           may = tt;
@@ -183,6 +180,10 @@ told_answers old new session c o whole decided chosen is = in_world old new fals
           least = served.1;
           costs = inl refl;
         })
+
+-- there is no memory for what is to be opened
+pub unprepared_answers : (h : Held) (session : ℕ) (c : Call) (o : Outcome) → decision version_1 h.world session c ≡ Ok o → is_opening o.caller ≡ true → Answers (event.Call session c) (refused Enomem) h false h false
+unprepared_answers h session c o decided opens = in_world h h false session c (refused Enomem) (λ r. kept h false (Running h.world) session c (Some Memory) (refused Enomem) (refl, r) tt refl (opening_takes h.world session c o decided opens, record { told = refl; same = refl }))
 
 -- where a change isn't made and the mount goes on, its world is the one from before
 pub still_whole : (told : Bool) (f : ChangeFault) (change : Change) (old new : Held) → FailsChange told f change old new → stops f ≡ false → IsWorld version_1 old.world → IsWorld version_1 new.world

@@ -17,6 +17,7 @@ use Rattle.sn_ondisk.specs.LogHalf.{body_sectors}
 use Rattle.sn_record.specs.Payload.{payload_bytes}
 use Rattle.sn_log.specs.Places.{LogPosition, HasRoom}
 use Rattle.sn_core.specs.PlainRuns.{TakesLeast}
+use Rattle.sn_core.specs.declared.choosing.Chosen.{Chosen}
 use Rattle.sn_core.specs.Served.{Chooses}
 use Rattle.sn_recovery.specs.Moments.{LastsOver}
 use Rattle.sn_fs.specs.Held.{Held, Means, ground}
@@ -29,7 +30,9 @@ HasFailed old new = (old.failures < new.failures) ⊎ IsTrue (has_ended new)
 pub record IsChangeOf (world : World) (session : ℕ) (c : Call) (change : Change) : Type 0 where
   pub outcome : Outcome
   pub decided : decision version_1 world session c ≡ Ok outcome
-  pub chosen : Chooses world.live outcome.change (Some change)
+  pub picked : Chosen
+  pub chosen : Chooses world.live outcome.change outcome.caller picked
+  pub is : picked.change ≡ Some change
 
 -- the record of a call's change has no room behind the position
 pub record HasNoRoom (at : LogPosition) (world : World) (session : ℕ) (c : Call) : Type 0 where

@@ -6,7 +6,7 @@ ghost use Rattle.sn_fs.specs.Filesystem.{IsFs, has_stopped, held};
 
 use crate::Fs;
 use crate::changing::make_change;
-use sn_core::CallError;
+use sn_core::{CallError, Chosen};
 use sn_device::Device;
 use sn_model::{Call, Errno, Outcome, Refusal, Reply};
 
@@ -41,7 +41,15 @@ impl<D: Device> Fs<D> {
             told,
             ..
         } = outcome;
-        match self.world.choose(change) {
+        if let Err(_) = self.world.prepare(&caller) {
+            return Reply::Refused(Refusal::plain(Errno::Enomem));
+        }
+        let Chosen {
+            change,
+            caller,
+            lost,
+        } = self.world.choose(change, caller);
+        match change {
             Some(change) => {
                 match make_change(
                     self.alloc,
@@ -59,7 +67,7 @@ impl<D: Device> Fs<D> {
             }
             None => {}
         }
-        self.world.set_caller(session, caller);
+        self.world.set_caller(session, caller, lost);
         told
     }
 }

@@ -1,7 +1,7 @@
 //! A change in memory and in the log.
 ghost use Rattle.std.specs.Prelude.{◌≡◌, ◌≤◌};
 ghost use Rattle.sn_block.specs.Lending.{device_of};
-ghost use Rattle.sn_core.specs.Plain.{world_of};
+ghost use Rattle.sn_core.specs.Plain.{room_of, world_of};
 ghost use Rattle.sn_limits.specs.Versions.{version_1};
 ghost use Rattle.sn_model.specs.NameTree.{IsTree};
 ghost use Rattle.sn_record.specs.Payload.{IsSpelled};
@@ -31,6 +31,7 @@ pub(crate) fn make_change<D: Device>(
     requires place { IsOnGround log.old }
     requires sectors { 2048 ≤ (D.status (device_of blocks.old)).sectors }
     ensures made { Changes D.tells_bytes result change.now (holding D.Device blocks.old log.old world.old) (holding D.Device blocks.new log.new world.new) }
+    ensures room { room_of world.new ≡ room_of world.old }
     ensures place { IsOnGround log.new }
     ensures sectors { (D.status (device_of blocks.new)).sectors ≡ (D.status (device_of blocks.old)).sectors }
 {

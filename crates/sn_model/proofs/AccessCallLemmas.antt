@@ -56,7 +56,7 @@ as_found : (trees : ViewedTrees) (place : ℕ) (o : Object) (a : Option Attribut
 as_found trees place o None found is e = cc
 as_found trees place o (Some a) found is e = subst (λ (f : Found). attributes_at trees f.object ≡ Some f.attributes) (some_found (record { object = o; place = place; attributes = a }) found e) is
 
-found_has : (trees : ViewedTrees) (w : Walked) (found : Found) → found_at trees w ≡ Some found → attributes_at trees found.object ≡ Some found.attributes
+pub found_has : (trees : ViewedTrees) (w : Walked) (found : Found) → found_at trees w ≡ Some found → attributes_at trees found.object ≡ Some found.attributes
 found_has trees Root found e = as_found trees 0 root (attributes_at trees root) found refl e
 found_has trees (Name directory place None) found e = cc
 found_has trees (Name directory place (Some o)) found e = as_found trees _ o (attributes_at trees o) found refl e

@@ -63,7 +63,7 @@ module _ (trees : ViewedTrees) (cred : Credential) where
       not_root (place + 1) p.0 next names p.2
 
   -- what is found is at its place, the path's last
-  abbrev IsAt : List (List ℕ) → Found → Type 0
+  abbrev pub IsAt : List (List ℕ) → Found → Type 0
   IsAt names found = (found.place ≡ length names) × (led_to trees root names ≡ Some found.object)
 
   placed : (names : List (List ℕ)) (place : ℕ) (o : Object) (a : Option Attributes) (found : Found) → place ≡ length names → led_to trees root names ≡ Some o → found_as place o a ≡ Some found → IsAt names found
@@ -72,7 +72,7 @@ module _ (trees : ViewedTrees) (cred : Credential) where
       let same = some_found (record { object = o; place = place; attributes = a }) found e in
       (ap (λ (f : Found). f.place) (sym same) ∙ count, led ∙ ap (λ (f : Found). Some f.object) same)
 
-  found_led : (names : List (List ℕ)) (w : Walked) (found : Found) → walk_of trees cred names ≡ Ok w → found_at trees w ≡ Some found → IsAt names found
+  pub found_led : (names : List (List ℕ)) (w : Walked) (found : Found) → walk_of trees cred names ≡ Ok w → found_at trees w ≡ Some found → IsAt names found
   unfolding led_to
   found_led [] Root found e f = placed [] 0 root (attributes_at trees root) found refl refl f
   found_led [] (Name at end o) found e f = cc e
@@ -82,12 +82,12 @@ module _ (trees : ViewedTrees) (cred : Credential) where
       let d = leads 0 root name names at end o e in
       placed (name ∷ names) (end + 1) o (attributes_at trees o) found (omega (arith, d.0)) d.1 f
 
-  full_led : (names : List (List ℕ)) (found : Found) → full trees cred 1 names ≡ Ok found → IsAt names found
+  pub full_led : (names : List (List ℕ)) (found : Found) → full trees cred 1 names ≡ Ok found → IsAt names found
   full_led names found e =
       let w = bind_ok (prefix trees cred 1 names) (λ w. there (found_at trees w)) found e in
       found_led names w.0 found (walked_ok 1 (walk_of trees cred names) w.0 w.1) (there_is (found_at trees w.0) found w.2)
 
-  found_there : (names : List (List ℕ)) (found : Found) → IsAt names found → at_place trees names found.place ≡ Some found.object
+  pub found_there : (names : List (List ℕ)) (found : Found) → IsAt names found → at_place trees names found.place ≡ Some found.object
   found_there names found at = ap (λ (n : ℕ). led_to trees root (take n names)) at.0 ∙ ap (led_to trees root) (take-length names) ∙ at.1
 
 -- ---- tests that refuse with another error
@@ -120,7 +120,7 @@ acl_other OfDefault a r e is = told (is_directory a.kind) e
     told true f = cc f
     told false f = let same : plain Einval ≡ r = cc f in let never = not_so (plain Einval) r Einval same is refl in cc never
 
-live_if_other : (b : Bool) (o : Object) (r : Refusal) → live_if b o ≡ Err r → r.errno ≡ Eacces → ⊥
+pub live_if_other : (b : Bool) (o : Object) (r : Refusal) → live_if b o ≡ Err r → r.errno ≡ Eacces → ⊥
 live_if_other false o r e is = cc e
 live_if_other true o r e is = told (bind_err (live o) (λ _. pass) r e)
   where

@@ -1,9 +1,9 @@
 -- Each EACCES of a call is of a place of its path where the access rule denies.
-use Rattle.std.proofs.Common.{◌≡◌, ◌⊎◌, inl, inr, ℕ, ◌^◌, Bool, true, false, cond, List, [], ◌∷◌, Option, Some, None, Result, Ok, Err, nat_lt, refl, ap, subst, sym, ◌∙◌}
+use Rattle.std.proofs.Common.{◌≡◌, ◌⊎◌, inl, inr, ℕ, ◌^◌, Bool, true, false, cond, List, Option, Some, None, Result, Ok, Err, nat_lt, nat_le, length, refl, ap, subst, sym, ◌∙◌}
+use Rattle.std.specs.List.{list_all}
 use Rattle.std.specs.Prelude.{codes, slice_get}
 use Rattle.std.specs.Str.{bytes_eq}
 use Rattle.sn_acl.specs.declared.entries.Entry.{Entry}
-use Rattle.sn_acl.specs.declared.modes.Mode.{Mode}
 use Rattle.sn_acl.specs.Text.{acl_of}
 use Rattle.sn_limits.specs.declared.limits.Limits.{Limits}
 use Rattle.sn_walk.specs.declared.path.PathFault.{PathFault}
@@ -19,8 +19,9 @@ use Rattle.sn_model.specs.declared.reply.Access as access
 use Rattle.sn_model.specs.declared.reply.Errno.TheVariants.{Eacces, Einval, Enametoolong, Ebusy, Ebadf}
 use Rattle.sn_model.specs.declared.reply.Refusal.{Refusal}
 use Rattle.sn_model.specs.declared.session.Session.{Session}
-use Rattle.sn_model.specs.AccessCalls.{AclKind, OfAccess, OfDefault, ModeBits, NewAcl, NewAccess, NewDefault, acl_argument, id_argument, mode_bits_argument, mode_bits_from, new_acl}
+use Rattle.sn_model.specs.AccessCalls.{AclKind, OfAccess, OfDefault, NewDefault, acl_argument, id_argument, mode_bits_argument, mode_bits_from, new_acl}
 use Rattle.sn_model.specs.AccessLaws.{DeniesByRule}
+use Rattle.sn_model.specs.FileCalls.{OpenFlags, are_flags, bytes_argument, count_argument, flags_argument}
 use Rattle.sn_model.specs.Calls as calls
 use Rattle.sn_model.specs.Calls.{new_session, outcome_of, ready}
 use Rattle.sn_model.specs.Denials.{IsDenied, path_of}
@@ -30,16 +31,15 @@ use Rattle.sn_model.specs.World.{World, trees_of, viewed_trees}
 use Rattle.sn_model.proofs.AccessDenialLemmas.{denies}
 use Rattle.sn_model.proofs.DecisionLemmas.{IsCalled, called}
 use Rattle.sn_model.proofs.DenialLemmas.{IsDeniedAt, bind_err, mkdir_denied, stat_denied}
+use Rattle.sn_model.proofs.NameDenialLemmas.{link_denied, readdir_denied, rename_denied, rmdir_denied}
+use Rattle.sn_model.proofs.OtherLemmas.{chain_other, tested_other}
+use Rattle.sn_model.proofs.OpenDenialLemmas.{open_denied, unlink_denied}
+use Rattle.sn_model.proofs.FileDenialLemmas.{close_other, ftruncate_other, logout_other, read_other, seek_other, write_other}
 
 -- ---- sessions and arguments
 
--- a test that passes or is refused with EINVAL
-tested_other : {A : Type 0} (b : Bool) (x : A) (r : Refusal) → cond b (Ok x) (Err (plain Einval)) ≡ Err r → r.errno ≡ Eacces → ⊥
-tested_other true x r e is = cc e
-tested_other false x r e is = let never : Einval ≡ Eacces = (let same : plain Einval ≡ r = cc e in ap (λ (x : Refusal). x.errno) same ∙ is) in cc never
-
 session_other : (world : World) (session : ℕ) (r : Refusal) → session_at world session ≡ Err r → r.errno ≡ Eacces → ⊥
-session_other world session r e is = tested_other (nat_lt session 64) (flat (slice_get world.sessions session)) r e is
+session_other world session r e is = tested_other Einval (λ q. cc q) (nat_lt session 64) (flat (slice_get world.sessions session)) r e is
 
 open_other : (o : Option Session) (r : Refusal) → is_open o ≡ Err r → r.errno ≡ Eacces → ⊥
 open_other None r e is = let never : Ebadf ≡ Eacces = (let same : plain Ebadf ≡ r = cc e in ap (λ (x : Refusal). x.errno) same ∙ is) in cc never
@@ -58,25 +58,17 @@ path_other word r e is = told (parsed word) e
     told (Err TooLong) f = let never : Enametoolong ≡ Eacces = (let same : plain Enametoolong ≡ r = cc f in ap (λ (x : Refusal). x.errno) same ∙ is) in cc never
 
 mode_other : (bits : ℕ) (r : Refusal) → new_mode_argument bits ≡ Err r → r.errno ≡ Eacces → ⊥
-mode_other bits r e is = tested_other (nat_lt bits 512) (mode_from_bits bits) r e is
-
--- a chain is refused so only where one of its tests is
-chain_other : {A B : Type 0} (a : Result A Refusal) (f : A → Result B Refusal) (r : Refusal) → (a ≡ Err r → ⊥) → ((x : A) → f x ≡ Err r → ⊥) → (a >>= f) ≡ Err r → ⊥
-chain_other a f r first more e = told (bind_err a f r e)
-  where
-    told : (a ≡ Err r) ⊎ ((x : _) × (a ≡ Ok x) × (f x ≡ Err r)) → ⊥
-    told (inl h) = first h
-    told (inr h) = more h.0 h.2
+mode_other bits r e is = tested_other Einval (λ q. cc q) (nat_lt bits 512) (mode_from_bits bits) r e is
 
 caller_other : (world : World) (session : ℕ) (r : Refusal) → logged_in world session ≡ Err r → r.errno ≡ Eacces → ⊥
 caller_other world session r e is = chain_other (session_at world session) is_open r (λ h. session_other world session r h is) (λ o h. open_other o r h is) e
 
 bits_other : (bits : ℕ) (r : Refusal) → mode_bits_argument bits ≡ Err r → r.errno ≡ Eacces → ⊥
-bits_other bits r e is = tested_other (nat_lt bits 2048) (mode_bits_from bits) r e is
+bits_other bits r e is = tested_other Einval (λ q. cc q) (nat_lt bits 2048) (mode_bits_from bits) r e is
 
 id_other : (id : Option ℕ) (r : Refusal) → id_argument id ≡ Err r → r.errno ≡ Eacces → ⊥
 id_other None r e is = cc e
-id_other (Some number) r e is = tested_other (nat_lt number (2 ^ 32)) (Some number) r e is
+id_other (Some number) r e is = tested_other Einval (λ q. cc q) (nat_lt number (2 ^ 32)) (Some number) r e is
 
 new_acl_other : (o : Option (List Entry)) (kind : AclKind) (r : Refusal) → new_acl kind o ≡ Err r → r.errno ≡ Eacces → ⊥
 new_acl_other None kind r e is = let never : Einval ≡ Eacces = (let same : plain Einval ≡ r = cc e in ap (λ (x : Refusal). x.errno) same ∙ is) in cc never
@@ -91,6 +83,14 @@ acl_word_other OfDefault word r e is = told (bytes_eq word (codes "-")) e
     told true f = cc f
     told false f = new_acl_other (acl_of word) OfDefault r f is
 
+count_other : (count : ℕ) (r : Refusal) → count_argument count ≡ Err r → r.errno ≡ Eacces → ⊥
+count_other count r e is = tested_other Einval (λ q. cc q) (nat_le count 65536) count r e is
+
+bytes_other : (bytes : List ℕ) (r : Refusal) → bytes_argument bytes ≡ Err r → r.errno ≡ Eacces → ⊥
+bytes_other bytes r e is =
+    chain_other (count_argument (length bytes)) (λ _. cond (list_all (λ b. nat_lt b 256) bytes) (Ok bytes) (Err (plain Einval))) r
+    (λ h. count_other (length bytes) r h is) (λ _ h. tested_other Einval (λ q. cc q) (list_all (λ b. nat_lt b 256) bytes) bytes r h is) e
+
 abbrev ready_ok : calls.Ready → Result calls.Ready Refusal
 ready_ok x = Ok x
 
@@ -104,6 +104,10 @@ module _ (world : World) (session : ℕ) (r : Refusal) (is : r.errno ≡ Eacces)
 
   behind_path : (path : List ℕ) (f : Session → List (List ℕ) → Result calls.Ready Refusal) → ((s : Session) (names : List (List ℕ)) → f s names ≡ Err r → ⊥) → (logged_in world session >>= (λ s. path_argument path >>= (λ names. f s names))) ≡ Err r → ⊥
   behind_path path f more = behind_caller (λ s. path_argument path >>= (λ names. f s names)) (λ s. chain_other (path_argument path) (λ names. f s names) r (λ h. path_other path r h is) (more s))
+
+  behind_paths : (old new : List ℕ) (f : Session → List (List ℕ) → List (List ℕ) → Result calls.Ready Refusal) → ((s : Session) (names others : List (List ℕ)) → f s names others ≡ Err r → ⊥)
+      → (logged_in world session >>= (λ s. path_argument old >>= (λ names. path_argument new >>= (λ others. f s names others)))) ≡ Err r → ⊥
+  behind_paths old new f more = behind_path old (λ s names. path_argument new >>= (λ others. f s names others)) (λ s names. chain_other (path_argument new) (λ others. f s names others) r (λ h. path_other new r h is) (more s names))
 
   -- the session and the arguments are refused with other errors
   ready_other : (c : Call) → ready world session c ≡ Err r → ⊥
@@ -128,6 +132,23 @@ module _ (world : World) (session : ℕ) (r : Refusal) (is : r.errno ≡ Eacces)
   ready_other (call.SetAcl path kind acl) =
       behind_path path (λ s names. acl_argument kind acl >>= (λ new. ready_ok (calls.SetAcl s names new)))
       (λ s names. chain_other (acl_argument kind acl) (λ new. ready_ok (calls.SetAcl s names new)) r (λ h. acl_word_other kind acl r h is) (λ new h. never_ok _ r h))
+  ready_other (call.Rmdir path) = behind_path path (λ s names. ready_ok (calls.Rmdir s names)) (λ s names h. never_ok _ r h)
+  ready_other (call.Unlink path) = behind_path path (λ s names. ready_ok (calls.Unlink s names)) (λ s names h. never_ok _ r h)
+  ready_other (call.Link old new) = behind_paths old new (λ s names others. ready_ok (calls.Link s names others)) (λ s names others h. never_ok _ r h)
+  ready_other call.Logout = behind_caller (λ _. ready_ok calls.Logout) (λ s h. never_ok _ r h)
+  ready_other (call.Open path flags mode) =
+      behind_path path (λ s names. flags_argument flags >>= (λ asked. new_mode_argument mode >>= (λ bits. ready_ok (calls.Open session s names asked bits))))
+      (λ s names. chain_other (flags_argument flags) (λ asked. new_mode_argument mode >>= (λ bits. ready_ok (calls.Open session s names asked bits))) r (λ h. tested_other Einval (λ q. cc q) (are_flags flags) flags r h is)
+      (λ asked. chain_other (new_mode_argument mode) (λ bits. ready_ok (calls.Open session s names asked bits)) r (λ h. mode_other mode r h is) (λ bits h. never_ok _ r h)))
+  ready_other (call.Close fd) = behind_caller (λ _. ready_ok (calls.Close session fd)) (λ s h. never_ok _ r h)
+  ready_other (call.Read fd count) =
+      behind_caller (λ _. count_argument count >>= (λ many. ready_ok (calls.Read session fd many)))
+      (λ s. chain_other (count_argument count) (λ many. ready_ok (calls.Read session fd many)) r (λ h. count_other count r h is) (λ many h. never_ok _ r h))
+  ready_other (call.Write fd bytes) =
+      behind_caller (λ _. bytes_argument bytes >>= (λ new. ready_ok (calls.Write session fd new)))
+      (λ s. chain_other (bytes_argument bytes) (λ new. ready_ok (calls.Write session fd new)) r (λ h. bytes_other bytes r h is) (λ new h. never_ok _ r h))
+  ready_other (call.Seek fd offset) = behind_caller (λ _. ready_ok (calls.Seek session fd offset)) (λ s h. never_ok _ r h)
+  ready_other (call.Ftruncate fd size) = behind_caller (λ _. ready_ok (calls.Ftruncate session fd size)) (λ s h. never_ok _ r h)
 
 read_ok : (p : Result (List (List ℕ)) PathFault) (names : List (List ℕ)) → read_path p ≡ Ok names → p ≡ Ok names
 read_ok (Ok all) names e = let same : all ≡ names = cc e in ap (λ (x : List (List ℕ)). Ok x) same
@@ -149,19 +170,29 @@ module _ (limits : Limits) (world : World) (session : ℕ) (r : Refusal) (is : r
   goes_on : (x y : calls.Ready) → ready_ok x ≡ Ok y → outcome_of limits world y ≡ Err r → outcome_of limits world x ≡ Err r
   goes_on x y same e = subst (λ (z : calls.Ready). outcome_of limits world z ≡ Err r) (sym (same_ready x y same)) e
 
-  -- it is the call's first path
-  of_path : {A : Type 0} (c : Call) (path : List ℕ) (more : Session → List (List ℕ) → Result A Refusal) (x : A) (k : IsCalled world session path more x) → path_of c 1 ≡ Some path → IsDeniedAt trees k.caller.cred 1 k.names r → IsDenied world session c r
-  of_path c path more x k first d = record {
+  -- it is one of the call's paths
+  of_word : (c : Call) (which : ℕ) (word : List ℕ) (s : Session) (names : List (List ℕ)) → logged_in world session ≡ Ok s → path_argument word ≡ Ok names → path_of c which ≡ Some word → IsDeniedAt trees s.cred which names r → IsDenied world session c r
+  of_word c which word s names by read is_word d = record {
     denial = d.denial;
     carried = d.carried;
-    caller = k.caller;
-    called_by = k.called_by;
-    word = path;
-    path = ap (path_of c) d.path_is ∙ first;
-    names = k.names;
-    spelled = read_ok (parsed path) k.names k.read;
+    caller = s;
+    called_by = by;
+    word = word;
+    path = ap (path_of c) d.path_is ∙ is_word;
+    names = names;
+    spelled = read_ok (parsed word) names read;
     by_rule = d.by_rule;
   }
+
+  -- it is the call's first path
+  of_path : {A : Type 0} (c : Call) (path : List ℕ) (more : Session → List (List ℕ) → Result A Refusal) (x : A) (k : IsCalled world session path more x) → path_of c 1 ≡ Some path → IsDeniedAt trees k.caller.cred 1 k.names r → IsDenied world session c r
+  of_path c path more x k first d = of_word c 1 path k.caller k.names k.called_by k.read first d
+
+  -- it is one of the call's two paths
+  of_paths : {A : Type 0} (c : Call) (old new : List ℕ) (more : Session → List (List ℕ) → Result A Refusal) (x : A) (k : IsCalled world session old more x) (others : List (List ℕ)) → path_argument new ≡ Ok others → path_of c 1 ≡ Some old → path_of c 2 ≡ Some new
+      → IsDeniedAt trees k.caller.cred 1 k.names r ⊎ IsDeniedAt trees k.caller.cred 2 others r → IsDenied world session c r
+  of_paths c old new more x k others read first second (inl d) = of_path c old more x k first d
+  of_paths c old new more x k others read first second (inr d) = of_word c 2 new k.caller others k.called_by read second d
 
   at_first : (s : Session) (names : List (List ℕ)) (decided : Result Outcome Refusal) → DeniesByRule trees s names decided → decided ≡ Err r → IsDeniedAt trees s.cred 1 names r
   at_first s names decided by e = let d = by r e is in record { denial = d.denial; carried = d.carried; path_is = d.path; by_rule = d.by_rule }
@@ -224,6 +255,61 @@ module _ (limits : Limits) (world : World) (session : ℕ) (r : Refusal) (is : r
       let a = bind_ok (acl_argument kind acl) (λ new. ready_ok (calls.SetAcl k.caller k.names new)) x k.passed in
       of_path (call.SetAcl path kind acl) path more x k refl (at_first k.caller k.names _ ((denies limits trees k.caller k.names).setacl a.0) (goes_on (calls.SetAcl k.caller k.names a.0) x a.2 g))
 
+  -- a call of a session that is logged in, and that has no path
+  behind_session : (c : Call) (y : calls.Ready) (x : calls.Ready) → (logged_in world session >>= (λ _. ready_ok y)) ≡ Ok x → outcome_of limits world x ≡ Err r → outcome_of limits world y ≡ Err r
+  behind_session c y x f g = let p = bind_ok (logged_in world session) (λ _. ready_ok y) x f in goes_on y x p.2 g
+
+  rmdir_denies : (path : List ℕ) → Denies (call.Rmdir path)
+  rmdir_denies path x f g =
+      let more = λ (s : Session) (names : List (List ℕ)). ready_ok (calls.Rmdir s names) in
+      let k = called world session path more x f in
+      of_path (call.Rmdir path) path more x k refl (rmdir_denied limits world k.caller r is k.names (goes_on (calls.Rmdir k.caller k.names) x k.passed g))
+
+  unlink_denies : (path : List ℕ) → Denies (call.Unlink path)
+  unlink_denies path x f g =
+      let more = λ (s : Session) (names : List (List ℕ)). ready_ok (calls.Unlink s names) in
+      let k = called world session path more x f in
+      of_path (call.Unlink path) path more x k refl (unlink_denied r is trees k.caller k.names limits (goes_on (calls.Unlink k.caller k.names) x k.passed g))
+
+  link_denies : (old new : List ℕ) → Denies (call.Link old new)
+  link_denies old new x f g =
+      let more = λ (s : Session) (names : List (List ℕ)). path_argument new >>= (λ others. ready_ok (calls.Link s names others)) in
+      let k = called world session old more x f in
+      let n = bind_ok (path_argument new) (λ others. ready_ok (calls.Link k.caller k.names others)) x k.passed in
+      of_paths (call.Link old new) old new more x k n.0 n.1 refl refl (link_denied limits world k.caller r is k.names n.0 (goes_on (calls.Link k.caller k.names n.0) x n.2 g))
+
+  logout_denies : Denies call.Logout
+  logout_denies x f g = absurd (logout_other r is (behind_session call.Logout calls.Logout x f g))
+
+  open_denies : (path : List ℕ) (flags : OpenFlags) (mode : ℕ) → Denies (call.Open path flags mode)
+  open_denies path flags mode x f g =
+      let more = λ (s : Session) (names : List (List ℕ)). flags_argument flags >>= (λ asked. new_mode_argument mode >>= (λ bits. ready_ok (calls.Open session s names asked bits))) in
+      let k = called world session path more x f in
+      let a = bind_ok (flags_argument flags) (λ asked. new_mode_argument mode >>= (λ bits. ready_ok (calls.Open session k.caller k.names asked bits))) x k.passed in
+      let m = bind_ok (new_mode_argument mode) (λ bits. ready_ok (calls.Open session k.caller k.names a.0 bits)) x a.2 in
+      of_path (call.Open path flags mode) path more x k refl (open_denied r is limits world k.caller k.names world.descriptors session a.0 m.0 (goes_on (calls.Open session k.caller k.names a.0 m.0) x m.2 g))
+
+  close_denies : (fd : ℕ) → Denies (call.Close fd)
+  close_denies fd x f g = absurd (close_other world.descriptors session fd r is (behind_session (call.Close fd) (calls.Close session fd) x f g))
+
+  read_denies : (fd count : ℕ) → Denies (call.Read fd count)
+  read_denies fd count x f g =
+      let p = bind_ok (logged_in world session) (λ _. count_argument count >>= (λ many. ready_ok (calls.Read session fd many))) x f in
+      let n = bind_ok (count_argument count) (λ many. ready_ok (calls.Read session fd many)) x p.2 in
+      absurd (read_other world session fd n.0 r is (goes_on (calls.Read session fd n.0) x n.2 g))
+
+  write_denies : (fd : ℕ) (bytes : List ℕ) → Denies (call.Write fd bytes)
+  write_denies fd bytes x f g =
+      let p = bind_ok (logged_in world session) (λ _. bytes_argument bytes >>= (λ new. ready_ok (calls.Write session fd new))) x f in
+      let n = bind_ok (bytes_argument bytes) (λ new. ready_ok (calls.Write session fd new)) x p.2 in
+      absurd (write_other limits world session fd n.0 r is (goes_on (calls.Write session fd n.0) x n.2 g))
+
+  seek_denies : (fd offset : ℕ) → Denies (call.Seek fd offset)
+  seek_denies fd offset x f g = absurd (seek_other limits world.descriptors session fd offset r is (behind_session (call.Seek fd offset) (calls.Seek session fd offset) x f g))
+
+  ftruncate_denies : (fd size : ℕ) → Denies (call.Ftruncate fd size)
+  ftruncate_denies fd size x f g = absurd (ftruncate_other limits world.descriptors session fd size r is (behind_session (call.Ftruncate fd size) (calls.Ftruncate session fd size) x f g))
+
   decided_denies : (c : Call) → Denies c
   decided_denies (call.Login uid gid groups) = login_denies uid gid groups
   decided_denies (call.Umask mask) = umask_denies mask
@@ -234,6 +320,16 @@ module _ (limits : Limits) (world : World) (session : ℕ) (r : Refusal) (is : r
   decided_denies (call.Access path want) = access_denies path want
   decided_denies (call.GetAcl path kind) = getacl_denies path kind
   decided_denies (call.SetAcl path kind acl) = setacl_denies path kind acl
+  decided_denies (call.Rmdir path) = rmdir_denies path
+  decided_denies (call.Unlink path) = unlink_denies path
+  decided_denies (call.Link old new) = link_denies old new
+  decided_denies call.Logout = logout_denies
+  decided_denies (call.Open path flags mode) = open_denies path flags mode
+  decided_denies (call.Close fd) = close_denies fd
+  decided_denies (call.Read fd count) = read_denies fd count
+  decided_denies (call.Write fd bytes) = write_denies fd bytes
+  decided_denies (call.Seek fd offset) = seek_denies fd offset
+  decided_denies (call.Ftruncate fd size) = ftruncate_denies fd size
 
 pub access_denied : (limits : Limits) (world : World) (session : ℕ) (c : Call) (r : Refusal) → decision limits world session c ≡ Err r → r.errno ≡ Eacces → IsDenied world session c r
 access_denied limits world session c r e is = told (bind_err (ready world session c) (outcome_of limits world) r e)

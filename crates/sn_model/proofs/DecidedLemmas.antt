@@ -1,5 +1,5 @@
 -- Every decided change can be applied.
-use Rattle.std.proofs.Common.{◌≡◌, ℕ, zero, suc, ◌-◌, ◌<◌, ◌^◌, Bool, true, false, not, cond, ◌&&◌, ◌||◌, ◌==◌, nat_lt, List, [], ◌∷◌, length, Option, Some, None, Result, Ok, Err, is_some, is_none, refl, sym, ap, subst, ◌∙◌, arith, ltb-true}
+use Rattle.std.proofs.Common.{◌≡◌, ℕ, zero, suc, ◌+◌, ◌*◌, ◌-◌, ◌<◌, ◌^◌, Bool, true, false, not, cond, ◌&&◌, ◌||◌, ◌==◌, nat_lt, List, [], ◌∷◌, length, Option, Some, None, Result, Ok, Err, is_some, is_none, refl, sym, ap, subst, ◌∙◌, ◌⊎◌, inl, inr, arith, ltb-true}
 use Rattle.std.specs.Prelude.{IfSome, slice_get}
 use Rattle.std.specs.List.{list_all, AllByRecursion}
 use Rattle.std.proofs.lemmas.Bool.{true≢false, lt-ltb, le-leb, leb-false}
@@ -7,13 +7,14 @@ use Rattle.std.proofs.lemmas.Nat.{and_le_l, and_le_r}
 use Rattle.sn_acl.specs.declared.entries.Entry.{Entry}
 use Rattle.sn_acl.specs.declared.modes.Mode.{Mode}
 use Rattle.sn_acl.specs.Modes.{three_entries, mode_of, with_mode, common_mode, mode_without}
-use Rattle.sn_acl.specs.Inheritance.{inherited_access}
+use Rattle.sn_acl.specs.Inheritance.{inherited_access, inherited_default}
 use Rattle.sn_acl.specs.AccessList.{IsValid, is_acl}
 use Rattle.sn_acl.proofs.ModeLemmas.{IsMode, valid-with_mode}
 use Rattle.sn_acl.proofs.Validity.{test-from_valid}
 use Rattle.sn_walk.specs.declared.path.PathFault.{PathFault}
 use Rattle.sn_walk.specs.declared.path.PathFault.TheVariants.{Misspelt, TooLong}
-use Rattle.sn_limits.specs.declared.kind.Kind.TheVariants.{Directory}
+use Rattle.sn_limits.specs.declared.kind.Kind.{Kind}
+use Rattle.sn_limits.specs.declared.kind.Kind.TheVariants.{File, Directory}
 use Rattle.sn_limits.specs.Names.{is_name_spelled, has_name_length, is_name}
 use Rattle.sn_walk.specs.Paths.{last_after, parsed, of_word, of_names, of_length, components}
 use Rattle.sn_walk.specs.Views.{ViewedTrees, is_directory}
@@ -26,26 +27,35 @@ use Rattle.sn_model.specs.World.{World, trees_of, viewed_trees}
 use Rattle.sn_model.specs.NameTree.{IsNode, IsTree}
 use Rattle.sn_model.specs.Changes.{is_default_acl, is_ownership, is_free_number, file_at, node_with, made, owned}
 use Rattle.sn_walk.specs.Chains.{◌>>=◌}
-use Rattle.sn_model.specs.Tests.{plain, logged_out, flat, session_at, is_open, logged_in, read_path, path_argument, mode_from_bits, new_mode_argument}
+use Rattle.sn_model.specs.Tests.{plain, logged_out, logged_in, read_path, path_argument, mode_from_bits, new_mode_argument}
 use Rattle.sn_model.specs.declared.reply.Access as access
 use Rattle.sn_model.specs.declared.reply.Refusal.{Refusal}
 use Rattle.sn_model.specs.declared.reply.Reply.{Reply}
 use Rattle.sn_model.specs.declared.reply.Reply.TheVariants as reply
 use Rattle.sn_limits.specs.declared.limits.Limits.{Limits}
 use Rattle.sn_model.specs.declared.change.Ownership.{Ownership}
-use Rattle.sn_model.specs.Outcomes.{Outcome, opens, tells}
-use Rattle.sn_model.specs.AccessCalls.{AclKind, acl_argument, id_argument, mode_bits_argument, umask_outcome}
+use Rattle.sn_model.specs.Outcomes.{Outcome, LogsIn, SetsUmask, tells}
+use Rattle.sn_model.specs.AccessCalls.{AclKind, acl_argument, id_argument, mode_bits_argument}
+use Rattle.sn_model.specs.declared.change.Change.TheVariants.{AddLink, Remove, SetAttributes}
+use Rattle.sn_model.specs.FileCalls.{OpenFlags, bytes_argument, count_argument, flags_argument, new_file}
+use Rattle.sn_model.proofs.OpenLemmas.{opening_is, unlink_is}
+use Rattle.sn_model.proofs.SeatLemmas.{seat_of}
+use Rattle.sn_model.proofs.FileDecidedLemmas.{bytes_are, close_is, ftruncate_is, logout_is, reads_is, seek_is, write_is}
+use Rattle.sn_model.proofs.OutcomeLemmas.{IsAnswer, done, told, turned}
+pub use Rattle.sn_model.proofs.OutcomeLemmas.{IsDecided}
 use Rattle.sn_model.specs.AccessLaws.{GivesTo, SetsAcl, ShowsMode}
 use Rattle.sn_model.specs.Calls as calls
 use Rattle.sn_model.specs.Calls.{Ready, ready, outcome_of, new_session, new_directory, last_name}
-use Rattle.sn_model.specs.Steps.{IsNumber, IsNumberFor, changed, decision}
-use Rattle.sn_model.specs.Worlds.{IsCaller, IsSession, IsCall, IsWorld}
+use Rattle.sn_model.specs.Steps.{IsNumber, IsNumberFor, TakesMemory, changed, decision}
+use Rattle.sn_model.specs.Worlds.{IsCaller, IsSession, IsWorld}
 use Rattle.sn_model.proofs.ChainLemmas.{and_left, and_right, and_both}
 use Rattle.sn_model.proofs.NameLemmas.{no_names_for}
 use Rattle.sn_model.proofs.PartLemmas.{is_directory_at, made_of}
 use Rattle.sn_walk.proofs.ChainLemmas.{bind_ok}
 use Rattle.sn_model.proofs.DecisionLemmas as found
-use Rattle.sn_model.proofs.DecisionLemmas.{Made, called, same_ok, mkdir_is, stat_is}
+use Rattle.sn_model.proofs.DecisionLemmas.{HasPlace, called, same_ok, mkdir_is, stat_is}
+use Rattle.sn_model.proofs.NameCallLemmas.{link_applies, link_is, readdir_tells, rmdir_applies, rmdir_is}
+use Rattle.sn_model.proofs.RenameLemmas.{IsOne, IsRenaming, has_passed, rename_applies, rename_is}
 use Rattle.sn_model.proofs.AccessCallLemmas.{SetsSome, access_tells, can_be_set, chmod_is, chmod_some, chown_is, chown_some, getacl_tells, setacl_is, setacl_some}
 
 -- the ACLs of a new object are valid
@@ -79,6 +89,19 @@ new_ownership limits s mode tree number parent caller h node =
     group : (b : Bool) → nat_lt (cond b parent.group s.cred.gid) (2 ^ 32) ≡ true
     group true = lt-ltb parent.group (2 ^ 32) node.group
     group false = lt-ltb s.cred.gid (2 ^ 32) caller.gid
+
+-- the same of a new file
+new_file_ownership : (limits : Limits) (s : Session) (mode : Mode) (tree : Tree) (number : ℕ) (parent : Node) → IsCaller s → IsMode mode → IsNode limits number parent → is_ownership File (new_file s mode (attributes_of tree number parent) parent.default_acl) ≡ true
+new_file_ownership limits s mode tree number parent caller h node =
+    and_both _ _ (and_both _ _ (and_both _ _ (lt-ltb s.cred.uid (2 ^ 32) caller.uid) (group parent.set_gid)) (inherited_acl parent.default_acl mode s.umask h node.default_acl)) (none_of parent.default_acl)
+  where
+    group : (b : Bool) → nat_lt (cond b parent.group s.cred.gid) (2 ^ 32) ≡ true
+    group true = lt-ltb parent.group (2 ^ 32) node.group
+    group false = lt-ltb s.cred.gid (2 ^ 32) caller.gid
+
+    none_of : (default : Option (List Entry)) → is_default_acl File (inherited_default default false) ≡ true
+    none_of None = refl
+    none_of (Some d) = refl
 
 -- the names of a path are names
 pub record AreNames (names : List (List ℕ)) : Type 0 where
@@ -124,12 +147,15 @@ read_is : (r : Result (List (List ℕ)) PathFault) (names : List (List ℕ)) →
 read_is (Ok all) names e = ap path_ok (same_ok all names e)
 read_is (Err fault) names e = cc
 
-path_names : (word : List ℕ) (names : List (List ℕ)) → path_argument word ≡ Ok names → AreNames names
+pub path_names : (word : List ℕ) (names : List (List ℕ)) → path_argument word ≡ Ok names → AreNames names
 path_names word names e = parsed_is names word (read_is (parsed word) names e)
 
 last_is_name : (first : List ℕ) (more : List (List ℕ)) → AreNames (first ∷ more) → is_name (last_after first more) ≡ true
 last_is_name first [] h = and_both _ _ (and_left (is_name_spelled first) true h.spelled) (and_left (has_name_length first) true h.short)
 last_is_name first (next ∷ more) h = last_is_name next more (record { spelled = and_right (is_name_spelled first) _ h.spelled; short = and_right (has_name_length first) _ h.short })
+
+pub last_is : (names : List (List ℕ)) (first : List ℕ) (more : List (List ℕ)) → names ≡ first ∷ more → AreNames names → is_name (last_name names) ≡ true
+last_is names first more some are = ap (λ (ns : List (List ℕ)). is_name (last_name ns)) some ∙ last_is_name first more (subst AreNames some are)
 
 -- the mode of a new object has bits of three
 mode_is : (bits : ℕ) (mode : Mode) → new_mode_argument bits ≡ Ok mode → IsMode mode
@@ -148,38 +174,33 @@ caller_at (None ∷ sessions) zero s all e = cc
 caller_at (Some x ∷ sessions) zero s all e = let same : x ≡ s = cc in subst IsCaller same all.0
 caller_at (session ∷ sessions) (suc i) s all e = caller_at sessions i s all.1 e
 
-flat_is : (o : Option (Option Session)) (s : Session) → flat o ≡ Some s → o ≡ Some (Some s)
-flat_is None s e = cc
-flat_is (Some None) s e = cc
-flat_is (Some (Some x)) s e = ap (λ (y : Option Session). Some y) e
-
-open_is : (o : Option Session) (s : Session) → is_open o ≡ Ok s → o ≡ Some s
-open_is None s e = cc
-open_is (Some x) s e = ap (λ (y : Session). Some y) (same_ok x s e)
-
-pub seat_of : (world : World) (session : ℕ) (s : Session) → logged_in world session ≡ Ok s → slice_get world.sessions session ≡ Some (Some s)
-seat_of world session s e =
-    let p = bind_ok (session_at world session) is_open s e in
-    told (nat_lt session 64) (p.1 ∙ ap (λ (o : Option Session). found.ok o) (open_is p.0 s p.2))
-  where
-    told : (b : Bool) → cond b (found.ok (flat (slice_get world.sessions session))) (Err (plain Einval)) ≡ Ok (Some s) → slice_get world.sessions session ≡ Some (Some s)
-    told true f = flat_is (slice_get world.sessions session) s (same_ok _ _ f)
-    told false f = cc
-
 caller_is : (world : World) (session : ℕ) (s : Session) → AllByRecursion IsSession world.sessions → logged_in world session ≡ Ok s → IsCaller s
 caller_is world session s all e = caller_at world.sessions session s all (seat_of world session s e)
 
--- an answer that isn't a refusal
-abbrev pub IsAnswer : Reply → Type 0
-IsAnswer answer = (refusal : Refusal) → reply.Refused refusal ≡ answer → ⊥
+-- a new node can be made where there is a place for it
+module _ (limits : Limits) (tree : Tree) (names : List (List ℕ)) (directory number : ℕ) (kind : Kind) (given : Ownership) (some_links : 0 < limits.links) (whole : IsTree limits tree) (are : AreNames names) (p : HasPlace limits tree names directory) (free : IsNumber limits tree number) (owned : is_ownership kind given ≡ true) where
+  number_free : is_free_number limits tree number ≡ true
+  number_free = and_both _ _ (and_both _ _ (lt-ltb 2 number free.first) (le-leb number limits.largest_number free.within)) (ap (λ o. is_none o || (is_some (file_at tree number) && names_for tree number == 0)) free.unused)
 
--- what a call comes to
-pub data IsDecided (limits : Limits) (world : World) (session : ℕ) (c : Call) (o : Outcome) : Type 0 where
-  Login : (s : Session) → (IsCall c → IsCaller s) → o ≡ opens s → IsDecided limits world session c o
-  Masks : (s : Session) (mask : Mode) → o ≡ umask_outcome s mask → IsDecided limits world session c o
-  Tells : (answer : Reply) → IsAnswer answer → o ≡ tells answer → IsDecided limits world session c o
-  Makes : (s : Session) (names : List (List ℕ)) (mode : Mode) → logged_in world session ≡ Ok s → IsMode mode → AreNames names → Made limits world.live s names mode o → IsDecided limits world session c o
-  Assigns : (is : SetsSome limits o) → (IsWorld limits world → is_some (owned world.live is.0 is.1) ≡ true) → IsDecided limits world session c o
+  nameless : names_for tree number ≡ 0
+  nameless = no_names_for tree number (λ link e. true≢false (sym (whole.hierarchy.leads link number e) ∙ ap is_some free.unused))
+
+  is_last : is_name (last_name names) ≡ true
+  is_last = last_is names p.new.first p.new.more p.new.some_names are
+
+  pub place_applies : made limits tree (link_to directory (last_name names)) number kind given ≡ Some (with_node tree number (link_to directory (last_name names)) (node_with kind given []))
+  place_applies = made_of limits tree (link_to directory (last_name names)) number kind given _ (record {
+    free = number_free;
+    vacant = and_both _ _ (and_both _ _ is_last (ap not p.new.seen)) (ap is_none p.new.absent);
+    owned = owned;
+    room = record {
+      directory = p.parent;
+      parent = is_directory_at tree directory p.parent p.there (ap is_directory p.kind);
+      names = lt-ltb (names_in tree directory) limits.names (leb-false limits.names (names_in tree directory) p.room);
+      links = ap (λ n. nat_lt n limits.links) nameless ∙ lt-ltb 0 limits.links some_links;
+    };
+    gives = refl;
+  })
 
 module _ (limits : Limits) (world : World) (session : ℕ) where
   abbrev trees : ViewedTrees
@@ -192,24 +213,45 @@ module _ (limits : Limits) (world : World) (session : ℕ) where
   goes_on : (r q : Ready) (o : Outcome) → found.ok r ≡ Ok q → outcome_of limits world q ≡ Ok o → outcome_of limits world r ≡ Ok o
   goes_on r q o same e = subst (λ (x : Ready). outcome_of limits world x ≡ Ok o) (sym (same_ok r q same)) e
 
+  tells_decided : (c : Call) (o : Outcome) (answer : Reply) → IsAnswer answer → o ≡ tells answer → IsDecided limits world session c o
+  tells_decided c o answer is e = subst (IsDecided limits world session c) (sym e) (told limits world session c answer is)
+
   login_decided : (uid gid : ℕ) (groups : List ℕ) (o : Outcome) → ReadyTo (call.Login uid gid groups) o → IsDecided limits world session (call.Login uid gid groups) o
   login_decided uid gid groups o r =
       let s = new_session uid gid groups in
       let p = bind_ok (logged_out world session) (λ _. found.ok (calls.Login s)) r.0 r.1 in
-      Login s (λ k. record { uid = k.0; gid = k.1 }) (sym (same_ok _ _ (goes_on (calls.Login s) r.0 o p.2 r.2)))
+      subst (IsDecided limits world session (call.Login uid gid groups)) (same_ok _ _ (goes_on (calls.Login s) r.0 o p.2 r.2))
+      (turned limits world session (call.Login uid gid groups) (LogsIn s) reply.Done (λ refusal e. cc e) (λ f. cc f) (λ k w. record { uid = k.0; gid = k.1 }))
 
   umask_decided : (mask : ℕ) (o : Outcome) → ReadyTo (call.Umask mask) o → IsDecided limits world session (call.Umask mask) o
   umask_decided mask o r =
       let p = bind_ok (logged_in world session) (λ s. new_mode_argument mask >>= (λ bits. found.ok (calls.Umask s bits))) r.0 r.1 in
       let q = bind_ok (new_mode_argument mask) (λ bits. found.ok (calls.Umask p.0 bits)) r.0 p.2 in
-      Masks p.0 q.0 (sym (same_ok _ _ (goes_on (calls.Umask p.0 q.0) r.0 o q.2 r.2)))
+      subst (IsDecided limits world session (call.Umask mask)) (same_ok _ _ (goes_on (calls.Umask p.0 q.0) r.0 o q.2 r.2))
+      (turned limits world session (call.Umask mask) (SetsUmask q.0) (reply.Mode p.0.umask) (λ refusal e. cc e) (λ f. cc f) (λ k w. tt))
 
   mkdir_decided : (path : List ℕ) (mode : ℕ) (o : Outcome) → ReadyTo (call.Mkdir path mode) o → IsDecided limits world session (call.Mkdir path mode) o
   mkdir_decided path mode o r =
       let k = called world session path (λ s names. new_mode_argument mode >>= (λ bits. found.ok (calls.Mkdir s names bits))) r.0 r.1 in
       let m = bind_ok (new_mode_argument mode) (λ bits. found.ok (calls.Mkdir k.caller k.names bits)) r.0 k.passed in
-      Makes k.caller k.names m.0 k.called_by (mode_is mode m.0 m.1) (path_names path k.names k.read)
-      (mkdir_is limits world k.caller k.names m.0 o (goes_on (calls.Mkdir k.caller k.names m.0) r.0 o m.2 r.2))
+      let p = mkdir_is limits world k.caller k.names m.0 o (goes_on (calls.Mkdir k.caller k.names m.0) r.0 o m.2 r.2) in
+      subst (IsDecided limits world session (call.Mkdir path mode)) (sym p.made) (record {
+        answers = λ refusal e. cc e;
+        left = p.at.number;
+        of_old = tt;
+        charged = λ h. omega (arith, h);
+        takes = tt;
+        opens = λ f. cc f;
+        applies = λ number some_links whole free.
+            let own = new_directory k.caller m.0 (attributes_of world.live p.directory p.at.parent) p.at.parent.default_acl in
+            let owned = new_ownership limits k.caller m.0 world.live p.directory p.at.parent (caller_is world session k.caller whole.callers k.called_by) (mode_is mode m.0 m.1) (whole.live.nodes.nodes p.directory p.at.parent p.at.there) in
+            ap is_some (place_applies limits world.live k.names p.directory number Directory own some_links whole.live (path_names path k.names k.read) p.at free owned);
+        fits = λ n w. tt;
+      })
+
+  -- attributes that are set
+  set_decided : (c : Call) (o : Outcome) (is : SetsSome limits o) → TakesMemory c → (IsWorld limits world → is_some (owned world.live is.0 is.1) ≡ true) → IsDecided limits world session c o
+  set_decided c o is takes can = subst (IsDecided limits world session c) (sym is.2) (done limits world session c limits.inode_charge (SetAttributes is.0 is.1) takes tt (λ h. h) can)
 
   chmod_decided : (path : List ℕ) (mode : ℕ) (o : Outcome) → ReadyTo (call.Chmod path mode) o → IsDecided limits world session (call.Chmod path mode) o
   chmod_decided path mode o r =
@@ -217,7 +259,7 @@ module _ (limits : Limits) (world : World) (session : ℕ) where
       let m = bind_ok (mode_bits_argument mode) (λ bits. found.ok (calls.Chmod k.caller k.names bits)) r.0 k.passed in
       let e = goes_on (calls.Chmod k.caller k.names m.0) r.0 o m.2 r.2 in
       let is = chmod_some limits trees k.caller k.names m.0 o e in
-      Assigns is (λ whole. can_be_set limits world k.caller o (ShowsMode k.caller m.0) is (chmod_is limits world k.caller k.names mode m.0 o whole m.1 e))
+      set_decided (call.Chmod path mode) o is tt (λ whole. can_be_set limits world k.caller o (ShowsMode k.caller m.0) is (chmod_is limits world k.caller k.names mode m.0 o whole m.1 e))
 
   chown_decided : (path : List ℕ) (uid gid : Option ℕ) (o : Outcome) → ReadyTo (call.Chown path uid gid) o → IsDecided limits world session (call.Chown path uid gid) o
   chown_decided path uid gid o r =
@@ -226,24 +268,24 @@ module _ (limits : Limits) (world : World) (session : ℕ) where
       let b = bind_ok (id_argument gid) (λ group. found.ok (calls.Chown k.caller k.names a.0 group)) r.0 a.2 in
       let e = goes_on (calls.Chown k.caller k.names a.0 b.0) r.0 o b.2 r.2 in
       let is = chown_some limits trees k.caller k.names a.0 b.0 o e in
-      Assigns is (λ whole. can_be_set limits world k.caller o (GivesTo k.caller a.0 b.0) is (chown_is limits world k.caller k.names uid a.0 gid b.0 o whole a.1 b.1 e))
+      set_decided (call.Chown path uid gid) o is tt (λ whole. can_be_set limits world k.caller o (GivesTo k.caller a.0 b.0) is (chown_is limits world k.caller k.names uid a.0 gid b.0 o whole a.1 b.1 e))
 
   stat_decided : (path : List ℕ) (o : Outcome) → ReadyTo (call.Stat path) o → IsDecided limits world session (call.Stat path) o
   stat_decided path o r =
       let k = called world session path (λ s names. found.ok (calls.Stat s names)) r.0 r.1 in
       let t = stat_is world k.caller k.names o (goes_on (calls.Stat k.caller k.names) r.0 o k.passed r.2) in
-      Tells (reply.Status t.0) (λ refusal e. cc e) t.1
+      tells_decided (call.Stat path) o (reply.Status t.0) (λ refusal e. cc e) t.1
 
   access_decided : (path : List ℕ) (want : access.Access) (o : Outcome) → ReadyTo (call.Access path want) o → IsDecided limits world session (call.Access path want) o
   access_decided path want o r =
       let k = called world session path (λ s names. found.ok (calls.Access s names want)) r.0 r.1 in
-      Tells reply.Done (λ refusal e. cc e) (access_tells trees k.caller k.names want o (goes_on (calls.Access k.caller k.names want) r.0 o k.passed r.2))
+      tells_decided (call.Access path want) o reply.Done (λ refusal e. cc e) (access_tells trees k.caller k.names want o (goes_on (calls.Access k.caller k.names want) r.0 o k.passed r.2))
 
   getacl_decided : (path : List ℕ) (kind : AclKind) (o : Outcome) → ReadyTo (call.GetAcl path kind) o → IsDecided limits world session (call.GetAcl path kind) o
   getacl_decided path kind o r =
       let k = called world session path (λ s names. found.ok (calls.GetAcl s names kind)) r.0 r.1 in
       let t = getacl_tells trees k.caller k.names kind o (goes_on (calls.GetAcl k.caller k.names kind) r.0 o k.passed r.2) in
-      Tells (reply.Acl t.0) (λ refusal e. cc e) t.1
+      tells_decided (call.GetAcl path kind) o (reply.Acl t.0) (λ refusal e. cc e) t.1
 
   setacl_decided : (path : List ℕ) (kind : AclKind) (acl : List ℕ) (o : Outcome) → ReadyTo (call.SetAcl path kind acl) o → IsDecided limits world session (call.SetAcl path kind acl) o
   setacl_decided path kind acl o r =
@@ -251,7 +293,73 @@ module _ (limits : Limits) (world : World) (session : ℕ) where
       let a = bind_ok (acl_argument kind acl) (λ new. found.ok (calls.SetAcl k.caller k.names new)) r.0 k.passed in
       let e = goes_on (calls.SetAcl k.caller k.names a.0) r.0 o a.2 r.2 in
       let is = setacl_some limits trees k.caller k.names a.0 o e in
-      Assigns is (λ whole. can_be_set limits world k.caller o (SetsAcl a.0) is (setacl_is limits world k.caller k.names kind acl a.0 o whole a.1 e))
+      set_decided (call.SetAcl path kind acl) o is tt (λ whole. can_be_set limits world k.caller o (SetsAcl a.0) is (setacl_is limits world k.caller k.names kind acl a.0 o whole a.1 e))
+
+  -- a call of a session that is logged in
+  seated : (more : Session → Result Ready Refusal) (r : Ready) → (logged_in world session >>= more) ≡ Ok r → (s : Session) × (logged_in world session ≡ Ok s) × (more s ≡ Ok r)
+  seated more r e = bind_ok (logged_in world session) more r e
+
+  rmdir_decided : (path : List ℕ) (o : Outcome) → ReadyTo (call.Rmdir path) o → IsDecided limits world session (call.Rmdir path) o
+  rmdir_decided path o r =
+      let k = called world session path (λ s names. found.ok (calls.Rmdir s names)) r.0 r.1 in
+      let p = rmdir_is limits world k.caller k.names o (goes_on (calls.Rmdir k.caller k.names) r.0 o k.passed r.2) in
+      subst (IsDecided limits world session (call.Rmdir path)) (sym p.made) (done limits world session (call.Rmdir path) (2 * limits.inode_charge + limits.block_charge) (Remove p.directory (last_name k.names)) tt tt (λ h. omega (arith, h)) (λ whole. rmdir_applies limits world.live k.names o p))
+
+  unlink_decided : (path : List ℕ) (o : Outcome) → ReadyTo (call.Unlink path) o → IsDecided limits world session (call.Unlink path) o
+  unlink_decided path o r =
+      let k = called world session path (λ s names. found.ok (calls.Unlink s names)) r.0 r.1 in
+      unlink_is limits world session k.caller k.names path o (goes_on (calls.Unlink k.caller k.names) r.0 o k.passed r.2)
+
+  link_decided : (old new : List ℕ) (o : Outcome) → ReadyTo (call.Link old new) o → IsDecided limits world session (call.Link old new) o
+  link_decided old new o r =
+      let k = called world session old (λ s names. path_argument new >>= (λ others. found.ok (calls.Link s names others))) r.0 r.1 in
+      let n = bind_ok (path_argument new) (λ others. found.ok (calls.Link k.caller k.names others)) r.0 k.passed in
+      let p = link_is limits world k.caller k.names n.0 o (goes_on (calls.Link k.caller k.names n.0) r.0 o n.2 r.2) in
+      subst (IsDecided limits world session (call.Link old new)) (sym p.made) (done limits world session (call.Link old new) (2 * limits.inode_charge + limits.block_charge) (AddLink p.directory (last_name n.0) p.number) tt tt (λ h. omega (arith, h)) (λ whole. link_applies limits world.live n.0 o p (last_is n.0 p.new.first p.new.more p.new.some_names (path_names new n.0 n.1))))
+
+  logout_decided : (o : Outcome) → ReadyTo call.Logout o → IsDecided limits world session call.Logout o
+  logout_decided o r =
+      let k = seated (λ _. found.ok calls.Logout) r.0 r.1 in
+      logout_is limits world session o (goes_on calls.Logout r.0 o k.2 r.2)
+
+  open_decided : (path : List ℕ) (flags : OpenFlags) (mode : ℕ) (o : Outcome) → ReadyTo (call.Open path flags mode) o → IsDecided limits world session (call.Open path flags mode) o
+  open_decided path flags mode o r =
+      let k = called world session path (λ s names. flags_argument flags >>= (λ asked. new_mode_argument mode >>= (λ bits. found.ok (calls.Open session s names asked bits)))) r.0 r.1 in
+      let f = bind_ok (flags_argument flags) (λ asked. new_mode_argument mode >>= (λ bits. found.ok (calls.Open session k.caller k.names asked bits))) r.0 k.passed in
+      let m = bind_ok (new_mode_argument mode) (λ bits. found.ok (calls.Open session k.caller k.names f.0 bits)) r.0 f.2 in
+      let e = goes_on (calls.Open session k.caller k.names f.0 m.0) r.0 o m.2 r.2 in
+      opening_is limits world session k.caller k.names path flags f.0 mode m.0 o k.called_by f.1
+      (λ directory number some_links whole at free.
+      let own = new_file k.caller m.0 (attributes_of world.live directory at.parent) at.parent.default_acl in
+      let owned = new_file_ownership limits k.caller m.0 world.live directory at.parent (caller_is world session k.caller whole.callers k.called_by) (mode_is mode m.0 m.1) (whole.live.nodes.nodes directory at.parent at.there) in
+      ap is_some (place_applies limits world.live k.names directory number File own some_links whole.live (path_names path k.names k.read) at free owned)) e
+
+  close_decided : (fd : ℕ) (o : Outcome) → ReadyTo (call.Close fd) o → IsDecided limits world session (call.Close fd) o
+  close_decided fd o r =
+      let k = seated (λ _. found.ok (calls.Close session fd)) r.0 r.1 in
+      close_is limits world session fd o (goes_on (calls.Close session fd) r.0 o k.2 r.2)
+
+  read_decided : (fd count : ℕ) (o : Outcome) → ReadyTo (call.Read fd count) o → IsDecided limits world session (call.Read fd count) o
+  read_decided fd count o r =
+      let k = seated (λ _. count_argument count >>= (λ many. found.ok (calls.Read session fd many))) r.0 r.1 in
+      let n = bind_ok (count_argument count) (λ many. found.ok (calls.Read session fd many)) r.0 k.2 in
+      reads_is limits world session fd count n.0 o (goes_on (calls.Read session fd n.0) r.0 o n.2 r.2)
+
+  write_decided : (fd : ℕ) (bytes : List ℕ) (o : Outcome) → ReadyTo (call.Write fd bytes) o → IsDecided limits world session (call.Write fd bytes) o
+  write_decided fd bytes o r =
+      let k = seated (λ _. bytes_argument bytes >>= (λ new. found.ok (calls.Write session fd new))) r.0 r.1 in
+      let n = bind_ok (bytes_argument bytes) (λ new. found.ok (calls.Write session fd new)) r.0 k.2 in
+      write_is limits world session fd bytes n.0 o (bytes_are bytes n.0 n.1) (goes_on (calls.Write session fd n.0) r.0 o n.2 r.2)
+
+  seek_decided : (fd offset : ℕ) (o : Outcome) → ReadyTo (call.Seek fd offset) o → IsDecided limits world session (call.Seek fd offset) o
+  seek_decided fd offset o r =
+      let k = seated (λ _. found.ok (calls.Seek session fd offset)) r.0 r.1 in
+      seek_is limits world session fd offset o (goes_on (calls.Seek session fd offset) r.0 o k.2 r.2)
+
+  ftruncate_decided : (fd size : ℕ) (o : Outcome) → ReadyTo (call.Ftruncate fd size) o → IsDecided limits world session (call.Ftruncate fd size) o
+  ftruncate_decided fd size o r =
+      let k = seated (λ _. found.ok (calls.Ftruncate session fd size)) r.0 r.1 in
+      ftruncate_is limits world session fd size o (goes_on (calls.Ftruncate session fd size) r.0 o k.2 r.2)
 
   by_call : (c : Call) (o : Outcome) → ReadyTo c o → IsDecided limits world session c o
   by_call (call.Login uid gid groups) o r = login_decided uid gid groups o r
@@ -263,48 +371,20 @@ module _ (limits : Limits) (world : World) (session : ℕ) where
   by_call (call.Access path want) o r = access_decided path want o r
   by_call (call.GetAcl path kind) o r = getacl_decided path kind o r
   by_call (call.SetAcl path kind acl) o r = setacl_decided path kind acl o r
+  by_call (call.Rmdir path) o r = rmdir_decided path o r
+  by_call (call.Unlink path) o r = unlink_decided path o r
+  by_call (call.Link old new) o r = link_decided old new o r
+  by_call call.Logout o r = logout_decided o r
+  by_call (call.Open path flags mode) o r = open_decided path flags mode o r
+  by_call (call.Close fd) o r = close_decided fd o r
+  by_call (call.Read fd count) o r = read_decided fd count o r
+  by_call (call.Write fd bytes) o r = write_decided fd bytes o r
+  by_call (call.Seek fd offset) o r = seek_decided fd offset o r
+  by_call (call.Ftruncate fd size) o r = ftruncate_decided fd size o r
 
   pub decided_is : (c : Call) (o : Outcome) → decision limits world session c ≡ Ok o → IsDecided limits world session c o
   decided_is c o e = by_call c o (bind_ok (ready world session c) (outcome_of limits world) o e)
 
--- the change that mkdir has decided can be applied
-module _ (limits : Limits) (tree : Tree) (s : Session) (names : List (List ℕ)) (mode : Mode) (o : Outcome) (number : ℕ) (some_links : 0 < limits.links) (whole : IsTree limits tree) (caller : IsCaller s) (bits : IsMode mode) (are : AreNames names) (p : Made limits tree s names mode o) (free : IsNumber limits tree number) where
-  number_free : is_free_number limits tree number ≡ true
-  number_free = and_both _ _ (and_both _ _ (lt-ltb 2 number free.first) (le-leb number limits.largest_number free.within)) (ap (λ o. is_none o || (is_some (file_at tree number) && names_for tree number == 0)) free.unused)
-
-  nameless : names_for tree number ≡ 0
-  nameless = no_names_for tree number (λ link e. true≢false (sym (whole.hierarchy.leads link number e) ∙ ap is_some free.unused))
-
-  is_last : is_name (last_name names) ≡ true
-  is_last = ap (λ (ns : List (List ℕ)). is_name (last_name ns)) p.new.some_names ∙ last_is_name p.new.first p.new.more (subst AreNames p.new.some_names are)
-
-  abbrev pub given : Ownership
-  given = new_directory s mode (attributes_of tree p.directory p.parent) p.parent.default_acl
-
-  pub mkdir_applies : made limits tree (link_to p.directory (last_name names)) number Directory given ≡ Some (with_node tree number (link_to p.directory (last_name names)) (node_with Directory given []))
-  mkdir_applies = made_of limits tree (link_to p.directory (last_name names)) number Directory given _ (record {
-    free = number_free;
-    vacant = and_both _ _ (and_both _ _ is_last (ap not p.new.seen)) (ap is_none p.new.absent);
-    owned = new_ownership limits s mode tree p.directory p.parent caller bits (whole.nodes.nodes p.directory p.parent p.there);
-    room = record {
-      directory = p.parent;
-      parent = is_directory_at tree p.directory p.parent p.there (ap is_directory p.kind);
-      names = lt-ltb (names_in tree p.directory) limits.names (leb-false limits.names (names_in tree p.directory) p.room);
-      links = ap (λ n. nat_lt n limits.links) nameless ∙ lt-ltb 0 limits.links some_links;
-    };
-    gives = refl;
-  })
-
 pub decided_applies : (limits : Limits) (world : World) (session : ℕ) (c : Call) (o : Outcome) (number : ℕ) → 0 < limits.links → IsWorld limits world
     → decision limits world session c ≡ Ok o → IsNumberFor limits world.live number o.change → is_some (changed limits number o.change world.live) ≡ true
-decided_applies limits world session c o number some_links whole e free = told (decided_is limits world session c o e)
-  where
-    told : IsDecided limits world session c o → is_some (changed limits number o.change world.live) ≡ true
-    told (Login s k f) = ap (λ (x : Outcome). is_some (changed limits number x.change world.live)) f
-    told (Masks s mask f) = ap (λ (x : Outcome). is_some (changed limits number x.change world.live)) f
-    told (Tells a k f) = ap (λ (x : Outcome). is_some (changed limits number x.change world.live)) f
-    told (Assigns is can) = ap (λ (x : Outcome). is_some (changed limits number x.change world.live)) is.2 ∙ can whole
-    told (Makes s names mode k b n p) =
-        let is = subst (λ (x : Outcome). IsNumberFor limits world.live number x.change) p.made free in
-        ap (λ (x : Outcome). is_some (changed limits number x.change world.live)) p.made
-        ∙ ap is_some (mkdir_applies limits world.live s names mode o number some_links whole.live (caller_is world session s whole.callers k) b n p is)
+decided_applies limits world session c o number some_links whole e free = (decided_is limits world session c o e).applies number some_links whole free

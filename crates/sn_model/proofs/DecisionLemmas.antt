@@ -51,7 +51,7 @@ live_node (object.Node Live n) d e = ap (λ (k : ℕ). object.Node Live k) (same
 live_node (object.Node (Frozen s) n) d e = cc
 live_node object.Snapshots d e = cc
 
-hidden_apart : (b : Bool) (o : Option ℕ) → cond b (Some object.Snapshots) (option_map (object.Node Live) o) ≡ None → (b ≡ false) × (o ≡ None)
+pub hidden_apart : (b : Bool) (o : Option ℕ) → cond b (Some object.Snapshots) (option_map (object.Node Live) o) ≡ None → (b ≡ false) × (o ≡ None)
 hidden_apart true o e = cc
 hidden_apart false None e = (refl, refl)
 hidden_apart false (Some n) e = cc
@@ -70,7 +70,7 @@ pub record IsNew (tree : Tree) (names : List (List ℕ)) (directory : ℕ) : Typ
   pub absent : map.get tree.links (link_to directory (last_name names)) ≡ None
   pub seen : is_hidden_name directory (last_name names) ≡ false
 
-new_name : (world : World) (names : List (List ℕ)) (w : Walked) (v : Object × ℕ) (directory : ℕ) → EndsAt (viewed_trees (trees_of world)) names w → not_present w ≡ Ok v → live v.0 ≡ Ok directory → IsNew world.live names directory
+pub new_name : (world : World) (names : List (List ℕ)) (w : Walked) (v : Object × ℕ) (directory : ℕ) → EndsAt (viewed_trees (trees_of world)) names w → not_present w ≡ Ok v → live v.0 ≡ Ok directory → IsNew world.live names directory
 new_name world names Root v directory ends e l = cc
 new_name world [] (Name at place o) v directory ends e l = cc
 new_name world (name ∷ names) (Name at place o) v directory ends e l =
@@ -80,7 +80,7 @@ new_name world (name ∷ names) (Name at place o) v directory ends e l =
     let h = hidden_apart (is_hidden_name directory (last_after name names)) _ none in
     record { first = name; more = names; some_names = refl; absent = h.1; seen = h.0 }
 
-kind_is : (world : World) (names : List (List ℕ)) (w : Walked) (v : Object × ℕ) (directory : ℕ) → EndsAt (viewed_trees (trees_of world)) names w → not_present w ≡ Ok v → live v.0 ≡ Ok directory → IsSomeAnd (attributes_at (viewed_trees (trees_of world)) (object.Node Live directory)) (λ a. a.kind ≡ Directory)
+pub kind_is : (world : World) (names : List (List ℕ)) (w : Walked) (v : Object × ℕ) (directory : ℕ) → EndsAt (viewed_trees (trees_of world)) names w → not_present w ≡ Ok v → live v.0 ≡ Ok directory → IsSomeAnd (attributes_at (viewed_trees (trees_of world)) (object.Node Live directory)) (λ a. a.kind ≡ Directory)
 kind_is world names Root v directory ends e l = cc
 kind_is world [] (Name at place o) v directory ends e l = cc
 kind_is world (name ∷ names) (Name at place o) v directory ends e l =
@@ -100,7 +100,7 @@ seen_node tree number (Some x) a e =
     let same : attributes_of tree number x ≡ a = cc in
     (x, refl, sym same)
 
-room_is : (limits : Limits) (tree : Tree) (directory : ℕ) (u : Unit {0}) → has_room limits tree directory ≡ Ok u → (is_none (least_unused limits tree) ≡ false) × (nat_le limits.names (names_in tree directory) ≡ false)
+pub room_is : (limits : Limits) (tree : Tree) (directory : ℕ) (u : Unit {0}) → has_room limits tree directory ≡ Ok u → (is_none (least_unused limits tree) ≡ false) × (nat_le limits.names (names_in tree directory) ≡ false)
 room_is limits tree directory u e = told (is_none (least_unused limits tree)) (nat_le limits.names (names_in tree directory)) e
   where
     told : (a b : Bool) → cond a (Err (plain Elimit)) (cond b (Err (plain Elimit)) (ok tt)) ≡ Ok u → (a ≡ false) × (b ≡ false)
@@ -108,16 +108,20 @@ room_is limits tree directory u e = told (is_none (least_unused limits tree)) (n
     told false true f = cc
     told false false f = (refl, refl)
 
--- what mkdir has found, and what it comes to
-pub record Made (limits : Limits) (tree : Tree) (s : Session) (names : List (List ℕ)) (mode : Mode) (o : Outcome) : Type 0 where
-  pub directory : ℕ
+-- a name that isn't there yet, in a directory that may get it, and a number for it
+pub record HasPlace (limits : Limits) (tree : Tree) (names : List (List ℕ)) (directory : ℕ) : Type 0 where
   pub new : IsNew tree names directory
   pub parent : Node
   pub there : map.get tree.nodes directory ≡ Some parent
   pub kind : parent.kind ≡ Directory
   pub number : is_none (least_unused limits tree) ≡ false
   pub room : nat_le limits.names (names_in tree directory) ≡ false
-  pub made : o ≡ makes (2 * limits.inode_charge + limits.block_charge) (link_to directory (last_name names)) Directory (new_directory s mode (attributes_of tree directory parent) parent.default_acl)
+
+-- what mkdir has found, and what it comes to
+pub record Made (limits : Limits) (tree : Tree) (s : Session) (names : List (List ℕ)) (mode : Mode) (o : Outcome) : Type 0 where
+  pub directory : ℕ
+  pub at : HasPlace limits tree names directory
+  pub made : o ≡ makes (2 * limits.inode_charge + limits.block_charge) (link_to directory (last_name names)) Directory (new_directory s mode (attributes_of tree directory at.parent) at.parent.default_acl)
 
 pub default_at : (tree : Tree) (directory : ℕ) (parent : Node) → map.get tree.nodes directory ≡ Some parent → (viewed tree).default_acl directory ≡ parent.default_acl
 default_at tree directory parent e = ap (option_and_then (λ (node : Node). node.default_acl)) e
@@ -132,7 +136,7 @@ made_as limits world s names mode directory p parent o e seen there =
     sym (same_ok _ o e) ∙ ap (λ (a : Attributes). made a ((viewed world.live).default_acl directory)) seen ∙ ap (made (attributes_of world.live directory parent)) (default_at world.live directory parent there)
 
 -- an access that is asked of a live directory is granted by its node
-granted_at : (world : World) (s : Session) (place : ℕ) (at : Object) (directory : ℕ) (a : Attributes) → at ≡ object.Node Live directory → writable_parent (viewed_trees (trees_of world)) s.cred 1 place at ≡ Ok a → (viewed world.live).node directory ≡ Some a
+pub granted_at : (world : World) (s : Session) (place : ℕ) (at : Object) (directory : ℕ) (a : Attributes) → at ≡ object.Node Live directory → writable_parent (viewed_trees (trees_of world)) s.cred 1 place at ≡ Ok a → (viewed world.live).node directory ≡ Some a
 granted_at world s place at directory a is e = granted_is s.cred 1 place write ((viewed world.live).node directory) a (ap (λ (x : Object). writable_parent (viewed_trees (trees_of world)) s.cred 1 place x) (sym is) ∙ e)
 
 pub mkdir_is : (limits : Limits) (world : World) (s : Session) (names : List (List ℕ)) (mode : Mode) (o : Outcome) → mkdir_outcome limits (seen limits world) s names mode ≡ Ok o → Made limits world.live s names mode o
@@ -147,12 +151,14 @@ mkdir_is limits world s names mode o e =
     let x = seen_node world.live d.0 (map.get world.live.nodes d.0) p.0 (granted_at world s v.0.1 v.0.0 d.0 p.0 (live_node v.0.0 d.0 d.1) p.1) in
     record {
       directory = d.0;
-      new = new_name world names w.0 v.0 d.0 ends v.1 d.1;
-      parent = x.0;
-      there = x.1;
-      kind = subst (λ (o : Option Node). IsSomeAnd (option_map (attributes_of world.live d.0) o) (λ a. a.kind ≡ Directory)) {y = Some x.0} x.1 (kind_is world names w.0 v.0 d.0 ends v.1 d.1);
-      number = (room_is limits world.live d.0 r.0 r.1).0;
-      room = (room_is limits world.live d.0 r.0 r.1).1;
+      at = record {
+        new = new_name world names w.0 v.0 d.0 ends v.1 d.1;
+        parent = x.0;
+        there = x.1;
+        kind = subst (λ (o : Option Node). IsSomeAnd (option_map (attributes_of world.live d.0) o) (λ a. a.kind ≡ Directory)) {y = Some x.0} x.1 (kind_is world names w.0 v.0 d.0 ends v.1 d.1);
+        number = (room_is limits world.live d.0 r.0 r.1).0;
+        room = (room_is limits world.live d.0 r.0 r.1).1;
+      };
       made = made_as limits world s names mode d.0 p.0 x.0 o r.2 x.2 x.1;
     }
 

@@ -1,7 +1,6 @@
 -- Each EACCES of a walk, and of a call that makes a node or looks at one, is of a place where the access rule denies.
-use Rattle.std.proofs.Common.{◌≡◌, ◌⊎◌, inl, inr, ℕ, suc, ◌+◌, ◌*◌, Bool, true, false, cond, List, [], ◌∷◌, take, Option, Some, None, Result, Ok, Err, nat_lt, nat_le, is_none, refl, sym, ap, ◌∙◌, arith}
+use Rattle.std.proofs.Common.{◌≡◌, ◌⊎◌, inl, inr, ℕ, suc, ◌+◌, ◌*◌, Bool, true, false, cond, List, [], ◌∷◌, take, Option, Some, None, Result, Ok, Err, nat_le, is_none, refl, sym, ap, ◌∙◌, arith}
 use Rattle.std.specs.Option.{option_and_then}
-use Rattle.std.specs.Prelude.{slice_get}
 use Rattle.sn_acl.specs.declared.entries.Entry.{Entry}
 use Rattle.sn_acl.specs.declared.entries.Tag.{Tag}
 use Rattle.sn_acl.specs.declared.modes.Mode.{Mode}
@@ -9,8 +8,6 @@ use Rattle.sn_acl.specs.Credential.{Credential}
 use Rattle.sn_acl.specs.Access.{denial_of}
 use Rattle.sn_limits.specs.declared.limits.Limits.{Limits}
 use Rattle.sn_walk.specs.declared.object.Object.{Object}
-use Rattle.sn_walk.specs.declared.path.PathFault.{PathFault}
-use Rattle.sn_walk.specs.declared.path.PathFault.TheVariants.{Misspelt, TooLong}
 use Rattle.sn_walk.specs.declared.view.Attributes.{Attributes}
 use Rattle.sn_walk.specs.declared.walking.Found.{Found}
 use Rattle.sn_walk.specs.declared.walking.Obstacle.{Obstacle}
@@ -20,16 +17,13 @@ use Rattle.sn_walk.specs.declared.walking.Walked.{Walked}
 use Rattle.sn_walk.specs.declared.walking.Walked.TheVariants.{Root, Name}
 use Rattle.sn_walk.specs.Chains.{◌>>=◌}
 use Rattle.sn_walk.specs.Objects.{is_in_tree_of, number_of, root}
-use Rattle.sn_walk.specs.Paths.{parsed}
 use Rattle.sn_walk.specs.Views.{ViewedTrees, attributes_at, child_of, is_directory}
 use Rattle.sn_walk.specs.Walks.{admitted, found_at, passed, present, refusal, searched, walk_from, walk_of}
 use Rattle.sn_walk.proofs.ChainLemmas.{bind_ok}
-use Rattle.sn_model.specs.declared.call.Call.{Call}
-use Rattle.sn_model.specs.declared.call.Call.TheVariants as call
 use Rattle.sn_model.specs.declared.reply.Access.{Access}
 use Rattle.sn_model.specs.declared.reply.Denial.{Denial}
 use Rattle.sn_model.specs.declared.reply.Errno.{Errno}
-use Rattle.sn_model.specs.declared.reply.Errno.TheVariants.{Eacces, Enoent, Enotdir, Eexist, Einval, Enametoolong, Erofs, Ebusy, Ebadf, Elimit}
+use Rattle.sn_model.specs.declared.reply.Errno.TheVariants.{Eacces, Enoent, Enotdir, Eexist, Erofs, Elimit}
 use Rattle.sn_model.specs.declared.reply.Refusal.{Refusal}
 use Rattle.sn_model.specs.declared.reply.Rule.TheVariants as rule
 use Rattle.sn_model.specs.declared.reply.Reply.TheVariants as reply
@@ -40,11 +34,9 @@ use Rattle.sn_limits.specs.declared.kind.Kind.TheVariants.{Directory}
 use Rattle.sn_model.specs.Tree.{Tree, least_unused, link_to, names_in}
 use Rattle.sn_model.specs.World.{World, trees_of, viewed_trees}
 use Rattle.sn_model.specs.Outcomes.{makes, tells}
-use Rattle.sn_model.specs.Calls as calls
-use Rattle.sn_model.specs.Calls.{mkdir_outcome, new_directory, last_name, new_session, outcome_of, ready, seen, stat_outcome, status_of}
-use Rattle.sn_model.specs.Steps.{decision}
-use Rattle.sn_model.specs.Tests.{plain, denied, search, write, rights_of, flat, session_at, is_open, is_free, logged_in, logged_out, read_path, path_argument, mode_from_bits, new_mode_argument, obstacle_refusal, walked, prefix, there, full, not_present, live, unless_denied, granted, writable_parent, has_room}
-use Rattle.sn_model.specs.Denials.{led_to, at_place, path_of, IsByRule, IsDenied}
+use Rattle.sn_model.specs.Calls.{mkdir_outcome, new_directory, last_name, seen, stat_outcome, status_of}
+use Rattle.sn_model.specs.Tests.{plain, denied, search, write, rights_of, obstacle_refusal, walked, prefix, there, full, not_present, live, unless_denied, granted, writable_parent, has_room}
+use Rattle.sn_model.specs.Denials.{led_to, at_place, IsByRule}
 
 -- ---- walks
 
@@ -154,7 +146,7 @@ module _ (trees : ViewedTrees) (cred : Credential) where
       told ih (inr h) = beyond ih h.0 (passed_ok place directory name h.0 h.1) (bind_err (present place h.0) (onward place next names) r h.2)
 
   -- where a walk ends, its directory is at its place
-  walk_led : (place : ℕ) (directory : Object) (name : List ℕ) (names : List (List ℕ)) (at : Object) (end : ℕ) (last : Option Object) → walk_from trees cred place directory name names ≡ Ok (Name at end last) → (k : ℕ) × (end ≡ place + k) × (led_to trees directory (take k (name ∷ names)) ≡ Some at)
+  pub walk_led : (place : ℕ) (directory : Object) (name : List ℕ) (names : List (List ℕ)) (at : Object) (end : ℕ) (last : Option Object) → walk_from trees cred place directory name names ≡ Ok (Name at end last) → (k : ℕ) × (end ≡ place + k) × (led_to trees directory (take k (name ∷ names)) ≡ Some at)
   unfolding walk_from led_to
   walk_led place directory name [] at end last e =
       let b = bind_ok (passed trees cred place directory name) (λ object. Ok (Name directory place object)) (Name at end last) e in
@@ -196,7 +188,7 @@ module _ (trees : ViewedTrees) (cred : Credential) (path : ℕ) where
     by_rule = record { object = object; place = at; attributes = a; has = has; entry = entry; denies = denies; told = refl };
   }
 
-  prefix_denied : (names : List (List ℕ)) (r : Refusal) → prefix trees cred path names ≡ Err r → r.errno ≡ Eacces → IsDeniedAt trees cred path names r
+  pub prefix_denied : (names : List (List ℕ)) (r : Refusal) → prefix trees cred path names ≡ Err r → r.errno ≡ Eacces → IsDeniedAt trees cred path names r
   prefix_denied [] r e is = cc
   prefix_denied (name ∷ names) r e is = told (walk_from trees cred 0 root name names) refl e
     where
@@ -213,7 +205,7 @@ module _ (trees : ViewedTrees) (cred : Credential) (path : ℕ) where
       told (Ok v) f g = cc g
       told (Err w) f g = let same : obstacle_refusal path w.place w.obstacle ≡ r = cc g in stopped w f w.obstacle refl same
 
-  there_other : (o : Option Found) (r : Refusal) → there o ≡ Err r → r.errno ≡ Eacces → ⊥
+  pub there_other : (o : Option Found) (r : Refusal) → there o ≡ Err r → r.errno ≡ Eacces → ⊥
   there_other None r e is = let never : Enoent ≡ Eacces = (let same : plain Enoent ≡ r = cc e in ap (λ (x : Refusal). x.errno) same ∙ is) in cc never
   there_other (Some x) r e is = cc e
 
@@ -242,7 +234,7 @@ module _ (trees : ViewedTrees) (cred : Credential) (path : ℕ) where
 
 -- ---- calls
 
-not_present_other : (w : Walked) (r : Refusal) → not_present w ≡ Err r → r.errno ≡ Eacces → ⊥
+pub not_present_other : (w : Walked) (r : Refusal) → not_present w ≡ Err r → r.errno ≡ Eacces → ⊥
 not_present_other Root r e is = let never : Eexist ≡ Eacces = (let same : plain Eexist ≡ r = cc e in ap (λ (x : Refusal). x.errno) same ∙ is) in cc never
 not_present_other (Name at end None) r e is = cc e
 not_present_other (Name at end (Some x)) r e is = let never : Eexist ≡ Eacces = (let same : plain Eexist ≡ r = cc e in ap (λ (x : Refusal). x.errno) same ∙ is) in cc never
@@ -257,7 +249,7 @@ live_other o r e is = told (is_in_tree_of o root) e
 abbrev some_room : Result (Unit {0}) Refusal
 some_room = Ok tt
 
-room_other : (limits : Limits) (tree : Tree) (directory : ℕ) (r : Refusal) → has_room limits tree directory ≡ Err r → r.errno ≡ Eacces → ⊥
+pub room_other : (limits : Limits) (tree : Tree) (directory : ℕ) (r : Refusal) → has_room limits tree directory ≡ Err r → r.errno ≡ Eacces → ⊥
 room_other limits tree directory r e is = told (is_none (least_unused limits tree)) (nat_le limits.names (names_in tree directory)) e
   where
     full_up : plain Elimit ≡ r → ⊥
@@ -279,7 +271,7 @@ vacant_at trees cred (name ∷ names) (Name at end None) v e f =
     let place : end ≡ d.0 = omega (arith, d.1) in
     ap (λ (p : Object × ℕ). at_place trees (name ∷ names) p.1) (sym same) ∙ ap (λ (n : ℕ). at_place trees (name ∷ names) n) place ∙ d.2 ∙ ap (λ (p : Object × ℕ). Some p.0) same
 
-prefix_ok : (path : ℕ) (r : Result Walked WalkRefusal) (w : Walked) → walked path r ≡ Ok w → r ≡ Ok w
+pub prefix_ok : (path : ℕ) (r : Result Walked WalkRefusal) (w : Walked) → walked path r ≡ Ok w → r ≡ Ok w
 prefix_ok path (Ok v) w e = let same : v ≡ w = cc e in ap (λ (x : Walked). Ok x) same
 prefix_ok path (Err r) w e = cc e
 

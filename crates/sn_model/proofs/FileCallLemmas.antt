@@ -8,7 +8,8 @@ use Rattle.sn_model.specs.declared.reply.Errno.TheVariants.{Ebadf}
 use Rattle.sn_model.specs.declared.reply.Refusal.{Refusal}
 use Rattle.sn_model.specs.declared.reply.Reply.TheVariants.{Number}
 use Rattle.sn_model.specs.Descriptors.{for_reading, found, readable_at, writable_at}
-use Rattle.sn_model.specs.FileCalls.{FileOutcome, Keeps, open_bytes, read_outcome, reads, turns, write_offset, write_outcome}
+use Rattle.sn_model.specs.FileCalls.{open_bytes, read_outcome, reads, write_offset, write_outcome}
+use Rattle.sn_model.specs.Outcomes.{Outcome, tells}
 use Rattle.sn_model.specs.Tests.{plain}
 use Rattle.sn_model.specs.World.{Descriptor, World}
 
@@ -18,8 +19,8 @@ refusal_of other (Ok x) = other
 refusal_of other (Err r) = r
 
 -- a read is refused for its descriptor alone: no right is asked for again
-module _ (then : Descriptor → FileOutcome) (r : Refusal) where
-  abbrev answer : Result Descriptor Refusal → Result FileOutcome Refusal
+module _ (then : Descriptor → Outcome) (r : Refusal) where
+  abbrev answer : Result Descriptor Refusal → Result Outcome Refusal
   answer o = o >>= (λ d. Ok (then d))
 
   asked : (d : Descriptor) (b : Bool) → answer (cond b (Ok d) (Err (plain Ebadf))) ≡ Err r → r ≡ plain Ebadf
@@ -46,7 +47,7 @@ read_past world session fd count d is past =
     take_none (suc n) = refl
 
 -- a write of no bytes does nothing
-pub write_nothing : (limits : Limits) (world : World) (session fd : ℕ) (d : Descriptor) → writable_at world.descriptors session fd ≡ Ok d → write_outcome limits world session fd [] ≡ Ok (turns Keeps (Number 0))
+pub write_nothing : (limits : Limits) (world : World) (session fd : ℕ) (d : Descriptor) → writable_at world.descriptors session fd ≡ Ok d → write_outcome limits world session fd [] ≡ Ok (tells (Number 0))
 unfolding write_outcome
 write_nothing limits world session fd d is = rw is refl
 

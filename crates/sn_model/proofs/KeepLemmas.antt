@@ -36,7 +36,7 @@ pub directory_kind : (k : Kind) → is_directory k ≡ true → k ≡ Directory
 directory_kind File e = cc
 directory_kind Directory e = refl
 
-other_kind : (k : Kind) → is_directory k ≡ false → k ≡ File
+pub other_kind : (k : Kind) → is_directory k ≡ false → k ≡ File
 other_kind File e = refl
 other_kind Directory e = cc
 

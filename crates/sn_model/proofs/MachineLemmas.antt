@@ -83,7 +83,7 @@ answered_keeps limits old session c reply new k w h =
 
 cut_off_keeps : (limits : Limits) (old : World) (session : ℕ) (c : Call) (reply : Reply) (new : State) → IsCall c → IsWorld limits old → IsCutOff limits old session c reply new → IsState limits new
 cut_off_keeps limits old session c reply new k w h =
-    let after = comes_world limits old h.next session c h.outcome (decided_is limits old session c h.outcome h.decided) h.comes k w in
+    let after = comes_world limits old session c h.outcome (decided_is limits old session c h.outcome h.decided) k w h.next h.comes in
     stopped_keeps limits (settle old) (settle h.next) reply new (settle_found limits old w) (settle_found limits h.next after) h.stops
 
 call_keeps : (limits : Limits) (old : World) (session : ℕ) (c : Call) (met : Option Mishap) (reply : Reply) (new : State) → IsCall c → IsWorld limits old → CallStep limits old session c met reply new → IsState limits new

@@ -6,7 +6,7 @@ use Rattle.sn_model.specs.declared.link.Link.{Link}
 use Rattle.sn_model.specs.Tree.{Tree, names_in, names_for}
 use Rattle.sn_model.specs.Changes.{put_link, take_link}
 use Rattle.sn_model.specs.Covers.{IsUnnamed}
-use Rattle.sn_model.proofs.CountLemmas.{count_inserted, count_fewer, none_passes, count_none}
+use Rattle.sn_model.proofs.CountLemmas.{count_inserted, count_removed, count_fewer, none_passes, count_none}
 use Rattle.sn_model.proofs.LinkLemmas.{exact_links, links_total}
 
 -- links that lead from a directory, and to a number
@@ -53,3 +53,10 @@ no_names_for tree number h = count_none links_total exact_links (leads_to number
 
 pub is_unnamed : (tree : Tree) (number : ℕ) → names_for tree number ≡ 0 → IsUnnamed tree number
 is_unnamed tree number z link e = true≢false (sym (eq-eqb number number refl) ∙ none_passes links_total exact_links (leads_to number) tree.links z link number e)
+
+-- a name that goes is one less of its directory and of its number
+pub names_in_less : (tree : Tree) (link : Link) (number : ℕ) → map.get tree.links link ≡ Some number → (directory : ℕ) → link.directory ≡ directory → names_in (take_link tree link) directory + 1 ≡ names_in tree directory
+names_in_less tree link number g directory e = sym (one _ link.directory directory e) ∙ count_removed links_total exact_links (leads_from directory) tree.links link number g
+
+pub names_for_less : (tree : Tree) (link : Link) (number : ℕ) → map.get tree.links link ≡ Some number → names_for (take_link tree link) number + 1 ≡ names_for tree number
+names_for_less tree link number g = sym (one _ number number refl) ∙ count_removed links_total exact_links (leads_to number) tree.links link number g

@@ -21,7 +21,7 @@ nameless_is tree number node e = told node.kind refl e
     told File s f = (s, eqb-true (names_for tree number) 0 f)
     told Directory s f = cc
 
-nameless_same : (a b : Tree) (number : ℕ) → names_for a number ≡ names_for b number → (o : Option Node) → is_nameless a number o ≡ is_nameless b number o
+pub nameless_same : (a b : Tree) (number : ℕ) → names_for a number ≡ names_for b number → (o : Option Node) → is_nameless a number o ≡ is_nameless b number o
 nameless_same a b number e None = refl
 nameless_same a b number e (Some node) = told node.kind
   where

@@ -18,10 +18,13 @@ use Rattle.sn_model.specs.Tests.{logged_in, new_mode_argument}
 use Rattle.sn_model.specs.Tree.{Tree}
 use Rattle.sn_model.specs.World.{World}
 use Rattle.sn_model.proofs.ChainLemmas.{some_same}
-use Rattle.sn_model.proofs.DecidedLemmas.{seat_of}
+use Rattle.sn_model.specs.Settling.{dropped}
+use Rattle.sn_model.specs.Worlds.{IsWorld}
+use Rattle.sn_model.proofs.SeatLemmas.{seat_of}
+use Rattle.sn_model.proofs.DroppedLemmas.{all_held, dropped_same}
 use Rattle.sn_model.proofs.DecisionLemmas.{ok}
 
-module _ (limits : Limits) (old new : World) (session argument : ℕ) (s : Session) (mask : Mode) (by : logged_in old session ≡ Ok s) (read : new_mode_argument argument ≡ Ok mask) where
+module _ (limits : Limits) (old new : World) (session argument : ℕ) (s : Session) (mask : Mode) (whole : IsWorld limits old) (by : logged_in old session ≡ Ok s) (read : new_mode_argument argument ≡ Ok mask) where
   decides : decision limits old session (call.Umask argument) ≡ ok (umask_outcome s mask)
   decides =
       ap (λ (r : Result Session Refusal). (r >>= (λ x. new_mode_argument argument >>= (λ bits. ok (calls.Umask x bits)))) >>= outcome_of limits old) by
@@ -32,5 +35,6 @@ module _ (limits : Limits) (old new : World) (session argument : ℕ) (s : Sessi
   umask_sets reply (inl h) =
       let b = subst (λ (d : Result Outcome Refusal). Becomes limits old session d reply new) decides h in
       let live : b.1.tree ≡ old.live = sym (some_same _ _ b.1.applied) in
-      let world : new ≡ with_umask old session mask = b.1.world ∙ ap (λ (t : Tree). with_umask (with_live old t) session mask) live in
+      let made : new ≡ dropped (with_umask old session mask) = b.1.world ∙ ap (λ (t : Tree). dropped (with_umask (with_live old t) session mask)) live in
+      let world : new ≡ with_umask old session mask = made ∙ dropped_same limits (with_umask old session mask) (all_held limits old whole) in
       (b.0, world ∙ ap (λ (o : Option (Option Session)). record old { sessions = slice_set old.sessions session (masked mask o) }) (seat_of old session s by))

@@ -1,5 +1,5 @@
 -- Runs keep the world.
-use Rattle.std.proofs.Common.{◌≡◌, ◌≢◌, ℕ, zero, suc, ◌≤◌, true, ◌==◌, List, [], ◌∷◌, replicate, Option, Some, None, Result, Ok, Err, is_some, refl, sym, ap, subst, ◌∙◌, ◌⊎◌, inl, inr, arith, lit<, lit≤}
+use Rattle.std.proofs.Common.{◌≡◌, ◌≢◌, ℕ, zero, suc, ◌≤◌, Bool, true, false, not, cond, ◌==◌, List, [], ◌∷◌, replicate, Option, Some, None, Result, Ok, Err, is_some, refl, sym, ap, subst, ◌∙◌, ◌⊎◌, inl, inr, arith, lit<, lit≤, eq-eqb, true≢false}
 use Rattle.std.specs.Prelude.{IsSomeAnd, slice_get, slice_set}
 use Rattle.std.specs.List.{AllByRecursion}
 use Rattle.std.specs.Ordering.{nat_cmp}
@@ -12,33 +12,35 @@ use Rattle.sn_limits.specs.declared.kind.Kind.TheVariants.{File, Directory}
 use Rattle.sn_limits.specs.Versions.{version_1}
 use Rattle.sn_model.specs.declared.call.Call.{Call}
 use Rattle.sn_acl.specs.declared.modes.Mode.{Mode}
-use Rattle.sn_model.specs.declared.change.Change.TheVariants.{Make, SetAttributes}
+use Rattle.sn_model.specs.declared.change.Change.TheVariants.{Make}
 use Rattle.sn_model.specs.declared.link.Link.{Link}
 use Rattle.sn_model.specs.declared.reply.Refusal.{Refusal}
 use Rattle.sn_model.specs.declared.reply.Reply.{Reply}
 use Rattle.sn_model.specs.declared.session.Session.{Session}
-use Rattle.sn_model.specs.Tree.{Tree, Node, attributes_of, link_cmp, link_to, names_for, with_node}
+use Rattle.sn_model.specs.Tree.{Tree, Node, link_cmp, link_to}
 use Rattle.sn_walk.specs.declared.object.Home.{Home}
 use Rattle.sn_walk.specs.declared.object.Home.TheVariants.{Live, Frozen}
-use Rattle.sn_model.specs.World.{World, descriptor_cmp, new_root, new_tree, new_world, tree_in, trees_of}
+use Rattle.sn_model.specs.World.{Descriptor, World, descriptor_cmp, new_root, new_tree, new_world, tree_in, trees_of}
 use Rattle.sn_model.specs.NameTree.{HasKind, IsHierarchy, IsNode, IsTree, Reaches, root}
-use Rattle.sn_model.specs.Changes.{node_with, put_node}
+use Rattle.sn_model.specs.Changes.{node_with}
 use Rattle.sn_limits.specs.declared.limits.Limits.{Limits}
-use Rattle.sn_model.specs.Outcomes.{Outcome}
-use Rattle.sn_model.specs.Calls.{new_directory, last_name}
-use Rattle.sn_model.specs.Steps.{Becomes, Comes, Step, decision, masked, with_session, with_umask, with_live}
-use Rattle.sn_model.specs.Worlds.{IsCaller, IsSession, IsCall, IsWorld}
+use Rattle.sn_model.specs.Descriptors.{Descriptors, at_offset, closed, descriptor_for, moved_if, opened, without_session}
+use Rattle.sn_model.specs.Outcomes.{Pending, Nothing, Makes, Does, Caller, Stays, LogsIn, SetsUmask, LogsOut, Opens, OpensNew, Closes, Moves, Outcome}
+use Rattle.sn_model.specs.Steps.{Becomes, Comes, IsNumberFor, Step, changed, decision, filled, masked, with_caller, with_descriptors, with_live}
+use Rattle.sn_model.specs.Worlds.{IsCaller, IsSession, IsCall, IsOpenFile, IsWorld}
 use Rattle.sn_model.proofs.LinkLemmas.{exact_links, links_total}
-use Rattle.sn_model.proofs.MapLemmas.{same_or_apart, get_inserted, get_other}
+use Rattle.sn_model.proofs.MapLemmas.{same_or_apart, get_inserted, get_other, get_was}
 use Rattle.sn_model.proofs.CountLemmas.{count_none}
-use Rattle.sn_model.proofs.NameLemmas.{names_for_more, names_for_other}
 use Rattle.sn_model.proofs.ChainLemmas.{some_same}
-use Rattle.sn_model.proofs.PartLemmas.{made_is, owned_is}
-use Rattle.sn_model.proofs.MoveLemmas.{kind_at, some_node, is_there}
+use Rattle.sn_model.proofs.PartLemmas.{made_is}
+use Rattle.sn_model.proofs.MoveLemmas.{is_kind, kind_at, some_node, is_there}
 use Rattle.sn_acl.proofs.Validity.{valid-from_test}
 use Rattle.sn_model.proofs.TreeLemmas.{tree_kept}
-use Rattle.sn_model.proofs.DecidedLemmas as decided
-use Rattle.sn_model.proofs.DecidedLemmas.{IsDecided, decided_is}
+use Rattle.sn_model.proofs.HeldLemmas.{descriptors_total, exact_descriptors}
+use Rattle.sn_model.proofs.StayLemmas.{change_stays, file_stays}
+use Rattle.sn_model.proofs.DroppedLemmas.{IsUndropped, dropped_world}
+use Rattle.sn_model.proofs.OutcomeLemmas.{DoesToOld, FitsCaller, IsDecided, MakesFile}
+use Rattle.sn_model.proofs.DecidedLemmas.{decided_is}
 
 -- a session that is opened, or gets another umask, leaves the others
 all_set : (sessions : List (Option Session)) (i : ℕ) (o : Option Session) → IsSession o → AllByRecursion IsSession sessions → AllByRecursion IsSession (slice_set sessions i o)
@@ -72,7 +74,10 @@ with_files : (a b : World) (home : Home) (number : ℕ) → ((n : ℕ) → HasKi
 with_files a b Live number live frozen h = live number h
 with_files a b (Frozen name) number live frozen h = subst (λ f. IsSomeAnd (map.get f name) (λ tree. HasKind tree number File)) frozen h
 
-seated : (limits : Limits) (world : World) (session : ℕ) (o : Option Session) → IsWorld limits world → IsSession o → (IsIn world.sessions session → is_some o ≡ true) → IsWorld limits (record world { sessions = slice_set world.sessions session o })
+-- ---- what becomes of a session and its descriptors, files without names apart
+
+-- another who is logged in, or another mask
+seated : (limits : Limits) (world : World) (session : ℕ) (o : Option Session) → IsUndropped limits world → IsSession o → (IsIn world.sessions session → is_some o ≡ true) → IsUndropped limits (record world { sessions = slice_set world.sessions session o })
 seated limits world session o w k stays = record {
   live = w.live;
   frozen = w.frozen;
@@ -84,20 +89,103 @@ seated limits world session o w k stays = record {
     number = f.number;
     file = with_files world (record world { sessions = slice_set world.sessions session o }) d.home d.number (λ n h. h) refl f.file;
     offset = f.offset;
+    live = f.live;
   };
-  held = w.held;
 }
 
-pub opened : (limits : Limits) (world : World) (session : ℕ) (s : Session) → IsWorld limits world → IsCaller s → IsWorld limits (with_session world session s)
-opened limits world session s w k = seated limits world session (Some s) w k (λ h. refl)
+-- other descriptors, of files that are there
+with_table : (limits : Limits) (world : World) (table : Descriptors) → IsUndropped limits world → ((i fd : ℕ) (d : Descriptor) → map.get table (i, fd) ≡ Some d → IsOpenFile limits world i fd d) → IsUndropped limits (with_descriptors world table)
+with_table limits world table w files = record {
+  live = w.live;
+  frozen = w.frozen;
+  few_snapshots = w.few_snapshots;
+  count = w.count;
+  callers = w.callers;
+  open_files = λ i fd d e. let f = files i fd d e in record {
+    caller = f.caller;
+    number = f.number;
+    file = with_files world (with_descriptors world table) d.home d.number (λ n h. h) refl f.file;
+    offset = f.offset;
+    live = f.live;
+  };
+}
 
-remasked : (limits : Limits) (world : World) (session : ℕ) (mask : Mode) → IsWorld limits world → IsWorld limits (with_umask world session mask)
-remasked limits world session mask w = seated limits world session (masked mask (slice_get world.sessions session)) w (masked_is world.sessions session mask w.callers) (masked_in mask (slice_get world.sessions session))
+-- a session that is gone has nothing open
+left_open : (table : Descriptors) (session i fd : ℕ) (d : Descriptor) → map.get (without_session table session) (i, fd) ≡ Some d → (i ≢ session) × (map.get table (i, fd) ≡ Some d)
+left_open table session i fd d e = told (i == session) refl (sym (map.get-retain_keys table (λ k. not (k.0 == session)) (i, fd) (λ m f. ap (λ (k : ℕ × ℕ). not (k.0 == session)) (sym (exact_descriptors (i, fd) m f)))) ∙ e)
+  where
+    told : (b : Bool) → (i == session) ≡ b → cond (not b) (map.get table (i, fd)) None ≡ Some d → (i ≢ session) × (map.get table (i, fd) ≡ Some d)
+    told true t f = cc
+    told false t f = ((λ q. true≢false (sym (eq-eqb i session q) ∙ t)), f)
 
--- another live tree, in which files stay, and one without names was one before
-with_tree : (limits : Limits) (world : World) (tree : Tree) → IsWorld limits world → IsTree limits tree → ((n : ℕ) → HasKind world.live n File → HasKind tree n File)
-    → ((n : ℕ) → HasKind tree n File → names_for tree n ≡ 0 → HasKind world.live n File × (names_for world.live n ≡ 0)) → IsWorld limits (with_live world tree)
-with_tree limits world tree w whole stays was = record {
+other_in : (sessions : List (Option Session)) (i j : ℕ) (o : Option Session) → j ≢ i → IsIn sessions j → IsIn (slice_set sessions i o) j
+other_in [] i j o apart h = h
+other_in (one ∷ sessions) zero zero o apart h = absurd (apart refl)
+other_in (one ∷ sessions) zero (suc j) o apart h = h
+other_in (one ∷ sessions) (suc i) zero o apart h = h
+other_in (one ∷ sessions) (suc i) (suc j) o apart h = other_in sessions i j o (λ q. apart (ap suc q)) h
+
+logged_off : (limits : Limits) (world : World) (session : ℕ) → IsUndropped limits world → IsUndropped limits (with_caller world session LogsOut)
+logged_off limits world session w = record {
+  live = w.live;
+  frozen = w.frozen;
+  few_snapshots = w.few_snapshots;
+  count = length-set world.sessions session None ∙ w.count;
+  callers = all_set world.sessions session None tt w.callers;
+  open_files = λ i fd d e. let was = left_open world.descriptors session i fd d e in let f = w.open_files i fd d was.1 in record {
+    caller = other_in world.sessions session i None was.0 f.caller;
+    number = f.number;
+    file = with_files world (with_caller world session LogsOut) d.home d.number (λ n h. h) refl f.file;
+    offset = f.offset;
+    live = f.live;
+  };
+}
+
+abbrev Key : Type 0
+Key = ℕ × ℕ
+
+abbrev AreOne : Key → Key → Type 0
+AreOne a b = a ≡ b
+
+-- one more descriptor
+put_open : (limits : Limits) (world : World) (session fd : ℕ) (d : Descriptor) → IsUndropped limits world → IsOpenFile limits world session fd d → IsUndropped limits (with_descriptors world (opened world.descriptors session fd d))
+put_open limits world session fd d w is = with_table limits world (opened world.descriptors session fd d) w (λ i n x e. at i n x e (same_or_apart descriptors_total exact_descriptors (i, n) (session, fd)))
+  where
+    at : (i n : ℕ) (x : Descriptor) → map.get (opened world.descriptors session fd d) (i, n) ≡ Some x → AreOne (i, n) (session, fd) ⊎ (AreOne (i, n) (session, fd) → ⊥) → IsOpenFile limits world i n x
+    at i n x e (inl q) =
+        let both : Some x ≡ Some d = sym e ∙ ap (map.get (opened world.descriptors session fd d)) q ∙ get_inserted descriptors_total world.descriptors (session, fd) d in
+        let same : x ≡ d = cc in
+        subst (λ (k : ℕ × ℕ). IsOpenFile limits world k.0 k.1 x) (sym q) (subst (IsOpenFile limits world session fd) (sym same) is)
+    at i n x e (inr q) = w.open_files i n x (sym (get_other descriptors_total exact_descriptors world.descriptors (session, fd) d (i, n) q) ∙ e)
+
+moved_open : (limits : Limits) (world : World) (session fd offset : ℕ) → offset ≤ limits.largest_file → IsUndropped limits world → IsUndropped limits (with_caller world session (Moves fd offset))
+moved_open limits world session fd offset few w = told (map.get world.descriptors (session, fd)) refl
+  where
+    told : (o : Option Descriptor) → map.get world.descriptors (session, fd) ≡ o → IsUndropped limits (with_descriptors world (moved_if world.descriptors session fd offset o))
+    told None e = w
+    told (Some d) e = let f = w.open_files session fd d e in put_open limits world session fd (at_offset offset d) w (record { caller = f.caller; number = f.number; file = f.file; offset = few; live = f.live })
+
+closed_open : (limits : Limits) (world : World) (session fd : ℕ) → IsUndropped limits world → IsUndropped limits (with_caller world session (Closes fd))
+closed_open limits world session fd w = with_table limits world (closed world.descriptors session fd) w (λ i n d e. w.open_files i n d (get_was descriptors_total exact_descriptors world.descriptors (session, fd) (i, n) d e).1)
+
+zero_least : (n : ℕ) → 0 ≤ n
+zero_least n = omega arith
+
+-- whatever becomes of a session
+called_on : (limits : Limits) (world : World) (session : ℕ) (change : Pending) (caller : Caller) → FitsCaller limits world session change caller → IsUndropped limits world → IsUndropped limits (with_caller world session caller)
+called_on limits world session change Stays fits w = w
+called_on limits world session change (LogsIn s) fits w = seated limits world session (Some s) w fits (λ h. refl)
+called_on limits world session change (SetsUmask mask) fits w = seated limits world session (masked mask (slice_get world.sessions session)) w (masked_is world.sessions session mask w.callers) (masked_in mask (slice_get world.sessions session))
+called_on limits world session change LogsOut fits w = logged_off limits world session w
+called_on limits world session change (Opens fd home number flags) fits w = put_open limits world session fd (descriptor_for flags home number) w (record { caller = fits.0.caller; number = fits.0.number; file = fits.1; offset = zero_least limits.largest_file; live = fits.2 })
+called_on limits world session change (OpensNew fd flags) fits w = w
+called_on limits world session change (Closes fd) fits w = closed_open limits world session fd w
+called_on limits world session change (Moves fd offset) fits w = moved_open limits world session fd offset fits w
+
+-- ---- another live tree, in which files stay
+
+with_tree : (limits : Limits) (world : World) (tree : Tree) → IsWorld limits world → IsTree limits tree → ((n : ℕ) → HasKind world.live n File → HasKind tree n File) → IsUndropped limits (with_live world tree)
+with_tree limits world tree w whole stays = record {
   live = whole;
   frozen = w.frozen;
   few_snapshots = w.few_snapshots;
@@ -108,87 +196,64 @@ with_tree limits world tree w whole stays was = record {
     number = f.number;
     file = with_files world (with_live world tree) d.home d.number stays refl f.file;
     offset = f.offset;
+    live = f.live;
   };
-  held = λ n h z. let before = was n h z in w.held n before.0 before.1;
 }
 
--- a new node under a new name
-module _ (limits : Limits) (world : World) (number : ℕ) (link : Link) (node : Node) (w : IsWorld limits world) (unused : map.get world.live.nodes number ≡ None) (absent : map.get world.live.links link ≡ None) (whole : IsTree limits (with_node world.live number link node)) where
-  abbrev next : World
-  next = with_live world (with_node world.live number link node)
+-- a change that a call has decided
+module _ (limits : Limits) (tree after : Tree) (number : ℕ) where
+  pub changed_tree : (change : Pending) → IsTree limits tree → changed limits number change tree ≡ Some after → IsTree limits after
+  changed_tree Nothing whole e = subst (IsTree limits) (some_same _ _ e) whole
+  changed_tree (Makes directory name kind o) whole e = tree_kept limits (Make directory name number kind o) tree after whole e
+  changed_tree (Does c) whole e = tree_kept limits c tree after whole e
 
-  file_stays : (n : ℕ) → HasKind world.live n File → HasKind next.live n File
-  file_stays n h = kind_at _ _ File (get_other nat_cmp_total exact_unsigned world.live.nodes number node n (λ q. is_there _ File h (ap (map.get world.live.nodes) q ∙ unused))) h
+  -- a file stays a file
+  pub changed_stays : (change : Pending) → DoesToOld change → IsNumberFor limits tree number change → changed limits number change tree ≡ Some after → (n : ℕ) → HasKind tree n File → HasKind after n File
+  changed_stays Nothing old free e n h = subst (λ (t : Tree). HasKind t n File) (some_same _ _ e) h
+  changed_stays (Makes directory name kind o) old free e n h =
+      let m = made_is limits tree (link_to directory name) number kind o after e in
+      let apart : n ≢ number = (λ q. is_there _ File h (ap (map.get tree.nodes) q ∙ free.unused)) in
+      kind_at _ _ File (ap (λ (t : Tree). map.get t.nodes n) (sym m.gives) ∙ get_other nat_cmp_total exact_unsigned tree.nodes number (node_with kind o []) n apart) h
+  changed_stays (Does c) old free e n h = file_stays tree after n (change_stays limits c tree after old e n) h
 
-  was_nameless : (n : ℕ) → HasKind next.live n File → names_for next.live n ≡ 0 → HasKind world.live n File × (names_for world.live n ≡ 0)
-  was_nameless n h z = told (same_or_apart nat_cmp_total exact_unsigned n number)
-    where
-      told : (n ≡ number) ⊎ (n ≢ number) → HasKind world.live n File × (names_for world.live n ≡ 0)
-      told (inl q) = absurd (omega (arith, z, names_for_more world.live link number absent n (sym q)))
-      told (inr q) = (kind_at _ _ File (sym (get_other nat_cmp_total exact_unsigned world.live.nodes number node n q)) h, sym (names_for_other world.live link number absent n (λ r. q (sym r))) ∙ z)
+  -- the new file is there
+  made_file : (change : Pending) → MakesFile change → changed limits number change tree ≡ Some after → HasKind after number File
+  made_file Nothing is e = absurd is
+  made_file (Makes directory name kind o) is e =
+      let m = made_is limits tree (link_to directory name) number kind o after e in
+      is_kind after number (node_with kind o []) File (ap (λ (t : Tree). map.get t.nodes number) (sym m.gives) ∙ get_inserted nat_cmp_total tree.nodes number (node_with kind o [])) is
+  made_file (Does c) is e = absurd is
 
-  pub world_made : IsWorld limits (with_live world (with_node world.live number link node))
-  world_made = with_tree limits world (with_node world.live number link node) w whole file_stays was_nameless
+-- a session comes to what it did, where files have stayed
+module _ (limits : Limits) (old : World) (session : ℕ) (change : Pending) (tree : Tree) (number : ℕ) (stays : (n : ℕ) → HasKind old.live n File → HasKind tree n File) (made : MakesFile change → HasKind tree number File) where
+  still_fits : (caller : Caller) → FitsCaller limits old session change caller → FitsCaller limits (with_live old tree) session change (filled number caller)
+  still_fits Stays fits = tt
+  still_fits (LogsIn s) fits = fits
+  still_fits (SetsUmask mask) fits = tt
+  still_fits LogsOut fits = tt
+  still_fits (Opens fd home n flags) fits = (record { caller = fits.0.caller; number = fits.0.number; next = fits.0.next }, with_files old (with_live old tree) home n stays refl fits.1, fits.2)
+  still_fits (OpensNew fd flags) fits = (record { caller = fits.0.caller; number = fits.0.number; next = fits.0.next }, made fits.1, λ w. refl)
+  still_fits (Closes fd) fits = tt
+  still_fits (Moves fd offset) fits = fits
 
--- a node that other attributes are set of
-module _ (limits : Limits) (world : World) (number : ℕ) (node set : Node) (w : IsWorld limits world) (there : map.get world.live.nodes number ≡ Some node) (kind : set.kind ≡ node.kind) (whole : IsTree limits (put_node world.live number set)) where
-  abbrev assigned : World
-  assigned = with_live world (put_node world.live number set)
+-- what a call's change makes of the live tree, and what becomes of its caller
+abbrev pub called_world : World → ℕ → ℕ → Tree → Caller → World
+called_world old session number tree caller = with_caller (with_live old tree) session (filled number caller)
 
-  was_file : (n : ℕ) → HasKind assigned.live n File → HasKind world.live n File
-  was_file n h = told (same_or_apart nat_cmp_total exact_unsigned n number)
-    where
-      told : (n ≡ number) ⊎ (n ≢ number) → HasKind world.live n File
-      told (inl q) =
-          let s = some_node (map.get assigned.live.nodes n) File h in
-          let same = some_same set s.0 (sym (get_inserted nat_cmp_total world.live.nodes number set) ∙ ap (map.get assigned.live.nodes) (sym q) ∙ s.1) in
-          kind_at (map.get world.live.nodes n) (Some node) File (ap (map.get world.live.nodes) q ∙ there) (sym kind ∙ ap (λ (x : Node). x.kind) same ∙ s.2)
-      told (inr q) = kind_at _ _ File (sym (get_other nat_cmp_total exact_unsigned world.live.nodes number set n q)) h
+module _ (limits : Limits) (old : World) (session : ℕ) (c : Call) (o : Outcome) (d : IsDecided limits old session c o) (numbers : IsCall c) (w : IsWorld limits old) where
+  pub undropped_after : (number : ℕ) (tree : Tree) → IsNumberFor limits old.live number o.change → changed limits number o.change old.live ≡ Some tree → IsUndropped limits (called_world old session number tree o.caller)
+  undropped_after number tree free e =
+      let stays = changed_stays limits old.live tree number o.change d.of_old free e in
+      called_on limits (with_live old tree) session o.change (filled number o.caller)
+      (still_fits limits old session o.change tree number stays (λ is. made_file limits old.live tree number o.change is e) o.caller (d.fits numbers w))
+      (with_tree limits old tree w (changed_tree limits old.live tree number o.change w.live e) stays)
 
-  still_file : (n : ℕ) → HasKind world.live n File → HasKind assigned.live n File
-  still_file n h = told (same_or_apart nat_cmp_total exact_unsigned n number)
-    where
-      told : (n ≡ number) ⊎ (n ≢ number) → HasKind assigned.live n File
-      told (inl q) =
-          let s = some_node (map.get world.live.nodes n) File h in
-          let same = some_same node s.0 (sym there ∙ ap (map.get world.live.nodes) (sym q) ∙ s.1) in
-          kind_at (map.get assigned.live.nodes n) (Some set) File (ap (map.get assigned.live.nodes) q ∙ get_inserted nat_cmp_total world.live.nodes number set) (kind ∙ ap (λ (x : Node). x.kind) same ∙ s.2)
-      told (inr q) = kind_at _ _ File (get_other nat_cmp_total exact_unsigned world.live.nodes number set n q) h
-
-  world_assigned : IsWorld limits (with_live world (put_node world.live number set))
-  world_assigned = with_tree limits world (put_node world.live number set) w whole still_file (λ n h z. (was_file n h, z))
-
-pub comes_world : (limits : Limits) (old new : World) (session : ℕ) (c : Call) (o : Outcome) → IsDecided limits old session c o → Comes limits old session o new → IsCall c → IsWorld limits old → IsWorld limits new
-comes_world limits old new session c o (decided.Login s k e) h numbers w =
-    let h' = subst (λ (x : Outcome). Comes limits old session x new) e h in
-    let live : h'.tree ≡ old.live = sym (some_same _ _ h'.applied) in
-    subst (IsWorld limits) (sym (h'.world ∙ ap (λ (t : Tree). with_session (with_live old t) session s) live)) (opened limits old session s w (k numbers))
-comes_world limits old new session c o (decided.Masks s mask e) h numbers w =
-    let h' = subst (λ (x : Outcome). Comes limits old session x new) e h in
-    let live : h'.tree ≡ old.live = sym (some_same _ _ h'.applied) in
-    subst (IsWorld limits) (sym (h'.world ∙ ap (λ (t : Tree). with_umask (with_live old t) session mask) live)) (remasked limits old session mask w)
-comes_world limits old new session c o (decided.Assigns is can) h numbers w =
-    let h' = subst (λ (x : Outcome). Comes limits old session x new) is.2 h in
-    let p = owned_is old.live is.0 is.1 h'.tree h'.applied in
-    let whole = tree_kept limits (SetAttributes is.0 is.1) old.live h'.tree w.live h'.applied in
-    subst (IsWorld limits) (sym (h'.world ∙ ap (with_live old) (sym p.gives)))
-    (world_assigned limits old is.0 p.node (node_with p.node.kind is.1 p.node.bytes) w p.there refl (subst (IsTree limits) (sym p.gives) whole))
-comes_world limits old new session c o (decided.Tells a k e) h numbers w =
-    let h' = subst (λ (x : Outcome). Comes limits old session x new) e h in
-    let live : h'.tree ≡ old.live = sym (some_same _ _ h'.applied) in
-    subst (IsWorld limits) (sym (h'.world ∙ ap (with_live old) live)) w
-comes_world limits old new session c o (decided.Makes s names mode k b n p) h numbers w =
-    let h' = subst (λ (x : Outcome). Comes limits old session x new) p.made h in
-    let link = link_to p.directory (last_name names) in
-    let given = new_directory s mode (attributes_of old.live p.directory p.parent) p.parent.default_acl in
-    let m = made_is limits old.live link h'.number Directory given h'.tree h'.applied in
-    let whole = tree_kept limits (Make p.directory (last_name names) h'.number Directory given) old.live h'.tree w.live h'.applied in
-    subst (IsWorld limits) (sym (h'.world ∙ ap (with_live old) (sym m.gives)))
-    (world_made limits old h'.number link (node_with Directory given []) w h'.free.unused p.new.absent (subst (IsTree limits) (sym m.gives) whole))
+  pub comes_world : (new : World) → Comes limits old session o new → IsWorld limits new
+  comes_world new h = subst (IsWorld limits) (sym h.world) (dropped_world limits (called_world old session h.number h.tree o.caller) (undropped_after h.number h.tree h.free h.applied))
 
 pub becomes_world : (limits : Limits) (old new : World) (session : ℕ) (c : Call) (d : Result Outcome Refusal) (reply : Reply) → decision limits old session c ≡ d → Becomes limits old session d reply new → IsCall c → IsWorld limits old → IsWorld limits new
 becomes_world limits old new session c (Err r) reply e h numbers w = subst (IsWorld limits) (sym h.1) w
-becomes_world limits old new session c (Ok o) reply e h numbers w = comes_world limits old new session c o (decided_is limits old session c o e) h.1 numbers w
+becomes_world limits old new session c (Ok o) reply e h numbers w = comes_world limits old session c o (decided_is limits old session c o e) numbers w new h.1
 
 pub step_world : (limits : Limits) (old new : World) (session : ℕ) (c : Call) (reply : Reply) → Step limits old session c reply new → IsCall c → IsWorld limits old → IsWorld limits new
 step_world limits old new session c reply (inl h) numbers w = becomes_world limits old new session c (decision limits old session c) reply refl h numbers w

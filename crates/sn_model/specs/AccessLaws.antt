@@ -129,5 +129,5 @@ AccessCallsDenyByRule = (limits : Limits) (trees : ViewedTrees) (s : Session) (n
 
 -- umask tells the mask from before, and sets the one that was asked for, and nothing else.
 abbrev pub UmaskSetsTheMask : Type 0
-UmaskSetsTheMask = (limits : Limits) (old new : World) (session argument : ℕ) (s : Session) (mask : Mode) (reply : Reply) → logged_in old session ≡ Ok s → new_mode_argument argument ≡ Ok mask
+UmaskSetsTheMask = (limits : Limits) (old new : World) (session argument : ℕ) (s : Session) (mask : Mode) (reply : Reply) → IsWorld limits old → logged_in old session ≡ Ok s → new_mode_argument argument ≡ Ok mask
     → Step limits old session (call.Umask argument) reply new → (reply ≡ answer.Mode s.umask) × (new ≡ with_session old session (record s { umask = mask }))

@@ -1,5 +1,5 @@
 -- Each call as the list of its tests, in their order, with what it comes to where all pass: POSIX.1-2017, mkdir() and stat(); sessions and the order of the tests are rules of this project. The calls that ask for rights and set them are in `AccessCalls`.
-use Rattle.std.specs.Prelude.{ℕ, ◌+◌, ◌*◌, true, false, List, [], Option, Result, Ok, unwrap_or, if◌then◌else◌}
+use Rattle.std.specs.Prelude.{ℕ, ◌+◌, ◌*◌, true, false, List, Option, Result, Ok, if◌then◌else◌}
 use Rattle.sn_acl.specs.declared.entries.Entry.{Entry}
 use Rattle.sn_acl.specs.declared.modes.Mode.{Mode}
 use Rattle.sn_acl.specs.Modes.{mode_of}
@@ -8,7 +8,6 @@ use Rattle.sn_limits.specs.declared.kind.Kind.TheVariants.{Directory}
 use Rattle.sn_walk.specs.declared.view.Attributes.{Attributes}
 use Rattle.sn_walk.specs.declared.object.Home.TheVariants.{Live}
 use Rattle.sn_walk.specs.Objects.{number_of}
-use Rattle.sn_walk.specs.Paths.{last_of}
 use Rattle.sn_model.specs.declared.call.Call.{Call}
 use Rattle.sn_model.specs.declared.call.Call.TheVariants as call
 use Rattle.sn_model.specs.declared.reply.Access as access
@@ -23,8 +22,11 @@ use Rattle.sn_model.specs.Tree.{link_to}
 use Rattle.sn_model.specs.declared.session.Session.{Session}
 use Rattle.sn_model.specs.World.{World, trees_of, viewed_trees}
 use Rattle.sn_walk.specs.Views.{ViewedTrees}
+use Rattle.sn_model.specs.FileCalls.{OpenFlags, bytes_argument, close_outcome, count_argument, flags_argument, ftruncate_outcome, logout_outcome, open_outcome, read_outcome, seek_outcome, unlink_outcome, write_outcome}
+use Rattle.sn_model.specs.NameCalls.{link_outcome, rmdir_outcome}
+pub use Rattle.sn_model.specs.Seen.{Seen, last_name, seen}
 use Rattle.sn_walk.specs.Chains.{◌>>=◌}
-use Rattle.sn_model.specs.Tests.{logged_in, logged_out, path_argument, new_mode_argument, prefix, full, not_present, live, writable_parent, has_room}
+use Rattle.sn_model.specs.Tests.{logged_in, logged_out, path_argument, new_mode_argument, prefix, full, not_present, live, writable_parent}
 
 -- a call whose session and arguments have passed
 pub data Ready : Type 0 where
@@ -37,6 +39,17 @@ pub data Ready : Type 0 where
   Access : Session → List (List ℕ) → access.Access → Ready
   GetAcl : Session → List (List ℕ) → AclKind → Ready
   SetAcl : Session → List (List ℕ) → NewAcl → Ready
+  Rmdir : Session → List (List ℕ) → Ready
+  Unlink : Session → List (List ℕ) → Ready
+  Link : Session → List (List ℕ) → List (List ℕ) → Ready
+  Logout : Ready
+  -- with the number of the session, whose descriptors are meant
+  Open : ℕ → Session → List (List ℕ) → OpenFlags → Mode → Ready
+  Close : ℕ → ℕ → Ready
+  Read : ℕ → ℕ → ℕ → Ready
+  Write : ℕ → ℕ → List ℕ → Ready
+  Seek : ℕ → ℕ → ℕ → Ready
+  Ftruncate : ℕ → ℕ → ℕ → Ready
 
 -- the umask of a new session, 0022
 abbrev pub first_umask : Mode
@@ -56,10 +69,16 @@ ready world session (call.Stat path) = logged_in world session >>= (λ s. path_a
 ready world session (call.Access path want) = logged_in world session >>= (λ s. path_argument path >>= (λ names. Ok (Access s names want)))
 ready world session (call.GetAcl path kind) = logged_in world session >>= (λ s. path_argument path >>= (λ names. Ok (GetAcl s names kind)))
 ready world session (call.SetAcl path kind acl) = logged_in world session >>= (λ s. path_argument path >>= (λ names. acl_argument kind acl >>= (λ new. Ok (SetAcl s names new))))
-
--- the last name of a path that isn't `/`
-abbrev pub last_name : List (List ℕ) → List ℕ
-last_name names = unwrap_or (last_of names) []
+ready world session (call.Rmdir path) = logged_in world session >>= (λ s. path_argument path >>= (λ names. Ok (Rmdir s names)))
+ready world session (call.Unlink path) = logged_in world session >>= (λ s. path_argument path >>= (λ names. Ok (Unlink s names)))
+ready world session (call.Link old new) = logged_in world session >>= (λ s. path_argument old >>= (λ names. path_argument new >>= (λ others. Ok (Link s names others))))
+ready world session call.Logout = logged_in world session >>= (λ _. Ok Logout)
+ready world session (call.Open path flags mode) = logged_in world session >>= (λ s. path_argument path >>= (λ names. flags_argument flags >>= (λ asked. new_mode_argument mode >>= (λ bits. Ok (Open session s names asked bits)))))
+ready world session (call.Close fd) = logged_in world session >>= (λ _. Ok (Close session fd))
+ready world session (call.Read fd count) = logged_in world session >>= (λ _. count_argument count >>= (λ many. Ok (Read session fd many)))
+ready world session (call.Write fd bytes) = logged_in world session >>= (λ _. bytes_argument bytes >>= (λ new. Ok (Write session fd new)))
+ready world session (call.Seek fd offset) = logged_in world session >>= (λ _. Ok (Seek session fd offset))
+ready world session (call.Ftruncate fd size) = logged_in world session >>= (λ _. Ok (Ftruncate session fd size))
 
 -- a new directory: its owner is the caller's; its group and S_ISGID are a set-gid parent's, else the group is the caller's; its ACLs are inherited
 abbrev pub new_directory : Session → Mode → Attributes → Option (List Entry) → Ownership
@@ -71,14 +90,6 @@ new_directory session mode parent default_acl = record {
   acl = inherited_access default_acl mode session.umask;
   default_acl = inherited_default default_acl true;
 }
-
--- what is decided over: the trees, and whether a directory of the live one may get one more name, of a new node
-pub record Seen : Type 0 where
-  pub trees : ViewedTrees
-  pub room : ℕ → Result (Unit {0}) Refusal
-
-abbrev pub seen : Limits → World → Seen
-seen limits world = record { trees = viewed_trees (trees_of world); room = has_room limits world.live }
 
 -- mkdir: Prefix; not present; live; w(p); room for a name and a number
 unfoldable pub mkdir_outcome : Limits → Seen → Session → List (List ℕ) → Mode → Result Outcome Refusal
@@ -119,3 +130,13 @@ outcome_of limits world (Stat session names) = stat_outcome (viewed_trees (trees
 outcome_of limits world (Access session names want) = access_outcome (viewed_trees (trees_of world)) session names want
 outcome_of limits world (GetAcl session names kind) = getacl_outcome (viewed_trees (trees_of world)) session names kind
 outcome_of limits world (SetAcl session names acl) = setacl_outcome limits (viewed_trees (trees_of world)) session names acl
+outcome_of limits world (Rmdir session names) = rmdir_outcome limits (seen limits world) session names
+outcome_of limits world (Unlink session names) = unlink_outcome limits (viewed_trees (trees_of world)) session names
+outcome_of limits world (Link session names others) = link_outcome limits (seen limits world) session names others
+outcome_of limits world Logout = Ok logout_outcome
+outcome_of limits world (Open number session names flags mode) = open_outcome limits (seen limits world) world.descriptors number session names flags mode
+outcome_of limits world (Close session fd) = close_outcome world.descriptors session fd
+outcome_of limits world (Read session fd count) = read_outcome world session fd count
+outcome_of limits world (Write session fd bytes) = write_outcome limits world session fd bytes
+outcome_of limits world (Seek session fd offset) = seek_outcome limits world.descriptors session fd offset
+outcome_of limits world (Ftruncate session fd size) = ftruncate_outcome limits world.descriptors session fd size

@@ -41,6 +41,16 @@ path_of (call.Stat path) which = if which == 1 then Some path else None
 path_of (call.Access path want) which = if which == 1 then Some path else None
 path_of (call.GetAcl path kind) which = if which == 1 then Some path else None
 path_of (call.SetAcl path kind acl) which = if which == 1 then Some path else None
+path_of (call.Rmdir path) which = if which == 1 then Some path else None
+path_of (call.Unlink path) which = if which == 1 then Some path else None
+path_of (call.Link old new) which = if which == 1 then Some old else (if which == 2 then Some new else None)
+path_of call.Logout which = None
+path_of (call.Open path flags mode) which = if which == 1 then Some path else None
+path_of (call.Close fd) which = None
+path_of (call.Read fd count) which = None
+path_of (call.Write fd bytes) which = None
+path_of (call.Seek fd offset) which = None
+path_of (call.Ftruncate fd size) which = None
 
 -- the object at the denial's place has an ACL whose entry denies what was wanted
 pub record IsByRule (trees : ViewedTrees) (cred : Credential) (names : List (List ℕ)) (denial : Denial) : Type 0 where

@@ -6,6 +6,7 @@ use Rattle.sn_limits.specs.declared.limits.Limits.{Limits}
 use Rattle.sn_walk.specs.declared.object.Home.{Home}
 use Rattle.sn_walk.specs.declared.object.Home.TheVariants.{Live, Frozen}
 use Rattle.sn_walk.specs.Chains.{◌>>=◌}
+use Rattle.sn_model.specs.declared.argument.OpenFlags.{OpenFlags}
 use Rattle.sn_model.specs.declared.reply.Errno.TheVariants.{Einval, Emfile, Ebadf}
 use Rattle.sn_model.specs.declared.reply.Refusal.{Refusal}
 use Rattle.sn_model.specs.Settling.{is_of_live}
@@ -15,6 +16,10 @@ use Rattle.sn_model.specs.World.{Descriptor, descriptor_cmp}
 -- what is open, by session and number of the descriptor
 abbrev pub Descriptors : Type 0
 Descriptors = map.FinMap descriptor_cmp Descriptor
+
+-- a descriptor of a file: its rights are those that it is opened for
+abbrev pub descriptor_for : OpenFlags → Home → ℕ → Descriptor
+descriptor_for flags home number = record { home = home; number = number; readable = flags.read; writable = flags.write; appends = flags.append; offset = 0 }
 
 -- the least number from a first one on that doesn't pass a test, among so many
 unfoldable pub first_without : (ℕ → Bool) → ℕ → ℕ → Option ℕ

@@ -1,5 +1,6 @@
 -- The calls on files and descriptors, each as the list of its tests, in their order, with what it comes to where all pass: POSIX.1-2017, open(), close(), read(), write(), lseek(), ftruncate() and unlink(). The order of the tests is a rule of this project, and so is that a write is whole or not at all.
-use Rattle.std.specs.Prelude.{ℕ, ◌+◌, ◌-◌, ◌*◌, ◌/◌, ◌==◌, ◌&&◌, ◌||◌, not, Bool, false, nat_le, List, [], Option, None, Some, Result, Ok, Err, length, take, drop, slice_set, if◌then◌else◌}
+use Rattle.std.specs.Prelude.{ℕ, ◌+◌, ◌-◌, ◌*◌, ◌/◌, ◌==◌, ◌&&◌, ◌||◌, not, Bool, false, nat_le, nat_lt, List, [], Option, None, Some, Result, Ok, Err, length, take, drop, if◌then◌else◌}
+use Rattle.std.specs.List.{list_all}
 use Rattle.std.specs.FinMap as map
 use Rattle.std.specs.Option.{option_and_then}
 use Rattle.sn_acl.specs.declared.entries.Entry.{Entry}
@@ -14,37 +15,27 @@ use Rattle.sn_walk.specs.declared.object.Object.TheVariants.{Node, Snapshots}
 use Rattle.sn_walk.specs.declared.view.Attributes.{Attributes}
 use Rattle.sn_walk.specs.declared.walking.Found.{Found}
 use Rattle.sn_walk.specs.declared.walking.Walked.{Walked}
-use Rattle.sn_walk.specs.declared.walking.Walked.TheVariants.{Root, Name}
 use Rattle.sn_walk.specs.Chains.{◌>>=◌}
 use Rattle.sn_walk.specs.Objects.{number_of}
 use Rattle.sn_walk.specs.Views.{ViewedTrees, is_directory}
 use Rattle.sn_walk.specs.Walks.{found_at}
+pub use Rattle.sn_model.specs.declared.argument.OpenFlags.{OpenFlags}
 use Rattle.sn_model.specs.declared.change.Change.TheVariants.{Remove, SetSize, Write}
 use Rattle.sn_model.specs.declared.change.Ownership.{Ownership}
 use Rattle.sn_model.specs.declared.reply.Access.{Access}
 use Rattle.sn_model.specs.declared.reply.Errno.TheVariants.{Eexist, Efbig, Einval, Eisdir, Enoent, Eperm}
 use Rattle.sn_model.specs.declared.reply.Refusal.{Refusal}
-use Rattle.sn_model.specs.declared.reply.Reply.{Reply}
 use Rattle.sn_model.specs.declared.reply.Reply.TheVariants.{Content, Done, Number}
 use Rattle.sn_model.specs.declared.session.Session.{Session}
 use Rattle.sn_model.specs.AccessCalls.{live_if}
-use Rattle.sn_model.specs.Calls.{Seen, last_name}
-use Rattle.sn_model.specs.Descriptors.{Descriptors, closed, descriptor_at, is_offset, moved_to, next_descriptor, opened, readable_at, without_session, writable_at}
-use Rattle.sn_model.specs.Outcomes.{Pending, Nothing, Makes, Does}
+use Rattle.sn_model.specs.Descriptors.{Descriptors, descriptor_at, is_offset, next_descriptor, readable_at, writable_at}
+use Rattle.sn_model.specs.Outcomes.{Outcome, Makes, Does, Closes, LogsOut, Moves, Opens, OpensNew, does, tells, turns}
+use Rattle.sn_model.specs.Seen.{Seen, last_name, parent_of}
 use Rattle.sn_model.specs.Tests.{plain, prefix, there, live, granted, writable_parent, sticky}
 use Rattle.sn_model.specs.Tree.{Node as TreeNode}
 use Rattle.sn_model.specs.World.{Descriptor, World, tree_in, trees_of}
 
 -- ---- arguments
-
--- what a file is opened for, and how: O_RDONLY, O_WRONLY or O_RDWR, O_APPEND, O_CREAT, O_EXCL and O_TRUNC
-pub record OpenFlags : Type 0 where
-  pub read : Bool
-  pub write : Bool
-  pub append : Bool
-  pub create : Bool
-  pub exclusive : Bool
-  pub truncate : Bool
 
 abbrev pub or_not : Bool → Bool → Bool
 or_not a b = not a || b
@@ -60,39 +51,9 @@ flags_argument flags = if are_flags flags then Ok flags else Err (plain Einval)
 abbrev pub count_argument : ℕ → Result ℕ Refusal
 count_argument count = if nat_le count 65536 then Ok count else Err (plain Einval)
 
+-- so many bytes, each below 256
 abbrev pub bytes_argument : List ℕ → Result (List ℕ) Refusal
-bytes_argument bytes = count_argument (length bytes) >>= (λ _. Ok bytes)
-
--- ---- what a call comes to
-
--- what becomes of the caller's descriptors
-pub data TableChange : Type 0 where
-  Keeps : TableChange
-  -- a descriptor of this number
-  Opens : ℕ → Descriptor → TableChange
-  -- a descriptor of this number, for the new file, whose number is yet to be chosen
-  OpensNew : ℕ → (ℕ → Descriptor) → TableChange
-  Closes : ℕ → TableChange
-  -- a descriptor gets this offset
-  Moves : ℕ → ℕ → TableChange
-  ClosesAll : TableChange
-
--- what becomes of the caller's session
-pub data Parting : Type 0 where
-  Remains : Parting
-  LogsOut : Parting
-
-pub record FileOutcome : Type 0 where
-  -- in blocks
-  pub charge : ℕ
-  pub change : Pending
-  pub table : TableChange
-  pub parting : Parting
-  pub told : Reply
-
--- descriptors change, and nothing else
-abbrev pub turns : TableChange → Reply → FileOutcome
-turns table answer = record { charge = 0; change = Nothing; table = table; parting = Remains; told = answer }
+bytes_argument bytes = count_argument (length bytes) >>= (λ _. if list_all (λ b. nat_lt b 256) bytes then Ok bytes else Err (plain Einval))
 
 -- ---- tests
 
@@ -116,11 +77,6 @@ file found = file_of found found.object
 abbrev pub no_directory : Found → Result (Unit {0}) Refusal
 no_directory found = if is_directory found.attributes.kind then Err (plain Eperm) else Ok tt
 
--- the directory that has the last name, and its place
-abbrev pub parent_of : Walked → Result (Object × ℕ) Refusal
-parent_of Root = Err (plain Eperm)
-parent_of (Name directory place last) = Ok (directory, place)
-
 -- within the largest file
 abbrev pub is_size : Limits → ℕ → Result (Unit {0}) Refusal
 is_size limits size = if nat_le size limits.largest_file then Ok tt else Err (plain Efbig)
@@ -130,19 +86,15 @@ is_size limits size = if nat_le size limits.largest_file then Ok tt else Err (pl
 abbrev pub access_of : OpenFlags → Access
 access_of flags = record { read = flags.read; write = flags.write; execute = false }
 
--- a descriptor of a file: its rights are those that it is opened for
-abbrev pub descriptor_for : OpenFlags → Home → ℕ → Descriptor
-descriptor_for flags home number = record { home = home; number = number; readable = flags.read; writable = flags.write; appends = flags.append; offset = 0 }
-
 -- the charge for one node and its bytes
 abbrev pub file_charge : Limits → ℕ → ℕ
 file_charge limits blocks = limits.inode_charge + limits.block_charge * blocks
 
-abbrev pub opens_there : Limits → OpenFlags → ℕ → Home → ℕ → FileOutcome
+abbrev pub opens_there : Limits → OpenFlags → ℕ → Home → ℕ → Outcome
 opens_there limits flags fd home number =
     if flags.truncate
-    then record { charge = file_charge limits 1; change = Does (SetSize number 0); table = Opens fd (descriptor_for flags home number); parting = Remains; told = Number fd }
-    else turns (Opens fd (descriptor_for flags home number)) (Number fd)
+    then record { charge = file_charge limits 1; change = Does (SetSize number 0); caller = Opens fd home number flags; told = Number fd }
+    else turns (Opens fd home number flags) (Number fd)
 
 -- a new file: its owner is the caller's; its group is a set-gid parent's, else the caller's; its ACL is inherited
 abbrev pub new_file : Session → Mode → Attributes → Option (List Entry) → Ownership
@@ -155,12 +107,11 @@ new_file session mode parent default_acl = record {
   default_acl = inherited_default default_acl false;
 }
 
-abbrev pub opens_new : Limits → OpenFlags → ℕ → ℕ → List ℕ → Ownership → FileOutcome
+abbrev pub opens_new : Limits → OpenFlags → ℕ → ℕ → List ℕ → Ownership → Outcome
 opens_new limits flags fd directory name o = record {
   charge = 2 * limits.inode_charge + limits.block_charge;
   change = Makes directory name File o;
-  table = OpensNew fd (descriptor_for flags Live);
-  parting = Remains;
+  caller = OpensNew fd flags;
   told = Number fd;
 }
 
@@ -172,7 +123,7 @@ bytes_of (Some node) = node.bytes
 abbrev pub open_bytes : World → Descriptor → List ℕ
 open_bytes world d = bytes_of (option_and_then (λ tree. map.get tree.nodes d.number) (tree_in (trees_of world) d.home))
 
-abbrev pub reads : ℕ → Descriptor → List ℕ → FileOutcome
+abbrev pub reads : ℕ → Descriptor → List ℕ → Outcome
 reads fd d bytes = turns (Moves fd (d.offset + length bytes)) (Content bytes)
 
 -- where a write begins: with O_APPEND at the file's end
@@ -183,117 +134,113 @@ write_offset d bytes = if d.appends then length bytes else d.offset
 abbrev pub blocks_spanned : ℕ → ℕ → ℕ
 blocks_spanned offset count = (offset + count - 1) / 4096 + 1 - offset / 4096
 
-abbrev pub writes : Limits → ℕ → ℕ → ℕ → List ℕ → FileOutcome
+abbrev pub writes : Limits → ℕ → ℕ → ℕ → List ℕ → Outcome
 writes limits fd number offset bytes = record {
   charge = file_charge limits (blocks_spanned offset (length bytes));
   change = Does (Write number offset bytes);
-  table = Moves fd (offset + length bytes);
-  parting = Remains;
+  caller = Moves fd (offset + length bytes);
   told = Number (length bytes);
 }
 
-abbrev pub cuts : Limits → ℕ → ℕ → FileOutcome
-cuts limits number size = record { charge = file_charge limits 1; change = Does (SetSize number size); table = Keeps; parting = Remains; told = Done }
+abbrev pub cuts : Limits → ℕ → ℕ → Outcome
+cuts limits number size = does (file_charge limits 1) (SetSize number size)
 
 -- the charge counts a file that may stay held
-abbrev pub unlinks : Limits → ℕ → List ℕ → FileOutcome
-unlinks limits directory name = record { charge = 3 * limits.inode_charge + limits.block_charge; change = Does (Remove directory name); table = Keeps; parting = Remains; told = Done }
-
--- what is open and who is logged in after a call of a session, a new file's number filled in
-abbrev pub table_after : Descriptors → ℕ → ℕ → TableChange → Descriptors
-table_after table session number Keeps = table
-table_after table session number (Opens fd d) = opened table session fd d
-table_after table session number (OpensNew fd d) = opened table session fd (d number)
-table_after table session number (Closes fd) = closed table session fd
-table_after table session number (Moves fd offset) = moved_to table session fd offset
-table_after table session number ClosesAll = without_session table session
-
-abbrev pub sessions_after : List (Option Session) → ℕ → Parting → List (Option Session)
-sessions_after sessions session Remains = sessions
-sessions_after sessions session LogsOut = slice_set sessions session None
+abbrev pub unlinks : Limits → ℕ → List ℕ → Outcome
+unlinks limits directory name = does (3 * limits.inode_charge + limits.block_charge) (Remove directory name)
 
 -- ---- the calls
 
 -- open of what is there: not exclusive; a file; live where it is to be written; the access, in one
-unfoldable pub open_there : Limits → ViewedTrees → Session → ℕ → OpenFlags → Found → Result FileOutcome Refusal
-open_there limits trees session fd flags found = do
+unfoldable pub open_there : Limits → Session → ℕ → OpenFlags → Found → Result Outcome Refusal
+open_there limits session fd flags found = do
   _ ← not_exclusive flags
   at ← file found
   _ ← live_if flags.write found.object
   _ ← granted session.cred 1 found.place (access_of flags) (Some found.attributes)
   Ok (opens_there limits flags fd at.0 at.1)
 
--- open of what isn't there: creating; live; w(p); room for a name and a number
-unfoldable pub open_absent : Limits → Seen → Session → ℕ → OpenFlags → Mode → List (List ℕ) → Walked → Result FileOutcome Refusal
-open_absent limits seen session fd flags mode names walked = do
-  _ ← creating flags
-  at ← parent_of walked
-  directory ← live at.0
-  parent ← writable_parent seen.trees session.cred 1 at.1 at.0
+-- a new file in a directory at a place: live; w(p); room for a name and a number
+abbrev pub open_in : Limits → Seen → Session → ℕ → OpenFlags → Mode → List (List ℕ) → Object → ℕ → Result Outcome Refusal
+open_in limits seen session fd flags mode names at place = do
+  directory ← live at
+  parent ← writable_parent seen.trees session.cred 1 place at
   _ ← seen.room directory
   Ok (opens_new limits flags fd directory (last_name names) (new_file session mode parent ((seen.trees.tree Live).default_acl directory)))
 
-abbrev pub open_found : Limits → Seen → Session → ℕ → OpenFlags → Mode → List (List ℕ) → Walked → Option Found → Result FileOutcome Refusal
-open_found limits seen session fd flags mode names walked None = open_absent limits seen session fd flags mode names walked
-open_found limits seen session fd flags mode names walked (Some found) = open_there limits seen.trees session fd flags found
+-- open of what isn't there: creating; then a new file
+unfoldable pub open_absent : Limits → Seen → Session → ℕ → OpenFlags → Mode → List (List ℕ) → Walked → Result Outcome Refusal
+open_absent limits seen session fd flags mode names walked = do
+  _ ← creating flags
+  at ← parent_of Enoent walked
+  open_in limits seen session fd flags mode names at.0 at.1
 
--- open: a descriptor is left; Prefix; then as the last name is there or not
-unfoldable pub open_outcome : Limits → Seen → Descriptors → ℕ → Session → List (List ℕ) → OpenFlags → Mode → Result FileOutcome Refusal
-open_outcome limits seen table number session names flags mode = do
-  fd ← next_descriptor table number
+abbrev pub open_found : Limits → Seen → Session → ℕ → OpenFlags → Mode → List (List ℕ) → Walked → Option Found → Result Outcome Refusal
+open_found limits seen session fd flags mode names walked None = open_absent limits seen session fd flags mode names walked
+open_found limits seen session fd flags mode names walked (Some found) = open_there limits session fd flags found
+
+-- open under a descriptor: Prefix; then as the last name is there or not
+abbrev pub open_as : Limits → Seen → Session → ℕ → List (List ℕ) → OpenFlags → Mode → Result Outcome Refusal
+open_as limits seen session fd names flags mode = do
   walked ← prefix seen.trees session.cred 1 names
   open_found limits seen session fd flags mode names walked (found_at seen.trees walked)
 
+-- open: a descriptor is left; then the rest
+unfoldable pub open_outcome : Limits → Seen → Descriptors → ℕ → Session → List (List ℕ) → OpenFlags → Mode → Result Outcome Refusal
+open_outcome limits seen table number session names flags mode = do
+  fd ← next_descriptor table number
+  open_as limits seen session fd names flags mode
+
 -- close: EBADF
-unfoldable pub close_outcome : Descriptors → ℕ → ℕ → Result FileOutcome Refusal
+unfoldable pub close_outcome : Descriptors → ℕ → ℕ → Result Outcome Refusal
 close_outcome table session fd = do
   _ ← descriptor_at table session fd
   Ok (turns (Closes fd) Done)
 
 -- read: for reading; no right is asked for again
-unfoldable pub read_outcome : World → ℕ → ℕ → ℕ → Result FileOutcome Refusal
+unfoldable pub read_outcome : World → ℕ → ℕ → ℕ → Result Outcome Refusal
 read_outcome world session fd count = do
   d ← readable_at world.descriptors session fd
   Ok (reads fd d (take count (drop d.offset (open_bytes world d))))
 
 -- a write of some bytes: within the largest file
-unfoldable pub write_some : Limits → ℕ → ℕ → ℕ → List ℕ → Result FileOutcome Refusal
+unfoldable pub write_some : Limits → ℕ → ℕ → ℕ → List ℕ → Result Outcome Refusal
 write_some limits fd number offset bytes = do
   _ ← is_size limits (offset + length bytes)
   Ok (writes limits fd number offset bytes)
 
 -- write: for writing; of no bytes nothing is done; no right is asked for again
-unfoldable pub write_outcome : Limits → World → ℕ → ℕ → List ℕ → Result FileOutcome Refusal
+unfoldable pub write_outcome : Limits → World → ℕ → ℕ → List ℕ → Result Outcome Refusal
 write_outcome limits world session fd bytes = do
   d ← writable_at world.descriptors session fd
-  if length bytes == 0 then Ok (turns Keeps (Number 0)) else write_some limits fd d.number (write_offset d (open_bytes world d)) bytes
+  if length bytes == 0 then Ok (tells (Number 0)) else write_some limits fd d.number (write_offset d (open_bytes world d)) bytes
 
 -- seek: EBADF; EINVAL over the largest size
-unfoldable pub seek_outcome : Limits → Descriptors → ℕ → ℕ → ℕ → Result FileOutcome Refusal
+unfoldable pub seek_outcome : Limits → Descriptors → ℕ → ℕ → ℕ → Result Outcome Refusal
 seek_outcome limits table session fd offset = do
   _ ← descriptor_at table session fd
   to ← is_offset limits offset
   Ok (turns (Moves fd to) (Number to))
 
 -- ftruncate: for writing; within the largest file
-unfoldable pub ftruncate_outcome : Limits → Descriptors → ℕ → ℕ → ℕ → Result FileOutcome Refusal
+unfoldable pub ftruncate_outcome : Limits → Descriptors → ℕ → ℕ → ℕ → Result Outcome Refusal
 ftruncate_outcome limits table session fd size = do
   d ← writable_at table session fd
   _ ← is_size limits size
   Ok (cuts limits d.number size)
 
 -- unlink: Full; no directory; live; w(p); sticky
-unfoldable pub unlink_outcome : Limits → ViewedTrees → Session → List (List ℕ) → Result FileOutcome Refusal
+unfoldable pub unlink_outcome : Limits → ViewedTrees → Session → List (List ℕ) → Result Outcome Refusal
 unlink_outcome limits trees session names = do
   walked ← prefix trees session.cred 1 names
   found ← there (found_at trees walked)
   _ ← no_directory found
   _ ← live found.object
-  at ← parent_of walked
+  at ← parent_of Eperm walked
   parent ← writable_parent trees session.cred 1 at.1 at.0
   _ ← sticky session.cred 1 parent found
   Ok (unlinks limits (number_of at.0) (last_name names))
 
 -- logout: all descriptors of the session are closed
-abbrev pub logout_outcome : FileOutcome
-logout_outcome = record { charge = 0; change = Nothing; table = ClosesAll; parting = LogsOut; told = Done }
+abbrev pub logout_outcome : Outcome
+logout_outcome = turns LogsOut Done

@@ -8,6 +8,7 @@ pub mod Covers
 pub mod ChangeLaws
 pub mod Outcomes
 pub mod Tests
+pub mod Seen
 pub mod Calls
 pub mod AccessCalls
 pub mod Steps
@@ -21,3 +22,6 @@ pub mod Example
 pub mod Denials
 pub mod Descriptors
 pub mod FileCalls
+pub mod FileLaws
+pub mod NameCalls
+pub mod NameLaws

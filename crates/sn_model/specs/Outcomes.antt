@@ -1,6 +1,7 @@
 -- What a call comes to.
-use Rattle.std.specs.Prelude.{ℕ}
+use Rattle.std.specs.Prelude.{ℕ, Bool, true, false}
 use Rattle.sn_limits.specs.declared.kind.Kind.{Kind}
+use Rattle.sn_model.specs.declared.change.Change.{Change}
 use Rattle.sn_model.specs.declared.change.Ownership.{Ownership}
 use Rattle.sn_model.specs.declared.link.Link.{Link}
 use Rattle.sn_model.specs.declared.reply.Reply.{Reply}
@@ -9,12 +10,31 @@ use Rattle.sn_model.specs.declared.session.Session.{Session}
 pub use Rattle.sn_model.specs.declared.outcome.Pending.{Pending}
 pub use Rattle.sn_model.specs.declared.outcome.Pending.TheVariants.{Nothing, Makes, Does}
 pub use Rattle.sn_model.specs.declared.outcome.Caller.{Caller}
-pub use Rattle.sn_model.specs.declared.outcome.Caller.TheVariants.{Stays, LogsIn, SetsUmask}
+pub use Rattle.sn_model.specs.declared.outcome.Caller.TheVariants.{Stays, LogsIn, SetsUmask, LogsOut, Opens, OpensNew, Closes, Moves}
 pub use Rattle.sn_model.specs.declared.outcome.Outcome.{Outcome}
+
+-- a descriptor is opened
+abbrev pub is_opening : Caller → Bool
+is_opening Stays = false
+is_opening (LogsIn s) = false
+is_opening (SetsUmask mask) = false
+is_opening LogsOut = false
+is_opening (Opens fd home number flags) = true
+is_opening (OpensNew fd flags) = true
+is_opening (Closes fd) = false
+is_opening (Moves fd offset) = false
 
 -- nothing changes
 abbrev pub tells : Reply → Outcome
 tells answer = record { charge = 0; change = Nothing; caller = Stays; told = answer }
+
+-- the session or its descriptors change, and nothing else
+abbrev pub turns : Caller → Reply → Outcome
+turns caller answer = record { charge = 0; change = Nothing; caller = caller; told = answer }
+
+-- the live tree changes, at this charge, and nothing else
+abbrev pub does : ℕ → Change → Outcome
+does charge c = record { charge = charge; change = Does c; caller = Stays; told = reply.Done }
 
 -- the session is opened
 abbrev pub opens : Session → Outcome

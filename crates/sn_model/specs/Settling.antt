@@ -1,10 +1,13 @@
 -- Files without names, and what a restart leaves of a world. POSIX.1-2017, unlink().
-use Rattle.std.specs.Prelude.{ℕ, Bool, false, not, ◌||◌, ◌==◌, Option, None, Some, replicate}
+use Rattle.std.specs.Prelude.{◌≡◌, ℕ, Bool, true, false, not, ◌&&◌, ◌||◌, ◌==◌, Option, None, Some, replicate, if◌then◌else◌}
 use Rattle.std.specs.List.{list_any}
 use Rattle.std.specs.FinMap as map
 use Rattle.sn_limits.specs.declared.kind.Kind.{Kind}
 use Rattle.sn_limits.specs.declared.kind.Kind.TheVariants.{File, Directory}
-use Rattle.sn_model.specs.Tree.{Node, Tree, names_for}
+use Rattle.sn_model.specs.declared.change.Change.{Change}
+use Rattle.sn_model.specs.declared.change.Change.TheVariants.{Make, AddLink, Remove, Rename, Write, SetSize, SetAttributes}
+use Rattle.sn_model.specs.Changes.{take_node}
+use Rattle.sn_model.specs.Tree.{Node, Tree, link_to, names_for}
 use Rattle.sn_walk.specs.declared.object.Home.{Home}
 use Rattle.sn_walk.specs.declared.object.Home.TheVariants.{Live, Frozen}
 use Rattle.sn_model.specs.World.{World}
@@ -31,6 +34,28 @@ is_of_live number (Frozen name) other = false
 -- whether an open file of the live tree has the number
 abbrev pub is_held : World → ℕ → Bool
 is_held world number = list_any (λ e. is_of_live number e.1.home e.1.number) (map.entries world.descriptors)
+
+-- the number that a change takes a name of
+abbrev pub loses : Change → Tree → Option ℕ
+loses (Make directory name number kind o) tree = None
+loses (AddLink directory name number) tree = None
+loses (Remove directory name) tree = map.get tree.links (link_to directory name)
+loses (Rename old_directory old_name new_directory new_name) tree = map.get tree.links (link_to new_directory new_name)
+loses (Write number offset bytes) tree = None
+loses (SetSize number size) tree = None
+loses (SetAttributes number o) tree = None
+
+-- a live file in no link and no descriptor
+abbrev pub is_abandoned : World → ℕ → Bool
+is_abandoned world number = is_nameless world.live number (map.get world.live.nodes number) && not (is_held world number)
+
+-- no live file but the one that lost a name may be so
+abbrev pub OnlyLost : World → Option ℕ → Type 0
+OnlyLost world lost = (number : ℕ) → is_abandoned world number ≡ true → lost ≡ Some number
+
+-- one file goes, where it is so
+abbrev pub dropped_if : World → ℕ → World
+dropped_if world number = if is_abandoned world number then record world { live = take_node world.live number } else world
 
 -- a live file in no link and no descriptor goes in the step that leaves it so
 abbrev pub dropped : World → World

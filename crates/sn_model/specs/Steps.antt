@@ -15,7 +15,10 @@ use Rattle.sn_model.specs.declared.session.Session.{Session}
 use Rattle.sn_model.specs.Tree.{Tree}
 use Rattle.sn_model.specs.World.{World}
 use Rattle.sn_model.specs.Changes.{apply}
-use Rattle.sn_model.specs.Outcomes.{Pending, Nothing, Makes, Does, Caller, Stays, LogsIn, SetsUmask, Outcome}
+use Rattle.sn_model.specs.Descriptors.{Descriptors, closed, descriptor_for, moved_to, opened, without_session}
+use Rattle.sn_model.specs.Outcomes.{Pending, Nothing, Makes, Does, Caller, Stays, LogsIn, SetsUmask, LogsOut, Opens, OpensNew, Closes, Moves, Outcome}
+use Rattle.sn_model.specs.Settling.{dropped}
+use Rattle.sn_walk.specs.declared.object.Home.TheVariants.{Live}
 use Rattle.sn_walk.specs.Chains.{◌>>=◌}
 use Rattle.sn_model.specs.Tests.{plain, flat}
 use Rattle.sn_model.specs.Calls.{ready, outcome_of}
@@ -37,10 +40,23 @@ masked mask found = option_map (with_mask mask) (flat found)
 abbrev pub with_umask : World → ℕ → Mode → World
 with_umask world session mask = record world { sessions = slice_set world.sessions session (masked mask (slice_get world.sessions session)) }
 
+abbrev pub with_descriptors : World → Descriptors → World
+with_descriptors world table = record world { descriptors = table }
+
 abbrev pub with_caller : World → ℕ → Caller → World
 with_caller world session Stays = world
 with_caller world session (LogsIn s) = with_session world session s
 with_caller world session (SetsUmask mask) = with_umask world session mask
+with_caller world session LogsOut = record world { sessions = slice_set world.sessions session None; descriptors = without_session world.descriptors session }
+with_caller world session (Opens fd home number flags) = with_descriptors world (opened world.descriptors session fd (descriptor_for flags home number))
+with_caller world session (OpensNew fd flags) = world
+with_caller world session (Closes fd) = with_descriptors world (closed world.descriptors session fd)
+with_caller world session (Moves fd offset) = with_descriptors world (moved_to world.descriptors session fd offset)
+
+-- a new file's number filled in
+abbrev pub filled : ℕ → Caller → Caller
+filled number (OpensNew fd flags) = Opens fd Live number flags
+filled number caller = caller
 
 abbrev pub with_live : World → Tree → World
 with_live world tree = record world { live = tree }
@@ -62,13 +78,13 @@ changed limits number Nothing tree = Some tree
 changed limits number (Makes directory name kind o) tree = apply limits (Make directory name number kind o) tree
 changed limits number (Does c) tree = apply limits c tree
 
--- an outcome becomes a world; the machine chooses a new node's number
+-- an outcome becomes a world; the machine chooses a new node's number, and a file that no name stands for and nobody has open goes
 pub record Comes (limits : Limits) (old : World) (session : ℕ) (o : Outcome) (new : World) : Type 0 where
   pub number : ℕ
   pub free : IsNumberFor limits old.live number o.change
   pub tree : Tree
   pub applied : changed limits number o.change old.live ≡ Some tree
-  pub world : new ≡ with_caller (with_live old tree) session o.caller
+  pub world : new ≡ dropped (with_caller (with_live old tree) session (filled number o.caller))
 
 -- a decision becomes this reply and this world
 abbrev pub Becomes : Limits → World → ℕ → Result Outcome Refusal → Reply → World → Type 0
@@ -86,6 +102,16 @@ TakesMemory (call.Stat path) = Unit {0}
 TakesMemory (call.Access path want) = Unit {0}
 TakesMemory (call.GetAcl path kind) = Unit {0}
 TakesMemory (call.SetAcl path kind acl) = Unit {0}
+TakesMemory (call.Rmdir path) = Unit {0}
+TakesMemory (call.Unlink path) = Unit {0}
+TakesMemory (call.Link old new) = Unit {0}
+TakesMemory call.Logout = ⊥
+TakesMemory (call.Open path flags mode) = Unit {0}
+TakesMemory (call.Close fd) = ⊥
+TakesMemory (call.Read fd count) = Unit {0}
+TakesMemory (call.Write fd bytes) = Unit {0}
+TakesMemory (call.Seek fd offset) = ⊥
+TakesMemory (call.Ftruncate fd size) = Unit {0}
 
 -- a call may find no memory once its session and arguments have passed, and then changes nothing
 pub record LacksMemory (world : World) (session : ℕ) (c : Call) (reply : Reply) (new : World) : Type 0 where

@@ -27,12 +27,13 @@ IsSession (Some s) = IsCaller s
 abbrev pub IsLoggedIn : World → ℕ → Type 0
 IsLoggedIn world session = IsSomeAnd (slice_get world.sessions session) (λ s. is_some s ≡ true)
 
--- a descriptor of a session that is logged in is of a file that is there
+-- a descriptor of a session that is logged in is of a file that is there, and only one of the live tree is written to
 pub record IsOpenFile (limits : Limits) (world : World) (session fd : ℕ) (d : Descriptor) : Type 0 where
   pub caller : IsLoggedIn world session
   pub number : fd < 64
   pub file : IsSomeAnd (tree_in (trees_of world) d.home) (λ tree. HasKind tree d.number File)
   pub offset : d.offset ≤ limits.largest_file
+  pub live : d.writable ≡ true → d.home ≡ Live
 
 -- Its trees are name trees, open files are there, and a live file without a name is held.
 pub record IsWorld (limits : Limits) (world : World) : Type 0 where
@@ -71,6 +72,16 @@ IsCall (call.Stat path) = Unit {0}
 IsCall (call.Access path want) = Unit {0}
 IsCall (call.GetAcl path kind) = Unit {0}
 IsCall (call.SetAcl path kind acl) = Unit {0}
+IsCall (call.Rmdir path) = Unit {0}
+IsCall (call.Unlink path) = Unit {0}
+IsCall (call.Link old new) = Unit {0}
+IsCall call.Logout = Unit {0}
+IsCall (call.Open path flags mode) = Unit {0}
+IsCall (call.Close fd) = Unit {0}
+IsCall (call.Read fd count) = Unit {0}
+IsCall (call.Write fd bytes) = Unit {0}
+IsCall (call.Seek fd offset) = Unit {0}
+IsCall (call.Ftruncate fd size) = Unit {0}
 
 abbrev pub IsEvent : Event → Type 0
 IsEvent (event.Call session c) = IsCall c

@@ -26,3 +26,20 @@ pub struct ModeBits {
     /// S_ISVTX.
     pub sticky: bool,
 }
+
+/// What open() is asked for, by the names that POSIX.1-2017 has in <fcntl.h>.
+#[derive(Clone, Copy, PartialEq, Eq, Hash)]
+pub struct OpenFlags {
+    /// O_RDONLY, or half of O_RDWR.
+    pub read: bool,
+    /// O_WRONLY, or half of O_RDWR.
+    pub write: bool,
+    /// O_APPEND: each write goes to the file's end.
+    pub append: bool,
+    /// O_CREAT: a file that isn't there is made.
+    pub create: bool,
+    /// O_EXCL: a file that is there is refused.
+    pub exclusive: bool,
+    /// O_TRUNC: a file that is there loses its bytes.
+    pub truncate: bool,
+}

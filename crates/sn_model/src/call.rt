@@ -1,4 +1,4 @@
-use crate::{Access, AclKind, Groups, Word};
+use crate::{Access, AclKind, Content, Groups, OpenFlags, Word};
 
 /// What a session asks for.
 #[derive(Drop)]
@@ -9,6 +9,8 @@ pub enum Call {
         gid: u32,
         groups: Groups,
     },
+    /// Closes the session, and all that it has open.
+    Logout,
     /// POSIX.1-2017 umask(): sets the bits that new objects lose. A mask over 0777 is refused.
     Umask {
         mask: u16,
@@ -48,6 +50,51 @@ pub enum Call {
         path: Word,
         kind: AclKind,
         acl: Word,
+    },
+    /// POSIX.1-2017 rmdir(): takes an empty directory away.
+    Rmdir {
+        path: Word,
+    },
+    /// POSIX.1-2017 unlink(): takes a name of a file away. The file goes with its last name, once
+    /// nobody has it open.
+    Unlink {
+        path: Word,
+    },
+    /// POSIX.1-2017 link(): gives a file one more name.
+    Link {
+        old: Word,
+        new: Word,
+    },
+    /// POSIX.1-2017 open(): opens a file, and makes it where the flags ask for that. The mode is that of a
+    /// file that is made; over 0777 it is refused.
+    Open {
+        path: Word,
+        flags: OpenFlags,
+        mode: u16,
+    },
+    /// POSIX.1-2017 close().
+    Close {
+        fd: u32,
+    },
+    /// POSIX.1-2017 read(): so many bytes from the descriptor's offset on, 65,536 at the most.
+    Read {
+        fd: u32,
+        count: u64,
+    },
+    /// POSIX.1-2017 write(): bytes to the descriptor's offset, or to the file's end, 65,536 at the most.
+    Write {
+        fd: u32,
+        bytes: Content,
+    },
+    /// POSIX.1-2017 lseek() with SEEK_SET.
+    Seek {
+        fd: u32,
+        offset: u64,
+    },
+    /// POSIX.1-2017 ftruncate().
+    Ftruncate {
+        fd: u32,
+        size: u64,
     },
 }
 

@@ -3,6 +3,8 @@ ghost use Rattle.sn_model.specs.AccessLaws.{AccessCallsDenyByRule, AccessIsGrant
 ghost use Rattle.sn_model.specs.ChangeLaws.{ChangesBring, ChangesKeepCovers, ChangesKeepTheTree, CoveredSettleAlike, CoversItself, CoversJoin, DroppingKeepsCovers, DroppingKeepsTheTree, ListsJoin, ListsKeepCovers, ListsKeepTheTree, TestIsBelow};
 ghost use Rattle.sn_model.specs.Example.{Answers, Settles};
 ghost use Rattle.sn_model.specs.MachineLaws.{EventsKeepTheState, LivesKeepTheWorld, RefusedEventsChangeNothing, RestartsSettle, RunsKeepTheWorld, StoppedStays};
+ghost use Rattle.sn_model.specs.FileLaws.{AppendsGoToTheEnd, ReadsAskForNoRight, ReadsPastTheEndGiveNothing, WritesOfNothingDoNothing};
+ghost use Rattle.sn_model.specs.NameLaws.{LinkGivesOneMoreName, ReaddirListsTheNames, RenameMovesTheName, RmdirTakesAnEmptyDirectory};
 ghost use Rattle.sn_model.specs.Laws.{DecidedChangesApply, MakesOneMore, RefusalsChangeNothing};
 
 /// Whatever a call is refused for, the world stays as it was.
@@ -162,4 +164,46 @@ pub fn access_is_granted_by_rule()
 /// place of the path has an ACL that denies what was wanted, by the entry that the denial names.
 pub fn access_calls_deny_by_rule()
     ensures { AccessCallsDenyByRule }
+{}
+
+/// A read is refused with EBADF alone, for its descriptor: what open() granted isn't asked for again.
+pub fn reads_ask_for_no_right()
+    ensures { ReadsAskForNoRight }
+{}
+
+/// A read at the end of the file or past it gives no bytes, and leaves the offset.
+pub fn reads_past_the_end_give_nothing()
+    ensures { ReadsPastTheEndGiveNothing }
+{}
+
+/// A write of no bytes answers 0, and nothing changes.
+pub fn writes_of_nothing_do_nothing()
+    ensures { WritesOfNothingDoNothing }
+{}
+
+/// What is written to a file that is open for appending goes to its end, wherever the descriptor stands.
+pub fn appends_go_to_the_end()
+    ensures { AppendsGoToTheEnd }
+{}
+
+/// readdir tells the names of the directory that the path leads to, each once and in the order of their
+/// bytes, and no others.
+pub fn readdir_lists_the_names()
+    ensures { ReaddirListsTheNames }
+{}
+
+/// rmdir takes an empty directory away with its name, and leaves every other name and node as it was.
+pub fn rmdir_takes_an_empty_directory()
+    ensures { RmdirTakesAnEmptyDirectory }
+{}
+
+/// link gives a file one more name, and leaves every other name and each node as it was.
+pub fn link_gives_one_more_name()
+    ensures { LinkGivesOneMoreName }
+{}
+
+/// rename moves a name, and leaves every other name as it was, and each node but that which had the new
+/// name; of two names of one thing nothing is done.
+pub fn rename_moves_the_name()
+    ensures { RenameMovesTheName }
 {}

@@ -13,11 +13,12 @@
 //! 7. `Tests`: the tests that calls are made of, each of which refuses or hands on what it found.
 //! 8. `Outcomes` and `Calls`: each call as the list of its tests, and what it comes to where all of
 //!    them pass: a charge, a change, what becomes of the session, and what is told. `AccessCalls` has
-//!    those that ask for rights and set them.
+//!    those that ask for rights and set them, `NameCalls` those on names and listings, `FileCalls` those on
+//!    files and `Descriptors`.
 //! 9. `Steps`: what a call may answer and the world that it leaves, while nothing fails.
 //! 10. `Machine`: a mount that runs, or one that a failure has stopped; what it answers to an event and
 //!     the mishap that the event met with; runs, their ends, and lives of many crashes.
-//! 11. `Worlds`, `Laws`, `AccessLaws`, `ChangeLaws` and `MachineLaws`: what follows from these in the subject's own
+//! 11. `Worlds`, `Laws`, `AccessLaws`, `NameLaws`, `FileLaws`, `ChangeLaws` and `MachineLaws`: what follows from these in the subject's own
 //!     words, each named by the contract of a function of `laws`.
 //! 12. `Example`: the machine on one small world.
 //! 13. `Texts`: how refusals, faults and their parts are printed.
@@ -34,28 +35,33 @@ mod laws;
 mod link;
 mod lists;
 mod mount;
+mod moving;
 mod outcome;
 mod reply;
 mod session;
 mod text;
 mod word;
 
-pub use argument::{AclKind, ModeBits, NewAcl};
+pub use argument::{AclKind, ModeBits, NewAcl, OpenFlags};
 pub use call::{Call, Event};
 pub use change::{Bytes, Change, Ownership};
 pub use groups::Groups;
 pub use laws::{
-    access_calls_deny_by_rule, access_is_denied_by_rule, access_is_granted_by_rule, changes_bring,
-    changes_keep_covers, changes_keep_the_tree, chmod_sets_the_mode, chown_sets_owner_and_group,
-    covered_settle_alike, covers_itself, covers_join, decided_changes_apply, dropping_keeps_covers,
-    dropping_keeps_the_tree, events_keep_the_state, example_holds, lists_join, lists_keep_covers,
-    lists_keep_the_tree, lives_keep_the_world, makes_one_more, refusals_change_nothing,
-    refused_events_change_nothing, restarts_settle, runs_keep_the_world, setacl_sets_one_acl,
-    stopped_stays, test_is_below, umask_sets_the_mask,
+    access_calls_deny_by_rule, access_is_denied_by_rule, access_is_granted_by_rule,
+    appends_go_to_the_end, changes_bring, changes_keep_covers, changes_keep_the_tree,
+    chmod_sets_the_mode, chown_sets_owner_and_group, covered_settle_alike, covers_itself,
+    covers_join, decided_changes_apply, dropping_keeps_covers, dropping_keeps_the_tree,
+    events_keep_the_state, example_holds, link_gives_one_more_name, lists_join, lists_keep_covers,
+    lists_keep_the_tree, lives_keep_the_world, makes_one_more, readdir_lists_the_names,
+    reads_ask_for_no_right, reads_past_the_end_give_nothing, refusals_change_nothing,
+    refused_events_change_nothing, rename_moves_the_name, restarts_settle,
+    rmdir_takes_an_empty_directory, runs_keep_the_world, setacl_sets_one_acl, stopped_stays,
+    test_is_below, umask_sets_the_mask, writes_of_nothing_do_nothing,
 };
 pub use link::Link;
 pub use lists::{Content, Names, StoredAcl};
 pub use mount::{Damage, End, MountFault};
+pub use moving::Moving;
 pub use outcome::{Caller, Outcome, Pending};
 pub use reply::{Access, Denial, Errno, PathNumber, Progress, Refusal, Reply, Rule, Status};
 pub use session::Session;

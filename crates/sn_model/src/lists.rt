@@ -6,7 +6,7 @@ use sn_acl::{Acl, Entry};
 use std::alloc::{AllocError, Global};
 use std::marker::Model;
 
-/// The bytes that a read gave.
+/// The bytes that a read gave, or that a write brings.
 #[derive(Drop)]
 pub struct Content {
     bytes: Vec<u8>,

@@ -1,6 +1,7 @@
-use crate::{Bytes, Change, Ownership, Reply, Session};
+use crate::{Bytes, Change, OpenFlags, Ownership, Reply, Session};
 use sn_acl::Mode;
 use sn_limits::Kind;
+use sn_walk::Home;
 
 /// What changes in the live tree.
 #[derive(Drop)]
@@ -16,12 +17,34 @@ pub enum Pending<'a> {
     Does(Change<'a>),
 }
 
-/// What becomes of the caller's session.
+/// What becomes of the caller's session and of what it has open.
 #[derive(Drop)]
 pub enum Caller {
     Stays,
     LogsIn(Session),
     SetsUmask(Mode),
+    /// The session ends, and all that it has open is closed.
+    LogsOut,
+    /// It gets a descriptor of a file that is there.
+    Opens {
+        fd: u32,
+        home: Home,
+        number: u16,
+        flags: OpenFlags,
+    },
+    /// It gets a descriptor of the live file that the call makes.
+    OpensNew {
+        fd: u32,
+        flags: OpenFlags,
+    },
+    Closes {
+        fd: u32,
+    },
+    /// A descriptor gets another offset.
+    Moves {
+        fd: u32,
+        offset: u64,
+    },
 }
 
 /// What a call comes to once its tests have passed: fields that don't depend on one another.

@@ -7,17 +7,5 @@ pub mod OverlayLemmas
 pub mod NeedLemmas
 pub mod PutLemmas
 pub mod MergedLemmas
-pub mod ChangeLemmas
-pub mod ByteLemmas
-pub mod SizeLemmas
-pub mod RenameLemmas
-pub mod WriteLemmas
-pub mod ShownLemmas
-pub mod WholeLemmas
-pub mod ChangeWholeLemmas
-pub mod CountLemmas
-pub mod SpliceLemmas
-pub mod ApplyLemmas
-pub mod NamesLemmas
 pub mod SeenLemmas
 pub mod LiesLemmas

@@ -31,6 +31,12 @@ get_or-piece width bytes index at h = get_or-take width _ at 0 h ∙ told (cases
     told (inr k) = get_or-append_right (drop (index * width) bytes) (zeros width) _ at 0 refl k ∙ get_or-zeros width _
         ∙ sym (get_or_past bytes (index * width + at) 0 (omega (arith, length-drop (index * width) bytes)))
 
+-- a piece behind the end is zeros
+pub piece_past : (width : ℕ) (bytes : List ℕ) (index : ℕ) → length bytes ≤ index * width → piece width bytes index ≡ zeros width
+piece_past width bytes index h = ext_get_or 0 _ _ (length-piece width bytes index ∙ sym (length-zeros width)) (λ at b.
+    let short : at < width = omega (arith, length-piece width bytes index) in
+    get_or-piece width bytes index at short ∙ get_or_past bytes (index * width + at) 0 (omega arith) ∙ sym (get_or-zeros width at))
+
 pub length-joined : (width size : ℕ) (pieces : ℕ → List ℕ) → length (joined width size pieces) ≡ size
 unfolding joined
 length-joined width size pieces = length-map-range_with_len _ 0 size

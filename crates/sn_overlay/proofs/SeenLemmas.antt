@@ -11,8 +11,7 @@ use Rattle.sn_overlay.specs.declared.node.SeenNode.{SeenNode}
 use Rattle.sn_overlay.specs.Pieces.{zeros, piece, joined}
 use Rattle.sn_overlay.specs.Layers.{Layer, through, hides_block, block_seen, bytes_of, node_seen}
 use Rattle.sn_overlay.specs.Seen.{seen_of, seen_node, seen_block, CountsNames, LiesOver, shown_state, node_shown, block_shown}
-use Rattle.sn_overlay.proofs.PieceLemmas.{length-zeros, length-piece, length-joined, piece-joined}
-use Rattle.sn_overlay.proofs.ChangeLemmas.{piece_past}
+use Rattle.sn_overlay.proofs.PieceLemmas.{length-zeros, length-piece, length-joined, piece-joined, piece_past}
 use Rattle.sn_overlay.proofs.LayerLemmas.{get-through_nodes}
 
 seen_with : ℕ → Node → SeenNode

@@ -6,7 +6,5 @@ pub mod Merges
 pub mod Sorted
 pub mod Overlays
 pub mod Needs
-pub mod ChangeLayers
 pub mod Seen
-pub mod Faults
 pub mod Laws

@@ -1,8 +1,7 @@
 -- What is read of the tree below an overlay.
-use Rattle.std.specs.Prelude.{◌≡◌, ℕ, false, List, length, Option, None, Some, if◌then◌else◌}
+use Rattle.std.specs.Prelude.{◌≡◌, ℕ, List, length, Option, None, Some, if◌then◌else◌}
 use Rattle.std.specs.Option.{option_map, unwrap_or}
 use Rattle.std.specs.FinMap as map
-use Rattle.sn_walk.specs.Views.{is_directory}
 use Rattle.sn_model.specs.Tree.{Node, Tree, link_count, names_for}
 use Rattle.sn_model.specs.Changes.{ownership_of}
 use Rattle.sn_overlay.specs.declared.node.NodeChange.{NodeChange}
@@ -12,8 +11,6 @@ use Rattle.sn_overlay.specs.declared.node.SeenNode.{SeenNode}
 use Rattle.sn_overlay.specs.declared.file_block.FileBlock.{FileBlock}
 use Rattle.sn_overlay.specs.Pieces.{zeros, piece}
 use Rattle.sn_overlay.specs.Layers.{Layer, IsLayer, Fits, through, hides_block, bytes_of}
-use Rattle.sn_overlay.specs.Overlays.{with_node}
-use Rattle.sn_overlay.specs.ChangeLayers.{one_name_less}
 
 abbrev pub seen_of : Tree → ℕ → Node → SeenNode
 seen_of tree number node = record { kind = node.kind; ownership = ownership_of node; links = link_count node.kind (names_for tree number); size = length node.bytes }
@@ -25,20 +22,6 @@ seen_node tree number = option_map (seen_of tree number) (map.get tree.nodes num
 -- a block of a file, with zeros behind its end
 abbrev pub seen_block : Tree → FileBlock → List ℕ
 seen_block tree file_block = piece 4096 (bytes_of (map.get tree.nodes file_block.file)) file_block.index
-
--- a node that was seen, as a layer has it where nothing of it changes
-abbrev pub kept_state : SeenNode → NodeState
-kept_state seen = record { kind = seen.kind; ownership = seen.ownership; links = seen.links; size = seen.size; cut = seen.size; fresh = false; acl_changed = false }
-
--- a node that was seen is changed
-abbrev pub with_seen : ℕ → (NodeState → NodeState) → Layer → Option SeenNode → Layer
-with_seen number change layer None = layer
-with_seen number change layer (Some seen) = with_node layer number (Changed (change (kept_state seen)))
-
--- a node that was seen loses a name
-abbrev pub with_loss : ℕ → Layer → Option SeenNode → Layer
-with_loss number layer None = layer
-with_loss number layer (Some seen) = with_node layer number (if is_directory seen.kind then Gone false else Changed (one_name_less (kept_state seen)))
 
 -- A layer counts names: what it has of a node says how many names the node has in the tree that the layer makes of another, and what it doesn't have has as many as before.
 pub record CountsNames (layer : Layer) (tree after : Tree) : Type 0 where

@@ -13,45 +13,35 @@
 //! 3. `specs/Merges`: a newer layer over an older one as one layer.
 //! 4. `specs/Needs`: the blocks that a consistency point takes for a layer, at most, and what calls are
 //!    charged for that.
-//! 5. `specs/ChangeLayers`: the layer of one change.
-//! 6. `specs/Seen`: what is read of a tree below, and through a layer.
-//! 7. `specs/Laws`, each named by the contract of a function of `laws`: above all, that seeing a tree
+//! 5. `specs/Seen`: what is read of a tree below, and through a layer.
+//! 6. `specs/Laws`, each named by the contract of a function of `laws`: above all, that seeing a tree
 //!    through two layers is seeing it through their merge.
-//! 8. [`Overlay`], a layer in memory: three sorted maps in which room is made first, so that inserts and
+//! 7. [`Overlay`], a layer in memory: three sorted maps in which room is made first, so that inserts and
 //!    [`Overlay::merge`] take no memory and can't fail.
-//! 9. [`Below`], the tree that an overlay lies over, [`Through`], such a tree seen through an overlay, and
-//!    [`of_change`], the overlay of a change.
+//! 8. [`Below`], the tree that an overlay lies over, and [`Through`], such a tree seen through an overlay.
 //!
 //! ```text
-//! let mut shown = Through { overlay: &top, below: &mut image };
-//! let newer = of_change(alloc, &limits, &mut shown, &change)?;
 //! top.reserve_for(&newer)?;
 //! top.merge(newer);
+//! let mut shown = Through { overlay: &top, below: &mut image };
+//! let node = shown.node(number)?;
 //! ```
 #![tactic(auto)]
 
 mod below;
-mod changing;
-mod fault;
 mod file_block;
 mod laws;
-mod made;
 mod node;
 mod overlay;
 mod sorted;
 mod through;
 
 pub use below::Below;
-pub use changing::of_change;
-pub use fault::LayerFault;
 pub use file_block::{BLOCK_SIZE, Block, FileBlock};
 pub use laws::{
-    attributes_show, changes_are_layers, changes_are_paid, changes_count, changes_need,
-    changes_show, cuts_keep, cuts_zero, drops_are_paid, layers_show_names, layers_show_nodes,
-    links_show, makes_show, merges_are_layers, merges_count, merges_fit, merges_lie,
-    merges_show_both, merges_stay_paid, needs_add, removes_show, renames_show, sizes_show,
-    two_levels_are_charged, versions_are_charged, writes_keep, writes_show, writes_span,
-    writes_splice,
+    changes_are_paid, drops_are_paid, layers_show_names, layers_show_nodes, merges_are_layers,
+    merges_count, merges_fit, merges_lie, merges_show_both, merges_stay_paid, needs_add,
+    two_levels_are_charged, versions_are_charged,
 };
 pub use node::{NodeChange, NodeState, SeenNode};
 pub use overlay::Overlay;

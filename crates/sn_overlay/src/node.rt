@@ -48,23 +48,7 @@ pub struct SeenNode {
 
 impl NodeState {
     ghost use Rattle.sn_overlay.specs.Merges.{state_over};
-    ghost use Rattle.sn_overlay.specs.ChangeLayers.{new_state, size_state, written_state, with_ownership};
-    ghost use Rattle.sn_overlay.specs.Seen.{kept_state, shown_state};
-
-    // A node of which nothing changes.
-    pub(crate) fn kept(seen: SeenNode) -> NodeState
-        ensures { result ≡ kept_state seen }
-    {
-        NodeState {
-            kind: seen.kind,
-            ownership: seen.ownership,
-            links: seen.links,
-            size: seen.size,
-            cut: seen.size,
-            fresh: false,
-            acl_changed: false,
-        }
-    }
+    ghost use Rattle.sn_overlay.specs.Seen.{shown_state};
 
     // A node as it is seen through what became of it.
     pub(crate) fn shown(&self) -> SeenNode
@@ -76,46 +60,6 @@ impl NodeState {
             links: self.links,
             size: self.size,
         }
-    }
-
-    // A node that is made.
-    pub(crate) fn made(kind: Kind, ownership: &Ownership) -> NodeState
-        ensures { result ≡ new_state kind ownership.now }
-    {
-        NodeState {
-            kind,
-            ownership: ownership.copy(),
-            links: 1,
-            size: 0,
-            cut: 0,
-            fresh: true,
-            acl_changed: true,
-        }
-    }
-
-    pub(crate) fn owned(mut self, ownership: &Ownership) -> NodeState
-        ensures { result ≡ with_ownership ownership.now self }
-    {
-        self.ownership = ownership.copy();
-        self.acl_changed = true;
-        self
-    }
-
-    // A file that is cut off, or made longer.
-    pub(crate) fn resized(mut self, size: u64) -> NodeState
-        ensures { result ≡ size_state size self }
-    {
-        self.cut = size.min(self.size);
-        self.size = size;
-        self
-    }
-
-    // A file with bytes up to an end, at least.
-    pub(crate) fn written(mut self, end: u64) -> NodeState
-        ensures { result ≡ written_state end self }
-    {
-        self.size = self.size.max(end);
-        self
     }
 
     fn copy(&self) -> NodeState

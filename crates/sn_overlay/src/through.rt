@@ -1,12 +1,19 @@
 //! A tree seen through an overlay.
 ghost use Rattle.std.specs.Prelude.{◌≡◌, ℕ, List, true, false};
 ghost use Rattle.std.specs.Option.{option_copied};
+ghost use Rattle.sn_overlay.specs.Pieces.{zeros};
 ghost use Rattle.sn_overlay.specs.Seen.{block_shown};
 
-use crate::made::zero_from;
 use crate::node::{hides_block, hides_names};
-use crate::{Below, Block, FileBlock, NodeChange, Overlay, SeenNode};
+use crate::{BLOCK_SIZE, Below, Block, FileBlock, NodeChange, Overlay, SeenNode};
 use sn_model::Link;
+
+// Puts zeros into a whole block.
+fn clear(block: &mut Block)
+    ensures { block.new ≡ zeros 4096 }
+{
+    *block = [0; BLOCK_SIZE];
+}
 
 // Puts a block as an overlay shows it, unless that is the block below.
 fn shows_block(
@@ -21,7 +28,7 @@ fn shows_block(
     match change {
         None => false,
         Some(NodeChange::Gone { .. }) => {
-            zero_from(block, 0);
+            clear(block);
             true
         }
         Some(NodeChange::Changed(_)) => match written {
@@ -32,7 +39,7 @@ fn shows_block(
             None => {
                 let is_hidden = hides_block(change, index);
                 if is_hidden {
-                    zero_from(block, 0);
+                    clear(block);
                 }
                 is_hidden
             }
@@ -44,7 +51,7 @@ fn shows_block(
 ///
 /// ```text
 /// let mut live = Through { overlay: &top, below: &mut Through { overlay: &bottom, below: &mut image } };
-/// let newer = of_change(alloc, &limits, &mut live, &change)?;
+/// let node = live.node(number)?;
 /// ```
 #[derive(Drop)]
 pub struct Through<'a, B> {

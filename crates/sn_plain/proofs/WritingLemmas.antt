@@ -1,13 +1,12 @@
 -- Bytes of a file that change, over what is stored.
-use Rattle.std.proofs.Common.{◌≡◌, ℕ, suc, ◌+◌, ◌<◌, ◌&&◌, Bool, true, false, nat_le, nat_lt, List, [], ◌∷◌, length, get_or, Option, Some, None, is_some, refl, sym, ap, subst, ◌∙◌}
+use Rattle.std.proofs.Common.{◌≡◌, ℕ, ◌+◌, ◌<◌, ◌&&◌, Bool, true, false, nat_le, nat_lt, List, length, get_or, Option, Some, None, is_some, refl, sym, ap, subst, ◌∙◌}
 use Rattle.std.specs.Prelude.{Result, Ok, Err, OnOk, OnErr}
 use Rattle.std.specs.List.{list_all}
-use Rattle.std.proofs.lemmas.Bool.{lt-ltb}
 use Rattle.sn_limits.specs.declared.limits.Limits.{Limits}
 use Rattle.sn_model.specs.Tree.{Node, Tree}
 use Rattle.sn_model.specs.Chains.{◌>>=◌, only_if}
 use Rattle.sn_model.specs.Changes.{cut, file_at, overwritten, resized, with_bytes, written}
-use Rattle.sn_model.proofs.ChainLemmas.{and_both}
+use Rattle.sn_model.proofs.ByteLemmas.{all_bytes}
 use Rattle.sn_plain.specs.Maps.{updated}
 use Rattle.sn_plain.specs.Stored.{bytes_by, IsCounted}
 use Rattle.sn_plain.proofs.CountedLemmas.{Stored, counted_alike, counted_tree}
@@ -21,10 +20,6 @@ then_some (Some x) false f = refl
 pub cut_tested : (limits : Limits) (tree : Tree) (number size : ℕ) → is_some (cut limits tree number size) ≡ (is_some (file_at tree number) && nat_le size limits.largest_file)
 unfolding cut
 cut_tested limits tree number size = then_some (file_at tree number) (nat_le size limits.largest_file) (λ (node : Node). with_bytes tree number node (resized node.bytes size))
-
-all_bytes : (xs : List ℕ) → ((i : ℕ) → get_or xs i 0 < 256) → list_all (λ b. nat_lt b 256) xs ≡ true
-all_bytes [] h = refl
-all_bytes (x ∷ xs) h = and_both (nat_lt x 256) (list_all (λ b. nat_lt b 256) xs) (lt-ltb x 256 (h 0)) (all_bytes xs (λ i. h (suc i)))
 
 with_true : (a b : Bool) → b ≡ true → (a && b) ≡ a
 with_true true b e = e

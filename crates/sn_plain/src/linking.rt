@@ -132,6 +132,13 @@ impl PlainTree {
         }
     }
 
+    /// Whether a number is that of a file that no name stands for.
+    pub fn is_nameless(&self, number: u16) -> bool
+        ensures { result ≡ is_nameless (tree_of self.now) number (map.get (tree_of self.now).nodes number) }
+    {
+        self.is_file(number) && self.names_for(number) == 0
+    }
+
     /// Takes a file away that no name stands for. It takes no memory.
     pub fn drop_file(&mut self, number: u16)
         requires number { 2 ≤ number }

@@ -1,12 +1,23 @@
-ghost use Rattle.std.specs.Prelude.{◌≡◌, IfOk, take, drop};
+ghost use Rattle.std.specs.Prelude.{◌≡◌, IfOk, length, take, drop};
 ghost use Rattle.std.specs.FinMap as map;
 ghost use Rattle.std.specs.Option.{option_map};
+ghost use Rattle.sn_model.specs.FileCalls.{bytes_of};
 
 use crate::tree::PlainTree;
 use std::alloc::{AllocError, Global};
 
 impl PlainTree {
     ghost use Rattle.sn_plain.specs.Plain.{tree_of};
+
+    /// How many bytes a node has: none of a directory, or of a number without a node.
+    pub fn size(&self, number: u16) -> u64
+        ensures { result ≡ length (bytes_of (map.get (tree_of self.now).nodes number)) }
+    {
+        match self.nodes.get(number) {
+            None => 0,
+            Some(node) => node.bytes.size(),
+        }
+    }
 
     /// The bytes of a node from an offset on, at most so many: none behind the end, and none of a
     /// directory.

@@ -1,4 +1,5 @@
 ghost use Rattle.std.specs.Prelude.{◌≡◌, IfOk, IfErr, OnOk};
+ghost use Rattle.sn_model.specs.Seen.{has_room_for_name};
 ghost use Rattle.sn_model.specs.Tests.{has_room};
 ghost use Rattle.sn_model.specs.Tree.{viewed, least_unused, names_in, names_for};
 ghost use Rattle.sn_model.specs.World.{new_root, new_tree};
@@ -125,5 +126,16 @@ impl PlainTree {
             Some(number) if self.names_in(directory) < u64::from(limits.names) => Ok(number),
             _ => Err(Refusal::plain(Errno::Elimit)),
         }
+    }
+
+    /// Whether a directory may get one more name, of a node that is there: `Elimit` where it has all
+    /// the names that it can have.
+    pub fn has_room_for_name(&self, limits: &Limits, directory: u16) -> Result<(), Refusal>
+        ensures { result ≡ has_room_for_name limits.now (tree_of self.now) directory }
+    {
+        if self.names_in(directory) >= u64::from(limits.names) {
+            return Err(Refusal::plain(Errno::Elimit));
+        }
+        Ok(())
     }
 }

@@ -208,7 +208,7 @@ numbers_lack (n ∷ ns) c lt h = (lacks_outside 48 57 c (decimal n) (inl lt) (de
 numbers_cut : (n : ℕ) (ns : List ℕ) → AllByRecursion (λ n. n < 2 ^ 32) (n ∷ ns) → parts 44 (numbers_word (n ∷ ns)) ≡ map decimal (n ∷ ns)
 numbers_cut n ns h = parts_join 44 (decimal n) (map decimal ns) (numbers_lack (n ∷ ns) 44 (lit< tt) h)
 
-is_false : (b : Bool) → (b ≡ true → ⊥) → b ≡ false
+pub is_false : (b : Bool) → (b ≡ true → ⊥) → b ≡ false
 is_false true h = absurd (h refl)
 is_false false h = refl
 

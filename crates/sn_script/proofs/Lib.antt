@@ -3,6 +3,8 @@ pub mod Numbers
 pub mod Parts
 pub mod Bytes
 pub mod FieldLaws
+pub mod FlagLaws
+pub mod CallLaws
 pub mod LineLaws
 pub mod ScriptLaws
 pub mod Printed

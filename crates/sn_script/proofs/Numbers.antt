@@ -43,6 +43,29 @@ number_takes limit n word e =
 pub number_none : (limit : ℕ) (word : List ℕ) → ((n : ℕ) → n < limit → word ≡ decimal n → ⊥) → number_below limit word ≡ None
 number_none limit word h = none_from (number_below limit word) (λ n e. let t = number_takes limit n word e in h n t.1 t.0)
 
+-- a number below a limit is read under a wider one, and one that isn't below it is refused
+pub number_narrower : (limit wide : ℕ) (word : List ℕ) (n : ℕ) → wide ≤ 2 ^ 64 → limit ≤ wide → number_below wide word ≡ Some n → n < limit → number_below limit word ≡ Some n
+number_narrower limit wide word n bound le read lt =
+    let p = number_takes wide n word read in
+    ap (number_below limit) p.0 ∙ number_again limit n (omega arith) lt
+
+pub number_too_large : (limit wide : ℕ) (word : List ℕ) (n : ℕ) → wide ≤ 2 ^ 64 → limit ≤ wide → number_below wide word ≡ Some n → (n < limit → ⊥) → number_below limit word ≡ None
+number_too_large limit wide word n bound le read large = number_none limit word (λ m lt e.
+    let other : number_below wide word ≡ Some m = ap (number_below wide) e ∙ number_again wide m bound (omega arith) in
+    let same : m ≡ n = some_same m n (sym other ∙ read) in
+    large (subst (λ (k : ℕ). k < limit) same lt))
+
+pub number_none_narrower : (limit wide : ℕ) (word : List ℕ) → wide ≤ 2 ^ 64 → limit ≤ wide → number_below wide word ≡ None → number_below limit word ≡ None
+number_none_narrower limit wide word bound le none = number_none limit word (λ m lt e.
+    let other : number_below wide word ≡ Some m = ap (number_below wide) e ∙ number_again wide m bound (omega arith) in
+    let contrary = sym none ∙ other in
+    absurd cc)
+
+pub fault_narrower : (fault : LineFault) (limit wide : ℕ) (word : List ℕ) → wide ≤ 2 ^ 64 → limit ≤ wide → IsRead {X = ℕ} {Y = ℕ} (λ n. n) (Err fault) (number_below wide word)
+    → IsRead {X = ℕ} {Y = ℕ} (λ n. n) (Err fault) (number_below limit word)
+fault_narrower Bad limit wide word bound le none = number_none_narrower limit wide word bound le none
+fault_narrower Memory limit wide word bound le none = tt
+
 cons_same : {A : Type 0} (x y : A) (xs ys : List A) → x ≡ y → xs ≡ ys → x ∷ xs ≡ y ∷ ys
 cons_same x y xs ys p q = cc
 

@@ -1,7 +1,6 @@
 -- The line of a reply.
 use Rattle.std.specs.Prelude.{ℕ, ◌+◌, Bool, true, false, List, [], ◌∷◌, ◌++◌, Option, Some, None, codes, decimal}
 use Rattle.std.specs.List.{flat_map}
-use Rattle.hex.specs.Hex.{encode_lower}
 use Rattle.sn_acl.specs.declared.entries.Entry.{Entry}
 use Rattle.sn_acl.specs.Modes.{mode_bits}
 use Rattle.sn_acl.specs.Text.{acl_text}
@@ -11,7 +10,7 @@ use Rattle.sn_model.specs.declared.reply.Reply.{Reply}
 use Rattle.sn_model.specs.declared.reply.Reply.TheVariants as reply
 use Rattle.sn_model.specs.declared.reply.Status.{Status}
 use Rattle.sn_model.specs.Texts.{mount_fault_text, progress_text, refusal_text}
-use Rattle.sn_script.specs.Fields.{octal}
+use Rattle.sn_script.specs.Fields.{content_word, octal}
 
 abbrev pub kind_name : Kind → List ℕ
 kind_name File = codes "f"
@@ -30,11 +29,6 @@ abbrev pub status_line : Status → List ℕ
 status_line s = codes "ok " ++ kind_name s.kind ++ codes " " ++ octal (status_mode s) ++ codes " " ++ decimal s.links
     ++ codes " " ++ decimal s.owner ++ codes " " ++ decimal s.group ++ codes " " ++ decimal s.size ++ codes "\n"
 
--- the bytes in hexadecimal, or a dash for none
-abbrev pub content_text : List ℕ → List ℕ
-content_text [] = codes "-"
-content_text (b ∷ bytes) = encode_lower (b ∷ bytes)
-
 -- a name behind a space
 abbrev pub name_text : List ℕ → List ℕ
 name_text name = 32 ∷ name
@@ -51,7 +45,7 @@ abbrev pub reply_line : Reply → List ℕ
 reply_line reply.Done = codes "ok\n"
 reply_line (reply.Mode m) = codes "ok " ++ octal (mode_bits m) ++ codes "\n"
 reply_line (reply.Number n) = codes "ok " ++ decimal n ++ codes "\n"
-reply_line (reply.Content bytes) = codes "ok " ++ content_text bytes ++ codes "\n"
+reply_line (reply.Content bytes) = codes "ok " ++ content_word bytes ++ codes "\n"
 reply_line (reply.Status s) = status_line s
 reply_line (reply.Names names) = names_line names
 reply_line (reply.Acl acl) = codes "ok " ++ some_acl_text acl ++ codes "\n"

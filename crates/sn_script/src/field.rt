@@ -2,24 +2,25 @@ ghost use Rattle.std.specs.Prelude.{◌≡◌, ◌^◌, ◌≤◌, ◌∷◌, []
 ghost use Rattle.std.specs.Char.{is_ascii_graphic};
 ghost use Rattle.std.specs.List.{list_all};
 ghost use Rattle.sn_script.specs.Fields.{is_word};
-ghost use Rattle.sn_script.specs.Reading.{IsRead, number_below, octal_digit_of, octal_of, right_of, want_of, kind_named, numbers_of, groups_of, id_of, word_of};
+ghost use Rattle.sn_script.specs.Reading.{IsRead, number_below, octal_digit_of, octal_of, right_of, want_of, kind_named, numbers_of, groups_of, id_of, word_of, letter_of, flags_of, file_mode_of, content_of};
 
 use crate::cut::parts;
 use crate::fault::LineFault;
 use arrayvec::ArrayVec;
+use hex::FromHexError;
 use itoa::Buffer;
 use sn_acl::MAX_GROUPS;
-use sn_model::{Access, AclKind, Groups, Word};
+use sn_model::{Access, AclKind, Content, Groups, OpenFlags, Word};
 use std::alloc::Global;
 
-/// A decimal number without leading zeros.
-pub(crate) fn number(word: &[u8]) -> Result<u32, LineFault>
-    ensures { IsRead (λ n. n) result (number_below (2 ^ 32) word.now) }
+/// A decimal number of 64 bits, without leading zeros.
+pub(crate) fn long_number(word: &[u8]) -> Result<u64, LineFault>
+    ensures { IsRead (λ n. n) result (number_below (2 ^ 64) word.now) }
 {
     let Ok(text) = str::from_utf8(word) else {
         return Err(LineFault::Bad);
     };
-    let Ok(number) = text.parse::<u32>() else {
+    let Ok(number) = text.parse::<u64>() else {
         return Err(LineFault::Bad);
     };
     let mut buffer = Buffer::new();
@@ -27,6 +28,17 @@ pub(crate) fn number(word: &[u8]) -> Result<u32, LineFault>
         Ok(number)
     } else {
         Err(LineFault::Bad)
+    }
+}
+
+/// A decimal number of 32 bits, without leading zeros.
+pub(crate) fn number(word: &[u8]) -> Result<u32, LineFault>
+    ensures { IsRead (λ n. n) result (number_below (2 ^ 32) word.now) }
+{
+    let number = long_number(word)?;
+    match u32::try_from(number) {
+        Ok(number) => Ok(number),
+        Err(_) => Err(LineFault::Bad),
     }
 }
 
@@ -157,4 +169,70 @@ pub(crate) fn id(word: &[u8]) -> Result<Option<u32>, LineFault>
     }
     let number = number(word)?;
     Ok(Some(number))
+}
+
+/// Takes a letter off the front, where it stands there.
+fn letter(letter: u8, text: &[u8]) -> (bool, &[u8])
+    ensures { letter_of letter text.now ≡ (result.0, result.1.now) }
+{
+    match text {
+        [first, rest @ ..] if *first == letter => (true, rest),
+        _ => (false, text),
+    }
+}
+
+/// One or more of the letters `rwacxt`, each at most once and in this order.
+#[tactic(auto, unfolding(crate::specs::Reading::flags_of))]
+pub(crate) fn flags(word: &[u8]) -> Result<OpenFlags, LineFault>
+    ensures { IsRead (λ f. f) result (flags_of word.now) }
+{
+    let (read, rest) = letter(b'r', word);
+    let (write, rest) = letter(b'w', rest);
+    let (append, rest) = letter(b'a', rest);
+    let (create, rest) = letter(b'c', rest);
+    let (exclusive, rest) = letter(b'x', rest);
+    let (truncate, rest) = letter(b't', rest);
+    if word.is_empty() || !rest.is_empty() {
+        return Err(LineFault::Bad);
+    }
+    Ok(OpenFlags {
+        read,
+        write,
+        append,
+        create,
+        exclusive,
+        truncate,
+    })
+}
+
+/// The mode behind the flags where a file may be made, and 0 where none is.
+#[tactic(auto, unfolding(crate::specs::Reading::file_mode_of))]
+pub(crate) fn file_mode(creates: bool, words: &[&[u8]]) -> Result<u16, LineFault>
+    ensures { IsRead (λ m. m) result (file_mode_of creates (map (λ w. w.now) words.now)) }
+{
+    match (creates, words) {
+        (true, &[mode]) => octal(mode),
+        (false, &[]) => Ok(0),
+        _ => Err(LineFault::Bad),
+    }
+}
+
+/// Bytes in hexadecimal, or a dash for none.
+#[tactic(auto, unfolding(crate::specs::Reading::content_of))]
+pub(crate) fn content(alloc: Global, word: &[u8]) -> Result<Content, LineFault>
+    ensures { IsRead (λ c. c) result (content_of word.now) }
+{
+    if let b"-" = word {
+        return Ok(Content::new(Vec::new(alloc)));
+    }
+    let bytes = match hex::decode(alloc, word) {
+        Ok(bytes) => bytes,
+        Err(FromHexError::OutOfMemory) => return Err(LineFault::Memory),
+        Err(_) => return Err(LineFault::Bad),
+    };
+    // A dash alone spells no bytes, and lower case alone the others.
+    if bytes.is_empty() || hex::encode(alloc, bytes.as_slice())?.as_bytes() != word {
+        return Err(LineFault::Bad);
+    }
+    Ok(Content::new(bytes))
 }

@@ -4,8 +4,8 @@
 //! events have one, `specs/Scripts.antt` what a script and its first bad line are, and `specs/Replies.antt`
 //! the line of a reply. `specs/Reading.antt` reads words from left to right, and is proved to be the way back.
 //!
-//! Begin with `reading`; it cuts off a line at a time (`cut`), whose words `line` reads as an event, each
-//! word by a function of `field`. `printing` writes replies.
+//! Begin with `reading`; it cuts off a line at a time (`cut`), whose words `line` reads as an event, by
+//! `arguments` where several calls have the same ones, and each word by a function of `field`. `printing` writes replies.
 //!
 //! ```
 //! let events = read_script(alloc, b"0 login 0 0 -\n0 stat /\n")?;
@@ -13,6 +13,7 @@
 //! ```
 #![tactic(auto)]
 
+mod arguments;
 mod cut;
 mod fault;
 mod field;

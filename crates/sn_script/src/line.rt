@@ -1,9 +1,10 @@
 ghost use Rattle.std.specs.Prelude.{map};
-ghost use Rattle.sn_script.specs.Reading.{IsRead, login_of, umask_of, mkdir_of, chmod_of, chown_of, stat_of, access_of, getacl_of, setacl_of, access_call_of, call_of, event_of, line_event};
+ghost use Rattle.sn_script.specs.Reading.{IsRead, login_of, logout_of, umask_of, chown_of, access_of, getacl_of, setacl_of, open_of, write_of, file_call_of, access_call_of, name_call_of, call_of, event_of, line_event};
 
+use crate::arguments::{descriptor, descriptor_and_number, path, path_and_mode, paths};
 use crate::cut::parts;
 use crate::fault::LineFault;
-use crate::field::{acl_kind, groups, id, number, octal, want, word};
+use crate::field::{acl_kind, content, file_mode, flags, groups, id, number, octal, want, word};
 use sn_model::{Call, Event};
 use std::alloc::Global;
 
@@ -11,6 +12,22 @@ use std::alloc::Global;
 pub(crate) const MAX_WORDS: usize = 5;
 
 // Names that are compared: a pattern of six bytes isn't proved.
+const LOGIN: &[u8] = b"login";
+
+const LOGOUT: &[u8] = b"logout";
+
+const UMASK: &[u8] = b"umask";
+
+const MKDIR: &[u8] = b"mkdir";
+
+const RMDIR: &[u8] = b"rmdir";
+
+const UNLINK: &[u8] = b"unlink";
+
+const LINK: &[u8] = b"link";
+
+const STAT: &[u8] = b"stat";
+
 const CHMOD: &[u8] = b"chmod";
 
 const CHOWN: &[u8] = b"chown";
@@ -20,6 +37,18 @@ const ACCESS: &[u8] = b"access";
 const GETACL: &[u8] = b"getacl";
 
 const SETACL: &[u8] = b"setacl";
+
+const OPEN: &[u8] = b"open";
+
+const CLOSE: &[u8] = b"close";
+
+const READ: &[u8] = b"read";
+
+const WRITE: &[u8] = b"write";
+
+const SEEK: &[u8] = b"seek";
+
+const FTRUNCATE: &[u8] = b"ftruncate";
 
 #[tactic(auto, unfolding(crate::specs::Reading::login_of))]
 fn login(alloc: Global, arguments: &[&[u8]]) -> Result<Call, LineFault>
@@ -34,6 +63,17 @@ fn login(alloc: Global, arguments: &[&[u8]]) -> Result<Call, LineFault>
     Ok(Call::Login { uid, gid, groups })
 }
 
+#[tactic(auto, unfolding(crate::specs::Reading::logout_of))]
+fn logout(arguments: &[&[u8]]) -> Result<Call, LineFault>
+    ensures { IsRead (λ c. c) result (logout_of (map (λ w. w.now) arguments.now)) }
+{
+    if arguments.is_empty() {
+        Ok(Call::Logout)
+    } else {
+        Err(LineFault::Bad)
+    }
+}
+
 #[tactic(auto, unfolding(crate::specs::Reading::umask_of))]
 fn umask(arguments: &[&[u8]]) -> Result<Call, LineFault>
     ensures { IsRead (λ c. c) result (umask_of (map (λ w. w.now) arguments.now)) }
@@ -43,30 +83,6 @@ fn umask(arguments: &[&[u8]]) -> Result<Call, LineFault>
     };
     let mask = octal(mask)?;
     Ok(Call::Umask { mask })
-}
-
-#[tactic(auto, unfolding(crate::specs::Reading::mkdir_of))]
-fn mkdir(alloc: Global, arguments: &[&[u8]]) -> Result<Call, LineFault>
-    ensures { IsRead (λ c. c) result (mkdir_of (map (λ w. w.now) arguments.now)) }
-{
-    let &[path, mode] = arguments else {
-        return Err(LineFault::Bad);
-    };
-    let path = word(alloc, path)?;
-    let mode = octal(mode)?;
-    Ok(Call::Mkdir { path, mode })
-}
-
-#[tactic(auto, unfolding(crate::specs::Reading::chmod_of))]
-fn chmod(alloc: Global, arguments: &[&[u8]]) -> Result<Call, LineFault>
-    ensures { IsRead (λ c. c) result (chmod_of (map (λ w. w.now) arguments.now)) }
-{
-    let &[path, bits] = arguments else {
-        return Err(LineFault::Bad);
-    };
-    let path = word(alloc, path)?;
-    let mode = octal(bits)?;
-    Ok(Call::Chmod { path, mode })
 }
 
 #[tactic(auto, unfolding(crate::specs::Reading::chown_of))]
@@ -80,17 +96,6 @@ fn chown(alloc: Global, arguments: &[&[u8]]) -> Result<Call, LineFault>
     let uid = id(uid)?;
     let gid = id(gid)?;
     Ok(Call::Chown { path, uid, gid })
-}
-
-#[tactic(auto, unfolding(crate::specs::Reading::stat_of))]
-fn stat(alloc: Global, arguments: &[&[u8]]) -> Result<Call, LineFault>
-    ensures { IsRead (λ c. c) result (stat_of (map (λ w. w.now) arguments.now)) }
-{
-    let &[path] = arguments else {
-        return Err(LineFault::Bad);
-    };
-    let path = word(alloc, path)?;
-    Ok(Call::Stat { path })
 }
 
 #[tactic(auto, unfolding(crate::specs::Reading::access_of))]
@@ -130,13 +135,69 @@ fn setacl(alloc: Global, arguments: &[&[u8]]) -> Result<Call, LineFault>
     Ok(Call::SetAcl { path, kind, acl })
 }
 
-/// A call of modes, owners and ACLs.
+#[tactic(auto, unfolding(crate::specs::Reading::open_of))]
+fn open(alloc: Global, arguments: &[&[u8]]) -> Result<Call, LineFault>
+    ensures { IsRead (λ c. c) result (open_of (map (λ w. w.now) arguments.now)) }
+{
+    let &[path, letters, ref others @ ..] = arguments else {
+        return Err(LineFault::Bad);
+    };
+    let path = word(alloc, path)?;
+    let flags = flags(letters)?;
+    let mode = file_mode(flags.create, others)?;
+    Ok(Call::Open { path, flags, mode })
+}
+
+#[tactic(auto, unfolding(crate::specs::Reading::write_of))]
+fn write(alloc: Global, arguments: &[&[u8]]) -> Result<Call, LineFault>
+    ensures { IsRead (λ c. c) result (write_of (map (λ w. w.now) arguments.now)) }
+{
+    let &[fd, digits] = arguments else {
+        return Err(LineFault::Bad);
+    };
+    let fd = number(fd)?;
+    let bytes = content(alloc, digits)?;
+    Ok(Call::Write { fd, bytes })
+}
+
+/// A call on descriptors.
+#[tactic(auto, unfolding(crate::specs::Reading::file_call_of))]
+fn file_call(alloc: Global, name: &[u8], arguments: &[&[u8]]) -> Result<Call, LineFault>
+    ensures { IsRead (λ c. c) result (file_call_of name.now (map (λ w. w.now) arguments.now)) }
+{
+    if name == OPEN {
+        return open(alloc, arguments);
+    }
+    if name == CLOSE {
+        let fd = descriptor(arguments)?;
+        return Ok(Call::Close { fd });
+    }
+    if name == READ {
+        let (fd, count) = descriptor_and_number(arguments)?;
+        return Ok(Call::Read { fd, count });
+    }
+    if name == WRITE {
+        return write(alloc, arguments);
+    }
+    if name == SEEK {
+        let (fd, offset) = descriptor_and_number(arguments)?;
+        return Ok(Call::Seek { fd, offset });
+    }
+    if name == FTRUNCATE {
+        let (fd, size) = descriptor_and_number(arguments)?;
+        return Ok(Call::Ftruncate { fd, size });
+    }
+    Err(LineFault::Bad)
+}
+
+/// A call of modes, owners and ACLs, or on descriptors.
 #[tactic(auto, unfolding(crate::specs::Reading::access_call_of))]
 fn access_call(alloc: Global, name: &[u8], arguments: &[&[u8]]) -> Result<Call, LineFault>
     ensures { IsRead (λ c. c) result (access_call_of name.now (map (λ w. w.now) arguments.now)) }
 {
     if name == CHMOD {
-        return chmod(alloc, arguments);
+        let (path, mode) = path_and_mode(alloc, arguments)?;
+        return Ok(Call::Chmod { path, mode });
     }
     if name == CHOWN {
         return chown(alloc, arguments);
@@ -150,20 +211,51 @@ fn access_call(alloc: Global, name: &[u8], arguments: &[&[u8]]) -> Result<Call, 
     if name == SETACL {
         return setacl(alloc, arguments);
     }
-    Err(LineFault::Bad)
+    file_call(alloc, name, arguments)
+}
+
+/// A call on names, or of the other groups.
+#[tactic(auto, unfolding(crate::specs::Reading::name_call_of))]
+fn name_call(alloc: Global, name: &[u8], arguments: &[&[u8]]) -> Result<Call, LineFault>
+    ensures { IsRead (λ c. c) result (name_call_of name.now (map (λ w. w.now) arguments.now)) }
+{
+    if name == MKDIR {
+        let (path, mode) = path_and_mode(alloc, arguments)?;
+        return Ok(Call::Mkdir { path, mode });
+    }
+    if name == RMDIR {
+        let path = path(alloc, arguments)?;
+        return Ok(Call::Rmdir { path });
+    }
+    if name == UNLINK {
+        let path = path(alloc, arguments)?;
+        return Ok(Call::Unlink { path });
+    }
+    if name == LINK {
+        let (old, new) = paths(alloc, arguments)?;
+        return Ok(Call::Link { old, new });
+    }
+    if name == STAT {
+        let path = path(alloc, arguments)?;
+        return Ok(Call::Stat { path });
+    }
+    access_call(alloc, name, arguments)
 }
 
 #[tactic(auto, unfolding(crate::specs::Reading::call_of))]
 fn call(alloc: Global, name: &[u8], arguments: &[&[u8]]) -> Result<Call, LineFault>
     ensures { IsRead (λ c. c) result (call_of name.now (map (λ w. w.now) arguments.now)) }
 {
-    match name {
-        b"login" => login(alloc, arguments),
-        b"umask" => umask(arguments),
-        b"mkdir" => mkdir(alloc, arguments),
-        b"stat" => stat(alloc, arguments),
-        _ => access_call(alloc, name, arguments),
+    if name == LOGIN {
+        return login(alloc, arguments);
     }
+    if name == LOGOUT {
+        return logout(arguments);
+    }
+    if name == UMASK {
+        return umask(arguments);
+    }
+    name_call(alloc, name, arguments)
 }
 
 #[tactic(auto, unfolding(crate::specs::Reading::event_of))]

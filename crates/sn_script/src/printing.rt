@@ -1,7 +1,7 @@
 ghost use Rattle.std.specs.Prelude.{◌≡◌, ◌<◌, ◌++◌, OnOk, IfOk, codes};
 ghost use Rattle.std.specs.List.{flat_map};
-ghost use Rattle.sn_script.specs.Fields.{octal};
-ghost use Rattle.sn_script.specs.Replies.{kind_name, status_mode, status_line, content_text, name_text, names_line, some_acl_text, reply_line};
+ghost use Rattle.sn_script.specs.Fields.{octal, content_word};
+ghost use Rattle.sn_script.specs.Replies.{kind_name, status_mode, status_line, name_text, names_line, some_acl_text, reply_line};
 
 use sn_limits::Kind;
 use sn_model::{Content, Names, Reply, Status, StoredAcl};
@@ -68,7 +68,7 @@ fn push_mode(text: &mut Vec<u8>, bits: u16) -> io::Result<()>
 }
 
 fn push_content(alloc: Global, text: &mut Vec<u8>, content: &Content) -> io::Result<()>
-    ensures { OnOk result (text.new.items ≡ text.old.items ++ codes "ok " ++ content_text content.now ++ codes "\n") }
+    ensures { OnOk result (text.new.items ≡ text.old.items ++ codes "ok " ++ content_word content.now ++ codes "\n") }
 {
     let bytes = content.as_bytes();
     if bytes.is_empty() {

@@ -4,8 +4,8 @@ use anyhow::{Context, Result, bail, ensure};
 use sn_acl::{Acl, Mode, Permissions, Tag};
 use sn_limits::Kind;
 use sn_model::{
-    Access, AclKind, Call, Content, Damage, Denial, Errno, Event, MountFault, Names, PathNumber,
-    Progress, Refusal, Reply, Rule, Status, StoredAcl, Word,
+    Access, AclKind, Call, Content, Damage, Denial, Errno, Event, MountFault, Names, OpenFlags,
+    PathNumber, Progress, Refusal, Reply, Rule, Status, StoredAcl, Word,
 };
 use sn_script::{SCRIPT_MAX, ScriptFault, print_replies, read_script};
 use sn_table::{Case, Report, Tally};
@@ -136,6 +136,65 @@ fn id_word(alloc: Global, id: Option<u32>) -> Result<String> {
     }
 }
 
+fn text(word: &Word) -> Result<&str> {
+    Ok(str::from_utf8(word.as_bytes())?)
+}
+
+/// The names of the flags that are set.
+fn flag_names(alloc: Global, flags: OpenFlags) -> Result<String> {
+    let mut names = String::new(alloc);
+    for (set, name) in [
+        (flags.read, " read"),
+        (flags.write, " write"),
+        (flags.append, " append"),
+        (flags.create, " create"),
+        (flags.exclusive, " exclusive"),
+        (flags.truncate, " truncate"),
+    ] {
+        if set {
+            names.push_str(name)?;
+        }
+    }
+    Ok(names)
+}
+
+/// A call on descriptors, field by field.
+fn told_file_call(alloc: Global, call: &Call) -> Result<String> {
+    Ok(match call {
+        Call::Open { path, flags, mode } => {
+            let path = text(path)?;
+            let flags = flag_names(alloc, *flags)?;
+            format!(in alloc; "open, path {path}, flags{flags}, mode {mode}")?
+        }
+        Call::Close { fd } => format!(in alloc; "close, fd {fd}")?,
+        Call::Read { fd, count } => format!(in alloc; "read, fd {fd}, count {count}")?,
+        Call::Write { fd, bytes } => {
+            let bytes = bytes.as_bytes();
+            format!(in alloc; "write, fd {fd}, bytes {bytes:?}")?
+        }
+        Call::Seek { fd, offset } => format!(in alloc; "seek, fd {fd}, offset {offset}")?,
+        Call::Ftruncate { fd, size } => format!(in alloc; "ftruncate, fd {fd}, size {size}")?,
+        _ => bail!("another call"),
+    })
+}
+
+/// A call on names, field by field.
+fn told_name_call(alloc: Global, call: &Call) -> Result<String> {
+    Ok(match call {
+        Call::Mkdir { path, mode } => {
+            let path = text(path)?;
+            format!(in alloc; "mkdir, path {path}, mode {mode}")?
+        }
+        Call::Rmdir { path } => format!(in alloc; "rmdir, path {}", text(path)?)?,
+        Call::Unlink { path } => format!(in alloc; "unlink, path {}", text(path)?)?,
+        Call::Link { old, new } => {
+            format!(in alloc; "link, old {}, new {}", text(old)?, text(new)?)?
+        }
+        Call::Stat { path } => format!(in alloc; "stat, path {}", text(path)?)?,
+        _ => told_file_call(alloc, call)?,
+    })
+}
+
 /// A call, field by field.
 fn told_call(alloc: Global, call: &Call) -> Result<String> {
     Ok(match call {
@@ -143,38 +202,32 @@ fn told_call(alloc: Global, call: &Call) -> Result<String> {
             let groups = groups.as_slice();
             format!(in alloc; "login, uid {uid}, gid {gid}, groups {groups:?}")?
         }
+        Call::Logout => format!(in alloc; "logout")?,
         Call::Umask { mask } => format!(in alloc; "umask, mask {mask}")?,
-        Call::Mkdir { path, mode } => {
-            let path = str::from_utf8(path.as_bytes())?;
-            format!(in alloc; "mkdir, path {path}, mode {mode}")?
-        }
         Call::Chmod { path, mode } => {
-            let path = str::from_utf8(path.as_bytes())?;
+            let path = text(path)?;
             format!(in alloc; "chmod, path {path}, mode {mode}")?
         }
         Call::Chown { path, uid, gid } => {
-            let path = str::from_utf8(path.as_bytes())?;
+            let path = text(path)?;
             let uid = id_word(alloc, *uid)?;
             let gid = id_word(alloc, *gid)?;
             format!(in alloc; "chown, path {path}, uid {uid}, gid {gid}")?
         }
-        Call::Stat { path } => {
-            let path = str::from_utf8(path.as_bytes())?;
-            format!(in alloc; "stat, path {path}")?
-        }
         Call::Access { path, want } => {
-            let path = str::from_utf8(path.as_bytes())?;
+            let path = text(path)?;
             format!(in alloc; "access, path {path}, want {want}")?
         }
         Call::GetAcl { path, kind } => {
-            let path = str::from_utf8(path.as_bytes())?;
+            let path = text(path)?;
             format!(in alloc; "getacl, path {path}, kind {}", kind_word(*kind))?
         }
         Call::SetAcl { path, kind, acl } => {
-            let path = str::from_utf8(path.as_bytes())?;
-            let acl = str::from_utf8(acl.as_bytes())?;
+            let path = text(path)?;
+            let acl = text(acl)?;
             format!(in alloc; "setacl, path {path}, kind {}, ACL {acl}", kind_word(*kind))?
         }
+        _ => told_name_call(alloc, call)?,
     })
 }
 
@@ -258,7 +311,7 @@ fn acl(alloc: Global, text: &[u8]) -> Result<Reply> {
     Ok(Reply::Acl(Some(StoredAcl::new(alloc, &acl)?)))
 }
 
-/// The other answers, some of calls that aren't served yet.
+/// The other answers.
 fn later_replies(alloc: Global) -> Result<Vec<Reply>> {
     let mut replies = Vec::new(alloc);
     replies.push(Reply::Mode(FILE.mode))?;

@@ -6,7 +6,8 @@ use crate::base::Base;
 use crate::tree::Tree;
 use sn_limits::Limits;
 use sn_model::{Change, Link};
-use sn_overlay::{BLOCK_SIZE, Below, Block, FileBlock, Overlay, SeenNode, Through, of_change};
+use sn_overlay::{BLOCK_SIZE, Below, Block, FileBlock, Overlay, SeenNode, Through};
+use sn_overlay_change::of_change;
 use std::alloc::{AllocError, Global};
 
 /// What changed of a tree in memory: an older overlay, and a newer one over it.

@@ -34,7 +34,7 @@ pub fn answers(alloc: Global, case: Case<'_>) -> Result<String> {
 }
 
 /// Gives the directory the block of a word.
-fn push_word(alloc: Global, disk: &mut Disk, word: &str) -> Result<()> {
+pub fn push_word(alloc: Global, disk: &mut Disk, word: &str) -> Result<()> {
     match word {
         "hole" => disk.push_pointer(0)?,
         "off" => disk.push_pointer(u32::from(BLOCKS))?,
@@ -59,7 +59,7 @@ fn records_of(alloc: Global, word: &str) -> Result<Vec<u8>> {
 }
 
 /// The name of a word, in which `a*255` is 255 letters.
-fn name_of(alloc: Global, word: &str) -> Result<Vec<u8>> {
+pub fn name_of(alloc: Global, word: &str) -> Result<Vec<u8>> {
     let mut name = Vec::new(alloc);
     match word.split_once('*') {
         Some((letter, count)) => {
@@ -114,7 +114,7 @@ fn push_names(
     Ok(())
 }
 
-fn push_name(name: &[u8], text: &mut String) -> Result<()> {
+pub fn push_name(name: &[u8], text: &mut String) -> Result<()> {
     let count = name.len();
     if count < LONG {
         text.push_str(str::from_utf8(name)?)?;

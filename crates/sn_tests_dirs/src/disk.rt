@@ -1,9 +1,12 @@
 //! A directory in the bytes of a disk, and a device in memory that has them.
 
-use anyhow::Result;
+use anyhow::{Result, ensure};
+use sn_alloc::BlockAllocator;
 use sn_block::Blocks;
 use sn_device::MemDevice;
 use sn_layout::{BlockTree, Pointers};
+use sn_map::Map;
+use sn_tree::Build;
 use std::alloc::{AllocError, Global};
 
 const BLOCK_SIZE: usize = 4096;
@@ -75,6 +78,23 @@ impl Disk {
     /// A device with these bytes.
     pub fn device(&self, alloc: Global) -> Result<MemDevice, AllocError> {
         MemDevice::from_bytes(alloc, self.bytes.as_slice())
+    }
+
+    /// A map in which the blocks of the directory are taken.
+    pub fn map(&self, alloc: Global) -> Result<Map, AllocError> {
+        let mut map = Map::new(alloc, u32::from(BLOCKS))?;
+        for pointer in &self.pointers {
+            if *pointer != 0 && *pointer < map.len() {
+                map.set_word(*pointer, 1);
+            }
+        }
+        Ok(map)
+    }
+
+    /// A build over a map.
+    pub fn build(&self, alloc: Global, map: Map) -> Result<Build> {
+        ensure!(map.len() == u32::from(BLOCKS), "another map");
+        Ok(Build::new(alloc, BlockAllocator::new(alloc, map, FIRST)))
     }
 
     /// The device behind a cache.

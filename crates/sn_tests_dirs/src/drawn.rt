@@ -22,9 +22,9 @@ const ROOM: usize = 4096;
 
 /// A name as it was drawn.
 #[derive(Drop)]
-struct Drawn {
-    name: Vec<u8>,
-    number: u16,
+pub struct Drawn {
+    pub name: Vec<u8>,
+    pub number: u16,
 }
 
 pub fn run(report: &mut Report<'_>) -> Result<()> {
@@ -43,7 +43,7 @@ fn letter(random: &mut Pcg32) -> u8 {
 }
 
 /// A name that no other number below 676 is drawn with. None begins with a lowercase letter.
-fn draw(alloc: Global, random: &mut Pcg32, number: u32) -> Result<Drawn> {
+pub fn draw(alloc: Global, random: &mut Pcg32, number: u32) -> Result<Drawn> {
     let mut name = Vec::new(alloc);
     name.push(letter(random))?;
     name.push(b'a' + (number / 26 % 26) as u8)?;
@@ -64,7 +64,7 @@ fn draw(alloc: Global, random: &mut Pcg32, number: u32) -> Result<Drawn> {
 
 /// The names of a directory, which are put into its blocks in turn. Now and then a block is left early, or
 /// stays empty.
-fn fill(alloc: Global, random: &mut Pcg32, disk: &mut Disk) -> Result<Vec<Drawn>> {
+pub fn fill(alloc: Global, random: &mut Pcg32, disk: &mut Disk) -> Result<Vec<Drawn>> {
     let mut all = Vec::new(alloc);
     let mut block = Vec::new(alloc);
     for number in 0..random.next_u32() % NAMES {
@@ -112,7 +112,7 @@ fn directory(
 }
 
 /// Whether a directory is told to have the names that were drawn, and no other.
-fn is_right(
+pub fn is_right(
     alloc: Global,
     blocks: &mut Blocks<MemDevice>,
     tree: &BlockTree,

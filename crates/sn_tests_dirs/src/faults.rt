@@ -2,11 +2,15 @@
 
 use crate::disk::{Disk, push_record};
 use anyhow::{Result, bail, ensure};
+use sn_alloc::BlockAllocator;
 use sn_block::{Blocks, ReadFault};
 use sn_device::MemDevice;
 use sn_dir::{count, is_empty, lookup, names};
+use sn_dir_change::{insert, remove};
 use sn_layout::BlockTree;
+use sn_map::Map;
 use sn_table::{Report, Tally};
+use sn_tree::{Build, PlanFault};
 use sn_tree_read::TreeFault;
 use std::alloc::{AllocError, Global};
 
@@ -19,9 +23,16 @@ enum Call {
     Count,
     IsEmpty,
     Names,
+    Insert,
 }
 
-const CALLS: [Call; 4] = [Call::Lookup, Call::Count, Call::IsEmpty, Call::Names];
+const CALLS: [Call; 5] = [
+    Call::Lookup,
+    Call::Count,
+    Call::IsEmpty,
+    Call::Names,
+    Call::Insert,
+];
 
 pub fn run(report: &mut Report<'_>) -> Result<()> {
     let tally = reads(report)?;
@@ -40,6 +51,36 @@ fn is_right(
         Call::Count => Ok(count(blocks, tree)? == 1),
         Call::IsEmpty => Ok(!is_empty(blocks, tree)?),
         Call::Names => Ok(names(alloc, blocks, tree)?.len() == 1),
+        Call::Insert => is_set(alloc, blocks, tree),
+    }
+}
+
+/// Whether the name is set in its place, and taken out of it.
+fn is_set(
+    alloc: Global,
+    blocks: &mut Blocks<MemDevice>,
+    tree: &BlockTree,
+) -> Result<bool, TreeFault> {
+    let mut build = new_build(alloc)?;
+    if !tree.size.is_multiple_of(4096) || tree.size > 1 << 40 {
+        return Ok(false);
+    }
+    let set = read_fault(insert(alloc, &mut build, blocks, tree, b"a", 9))?;
+    let is_one = build.added().len() == 1 && build.released().len() == 1;
+    let mut build = new_build(alloc)?;
+    let gone = read_fault(remove(alloc, &mut build, blocks, tree, b"a"))?;
+    Ok(is_one && set.size == tree.size && gone.size == tree.size)
+}
+
+fn new_build(alloc: Global) -> Result<Build, AllocError> {
+    Ok(Build::new(alloc, BlockAllocator::new(alloc, Map::new(alloc, 160)?, 80)))
+}
+
+fn read_fault<T: Drop>(answer: Result<T, PlanFault>) -> Result<T, TreeFault> {
+    match answer {
+        Ok(value) => Ok(value),
+        Err(PlanFault::Tree(fault)) => Err(fault),
+        Err(_) => Err(TreeFault::Read(ReadFault::Memory)),
     }
 }
 

@@ -4,7 +4,8 @@ use crate::root::Root;
 use anyhow::{Result, bail};
 use sn_limits::{Kind, Limits};
 use sn_model::{Change, Link, Word};
-use sn_overlay::{BLOCK_SIZE, Below, FileBlock, Overlay, Through, of_change};
+use sn_overlay::{BLOCK_SIZE, Below, FileBlock, Overlay, Through};
+use sn_overlay_change::of_change;
 use std::alloc::Global;
 
 #[derive(Drop)]

@@ -9,11 +9,12 @@
 //! ```
 //!
 //! With the word `time`, `once` and a place and a number, or `file` and a path and a number, it runs what
-//! `bench/run.sh` measures (`times`).
+//! `bench/run.sh` measures (`times`), and with the word `files` what `bench/files.sh` does (`files`).
 #![tactic(auto)]
 
 mod events;
 mod faults;
+mod files;
 mod times;
 
 use anyhow::{Context, Result};
@@ -28,6 +29,7 @@ fn argument(rt: &HostRuntime, at: usize) -> Result<String> {
 fn main(rt: HostRuntime) -> Result<()> {
     match argument(&rt, 1)?.as_str() {
         "time" => times::times(&rt),
+        "files" => files::files(&rt),
         "once" => {
             let (place, count) = (argument(&rt, 2)?, argument(&rt, 3)?);
             times::once(&rt, place.as_str(), count.as_str())

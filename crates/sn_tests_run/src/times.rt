@@ -32,13 +32,13 @@ fn over_device(rt: &HostRuntime, events: &[Event]) -> Result<Duration> {
     Ok(begun.elapsed(rt)?)
 }
 
-fn in_memory(rt: &HostRuntime, events: &[Event]) -> Result<Duration> {
+pub fn in_memory(rt: &HostRuntime, events: &[Event]) -> Result<Duration> {
     let begun = Instant::now(rt)?;
     let (_replies, _end) = run_plain(rt.alloc(), events);
     Ok(begun.elapsed(rt)?)
 }
 
-fn least(one: Duration, other: Duration) -> Duration {
+pub fn least(one: Duration, other: Duration) -> Duration {
     if other < one { other } else { one }
 }
 

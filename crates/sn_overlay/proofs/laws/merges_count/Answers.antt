@@ -1,4 +1,4 @@
-use Rattle.sn_overlay.proofs.NamesLemmas.{merges_count}
+use Rattle.sn_overlay.proofs.LiesLemmas.{merges_count}
 use Rattle.sn_overlay.proofs.laws.merges_count.Goals as goal
 
 pub returns : goal.returns

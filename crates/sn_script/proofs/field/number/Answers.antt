@@ -1,36 +1,17 @@
-use Rattle.std.proofs.Common.{◌≡◌, ◌^◌, ◌<◌, sym, ap, ◌∙◌, true, lit≤, arith}
-use Rattle.std.specs.Prelude.{decimal}
-use Rattle.std.proofs.lemmas.Fmt.{IsAscii-decimal, parse-decimal}
-use Rattle.std.proofs.lemmas.Str.{IsUtf8-from_ascii}
-use Rattle.std.proofs.lemmas.Slice.Eq.{bytes_eq-Decides}
-use Rattle.sn_script.specs.Reading.{number_below}
-use Rattle.sn_script.proofs.Numbers.{number_none, number_again}
+use Rattle.std.proofs.Common.{◌^◌, lit≤}
+use Rattle.std.proofs.lemmas.Result.{err_from_is_err_and}
+use Rattle.sn_script.proofs.Numbers.{fault_narrower, number_narrower, number_too_large}
 use Rattle.sn_script.proofs.field.number.Goals as goal
 
-pub returns-in_default : goal.returns-in_default
-returns-in_default c = number_none (2 ^ 32) c.args.word.now (λ n lt e.
-    let small : n < 2 ^ 64 = omega arith in
-    c.in_default.ensures.cases.0 (rw e (IsUtf8-from_ascii (decimal n) (IsAscii-decimal n small))))
+pub returns-in_err-number : goal.returns-in_err-number
+returns-in_err-number c =
+    let p = err_from_is_err_and c.from_residual.result c.from_residual.ensures.1 in
+    rw (p.1, p.2) (fault_narrower c.in_err-number.field-0.0 (2 ^ 32) (2 ^ 64) c.args.word.now (lit≤ tt) (lit≤ tt) c.in_err-number.ensures)
 
-pub returns-in_default-parse : goal.returns-in_default-parse
-returns-in_default-parse c = number_none (2 ^ 32) c.args.word.now (λ n lt e.
-    let small : n < 2 ^ 64 = omega arith in
-    c.in_default-parse.not-Ok n (parse-decimal 32 n c.in-Ok.text.now c.parse.result lt small (c.in-Ok.ensures.cases.0 ∙ e) c.parse.ensures.value.0))
+pub returns-in-Ok : goal.returns-in-Ok
+returns-in-Ok c =
+    let p = c.in-Ok.ensures in
+    rw p.1 (number_narrower (2 ^ 32) (2 ^ 64) c.args.word.now c.in_ok-number.number (lit≤ tt) (lit≤ tt) c.in_ok-number.ensures p.0)
 
-pub returns-then-eq : goal.returns-then-eq
-returns-then-eq c =
-    let same : c.as_bytes.result.now ≡ c.args.word.now = (bytes_eq-Decides c.as_bytes.result.now c.args.word.now).0 (sym c.eq.ensures ∙ c.if-eq.true) in
-    let text : decimal c.in-Ok-parse.number ≡ c.args.word.now = sym c.format.ensures.text ∙ sym c.as_bytes.ensures.value ∙ same in
-    let p = c.in-Ok-parse.ensures.value.0 in
-    let lt : c.in-Ok-parse.number < 2 ^ 32 = omega (arith, p.0.1, p.1) in
-    ap (number_below (2 ^ 32)) (sym text) ∙ number_again (2 ^ 32) c.in-Ok-parse.number (lit≤ tt) lt
-
-pub returns-else-eq : goal.returns-else-eq
-returns-else-eq c = number_none (2 ^ 32) c.args.word.now (λ n lt e.
-    let small : n < 2 ^ 64 = omega arith in
-    let parsed = parse-decimal 32 n c.in-Ok.text.now c.parse.result lt small (c.in-Ok.ensures.cases.0 ∙ e) c.parse.ensures.value.0 in
-    let both = sym c.in-Ok-parse.is ∙ parsed in
-    let number : c.in-Ok-parse.number ≡ n = cc in
-    let text : c.as_bytes.result.now ≡ c.args.word.now = c.as_bytes.ensures.value ∙ c.format.ensures.text ∙ ap decimal number ∙ sym e in
-    let equal : c.eq.result ≡ true = c.eq.ensures ∙ (bytes_eq-Decides c.as_bytes.result.now c.args.word.now).1 text in
-    let contrary = sym c.if-eq.false ∙ equal in cc)
+pub returns-in-Err : goal.returns-in-Err
+returns-in-Err c = number_too_large (2 ^ 32) (2 ^ 64) c.args.word.now c.in_ok-number.number (lit≤ tt) (lit≤ tt) c.in_ok-number.ensures c.in-Err.ensures

@@ -5,4 +5,4 @@ use Rattle.sn_core.proofs.StepLemmas.{made_so}
 use Rattle.sn_core.proofs.world.PlainWorld.apply.Goals as goal
 
 pub returns : goal.returns
-returns c = record { made = made_so c.apply.result c.args.change.now (world_of c.args.self.now) _ (tree_of c.apply.new.self) refl c.apply.ensures }
+returns c = record { made = made_so c.apply.result c.args.change.now (world_of c.args.self.now) _ (tree_of c.apply.new.self) refl c.apply.ensures; room = refl }

@@ -1,10 +1,8 @@
-use Rattle.std.proofs.Common.{◌≡◌, sym, subst}
+use Rattle.std.proofs.Common.{sym, subst}
 use Rattle.std.specs.FinMap as map
 use Rattle.sn_limits.specs.Versions.{version_1}
-use Rattle.sn_model.specs.World.{World, new_world}
 use Rattle.sn_model.specs.Worlds.{IsWorld}
 use Rattle.sn_model.proofs.WorldLemmas.{new_is_world}
-use Rattle.sn_core.specs.Plain.{world_of}
 use Rattle.sn_core.proofs.world.PlainWorld.new.Goals as goal
 
 pub returns-clause-world : goal.returns-clause-world

@@ -1,35 +1,79 @@
-use Rattle.std.proofs.Common.{◌≡◌, Some, None, refl, sym, ap, subst, ◌∙◌}
-use Rattle.sn_model.specs.Steps.{with_caller, with_live}
+use Rattle.std.proofs.Common.{ℕ, Ok, sym, ap, subst, ◌∙◌}
+use Rattle.std.proofs.lemmas.Result.{err_from_is_err_and}
+use Rattle.sn_limits.specs.Versions.{version_1}
+use Rattle.sn_model.specs.NameTree.{IsTree}
+use Rattle.sn_model.specs.Settling.{OnlyLost, dropped}
+use Rattle.sn_model.specs.Steps.{with_caller}
 use Rattle.sn_model.specs.World.{World}
 use Rattle.sn_core.specs.declared.world.PlainWorld.{PlainWorld}
-use Rattle.sn_core.specs.Plain.{world_of}
-use Rattle.sn_core.proofs.StepLemmas.{IsServed, change_takes, chosen_served, has_number, lacking, served_whole}
+use Rattle.sn_core.specs.Called.{CanTurn, HasRoom}
+use Rattle.sn_core.specs.Plain.{room_of, world_of}
+use Rattle.sn_core.specs.Served.{Chooses, HasNumber, MakesChange}
+use Rattle.sn_core.proofs.StepLemmas.{IsMade, IsServed, change_takes, chosen_lost, chosen_served, chosen_turns, chosen_whole, has_number, lacking, none_made, opening_takes, served_whole, some_made}
 use Rattle.sn_core.proofs.world.PlainWorld.served.Goals as goal
 use Rattle.sn_core.proofs.world.PlainWorld.served.Goals.{in-Some+in-Ok, in-None}
 
-pub choose-requires : goal.choose-requires
-choose-requires c = has_number (world_of c.args.self.now) c.args.session c.args.call.now c.in_ok-change.field-0 c.in_ok-change.ensures.decided
+pub returns-in_err-prepare-clause-served : goal.returns-in_err-prepare-clause-served
+returns-in_err-prepare-clause-served c =
+    let takes = opening_takes (world_of c.args.self.now) c.args.session c.args.call.now c.in_ok-change.field-0 c.in_ok-change.ensures.decided c.in_err-prepare.ensures.opening in
+    let p = err_from_is_err_and c.from_residual-in_err-prepare.result c.from_residual-in_err-prepare.ensures.1 in
+    rw (p.1, p.2) (takes.0, takes.1, c.in_err-prepare.ensures.world)
+
+pub choose-change-requires : goal.choose-change-requires
+choose-change-requires c =
+    subst (λ (w : World). HasNumber w.live c.in_ok-change.field-0.change) (sym c.in_ok-prepare.ensures.world)
+    (has_number (world_of c.args.self.now) c.args.session c.args.call.now c.in_ok-change.field-0 c.in_ok-change.ensures.decided)
 
 pub returns-in-Err-clause-served : goal.returns-in-Err-clause-served
 returns-in-Err-clause-served c =
-    let takes = change_takes (world_of c.args.self.now) c.args.session c.args.call.now c.in_ok-change.field-0 c.in-Some.change c.in_ok-change.ensures.decided c.in-Some.ensures in
-    (takes.0, takes.1, lacking c.in-Err.field-0 c.in-Some.change (world_of c.args.self.now) (world_of c.apply.new.self) c.in-Err.ensures.made)
+    let old = world_of c.args.self.now in
+    let o = c.in_ok-change.field-0 in
+    let is = subst (λ (w : World). Chooses w.live o.change o.caller c.choose-change.result) c.in_ok-prepare.ensures.world c.choose-change.ensures in
+    let takes = change_takes old c.args.session c.args.call.now o c.choose-change.result c.in-Some.change c.in_ok-change.ensures.decided is c.in-Some.is in
+    (takes.0, takes.1, lacking c.in-Err.field-0 c.in-Some.change _ (world_of c.apply.new.self) c.in-Err.ensures.made ∙ c.in_ok-prepare.ensures.world)
+
+-- what was chosen has been made
+made : (c : goal.After-set_caller-arg-1) → IsMade (world_of c.args.self.now) c.choose-change.result (room_of c.prepare.new.self) c.match-change.self
+made c =
+    let old = world_of c.args.self.now in
+    elim c.match-change.branch [
+      | in-Some+in-Ok w ↦
+          some_made old (world_of c.prepare.new.self) c.choose-change.result (room_of c.prepare.new.self) c.match-change.self w.in-Some.change c.in_ok-prepare.ensures.world w.in-Some.is
+          (subst (λ (x : PlainWorld). MakesChange (Ok tt) w.in-Some.change (world_of c.prepare.new.self) (world_of x)) (sym w.self-is) w.in-Ok.ensures.made)
+          (ap room_of w.self-is ∙ w.in-Ok.ensures.room)
+      | in-None w ↦
+          none_made old c.choose-change.result (room_of c.prepare.new.self) c.match-change.self (ap world_of w.self-is ∙ c.in_ok-prepare.ensures.world) w.in-None.is (ap room_of w.self-is)
+    ]
+
+chosen : (c : goal.After-set_caller-arg-1) → Chooses (world_of c.args.self.now).live c.in_ok-change.field-0.change c.in_ok-change.field-0.caller c.choose-change.result
+chosen c = subst (λ (w : World). Chooses w.live c.in_ok-change.field-0.change c.in_ok-change.field-0.caller c.choose-change.result) c.in_ok-prepare.ensures.world c.choose-change.ensures
+
+pub set_caller-requires-clause-whole : goal.set_caller-requires-clause-whole
+set_caller-requires-clause-whole c =
+    let m = made c in
+    subst (λ (w : World). IsTree version_1 w.live) (sym m.world)
+    (chosen_whole (world_of c.args.self.now) c.args.session c.args.call.now c.in_ok-change.field-0 c.choose-change.result m.tree c.in_ok-change.ensures.numbers c.requires c.in_ok-change.ensures.decided (chosen c) m.done)
+
+pub set_caller-requires-clause-opens : goal.set_caller-requires-clause-opens
+set_caller-requires-clause-opens c =
+    let m = made c in
+    subst (λ (w : World). CanTurn w.descriptors (room_of c.match-change.self) c.args.session c.choose-change.result.caller) (sym m.world)
+    (chosen_turns (world_of c.args.self.now) c.args.session c.args.call.now c.in_ok-change.field-0 c.choose-change.result m.tree c.in_ok-change.ensures.numbers c.requires c.in_ok-change.ensures.decided (chosen c) m.done
+    (room_of c.match-change.self) (subst (λ (n : ℕ). HasRoom c.in_ok-change.field-0.caller n) (sym m.room_is) c.in_ok-prepare.ensures.room))
+
+pub set_caller-requires-clause-lost : goal.set_caller-requires-clause-lost
+set_caller-requires-clause-lost c =
+    let m = made c in
+    subst (λ (w : World). OnlyLost w c.choose-change.result.lost) (sym m.world)
+    (chosen_lost (world_of c.args.self.now) c.args.session c.args.call.now c.in_ok-change.field-0 c.choose-change.result m.tree c.in_ok-change.ensures.numbers c.requires c.in_ok-change.ensures.decided (chosen c) m.done)
 
 served_so : (c : goal.After-set_caller) → IsServed (world_of c.args.self.now) c.args.session c.args.call.now c.in_ok-change.field-0.told (world_of c.set_caller.new.self)
 served_so c =
     let old = world_of c.args.self.now in
     let o = c.in_ok-change.field-0 in
-    let after = λ (w : World). with_caller w c.args.session o.caller in
-    let so = λ (w : World) (e : world_of c.set_caller.new.self ≡ w) (s : IsServed old c.args.session c.args.call.now o.told w). subst (λ (x : World). IsServed old c.args.session c.args.call.now o.told x) (sym e) s in
-    elim c.match-choose.branch [
-      | in-Some+in-Ok w ↦
-          let made = w.in-Ok.ensures.made in
-          so (after (with_live old made.0)) (c.set_caller.ensures.world ∙ ap (λ (x : PlainWorld). after (world_of x)) w.self-is ∙ ap after made.2)
-          (chosen_served old c.args.session c.args.call.now o (Some w.in-Some.change) made.0 c.requires c.in_ok-change.ensures.decided w.in-Some.ensures made.1)
-      | in-None w ↦
-          so (after old) (c.set_caller.ensures.world ∙ ap (λ (x : PlainWorld). after (world_of x)) w.self-is)
-          (chosen_served old c.args.session c.args.call.now o None old.live c.requires c.in_ok-change.ensures.decided w.in-None.ensures refl)
-    ]
+    let m = made c.before in
+    subst (λ (w : World). IsServed old c.args.session c.args.call.now o.told w) (sym (c.set_caller.ensures ∙ ap (λ (w : World). dropped (with_caller w c.args.session c.choose-change.result.caller)) m.world))
+    (chosen_served old c.args.session c.args.call.now o c.choose-change.result m.tree c.in_ok-change.ensures.numbers c.requires c.in_ok-change.ensures.decided (chosen c.before) m.done)
 
 pub returns-clause-served : goal.returns-clause-served
 returns-clause-served c = served_so c

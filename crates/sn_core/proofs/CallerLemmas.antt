@@ -1,0 +1,193 @@
+-- What becomes of descriptors, and of the files that they had.
+use Rattle.std.proofs.Common.{◌≡◌, ◌⊎◌, inl, inr, ℕ, zero, suc, ◌+◌, ◌<◌, Bool, true, false, cond, List, [], ◌∷◌, Option, Some, None, Ok, is_some, length, Contains, refl, sym, ap, subst, ◌∙◌, arith, true≢false}
+use Rattle.std.specs.FinMap as map
+use Rattle.std.specs.Prelude.{IsSomeAnd, slice_get}
+use Rattle.sn_limits.specs.declared.kind.Kind.TheVariants.{File}
+use Rattle.sn_limits.specs.Versions.{version_1}
+use Rattle.sn_walk.specs.declared.object.Home.TheVariants.{Live}
+use Rattle.sn_model.specs.declared.outcome.Caller.{Caller}
+use Rattle.sn_model.specs.declared.outcome.Caller.TheVariants.{Stays, LogsIn, SetsUmask, LogsOut, Opens, OpensNew, Closes, Moves}
+use Rattle.sn_model.specs.declared.outcome.Pending.{Pending}
+use Rattle.sn_model.specs.declared.session.Session.{Session}
+use Rattle.sn_model.specs.Descriptors.{Descriptors, at_offset, closed, first_without, given, is_held_in, moved_if, moved_to, next_descriptor, opened}
+use Rattle.sn_model.specs.NameTree.{IsTree}
+use Rattle.sn_model.specs.Settling.{OnlyLost, dropped, dropped_if, is_abandoned, is_held}
+use Rattle.sn_model.specs.Steps.{filled, with_caller}
+use Rattle.sn_model.specs.Worlds.{IsLoggedIn}
+use Rattle.sn_model.specs.World.{Descriptor, World}
+use Rattle.sn_model.proofs.ChainLemmas.{some_same}
+use Rattle.sn_model.proofs.DecisionLemmas.{same_ok}
+use Rattle.sn_model.proofs.HeldLemmas.{descriptors_total, exact_descriptors, held_at, held_by}
+use Rattle.sn_model.proofs.LoseLemmas.{abandoned_is, dropped_once, is_abandoned_at, none_dropped, still_abandoned}
+use Rattle.sn_model.proofs.MapLemmas.{same_or_apart, get_inserted, get_other}
+use Rattle.sn_model.proofs.MoveLemmas.{some_node}
+use Rattle.sn_model.proofs.OutcomeLemmas.{FitsCaller}
+use Rattle.sn_desc.specs.Closing.{released_if}
+use Rattle.sn_desc.proofs.ReleaseLemmas.{told_last}
+use Rattle.sn_core.specs.Called.{AreNumbers, CanTurn, HasRoom, TellsReleased}
+
+-- a caller leaves the live tree
+pub caller_live : (world : World) (session : ℕ) (caller : Caller) → (with_caller world session caller).live ≡ world.live
+caller_live world session Stays = refl
+caller_live world session (LogsIn s) = refl
+caller_live world session (SetsUmask mask) = refl
+caller_live world session LogsOut = refl
+caller_live world session (Opens fd home number flags) = refl
+caller_live world session (OpensNew fd flags) = refl
+caller_live world session (Closes fd) = refl
+caller_live world session (Moves fd offset) = refl
+
+-- ---- descriptors that hold what they held
+
+-- whoever holds a file of these still does of those
+abbrev pub StillHolds : Descriptors → Descriptors → Type 0
+StillHolds old new = (n : ℕ) → is_held_in old n ≡ true → is_held_in new n ≡ true
+
+pub none_released : (old new : World) (numbers : List ℕ) → StillHolds old.descriptors new.descriptors → TellsReleased old new numbers
+none_released old new numbers holds n held left = absurd (true≢false (sym (holds n held) ∙ left))
+
+pub same_holds : (old new : Descriptors) → new ≡ old → StillHolds old new
+same_holds old new e n held = ap (λ (t : Descriptors). is_held_in t n) e ∙ held
+
+some_descriptor : {P : Descriptor → Type 0} (o : Option Descriptor) → IsSomeAnd o P → (d : Descriptor) × (o ≡ Some d) × P d
+some_descriptor None h = absurd h
+some_descriptor (Some d) h = (d, refl, h)
+
+abbrev Key : Type 0
+Key = ℕ × ℕ
+
+abbrev AreOne : Key → Key → Type 0
+AreOne a b = a ≡ b
+
+-- one more descriptor
+pub opened_holds : (table : Descriptors) (session fd : ℕ) (d : Descriptor) → map.get table (session, fd) ≡ None → StillHolds table (opened table session fd d)
+opened_holds table session fd d vacant n held =
+    let b = held_by table n held in
+    let x = some_descriptor (map.get table (b.0, b.1)) b.2 in
+    let apart : AreOne (b.0, b.1) (session, fd) → ⊥ = (λ q. let never : None ≡ Some x.0 = sym vacant ∙ ap (map.get table) (sym q) ∙ x.1 in cc) in
+    held_at (opened table session fd d) n b.0 b.1 x.0 (get_other descriptors_total exact_descriptors table (session, fd) d (b.0, b.1) apart ∙ x.1) x.2.0 x.2.1
+
+-- a descriptor at another offset
+pub moved_holds : (table : Descriptors) (session fd offset : ℕ) → StillHolds table (moved_to table session fd offset)
+moved_holds table session fd offset n held = told (map.get table (session, fd)) refl
+  where
+    told : (o : Option Descriptor) → map.get table (session, fd) ≡ o → is_held_in (moved_if table session fd offset o) n ≡ true
+    told None e = held
+    told (Some d) e = split (same_or_apart descriptors_total exact_descriptors (b.0, b.1) (session, fd))
+      where
+        b : (i : ℕ) × (k : ℕ) × IsSomeAnd (map.get table (i, k)) (λ x. (x.home ≡ Live) × (x.number ≡ n))
+        b = held_by table n held
+
+        split : AreOne (b.0, b.1) (session, fd) ⊎ (AreOne (b.0, b.1) (session, fd) → ⊥) → is_held_in (opened table session fd (at_offset offset d)) n ≡ true
+        split (inl q) =
+            let x = some_descriptor (map.get table (b.0, b.1)) b.2 in
+            let both : Some x.0 ≡ Some d = sym x.1 ∙ ap (map.get table) q ∙ e in
+            let same = some_same x.0 d both in
+            held_at (opened table session fd (at_offset offset d)) n session fd (at_offset offset d) (get_inserted descriptors_total table (session, fd) (at_offset offset d))
+            (ap (λ (y : Descriptor). y.home) (sym same) ∙ x.2.0) (ap (λ (y : Descriptor). y.number) (sym same) ∙ x.2.1)
+        split (inr apart) =
+            let x = some_descriptor (map.get table (b.0, b.1)) b.2 in
+            held_at (opened table session fd (at_offset offset d)) n b.0 b.1 x.0 (get_other descriptors_total exact_descriptors table (session, fd) (at_offset offset d) (b.0, b.1) apart ∙ x.1) x.2.0 x.2.1
+
+-- the next descriptor isn't open yet
+unused : (used : ℕ → Bool) (first many fd : ℕ) → first_without used first many ≡ Some fd → used fd ≡ false
+unfolding first_without
+unused used first zero fd e = cc
+unused used first (suc many) fd e = told (used first) refl (unused used (first + 1) many fd) e
+  where
+    told : (b : Bool) → used first ≡ b → (first_without used (first + 1) many ≡ Some fd → used fd ≡ false) → cond b (first_without used (first + 1) many) (Some first) ≡ Some fd → used fd ≡ false
+    told true t more f = more f
+    told false t more f = ap used (sym (some_same first fd f)) ∙ t
+
+given_is : (o : Option ℕ) (fd : ℕ) → given o ≡ Ok fd → o ≡ Some fd
+given_is None fd e = cc
+given_is (Some n) fd e = ap (λ (k : ℕ). Some k) (same_ok n fd e)
+
+pub next_vacant : (table : Descriptors) (session fd : ℕ) → next_descriptor table session ≡ Ok fd → map.get table (session, fd) ≡ None
+next_vacant table session fd e = told (map.get table (session, fd)) (unused (λ n. is_some (map.get table (session, n))) 0 64 fd (given_is _ fd e))
+  where
+    told : (o : Option Descriptor) → is_some o ≡ false → o ≡ None
+    told None f = refl
+    told (Some d) f = absurd (true≢false f)
+
+-- ---- what a caller that was decided needs
+
+some_within : (sessions : List (Option Session)) (i : ℕ) → IsSomeAnd (slice_get sessions i) (λ s. is_some s ≡ true) → i < length sessions
+some_within [] i h = absurd h
+some_within (s ∷ sessions) zero h = omega arith
+some_within (s ∷ sessions) (suc i) h = omega (arith, some_within sessions i h)
+
+module _ (world : World) (session room : ℕ) (count : length world.sessions ≡ 64) where
+  seat_within : IsLoggedIn world session → session < 64
+  seat_within h = omega (arith, count, some_within world.sessions session h)
+
+  pub can_turn : (change : Pending) (caller : Caller) → FitsCaller version_1 world session change caller → HasRoom caller room → CanTurn world.descriptors room session caller
+  can_turn change Stays fits has = tt
+  can_turn change (LogsIn s) fits has = tt
+  can_turn change (SetsUmask mask) fits has = tt
+  can_turn change LogsOut fits has = tt
+  can_turn change (Opens fd home number flags) fits has = record { session_within = seat_within fits.0.caller; room_left = has refl; next = fits.0.next }
+  can_turn change (OpensNew fd flags) fits has = tt
+  can_turn change (Closes fd) fits has = tt
+  can_turn change (Moves fd offset) fits has = tt
+
+  -- the same with a new file's number
+  pub can_turn_filled : (change : Pending) (caller : Caller) (n : ℕ) → FitsCaller version_1 world session change caller → HasRoom caller room → CanTurn world.descriptors room session (filled n caller)
+  can_turn_filled change Stays n fits has = tt
+  can_turn_filled change (LogsIn s) n fits has = tt
+  can_turn_filled change (SetsUmask mask) n fits has = tt
+  can_turn_filled change LogsOut n fits has = tt
+  can_turn_filled change (Opens fd home number flags) n fits has = record { session_within = seat_within fits.0.caller; room_left = has refl; next = fits.0.next }
+  can_turn_filled change (OpensNew fd flags) n fits has = record { session_within = seat_within fits.0.caller; room_left = has refl; next = fits.0.next }
+  can_turn_filled change (Closes fd) n fits has = tt
+  can_turn_filled change (Moves fd offset) n fits has = tt
+
+-- ---- files that are left to nobody
+
+-- what may be dropped is a node's number
+pub abandoned_numbers : (world : World) → IsTree version_1 world.live → AreNumbers world
+abandoned_numbers world whole n e = let s = some_node _ File (abandoned_is world n e).file in (whole.nodes.nodes n s.0 s.1).first
+
+module _ (old new : World) (live : new.live ≡ old.live) where
+  same_abandoned : (n : ℕ) → is_held old n ≡ false → is_abandoned new n ≡ true → is_abandoned old n ≡ true
+  same_abandoned n left e =
+      let a = abandoned_is (record new { live = old.live }) n (ap (λ t. is_abandoned (record new { live = t }) n) (sym live) ∙ e) in
+      is_abandoned_at old n (record { file = a.file; nameless = a.nameless; left = left })
+
+  -- it was released, or lost its name
+  pub released_or_lost : (numbers : List ℕ) (lost : Option ℕ) → TellsReleased old new numbers → OnlyLost old lost → (n : ℕ) → is_abandoned new n ≡ true → (Contains numbers n → ⊥) → lost ≡ Some n
+  released_or_lost numbers lost tells only n e not_told = told (is_held old n) refl
+    where
+      told : (b : Bool) → is_held old n ≡ b → lost ≡ Some n
+      told true h = absurd (not_told (tells n h (abandoned_is new n e).left))
+      told false h = only n (same_abandoned n h e)
+
+-- what lost its name is looked at last
+pub none_more : (world : World) → OnlyLost world None → world ≡ dropped world
+none_more world only = sym (none_dropped version_1 world (λ n e. let never : None ≡ Some n = only n e in cc))
+
+pub one_more : (world : World) (number : ℕ) → OnlyLost world (Some number) → dropped_if world number ≡ dropped world
+one_more world number only =
+    sym (none_dropped version_1 (dropped_if world number) (λ n e.
+    let s = still_abandoned world number n e in
+    s.1 (sym (some_same number n (only n s.0)))))
+    ∙ dropped_once world number
+
+-- a close tells the file that its descriptor was the last of
+pub close_tells : (table new : Descriptors) (session fd : ℕ) (told : Option ℕ) → new ≡ closed table session fd → told ≡ released_if (closed table session fd) (map.get table (session, fd)) → (n : ℕ) → is_held_in table n ≡ true → is_held_in new n ≡ false → told ≡ Some n
+close_tells table new session fd told e is n held left =
+    is ∙ told_last table (session, fd) n (held, ap (λ (t : Descriptors). is_held_in t n) (sym e) ∙ left)
+
+-- a caller that has turned leaves the tree
+module _ (old new : World) (session : ℕ) (caller : Caller) (turned : new ≡ with_caller old session caller) where
+  live_after : new.live ≡ old.live
+  live_after = ap (λ (w : World). w.live) turned ∙ caller_live old session caller
+
+  pub turned_numbers : IsTree version_1 old.live → AreNumbers new
+  turned_numbers whole = abandoned_numbers new (subst (IsTree version_1) (sym live_after) whole)
+
+  -- once each that was released is looked at, only what lost its name is left
+  pub turned_lost : (mid : World) (numbers seen : List ℕ) (lost : Option ℕ) → seen ≡ numbers → TellsReleased old new numbers → OnlyLost old lost → ((n : ℕ) → is_abandoned mid n ≡ true → (is_abandoned new n ≡ true) × (Contains seen n → ⊥)) → OnlyLost mid lost
+  turned_lost mid numbers seen lost same tells only left n e =
+      let l = left n e in
+      released_or_lost old new live_after numbers lost tells only n l.0 (λ k. l.1 (subst (λ (xs : List ℕ). Contains xs n) (sym same) k))

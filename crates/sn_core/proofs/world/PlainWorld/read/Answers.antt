@@ -1,0 +1,17 @@
+use Rattle.std.proofs.Common.{◌≡◌, ℕ, zero, suc, List, [], take, drop, refl, sym, ap, ◌∙◌}
+use Rattle.sn_plain.specs.Plain.{tree_of}
+use Rattle.sn_core.proofs.ViewLemmas.{frozen_bytes}
+use Rattle.sn_core.proofs.world.PlainWorld.read.Goals as goal
+
+none_taken : (count : ℕ) → take {A = ℕ} count [] ≡ []
+none_taken zero = refl
+none_taken (suc count) = refl
+
+none_read : (count offset : ℕ) → take {A = ℕ} count (drop {A = ℕ} offset []) ≡ []
+none_read count zero = none_taken count
+none_read count (suc offset) = none_taken count
+
+pub returns-in-Frozen : goal.returns-in-Frozen
+returns-in-Frozen c =
+    c.new-in-Frozen.ensures.items
+    ∙ sym (ap (λ (bytes : List ℕ). take c.args.count (drop c.args.file.now.offset bytes)) (frozen_bytes (tree_of c.args.self.now.tree) c.args.file.now.number c.args.file.now.home _ c.in-Frozen.is) ∙ none_read c.args.count c.args.file.now.offset)

@@ -1,0 +1,135 @@
+//! What becomes of whoever called, and of files that nobody has and no name stands for.
+ghost use Rattle.std.specs.Prelude.{◌≡◌, ◌<◌, ◌≤◌, ℕ, true, Ok, Contains, OnOk, OnErr};
+ghost use Rattle.sn_desc.specs.InUse.{descriptor_of};
+ghost use Rattle.sn_limits.specs.Versions.{version_1};
+ghost use Rattle.sn_model.specs.Descriptors.{next_descriptor, opened};
+ghost use Rattle.sn_model.specs.NameTree.{IsTree};
+ghost use Rattle.sn_model.specs.Outcomes.{is_opening};
+ghost use Rattle.sn_model.specs.Settling.{OnlyLost, dropped, dropped_if, is_abandoned};
+ghost use Rattle.sn_model.specs.Steps.{with_caller, with_descriptors};
+ghost use Rattle.sn_core.specs.Called.{AreNumbers, CanTurn, HasRoom, TellsReleased};
+
+use crate::PlainWorld;
+use sn_desc::{OpenFile, Released};
+use sn_model::Caller;
+use std::alloc::AllocError;
+
+impl PlainWorld {
+    ghost use Rattle.sn_core.specs.Plain.{room_of, world_of};
+
+    /// Makes room for the file that a caller opens, if it opens one. Where memory is refused nothing
+    /// changes.
+    pub fn prepare(&mut self, caller: &Caller) -> Result<(), AllocError>
+        ensures world { world_of self.new ≡ world_of self.old }
+        ensures room { OnOk result (HasRoom caller.now (room_of self.new)) }
+        ensures opening { OnErr result (is_opening caller.now ≡ true) }
+    {
+        match caller {
+            Caller::Opens { .. } | Caller::OpensNew { .. } => self.sessions.reserve(),
+            _ => Ok(()),
+        }
+    }
+
+    /// Opens a file under the session's next descriptor.
+    fn open(&mut self, session: u32, file: OpenFile)
+        requires session { session < 64 }
+        requires room { 0 < room_of self.old }
+        ensures { (fd : ℕ) → next_descriptor (world_of self.old).descriptors session ≡ Ok fd → world_of self.new ≡ with_descriptors (world_of self.old) (opened (world_of self.old).descriptors session fd (descriptor_of file)) }
+    {
+        match self.sessions.open(session, file) {
+            Ok(_) => {}
+            // The session had its next descriptor when the call was decided.
+            Err(_) => {}
+        }
+    }
+
+    /// Closes a descriptor, and tells the live file that no descriptor has any more.
+    fn close(&mut self, session: u32, fd: u32) -> Released
+        ensures world { world_of self.new ≡ with_caller (world_of self.old) session (Caller.Closes fd) }
+        ensures released { TellsReleased (world_of self.old) (world_of self.new) result.items }
+    {
+        let mut released = Released::new();
+        if let Some(number) = self.sessions.close_if_open(session, fd) {
+            released.push(number);
+        }
+        released
+    }
+
+    /// Sets what becomes of a caller's session and its descriptors, and tells the live files that no
+    /// descriptor has any more.
+    fn turn(&mut self, session: u32, caller: Caller) -> Released
+        requires opens { CanTurn (world_of self.old).descriptors (room_of self.old) session caller }
+        ensures world { world_of self.new ≡ with_caller (world_of self.old) session caller }
+        ensures released { TellsReleased (world_of self.old) (world_of self.new) result.items }
+    {
+        match caller {
+            Caller::Stays | Caller::OpensNew { .. } => {}
+            Caller::LogsIn(new) => self.sessions.login(session, new),
+            Caller::SetsUmask(mask) => self.sessions.set_umask(session, mask),
+            Caller::LogsOut => return self.sessions.logout(session),
+            Caller::Opens {
+                fd: _,
+                home,
+                number,
+                flags,
+            } => self.open(
+                session,
+                OpenFile {
+                    home,
+                    number,
+                    readable: flags.read,
+                    writable: flags.write,
+                    appends: flags.append,
+                    offset: 0,
+                },
+            ),
+            Caller::Closes { fd } => return self.close(session, fd),
+            Caller::Moves { fd, offset } => self.sessions.set_offset(session, fd, offset),
+        }
+        Released::new()
+    }
+
+    /// Whether a number is that of a live file that no name stands for and nobody has open.
+    fn is_abandoned(&self, number: u16) -> bool
+        ensures { result ≡ is_abandoned (world_of self.now) number }
+    {
+        self.tree.is_nameless(number) && !self.sessions.is_held(number)
+    }
+
+    /// Takes a live file away, if no name stands for it and nobody has it open.
+    fn drop_if_abandoned(&mut self, number: u16)
+        requires { AreNumbers (world_of self.old) }
+        ensures { world_of self.new ≡ dropped_if (world_of self.old) number }
+    {
+        if self.is_abandoned(number) {
+            self.tree.drop_file(number);
+        }
+    }
+
+    /// The same for each of these.
+    fn drop_each(&mut self, numbers: &[u16])
+        requires { AreNumbers (world_of self.old) }
+        ensures world { dropped (world_of self.new) ≡ dropped (world_of self.old) }
+        ensures left { (number : ℕ) → is_abandoned (world_of self.new) number ≡ true → (is_abandoned (world_of self.old) number ≡ true) × (Contains numbers.now number → ⊥) }
+    {
+        for number in numbers {
+            self.drop_if_abandoned(*number);
+        }
+    }
+
+    /// Sets what becomes of a caller's session and its descriptors. A live file that no name stands for
+    /// goes where nobody has it open any more: one that lost its last descriptor, or its name by the
+    /// change that was made. Only those are looked at.
+    pub fn set_caller(&mut self, session: u32, caller: Caller, lost: Option<u16>)
+        requires whole { IsTree version_1 (world_of self.old).live }
+        requires opens { CanTurn (world_of self.old).descriptors (room_of self.old) session caller }
+        requires lost { OnlyLost (world_of self.old) lost }
+        ensures { world_of self.new ≡ dropped (with_caller (world_of self.old) session caller) }
+    {
+        let released = self.turn(session, caller);
+        self.drop_each(released.as_slice());
+        if let Some(number) = lost {
+            self.drop_if_abandoned(number);
+        }
+    }
+}

@@ -1,0 +1,96 @@
+//! Which number a new node gets, and which number a change takes a name of.
+ghost use Rattle.std.specs.Prelude.{◌≡◌};
+ghost use Rattle.sn_model.specs.Settling.{loses};
+ghost use Rattle.sn_model.specs.Steps.{filled};
+ghost use Rattle.sn_core.specs.Served.{Chooses, HasNumber};
+
+use crate::PlainWorld;
+use sn_limits::Limits;
+use sn_model::{Caller, Change, Pending};
+use sn_walk::Home;
+
+/// What a call comes to, with the number of a new node.
+#[derive(Drop)]
+pub struct Chosen<'a> {
+    /// The change that is to be made, if one is.
+    pub change: Option<Change<'a>>,
+    /// What becomes of the caller once the change is made.
+    pub caller: Caller,
+    /// The number that the change takes a name of, if it takes one: its file may have no other.
+    pub lost: Option<u16>,
+}
+
+/// A caller who opens what is made gets the new node's number.
+fn with_number(caller: Caller, number: u16) -> Caller
+    ensures { result ≡ filled number caller }
+{
+    match caller {
+        Caller::OpensNew { fd, flags } => Caller::Opens {
+            fd,
+            home: Home::Live,
+            number,
+            flags,
+        },
+        other => other,
+    }
+}
+
+impl PlainWorld {
+    ghost use Rattle.sn_core.specs.Plain.{world_of};
+
+    /// The number that a change takes a name of: a file may be left without one.
+    fn loses(&self, change: &Change<'_>) -> Option<u16>
+        ensures { result ≡ loses change.now (world_of self.now).live }
+    {
+        match change {
+            Change::Remove { directory, name } => self.link(*directory, name.as_slice()),
+            Change::Rename {
+                new_directory,
+                new_name,
+                ..
+            } => self.link(*new_directory, new_name.as_slice()),
+            _ => None,
+        }
+    }
+
+    /// What was pending, with the least number that no node has for a new node. There has to be one.
+    pub fn choose<'a>(&self, pending: Pending<'a>, caller: Caller) -> Chosen<'a>
+        requires { HasNumber (world_of self.now).live pending }
+        ensures { Chooses (world_of self.now).live pending.entry caller result }
+    {
+        match pending {
+            Pending::Nothing => Chosen {
+                change: None,
+                caller,
+                lost: None,
+            },
+            Pending::Makes {
+                directory,
+                name,
+                kind,
+                ownership,
+            } => match self.least_unused(&Limits::VERSION_1) {
+                Some(number) => Chosen {
+                    change: Some(Change::Make {
+                        directory,
+                        name,
+                        number,
+                        kind,
+                        ownership,
+                    }),
+                    caller: with_number(caller, number),
+                    lost: None,
+                },
+                None => unreachable!(),
+            },
+            Pending::Does(change) => {
+                let lost = self.loses(&change);
+                Chosen {
+                    change: Some(change),
+                    caller,
+                    lost,
+                }
+            }
+        }
+    }
+}

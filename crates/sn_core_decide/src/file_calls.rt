@@ -1,0 +1,250 @@
+//! The calls on files by their names.
+ghost use Rattle.std.specs.Prelude.{◌≡◌, IsTrue};
+ghost use Rattle.sn_model.specs.FileCalls as calls;
+ghost use Rattle.sn_model.specs.Calls.{last_name};
+ghost use Rattle.sn_walk.specs.Gives.{Answers, Gives, IfFault};
+ghost use Rattle.sn_core_decide.specs.Views.{seen_by};
+
+use crate::checks::{granted, live, live_if, parent_of, prefix, sticky, writable_parent};
+use crate::view::CallView;
+use sn_acl::{Acl, Inherited, Mode, inherit};
+use sn_limits::{Kind, Limits};
+use sn_model::{
+    Access, Bytes, Caller, Change, Errno, OpenFlags, Outcome, Ownership, PathNumber, Pending,
+    Refusal, Reply, Session,
+};
+use sn_walk::{Attributes, Failure, Found, Home, Object, Path, TreeView, reached};
+
+/// What is there isn't to be created: EEXIST otherwise.
+fn not_exclusive(flags: OpenFlags) -> Result<(), Refusal>
+    ensures { result ≡ calls.not_exclusive flags }
+{
+    if flags.exclusive {
+        return Err(Refusal::plain(Errno::Eexist));
+    }
+    Ok(())
+}
+
+/// What isn't there is to be created: ENOENT otherwise.
+fn creating(flags: OpenFlags) -> Result<(), Refusal>
+    ensures { result ≡ calls.creating flags }
+{
+    if !flags.create {
+        return Err(Refusal::plain(Errno::Enoent));
+    }
+    Ok(())
+}
+
+/// Only a file is opened: EISDIR for a directory.
+fn file(found: &Found) -> Result<(Home, u16), Refusal>
+    ensures { result ≡ calls.file found.now }
+{
+    match (&found.object, found.attributes.kind) {
+        (Object::Node { home, number }, Kind::File) => Ok((home.copy(), *number)),
+        _ => Err(Refusal::plain(Errno::Eisdir)),
+    }
+}
+
+/// Only a file's name is unlinked: EPERM for a directory.
+pub(crate) fn no_directory(found: &Found) -> Result<(), Refusal>
+    ensures { result ≡ calls.no_directory found.now }
+{
+    match found.attributes.kind {
+        Kind::Directory => Err(Refusal::plain(Errno::Eperm)),
+        Kind::File => Ok(()),
+    }
+}
+
+/// What the opening of a file that is there comes to.
+fn opens_there(
+    limits: &Limits,
+    flags: OpenFlags,
+    fd: u32,
+    home: Home,
+    number: u16,
+) -> Outcome<'static>
+    ensures { result ≡ calls.opens_there limits.now flags fd home number }
+{
+    let caller = Caller::Opens {
+        fd,
+        home,
+        number,
+        flags,
+    };
+    let told = Reply::Number(u64::from(fd));
+    if flags.truncate {
+        return Outcome {
+            charge: u64::from(limits.inode_charge) + u64::from(limits.block_charge),
+            change: Pending::Does(Change::SetSize { number, size: 0 }),
+            caller,
+            told,
+        };
+    }
+    Outcome {
+        charge: 0,
+        change: Pending::Nothing,
+        caller,
+        told,
+    }
+}
+
+/// What open comes to where the name is there.
+#[tactic(auto, unfolding(sn_model::specs::FileCalls::open_there))]
+fn open_there(
+    limits: &Limits,
+    caller: &Session,
+    fd: u32,
+    flags: OpenFlags,
+    found: &Found,
+) -> Result<Outcome<'static>, Refusal>
+    ensures { Answers (λ o. o) result (calls.open_there limits.now caller.now fd flags found.now) }
+{
+    not_exclusive(flags)?;
+    let (home, number) = file(found)?;
+    live_if(flags.write, &found.object)?;
+    let want = Access {
+        read: flags.read,
+        write: flags.write,
+        execute: false,
+    };
+    granted(
+        &caller.cred,
+        PathNumber::FIRST,
+        found.place,
+        want,
+        &found.attributes,
+    )?;
+    Ok(opens_there(limits, flags, fd, home, number))
+}
+
+/// What a file is given that a session makes in a directory.
+fn new_file(
+    caller: &Session,
+    mode: Mode,
+    parent: &Attributes,
+    default_acl: Option<Acl>,
+) -> Ownership
+    ensures { result ≡ calls.new_file caller.now mode parent.now default_acl }
+{
+    let Inherited { access, default } = inherit(default_acl.as_ref(), mode, caller.umask, false);
+    Ownership {
+        owner: caller.cred.uid(),
+        group: if parent.set_gid {
+            parent.group
+        } else {
+            caller.cred.gid()
+        },
+        set_gid: false,
+        sticky: false,
+        acl: access,
+        default_acl: default,
+    }
+}
+
+/// What open comes to where the name isn't there, in the directory that was walked to.
+fn open_in<'a, V: CallView>(
+    limits: &Limits,
+    view: &mut V,
+    caller: &Session,
+    fd: u32,
+    flags: OpenFlags,
+    mode: Mode,
+    path: &Path<'a>,
+    parent: &Object,
+    place: u16,
+) -> Result<Outcome<'a>, Failure<Refusal, V::Fault>>
+    requires { V.holds view.old }
+    ensures kept { V.holds view.new }
+    ensures follows { V.follows view.old view.new }
+    ensures same { IsTrue V.is_told → V.shows view.new ≡ V.shows view.old }
+    ensures exact { IsTrue V.is_told → Gives (λ o. o) result (calls.open_in limits.now (seen_by (V.shows view.old) (V.room view.old) (V.names view.old)) caller.now fd flags mode path.now parent.now place) }
+    ensures cause { IfFault result (λ f. V.causes view.old view.new f) }
+{
+    let directory = live(parent)?;
+    let attributes = writable_parent(view, &caller.cred, PathNumber::FIRST, place, parent)?;
+    view.has_room(directory)?;
+    let default_acl = match view.default_acl(&Home::Live, directory) {
+        Ok(acl) => acl,
+        Err(fault) => return Err(Failure::Fault(fault)),
+    };
+    Ok(Outcome {
+        charge: 2 * u64::from(limits.inode_charge) + u64::from(limits.block_charge),
+        change: Pending::Makes {
+            directory,
+            name: Bytes::new(path.last().unwrap_or(b"")),
+            kind: Kind::File,
+            ownership: new_file(caller, mode, &attributes, default_acl),
+        },
+        caller: Caller::OpensNew { fd, flags },
+        told: Reply::Number(u64::from(fd)),
+    })
+}
+
+/// What open comes to, under the descriptor that it answers.
+#[tactic(auto, unfolding(sn_model::specs::FileCalls::open_absent))]
+pub fn open<'a, V: CallView>(
+    limits: &Limits,
+    view: &mut V,
+    caller: &Session,
+    fd: u32,
+    path: &Path<'a>,
+    flags: OpenFlags,
+    mode: Mode,
+) -> Result<Outcome<'a>, Failure<Refusal, V::Fault>>
+    requires { V.holds view.old }
+    ensures kept { V.holds view.new }
+    ensures follows { V.follows view.old view.new }
+    ensures same { IsTrue V.is_told → V.shows view.new ≡ V.shows view.old }
+    ensures exact { IsTrue V.is_told → Gives (λ o. o) result (calls.open_as limits.now (seen_by (V.shows view.old) (V.room view.old) (V.names view.old)) caller.now fd path.now flags mode) }
+    ensures cause { IfFault result (λ f. V.causes view.old view.new f) }
+{
+    let walked = prefix(view, &caller.cred, PathNumber::FIRST, path)?;
+    let parent = parent_of(Errno::Enoent, &walked);
+    match reached(view, walked) {
+        Ok(Some(found)) => Ok(open_there(limits, caller, fd, flags, &found)?),
+        Ok(None) => {
+            creating(flags)?;
+            let (parent, place) = parent?;
+            open_in(limits, view, caller, fd, flags, mode, path, &parent, place)
+        }
+        Err(fault) => Err(Failure::Fault(fault)),
+    }
+}
+
+/// What unlink comes to: a name of a file goes.
+#[tactic(auto, unfolding(sn_model::specs::FileCalls::unlink_outcome))]
+pub fn unlink<'a, V: TreeView>(
+    limits: &Limits,
+    view: &mut V,
+    caller: &Session,
+    path: &Path<'a>,
+) -> Result<Outcome<'a>, Failure<Refusal, V::Fault>>
+    requires { V.holds view.old }
+    ensures kept { V.holds view.new }
+    ensures follows { V.follows view.old view.new }
+    ensures same { IsTrue V.is_told → V.shows view.new ≡ V.shows view.old }
+    ensures exact { IsTrue V.is_told → Gives (λ o. o) result (calls.unlink_outcome limits.now (V.shows view.old) caller.now path.now) }
+    ensures cause { IfFault result (λ f. V.causes view.old view.new f) }
+{
+    let walked = prefix(view, &caller.cred, PathNumber::FIRST, path)?;
+    let parent = parent_of(Errno::Eperm, &walked);
+    let found = match reached(view, walked) {
+        Ok(Some(found)) => found,
+        Ok(None) => return Err(Failure::Refused(Refusal::plain(Errno::Enoent))),
+        Err(fault) => return Err(Failure::Fault(fault)),
+    };
+    no_directory(&found)?;
+    live(&found.object)?;
+    let (parent, place) = parent?;
+    let attributes = writable_parent(view, &caller.cred, PathNumber::FIRST, place, &parent)?;
+    sticky(&caller.cred, PathNumber::FIRST, &attributes, &found)?;
+    Ok(Outcome {
+        charge: 3 * u64::from(limits.inode_charge) + u64::from(limits.block_charge),
+        change: Pending::Does(Change::Remove {
+            directory: parent.number(),
+            name: Bytes::new(path.last().unwrap_or(b"")),
+        }),
+        caller: Caller::Stays,
+        told: Reply::Done,
+    })
+}

@@ -1,0 +1,9 @@
+mod BlockLemmas
+mod ChangeLemmas
+mod FillLemmas
+mod NameLemmas
+mod PartLemmas
+mod PassLemmas
+mod PlannedLemmas
+mod ThroughLemmas
+mod WayLemmas

@@ -1,0 +1,40 @@
+-- Names that are to change, and what the directory has then.
+use Rattle.std.specs.Prelude.{◌≡◌, ◌≢◌, ℕ, ◌≤◌, List, [], ◌∷◌, Some, None, IfSome, Option, All, Contains, count_by}
+use Rattle.std.specs.Str.{bytes_eq}
+use Rattle.sn_layout_node.specs.Directory.{Link, IsLink, number_of}
+use Rattle.sn_dir_change.specs.declared.name_change.NameChange.{NameChange}
+
+-- how often a name stands among links
+abbrev pub times_named : List ℕ → List Link → ℕ
+times_named name links = count_by (λ (l : Link). bytes_eq l.name name) links
+
+-- no name stands twice
+abbrev pub AreOnce : List Link → Type 0
+AreOnce links = (name : List ℕ) → times_named name links ≤ 1
+
+-- a name and the number that is to stand under it, if one is
+abbrev pub numbered : List ℕ → Option ℕ → List Link
+numbered name None = []
+numbered name (Some number) = record { number = number; name = name } ∷ []
+
+-- the link that is to be there after a change, if one is
+abbrev pub link_for : NameChange → List Link
+link_for change = numbered change.name.now change.number
+
+-- what is to be there is a link
+abbrev pub IsChange : NameChange → Type 0
+IsChange change = IfSome change.number (λ number. IsLink (record { number = number; name = change.name.now }))
+
+abbrev pub AreLinkChanges : List NameChange → Type 0
+AreLinkChanges changes = (change : NameChange) → Contains changes change → IsChange change
+
+-- Changes of different names.
+pub record AreChanges (changes : List NameChange) : Type 0 where
+  pub each : AreLinkChanges changes
+  pub once : (name : List ℕ) → count_by (λ (change : NameChange). bytes_eq change.name.now name) changes ≤ 1
+
+-- The directory as a finite map from name to number: the names that were to change stand for what they were to, or not at all, the others for what they stood for, and none stands twice.
+pub record IsChanged (changes : List NameChange) (old new : List Link) : Type 0 where
+  pub made : All (λ (change : NameChange). number_of change.name.now new ≡ change.number) changes
+  pub others : (name : List ℕ) → All (λ (change : NameChange). change.name.now ≢ name) changes → number_of name new ≡ number_of name old
+  pub once : AreOnce new

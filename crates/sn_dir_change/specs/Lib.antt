@@ -1,0 +1,4 @@
+pub mod Changes
+pub mod Planned
+pub mod UnderWay
+pub mod Through

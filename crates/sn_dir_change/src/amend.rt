@@ -1,0 +1,40 @@
+//! The names of one block.
+ghost use Rattle.std.specs.Prelude.{◌≡◌, ◌++◌, false, IsTrue, is_some};
+ghost use Rattle.sn_layout_node.specs.Directory.{AreLinks, IsDirectoryBlock, number_of, without};
+ghost use Rattle.sn_image.specs.Names.{names_in};
+ghost use Rattle.sn_dir_change.specs.Changes.{IsChange, link_for};
+
+use crate::NameChange;
+use sn_layout::Block;
+use sn_layout_node::DirectoryBlock;
+
+// Takes a name out of a block, or sets it in its place. `false` where the block doesn't have it.
+pub(crate) fn amend(block: &mut Block, change: &NameChange<'_>) -> bool
+    requires block { IsDirectoryBlock block.old }
+    requires change { IsChange change.now }
+    ensures stood { result ≡ is_some (number_of change.now.name.now (names_in block.old)) }
+    ensures amended { IsTrue result → names_in block.new
+        ≡ without change.now.name.now (names_in block.old) ++ link_for change.now }
+    ensures none { result ≡ false → block.new ≡ block.old }
+    ensures still { IsDirectoryBlock block.new }
+{
+    if DirectoryBlock::remove(block, change.name).is_none() {
+        return false;
+    }
+    put(block, change)
+}
+
+// Puts a name behind the others of a block. `false` where there is no room for it.
+pub(crate) fn put(block: &mut Block, change: &NameChange<'_>) -> bool
+    requires block { IsDirectoryBlock block.old }
+    requires change { IsChange change.now }
+    ensures put { IsTrue result → names_in block.new ≡ names_in block.old ++ link_for change.now }
+    ensures full { result ≡ false → AreLinks (names_in block.old ++ link_for change.now) → ⊥ }
+    ensures none { result ≡ false → block.new ≡ block.old }
+    ensures still { IsDirectoryBlock block.new }
+{
+    match change.number {
+        Some(number) => DirectoryBlock::insert(block, change.name, number),
+        None => true,
+    }
+}

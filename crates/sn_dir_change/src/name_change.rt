@@ -1,0 +1,51 @@
+//! A name of a directory that is to change.
+ghost use Rattle.std.specs.Prelude.{◌≢◌, ◌↔◌, All, IsTrue};
+ghost use Rattle.sn_dir_change.specs.Changes.{AreChanges, IsChange};
+ghost use Rattle.sn_dir_change.specs.declared.name_change.NameChange.{NameChange as TheChange};
+
+use sn_limits::is_name;
+
+/// What is to become of a name.
+#[derive(Clone, Copy)]
+pub struct NameChange<'a> {
+    pub name: &'a [u8],
+    /// The number that is to stand under it, from 2 on. With `None` the name is taken out.
+    pub number: Option<u16>,
+}
+
+// Whether what is to stand is a link. A name that is to go may be any bytes.
+fn is_change(change: &NameChange<'_>) -> bool
+    ensures { IsTrue result ↔ IsChange change.now }
+{
+    match change.number {
+        Some(number) => number >= 2 && is_name(change.name),
+        None => true,
+    }
+}
+
+// Whether none of these is of a name.
+fn is_new(earlier: &[NameChange<'_>], name: &[u8]) -> bool
+    ensures { IsTrue result ↔ All (λ (change : TheChange). change.name.now ≢ name.now) earlier.now }
+{
+    for change in earlier {
+        if change.name == name {
+            return false;
+        }
+    }
+    true
+}
+
+/// Whether these are changes of different names, to numbers and names that a directory can have.
+pub fn are_changes(changes: &[NameChange<'_>]) -> bool
+    ensures { IsTrue result ↔ AreChanges changes.now }
+{
+    for i in 0..changes.len() {
+        if !is_change(&changes[i]) {
+            return false;
+        }
+        if !is_new(&changes[..i], changes[i].name) {
+            return false;
+        }
+    }
+    true
+}

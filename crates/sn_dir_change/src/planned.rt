@@ -1,0 +1,137 @@
+//! A directory with other names.
+ghost use Rattle.std.specs.Prelude.{◌≡◌, ◌+◌, ◌*◌, [], ◌∷◌, ⊤, Some, None, Err, length, IsTrue, IfOk};
+ghost use Rattle.sn_device.specs.Disk.{reads};
+ghost use Rattle.sn_block.specs.Lending.{device_of};
+ghost use Rattle.sn_layout.specs.Pointers.{levels_of};
+ghost use Rattle.sn_layout_node.specs.Directory.{IsLink};
+ghost use Rattle.sn_ondisk.specs.Trees.{store_of};
+ghost use Rattle.sn_tree.specs.Steps.{IsTooFull, CountsPlan};
+ghost use Rattle.sn_tree.specs.declared.fault.PlanFault.TheVariants.{Tree};
+ghost use Rattle.sn_tree_read.specs.Counts.{CountsTree};
+ghost use Rattle.sn_tree_read.specs.declared.fault.TreeFault.TheVariants.{Damaged};
+ghost use Rattle.sn_dir.specs.Blocks.{IsDamaged};
+ghost use Rattle.sn_dir_change.specs.Changes.{AreChanges};
+ghost use Rattle.sn_dir_change.specs.Planned.{HasRoom, IsDirectoryPlanned, CannotRead};
+ghost use Rattle.sn_dir_change.specs.Through.{IsWanted};
+
+use crate::NameChange;
+use crate::fill::fill_blocks;
+use crate::pending::parted;
+use crate::through::pass_blocks;
+use sn_block::{BLOCK_SIZE, Blocks};
+use sn_device::Device;
+use sn_dir::block_count;
+use sn_layout::BlockTree;
+use sn_tree::{Build, Dirty, PlanFault, plan_tree};
+use sn_tree_read::TreeFault;
+use std::alloc::Global;
+
+// What the tree is to become: its changed blocks, and those behind the old ones.
+fn wanted<D: Device>(
+    alloc: Global,
+    blocks: &mut Blocks<D>,
+    tree: &BlockTree,
+    changes: &[NameChange<'_>],
+) -> Result<Dirty, TreeFault>
+    requires changes { AreChanges changes.now }
+    requires room { HasRoom tree.now (length changes.now) }
+    ensures wanted { IfOk result (λ dirty. IsWanted (IsTrue D.tells_bytes)
+        (store_of (reads (D.disk (device_of blocks.old)))) tree.now changes.now
+        dirty.size dirty.keep dirty.blocks.items) }
+    ensures damaged { IsTrue D.tells_bytes → result ≡ Err Damaged
+        → IsDamaged (λ names. ⊤) (D.status (device_of blocks.old)).sectors
+        (store_of (reads (D.disk (device_of blocks.old)))) tree.now }
+    ensures same { IsTrue D.tells_bytes → D.disk (device_of blocks.new) ≡ D.disk (device_of blocks.old) }
+    ensures counts { CountsTree result (D.status (device_of blocks.old)) (D.status (device_of blocks.new)) }
+{
+    let mut pending = parted(alloc, blocks, tree, changes)?;
+    let mut dirty = pass_blocks(alloc, blocks, tree, &mut pending)?;
+    let keep = block_count(tree);
+    let count = fill_blocks(alloc, keep, &mut pending.waiting, &mut dirty)?;
+    Ok(Dirty {
+        size: count * BLOCK_SIZE as u64,
+        keep,
+        blocks: dirty,
+    })
+}
+
+/// Plans a directory in which names were set and taken out, each name at most once in the list. A name
+/// that stands is set in its place; one that doesn't is put into a block with room, or into a new block
+/// behind the others where there is none. No block is given back, and at most one changes for each name.
+/// To take out a name that isn't there changes nothing.
+///
+/// After an error the build can only be given up. `Full` comes only where fewer blocks are left than a
+/// path for each name and one more, and `Damaged` only where a block of the directory can't be read or one
+/// that its tree reaches isn't on the device. Memory is taken for the lists, for changed blocks, and for
+/// blocks that aren't kept.
+pub fn change<D: Device>(
+    alloc: Global,
+    build: &mut Build,
+    blocks: &mut Blocks<D>,
+    tree: &BlockTree,
+    changes: &[NameChange<'_>],
+) -> Result<BlockTree, PlanFault>
+    requires changes { AreChanges changes.now }
+    requires room { HasRoom tree.now (length changes.now) }
+    ensures planned { IfOk result (λ new. IsDirectoryPlanned (IsTrue D.tells_bytes)
+        (store_of (reads (D.disk (device_of blocks.old)))) tree.now new changes.now build.old build.new) }
+    ensures full { IsTooFull result build.old
+        ((levels_of (tree.now.size + 4096 * length changes.now) + 1) * (length changes.now + 1)) }
+    ensures damaged { IsTrue D.tells_bytes → result ≡ Err (Tree Damaged)
+        → CannotRead (D.status (device_of blocks.old)).sectors
+        (store_of (reads (D.disk (device_of blocks.old)))) tree.now }
+    ensures same { IsTrue D.tells_bytes → D.disk (device_of blocks.new) ≡ D.disk (device_of blocks.old) }
+    ensures counts { CountsPlan result (D.status (device_of blocks.old)) (D.status (device_of blocks.new)) }
+{
+    let dirty = wanted(alloc, blocks, tree, changes)?;
+    plan_tree(build, blocks, tree, dirty)
+}
+
+/// Plans a directory in which a name stands for a number, whether it did for another or not: `change`
+/// of one name.
+pub fn insert<D: Device>(
+    alloc: Global,
+    build: &mut Build,
+    blocks: &mut Blocks<D>,
+    tree: &BlockTree,
+    name: &[u8],
+    number: u16,
+) -> Result<BlockTree, PlanFault>
+    requires link { IsLink (record { number = number; name = name.now }) }
+    requires room { HasRoom tree.now 1 }
+    ensures planned { IfOk result (λ new. IsDirectoryPlanned (IsTrue D.tells_bytes)
+        (store_of (reads (D.disk (device_of blocks.old)))) tree.now new
+        (record { name = name.entry; number = Some number } ∷ []) build.old build.new) }
+    ensures full { IsTooFull result build.old ((levels_of (tree.now.size + 4096) + 1) * 2) }
+    ensures damaged { IsTrue D.tells_bytes → result ≡ Err (Tree Damaged)
+        → CannotRead (D.status (device_of blocks.old)).sectors
+        (store_of (reads (D.disk (device_of blocks.old)))) tree.now }
+    ensures same { IsTrue D.tells_bytes → D.disk (device_of blocks.new) ≡ D.disk (device_of blocks.old) }
+    ensures counts { CountsPlan result (D.status (device_of blocks.old)) (D.status (device_of blocks.new)) }
+{
+    let number = Some(number);
+    change(alloc, build, blocks, tree, &[NameChange { name, number }])
+}
+
+/// Plans a directory without a name, whether it stands there or not: `change` of one name.
+pub fn remove<D: Device>(
+    alloc: Global,
+    build: &mut Build,
+    blocks: &mut Blocks<D>,
+    tree: &BlockTree,
+    name: &[u8],
+) -> Result<BlockTree, PlanFault>
+    requires { HasRoom tree.now 1 }
+    ensures planned { IfOk result (λ new. IsDirectoryPlanned (IsTrue D.tells_bytes)
+        (store_of (reads (D.disk (device_of blocks.old)))) tree.now new
+        (record { name = name.entry; number = None } ∷ []) build.old build.new) }
+    ensures full { IsTooFull result build.old ((levels_of (tree.now.size + 4096) + 1) * 2) }
+    ensures damaged { IsTrue D.tells_bytes → result ≡ Err (Tree Damaged)
+        → CannotRead (D.status (device_of blocks.old)).sectors
+        (store_of (reads (D.disk (device_of blocks.old)))) tree.now }
+    ensures same { IsTrue D.tells_bytes → D.disk (device_of blocks.new) ≡ D.disk (device_of blocks.old) }
+    ensures counts { CountsPlan result (D.status (device_of blocks.old)) (D.status (device_of blocks.new)) }
+{
+    let number = None;
+    change(alloc, build, blocks, tree, &[NameChange { name, number }])
+}

@@ -1,0 +1,102 @@
+//! Going through the blocks of a directory.
+ghost use Rattle.std.specs.Prelude.{◌≡◌, ◌+◌, ◌/◌, ◌<◌, List, [], ⊤, Err, IsTrue, IfOk, OnOk};
+ghost use Rattle.sn_device.specs.Disk.{reads};
+ghost use Rattle.sn_block.specs.Lending.{device_of};
+ghost use Rattle.sn_ondisk.specs.Trees.{store_of};
+ghost use Rattle.sn_tree_read.specs.Counts.{CountsTree};
+ghost use Rattle.sn_tree_read.specs.declared.fault.TreeFault.TheVariants.{Damaged};
+ghost use Rattle.sn_dir.specs.Blocks.{CanRead, IsDamaged};
+ghost use Rattle.sn_dir_change.specs.Changes.{AreLinkChanges};
+ghost use Rattle.sn_dir_change.specs.Through.{IsPushed, IsThrough};
+ghost use Rattle.sn_dir_change.specs.declared.name_change.NameChange.{NameChange as TheChange};
+
+use crate::pass::change_names;
+use crate::pending::Pending;
+use sn_block::Blocks;
+use sn_device::Device;
+use sn_dir::{block_count, decoded, fetch_block};
+use sn_layout::{Block, BlockTree};
+use sn_tree::DirtyBlock;
+use sn_tree_read::TreeFault;
+use std::alloc::{AllocError, Global};
+use std::collections::VecDeque;
+
+// Puts a changed block behind the others.
+pub(crate) fn push_dirty(
+    alloc: Global,
+    dirty: &mut VecDeque<DirtyBlock>,
+    index: u64,
+    bytes: Block,
+) -> Result<(), AllocError>
+    ensures { OnOk result (IsPushed index bytes dirty.old.items dirty.new.items) }
+{
+    let bytes = Box::new(alloc, bytes)?;
+    dirty.push_back(DirtyBlock { index, bytes })?;
+    Ok(())
+}
+
+// Makes the changes of the names of one block, if there are any left.
+fn pass_block<D: Device>(
+    alloc: Global,
+    blocks: &mut Blocks<D>,
+    tree: &BlockTree,
+    i: u64,
+    pending: &mut Pending<'_>,
+    dirty: &mut VecDeque<DirtyBlock>,
+) -> Result<(), TreeFault>
+    requires index { i < tree.now.size / 4096 }
+    requires standing { AreLinkChanges pending.old.standing.items }
+    requires waiting { AreLinkChanges pending.old.waiting.items }
+    ensures through { (changes : List TheChange)
+        → IsThrough (IsTrue D.tells_bytes) (store_of (reads (D.disk (device_of blocks.old)))) tree.now changes
+        i dirty.old.items pending.old.standing.items pending.old.waiting.items
+        → OnOk result (IsThrough (IsTrue D.tells_bytes) (store_of (reads (D.disk (device_of blocks.old)))) tree.now changes
+        (i + 1) dirty.new.items pending.new.standing.items pending.new.waiting.items) }
+    ensures standing { AreLinkChanges pending.new.standing.items }
+    ensures waiting { AreLinkChanges pending.new.waiting.items }
+    ensures damaged { IsTrue D.tells_bytes → result ≡ Err Damaged
+        → CanRead (D.status (device_of blocks.old)).sectors
+        (store_of (reads (D.disk (device_of blocks.old)))) tree.now i → ⊥ }
+    ensures same { IsTrue D.tells_bytes → D.disk (device_of blocks.new) ≡ D.disk (device_of blocks.old) }
+    ensures counts { CountsTree result (D.status (device_of blocks.old)) (D.status (device_of blocks.new)) }
+{
+    if pending.is_empty() {
+        return Ok(());
+    }
+    fetch_block(blocks, tree, i)?;
+    decoded(blocks.fetched())?;
+    let mut bytes = *blocks.fetched();
+    if change_names(&mut bytes, pending) {
+        push_dirty(alloc, dirty, i, bytes)?;
+    }
+    Ok(())
+}
+
+/// Makes the changes of names that stand, and puts those that don't where there is room. Answers the
+/// changed blocks.
+pub(crate) fn pass_blocks<D: Device>(
+    alloc: Global,
+    blocks: &mut Blocks<D>,
+    tree: &BlockTree,
+    pending: &mut Pending<'_>,
+) -> Result<VecDeque<DirtyBlock>, TreeFault>
+    requires standing { AreLinkChanges pending.old.standing.items }
+    requires waiting { AreLinkChanges pending.old.waiting.items }
+    ensures through { (changes : List TheChange)
+        → IsThrough (IsTrue D.tells_bytes) (store_of (reads (D.disk (device_of blocks.old)))) tree.now changes
+        0 [] pending.old.standing.items pending.old.waiting.items
+        → IfOk result (λ dirty. IsThrough (IsTrue D.tells_bytes) (store_of (reads (D.disk (device_of blocks.old)))) tree.now changes
+        (tree.now.size / 4096) dirty.items pending.new.standing.items pending.new.waiting.items) }
+    ensures waiting { AreLinkChanges pending.new.waiting.items }
+    ensures damaged { IsTrue D.tells_bytes → result ≡ Err Damaged
+        → IsDamaged (λ names. ⊤) (D.status (device_of blocks.old)).sectors
+        (store_of (reads (D.disk (device_of blocks.old)))) tree.now }
+    ensures same { IsTrue D.tells_bytes → D.disk (device_of blocks.new) ≡ D.disk (device_of blocks.old) }
+    ensures counts { CountsTree result (D.status (device_of blocks.old)) (D.status (device_of blocks.new)) }
+{
+    let mut dirty = VecDeque::new(alloc);
+    for i in 0..block_count(tree) {
+        pass_block(alloc, blocks, tree, i, pending, &mut dirty)?;
+    }
+    Ok(dirty)
+}

@@ -1,0 +1,7 @@
+mod AclLemmas
+mod BlockLemmas
+mod LentLemmas
+mod PlacedLemmas
+mod RecordLemmas
+mod SettledLemmas
+mod WithLemmas

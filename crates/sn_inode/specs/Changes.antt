@@ -1,0 +1,90 @@
+-- What a change makes of the inode of a number.
+use Rattle.std.specs.Prelude.{◌≡◌, ◌≢◌, ℕ, ◌+◌, ◌*◌, ◌/◌, ◌<◌, ◌≤◌, List, [], length, Option, Some, None, map, sum_by, Contains, ◌⊎◌}
+use Rattle.std.specs.List.{AllByRecursion}
+use Rattle.sn_limits.specs.declared.limits.Limits.{Limits}
+use Rattle.sn_layout.specs.declared.tree.BlockTree.{BlockTree}
+use Rattle.sn_layout_node.specs.Inode.{IsInode}
+use Rattle.sn_layout_node.specs.declared.inode.Inode.{Inode}
+use Rattle.sn_ondisk.specs.TreeLaws.{SameIn}
+use Rattle.sn_ondisk.specs.Trees.{Store, tree_reach}
+use Rattle.sn_image.specs.Acls.{acls_at}
+use Rattle.sn_image.specs.Inodes.{record_at, inode_at}
+use Rattle.sn_image.specs.Reach.{block_reach}
+use Rattle.sn_image.specs.Sound.{SpellsRecord, SpellsAcls, EndsAtSize}
+use Rattle.sn_tree.specs.Drafts.{Draft, numbers_of, grown}
+use Rattle.sn_tree.specs.Plans.{times, Holds}
+use Rattle.sn_tree.specs.Steps.{LeadsOutside}
+use Rattle.sn_tree.specs.declared.new_block.NewBlock.{NewBlock}
+use Rattle.sn_inode.specs.Reads.{CanReadRecord}
+use Rattle.sn_inode.specs.declared.changes.AclChange.{AclChange}
+use Rattle.sn_inode.specs.declared.changes.AclChange.TheVariants.{Kept, Set}
+use Rattle.sn_inode.specs.declared.changes.RecordChange.{RecordChange}
+use Rattle.sn_inode.specs.declared.changes.RecordChange.TheVariants.{Unused, Used}
+use Rattle.sn_inode.specs.declared.changes.InodeChange.{InodeChange}
+
+-- ---- what is asked for
+
+abbrev pub numbers_in : List InodeChange → List ℕ
+numbers_in changes = map (λ (change : InodeChange). change.number) changes
+
+abbrev pub IsNew : Limits → RecordChange → Type 0
+IsNew limits Unused = Unit {0}
+IsNew limits (Used inode acls) = IsInode limits inode
+
+-- a change that a disk of this version allows: of a number that a node can have, to an inode that a record can hold
+pub record IsChange (limits : Limits) (change : InodeChange) : Type 0 where
+  pub least : 2 ≤ change.number
+  pub most : change.number ≤ limits.largest_number
+  pub new : IsNew limits change.record
+
+-- ---- what comes of it
+
+-- the pointer to the ACL block of an inode, 0 where there is none
+abbrev pub acl_pointer : Option Inode → ℕ
+acl_pointer None = 0
+acl_pointer (Some inode) = inode.acl_block
+
+-- The block behind the new pointer has the ACLs that are set, and spells them; kept ones stay behind the old pointer.
+abbrev pub HasAclsOf : Store → ℕ → AclChange → ℕ → Type 0
+HasAclsOf s old Kept new = new ≡ old
+HasAclsOf s old (Set acls) new = (acls_at s new ≡ acls) × (new ≢ 0 → SpellsAcls (s new))
+
+-- The inode is that of the change, but for its pointer, which is that of its ACLs.
+abbrev pub IsChanged : Store → ℕ → RecordChange → Option Inode → Type 0
+IsChanged s old Unused new = new ≡ None
+IsChanged s old (Used inode acls) new = (pointer : ℕ) × (new ≡ Some (record inode { acl_block = pointer })) × HasAclsOf s old acls pointer
+
+-- how often these numbers' inodes name a block as their ACL block
+abbrev pub acl_times : Store → BlockTree → ℕ → List InodeChange → ℕ
+acl_times s inodes block changes = sum_by (λ (change : InodeChange). times block (block_reach (acl_pointer (inode_at s inodes change.number)))) changes
+
+-- The new inode file, in any store that has the new blocks and agrees with the old one in the blocks that the old file reaches: so writes elsewhere don't matter, and none of the old blocks is written.
+pub record ChangesInodes (limits : Limits) (s : Store) (old new : BlockTree) (changes : List InodeChange) (added : List NewBlock) (released : List ℕ) : Type 0 where
+  -- each number of a change has the inode of that
+  pub changed : (r : Store) → SameIn (tree_reach s old) s r → Holds r added
+      → AllByRecursion (λ (change : InodeChange). IsChanged r (acl_pointer (inode_at s old change.number)) change.record (inode_at r new change.number)) changes
+  -- any other number has the inode that it had
+  pub others : (r : Store) → SameIn (tree_reach s old) s r → Holds r added
+      → (number : ℕ) → ¬ Contains (numbers_in changes) number → inode_at r new number ≡ inode_at s old number
+  -- where the old records are spelled, so are all of the new file
+  pub spelled : (r : Store) → SameIn (tree_reach s old) s r → Holds r added
+      → ((number : ℕ) → number < old.size / 128 → SpellsRecord limits (record_at s old number)) → (number : ℕ) → number < new.size / 128 → SpellsRecord limits (record_at r new number)
+  -- the file, and the ACLs of the numbers of changes, with what is released, reach what they did with what is added, each block as often
+  pub reach : (r : Store) → SameIn (tree_reach s old) s r → Holds r added → (block : ℕ) → block ≢ 0
+      → times block (tree_reach r new) + acl_times r new block changes + times block released ≡ times block (tree_reach s old) + acl_times s old block changes + times block (numbers_of added)
+  -- where there is a change, the new tree ends at its size
+  pub ends : changes ≢ [] → (r : Store) → SameIn (tree_reach s old) s r → Holds r added → EndsAtSize r new
+
+-- A new inode file was planned, which may take three blocks for each change and two more, and none for none. Over a device that tells its bytes it is the one that is wanted.
+pub record IsWith (Told : Type 0) (limits : Limits) (s : Store) (old new : BlockTree) (changes : List InodeChange) (old_draft new_draft : Draft) : Type 0 where
+  pub added : List NewBlock
+  pub released : List ℕ
+  pub grew : new_draft ≡ grown old_draft added released
+  pub few : length added ≤ 3 * length changes + 2
+  pub none : changes ≡ [] → (new ≡ old) × (new_draft ≡ old_draft)
+  pub changes_inodes : Told → ChangesInodes limits s old new changes added released
+
+-- The old file can't be read where it has to be: the record of a change, or a block that it reaches.
+abbrev pub IsUnreadable : Limits → ℕ → Store → BlockTree → List InodeChange → Type 0
+IsUnreadable limits sectors s inodes changes =
+    ((number : ℕ) × Contains (numbers_in changes) number × (CanReadRecord limits sectors s inodes number → ⊥)) ⊎ LeadsOutside sectors (tree_reach s inodes)

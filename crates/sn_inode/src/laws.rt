@@ -1,0 +1,12 @@
+//! What the answers come to.
+ghost use Rattle.sn_inode.specs.Laws.{SoundInodesAreRead, SoundAclsAreRead};
+
+use sn_tree_read::read_laws;
+
+/// On a sound image `Damaged` is never answered.
+pub fn inode_laws()
+    ensures inodes { SoundInodesAreRead }
+    ensures acls { SoundAclsAreRead }
+{
+    read_laws();
+}

@@ -1,5 +1,0 @@
-use Rattle.sn_overlay.proofs.ChangeWholeLemmas.{changes_are_whole}
-use Rattle.sn_overlay.proofs.laws.changes_are_layers.Goals as goal
-
-pub returns : goal.returns
-returns c = changes_are_whole

@@ -1,5 +1,0 @@
-use Rattle.sn_overlay.proofs.ChangeLemmas.{links_show}
-use Rattle.sn_overlay.proofs.laws.links_show.Goals as goal
-
-pub returns : goal.returns
-returns c = links_show

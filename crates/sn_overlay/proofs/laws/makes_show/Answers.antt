@@ -1,5 +1,0 @@
-use Rattle.sn_overlay.proofs.ChangeLemmas.{makes_show}
-use Rattle.sn_overlay.proofs.laws.makes_show.Goals as goal
-
-pub returns : goal.returns
-returns c = makes_show

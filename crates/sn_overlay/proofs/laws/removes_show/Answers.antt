@@ -1,5 +1,0 @@
-use Rattle.sn_overlay.proofs.ChangeLemmas.{removes_show}
-use Rattle.sn_overlay.proofs.laws.removes_show.Goals as goal
-
-pub returns : goal.returns
-returns c = removes_show

@@ -1,5 +1,0 @@
-use Rattle.sn_overlay.proofs.RenameLemmas.{renames_show}
-use Rattle.sn_overlay.proofs.laws.renames_show.Goals as goal
-
-pub returns : goal.returns
-returns c = renames_show

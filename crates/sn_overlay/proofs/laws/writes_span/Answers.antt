@@ -1,5 +1,0 @@
-use Rattle.sn_overlay.proofs.SpliceLemmas.{writes_span}
-use Rattle.sn_overlay.proofs.laws.writes_span.Goals as goal
-
-pub returns : goal.returns
-returns c = writes_span

@@ -1,0 +1,13 @@
+pub mod ByteLemmas
+pub mod SpliceLemmas
+pub mod ChangeLemmas
+pub mod SizeLemmas
+pub mod RenameLemmas
+pub mod WriteLemmas
+pub mod ShownLemmas
+pub mod WholeLemmas
+pub mod ChangeWholeLemmas
+pub mod CountLemmas
+pub mod NamesLemmas
+pub mod LiesLemmas
+pub mod ApplyLemmas

@@ -1,0 +1,5 @@
+pub mod Blocks
+pub mod ChangeLayers
+pub mod SeenLayers
+pub mod Faults
+pub mod Laws

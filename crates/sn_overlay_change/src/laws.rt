@@ -1,0 +1,82 @@
+ghost use Rattle.sn_overlay_change.specs.Laws.{AttributesShow, ChangesAreLayers, ChangesCount, ChangesNeed, ChangesShow, CutsKeep, CutsZero, LinksShow, MakesShow, RemovesShow, RenamesShow, SizesShow, WritesKeep, WritesShow, WritesSpan, WritesSplice};
+
+/// Through the layer of a make, the tree is the one with the new node under its name.
+pub fn makes_show()
+    ensures { MakesShow }
+{}
+
+/// Through the layer of a link, the tree is the one with one more name.
+pub fn links_show()
+    ensures { LinksShow }
+{}
+
+/// Through the layer of a remove, the tree is the one without the name, and without the directory that
+/// had it.
+pub fn removes_show()
+    ensures { RemovesShow }
+{}
+
+/// Through the layer of a setting of attributes, the node has them, and its bytes.
+pub fn attributes_show()
+    ensures { AttributesShow }
+{}
+
+/// Through the layer of a setting of a size, the file is cut off there, or has zeros up to there.
+pub fn sizes_show()
+    ensures { SizesShow }
+{}
+
+/// Through the layer of a rename, the name is moved, and what had the new one has lost it.
+pub fn renames_show()
+    ensures { RenamesShow }
+{}
+
+/// Through the layer of a write, the file has the bytes in place, with zeros up to there.
+pub fn writes_show()
+    ensures { WritesShow }
+{}
+
+/// Through the layer of any change, the tree is what the change makes of it.
+pub fn changes_show()
+    ensures { ChangesShow }
+{}
+
+/// That layer is whole, and fits the tree.
+pub fn changes_are_layers()
+    ensures { ChangesAreLayers }
+{}
+
+/// It needs no more blocks than were counted for the change.
+pub fn changes_need()
+    ensures { ChangesNeed }
+{}
+
+/// It says of each node that it has how many names the node has afterwards.
+pub fn changes_count()
+    ensures { ChangesCount }
+{}
+
+/// The block in which a file is cut off is the old one with zeros from there on.
+pub fn cuts_zero()
+    ensures { CutsZero }
+{}
+
+/// The blocks before a cut stay, and all blocks of a file that isn't made shorter.
+pub fn cuts_keep()
+    ensures { CutsKeep }
+{}
+
+/// A block in which bytes are written is the old one with them in place.
+pub fn writes_splice()
+    ensures { WritesSplice }
+{}
+
+/// Where bytes reach over several blocks, each block gets those that lie in it.
+pub fn writes_span()
+    ensures { WritesSpan }
+{}
+
+/// A block in which none are written stays.
+pub fn writes_keep()
+    ensures { WritesKeep }
+{}
