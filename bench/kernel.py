@@ -33,8 +33,6 @@ What isn't compared, since it is this project's own rule:
   may be guarded (`fs.protected_hardlinks`, `fs.protected_regular`). Such a move or link is made by user 0 then, and what
   is there is opened without O_CREAT;
 - `/.snapshot`, a full log, and memory: scripts that come to these differ.
-
-`rename` and `readdir` are answered here as the program will, which doesn't read them yet: none is drawn.
 """
 
 import errno
@@ -64,6 +62,10 @@ MESSAGE = 1 << 18
 
 class Refused(Exception):
     """A call that is refused before it comes to the kernel, by its errno."""
+
+
+class ByRoot(Exception):
+    """A call that the kernel guards more than is done here: user 0 makes it."""
 
 
 def rights(text):
@@ -247,14 +249,20 @@ def once_passed(tests, call, *paths):
     except (Refused, OSError) as first:
         try:
             call(*paths)
-        except OSError:
+        except (ByRoot, OSError):
             raise first from None
         return
     call(*paths)
 
 
-class ByRoot(Exception):
-    """A call that the kernel guards more than is done here: user 0 makes it."""
+def move(old, new):
+    """Renames. A directory that the caller may not write to is moved by user 0."""
+    try:
+        os.rename(old, new)
+    except PermissionError:
+        if is_directory(old) and parent(old) != parent(new) and not os.access(old, os.W_OK):
+            raise ByRoot(f"rename {old} {new}") from None
+        raise
 
 
 class Kernel:
@@ -299,13 +307,9 @@ class Kernel:
 
     def rename(self, old, new):
         try:
-            once_passed(rename_tests, os.rename, old, new)
+            once_passed(rename_tests, move, old, new)
         except FileExistsError:
             raise Refused("ENOTEMPTY") from None
-        except PermissionError:
-            if is_directory(old) and parent(old) != parent(new) and not os.access(old, os.W_OK):
-                raise ByRoot(f"rename {old} {new}") from None
-            raise
 
     def readdir(self, path):
         return " ".join(sorted(os.listdir(path)))
@@ -608,13 +612,18 @@ class Drawn:
     def name_line(self):
         """A call on names."""
         draw = self.random.random()
-        if draw < 0.3:
+        if draw < 0.25:
             return f"mkdir {self.path(0.05)} {self.mode(0o777)}"
-        if draw < 0.4:
+        if draw < 0.3:
             return f"stat {self.path()}"
-        if draw < 0.6:
+        if draw < 0.4:
+            return f"readdir {self.random.choice(('/', self.path(0.1), self.path(0.1)))}"
+        if draw < 0.5:
             return f"link {self.path(0.9)} {self.path(0.9)}"
-        return f"rmdir {self.path(0.1)}" if draw < 0.8 else f"unlink {self.path(0.9)}"
+        if draw < 0.75:
+            files = self.random.choice((0.1, 0.9))
+            return f"rename {self.path(files)} {self.path(files)}"
+        return f"rmdir {self.path(0.1)}" if draw < 0.87 else f"unlink {self.path(0.9)}"
 
     def file_line(self):
         """A call on a descriptor, of which each session has few."""

@@ -1,7 +1,9 @@
 -- What becomes of descriptors, and of the files that they had.
-use Rattle.std.proofs.Common.{◌≡◌, ◌⊎◌, inl, inr, ℕ, zero, suc, ◌+◌, ◌<◌, Bool, true, false, cond, List, [], ◌∷◌, Option, Some, None, Ok, is_some, length, Contains, refl, sym, ap, subst, ◌∙◌, arith, true≢false}
+use Rattle.std.proofs.Common.{◌≡◌, ◌⊎◌, inl, inr, ℕ, zero, suc, ◌+◌, ◌<◌, Bool, true, false, not, ◌||◌, ◌==◌, cond, List, [], ◌∷◌, Option, Some, None, Ok, is_some, length, Contains, refl, sym, ap, subst, ◌∙◌, arith, true≢false, eq-eqb, eqb-true}
 use Rattle.std.specs.FinMap as map
+use Rattle.std.specs.Cmp.{nat_cmp_total}
 use Rattle.std.specs.Prelude.{IsSomeAnd, slice_get}
+use Rattle.std.proofs.lemmas.Map.Lookups.{exact_unsigned}
 use Rattle.sn_limits.specs.declared.kind.Kind.TheVariants.{File}
 use Rattle.sn_limits.specs.Versions.{version_1}
 use Rattle.sn_walk.specs.declared.object.Home.TheVariants.{Live}
@@ -11,31 +13,25 @@ use Rattle.sn_model.specs.declared.outcome.Pending.{Pending}
 use Rattle.sn_model.specs.declared.session.Session.{Session}
 use Rattle.sn_model.specs.Descriptors.{Descriptors, at_offset, closed, first_without, given, is_held_in, moved_if, moved_to, next_descriptor, opened}
 use Rattle.sn_model.specs.NameTree.{IsTree}
-use Rattle.sn_model.specs.Settling.{OnlyLost, dropped, dropped_if, is_abandoned, is_held}
+use Rattle.sn_model.specs.Changes.{take_node}
+use Rattle.sn_model.specs.Settling.{OnlyLost, dropped, dropped_if, is_abandoned, is_held, is_nameless, without_nameless}
 use Rattle.sn_model.specs.Steps.{filled, with_caller}
+use Rattle.sn_model.specs.Tree.{Node, Tree}
 use Rattle.sn_model.specs.Worlds.{IsLoggedIn}
 use Rattle.sn_model.specs.World.{Descriptor, World}
-use Rattle.sn_model.proofs.ChainLemmas.{some_same}
+use Rattle.sn_model.proofs.ChainLemmas.{and_left, some_same}
 use Rattle.sn_model.proofs.DecisionLemmas.{same_ok}
+use Rattle.sn_model.proofs.DropLemmas.{dropping_tree}
 use Rattle.sn_model.proofs.HeldLemmas.{descriptors_total, exact_descriptors, held_at, held_by}
 use Rattle.sn_model.proofs.LoseLemmas.{abandoned_is, dropped_once, is_abandoned_at, none_dropped, still_abandoned}
-use Rattle.sn_model.proofs.MapLemmas.{same_or_apart, get_inserted, get_other}
+use Rattle.sn_model.proofs.MapLemmas.{same_or_apart, get_inserted, get_left, get_other, get_removed}
 use Rattle.sn_model.proofs.MoveLemmas.{some_node}
+use Rattle.sn_model.proofs.OtherCallLemmas.{caller_live}
 use Rattle.sn_model.proofs.OutcomeLemmas.{FitsCaller}
+use Rattle.sn_model.proofs.SettlingLemmas.{get_without}
 use Rattle.sn_desc.specs.Closing.{released_if}
 use Rattle.sn_desc.proofs.ReleaseLemmas.{told_last}
 use Rattle.sn_core.specs.Called.{AreNumbers, CanTurn, HasRoom, TellsReleased}
-
--- a caller leaves the live tree
-pub caller_live : (world : World) (session : ℕ) (caller : Caller) → (with_caller world session caller).live ≡ world.live
-caller_live world session Stays = refl
-caller_live world session (LogsIn s) = refl
-caller_live world session (SetsUmask mask) = refl
-caller_live world session LogsOut = refl
-caller_live world session (Opens fd home number flags) = refl
-caller_live world session (OpensNew fd flags) = refl
-caller_live world session (Closes fd) = refl
-caller_live world session (Moves fd offset) = refl
 
 -- ---- descriptors that hold what they held
 
@@ -147,6 +143,40 @@ module _ (world : World) (session room : ℕ) (count : length world.sessions ≡
 -- what may be dropped is a node's number
 pub abandoned_numbers : (world : World) → IsTree version_1 world.live → AreNumbers world
 abandoned_numbers world whole n e = let s = some_node _ File (abandoned_is world n e).file in (whole.nodes.nodes n s.0 s.1).first
+
+-- a name tree without one of its nameless files is one
+module _ (tree : Tree) (n : ℕ) (nameless : is_nameless tree n (map.get tree.nodes n) ≡ true) where
+  others : ℕ → Bool
+  others k = not (k == n)
+
+  left_nodes : (k : ℕ) → map.get (without_nameless others tree).nodes k ≡ map.get (take_node tree n).nodes k
+  unfolding others
+  left_nodes k = get_without others tree k ∙ told (k == n) refl
+    where
+      shown : Bool → Option Node
+      shown b = cond (not (is_nameless tree k (map.get tree.nodes k)) || not b) (map.get tree.nodes k) None
+
+      kept : (b : Bool) → cond (b || true) (map.get tree.nodes k) None ≡ map.get tree.nodes k
+      kept true = refl
+      kept false = refl
+
+      told : (b : Bool) → (k == n) ≡ b → shown (k == n) ≡ map.get (take_node tree n).nodes k
+      told true e =
+          let q = eqb-true k n e in
+          ap shown e
+          ∙ ap (λ m. cond (not (is_nameless tree m (map.get tree.nodes m)) || false) (map.get tree.nodes m) None) q
+          ∙ ap (λ b. cond (not b || false) (map.get tree.nodes n) None) nameless
+          ∙ sym (ap (map.get (take_node tree n).nodes) q ∙ get_removed nat_cmp_total tree.nodes n)
+      told false e = ap shown e ∙ kept _ ∙ sym (get_left nat_cmp_total exact_unsigned tree.nodes n k (λ q. true≢false (sym (eq-eqb k n q) ∙ e)))
+
+  pub taken_tree : IsTree version_1 tree → IsTree version_1 (take_node tree n)
+  taken_tree whole =
+      let nodes = map.same_map nat_cmp_total exact_unsigned _ _ left_nodes in
+      subst (IsTree version_1) (λ i. record tree { nodes = nodes i }) (dropping_tree version_1 tree others whole)
+
+-- what nobody has and no name stands for has no name
+pub is_left_nameless : (world : World) (n : ℕ) → is_abandoned world n ≡ true → is_nameless world.live n (map.get world.live.nodes n) ≡ true
+is_left_nameless world n e = and_left _ (not (is_held world n)) e
 
 module _ (old new : World) (live : new.live ≡ old.live) where
   same_abandoned : (n : ℕ) → is_held old n ≡ false → is_abandoned new n ≡ true → is_abandoned old n ≡ true

@@ -48,7 +48,8 @@ use Rattle.sn_model.proofs.HierarchyLemmas.{least_is_number}
 use Rattle.sn_model.proofs.StayLemmas.{change_stays, none_stays}
 use Rattle.sn_model.proofs.TreeLemmas.{tree_kept}
 use Rattle.sn_model.proofs.WorldLemmas.{step_world}
-use Rattle.sn_core.proofs.CallerLemmas.{caller_live, can_turn, can_turn_filled}
+use Rattle.sn_model.proofs.OtherCallLemmas.{caller_live}
+use Rattle.sn_core.proofs.CallerLemmas.{can_turn, can_turn_filled}
 use Rattle.sn_core.proofs.RestartLemmas.{settled_least}
 use Rattle.sn_core.specs.declared.choosing.Chosen.{Chosen}
 use Rattle.sn_core.specs.declared.world.PlainWorld.{PlainWorld}
@@ -293,3 +294,9 @@ point_step old = record { step = (None, tt, (inr refl, refl)); least = same_leas
 
 pub restart_step : (old new : World) → new ≡ settle old → PlainStep old event.Restart Done new
 restart_step old new settled = record { step = (None, tt, (refl, ap (λ (w : World). Running w) settled)); least = settled_least old new settled }
+
+-- a change that was tried leaves a name tree
+pub applied_tree : (result : Result (Unit {0}) ApplyError) (change : Change) (old new : Tree) → IsTree version_1 old → Applies result (apply version_1 change old) old new → IsTree version_1 new
+applied_tree (Ok _) change old new whole e = tree_kept version_1 change old new whole e
+applied_tree (Err lack.CannotApply) change old new whole e = subst (IsTree version_1) (sym e.1) whole
+applied_tree (Err lack.Memory) change old new whole e = subst (IsTree version_1) (sym e) whole

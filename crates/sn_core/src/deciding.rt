@@ -159,30 +159,6 @@ impl PlainWorld {
         Ok(decide::setacl(&Limits::VERSION_1, &mut view, caller, &path, acl)?)
     }
 
-    fn decide_rmdir<'a>(&self, session: u32, path: &'a Word) -> Result<Outcome<'a>, CallError>
-        ensures { Decides (world_of self.now) session (Call.Rmdir path.now) result }
-    {
-        let caller = self.logged_in(session)?;
-        let path = path_argument(path)?;
-        let mut view = self.view();
-        Ok(decide::rmdir(&Limits::VERSION_1, &mut view, caller, &path)?)
-    }
-
-    fn decide_link<'a>(
-        &self,
-        session: u32,
-        old: &Word,
-        new: &'a Word,
-    ) -> Result<Outcome<'a>, CallError>
-        ensures { Decides (world_of self.now) session (Call.Link old.now new.now) result }
-    {
-        let caller = self.logged_in(session)?;
-        let old = path_argument(old)?;
-        let new = path_argument(new)?;
-        let mut view = self.view();
-        Ok(decide::link(&Limits::VERSION_1, &mut view, caller, &old, &new)?)
-    }
-
     /// What a call comes to, or its first refusal. `Memory` comes only once its session and arguments
     /// have passed. Nothing changes.
     pub fn decide<'a>(
@@ -210,6 +186,8 @@ impl PlainWorld {
             Call::Rmdir { path } => self.decide_rmdir(session, path),
             Call::Unlink { path } => self.decide_unlink(session, path),
             Call::Link { old, new } => self.decide_link(session, old, new),
+            Call::Rename { old, new } => self.decide_rename(session, old, new),
+            Call::Readdir { path } => self.decide_readdir(alloc, session, path),
             Call::Logout => self.decide_logout(session),
             Call::Open { path, flags, mode } => self.decide_open(session, path, *flags, *mode),
             Call::Close { fd } => self.decide_close(session, *fd),

@@ -3,8 +3,8 @@
 //!
 //! [`run_plain`] answers a list of events, and its contract is the machine of `sn_model`: the replies
 //! are a run of it from the empty world. Below it, `world` has the tree of `sn_plain` and the sessions of
-//! `sn_desc`, and serves one call: `deciding` and `deciding_files` have what it comes to, the most of it by
-//! `sn_core_decide` over the tree as `view` shows it; `choosing` fills in a new node's number; the tree makes the
+//! `sn_desc`, and serves one call: `deciding`, `deciding_files` and `deciding_names` have what it comes to, the
+//! most of it by `sn_core_decide` and `sn_core_names` over the tree as `view` shows it; `choosing` fills in a new node's number; the tree makes the
 //! change; and `calling` sets what becomes of the session and its descriptors, and drops a file that nobody has
 //! and no name stands for. `specs/Plain` says which world this stands for.
 //!
@@ -17,6 +17,7 @@ mod calling;
 mod choosing;
 mod deciding;
 mod deciding_files;
+mod deciding_names;
 mod error;
 mod plain;
 mod view;

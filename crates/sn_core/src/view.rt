@@ -1,5 +1,10 @@
+ghost use Rattle.sn_limits.specs.Versions.{version_1};
+ghost use Rattle.sn_model.specs.NameTree.{IsTree};
+ghost use Rattle.sn_plain.specs.Plain.{tree_of};
+
 use sn_acl::Acl;
 use sn_core_decide::CallView;
+use sn_core_names::MoveView;
 use sn_limits::{Limits, SnapshotName};
 use sn_model::Refusal;
 use sn_plain::PlainTree;
@@ -11,13 +16,13 @@ use std::convert::Infallible;
 #[derive(Drop)]
 pub(crate) struct PlainView<'a> {
     pub tree: &'a PlainTree,
+    ghost whole: { ∥ IsTree version_1 (tree_of tree.now) ∥₁ },
 }
 
 impl<'a> TreeView for PlainView<'a> {
     ghost use Rattle.std.specs.Prelude.{◌≡◌, true};
     ghost use Rattle.std.proofs.Common.{refl, ◌∙◌};
     ghost use Rattle.sn_model.specs.World.{viewed_trees};
-    ghost use Rattle.sn_plain.specs.Plain.{tree_of};
     ghost use Rattle.sn_core.specs.Plain.{plain_trees};
 
     type Fault = Infallible;
@@ -79,11 +84,9 @@ impl<'a> TreeView for PlainView<'a> {
 
 impl<'a> CallView for PlainView<'a> {
     ghost use Rattle.std.proofs.Common.{ap};
-    ghost use Rattle.sn_limits.specs.Versions.{version_1};
     ghost use Rattle.sn_model.specs.Seen.{seen_names};
     ghost use Rattle.sn_model.specs.Tests.{has_room};
     ghost use Rattle.sn_core.specs.Plain.{plain_trees};
-    ghost use Rattle.sn_plain.specs.Plain.{tree_of};
 
     ghost room = { λ v. has_room version_1 (tree_of v.tree.now) };
 
@@ -110,4 +113,10 @@ impl<'a> CallView for PlainView<'a> {
     ghost room_stays = { λ u v told e. ap (λ w. has_room version_1 (tree_of w.tree.now)) e };
 
     ghost names_stay = { λ u v told e. ap (λ w. seen_names version_1 (plain_trees (tree_of w.tree.now))) e };
+}
+
+impl<'a> MoveView for PlainView<'a> {
+    fn is_below(&mut self, top: u16, directory: u16) -> Result<bool, Infallible> {
+        Ok(self.tree.is_below(top, directory))
+    }
 }

@@ -10,6 +10,7 @@ ghost use Rattle.sn_model.specs.World.{new_world};
 ghost use Rattle.std.specs.FinMap as map;
 ghost use Rattle.sn_walk.specs.Gives.{Answers};
 ghost use Rattle.sn_core.specs.Served.{MakesChange, Serves};
+ghost use Rattle.sn_plain.specs.Plain.{tree_of};
 
 use crate::choosing::Chosen;
 use crate::error::CallError;
@@ -25,6 +26,8 @@ use std::alloc::{AllocError, Global};
 pub struct PlainWorld {
     pub(crate) tree: PlainTree,
     pub(crate) sessions: Sessions,
+    // In a name tree alone the way up tells whether a directory is below another, as a rename asks.
+    ghost whole: { ∥ IsTree version_1 (tree_of tree) ∥₁ },
 }
 
 impl PlainWorld {

@@ -416,3 +416,13 @@ pub fn has_acl(kind: AclKind, a: &Attributes) -> Result<(), Refusal>
         _ => Ok(()),
     }
 }
+
+/// Only a file's name is unlinked: EPERM for a directory.
+pub fn no_directory(found: &Found) -> Result<(), Refusal>
+    ensures { result ≡ files.no_directory found.now }
+{
+    match found.attributes.kind {
+        Kind::Directory => Err(Refusal::plain(Errno::Eperm)),
+        Kind::File => Ok(()),
+    }
+}

@@ -5,7 +5,9 @@ ghost use Rattle.sn_model.specs.Calls.{last_name};
 ghost use Rattle.sn_walk.specs.Gives.{Answers, Gives, IfFault};
 ghost use Rattle.sn_core_decide.specs.Views.{seen_by};
 
-use crate::checks::{granted, live, live_if, parent_of, prefix, sticky, writable_parent};
+use crate::checks::{
+    granted, live, live_if, no_directory, parent_of, prefix, sticky, writable_parent,
+};
 use crate::view::CallView;
 use sn_acl::{Acl, Inherited, Mode, inherit};
 use sn_limits::{Kind, Limits};
@@ -42,16 +44,6 @@ fn file(found: &Found) -> Result<(Home, u16), Refusal>
     match (&found.object, found.attributes.kind) {
         (Object::Node { home, number }, Kind::File) => Ok((home.copy(), *number)),
         _ => Err(Refusal::plain(Errno::Eisdir)),
-    }
-}
-
-/// Only a file's name is unlinked: EPERM for a directory.
-pub(crate) fn no_directory(found: &Found) -> Result<(), Refusal>
-    ensures { result ≡ calls.no_directory found.now }
-{
-    match found.attributes.kind {
-        Kind::Directory => Err(Refusal::plain(Errno::Eperm)),
-        Kind::File => Ok(()),
     }
 }
 

@@ -17,6 +17,7 @@ use Rattle.sn_model.specs.Steps.{with_caller, with_live}
 use Rattle.sn_model.specs.Tree.{Tree}
 use Rattle.sn_model.specs.World.{World, new_tree, new_world}
 use Rattle.sn_model.proofs.ListLemmas.{covers_itself}
+use Rattle.sn_model.proofs.OtherCallLemmas.{caller_live}
 use Rattle.sn_model.proofs.SettlingLemmas.{dropping_kept, settle_alike}
 use Rattle.sn_ondisk.specs.LogHalf.{base_of}
 use Rattle.sn_record.specs.Payload.{IsSpelled}
@@ -31,17 +32,6 @@ use Rattle.sn_fs.specs.Held.{Held, IsOnGround, Means, Runs, ground}
 -- a settled tree on the ground is the settled world
 settles_alike : (w : World) → w.frozen ≡ map.empty → settled_at new_world w.live ≡ settle w
 settles_alike w e = λ i. record { live = settled w.live; frozen = sym e i; sessions = replicate 64 None; descriptors = map.empty }
-
--- what becomes of a session leaves the trees
-caller_live : (w : World) (session : ℕ) (caller : Caller) → (with_caller w session caller).live ≡ w.live
-caller_live w session Stays = refl
-caller_live w session (LogsIn s) = refl
-caller_live w session (SetsUmask mask) = refl
-caller_live w session LogsOut = refl
-caller_live w session (OpensFile fd home number flags) = refl
-caller_live w session (OpensNew fd flags) = refl
-caller_live w session (Closes fd) = refl
-caller_live w session (Moves fd offset) = refl
 
 caller_frozen : (w : World) (session : ℕ) (caller : Caller) → (with_caller w session caller).frozen ≡ w.frozen
 caller_frozen w session Stays = refl

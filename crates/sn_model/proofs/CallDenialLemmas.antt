@@ -135,6 +135,8 @@ module _ (world : World) (session : ℕ) (r : Refusal) (is : r.errno ≡ Eacces)
   ready_other (call.Rmdir path) = behind_path path (λ s names. ready_ok (calls.Rmdir s names)) (λ s names h. never_ok _ r h)
   ready_other (call.Unlink path) = behind_path path (λ s names. ready_ok (calls.Unlink s names)) (λ s names h. never_ok _ r h)
   ready_other (call.Link old new) = behind_paths old new (λ s names others. ready_ok (calls.Link s names others)) (λ s names others h. never_ok _ r h)
+  ready_other (call.Rename old new) = behind_paths old new (λ s names others. ready_ok (calls.Rename s names others)) (λ s names others h. never_ok _ r h)
+  ready_other (call.Readdir path) = behind_path path (λ s names. ready_ok (calls.Readdir s names)) (λ s names h. never_ok _ r h)
   ready_other call.Logout = behind_caller (λ _. ready_ok calls.Logout) (λ s h. never_ok _ r h)
   ready_other (call.Open path flags mode) =
       behind_path path (λ s names. flags_argument flags >>= (λ asked. new_mode_argument mode >>= (λ bits. ready_ok (calls.Open session s names asked bits))))
@@ -278,6 +280,19 @@ module _ (limits : Limits) (world : World) (session : ℕ) (r : Refusal) (is : r
       let n = bind_ok (path_argument new) (λ others. ready_ok (calls.Link k.caller k.names others)) x k.passed in
       of_paths (call.Link old new) old new more x k n.0 n.1 refl refl (link_denied limits world k.caller r is k.names n.0 (goes_on (calls.Link k.caller k.names n.0) x n.2 g))
 
+  rename_denies : (old new : List ℕ) → Denies (call.Rename old new)
+  rename_denies old new x f g =
+      let more = λ (s : Session) (names : List (List ℕ)). path_argument new >>= (λ others. ready_ok (calls.Rename s names others)) in
+      let k = called world session old more x f in
+      let n = bind_ok (path_argument new) (λ others. ready_ok (calls.Rename k.caller k.names others)) x k.passed in
+      of_paths (call.Rename old new) old new more x k n.0 n.1 refl refl (rename_denied limits world k.caller r is k.names n.0 (goes_on (calls.Rename k.caller k.names n.0) x n.2 g))
+
+  readdir_denies : (path : List ℕ) → Denies (call.Readdir path)
+  readdir_denies path x f g =
+      let more = λ (s : Session) (names : List (List ℕ)). ready_ok (calls.Readdir s names) in
+      let k = called world session path more x f in
+      of_path (call.Readdir path) path more x k refl (readdir_denied limits world k.caller r is k.names (goes_on (calls.Readdir k.caller k.names) x k.passed g))
+
   logout_denies : Denies call.Logout
   logout_denies x f g = absurd (logout_other r is (behind_session call.Logout calls.Logout x f g))
 
@@ -323,6 +338,8 @@ module _ (limits : Limits) (world : World) (session : ℕ) (r : Refusal) (is : r
   decided_denies (call.Rmdir path) = rmdir_denies path
   decided_denies (call.Unlink path) = unlink_denies path
   decided_denies (call.Link old new) = link_denies old new
+  decided_denies (call.Rename old new) = rename_denies old new
+  decided_denies (call.Readdir path) = readdir_denies path
   decided_denies call.Logout = logout_denies
   decided_denies (call.Open path flags mode) = open_denies path flags mode
   decided_denies (call.Close fd) = close_denies fd

@@ -17,6 +17,7 @@ use Rattle.sn_limits.specs.declared.kind.Kind.{Kind}
 use Rattle.sn_limits.specs.declared.kind.Kind.TheVariants.{File, Directory}
 use Rattle.sn_limits.specs.Names.{is_name_spelled, has_name_length, is_name}
 use Rattle.sn_walk.specs.Paths.{last_after, parsed, of_word, of_names, of_length, components}
+use Rattle.sn_walk.specs.Objects.{number_of}
 use Rattle.sn_walk.specs.Views.{ViewedTrees, is_directory}
 use Rattle.sn_model.specs.declared.call.Call.{Call}
 use Rattle.sn_model.specs.declared.call.Call.TheVariants as call
@@ -36,7 +37,7 @@ use Rattle.sn_limits.specs.declared.limits.Limits.{Limits}
 use Rattle.sn_model.specs.declared.change.Ownership.{Ownership}
 use Rattle.sn_model.specs.Outcomes.{Outcome, LogsIn, SetsUmask, tells}
 use Rattle.sn_model.specs.AccessCalls.{AclKind, acl_argument, id_argument, mode_bits_argument}
-use Rattle.sn_model.specs.declared.change.Change.TheVariants.{AddLink, Remove, SetAttributes}
+use Rattle.sn_model.specs.declared.change.Change.TheVariants.{AddLink, Remove, Rename, SetAttributes}
 use Rattle.sn_model.specs.FileCalls.{OpenFlags, bytes_argument, count_argument, flags_argument, new_file}
 use Rattle.sn_model.proofs.OpenLemmas.{opening_is, unlink_is}
 use Rattle.sn_model.proofs.SeatLemmas.{seat_of}
@@ -239,6 +240,7 @@ module _ (limits : Limits) (world : World) (session : ℕ) where
         answers = λ refusal e. cc e;
         left = p.at.number;
         of_old = tt;
+        keeps = λ h. cc h;
         charged = λ h. omega (arith, h);
         takes = tt;
         opens = λ f. cc f;
@@ -251,7 +253,7 @@ module _ (limits : Limits) (world : World) (session : ℕ) where
 
   -- attributes that are set
   set_decided : (c : Call) (o : Outcome) (is : SetsSome limits o) → TakesMemory c → (IsWorld limits world → is_some (owned world.live is.0 is.1) ≡ true) → IsDecided limits world session c o
-  set_decided c o is takes can = subst (IsDecided limits world session c) (sym is.2) (done limits world session c limits.inode_charge (SetAttributes is.0 is.1) takes tt (λ h. h) can)
+  set_decided c o is takes can = subst (IsDecided limits world session c) (sym is.2) (done limits world session c limits.inode_charge (SetAttributes is.0 is.1) takes tt (λ _. tt) (λ h. h) can)
 
   chmod_decided : (path : List ℕ) (mode : ℕ) (o : Outcome) → ReadyTo (call.Chmod path mode) o → IsDecided limits world session (call.Chmod path mode) o
   chmod_decided path mode o r =
@@ -303,7 +305,7 @@ module _ (limits : Limits) (world : World) (session : ℕ) where
   rmdir_decided path o r =
       let k = called world session path (λ s names. found.ok (calls.Rmdir s names)) r.0 r.1 in
       let p = rmdir_is limits world k.caller k.names o (goes_on (calls.Rmdir k.caller k.names) r.0 o k.passed r.2) in
-      subst (IsDecided limits world session (call.Rmdir path)) (sym p.made) (done limits world session (call.Rmdir path) (2 * limits.inode_charge + limits.block_charge) (Remove p.directory (last_name k.names)) tt tt (λ h. omega (arith, h)) (λ whole. rmdir_applies limits world.live k.names o p))
+      subst (IsDecided limits world session (call.Rmdir path)) (sym p.made) (done limits world session (call.Rmdir path) (2 * limits.inode_charge + limits.block_charge) (Remove p.directory (last_name k.names)) tt tt (λ h. cc h) (λ h. omega (arith, h)) (λ whole. rmdir_applies limits world.live k.names o p))
 
   unlink_decided : (path : List ℕ) (o : Outcome) → ReadyTo (call.Unlink path) o → IsDecided limits world session (call.Unlink path) o
   unlink_decided path o r =
@@ -315,7 +317,39 @@ module _ (limits : Limits) (world : World) (session : ℕ) where
       let k = called world session old (λ s names. path_argument new >>= (λ others. found.ok (calls.Link s names others))) r.0 r.1 in
       let n = bind_ok (path_argument new) (λ others. found.ok (calls.Link k.caller k.names others)) r.0 k.passed in
       let p = link_is limits world k.caller k.names n.0 o (goes_on (calls.Link k.caller k.names n.0) r.0 o n.2 r.2) in
-      subst (IsDecided limits world session (call.Link old new)) (sym p.made) (done limits world session (call.Link old new) (2 * limits.inode_charge + limits.block_charge) (AddLink p.directory (last_name n.0) p.number) tt tt (λ h. omega (arith, h)) (λ whole. link_applies limits world.live n.0 o p (last_is n.0 p.new.first p.new.more p.new.some_names (path_names new n.0 n.1))))
+      subst (IsDecided limits world session (call.Link old new)) (sym p.made) (done limits world session (call.Link old new) (2 * limits.inode_charge + limits.block_charge) (AddLink p.directory (last_name n.0) p.number) tt tt (λ h. cc h) (λ h. omega (arith, h)) (λ whole. link_applies limits world.live n.0 o p (last_is n.0 p.new.first p.new.more p.new.some_names (path_names new n.0 n.1))))
+
+  -- a name is moved, or both are of one thing
+  rename_comes : (old new : List ℕ) (caller : Session) (names others : List (List ℕ)) (o : Outcome) → path_argument new ≡ Ok others
+      → ((o ≡ tells reply.Done) × IsOne world caller names others) ⊎ IsRenaming limits world caller names others o → IsDecided limits world session (call.Rename old new) o
+  rename_comes old new caller names others o read (inl one) = tells_decided (call.Rename old new) o reply.Done (λ refusal e. cc e) one.0
+  rename_comes old new caller names others o read (inr p) =
+      let m = p.moving in
+      let t = has_passed limits world caller names others m o p.moved in
+      let change = Rename (number_of m.old_directory) (last_name names) (number_of m.new_directory) (last_name others) in
+      subst (IsDecided limits world session (call.Rename old new)) (sym t.made) (record {
+        answers = λ refusal e. cc e;
+        left = tt;
+        of_old = tt;
+        keeps = λ h. cc h;
+        charged = λ h. omega (arith, h);
+        takes = tt;
+        opens = λ f. cc f;
+        applies = λ number some_links whole free. rename_applies limits world caller names others o some_links whole.live p (λ first more e. last_is others first more e (path_names new others read));
+        fits = λ k w. tt;
+      })
+
+  rename_decided : (old new : List ℕ) (o : Outcome) → ReadyTo (call.Rename old new) o → IsDecided limits world session (call.Rename old new) o
+  rename_decided old new o r =
+      let k = called world session old (λ s names. path_argument new >>= (λ others. found.ok (calls.Rename s names others))) r.0 r.1 in
+      let n = bind_ok (path_argument new) (λ others. found.ok (calls.Rename k.caller k.names others)) r.0 k.passed in
+      rename_comes old new k.caller k.names n.0 o n.1 (rename_is limits world k.caller k.names n.0 o (goes_on (calls.Rename k.caller k.names n.0) r.0 o n.2 r.2))
+
+  readdir_decided : (path : List ℕ) (o : Outcome) → ReadyTo (call.Readdir path) o → IsDecided limits world session (call.Readdir path) o
+  readdir_decided path o r =
+      let k = called world session path (λ s names. found.ok (calls.Readdir s names)) r.0 r.1 in
+      let t = readdir_tells limits world k.caller k.names o (goes_on (calls.Readdir k.caller k.names) r.0 o k.passed r.2) in
+      tells_decided (call.Readdir path) o (reply.Names t.0) (λ refusal e. cc e) t.1
 
   logout_decided : (o : Outcome) → ReadyTo call.Logout o → IsDecided limits world session call.Logout o
   logout_decided o r =
@@ -374,6 +408,8 @@ module _ (limits : Limits) (world : World) (session : ℕ) where
   by_call (call.Rmdir path) o r = rmdir_decided path o r
   by_call (call.Unlink path) o r = unlink_decided path o r
   by_call (call.Link old new) o r = link_decided old new o r
+  by_call (call.Rename old new) o r = rename_decided old new o r
+  by_call (call.Readdir path) o r = readdir_decided path o r
   by_call call.Logout o r = logout_decided o r
   by_call (call.Open path flags mode) o r = open_decided path flags mode o r
   by_call (call.Close fd) o r = close_decided fd o r

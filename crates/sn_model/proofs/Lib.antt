@@ -47,3 +47,4 @@ pub mod NameDenialLemmas
 pub mod NameCallLemmas
 pub mod RenameLemmas
 pub mod NameLawLemmas
+pub mod OtherCallLemmas

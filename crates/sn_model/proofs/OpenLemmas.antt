@@ -153,7 +153,7 @@ module _ (limits : Limits) (world : World) (session : ℕ) (s : Session) (names 
       let found = there_is (found_at trees w.0) f.0 f.1 in
       let n = named_at world names w.0 Eperm at.0 f.0 l.0 ends at.1 found is in
       let a = ap (attributes_at trees) (sym is) ∙ found_has trees w.0 f.0 found in
-      subst (Decides (call.Unlink path)) (same_ok _ o t.2) (done limits world session (call.Unlink path) (3 * limits.inode_charge + limits.block_charge) (Remove (number_of at.0.0) (last_name names)) tt tt (λ h. omega (arith, h))
+      subst (Decides (call.Unlink path)) (same_ok _ o t.2) (done limits world session (call.Unlink path) (3 * limits.inode_charge + limits.block_charge) (Remove (number_of at.0.0) (last_name names)) tt tt (λ h. cc h) (λ h. omega (arith, h))
       (λ whole. name_goes at.0.0 f.0 l.0 n a (none_directory f.0 d.0 d.1)))
 
   -- ---- open
@@ -240,6 +240,7 @@ module _ (limits : Limits) (world : World) (session : ℕ) (s : Session) (names 
         answers = λ r f. cc f;
         left = tt;
         of_old = tt;
+        keeps = λ h. cc h;
         charged = λ h. omega (arith, h);
         takes = tt;
         opens = λ _. tt;
@@ -302,6 +303,7 @@ module _ (limits : Limits) (world : World) (session : ℕ) (s : Session) (names 
         answers = λ q f. cc f;
         left = (room_is limits world.live d.0 r.0 r.1).0;
         of_old = tt;
+        keeps = λ h. cc h;
         charged = λ h. omega (arith, h);
         takes = tt;
         opens = λ _. tt;

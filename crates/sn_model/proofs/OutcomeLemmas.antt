@@ -14,6 +14,7 @@ use Rattle.sn_model.specs.declared.reply.Reply.{Reply}
 use Rattle.sn_model.specs.declared.reply.Reply.TheVariants as reply
 use Rattle.sn_model.specs.Changes.{apply}
 use Rattle.sn_model.specs.Descriptors.{next_descriptor}
+use Rattle.sn_model.specs.NameLaws.{changes_names}
 use Rattle.sn_model.specs.NameTree.{HasKind}
 use Rattle.sn_model.specs.Outcomes.{Pending, Nothing, Makes, Does, Caller, Stays, LogsIn, SetsUmask, LogsOut, Opens, OpensNew, Closes, Moves, Outcome, does, is_opening, tells, turns}
 use Rattle.sn_model.specs.Steps.{IsNumberFor, TakesMemory, changed}
@@ -52,6 +53,21 @@ DoesToOld Nothing = Unit {0}
 DoesToOld (Makes directory name kind o) = Unit {0}
 DoesToOld (Does c) = IsOfOld c
 
+-- what leaves each name as it is
+abbrev pub KeepsLinks : Change → Type 0
+KeepsLinks (Make directory name number kind o) = ⊥
+KeepsLinks (AddLink directory name number) = ⊥
+KeepsLinks (Remove directory name) = ⊥
+KeepsLinks (Rename old_directory old_name new_directory new_name) = ⊥
+KeepsLinks (Write number offset bytes) = Unit {0}
+KeepsLinks (SetSize number size) = Unit {0}
+KeepsLinks (SetAttributes number o) = Unit {0}
+
+abbrev pub KeepsNames : Pending → Type 0
+KeepsNames Nothing = Unit {0}
+KeepsNames (Makes directory name kind o) = ⊥
+KeepsNames (Does c) = KeepsLinks c
+
 abbrev pub MakesFile : Pending → Type 0
 MakesFile Nothing = ⊥
 MakesFile (Makes directory name kind o) = kind ≡ File
@@ -79,6 +95,7 @@ pub record IsDecided (limits : Limits) (world : World) (session : ℕ) (c : Call
   pub answers : IsAnswer o.told
   pub left : HasLeft limits world.live o.change
   pub of_old : DoesToOld o.change
+  pub keeps : changes_names c ≡ false → KeepsNames o.change
   pub charged : 0 < limits.inode_charge → OnChange (0 < o.charge) o.change
   pub takes : OnChange (TakesMemory c) o.change
   pub opens : is_opening o.caller ≡ true → TakesMemory c
@@ -88,18 +105,19 @@ pub record IsDecided (limits : Limits) (world : World) (session : ℕ) (c : Call
 module _ (limits : Limits) (world : World) (session : ℕ) (c : Call) where
   -- a session or its descriptors change, and nothing else
   pub turned : (caller : Caller) (answer : Reply) → IsAnswer answer → (is_opening caller ≡ true → TakesMemory c) → (IsCall c → IsWorld limits world → FitsCaller limits world session Nothing caller) → IsDecided limits world session c (turns caller answer)
-  turned caller answer is opens fits = record { answers = is; left = tt; of_old = tt; charged = λ h. tt; takes = tt; opens = opens; applies = λ n l w f. refl; fits = fits }
+  turned caller answer is opens fits = record { answers = is; left = tt; of_old = tt; keeps = λ h. tt; charged = λ h. tt; takes = tt; opens = opens; applies = λ n l w f. refl; fits = fits }
 
   -- nothing changes
   pub told : (answer : Reply) → IsAnswer answer → IsDecided limits world session c (tells answer)
   told answer is = turned Stays answer is (λ f. cc f) (λ k w. tt)
 
   -- a change of what is there
-  pub done : (charge : ℕ) (change : Change) → TakesMemory c → IsOfOld change → (0 < limits.inode_charge → 0 < charge) → (IsWorld limits world → is_some (apply limits change world.live) ≡ true) → IsDecided limits world session c (does charge change)
-  done charge change takes old charged applies = record {
+  pub done : (charge : ℕ) (change : Change) → TakesMemory c → IsOfOld change → (changes_names c ≡ false → KeepsLinks change) → (0 < limits.inode_charge → 0 < charge) → (IsWorld limits world → is_some (apply limits change world.live) ≡ true) → IsDecided limits world session c (does charge change)
+  done charge change takes old keeps charged applies = record {
     answers = λ r e. cc e;
     left = tt;
     of_old = old;
+    keeps = keeps;
     charged = charged;
     takes = takes;
     opens = λ f. cc f;

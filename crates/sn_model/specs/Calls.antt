@@ -23,7 +23,7 @@ use Rattle.sn_model.specs.declared.session.Session.{Session}
 use Rattle.sn_model.specs.World.{World, trees_of, viewed_trees}
 use Rattle.sn_walk.specs.Views.{ViewedTrees}
 use Rattle.sn_model.specs.FileCalls.{OpenFlags, bytes_argument, close_outcome, count_argument, flags_argument, ftruncate_outcome, logout_outcome, open_outcome, read_outcome, seek_outcome, unlink_outcome, write_outcome}
-use Rattle.sn_model.specs.NameCalls.{link_outcome, rmdir_outcome}
+use Rattle.sn_model.specs.NameCalls.{link_outcome, readdir_outcome, rename_outcome, rmdir_outcome}
 pub use Rattle.sn_model.specs.Seen.{Seen, last_name, seen}
 use Rattle.sn_walk.specs.Chains.{◌>>=◌}
 use Rattle.sn_model.specs.Tests.{logged_in, logged_out, path_argument, new_mode_argument, prefix, full, not_present, live, writable_parent}
@@ -42,6 +42,8 @@ pub data Ready : Type 0 where
   Rmdir : Session → List (List ℕ) → Ready
   Unlink : Session → List (List ℕ) → Ready
   Link : Session → List (List ℕ) → List (List ℕ) → Ready
+  Rename : Session → List (List ℕ) → List (List ℕ) → Ready
+  Readdir : Session → List (List ℕ) → Ready
   Logout : Ready
   -- with the number of the session, whose descriptors are meant
   Open : ℕ → Session → List (List ℕ) → OpenFlags → Mode → Ready
@@ -72,6 +74,8 @@ ready world session (call.SetAcl path kind acl) = logged_in world session >>= (�
 ready world session (call.Rmdir path) = logged_in world session >>= (λ s. path_argument path >>= (λ names. Ok (Rmdir s names)))
 ready world session (call.Unlink path) = logged_in world session >>= (λ s. path_argument path >>= (λ names. Ok (Unlink s names)))
 ready world session (call.Link old new) = logged_in world session >>= (λ s. path_argument old >>= (λ names. path_argument new >>= (λ others. Ok (Link s names others))))
+ready world session (call.Rename old new) = logged_in world session >>= (λ s. path_argument old >>= (λ names. path_argument new >>= (λ others. Ok (Rename s names others))))
+ready world session (call.Readdir path) = logged_in world session >>= (λ s. path_argument path >>= (λ names. Ok (Readdir s names)))
 ready world session call.Logout = logged_in world session >>= (λ _. Ok Logout)
 ready world session (call.Open path flags mode) = logged_in world session >>= (λ s. path_argument path >>= (λ names. flags_argument flags >>= (λ asked. new_mode_argument mode >>= (λ bits. Ok (Open session s names asked bits)))))
 ready world session (call.Close fd) = logged_in world session >>= (λ _. Ok (Close session fd))
@@ -133,6 +137,8 @@ outcome_of limits world (SetAcl session names acl) = setacl_outcome limits (view
 outcome_of limits world (Rmdir session names) = rmdir_outcome limits (seen limits world) session names
 outcome_of limits world (Unlink session names) = unlink_outcome limits (viewed_trees (trees_of world)) session names
 outcome_of limits world (Link session names others) = link_outcome limits (seen limits world) session names others
+outcome_of limits world (Rename session names others) = rename_outcome limits (seen limits world) session names others
+outcome_of limits world (Readdir session names) = readdir_outcome (seen limits world) session names
 outcome_of limits world Logout = Ok logout_outcome
 outcome_of limits world (Open number session names flags mode) = open_outcome limits (seen limits world) world.descriptors number session names flags mode
 outcome_of limits world (Close session fd) = close_outcome world.descriptors session fd

@@ -44,6 +44,8 @@ path_of (call.SetAcl path kind acl) which = if which == 1 then Some path else No
 path_of (call.Rmdir path) which = if which == 1 then Some path else None
 path_of (call.Unlink path) which = if which == 1 then Some path else None
 path_of (call.Link old new) which = if which == 1 then Some old else (if which == 2 then Some new else None)
+path_of (call.Rename old new) which = if which == 1 then Some old else (if which == 2 then Some new else None)
+path_of (call.Readdir path) which = if which == 1 then Some path else None
 path_of call.Logout which = None
 path_of (call.Open path flags mode) which = if which == 1 then Some path else None
 path_of (call.Close fd) which = None

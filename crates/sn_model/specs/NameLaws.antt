@@ -1,5 +1,5 @@
 -- What the calls on names come to, said as a user of a file system would say it.
-use Rattle.std.specs.Prelude.{◌≡◌, ◌≢◌, ◌⊎◌, ℕ, ◌<◌, List, [], ◌∷◌, Option, None, Some, Ok, Bool, false, is_some}
+use Rattle.std.specs.Prelude.{◌≡◌, ◌≢◌, ◌⊎◌, ℕ, ◌<◌, List, [], ◌∷◌, Option, None, Some, Ok, Bool, true, false, is_some}
 use Rattle.std.specs.List.{AllByRecursion, list_any}
 use Rattle.std.specs.Ordering.{nat_cmp, eq_by_cmp}
 use Rattle.std.specs.Cmp.Lexicographic.{slice_cmp}
@@ -11,8 +11,11 @@ use Rattle.sn_walk.specs.declared.object.Home.TheVariants.{Live}
 use Rattle.sn_walk.specs.declared.object.Object.{Object}
 use Rattle.sn_walk.specs.declared.object.Object.TheVariants as object
 use Rattle.sn_walk.specs.Objects.{root}
+use Rattle.sn_model.specs.declared.call.Call.{Call}
+use Rattle.sn_model.specs.declared.call.Call.TheVariants as call
 use Rattle.sn_model.specs.declared.change.Change.TheVariants.{AddLink, Remove, Rename}
 use Rattle.sn_model.specs.declared.link.Link.{Link}
+use Rattle.sn_model.specs.declared.reply.Reply.{Reply}
 use Rattle.sn_model.specs.declared.reply.Reply.TheVariants as reply
 use Rattle.sn_model.specs.declared.session.Session.{Session}
 use Rattle.sn_model.specs.Changes.{apply}
@@ -21,6 +24,7 @@ use Rattle.sn_model.specs.NameCalls.{link_outcome, readdir_outcome, rename_outco
 use Rattle.sn_model.specs.NameTree.{HasKind}
 use Rattle.sn_model.specs.Outcomes.{Outcome, Does, tells}
 use Rattle.sn_model.specs.Seen.{last_name, seen}
+use Rattle.sn_model.specs.Steps.{Step}
 use Rattle.sn_model.specs.Tests.{path_argument}
 use Rattle.sn_model.specs.Worlds.{IsWorld}
 use Rattle.sn_model.specs.Tree.{Tree, link_to, names_in}
@@ -120,3 +124,33 @@ IsOneThing world names others = (number : ℕ) × (led_to (viewed_trees (trees_o
 abbrev pub RenameMovesTheName : Type 0
 RenameMovesTheName = (limits : Limits) (world : World) (s : Session) (names others : List (List ℕ)) (path : List ℕ) (o : Outcome) → 0 < limits.links → IsWorld limits world → path_argument path ≡ Ok others → rename_outcome limits (seen limits world) s names others ≡ Ok o
     → ((o ≡ tells reply.Done) × IsOneThing world names others) ⊎ MovesName limits world.live o (last_name names) (last_name others)
+
+-- ---- the other calls
+
+-- the calls that change which names are there
+abbrev pub changes_names : Call → Bool
+changes_names (call.Login uid gid groups) = false
+changes_names (call.Umask mask) = false
+changes_names (call.Mkdir path mode) = true
+changes_names (call.Chmod path mode) = false
+changes_names (call.Chown path uid gid) = false
+changes_names (call.Stat path) = false
+changes_names (call.Access path want) = false
+changes_names (call.GetAcl path kind) = false
+changes_names (call.SetAcl path kind acl) = false
+changes_names (call.Rmdir path) = true
+changes_names (call.Unlink path) = true
+changes_names (call.Link old new) = true
+changes_names (call.Rename old new) = true
+changes_names (call.Readdir path) = false
+changes_names call.Logout = false
+changes_names (call.Open path flags mode) = true
+changes_names (call.Close fd) = false
+changes_names (call.Read fd count) = false
+changes_names (call.Write fd bytes) = false
+changes_names (call.Seek fd offset) = false
+changes_names (call.Ftruncate fd size) = false
+
+-- Whatever another call answers, each name stands for what it stood for, and there is no other.
+abbrev pub FewCallsChangeNames : Type 0
+FewCallsChangeNames = (limits : Limits) (old new : World) (session : ℕ) (c : Call) (answer : Reply) → changes_names c ≡ false → Step limits old session c answer new → new.live.links ≡ old.live.links

@@ -65,6 +65,15 @@ pub enum Call {
         old: Word,
         new: Word,
     },
+    /// POSIX.1-2017 rename(): exchanges a name for another, and takes away what had that, in one change.
+    Rename {
+        old: Word,
+        new: Word,
+    },
+    /// POSIX.1-2017 readdir(): the names of a directory, in the order of their bytes.
+    Readdir {
+        path: Word,
+    },
     /// POSIX.1-2017 open(): opens a file, and makes it where the flags ask for that. The mode is that of a
     /// file that is made; over 0777 it is refused.
     Open {

@@ -4,7 +4,7 @@ ghost use Rattle.sn_model.specs.ChangeLaws.{ChangesBring, ChangesKeepCovers, Cha
 ghost use Rattle.sn_model.specs.Example.{Answers, Settles};
 ghost use Rattle.sn_model.specs.MachineLaws.{EventsKeepTheState, LivesKeepTheWorld, RefusedEventsChangeNothing, RestartsSettle, RunsKeepTheWorld, StoppedStays};
 ghost use Rattle.sn_model.specs.FileLaws.{AppendsGoToTheEnd, ReadsAskForNoRight, ReadsPastTheEndGiveNothing, WritesOfNothingDoNothing};
-ghost use Rattle.sn_model.specs.NameLaws.{LinkGivesOneMoreName, ReaddirListsTheNames, RenameMovesTheName, RmdirTakesAnEmptyDirectory};
+ghost use Rattle.sn_model.specs.NameLaws.{FewCallsChangeNames, LinkGivesOneMoreName, ReaddirListsTheNames, RenameMovesTheName, RmdirTakesAnEmptyDirectory};
 ghost use Rattle.sn_model.specs.Laws.{DecidedChangesApply, MakesOneMore, RefusalsChangeNothing};
 
 /// Whatever a call is refused for, the world stays as it was.
@@ -206,4 +206,9 @@ pub fn link_gives_one_more_name()
 /// name; of two names of one thing nothing is done.
 pub fn rename_moves_the_name()
     ensures { RenameMovesTheName }
+{}
+
+/// No call but mkdir, open, link, rename, unlink and rmdir changes which names are there.
+pub fn few_calls_change_names()
+    ensures { FewCallsChangeNames }
 {}

@@ -2,7 +2,7 @@
 
 use anyhow::Result;
 use sn_model::{Call, Groups, Reply, Word};
-use sn_script::print_replies;
+use sn_replies::print_replies;
 use std::alloc::Global;
 use std::{slice, str};
 

@@ -5,6 +5,7 @@ pub mod NumberLemmas
 pub mod OwnershipLemmas
 pub mod MakingLemmas
 pub mod NamesLemmas
+pub mod ListingLemmas
 pub mod SettledLemmas
 pub mod RenamingLemmas
 pub mod WayLemmas

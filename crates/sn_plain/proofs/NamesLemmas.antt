@@ -64,19 +64,19 @@ module _ (q : Link) (d : ℕ) (rest : List (Link × ℕ)) where
   found_away e [] = refl
   found_away e (n ∷ ns) = ap (λ b. cond b (Some n.1) (fin.find link_cmp q (before ns))) (away q d n.0 e) ∙ found_away e ns
 
-both : (a b : Bool) → T (a && b) → T a × T b
+pub both : (a b : Bool) → T (a && b) → T a × T b
 both true b p = (tt, p)
 both false b p = absurd p
 
-less : (r : Ordering) → T (is_lt r) → is_eq r ≡ false
-less Less p = refl
-less Equal p = absurd p
-less Greater p = absurd p
+pub apart : (r : Ordering) → T (is_lt r) → is_eq r ≡ false
+apart Less p = refl
+apart Equal p = absurd p
+apart Greater p = absurd p
 
 -- a directory isn't listed twice
 listed_once : (d : ℕ) (es : List (ℕ × Named)) → T (below_all nat_cmp d es) → fin.find nat_cmp d es ≡ None
 listed_once d [] h = refl
-listed_once d (e ∷ es) h = let p = both _ _ h in ap (λ b. cond b (Some e.1) (fin.find nat_cmp d es)) (less _ p.0) ∙ listed_once d es p.1
+listed_once d (e ∷ es) h = let p = both _ _ h in ap (λ b. cond b (Some e.1) (fin.find nat_cmp d es)) (apart _ p.0) ∙ listed_once d es p.1
 
 find_links : (es : List (ℕ × Named)) → T (fin.is_sorted nat_cmp es) → (q : Link) → fin.find link_cmp q (flat_map links_from es) ≡ fin.get (names_at (fin.find nat_cmp q.directory es)) q.name
 find_links [] h q = sym (fin.get-empty (slice_cmp nat_cmp) q.name)

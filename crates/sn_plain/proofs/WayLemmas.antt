@@ -1,9 +1,11 @@
 -- The way up from a directory, over what is stored: each step goes to the directory that is kept beside it, and the root is the end.
-use Rattle.std.proofs.Common.{◌≡◌, ◌≢◌, ℕ, zero, suc, ◌<◌, ◌≤◌, Bool, true, false, cond, ◌==◌, List, [], ◌∷◌, length, Option, Some, refl, sym, ap, subst, ◌∙◌, arith, eqb-true}
+use Rattle.std.proofs.Common.{◌≡◌, ◌≢◌, ℕ, zero, suc, ◌<◌, ◌≤◌, Bool, true, false, cond, ◌==◌, List, [], ◌∷◌, length, Option, None, Some, refl, sym, ap, subst, ◌∙◌, arith, eqb-true}
 use Rattle.std.specs.Option.{option_map}
+use Rattle.std.specs.Prelude.{IsSomeAnd}
 use Rattle.std.specs.FinMap as map
 use Rattle.std.proofs.lemmas.Bool.{false_from_ne_true}
 use Rattle.sn_limits.specs.declared.kind.Kind.TheVariants.{Directory}
+use Rattle.sn_walk.specs.Views.{is_directory}
 use Rattle.sn_model.specs.declared.link.Link.{Link}
 use Rattle.sn_model.specs.Tree.{Node, Tree, names_for}
 use Rattle.sn_model.specs.Changes.{is_at_or_below}
@@ -11,6 +13,7 @@ use Rattle.sn_model.specs.ChangeLaws.{IsBelow, here, under}
 use Rattle.sn_model.specs.NameTree.{HasKind, IsHierarchy}
 use Rattle.sn_model.proofs.ClimbLemmas.{Climbs, climb_fits, climb_root, climbed, test_is_below}
 use Rattle.sn_model.proofs.CountLemmas.{count_found}
+use Rattle.sn_model.proofs.KeepLemmas.{directory_kind}
 use Rattle.sn_model.proofs.LinkLemmas.{exact_links, links_total}
 use Rattle.sn_model.proofs.MoveLemmas.{some_node}
 use Rattle.sn_model.proofs.NameLemmas.{is_unnamed, no_names_for}
@@ -23,6 +26,19 @@ use Rattle.sn_plain.proofs.MakingLemmas.{links_kept, stored_there}
 pub steps_up : Stored → ℕ → ℕ → ℕ
 steps_up stored zero d = 0
 steps_up stored (suc more) d = cond ((counts_of (map.get stored d)).links == 0) 0 (suc (steps_up stored more (counts_of (map.get stored d)).parent))
+
+-- whether there is a directory, as a test
+abbrev pub is_listed : Option Node → Bool
+is_listed None = false
+is_listed (Some node) = is_directory node.kind
+
+pub passes_test : (o : Option Node) → IsSomeAnd o (λ node. node.kind ≡ Directory) → is_listed o ≡ true
+passes_test None is = absurd is
+passes_test (Some node) is = ap is_directory is
+
+pub by_test : (o : Option Node) → is_listed o ≡ true → IsSomeAnd o (λ node. node.kind ≡ Directory)
+by_test None e = cc
+by_test (Some node) e = directory_kind node.kind e
 
 same_bool : (a b : Bool) → (a ≡ true → b ≡ true) → (b ≡ true → a ≡ true) → a ≡ b
 same_bool true b f g = sym (f refl)

@@ -92,18 +92,6 @@ impl PlainTree {
         self.first = after_loss(self.first, number);
     }
 
-    /// Takes the name of a directory away, and the directory.
-    fn take_directory(&mut self, link: &Link, number: u16)
-        requires there { map.get (tree_of self.old).links link.now ≡ Some number }
-        requires number { 2 ≤ number }
-        requires names { names_in (take_link (tree_of self.old) link.now) number ≡ 0 }
-        requires links { names_for (take_link (tree_of self.old) link.now) number ≡ 0 }
-        ensures { tree_of self.new ≡ take_node (take_link (tree_of self.old) link.now) number }
-    {
-        self.take_name(link, number);
-        self.take_node(number);
-    }
-
     /// Takes a name away that can be, and a directory with it.
     fn take(&mut self, link: &Link, number: u16)
         requires whole { (l : Limits) × IsTree l (tree_of self.old) }
@@ -111,11 +99,11 @@ impl PlainTree {
         requires can { is_some (removed (tree_of self.old) link.now) ≡ true }
         ensures { removed (tree_of self.old) link.now ≡ Some (tree_of self.new) }
     {
-        if self.is_file(number) {
-            self.take_name(link, number);
-            return;
+        let is_file = self.is_file(number);
+        self.take_name(link, number);
+        if !is_file {
+            self.take_node(number);
         }
-        self.take_directory(link, number);
     }
 
     /// Takes a name away, and an empty directory with it. A file stays, with or without other names.

@@ -1,4 +1,4 @@
-ghost use Rattle.std.specs.Prelude.{◌≡◌, OnOk, OnErr, None};
+ghost use Rattle.std.specs.Prelude.{◌≡◌, IfOk, OnOk, OnErr, None};
 ghost use Rattle.std.specs.FinMap as map;
 
 use crate::names::Names;
@@ -15,6 +15,7 @@ pub(crate) struct Links {
 
 impl Links {
     ghost use Rattle.sn_model.specs.Tree.{link_to};
+    ghost use Rattle.sn_plain.specs.Names.{names_at};
     ghost use Rattle.sn_plain.specs.Stored.{directories_of, links_of};
 
     pub fn new(alloc: Global) -> Links
@@ -37,6 +38,16 @@ impl Links {
         ensures { result ≡ map.get (links_of self.now) link.now }
     {
         self.named(link.directory, link.name.as_bytes())
+    }
+
+    /// The names of a directory, in the order of their bytes.
+    pub fn names(&self, alloc: Global, directory: u16) -> Result<Vec<Word>, AllocError>
+        ensures { IfOk result (λ words. words.items ≡ map.keys (names_at (map.get (directories_of self.now) directory))) }
+    {
+        match self.directories.get(&directory) {
+            Some(names) => names.words(alloc),
+            None => Ok(Vec::new(alloc)),
+        }
     }
 
     /// Gives a directory that has no names its first one.

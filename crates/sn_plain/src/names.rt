@@ -1,4 +1,4 @@
-ghost use Rattle.std.specs.Prelude.{◌≡◌, ◌↔◌, OnOk, OnErr, None, IsTrue};
+ghost use Rattle.std.specs.Prelude.{◌≡◌, ◌↔◌, IfOk, OnOk, OnErr, None, IsTrue};
 ghost use Rattle.std.specs.FinMap as map;
 
 use sn_model::Word;
@@ -47,5 +47,16 @@ impl Names {
         ensures { IsTrue result ↔ (names_of self.now ≡ map.empty) }
     {
         self.map.is_empty()
+    }
+
+    /// The names, in the order of their bytes.
+    pub fn words(&self, alloc: Global) -> Result<Vec<Word>, AllocError>
+        ensures { IfOk result (λ words. words.items ≡ map.keys (names_of self.now)) }
+    {
+        let mut words = Vec::with_capacity(alloc, self.map.len())?;
+        for name in self.map.keys() {
+            words.push(Word::new(alloc, name.as_slice())?)?;
+        }
+        Ok(words)
     }
 }

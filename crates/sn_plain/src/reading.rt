@@ -2,8 +2,10 @@ ghost use Rattle.std.specs.Prelude.{◌≡◌, IfOk, length, take, drop};
 ghost use Rattle.std.specs.FinMap as map;
 ghost use Rattle.std.specs.Option.{option_map};
 ghost use Rattle.sn_model.specs.FileCalls.{bytes_of};
+ghost use Rattle.sn_model.specs.Seen.{names_of};
 
 use crate::tree::PlainTree;
+use sn_model::Names;
 use std::alloc::{AllocError, Global};
 
 impl PlainTree {
@@ -34,5 +36,12 @@ impl PlainTree {
             None => Ok(None),
             Some(node) => Ok(Some(node.bytes.read(alloc, offset, count)?)),
         }
+    }
+
+    /// The names of a directory, in the order of their bytes: none where it has none, or isn't there.
+    pub fn names(&self, alloc: Global, directory: u16) -> Result<Names, AllocError>
+        ensures { IfOk result (λ names. names ≡ names_of (tree_of self.now) directory) }
+    {
+        Ok(Names::new(self.links.names(alloc, directory)?))
     }
 }

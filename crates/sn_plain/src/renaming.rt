@@ -3,7 +3,8 @@ ghost use Rattle.std.specs.FinMap as map;
 ghost use Rattle.sn_limits.specs.declared.limits.Limits.{Limits};
 ghost use Rattle.sn_limits.specs.declared.kind.Kind.TheVariants.{Directory};
 ghost use Rattle.sn_model.specs.Changes.{directory_at, is_at_or_below, is_new_name, moved, renamed, replaced, same_number};
-ghost use Rattle.sn_model.specs.NameTree.{HasKind, IsTree};
+ghost use Rattle.sn_model.specs.NameTree.{HasKind, IsHierarchy, IsTree};
+ghost use Rattle.sn_model.specs.Seen.{is_below};
 ghost use Rattle.sn_model.specs.Tree.{Node, names_in, names_for};
 
 use crate::error::ApplyError;
@@ -28,7 +29,7 @@ impl PlainTree {
     /// Whether a directory is another one, or is below it. It goes up by the directories that they
     /// are in.
     fn is_at_or_below(&self, top: u16, directory: u16) -> bool
-        requires whole { (l : Limits) × IsTree l (tree_of self.now) }
+        requires whole { ∥ IsHierarchy (tree_of self.now) ∥₁ }
         requires directory { HasKind (tree_of self.now) directory Directory }
         ensures { result ≡ is_at_or_below (tree_of self.now) top directory }
     {
@@ -41,6 +42,14 @@ impl PlainTree {
             current = counts.parent;
         }
         true
+    }
+
+    /// Whether a number is a directory's, which is another one or is below it.
+    pub fn is_below(&self, top: u16, directory: u16) -> bool
+        requires { ∥ IsHierarchy (tree_of self.now) ∥₁ }
+        ensures { result ≡ is_below (tree_of self.now) top directory }
+    {
+        self.is_directory_at(directory) && self.is_at_or_below(top, directory)
     }
 
     /// Whether it is a name that what is moved can get: no directory comes to lie in itself.

@@ -1,4 +1,5 @@
-ghost use Rattle.std.specs.Prelude.{◌≡◌, IfOk, IfErr, OnOk};
+ghost use Rattle.std.specs.Prelude.{◌≡◌, IfOk, IfErr, OnOk, is_some};
+ghost use Rattle.std.specs.FinMap as map;
 ghost use Rattle.sn_model.specs.Seen.{has_room_for_name};
 ghost use Rattle.sn_model.specs.Tests.{has_room};
 ghost use Rattle.sn_model.specs.Tree.{viewed, least_unused, names_in, names_for};
@@ -64,6 +65,12 @@ impl PlainTree {
             links: Links::new(alloc),
             first: 3,
         })
+    }
+
+    pub fn has_node(&self, number: u16) -> bool
+        ensures { result ≡ is_some (map.get (tree_of self.now).nodes number) }
+    {
+        self.nodes.get(number).is_some()
     }
 
     pub fn attributes(&self, number: u16) -> Option<Attributes>

@@ -21,7 +21,7 @@ use Rattle.sn_run.specs.Runs.{IsRunOf}
 use Rattle.sn_run.proofs.NewDiskLemmas.{new_disk_opens}
 use Rattle.sn_model.specs.Machine.{State, Running, HasNoList, HasNoMount, HasRun, Anything, Run, WholeRun}
 use Rattle.sn_model.specs.World.{World, new_world}
-use Rattle.sn_script.specs.Replies.{reply_line}
+use Rattle.sn_replies.specs.Replies.{reply_line}
 use Rattle.sn_script.specs.Scripts.{IsScript}
 use Rattle.sn_program.specs.Answers.{AppendsFront, BeginsToAnswer, IsAnswer}
 use Rattle.sn_program.proofs.OutputLemmas.{keeps_none}

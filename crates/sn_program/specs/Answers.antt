@@ -8,7 +8,7 @@ use Rattle.sn_model.specs.declared.call.Event.{Event}
 use Rattle.sn_model.specs.declared.reply.Reply.{Reply}
 use Rattle.sn_model.specs.Machine.{State, Running, Anything, Run}
 use Rattle.sn_model.specs.World.{World, new_world}
-use Rattle.sn_script.specs.Replies.{reply_line}
+use Rattle.sn_replies.specs.Replies.{reply_line}
 use Rattle.sn_script.specs.Scripts.{IsScript}
 
 -- the text is the lines of replies that the machine may give, from a new world on, to the events of the script

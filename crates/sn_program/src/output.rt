@@ -1,13 +1,13 @@
 ghost use Rattle.std.specs.Prelude.{◌≡◌, ◌≤◌, [], length, take, OnOk, OnErr, IfOk, IfErr};
 ghost use Rattle.std.specs.List.{flat_map};
 ghost use Rattle.std.specs.Io.KnownBytes.{Appends};
-ghost use Rattle.sn_script.specs.Replies.{reply_line};
+ghost use Rattle.sn_replies.specs.Replies.{reply_line};
 ghost use Rattle.sn_program.specs.Answers.{AppendsFront};
 ghost use Rattle.sn_program.specs.Fault.{IsOfFile};
 
 use crate::fault::Fault;
 use sn_model::Reply;
-use sn_script::print_replies;
+use sn_replies::print_replies;
 use std::alloc::Global;
 use std::io;
 use std::io::{ErrorKind, Write};

@@ -1,6 +1,6 @@
 -- A call that is read from its name and arguments is theirs, and the call of a name and arguments is read from them.
-use Rattle.std.proofs.Common.{◌≡◌, ℕ, ◌^◌, ◌<◌, inl, inr, cond, List, [], ◌∷◌, Option, Some, None, refl, ap, subst, ◌∙◌, lit≤}
-use Rattle.std.specs.Prelude.{IfSome, IsTrue, true, decimal, codes}
+use Rattle.std.proofs.Common.{◌≡◌, ℕ, ◌^◌, ◌<◌, inl, inr, cond, List, [], ◌∷◌, Option, Some, None, refl, subst, ◌∙◌, lit≤}
+use Rattle.std.specs.Prelude.{true, decimal, codes}
 use Rattle.std.specs.Str.{bytes_eq}
 use Rattle.std.proofs.lemmas.Slice.Eq.{bytes_eq-Decides}
 use Rattle.sn_model.specs.declared.call.Call.{Call}
@@ -8,13 +8,14 @@ use Rattle.sn_model.specs.declared.call.Call.TheVariants as call
 use Rattle.sn_model.specs.Chains.{◌>>=◌}
 use Rattle.sn_model.proofs.ChainLemmas.{bind_some, some_same}
 use Rattle.sn_model.specs.Texts.{access_text}
-use Rattle.sn_script.specs.Fields.{octal, id_word, numbers_word, is_word, kind_word, flags_word, content_word, mode_words}
+use Rattle.sn_words.specs.Fields.{octal, id_word, numbers_word, is_word, kind_word, flags_word, content_word, mode_words}
 use Rattle.sn_script.specs.Lines.{name_of, arguments_of, IsCall}
-use Rattle.sn_script.specs.Reading.{number_below, octal_of, groups_of, id_of, word_of, want_of, kind_named, flags_of, file_mode_of, content_of, path_of, paths_of, path_mode_of, descriptor_of, descriptor_number_of, login_of, logout_of, umask_of, chown_of, access_of, getacl_of, setacl_of, open_of, write_of, file_call_of, access_call_of, name_call_of, call_of}
-use Rattle.sn_script.proofs.Options.{chosen}
-use Rattle.sn_script.proofs.Numbers.{number_again, number_takes}
-use Rattle.sn_script.proofs.FieldLaws.{octal_takes, octal_again, word_takes, word_again, groups_take, groups_again, id_takes, id_again, want_takes, want_again, kind_takes, kind_again}
-use Rattle.sn_script.proofs.FlagLaws.{flags_take, flags_again, file_mode_takes, file_mode_again, content_takes, content_again}
+use Rattle.sn_words.specs.Reading.{number_below, octal_of, groups_of, id_of, word_of, want_of, kind_named, flags_of, file_mode_of, content_of}
+use Rattle.sn_script.specs.Reading.{path_of, paths_of, path_mode_of, descriptor_of, descriptor_number_of, login_of, logout_of, umask_of, chown_of, access_of, getacl_of, setacl_of, open_of, write_of, file_call_of, access_call_of, path_call_of, name_call_of, call_of}
+use Rattle.sn_words.proofs.Options.{chosen}
+use Rattle.sn_words.proofs.Numbers.{number_again, number_takes}
+use Rattle.sn_words.proofs.FieldLaws.{octal_takes, octal_again, word_takes, word_again, groups_take, groups_again, id_takes, id_again, want_takes, want_again, kind_takes, kind_again}
+use Rattle.sn_words.proofs.FlagLaws.{flags_take, flags_again, file_mode_takes, file_mode_again, content_takes, content_again}
 
 -- what was read as this call
 abbrev pub Reads : List ℕ → List (List ℕ) → Call → Type 0
@@ -246,14 +247,20 @@ module _ (name : List ℕ) (arguments : List (List ℕ)) (c : Call) where
       (picked (codes "getacl") (getacl_of arguments) _ (getacl_takes arguments c)
       (picked (codes "setacl") (setacl_of arguments) (file_call_of name arguments) (setacl_takes arguments c) file_call_takes))))
 
+  path_call_takes : path_call_of name arguments ≡ Some c → Reads name arguments c
+  unfolding path_call_of
+  path_call_takes =
+      picked (codes "rmdir") _ _ (made (codes "rmdir") (path_of arguments) (λ p. call.Rmdir p) (λ p e. let t = path_takes arguments p e in (refl, t.0, t.1)))
+      (picked (codes "unlink") _ _ (made (codes "unlink") (path_of arguments) (λ p. call.Unlink p) (λ p e. let t = path_takes arguments p e in (refl, t.0, t.1)))
+      (picked (codes "readdir") _ _ (made (codes "readdir") (path_of arguments) (λ p. call.Readdir p) (λ p e. let t = path_takes arguments p e in (refl, t.0, t.1)))
+      (picked (codes "stat") _ (access_call_of name arguments) (made (codes "stat") (path_of arguments) (λ p. call.Stat p) (λ p e. let t = path_takes arguments p e in (refl, t.0, t.1))) access_call_takes)))
+
   name_call_takes : name_call_of name arguments ≡ Some c → Reads name arguments c
   unfolding name_call_of
   name_call_takes =
       picked (codes "mkdir") _ _ (made (codes "mkdir") (path_mode_of arguments) (λ p. call.Mkdir p.0 p.1) (λ p e. let t = path_mode_takes arguments p e in (refl, t.0, (t.1, t.2))))
-      (picked (codes "rmdir") _ _ (made (codes "rmdir") (path_of arguments) (λ p. call.Rmdir p) (λ p e. let t = path_takes arguments p e in (refl, t.0, t.1)))
-      (picked (codes "unlink") _ _ (made (codes "unlink") (path_of arguments) (λ p. call.Unlink p) (λ p e. let t = path_takes arguments p e in (refl, t.0, t.1)))
       (picked (codes "link") _ _ (made (codes "link") (paths_of arguments) (λ p. call.Link p.0 p.1) (λ p e. let t = paths_take arguments p e in (refl, t.0, (t.1, t.2))))
-      (picked (codes "stat") _ (access_call_of name arguments) (made (codes "stat") (path_of arguments) (λ p. call.Stat p) (λ p e. let t = path_takes arguments p e in (refl, t.0, t.1))) access_call_takes))))
+      (picked (codes "rename") _ (path_call_of name arguments) (made (codes "rename") (paths_of arguments) (λ p. call.Rename p.0 p.1) (λ p e. let t = paths_take arguments p e in (refl, t.0, (t.1, t.2)))) path_call_takes))
 
   pub call_takes : call_of name arguments ≡ Some c → Reads name arguments c
   unfolding call_of
@@ -263,7 +270,7 @@ module _ (name : List ℕ) (arguments : List (List ℕ)) (c : Call) where
       (picked (codes "umask") (umask_of arguments) (name_call_of name arguments) (umask_takes arguments c) name_call_takes))
 
 pub call_again : (c : Call) → IsCall c → call_of (name_of c) (arguments_of c) ≡ Some c
-unfolding call_of name_call_of access_call_of file_call_of path_of paths_of path_mode_of descriptor_of descriptor_number_of login_of logout_of umask_of chown_of access_of getacl_of setacl_of open_of write_of
+unfolding call_of name_call_of path_call_of access_call_of file_call_of path_of paths_of path_mode_of descriptor_of descriptor_number_of login_of logout_of umask_of chown_of access_of getacl_of setacl_of open_of write_of
 call_again (call.Login uid gid groups) h = rw (number_again (2 ^ 32) uid (lit≤ tt) h.0, number_again (2 ^ 32) gid (lit≤ tt) h.1, groups_again groups h.2 h.3) refl
 call_again call.Logout h = refl
 call_again (call.Umask mask) h = rw (octal_again mask h) refl
@@ -277,6 +284,8 @@ call_again (call.SetAcl path kind acl) h = rw (word_again path h.0, kind_again k
 call_again (call.Rmdir path) h = rw (word_again path h) refl
 call_again (call.Unlink path) h = rw (word_again path h) refl
 call_again (call.Link old new) h = rw (word_again old h.0, word_again new h.1) refl
+call_again (call.Rename old new) h = rw (word_again old h.0, word_again new h.1) refl
+call_again (call.Readdir path) h = rw (word_again path h) refl
 call_again (call.Open path flags mode) h = rw (word_again path h.0, flags_again flags h.1, file_mode_again flags.create mode h.2) refl
 call_again (call.Close fd) h = rw (number_again (2 ^ 32) fd (lit≤ tt) h) refl
 call_again (call.Read fd count) h = rw (number_again (2 ^ 32) fd (lit≤ tt) h.0, number_again (2 ^ 64) count (lit≤ tt) h.1) refl

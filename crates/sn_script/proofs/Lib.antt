@@ -1,10 +1,3 @@
-pub mod Options
-pub mod Numbers
-pub mod Parts
-pub mod Bytes
-pub mod FieldLaws
-pub mod FlagLaws
 pub mod CallLaws
 pub mod LineLaws
 pub mod ScriptLaws
-pub mod Printed

@@ -13,17 +13,18 @@ use Rattle.sn_model.specs.declared.call.Event.TheVariants as event
 use Rattle.sn_model.specs.Chains.{◌>>=◌}
 use Rattle.sn_model.proofs.ChainLemmas.{bind_some, some_same}
 use Rattle.sn_model.specs.Texts.{access_text}
-use Rattle.sn_script.specs.Fields.{parts, octal, id_word, numbers_word, is_word, kind_word, flags_word, mode_words, IsFileMode}
+use Rattle.sn_words.specs.Fields.{parts, octal, id_word, numbers_word, is_word, kind_word, flags_word, mode_words, IsFileMode}
 use Rattle.sn_script.specs.Lines.{name_of, arguments_of, words_of, line_of, IsCall, IsEvent}
 use Rattle.sn_script.specs.Scripts.{BeginsBadly}
-use Rattle.sn_script.specs.declared.fault.LineFault.{LineFault}
-use Rattle.sn_script.specs.declared.fault.LineFault.TheVariants.{Bad, Memory}
-use Rattle.sn_script.specs.Reading.{IsRead, number_below, call_of, event_of, line_event}
-use Rattle.sn_script.proofs.Options.{passed, both_true}
-use Rattle.sn_script.proofs.Numbers.{number_again, number_takes}
-use Rattle.sn_script.proofs.Bytes.{Within, Within-wider, Within-join, decimal_within, graphic_within, Lacks, Lacks-append, lacks_outside, parts_join}
-use Rattle.sn_script.proofs.FieldLaws.{want_graphic, kind_graphic}
-use Rattle.sn_script.proofs.FlagLaws.{flags_graphic, content_graphic}
+use Rattle.sn_words.specs.declared.fault.ReadFault.{ReadFault}
+use Rattle.sn_words.specs.declared.fault.ReadFault.TheVariants.{Bad, Memory}
+use Rattle.sn_words.specs.Reading.{IsRead, number_below}
+use Rattle.sn_script.specs.Reading.{call_of, event_of, line_event}
+use Rattle.sn_words.proofs.Options.{passed, both_true}
+use Rattle.sn_words.proofs.Numbers.{number_again, number_takes}
+use Rattle.sn_words.proofs.Bytes.{Within, Within-wider, Within-join, decimal_within, graphic_within, Lacks, Lacks-append, lacks_outside, parts_join}
+use Rattle.sn_words.proofs.FieldLaws.{want_graphic, kind_graphic}
+use Rattle.sn_words.proofs.FlagLaws.{flags_graphic, content_graphic}
 use Rattle.sn_script.proofs.CallLaws.{call_takes, call_again}
 
 event_takes : (words : List (List ℕ)) (e : Event) → event_of words ≡ Some e → (words ≡ words_of e) × IsEvent e
@@ -97,6 +98,8 @@ call_graphic (call.SetAcl path kind acl) h = (graphic_within (codes "setacl") re
 call_graphic (call.Rmdir path) h = (graphic_within (codes "rmdir") refl, (word_graphic path h, tt))
 call_graphic (call.Unlink path) h = (graphic_within (codes "unlink") refl, (word_graphic path h, tt))
 call_graphic (call.Link old new) h = (graphic_within (codes "link") refl, (word_graphic old h.0, (word_graphic new h.1, tt)))
+call_graphic (call.Rename old new) h = (graphic_within (codes "rename") refl, (word_graphic old h.0, (word_graphic new h.1, tt)))
+call_graphic (call.Readdir path) h = (graphic_within (codes "readdir") refl, (word_graphic path h, tt))
 call_graphic (call.Open path flags mode) h = (graphic_within (codes "open") refl, (word_graphic path h.0, (flags_graphic flags, modes_graphic flags.create mode h.2)))
 call_graphic (call.Close fd) h = (graphic_within (codes "close") refl, (number_graphic fd h, tt))
 call_graphic (call.Read fd count) h = (graphic_within (codes "read") refl, (number_graphic fd h.0, (long_graphic count h.1, tt)))
@@ -139,6 +142,8 @@ few_arguments (call.SetAcl path kind acl) = refl
 few_arguments (call.Rmdir path) = refl
 few_arguments (call.Unlink path) = refl
 few_arguments (call.Link old new) = refl
+few_arguments (call.Rename old new) = refl
+few_arguments (call.Readdir path) = refl
 few_arguments (call.Close fd) = refl
 few_arguments (call.Read fd count) = refl
 few_arguments (call.Write fd bytes) = refl
@@ -219,6 +224,6 @@ no_line script lacks e more h same =
     let head : eqb 10 10 ≡ false = (Lacks-append 10 (text_of e) (10 ∷ more) whole).0 in
     absurd cc
 
-pub nothing_read : (fault : LineFault) (read : Option Event) → fault ≡ Bad → IsRead {X = Event} {Y = Event} (λ e. e) (Err fault) read → read ≡ None
+pub nothing_read : (fault : ReadFault) (read : Option Event) → fault ≡ Bad → IsRead {X = Event} {Y = Event} (λ e. e) (Err fault) read → read ≡ None
 nothing_read Bad read is gives = gives
 nothing_read Memory read is gives = absurd cc

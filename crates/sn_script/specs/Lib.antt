@@ -1,5 +1,3 @@
-pub mod Fields
 pub mod Lines
 pub mod Reading
 pub mod Scripts
-pub mod Replies

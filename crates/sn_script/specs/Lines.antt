@@ -7,7 +7,7 @@ use Rattle.sn_model.specs.declared.call.Call.TheVariants as call
 use Rattle.sn_model.specs.declared.call.Event.{Event}
 use Rattle.sn_model.specs.declared.call.Event.TheVariants as event
 use Rattle.sn_model.specs.Texts.{access_text}
-use Rattle.sn_script.specs.Fields.{content_word, flags_word, has_flag, id_word, kind_word, mode_words, numbers_word, octal, is_word, IsFileMode}
+use Rattle.sn_words.specs.Fields.{content_word, flags_word, has_flag, id_word, kind_word, mode_words, numbers_word, octal, is_word, IsFileMode}
 
 abbrev pub name_of : Call → List ℕ
 name_of (call.Login uid gid groups) = codes "login"
@@ -23,6 +23,8 @@ name_of (call.SetAcl path kind acl) = codes "setacl"
 name_of (call.Rmdir path) = codes "rmdir"
 name_of (call.Unlink path) = codes "unlink"
 name_of (call.Link old new) = codes "link"
+name_of (call.Rename old new) = codes "rename"
+name_of (call.Readdir path) = codes "readdir"
 name_of (call.Open path flags mode) = codes "open"
 name_of (call.Close fd) = codes "close"
 name_of (call.Read fd count) = codes "read"
@@ -44,6 +46,8 @@ arguments_of (call.SetAcl path kind acl) = path ∷ kind_word kind ∷ acl ∷ [
 arguments_of (call.Rmdir path) = path ∷ []
 arguments_of (call.Unlink path) = path ∷ []
 arguments_of (call.Link old new) = old ∷ new ∷ []
+arguments_of (call.Rename old new) = old ∷ new ∷ []
+arguments_of (call.Readdir path) = path ∷ []
 arguments_of (call.Open path flags mode) = path ∷ flags_word flags ∷ mode_words flags.create mode
 arguments_of (call.Close fd) = decimal fd ∷ []
 arguments_of (call.Read fd count) = decimal fd ∷ decimal count ∷ []
@@ -75,6 +79,8 @@ IsCall (call.SetAcl path kind acl) = IsTrue (is_word path) × IsTrue (is_word ac
 IsCall (call.Rmdir path) = IsTrue (is_word path)
 IsCall (call.Unlink path) = IsTrue (is_word path)
 IsCall (call.Link old new) = IsTrue (is_word old) × IsTrue (is_word new)
+IsCall (call.Rename old new) = IsTrue (is_word old) × IsTrue (is_word new)
+IsCall (call.Readdir path) = IsTrue (is_word path)
 IsCall (call.Open path flags mode) = IsTrue (is_word path) × IsTrue (has_flag flags) × IsFileMode flags.create mode
 IsCall (call.Close fd) = fd < 2 ^ 32
 IsCall (call.Read fd count) = (fd < 2 ^ 32) × (count < 2 ^ 64)

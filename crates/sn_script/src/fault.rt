@@ -1,5 +1,4 @@
 ghost use Rattle.std.specs.Prelude.{◌≡◌};
-ghost use Rattle.sn_script.specs.declared.fault.LineFault.TheVariants as line;
 ghost use Rattle.sn_script.specs.declared.fault.ScriptFault.TheVariants as script;
 
 use std::alloc::{AllocError, AllocFailed};
@@ -13,21 +12,6 @@ pub enum ScriptFault {
     Line(usize),
     #[error("memory")]
     Memory,
-}
-
-/// Why a line was not read.
-#[derive(Clone, Copy, Debug, PartialEq, Eq)]
-pub(crate) enum LineFault {
-    Bad,
-    Memory,
-}
-
-impl From<AllocError> for LineFault {
-    ghost from_gives = { λ _ fault. fault ≡ line.Memory };
-
-    fn from(_error: AllocError) -> LineFault {
-        LineFault::Memory
-    }
 }
 
 impl From<AllocError> for ScriptFault {

@@ -1,11 +1,12 @@
 ghost use Rattle.std.specs.Prelude.{map};
-ghost use Rattle.sn_script.specs.Reading.{IsRead, login_of, logout_of, umask_of, chown_of, access_of, getacl_of, setacl_of, open_of, write_of, file_call_of, access_call_of, name_call_of, call_of, event_of, line_event};
+ghost use Rattle.sn_words.specs.Reading.{IsRead};
+ghost use Rattle.sn_script.specs.Reading.{login_of, logout_of, umask_of, chown_of, access_of, getacl_of, setacl_of, open_of, write_of, file_call_of, access_call_of, path_call_of, name_call_of, call_of, event_of, line_event};
 
 use crate::arguments::{descriptor, descriptor_and_number, path, path_and_mode, paths};
-use crate::cut::parts;
-use crate::fault::LineFault;
-use crate::field::{acl_kind, content, file_mode, flags, groups, id, number, octal, want, word};
 use sn_model::{Call, Event};
+use sn_words::ReadFault;
+use sn_words::cut::parts;
+use sn_words::field::{acl_kind, content, file_mode, flags, groups, id, number, octal, want, word};
 use std::alloc::Global;
 
 /// The most words that a line has.
@@ -25,6 +26,10 @@ const RMDIR: &[u8] = b"rmdir";
 const UNLINK: &[u8] = b"unlink";
 
 const LINK: &[u8] = b"link";
+
+const RENAME: &[u8] = b"rename";
+
+const READDIR: &[u8] = b"readdir";
 
 const STAT: &[u8] = b"stat";
 
@@ -51,11 +56,11 @@ const SEEK: &[u8] = b"seek";
 const FTRUNCATE: &[u8] = b"ftruncate";
 
 #[tactic(auto, unfolding(crate::specs::Reading::login_of))]
-fn login(alloc: Global, arguments: &[&[u8]]) -> Result<Call, LineFault>
+fn login(alloc: Global, arguments: &[&[u8]]) -> Result<Call, ReadFault>
     ensures { IsRead (λ c. c) result (login_of (map (λ w. w.now) arguments.now)) }
 {
     let &[uid, gid, others] = arguments else {
-        return Err(LineFault::Bad);
+        return Err(ReadFault::Bad);
     };
     let uid = number(uid)?;
     let gid = number(gid)?;
@@ -64,33 +69,33 @@ fn login(alloc: Global, arguments: &[&[u8]]) -> Result<Call, LineFault>
 }
 
 #[tactic(auto, unfolding(crate::specs::Reading::logout_of))]
-fn logout(arguments: &[&[u8]]) -> Result<Call, LineFault>
+fn logout(arguments: &[&[u8]]) -> Result<Call, ReadFault>
     ensures { IsRead (λ c. c) result (logout_of (map (λ w. w.now) arguments.now)) }
 {
     if arguments.is_empty() {
         Ok(Call::Logout)
     } else {
-        Err(LineFault::Bad)
+        Err(ReadFault::Bad)
     }
 }
 
 #[tactic(auto, unfolding(crate::specs::Reading::umask_of))]
-fn umask(arguments: &[&[u8]]) -> Result<Call, LineFault>
+fn umask(arguments: &[&[u8]]) -> Result<Call, ReadFault>
     ensures { IsRead (λ c. c) result (umask_of (map (λ w. w.now) arguments.now)) }
 {
     let &[mask] = arguments else {
-        return Err(LineFault::Bad);
+        return Err(ReadFault::Bad);
     };
     let mask = octal(mask)?;
     Ok(Call::Umask { mask })
 }
 
 #[tactic(auto, unfolding(crate::specs::Reading::chown_of))]
-fn chown(alloc: Global, arguments: &[&[u8]]) -> Result<Call, LineFault>
+fn chown(alloc: Global, arguments: &[&[u8]]) -> Result<Call, ReadFault>
     ensures { IsRead (λ c. c) result (chown_of (map (λ w. w.now) arguments.now)) }
 {
     let &[path, uid, gid] = arguments else {
-        return Err(LineFault::Bad);
+        return Err(ReadFault::Bad);
     };
     let path = word(alloc, path)?;
     let uid = id(uid)?;
@@ -99,11 +104,11 @@ fn chown(alloc: Global, arguments: &[&[u8]]) -> Result<Call, LineFault>
 }
 
 #[tactic(auto, unfolding(crate::specs::Reading::access_of))]
-fn access(alloc: Global, arguments: &[&[u8]]) -> Result<Call, LineFault>
+fn access(alloc: Global, arguments: &[&[u8]]) -> Result<Call, ReadFault>
     ensures { IsRead (λ c. c) result (access_of (map (λ w. w.now) arguments.now)) }
 {
     let &[path, rights] = arguments else {
-        return Err(LineFault::Bad);
+        return Err(ReadFault::Bad);
     };
     let path = word(alloc, path)?;
     let want = want(rights)?;
@@ -111,11 +116,11 @@ fn access(alloc: Global, arguments: &[&[u8]]) -> Result<Call, LineFault>
 }
 
 #[tactic(auto, unfolding(crate::specs::Reading::getacl_of))]
-fn getacl(alloc: Global, arguments: &[&[u8]]) -> Result<Call, LineFault>
+fn getacl(alloc: Global, arguments: &[&[u8]]) -> Result<Call, ReadFault>
     ensures { IsRead (λ c. c) result (getacl_of (map (λ w. w.now) arguments.now)) }
 {
     let &[path, kind] = arguments else {
-        return Err(LineFault::Bad);
+        return Err(ReadFault::Bad);
     };
     let path = word(alloc, path)?;
     let kind = acl_kind(kind)?;
@@ -123,11 +128,11 @@ fn getacl(alloc: Global, arguments: &[&[u8]]) -> Result<Call, LineFault>
 }
 
 #[tactic(auto, unfolding(crate::specs::Reading::setacl_of))]
-fn setacl(alloc: Global, arguments: &[&[u8]]) -> Result<Call, LineFault>
+fn setacl(alloc: Global, arguments: &[&[u8]]) -> Result<Call, ReadFault>
     ensures { IsRead (λ c. c) result (setacl_of (map (λ w. w.now) arguments.now)) }
 {
     let &[path, kind, acl] = arguments else {
-        return Err(LineFault::Bad);
+        return Err(ReadFault::Bad);
     };
     let path = word(alloc, path)?;
     let kind = acl_kind(kind)?;
@@ -136,11 +141,11 @@ fn setacl(alloc: Global, arguments: &[&[u8]]) -> Result<Call, LineFault>
 }
 
 #[tactic(auto, unfolding(crate::specs::Reading::open_of))]
-fn open(alloc: Global, arguments: &[&[u8]]) -> Result<Call, LineFault>
+fn open(alloc: Global, arguments: &[&[u8]]) -> Result<Call, ReadFault>
     ensures { IsRead (λ c. c) result (open_of (map (λ w. w.now) arguments.now)) }
 {
     let &[path, letters, ref others @ ..] = arguments else {
-        return Err(LineFault::Bad);
+        return Err(ReadFault::Bad);
     };
     let path = word(alloc, path)?;
     let flags = flags(letters)?;
@@ -149,11 +154,11 @@ fn open(alloc: Global, arguments: &[&[u8]]) -> Result<Call, LineFault>
 }
 
 #[tactic(auto, unfolding(crate::specs::Reading::write_of))]
-fn write(alloc: Global, arguments: &[&[u8]]) -> Result<Call, LineFault>
+fn write(alloc: Global, arguments: &[&[u8]]) -> Result<Call, ReadFault>
     ensures { IsRead (λ c. c) result (write_of (map (λ w. w.now) arguments.now)) }
 {
     let &[fd, digits] = arguments else {
-        return Err(LineFault::Bad);
+        return Err(ReadFault::Bad);
     };
     let fd = number(fd)?;
     let bytes = content(alloc, digits)?;
@@ -162,7 +167,7 @@ fn write(alloc: Global, arguments: &[&[u8]]) -> Result<Call, LineFault>
 
 /// A call on descriptors.
 #[tactic(auto, unfolding(crate::specs::Reading::file_call_of))]
-fn file_call(alloc: Global, name: &[u8], arguments: &[&[u8]]) -> Result<Call, LineFault>
+fn file_call(alloc: Global, name: &[u8], arguments: &[&[u8]]) -> Result<Call, ReadFault>
     ensures { IsRead (λ c. c) result (file_call_of name.now (map (λ w. w.now) arguments.now)) }
 {
     if name == OPEN {
@@ -187,12 +192,12 @@ fn file_call(alloc: Global, name: &[u8], arguments: &[&[u8]]) -> Result<Call, Li
         let (fd, size) = descriptor_and_number(arguments)?;
         return Ok(Call::Ftruncate { fd, size });
     }
-    Err(LineFault::Bad)
+    Err(ReadFault::Bad)
 }
 
 /// A call of modes, owners and ACLs, or on descriptors.
 #[tactic(auto, unfolding(crate::specs::Reading::access_call_of))]
-fn access_call(alloc: Global, name: &[u8], arguments: &[&[u8]]) -> Result<Call, LineFault>
+fn access_call(alloc: Global, name: &[u8], arguments: &[&[u8]]) -> Result<Call, ReadFault>
     ensures { IsRead (λ c. c) result (access_call_of name.now (map (λ w. w.now) arguments.now)) }
 {
     if name == CHMOD {
@@ -214,15 +219,11 @@ fn access_call(alloc: Global, name: &[u8], arguments: &[&[u8]]) -> Result<Call, 
     file_call(alloc, name, arguments)
 }
 
-/// A call on names, or of the other groups.
-#[tactic(auto, unfolding(crate::specs::Reading::name_call_of))]
-fn name_call(alloc: Global, name: &[u8], arguments: &[&[u8]]) -> Result<Call, LineFault>
-    ensures { IsRead (λ c. c) result (name_call_of name.now (map (λ w. w.now) arguments.now)) }
+/// A call on one path alone, or of modes, owners and ACLs, or on descriptors.
+#[tactic(auto, unfolding(crate::specs::Reading::path_call_of))]
+fn path_call(alloc: Global, name: &[u8], arguments: &[&[u8]]) -> Result<Call, ReadFault>
+    ensures { IsRead (λ c. c) result (path_call_of name.now (map (λ w. w.now) arguments.now)) }
 {
-    if name == MKDIR {
-        let (path, mode) = path_and_mode(alloc, arguments)?;
-        return Ok(Call::Mkdir { path, mode });
-    }
     if name == RMDIR {
         let path = path(alloc, arguments)?;
         return Ok(Call::Rmdir { path });
@@ -231,9 +232,9 @@ fn name_call(alloc: Global, name: &[u8], arguments: &[&[u8]]) -> Result<Call, Li
         let path = path(alloc, arguments)?;
         return Ok(Call::Unlink { path });
     }
-    if name == LINK {
-        let (old, new) = paths(alloc, arguments)?;
-        return Ok(Call::Link { old, new });
+    if name == READDIR {
+        let path = path(alloc, arguments)?;
+        return Ok(Call::Readdir { path });
     }
     if name == STAT {
         let path = path(alloc, arguments)?;
@@ -242,8 +243,28 @@ fn name_call(alloc: Global, name: &[u8], arguments: &[&[u8]]) -> Result<Call, Li
     access_call(alloc, name, arguments)
 }
 
+/// A call on names, or of the other groups.
+#[tactic(auto, unfolding(crate::specs::Reading::name_call_of))]
+fn name_call(alloc: Global, name: &[u8], arguments: &[&[u8]]) -> Result<Call, ReadFault>
+    ensures { IsRead (λ c. c) result (name_call_of name.now (map (λ w. w.now) arguments.now)) }
+{
+    if name == MKDIR {
+        let (path, mode) = path_and_mode(alloc, arguments)?;
+        return Ok(Call::Mkdir { path, mode });
+    }
+    if name == LINK {
+        let (old, new) = paths(alloc, arguments)?;
+        return Ok(Call::Link { old, new });
+    }
+    if name == RENAME {
+        let (old, new) = paths(alloc, arguments)?;
+        return Ok(Call::Rename { old, new });
+    }
+    path_call(alloc, name, arguments)
+}
+
 #[tactic(auto, unfolding(crate::specs::Reading::call_of))]
-fn call(alloc: Global, name: &[u8], arguments: &[&[u8]]) -> Result<Call, LineFault>
+fn call(alloc: Global, name: &[u8], arguments: &[&[u8]]) -> Result<Call, ReadFault>
     ensures { IsRead (λ c. c) result (call_of name.now (map (λ w. w.now) arguments.now)) }
 {
     if name == LOGIN {
@@ -259,11 +280,11 @@ fn call(alloc: Global, name: &[u8], arguments: &[&[u8]]) -> Result<Call, LineFau
 }
 
 #[tactic(auto, unfolding(crate::specs::Reading::event_of))]
-fn event_of_words(alloc: Global, words: &[&[u8]]) -> Result<Event, LineFault>
+fn event_of_words(alloc: Global, words: &[&[u8]]) -> Result<Event, ReadFault>
     ensures { IsRead (λ e. e) result (event_of (map (λ w. w.now) words.now)) }
 {
     let &[session, name, ref arguments @ ..] = words else {
-        return Err(LineFault::Bad);
+        return Err(ReadFault::Bad);
     };
     let session = number(session)?;
     let call = call(alloc, name, arguments)?;
@@ -272,11 +293,11 @@ fn event_of_words(alloc: Global, words: &[&[u8]]) -> Result<Event, LineFault>
 
 /// The event of a line that comes without its end.
 #[tactic(auto, unfolding(crate::specs::Reading::line_event))]
-pub(crate) fn event(alloc: Global, line: &[u8]) -> Result<Event, LineFault>
+pub(crate) fn event(alloc: Global, line: &[u8]) -> Result<Event, ReadFault>
     ensures { IsRead (λ e. e) result (line_event line.now) }
 {
     let Some(words) = parts::<MAX_WORDS>(line, b' ') else {
-        return Err(LineFault::Bad);
+        return Err(ReadFault::Bad);
     };
     event_of_words(alloc, words.as_slice())
 }

@@ -3,22 +3,23 @@ ghost use Rattle.sn_script.specs.Lines.{line_of, IsEvent};
 ghost use Rattle.sn_script.specs.Scripts.{IsScript, IsFirstBad, BeginsBadly};
 ghost use Rattle.sn_model.specs.declared.call.Event.{Event};
 
-use crate::cut::cut;
-use crate::fault::{LineFault, ScriptFault};
+use crate::fault::ScriptFault;
 use crate::line::event;
 use sn_model::Event;
+use sn_words::ReadFault;
+use sn_words::cut::cut;
 use std::alloc::Global;
 
 /// The most bytes that a script may have.
 pub const SCRIPT_MAX: usize = 16_777_216;
 
 /// The event of the first line, and the lines after it.
-fn first_event(alloc: Global, script: &[u8]) -> Result<(Event, &[u8]), LineFault>
+fn first_event(alloc: Global, script: &[u8]) -> Result<(Event, &[u8]), ReadFault>
     ensures found { IfOk result (λ first. IsEvent first.0 × (script.now ≡ line_of first.0 ++ first.1.now)) }
-    ensures bad { IsErrOf result LineFault.Bad → BeginsBadly script.now }
+    ensures bad { IsErrOf result ReadFault.Bad → BeginsBadly script.now }
 {
     let Some((line, others)) = cut(script, b'\n') else {
-        return Err(LineFault::Bad);
+        return Err(ReadFault::Bad);
     };
     let event = event(alloc, line)?;
     Ok((event, others))
@@ -49,8 +50,8 @@ pub fn read_script(alloc: Global, script: &[u8]) -> Result<Vec<Event>, ScriptFau
                 events.push(event)?;
                 rest = others;
             }
-            Err(LineFault::Bad) => return Err(ScriptFault::Line(events.len() + 1)),
-            Err(LineFault::Memory) => return Err(ScriptFault::Memory),
+            Err(ReadFault::Bad) => return Err(ScriptFault::Line(events.len() + 1)),
+            Err(ReadFault::Memory) => return Err(ScriptFault::Memory),
         }
     }
     Ok(events)

@@ -3,7 +3,8 @@
 use anyhow::{Context, Result, ensure};
 use sn_core::run_plain;
 use sn_model::{End, Errno, Event, Reply};
-use sn_script::{print_replies, read_script};
+use sn_replies::print_replies;
+use sn_script::read_script;
 use sn_table::{Report, Tally};
 use std::alloc::Global;
 use std::str;
@@ -13,6 +14,7 @@ pub fn run(report: &mut Report<'_>) -> Result<()> {
     report.script("run_hidden.txt", replies_to)?;
     report.script("run_restart.txt", replies_to)?;
     report.script("run_owners.txt", replies_to)?;
+    report.script("run_names.txt", replies_to)?;
     let again = asked_again(report)?;
     report.add("asked again", again)
 }

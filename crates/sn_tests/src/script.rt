@@ -7,7 +7,8 @@ use sn_model::{
     Access, AclKind, Call, Content, Damage, Denial, Errno, Event, MountFault, Names, OpenFlags,
     PathNumber, Progress, Refusal, Reply, Rule, Status, StoredAcl, Word,
 };
-use sn_script::{SCRIPT_MAX, ScriptFault, print_replies, read_script};
+use sn_replies::print_replies;
+use sn_script::{SCRIPT_MAX, ScriptFault, read_script};
 use sn_table::{Case, Report, Tally};
 use std::alloc::Global;
 use std::str;
@@ -190,6 +191,10 @@ fn told_name_call(alloc: Global, call: &Call) -> Result<String> {
         Call::Link { old, new } => {
             format!(in alloc; "link, old {}, new {}", text(old)?, text(new)?)?
         }
+        Call::Rename { old, new } => {
+            format!(in alloc; "rename, old {}, new {}", text(old)?, text(new)?)?
+        }
+        Call::Readdir { path } => format!(in alloc; "readdir, path {}", text(path)?)?,
         Call::Stat { path } => format!(in alloc; "stat, path {}", text(path)?)?,
         _ => told_file_call(alloc, call)?,
     })

@@ -12,7 +12,7 @@ use std::alloc::{AllocError, Global};
 const BLOCK_SIZE: usize = 4096;
 
 /// How many blocks the disk has.
-pub const BLOCKS: u16 = 160;
+pub const BLOCKS: u16 = 192;
 
 /// Where the one indirect block lies, if there is one.
 const INDIRECT: u32 = 69;

@@ -6,7 +6,7 @@ use anyhow::{Result, bail};
 use sn_device::{Fill, MemDevice};
 use sn_fs::{Fs, mount};
 use sn_model::{Call, Groups, Reply, Word};
-use sn_script::print_replies;
+use sn_replies::print_replies;
 use std::alloc::Global;
 use std::{slice, str};
 

@@ -2,7 +2,8 @@
 ghost use Rattle.std.specs.Prelude.{◌≡◌, IfOk};
 ghost use Rattle.sn_tree.specs.Dirty.{IsFrom};
 
-use anyhow::{Context, Result};
+use crate::plain::{Next, Written};
+use anyhow::{Context, Result, bail, ensure};
 use sn_layout::Block;
 use sn_tree::{Dirty, DirtyBlock};
 use std::alloc::{AllocError, Global};
@@ -33,6 +34,67 @@ pub fn change_of(alloc: Global, size: u64, word: &str) -> Result<Dirty>
         .push_back(DirtyBlock { index, bytes })
         .map_err(AllocError::from)?;
     Ok(Dirty { size, keep, blocks })
+}
+
+/// The change that writes these blocks, which are two at most.
+pub fn dirty_of(alloc: Global, next: Next, wanted: &[Written]) -> Result<Dirty>
+    ensures rise { IfOk result (λ change. IsFrom 0 change.blocks.items) }
+{
+    let Next { size, keep } = next;
+    if wanted.is_empty() {
+        return Ok(Dirty {
+            size,
+            keep,
+            blocks: VecDeque::new(alloc),
+        });
+    }
+    if wanted.len() == 1 {
+        return dirty_one(alloc, next, wanted[0]);
+    }
+    if wanted.len() > 2 {
+        bail!("too many blocks");
+    }
+    dirty_two(alloc, next, wanted[0], wanted[1])
+}
+
+fn dirty_one(alloc: Global, next: Next, one: Written) -> Result<Dirty>
+    ensures rise { IfOk result (λ change. IsFrom 0 change.blocks.items) }
+{
+    let mut blocks = VecDeque::new(alloc);
+    blocks
+        .push_back(block_of(alloc, one)?)
+        .map_err(AllocError::from)?;
+    Ok(Dirty {
+        size: next.size,
+        keep: next.keep,
+        blocks,
+    })
+}
+
+fn dirty_two(alloc: Global, next: Next, one: Written, two: Written) -> Result<Dirty>
+    ensures rise { IfOk result (λ change. IsFrom 0 change.blocks.items) }
+{
+    ensure!(one.index < two.index, "blocks out of order");
+    let mut blocks = VecDeque::new(alloc);
+    blocks
+        .push_back(block_of(alloc, one)?)
+        .map_err(AllocError::from)?;
+    blocks
+        .push_back(block_of(alloc, two)?)
+        .map_err(AllocError::from)?;
+    Ok(Dirty {
+        size: next.size,
+        keep: next.keep,
+        blocks,
+    })
+}
+
+fn block_of(alloc: Global, written: Written) -> Result<DirtyBlock>
+    ensures index { IfOk result (λ block. block.index ≡ written.index) }
+{
+    let Written { index, byte, end } = written;
+    let bytes = Box::new(alloc, filled(end, index, byte)).map_err(AllocError::from)?;
+    Ok(DirtyBlock { index, bytes })
 }
 
 fn sized(size: u64, word: &str) -> Result<(u64, &str)> {

@@ -64,3 +64,14 @@ pub fn settled(build: Build, blocks: &mut Blocks<MemDevice>) -> Result<Map> {
     }
     Ok(map)
 }
+
+/// How many blocks are taken.
+pub fn taken(map: &Map) -> usize {
+    let mut count = 0usize;
+    for number in 0..DISK {
+        if number < map.len() && map.word(number) != 0 {
+            count = count.saturating_add(1);
+        }
+    }
+    count
+}

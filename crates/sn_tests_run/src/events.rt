@@ -3,8 +3,9 @@
 use anyhow::{Context, Result, ensure};
 use sn_device::MemDevice;
 use sn_model::{End, Event};
+use sn_replies::print_replies;
 use sn_run::{Ran, run};
-use sn_script::{print_replies, read_script};
+use sn_script::read_script;
 use std::alloc::Global;
 use std::str;
 

@@ -13,7 +13,8 @@ const TURNS: u32 = 10;
 /// The bytes of the longest write.
 const LONGEST: usize = 65_536;
 
-fn add(alloc: Global, events: &mut Vec<Event>, line: &str) -> Result<()> {
+/// Adds the event of a script's line.
+pub fn add(alloc: Global, events: &mut Vec<Event>, line: &str) -> Result<()> {
     events.push(event_of(alloc, line)?)?;
     Ok(())
 }
@@ -69,7 +70,8 @@ fn opens(alloc: Global, count: u32) -> Result<Vec<Event>> {
     Ok(events)
 }
 
-fn timed(rt: &HostRuntime, events: &[Event]) -> Result<Duration> {
+/// The least time of some runs in memory.
+pub fn timed(rt: &HostRuntime, events: &[Event]) -> Result<Duration> {
     let mut time = Duration::MAX;
     for _turn in 0..TURNS {
         time = least(time, in_memory(rt, events)?);

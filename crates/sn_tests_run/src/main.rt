@@ -9,12 +9,14 @@
 //! ```
 //!
 //! With the word `time`, `once` and a place and a number, or `file` and a path and a number, it runs what
-//! `bench/run.sh` measures (`times`), and with the word `files` what `bench/files.sh` does (`files`).
+//! `bench/run.sh` measures (`times`), with the word `files` what `bench/files.sh` does (`files`), and with the
+//! word `names` what `bench/names.sh` does (`names`).
 #![tactic(auto)]
 
 mod events;
 mod faults;
 mod files;
+mod names;
 mod times;
 
 use anyhow::{Context, Result};
@@ -30,6 +32,7 @@ fn main(rt: HostRuntime) -> Result<()> {
     match argument(&rt, 1)?.as_str() {
         "time" => times::times(&rt),
         "files" => files::files(&rt),
+        "names" => names::names(&rt),
         "once" => {
             let (place, count) = (argument(&rt, 2)?, argument(&rt, 3)?);
             times::once(&rt, place.as_str(), count.as_str())

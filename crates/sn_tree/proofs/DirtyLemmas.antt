@@ -135,7 +135,7 @@ blocks_after-holes keep i ds (x ∷ xs) is holes =
     either false = sym holes.0
 
 -- where they were zeros, it doesn't matter how many stay
-block_after-zeros : (a b i : ℕ) (ds : List DirtyBlock) (old : List ℕ) → old ≡ zeros 4096 → block_after a ds i old ≡ block_after b ds i old
+pub block_after-zeros : (a b i : ℕ) (ds : List DirtyBlock) (old : List ℕ) → old ≡ zeros 4096 → block_after a ds i old ≡ block_after b ds i old
 unfolding block_after
 block_after-zeros a b i [] old is = either (nat_lt i a) ∙ sym (either (nat_lt i b))
   where

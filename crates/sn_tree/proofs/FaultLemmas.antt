@@ -7,7 +7,7 @@ use Rattle.sn_tree.proofs.CountLemmas.{times-same, times-down, times-all_append}
 
 -- ---- pointers that lead outside
 
-no_hole : (sectors pointer : ℕ) → lies_on sectors pointer ≡ false → pointer ≢ 0
+pub no_hole : (sectors pointer : ℕ) → lies_on sectors pointer ≡ false → pointer ≢ 0
 no_hole sectors pointer outside hole = let at : lies_on sectors 0 ≡ false = subst (λ (p : ℕ). lies_on sectors p ≡ false) hole outside in absurd cc
 
 pub outside_here : (sectors : ℕ) (s : Store) (depth pointer : ℕ) → lies_on sectors pointer ≡ false → LeadsOutside sectors (all_pointers s (suc depth) (pointer ∷ []))

@@ -1,13 +1,20 @@
--- When what is wanted of a tree ends at its size.
-use Rattle.std.proofs.Common.{◌≡◌, ℕ, ◌+◌, ◌*◌, ◌<◌, ◌≤◌, ◌==◌, Bool, true, false, List, [], ◌∷◌, get_or, refl, arith, if◌then◌else◌}
-use Rattle.std.specs.Prelude.{nat_lt}
+-- When what is wanted of a tree or a content ends at its size, and what bytes a content has.
+use Rattle.std.proofs.Common.{◌≡◌, ℕ, zero, suc, ◌+◌, ◌-◌, ◌*◌, ◌/◌, ◌%◌, ◌<◌, ◌≤◌, ◌==◌, Bool, true, false, List, [], ◌∷◌, ◌++◌, length, get_or, slice_index, replicate, refl, sym, ap, ◌∙◌, arith, if◌then◌else◌}
+use Rattle.std.specs.Prelude.{◌^◌, nat_lt}
 use Rattle.std.specs.List.{AllByRecursion}
-use Rattle.std.proofs.lemmas.Bool.{eqb-true, ltb-true}
-use Rattle.std.proofs.lemmas.List.{get_or-replicate}
+use Rattle.std.proofs.lemmas.Bool.{eqb-true, ltb-true, ne_eqb}
+use Rattle.std.proofs.lemmas.List.{get_or-replicate, get_or-append_right, get_or-take}
 use Rattle.sn_layout.specs.Bytes.{zeros}
+use Rattle.sn_layout.specs.Pointers.{levels_of}
 use Rattle.sn_layout.specs.declared.tree.BlockTree.{BlockTree}
+use Rattle.sn_layout_node.specs.Inode.{size_of}
+use Rattle.sn_layout_node.specs.declared.content.Content.{Content}
+use Rattle.sn_layout_node.specs.declared.content.Content.TheVariants.{Inline, Tree}
 use Rattle.sn_ondisk.specs.Trees.{Store, data_block}
-use Rattle.sn_image.specs.Sound.{EndsAtSize}
+use Rattle.sn_ondisk.proofs.TreeLemmas.{levels_room}
+use Rattle.sn_image.specs.Contents.{byte_of}
+use Rattle.sn_image.specs.Sound.{EndsAtSize, ContentEnds}
+use Rattle.sn_tree.specs.Contents.{inline_block, content_block, HasDataBlocks, HasItsForm}
 use Rattle.sn_tree.specs.Dirty.{block_after}
 use Rattle.sn_tree.specs.Replanned.{EndsAt}
 use Rattle.sn_tree.specs.Laws.{EndsBy}
@@ -44,3 +51,39 @@ cut_end s old size keep dirty whole all = record {
   begins = begin size dirty all;
   past = past_zero (data_block s old) size keep (λ i k low within far. absurd (omega (arith, low, within, far, whole))) dirty all;
 }
+
+-- ---- contents
+
+inline_past : (bytes : List ℕ) (size : ℕ) → length bytes ≤ size → (i k : ℕ) → k < 4096 → size ≤ 4096 * i + k → get_or (inline_block bytes i) k 0 ≡ 0
+unfolding zeros
+inline_past bytes size few zero k within far =
+    let past : length bytes ≤ k = omega (arith, few, far) in
+    get_or-append_right bytes (replicate (4096 - length bytes) 0) (length bytes) k 0 refl past ∙ get_or-replicate (4096 - length bytes) (k - length bytes) 0 0 (omega (arith, within, past))
+inline_past bytes size few (suc i) k within far =
+    ap (λ (b : Bool). get_or (if b then bytes ++ zeros (4096 - length bytes) else zeros 4096) k 0) (ne_eqb (suc i) 0 (λ is. absurd (omega (arith, is)))) ∙ get_or-replicate 4096 k 0 0 within
+
+pub grown_content_end : (s : Store) (old : Content) (size keep : ℕ) (dirty : List DirtyBlock) → ContentEnds s old → size_of old ≤ size → 4096 * keep < size + 4096 → AllByRecursion (EndsBy size) dirty → EndsAt (content_block s old) size keep dirty
+grown_content_end s (Inline bytes) size keep dirty ends larger stays all = record {
+  stays = stays;
+  begins = begin size dirty all;
+  past = past_zero (inline_block bytes) size keep (λ i k low within far. inline_past bytes size larger i k within far) dirty all;
+}
+grown_content_end s (Tree tree) size keep dirty ends larger stays all = grown_end s tree size keep dirty ends larger stays all
+
+pub cut_content_end : (s : Store) (old : Content) (size keep : ℕ) (dirty : List DirtyBlock) → 4096 * keep ≤ size → AllByRecursion (EndsBy size) dirty → EndsAt (content_block s old) size keep dirty
+cut_content_end s old size keep dirty whole all = record {
+  stays = omega (arith, whole);
+  begins = begin size dirty all;
+  past = past_zero (content_block s old) size keep (λ i k low within far. absurd (omega (arith, low, within, far, whole))) dirty all;
+}
+
+pub content_byte : (s : Store) (content : Content) (wanted : ℕ → List ℕ) → HasItsForm content → size_of content ≤ 70368744177664 → HasDataBlocks s content wanted → (k : ℕ) → k < size_of content
+    → byte_of s content k ≡ slice_index (wanted (k / 4096)) (k % 4096)
+content_byte s (Inline bytes) wanted form small has k within =
+    let first : k / 4096 ≡ 0 = omega (arith, form, within) in
+    let place : k % 4096 ≡ k = omega (arith, form, within) in
+    ap (λ (b : List ℕ). slice_index b k) has ∙ get_or-take (length bytes) (wanted 0) k 0 within
+    ∙ ap (λ (i : ℕ). slice_index (wanted i) k) (sym first) ∙ ap (slice_index (wanted (k / 4096))) (sym place)
+content_byte s (Tree tree) wanted form small has k within =
+    let room : tree.size ≤ 65536 * 1024 ^ levels_of tree.size = levels_room tree.size small in
+    ap (λ (b : List ℕ). slice_index b (k % 4096)) (has (k / 4096) (omega (arith, room, within)))

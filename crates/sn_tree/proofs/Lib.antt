@@ -9,3 +9,4 @@ pub mod LoopLemmas
 pub mod LawLemmas
 pub mod FrontLemmas
 pub mod LevelLemmas
+pub mod ContentLemmas

@@ -14,11 +14,11 @@ use Rattle.sn_tree.specs.Dirty.{after, block_after, blocks_after}
 use Rattle.sn_tree.specs.Plans.{times, Holds, SameAmong, contents, PlansTo}
 use Rattle.sn_tree.specs.Drafts.{Draft}
 use Rattle.sn_tree.specs.Steps.{Planned, LeadsOutside}
-use Rattle.sn_tree.specs.Replanned.{IsReplanned, IsPlanned}
+use Rattle.sn_tree.specs.Replanned.{IsReplanned}
 use Rattle.sn_tree.specs.declared.new_block.NewBlock.{NewBlock}
 use Rattle.sn_tree.specs.declared.new_block.DirtyBlock.{DirtyBlock}
 use Rattle.sn_tree.proofs.CountLemmas.{times-cons, times-other, times_among, length-pointers_at}
-use Rattle.sn_tree.proofs.DirtyLemmas.{after-first, named-zeros, most_added-whole}
+use Rattle.sn_tree.proofs.DirtyLemmas.{after-first, named-zeros}
 use Rattle.sn_tree.proofs.PlanLemmas.{length-contents}
 
 blocks_after-at : (keep base : ℕ) (ds : List DirtyBlock) (xs : List (List ℕ)) (i : ℕ) → i < length xs → get_or (blocks_after keep ds base xs) i [] ≡ block_after keep ds (base + i) (get_or xs i [])
@@ -39,7 +39,7 @@ times-but_holes block (p ∷ ps) some = either (times-but_holes block ps some) (
     either later false is = omega (arith, later, times-cons block p ps, times-cons block p (filter (λ pointer. not (pointer == 0)) ps))
 
 module _ (s : Store) (tree : BlockTree) where
-  times-reach : (block : ℕ) → block ≢ 0 → times block (tree_reach s tree) ≡ times block (all_pointers s (levels_of tree.size) tree.pointers)
+  pub times-reach : (block : ℕ) → block ≢ 0 → times block (tree_reach s tree) ≡ times block (all_pointers s (levels_of tree.size) tree.pointers)
   unfolding tree_reach
   times-reach block some = times-but_holes block (all_pointers s (levels_of tree.size) tree.pointers) some
 
@@ -122,17 +122,11 @@ tree_outside s tree sectors leads = record {
 }
 
 module _ (Told : Type 0) (s : Store) (old new : BlockTree) (keep : ℕ) (ds left : List DirtyBlock) (before behind : Draft) where
-  pub tree_planned : (end : ℕ) → levels_of new.size ≡ levels_of old.size → length old.pointers ≡ 16 → length new.pointers ≡ 16
-      → Planned Told s (all_pointers s (levels_of old.size) old.pointers) (contents s (levels_of old.size) old.pointers) (levels_of old.size) 0 end keep ds left new.pointers before behind
-      → IsPlanned Told s old new keep ds before behind
-  tree_planned end levels of_old of_new step = record {
-    added = step.added;
-    released = step.released;
-    grew = step.grew;
-    few = subst (λ (n : ℕ). length step.added ≤ (n + 1) * (length ds + 1)) (sym levels) (omega (arith, step.few, most_added-whole (levels_of old.size) 0 end keep ds));
-    plans = λ told. replanned s old new keep ds (all_pointers s (levels_of old.size) old.pointers) (contents s (levels_of old.size) old.pointers) step.added step.released of_new
-        (length-contents s (levels_of old.size) old.pointers ∙ ap (λ n. n * 1024 ^ levels_of old.size) of_old ∙ ap (λ n. 16 * 1024 ^ n) (sym levels))
-        (λ block some. refl)
-        (λ i within. sym (data-at s old (levels_of old.size) refl of_old i (subst (λ (n : ℕ). i < 16 * 1024 ^ n) levels within)))
-        (subst (λ (n : ℕ). PlansTo s (all_pointers s (levels_of old.size) old.pointers) (contents s (levels_of old.size) old.pointers) n 0 keep ds new.pointers step.added step.released) (sym levels) (step.plans told));
-  }
+  pub tree_plans : (end : ℕ) → levels_of new.size ≡ levels_of old.size → length old.pointers ≡ 16 → length new.pointers ≡ 16
+      → (step : Planned Told s (all_pointers s (levels_of old.size) old.pointers) (contents s (levels_of old.size) old.pointers) (levels_of old.size) 0 end keep ds left new.pointers before behind)
+      → Told → IsReplanned s old new keep ds step.added step.released
+  tree_plans end levels of_old of_new step told = replanned s old new keep ds (all_pointers s (levels_of old.size) old.pointers) (contents s (levels_of old.size) old.pointers) step.added step.released of_new
+      (length-contents s (levels_of old.size) old.pointers ∙ ap (λ n. n * 1024 ^ levels_of old.size) of_old ∙ ap (λ n. 16 * 1024 ^ n) (sym levels))
+      (λ block some. refl)
+      (λ i within. sym (data-at s old (levels_of old.size) refl of_old i (subst (λ (n : ℕ). i < 16 * 1024 ^ n) levels within)))
+      (subst (λ (n : ℕ). PlansTo s (all_pointers s (levels_of old.size) old.pointers) (contents s (levels_of old.size) old.pointers) n 0 keep ds new.pointers step.added step.released) (sym levels) (step.plans told))

@@ -5,5 +5,6 @@ pub mod Dirty
 pub mod Plans
 pub mod Steps
 pub mod Replanned
+pub mod Contents
 pub mod Laws
 pub mod Fronts

@@ -12,7 +12,7 @@ ghost use Rattle.sn_tree_read.specs.declared.fault.TreeFault.TheVariants.{Damage
 
 use crate::children::pointers_below;
 use crate::parts::{behind_of, beside_of, front_of, joined, led_by, no_behind, no_beside};
-use crate::plan::{plan_pointers, replace_pointers, span_of};
+use crate::pointers::{plan_pointers, replace_pointers, span_of};
 use crate::{Build, DirtyBlock, PlanFault};
 use sn_block::Blocks;
 use sn_device::Device;

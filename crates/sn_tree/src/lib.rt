@@ -13,7 +13,13 @@
 //! pointers of places past it are holes, and the bytes past it zeros (`plan_laws` says when that is). The
 //! new blocks are at most a path for each dirty block and one path more (`most_added`).
 //!
-//! The way through: `plan_tree` takes the sixteen pointers at the lesser of the old and the new height
+//! `plan` says the same of the content of a file, of which up to 64 bytes lie in the inode (`IsContentPlanned`):
+//! there data block 0 has those bytes, with zeros behind them. So where a file grows out of its inode they become
+//! a new block, and where it is cut back the inode gets the first bytes of data block 0. `content_laws` says
+//! that a planned content has each byte that is wanted.
+//!
+//! The way through: `plan` is `plan_inline` where the new bytes fit the inode, `plan_moved` where they leave it,
+//! and else `plan_tree`. `plan_tree` takes the sixteen pointers at the lesser of the old and the new height
 //! (`lowered`), plans them by `plan_pointers`, and raises them to the new height (`raised`), one level
 //! after the other: the sixteen become the first pointers of an indirect block, with holes behind them.
 //! `plan_pointers` plans each pointer by `plan_pointer`, which goes down to the pointers below: a recursion
@@ -30,16 +36,18 @@
 
 mod build;
 mod children;
+mod contents;
 mod fault;
 mod laws;
 mod levels;
 mod new_block;
 mod parts;
-mod plan;
+mod pointers;
 mod tree;
 
 pub use build::Build;
+pub use contents::plan;
 pub use fault::PlanFault;
-pub use laws::plan_laws;
+pub use laws::{content_laws, plan_laws};
 pub use new_block::{DirtyBlock, NewBlock};
 pub use tree::{Dirty, plan_tree};

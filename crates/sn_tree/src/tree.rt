@@ -11,7 +11,7 @@ ghost use Rattle.sn_tree.specs.declared.fault.PlanFault.TheVariants.{Tree};
 ghost use Rattle.sn_tree_read.specs.declared.fault.TreeFault.TheVariants.{Damaged};
 
 use crate::levels::{lowered, raised};
-use crate::plan::plan_pointers;
+use crate::pointers::plan_pointers;
 use crate::{Build, DirtyBlock, PlanFault};
 use sn_block::Blocks;
 use sn_device::Device;

@@ -1,6 +1,6 @@
 use Rattle.std.proofs.Common.{◌∙◌, inl, refl, sym}
 use Rattle.std.specs.List.{flat_map}
-use Rattle.sn_script.specs.Replies.{reply_line}
+use Rattle.sn_replies.specs.Replies.{reply_line}
 use Rattle.sn_model.specs.World.{new_world}
 use Rattle.sn_program.proofs.AnswerLemmas.{clean_end, clean_answers, new_run, some_answers, written_front, on_ok, on_err, script_fault}
 use Rattle.sn_program.proofs.OutputLemmas.{keeps_same}

@@ -1,6 +1,7 @@
 use Rattle.std.proofs.Common.{sym, subst}
 use Rattle.std.specs.FinMap as map
 use Rattle.sn_limits.specs.Versions.{version_1}
+use Rattle.sn_model.specs.NameTree.{IsTree}
 use Rattle.sn_model.specs.Worlds.{IsWorld}
 use Rattle.sn_model.proofs.WorldLemmas.{new_is_world}
 use Rattle.sn_core.proofs.world.PlainWorld.new.Goals as goal
@@ -10,3 +11,6 @@ returns-clause-world c = λ i. record { live = c.in_ok-tree.ensures i; frozen = 
 
 pub returns-clause-whole : goal.returns-clause-whole
 returns-clause-whole c = subst (IsWorld version_1) (λ i. record { live = sym c.in_ok-tree.ensures i; frozen = map.empty; sessions = (sym c.in_ok-sessions.ensures i).sessions; descriptors = (sym c.in_ok-sessions.ensures i).descriptors }) new_is_world
+
+pub invariant_of-result : goal.invariant_of-result
+invariant_of-result c = record { whole = ∣ subst (IsTree version_1) (sym c.in_ok-tree.ensures) new_is_world.live ∣₁ }

@@ -1,5 +1,7 @@
 use Rattle.std.proofs.Common.{◌≡◌, ◌≢◌, ℕ, ◌<◌, sym, ap, subst, ◌∙◌}
 use Rattle.std.specs.FinMap as map
+use Rattle.std.proofs.Math.Logic.{∥∥₁_elim}
+use Rattle.std.proofs.Props.{props}
 use Rattle.sn_limits.specs.declared.kind.Kind.TheVariants.{Directory}
 use Rattle.sn_model.specs.Changes.{is_at_or_below}
 use Rattle.sn_model.specs.NameTree.{HasKind}
@@ -9,7 +11,7 @@ use Rattle.sn_plain.specs.Plain.{tree_of}
 use Rattle.sn_plain.specs.Stored.{counts_of, stored_of}
 use Rattle.sn_plain.proofs.MakingLemmas.{links_kept}
 use Rattle.sn_plain.proofs.NumberLemmas.{seen}
-use Rattle.sn_plain.proofs.WayLemmas.{below_itself, below_none, below_parent, fewer_steps, parent_is, steps_up}
+use Rattle.sn_plain.proofs.WayLemmas.{below_itself, below_none, below_parent, by_test, fewer_steps, parent_is, passes_test, steps_up}
 use Rattle.sn_plain.proofs.tree.PlainTree.is_at_or_below.Goals as goal
 
 pub returns-then-counts-eq0 : goal.returns-then-counts-eq0
@@ -17,7 +19,7 @@ returns-then-counts-eq0 c =
     let old = c.args.self.now in
     let now = c.loop-current.current in
     let none : names_for (tree_of old) now ≡ 0 = sym (links_kept (stored_of old.nodes) (tree_of old) old.first old.counted now) ∙ ap (λ (x : Counts). x.links) (sym c.counts-counts.ensures) ∙ c.if-counts-eq0.true in
-    sym (below_none (stored_of old.nodes) (tree_of old) old.first (seen old.nodes) old.counted c.requires.whole.1.hierarchy c.args.top now c.loop-current.invariant.kind none c.loop-current-test.true) ∙ c.loop-current.invariant.rest
+    ∥∥₁_elim c.requires.whole (search props) (λ whole. sym (below_none (stored_of old.nodes) (tree_of old) old.first (seen old.nodes) old.counted whole c.args.top now c.loop-current.invariant.kind none c.loop-current-test.true) ∙ c.loop-current.invariant.rest)
 
 pub loop-current-smaller : goal.loop-current-smaller
 loop-current-smaller c =
@@ -27,7 +29,7 @@ loop-current-smaller c =
     let some : names_for tree now ≢ 0 = λ z. c.if-counts-eq0.false (ap (λ (x : Counts). x.links) c.counts-counts.ensures ∙ links_kept (stored_of old.nodes) tree old.first old.counted now ∙ z) in
     let parent : c.counts-counts.result.parent ≡ (counts_of (map.get (stored_of old.nodes) now)).parent = ap (λ (x : Counts). x.parent) c.counts-counts.ensures in
     let steps : ℕ → ℕ = steps_up (stored_of old.nodes) (map.len tree.links) in
-    subst (λ (p : ℕ). steps p < steps now) (sym parent) (fewer_steps (stored_of old.nodes) tree old.first (seen old.nodes) old.counted c.requires.whole.1.hierarchy now c.loop-current.invariant.kind some)
+    ∥∥₁_elim c.requires.whole (search props) (λ whole. subst (λ (p : ℕ). steps p < steps now) (sym parent) (fewer_steps (stored_of old.nodes) tree old.first (seen old.nodes) old.counted whole now c.loop-current.invariant.kind some))
 
 pub loop-current-preserved : goal.loop-current-preserved
 loop-current-preserved c =
@@ -38,11 +40,11 @@ loop-current-preserved c =
     let some : names_for tree now ≢ 0 = λ z. c.if-counts-eq0.false (ap (λ (x : Counts). x.links) c.counts-counts.ensures ∙ links_kept (stored_of old.nodes) tree old.first old.counted now ∙ z) in
     let parent : c.counts-counts.result.parent ≡ (counts_of (map.get (stored_of old.nodes) now)).parent = ap (λ (x : Counts). x.parent) c.counts-counts.ensures in
     record {
-      rest = ap (λ (p : ℕ). is_at_or_below tree c.args.top p) parent ∙ below_parent (stored_of old.nodes) tree old.first (seen old.nodes) old.counted c.requires.whole.1.hierarchy c.args.top now kind c.loop-current-test.true some ∙ c.loop-current.invariant.rest;
-      kind = subst (λ (k : ℕ). HasKind tree k Directory) (sym parent) (parent_is (stored_of old.nodes) tree old.first (seen old.nodes) old.counted c.requires.whole.1.hierarchy now kind some);
+      rest = ∥∥₁_elim c.requires.whole (search props) (λ whole. ap (λ (p : ℕ). is_at_or_below tree c.args.top p) parent ∙ below_parent (stored_of old.nodes) tree old.first (seen old.nodes) old.counted whole c.args.top now kind c.loop-current-test.true some ∙ c.loop-current.invariant.rest);
+      kind = by_test _ (∥∥₁_elim c.requires.whole (search props) (λ whole. passes_test _ (subst (λ (k : ℕ). HasKind tree k Directory) (sym parent) (parent_is (stored_of old.nodes) tree old.first (seen old.nodes) old.counted whole now kind some))));
     }
 
 pub returns : goal.returns
 returns c =
     let old = c.args.self.now in
-    sym (below_itself (stored_of old.nodes) (tree_of old) old.first (seen old.nodes) old.counted c.requires.whole.1.hierarchy c.args.top c.loop-current.current c.loop-current.invariant.kind c.loop-current-test.false) ∙ c.loop-current.invariant.rest
+    ∥∥₁_elim c.requires.whole (search props) (λ whole. sym (below_itself (stored_of old.nodes) (tree_of old) old.first (seen old.nodes) old.counted whole c.args.top c.loop-current.current c.loop-current.invariant.kind c.loop-current-test.false) ∙ c.loop-current.invariant.rest)

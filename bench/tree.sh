@@ -1,0 +1,119 @@
+#!/bin/bash
+# Times block trees and directories on a device in memory, by runs of the test programs of plans and of directories.
+# Run by hand; the memory wants gcc, since it is counted by a small library that stands before the C library's malloc.
+#
+# Prints the time of reading 64 MiB through lent blocks, in parts of 64 KiB, beside a copy of as many bytes; of a plan
+# of one dirty block in files of 64 KiB and 64 MiB; of a look-up in directories of 100, 10,000 and 65,535 names, each
+# name as often; and the most memory that is held at a time while the plan in 64 MiB is made, over that of a run that
+# plans nothing. Each time is the least of several turns, those of look-ups without that of a run with one.
+set -eu
+top=$(cd "$(dirname "$0")/.." && pwd)
+work=$(mktemp -d)
+trap 'rm -rf "$work"' EXIT
+for crate in sn_tests_plans sn_tests_dirs; do
+    (cd "$top/crates/$crate" && rt run -- data > "$work/log" 2>&1) || { tail -n 20 "$work/log"; exit 1; }
+done
+plans=$top/crates/sn_tests_plans/out/sn_tests_plans
+
+"$plans" time > "$work/times"
+awk '{ t[$1, $2] = $3 } END {
+    all = t["read", 16384]
+    printf "reading 64 MiB: %.1f ms, %.2f of a copy; %.0f MB/s\n", all / 1e6, all / t["copy", 16384], 67108864000 / all
+    printf "a plan of one dirty block in 64 MiB: %.1f us, %.2f of one in 64 KiB (%.1f us)\n", t["plan", 16384] / 1000, t["plan", 16384] / t["plan", 16], t["plan", 16] / 1000
+}' "$work/times"
+
+cat > "$work/peak.c" <<'C'
+#define _GNU_SOURCE
+#include <dlfcn.h>
+#include <malloc.h>
+#include <stdio.h>
+#include <stdlib.h>
+
+static size_t held, most;
+
+static void *noted(void *at) {
+    if (at && (held += malloc_usable_size(at)) > most)
+        most = held;
+    return at;
+}
+
+#define REAL(name) static __typeof__(&name) real; if (!real) real = (__typeof__(&name))dlsym(RTLD_NEXT, #name)
+
+void *malloc(size_t size) { REAL(malloc); return noted(real(size)); }
+void *aligned_alloc(size_t to, size_t size) { REAL(aligned_alloc); return noted(real(to, size)); }
+int posix_memalign(void **at, size_t to, size_t size) {
+    REAL(posix_memalign);
+    int status = real(at, to, size);
+    if (!status) noted(*at);
+    return status;
+}
+extern void *__libc_calloc(size_t, size_t);
+void *calloc(size_t n, size_t size) { return noted(__libc_calloc(n, size)); }
+void *realloc(void *old, size_t size) {
+    REAL(realloc);
+    size_t before = old ? malloc_usable_size(old) : 0;
+    void *at = real(old, size);
+    if (at) held -= before;
+    return noted(at);
+}
+void free(void *at) {
+    REAL(free);
+    if (at) held -= malloc_usable_size(at);
+    real(at);
+}
+
+__attribute__((destructor)) static void tell(void) { fprintf(stderr, "%zu\n", most); }
+C
+gcc -O1 -shared -fPIC -o "$work/peak.so" "$work/peak.c" -ldl
+plan=$(LD_PRELOAD=$work/peak.so "$plans" once plan 2>&1 > /dev/null | tail -n 1)
+nothing=$(LD_PRELOAD=$work/peak.so "$plans" once nothing 2>&1 > /dev/null | tail -n 1)
+echo "memory of that plan, with its dirty block and its map: $((plan - nothing)) bytes at most"
+
+python3 - "$top" "$work" <<'P'
+import itertools
+import string
+import subprocess
+import sys
+import time
+from pathlib import Path
+
+top, work = Path(sys.argv[1]), Path(sys.argv[2])
+dirs = top / "crates/sn_tests_dirs/out/sn_tests_dirs"
+LOOKUPS = 2000
+
+
+def least(folder, turns):
+    times = []
+    for _ in range(turns):
+        start = time.perf_counter()
+        subprocess.run([dirs, folder], stdout=subprocess.DEVNULL, stderr=subprocess.DEVNULL, check=True)
+        times.append(time.perf_counter() - start)
+    return min(times)
+
+
+def table(names, asked):
+    """A case of one directory, in which names are looked up."""
+    records = [f"{2 + i % 65534}:{name}" for i, name in enumerate(names)]
+    blocks = ["+".join(records[i:i + 682]) for i in range(0, len(records), 682)]
+    listed = " ".join(f"{name} {2 + i % 65534}" for name, i in sorted((name, i) for i, name in enumerate(names)))
+    found = " ".join(str(2 + i % 65534) for i in asked)
+    folder = work / "data"
+    folder.mkdir(exist_ok=True)
+    (folder / "changes.txt").write_text("")
+    (folder / "directories.txt").write_text(
+        f"{','.join(names[i] for i in asked)} {' '.join(blocks)} => {len(names)}, not empty: {listed}; {found}\n")
+    return folder
+
+
+def lookup(count):
+    """The time of one look-up, over names that lie all over the directory."""
+    names = ["".join(name) for name in itertools.islice(itertools.product(string.ascii_letters + string.digits, repeat=3), count)]
+    asked = [i * 7919 % count for i in range(LOOKUPS)]
+    one = least(table(names, asked[:1]), 5)
+    return (least(table(names, asked), 5) - one) / (LOOKUPS - 1)
+
+
+small, middle, large = (lookup(count) for count in (100, 10_000, 65_535))
+print(f"a look-up in 100 names: {small * 1e6:.2f} us; in 10,000: {middle * 1e6:.1f} us, {middle / small:.0f} of it; "
+      f"in 65,535: {large * 1e6:.0f} us, {large / middle:.2f} of that in 10,000")
+P

@@ -1,0 +1,5 @@
+use Rattle.std.proofs.Math.Logic.{∥∥₁_elim, ∥∥₁_prop}
+use Rattle.sn_core.proofs.view.PlainViewMoveView.is_below.Goals as goal
+
+pub is_below-requires : goal.is_below-requires
+is_below-requires c = ∥∥₁_elim c.args.self.now.whole ∥∥₁_prop (λ w. ∣ w.hierarchy ∣₁)

@@ -1,0 +1,12 @@
+-- What the live tree with its kept back numbers stands for.
+use Rattle.std.specs.Prelude.{ℕ, Bool}
+use Rattle.sn_model.specs.Tree.{Tree}
+use Rattle.sn_numbers.specs.Numbers.{held_of}
+use Rattle.sn_plain.specs.Plain.{tree_of}
+use Rattle.sn_numbers.specs.declared.live.LiveTree.{LiveTree}
+
+abbrev pub live_of : LiveTree → Tree
+live_of t = tree_of t.tree
+
+abbrev pub kept_back_of : LiveTree → ℕ → Bool
+kept_back_of t = held_of t.kept_back

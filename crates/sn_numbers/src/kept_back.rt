@@ -1,0 +1,40 @@
+ghost use Rattle.std.specs.Prelude.{◌≡◌, ℕ, ◌==◌, ◌||◌, ◌^◌, IfOk, false, vec_len};
+
+use std::alloc::{AllocError, Global};
+
+/// The numbers that are kept back. All memory is taken at first.
+#[derive(Drop)]
+pub(crate) struct KeptBack {
+    marks: Vec<bool>,
+    ghost all: { vec_len marks ≡ 2 ^ 16 },
+}
+
+impl KeptBack {
+    ghost use Rattle.sn_numbers.specs.Numbers.{held_of};
+
+    pub fn new(alloc: Global) -> Result<KeptBack, AllocError>
+        ensures { IfOk result (λ k. (n : ℕ) → held_of k n ≡ false) }
+    {
+        Ok(KeptBack {
+            marks: Vec::from_elem(alloc, false, 65_536)?,
+        })
+    }
+
+    pub fn has(&self, number: u16) -> bool
+        ensures { result ≡ held_of self.now number }
+    {
+        self.marks[usize::from(number)]
+    }
+
+    pub fn put(&mut self, number: u16)
+        ensures { (n : ℕ) → held_of self.new n ≡ (n == number || held_of self.old n) }
+    {
+        self.marks[usize::from(number)] = true;
+    }
+
+    pub fn clear(&mut self)
+        ensures { (n : ℕ) → held_of self.new n ≡ false }
+    {
+        self.marks.fill(false);
+    }
+}

@@ -1,0 +1,54 @@
+-- The line of a reply.
+use Rattle.std.specs.Prelude.{ℕ, ◌+◌, Bool, true, false, List, ◌∷◌, ◌++◌, Option, Some, None, codes, decimal}
+use Rattle.std.specs.List.{flat_map}
+use Rattle.sn_acl.specs.declared.entries.Entry.{Entry}
+use Rattle.sn_acl.specs.Modes.{mode_bits}
+use Rattle.sn_acl.specs.Text.{acl_text}
+use Rattle.sn_limits.specs.declared.kind.Kind.{Kind}
+use Rattle.sn_limits.specs.declared.kind.Kind.TheVariants.{File, Directory}
+use Rattle.sn_model.specs.declared.reply.Reply.{Reply}
+use Rattle.sn_model.specs.declared.reply.Reply.TheVariants as reply
+use Rattle.sn_model.specs.declared.reply.Status.{Status}
+use Rattle.sn_model.specs.Texts.{mount_fault_text, progress_text, refusal_text}
+use Rattle.sn_words.specs.Fields.{content_word, octal}
+
+abbrev pub kind_name : Kind → List ℕ
+kind_name File = codes "f"
+kind_name Directory = codes "d"
+
+abbrev pub bit : Bool → ℕ → ℕ
+bit true value = value
+bit false value = 0
+
+-- the permission bits with S_ISGID and S_ISVTX
+abbrev pub status_mode : Status → ℕ
+status_mode s = bit s.set_gid 1024 + bit s.sticky 512 + mode_bits s.mode
+
+-- the number of the object isn't told
+abbrev pub status_line : Status → List ℕ
+status_line s = codes "ok " ++ kind_name s.kind ++ codes " " ++ octal (status_mode s) ++ codes " " ++ decimal s.links
+    ++ codes " " ++ decimal s.owner ++ codes " " ++ decimal s.group ++ codes " " ++ decimal s.size ++ codes "\n"
+
+-- a name behind a space
+abbrev pub name_text : List ℕ → List ℕ
+name_text name = 32 ∷ name
+
+abbrev pub names_line : List (List ℕ) → List ℕ
+names_line names = codes "ok" ++ flat_map name_text names ++ codes "\n"
+
+-- a dash for none
+abbrev pub some_acl_text : Option (List Entry) → List ℕ
+some_acl_text None = codes "-"
+some_acl_text (Some acl) = acl_text acl
+
+abbrev pub reply_line : Reply → List ℕ
+reply_line reply.Done = codes "ok\n"
+reply_line (reply.Mode m) = codes "ok " ++ octal (mode_bits m) ++ codes "\n"
+reply_line (reply.Number n) = codes "ok " ++ decimal n ++ codes "\n"
+reply_line (reply.Content bytes) = codes "ok " ++ content_word bytes ++ codes "\n"
+reply_line (reply.Status s) = status_line s
+reply_line (reply.Names names) = names_line names
+reply_line (reply.Acl acl) = codes "ok " ++ some_acl_text acl ++ codes "\n"
+reply_line (reply.Progress p) = codes "ok " ++ progress_text p ++ codes "\n"
+reply_line (reply.Refused r) = codes "err " ++ refusal_text r ++ codes "\n"
+reply_line (reply.Unmounted f) = codes "fault " ++ mount_fault_text f ++ codes "\n"

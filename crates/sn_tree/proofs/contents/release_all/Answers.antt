@@ -1,0 +1,34 @@
+use Rattle.std.proofs.Common.{◌≡◌, ℕ, List, sym, subst, ◌∙◌, IsTrue}
+use Rattle.std.proofs.lemmas.Result.{on_ok_weaker}
+use Rattle.sn_device.specs.Disk.{reads}
+use Rattle.sn_block.specs.Lending.{device_of}
+use Rattle.sn_image.specs.Contents.{content_reach}
+use Rattle.sn_layout_node.specs.declared.content.Content.{Content}
+use Rattle.sn_ondisk.specs.Trees.{store_of, all_pointers}
+use Rattle.sn_tree.specs.Contents.{IsReleased}
+use Rattle.sn_tree.specs.Steps.{LeadsOutside}
+use Rattle.sn_tree.proofs.ContentLemmas.{cut_released}
+use Rattle.sn_tree.proofs.ReplannedLemmas.{tree_outside}
+use Rattle.sn_tree.proofs.contents.release_all.Goals as goal
+
+pub returns-in-Tree-clause-released : goal.returns-in-Tree-clause-released
+returns-in-Tree-clause-released g c =
+    let Told = IsTrue g.D.Device.tells_bytes in
+    let s = store_of (reads (g.D.Device.disk (device_of c.args.blocks.now))) in
+    let tree = c.in-Tree.tree in
+    let pointers : c.copy_from_slice.new.self ≡ tree.pointers = c.copy_from_slice.ensures.after ∙ c.as_slice.ensures.value in
+    on_ok_weaker c.cut.result
+    (λ cut. subst (λ (x : Content). IsReleased Told s x c.args.build.now c.cut.new.build) (sym c.in-Tree.is)
+    (cut_released Told s tree c.levels_of.result c.copy_from_slice.new.self c.args.build.now c.cut.new.build c.levels_of.ensures.value pointers cut))
+    c.cut.ensures.cut
+
+pub returns-in-Tree-clause-damaged : goal.returns-in-Tree-clause-damaged
+returns-in-Tree-clause-damaged g c told is =
+    let sectors = (g.D.Device.status (device_of c.args.blocks.now)).sectors in
+    let s = store_of (reads (g.D.Device.disk (device_of c.args.blocks.now))) in
+    let tree = c.in-Tree.tree in
+    let pointers : c.copy_from_slice.new.self ≡ tree.pointers = c.copy_from_slice.ensures.after ∙ c.as_slice.ensures.value in
+    subst (λ (x : Content). LeadsOutside sectors (content_reach s x)) (sym c.in-Tree.is)
+    (tree_outside s tree sectors
+    (subst (λ (n : ℕ). LeadsOutside sectors (all_pointers s n tree.pointers)) c.levels_of.ensures.value
+    (subst (λ (ps : List ℕ). LeadsOutside sectors (all_pointers s c.levels_of.result ps)) pointers (c.cut.ensures.damaged told is))))

@@ -1,0 +1,27 @@
+use Rattle.std.proofs.Common.{◌≡◌, ◌+◌, ◌*◌, take, drop, IsTrue}
+use Rattle.std.specs.Prelude.{◌^◌}
+use Rattle.sn_device.specs.Disk.{reads}
+use Rattle.sn_block.specs.Lending.{device_of}
+use Rattle.sn_ondisk.specs.Trees.{store_of, all_pointers}
+use Rattle.sn_tree.specs.Dirty.{IsFrom}
+use Rattle.sn_tree.specs.Plans.{contents}
+use Rattle.sn_tree.specs.Steps.{Planned}
+use Rattle.sn_tree.proofs.pointers.+plan.Given as goal
+
+abbrev pub decreases-plan_pointer : goal.decreases-plan_pointer
+decreases-plan_pointer g l = 2 * l.depth
+
+abbrev pub decreases-plan_pointers : goal.decreases-plan_pointers
+decreases-plan_pointers g l = 2 * l.depth + 1
+
+abbrev pub invariant-plan_pointers-loop-k : goal.invariant-plan_pointers-loop-k
+invariant-plan_pointers-loop-k g l = record {
+  same : IsTrue g.D.Device.tells_bytes → g.D.Device.disk (device_of l.blocks) ≡ g.D.Device.disk (device_of l.fn.blocks);
+  status : g.D.Device.status (device_of l.blocks) ≡ g.D.Device.status (device_of l.fn.blocks);
+  left : drop l.k l.pointers ≡ drop l.k l.fn.pointers;
+  rise : IsFrom (l.fn.first + l.k * 1024 ^ l.fn.depth) l.dirty.items;
+  planned : Planned (IsTrue g.D.Device.tells_bytes) (store_of (reads (g.D.Device.disk (device_of l.fn.blocks))))
+      (all_pointers (store_of (reads (g.D.Device.disk (device_of l.fn.blocks)))) l.fn.depth (take l.k l.fn.pointers))
+      (contents (store_of (reads (g.D.Device.disk (device_of l.fn.blocks)))) l.fn.depth (take l.k l.fn.pointers))
+      l.fn.depth l.fn.first (l.fn.first + l.k * 1024 ^ l.fn.depth) l.fn.keep l.fn.dirty.items l.dirty.items (take l.k l.pointers) l.fn.build l.build;
+}
