@@ -45,7 +45,7 @@ none_released old new numbers holds n held left = absurd (true≢false (sym (hol
 pub same_holds : (old new : Descriptors) → new ≡ old → StillHolds old new
 same_holds old new e n held = ap (λ (t : Descriptors). is_held_in t n) e ∙ held
 
-some_descriptor : {P : Descriptor → Type 0} (o : Option Descriptor) → IsSomeAnd o P → (d : Descriptor) × (o ≡ Some d) × P d
+pub some_descriptor : {P : Descriptor → Type 0} (o : Option Descriptor) → IsSomeAnd o P → (d : Descriptor) × (o ≡ Some d) × P d
 some_descriptor None h = absurd h
 some_descriptor (Some d) h = (d, refl, h)
 
@@ -210,7 +210,7 @@ close_tells table new session fd told e is n held left =
 
 -- a caller that has turned leaves the tree
 module _ (old new : World) (session : ℕ) (caller : Caller) (turned : new ≡ with_caller old session caller) where
-  live_after : new.live ≡ old.live
+  pub live_after : new.live ≡ old.live
   live_after = ap (λ (w : World). w.live) turned ∙ caller_live old session caller
 
   pub turned_numbers : IsTree version_1 old.live → AreNumbers new

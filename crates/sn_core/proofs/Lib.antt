@@ -1,4 +1,5 @@
 pub mod CallerLemmas
+pub mod NumberLemmas
 pub mod StepLemmas
 pub mod ViewLemmas
 pub mod RestartLemmas

@@ -1,18 +1,13 @@
 -- What a call comes to once its tests have passed.
-use Rattle.std.proofs.Common.{◌≡◌, ◌≢◌, ℕ, true, List, [], ◌∷◌, ◌++◌, Option, Some, None, Result, Ok, Err, is_none, is_some, refl, sym, ap, subst, ◌∙◌, ◌⊎◌, inl, inr, lit≤}
+use Rattle.std.proofs.Common.{◌≡◌, ℕ, Bool, true, false, not, ◌&&◌, ◌||◌, List, [], ◌∷◌, ◌++◌, Option, Some, None, Result, Ok, Err, is_none, is_some, refl, sym, ap, subst, ◌∙◌, inl, inr, lit≤}
 use Rattle.std.specs.FinMap as map
-use Rattle.std.specs.Cmp.{nat_cmp_total}
 use Rattle.std.specs.Prelude.{IsOk}
 use Rattle.std.proofs.lemmas.Bool.{true≢false}
-use Rattle.std.proofs.lemmas.Map.Lookups.{exact_unsigned}
-use Rattle.sn_limits.specs.declared.kind.Kind.{Kind}
 use Rattle.sn_limits.specs.Versions.{version_1}
 use Rattle.sn_model.specs.declared.call.Call.{Call}
 use Rattle.sn_model.specs.declared.call.Event.{Event}
 use Rattle.sn_model.specs.declared.call.Event.TheVariants as event
 use Rattle.sn_model.specs.declared.change.Change.{Change}
-use Rattle.sn_model.specs.declared.change.Ownership.{Ownership}
-use Rattle.sn_model.specs.declared.link.Link.{Link}
 use Rattle.sn_model.specs.declared.outcome.Caller.{Caller}
 use Rattle.sn_model.specs.declared.outcome.Caller.TheVariants.{Stays, LogsIn, SetsUmask, LogsOut, Opens, OpensNew, Closes, Moves}
 use Rattle.sn_model.specs.declared.outcome.Outcome.{Outcome}
@@ -24,50 +19,45 @@ use Rattle.sn_model.specs.declared.reply.Errno.TheVariants.{Enomem}
 use Rattle.sn_model.specs.declared.reply.Progress.TheVariants.{Done as Ended}
 use Rattle.sn_model.specs.declared.reply.Reply.TheVariants.{Done, Progress, Refused}
 use Rattle.sn_model.specs.Calls.{Ready, outcome_of, ready}
-use Rattle.sn_model.specs.Changes.{apply, made, node_with}
+use Rattle.sn_model.specs.Changes.{apply, made}
 use Rattle.sn_model.specs.Machine.{Memory, OfMemory, Run, RunBy, Running}
 use Rattle.sn_model.specs.NameTree.{IsTree}
 use Rattle.sn_model.specs.Outcomes.{is_opening}
-use Rattle.sn_model.specs.Settling.{OnlyLost, dropped, is_held, settle}
+use Rattle.sn_model.specs.Settling.{OnlyLost, dropped, settle}
 use Rattle.sn_model.specs.Steps.{Becomes, Comes, IsNumberFor, TakesMemory, changed, decision, filled, with_caller, with_live}
 use Rattle.sn_model.specs.Tests.{plain}
-use Rattle.sn_model.specs.Tree.{Node, Tree, least_unused, link_to}
+use Rattle.sn_model.specs.Tree.{Tree, link_to}
 use Rattle.sn_model.specs.World.{World}
 use Rattle.sn_model.specs.Worlds.{IsCall, IsWorld}
+use Rattle.sn_numbers.specs.Numbers.{kept_after}
+use Rattle.sn_numbers.proofs.FreeLemmas.{next_is_number}
 use Rattle.sn_plain.specs.Plain.{Applies}
 use Rattle.sn_plain.specs.declared.error.ApplyError.{ApplyError}
 use Rattle.sn_plain.specs.declared.error.ApplyError.TheVariants as lack
 use Rattle.sn_walk.proofs.ChainLemmas.{bind_ok}
 use Rattle.sn_model.proofs.DecidedLemmas.{IsDecided, decided_is}
-use Rattle.sn_model.proofs.DropLemmas.{without_was}
 use Rattle.sn_model.proofs.LoseLemmas.{done_loss, made_loss, no_loss}
-use Rattle.sn_model.proofs.MapLemmas.{same_or_apart, get_other}
-use Rattle.sn_model.proofs.OutcomeLemmas.{DoesToOld, FitsCaller, HasLeft, IsOfOld, MakesFile, OnChange}
-use Rattle.sn_model.proofs.PartLemmas.{Made, made_is}
-use Rattle.sn_model.proofs.HierarchyLemmas.{least_is_number}
+use Rattle.sn_model.proofs.OutcomeLemmas.{DoesToOld, FitsCaller, HasLeft, MakesFile, OnChange}
 use Rattle.sn_model.proofs.StayLemmas.{change_stays, none_stays}
 use Rattle.sn_model.proofs.TreeLemmas.{tree_kept}
 use Rattle.sn_model.proofs.WorldLemmas.{step_world}
-use Rattle.sn_model.proofs.OtherCallLemmas.{caller_live}
 use Rattle.sn_core.proofs.CallerLemmas.{can_turn, can_turn_filled}
-use Rattle.sn_core.proofs.RestartLemmas.{settled_least}
+use Rattle.sn_core.proofs.NumberLemmas.{FilesStay, and_not_false, and_not_true, closed_same, done_stay, kept_by, made_keeps, made_stays, old_keeps, only_made, or_false, same_numbers, same_stay, step_numbers, was_there}
+use Rattle.sn_core.proofs.RestartLemmas.{restart_numbers}
 use Rattle.sn_core.specs.declared.choosing.Chosen.{Chosen}
 use Rattle.sn_core.specs.declared.world.PlainWorld.{PlainWorld}
 use Rattle.sn_core.specs.Called.{CanTurn, HasRoom}
-use Rattle.sn_core.specs.Plain.{room_of, world_of}
-use Rattle.sn_core.specs.PlainRuns.{PlainStep, PlainRun, TakesLeast}
+use Rattle.sn_core.specs.Numbering.{GivesOut, Numbers, has_closed}
+use Rattle.sn_core.specs.Plain.{kept_of, room_of, world_of}
+use Rattle.sn_core.specs.PlainRuns.{Numbered, PlainStep, PlainRun}
 use Rattle.sn_core.specs.Served.{Chooses, HasNumber, MakesChange}
 
--- where nothing changes, nothing new has a number
-pub same_least : (old new : World) → new.live ≡ old.live → TakesLeast old new
-same_least old new same number none some = absurd (true≢false (sym some ∙ ap (λ (t : Tree). is_some (map.get t.nodes number)) same ∙ ap is_some none))
+-- a reply and a world, where a call was decided, and the numbers that are kept back
+abbrev pub IsServed : World → (ℕ → Bool) → ℕ → Call → Reply → World → (ℕ → Bool) → Type 0
+IsServed old kept session c answer new after = Becomes version_1 old session (decision version_1 old session c) answer new × Numbers (event.Call session c) old kept new after
 
--- a reply and a world, where a call was decided
-abbrev pub IsServed : World → ℕ → Call → Reply → World → Type 0
-IsServed old session c answer new = Becomes version_1 old session (decision version_1 old session c) answer new × TakesLeast old new
-
-served : (old new : World) (session : ℕ) (c : Call) (o : Outcome) → decision version_1 old session c ≡ Ok o → Comes version_1 old session o new → TakesLeast old new → IsServed old session c o.told new
-served old new session c o e comes least = (subst (λ (d : Result Outcome Refusal). Becomes version_1 old session d o.told new) (sym e) (refl, comes), least)
+becomes_told : (old new : World) (session : ℕ) (c : Call) (o : Outcome) → decision version_1 old session c ≡ Ok o → Comes version_1 old session o new → Becomes version_1 old session (decision version_1 old session c) o.told new
+becomes_told old new session c o e comes = subst (λ (d : Result Outcome Refusal). Becomes version_1 old session d o.told new) (sym e) (refl, comes)
 
 -- a change of the tree is one of the world
 pub made_so : (r : Result (Unit {0}) ApplyError) (c : Change) (old new : World) (tree : Tree) → new ≡ with_live old tree → Applies r (apply version_1 c old.live) old.live tree → MakesChange r c old new
@@ -103,64 +93,45 @@ MadeBy None old new = new ≡ old
 MadeBy (Some c) old new = apply version_1 c old ≡ Some new
 
 -- what was chosen has been made over a world
-pub record IsMade (old : World) (chosen : Chosen) (room : ℕ) (mid : PlainWorld) : Type 0 where
+pub record IsMade (old : World) (kept : ℕ → Bool) (chosen : Chosen) (room : ℕ) (mid : PlainWorld) : Type 0 where
   pub tree : Tree
   pub world : world_of mid ≡ with_live old tree
   pub done : MadeBy chosen.change old.live tree
+  pub kept_is : (n : ℕ) → kept_of mid n ≡ kept_by chosen.change kept n
   pub room_is : room_of mid ≡ room
 
-pub some_made : (old before : World) (chosen : Chosen) (room : ℕ) (mid : PlainWorld) (change : Change) → before ≡ old → chosen.change ≡ Some change → MakesChange (Ok tt) change before (world_of mid) → room_of mid ≡ room → IsMade old chosen room mid
-some_made old before chosen room mid change same is made room_is = record {
+pub some_made : (old before : World) (kept first : ℕ → Bool) (chosen : Chosen) (room : ℕ) (mid : PlainWorld) (change : Change) → before ≡ old → first ≡ kept → chosen.change ≡ Some change → MakesChange (Ok tt) change before (world_of mid)
+    → ((n : ℕ) → kept_of mid n ≡ kept_after change first n) → room_of mid ≡ room → IsMade old kept chosen room mid
+some_made old before kept first chosen room mid change same none is made keeps room_is = record {
   tree = made.0;
   world = made.2 ∙ ap (λ (w : World). with_live w made.0) same;
   done = subst (λ (x : Option Change). MadeBy x old.live made.0) (sym is) (ap (λ (w : World). apply version_1 change w.live) (sym same) ∙ made.1);
+  kept_is = λ n. keeps n ∙ ap (λ (k : ℕ → Bool). kept_after change k n) none ∙ ap (λ (x : Option Change). kept_by x kept n) (sym is);
   room_is = room_is;
 }
 
-pub none_made : (old : World) (chosen : Chosen) (room : ℕ) (mid : PlainWorld) → world_of mid ≡ old → chosen.change ≡ None → room_of mid ≡ room → IsMade old chosen room mid
-none_made old chosen room mid same is room_is = record {
+pub none_made : (old : World) (kept : ℕ → Bool) (chosen : Chosen) (room : ℕ) (mid : PlainWorld) → world_of mid ≡ old → kept_of mid ≡ kept → chosen.change ≡ None → room_of mid ≡ room → IsMade old kept chosen room mid
+none_made old kept chosen room mid same none is room_is = record {
   tree = old.live;
   world = same;
   done = subst (λ (x : Option Change). MadeBy x old.live old.live) (sym is) refl;
+  kept_is = λ n. ap (λ (k : ℕ → Bool). k n) none ∙ ap (λ (x : Option Change). kept_by x kept n) (sym is);
   room_is = room_is;
 }
 
+-- what was chosen over a world, and over one that is equal
+pub choosing : (before old : World) (first kept : ℕ → Bool) (o : Outcome) (chosen : Chosen) → before ≡ old → first ≡ kept → Chooses before.live first o.change o.caller chosen → Chooses old.live kept o.change o.caller chosen
+choosing before old first kept o chosen same none is =
+    subst (λ (k : ℕ → Bool). Chooses old.live k o.change o.caller chosen) none (subst (λ (w : World). Chooses w.live first o.change o.caller chosen) same is)
+
 -- a call that changes something may find no memory
-pub change_takes : (old : World) (session : ℕ) (c : Call) (o : Outcome) (chosen : Chosen) (change : Change) → decision version_1 old session c ≡ Ok o → Chooses old.live o.change o.caller chosen → chosen.change ≡ Some change → TakesMemory c × IsOk (ready old session c)
-change_takes old session c o chosen change e is some = (told o.change (decided_is version_1 old session c o e).takes is, ready_passed old session c o e)
+pub change_takes : (old : World) (kept : ℕ → Bool) (session : ℕ) (c : Call) (o : Outcome) (chosen : Chosen) (change : Change) → decision version_1 old session c ≡ Ok o → Chooses old.live kept o.change o.caller chosen → chosen.change ≡ Some change → TakesMemory c × IsOk (ready old session c)
+change_takes old kept session c o chosen change e is some = (told o.change (decided_is version_1 old session c o e).takes is, ready_passed old session c o e)
   where
-    told : (pending : Pending) → OnChange (TakesMemory c) pending → Chooses old.live pending o.caller chosen → TakesMemory c
+    told : (pending : Pending) → OnChange (TakesMemory c) pending → Chooses old.live kept pending o.caller chosen → TakesMemory c
     told Nothing takes is = let never : None ≡ Some change = sym (ap (λ (x : Chosen). x.change) is) ∙ some in absurd cc
     told (Makes directory name kind own) takes is = takes
     told (Does d) takes is = takes
-
--- no number is given out but the one that a new node gets
-some_of : (o : Option Node) → is_some o ≡ true → (x : Node) × (o ≡ Some x)
-some_of None e = absurd (true≢false (sym e))
-some_of (Some x) e = (x, refl)
-
-abbrev GivesLeast : World → Tree → Type 0
-GivesLeast old tree = (n : ℕ) → map.get old.live.nodes n ≡ None → is_some (map.get tree.nodes n) ≡ true → least_unused version_1 old.live ≡ Some n
-
-dropped_least : (old : World) (session : ℕ) (tree : Tree) (caller : Caller) → GivesLeast old tree → TakesLeast old (dropped (with_caller (with_live old tree) session caller))
-dropped_least old session tree caller least n none some =
-    let left = with_caller (with_live old tree) session caller in
-    let x = some_of (map.get (dropped left).live.nodes n) some in
-    least n none (ap (λ (t : Tree). is_some (map.get t.nodes n)) (sym (caller_live (with_live old tree) session caller)) ∙ ap is_some (without_was (is_held left) left.live n x.0 x.1))
-
-made_least : (old : World) (link : Link) (number : ℕ) (kind : Kind) (own : Ownership) (tree : Tree) → made version_1 old.live link number kind own ≡ Some tree → least_unused version_1 old.live ≡ Some number → GivesLeast old tree
-made_least old link number kind own tree e least n none some = told (same_or_apart nat_cmp_total exact_unsigned n number)
-  where
-    m : Made version_1 old.live link number kind own tree
-    m = made_is version_1 old.live link number kind own tree e
-
-    told : (n ≡ number) ⊎ (n ≢ number) → least_unused version_1 old.live ≡ Some n
-    told (inl q) = least ∙ ap (λ (k : ℕ). Some k) (sym q)
-    told (inr q) = absurd (true≢false (sym some ∙ ap (λ (t : Tree). is_some (map.get t.nodes n)) (sym m.gives) ∙ ap is_some (get_other nat_cmp_total exact_unsigned old.live.nodes number (node_with kind own []) n q ∙ none)))
-
-done_least : (old : World) (change : Change) (tree : Tree) → IsOfOld change → apply version_1 change old.live ≡ Some tree → GivesLeast old tree
-done_least old change tree of_old e n none some =
-    absurd (true≢false (sym some ∙ ap is_some (none_stays (map.get old.live.nodes n) (map.get tree.nodes n) (change_stays version_1 change old.live tree of_old e n) none)))
 
 -- a number isn't filled in where nothing is made
 unfilled : (old : World) (session number : ℕ) (change : Pending) (caller : Caller) → FitsCaller version_1 old session change caller → (MakesFile change → ⊥) → filled number caller ≡ caller
@@ -174,7 +145,7 @@ unfilled old session number change (Closes fd) fits none = refl
 unfilled old session number change (Moves fd offset) fits none = refl
 
 -- a call whose change was chosen and made was served
-module _ (old : World) (session : ℕ) (c : Call) (o : Outcome) (chosen : Chosen) (tree : Tree) (numbers : IsCall c) (whole : IsWorld version_1 old) (decided : decision version_1 old session c ≡ Ok o) (is : Chooses old.live o.change o.caller chosen) (done : MadeBy chosen.change old.live tree) where
+module _ (old : World) (kept : ℕ → Bool) (session : ℕ) (c : Call) (o : Outcome) (chosen : Chosen) (tree : Tree) (numbers : IsCall c) (whole : IsWorld version_1 old) (decided : decision version_1 old session c ≡ Ok o) (is : Chooses old.live kept o.change o.caller chosen) (done : MadeBy chosen.change old.live tree) where
   d : IsDecided version_1 old session c o
   d = decided_is version_1 old session c o decided
 
@@ -185,45 +156,78 @@ module _ (old : World) (session : ℕ) (c : Call) (o : Outcome) (chosen : Chosen
   called : (number : ℕ) → chosen.caller ≡ filled number o.caller → after ≡ dropped (with_caller (with_live old tree) session (filled number o.caller))
   called number e = ap (λ (k : Caller). dropped (with_caller (with_live old tree) session k)) e
 
-  by_change : (change : Pending) → o.change ≡ change → Chooses old.live change o.caller chosen → FitsCaller version_1 old session change o.caller → DoesToOld change → IsServed old session c o.told after
-  by_change Nothing e is fits of_old =
-      let same : tree ≡ old.live = subst (λ (x : Option Change). MadeBy x old.live tree) (ap (λ (x : Chosen). x.change) is) done in
-      let comes : Comes version_1 old session o after = record {
-        number = 0;
-        free = subst (λ (x : Pending). IsNumberFor version_1 old.live 0 x) (sym e) tt;
-        tree = tree;
-        applied = ap (λ (x : Pending). changed version_1 0 x old.live) e ∙ ap (λ (t : Tree). Some t) (sym same);
-        world = called 0 (ap (λ (x : Chosen). x.caller) is ∙ sym (unfilled old session 0 Nothing o.caller fits (λ h. h)));
-      } in
-      served old after session c o decided comes (dropped_least old session tree chosen.caller (λ n none some. absurd (true≢false (sym some ∙ ap (λ (t : Tree). is_some (map.get t.nodes n)) same ∙ ap is_some none))))
-  by_change (Makes directory name kind own) e is fits of_old =
-      let number = is.0 in
-      let link = link_to directory name in
-      let applied : made version_1 old.live link number kind own ≡ Some tree = subst (λ (x : Option Change). MadeBy x old.live tree) (ap (λ (x : Chosen). x.change) is.2) done in
-      let comes : Comes version_1 old session o after = record {
-        number = number;
-        free = subst (λ (x : Pending). IsNumberFor version_1 old.live number x) (sym e) (least_is_number version_1 old.live number whole.live.hierarchy.root (lit≤ tt) is.1);
-        tree = tree;
-        applied = ap (λ (x : Pending). changed version_1 number x old.live) e ∙ applied;
-        world = called number (ap (λ (x : Chosen). x.caller) is.2);
-      } in
-      served old after session c o decided comes (dropped_least old session tree chosen.caller (made_least old link number kind own tree applied is.1))
-  by_change (Does change) e is fits of_old =
-      let applied : apply version_1 change old.live ≡ Some tree = subst (λ (x : Option Change). MadeBy x old.live tree) (ap (λ (x : Chosen). x.change) is) done in
-      let comes : Comes version_1 old session o after = record {
-        number = 0;
-        free = subst (λ (x : Pending). IsNumberFor version_1 old.live 0 x) (sym e) tt;
-        tree = tree;
-        applied = ap (λ (x : Pending). changed version_1 0 x old.live) e ∙ applied;
-        world = called 0 (ap (λ (x : Chosen). x.caller) is ∙ sym (unfilled old session 0 (Does change) o.caller fits (λ h. h)));
-      } in
-      served old after session c o decided comes (dropped_least old session tree chosen.caller (done_least old change tree of_old applied))
+  comes : (number : ℕ) → IsNumberFor version_1 old.live number o.change → changed version_1 number o.change old.live ≡ Some tree → chosen.caller ≡ filled number o.caller → Comes version_1 old session o after
+  comes number free applied caller = record { number = number; free = free; tree = tree; applied = applied; world = called number caller }
 
-  pub chosen_served : IsServed old session c o.told after
-  chosen_served = by_change o.change refl is (d.fits numbers whole) d.of_old
+  by_change : (change : Pending) → o.change ≡ change → Chooses old.live kept change o.caller chosen → FitsCaller version_1 old session change o.caller → Comes version_1 old session o after
+  by_change Nothing e is fits =
+      let same : tree ≡ old.live = subst (λ (x : Option Change). MadeBy x old.live tree) (ap (λ (x : Chosen). x.change) is) done in
+      comes 0 (subst (λ (x : Pending). IsNumberFor version_1 old.live 0 x) (sym e) tt) (ap (λ (x : Pending). changed version_1 0 x old.live) e ∙ ap (λ (t : Tree). Some t) (sym same))
+      (ap (λ (x : Chosen). x.caller) is ∙ sym (unfilled old session 0 Nothing o.caller fits (λ h. h)))
+  by_change (Makes directory name kind own) e is fits =
+      let number = is.0 in
+      let applied : made version_1 old.live (link_to directory name) number kind own ≡ Some tree = subst (λ (x : Option Change). MadeBy x old.live tree) (ap (λ (x : Chosen). x.change) is.2) done in
+      comes number (subst (λ (x : Pending). IsNumberFor version_1 old.live number x) (sym e) (next_is_number version_1 old.live kept number whole.live.hierarchy.root (lit≤ tt) is.1))
+      (ap (λ (x : Pending). changed version_1 number x old.live) e ∙ applied) (ap (λ (x : Chosen). x.caller) is.2)
+  by_change (Does change) e is fits =
+      let applied : apply version_1 change old.live ≡ Some tree = subst (λ (x : Option Change). MadeBy x old.live tree) (ap (λ (x : Chosen). x.change) is) done in
+      comes 0 (subst (λ (x : Pending). IsNumberFor version_1 old.live 0 x) (sym e) tt) (ap (λ (x : Pending). changed version_1 0 x old.live) e ∙ applied)
+      (ap (λ (x : Chosen). x.caller) is ∙ sym (unfilled old session 0 (Does change) o.caller fits (λ h. h)))
+
+  pub chosen_becomes : Becomes version_1 old session (decision version_1 old session c) o.told after
+  chosen_becomes = becomes_told old after session c o decided (by_change o.change refl is (d.fits numbers whole))
+
+  -- the numbers that are kept back in the end
+  module _ (mid last : ℕ → Bool) (by_mid : (n : ℕ) → mid n ≡ kept_by chosen.change kept n) (by_last : (n : ℕ) → last n ≡ (has_closed (with_live old tree) after n || mid n)) where
+    in_end : FilesStay old.live tree → (n : ℕ) → last n ≡ (has_closed old after n || kept_by chosen.change kept n)
+    in_end stay n = by_last n ∙ ap (λ (b : Bool). b || mid n) (closed_same old after tree n whole stay) ∙ ap (λ (b : Bool). has_closed old after n || b) (by_mid n)
+
+    -- where no number is given out
+    without_new : FilesStay old.live tree → ((n : ℕ) → GivesOut old after n → ⊥) → ((n : ℕ) → kept_by chosen.change kept n ≡ kept n) → Numbers (event.Call session c) old kept after last
+    without_new stay none same = record {
+      next = λ n g. absurd (none n g);
+      keeps = record {
+        goes_on = λ _ n. in_end stay n ∙ ap (λ (b : Bool). has_closed old after n || b) (same n);
+        begins_anew = λ given g k n. absurd (none given g);
+      };
+    }
+
+    new_in : (n : ℕ) → GivesOut old after n → is_some (map.get tree.nodes n) ≡ true
+    new_in n g = was_there old session tree chosen.caller n g.used
+
+    by_kind : (change : Pending) → Chooses old.live kept change o.caller chosen → DoesToOld change → Numbers (event.Call session c) old kept after last
+    by_kind Nothing is of_old =
+        let none = ap (λ (x : Chosen). x.change) is in
+        let same : tree ≡ old.live = subst (λ (x : Option Change). MadeBy x old.live tree) none done in
+        without_new (same_stay old.live tree same) (λ n g. true≢false (sym (new_in n g) ∙ ap (λ (t : Tree). is_some (map.get t.nodes n)) same ∙ ap is_some g.unused)) (λ n. ap (λ (x : Option Change). kept_by x kept n) none)
+    by_kind (Makes directory name kind own) is of_old =
+        let number = is.0 in
+        let some = ap (λ (x : Chosen). x.change) is.2 in
+        let applied : made version_1 old.live (link_to directory name) number kind own ≡ Some tree = subst (λ (x : Option Change). MadeBy x old.live tree) some done in
+        let unused = (next_is_number version_1 old.live kept number whole.live.hierarchy.root (lit≤ tt) is.1).unused in
+        let only = λ (n : ℕ) (g : GivesOut old after n). only_made old (link_to directory name) number kind own tree applied n g.unused (new_in n g) in
+        let given : GivesOut old after number = record { unused = unused; used = made_stays old (link_to directory name) number kind own tree applied session chosen.caller } in
+        let by : (n : ℕ) → kept_by chosen.change kept n ≡ (kept n && not (kept number)) = (λ n. ap (λ (x : Option Change). kept_by x kept n) some) in
+        let end = in_end (made_keeps old (link_to directory name) number kind own tree applied) in
+        record {
+          next = λ n g. is.1 ∙ ap (λ (k : ℕ). Some k) (sym (only n g));
+          keeps = record {
+            goes_on = λ none n. end n ∙ ap (λ (b : Bool). has_closed old after n || b) (by n ∙ and_not_false (kept n) (kept number) (none number given));
+            begins_anew = λ one g k n. end n ∙ or_false (has_closed old after n) _ (by n ∙ and_not_true (kept n) (kept number) (ap kept (sym (only one g)) ∙ k));
+          };
+        }
+    by_kind (Does change) is of_old =
+        let some = ap (λ (x : Chosen). x.change) is in
+        let applied : apply version_1 change old.live ≡ Some tree = subst (λ (x : Option Change). MadeBy x old.live tree) some done in
+        without_new (done_stay change old.live tree of_old applied)
+        (λ n g. true≢false (sym (new_in n g) ∙ ap is_some (none_stays (map.get old.live.nodes n) (map.get tree.nodes n) (change_stays version_1 change old.live tree of_old applied n) g.unused)))
+        (λ n. ap (λ (x : Option Change). kept_by x kept n) some ∙ old_keeps change kept n of_old)
+
+    pub chosen_served : IsServed old kept session c o.told after last
+    chosen_served = (chosen_becomes, by_kind o.change is d.of_old)
 
   -- only what the change took a name of may be left to nobody
-  lost_by : (change : Pending) → Chooses old.live change o.caller chosen → DoesToOld change → OnlyLost (with_live old tree) chosen.lost
+  lost_by : (change : Pending) → Chooses old.live kept change o.caller chosen → DoesToOld change → OnlyLost (with_live old tree) chosen.lost
   lost_by Nothing is of_old =
       let same : tree ≡ old.live = subst (λ (x : Option Change). MadeBy x old.live tree) (ap (λ (x : Chosen). x.change) is) done in
       subst (λ (x : Option ℕ). OnlyLost (with_live old tree) x) (sym (ap (λ (x : Chosen). x.lost) is)) (subst (λ (t : Tree). OnlyLost (with_live old t) None) (sym same) (no_loss version_1 old whole))
@@ -241,7 +245,7 @@ module _ (old : World) (session : ℕ) (c : Call) (o : Outcome) (chosen : Chosen
   pub chosen_turns : (room : ℕ) → HasRoom o.caller room → CanTurn old.descriptors room session chosen.caller
   chosen_turns room has = told o.change is (d.fits numbers whole)
     where
-      told : (change : Pending) → Chooses old.live change o.caller chosen → FitsCaller version_1 old session change o.caller → CanTurn old.descriptors room session chosen.caller
+      told : (change : Pending) → Chooses old.live kept change o.caller chosen → FitsCaller version_1 old session change o.caller → CanTurn old.descriptors room session chosen.caller
       told Nothing is fits = subst (CanTurn old.descriptors room session) (sym (ap (λ (x : Chosen). x.caller) is)) (can_turn old session room whole.count Nothing o.caller fits has)
       told (Makes directory name kind own) is fits = subst (CanTurn old.descriptors room session) (sym (ap (λ (x : Chosen). x.caller) is.2)) (can_turn_filled old session room whole.count (Makes directory name kind own) o.caller is.0 fits has)
       told (Does change) is fits = subst (CanTurn old.descriptors room session) (sym (ap (λ (x : Chosen). x.caller) is)) (can_turn old session room whole.count (Does change) o.caller fits has)
@@ -255,8 +259,8 @@ module _ (old : World) (session : ℕ) (c : Call) (o : Outcome) (chosen : Chosen
       told (Some change) e = tree_kept version_1 change old.live tree whole.live e
 
 -- what was served leaves a world
-pub served_whole : (old new : World) (session : ℕ) (c : Call) (answer : Reply) → IsServed old session c answer new → IsCall c → IsWorld version_1 old → IsWorld version_1 new
-served_whole old new session c answer h numbers whole = step_world version_1 old new session c answer (inl h.0) numbers whole
+pub served_whole : (old new : World) (session : ℕ) (c : Call) (answer : Reply) → Becomes version_1 old session (decision version_1 old session c) answer new → IsCall c → IsWorld version_1 old → IsWorld version_1 new
+served_whole old new session c answer h numbers whole = step_world version_1 old new session c answer (inl h) numbers whole
 
 -- a run goes on by one step
 pub run_more : {S : Type 0} (By : S → Event → Reply → S → Type 0) (old mid new : S) (events : List Event) (replies : List Reply) (e : Event) (reply : Reply) → RunBy By old events replies mid → By mid e reply new → RunBy By old (events ++ e ∷ []) (replies ++ reply ∷ []) new
@@ -266,34 +270,34 @@ run_more By old mid new (f ∷ events) [] e reply run step = absurd run
 run_more By old mid new (f ∷ events) (r ∷ replies) e reply run step = (run.0, run.1, run_more By run.0 mid new events replies e reply run.2 step)
 
 -- it is one of the machine
-pub machine_run : (old new : World) (events : List Event) (replies : List Reply) → PlainRun old events replies new → Run OfMemory version_1 (Running old) events replies (Running new)
-machine_run old new [] [] run = ap (λ (w : World). Running w) run
+pub machine_run : (old new : Numbered) (events : List Event) (replies : List Reply) → PlainRun old events replies new → Run OfMemory version_1 (Running old.world) events replies (Running new.world)
+machine_run old new [] [] run = ap (λ (n : Numbered). Running n.world) run
 machine_run old new [] (r ∷ replies) run = absurd run
 machine_run old new (e ∷ events) [] run = absurd run
-machine_run old new (e ∷ events) (r ∷ replies) run = (Running run.0, run.1.step, machine_run run.0 new events replies run.2)
+machine_run old new (e ∷ events) (r ∷ replies) run = (Running run.0.world, run.1.step, machine_run run.0 new events replies run.2)
 
 -- what the machine says of a call that was answered, or refused, or found no memory
-pub answered_step : (old new : World) (session : ℕ) (c : Call) (reply : Reply) → IsServed old session c reply new → PlainStep old (event.Call session c) reply new
-answered_step old new session c reply h = record { step = (None, tt, record { next = new; becomes = h.0; runs = refl }); least = h.1 }
+pub answered_step : (old new : Numbered) (session : ℕ) (c : Call) (reply : Reply) → IsServed old.world old.kept session c reply new.world new.kept → PlainStep old (event.Call session c) reply new
+answered_step old new session c reply h = record { step = (None, tt, record { next = new.world; becomes = h.0; runs = refl }); numbers = h.1 }
 
-pub refused_step : (old new : World) (session : ℕ) (c : Call) (refusal : Refusal) → decision version_1 old session c ≡ Err refusal → new ≡ old → PlainStep old (event.Call session c) (Refused refusal) new
-refused_step old new session c refusal e same = record {
-  step = (None, tt, record { next = new; becomes = subst (λ (d : Result Outcome Refusal). Becomes version_1 old session d (Refused refusal) new) (sym e) (refl, same); runs = refl });
-  least = same_least old new (ap (λ (w : World). w.live) same);
+pub refused_step : (old new : Numbered) (session : ℕ) (c : Call) (refusal : Refusal) → decision version_1 old.world session c ≡ Err refusal → new.world ≡ old.world → new.kept ≡ old.kept → PlainStep old (event.Call session c) (Refused refusal) new
+refused_step old new session c refusal e same none = record {
+  step = (None, tt, record { next = new.world; becomes = subst (λ (d : Result Outcome Refusal). Becomes version_1 old.world session d (Refused refusal) new.world) (sym e) (refl, same); runs = refl });
+  numbers = same_numbers session c old.world new.world old.kept new.kept same none;
 }
 
-pub memory_step : (old new : World) (session : ℕ) (c : Call) → TakesMemory c → IsOk (ready old session c) → new ≡ old → PlainStep old (event.Call session c) (Refused (plain Enomem)) new
-memory_step old new session c takes passed same = record {
+pub memory_step : (old new : Numbered) (session : ℕ) (c : Call) → TakesMemory c → IsOk (ready old.world session c) → new.world ≡ old.world → new.kept ≡ old.kept → PlainStep old (event.Call session c) (Refused (plain Enomem)) new
+memory_step old new session c takes passed same none = record {
   step = (Some Memory, tt, ((takes, passed), record { told = refl; same = ap (λ (w : World). Running w) same }));
-  least = same_least old new (ap (λ (w : World). w.live) same);
+  numbers = same_numbers session c old.world new.world old.kept new.kept same none;
 }
 
 -- a step, and a restart
-pub point_step : (old : World) → PlainStep old event.Step (Progress Ended) old
-point_step old = record { step = (None, tt, (inr refl, refl)); least = same_least old old refl }
+pub point_step : (old : Numbered) → PlainStep old event.Step (Progress Ended) old
+point_step old = record { step = (None, tt, (inr refl, refl)); numbers = step_numbers old.world old.kept }
 
-pub restart_step : (old new : World) → new ≡ settle old → PlainStep old event.Restart Done new
-restart_step old new settled = record { step = (None, tt, (refl, ap (λ (w : World). Running w) settled)); least = settled_least old new settled }
+pub restart_step : (old new : Numbered) → new.world ≡ settle old.world → ((n : ℕ) → new.kept n ≡ false) → PlainStep old event.Restart Done new
+restart_step old new settled none = record { step = (None, tt, (refl, ap (λ (w : World). Running w) settled)); numbers = restart_numbers old.world new.world old.kept new.kept settled none }
 
 -- a change that was tried leaves a name tree
 pub applied_tree : (result : Result (Unit {0}) ApplyError) (change : Change) (old new : Tree) → IsTree version_1 old → Applies result (apply version_1 change old) old new → IsTree version_1 new

@@ -34,3 +34,7 @@ TellsReleased old new numbers = (number : ℕ) → is_held old number ≡ true �
 -- what may be dropped has a number of a node
 abbrev pub AreNumbers : World → Type 0
 AreNumbers world = (number : ℕ) → is_abandoned world number ≡ true → 2 ≤ number
+
+-- each of these had a descriptor
+abbrev pub WereHeld : World → List ℕ → Type 0
+WereHeld old numbers = (number : ℕ) → Contains numbers number → is_held old number ≡ true

@@ -1,4 +1,5 @@
 pub mod Called
+pub mod Numbering
 pub mod Plain
 pub mod PlainRuns
 pub mod Served

@@ -1,10 +1,11 @@
 -- What the live tree in memory and the sessions stand for.
-use Rattle.std.specs.Prelude.{ℕ}
+use Rattle.std.specs.Prelude.{ℕ, Bool}
 use Rattle.std.specs.FinMap as map
 use Rattle.sn_model.specs.Tree.{Tree}
 use Rattle.sn_model.specs.World.{Trees, World}
 use Rattle.sn_desc.specs.Sessions.{in_use_of}
-use Rattle.sn_plain.specs.Plain.{tree_of}
+use Rattle.sn_numbers.specs.Live.{kept_back_of, live_of}
+use Rattle.sn_core.specs.PlainRuns.{Numbered}
 use Rattle.sn_core.specs.declared.world.PlainWorld.{PlainWorld}
 
 -- there are no snapshots yet
@@ -12,7 +13,14 @@ abbrev pub plain_trees : Tree → Trees
 plain_trees tree = record { live = tree; frozen = map.empty }
 
 abbrev pub world_of : PlainWorld → World
-world_of w = record { live = tree_of w.tree; frozen = map.empty; sessions = (in_use_of w.sessions).sessions; descriptors = (in_use_of w.sessions).descriptors }
+world_of w = record { live = live_of w.tree; frozen = map.empty; sessions = (in_use_of w.sessions).sessions; descriptors = (in_use_of w.sessions).descriptors }
+
+-- the numbers that are kept back
+abbrev pub kept_of : PlainWorld → ℕ → Bool
+kept_of w = kept_back_of w.tree
+
+abbrev pub numbered_of : PlainWorld → Numbered
+numbered_of w = record { world = world_of w; kept = kept_of w }
 
 -- so many more files can be opened without memory
 abbrev pub room_of : PlainWorld → ℕ

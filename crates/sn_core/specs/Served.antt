@@ -1,8 +1,9 @@
 -- The parts of serving a call, and a call that was served: its reply, or why it isn't done, and the world after it.
-use Rattle.std.specs.Prelude.{◌≡◌, ◌≢◌, ℕ, None, Some, Result, Ok, Err, IsOk}
+use Rattle.std.specs.Prelude.{◌≡◌, ◌≢◌, ℕ, Bool, None, Some, Result, Ok, Err, IsOk}
 use Rattle.sn_walk.specs.declared.failure.Failure.{Failure}
 use Rattle.sn_walk.specs.declared.failure.Failure.TheVariants as failure
 use Rattle.sn_model.specs.declared.call.Call.{Call}
+use Rattle.sn_model.specs.declared.call.Event.TheVariants as event
 use Rattle.sn_model.specs.declared.reply.Refusal.{Refusal}
 use Rattle.sn_model.specs.declared.reply.Reply.{Reply}
 use Rattle.sn_model.specs.declared.change.Change.{Change}
@@ -20,7 +21,9 @@ use Rattle.sn_model.specs.Settling.{loses}
 use Rattle.sn_model.specs.Steps.{Becomes, TakesMemory, decision, filled, with_live}
 use Rattle.sn_plain.specs.declared.error.ApplyError.{ApplyError}
 use Rattle.sn_plain.specs.declared.error.ApplyError.TheVariants as lack
-use Rattle.sn_core.specs.PlainRuns.{TakesLeast}
+use Rattle.sn_numbers.specs.Numbers.{next_number}
+use Rattle.sn_core.specs.Numbering.{Numbers}
+use Rattle.sn_core.specs.PlainRuns.{Numbered}
 use Rattle.sn_core.specs.declared.choosing.Chosen.{Chosen}
 use Rattle.sn_core.specs.declared.error.CallError.{CallError}
 use Rattle.sn_core.specs.declared.error.CallError.TheVariants.{Refused, Memory}
@@ -46,11 +49,11 @@ HasNumber tree Nothing = Unit {0}
 HasNumber tree (Makes directory name kind o) = least_unused version_1 tree ≢ None
 HasNumber tree (Does c) = Unit {0}
 
--- what is pending, where a new node has the least unused number
-abbrev pub Chooses : Tree → Pending → Caller → Chosen → Type 0
-Chooses tree Nothing caller chosen = chosen ≡ record { change = None; caller = caller; lost = None }
-Chooses tree (Makes directory name kind o) caller chosen = (number : ℕ) × (least_unused version_1 tree ≡ Some number) × (chosen ≡ record { change = Some (Make directory name number kind o); caller = filled number caller; lost = None })
-Chooses tree (Does c) caller chosen = chosen ≡ record { change = Some c; caller = caller; lost = loses c tree }
+-- what is pending, where a new node has the next number
+abbrev pub Chooses : Tree → (ℕ → Bool) → Pending → Caller → Chosen → Type 0
+Chooses tree kept Nothing caller chosen = chosen ≡ record { change = None; caller = caller; lost = None }
+Chooses tree kept (Makes directory name kind o) caller chosen = (number : ℕ) × (next_number version_1 tree kept ≡ Some number) × (chosen ≡ record { change = Some (Make directory name number kind o); caller = filled number caller; lost = None })
+Chooses tree kept (Does c) caller chosen = chosen ≡ record { change = Some c; caller = caller; lost = loses c tree }
 
 -- why a change isn't made
 abbrev pub LacksFor : ApplyError → Change → World → World → Type 0
@@ -66,6 +69,6 @@ abbrev pub FailsTo : CallError → World → ℕ → Call → World → Type 0
 FailsTo (Refused r) old session c new = (decision version_1 old session c ≡ Err r) × (new ≡ old)
 FailsTo Memory old session c new = TakesMemory c × IsOk (ready old session c) × (new ≡ old)
 
-abbrev pub Serves : World → ℕ → Call → Result Reply CallError → World → Type 0
-Serves old session c (Ok reply) new = Becomes version_1 old session (decision version_1 old session c) reply new × TakesLeast old new
-Serves old session c (Err e) new = FailsTo e old session c new
+abbrev pub Serves : Numbered → ℕ → Call → Result Reply CallError → Numbered → Type 0
+Serves old session c (Ok reply) new = Becomes version_1 old.world session (decision version_1 old.world session c) reply new.world × Numbers (event.Call session c) old.world old.kept new.world new.kept
+Serves old session c (Err e) new = FailsTo e old.world session c new.world × (new.kept ≡ old.kept)

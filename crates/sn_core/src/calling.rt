@@ -1,5 +1,5 @@
 //! What becomes of whoever called, and of files that nobody has and no name stands for.
-ghost use Rattle.std.specs.Prelude.{◌≡◌, ◌<◌, ◌≤◌, ℕ, true, Ok, Contains, OnOk, OnErr};
+ghost use Rattle.std.specs.Prelude.{◌≡◌, ◌<◌, ◌≤◌, ◌==◌, ◌&&◌, ◌||◌, ℕ, true, Ok, Contains, OnOk, OnErr};
 ghost use Rattle.sn_desc.specs.InUse.{descriptor_of};
 ghost use Rattle.sn_limits.specs.Versions.{version_1};
 ghost use Rattle.sn_model.specs.Descriptors.{next_descriptor, opened};
@@ -7,7 +7,8 @@ ghost use Rattle.sn_model.specs.NameTree.{IsTree};
 ghost use Rattle.sn_model.specs.Outcomes.{is_opening};
 ghost use Rattle.sn_model.specs.Settling.{OnlyLost, dropped, dropped_if, is_abandoned};
 ghost use Rattle.sn_model.specs.Steps.{with_caller, with_descriptors};
-ghost use Rattle.sn_core.specs.Called.{AreNumbers, CanTurn, HasRoom, TellsReleased};
+ghost use Rattle.sn_core.specs.Called.{AreNumbers, CanTurn, HasRoom, TellsReleased, WereHeld};
+ghost use Rattle.sn_core.specs.Numbering.{has_closed, has_gone};
 
 use crate::PlainWorld;
 use sn_desc::{OpenFile, Released};
@@ -15,12 +16,13 @@ use sn_model::Caller;
 use std::alloc::AllocError;
 
 impl PlainWorld {
-    ghost use Rattle.sn_core.specs.Plain.{room_of, world_of};
+    ghost use Rattle.sn_core.specs.Plain.{kept_of, room_of, world_of};
 
     /// Makes room for the file that a caller opens, if it opens one. Where memory is refused nothing
     /// changes.
     pub fn prepare(&mut self, caller: &Caller) -> Result<(), AllocError>
         ensures world { world_of self.new ≡ world_of self.old }
+        ensures kept { kept_of self.new ≡ kept_of self.old }
         ensures room { OnOk result (HasRoom caller.now (room_of self.new)) }
         ensures opening { OnErr result (is_opening caller.now ≡ true) }
     {
@@ -34,7 +36,8 @@ impl PlainWorld {
     fn open(&mut self, session: u32, file: OpenFile)
         requires session { session < 64 }
         requires room { 0 < room_of self.old }
-        ensures { (fd : ℕ) → next_descriptor (world_of self.old).descriptors session ≡ Ok fd → world_of self.new ≡ with_descriptors (world_of self.old) (opened (world_of self.old).descriptors session fd (descriptor_of file)) }
+        ensures kept { kept_of self.new ≡ kept_of self.old }
+        ensures opened { (fd : ℕ) → next_descriptor (world_of self.old).descriptors session ≡ Ok fd → world_of self.new ≡ with_descriptors (world_of self.old) (opened (world_of self.old).descriptors session fd (descriptor_of file)) }
     {
         match self.sessions.open(session, file) {
             Ok(_) => {}
@@ -46,7 +49,9 @@ impl PlainWorld {
     /// Closes a descriptor, and tells the live file that no descriptor has any more.
     fn close(&mut self, session: u32, fd: u32) -> Released
         ensures world { world_of self.new ≡ with_caller (world_of self.old) session (Caller.Closes fd) }
+        ensures kept { kept_of self.new ≡ kept_of self.old }
         ensures released { TellsReleased (world_of self.old) (world_of self.new) result.items }
+        ensures held { WereHeld (world_of self.old) result.items }
     {
         let mut released = Released::new();
         if let Some(number) = self.sessions.close_if_open(session, fd) {
@@ -60,7 +65,9 @@ impl PlainWorld {
     fn turn(&mut self, session: u32, caller: Caller) -> Released
         requires opens { CanTurn (world_of self.old).descriptors (room_of self.old) session caller }
         ensures world { world_of self.new ≡ with_caller (world_of self.old) session caller }
+        ensures kept { kept_of self.new ≡ kept_of self.old }
         ensures released { TellsReleased (world_of self.old) (world_of self.new) result.items }
+        ensures held { WereHeld (world_of self.old) result.items }
     {
         match caller {
             Caller::Stays | Caller::OpensNew { .. } => {}
@@ -93,43 +100,59 @@ impl PlainWorld {
     fn is_abandoned(&self, number: u16) -> bool
         ensures { result ≡ is_abandoned (world_of self.now) number }
     {
-        self.tree.is_nameless(number) && !self.sessions.is_held(number)
+        self.tree.tree().is_nameless(number) && !self.sessions.is_held(number)
     }
 
-    /// Takes a live file away, if no name stands for it and nobody has it open.
-    fn drop_if_abandoned(&mut self, number: u16)
+    /// Takes a live file away that lost its last descriptor, if no name stands for it: its number is
+    /// kept back.
+    fn drop_if_closed(&mut self, number: u16)
         requires { AreNumbers (world_of self.old) }
-        ensures { world_of self.new ≡ dropped_if (world_of self.old) number }
+        ensures world { world_of self.new ≡ dropped_if (world_of self.old) number }
+        ensures kept { (n : ℕ) → kept_of self.new n ≡ ((is_abandoned (world_of self.old) number && n == number) || kept_of self.old n) }
+    {
+        if self.is_abandoned(number) {
+            self.tree.drop_closed(number);
+        }
+    }
+
+    /// The same for each of these.
+    fn drop_each_closed(&mut self, numbers: &[u16])
+        requires { AreNumbers (world_of self.old) }
+        ensures world { dropped (world_of self.new) ≡ dropped (world_of self.old) }
+        ensures left { (number : ℕ) → is_abandoned (world_of self.new) number ≡ true → (is_abandoned (world_of self.old) number ≡ true) × (Contains numbers.now number → ⊥) }
+        ensures gone { (number : ℕ) → has_gone (world_of self.old) (world_of self.new) number ≡ true → Contains numbers.now number }
+        ensures kept { (number : ℕ) → kept_of self.new number ≡ (has_gone (world_of self.old) (world_of self.new) number || kept_of self.old number) }
+    {
+        for number in numbers {
+            self.drop_if_closed(*number);
+        }
+    }
+
+    /// Takes a live file away that lost a name, if no other stands for it and nobody has it open.
+    fn drop_if_lost(&mut self, number: u16)
+        requires { AreNumbers (world_of self.old) }
+        ensures world { world_of self.new ≡ dropped_if (world_of self.old) number }
+        ensures kept { (n : ℕ) → kept_of self.new n ≡ kept_of self.old n }
     {
         if self.is_abandoned(number) {
             self.tree.drop_file(number);
         }
     }
 
-    /// The same for each of these.
-    fn drop_each(&mut self, numbers: &[u16])
-        requires { AreNumbers (world_of self.old) }
-        ensures world { dropped (world_of self.new) ≡ dropped (world_of self.old) }
-        ensures left { (number : ℕ) → is_abandoned (world_of self.new) number ≡ true → (is_abandoned (world_of self.old) number ≡ true) × (Contains numbers.now number → ⊥) }
-    {
-        for number in numbers {
-            self.drop_if_abandoned(*number);
-        }
-    }
-
     /// Sets what becomes of a caller's session and its descriptors. A live file that no name stands for
     /// goes where nobody has it open any more: one that lost its last descriptor, or its name by the
-    /// change that was made. Only those are looked at.
+    /// change that was made. Only those are looked at. The numbers of the former are kept back.
     pub fn set_caller(&mut self, session: u32, caller: Caller, lost: Option<u16>)
         requires whole { IsTree version_1 (world_of self.old).live }
         requires opens { CanTurn (world_of self.old).descriptors (room_of self.old) session caller }
         requires lost { OnlyLost (world_of self.old) lost }
-        ensures { world_of self.new ≡ dropped (with_caller (world_of self.old) session caller) }
+        ensures world { world_of self.new ≡ dropped (with_caller (world_of self.old) session caller) }
+        ensures kept { (number : ℕ) → kept_of self.new number ≡ (has_closed (world_of self.old) (world_of self.new) number || kept_of self.old number) }
     {
         let released = self.turn(session, caller);
-        self.drop_each(released.as_slice());
+        self.drop_each_closed(released.as_slice());
         if let Some(number) = lost {
-            self.drop_if_abandoned(number);
+            self.drop_if_lost(number);
         }
     }
 }

@@ -1,6 +1,5 @@
 //! Which number a new node gets, and which number a change takes a name of.
 ghost use Rattle.std.specs.Prelude.{◌≡◌};
-ghost use Rattle.sn_model.specs.Settling.{loses};
 ghost use Rattle.sn_model.specs.Steps.{filled};
 ghost use Rattle.sn_core.specs.Served.{Chooses, HasNumber};
 
@@ -36,27 +35,12 @@ fn with_number(caller: Caller, number: u16) -> Caller
 }
 
 impl PlainWorld {
-    ghost use Rattle.sn_core.specs.Plain.{world_of};
+    ghost use Rattle.sn_core.specs.Plain.{kept_of, world_of};
 
-    /// The number that a change takes a name of: a file may be left without one.
-    fn loses(&self, change: &Change<'_>) -> Option<u16>
-        ensures { result ≡ loses change.now (world_of self.now).live }
-    {
-        match change {
-            Change::Remove { directory, name } => self.link(*directory, name.as_slice()),
-            Change::Rename {
-                new_directory,
-                new_name,
-                ..
-            } => self.link(*new_directory, new_name.as_slice()),
-            _ => None,
-        }
-    }
-
-    /// What was pending, with the least number that no node has for a new node. There has to be one.
+    /// What was pending, with the next number for a new node. One has to be unused.
     pub fn choose<'a>(&self, pending: Pending<'a>, caller: Caller) -> Chosen<'a>
         requires { HasNumber (world_of self.now).live pending }
-        ensures { Chooses (world_of self.now).live pending.entry caller result }
+        ensures { Chooses (world_of self.now).live (kept_of self.now) pending.entry caller result }
     {
         match pending {
             Pending::Nothing => Chosen {
@@ -69,7 +53,7 @@ impl PlainWorld {
                 name,
                 kind,
                 ownership,
-            } => match self.least_unused(&Limits::VERSION_1) {
+            } => match self.tree.next_number(&Limits::VERSION_1) {
                 Some(number) => Chosen {
                     change: Some(Change::Make {
                         directory,
@@ -84,7 +68,7 @@ impl PlainWorld {
                 None => unreachable!(),
             },
             Pending::Does(change) => {
-                let lost = self.loses(&change);
+                let lost = self.tree.loses(&change);
                 Chosen {
                     change: Some(change),
                     caller,

@@ -155,7 +155,7 @@ impl PlainWorld {
         ensures { result ≡ length (calls.open_bytes (world_of self.now) (descriptor_of file.now)) }
     {
         match file.home {
-            Home::Live => self.tree.size(file.number),
+            Home::Live => self.tree.tree().size(file.number),
             Home::Frozen(_) => 0,
         }
     }
@@ -168,6 +168,7 @@ impl PlainWorld {
         match file.home {
             Home::Live => match self
                 .tree
+                .tree()
                 .read(alloc, file.number, file.offset, count as usize)?
             {
                 Some(bytes) => Ok(bytes),

@@ -68,7 +68,7 @@ impl PlainWorld {
             return Ok(Names::new(Vec::new(alloc)));
         };
         match home {
-            Home::Live => self.tree.names(alloc, *number),
+            Home::Live => self.tree.tree().names(alloc, *number),
             Home::Frozen(_) => Ok(Names::new(Vec::new(alloc))),
         }
     }

@@ -1,10 +1,10 @@
 ghost use Rattle.std.specs.Prelude.{◌≡◌, ◌≢◌, ◌≤◌, [], IfOk, length, vec_capacity};
-ghost use Rattle.sn_core.specs.Plain.{world_of};
+ghost use Rattle.sn_core.specs.Plain.{numbered_of, world_of};
 ghost use Rattle.sn_model.specs.Machine.{OfMemory, WholeRun};
-ghost use Rattle.sn_model.specs.World.{World, new_world};
+ghost use Rattle.sn_model.specs.World.{new_world};
 ghost use Rattle.sn_limits.specs.Versions.{version_1};
 ghost use Rattle.sn_model.specs.Worlds.{IsWorld};
-ghost use Rattle.sn_core.specs.PlainRuns.{PlainRun};
+ghost use Rattle.sn_core.specs.PlainRuns.{Numbered, PlainRun, new_numbered};
 
 use crate::world::PlainWorld;
 use sn_model::{End, Event, MountFault, Reply};
@@ -22,7 +22,7 @@ fn answer(alloc: Global, world: &mut PlainWorld, events: &[Event], replies: &mut
     requires whole { IsWorld version_1 (world_of world.old) }
     requires empty { replies.old.items ≡ [] }
     requires room { length events.now ≤ vec_capacity replies.old }
-    ensures { PlainRun (world_of world.old) events.now replies.new.items (world_of world.new) }
+    ensures { PlainRun (numbered_of world.old) events.now replies.new.items (numbered_of world.new) }
 {
     for event in events {
         let reply = world.answer(alloc, event);
@@ -31,15 +31,17 @@ fn answer(alloc: Global, world: &mut PlainWorld, events: &[Event], replies: &mut
 }
 
 /// Answers events in their order, from an empty root directory (0:0, mode 0755) on, with nobody
-/// logged in. Each event has one reply, and a new node has the least unused number. There are no
-/// consistency points, so a step is always done, and a restart is never refused.
+/// logged in. Each event has one reply. A new node has the least number that no node has, but for those
+/// of files that went with their last descriptor since the last restart: they are given out only where
+/// no other is left. There are no consistency points, so a step is always done, and a restart is never
+/// refused.
 ///
 /// The room for the replies is looked for first, and then that for the tree and the sessions:
 /// without either nothing is done. A run that finds none for the tree hands back the list with the
 /// room for all replies.
 pub fn run_plain(alloc: Global, events: &[Event]) -> (Vec<Reply>, End)
     ensures run { WholeRun OfMemory version_1 new_world events.now result.0.items result.1 }
-    ensures least { result.1 ≡ End.Clean → (last : World) × PlainRun new_world events.now result.0.items last }
+    ensures numbers { result.1 ≡ End.Clean → (last : Numbered) × PlainRun new_numbered events.now result.0.items last }
     ensures nothing { result.1 ≢ End.Clean → result.0.items ≡ [] }
     ensures mount { result.1 ≡ End.Mount MountFault.Memory → length events.now ≤ vec_capacity result.0 }
 {

@@ -1,13 +1,13 @@
 ghost use Rattle.sn_limits.specs.Versions.{version_1};
 ghost use Rattle.sn_model.specs.NameTree.{IsTree};
-ghost use Rattle.sn_plain.specs.Plain.{tree_of};
+ghost use Rattle.sn_numbers.specs.Live.{live_of};
 
 use sn_acl::Acl;
 use sn_core_decide::CallView;
 use sn_core_names::MoveView;
 use sn_limits::{Limits, SnapshotName};
 use sn_model::Refusal;
-use sn_plain::PlainTree;
+use sn_numbers::LiveTree;
 use sn_walk::{Attributes, Failure, Home, TreeView};
 use std::convert::Infallible;
 
@@ -15,8 +15,8 @@ use std::convert::Infallible;
 /// takes memory, and none fails.
 #[derive(Drop)]
 pub(crate) struct PlainView<'a> {
-    pub tree: &'a PlainTree,
-    ghost whole: { ∥ IsTree version_1 (tree_of tree.now) ∥₁ },
+    pub tree: &'a LiveTree,
+    ghost whole: { ∥ IsTree version_1 (live_of tree.now) ∥₁ },
 }
 
 impl<'a> TreeView for PlainView<'a> {
@@ -29,7 +29,7 @@ impl<'a> TreeView for PlainView<'a> {
 
     ghost is_told = { true };
 
-    ghost shows = { λ v. viewed_trees (plain_trees (tree_of v.tree.now)) };
+    ghost shows = { λ v. viewed_trees (plain_trees (live_of v.tree.now)) };
 
     ghost holds = { λ v. Unit {0} };
 
@@ -43,7 +43,7 @@ impl<'a> TreeView for PlainView<'a> {
 
     fn node(&mut self, home: &Home, number: u16) -> Result<Option<Attributes>, Infallible> {
         match home {
-            Home::Live => Ok(self.tree.attributes(number)),
+            Home::Live => Ok(self.tree.tree().attributes(number)),
             Home::Frozen(_) => Ok(None),
         }
     }
@@ -55,14 +55,14 @@ impl<'a> TreeView for PlainView<'a> {
         name: &[u8],
     ) -> Result<Option<u16>, Infallible> {
         match home {
-            Home::Live => Ok(self.tree.link(directory, name)),
+            Home::Live => Ok(self.tree.tree().link(directory, name)),
             Home::Frozen(_) => Ok(None),
         }
     }
 
     fn default_acl(&mut self, home: &Home, number: u16) -> Result<Option<Acl>, Infallible> {
         match home {
-            Home::Live => Ok(self.tree.default_acl(number)),
+            Home::Live => Ok(self.tree.tree().default_acl(number)),
             Home::Frozen(_) => Ok(None),
         }
     }
@@ -88,7 +88,7 @@ impl<'a> CallView for PlainView<'a> {
     ghost use Rattle.sn_model.specs.Tests.{has_room};
     ghost use Rattle.sn_core.specs.Plain.{plain_trees};
 
-    ghost room = { λ v. has_room version_1 (tree_of v.tree.now) };
+    ghost room = { λ v. has_room version_1 (live_of v.tree.now) };
 
     fn has_room(&mut self, directory: u16) -> Result<(), Failure<Refusal, Infallible>> {
         match self.tree.has_room(&Limits::VERSION_1, directory) {
@@ -97,26 +97,30 @@ impl<'a> CallView for PlainView<'a> {
         }
     }
 
-    ghost names = { λ v. seen_names version_1 (plain_trees (tree_of v.tree.now)) };
+    ghost names = { λ v. seen_names version_1 (plain_trees (live_of v.tree.now)) };
 
     fn has_room_for_name(&mut self, directory: u16) -> Result<(), Failure<Refusal, Infallible>> {
-        match self.tree.has_room_for_name(&Limits::VERSION_1, directory) {
+        match self
+            .tree
+            .tree()
+            .has_room_for_name(&Limits::VERSION_1, directory)
+        {
             Ok(()) => Ok(()),
             Err(refusal) => Err(Failure::Refused(refusal)),
         }
     }
 
     fn is_empty(&mut self, directory: u16) -> Result<bool, Infallible> {
-        Ok(self.tree.names_in(directory) == 0)
+        Ok(self.tree.tree().names_in(directory) == 0)
     }
 
-    ghost room_stays = { λ u v told e. ap (λ w. has_room version_1 (tree_of w.tree.now)) e };
+    ghost room_stays = { λ u v told e. ap (λ w. has_room version_1 (live_of w.tree.now)) e };
 
-    ghost names_stay = { λ u v told e. ap (λ w. seen_names version_1 (plain_trees (tree_of w.tree.now))) e };
+    ghost names_stay = { λ u v told e. ap (λ w. seen_names version_1 (plain_trees (live_of w.tree.now))) e };
 }
 
 impl<'a> MoveView for PlainView<'a> {
     fn is_below(&mut self, top: u16, directory: u16) -> Result<bool, Infallible> {
-        Ok(self.tree.is_below(top, directory))
+        Ok(self.tree.tree().is_below(top, directory))
     }
 }

@@ -1,16 +1,15 @@
-ghost use Rattle.std.specs.Prelude.{◌≡◌, IfOk};
+ghost use Rattle.std.specs.Prelude.{◌≡◌, ℕ, false, IfOk, OnErr, OnOk};
 ghost use Rattle.sn_model.specs.NameTree.{IsTree};
 ghost use Rattle.sn_model.specs.Settling.{settle};
 ghost use Rattle.sn_model.specs.Tests.{logged_in, logged_out};
 ghost use Rattle.sn_limits.specs.Versions.{version_1};
 ghost use Rattle.sn_model.specs.Worlds.{IsWorld};
 ghost use Rattle.sn_core.specs.PlainRuns.{PlainStep};
-ghost use Rattle.sn_model.specs.Tree.{least_unused, link_to};
 ghost use Rattle.sn_model.specs.World.{new_world};
-ghost use Rattle.std.specs.FinMap as map;
 ghost use Rattle.sn_walk.specs.Gives.{Answers};
 ghost use Rattle.sn_core.specs.Served.{MakesChange, Serves};
-ghost use Rattle.sn_plain.specs.Plain.{tree_of};
+ghost use Rattle.sn_numbers.specs.Live.{live_of};
+ghost use Rattle.sn_numbers.specs.Numbers.{kept_after};
 
 use crate::choosing::Chosen;
 use crate::error::CallError;
@@ -18,27 +17,29 @@ use crate::view::PlainView;
 use sn_desc::Sessions;
 use sn_limits::Limits;
 use sn_model::{Call, Change, Errno, Event, Outcome, Progress, Refusal, Reply, Session};
-use sn_plain::{ApplyError, PlainTree};
+use sn_numbers::LiveTree;
+use sn_plain::ApplyError;
 use std::alloc::{AllocError, Global};
 
 /// The live tree, and who is logged in.
 #[derive(Drop)]
 pub struct PlainWorld {
-    pub(crate) tree: PlainTree,
+    pub(crate) tree: LiveTree,
     pub(crate) sessions: Sessions,
     // In a name tree alone the way up tells whether a directory is below another, as a rename asks.
-    ghost whole: { ∥ IsTree version_1 (tree_of tree) ∥₁ },
+    ghost whole: { ∥ IsTree version_1 (live_of tree) ∥₁ },
 }
 
 impl PlainWorld {
-    ghost use Rattle.sn_core.specs.Plain.{room_of, world_of};
+    ghost use Rattle.sn_core.specs.Plain.{kept_of, numbered_of, room_of, world_of};
 
-    /// A root directory alone, and nobody logged in.
+    /// A root directory alone, nobody logged in, and no number kept back.
     pub fn new(alloc: Global) -> Result<PlainWorld, AllocError>
         ensures world { IfOk result (λ w. world_of w ≡ new_world) }
+        ensures kept { IfOk result (λ w. (n : ℕ) → kept_of w n ≡ false) }
         ensures whole { IfOk result (λ w. IsWorld version_1 (world_of w)) }
     {
-        let tree = PlainTree::new(alloc)?;
+        let tree = LiveTree::new(alloc)?;
         let sessions = Sessions::new(alloc)?;
         Ok(PlainWorld { tree, sessions })
     }
@@ -64,31 +65,21 @@ impl PlainWorld {
         PlainView { tree: &self.tree }
     }
 
-    /// The number that a name of a directory of the live tree stands for.
-    pub(crate) fn link(&self, directory: u16, name: &[u8]) -> Option<u16>
-        ensures { result ≡ map.get (world_of self.now).live.links (link_to directory name.now) }
-    {
-        self.tree.link(directory, name)
-    }
-
-    pub(crate) fn least_unused(&self, limits: &Limits) -> Option<u16>
-        ensures { result ≡ least_unused limits.now (world_of self.now).live }
-    {
-        self.tree.least_unused(limits)
-    }
-
     /// Makes a change of the live tree.
     pub fn apply(&mut self, alloc: Global, change: &Change<'_>) -> Result<(), ApplyError>
         requires { IsTree version_1 (world_of self.old).live }
         ensures made { MakesChange result change.now (world_of self.old) (world_of self.new) }
+        ensures kept { OnOk result ((n : ℕ) → kept_of self.new n ≡ kept_after change.now (kept_of self.old) n) }
+        ensures same { OnErr result ((n : ℕ) → kept_of self.new n ≡ kept_of self.old n) }
         ensures room { room_of self.new ≡ room_of self.old }
     {
         self.tree.apply(alloc, &Limits::VERSION_1, change)
     }
 
-    /// Logs all out, and takes all files away that no name stands for.
+    /// Logs all out, and takes all files away that no name stands for. No number is kept back any more.
     pub fn settle(&mut self)
         ensures world { world_of self.new ≡ settle (world_of self.old) }
+        ensures kept { (n : ℕ) → kept_of self.new n ≡ false }
     {
         self.tree.settle();
         self.sessions.clear();
@@ -96,7 +87,7 @@ impl PlainWorld {
 
     fn served(&mut self, alloc: Global, session: u32, call: &Call) -> Result<Reply, CallError>
         requires { IsWorld version_1 (world_of self.old) }
-        ensures served { Serves (world_of self.old) session call.now result (world_of self.new) }
+        ensures served { Serves (numbered_of self.old) session call.now result (numbered_of self.new) }
         ensures whole { IsWorld version_1 (world_of self.new) }
     {
         let Outcome {
@@ -126,7 +117,7 @@ impl PlainWorld {
     /// Answers a call.
     fn call(&mut self, alloc: Global, session: u32, call: &Call) -> Reply
         requires { IsWorld version_1 (world_of self.old) }
-        ensures step { PlainStep (world_of self.old) (Event.Call session call.now) result (world_of self.new) }
+        ensures step { PlainStep (numbered_of self.old) (Event.Call session call.now) result (numbered_of self.new) }
         ensures whole { IsWorld version_1 (world_of self.new) }
     {
         match self.served(alloc, session, call) {
@@ -139,7 +130,7 @@ impl PlainWorld {
     /// Unmounts and mounts: the tree stays, where no file is without a name.
     fn restart(&mut self) -> Reply
         requires { IsWorld version_1 (world_of self.old) }
-        ensures step { PlainStep (world_of self.old) Event.Restart result (world_of self.new) }
+        ensures step { PlainStep (numbered_of self.old) Event.Restart result (numbered_of self.new) }
         ensures whole { IsWorld version_1 (world_of self.new) }
     {
         self.settle();
@@ -149,7 +140,7 @@ impl PlainWorld {
     /// Answers an event.
     pub fn answer(&mut self, alloc: Global, event: &Event) -> Reply
         requires { IsWorld version_1 (world_of self.old) }
-        ensures step { PlainStep (world_of self.old) event.now result (world_of self.new) }
+        ensures step { PlainStep (numbered_of self.old) event.now result (numbered_of self.new) }
         ensures whole { IsWorld version_1 (world_of self.new) }
     {
         match event {

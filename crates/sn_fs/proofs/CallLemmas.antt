@@ -1,6 +1,5 @@
 -- What a call answers, by how it ends.
-use Rattle.std.proofs.Common.{◌≡◌, ◌⊎◌, inl, inr, ℕ, Bool, true, false, Option, Some, None, Result, Ok, refl, sym, ap, subst, ◌∙◌}
-use Rattle.std.specs.FinMap as map
+use Rattle.std.proofs.Common.{◌≡◌, ◌⊎◌, inl, inr, ◌||◌, ℕ, Bool, true, false, Option, Some, None, Result, Ok, refl, sym, ap, subst, ◌∙◌}
 use Rattle.std.proofs.lemmas.Bool.{true≢false}
 use Rattle.sn_limits.specs.Versions.{version_1}
 use Rattle.sn_model.specs.declared.call.Call.{Call}
@@ -17,17 +16,18 @@ use Rattle.sn_model.specs.Outcomes.{is_opening}
 use Rattle.sn_model.specs.Settling.{dropped, settle}
 use Rattle.sn_model.specs.Steps.{Becomes, Comes, decision, with_caller, with_live}
 use Rattle.sn_model.specs.Tree.{Tree}
-use Rattle.sn_model.specs.World.{World, new_tree}
+use Rattle.sn_model.specs.World.{World}
 use Rattle.sn_model.specs.Worlds.{IsCall, IsWorld}
 use Rattle.sn_core.specs.declared.choosing.Chosen.{Chosen}
 use Rattle.sn_core.specs.Served.{Chooses, HasNone}
 use Rattle.sn_core.specs.declared.error.CallError.{CallError}
 use Rattle.sn_core.specs.declared.error.CallError.TheVariants as lack
-use Rattle.sn_core.proofs.StepLemmas.{IsServed, MadeBy, chosen_served, change_takes, opening_takes, same_least}
+use Rattle.sn_core.specs.Numbering.{has_closed}
+use Rattle.sn_core.proofs.NumberLemmas.{kept_by, same_numbers}
+use Rattle.sn_core.proofs.StepLemmas.{IsServed, MadeBy, chosen_becomes, chosen_served, change_takes, opening_takes}
 use Rattle.sn_device.proofs.CrashLemmas.{LeavesOnly-start}
 use Rattle.sn_recovery.specs.Moments.{ShowsState}
-use Rattle.sn_recovery.specs.Opens.{Keeps}
-use Rattle.sn_fs.specs.Answers.{Answers, AnswersFrom, Costs, IsChangeOf, MayMeet, TakesLeastIn}
+use Rattle.sn_fs.specs.Answers.{Answers, AnswersFrom, Costs, IsChangeOf, MayMeet, NumbersIn}
 use Rattle.sn_fs.specs.Changing.{FailsChange, IsLogged, errno_of, stops}
 use Rattle.sn_fs.specs.declared.fault.ChangeFault.{ChangeFault}
 use Rattle.sn_fs.specs.declared.fault.ChangeFault.TheVariants as fault
@@ -36,14 +36,14 @@ use Rattle.sn_fs.proofs.DecisionLemmas.{CanBeMade, can_be_made, is_charged}
 use Rattle.sn_fs.proofs.MeaningLemmas.{IsOfTree, left_keeps, left_of_tree, runs_lasts, runs_on, runs_show, stays_lasts, stops_between, stops_lasts}
 
 -- no node is new
-stays_least : (s : State) → TakesLeastIn s s
-stays_least (Running w) = same_least w w refl
-stays_least (Stopped before after) = tt
+stays_numbers : (session : ℕ) (c : Call) (s : State) (kept : ℕ → Bool) → NumbersIn (event.Call session c) s kept s kept
+stays_numbers session c (Running w) kept = same_numbers session c w w kept kept refl refl
+stays_numbers session c (Stopped before after) kept = tt
 
 -- an event that a state answers with a refusal, and that changes nothing
 kept : (h : Held) (has_stopped : Bool) (s : State) (session : ℕ) (c : Call) (met : Option Mishap) (reply : Reply) → Means h has_stopped s → MayMeet h (event.Call session c) met h.status → Costs h (event.Call session c) met h.status
     → EventStep version_1 s (event.Call session c) met reply s → AnswersFrom s (event.Call session c) reply h h has_stopped
-kept h has_stopped s session c met reply m may costs step = record { met = met; may = may; next = s; step = step; means = m; lasts = stays_lasts h has_stopped s m; least = stays_least s; costs = costs }
+kept h has_stopped s session c met reply m may costs step = record { met = met; may = may; next = s; step = step; means = m; lasts = stays_lasts h has_stopped s m; numbers = stays_numbers session c s h.kept; costs = costs }
 
 -- one that has stopped
 pub stopped_answers : (h : Held) (session : ℕ) (c : Call) → Answers (event.Call session c) (refused Estopped) h true h true
@@ -74,22 +74,22 @@ undecided_answers h session c e none = in_world h h false session c (reply_of e)
     told r lack.Memory none = kept h false (Running h.world) session c (Some Memory) (refused Enomem) (refl, r) tt refl (none, record { told = refl; same = refl })
 
 -- the call has an outcome, and a change was chosen
-module _ (old : Held) (session : ℕ) (c : Call) (o : Outcome) (picked : Chosen) (change : Change) (numbers : IsCall c) (whole : IsWorld version_1 old.world) (decided : decision version_1 old.world session c ≡ Ok o) (chosen : Chooses old.world.live o.change o.caller picked) (some : picked.change ≡ Some change) where
+module _ (old : Held) (session : ℕ) (c : Call) (o : Outcome) (picked : Chosen) (change : Change) (numbers : IsCall c) (whole : IsWorld version_1 old.world) (decided : decision version_1 old.world session c ≡ Ok o) (chosen : Chooses old.world.live old.kept o.change o.caller picked) (some : picked.change ≡ Some change) where
   can : CanBeMade old.world change
-  can = can_be_made old.world session c o picked change whole decided chosen some
+  can = can_be_made old.world old.kept session c o picked change whole decided chosen some
 
-  is_change : IsChangeOf old.world session c change
+  is_change : IsChangeOf old.world old.kept session c change
   is_change = record { outcome = o; decided = decided; picked = picked; chosen = chosen; is = some }
 
   -- the world that it makes
   abbrev pub next_with : Tree → World
   next_with tree = dropped (with_caller (with_live old.world tree) session picked.caller)
 
-  served : (tree : Tree) → apply version_1 change old.world.live ≡ Some tree → IsServed old.world session c o.told (next_with tree)
-  served tree e = chosen_served old.world session c o picked tree numbers whole decided chosen (subst (λ (x : Option Change). MadeBy x old.world.live tree) (sym some) e)
+  done : (tree : Tree) → apply version_1 change old.world.live ≡ Some tree → MadeBy picked.change old.world.live tree
+  done tree e = subst (λ (x : Option Change). MadeBy x old.world.live tree) (sym some) e
 
   comes : (tree : Tree) → apply version_1 change old.world.live ≡ Some tree → Comes version_1 old.world session o (next_with tree)
-  comes tree e = (subst (λ (d : Result Outcome Refusal). Becomes version_1 old.world session d o.told (next_with tree)) decided (served tree e).0).1
+  comes tree e = (subst (λ (d : Result Outcome Refusal). Becomes version_1 old.world session d o.told (next_with tree)) decided (chosen_becomes old.world old.kept session c o picked tree numbers whole decided chosen (done tree e))).1
 
   of_tree : (tree : Tree) → IsOfTree old.world tree (next_with tree)
   of_tree tree = left_of_tree old.world session picked.caller tree
@@ -104,9 +104,9 @@ module _ (old : Held) (session : ℕ) (c : Call) (o : Outcome) (picked : Chosen)
       told : (f : ChangeFault) → Runs old old.world → FailsChange true f change old new → AnswersFrom (Running old.world) (event.Call session c) (refused (errno_of f)) old new (stops f)
       told fault.Space r fails = same new fault.Space fails.1 (kept old false (Running old.world) session c (Some Space) (refused (errno_of fault.Space)) (refl, r)
           (record { change = change; is = is_change; none = fails.0 }) refl
-          ((o, decided, is_charged old.world session c o picked change decided chosen some), record { told = refl; same = refl }))
+          ((o, decided, is_charged old.world old.kept session c o picked change decided chosen some), record { told = refl; same = refl }))
       told fault.Memory r fails = same new fault.Memory fails (kept old false (Running old.world) session c (Some Memory) (refused (errno_of fault.Memory)) (refl, r) tt refl
-          (change_takes old.world session c o picked change decided chosen some, record { told = refl; same = refl }))
+          (change_takes old.world old.kept session c o picked change decided chosen some, record { told = refl; same = refl }))
       told fault.Device r fails =
           let tree = fails.made.tree in
           let next = next_with tree in
@@ -118,48 +118,61 @@ module _ (old : Held) (session : ℕ) (c : Call) (o : Outcome) (picked : Chosen)
             step = record {
               outcome = o;
               decided = decided;
-              charged = is_charged old.world session c o picked change decided chosen some;
+              charged = is_charged old.world old.kept session c o picked change decided chosen some;
               next = next;
               comes = comes tree fails.made.applied;
               stops = record { told = refl; left = refl };
             };
             means = (refl, between);
             lasts = stops_lasts old new old.world next change tree r can.spelled fails.made.applied (of_tree tree) (fails.moments refl);
-            least = tt;
+            numbers = tt;
             costs = (change, is_change, fails.costs);
           }
 
   -- it is made and logged
-  pub made_answers : (mid new : Held) → IsLogged true change old mid → new ≡ record mid { world = dropped (with_caller mid.world session picked.caller) } → Answers (event.Call session c) o.told old false new false
-  made_answers mid new logged is = in_world old new false session c o.told told
+  pub made_answers : (mid new : Held) → IsLogged true change old mid → new ≡ record mid { world = dropped (with_caller mid.world session picked.caller); kept = new.kept }
+      → ((n : ℕ) → new.kept n ≡ (has_closed mid.world (dropped (with_caller mid.world session picked.caller)) n || mid.kept n)) → Answers (event.Call session c) o.told old false new false
+  made_answers mid new logged is keeps = in_world old new false session c o.told told
     where
+      tree : Tree
+      tree = logged.made.tree
+
+      by_mid : (n : ℕ) → mid.kept n ≡ kept_by picked.change old.kept n
+      by_mid n = logged.kept n ∙ ap (λ (x : Option Change). kept_by x old.kept n) (sym some)
+
+      by_last : (n : ℕ) → new.kept n ≡ (has_closed (with_live old.world tree) (next_with tree) n || mid.kept n)
+      by_last n = keeps n ∙ ap (λ (w : World). has_closed w (dropped (with_caller w session picked.caller)) n || mid.kept n) logged.made.world
+
+      served : IsServed old.world old.kept session c o.told (next_with tree) new.kept
+      served = chosen_served old.world old.kept session c o picked tree numbers whole decided chosen (done tree logged.made.applied) mid.kept new.kept by_mid by_last
+
       told : Runs old old.world → AnswersFrom (Running old.world) (event.Call session c) o.told old new false
       told r =
-          let tree = logged.made.tree in
           let next = next_with tree in
-          let after : Held = record mid { world = dropped (with_caller mid.world session picked.caller) } in
+          let after : Held = record mid { world = dropped (with_caller mid.world session picked.caller); kept = new.kept } in
           let made : after.world ≡ next = ap (λ (x : World). dropped (with_caller x session picked.caller)) logged.made.world in
           let on : Runs after next = runs_on old after old.world next change tree r can.spelled logged.made.applied (of_tree tree) (logged.acknowledged refl) logged.at made in
           subst (λ (x : Held). AnswersFrom (Running old.world) (event.Call session c) o.told old x false) (sym is) (record {
             met = None;
             may = tt;
             next = Running next;
-            step = record { next = next; becomes = (served tree logged.made.applied).0; runs = refl };
+            step = record { next = next; becomes = served.0; runs = refl };
             means = (refl, on);
             lasts = runs_lasts old after old.world next change tree r can.spelled logged.made.applied (of_tree tree) (logged.moments refl) on;
-            least = (served tree logged.made.applied).1;
+            numbers = served.1;
             costs = inr (change, is_change, logged.costs);
           })
 
 -- a call that changes nothing of the tree, but for files that nobody has
-pub told_answers : (old new : Held) (session : ℕ) (c : Call) (o : Outcome) (picked : Chosen) → IsCall c → IsWorld version_1 old.world → decision version_1 old.world session c ≡ Ok o → Chooses old.world.live o.change o.caller picked → picked.change ≡ None
-    → new ≡ record old { world = dropped (with_caller old.world session picked.caller) } → Answers (event.Call session c) o.told old false new false
-told_answers old new session c o picked numbers whole decided chosen none is = in_world old new false session c o.told told
+pub told_answers : (old new : Held) (session : ℕ) (c : Call) (o : Outcome) (picked : Chosen) → IsCall c → IsWorld version_1 old.world → decision version_1 old.world session c ≡ Ok o → Chooses old.world.live old.kept o.change o.caller picked → picked.change ≡ None
+    → new ≡ record old { world = dropped (with_caller old.world session picked.caller); kept = new.kept } → ((n : ℕ) → new.kept n ≡ (has_closed old.world (dropped (with_caller old.world session picked.caller)) n || old.kept n))
+    → Answers (event.Call session c) o.told old false new false
+told_answers old new session c o picked numbers whole decided chosen none is keeps = in_world old new false session c o.told told
   where
     told : Runs old old.world → AnswersFrom (Running old.world) (event.Call session c) o.told old new false
     told r =
         let next = dropped (with_caller old.world session picked.caller) in
-        let after : Held = record old { world = next } in
+        let after : Held = record old { world = next; kept = new.kept } in
         let of = left_of_tree old.world session picked.caller old.world.live in
         let on : Runs after next = record {
           is = refl;
@@ -169,7 +182,8 @@ told_answers old new session c o picked numbers whole decided chosen none is = i
           keeps = left_keeps old.disk old.at r.changes old.world.live next.live of.held of.live r.keeps;
         } in
         let shows = runs_show after next on in
-        let served = chosen_served old.world session c o picked old.world.live numbers whole decided chosen (subst (λ (x : Option Change). MadeBy x old.world.live old.world.live) (sym none) refl) in
+        let served = chosen_served old.world old.kept session c o picked old.world.live numbers whole decided chosen (subst (λ (x : Option Change). MadeBy x old.world.live old.world.live) (sym none) refl)
+        old.kept new.kept (λ n. sym (ap (λ (x : Option Change). kept_by x old.kept n) none)) keeps in
         subst (λ (x : Held). AnswersFrom (Running old.world) (event.Call session c) o.told old x false) (sym is) (record {
           met = None;
           may = tt;
@@ -177,7 +191,7 @@ told_answers old new session c o picked numbers whole decided chosen none is = i
           step = record { next = next; becomes = served.0; runs = refl };
           means = (refl, on);
           lasts = record { moments = LeavesOnly-start old.disk (λ d. ShowsState ground (Running old.world) d ⊎ ShowsState ground (Running next) d) (λ d crash. inr (shows d crash)); answered = shows };
-          least = served.1;
+          numbers = served.1;
           costs = inl refl;
         })
 

@@ -1,53 +1,52 @@
 -- What is so of the change that a call has decided.
-use Rattle.std.proofs.Common.{◌≡◌, ℕ, ◌<◌, true, List, Option, Some, None, Ok, is_some, sym, ap, subst, refl, ◌∙◌, lit<, lit≤}
+use Rattle.std.proofs.Common.{◌≡◌, ℕ, ◌<◌, Bool, true, Option, Some, None, Ok, is_some, sym, ap, subst, refl, ◌∙◌, lit<, lit≤}
 use Rattle.std.proofs.lemmas.Bool.{true≢false}
-use Rattle.sn_limits.specs.declared.kind.Kind.{Kind}
 use Rattle.sn_limits.specs.Versions.{version_1}
 use Rattle.sn_model.specs.declared.call.Call.{Call}
 use Rattle.sn_model.specs.declared.change.Change.{Change}
 use Rattle.sn_model.specs.declared.change.Change.TheVariants.{Make}
-use Rattle.sn_model.specs.declared.change.Ownership.{Ownership}
 use Rattle.sn_model.specs.declared.outcome.Caller.{Caller}
 use Rattle.sn_model.specs.declared.outcome.Outcome.{Outcome}
 use Rattle.sn_model.specs.declared.outcome.Pending.{Pending}
 use Rattle.sn_model.specs.declared.outcome.Pending.TheVariants.{Nothing, Makes, Does}
 use Rattle.sn_model.specs.Changes.{apply}
 use Rattle.sn_model.specs.Steps.{IsNumberFor, changed, decision}
-use Rattle.sn_model.specs.Tree.{Tree, least_unused}
+use Rattle.sn_model.specs.Tree.{Tree}
 use Rattle.sn_model.specs.World.{World}
 use Rattle.sn_model.specs.Worlds.{IsWorld}
 use Rattle.sn_model.proofs.DecidedLemmas.{decided_is}
-use Rattle.sn_model.proofs.HierarchyLemmas.{least_is_number}
 use Rattle.sn_model.proofs.OutcomeLemmas.{DoesToOld, OnChange}
+use Rattle.sn_numbers.specs.Numbers.{next_number}
+use Rattle.sn_numbers.proofs.FreeLemmas.{next_is_number}
 use Rattle.sn_core.specs.declared.choosing.Chosen.{Chosen}
 use Rattle.sn_core.specs.Served.{Chooses}
 use Rattle.sn_recovery.proofs.SpelledLemmas.{applied_spelled, old_spelled}
 use Rattle.sn_record.specs.Payload.{IsSpelled}
 
 -- a change that was chosen is the one that is pending
-abbrev IsPicked : Tree → Pending → Change → Type 0
-IsPicked tree Nothing change = ⊥
-IsPicked tree (Makes directory name kind o) change = (number : ℕ) × (least_unused version_1 tree ≡ Some number) × (change ≡ Make directory name number kind o)
-IsPicked tree (Does c) change = change ≡ c
+abbrev IsPicked : Tree → (ℕ → Bool) → Pending → Change → Type 0
+IsPicked tree kept Nothing change = ⊥
+IsPicked tree kept (Makes directory name kind o) change = (number : ℕ) × (next_number version_1 tree kept ≡ Some number) × (change ≡ Make directory name number kind o)
+IsPicked tree kept (Does c) change = change ≡ c
 
 some_is : (a b : Change) → Some a ≡ Some b → a ≡ b
 some_is a b e = cc
 
-picked_is : (tree : Tree) (pending : Pending) (caller : Caller) (picked : Chosen) (change : Change) → Chooses tree pending caller picked → picked.change ≡ Some change → IsPicked tree pending change
-picked_is tree Nothing caller picked change chosen is = let never : None ≡ Some change = sym (ap (λ (x : Chosen). x.change) chosen) ∙ is in cc
-picked_is tree (Makes directory name kind o) caller picked change chosen is = (chosen.0, chosen.1, some_is change _ (sym is ∙ ap (λ (x : Chosen). x.change) chosen.2))
-picked_is tree (Does c) caller picked change chosen is = some_is change c (sym is ∙ ap (λ (x : Chosen). x.change) chosen)
+picked_is : (tree : Tree) (kept : ℕ → Bool) (pending : Pending) (caller : Caller) (picked : Chosen) (change : Change) → Chooses tree kept pending caller picked → picked.change ≡ Some change → IsPicked tree kept pending change
+picked_is tree kept Nothing caller picked change chosen is = let never : None ≡ Some change = sym (ap (λ (x : Chosen). x.change) chosen) ∙ is in cc
+picked_is tree kept (Makes directory name kind o) caller picked change chosen is = (chosen.0, chosen.1, some_is change _ (sym is ∙ ap (λ (x : Chosen). x.change) chosen.2))
+picked_is tree kept (Does c) caller picked change chosen is = some_is change c (sym is ∙ ap (λ (x : Chosen). x.change) chosen)
 
 -- where a change was chosen, there is one
-when_picked : {A : Type 0} (tree : Tree) (pending : Pending) (change : Change) → IsPicked tree pending change → OnChange A pending → A
-when_picked tree Nothing change is h = absurd is
-when_picked tree (Makes directory name kind o) change is h = h
-when_picked tree (Does c) change is h = h
+when_picked : {A : Type 0} (tree : Tree) (kept : ℕ → Bool) (pending : Pending) (change : Change) → IsPicked tree kept pending change → OnChange A pending → A
+when_picked tree kept Nothing change is h = absurd is
+when_picked tree kept (Makes directory name kind o) change is h = h
+when_picked tree kept (Does c) change is h = h
 
-module _ (w : World) (session : ℕ) (c : Call) (o : Outcome) (picked : Chosen) (change : Change) (decided : decision version_1 w session c ≡ Ok o) (chosen : Chooses w.live o.change o.caller picked) (is : picked.change ≡ Some change) where
+module _ (w : World) (kept : ℕ → Bool) (session : ℕ) (c : Call) (o : Outcome) (picked : Chosen) (change : Change) (decided : decision version_1 w session c ≡ Ok o) (chosen : Chooses w.live kept o.change o.caller picked) (is : picked.change ≡ Some change) where
   -- It is charged for.
   pub is_charged : 0 < o.charge
-  is_charged = when_picked w.live o.change change (picked_is w.live o.change o.caller picked change chosen is) ((decided_is version_1 w session c o decided).charged (lit< tt))
+  is_charged = when_picked w.live kept o.change change (picked_is w.live kept o.change o.caller picked change chosen is) ((decided_is version_1 w session c o decided).charged (lit< tt))
 
 -- It can be applied, and has a record.
 pub record CanBeMade (w : World) (change : Change) : Type 0 where
@@ -59,15 +58,15 @@ some_of : (o : Option Tree) → is_some o ≡ true → (tree : Tree) × (o ≡ S
 some_of None e = absurd (true≢false (sym e))
 some_of (Some tree) e = (tree, refl)
 
-pub can_be_made : (w : World) (session : ℕ) (c : Call) (o : Outcome) (picked : Chosen) (change : Change) → IsWorld version_1 w → decision version_1 w session c ≡ Ok o → Chooses w.live o.change o.caller picked → picked.change ≡ Some change → CanBeMade w change
-can_be_made w session c o picked change whole e chosen is =
+pub can_be_made : (w : World) (kept : ℕ → Bool) (session : ℕ) (c : Call) (o : Outcome) (picked : Chosen) (change : Change) → IsWorld version_1 w → decision version_1 w session c ≡ Ok o → Chooses w.live kept o.change o.caller picked → picked.change ≡ Some change → CanBeMade w change
+can_be_made w kept session c o picked change whole e chosen is =
     let d = decided_is version_1 w session c o e in
-    told o.change (picked_is w.live o.change o.caller picked change chosen is) d.of_old (λ number free. d.applies number (lit< tt) whole free)
+    told o.change (picked_is w.live kept o.change o.caller picked change chosen is) d.of_old (λ number free. d.applies number (lit< tt) whole free)
   where
-    told : (pending : Pending) → IsPicked w.live pending change → DoesToOld pending → ((number : ℕ) → IsNumberFor version_1 w.live number pending → is_some (changed version_1 number pending w.live) ≡ true) → CanBeMade w change
+    told : (pending : Pending) → IsPicked w.live kept pending change → DoesToOld pending → ((number : ℕ) → IsNumberFor version_1 w.live number pending → is_some (changed version_1 number pending w.live) ≡ true) → CanBeMade w change
     told Nothing is old applies = absurd is
     told (Makes directory name kind own) is old applies =
-        let t = some_of _ (applies is.0 (least_is_number version_1 w.live is.0 whole.live.hierarchy.root (lit≤ tt) is.1)) in
+        let t = some_of _ (applies is.0 (next_is_number version_1 w.live kept is.0 whole.live.hierarchy.root (lit≤ tt) is.1)) in
         record {
           tree = t.0;
           applied = ap (λ (x : Change). apply version_1 x w.live) is.2 ∙ t.1;

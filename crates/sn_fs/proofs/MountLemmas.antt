@@ -185,9 +185,10 @@ refuses fault.NoRoot c sectors h = absurd h
 refuses fault.Memory c sectors h = tt
 refuses fault.Device c sectors h = tt
 
-pub mounts : (old : Disk) (h : Held) → IsOnGround h.at → IsRecovered h.at h.world old h.disk → Mounts old h false
-mounts old h place r = record {
+pub mounts : (old : Disk) (h : Held) → IsOnGround h.at → IsRecovered h.at h.world old h.disk → ((number : ℕ) → h.kept number ≡ false) → Mounts old h false
+mounts old h place r none = record {
   world = h.world;
+  none_kept = none;
   opens = r.opens;
   means = (refl, record { is = refl; frozen = r.frozen; place = place; changes = r.changes; keeps = r.keeps });
   leaves = r.leaves;

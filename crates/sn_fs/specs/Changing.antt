@@ -1,5 +1,5 @@
 -- A change that is made in memory and then appended to the log.
-use Rattle.std.specs.Prelude.{◌≡◌, ◌⊎◌, Bool, true, false, List, [], ◌∷◌, ◌++◌, Some, Result, Ok, Err, IsTrue}
+use Rattle.std.specs.Prelude.{◌≡◌, ◌⊎◌, ℕ, Bool, true, false, List, [], ◌∷◌, ◌++◌, Some, Result, Ok, Err, IsTrue}
 use Rattle.sn_device.specs.Disk.{Disk, Always}
 use Rattle.sn_device.specs.Crash.{LeavesOnly}
 use Rattle.sn_limits.specs.Versions.{version_1}
@@ -10,6 +10,7 @@ use Rattle.sn_model.specs.Tree.{Tree}
 use Rattle.sn_model.specs.World.{World}
 use Rattle.sn_model.specs.declared.reply.Errno.{Errno}
 use Rattle.sn_model.specs.declared.reply.Errno.TheVariants.{Enospc, Enomem, Eio}
+use Rattle.sn_numbers.specs.Numbers.{kept_after}
 use Rattle.sn_log.specs.Places.{LogPosition, HasRoom, IsReadyAt, behind}
 use Rattle.sn_block.specs.Counts.{called}
 use Rattle.sn_fs.specs.Answers.{CostsAtMost, HasFailed, writes_of}
@@ -36,6 +37,7 @@ LeavesMore at change old new = (changes : List Change) → Always old (IsReadyAt
 -- it is made, and its record stands in the log
 pub record IsLogged (told : Bool) (change : Change) (old new : Held) : Type 0 where
   pub made : IsMade change old.world new.world
+  pub kept : (n : ℕ) → new.kept n ≡ kept_after change old.kept n
   pub at : new.at ≡ behind old.at change
   pub moments : IsTrue told → LeavesEither old.at change old.disk new.disk
   pub acknowledged : IsTrue told → LeavesMore old.at change old.disk new.disk

@@ -1,5 +1,5 @@
 -- What a mounted file system holds, and what that means.
-use Rattle.std.specs.Prelude.{◌≡◌, Bool, true, false, List}
+use Rattle.std.specs.Prelude.{◌≡◌, ℕ, Bool, true, false, List}
 use Rattle.std.specs.FinMap as map
 use Rattle.sn_device.specs.Disk.{Disk, Always}
 use Rattle.sn_device.specs.declared.status.Status.{Status}
@@ -12,9 +12,10 @@ use Rattle.sn_log.specs.Places.{LogPosition}
 use Rattle.sn_recovery.specs.Opens.{Keeps}
 use Rattle.sn_recovery.specs.Moments.{Ground, ShowsState}
 
--- the world in memory, where its log goes on, and the device
+-- the world in memory and the numbers that are kept back in it, where its log goes on, and the device
 pub record Held : Type 0 where
   pub world : World
+  pub kept : ℕ → Bool
   pub at : LogPosition
   pub disk : Disk
   pub status : Status

@@ -8,7 +8,7 @@ use Rattle.sn_block.specs.Lending.{device_of}
 use Rattle.sn_block.specs.declared.blocks.Blocks.{Blocks}
 use Rattle.sn_log.specs.Places.{LogPosition}
 use Rattle.sn_core.specs.declared.world.PlainWorld.{PlainWorld}
-use Rattle.sn_core.specs.Plain.{world_of}
+use Rattle.sn_core.specs.Plain.{kept_of, world_of}
 use Rattle.sn_fs.specs.Held.{Held, IsOnGround}
 
 -- Its log is on a device that has all its sectors, and unless a failure has stopped it, its world is one.
@@ -19,4 +19,4 @@ pub record IsMounted (status : Status) (at : LogPosition) (world : PlainWorld) (
 
 -- what these parts hold
 abbrev pub holding : {D : Type 0} (g : Ghosts D) → Blocks D g → LogPosition → PlainWorld → Held
-holding g blocks at world = record { world = world_of world; at = at; disk = g.disk (device_of blocks); status = g.status (device_of blocks) }
+holding g blocks at world = record { world = world_of world; kept = kept_of world; at = at; disk = g.disk (device_of blocks); status = g.status (device_of blocks) }

@@ -1,5 +1,5 @@
 -- What a mount makes of a disk.
-use Rattle.std.specs.Prelude.{◌≡◌, ◌<◌, ℕ, Bool, List, Result, Ok, Err}
+use Rattle.std.specs.Prelude.{◌≡◌, ◌<◌, ℕ, Bool, false, List, Result, Ok, Err}
 use Rattle.std.specs.FinMap as map
 use Rattle.sn_device.specs.Sectors.{Contents}
 use Rattle.sn_device.specs.Disk.{Disk, reads}
@@ -43,9 +43,10 @@ Refuses fault.NoRoot c sectors = ⊥
 Refuses fault.Memory c sectors = Unit {0}
 Refuses fault.Device c sectors = Unit {0}
 
--- A disk is mounted: the world that it opens to runs, and at no moment a crash would have left another.
+-- A disk is mounted: the world that it opens to runs, no number is kept back, and at no moment a crash would have left another world.
 pub record Mounts (old : Disk) (h : Held) (has_stopped : Bool) : Type 0 where
   pub world : World
+  pub none_kept : (number : ℕ) → h.kept number ≡ false
   pub opens : OpensOn ground (reads old) world
   pub means : Means h has_stopped (Running world)
   pub leaves : LeavesTheWorld old h.disk world

@@ -1,7 +1,7 @@
 //! Recovery: replay of the log, and clearing the place where it ends.
-ghost use Rattle.std.specs.Prelude.{◌≡◌, ◌≤◌, IsTrue, IfOk};
+ghost use Rattle.std.specs.Prelude.{◌≡◌, ◌≤◌, ℕ, false, IsTrue, IfOk};
 ghost use Rattle.sn_block.specs.Lending.{device_of};
-ghost use Rattle.sn_core.specs.Plain.{world_of};
+ghost use Rattle.sn_core.specs.Plain.{kept_of, world_of};
 ghost use Rattle.sn_limits.specs.Versions.{version_1};
 ghost use Rattle.sn_model.specs.Worlds.{IsWorld};
 ghost use Rattle.sn_fs.specs.Answers.{CostsAtMost};
@@ -27,6 +27,7 @@ pub(crate) fn recover<D: Device>(
     requires { 2048 ≤ (D.status (device_of blocks.old)).sectors }
     ensures recovers { IsTrue D.tells_bytes → Recovers result (D.disk (device_of blocks.old)) (D.disk (device_of blocks.new)) }
     ensures whole { IfOk result (λ r. IsWorld version_1 (world_of r.world)) }
+    ensures kept { IfOk result (λ r. (number : ℕ) → kept_of r.world number ≡ false) }
     ensures place { IfOk result (λ r. IsOnGround r.log) }
     ensures sectors { (D.status (device_of blocks.new)).sectors ≡ (D.status (device_of blocks.old)).sectors }
     ensures failed { FailsAs result (D.status (device_of blocks.old)) (D.status (device_of blocks.new)) }

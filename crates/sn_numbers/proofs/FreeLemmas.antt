@@ -4,23 +4,28 @@ use Rattle.std.specs.Option.{option_or}
 use Rattle.std.specs.Ordering.{nat_cmp, eq_by_cmp}
 use Rattle.std.specs.Cmp.{nat_cmp_total}
 use Rattle.std.specs.FinMap as map
-use Rattle.std.proofs.lemmas.Bool.{eq-eqb, eqb-true, false_from_ne_true, lt-leb, ltb-true, ltb-false}
+use Rattle.std.proofs.lemmas.Bool.{eq-eqb, eqb-true, false_from_ne_true, lt-leb, ltb-true, ltb-false, true≢false}
 use Rattle.std.proofs.lemmas.List.{get_or-replicate, get_or_past, get_or-set_same, get_or-set_other, length-replicate}
 use Rattle.std.proofs.lemmas.Map.Lookups.{exact_unsigned}
 use Rattle.sn_limits.specs.declared.kind.Kind.{Kind}
+use Rattle.sn_limits.specs.declared.kind.Kind.TheVariants.{Directory}
 use Rattle.sn_limits.specs.declared.limits.Limits.{Limits}
 use Rattle.sn_model.specs.declared.change.Change.{Change}
 use Rattle.sn_model.specs.declared.change.Ownership.{Ownership}
 use Rattle.sn_model.specs.declared.change.Change.TheVariants.{Make, AddLink, Remove, Rename, Write, SetSize, SetAttributes}
 use Rattle.sn_model.specs.declared.link.Link.{Link}
 use Rattle.sn_model.specs.Changes.{apply, node_with, replaced, take_node}
+use Rattle.sn_model.specs.NameTree.{HasKind}
 use Rattle.sn_model.specs.Settling.{loses}
+use Rattle.sn_model.specs.Steps.{IsNumber}
 use Rattle.sn_model.specs.declared.reply.Errno.TheVariants.{Elimit}
 use Rattle.sn_model.specs.declared.reply.Refusal.{Refusal}
 use Rattle.sn_model.specs.Tests.{has_room, plain}
 use Rattle.sn_model.specs.Tree.{Node, Tree, least_unused, link_to, names_in, unused_from}
 use Rattle.sn_model.proofs.ChainLemmas.{some_same}
+use Rattle.sn_model.proofs.HierarchyLemmas.{least_is_number}
 use Rattle.sn_model.proofs.MapLemmas.{same_or_apart, get_inserted, get_left}
+use Rattle.sn_model.proofs.MoveLemmas.{some_node}
 use Rattle.sn_model.proofs.PartLemmas.{Unlinked, IsRenamed, cut_is, linked_is, made_is, owned_is, removed_is, renamed_is, replaced_is, unlinked_is, written_is}
 use Rattle.sn_numbers.specs.Numbers.{AreTaken, free_from, is_taken, least_free, next_after, next_number}
 
@@ -98,6 +103,36 @@ module _ (tree : Tree) (kept : ℕ → Bool) where
       told : (o : Option ℕ) → free_from tree kept 2 (limits.largest_number - 1) ≡ o → is_some (unused_from tree.nodes 2 (limits.largest_number - 1)) ≡ is_some (option_or o (unused_from tree.nodes 2 (limits.largest_number - 1)))
       told None e = refl
       told (Some n) e = free_is_unused 2 (limits.largest_number - 1) (ap is_some e)
+
+  -- a number that was found is free, and lies among those that were looked at
+  found_free : (first more number : ℕ) → free_from tree kept first more ≡ Some number → (is_taken tree kept number ≡ false) × (first ≤ number) × (number < first + more)
+  unfolding free_from
+  found_free first zero number e = cc
+  found_free first (suc more) number e = looked (is_taken tree kept first) refl (found_free (first + 1) more number) e
+    where
+      looked : (b : Bool) → is_taken tree kept first ≡ b → (free_from tree kept (first + 1) more ≡ Some number → (is_taken tree kept number ≡ false) × (first + 1 ≤ number) × (number < first + 1 + more))
+          → cond b (free_from tree kept (first + 1) more) (Some first) ≡ Some number → (is_taken tree kept number ≡ false) × (first ≤ number) × (number < first + suc more)
+      looked true t further f = let k = further f in (k.0, omega (arith, k.1), omega (arith, k.2))
+      looked false t further f = let same : first ≡ number = some_same first number f in (ap (is_taken tree kept) (sym same) ∙ t, omega (arith, same), omega (arith, same))
+
+-- what is free has no node
+no_node : (o : Option Node) (b : Bool) → (is_some o || b) ≡ false → o ≡ None
+no_node None b e = refl
+no_node (Some x) b e = absurd (true≢false e)
+
+-- the next number is one that a new node can get
+pub next_is_number : (limits : Limits) (tree : Tree) (kept : ℕ → Bool) (number : ℕ) → HasKind tree 2 Directory → 1 ≤ limits.largest_number → next_number limits tree kept ≡ Some number → IsNumber limits tree number
+unfolding least_free
+next_is_number limits tree kept number kind some e = told (free_from tree kept 2 (limits.largest_number - 1)) refl e
+  where
+    told : (o : Option ℕ) → free_from tree kept 2 (limits.largest_number - 1) ≡ o → option_or o (least_unused limits tree) ≡ Some number → IsNumber limits tree number
+    told None f g = least_is_number limits tree number kind some g
+    told (Some n) f g =
+        let found = found_free tree kept 2 (limits.largest_number - 1) number (f ∙ g) in
+        let unused : map.get tree.nodes number ≡ None = no_node (map.get tree.nodes number) (kept number) found.0 in
+        let there = some_node _ Directory kind in
+        let apart : number ≢ 2 = (λ same. let never : Some there.0 ≡ None = sym there.1 ∙ ap (map.get tree.nodes) (sym same) ∙ unused in cc) in
+        record { first = omega (arith, found.1, apart); within = omega (arith, found.2, some); unused = unused }
 
 -- room is left where a number is, and a place for a name
 pub room_is : (limits : Limits) (tree : Tree) (directory : ℕ) → is_some (least_unused limits tree) ≡ true → names_in tree directory < limits.names → has_room limits tree directory ≡ Ok tt

@@ -1,5 +1,5 @@
 -- What a crash in an event leaves, in the machine's words.
-use Rattle.std.proofs.Common.{◌≡◌, ◌⊎◌, inl, inr, ℕ, suc, Bool, false, List, [], ◌∷◌, ◌++◌, take, Option, Some, None, Result, Ok, refl, sym, ap, subst, ◌∙◌, replicate}
+use Rattle.std.proofs.Common.{◌≡◌, ◌⊎◌, inl, inr, ℕ, suc, false, List, [], ◌∷◌, ◌++◌, Option, Some, None, Result, refl, sym, ap, subst, ◌∙◌, replicate}
 use Rattle.std.specs.FinMap as map
 use Rattle.sn_device.specs.Sectors.{Contents}
 use Rattle.sn_device.specs.Disk.{Always}
@@ -15,7 +15,7 @@ use Rattle.sn_model.specs.declared.reply.Reply.{Reply}
 use Rattle.sn_model.specs.Machine as machine
 use Rattle.sn_model.specs.Machine.{State, Running, Stopped, Mishap, Anything, CallStep, CutRun, EventStep, IsAnswered, IsCutOff, IsRefused, IsStopped, IsUnmounted, Left, LeftAfter, LeftIn, MountStep, PointFails, PointStep, RestartStep, Run, RunBy, StepOf, StoppedStep}
 use Rattle.sn_model.specs.Settling.{settle, settled}
-use Rattle.sn_model.specs.Steps.{Becomes, decision, with_live}
+use Rattle.sn_model.specs.Steps.{Becomes, with_live}
 use Rattle.sn_model.specs.Tree.{Tree}
 use Rattle.sn_model.specs.World.{World, new_world}
 use Rattle.sn_model.proofs.ListLemmas.{covers_itself}

@@ -1,17 +1,16 @@
 -- What a disk of zeros opens to.
-use Rattle.std.proofs.Common.{◌≡◌, ◌<◌, ◌≤◌, inl, inr, ℕ, Bool, true, false, not, ◌||◌, cond, get_or, [], Option, Some, None, replicate, refl, sym, ap, subst, ◌∙◌, arith}
+use Rattle.std.proofs.Common.{◌≡◌, ◌≤◌, inl, inr, ℕ, Bool, true, false, not, ◌||◌, cond, [], Option, Some, None, replicate, refl, sym, ap, subst, ◌∙◌, arith}
 use Rattle.std.specs.FinMap as map
 use Rattle.std.specs.Cmp.{nat_cmp_total}
 use Rattle.std.specs.Prelude.{slice_index}
 use Rattle.std.specs.Ordering.{nat_cmp, eq_by_cmp}
 use Rattle.std.proofs.lemmas.List.{get_or-replicate}
 use Rattle.std.proofs.lemmas.Map.Lookups.{exact_unsigned}
-use Rattle.sn_device.specs.Sectors.{Contents, sector_at}
 use Rattle.sn_model.specs.Changes.{apply_all}
 use Rattle.sn_model.specs.Settling.{is_nameless, settle, settled}
 use Rattle.sn_model.specs.Steps.{with_live}
 use Rattle.sn_model.specs.Tree.{Node, Tree}
-use Rattle.sn_model.specs.World.{World, new_root, new_tree, new_world}
+use Rattle.sn_model.specs.World.{new_root, new_tree, new_world}
 use Rattle.sn_model.proofs.SettlingLemmas.{get_without}
 use Rattle.sn_ondisk.specs.Gates.{IsClosed, gate_at}
 use Rattle.sn_recovery.specs.Moments.{OpensOn}

@@ -1,11 +1,10 @@
 -- What a mount answers to a restart, and steps.
-use Rattle.std.proofs.Common.{◌≡◌, ◌⊎◌, inl, inr, ℕ, ◌<◌, ◌≤◌, Bool, true, false, length, [], Option, Some, None, refl, sym, ap, subst, ◌∙◌, arith}
+use Rattle.std.proofs.Common.{◌≡◌, ◌⊎◌, inl, inr, ℕ, ◌<◌, ◌≤◌, Bool, true, false, length, [], Some, None, refl, sym, ap, subst, ◌∙◌, arith}
 use Rattle.std.proofs.lemmas.Bool.{true≢false}
 use Rattle.std.proofs.lemmas.List.{same_lists, get_or_default}
-use Rattle.sn_device.specs.Sectors.{AgreesOutside, AreSectors, Contents, sector_at}
+use Rattle.sn_device.specs.Sectors.{AgreesOutside, AreSectors, Contents}
 use Rattle.sn_device.specs.Disk.{Disk, Always, reads}
 use Rattle.sn_device.specs.Crash.{LeavesOnly, Touches}
-use Rattle.sn_device.specs.declared.status.Status.{Status}
 use Rattle.sn_device.proofs.CrashLemmas.{Always-reads, LeavesOnly-join, LeavesOnly-now, LeavesOnly-torn, LeavesOnly-weaker}
 use Rattle.sn_block.specs.Effects.{Nowhere}
 use Rattle.sn_limits.specs.Versions.{version_1}
@@ -21,27 +20,27 @@ use Rattle.sn_model.specs.World.{World, new_world}
 use Rattle.sn_ondisk.specs.LogHalf.{base_of}
 use Rattle.sn_ondisk.specs.OneAnswer.{IsOnDisk}
 use Rattle.sn_log.specs.Places.{first_of}
-use Rattle.sn_core.proofs.RestartLemmas.{settled_least}
-use Rattle.sn_core.proofs.StepLemmas.{same_least}
+use Rattle.sn_core.proofs.NumberLemmas.{step_numbers}
+use Rattle.sn_core.proofs.RestartLemmas.{restart_numbers}
 use Rattle.sn_recovery.specs.Moments.{LastsOver, OpensOn, ShowsState}
 use Rattle.sn_recovery.proofs.RecoveryLemmas.{opens_to_one}
 use Rattle.sn_fs.specs.Answers.{Answers, AnswersFrom, CostsAtMost, MayMeet}
-use Rattle.sn_fs.specs.Held.{Held, Means, ground}
-use Rattle.sn_fs.specs.Mounting.{HasCause, IsSoOf, KeepsTheWorld, LeavesTheWorld}
+use Rattle.sn_fs.specs.Held.{Held, ground}
+use Rattle.sn_fs.specs.Mounting.{IsSoOf, LeavesTheWorld}
 use Rattle.sn_fs.specs.Recovering.{IsLeft, Mounts, Refuses}
-use Rattle.sn_fs.proofs.MeaningLemmas.{means_show, runs_show, stays_lasts}
+use Rattle.sn_fs.proofs.MeaningLemmas.{runs_show, stays_lasts}
 use Rattle.sn_fs.proofs.MountLemmas.{lies_on}
 use Rattle.sn_run.proofs.CutLemmas.{found_settled}
 
 -- ---- steps
 
 pub runs_step : (h : Held) → Answers event.Step (answer.Progress progress.Done) h false h false
-runs_step h (Running w) m = record { met = None; may = tt; next = Running w; step = (inr refl, refl); means = m; lasts = stays_lasts h false (Running w) m; least = same_least w w refl; costs = refl }
+runs_step h (Running w) m = record { met = None; may = tt; next = Running w; step = (inr refl, refl); means = m; lasts = stays_lasts h false (Running w) m; numbers = step_numbers w h.kept; costs = refl }
 runs_step h (Stopped before after) m = absurd (true≢false (sym m.0))
 
 pub stopped_step : (h : Held) → Answers event.Step (refused Estopped) h true h true
 stopped_step h (Running w) m = absurd (true≢false m.0)
-stopped_step h (Stopped before after) m = record { met = None; may = tt; next = Stopped before after; step = (refl, refl); means = m; lasts = stays_lasts h true (Stopped before after) m; least = tt; costs = refl }
+stopped_step h (Stopped before after) m = record { met = None; may = tt; next = Stopped before after; step = (refl, refl); means = m; lasts = stays_lasts h true (Stopped before after) m; numbers = tt; costs = refl }
 
 -- ---- mounts
 
@@ -94,7 +93,7 @@ module _ (old new : Held) (had : Bool) (whole : AreSectors (reads old.disk)) (co
         step = (refl, ap (λ (x : World). Running x) same);
         means = m.means;
         lasts = mounted_lasts (Running w) m.world shows m.opens m.leaves;
-        least = settled_least w m.world same;
+        numbers = restart_numbers w m.world old.kept new.kept same m.none_kept;
         costs = costs;
       }
   mounted_answers has m (Stopped before after) means = told (Always-reads old.disk (λ c. ShowsState ground (Stopped before after) c) whole means.1)
@@ -107,7 +106,7 @@ module _ (old new : Held) (had : Bool) (whole : AreSectors (reads old.disk)) (co
         step = (refl, same);
         means = m.means;
         lasts = mounted_lasts (Stopped before after) m.world means.1 m.opens m.leaves;
-        least = tt;
+        numbers = m.none_kept;
         costs = costs;
       }
 
@@ -151,7 +150,7 @@ module _ (old new : Held) (had : Bool) (f : MountFault) (sectors : ℕ) (whole :
           moments = LeavesOnly-weaker old.disk new.disk (λ c. ShowsState ground next c) (λ c. ShowsState ground (Running w) c ⊎ ShowsState ground next c) (λ c h. inr h) all;
           answered = LeavesOnly-now old.disk new.disk (λ c. ShowsState ground next c) all;
         };
-        least = tt;
+        numbers = tt;
         costs = costs;
       }
   unmounted_answers (Stopped before after) means = told (Always-reads old.disk (λ c. ShowsState ground (Stopped before after) c) whole means.1)
@@ -170,7 +169,7 @@ module _ (old new : Held) (had : Bool) (f : MountFault) (sectors : ℕ) (whole :
               moments = LeavesOnly-weaker old.disk new.disk (λ c. ShowsState ground (Stopped before after) c) (λ c. ShowsState ground (Stopped before after) c ⊎ ShowsState ground (Stopped before after) c) (λ c h. inr h) all;
               answered = LeavesOnly-now old.disk new.disk (λ c. ShowsState ground (Stopped before after) c) all;
             };
-            least = tt;
+            numbers = tt;
             costs = costs;
           }
 

@@ -1,8 +1,8 @@
 -- Whole runs.
-use Rattle.std.proofs.Common.{◌≡◌, ◌⊎◌, inl, inr, ℕ, ◌≤◌, Bool, true, false, length, List, [], ◌∷◌, ◌++◌, Option, Some, None, refl, sym, ap, subst, ◌∙◌}
+use Rattle.std.proofs.Common.{◌≡◌, ◌⊎◌, inl, inr, ◌≤◌, Bool, true, false, length, List, [], ◌∷◌, ◌++◌, None, refl, sym, ap, subst, ◌∙◌}
 use Rattle.std.proofs.lemmas.Bool.{true≢false}
 use Rattle.sn_device.specs.Sectors.{AreSectors, Contents}
-use Rattle.sn_device.specs.Disk.{Disk, Always, reads}
+use Rattle.sn_device.specs.Disk.{Disk, reads}
 use Rattle.sn_device.specs.Crash.{LeavesOnly, Touches}
 use Rattle.sn_device.specs.declared.status.Status.{Status}
 use Rattle.sn_device.proofs.CrashLemmas.{LeavesOnly-join, LeavesOnly-weaker, Touches-start}
@@ -13,20 +13,20 @@ use Rattle.sn_model.specs.declared.mount.End.{End}
 use Rattle.sn_model.specs.declared.mount.End.TheVariants as ending
 use Rattle.sn_model.specs.declared.mount.MountFault.{MountFault}
 use Rattle.sn_model.specs.declared.reply.Reply.{Reply}
-use Rattle.sn_model.specs.Machine.{State, Running, Stopped, Anything, CutRun, Ends, HasRun, Life, Run, RunBy, WholeRun}
+use Rattle.sn_model.specs.Machine.{State, Running, Stopped, Anything, CutRun, Ends, Life, Run}
 use Rattle.sn_model.specs.World.{World, new_world}
 use Rattle.sn_ondisk.specs.LogHalf.{base_of}
 use Rattle.sn_log.specs.Places.{first_of}
 use Rattle.sn_core.proofs.StepLemmas.{run_more}
-use Rattle.sn_recovery.specs.Moments.{OpensOn, ShowsState}
+use Rattle.sn_recovery.specs.Moments.{OpensOn}
 use Rattle.sn_recovery.proofs.RecoveryLemmas.{opens_to_one}
 use Rattle.sn_fs.specs.Answers.{Answers, CostsAtMost}
 use Rattle.sn_fs.specs.Held.{Held, Means, ground}
-use Rattle.sn_fs.specs.Mounting.{IsSoOf, LeavesTheWorld}
-use Rattle.sn_fs.specs.Recovering.{IsLeft, Mounts}
+use Rattle.sn_fs.specs.Mounting.{LeavesTheWorld}
+use Rattle.sn_fs.specs.Recovering.{Mounts}
 use Rattle.sn_fs.proofs.MeaningLemmas.{means_show}
 use Rattle.sn_run.specs.Laws.{LivesOn}
-use Rattle.sn_run.specs.Runs.{AnswersAll, Goes, IsAnswered, IsRunOf, LeavesItsRun, NotMounted, OpensToSome, RunsTo, Served, Standing}
+use Rattle.sn_run.specs.Runs.{AnswersAll, Goes, IsRunOf, LeavesItsRun, NotMounted, OpensToSome, RunsTo, Served}
 use Rattle.sn_run.proofs.CutLemmas.{AreSettled, cut_now, found_settled, machine_run, run_leaves}
 use Rattle.sn_run.proofs.RestartLemmas.{met_with, one_of}
 
@@ -86,7 +86,7 @@ module _ (events : List Event) (replies : List Reply) (disk last_disk : Disk) (s
 
 -- a device alone
 abbrev bare : Disk → Status → Held
-bare disk status = record { world = new_world; at = first_of 256 1; disk = disk; status = status }
+bare disk status = record { world = new_world; kept = λ number. false; at = first_of 256 1; disk = disk; status = status }
 
 module _ (events : List Event) (replies : List Reply) (disk last_disk : Disk) (status last_status : Status) (world : World) (whole : AreSectors (reads disk)) (count : 2048 ≤ length (reads disk)) (enough : 2048 ≤ status.sectors) (opens : OpensOn ground (reads disk) world) where
   served_leaves : (end : End) (s : Served events replies end disk status last_disk last_status) → s.world ≡ world → LeavesItsRun world events replies disk last_disk

@@ -1,5 +1,5 @@
 -- What serves events, as what it holds.
-use Rattle.std.specs.Prelude.{◌≤◌, Bool, true}
+use Rattle.std.specs.Prelude.{◌≤◌, Bool, true, false}
 use Rattle.sn_device.specs.declared.device.Device.{Ghosts}
 use Rattle.sn_model.specs.World.{new_world}
 use Rattle.sn_log.specs.Places.{first_of}
@@ -12,7 +12,7 @@ module _ {D : Type 0} {g : Ghosts D} where
   -- One that isn't mounted has its device alone: its world and its place in the log say nothing.
   abbrev pub standing : Server D g → Held
   standing (Mounted fs) = held fs
-  standing (Unmounted device) = record { world = new_world; at = first_of 256 1; disk = g.disk device; status = g.status device }
+  standing (Unmounted device) = record { world = new_world; kept = λ number. false; at = first_of 256 1; disk = g.disk device; status = g.status device }
 
   abbrev pub is_stopped : Server D g → Bool
   is_stopped (Mounted fs) = has_stopped fs

@@ -13,6 +13,7 @@ pub fn run(report: &mut Report<'_>) -> Result<()> {
     report.script("run_calls.txt", replies_to)?;
     report.script("run_hidden.txt", replies_to)?;
     report.script("run_restart.txt", replies_to)?;
+    report.script("run_numbers.txt", replies_to)?;
     report.script("run_owners.txt", replies_to)?;
     report.script("run_names.txt", replies_to)?;
     let again = asked_again(report)?;

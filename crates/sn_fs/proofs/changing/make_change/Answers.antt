@@ -5,6 +5,7 @@ returns-in-Ok-append-clause-made g c =
     let made = c.in-Ok.ensures.made in
     record {
       made = record { tree = made.0; applied = made.1; world = made.2 };
+      kept = c.in-Ok.ensures.kept;
       at = c.in-Ok-append.ensures.moves;
       moments = λ told. (c.in-Ok-append.ensures.disk told).any_moment;
       acknowledged = λ told. (c.in-Ok-append.ensures.disk told).acknowledged;

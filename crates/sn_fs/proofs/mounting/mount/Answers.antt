@@ -11,7 +11,7 @@ returns-in-Ok-recover-clause-mounted g c told =
     let r = c.in-Ok-recover.field-0 in
     let h = holding g.D.Device c.recover.new.blocks r.log r.world in
     subst (λ (d : Disk). Mounts d h false) (ap g.D.Device.disk c.in-Ok.ensures.device)
-    (mounts (g.D.Device.disk (device_of c.in-Ok.blocks)) h c.in-Ok-recover.ensures.place (c.in-Ok-recover.ensures.recovers told))
+    (mounts (g.D.Device.disk (device_of c.in-Ok.blocks)) h c.in-Ok-recover.ensures.place (c.in-Ok-recover.ensures.recovers told) c.in-Ok-recover.ensures.kept)
 
 pub returns-in-Err-recover-clause-unmounted : goal.returns-in-Err-recover-clause-unmounted
 returns-in-Err-recover-clause-unmounted g c told =

@@ -1,10 +1,9 @@
-use Rattle.std.proofs.Common.{◌≡◌, ◌≤◌, Bool, length, sym, subst, ◌∙◌}
-use Rattle.sn_device.specs.Disk.{reads}
+use Rattle.std.proofs.Common.{◌≤◌, Bool, sym, subst, ◌∙◌}
 use Rattle.sn_model.specs.declared.mount.End.{End}
 use Rattle.sn_model.specs.declared.mount.End.TheVariants.{Mount}
 use Rattle.sn_fs.specs.Filesystem.{has_stopped, held}
 use Rattle.sn_run.specs.Runs.{AnswersAll, RunsTo}
-use Rattle.sn_run.specs.Servers.{is_stopped, standing}
+use Rattle.sn_run.specs.Servers.{standing}
 use Rattle.sn_run.proofs.RunLemmas.{is_run, served_clean, served_stopped}
 use Rattle.sn_run.proofs.running.run.Goals as goal
 use Rattle.sn_run.proofs.running.run.Goals.{then-is_stopped, else-is_stopped}

@@ -1,11 +1,16 @@
 use Rattle.std.proofs.Common.{refl}
-use Rattle.sn_plain.specs.Plain.{tree_of}
+use Rattle.sn_numbers.specs.Live.{live_of}
+use Rattle.sn_limits.specs.Versions.{version_1}
 use Rattle.sn_core.specs.Plain.{world_of}
 use Rattle.sn_core.proofs.StepLemmas.{applied_tree, made_so}
 use Rattle.sn_core.proofs.world.PlainWorld.apply.Goals as goal
 
-pub returns : goal.returns
-returns c = record { made = made_so c.apply.result c.args.change.now (world_of c.args.self.now) _ (tree_of c.apply.new.self) refl c.apply.ensures; room = refl }
+-- a name tree has a change made of it
+pub apply-requires : goal.apply-requires
+apply-requires c = (version_1, c.requires)
+
+pub returns-clause-made : goal.returns-clause-made
+returns-clause-made c = made_so c.apply.result c.args.change.now (world_of c.args.self.now) _ (live_of c.apply.new.self) refl c.apply.ensures.tree
 
 pub invariant_of-self : goal.invariant_of-self
-invariant_of-self c = record { whole = ∣ applied_tree c.apply.result c.args.change.now (tree_of c.args.self.now.tree) (tree_of c.apply.new.self) c.requires c.apply.ensures ∣₁ }
+invariant_of-self c = record { whole = ∣ applied_tree c.apply.result c.args.change.now (live_of c.args.self.now.tree) (live_of c.apply.new.self) c.requires c.apply.ensures.tree ∣₁ }

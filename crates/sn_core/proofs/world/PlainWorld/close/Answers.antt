@@ -1,12 +1,17 @@
-use Rattle.std.proofs.Common.{◌≡◌, ℕ, List, [], ◌∷◌, ◌++◌, Some, Contains, refl, sym, ap, subst, ◌∙◌, arith}
+use Rattle.std.proofs.Common.{◌≡◌, ℕ, zero, suc, List, [], ◌∷◌, ◌++◌, Some, Contains, refl, sym, ap, subst, ◌∙◌, arith}
 use Rattle.sn_model.proofs.ChainLemmas.{some_same}
 use Rattle.sn_desc.specs.InUse.{InUse}
 use Rattle.sn_core.specs.Plain.{world_of}
 use Rattle.sn_core.proofs.CallerLemmas.{close_tells}
 use Rattle.sn_core.proofs.world.PlainWorld.close.Goals as goal
+use Rattle.sn_desc.proofs.ReleaseLemmas.{last_told}
 
 one : (n : ℕ) → Contains (n ∷ []) n
 one n = (0, omega arith, refl)
+
+only : (n m : ℕ) → Contains (m ∷ []) n → n ≡ m
+only n m (zero, within, is) = sym is
+only n m (suc k, within, is) = absurd (omega (arith, within))
 
 pub returns-in-Some-clause-released : goal.returns-in-Some-clause-released
 returns-in-Some-clause-released c = λ n held left.
@@ -19,3 +24,9 @@ pub returns-in_default-clause-released : goal.returns-in_default-clause-released
 returns-in_default-clause-released c = λ n held left.
     let told : c.close_if_open.result ≡ Some n = close_tells (world_of c.args.self.now).descriptors _ c.args.session c.args.fd c.close_if_open.result (ap (λ (u : InUse). u.descriptors) c.close_if_open.ensures.in_use) c.close_if_open.ensures.released n held left in
     absurd (c.in_default.not-Some n told)
+
+pub returns-in-Some-clause-held : goal.returns-in-Some-clause-held
+returns-in-Some-clause-held c = λ n has.
+    let items : c.push.new.self.items ≡ c.in-Some.number ∷ [] = c.push.ensures.items ∙ ap (λ (xs : List ℕ). xs ++ c.in-Some.number ∷ []) c.new-released.ensures in
+    let same : n ≡ c.in-Some.number = only n c.in-Some.number (subst (λ (xs : List ℕ). Contains xs n) items has) in
+    (last_told (world_of c.args.self.now).descriptors (c.args.session, c.args.fd) n (sym c.close_if_open.ensures.released ∙ c.in-Some.is ∙ ap (λ (m : ℕ). Some m) (sym same))).0

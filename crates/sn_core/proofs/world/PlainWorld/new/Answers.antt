@@ -7,10 +7,10 @@ use Rattle.sn_model.proofs.WorldLemmas.{new_is_world}
 use Rattle.sn_core.proofs.world.PlainWorld.new.Goals as goal
 
 pub returns-clause-world : goal.returns-clause-world
-returns-clause-world c = λ i. record { live = c.in_ok-tree.ensures i; frozen = map.empty; sessions = (c.in_ok-sessions.ensures i).sessions; descriptors = (c.in_ok-sessions.ensures i).descriptors }
+returns-clause-world c = λ i. record { live = c.in_ok-tree.ensures.tree i; frozen = map.empty; sessions = (c.in_ok-sessions.ensures i).sessions; descriptors = (c.in_ok-sessions.ensures i).descriptors }
 
 pub returns-clause-whole : goal.returns-clause-whole
-returns-clause-whole c = subst (IsWorld version_1) (λ i. record { live = sym c.in_ok-tree.ensures i; frozen = map.empty; sessions = (sym c.in_ok-sessions.ensures i).sessions; descriptors = (sym c.in_ok-sessions.ensures i).descriptors }) new_is_world
+returns-clause-whole c = subst (IsWorld version_1) (λ i. record { live = sym c.in_ok-tree.ensures.tree i; frozen = map.empty; sessions = (sym c.in_ok-sessions.ensures i).sessions; descriptors = (sym c.in_ok-sessions.ensures i).descriptors }) new_is_world
 
 pub invariant_of-result : goal.invariant_of-result
-invariant_of-result c = record { whole = ∣ subst (IsTree version_1) (sym c.in_ok-tree.ensures) new_is_world.live ∣₁ }
+invariant_of-result c = record { whole = ∣ subst (IsTree version_1) (sym c.in_ok-tree.ensures.tree) new_is_world.live ∣₁ }

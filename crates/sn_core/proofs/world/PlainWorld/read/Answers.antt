@@ -1,5 +1,5 @@
 use Rattle.std.proofs.Common.{◌≡◌, ℕ, zero, suc, List, [], take, drop, refl, sym, ap, ◌∙◌}
-use Rattle.sn_plain.specs.Plain.{tree_of}
+use Rattle.sn_numbers.specs.Live.{live_of}
 use Rattle.sn_core.proofs.ViewLemmas.{frozen_bytes}
 use Rattle.sn_core.proofs.world.PlainWorld.read.Goals as goal
 
@@ -14,4 +14,4 @@ none_read count (suc offset) = none_taken count
 pub returns-in-Frozen : goal.returns-in-Frozen
 returns-in-Frozen c =
     c.new-in-Frozen.ensures.items
-    ∙ sym (ap (λ (bytes : List ℕ). take c.args.count (drop c.args.file.now.offset bytes)) (frozen_bytes (tree_of c.args.self.now.tree) c.args.file.now.number c.args.file.now.home _ c.in-Frozen.is) ∙ none_read c.args.count c.args.file.now.offset)
+    ∙ sym (ap (λ (bytes : List ℕ). take c.args.count (drop c.args.file.now.offset bytes)) (frozen_bytes (live_of c.args.self.now.tree) c.args.file.now.number c.args.file.now.home _ c.in-Frozen.is) ∙ none_read c.args.count c.args.file.now.offset)

@@ -3,13 +3,13 @@ use Rattle.sn_model.specs.declared.call.Event.TheVariants.{Restart}
 use Rattle.sn_model.specs.declared.reply.Reply.TheVariants.{Done}
 use Rattle.sn_model.specs.Machine.{Running}
 use Rattle.sn_model.proofs.MachineLemmas.{events_keep}
-use Rattle.sn_core.specs.Plain.{world_of}
+use Rattle.sn_core.specs.Plain.{numbered_of, world_of}
 use Rattle.sn_core.specs.PlainRuns.{PlainStep}
 use Rattle.sn_core.proofs.StepLemmas.{restart_step}
 use Rattle.sn_core.proofs.world.PlainWorld.restart.Goals as goal
 
-restarted : (c : goal.After-settle) → PlainStep (world_of c.args.self.now) Restart Done (world_of c.settle.new.self)
-restarted c = restart_step (world_of c.args.self.now) (world_of c.settle.new.self) c.settle.ensures.world
+restarted : (c : goal.After-settle) → PlainStep (numbered_of c.args.self.now) Restart Done (numbered_of c.settle.new.self)
+restarted c = restart_step (numbered_of c.args.self.now) (numbered_of c.settle.new.self) c.settle.ensures.world c.settle.ensures.kept
 
 pub returns-clause-step : goal.returns-clause-step
 returns-clause-step c = restarted c

@@ -3,14 +3,14 @@ use Rattle.std.proofs.Math.Logic.{∥∥₁_elim, ∥∥₁_prop}
 use Rattle.sn_limits.specs.Versions.{version_1}
 use Rattle.sn_model.specs.NameTree.{IsTree}
 use Rattle.sn_model.proofs.DropLemmas.{dropping_tree}
-use Rattle.sn_plain.specs.Plain.{tree_of}
+use Rattle.sn_numbers.specs.Live.{live_of}
 use Rattle.std.specs.FinMap as map
 use Rattle.sn_core.proofs.world.PlainWorld.settle.Goals as goal
 
-pub returns : goal.returns
-returns c = record { world = λ i. record { live = c.settle.ensures i; frozen = map.empty; sessions = (c.clear.ensures.in_use i).sessions; descriptors = (c.clear.ensures.in_use i).descriptors } }
+pub returns-clause-world : goal.returns-clause-world
+returns-clause-world c = λ i. record { live = c.settle.ensures.tree i; frozen = map.empty; sessions = (c.clear.ensures.in_use i).sessions; descriptors = (c.clear.ensures.in_use i).descriptors }
 
 pub invariant_of-self : goal.invariant_of-self
 invariant_of-self c =
     let old = c.args.self.now in
-    record { whole = ∥∥₁_elim old.whole ∥∥₁_prop (λ w. ∣ subst (IsTree version_1) (sym c.settle.ensures) (dropping_tree version_1 (tree_of old.tree) (λ _. false) w) ∣₁) }
+    record { whole = ∥∥₁_elim old.whole ∥∥₁_prop (λ w. ∣ subst (IsTree version_1) (sym c.settle.ensures.tree) (dropping_tree version_1 (live_of old.tree) (λ _. false) w) ∣₁) }

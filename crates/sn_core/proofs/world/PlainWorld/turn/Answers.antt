@@ -21,7 +21,7 @@ holds c = elim c.match-caller.branch [
   | in-SetsUmask w ↦ same_holds (table_of c.args.self.now) _ (ap table_of w.self-is ∙ ap (λ (u : InUse). u.descriptors) w.set_umask.ensures)
   | in-Opens w ↦
       let next = subst (λ (k : Caller). CanTurn (table_of c.args.self.now) (room_of c.args.self.now) c.args.session k) w.in-Opens.is c.requires.opens in
-      let is = ap table_of w.self-is ∙ ap (λ (x : World). x.descriptors) (w.open.ensures w.in-Opens.fd next.next) in
+      let is = ap table_of w.self-is ∙ ap (λ (x : World). x.descriptors) (w.open.ensures.opened w.in-Opens.fd next.next) in
       subst (λ (t : Descriptors). StillHolds (table_of c.args.self.now) t) (sym is) (opened_holds (table_of c.args.self.now) c.args.session w.in-Opens.fd _ (next_vacant (table_of c.args.self.now) c.args.session w.in-Opens.fd next.next))
   | in-Moves w ↦
       let is = ap table_of w.self-is ∙ ap (λ (u : InUse). u.descriptors) w.set_offset.ensures in

@@ -1,4 +1,4 @@
-use Rattle.std.proofs.Common.{◌≡◌, ℕ, ◌≤◌, Bool, true, false, Option, Some, None, Ok, refl, sym, ap, subst, ◌∙◌}
+use Rattle.std.proofs.Common.{◌≡◌, ◌||◌, ℕ, ◌≤◌, Bool, true, false, Option, Some, Ok, sym, ap, subst, ◌∙◌}
 use Rattle.sn_limits.specs.Versions.{version_1}
 use Rattle.sn_model.specs.declared.call.Event.{Event}
 use Rattle.sn_model.specs.declared.call.Event.TheVariants.{Call}
@@ -11,7 +11,7 @@ use Rattle.sn_model.specs.Changes.{apply}
 use Rattle.sn_model.specs.Machine.{refused}
 use Rattle.sn_model.specs.NameTree.{IsTree}
 use Rattle.sn_model.specs.Settling.{OnlyLost, dropped}
-use Rattle.sn_model.specs.Steps.{with_caller, with_live}
+use Rattle.sn_model.specs.Steps.{Becomes, decision, with_caller, with_live}
 use Rattle.sn_model.specs.Tests.{plain}
 use Rattle.sn_model.specs.World.{World}
 use Rattle.sn_model.specs.Worlds.{IsWorld}
@@ -20,9 +20,12 @@ use Rattle.sn_core.specs.declared.error.CallError.TheVariants as lack
 use Rattle.sn_core.specs.declared.choosing.Chosen.{Chosen}
 use Rattle.sn_core.specs.declared.world.PlainWorld.{PlainWorld}
 use Rattle.sn_core.specs.Called.{CanTurn, HasRoom}
-use Rattle.sn_core.specs.Plain.{room_of, world_of}
-use Rattle.sn_core.specs.Served.{Chooses, HasNumber}
-use Rattle.sn_core.proofs.StepLemmas.{IsServed, MadeBy, chosen_lost, chosen_served, chosen_turns, chosen_whole, has_number, none_made, served_whole}
+use Rattle.sn_core.specs.Numbering.{has_closed}
+use Rattle.sn_core.specs.Plain.{kept_of, room_of, world_of}
+use Rattle.sn_numbers.specs.Numbers.{kept_after}
+use Rattle.sn_core.proofs.NumberLemmas.{kept_by}
+use Rattle.sn_core.specs.Served.{HasNumber}
+use Rattle.sn_core.proofs.StepLemmas.{MadeBy, choosing, chosen_becomes, chosen_lost, chosen_turns, chosen_whole, has_number, none_made, served_whole}
 use Rattle.sn_core.proofs.StepLemmas as core
 use Rattle.sn_fs.specs.declared.fs.Fs.{Fs}
 use Rattle.sn_fs.specs.Answers.{Answers}
@@ -67,8 +70,9 @@ returns-in-Err-clause-answered g c told =
     let h = held c.args.self.now in
     let b = c.args.self.now.has_stopped in
     let a = flagged e (refused Enomem) h h b false c.if-self.false (unprepared_answers h c.args.session c.args.call.now c.in-Ok.outcome c.in-Ok.ensures.decided c.in-Err.ensures.opening) in
-    let after = subst (λ (w : World). Answers e (refused Enomem) h b (record h { world = w }) b) (sym c.in-Err.ensures.world) a in
-    subst (λ (r : Refusal). Answers e (Refused r) h b (record h { world = world_of c.prepare.new.self }) b) (sym c.plain-in-Err.ensures) after
+    let world = subst (λ (w : World). Answers e (refused Enomem) h b (record h { world = w }) b) (sym c.in-Err.ensures.world) a in
+    let after = subst (λ (k : ℕ → Bool). Answers e (refused Enomem) h b (record h { world = world_of c.prepare.new.self; kept = k }) b) (sym c.in-Err.ensures.kept) world in
+    subst (λ (r : Refusal). Answers e (Refused r) h b (record h { world = world_of c.prepare.new.self; kept = kept_of c.prepare.new.self }) b) (sym c.plain-in-Err.ensures) after
 
 pub choose-change-requires : goal.choose-change-requires
 choose-change-requires g c =
@@ -78,8 +82,8 @@ choose-change-requires g c =
 pub make_change-requires-clause-spelled : goal.make_change-requires-clause-spelled
 make_change-requires-clause-spelled g c =
     let o = c.in-Ok.outcome in
-    let chosen = subst (λ (w : World). Chooses w.live o.change o.caller c.choose-change.result) c.in_default.ensures.world c.choose-change.ensures in
-    (can_be_made (world_of c.args.self.now.world) c.args.session c.args.call.now o c.choose-change.result c.in-Some.change (c.requires.whole c.if-self.false) c.in-Ok.ensures.decided chosen c.in-Some.is).spelled
+    let chosen = choosing (world_of c.prepare.new.self) (world_of c.args.self.now.world) (kept_of c.prepare.new.self) (kept_of c.args.self.now.world) o c.choose-change.result c.in_default.ensures.world c.in_default.ensures.kept c.choose-change.ensures in
+    (can_be_made (world_of c.args.self.now.world) (kept_of c.args.self.now.world) c.args.session c.args.call.now o c.choose-change.result c.in-Some.change (c.requires.whole c.if-self.false) c.in-Ok.ensures.decided chosen c.in-Some.is).spelled
 
 pub returns-in-Err-make_change-clause-answered : goal.returns-in-Err-make_change-clause-answered
 returns-in-Err-make_change-clause-answered g c told =
@@ -88,13 +92,14 @@ returns-in-Err-make_change-clause-answered g c told =
     let o = c.in-Ok.outcome in
     let fault = c.in-Err-make_change.fault in
     let after = holding g.D.Device c.make_change.new.blocks c.make_change.new.log c.make_change.new.world in
-    let chosen = subst (λ (w : World). Chooses w.live o.change o.caller c.choose-change.result) c.in_default.ensures.world c.choose-change.ensures in
-    let made = subst (λ (w : World). FailsChange g.D.Device.tells_bytes fault c.in-Some.change (record h { world = w }) after) c.in_default.ensures.world c.in-Err-make_change.ensures.made in
+    let chosen = choosing (world_of c.prepare.new.self) (world_of c.args.self.now.world) (kept_of c.prepare.new.self) (kept_of c.args.self.now.world) o c.choose-change.result c.in_default.ensures.world c.in_default.ensures.kept c.choose-change.ensures in
+    let begun : (record h { world = world_of c.prepare.new.self; kept = kept_of c.prepare.new.self }) ≡ h = λ i. record h { world = c.in_default.ensures.world i; kept = c.in_default.ensures.kept i } in
+    let made = subst (λ (x : Held). FailsChange g.D.Device.tells_bytes fault c.in-Some.change x after) begun c.in-Err-make_change.ensures.made in
     let fails = subst (λ (b : Bool). FailsChange b fault c.in-Some.change h after) told made in
     let a = unmade_answers h c.args.session c.args.call.now o c.choose-change.result c.in-Some.change c.in-Ok.ensures.numbers (c.requires.whole c.if-self.false) c.in-Ok.ensures.decided chosen c.in-Some.is after fault fails in
     let flags = subst (λ (b : Bool). Answers e (refused (errno_of fault)) h false after b) (sym c.stops-self.ensures) a in
-    let begun = subst (λ (b : Bool). Answers e (refused (errno_of fault)) h b after c.stops-self.result) (sym c.if-self.false) flags in
-    subst (λ (r : Refusal). Answers e (Refused r) h c.args.self.now.has_stopped after c.stops-self.result) (sym (c.plain-in-Err-make_change.ensures ∙ ap plain c.errno.ensures)) begun
+    let from_here = subst (λ (b : Bool). Answers e (refused (errno_of fault)) h b after c.stops-self.result) (sym c.if-self.false) flags in
+    subst (λ (r : Refusal). Answers e (Refused r) h c.args.self.now.has_stopped after c.stops-self.result) (sym (c.plain-in-Err-make_change.ensures ∙ ap plain c.errno.ensures)) from_here
 
 pub returns-in-Err-make_change-clause-sound : goal.returns-in-Err-make_change-clause-sound
 returns-in-Err-make_change-clause-sound g c = record {
@@ -104,120 +109,138 @@ returns-in-Err-make_change-clause-sound g c = record {
 }
 
 -- a change that is made over a world is made over one that is equal
-made_over : (old before : World) (picked : Chosen) (room : ℕ) (mid : PlainWorld) (change : Change) → before ≡ old → picked.change ≡ Some change → IsMade change before (world_of mid) → room_of mid ≡ room → core.IsMade old picked room mid
-made_over old before picked room mid change same some made kept = record {
+made_over : (old before : World) (kept first : ℕ → Bool) (picked : Chosen) (room : ℕ) (mid : PlainWorld) (change : Change) → before ≡ old → first ≡ kept → picked.change ≡ Some change → IsMade change before (world_of mid) → ((n : ℕ) → kept_of mid n ≡ kept_after change first n) → room_of mid ≡ room
+    → core.IsMade old kept picked room mid
+made_over old before kept first picked room mid change same none some made keeps room_is = record {
   tree = made.tree;
   world = made.world ∙ ap (λ (w : World). with_live w made.tree) same;
   done = subst (λ (x : Option Change). MadeBy x old.live made.tree) (sym some) (ap (λ (w : World). apply version_1 change w.live) (sym same) ∙ made.applied);
-  room_is = kept;
+  kept_is = λ n. keeps n ∙ ap (λ (k : ℕ → Bool). kept_after change k n) none ∙ ap (λ (x : Option Change). kept_by x kept n) (sym some);
+  room_is = room_is;
 }
 
 pub set_caller-requires-clause-whole : goal.set_caller-requires-clause-whole
 set_caller-requires-clause-whole g c =
     let old = world_of c.args.self.now.world in
+    let kept = kept_of c.args.self.now.world in
     let o = c.in-Ok.outcome in
     let picked = c.choose-change.result in
     let whole = c.requires.whole c.if-self.false in
-    let chosen = subst (λ (w : World). Chooses w.live o.change o.caller picked) c.in_default.ensures.world c.choose-change.ensures in
-    let m : core.IsMade old picked (room_of c.prepare.new.self) c.match-change.self.world = elim c.match-change.branch [
+    let chosen = choosing (world_of c.prepare.new.self) old (kept_of c.prepare.new.self) kept o picked c.in_default.ensures.world c.in_default.ensures.kept c.choose-change.ensures in
+    let m : core.IsMade old kept picked (room_of c.prepare.new.self) c.match-change.self.world = elim c.match-change.branch [
       | in-Some+in-Ok-make_change w ↦
-          made_over old (world_of c.prepare.new.self) picked (room_of c.prepare.new.self) c.match-change.self.world w.in-Some.change c.in_default.ensures.world w.in-Some.is
+          made_over old (world_of c.prepare.new.self) kept (kept_of c.prepare.new.self) picked (room_of c.prepare.new.self) c.match-change.self.world w.in-Some.change c.in_default.ensures.world c.in_default.ensures.kept w.in-Some.is
           (subst (λ (x : Fs g.row.D.Denot g.D.Device). IsMade w.in-Some.change (world_of c.prepare.new.self) (world_of x.world)) (sym w.self-is) w.in-Ok-make_change.ensures.made.made)
+          (λ n. ap (λ (x : Fs g.row.D.Denot g.D.Device). kept_of x.world n) w.self-is ∙ w.in-Ok-make_change.ensures.made.kept n)
           (ap (λ (x : Fs g.row.D.Denot g.D.Device). room_of x.world) w.self-is ∙ w.in-Ok-make_change.ensures.room)
       | in-None w ↦
-          none_made old picked (room_of c.prepare.new.self) c.match-change.self.world (ap (λ (x : Fs g.row.D.Denot g.D.Device). world_of x.world) w.self-is ∙ c.in_default.ensures.world) w.in-None.is (ap (λ (x : Fs g.row.D.Denot g.D.Device). room_of x.world) w.self-is)
+          none_made old kept picked (room_of c.prepare.new.self) c.match-change.self.world (ap (λ (x : Fs g.row.D.Denot g.D.Device). world_of x.world) w.self-is ∙ c.in_default.ensures.world) (ap (λ (x : Fs g.row.D.Denot g.D.Device). kept_of x.world) w.self-is ∙ c.in_default.ensures.kept) w.in-None.is (ap (λ (x : Fs g.row.D.Denot g.D.Device). room_of x.world) w.self-is)
     ] in
-    subst (λ (w : World). IsTree version_1 w.live) (sym m.world) (chosen_whole old c.args.session c.args.call.now o picked m.tree c.in-Ok.ensures.numbers whole c.in-Ok.ensures.decided chosen m.done)
+    subst (λ (w : World). IsTree version_1 w.live) (sym m.world) (chosen_whole old kept c.args.session c.args.call.now o picked m.tree c.in-Ok.ensures.numbers whole c.in-Ok.ensures.decided chosen m.done)
 
 pub set_caller-requires-clause-opens : goal.set_caller-requires-clause-opens
 set_caller-requires-clause-opens g c =
     let old = world_of c.args.self.now.world in
+    let kept = kept_of c.args.self.now.world in
     let o = c.in-Ok.outcome in
     let picked = c.choose-change.result in
     let whole = c.requires.whole c.if-self.false in
-    let chosen = subst (λ (w : World). Chooses w.live o.change o.caller picked) c.in_default.ensures.world c.choose-change.ensures in
-    let m : core.IsMade old picked (room_of c.prepare.new.self) c.match-change.self.world = elim c.match-change.branch [
+    let chosen = choosing (world_of c.prepare.new.self) old (kept_of c.prepare.new.self) kept o picked c.in_default.ensures.world c.in_default.ensures.kept c.choose-change.ensures in
+    let m : core.IsMade old kept picked (room_of c.prepare.new.self) c.match-change.self.world = elim c.match-change.branch [
       | in-Some+in-Ok-make_change w ↦
-          made_over old (world_of c.prepare.new.self) picked (room_of c.prepare.new.self) c.match-change.self.world w.in-Some.change c.in_default.ensures.world w.in-Some.is
+          made_over old (world_of c.prepare.new.self) kept (kept_of c.prepare.new.self) picked (room_of c.prepare.new.self) c.match-change.self.world w.in-Some.change c.in_default.ensures.world c.in_default.ensures.kept w.in-Some.is
           (subst (λ (x : Fs g.row.D.Denot g.D.Device). IsMade w.in-Some.change (world_of c.prepare.new.self) (world_of x.world)) (sym w.self-is) w.in-Ok-make_change.ensures.made.made)
+          (λ n. ap (λ (x : Fs g.row.D.Denot g.D.Device). kept_of x.world n) w.self-is ∙ w.in-Ok-make_change.ensures.made.kept n)
           (ap (λ (x : Fs g.row.D.Denot g.D.Device). room_of x.world) w.self-is ∙ w.in-Ok-make_change.ensures.room)
       | in-None w ↦
-          none_made old picked (room_of c.prepare.new.self) c.match-change.self.world (ap (λ (x : Fs g.row.D.Denot g.D.Device). world_of x.world) w.self-is ∙ c.in_default.ensures.world) w.in-None.is (ap (λ (x : Fs g.row.D.Denot g.D.Device). room_of x.world) w.self-is)
+          none_made old kept picked (room_of c.prepare.new.self) c.match-change.self.world (ap (λ (x : Fs g.row.D.Denot g.D.Device). world_of x.world) w.self-is ∙ c.in_default.ensures.world) (ap (λ (x : Fs g.row.D.Denot g.D.Device). kept_of x.world) w.self-is ∙ c.in_default.ensures.kept) w.in-None.is (ap (λ (x : Fs g.row.D.Denot g.D.Device). room_of x.world) w.self-is)
     ] in
     subst (λ (w : World). CanTurn w.descriptors (room_of c.match-change.self.world) c.args.session picked.caller) (sym m.world)
-    (chosen_turns old c.args.session c.args.call.now o picked m.tree c.in-Ok.ensures.numbers whole c.in-Ok.ensures.decided chosen m.done (room_of c.match-change.self.world) (subst (λ (n : ℕ). HasRoom o.caller n) (sym m.room_is) c.in_default.ensures.room))
+    (chosen_turns old kept c.args.session c.args.call.now o picked m.tree c.in-Ok.ensures.numbers whole c.in-Ok.ensures.decided chosen m.done (room_of c.match-change.self.world) (subst (λ (n : ℕ). HasRoom o.caller n) (sym m.room_is) c.in_default.ensures.room))
 
 pub set_caller-requires-clause-lost : goal.set_caller-requires-clause-lost
 set_caller-requires-clause-lost g c =
     let old = world_of c.args.self.now.world in
+    let kept = kept_of c.args.self.now.world in
     let o = c.in-Ok.outcome in
     let picked = c.choose-change.result in
     let whole = c.requires.whole c.if-self.false in
-    let chosen = subst (λ (w : World). Chooses w.live o.change o.caller picked) c.in_default.ensures.world c.choose-change.ensures in
-    let m : core.IsMade old picked (room_of c.prepare.new.self) c.match-change.self.world = elim c.match-change.branch [
+    let chosen = choosing (world_of c.prepare.new.self) old (kept_of c.prepare.new.self) kept o picked c.in_default.ensures.world c.in_default.ensures.kept c.choose-change.ensures in
+    let m : core.IsMade old kept picked (room_of c.prepare.new.self) c.match-change.self.world = elim c.match-change.branch [
       | in-Some+in-Ok-make_change w ↦
-          made_over old (world_of c.prepare.new.self) picked (room_of c.prepare.new.self) c.match-change.self.world w.in-Some.change c.in_default.ensures.world w.in-Some.is
+          made_over old (world_of c.prepare.new.self) kept (kept_of c.prepare.new.self) picked (room_of c.prepare.new.self) c.match-change.self.world w.in-Some.change c.in_default.ensures.world c.in_default.ensures.kept w.in-Some.is
           (subst (λ (x : Fs g.row.D.Denot g.D.Device). IsMade w.in-Some.change (world_of c.prepare.new.self) (world_of x.world)) (sym w.self-is) w.in-Ok-make_change.ensures.made.made)
+          (λ n. ap (λ (x : Fs g.row.D.Denot g.D.Device). kept_of x.world n) w.self-is ∙ w.in-Ok-make_change.ensures.made.kept n)
           (ap (λ (x : Fs g.row.D.Denot g.D.Device). room_of x.world) w.self-is ∙ w.in-Ok-make_change.ensures.room)
       | in-None w ↦
-          none_made old picked (room_of c.prepare.new.self) c.match-change.self.world (ap (λ (x : Fs g.row.D.Denot g.D.Device). world_of x.world) w.self-is ∙ c.in_default.ensures.world) w.in-None.is (ap (λ (x : Fs g.row.D.Denot g.D.Device). room_of x.world) w.self-is)
+          none_made old kept picked (room_of c.prepare.new.self) c.match-change.self.world (ap (λ (x : Fs g.row.D.Denot g.D.Device). world_of x.world) w.self-is ∙ c.in_default.ensures.world) (ap (λ (x : Fs g.row.D.Denot g.D.Device). kept_of x.world) w.self-is ∙ c.in_default.ensures.kept) w.in-None.is (ap (λ (x : Fs g.row.D.Denot g.D.Device). room_of x.world) w.self-is)
     ] in
-    subst (λ (w : World). OnlyLost w picked.lost) (sym m.world) (chosen_lost old c.args.session c.args.call.now o picked m.tree c.in-Ok.ensures.numbers whole c.in-Ok.ensures.decided chosen m.done)
+    subst (λ (w : World). OnlyLost w picked.lost) (sym m.world) (chosen_lost old kept c.args.session c.args.call.now o picked m.tree c.in-Ok.ensures.numbers whole c.in-Ok.ensures.decided chosen m.done)
 
 pub returns-clause-answered : goal.returns-clause-answered
 returns-clause-answered g c told =
     let e = Call c.args.session c.args.call.now in
     let h = held c.args.self.now in
     let old = world_of c.args.self.now.world in
+    let kept = kept_of c.args.self.now.world in
     let o = c.in-Ok.outcome in
     let picked = c.choose-change.result in
     let whole = c.requires.whole c.if-self.false in
-    let chosen = subst (λ (w : World). Chooses w.live o.change o.caller picked) c.in_default.ensures.world c.choose-change.ensures in
+    let chosen = choosing (world_of c.prepare.new.self) old (kept_of c.prepare.new.self) kept o picked c.in_default.ensures.world c.in_default.ensures.kept c.choose-change.ensures in
     let turn = λ (w : World). dropped (with_caller w c.args.session picked.caller) in
     let new = holding g.D.Device c.match-change.self.blocks c.match-change.self.log c.set_caller.new.self in
+    let mid_world = world_of c.match-change.self.world in
+    let keeps : (n : ℕ) → kept_of c.set_caller.new.self n ≡ (has_closed mid_world (turn mid_world) n || kept_of c.match-change.self.world n) =
+    (λ n. c.set_caller.ensures.kept n ∙ ap (λ (w : World). has_closed mid_world w n || kept_of c.match-change.self.world n) c.set_caller.ensures.world) in
     let ends = λ (d : Bool) (same : d ≡ c.args.self.now.has_stopped) (a : Answers e o.told h false new false).
     subst (λ (b : Bool). Answers e o.told h c.args.self.now.has_stopped new b) (sym same) (flagged e o.told h new c.args.self.now.has_stopped false c.if-self.false a) in
     elim c.match-change.branch [
       | in-Some+in-Ok-make_change w ↦
           let mid = holding g.D.Device w.make_change.new.blocks w.make_change.new.log w.make_change.new.world in
-          let made = subst (λ (x : World). Changes g.D.Device.tells_bytes (Ok tt) w.in-Some.change (record h { world = x }) mid) c.in_default.ensures.world w.in-Ok-make_change.ensures.made in
+          let begun : (record h { world = world_of c.prepare.new.self; kept = kept_of c.prepare.new.self }) ≡ h = λ i. record h { world = c.in_default.ensures.world i; kept = c.in_default.ensures.kept i } in
+          let made = subst (λ (x : Held). Changes g.D.Device.tells_bytes (Ok tt) w.in-Some.change x mid) begun w.in-Ok-make_change.ensures.made in
           let logged = subst (λ (b : Bool). IsLogged b w.in-Some.change h mid) told made in
-          let is : new ≡ record mid { world = turn mid.world } = λ i. record {
-            world = (c.set_caller.ensures ∙ ap (λ (x : Fs g.row.D.Denot g.D.Device). turn (world_of x.world)) w.self-is) i;
+          let is : new ≡ record mid { world = turn mid.world; kept = new.kept } = λ i. record {
+            world = (c.set_caller.ensures.world ∙ ap (λ (x : Fs g.row.D.Denot g.D.Device). turn (world_of x.world)) w.self-is) i;
+            kept = new.kept;
             at = ap (λ (x : Fs g.row.D.Denot g.D.Device). x.log) w.self-is i;
             disk = ap (λ (x : Fs g.row.D.Denot g.D.Device). g.D.Device.disk (device_of x.blocks)) w.self-is i;
             status = ap (λ (x : Fs g.row.D.Denot g.D.Device). g.D.Device.status (device_of x.blocks)) w.self-is i;
           } in
           ends c.match-change.self.has_stopped (ap (λ (x : Fs g.row.D.Denot g.D.Device). x.has_stopped) w.self-is)
-          (made_answers h c.args.session c.args.call.now o picked w.in-Some.change c.in-Ok.ensures.numbers whole c.in-Ok.ensures.decided chosen w.in-Some.is mid new logged is)
+          (made_answers h c.args.session c.args.call.now o picked w.in-Some.change c.in-Ok.ensures.numbers whole c.in-Ok.ensures.decided chosen w.in-Some.is mid new logged is (λ n. keeps n ∙ ap (λ (x : Fs g.row.D.Denot g.D.Device). has_closed (world_of x.world) (turn (world_of x.world)) n || kept_of x.world n) w.self-is))
       | in-None w ↦
-          let is : new ≡ record h { world = turn h.world } = λ i. record {
-            world = (c.set_caller.ensures ∙ ap (λ (x : Fs g.row.D.Denot g.D.Device). turn (world_of x.world)) w.self-is ∙ ap turn c.in_default.ensures.world) i;
+          let is : new ≡ record h { world = turn h.world; kept = new.kept } = λ i. record {
+            world = (c.set_caller.ensures.world ∙ ap (λ (x : Fs g.row.D.Denot g.D.Device). turn (world_of x.world)) w.self-is ∙ ap turn c.in_default.ensures.world) i;
+            kept = new.kept;
             at = ap (λ (x : Fs g.row.D.Denot g.D.Device). x.log) w.self-is i;
             disk = ap (λ (x : Fs g.row.D.Denot g.D.Device). g.D.Device.disk (device_of x.blocks)) w.self-is i;
             status = ap (λ (x : Fs g.row.D.Denot g.D.Device). g.D.Device.status (device_of x.blocks)) w.self-is i;
           } in
           ends c.match-change.self.has_stopped (ap (λ (x : Fs g.row.D.Denot g.D.Device). x.has_stopped) w.self-is)
-          (told_answers h new c.args.session c.args.call.now o picked c.in-Ok.ensures.numbers whole c.in-Ok.ensures.decided chosen w.in-None.is is)
+          (told_answers h new c.args.session c.args.call.now o picked c.in-Ok.ensures.numbers whole c.in-Ok.ensures.decided chosen w.in-None.is is (λ n. keeps n ∙ ap (λ (x : Fs g.row.D.Denot g.D.Device). has_closed (world_of x.world) (turn (world_of x.world)) n || kept_of x.world n) w.self-is
+          ∙ ap (λ (x : World). has_closed x (turn x) n || kept_of c.prepare.new.self n) c.in_default.ensures.world ∙ ap (λ (k : ℕ → Bool). has_closed old (turn old) n || k n) c.in_default.ensures.kept))
     ]
 
 pub returns-clause-sound : goal.returns-clause-sound
 returns-clause-sound g c =
     let old = world_of c.args.self.now.world in
+    let kept = kept_of c.args.self.now.world in
     let o = c.in-Ok.outcome in
     let picked = c.choose-change.result in
     let whole = c.requires.whole c.if-self.false in
-    let chosen = subst (λ (w : World). Chooses w.live o.change o.caller picked) c.in_default.ensures.world c.choose-change.ensures in
-    let m : core.IsMade old picked (room_of c.prepare.new.self) c.match-change.self.world = elim c.match-change.branch [
+    let chosen = choosing (world_of c.prepare.new.self) old (kept_of c.prepare.new.self) kept o picked c.in_default.ensures.world c.in_default.ensures.kept c.choose-change.ensures in
+    let m : core.IsMade old kept picked (room_of c.prepare.new.self) c.match-change.self.world = elim c.match-change.branch [
       | in-Some+in-Ok-make_change w ↦
-          made_over old (world_of c.prepare.new.self) picked (room_of c.prepare.new.self) c.match-change.self.world w.in-Some.change c.in_default.ensures.world w.in-Some.is
+          made_over old (world_of c.prepare.new.self) kept (kept_of c.prepare.new.self) picked (room_of c.prepare.new.self) c.match-change.self.world w.in-Some.change c.in_default.ensures.world c.in_default.ensures.kept w.in-Some.is
           (subst (λ (x : Fs g.row.D.Denot g.D.Device). IsMade w.in-Some.change (world_of c.prepare.new.self) (world_of x.world)) (sym w.self-is) w.in-Ok-make_change.ensures.made.made)
+          (λ n. ap (λ (x : Fs g.row.D.Denot g.D.Device). kept_of x.world n) w.self-is ∙ w.in-Ok-make_change.ensures.made.kept n)
           (ap (λ (x : Fs g.row.D.Denot g.D.Device). room_of x.world) w.self-is ∙ w.in-Ok-make_change.ensures.room)
       | in-None w ↦
-          none_made old picked (room_of c.prepare.new.self) c.match-change.self.world (ap (λ (x : Fs g.row.D.Denot g.D.Device). world_of x.world) w.self-is ∙ c.in_default.ensures.world) w.in-None.is (ap (λ (x : Fs g.row.D.Denot g.D.Device). room_of x.world) w.self-is)
+          none_made old kept picked (room_of c.prepare.new.self) c.match-change.self.world (ap (λ (x : Fs g.row.D.Denot g.D.Device). world_of x.world) w.self-is ∙ c.in_default.ensures.world) (ap (λ (x : Fs g.row.D.Denot g.D.Device). kept_of x.world) w.self-is ∙ c.in_default.ensures.kept) w.in-None.is (ap (λ (x : Fs g.row.D.Denot g.D.Device). room_of x.world) w.self-is)
     ] in
     let turn = λ (w : World). dropped (with_caller w c.args.session picked.caller) in
-    let served = subst (λ (w : World). IsServed old c.args.session c.args.call.now o.told w) (sym (c.set_caller.ensures ∙ ap turn m.world)) (chosen_served old c.args.session c.args.call.now o picked m.tree c.in-Ok.ensures.numbers whole c.in-Ok.ensures.decided chosen m.done) in
+    let served = subst (λ (w : World). Becomes version_1 old c.args.session (decision version_1 old c.args.session c.args.call.now) o.told w) (sym (c.set_caller.ensures.world ∙ ap turn m.world)) (chosen_becomes old kept c.args.session c.args.call.now o picked m.tree c.in-Ok.ensures.numbers whole c.in-Ok.ensures.decided chosen m.done) in
     record {
       sectors = elim c.match-change.branch [
         | in-Some+in-Ok-make_change w ↦ subst (λ n. 2048 ≤ n) (sym (ap (λ (x : Fs g.row.D.Denot g.D.Device). (g.D.Device.status (device_of x.blocks)).sectors) w.self-is ∙ w.in-Ok-make_change.ensures.sectors)) c.requires.sectors

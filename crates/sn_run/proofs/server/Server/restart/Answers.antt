@@ -1,4 +1,4 @@
-use Rattle.std.proofs.Common.{◌≡◌, ◌≤◌, length, true, sym, ap, subst, ◌∙◌}
+use Rattle.std.proofs.Common.{◌≤◌, length, false, sym, ap, subst, ◌∙◌}
 use Rattle.sn_device.specs.Disk.{Disk, reads}
 use Rattle.sn_device.specs.Sectors.{AreSectors}
 use Rattle.sn_device.specs.declared.status.Status.{Status}
@@ -32,7 +32,7 @@ returns-in-Err-clause-answered g c told =
     let old = standing c.args.self in
     let device = c.into_device.result in
     let u = c.in-Err.field-0 in
-    let new : Held = record { world = new_world; at = first_of 256 1; disk = g.D.Device.disk u.device; status = g.D.Device.status u.device } in
+    let new : Held = record { world = new_world; kept = λ number. false; at = first_of 256 1; disk = g.D.Device.disk u.device; status = g.D.Device.status u.device } in
     let disk = c.into_device.ensures.disk in
     let status = c.into_device.ensures.status in
     let sectors = (g.D.Device.status device).sectors in
