@@ -224,8 +224,8 @@ stays_there None (Some x) e = refl
 stays_there (Some y) (Some x) e = refl
 
 -- What went once a caller has turned are the files that lost their last descriptor.
-module _ (old turned mid : World) (numbers : List ℕ) (live : turned.live ≡ old.live) (tells : TellsReleased old turned numbers) (held : WereHeld old numbers)
-    (gone : (n : ℕ) → has_gone turned mid n ≡ true → Contains numbers n) (left : (n : ℕ) → is_abandoned mid n ≡ true → (is_abandoned turned n ≡ true) × (Contains numbers n → ⊥)) where
+module _ (old turned mid : World) (numbers seen : List ℕ) (same : seen ≡ numbers) (live : turned.live ≡ old.live) (tells : TellsReleased old turned numbers) (held : WereHeld old numbers)
+    (gone : (n : ℕ) → has_gone turned mid n ≡ true → Contains seen n) (left : (n : ℕ) → is_abandoned mid n ≡ true → (is_abandoned turned n ≡ true) × (Contains seen n → ⊥)) where
   from_old : (n : ℕ) → has_gone turned mid n ≡ has_gone old mid n
   from_old n = ap (λ (t : Tree). is_some (map.get t.nodes n) && is_none (map.get mid.live.nodes n)) live
 
@@ -237,7 +237,7 @@ module _ (old turned mid : World) (numbers : List ℕ) (live : turned.live ≡ o
       both false = refl
 
       told : (b : Bool) → has_gone turned mid n ≡ b → has_gone turned mid n ≡ has_closed old mid n
-      told true e = from_old n ∙ sym (ap (λ (b : Bool). b && has_gone old mid n) (held n (gone n e)))
+      told true e = from_old n ∙ sym (ap (λ (b : Bool). b && has_gone old mid n) (held n (subst (λ (xs : List ℕ). Contains xs n) same (gone n e))))
       told false e = e ∙ sym (ap (λ (b : Bool). is_held old n && b) (sym (from_old n) ∙ e) ∙ both (is_held old n))
 
   -- and what lost its name isn't one of them
@@ -248,7 +248,7 @@ module _ (old turned mid : World) (numbers : List ℕ) (live : turned.live ≡ o
       was_left false e abandoned = e
       was_left true e abandoned =
           let l = left lost abandoned in
-          absurd (l.1 (tells lost e (abandoned_is turned lost l.0).left))
+          absurd (l.1 (subst (λ (xs : List ℕ). Contains xs lost) (sym same) (tells lost e (abandoned_is turned lost l.0).left)))
 
       split : (n ≡ lost) ⊎ (n ≢ lost) → is_abandoned mid lost ≡ true → has_gone turned mid n ≡ has_closed old (without old mid lost) n
       split (inl q) e =

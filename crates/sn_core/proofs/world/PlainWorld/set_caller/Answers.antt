@@ -1,7 +1,6 @@
-use Rattle.std.proofs.Common.{◌||◌, ℕ, Bool, List, Option, sym, ap, subst, ◌∙◌}
+use Rattle.std.proofs.Common.{◌||◌, ℕ, Bool, Option, sym, ap, subst, ◌∙◌}
 use Rattle.sn_model.specs.Settling.{OnlyLost, dropped}
 use Rattle.sn_model.specs.World.{World}
-use Rattle.sn_core.specs.Called.{TellsReleased, WereHeld}
 use Rattle.sn_core.specs.Numbering.{has_closed, has_gone}
 use Rattle.sn_core.specs.Plain.{kept_of, world_of}
 use Rattle.sn_core.proofs.CallerLemmas.{live_after, none_more, one_more, turned_lost, turned_numbers}
@@ -31,13 +30,10 @@ returns-in-Some-clause-kept c n =
     let old = world_of c.args.self.now in
     let turned = world_of c.turn-released.new.self in
     let mid = world_of c.drop_each_closed.new.self in
-    let numbers = c.as_slice.result.now in
-    let tells = subst (λ (xs : List ℕ). TellsReleased old turned xs) (sym c.as_slice.ensures.value) c.turn-released.ensures.released in
-    let held = subst (λ (xs : List ℕ). WereHeld old xs) (sym c.as_slice.ensures.value) c.turn-released.ensures.held in
     let live = live_after old turned c.args.session c.args.caller c.turn-released.ensures.world in
     c.drop_if_lost.ensures.kept n ∙ c.drop_each_closed.ensures.kept n
     ∙ ap (λ (k : ℕ → Bool). has_gone turned mid n || k n) c.turn-released.ensures.kept
-    ∙ ap (λ (b : Bool). b || kept_of c.args.self.now n) (closed_one old turned mid numbers live tells held c.drop_each_closed.ensures.gone c.drop_each_closed.ensures.left c.in-Some.number n)
+    ∙ ap (λ (b : Bool). b || kept_of c.args.self.now n) (closed_one old turned mid c.turn-released.result.items c.as_slice.result.now c.as_slice.ensures.value live c.turn-released.ensures.released c.turn-released.ensures.held c.drop_each_closed.ensures.gone c.drop_each_closed.ensures.left c.in-Some.number n)
     ∙ sym (ap (λ (w : World). has_closed old w n || kept_of c.args.self.now n) c.drop_if_lost.ensures.world)
 
 pub returns-in_default-clause-kept : goal.returns-in_default-clause-kept
@@ -45,10 +41,7 @@ returns-in_default-clause-kept c n =
     let old = world_of c.args.self.now in
     let turned = world_of c.turn-released.new.self in
     let mid = world_of c.drop_each_closed.new.self in
-    let numbers = c.as_slice.result.now in
-    let tells = subst (λ (xs : List ℕ). TellsReleased old turned xs) (sym c.as_slice.ensures.value) c.turn-released.ensures.released in
-    let held = subst (λ (xs : List ℕ). WereHeld old xs) (sym c.as_slice.ensures.value) c.turn-released.ensures.held in
     let live = live_after old turned c.args.session c.args.caller c.turn-released.ensures.world in
     c.drop_each_closed.ensures.kept n
     ∙ ap (λ (k : ℕ → Bool). has_gone turned mid n || k n) c.turn-released.ensures.kept
-    ∙ ap (λ (b : Bool). b || kept_of c.args.self.now n) (closed_none old turned mid numbers live tells held c.drop_each_closed.ensures.gone c.drop_each_closed.ensures.left n)
+    ∙ ap (λ (b : Bool). b || kept_of c.args.self.now n) (closed_none old turned mid c.turn-released.result.items c.as_slice.result.now c.as_slice.ensures.value live c.turn-released.ensures.released c.turn-released.ensures.held c.drop_each_closed.ensures.gone c.drop_each_closed.ensures.left n)
