@@ -6,6 +6,7 @@ pub mod StepLemmas
 pub mod FaultLemmas
 pub mod ReplannedLemmas
 pub mod LoopLemmas
+pub mod RunLemmas
 pub mod LawLemmas
 pub mod FrontLemmas
 pub mod LevelLemmas

@@ -8,3 +8,4 @@ pub mod Replanned
 pub mod Contents
 pub mod Laws
 pub mod Fronts
+pub mod Runs

@@ -24,8 +24,9 @@
 //! after the other: the sixteen become the first pointers of an indirect block, with holes behind them.
 //! `plan_pointers` plans each pointer by `plan_pointer`, which goes down to the pointers below: a recursion
 //! over levels, so a tree of three levels is no case of its own. A pointer stays where no dirty block lies
-//! below it and all below it stays, or it is a hole. An indirect block is copied once, where a pointer in
-//! it changes, and is a hole where all of its pointers are.
+//! below it and all below it stays, or it is a hole; a run of pointers up to the next dirty block, or to the end
+//! of what stays, is passed over at once. An indirect block is copied once, where a pointer in it changes, and is
+//! a hole where all of its pointers are.
 //!
 //! ```text
 //! let mut build = Build::new(alloc, allocator);

@@ -1,5 +1,5 @@
 //! The pointers of a tree, planned from the top down.
-ghost use Rattle.std.specs.Prelude.{◌≡◌, ◌≢◌, ◌⊎◌, ◌+◌, ◌*◌, ◌^◌, ◌<◌, ◌≤◌, ◌↔◌, ℕ, [], ◌∷◌, false, length, Err, All, IsTrue, IsNone, IsSome, IfNone, IfSome, IfOk, OnOk, MatchOption};
+ghost use Rattle.std.specs.Prelude.{◌≡◌, ◌≢◌, ◌⊎◌, ◌+◌, ◌-◌, ◌*◌, ◌/◌, ◌^◌, ◌<◌, ◌≤◌, ◌↔◌, ℕ, [], ◌∷◌, false, length, min, Err, All, IsTrue, IsNone, IsSome, IfNone, IfSome, IfOk, OnOk, MatchOption};
 ghost use Rattle.sn_device.specs.Disk.{reads};
 ghost use Rattle.sn_alloc.specs.Taking.{free_data};
 ghost use Rattle.sn_block.specs.Lending.{device_of};
@@ -9,6 +9,7 @@ ghost use Rattle.sn_ondisk.specs.Trees.{store_of, all_pointers};
 ghost use Rattle.sn_tree.specs.Drafts.{grown};
 ghost use Rattle.sn_tree.specs.Dirty.{IsFrom, after};
 ghost use Rattle.sn_tree.specs.Plans.{contents, most_added};
+ghost use Rattle.sn_tree.specs.Runs.{kept_until};
 ghost use Rattle.sn_tree.specs.Steps.{AreHoles, Planned, IsPut, IsReplaced, IsTooFull, LeadsOutside, CountsPlan};
 ghost use Rattle.sn_tree.specs.declared.fault.PlanFault.TheVariants.{Tree, Full};
 ghost use Rattle.sn_tree_read.specs.declared.fault.TreeFault.{TreeFault as TheFault};
@@ -67,6 +68,26 @@ fn stays(dirty: &VecDeque<DirtyBlock>, keep: u64, pointer: u32, end: u64) -> boo
         return false;
     }
     end <= keep || pointer == 0
+}
+
+// Up to which data block all stay.
+fn stays_until(dirty: &VecDeque<DirtyBlock>, keep: u64) -> u64
+    ensures { result ≡ kept_until keep dirty.now.items }
+{
+    match dirty.front() {
+        Some(block) => keep.min(block.index),
+        None => keep,
+    }
+}
+
+// How many of so many pointers that stand side by side stay, counted from the first one, whose data
+// blocks begin at an index.
+fn count_kept(dirty: &VecDeque<DirtyBlock>, keep: u64, at: u64, span: u64, count: usize) -> usize
+    requires { 0 < span }
+    ensures { result ≡ min ((kept_until keep dirty.now.items - at) / span) count }
+{
+    let kept = stays_until(dirty, keep).saturating_sub(at) / span;
+    kept.min(count as u64) as usize
 }
 
 // The new pointer in place of one to a data block: that of the dirty block, or a hole.
@@ -159,7 +180,8 @@ fn plan_pointer<D: Device>(
     replace_pointers(build, pointer, &pointers)
 }
 
-// The same for pointers that stand side by side, in their place.
+// The same for pointers that stand side by side, in their place. A run of them that stay is passed over at
+// once: most of an indirect block's are such.
 #[cycle(plan)]
 pub(crate) fn plan_pointers<D: Device>(
     build: &mut Build,
@@ -186,10 +208,17 @@ pub(crate) fn plan_pointers<D: Device>(
     ensures counts { CountsPlan result (D.status (device_of blocks.old)) (D.status (device_of blocks.new)) }
 {
     let span = span_of(depth);
-    for k in 0..pointers.len() {
+    let mut k = 0;
+    while k < pointers.len() {
         let at = first + span * k as u64;
-        let new = plan_pointer(build, blocks, dirty, keep, pointers[k], depth, at)?;
-        pointers[k] = new;
+        let kept = count_kept(dirty, keep, at, span, pointers.len() - k);
+        if kept > 0 {
+            k += kept;
+        } else {
+            let new = plan_pointer(build, blocks, dirty, keep, pointers[k], depth, at)?;
+            pointers[k] = new;
+            k += 1;
+        }
     }
     Ok(())
 }

@@ -1,4 +1,4 @@
-use Rattle.std.proofs.Common.{◌≡◌, ◌+◌, ◌*◌, take, drop, IsTrue}
+use Rattle.std.proofs.Common.{◌≡◌, ◌+◌, ◌-◌, ◌*◌, ◌≤◌, length, take, drop, IsTrue}
 use Rattle.std.specs.Prelude.{◌^◌}
 use Rattle.sn_device.specs.Disk.{reads}
 use Rattle.sn_block.specs.Lending.{device_of}
@@ -18,6 +18,7 @@ abbrev pub invariant-plan_pointers-loop-k : goal.invariant-plan_pointers-loop-k
 invariant-plan_pointers-loop-k g l = record {
   same : IsTrue g.D.Device.tells_bytes → g.D.Device.disk (device_of l.blocks) ≡ g.D.Device.disk (device_of l.fn.blocks);
   status : g.D.Device.status (device_of l.blocks) ≡ g.D.Device.status (device_of l.fn.blocks);
+  within : l.k ≤ length l.pointers;
   left : drop l.k l.pointers ≡ drop l.k l.fn.pointers;
   rise : IsFrom (l.fn.first + l.k * 1024 ^ l.fn.depth) l.dirty.items;
   planned : Planned (IsTrue g.D.Device.tells_bytes) (store_of (reads (g.D.Device.disk (device_of l.fn.blocks))))
@@ -25,3 +26,6 @@ invariant-plan_pointers-loop-k g l = record {
       (contents (store_of (reads (g.D.Device.disk (device_of l.fn.blocks)))) l.fn.depth (take l.k l.fn.pointers))
       l.fn.depth l.fn.first (l.fn.first + l.k * 1024 ^ l.fn.depth) l.fn.keep l.fn.dirty.items l.dirty.items (take l.k l.pointers) l.fn.build l.build;
 }
+
+abbrev pub decreases-plan_pointers-loop-k : goal.decreases-plan_pointers-loop-k
+decreases-plan_pointers-loop-k g l = length l.initial.pointers - l.k
