@@ -1,5 +1,5 @@
 //! The pointers of an indirect block as numbers that can be changed.
-ghost use Rattle.std.specs.Prelude.{◌≡◌, false, Err, IsTrue, IfOk, length, replicate};
+ghost use Rattle.std.specs.Prelude.{◌≡◌, false, Err, IsTrue, OnOk, length, replicate};
 ghost use Rattle.sn_device.specs.Disk.{reads};
 ghost use Rattle.sn_block.specs.Lending.{device_of};
 ghost use Rattle.sn_layout_node.specs.Indirect.{ArePointers, pointers_bytes};
@@ -14,33 +14,33 @@ use sn_layout::Block;
 use sn_layout_node::{IndirectBlock, POINTERS_PER_BLOCK};
 use sn_tree_read::{TreeFault, lies_on};
 
-fn listed(block: &Block) -> [u32; POINTERS_PER_BLOCK]
-    ensures are { ArePointers result }
-    ensures bytes { block.now ≡ pointers_bytes result }
+// Puts the pointers that a block spells in place of others.
+fn list(block: &Block, pointers: &mut [u32; POINTERS_PER_BLOCK])
+    ensures are { ArePointers pointers.new }
+    ensures bytes { block.now ≡ pointers_bytes pointers.new }
 {
     let indirect = IndirectBlock::decode(block);
-    let mut pointers = [0; POINTERS_PER_BLOCK];
     for (i, pointer) in pointers.iter_mut().enumerate() {
         *pointer = indirect.pointer(i);
     }
-    pointers
 }
 
-fn holes() -> [u32; POINTERS_PER_BLOCK]
-    ensures { result ≡ replicate 1024 0 }
+fn clear(pointers: &mut [u32; POINTERS_PER_BLOCK])
+    ensures { pointers.new ≡ replicate 1024 0 }
 {
-    [0; POINTERS_PER_BLOCK]
+    *pointers = [0; POINTERS_PER_BLOCK];
 }
 
-/// The 1,024 pointers that stand below a pointer. Below a hole there are holes. `Damaged` comes only
-/// where the block isn't on the device.
-pub(crate) fn pointers_below<D: Device>(
+/// Puts the 1,024 pointers that stand below a pointer in place of others. Below a hole there are holes.
+/// `Damaged` comes only where the block isn't on the device.
+pub(crate) fn read_below<D: Device>(
     blocks: &mut Blocks<D>,
     pointer: u32,
-) -> Result<[u32; POINTERS_PER_BLOCK], TreeFault>
-    ensures pointers { IsTrue D.tells_bytes → IfOk result
-        (λ ps. ps ≡ below (store_of (reads (D.disk (device_of blocks.old)))) pointer) }
-    ensures count { IfOk result (λ ps. length ps ≡ 1024) }
+    pointers: &mut [u32; POINTERS_PER_BLOCK],
+) -> Result<(), TreeFault>
+    ensures pointers { IsTrue D.tells_bytes
+        → OnOk result (pointers.new ≡ below (store_of (reads (D.disk (device_of blocks.old)))) pointer) }
+    ensures count { OnOk result (length pointers.new ≡ 1024) }
     ensures damaged { result ≡ Err Damaged → lies_on (D.status (device_of blocks.old)).sectors pointer ≡ false }
     ensures same { IsTrue D.tells_bytes → D.disk (device_of blocks.new) ≡ D.disk (device_of blocks.old) }
     ensures counts { CountsTree result (D.status (device_of blocks.old)) (D.status (device_of blocks.new)) }
@@ -49,8 +49,10 @@ pub(crate) fn pointers_below<D: Device>(
         return Err(TreeFault::Damaged);
     }
     if pointer == 0 {
-        return Ok(holes());
+        clear(pointers);
+        return Ok(());
     }
     blocks.fetch(pointer)?;
-    Ok(listed(blocks.fetched()))
+    list(blocks.fetched(), pointers);
+    Ok(())
 }

@@ -10,13 +10,14 @@ ghost use Rattle.sn_tree.specs.Steps.{IsTooFull, LeadsOutside, CountsPlan};
 ghost use Rattle.sn_tree.specs.declared.fault.PlanFault.TheVariants.{Tree};
 ghost use Rattle.sn_tree_read.specs.declared.fault.TreeFault.TheVariants.{Damaged};
 
-use crate::children::pointers_below;
+use crate::children::read_below;
 use crate::parts::{behind_of, beside_of, front_of, joined, led_by, no_behind, no_beside};
 use crate::pointers::{plan_pointers, replace_pointers, span_of};
 use crate::{Build, DirtyBlock, PlanFault};
 use sn_block::Blocks;
 use sn_device::Device;
 use sn_layout::{BlockTree, POINTERS};
+use sn_layout_node::POINTERS_PER_BLOCK;
 use std::collections::VecDeque;
 
 // Plans holes behind the pointers that were planned.
@@ -154,7 +155,8 @@ fn lower<D: Device>(
 {
     let mut beside = beside_of(pointers);
     cut(build, blocks, &mut beside, depth + 1)?;
-    let below = pointers_below(blocks, pointers[0])?;
+    let mut below = [0; POINTERS_PER_BLOCK];
+    read_below(blocks, pointers[0], &mut below)?;
     let mut behind = behind_of(&below);
     cut(build, blocks, &mut behind, depth)?;
     build.release(pointers[0])?;

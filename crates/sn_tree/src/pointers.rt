@@ -15,7 +15,7 @@ ghost use Rattle.sn_tree.specs.declared.fault.PlanFault.TheVariants.{Tree, Full}
 ghost use Rattle.sn_tree_read.specs.declared.fault.TreeFault.{TreeFault as TheFault};
 ghost use Rattle.sn_tree_read.specs.declared.fault.TreeFault.TheVariants.{Damaged};
 
-use crate::children::pointers_below;
+use crate::children::read_below;
 use crate::{Build, DirtyBlock, PlanFault};
 use sn_block::Blocks;
 use sn_device::Device;
@@ -175,7 +175,8 @@ fn plan_pointer<D: Device>(
         let block = take_before(dirty, end);
         return replace_block(build, pointer, block);
     }
-    let mut pointers = pointers_below(blocks, pointer)?;
+    let mut pointers = [0; POINTERS_PER_BLOCK];
+    read_below(blocks, pointer, &mut pointers)?;
     plan_pointers(build, blocks, dirty, keep, &mut pointers, depth - 1, first)?;
     replace_pointers(build, pointer, &pointers)
 }

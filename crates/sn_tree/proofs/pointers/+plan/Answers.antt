@@ -54,71 +54,71 @@ plan_pointer-returns-then-depth-eq0-clause-full g t c = λ is.
     (subst (λ (d : ℕ). free < count + most_added d c.args.first end c.args.keep items) (sym c.if-depth-eq0.true)
     (leaf_full c.take_before-block.result c.args.first end c.args.keep items c.take_before-block.new.dirty.items free count (c.replace_block.ensures.filled is) c.take_before-block.ensures.some (c.replace_block.ensures.full is)))
 
-pub plan_pointer-returns-in_err-pointers-clause-damaged : goal.plan_pointer-returns-in_err-pointers-clause-damaged
-plan_pointer-returns-in_err-pointers-clause-damaged g t c told is =
+pub plan_pointer-returns-in_err-read_below-clause-damaged : goal.plan_pointer-returns-in_err-read_below-clause-damaged
+plan_pointer-returns-in_err-read_below-clause-damaged g t c told is =
     let sectors = (g.D.Device.status (device_of c.args.blocks.now)).sectors in
     let s = store_of (reads (g.D.Device.disk (device_of c.args.blocks.now))) in
     let p = err_from_is_err_and c.from_residual.result c.from_residual.ensures.1 in
-    let fault : c.in_err-pointers.field-0.0 ≡ Damaged = cc (p.1, p.2) in
+    let fault : c.in_err-read_below.field-0.0 ≡ Damaged = cc (p.1, p.2) in
     let up : suc (c.args.depth - 1) ≡ c.args.depth = omega (arith, c.if-depth-eq0.false) in
     subst (λ (d : ℕ). LeadsOutside sectors (all_pointers s d (c.args.pointer ∷ []))) up
-    (outside_here sectors s (c.args.depth - 1) c.args.pointer (c.in_err-pointers.ensures.damaged (ap (λ fault. Err fault) fault)))
+    (outside_here sectors s (c.args.depth - 1) c.args.pointer (c.in_err-read_below.ensures.damaged (ap (λ fault. Err fault) fault)))
 
 pub plan_pointer-plan_pointers-requires : goal.plan_pointer-plan_pointers-requires
 plan_pointer-plan_pointers-requires g t c κs within =
     let width = 1024 ^ (c.args.depth - 1) in
-    let all : length c.in_ok-pointers.pointers * width ≡ 1024 ^ c.args.depth = ap (λ (n : ℕ). n * width) c.in_ok-pointers.ensures.count ∙ span_down c.args.depth c.if-depth-eq0.false in
-    let room : c.args.first + length c.in_ok-pointers.pointers * width ≤ 2 ^ 62 = omega (arith, all, c.requires.room) in
+    let all : length c.read_below.new.pointers * width ≡ 1024 ^ c.args.depth = ap (λ (n : ℕ). n * width) c.in_ok-read_below.ensures.count ∙ span_down c.args.depth c.if-depth-eq0.false in
+    let room : c.args.first + length c.read_below.new.pointers * width ≤ 2 ^ 62 = omega (arith, all, c.requires.room) in
     (first_of (search rules, omega (arith, c.decreases)), (search rules, (omega arith, (room, c.requires.rise))))
 
 pub plan_pointer-returns-in_err-plan_pointers-clause-damaged : goal.plan_pointer-returns-in_err-plan_pointers-clause-damaged
 plan_pointer-returns-in_err-plan_pointers-clause-damaged g t c told is =
     let sectors = (g.D.Device.status (device_of c.args.blocks.now)).sectors in
     let s = store_of (reads (g.D.Device.disk (device_of c.args.blocks.now))) in
-    let r = store_of (reads (g.D.Device.disk (device_of c.pointers_below.new.blocks))) in
+    let r = store_of (reads (g.D.Device.disk (device_of c.read_below.new.blocks))) in
     let depth = c.args.depth - 1 in
     let p = err_from_is_err_and c.from_residual-in_err-plan_pointers.result c.from_residual-in_err-plan_pointers.ensures.1 in
     let fault : c.in_err-plan_pointers.field-0.0 ≡ Tree Damaged = cc (p.1, p.2) in
     let leads = c.in_err-plan_pointers.ensures.damaged told (ap (λ fault. Err fault) fault) in
-    let same : r ≡ s = ap (λ (d : Disk). store_of (reads d)) (c.pointers_below.ensures.same told) in
+    let same : r ≡ s = ap (λ (d : Disk). store_of (reads d)) (c.read_below.ensures.same told) in
     let up : suc depth ≡ c.args.depth = omega (arith, c.if-depth-eq0.false) in
     subst (λ (d : ℕ). LeadsOutside sectors (all_pointers s d (c.args.pointer ∷ []))) up
     (outside_below sectors s depth c.args.pointer
-    (subst (λ (qs : List ℕ). LeadsOutside sectors (all_pointers s depth qs)) (c.in_ok-pointers.ensures.pointers told)
-    (subst (λ (q : Store). LeadsOutside sectors (all_pointers q depth c.in_ok-pointers.pointers)) same
-    (subst (λ (n : ℕ). LeadsOutside n (all_pointers r depth c.in_ok-pointers.pointers)) c.pointers_below.ensures.counts.sectors leads))))
+    (subst (λ (qs : List ℕ). LeadsOutside sectors (all_pointers s depth qs)) (c.in_ok-read_below.ensures.pointers told)
+    (subst (λ (q : Store). LeadsOutside sectors (all_pointers q depth c.read_below.new.pointers)) same
+    (subst (λ (n : ℕ). LeadsOutside n (all_pointers r depth c.read_below.new.pointers)) c.read_below.ensures.counts.sectors leads))))
 
 pub plan_pointer-returns-clause-planned : goal.plan_pointer-returns-clause-planned
 plan_pointer-returns-clause-planned g t c =
     let Told = IsTrue g.D.Device.tells_bytes in
     let s = store_of (reads (g.D.Device.disk (device_of c.args.blocks.now))) in
-    let r = store_of (reads (g.D.Device.disk (device_of c.pointers_below.new.blocks))) in
+    let r = store_of (reads (g.D.Device.disk (device_of c.read_below.new.blocks))) in
     let items = c.args.dirty.now.items in
     let left = c.plan_pointers.new.dirty.items in
     let news = c.plan_pointers.new.pointers in
     let depth = c.args.depth - 1 in
     let end = c.args.first + 1024 ^ c.args.depth in
     let up : suc depth ≡ c.args.depth = omega (arith, c.if-depth-eq0.false) in
-    let finish : c.args.first + length c.in_ok-pointers.pointers * 1024 ^ depth ≡ end = ap (λ (n : ℕ). c.args.first + n * 1024 ^ depth) c.in_ok-pointers.ensures.count ∙ ap (λ (n : ℕ). c.args.first + n) (span_down c.args.depth c.if-depth-eq0.false) in
+    let finish : c.args.first + length c.read_below.new.pointers * 1024 ^ depth ≡ end = ap (λ (n : ℕ). c.args.first + n * 1024 ^ depth) c.in_ok-read_below.ensures.count ∙ ap (λ (n : ℕ). c.args.first + n) (span_down c.args.depth c.if-depth-eq0.false) in
     let touched = subst (λ (n : ℕ). length (after n items) ≡ length items → c.args.keep < n) (ap (λ (n : ℕ). c.args.first + n) c.span_of.ensures.value) (c.stays.ensures.touched c.if-stays.false) in
-    let step = planned_under Told s r c.args.keep depth c.args.first end (c.args.first + length c.in_ok-pointers.pointers * 1024 ^ depth) c.args.pointer c.in_ok-pointers.pointers news items left c.args.build.now c.plan_pointers.new.build (λ told. ap (λ (d : Disk). store_of (reads d)) (c.pointers_below.ensures.same told)) c.in_ok-pointers.ensures.pointers finish c.in_ok-plan_pointers.ensures.planned in
+    let step = planned_under Told s r c.args.keep depth c.args.first end (c.args.first + length c.read_below.new.pointers * 1024 ^ depth) c.args.pointer c.read_below.new.pointers news items left c.args.build.now c.plan_pointers.new.build (λ told. ap (λ (d : Disk). store_of (reads d)) (c.read_below.ensures.same told)) c.in_ok-read_below.ensures.pointers finish c.in_ok-plan_pointers.ensures.planned in
     subst (λ (d : ℕ). IfOk c.replace_pointers.result (λ new. Planned Told s (all_pointers s d (c.args.pointer ∷ [])) (contents s d (c.args.pointer ∷ [])) d c.args.first end c.args.keep items left (new ∷ []) c.args.build.now c.replace_pointers.new.build)) up
     (planned_above Told s c.args.keep c.args.first end c.args.pointer items left c.args.build.now c.replace_pointers.new.build depth c.replace_pointers.result news c.plan_pointers.new.build touched step c.replace_pointers.ensures.replaced)
 
 pub plan_pointer-returns-clause-full : goal.plan_pointer-returns-clause-full
 plan_pointer-returns-clause-full g t c = λ is.
     let Told = IsTrue g.D.Device.tells_bytes in
-    let r = store_of (reads (g.D.Device.disk (device_of c.pointers_below.new.blocks))) in
+    let r = store_of (reads (g.D.Device.disk (device_of c.read_below.new.blocks))) in
     let items = c.args.dirty.now.items in
     let depth = c.args.depth - 1 in
     let end = c.args.first + 1024 ^ c.args.depth in
-    let last = c.args.first + length c.in_ok-pointers.pointers * 1024 ^ depth in
+    let last = c.args.first + length c.read_below.new.pointers * 1024 ^ depth in
     let up : suc depth ≡ c.args.depth = omega (arith, c.if-depth-eq0.false) in
-    let finish : last ≡ end = ap (λ (n : ℕ). c.args.first + n * 1024 ^ depth) c.in_ok-pointers.ensures.count ∙ ap (λ (n : ℕ). c.args.first + n) (span_down c.args.depth c.if-depth-eq0.false) in
+    let finish : last ≡ end = ap (λ (n : ℕ). c.args.first + n * 1024 ^ depth) c.in_ok-read_below.ensures.count ∙ ap (λ (n : ℕ). c.args.first + n) (span_down c.args.depth c.if-depth-eq0.false) in
     let touched = subst (λ (n : ℕ). length (after n items) ≡ length items → c.args.keep < n) (ap (λ (n : ℕ). c.args.first + n) c.span_of.ensures.value ∙ sym finish) (c.stays.ensures.touched c.if-stays.false) in
     subst (λ (n : ℕ). free_data c.args.build.now.words c.args.build.now.first < length c.args.build.now.added + most_added c.args.depth c.args.first n c.args.keep items) finish
     (subst (λ (d : ℕ). free_data c.args.build.now.words c.args.build.now.first < length c.args.build.now.added + most_added d c.args.first last c.args.keep items) up
-    (too_full_above Told r (all_pointers r depth c.in_ok-pointers.pointers) (contents r depth c.in_ok-pointers.pointers) depth c.args.first last c.args.keep items c.plan_pointers.new.dirty.items c.plan_pointers.new.pointers c.args.build.now c.plan_pointers.new.build c.in_ok-plan_pointers.ensures.planned (c.replace_pointers.ensures.filled is) touched (c.replace_pointers.ensures.full is)))
+    (too_full_above Told r (all_pointers r depth c.read_below.new.pointers) (contents r depth c.read_below.new.pointers) depth c.args.first last c.args.keep items c.plan_pointers.new.dirty.items c.plan_pointers.new.pointers c.args.build.now c.plan_pointers.new.build c.in_ok-plan_pointers.ensures.planned (c.replace_pointers.ensures.filled is) touched (c.replace_pointers.ensures.full is)))
 
 pub plan_pointers-loop-k-init : goal.plan_pointers-loop-k-init
 plan_pointers-loop-k-init g t c =
