@@ -67,6 +67,7 @@ module _ (events : List Event) (replies : List Reply) (disk last_disk : Disk) (s
         first = record { state = Running m.world; held = h; has_stopped = had };
         mounted = refl;
         means = m.means;
+        none_kept = m.none_kept;
         leaves = m.leaves;
         costs = costs;
         last = record { state = a.state; held = new; has_stopped = has };

@@ -1,5 +1,5 @@
 -- Runs over a device, and what a crash leaves of them.
-use Rattle.std.specs.Prelude.{◌≡◌, ◌⊎◌, ℕ, Bool, List, [], None, take}
+use Rattle.std.specs.Prelude.{◌≡◌, ◌⊎◌, ℕ, Bool, false, List, [], None, take}
 use Rattle.sn_device.specs.Sectors.{Contents}
 use Rattle.sn_device.specs.Disk.{Disk, IsSynced, reads}
 use Rattle.sn_device.specs.Crash.{LeavesOnly, Touches}
@@ -40,13 +40,14 @@ pub record IsAnswered (s : State) (events : List Event) (replies : List Reply) (
 abbrev pub AnswersAll : List Event → List Reply → Held → Bool → Held → Bool → Type 0
 AnswersAll events replies old had_stopped new has_stopped = (s : State) → Means old had_stopped s → IsAnswered s events replies old had_stopped new has_stopped
 
--- The world that the device opened to was mounted, and the events were answered; the last unmount calls nothing.
+-- The world that the device opened to was mounted, with no number kept back, and the events were answered; the last unmount calls nothing.
 pub record Served (events : List Event) (replies : List Reply) (end : End) (disk : Disk) (status : Status) (last_disk : Disk) (last_status : Status) : Type 0 where
   pub world : World
   pub opens : OpensOn ground (reads disk) world
   pub first : Standing
   pub mounted : first.state ≡ Running world
   pub means : Means first.held first.has_stopped first.state
+  pub none_kept : (number : ℕ) → first.held.kept number ≡ false
   pub leaves : LeavesTheWorld disk first.held.disk world
   pub costs : CostsAtMost 1 2 status first.held.status
   pub last : Standing

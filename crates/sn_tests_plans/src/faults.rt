@@ -26,7 +26,7 @@ const READS: u32 = 8;
 /// How many disks of any pointers are drawn, and how many blocks each has.
 const DISKS: u32 = 100;
 
-const BLOCKS: u32 = 8;
+pub const BLOCKS: u32 = 8;
 
 pub fn run(report: &mut Report<'_>) -> Result<()> {
     let tally = reads(report)?;
@@ -123,7 +123,7 @@ fn blocks_left(report: &Report<'_>) -> Result<Tally> {
 }
 
 /// Mostly a hole or a block of the disk, now and then none.
-fn pointer(random: &mut Pcg32) -> u32 {
+pub fn pointer(random: &mut Pcg32) -> u32 {
     match random.next_u32() % 24 {
         0 => BLOCKS,
         1 => random.next_u32(),
