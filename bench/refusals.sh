@@ -136,10 +136,14 @@ judge=honest
 each_refused "$program" run none "$work/script"
 
 judge=tested
-for crate in sn_tests sn_tests_disk sn_tests_block sn_tests_layout sn_tests_log sn_tests_overlay sn_tests_root; do
-    # The tests of roots have over 60,000 allocations, nearly all of them in devices that are made anew.
-    step=1
-    if [ "$crate" = sn_tests_root ]; then step=61; fi
+for crate in sn_tests sn_tests_disk sn_tests_block sn_tests_layout sn_tests_log sn_tests_overlay sn_tests_root \
+    sn_tests_plans sn_tests_inodes sn_tests_dirs; do
+    # Some have tens of thousands of allocations, nearly all of them in devices and contents that are made anew.
+    case $crate in
+        sn_tests_root) step=61 ;;
+        sn_tests_plans | sn_tests_inodes | sn_tests_dirs) step=101 ;;
+        *) step=1 ;;
+    esac
     folder=$top/crates/$crate
     (cd "$folder" && rt run -- data > "$work/log" 2>&1) || { tail -n 20 "$work/log"; exit 1; }
     "$folder/out/$crate" "$folder/data" > "$work/whole"
