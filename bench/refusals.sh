@@ -141,7 +141,7 @@ for crate in sn_tests sn_tests_disk sn_tests_block sn_tests_layout sn_tests_log 
     # Some have tens of thousands of allocations, nearly all of them in devices and contents that are made anew.
     case $crate in
         sn_tests_root) step=61 ;;
-        sn_tests_plans | sn_tests_inodes | sn_tests_dirs) step=101 ;;
+        sn_tests_plans | sn_tests_dirs) step=31 ;;
         *) step=1 ;;
     esac
     folder=$top/crates/$crate
