@@ -1,9 +1,9 @@
 -- Blocks behind the old ones.
-use Rattle.std.proofs.Common.{◌≡◌, ◌⊎◌, inl, inr, ⊎_elim, ℕ, ◌+◌, ◌/◌, ◌<◌, ◌≤◌, ◌&&◌, true, false, List, [], ◌∷◌, ◌++◌, append-nil, length, Option, Some, None, refl, sym, ap, subst, ◌∙◌, arith}
+use Rattle.std.proofs.Common.{◌≡◌, ◌≢◌, ◌⊎◌, inl, inr, ⊎_elim, ℕ, ◌+◌, ◌/◌, ◌<◌, ◌≤◌, ◌&&◌, true, false, List, [], ◌∷◌, ◌++◌, append-nil, length, Option, Some, None, refl, sym, ap, subst, ◌∙◌, arith}
 use Rattle.std.specs.Prelude.{Contains, IfSome, is_some}
 use Rattle.std.proofs.lemmas.Bool.{cases_lt, and_parts, leb-true}
 use Rattle.std.proofs.lemmas.List.{length-append}
-use Rattle.std.proofs.lemmas.List.Elements.{All-contains, Contains-append_left, Contains-push}
+use Rattle.std.proofs.lemmas.List.Elements.{All-contains, All-pop, Contains-append_left, Contains-push}
 use Rattle.sn_limits.specs.Names.{is_name_spelled, has_name_length}
 use Rattle.sn_layout.specs.declared.tree.BlockTree.{BlockTree}
 use Rattle.sn_layout_node.specs.Directory.{Link, IsLink, AreLinks, IsDirectoryBlock, number_of}
@@ -87,6 +87,7 @@ module _ (Told : Type 0) (s : Store) (tree : BlockTree) (changes : List NameChan
     few = omega (arith, through.few);
     least = omega arith;
     most = omega (arith, through.few);
+    behind = λ i low high clean. omega (arith, low, high);
     full = through.full;
     fit = λ told i j link low past within has fits. omega (arith, past, within);
     way = λ told once. all_found (subst (λ (ls : List Link). IsUnderWay changes standing waiting (names_to s tree ds (tree.size / 4096)) ls (names_of s (Tree tree)))
@@ -129,6 +130,12 @@ module _ (Told : Type 0) (s : Store) (tree : BlockTree) (changes : List NameChan
         few = omega (arith, filled.few, size, fewer, length-append ds (d ∷ []));
         least = omega (arith, filled.least);
         most = omega (arith, filled.most, size, fewer);
+        behind = λ i low high clean.
+            let parts = All-pop (λ (e : DirtyBlock). e.index ≢ i) (ds ++ d ∷ []) ds (Some d) refl clean in
+            ⊎_elim
+            (λ (old : i < count). filled.behind i low old parts.0)
+            (λ (last : count ≤ i). parts.1 (omega (arith, pushed.index_is, last, high)))
+            (cases_lt i count);
         full = λ told j low c there.
             let of_before : Contains before c = subst (λ (xs : List NameChange). Contains xs c) (sym was) (Contains-append_left waiting (change ∷ []) c (listed c there)) in
             subst (λ (b : List ℕ). AreLinks (names_in b ++ link_for c) → ⊥) (sym (beside j (omega (arith, low, filled.least)))) (filled.full told j low c of_before);

@@ -15,7 +15,7 @@ use Rattle.sn_ondisk.proofs.TreeLemmas.{levels_room, levels_least}
 use Rattle.sn_image.specs.Names.{names_in, names_of}
 use Rattle.sn_tree.specs.declared.fault.PlanFault.{PlanFault}
 use Rattle.sn_tree.specs.Drafts.{Draft}
-use Rattle.sn_tree.specs.Dirty.{block_after}
+use Rattle.sn_tree.specs.Dirty.{block_wanted, block_after}
 use Rattle.sn_tree.specs.Laws.{EndsBy}
 use Rattle.sn_tree.specs.Plans.{Holds}
 use Rattle.sn_tree.specs.Replanned.{IsReplanned, IsPlanned}
@@ -24,7 +24,7 @@ use Rattle.sn_tree.specs.declared.new_block.DirtyBlock.{DirtyBlock}
 use Rattle.sn_tree.proofs.LawLemmas.{grown_end}
 use Rattle.sn_dir_change.specs.Changes.{AreOnce, IsChanged}
 use Rattle.sn_dir_change.specs.UnderWay.{IsUnderWay}
-use Rattle.sn_dir_change.specs.Through.{HaveNoRoom, names_to, AreDirty, IsThrough, IsFilled, IsWanted}
+use Rattle.sn_dir_change.specs.Through.{AreAllDirty, HaveNoRoom, names_to, AreDirty, IsThrough, IsFilled, IsWanted}
 use Rattle.sn_dir_change.specs.Planned.{HasRoom, HasChanged, IsDirectoryPlanned}
 use Rattle.sn_dir_change.specs.declared.name_change.NameChange.{NameChange}
 use Rattle.sn_dir_change.proofs.FillLemmas.{filled_begun, filled_changed}
@@ -54,6 +54,7 @@ wanted_is Told s tree changes keep count ds room keep_is filled =
       whole = omega arith;
       least = omega (arith, filled.least, room.whole);
       most = omega (arith, filled.most, room.whole);
+      behind = subst (λ (n : ℕ). AreAllDirty (tree.size / 4096) n ds) (sym whole) filled.behind;
       fit = λ told. subst (λ (n : ℕ). HaveNoRoom s tree n ds) (sym whole) (filled.fit told);
       names = λ told once. subst (λ (n : ℕ). IsChanged changes (names_of s (Tree tree)) (names_to s tree ds n)) (sym whole) (filled_changed Told s tree changes count ds filled told once);
     }
@@ -70,7 +71,7 @@ no_names : IsDirectoryBlock (zeros 4096)
 no_names = ([], record { fit = record { each = tt; room = omega arith }; bytes = refl })
 
 spelled_after : (keep i : ℕ) (ds : List DirtyBlock) (old : List ℕ) → AllByRecursion (λ (d : DirtyBlock). IsDirectoryBlock d.bytes.value) ds → (i < keep → IsDirectoryBlock old) → IsDirectoryBlock (block_after keep ds i old)
-unfolding block_after
+unfolding block_wanted
 spelled_after keep i [] old all before = either (nat_lt i keep) refl
   where
     either : (b : Bool) → nat_lt i keep ≡ b → IsDirectoryBlock (if b then old else zeros 4096)
@@ -110,6 +111,14 @@ module _ (Told : Type 0) (s : Store) (tree new : BlockTree) (changes : List Name
       spelled = λ before i within.
           let full : 4096 * i + 4096 ≤ new.size = omega (arith, within, sized, wanted.whole) in
           subst IsDirectoryBlock (sym (blocks_are i full)) (spelled_after (tree.size / 4096) i ds (data_block s tree i) wanted.blocks.spelled (λ low. before i (omega (arith, low))));
+      no_hole = λ before i within none.
+          let full : 4096 * i + 4096 ≤ new.size = omega (arith, within, sized, wanted.whole) in
+          let most = levels_room new.size small in
+          let hole = plan.holes r same held i (omega (arith, full, most)) none in
+          ⊎_elim
+          (λ (old : i < tree.size / 4096). before i (omega (arith, old)) (hole.was (omega (arith, old, wanted.keep_is))))
+          (λ (behind : tree.size / 4096 ≤ i). wanted.behind i behind (omega (arith, full, sized)) hole.clean)
+          (cases_lt i (tree.size / 4096));
       ends = λ before. plan.ends r same held (grown_end s tree new.size keep ds before (omega (arith, sized, wanted.least)) (omega (arith, wanted.keep_is, sized, wanted.least))
           (subst (λ (n : ℕ). AllByRecursion (EndsBy n) ds) (sym sized) (all_end size ds wanted.blocks.before)));
     }

@@ -12,7 +12,7 @@ use Rattle.sn_layout_node.specs.Directory.{Link, IsDirectoryBlock, number_of}
 use Rattle.sn_layout_node.specs.declared.content.Content.TheVariants.{Tree}
 use Rattle.sn_ondisk.specs.Trees.{Store, data_block}
 use Rattle.sn_image.specs.Names.{names_in, names_of}
-use Rattle.sn_tree.specs.Dirty.{IsFrom, block_after}
+use Rattle.sn_tree.specs.Dirty.{IsFrom, block_wanted, block_after}
 use Rattle.sn_tree.specs.declared.new_block.DirtyBlock.{DirtyBlock}
 use Rattle.sn_dir.proofs.NameLemmas.{range-more}
 use Rattle.sn_dir_change.specs.Changes.{AreOnce}
@@ -43,13 +43,13 @@ module _ {X : Type 0} where
 -- ---- one changed block more
 
 pub block-beside : (keep : ℕ) (ds : List DirtyBlock) (d : DirtyBlock) (i : ℕ) (old : List ℕ) → d.index ≢ i → block_after keep (ds ++ d ∷ []) i old ≡ block_after keep ds i old
-unfolding block_after
+unfolding block_wanted
 block-beside keep [] d i old other = ap (λ (b : Bool). if b then d.bytes.value else (if nat_lt i keep then old else zeros 4096)) (ne_eqb d.index i other)
 block-beside keep (e ∷ ds) d i old other = ap (λ (x : List ℕ). if e.index == i then e.bytes.value else x) (block-beside keep ds d i old other)
 
 -- a block that isn't among those changed
 pub block-untouched : (keep : ℕ) (ds : List DirtyBlock) (i end : ℕ) (old : List ℕ) → end ≤ i → AllByRecursion (λ (d : DirtyBlock). d.index < end) ds → block_after keep ds i old ≡ block_after keep [] i old
-unfolding block_after
+unfolding block_wanted
 block-untouched keep [] i end old past all = refl
 block-untouched keep (e ∷ ds) i end old past all =
     let low : e.index < end = all.0 in
@@ -57,11 +57,11 @@ block-untouched keep (e ∷ ds) i end old past all =
     ∙ block-untouched keep ds i end old past all.1
 
 pub block-kept : (keep i : ℕ) (old : List ℕ) → i < keep → block_after keep [] i old ≡ old
-unfolding block_after
+unfolding block_wanted
 block-kept keep i old within = ap (λ (b : Bool). if b then old else zeros 4096) (lt-ltb i keep within)
 
 pub block-pushed : (keep : ℕ) (ds : List DirtyBlock) (d : DirtyBlock) (end : ℕ) (old : List ℕ) → end ≤ d.index → AllByRecursion (λ (e : DirtyBlock). e.index < end) ds → block_after keep (ds ++ d ∷ []) d.index old ≡ d.bytes.value
-unfolding block_after
+unfolding block_wanted
 block-pushed keep [] d end old past all = ap (λ (b : Bool). if b then d.bytes.value else (if nat_lt d.index keep then old else zeros 4096)) (eq-eqb d.index d.index refl)
 block-pushed keep (e ∷ ds) d end old past all =
     let low : e.index < end = all.0 in

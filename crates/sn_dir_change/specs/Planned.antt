@@ -1,10 +1,10 @@
 -- A directory that is planned with other names.
-use Rattle.std.specs.Prelude.{◌≡◌, ◌⊎◌, ⊤, ℕ, ◌+◌, ◌*◌, ◌/◌, ◌%◌, ◌<◌, ◌≤◌, List, [], ◌∷◌, ◌++◌, length, Contains}
+use Rattle.std.specs.Prelude.{◌≡◌, ◌≢◌, ◌⊎◌, ⊤, ℕ, ◌+◌, ◌*◌, ◌/◌, ◌%◌, ◌<◌, ◌≤◌, List, [], ◌∷◌, ◌++◌, length, Contains}
 use Rattle.sn_layout.specs.Pointers.{levels_of}
 use Rattle.sn_layout.specs.declared.tree.BlockTree.{BlockTree}
 use Rattle.sn_layout_node.specs.Directory.{Link, AreLinks, IsDirectoryBlock}
 use Rattle.sn_layout_node.specs.declared.content.Content.TheVariants.{Tree}
-use Rattle.sn_ondisk.specs.Trees.{Store, data_block, tree_reach}
+use Rattle.sn_ondisk.specs.Trees.{Store, entry, data_block, tree_reach}
 use Rattle.sn_ondisk.specs.TreeLaws.{SameIn}
 use Rattle.sn_image.specs.Names.{names_in, names_of}
 use Rattle.sn_image.specs.Sound.{EndsAtSize}
@@ -23,6 +23,10 @@ pub record HasRoom (tree : BlockTree) (count : ℕ) : Type 0 where
   pub whole : tree.size % 4096 ≡ 0
   pub most : tree.size + 4096 * count ≤ 70368744177664
 
+-- none of a directory's blocks is a hole
+abbrev pub HasNoHole : Store → BlockTree → Type 0
+HasNoHole s tree = (i : ℕ) → 4096 * i < tree.size → entry s (levels_of tree.size) tree.pointers i ≢ 0
+
 -- What the directory of a new tree has in a store.
 pub record HasChanged (s r : Store) (old new : BlockTree) (changes : List NameChange) : Type 0 where
   -- its names are the old ones with the changes made
@@ -32,6 +36,8 @@ pub record HasChanged (s r : Store) (old new : BlockTree) (changes : List NameCh
       → Contains (names_in (data_block r new j)) link → AreLinks (names_in (data_block r new i) ++ link ∷ []) → ⊥
   -- where each block was one of names, each is
   pub spelled : ((i : ℕ) → 4096 * i < old.size → IsDirectoryBlock (data_block s old i)) → (i : ℕ) → 4096 * i < new.size → IsDirectoryBlock (data_block r new i)
+  -- where none was a hole, none is
+  pub no_hole : HasNoHole s old → HasNoHole r new
   -- where the tree ended at its size, so does the new one
   pub ends : EndsAtSize s old → EndsAtSize r new
 

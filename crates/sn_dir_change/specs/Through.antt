@@ -1,5 +1,5 @@
 -- Going through the blocks of a directory.
-use Rattle.std.specs.Prelude.{◌≡◌, ℕ, ◌+◌, ◌-◌, ◌*◌, ◌/◌, ◌%◌, ◌<◌, ◌≤◌, List, [], ◌∷◌, ◌++◌, length, Contains}
+use Rattle.std.specs.Prelude.{◌≡◌, ◌≢◌, ℕ, ◌+◌, ◌-◌, ◌*◌, ◌/◌, ◌%◌, ◌<◌, ◌≤◌, List, [], ◌∷◌, ◌++◌, length, All, Contains}
 use Rattle.std.specs.List.{flat_map, range_with_len, AllByRecursion}
 use Rattle.sn_layout.specs.declared.tree.BlockTree.{BlockTree}
 use Rattle.sn_layout_node.specs.Directory.{Link, AreLinks, IsDirectoryBlock}
@@ -45,6 +45,10 @@ pub record IsThrough (Told : Type 0) (s : Store) (tree : BlockTree) (changes : L
   -- none of them has room for a name that waits
   pub full : Told → (j : ℕ) → j < i → AreFull waiting (names_in (block_now s tree dirty j))
 
+-- each block from one to another is a changed one
+abbrev pub AreAllDirty : ℕ → ℕ → List DirtyBlock → Type 0
+AreAllDirty first end dirty = (i : ℕ) → first ≤ i → i < end → ¬ All (λ (d : DirtyBlock). d.index ≢ i) dirty
+
 -- no old block has room for a name of those behind them
 abbrev pub HaveNoRoom : Store → BlockTree → ℕ → List DirtyBlock → Type 0
 HaveNoRoom s tree count dirty = (i j : ℕ) (link : Link) → i < tree.size / 4096 → tree.size / 4096 ≤ j → j < count
@@ -56,6 +60,7 @@ pub record IsFilled (Told : Type 0) (s : Store) (tree : BlockTree) (changes : Li
   pub few : length dirty + length waiting ≤ length changes
   pub least : tree.size / 4096 ≤ count
   pub most : count + length waiting ≤ tree.size / 4096 + length changes
+  pub behind : AreAllDirty (tree.size / 4096) count dirty
   pub way : Told → AreOnce (names_of s (Tree tree)) → IsUnderWay changes [] waiting (names_to s tree dirty count) (names_to s tree dirty count) (names_of s (Tree tree))
   pub full : Told → (j : ℕ) → j < tree.size / 4096 → AreFull waiting (names_in (block_now s tree dirty j))
   pub fit : Told → HaveNoRoom s tree count dirty
@@ -68,5 +73,6 @@ pub record IsWanted (Told : Type 0) (s : Store) (tree : BlockTree) (changes : Li
   pub whole : size % 4096 ≡ 0
   pub least : tree.size ≤ size
   pub most : size ≤ tree.size + 4096 * length changes
+  pub behind : AreAllDirty (tree.size / 4096) (size / 4096) dirty
   pub names : Told → AreOnce (names_of s (Tree tree)) → IsChanged changes (names_of s (Tree tree)) (names_to s tree dirty (size / 4096))
   pub fit : Told → HaveNoRoom s tree (size / 4096) dirty

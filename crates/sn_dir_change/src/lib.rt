@@ -5,7 +5,7 @@
 //! tree holds in every store that has the new blocks and agrees with the old one in what the old tree
 //! reaches (`IsDirectoryPlanned`). There the names of the list stand for what they were to stand for, or not
 //! at all, all others for what they stood for, and none stands twice (`IsChanged`); that is promised where
-//! none stood twice before, as on any sound image. A name that stands is set in its place, so each name
+//! none stood twice before, as on any sound image. Where none of its blocks was a hole, none is. A name that stands is set in its place, so each name
 //! touches one block. The tree itself is that of the changed blocks, by `plan_tree`.
 //!
 //! Whether a name stands is known only behind the last block, and a name that were put before would touch a

@@ -8,7 +8,7 @@ use Rattle.std.proofs.lemmas.List.{take-take, drop_at, drop-take, take-append-le
 use Rattle.std.proofs.lemmas.List.Elements.{All-nil, All-cons, All-head, All-tail}
 use Rattle.sn_layout.specs.Bytes.{Puts, zeros}
 use Rattle.sn_layout_node.specs.Inode.{record_bytes}
-use Rattle.sn_tree.specs.Dirty.{IsFrom, block_after}
+use Rattle.sn_tree.specs.Dirty.{IsFrom, block_wanted, block_after}
 use Rattle.sn_tree.specs.declared.new_block.DirtyBlock.{DirtyBlock}
 use Rattle.sn_inode.specs.Stored.{ArePatched, record_in, bytes_after}
 use Rattle.sn_inode.specs.declared.changes.StoredRecord.{StoredRecord}
@@ -84,7 +84,7 @@ all_below least index (x ∷ y ∷ ds) z from last =
     All-cons (λ (x : DirtyBlock). x.index < index) x (y ∷ ds) (omega (arith, from.1.0, next)) rest
 
 pub pushed_here : (keep index : ℕ) (front : List DirtyBlock) (d : DirtyBlock) (old : List ℕ) → d.index ≡ index → All (λ (x : DirtyBlock). x.index < index) front → block_after keep (front ++ d ∷ []) index old ≡ d.bytes.value
-unfolding block_after
+unfolding block_wanted
 pushed_here keep index [] d old is below = ap (λ (b : Bool). if b then d.bytes.value else block_after keep [] index old) (eq-eqb d.index index is)
 pushed_here keep index (x ∷ front) d old is below =
     let first = All-head (λ (x : DirtyBlock). x.index < index) x front below in
@@ -92,13 +92,13 @@ pushed_here keep index (x ∷ front) d old is below =
     ∙ pushed_here keep index front d old is (All-tail (λ (x : DirtyBlock). x.index < index) x front below)
 
 pub pushed_other : (keep i : ℕ) (front : List DirtyBlock) (d : DirtyBlock) (old : List ℕ) → (i ≡ d.index → ⊥) → block_after keep (front ++ d ∷ []) i old ≡ block_after keep front i old
-unfolding block_after
+unfolding block_wanted
 pushed_other keep i [] d old other = ap (λ (b : Bool). if b then d.bytes.value else block_after keep [] i old) (ne_eqb d.index i (λ same. other (sym same)))
 pushed_other keep i (x ∷ front) d old other = ap (λ (b : List ℕ). if x.index == i then x.bytes.value else b) (pushed_other keep i front d old other)
 
 -- a block before which all are
 pub clean_here : (keep index : ℕ) (front : List DirtyBlock) (old : List ℕ) → All (λ (x : DirtyBlock). x.index < index) front → block_after keep front index old ≡ block_after keep [] index old
-unfolding block_after
+unfolding block_wanted
 clean_here keep index [] old below = refl
 clean_here keep index (x ∷ front) old below =
     let first = All-head (λ (x : DirtyBlock). x.index < index) x front below in
@@ -107,11 +107,11 @@ clean_here keep index (x ∷ front) old below =
 
 -- no dirty block
 pub kept_here : (keep index : ℕ) (old : List ℕ) → index < keep → block_after keep [] index old ≡ old
-unfolding block_after
+unfolding block_wanted
 kept_here keep index old less = ap (λ (b : Bool). if b then old else zeros 4096) (lt-ltb index keep less)
 
 pub none_here : (keep index : ℕ) (old : List ℕ) → keep ≤ index → block_after keep [] index old ≡ zeros 4096
-unfolding block_after
+unfolding block_wanted
 none_here keep index old le = ap (λ (b : Bool). if b then old else zeros 4096) (le-ltb index keep le)
 
 -- ---- records that were stored

@@ -14,7 +14,7 @@ use Rattle.sn_ondisk.specs.TreeLaws.{SameIn}
 use Rattle.sn_ondisk.proofs.TreeLemmas.{entry-level, reach_has, reach_has_none}
 use Rattle.sn_tree_read.specs.Paths.{lies_on, path_lies_on, block_lies_on}
 use Rattle.sn_tree.specs.Contents.{inline_block, content_block, holes_of, IsBuilt, IsContentPlanned, IsContentReplanned, IsMovedOut, IsReleased}
-use Rattle.sn_tree.specs.Dirty.{IsFrom, after, block_after}
+use Rattle.sn_tree.specs.Dirty.{IsFrom, after, block_wanted, block_after}
 use Rattle.sn_tree.specs.Drafts.{Draft}
 use Rattle.sn_tree.specs.Fronts.{IsCut}
 use Rattle.sn_tree.specs.Plans.{times, contents, straddles, most_added}
@@ -23,7 +23,7 @@ use Rattle.sn_tree.specs.Steps.{LeadsOutside, Planned}
 use Rattle.sn_tree.specs.declared.fault.PlanFault.{PlanFault}
 use Rattle.sn_tree.specs.declared.new_block.DirtyBlock.{DirtyBlock}
 use Rattle.sn_tree.proofs.CountLemmas.{among_times}
-use Rattle.sn_tree.proofs.DirtyLemmas.{block_after-dirty, block_after-clean, block_after-cut, block_after-zeros, named-zeros, AreHoles-replicate, AreHoles-at}
+use Rattle.sn_tree.proofs.DirtyLemmas.{block_wanted-dirty, block_wanted-clean, block_wanted-cut, block_wanted-any, named-zeros, AreHoles-replicate, AreHoles-at}
 use Rattle.sn_tree.proofs.EndLemmas.{hole_at, times-holes}
 use Rattle.sn_tree.proofs.FaultLemmas.{no_hole}
 use Rattle.sn_tree.proofs.FrontLemmas.{straddles-none}
@@ -72,15 +72,15 @@ pub first_dirty : (ds : List DirtyBlock) (d : DirtyBlock) → 0 < length ds → 
 first_dirty [] d some is first keep old = absurd (omega (arith, some))
 first_dirty (x ∷ xs) d some is first keep old =
     let here : x.index ≡ 0 = ap (λ (y : DirtyBlock). y.index) (sym is) ∙ first in
-    ap (λ (i : ℕ). block_after keep (x ∷ xs) i old) (sym here) ∙ block_after-dirty keep x xs old ∙ ap (λ (y : DirtyBlock). y.bytes.value) (sym is)
+    ap (λ (i : ℕ). block_after keep (x ∷ xs) i old) (sym here) ∙ block_wanted-dirty (zeros 4096) keep x xs old ∙ ap (λ (y : DirtyBlock). y.bytes.value) (sym is)
 
 pub first_cut : (ds : List DirtyBlock) (keep : ℕ) (old : List ℕ) → keep ≡ 0 → IsFrom 1 ds → block_after keep ds 0 old ≡ zeros 4096
-first_cut ds keep old none rise = block_after-cut keep 0 ds old rise (omega (arith, none))
+first_cut ds keep old none rise = block_wanted-cut (zeros 4096) keep 0 ds old rise (omega (arith, none))
 
 pub first_kept : (ds : List DirtyBlock) (keep : ℕ) (old : List ℕ) → keep ≢ 0 → IsFrom 1 ds → block_after keep ds 0 old ≡ old
 first_kept ds keep old some rise =
     let under : 0 < keep = omega (arith, some) in
-    block_after-clean keep 0 ds old rise ∙ ap (λ (b : Bool). if b then old else zeros 4096) (lt-ltb 0 keep under)
+    block_wanted-clean (zeros 4096) keep 0 ds old rise ∙ ap (λ (b : Bool). if b then old else zeros 4096) (lt-ltb 0 keep under)
 
 -- ---- bytes that leave the inode
 
@@ -92,7 +92,7 @@ none_there None is answer fails = refl
 none_there (Some x) is answer fails = absurd cc
 
 none_kept : (i : ℕ) (ds : List DirtyBlock) (a b : List ℕ) → block_after 0 ds i a ≡ block_after 0 ds i b
-unfolding block_after
+unfolding block_wanted
 none_kept i [] a b = told (nat_lt i 0) (le-ltb i 0 (omega arith))
   where
     told : (c : Bool) → c ≡ false → (if c then a else zeros 4096) ≡ (if c then b else zeros 4096)
@@ -113,7 +113,7 @@ module _ (bytes : List ℕ) (keep : ℕ) (ds : List DirtyBlock) (rise : IsFrom 0
   none_moved none = stayed (λ i. none_kept i ds (zeros 4096) (inline_block bytes i) ∙ ap (λ (k : ℕ). block_after k ds i (inline_block bytes i)) (sym none))
 
   pub nothing_moved : bytes ≡ [] → IsMovedOut bytes keep ds ds
-  nothing_moved empty = stayed (λ i. block_after-zeros 0 keep i ds (zeros 4096) refl ∙ ap (block_after keep ds i) (sym (hole i)))
+  nothing_moved empty = stayed (λ i. block_wanted-any (zeros 4096) 0 keep i ds (zeros 4096) refl ∙ ap (block_after keep ds i) (sym (hole i)))
     where
       hole : (i : ℕ) → inline_block bytes i ≡ zeros 4096
       hole i = ap (λ (b : List ℕ). inline_block b i) empty ∙ either (i == 0)
@@ -126,7 +126,7 @@ module _ (bytes : List ℕ) (keep : ℕ) (ds : List DirtyBlock) (rise : IsFrom 0
   behind i some = ap (λ (b : Bool). if b then bytes ++ zeros (4096 - length bytes) else zeros 4096) (ne_eqb i 0 some)
 
   later : (i : ℕ) → i ≢ 0 → block_after 0 ds i (zeros 4096) ≡ block_after keep ds i (inline_block bytes i)
-  later i some = block_after-zeros 0 keep i ds (zeros 4096) refl ∙ ap (block_after keep ds i) (sym (behind i some))
+  later i some = block_wanted-any (zeros 4096) 0 keep i ds (zeros 4096) refl ∙ ap (block_after keep ds i) (sym (behind i some))
 
   written_over : (block : List ℕ) → ((k : ℕ) (old : List ℕ) → block_after k ds 0 old ≡ block) → IsMovedOut bytes keep ds ds
   written_over block first = stayed each
@@ -140,7 +140,7 @@ module _ (bytes : List ℕ) (keep : ℕ) (ds : List DirtyBlock) (rise : IsFrom 0
   first_written (Some b) is first answer some = written_over b.now first
 
   pub moved_out : keep ≢ 0 → IsFrom 1 ds → (d : DirtyBlock) → d.index ≡ 0 → d.bytes.value ≡ bytes ++ zeros (4096 - length bytes) → IsMovedOut bytes keep ds (d ∷ ds)
-  unfolding block_after
+  unfolding block_wanted
   moved_out some clean d first is = record {
     rise = (omega arith, subst (λ (i : ℕ). IsFrom (i + 1) ds) (sym first) clean);
     few = omega arith;
@@ -153,7 +153,7 @@ module _ (bytes : List ℕ) (keep : ℕ) (ds : List DirtyBlock) (rise : IsFrom 0
 
       each : (i : ℕ) → block_after 0 (d ∷ ds) i (zeros 4096) ≡ block_after keep ds i (inline_block bytes i)
       each zero =
-          ap (λ (i : ℕ). block_after 0 (d ∷ ds) i (zeros 4096)) (sym first) ∙ block_after-dirty 0 d ds (zeros 4096) ∙ is
+          ap (λ (i : ℕ). block_after 0 (d ∷ ds) i (zeros 4096)) (sym first) ∙ block_wanted-dirty (zeros 4096) 0 d ds (zeros 4096) ∙ is
           ∙ sym (first_kept ds keep (inline_block bytes 0) some clean)
       each (suc i) = next i (ne_eqb d.index (suc i) (λ same. absurd (omega (arith, first, same))))
 

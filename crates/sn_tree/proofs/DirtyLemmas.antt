@@ -1,13 +1,13 @@
 -- Dirty blocks whose indices rise, and what they make of the data blocks.
-use Rattle.std.proofs.Common.{◌≡◌, ⊎_elim, ℕ, zero, suc, ◌+◌, ◌-◌, ◌*◌, ◌<◌, ◌≤◌, ◌&&◌, ◌==◌, Bool, true, false, List, [], ◌∷◌, ◌++◌, length, get_or, replicate, map, refl, sym, ap, subst, ◌∙◌, arith, if◌then◌else◌}
+use Rattle.std.proofs.Common.{◌≡◌, ◌≢◌, ⊎_elim, ℕ, zero, suc, ◌+◌, ◌-◌, ◌*◌, ◌<◌, ◌≤◌, ◌&&◌, ◌==◌, Bool, true, false, List, [], ◌∷◌, ◌++◌, length, get_or, replicate, map, refl, sym, ap, subst, ◌∙◌, arith, if◌then◌else◌}
 use Rattle.std.specs.Prelude.{nat_lt, Option, Some, None, IfSome, option_to_list}
 use Rattle.std.specs.List.{flat_map, AllByRecursion}
 use Rattle.std.proofs.Math.Nat.{mul-le-mul_left}
 use Rattle.std.proofs.lemmas.Bool.{cases_lt, eq-eqb, ne_eqb, ltb-true, ltb-false, lt-ltb, le-ltb}
 use Rattle.sn_layout.specs.Bytes.{zeros}
 use Rattle.sn_ondisk.specs.Trees.{Store, named_by, below, pointers_at}
-use Rattle.sn_tree.specs.Dirty.{IsFrom, after, block_after, blocks_after}
-use Rattle.sn_tree.specs.Plans.{contents, straddles, most_added}
+use Rattle.sn_tree.specs.Dirty.{IsFrom, after, block_wanted, blocks_wanted}
+use Rattle.sn_tree.specs.Plans.{named_or, contents, straddles, most_added}
 use Rattle.sn_tree.specs.Steps.{AreHoles}
 use Rattle.sn_tree.specs.declared.new_block.DirtyBlock.{DirtyBlock}
 
@@ -66,90 +66,90 @@ after-empty next end ds none = ⊎_elim
 
 -- ---- what the data blocks are to be
 
-pub block_after-after : (keep end i : ℕ) (ds : List DirtyBlock) (old : List ℕ) → end ≤ i → block_after keep (after end ds) i old ≡ block_after keep ds i old
-unfolding after block_after
-block_after-after keep end i [] old le = refl
-block_after-after keep end i (d ∷ ds) old le = either (block_after-after keep end i ds old le) (nat_lt d.index end) refl
+pub block_wanted-after : (hole : List ℕ) (keep end i : ℕ) (ds : List DirtyBlock) (old : List ℕ) → end ≤ i → block_wanted hole keep (after end ds) i old ≡ block_wanted hole keep ds i old
+unfolding after block_wanted
+block_wanted-after hole keep end i [] old le = refl
+block_wanted-after hole keep end i (d ∷ ds) old le = either (block_wanted-after hole keep end i ds old le) (nat_lt d.index end) refl
   where
-    either : block_after keep (after end ds) i old ≡ block_after keep ds i old → (b : Bool) → nat_lt d.index end ≡ b → block_after keep (if b then after end ds else d ∷ ds) i old ≡ block_after keep (d ∷ ds) i old
+    either : block_wanted hole keep (after end ds) i old ≡ block_wanted hole keep ds i old → (b : Bool) → nat_lt d.index end ≡ b → block_wanted hole keep (if b then after end ds else d ∷ ds) i old ≡ block_wanted hole keep (d ∷ ds) i old
     either later true is =
         let lt = ltb-true d.index end is in
-        later ∙ sym (ap (λ (b : Bool). if b then d.bytes.value else block_after keep ds i old) (ne_eqb d.index i (λ same. omega (arith, lt, le, same))))
+        later ∙ sym (ap (λ (b : Bool). if b then d.bytes.value else block_wanted hole keep ds i old) (ne_eqb d.index i (λ same. omega (arith, lt, le, same))))
     either later false is = refl
 
-pub blocks_after-after : (keep end i : ℕ) (ds : List DirtyBlock) (olds : List (List ℕ)) → end ≤ i → blocks_after keep (after end ds) i olds ≡ blocks_after keep ds i olds
-unfolding blocks_after
-blocks_after-after keep end i ds [] le = refl
-blocks_after-after keep end i ds (old ∷ olds) le =
-    ap (λ (x : List ℕ). x ∷ blocks_after keep (after end ds) (i + 1) olds) (block_after-after keep end i ds old le)
-    ∙ ap (λ (xs : List (List ℕ)). block_after keep ds i old ∷ xs) (blocks_after-after keep end (i + 1) ds olds (omega (arith, le)))
+pub blocks_wanted-after : (hole : List ℕ) (keep end i : ℕ) (ds : List DirtyBlock) (olds : List (List ℕ)) → end ≤ i → blocks_wanted hole keep (after end ds) i olds ≡ blocks_wanted hole keep ds i olds
+unfolding blocks_wanted
+blocks_wanted-after hole keep end i ds [] le = refl
+blocks_wanted-after hole keep end i ds (old ∷ olds) le =
+    ap (λ (x : List ℕ). x ∷ blocks_wanted hole keep (after end ds) (i + 1) olds) (block_wanted-after hole keep end i ds old le)
+    ∙ ap (λ (xs : List (List ℕ)). block_wanted hole keep ds i old ∷ xs) (blocks_wanted-after hole keep end (i + 1) ds olds (omega (arith, le)))
 
-pub blocks_after-append : (keep i : ℕ) (ds : List DirtyBlock) (xs ys : List (List ℕ)) → blocks_after keep ds i (xs ++ ys) ≡ blocks_after keep ds i xs ++ blocks_after keep ds (i + length xs) ys
-unfolding blocks_after
-blocks_after-append keep i ds [] ys = let here : i ≡ i + 0 = omega arith in ap (λ (n : ℕ). blocks_after keep ds n ys) here
-blocks_after-append keep i ds (x ∷ xs) ys =
+pub blocks_wanted-append : (hole : List ℕ) (keep i : ℕ) (ds : List DirtyBlock) (xs ys : List (List ℕ)) → blocks_wanted hole keep ds i (xs ++ ys) ≡ blocks_wanted hole keep ds i xs ++ blocks_wanted hole keep ds (i + length xs) ys
+unfolding blocks_wanted
+blocks_wanted-append hole keep i ds [] ys = let here : i ≡ i + 0 = omega arith in ap (λ (n : ℕ). blocks_wanted hole keep ds n ys) here
+blocks_wanted-append hole keep i ds (x ∷ xs) ys =
     let there : i + 1 + length xs ≡ i + length (x ∷ xs) = omega arith in
-    ap (λ (zs : List (List ℕ)). block_after keep ds i x ∷ zs) (blocks_after-append keep (i + 1) ds xs ys ∙ ap (λ (n : ℕ). blocks_after keep ds (i + 1) xs ++ blocks_after keep ds n ys) there)
+    ap (λ (zs : List (List ℕ)). block_wanted hole keep ds i x ∷ zs) (blocks_wanted-append hole keep (i + 1) ds xs ys ∙ ap (λ (n : ℕ). blocks_wanted hole keep ds (i + 1) xs ++ blocks_wanted hole keep ds n ys) there)
 
-pub length-blocks_after : (keep base : ℕ) (ds : List DirtyBlock) (xs : List (List ℕ)) → length (blocks_after keep ds base xs) ≡ length xs
-unfolding blocks_after
-length-blocks_after keep base ds [] = refl
-length-blocks_after keep base ds (x ∷ xs) = ap (λ n. suc n) (length-blocks_after keep (base + 1) ds xs)
+pub length-blocks_wanted : (hole : List ℕ) (keep base : ℕ) (ds : List DirtyBlock) (xs : List (List ℕ)) → length (blocks_wanted hole keep ds base xs) ≡ length xs
+unfolding blocks_wanted
+length-blocks_wanted hole keep base ds [] = refl
+length-blocks_wanted hole keep base ds (x ∷ xs) = ap (λ n. suc n) (length-blocks_wanted hole keep (base + 1) ds xs)
 
 -- the dirty block itself
-pub block_after-dirty : (keep : ℕ) (d : DirtyBlock) (ds : List DirtyBlock) (old : List ℕ) → block_after keep (d ∷ ds) d.index old ≡ d.bytes.value
-unfolding block_after
-block_after-dirty keep d ds old = ap (λ (b : Bool). if b then d.bytes.value else block_after keep ds d.index old) (eq-eqb d.index d.index refl)
+pub block_wanted-dirty : (hole : List ℕ) (keep : ℕ) (d : DirtyBlock) (ds : List DirtyBlock) (old : List ℕ) → block_wanted hole keep (d ∷ ds) d.index old ≡ d.bytes.value
+unfolding block_wanted
+block_wanted-dirty hole keep d ds old = ap (λ (b : Bool). if b then d.bytes.value else block_wanted hole keep ds d.index old) (eq-eqb d.index d.index refl)
 
 -- a block without a dirty one
-pub block_after-clean : (keep i : ℕ) (ds : List DirtyBlock) (old : List ℕ) → IsFrom (i + 1) ds → block_after keep ds i old ≡ (if nat_lt i keep then old else zeros 4096)
-unfolding block_after
-block_after-clean keep i [] old is = refl
-block_after-clean keep i (d ∷ ds) old is =
-    ap (λ (b : Bool). if b then d.bytes.value else block_after keep ds i old) (ne_eqb d.index i (λ same. omega (arith, is.0, same)))
-    ∙ block_after-clean keep i ds old (IsFrom-weaker (d.index + 1) (i + 1) ds (omega (arith, is.0)) is.1)
+pub block_wanted-clean : (hole : List ℕ) (keep i : ℕ) (ds : List DirtyBlock) (old : List ℕ) → IsFrom (i + 1) ds → block_wanted hole keep ds i old ≡ (if nat_lt i keep then old else hole)
+unfolding block_wanted
+block_wanted-clean hole keep i [] old is = refl
+block_wanted-clean hole keep i (d ∷ ds) old is =
+    ap (λ (b : Bool). if b then d.bytes.value else block_wanted hole keep ds i old) (ne_eqb d.index i (λ same. omega (arith, is.0, same)))
+    ∙ block_wanted-clean hole keep i ds old (IsFrom-weaker (d.index + 1) (i + 1) ds (omega (arith, is.0)) is.1)
 
-pub block_after-cut : (keep i : ℕ) (ds : List DirtyBlock) (old : List ℕ) → IsFrom (i + 1) ds → keep ≤ i → block_after keep ds i old ≡ zeros 4096
-block_after-cut keep i ds old is cut = block_after-clean keep i ds old is ∙ ap (λ (b : Bool). if b then old else zeros 4096) (le-ltb i keep cut)
+pub block_wanted-cut : (hole : List ℕ) (keep i : ℕ) (ds : List DirtyBlock) (old : List ℕ) → IsFrom (i + 1) ds → keep ≤ i → block_wanted hole keep ds i old ≡ hole
+block_wanted-cut hole keep i ds old is cut = block_wanted-clean hole keep i ds old is ∙ ap (λ (b : Bool). if b then old else hole) (le-ltb i keep cut)
 
 -- ---- blocks that stay
 
-pub blocks_after-kept : (keep i : ℕ) (ds : List DirtyBlock) (xs : List (List ℕ)) → IsFrom (i + length xs) ds → i + length xs ≤ keep → blocks_after keep ds i xs ≡ xs
-unfolding blocks_after
-blocks_after-kept keep i ds [] is within = refl
-blocks_after-kept keep i ds (x ∷ xs) is within =
-    let here = block_after-clean keep i ds x (IsFrom-weaker (i + length (x ∷ xs)) (i + 1) ds (omega arith) is) ∙ ap (λ (b : Bool). if b then x else zeros 4096) (lt-ltb i keep (omega (arith, within))) in
-    let rest = blocks_after-kept keep (i + 1) ds xs (IsFrom-weaker (i + length (x ∷ xs)) (i + 1 + length xs) ds (omega arith) is) (omega (arith, within)) in
-    ap (λ (y : List ℕ). y ∷ blocks_after keep ds (i + 1) xs) here ∙ ap (λ (ys : List (List ℕ)). x ∷ ys) rest
+pub blocks_wanted-kept : (hole : List ℕ) (keep i : ℕ) (ds : List DirtyBlock) (xs : List (List ℕ)) → IsFrom (i + length xs) ds → i + length xs ≤ keep → blocks_wanted hole keep ds i xs ≡ xs
+unfolding blocks_wanted
+blocks_wanted-kept hole keep i ds [] is within = refl
+blocks_wanted-kept hole keep i ds (x ∷ xs) is within =
+    let here = block_wanted-clean hole keep i ds x (IsFrom-weaker (i + length (x ∷ xs)) (i + 1) ds (omega arith) is) ∙ ap (λ (b : Bool). if b then x else hole) (lt-ltb i keep (omega (arith, within))) in
+    let rest = blocks_wanted-kept hole keep (i + 1) ds xs (IsFrom-weaker (i + length (x ∷ xs)) (i + 1 + length xs) ds (omega arith) is) (omega (arith, within)) in
+    ap (λ (y : List ℕ). y ∷ blocks_wanted hole keep ds (i + 1) xs) here ∙ ap (λ (ys : List (List ℕ)). x ∷ ys) rest
 
-pub blocks_after-holes : (keep i : ℕ) (ds : List DirtyBlock) (xs : List (List ℕ)) → IsFrom (i + length xs) ds → AllByRecursion (λ (x : List ℕ). x ≡ zeros 4096) xs → blocks_after keep ds i xs ≡ xs
-unfolding blocks_after
-blocks_after-holes keep i ds [] is holes = refl
-blocks_after-holes keep i ds (x ∷ xs) is holes =
-    let here = block_after-clean keep i ds x (IsFrom-weaker (i + length (x ∷ xs)) (i + 1) ds (omega arith) is) ∙ either (nat_lt i keep) in
-    let rest = blocks_after-holes keep (i + 1) ds xs (IsFrom-weaker (i + length (x ∷ xs)) (i + 1 + length xs) ds (omega arith) is) holes.1 in
-    ap (λ (y : List ℕ). y ∷ blocks_after keep ds (i + 1) xs) here ∙ ap (λ (ys : List (List ℕ)). x ∷ ys) rest
+pub blocks_wanted-holes : (hole : List ℕ) (keep i : ℕ) (ds : List DirtyBlock) (xs : List (List ℕ)) → IsFrom (i + length xs) ds → AllByRecursion (λ (x : List ℕ). x ≡ hole) xs → blocks_wanted hole keep ds i xs ≡ xs
+unfolding blocks_wanted
+blocks_wanted-holes hole keep i ds [] is holes = refl
+blocks_wanted-holes hole keep i ds (x ∷ xs) is holes =
+    let here = block_wanted-clean hole keep i ds x (IsFrom-weaker (i + length (x ∷ xs)) (i + 1) ds (omega arith) is) ∙ either (nat_lt i keep) in
+    let rest = blocks_wanted-holes hole keep (i + 1) ds xs (IsFrom-weaker (i + length (x ∷ xs)) (i + 1 + length xs) ds (omega arith) is) holes.1 in
+    ap (λ (y : List ℕ). y ∷ blocks_wanted hole keep ds (i + 1) xs) here ∙ ap (λ (ys : List (List ℕ)). x ∷ ys) rest
   where
-    either : (b : Bool) → (if b then x else zeros 4096) ≡ x
+    either : (b : Bool) → (if b then x else hole) ≡ x
     either true = refl
     either false = sym holes.0
 
--- where they were zeros, it doesn't matter how many stay
-pub block_after-zeros : (a b i : ℕ) (ds : List DirtyBlock) (old : List ℕ) → old ≡ zeros 4096 → block_after a ds i old ≡ block_after b ds i old
-unfolding block_after
-block_after-zeros a b i [] old is = either (nat_lt i a) ∙ sym (either (nat_lt i b))
+-- where they were holes, it doesn't matter how many stay
+pub block_wanted-any : (hole : List ℕ) (a b i : ℕ) (ds : List DirtyBlock) (old : List ℕ) → old ≡ hole → block_wanted hole a ds i old ≡ block_wanted hole b ds i old
+unfolding block_wanted
+block_wanted-any hole a b i [] old is = either (nat_lt i a) ∙ sym (either (nat_lt i b))
   where
-    either : (c : Bool) → (if c then old else zeros 4096) ≡ zeros 4096
+    either : (c : Bool) → (if c then old else hole) ≡ hole
     either true = is
     either false = refl
-block_after-zeros a b i (d ∷ ds) old is = ap (λ (x : List ℕ). if d.index == i then d.bytes.value else x) (block_after-zeros a b i ds old is)
+block_wanted-any hole a b i (d ∷ ds) old is = ap (λ (x : List ℕ). if d.index == i then d.bytes.value else x) (block_wanted-any hole a b i ds old is)
 
-pub blocks_after-zeros : (a b i : ℕ) (ds : List DirtyBlock) (xs : List (List ℕ)) → AllByRecursion (λ (x : List ℕ). x ≡ zeros 4096) xs → blocks_after a ds i xs ≡ blocks_after b ds i xs
-unfolding blocks_after
-blocks_after-zeros a b i ds [] all = refl
-blocks_after-zeros a b i ds (x ∷ xs) all =
-    ap (λ (y : List ℕ). y ∷ blocks_after a ds (i + 1) xs) (block_after-zeros a b i ds x all.0)
-    ∙ ap (λ (ys : List (List ℕ)). block_after b ds i x ∷ ys) (blocks_after-zeros a b (i + 1) ds xs all.1)
+pub blocks_wanted-any : (hole : List ℕ) (a b i : ℕ) (ds : List DirtyBlock) (xs : List (List ℕ)) → AllByRecursion (λ (x : List ℕ). x ≡ hole) xs → blocks_wanted hole a ds i xs ≡ blocks_wanted hole b ds i xs
+unfolding blocks_wanted
+blocks_wanted-any hole a b i ds [] all = refl
+blocks_wanted-any hole a b i ds (x ∷ xs) all =
+    ap (λ (y : List ℕ). y ∷ blocks_wanted hole a ds (i + 1) xs) (block_wanted-any hole a b i ds x all.0)
+    ∙ ap (λ (ys : List (List ℕ)). block_wanted hole b ds i x ∷ ys) (blocks_wanted-any hole a b (i + 1) ds xs all.1)
 
 -- ---- holes
 
@@ -176,14 +176,27 @@ AreHoles-at s (suc depth) ps holes = AreHoles-flat s (pointers_at s depth ps) (A
 
 pub named-zeros : (s : Store) (p : ℕ) → p ≡ 0 → named_by s p ≡ zeros 4096
 unfolding named_by
-named-zeros s p hole = ap (λ (b : Bool). if b then zeros 4096 else s p) (eq-eqb p 0 hole)
+named-zeros s p none = ap (λ (b : Bool). if b then zeros 4096 else s p) (eq-eqb p 0 none)
 
-all-zeros : (s : Store) (ps : List ℕ) → AreHoles ps → AllByRecursion (λ (x : List ℕ). x ≡ zeros 4096) (map (named_by s) ps)
-all-zeros s [] holes = tt
-all-zeros s (p ∷ ps) holes = (named-zeros s p holes.0, all-zeros s ps holes.1)
+pub named-hole : (hole : List ℕ) (s : Store) (p : ℕ) → p ≡ 0 → named_or hole s p ≡ hole
+unfolding named_or
+named-hole hole s p none = ap (λ (b : Bool). if b then hole else s p) (eq-eqb p 0 none)
 
-pub contents-holes : (s : Store) (depth : ℕ) (ps : List ℕ) → AreHoles ps → AllByRecursion (λ (x : List ℕ). x ≡ zeros 4096) (contents s depth ps)
-contents-holes s depth ps holes = all-zeros s (pointers_at s depth ps) (AreHoles-at s depth ps holes)
+pub named-there : (hole : List ℕ) (s : Store) (p : ℕ) → p ≢ 0 → named_or hole s p ≡ s p
+unfolding named_or
+named-there hole s p some = ap (λ (b : Bool). if b then hole else s p) (ne_eqb p 0 some)
+
+-- a hole reads as zeros
+pub named-by : (s : Store) (p : ℕ) → named_or (zeros 4096) s p ≡ named_by s p
+unfolding named_or named_by
+named-by s p = refl
+
+all-holes : (hole : List ℕ) (s : Store) (ps : List ℕ) → AreHoles ps → AllByRecursion (λ (x : List ℕ). x ≡ hole) (map (named_or hole s) ps)
+all-holes hole s [] none = tt
+all-holes hole s (p ∷ ps) none = (named-hole hole s p none.0, all-holes hole s ps none.1)
+
+pub contents-holes : (hole : List ℕ) (s : Store) (depth : ℕ) (ps : List ℕ) → AreHoles ps → AllByRecursion (λ (x : List ℕ). x ≡ hole) (contents s depth ps hole)
+contents-holes hole s depth ps none = all-holes hole s (pointers_at s depth ps) (AreHoles-at s depth ps none)
 
 -- ---- how many blocks are added
 

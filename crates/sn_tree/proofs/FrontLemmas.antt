@@ -6,17 +6,16 @@ use Rattle.std.proofs.Math.Nat.{mul-le-mul_left, mul-le-mul_right}
 use Rattle.std.proofs.lemmas.Bool.{cases_lt, le-ltb}
 use Rattle.std.proofs.lemmas.List.{append-nil, length-append, get_or_append_left, get_or-append_right}
 use Rattle.sn_alloc.specs.Taking.{free_data}
-use Rattle.sn_layout.specs.Bytes.{zeros}
 use Rattle.sn_ondisk.specs.Trees.{Store, all_pointers}
 use Rattle.sn_tree_read.proofs.PointerLemmas.{below_read}
 use Rattle.sn_tree.specs.Drafts.{Draft, grown}
-use Rattle.sn_tree.specs.Dirty.{after, blocks_after}
-use Rattle.sn_tree.specs.Plans.{times, SameAmong, contents, PlansTo, straddles, most_added}
+use Rattle.sn_tree.specs.Dirty.{after, blocks_wanted}
+use Rattle.sn_tree.specs.Plans.{DataBlocks, times, SameAmong, contents, PlansTo, straddles, most_added}
 use Rattle.sn_tree.specs.Steps.{AreHoles, Planned, IsReplaced, LeadsOutside}
-use Rattle.sn_tree.specs.Fronts.{Aim, IsZeroFrom, front_most, PlansFront, PlannedFront}
+use Rattle.sn_tree.specs.Fronts.{Aim, AreHolesFrom, front_most, PlansFront, PlannedFront}
 use Rattle.sn_tree.specs.declared.new_block.NewBlock.{NewBlock}
 use Rattle.sn_tree.specs.declared.new_block.DirtyBlock.{DirtyBlock}
-use Rattle.sn_tree.proofs.DirtyLemmas.{straddles-once, after-after, after-empty, length-after, blocks_after-after, blocks_after-zeros, contents-holes}
+use Rattle.sn_tree.proofs.DirtyLemmas.{straddles-once, after-after, after-empty, length-after, blocks_wanted-after, blocks_wanted-any, contents-holes}
 use Rattle.sn_tree.proofs.EndLemmas.{times-holes}
 use Rattle.sn_tree.proofs.PlanLemmas.{length-contents, plans_joined, plans_put, plans_dropped}
 use Rattle.sn_tree.proofs.StepLemmas.{grown-grown, grown-none, holes-list}
@@ -75,15 +74,15 @@ front_most-whole depth end levels ds within =
 
 -- ---- holes behind what was planned
 
-zeros_in : (xs : List (List ℕ)) (j : ℕ) → AllByRecursion (λ (x : List ℕ). x ≡ zeros 4096) xs → j < length xs → get_or xs j [] ≡ zeros 4096
-zeros_in [] j all within = absurd (omega (arith, within))
-zeros_in (x ∷ xs) zero all within = all.0
-zeros_in (x ∷ xs) (suc j) all within = zeros_in xs j all.1 (omega (arith, within))
+holes_in : (hole : List ℕ) (xs : List (List ℕ)) (j : ℕ) → AllByRecursion (λ (x : List ℕ). x ≡ hole) xs → j < length xs → get_or xs j [] ≡ hole
+holes_in hole [] j all within = absurd (omega (arith, within))
+holes_in hole (x ∷ xs) zero all within = all.0
+holes_in hole (x ∷ xs) (suc j) all within = holes_in hole xs j all.1 (omega (arith, within))
 
-plan_anywhere : (t s : Store) (was : List ℕ) (had : List (List ℕ)) (depth base keep : ℕ) (ds : List DirtyBlock) (new : List ℕ) (a : List NewBlock) (x : List ℕ) → ((block : ℕ) → block ≢ 0 → times block was ≡ 0)
-    → AllByRecursion (λ (bytes : List ℕ). bytes ≡ zeros 4096) had → PlansTo t was had depth base 0 ds new a x → PlansTo s [] had depth base keep ds new a x
+plan_anywhere : (t s : Store) (was : List ℕ) (had : DataBlocks) (depth base keep : ℕ) (ds : List DirtyBlock) (new : List ℕ) (a : List NewBlock) (x : List ℕ) → ((block : ℕ) → block ≢ 0 → times block was ≡ 0)
+    → ((hole : List ℕ) → AllByRecursion (λ (bytes : List ℕ). bytes ≡ hole) (had hole)) → PlansTo t was had depth base 0 ds new a x → PlansTo s [] had depth base keep ds new a x
 plan_anywhere t s was had depth base keep ds new a x none empty plan = record {
-  content = λ r same held. plan.content r (free r) held ∙ blocks_after-zeros 0 keep base ds had empty;
+  content = λ hole r same held. plan.content hole r (free r) held ∙ blocks_wanted-any hole 0 keep base ds (had hole) (empty hole);
   reach = λ r same held block some. let planned = plan.reach r (free r) held block some in let gone = none block some in omega (arith, planned, gone);
   ends = λ r same held end low left. plan.ends r (free r) held end (omega arith) left;
 }
@@ -92,7 +91,7 @@ plan_anywhere t s was had depth base keep ds new a x none empty plan = record {
     free r block some there = absurd (omega (arith, there, none block some))
 
 module _ (Told : Type 0) (aim : Aim) where
-  pub front_behind : (t : Store) (depth next end : ℕ) (holes news more : List ℕ) (mid left : List DirtyBlock) (between draft : Draft) → end ≡ next + length holes * 1024 ^ depth → AreHoles holes → IsZeroFrom next aim.old
+  pub front_behind : (t : Store) (depth next end : ℕ) (holes news more : List ℕ) (mid left : List DirtyBlock) (between draft : Draft) → end ≡ next + length holes * 1024 ^ depth → AreHoles holes → AreHolesFrom next aim.old
       → PlannedFront Told aim depth next mid news between
       → Planned Told t (all_pointers t depth holes) (contents t depth holes) depth next end 0 mid left more between draft
       → PlannedFront Told aim depth end left (news ++ more) draft
@@ -108,24 +107,24 @@ module _ (Told : Type 0) (aim : Aim) where
         plans = λ told. behind (front.plans told) (back.plans told);
       }
     where
-      empty : AllByRecursion (λ (x : List ℕ). x ≡ zeros 4096) (contents t depth holes)
-      empty = contents-holes t depth holes none
+      empty : (hole : List ℕ) → AllByRecursion (λ (x : List ℕ). x ≡ hole) (contents t depth holes hole)
+      empty hole = contents-holes hole t depth holes none
 
       behind : PlansFront aim depth next news front.added front.released → PlansTo t (all_pointers t depth holes) (contents t depth holes) depth next 0 mid more back.added back.released
           → PlansFront aim depth end (news ++ more) (front.added ++ back.added) (front.released ++ back.released)
       behind old plan =
           let xs = contents t depth holes in
-          let width : length xs ≡ length holes * 1024 ^ depth = length-contents t depth holes in
+          let width : (hole : List ℕ) → length (xs hole) ≡ length holes * 1024 ^ depth = (λ hole. length-contents hole t depth holes) in
           record {
-            had = old.had ++ xs;
-            all = omega (arith, length-append old.had xs, old.all, width, ends);
-            same = λ i inside. ⊎_elim
-                (λ (here : i < next). get_or_append_left old.had xs [] i (omega (arith, here, old.all)) ∙ old.same i here)
-                (λ (there : next ≤ i). get_or-append_right old.had xs next i [] old.all there ∙ zeros_in xs (i - next) empty (omega (arith, inside, there, width, ends)) ∙ sym (bare i there))
+            had = λ hole. old.had hole ++ xs hole;
+            all = λ hole. omega (arith, length-append (old.had hole) (xs hole), old.all hole, width hole, ends);
+            same = λ hole i inside. ⊎_elim
+                (λ (here : i < next). get_or_append_left (old.had hole) (xs hole) [] i (omega (arith, here, old.all hole)) ∙ old.same hole i here)
+                (λ (there : next ≤ i). get_or-append_right (old.had hole) (xs hole) next i [] (old.all hole) there ∙ holes_in hole (xs hole) (i - next) (empty hole) (omega (arith, inside, there, width hole, ends)) ∙ sym (bare hole i there))
                 (cases_lt i next);
-            plans = plans_joined aim.store depth 0 aim.keep aim.dirty aim.was aim.was [] (old.had ++ xs) old.had xs news more front.added back.added front.released back.released mid next
-                (λ block. let both : times block aim.was ≡ times block aim.was + times block [] = omega arith in both) refl (omega (arith, old.all))
-                (λ olds. ap (λ (l : List DirtyBlock). blocks_after aim.keep l next olds) front.rest ∙ blocks_after-after aim.keep next next aim.dirty olds (omega arith))
+            plans = plans_joined aim.store depth 0 aim.keep aim.dirty aim.was aim.was [] (λ hole. old.had hole ++ xs hole) old.had xs news more front.added back.added front.released back.released mid next
+                (λ block. let both : times block aim.was ≡ times block aim.was + times block [] = omega arith in both) (λ hole. refl) (λ hole. omega (arith, old.all hole))
+                (λ hole olds. ap (λ (l : List DirtyBlock). blocks_wanted hole aim.keep l next olds) front.rest ∙ blocks_wanted-after hole aim.keep next next aim.dirty olds (omega arith))
                 (λ bound gone. ap (after bound) front.rest ∙ after-empty next bound aim.dirty gone)
                 old.plans
                 (plan_anywhere t aim.store (all_pointers t depth holes) xs depth next aim.keep mid more back.added back.released (λ block some. times-holes t block depth holes none some) empty plan);

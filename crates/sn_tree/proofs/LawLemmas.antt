@@ -15,14 +15,14 @@ use Rattle.sn_ondisk.proofs.TreeLemmas.{levels_room}
 use Rattle.sn_image.specs.Contents.{byte_of}
 use Rattle.sn_image.specs.Sound.{EndsAtSize, ContentEnds}
 use Rattle.sn_tree.specs.Contents.{inline_block, content_block, HasDataBlocks, HasItsForm}
-use Rattle.sn_tree.specs.Dirty.{block_after}
+use Rattle.sn_tree.specs.Dirty.{block_wanted, block_after}
 use Rattle.sn_tree.specs.Replanned.{EndsAt}
 use Rattle.sn_tree.specs.Laws.{EndsBy}
 use Rattle.sn_tree.specs.declared.new_block.DirtyBlock.{DirtyBlock}
 
 module _ (old : ℕ → List ℕ) (size keep : ℕ) (stay : (i k : ℕ) → i < keep → k < 4096 → size ≤ 4096 * i + k → get_or (old i) k 0 ≡ 0) where
   past_zero : (ds : List DirtyBlock) → AllByRecursion (EndsBy size) ds → (i k : ℕ) → k < 4096 → size ≤ 4096 * i + k → get_or (block_after keep ds i (old i)) k 0 ≡ 0
-  unfolding block_after zeros
+  unfolding block_wanted zeros
   past_zero [] all i k within far = either (nat_lt i keep) refl
     where
       either : (b : Bool) → nat_lt i keep ≡ b → get_or (if b then old i else zeros 4096) k 0 ≡ 0

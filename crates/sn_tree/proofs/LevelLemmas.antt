@@ -9,14 +9,14 @@ use Rattle.sn_alloc.specs.Taking.{free_data}
 use Rattle.sn_image.specs.Reach.{block_reach}
 use Rattle.sn_layout.specs.Pointers.{levels_of}
 use Rattle.sn_layout.specs.declared.tree.BlockTree.{BlockTree}
-use Rattle.sn_ondisk.specs.Trees.{Store, named_by, below, entry, pointers_at, all_pointers, data_block}
+use Rattle.sn_ondisk.specs.Trees.{Store, below, entry, pointers_at, all_pointers}
 use Rattle.sn_ondisk.proofs.TreeLemmas.{entry-level}
 use Rattle.sn_tree.specs.Drafts.{Draft, grown, numbers_of}
 use Rattle.sn_tree.specs.Dirty.{after}
-use Rattle.sn_tree.specs.Plans.{times, Holds, SameAmong, contents, PlansTo, straddles, most_added}
+use Rattle.sn_tree.specs.Plans.{times, Holds, SameAmong, named_or, contents, PlansTo, straddles, most_added}
 use Rattle.sn_tree.specs.Steps.{Planned, LeadsOutside}
 use Rattle.sn_tree.specs.Replanned.{IsPlanned}
-use Rattle.sn_tree.specs.Fronts.{Aim, PlannedFront, IsCut, IsLowered, IsFirstOf}
+use Rattle.sn_tree.specs.Fronts.{Aim, data_or, PlannedFront, IsCut, IsLowered, IsFirstOf}
 use Rattle.sn_tree.specs.declared.new_block.NewBlock.{NewBlock}
 use Rattle.sn_tree.specs.declared.new_block.DirtyBlock.{DirtyBlock}
 use Rattle.sn_tree.proofs.CountLemmas.{times-append, times-all_append, times-down, times-block_reach, pointers_at-append, pointers_at-down, length-pointers_at}
@@ -165,10 +165,6 @@ first_full Told s tree depth most pointers old draft first none =
     let more : length draft.added ≡ length old.added = ap (λ (d : Draft). length d.added) first.grew ∙ ap (λ (added : List NewBlock). length added) (append-nil old.added) in
     omega (arith, none, free, more)
 
-is_data : (s : Store) (tree : BlockTree) (i : ℕ) → named_by s (entry s (levels_of tree.size) tree.pointers i) ≡ data_block s tree i
-unfolding data_block
-is_data s tree i = refl
-
 -- ---- a tree as it is planned
 
 module _ (s : Store) (tree : BlockTree) (keep : ℕ) (ds : List DirtyBlock) (draft : Draft) where
@@ -176,7 +172,7 @@ module _ (s : Store) (tree : BlockTree) (keep : ℕ) (ds : List DirtyBlock) (dra
   aim = record {
     store = s;
     was = all_pointers s (levels_of tree.size) tree.pointers;
-    old = data_block s tree;
+    old = λ hole i. data_or hole s tree i;
     keep = keep;
     dirty = ds;
     draft = draft;
@@ -194,10 +190,9 @@ module _ (s : Store) (tree : BlockTree) (keep : ℕ) (ds : List DirtyBlock) (dra
       plans = λ told. record {
         had = contents s depth pointers;
         all = all;
-        same = λ i within.
-            get_or-map (named_by s) (pointers_at s depth pointers) i 0 [] (omega (arith, within, wide, ends))
-            ∙ ap (named_by s) (first.first told i (omega (arith, within, ends)))
-            ∙ is_data s tree i;
+        same = λ hole i within.
+            get_or-map (named_or hole s) (pointers_at s depth pointers) i 0 [] (omega (arith, within, wide, ends))
+            ∙ ap (named_or hole s) (first.first told i (omega (arith, within, ends)));
         plans = with_gone told;
       };
     }
@@ -205,8 +200,8 @@ module _ (s : Store) (tree : BlockTree) (keep : ℕ) (ds : List DirtyBlock) (dra
         wide : length (pointers_at s depth pointers) ≡ 16 * 1024 ^ depth
         wide = length-pointers_at s depth pointers ∙ ap (λ n. n * 1024 ^ depth) count
 
-        all : length (contents s depth pointers) ≡ end
-        all = length-contents s depth pointers ∙ ap (λ n. n * 1024 ^ depth) count ∙ sym ends
+        all : (hole : List ℕ) → length (contents s depth pointers hole) ≡ end
+        all hole = length-contents hole s depth pointers ∙ ap (λ n. n * 1024 ^ depth) count ∙ sym ends
 
         with_gone : Told → PlansTo s (all_pointers s (levels_of tree.size) tree.pointers) (contents s depth pointers) depth 0 keep ds new step.added (first.released ++ step.released)
         with_gone told =
@@ -214,7 +209,7 @@ module _ (s : Store) (tree : BlockTree) (keep : ℕ) (ds : List DirtyBlock) (dra
             let fewer : (r : Store) → SameAmong s r (all_pointers s (levels_of tree.size) tree.pointers) → SameAmong s r (all_pointers s depth pointers) =
             (λ r same block some there. same block some (omega (arith, there, first.count told block some))) in
             record {
-              content = λ r same held. plans.content r (fewer r same) held;
+              content = λ hole r same held. plans.content hole r (fewer r same) held;
               reach = λ r same held block some.
                   let counted = plans.reach r (fewer r same) held block some in
                   let all_of = first.count told block some in

@@ -6,16 +6,16 @@ use Rattle.std.proofs.lemmas.List.{append-nil, length-append}
 use Rattle.sn_alloc.specs.Taking.{free_data}
 use Rattle.sn_image.specs.Reach.{block_reach}
 use Rattle.sn_layout_node.specs.Indirect.{ArePointers, pointers_bytes}
-use Rattle.sn_ondisk.specs.Trees.{Store, named_by, below, all_pointers}
+use Rattle.sn_ondisk.specs.Trees.{Store, below, all_pointers}
 use Rattle.sn_tree_read.proofs.PointerLemmas.{below_read}
 use Rattle.sn_tree.specs.Drafts.{Draft, grown, IsFresh}
-use Rattle.sn_tree.specs.Dirty.{IsFrom, after, block_after, blocks_after}
-use Rattle.sn_tree.specs.Plans.{contents, PlansTo, straddles, most_added}
+use Rattle.sn_tree.specs.Dirty.{IsFrom, after, block_wanted, blocks_wanted}
+use Rattle.sn_tree.specs.Plans.{DataBlocks, named_or, contents, PlansTo, straddles, most_added}
 use Rattle.sn_tree.specs.Steps.{AreHoles, Planned, IsPut, IsReplaced}
 use Rattle.sn_tree.specs.declared.fault.PlanFault.{PlanFault}
 use Rattle.sn_tree.specs.declared.new_block.NewBlock.{NewBlock}
 use Rattle.sn_tree.specs.declared.new_block.DirtyBlock.{DirtyBlock}
-use Rattle.sn_tree.proofs.DirtyLemmas.{IsFrom-weaker, after-none, after-first, after-after, after-empty, first_before, length-after, AreHoles-append, blocks_after-after, block_after-dirty, most_added-joined, most_added-up, most_added-one, straddled}
+use Rattle.sn_tree.proofs.DirtyLemmas.{IsFrom-weaker, after-none, after-first, after-after, after-empty, first_before, length-after, AreHoles-append, blocks_wanted-after, block_wanted-dirty, most_added-joined, most_added-up, most_added-one, straddled}
 use Rattle.sn_tree.proofs.PlanLemmas.{plan_kept, plan_holes, plan_joined, plan_written, plan_cut, plan_put, plan_dropped, plan_nothing}
 
 pub grown-grown : (draft : Draft) (a b : List NewBlock) (x y : List ℕ) → grown (grown draft a x) b y ≡ grown draft (a ++ b) (x ++ y)
@@ -105,7 +105,7 @@ module _ (Told : Type 0) (s : Store) (keep : ℕ) where
         few = omega (arith, count);
         rest = sym left;
         cut = λ _ same. absurd (omega (arith, same, count));
-        plans = λ _. plan_written s base keep (d ∷ ds) p block some (bytes ∙ sym (block_after-dirty keep d ds (named_by s p)) ∙ ap (λ (i : ℕ). block_after keep (d ∷ ds) i (named_by s p)) here)
+        plans = λ _. plan_written s base keep (d ∷ ds) p block some (λ hole. bytes ∙ sym (block_wanted-dirty hole keep d ds (named_or hole s p)) ∙ ap (λ (i : ℕ). block_wanted hole keep (d ∷ ds) i (named_or hole s p)) here)
             (λ bound none. omega (arith, first_before bound d ds none, here));
       }
 
@@ -131,7 +131,7 @@ module _ (Told : Type 0) (s : Store) (keep : ℕ) where
             (front.cut cut (omega (arith, same, length-after next ds, length-after end mid, mid_length, end_length)))
             (back.cut (omega (arith, cut, low)) (omega (arith, same, length-after next ds, length-after end mid, mid_length, end_length)));
         plans = λ told. plan_joined s depth base keep ds ps qs news more front.added back.added front.released back.released mid next is
-            (λ olds. ap (λ (l : List DirtyBlock). blocks_after keep l next olds) front.rest ∙ blocks_after-after keep next next ds olds (omega arith))
+            (λ hole olds. ap (λ (l : List DirtyBlock). blocks_wanted hole keep l next olds) front.rest ∙ blocks_wanted-after hole keep next next ds olds (omega arith))
             (λ bound none. ap (after bound) front.rest ∙ after-empty next bound ds none)
             (front.plans told) (back.plans told);
       }
@@ -225,7 +225,7 @@ module _ (Told : Type 0) (s : Store) (keep : ℕ) (base end p : ℕ) (ds left : 
       (λ r held. below_read r put.block.number news put.some are (held ∙ put.bytes_are)) put.grew)
 
 -- the same over another store, which is no other where the device tells its bytes
-pub planned_as : (Told : Type 0) (s r : Store) (was is : List ℕ) (had has : List (List ℕ)) (depth base end keep : ℕ) (ds left : List DirtyBlock) (new : List ℕ) (old between : Draft)
+pub planned_as : (Told : Type 0) (s r : Store) (was is : List ℕ) (had has : DataBlocks) (depth base end keep : ℕ) (ds left : List DirtyBlock) (new : List ℕ) (old between : Draft)
     → ((added : List NewBlock) (released : List ℕ) → Told → PlansTo s was had depth base keep ds new added released → PlansTo r is has depth base keep ds new added released)
     → Planned Told s was had depth base end keep ds left new old between → Planned Told r is has depth base end keep ds left new old between
 planned_as Told s r was is had has depth base end keep ds left new old between change step = record {
@@ -271,7 +271,7 @@ leaf_full (Some d) base end keep ds left free count some there none =
 
 -- ---- no block is left
 
-module _ (Told : Type 0) (s : Store) (was : List ℕ) (had : List (List ℕ)) (depth base next keep : ℕ) (ds left : List DirtyBlock) (new : List ℕ) (old between : Draft) (step : Planned Told s was had depth base next keep ds left new old between) where
+module _ (Told : Type 0) (s : Store) (was : List ℕ) (had : DataBlocks) (depth base next keep : ℕ) (ds left : List DirtyBlock) (new : List ℕ) (old between : Draft) (step : Planned Told s was had depth base next keep ds left new old between) where
   free-same : free_data between.words between.first ≡ free_data old.words old.first
   free-same = ap (λ (draft : Draft). free_data draft.words draft.first) step.grew
 

@@ -13,12 +13,16 @@ unfoldable pub after : ℕ → List DirtyBlock → List DirtyBlock
 after end [] = []
 after end (d ∷ ds) = if nat_lt d.index end then after end ds else d ∷ ds
 
--- What data block i is to be: the dirty block with its index if there is one, else what it was if it is among those that stay, else zeros.
-unfoldable pub block_after : ℕ → List DirtyBlock → ℕ → List ℕ → List ℕ
-block_after keep [] i old = if nat_lt i keep then old else zeros 4096
-block_after keep (d ∷ ds) i old = if d.index == i then d.bytes.value else block_after keep ds i old
+-- What data block i is to be, where a hole is read as these bytes: the dirty block with its index if there is one, else what it was if it is among those that stay, else a hole.
+unfoldable pub block_wanted : List ℕ → ℕ → List DirtyBlock → ℕ → List ℕ → List ℕ
+block_wanted hole keep [] i old = if nat_lt i keep then old else hole
+block_wanted hole keep (d ∷ ds) i old = if d.index == i then d.bytes.value else block_wanted hole keep ds i old
 
 -- what data blocks from i on are to be
-unfoldable pub blocks_after : ℕ → List DirtyBlock → ℕ → List (List ℕ) → List (List ℕ)
-blocks_after keep dirty i [] = []
-blocks_after keep dirty i (old ∷ rest) = block_after keep dirty i old ∷ blocks_after keep dirty (i + 1) rest
+unfoldable pub blocks_wanted : List ℕ → ℕ → List DirtyBlock → ℕ → List (List ℕ) → List (List ℕ)
+blocks_wanted hole keep dirty i [] = []
+blocks_wanted hole keep dirty i (old ∷ rest) = block_wanted hole keep dirty i old ∷ blocks_wanted hole keep dirty (i + 1) rest
+
+-- What data block i is to be: a hole reads as zeros.
+abbrev pub block_after : ℕ → List DirtyBlock → ℕ → List ℕ → List ℕ
+block_after keep dirty i old = block_wanted (zeros 4096) keep dirty i old

@@ -1,12 +1,11 @@
 -- The first pointers of a tree that gets another number of levels, on the way there.
 use Rattle.std.specs.Prelude.{◌≡◌, ◌≢◌, ℕ, suc, ◌+◌, ◌-◌, ◌*◌, ◌^◌, ◌<◌, ◌≤◌, List, [], length, slice_index, slice_index_or}
-use Rattle.sn_layout.specs.Bytes.{zeros}
 use Rattle.sn_layout.specs.Pointers.{levels_of}
 use Rattle.sn_layout.specs.declared.tree.BlockTree.{BlockTree}
 use Rattle.sn_ondisk.specs.Trees.{Store, entry, pointers_at, all_pointers}
 use Rattle.sn_tree.specs.Drafts.{Draft, grown}
 use Rattle.sn_tree.specs.Dirty.{after}
-use Rattle.sn_tree.specs.Plans.{times, PlansTo}
+use Rattle.sn_tree.specs.Plans.{DataBlocks, named_or, times, PlansTo}
 use Rattle.sn_tree.specs.declared.new_block.NewBlock.{NewBlock}
 use Rattle.sn_tree.specs.declared.new_block.DirtyBlock.{DirtyBlock}
 
@@ -16,8 +15,8 @@ pub record Aim : Type 0 where
   pub store : Store
   -- those that the old tree reaches
   pub was : List ℕ
-  -- its data blocks
-  pub old : ℕ → List ℕ
+  -- its data blocks, by what a hole is read as
+  pub old : List ℕ → ℕ → List ℕ
   -- how many of them stay
   pub keep : ℕ
   -- those with other bytes
@@ -25,9 +24,13 @@ pub record Aim : Type 0 where
   -- the build before
   pub draft : Draft
 
+-- data block i of a tree, where a hole is read as these bytes
+abbrev pub data_or : List ℕ → Store → BlockTree → ℕ → List ℕ
+data_or hole s tree i = named_or hole s (entry s (levels_of tree.size) tree.pointers i)
+
 -- no data block from this one on
-abbrev pub IsZeroFrom : ℕ → (ℕ → List ℕ) → Type 0
-IsZeroFrom first old = (i : ℕ) → first ≤ i → old i ≡ zeros 4096
+abbrev pub AreHolesFrom : ℕ → (List ℕ → ℕ → List ℕ) → Type 0
+AreHolesFrom first old = (hole : List ℕ) (i : ℕ) → first ≤ i → old hole i ≡ hole
 
 -- the most new blocks before a data block: a path for each dirty one, and the indirect blocks of one more
 abbrev pub front_most : ℕ → ℕ → List DirtyBlock → ℕ
@@ -35,9 +38,9 @@ front_most depth end dirty = (depth + 1) * (length dirty - length (after end dir
 
 -- New pointers with the data blocks before `end`.
 pub record PlansFront (aim : Aim) (depth end : ℕ) (new : List ℕ) (added : List NewBlock) (released : List ℕ) : Type 0 where
-  pub had : List (List ℕ)
-  pub all : length had ≡ end
-  pub same : (i : ℕ) → i < end → slice_index_or had i [] ≡ aim.old i
+  pub had : DataBlocks
+  pub all : (hole : List ℕ) → length (had hole) ≡ end
+  pub same : (hole : List ℕ) (i : ℕ) → i < end → slice_index_or (had hole) i [] ≡ aim.old hole i
   pub plans : PlansTo aim.store aim.was had depth 0 aim.keep aim.dirty new added released
 
 -- The pointers of the data blocks before `end` were planned, and these dirty blocks are left.

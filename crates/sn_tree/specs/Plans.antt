@@ -1,8 +1,8 @@
 -- What planning makes of pointers and of the data blocks below them.
 use Rattle.std.specs.Prelude.{◌≡◌, ◌≢◌, ℕ, ◌+◌, ◌-◌, ◌*◌, ◌^◌, ◌<◌, ◌≤◌, ◌&&◌, ◌==◌, if◌then◌else◌, List, [], length, map, slice_index, nat_lt, count_by, All}
-use Rattle.sn_ondisk.specs.Trees.{Store, named_by, pointers_at, all_pointers}
+use Rattle.sn_ondisk.specs.Trees.{Store, pointers_at, all_pointers}
 use Rattle.sn_tree.specs.Drafts.{numbers_of}
-use Rattle.sn_tree.specs.Dirty.{after, blocks_after}
+use Rattle.sn_tree.specs.Dirty.{after, blocks_wanted}
 use Rattle.sn_tree.specs.declared.new_block.NewBlock.{NewBlock}
 use Rattle.sn_tree.specs.declared.new_block.DirtyBlock.{DirtyBlock}
 
@@ -18,18 +18,26 @@ Holds s added = All (λ (block : NewBlock). s block.number ≡ block.bytes.value
 abbrev pub SameAmong : Store → Store → List ℕ → Type 0
 SameAmong s r pointers = (block : ℕ) → block ≢ 0 → 0 < times block pointers → r block ≡ s block
 
--- the bytes of the data blocks so many levels below these pointers, in order
-abbrev pub contents : Store → ℕ → List ℕ → List (List ℕ)
-contents s depth pointers = map (named_by s) (pointers_at s depth pointers)
+-- the bytes that a pointer to a data block stands for, where a hole is read as these
+unfoldable pub named_or : List ℕ → Store → ℕ → List ℕ
+named_or hole s pointer = if pointer == 0 then hole else s pointer
+
+-- data blocks in order, by what a hole among them is read as
+abbrev pub DataBlocks : Type 0
+DataBlocks = List ℕ → List (List ℕ)
+
+-- the data blocks so many levels below these pointers
+abbrev pub contents : Store → ℕ → List ℕ → DataBlocks
+contents s depth pointers = λ hole. map (named_or hole s) (pointers_at s depth pointers)
 
 -- From data block `end` on there are holes alone, on every level below these pointers, which stand so many levels above their data blocks, the first of them block `base`.
 abbrev pub EndsBefore : Store → ℕ → ℕ → ℕ → List ℕ → Type 0
 EndsBefore s depth base end pointers = (level i : ℕ) → level ≤ depth → end ≤ base + i * 1024 ^ (depth - level) → slice_index (pointers_at s level pointers) i ≡ 0
 
 -- New pointers, where these were reached and the data blocks had those bytes, the first of them block `base`: in any store that has the new blocks and agrees with the old one in what was reached.
-pub record PlansTo (s : Store) (was : List ℕ) (had : List (List ℕ)) (depth base keep : ℕ) (dirty : List DirtyBlock) (new : List ℕ) (added : List NewBlock) (released : List ℕ) : Type 0 where
-  -- the data blocks below them are those that are wanted
-  pub content : (r : Store) → SameAmong s r was → Holds r added → contents r depth new ≡ blocks_after keep dirty base had
+pub record PlansTo (s : Store) (was : List ℕ) (had : DataBlocks) (depth base keep : ℕ) (dirty : List DirtyBlock) (new : List ℕ) (added : List NewBlock) (released : List ℕ) : Type 0 where
+  -- the data blocks below them are those that are wanted, and none of these is a hole that isn't to be one: they are the same whatever a hole is read as
+  pub content : (hole : List ℕ) (r : Store) → SameAmong s r was → Holds r added → contents r depth new hole ≡ blocks_wanted hole keep dirty base (had hole)
   -- what they reach, with what is released, is what was reached with what is added, each block as often
   pub reach : (r : Store) → SameAmong s r was → Holds r added → (block : ℕ) → block ≢ 0
       → times block (all_pointers r depth new) + times block released ≡ times block was + times block (numbers_of added)

@@ -12,7 +12,7 @@ use Rattle.sn_tree_read.specs.Paths.{lies_on}
 use Rattle.sn_tree_read.specs.declared.fault.TreeFault.TheVariants.{Read}
 use Rattle.sn_tree.specs.Drafts.{Draft, grown}
 use Rattle.sn_tree.specs.Dirty.{after}
-use Rattle.sn_tree.specs.Plans.{times, PlansTo, most_added}
+use Rattle.sn_tree.specs.Plans.{DataBlocks, times, PlansTo, most_added}
 use Rattle.sn_tree.specs.declared.fault.PlanFault.{PlanFault}
 use Rattle.sn_tree.specs.declared.fault.PlanFault.TheVariants.{Tree, Full}
 use Rattle.sn_tree.specs.declared.new_block.NewBlock.{NewBlock}
@@ -23,7 +23,7 @@ abbrev pub AreHoles : List ℕ → Type 0
 AreHoles pointers = AllByRecursion (λ (p : ℕ). p ≡ 0) pointers
 
 -- Pointers for data blocks from `base` to `end` were planned, which used up the dirty blocks before `end`. Over a device that tells its bytes they are those of a plan.
-pub record Planned (Told : Type 0) (s : Store) (was : List ℕ) (had : List (List ℕ)) (depth base end keep : ℕ) (dirty left : List DirtyBlock) (new : List ℕ) (old_draft new_draft : Draft) : Type 0 where
+pub record Planned (Told : Type 0) (s : Store) (was : List ℕ) (had : DataBlocks) (depth base end keep : ℕ) (dirty left : List DirtyBlock) (new : List ℕ) (old_draft new_draft : Draft) : Type 0 where
   pub added : List NewBlock
   pub released : List ℕ
   pub grew : new_draft ≡ grown old_draft added released

@@ -5,7 +5,7 @@ ghost use Rattle.sn_block.specs.Lending.{device_of};
 ghost use Rattle.sn_layout.specs.Pointers.{levels_of};
 ghost use Rattle.sn_ondisk.specs.Trees.{store_of, all_pointers, tree_reach};
 ghost use Rattle.sn_tree.specs.Dirty.{IsFrom};
-ghost use Rattle.sn_tree.specs.Fronts.{Aim, IsZeroFrom, front_most, PlannedFront, IsCut, IsLowered, IsFirstOf};
+ghost use Rattle.sn_tree.specs.Fronts.{Aim, AreHolesFrom, front_most, PlannedFront, IsCut, IsLowered, IsFirstOf};
 ghost use Rattle.sn_tree.specs.Steps.{IsTooFull, LeadsOutside, CountsPlan};
 ghost use Rattle.sn_tree.specs.declared.fault.PlanFault.TheVariants.{Tree};
 ghost use Rattle.sn_tree_read.specs.declared.fault.TreeFault.TheVariants.{Damaged};
@@ -33,7 +33,7 @@ fn plan_behind<D: Device>(
     requires room { first + length pointers.old * 1024 ^ depth ≤ 2 ^ 62 }
     requires rise { IsFrom first dirty.old.items }
     requires holes { All (λ p. p ≡ 0) pointers.old }
-    ensures planned { (aim : Aim) (news : List ℕ) → IsZeroFrom first aim.old
+    ensures planned { (aim : Aim) (news : List ℕ) → AreHolesFrom first aim.old
         → PlannedFront (IsTrue D.tells_bytes) aim depth first dirty.old.items news build.old
         → OnOk result (PlannedFront (IsTrue D.tells_bytes) aim depth (first + length pointers.old * 1024 ^ depth)
         dirty.new.items (news ++ pointers.new) build.new) }
@@ -59,11 +59,11 @@ fn raise<D: Device>(
 ) -> Result<[u32; POINTERS], PlanFault>
     requires depth { depth ≤ 2 }
     requires rise { IsFrom (16 * 1024 ^ depth) dirty.old.items }
-    ensures planned { (aim : Aim) → IsZeroFrom (16 * 1024 ^ depth) aim.old
+    ensures planned { (aim : Aim) → AreHolesFrom (16 * 1024 ^ depth) aim.old
         → PlannedFront (IsTrue D.tells_bytes) aim depth (16 * 1024 ^ depth) dirty.old.items pointers.now build.old
         → IfOk result (λ new. PlannedFront (IsTrue D.tells_bytes) aim (depth + 1) (16 * 1024 ^ (depth + 1))
         dirty.new.items new build.new) }
-    ensures full { (aim : Aim) → IsZeroFrom (16 * 1024 ^ depth) aim.old
+    ensures full { (aim : Aim) → AreHolesFrom (16 * 1024 ^ depth) aim.old
         → PlannedFront (IsTrue D.tells_bytes) aim depth (16 * 1024 ^ depth) dirty.old.items pointers.now build.old
         → IsTooFull result aim.draft (front_most (depth + 1) (16 * 1024 ^ (depth + 1)) aim.dirty) }
     ensures rise { OnOk result (IsFrom (16 * 1024 ^ (depth + 1)) dirty.new.items) }
@@ -94,11 +94,11 @@ pub(crate) fn raised<D: Device>(
     requires order { from ≤ levels }
     requires most { levels ≤ 3 }
     requires rise { IsFrom (16 * 1024 ^ from) dirty.old.items }
-    ensures planned { (aim : Aim) → (from < levels → IsZeroFrom (16 * 1024 ^ from) aim.old)
+    ensures planned { (aim : Aim) → (from < levels → AreHolesFrom (16 * 1024 ^ from) aim.old)
         → PlannedFront (IsTrue D.tells_bytes) aim from (16 * 1024 ^ from) dirty.old.items pointers.now build.old
         → IfOk result (λ new. PlannedFront (IsTrue D.tells_bytes) aim levels (16 * 1024 ^ levels)
         dirty.new.items new build.new) }
-    ensures full { (aim : Aim) → (from < levels → IsZeroFrom (16 * 1024 ^ from) aim.old)
+    ensures full { (aim : Aim) → (from < levels → AreHolesFrom (16 * 1024 ^ from) aim.old)
         → PlannedFront (IsTrue D.tells_bytes) aim from (16 * 1024 ^ from) dirty.old.items pointers.now build.old
         → IsTooFull result aim.draft ((levels + 1) * (length aim.dirty + 1)) }
     ensures count { IfOk result (λ new. length new ≡ 16) }

@@ -134,9 +134,8 @@ pub(crate) fn replace_pointers(
     if are_holes(pointers) {
         return Ok(0);
     }
-    let mut block = [0; BLOCK_SIZE];
+    let mut block = build.boxed([0; BLOCK_SIZE])?;
     IndirectBlock::encode(pointers, &mut block);
-    let block = build.boxed(block)?;
     build.put(block)
 }
 

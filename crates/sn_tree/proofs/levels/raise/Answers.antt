@@ -4,7 +4,7 @@ use Rattle.std.proofs.Math.Nat.{pow-succ'}
 use Rattle.std.proofs.lemmas.Result.{err_from_is_err_and}
 use Rattle.sn_alloc.specs.Taking.{free_data}
 use Rattle.sn_tree.specs.Dirty.{IsFrom}
-use Rattle.sn_tree.specs.Fronts.{IsZeroFrom, front_most, PlannedFront}
+use Rattle.sn_tree.specs.Fronts.{AreHolesFrom, front_most, PlannedFront}
 use Rattle.sn_tree.specs.declared.fault.PlanFault.TheVariants.{Full}
 use Rattle.sn_tree.specs.declared.new_block.DirtyBlock.{DirtyBlock}
 use Rattle.sn_tree.proofs.FrontLemmas.{front_up, front_full_above, front_most-raised, front_most-later}
@@ -58,8 +58,8 @@ returns-clause-planned g c = λ aim bare front.
     let ends = all_behind span (1024 ^ depth) (length c.no_behind-behind.result) is c.no_behind-behind.ensures.count in
     let last = all_beside span depth (length c.no_beside-beside.result) is c.no_beside-beside.ensures.count in
     let up : suc depth ≡ depth + 1 = omega arith in
-    let bare1 : IsZeroFrom (16 * span) aim.old = (λ i past. bare i (omega (arith, past, is))) in
-    let bare2 : IsZeroFrom (1024 * span) aim.old = (λ i past. bare i (omega (arith, past, is))) in
+    let bare1 : AreHolesFrom (16 * span) aim.old = (λ hole i past. bare hole i (omega (arith, past, is))) in
+    let bare2 : AreHolesFrom (1024 * span) aim.old = (λ hole i past. bare hole i (omega (arith, past, is))) in
     let front0 = subst (λ (n : ℕ). PlannedFront Told aim depth n c.args.dirty.now.items c.args.pointers.now c.args.build.now) (ap (λ (w : ℕ). 16 * w) (sym is)) front in
     let front1 = c.in_ok-plan_behind.ensures.planned aim c.args.pointers.now bare1 front0 in
     let joined = subst (λ (ps : List ℕ). PlannedFront Told aim depth e1 c.plan_behind.new.dirty.items ps c.plan_behind.new.build) (sym c.joined-below.ensures) front1 in
@@ -95,7 +95,7 @@ returns-in_err-first-clause-full g c = λ aim bare front is.
     let e1 = 16 * span + length c.no_behind-behind.result * 1024 ^ depth in
     let ends = all_behind span (1024 ^ depth) (length c.no_behind-behind.result) of_span c.no_behind-behind.ensures.count in
     let last = all_beside span depth 15 of_span refl in
-    let bare1 : IsZeroFrom (16 * span) aim.old = (λ i past. bare i (omega (arith, past, of_span))) in
+    let bare1 : AreHolesFrom (16 * span) aim.old = (λ hole i past. bare hole i (omega (arith, past, of_span))) in
     let front0 = subst (λ (n : ℕ). PlannedFront Told aim depth n c.args.dirty.now.items c.args.pointers.now c.args.build.now) (ap (λ (w : ℕ). 16 * w) (sym of_span)) front in
     let front1 = c.in_ok-plan_behind.ensures.planned aim c.args.pointers.now bare1 front0 in
     let p = err_from_is_err_and c.from_residual-in_err-first.result c.from_residual-in_err-first.ensures.1 in
@@ -120,7 +120,7 @@ returns-in_err-plan_behind-2-clause-full g c = λ aim bare front is.
     let ends = all_behind span (1024 ^ depth) (length c.no_behind-behind.result) of_span c.no_behind-behind.ensures.count in
     let last = all_beside span depth (length c.no_beside-beside.result) of_span c.no_beside-beside.ensures.count in
     let up : suc depth ≡ depth + 1 = omega arith in
-    let bare1 : IsZeroFrom (16 * span) aim.old = (λ i past. bare i (omega (arith, past, of_span))) in
+    let bare1 : AreHolesFrom (16 * span) aim.old = (λ hole i past. bare hole i (omega (arith, past, of_span))) in
     let front0 = subst (λ (n : ℕ). PlannedFront Told aim depth n c.args.dirty.now.items c.args.pointers.now c.args.build.now) (ap (λ (w : ℕ). 16 * w) (sym of_span)) front in
     let front1 = c.in_ok-plan_behind.ensures.planned aim c.args.pointers.now bare1 front0 in
     let joined = subst (λ (ps : List ℕ). PlannedFront Told aim depth e1 c.plan_behind.new.dirty.items ps c.plan_behind.new.build) (sym c.joined-below.ensures) front1 in

@@ -1,15 +1,15 @@
 use Rattle.std.proofs.Common.{◌≡◌, ℕ, ◌+◌, ◌*◌, ◌≤◌, List, refl, ap, subst, ◌∙◌, arith, IsTrue}
 use Rattle.std.specs.Prelude.{◌^◌, Err}
 use Rattle.std.proofs.lemmas.Result.{err_from_is_err_and}
-use Rattle.sn_tree.specs.Fronts.{IsZeroFrom, PlannedFront}
+use Rattle.sn_tree.specs.Fronts.{AreHolesFrom, PlannedFront}
 use Rattle.sn_tree.specs.declared.fault.PlanFault.TheVariants.{Full}
 use Rattle.sn_tree.proofs.CountLemmas.{span_more}
 use Rattle.sn_tree.proofs.FrontLemmas.{front_most-whole}
 use Rattle.sn_tree.proofs.levels.raised.Goals as goal
 
 -- what is zeros from a height on is so from a greater one
-bare_above : (from depth : ℕ) (old : ℕ → List ℕ) → from ≤ depth → IsZeroFrom (16 * 1024 ^ from) old → IsZeroFrom (16 * 1024 ^ depth) old
-bare_above from depth old up bare i past = bare i (omega (arith, past, span_more from depth up))
+bare_above : (from depth : ℕ) (old : List ℕ → ℕ → List ℕ) → from ≤ depth → AreHolesFrom (16 * 1024 ^ from) old → AreHolesFrom (16 * 1024 ^ depth) old
+bare_above from depth old up bare hole i past = bare hole i (omega (arith, past, span_more from depth up))
 
 pub loop-depth-init : goal.loop-depth-init
 loop-depth-init g c = record {

@@ -7,8 +7,8 @@ use Rattle.sn_tree.proofs.pointers.replace_pointers.Goals as goal
 
 pub returns-clause-replaced : goal.returns-clause-replaced
 returns-clause-replaced c =
-    let block : ℕ → NewBlock = λ n. record { number = n; bytes = c.in_ok-block.block } in
-    put_replaced c.put.result c.args.build.now c.release.new.self c.put.new.self c.args.pointer c.args.pointers.now block (λ n. refl) (λ n. c.in_ok-block.ensures ∙ c.encode.ensures) c.are_holes.ensures.are (λ holes. both_ways c.are_holes.result c.if-are_holes.false (c.are_holes.ensures.holes.1 (All-from_recursion (λ (p : ℕ). p ≡ 0) c.args.pointers.now holes))) c.in_ok-release.ensures.ok c.put.ensures.fresh c.put.ensures.ok
+    let block : ℕ → NewBlock = λ n. record { number = n; bytes = record { ptr = c.in_ok-block.block.ptr; alloc = c.in_ok-block.block.alloc; value = c.encode.new.block } } in
+    put_replaced c.put.result c.args.build.now c.release.new.self c.put.new.self c.args.pointer c.args.pointers.now block (λ n. refl) (λ n. c.encode.ensures) c.are_holes.ensures.are (λ holes. both_ways c.are_holes.result c.if-are_holes.false (c.are_holes.ensures.holes.1 (All-from_recursion (λ (p : ℕ). p ≡ 0) c.args.pointers.now holes))) c.in_ok-release.ensures.ok c.put.ensures.fresh c.put.ensures.ok
 
 pub returns-clause-filled : goal.returns-clause-filled
 returns-clause-filled c = λ _ holes. both_ways c.are_holes.result c.if-are_holes.false (c.are_holes.ensures.holes.1 (All-from_recursion (λ (p : ℕ). p ≡ 0) c.args.pointers.now holes))

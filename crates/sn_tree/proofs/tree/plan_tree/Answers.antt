@@ -5,10 +5,10 @@ use Rattle.sn_device.specs.Disk.{Disk, reads}
 use Rattle.sn_block.specs.Lending.{device_of}
 use Rattle.sn_layout.specs.Pointers.{levels_of}
 use Rattle.sn_layout.specs.declared.tree.BlockTree.{BlockTree}
-use Rattle.sn_ondisk.specs.Trees.{Store, store_of, all_pointers, data_block}
+use Rattle.sn_ondisk.specs.Trees.{Store, store_of, all_pointers}
 use Rattle.sn_tree_read.specs.declared.fault.TreeFault.TheVariants.{Damaged}
 use Rattle.sn_tree.specs.Dirty.{IsFrom}
-use Rattle.sn_tree.specs.Fronts.{IsZeroFrom, PlannedFront}
+use Rattle.sn_tree.specs.Fronts.{data_or, AreHolesFrom, PlannedFront}
 use Rattle.sn_tree.specs.Steps.{LeadsOutside}
 use Rattle.sn_tree.specs.declared.fault.PlanFault.TheVariants.{Tree, Full}
 use Rattle.sn_tree.specs.declared.new_block.DirtyBlock.{DirtyBlock}
@@ -16,7 +16,7 @@ use Rattle.sn_tree.proofs.CountLemmas.{span_most}
 use Rattle.sn_tree.proofs.DirtyLemmas.{IsFrom-after}
 use Rattle.sn_tree.proofs.FrontLemmas.{most_added-front, front_most-whole}
 use Rattle.sn_tree.proofs.LevelLemmas.{first_outside, first_full, aim, front_begun, front_planned}
-use Rattle.sn_tree.proofs.ReplannedLemmas.{data-past, tree_outside}
+use Rattle.sn_tree.proofs.ReplannedLemmas.{hole-past, tree_outside}
 use Rattle.sn_tree.proofs.StepLemmas.{planned_still}
 use Rattle.sn_tree.proofs.tree.plan_tree.Goals as goal
 
@@ -25,9 +25,9 @@ ends_at : (n width : ℕ) → n ≡ 16 → 0 + n * width ≡ 16 * width
 ends_at n width is = let all : n * width ≡ 16 * width = ap (λ k. k * width) is in omega (arith, all)
 
 -- a tree that gets more levels has no data blocks past its own
-zero_past : (s : Store) (tree : BlockTree) (least levels : ℕ) → length tree.pointers ≡ 16 → (least < levels → least ≡ levels_of tree.size) → least < levels → IsZeroFrom (16 * 1024 ^ least) (data_block s tree)
-zero_past s tree least levels count lowest more i past =
-    data-past s tree count i (subst (λ (n : ℕ). 16 * 1024 ^ n ≤ i) (lowest more) past)
+holes_past : (s : Store) (tree : BlockTree) (least levels : ℕ) → length tree.pointers ≡ 16 → (least < levels → least ≡ levels_of tree.size) → least < levels → AreHolesFrom (16 * 1024 ^ least) (λ hole i. data_or hole s tree i)
+holes_past s tree least levels count lowest more hole i past =
+    hole-past s tree hole count i (subst (λ (n : ℕ). 16 * 1024 ^ n ≤ i) (lowest more) past)
 
 pub plan_pointers-requires-clause-room : goal.plan_pointers-requires-clause-room
 plan_pointers-requires-clause-room g c =
@@ -104,7 +104,7 @@ returns-in_err-tops-clause-full g c = λ is.
     let whole = subst (λ (n : ℕ). PlannedFront Told (aim s tree keep items c.args.build.now) least n left news c.plan_pointers.new.build) ends front in
     let f = err_from_is_err_and c.from_residual-in_err-tops.result c.from_residual-in_err-tops.ensures.1 in
     let fault : c.in_err-tops.field-0.0 ≡ Full = cc (f.1, f.2) in
-    let few = c.in_err-tops.ensures.full (aim s tree keep items c.args.build.now) (zero_past s tree least levels c.lowered.ensures.sixteen lowest) whole (ap (λ fault. Err fault) fault) in
+    let few = c.in_err-tops.ensures.full (aim s tree keep items c.args.build.now) (holes_past s tree least levels c.lowered.ensures.sixteen lowest) whole (ap (λ fault. Err fault) fault) in
     let bound : (levels + 1) * (length items + 1) ≡ (levels_of c.args.dirty.size + 1) * (length items + 1) = ap (λ (n : ℕ). (n + 1) * (length items + 1)) c.levels_of-levels.ensures.value in
     omega (arith, few, bound)
 
@@ -128,7 +128,7 @@ returns-clause-planned g c =
     let step = planned_still Told s t keep least 0 end pointers news items left c.lowered.new.build c.plan_pointers.new.build same c.in_ok-plan_pointers.ensures.planned in
     let front = front_begun s tree keep items c.args.build.now Told least end pointers news left c.lowered.new.build c.plan_pointers.new.build c.in_ok-pointers.ensures.count ends c.in_ok-pointers.ensures.lowered step in
     let whole = subst (λ (n : ℕ). PlannedFront Told (aim s tree keep items c.args.build.now) least n left news c.plan_pointers.new.build) ends front in
-    let top = c.in_ok-tops.ensures.planned (aim s tree keep items c.args.build.now) (zero_past s tree least levels c.lowered.ensures.sixteen lowest) whole in
+    let top = c.in_ok-tops.ensures.planned (aim s tree keep items c.args.build.now) (holes_past s tree least levels c.lowered.ensures.sixteen lowest) whole in
     let new : BlockTree = record { size = c.args.dirty.size; pointers = c.new.result } in
     let behind = c.raised.new.build in
     let last = c.raised.new.dirty.items in
