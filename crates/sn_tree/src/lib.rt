@@ -7,11 +7,12 @@
 //! old trees that the new ones no longer reach. A plan only reads. It says of the new tree what stands
 //! in it in every store that has the new blocks and agrees with the old one in what the old tree
 //! reaches, so writes elsewhere don't matter, and no old block is written: a data block is the dirty one
-//! if there is one, the old one if it stays, and else zeros (`block_after`); where one of the first two is to be, there
-//! is a hole only if the old one was one (`IsHole`). What the new tree reaches with what is released is what the old one reached with what was added, each block as often, so the
-//! map's bits follow from the two lists. Where what is wanted ends at the new size, so does the tree: the
-//! pointers of places past it are holes, and the bytes past it zeros (`plan_laws` says when that is). The
-//! new blocks are at most a path for each dirty block and one path more (`most_added`).
+//! if there is one, the old one if it stays, and else zeros (`block_after`); where one of the first two is
+//! to be, there is a hole only if the old one was one (`IsHole`). What the new tree reaches with what is
+//! released is what the old one reached with what was added, each block as often, so the map's bits follow
+//! from the two lists. Where what is wanted ends at the new size, so does the tree: the pointers of places
+//! past it are holes, and the bytes past it zeros (`plan_laws` says when that is). The new blocks are at
+//! most a path for each dirty block and one path more (`most_added`).
 //!
 //! `plan` says the same of the content of a file, of which up to 64 bytes lie in the inode (`IsContentPlanned`):
 //! there data block 0 has those bytes, with zeros behind them. So where a file grows out of its inode they become
