@@ -93,14 +93,14 @@ fn copies(rt: &HostRuntime, count: u32) -> Result<Duration> {
     Ok(time)
 }
 
-/// Prints the least times, in nanoseconds, of 100 and 200 writes and reads of 64 KiB, of 500 and 1,000 files
+/// Prints the least times, in nanoseconds, of 100 and 200 writes and reads of 64 KiB, of 500 to 8,000 files
 /// of 100 bytes, and of 5,000 and 10,000 opens and closes; and that of 400 copies of 64 KiB.
 pub fn files(rt: &HostRuntime) -> Result<()> {
     for count in [0u32, 100, 200] {
         let time = timed(rt, writes(rt.alloc(), count)?.as_slice())?;
         println!(rt; "writes {count} {}", time.as_nanos())?;
     }
-    for count in [0u32, 500, 1_000] {
+    for count in [0u32, 500, 1_000, 4_000, 8_000] {
         let time = timed(rt, small(rt.alloc(), count)?.as_slice())?;
         println!(rt; "files {count} {}", time.as_nanos())?;
     }

@@ -1,5 +1,5 @@
 -- Runs of pointers that stay, which are passed over at once.
-use Rattle.std.proofs.Common.{◌≡◌, ℕ, ◌+◌, ◌-◌, ◌*◌, ◌/◌, ◌<◌, ◌≤◌, min, List, [], ◌∷◌, ◌++◌, length, get_or, take, drop, refl, sym, ap, subst, ◌∙◌, arith}
+use Rattle.std.proofs.Common.{◌≡◌, ◌⊎◌, ⊎_elim, ℕ, ◌+◌, ◌-◌, ◌*◌, ◌/◌, ◌<◌, ◌≤◌, min, List, [], ◌∷◌, ◌++◌, length, get_or, take, drop, refl, sym, ap, subst, ◌∙◌, arith}
 use Rattle.std.specs.Prelude.{◌^◌}
 use Rattle.std.proofs.Math.Nat.{mul-le-mul_left}
 use Rattle.std.proofs.Math.Seq.{take-add}
@@ -9,11 +9,11 @@ use Rattle.sn_tree.specs.Drafts.{Draft}
 use Rattle.sn_tree.specs.Dirty.{IsFrom}
 use Rattle.sn_tree.specs.Plans.{contents}
 use Rattle.sn_tree.specs.Runs.{kept_until}
-use Rattle.sn_tree.specs.Steps.{Planned}
+use Rattle.sn_tree.specs.Steps.{AreHoles, Planned}
 use Rattle.sn_tree.specs.declared.new_block.DirtyBlock.{DirtyBlock}
 use Rattle.sn_tree.proofs.CountLemmas.{span_some}
 use Rattle.sn_tree.proofs.DirtyLemmas.{after-none}
-use Rattle.sn_tree.proofs.PlanLemmas.{plan_kept}
+use Rattle.sn_tree.proofs.PlanLemmas.{plan_kept, plan_holes}
 use Rattle.sn_tree.proofs.StepLemmas.{grown-none, planned_joined}
 
 -- ---- up to where data blocks stay
@@ -54,16 +54,16 @@ run_some next n depth some =
 
 -- ---- the plan of a run
 
-planned_kept : (Told : Type 0) (s : Store) (keep depth base end : ℕ) (ps : List ℕ) (ds : List DirtyBlock) (draft : Draft) → end ≡ base + length ps * 1024 ^ depth → base < end → IsFrom end ds → end ≤ keep
+planned_staying : (Told : Type 0) (s : Store) (keep depth base end : ℕ) (ps : List ℕ) (ds : List DirtyBlock) (draft : Draft) → end ≡ base + length ps * 1024 ^ depth → base < end → IsFrom end ds → (end ≤ keep) ⊎ AreHoles ps
     → Planned Told s (all_pointers s depth ps) (contents s depth ps) depth base end keep ds ds ps draft draft
-planned_kept Told s keep depth base end ps ds draft is some rise within = record {
+planned_staying Told s keep depth base end ps ds draft is some rise stay = record {
   added = [];
   released = [];
   grew = grown-none draft;
   few = omega arith;
   rest = sym (after-none end ds rise);
-  cut = λ low _. absurd (omega (arith, low, within, some));
-  plans = λ _. plan_kept s depth base keep ds ps end is rise within;
+  cut = λ low _. ⊎_elim (λ (within : end ≤ keep). absurd (omega (arith, low, within, some))) (λ (holes : AreHoles ps). holes) stay;
+  plans = λ _. ⊎_elim (λ (within : end ≤ keep). plan_kept s depth base keep ds ps end is rise within) (λ (holes : AreHoles ps). plan_holes s depth base keep ds ps end is rise holes) stay;
 }
 
 module _ (k n : ℕ) (olds ps : List ℕ) (within : k + n ≤ length ps) (same : length ps ≡ length olds) (left : drop k ps ≡ drop k olds) where
@@ -71,10 +71,10 @@ module _ (k n : ℕ) (olds ps : List ℕ) (within : k + n ≤ length ps) (same :
   left_passed = sym (drop-drop n k ps) ∙ ap (drop n) left ∙ drop-drop n k olds
 
   pub planned_passed : (Told : Type 0) (s : Store) (keep depth base next end : ℕ) (ds mid : List DirtyBlock) (draft between : Draft)
-      → next ≡ base + k * 1024 ^ depth → end ≡ next + n * 1024 ^ depth → 0 < n → IsFrom end mid → end ≤ keep
+      → next ≡ base + k * 1024 ^ depth → end ≡ next + n * 1024 ^ depth → 0 < n → IsFrom end mid → (end ≤ keep) ⊎ AreHoles (take n (drop k ps))
       → Planned Told s (all_pointers s depth (take k olds)) (contents s depth (take k olds)) depth base (base + k * 1024 ^ depth) keep ds mid (take k ps) draft between
       → Planned Told s (all_pointers s depth (take (k + n) olds)) (contents s depth (take (k + n) olds)) depth base (base + (k + n) * 1024 ^ depth) keep ds mid (take (k + n) ps) draft between
-  planned_passed Told s keep depth base next end ds mid draft between starts ends some rise low front =
+  planned_passed Told s keep depth base next end ds mid draft between starts ends some rise stay front =
       let width = 1024 ^ depth in
       let run = take n (drop k olds) in
       let count : length run ≡ n = length-take-le n (drop k olds) (omega (arith, within, same, length-drop k olds)) in
@@ -82,7 +82,8 @@ module _ (k n : ℕ) (olds ps : List ℕ) (within : k + n ≤ length ps) (same :
       let is : next ≡ base + length (take k olds) * width = starts ∙ ap (λ m. base + m * width) (sym before) in
       let further : next < end = subst (λ (m : ℕ). next < m) (sym ends) (run_some next n depth some) in
       let here = subst (λ (m : ℕ). Planned Told s (all_pointers s depth (take k olds)) (contents s depth (take k olds)) depth base m keep ds mid (take k ps) draft between) (sym starts) front in
-      let kept = planned_kept Told s keep depth next end run mid between (ends ∙ ap (λ m. next + m * width) (sym count)) further rise low in
+      let same_run : take n (drop k ps) ≡ run = ap (take n) left in
+      let kept = planned_staying Told s keep depth next end run mid between (ends ∙ ap (λ m. next + m * width) (sym count)) further rise (subst (λ (qs : List ℕ). (end ≤ keep) ⊎ AreHoles qs) same_run stay) in
       let both = planned_joined Told s keep depth base next end (take k olds) run (take k ps) run ds mid mid draft between between is (omega (arith, further)) here kept in
       let of_olds : take k olds ++ run ≡ take (k + n) olds = sym (take-add k n olds) in
       let of_news : take k ps ++ run ≡ take (k + n) ps = ap (λ (xs : List ℕ). take k ps ++ take n xs) (sym left) ∙ sym (take-add k n ps) in

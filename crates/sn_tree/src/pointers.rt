@@ -1,5 +1,5 @@
 //! The pointers of a tree, planned from the top down.
-ghost use Rattle.std.specs.Prelude.{◌≡◌, ◌≢◌, ◌⊎◌, ◌+◌, ◌-◌, ◌*◌, ◌/◌, ◌^◌, ◌<◌, ◌≤◌, ◌↔◌, ℕ, [], ◌∷◌, false, length, min, Err, All, IsTrue, IsNone, IsSome, IfNone, IfSome, IfOk, OnOk, MatchOption};
+ghost use Rattle.std.specs.Prelude.{◌≡◌, ◌≢◌, ◌⊎◌, ◌+◌, ◌-◌, ◌*◌, ◌/◌, ◌^◌, ◌<◌, ◌≤◌, ◌↔◌, ℕ, [], ◌∷◌, false, length, min, take, Err, All, IsTrue, IsNone, IsSome, IfNone, IfSome, IfOk, OnOk, MatchOption};
 ghost use Rattle.sn_device.specs.Disk.{reads};
 ghost use Rattle.sn_alloc.specs.Taking.{free_data};
 ghost use Rattle.sn_block.specs.Lending.{device_of};
@@ -88,6 +88,71 @@ fn count_kept(dirty: &VecDeque<DirtyBlock>, keep: u64, at: u64, span: u64, count
 {
     let kept = stays_until(dirty, keep).saturating_sub(at) / span;
     kept.min(count as u64) as usize
+}
+
+// How many pointers are looked at together.
+const LOOKED_AT: usize = 64;
+
+// Whether all of these are holes. The greatest of them tells, and is found several pointers at a time.
+fn all_holes(pointers: &[u32]) -> bool
+    ensures { IsTrue result → All (λ p. p ≡ 0) pointers.now }
+{
+    let mut greatest = 0;
+    for pointer in pointers {
+        if *pointer > greatest {
+            greatest = *pointer;
+        }
+    }
+    greatest == 0
+}
+
+// How many of the first pointers are holes, counted from the first one.
+fn leading_holes(pointers: &[u32]) -> usize
+    ensures most { result ≤ length pointers.now }
+    ensures holes { All (λ p. p ≡ 0) (take result pointers.now) }
+{
+    let first = &pointers[..pointers.len().min(LOOKED_AT)];
+    if all_holes(first) {
+        return first.len();
+    }
+    first
+        .iter()
+        .position(|pointer| *pointer != 0)
+        .unwrap_or(0)
+}
+
+// How many of these are holes without a dirty block below them, counted from the first one, whose data
+// blocks begin at an index.
+fn count_holes(dirty: &VecDeque<DirtyBlock>, at: u64, span: u64, pointers: &[u32]) -> usize
+    requires { 0 < span }
+    ensures most { result ≤ length pointers.now }
+    ensures clean { 0 < result → (least : ℕ) → IsFrom least dirty.now.items
+        → IsFrom (at + result * span) dirty.now.items }
+    ensures holes { All (λ p. p ≡ 0) (take result pointers.now) }
+{
+    let clean = count_kept(dirty, u64::MAX, at, span, pointers.len());
+    leading_holes(&pointers[..clean])
+}
+
+// How many of these stay, counted from the first one.
+fn count_staying(
+    dirty: &VecDeque<DirtyBlock>,
+    keep: u64,
+    at: u64,
+    span: u64,
+    pointers: &[u32],
+) -> usize
+    requires { 0 < span }
+    ensures most { result ≤ length pointers.now }
+    ensures stay { 0 < result → (least : ℕ) → IsFrom least dirty.now.items
+        → IsFrom (at + result * span) dirty.now.items
+        × ((at + result * span ≤ keep) ⊎ All (λ p. p ≡ 0) (take result pointers.now)) }
+{
+    let kept = count_kept(dirty, keep, at, span, pointers.len());
+    if kept > 0 {
+        return kept;
+    }
+    count_holes(dirty, at, span, pointers)
 }
 
 // The new pointer in place of one to a data block: that of the dirty block, or a hole.
@@ -211,9 +276,9 @@ pub(crate) fn plan_pointers<D: Device>(
     let mut k = 0;
     while k < pointers.len() {
         let at = first + span * k as u64;
-        let kept = count_kept(dirty, keep, at, span, pointers.len() - k);
-        if kept > 0 {
-            k += kept;
+        let staying = count_staying(dirty, keep, at, span, &pointers[k..]);
+        if staying > 0 {
+            k += staying;
         } else {
             let new = plan_pointer(build, blocks, dirty, keep, pointers[k], depth, at)?;
             pointers[k] = new;

@@ -1,6 +1,7 @@
-use Rattle.std.proofs.Common.{rules, ◌≡◌, ◌⊎◌, ℕ, suc, ◌+◌, ◌-◌, ◌*◌, ◌<◌, ◌≤◌, List, [], ◌∷◌, length, get_or, refl, sym, ap, subst, ◌∙◌, arith, IsTrue}
-use Rattle.std.specs.Prelude.{◌^◌, Err, IfOk}
-use Rattle.std.proofs.lemmas.List.{length-set}
+use Rattle.std.proofs.Common.{rules, ◌≡◌, ◌⊎◌, inl, inr, ⊎_elim, ℕ, suc, ◌+◌, ◌-◌, ◌*◌, ◌<◌, ◌≤◌, List, [], ◌∷◌, length, get_or, take, drop, refl, sym, ap, subst, ◌∙◌, arith, IsTrue}
+use Rattle.std.specs.Prelude.{◌^◌, All, Err, IfOk}
+use Rattle.std.proofs.lemmas.List.{length-drop, length-set, take_all}
+use Rattle.std.proofs.lemmas.List.Elements.{recursion_from_All}
 use Rattle.std.proofs.lemmas.Result.{err_from_is_err_and}
 use Rattle.sn_device.specs.Disk.{Disk, reads}
 use Rattle.sn_device.specs.declared.status.Status.{Status}
@@ -10,8 +11,7 @@ use Rattle.sn_ondisk.specs.Trees.{Store, store_of, all_pointers}
 use Rattle.sn_tree_read.specs.declared.fault.TreeFault.TheVariants.{Damaged}
 use Rattle.sn_tree.specs.Dirty.{IsFrom, after}
 use Rattle.sn_tree.specs.Plans.{contents, most_added}
-use Rattle.sn_tree.specs.Runs.{kept_until}
-use Rattle.sn_tree.specs.Steps.{Planned, LeadsOutside}
+use Rattle.sn_tree.specs.Steps.{AreHoles, Planned, LeadsOutside}
 use Rattle.sn_tree.specs.declared.fault.PlanFault.TheVariants.{Tree, Full}
 use Rattle.sn_tree.specs.declared.new_block.DirtyBlock.{DirtyBlock}
 use Rattle.sn_tree.proofs.CountLemmas.{span_some, span_down}
@@ -19,7 +19,7 @@ use Rattle.sn_tree.proofs.DirtyLemmas.{IsFrom-after}
 use Rattle.sn_tree.proofs.FaultLemmas.{outside_here, outside_below}
 use Rattle.sn_tree.proofs.StepLemmas.{planned_stays, planned_leaf, planned_above, planned_under, planned_still, leaf_full, too_full_above}
 use Rattle.sn_tree.proofs.LoopLemmas.{planned_begun, planned_next, too_full_next, outside_next, left_next, next_at}
-use Rattle.sn_tree.proofs.RunLemmas.{kept_within, kept_clean, run_within, run_at, left_passed, planned_passed}
+use Rattle.sn_tree.proofs.RunLemmas.{run_at, left_passed, planned_passed}
 use Rattle.sn_tree.proofs.pointers.+plan.Goals as goal
 
 pub plan_pointer-returns-then-stays-clause-planned : goal.plan_pointer-returns-then-stays-clause-planned
@@ -128,6 +128,7 @@ plan_pointers-loop-k-init g t c =
       same = λ _. refl;
       status = refl;
       within = omega arith;
+      count = refl;
       left = refl;
       rise = subst (λ (n : ℕ). IsFrom n c.args.dirty.now.items) here c.requires.rise;
       planned = planned_begun (IsTrue g.D.Device.tells_bytes) s c.args.keep c.args.depth c.args.first c.args.pointers.now c.args.dirty.now.items c.args.build.now c.requires.rise;
@@ -143,7 +144,7 @@ plan_pointers-returns-in_err-new-clause-full g t c = λ is.
     let next = c.args.first + c.span_of-span.result * k in
     let starts : next ≡ c.args.first + k * width = ap (λ (w : ℕ). c.args.first + w * k) c.span_of-span.ensures.value ∙ swapped c.args.first k width in
     let within : k < length ps = omega arith in
-    let same : length ps ≡ length olds = omega arith in
+    let same : length ps ≡ length olds = c.loop-k.invariant.count in
     let p = err_from_is_err_and c.from_residual.result c.from_residual.ensures.1 in
     let fault : c.in_err-new.field-0.0 ≡ Full = cc (p.1, p.2) in
     too_full_next k olds ps within c.loop-k.invariant.left (IsTrue g.D.Device.tells_bytes) s c.args.keep c.args.depth c.args.first next (next + width) c.args.dirty.now.items c.loop-k.dirty.items c.args.build.now c.loop-k.build starts refl same c.loop-k.invariant.planned (c.in_err-new.ensures.full (ap (λ fault. Err fault) fault))
@@ -188,6 +189,7 @@ plan_pointers-loop-k-preserved g t c =
       same = λ told. c.plan_pointer.ensures.same told ∙ inv.same told;
       status = c.in_ok-new.ensures.counts.other (λ failed. absurd cc) ∙ inv.status;
       within = omega (arith, within, length-set ps k new);
+      count = length-set ps k new ∙ inv.count;
       left = left_next k olds ps within inv.left new;
       rise = subst (λ (n : ℕ). IsFrom n c.plan_pointer.new.dirty.items) ended
           (subst (λ (l : List DirtyBlock). IsFrom (next + width) l) (sym c.in_ok-new.ensures.planned.rest) (IsFrom-after (c.args.first + k * width) (next + width) c.loop-k.dirty.items inv.rise));
@@ -197,35 +199,41 @@ plan_pointers-loop-k-preserved g t c =
     swapped : (first k width : ℕ) → first + width * k ≡ first + k * width
     swapped first k width = omega arith
 
-pub plan_pointers-loop-k-preserved-then-kept-gt0 : goal.plan_pointers-loop-k-preserved-then-kept-gt0
-plan_pointers-loop-k-preserved-then-kept-gt0 g t c =
+pub plan_pointers-loop-k-preserved-then-staying-gt0 : goal.plan_pointers-loop-k-preserved-then-staying-gt0
+plan_pointers-loop-k-preserved-then-staying-gt0 g t c =
     let Told = IsTrue g.D.Device.tells_bytes in
     let s = store_of (reads (g.D.Device.disk (device_of c.args.blocks.now))) in
     let k = c.loop-k.k in
-    let n = c.count_kept-kept.result in
+    let n = c.count_staying-staying.result in
     let ps = c.loop-k.pointers in
     let olds = c.args.pointers.now in
+    let keep = c.args.keep in
     let items = c.loop-k.dirty.items in
     let width = 1024 ^ c.args.depth in
-    let span = c.span_of-span.result in
-    let next = c.args.first + span * k in
+    let next = c.args.first + c.span_of-span.result * k in
+    let end = next + n * width in
     let inv = c.loop-k.invariant in
     let starts : next ≡ c.args.first + k * width = ap (λ (w : ℕ). c.args.first + w * k) c.span_of-span.ensures.value ∙ swapped c.args.first k width in
     let some : 0 < n = omega arith in
-    let within : k + n ≤ length ps = omega (arith, c.count_kept-kept.ensures) in
-    let same : length ps ≡ length olds = omega arith in
-    let until : next + n * width ≤ kept_until c.args.keep items = subst (λ (w : ℕ). next + n * w ≤ kept_until c.args.keep items) c.span_of-span.ensures.value
-    (run_within (kept_until c.args.keep items) next span (length ps - k) n c.span_of-span.ensures.some c.count_kept-kept.ensures some) in
-    let low : next + n * width ≤ c.args.keep = omega (arith, until, kept_within c.args.keep items) in
-    let rise = kept_clean c.args.keep (next + n * width) (c.args.first + k * width) items until inv.rise in
-    let ended : next + n * width ≡ c.args.first + (k + n) * width = ap (λ (m : ℕ). m + n * width) starts ∙ run_at c.args.first k n width in
+    let within : k + n ≤ length ps = omega (arith, c.count_staying-staying.ensures.most, length-drop k ps) in
+    let same : length ps ≡ length olds = inv.count in
+    let whole : take (length ps - k) (drop k ps) ≡ drop k ps = take_all (length ps - k) (drop k ps) (omega (arith, length-drop k ps)) in
+    let told = c.count_staying-staying.ensures.stay some (c.args.first + k * width) inv.rise in
+    let wide : next + n * c.span_of-span.result ≡ end = ap (λ (w : ℕ). next + n * w) c.span_of-span.ensures.value in
+    let rise : IsFrom end items = subst (λ (m : ℕ). IsFrom m items) wide told.0 in
+    let stay : (end ≤ keep) ⊎ AreHoles (take n (drop k ps)) = ⊎_elim
+    (λ (low : next + n * c.span_of-span.result ≤ keep). inl (omega (arith, low, wide)))
+    (λ (holes : All (λ (p : ℕ). p ≡ 0) (take n (take (length ps - k) (drop k ps)))). inr (subst (λ (qs : List ℕ). AreHoles (take n qs)) whole (recursion_from_All (λ (p : ℕ). p ≡ 0) (take n (take (length ps - k) (drop k ps))) holes)))
+    told.1 in
+    let ended : end ≡ c.args.first + (k + n) * width = ap (λ (m : ℕ). m + n * width) starts ∙ run_at c.args.first k n width in
     record {
       same = inv.same;
       status = inv.status;
       within = within;
+      count = inv.count;
       left = left_passed k n olds ps within same inv.left;
       rise = subst (λ (m : ℕ). IsFrom m items) ended rise;
-      planned = planned_passed k n olds ps within same inv.left Told s c.args.keep c.args.depth c.args.first next (next + n * width) c.args.dirty.now.items items c.args.build.now c.loop-k.build starts refl some rise low inv.planned;
+      planned = planned_passed k n olds ps within same inv.left Told s keep c.args.depth c.args.first next end c.args.dirty.now.items items c.args.build.now c.loop-k.build starts refl some rise stay inv.planned;
     }
   where
     swapped : (first k width : ℕ) → first + width * k ≡ first + k * width

@@ -19,6 +19,7 @@ invariant-plan_pointers-loop-k g l = record {
   same : IsTrue g.D.Device.tells_bytes → g.D.Device.disk (device_of l.blocks) ≡ g.D.Device.disk (device_of l.fn.blocks);
   status : g.D.Device.status (device_of l.blocks) ≡ g.D.Device.status (device_of l.fn.blocks);
   within : l.k ≤ length l.pointers;
+  count : length l.pointers ≡ length l.fn.pointers;
   left : drop l.k l.pointers ≡ drop l.k l.fn.pointers;
   rise : IsFrom (l.fn.first + l.k * 1024 ^ l.fn.depth) l.dirty.items;
   planned : Planned (IsTrue g.D.Device.tells_bytes) (store_of (reads (g.D.Device.disk (device_of l.fn.blocks))))
