@@ -26,8 +26,8 @@
 //! `plan_pointers` plans each pointer by `plan_pointer`, which goes down to the pointers below: a recursion
 //! over levels, so a tree of three levels is no case of its own. A pointer stays where no dirty block lies
 //! below it and all below it stays, or it is a hole; a run of pointers up to the next dirty block, or to the end
-//! of what stays, is passed over at once. An indirect block is copied once, where a pointer in it changes, and is
-//! a hole where all of its pointers are.
+//! of what stays, is passed over at once, and one of holes in a few steps. An indirect block is copied once,
+//! where a pointer in it changes, and is a hole where all of its pointers are.
 //!
 //! ```text
 //! let mut build = Build::new(alloc, allocator);
