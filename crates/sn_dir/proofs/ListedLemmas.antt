@@ -1,10 +1,6 @@
 -- Names that were copied out of a directory.
-use Rattle.std.proofs.Common.{◌≡◌, ℕ, false, List, [], ◌∷◌, ◌++◌, map, refl, sym, ap, subst, ◌∙◌, append_assoc}
-use Rattle.std.specs.Cmp.Lexicographic.{slice_cmp}
-use Rattle.std.specs.List.Sorted.{IsSorted, IsSortedByKey, IsPermutation}
-use Rattle.std.specs.Ordering.{is_lt, nat_cmp, ordering_then}
-use Rattle.std.specs.declared.cmp.Ordering.{Ordering}
-use Rattle.std.specs.declared.cmp.Ordering.TheVariants.{Less, Equal, Greater}
+use Rattle.std.proofs.Common.{◌≡◌, ℕ, List, [], ◌∷◌, ◌++◌, map, sym, ap, subst, ◌∙◌, append_assoc}
+use Rattle.std.specs.List.Sorted.{IsPermutation}
 use Rattle.std.proofs.lemmas.List.{map-append}
 use Rattle.std.proofs.lemmas.List.Sorted.{IsPermutation-map}
 use Rattle.sn_layout_node.specs.Directory.{Link}
@@ -24,18 +20,6 @@ listed_more old new number bytes name left rest same pushed next =
     ∙ append_assoc (map link_of old) (link name ∷ []) rest
     ∙ ap (λ (n : List ℕ). map link_of old ++ (link n ∷ rest)) same
     ∙ ap (λ (links : List Link). map link_of old ++ links) (sym next)
-
--- first by name, and then by number
-abbrev pub listed_cmp : ListedName → ListedName → Ordering
-listed_cmp a b = ordering_then (slice_cmp nat_cmp a.name b.name) (nat_cmp a.number b.number)
-
-first_less : (a b : Ordering) → is_lt (ordering_then a b) ≡ false → is_lt a ≡ false
-first_less Less b not = not
-first_less Equal b not = refl
-first_less Greater b not = refl
-
-pub sorted_by_name : (names : List ListedName) → IsSorted listed_cmp names → IsSortedByKey (λ (listed : ListedName). listed.name) (slice_cmp nat_cmp) names
-sorted_by_name names sorted k d low within = first_less _ _ (sorted k d low within)
 
 -- other places, the same names
 pub same_names : (old new : List ListedName) (links : List Link) → map link_of old ≡ links → IsPermutation old new → IsPermutation links (map link_of new)

@@ -1,8 +1,6 @@
 //! All names of a directory, in order.
 ghost use Rattle.std.specs.Prelude.{◌≡◌, ⊤, ◌++◌, map, Err, IsTrue, IfOk, OnOk};
-ghost use Rattle.std.specs.Cmp.Lexicographic.{slice_cmp};
-ghost use Rattle.std.specs.List.Sorted.{IsPermutation, IsSortedByKey};
-ghost use Rattle.std.specs.Ordering.{nat_cmp};
+ghost use Rattle.std.specs.List.Sorted.{IsPermutation, IsSorted};
 ghost use Rattle.sn_device.specs.Disk.{reads};
 ghost use Rattle.sn_block.specs.Lending.{device_of};
 ghost use Rattle.sn_layout_node.specs.declared.content.Content.TheVariants.{Tree};
@@ -11,7 +9,7 @@ ghost use Rattle.sn_image.specs.Names.{names_in, names_of};
 ghost use Rattle.sn_tree_read.specs.Counts.{CountsTree};
 ghost use Rattle.sn_tree_read.specs.declared.fault.TreeFault.TheVariants.{Damaged};
 ghost use Rattle.sn_dir.specs.Blocks.{CanRead, IsDamaged};
-ghost use Rattle.sn_dir.specs.Listed.{link_of};
+ghost use Rattle.sn_dir.specs.Listed.{link_of, listed_cmp};
 
 use crate::blocks::{block_count, decoded, fetch_block};
 use sn_block::Blocks;
@@ -94,9 +92,9 @@ fn gathered<D: Device>(
     Ok(names)
 }
 
-/// All names of a directory with their numbers, sorted by the bytes of the names. `Damaged` comes exactly
-/// where one of the directory's blocks isn't on the device, is a hole, or doesn't spell names. Memory is
-/// taken for the answer, and for blocks that aren't kept.
+/// All names of a directory with their numbers, sorted by the bytes of the names, and where a name stands
+/// twice by number. `Damaged` comes exactly where one of the directory's blocks isn't on the device, is a
+/// hole, or doesn't spell names. Memory is taken for the answer, and for blocks that aren't kept.
 pub fn names<D: Device>(
     alloc: Global,
     blocks: &mut Blocks<D>,
@@ -104,7 +102,7 @@ pub fn names<D: Device>(
 ) -> Result<Vec<ListedName>, TreeFault>
     ensures names { IsTrue D.tells_bytes → IfOk result (λ names. IsPermutation
         (names_of (store_of (reads (D.disk (device_of blocks.old)))) (Tree tree.now)) (map link_of names.items)) }
-    ensures sorted { IfOk result (λ names. IsSortedByKey (λ listed. listed.name) (slice_cmp nat_cmp) names.items) }
+    ensures sorted { IfOk result (λ names. IsSorted listed_cmp names.items) }
     ensures whole { IsTrue D.tells_bytes → OnOk result (IsDamaged (λ names. ⊤)
         (D.status (device_of blocks.old)).sectors
         (store_of (reads (D.disk (device_of blocks.old)))) tree.now → ⊥) }

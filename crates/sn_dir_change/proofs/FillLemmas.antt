@@ -79,14 +79,14 @@ first_from waiting change first new made from link has = ⊎_elim
 
 -- ---- all blocks
 
-module _ (Told : Type 0) (s : Store) (tree : BlockTree) (changes : List NameChange) where
+module _ (Told : Type 0) (s : Store) (tree : BlockTree) (changes : List NameChange) (bound : ℕ) where
   -- a name that stands was found
-  pub filled_begun : (ds : List DirtyBlock) (standing waiting : List NameChange) → IsThrough Told s tree changes (tree.size / 4096) ds standing waiting → IsFilled Told s tree changes (tree.size / 4096) ds waiting
+  pub filled_begun : (ds : List DirtyBlock) (standing waiting : List NameChange) → IsThrough Told s tree changes bound (tree.size / 4096) ds standing waiting → IsFilled Told s tree changes bound (tree.size / 4096) ds waiting
   filled_begun ds standing waiting through = record {
     blocks = through.blocks;
     few = omega (arith, through.few);
     least = omega arith;
-    most = omega (arith, through.few);
+    most = omega arith;
     behind = λ i low high clean. omega (arith, low, high);
     full = through.full;
     fit = λ told i j link low past within has fits. omega (arith, past, within);
@@ -119,17 +119,17 @@ module _ (Told : Type 0) (s : Store) (tree : BlockTree) (changes : List NameChan
       → ((c : NameChange) → Contains waiting' c → Contains waiting c) → ((link : Link) → Contains (names_in new) link → IsLinkFrom (waiting ++ change ∷ []) [] link)
       → IsPushed count new ds ds' → IsDirectoryBlock new
       → ((names old : List Link) → IsUnderWay changes [] (waiting ++ change ∷ []) names names old → IsUnderWay changes [] waiting' (names ++ names_in new) (names ++ names_in new) old)
-      → IsFilled Told s tree changes count ds before → IsFilled Told s tree changes (count + 1) ds' waiting'
+      → IsFilled Told s tree changes bound count ds before → IsFilled Told s tree changes bound (count + 1) ds' waiting'
   filled_more count ds ds' before waiting waiting' change new was fewer listed from pushed spelled step filled =
       let d = pushed.block in
       let beside : (i : ℕ) → i < count → block_now s tree (ds ++ d ∷ []) i ≡ block_now s tree ds i = (λ i low. block-beside (tree.size / 4096) ds d i (data_block s tree i) (λ same. omega (arith, low, same, pushed.index_is))) in
       let is_new : block_now s tree (ds ++ d ∷ []) count ≡ new = subst (λ (n : ℕ). block_after (tree.size / 4096) (ds ++ d ∷ []) n (data_block s tree n) ≡ d.bytes.value) pushed.index_is (block-pushed (tree.size / 4096) ds d count (data_block s tree d.index) (omega (arith, pushed.index_is)) filled.blocks.before) ∙ pushed.bytes_are in
       let size : length before ≡ length waiting + 1 = ap (λ (xs : List NameChange). length xs) was ∙ length-append waiting (change ∷ []) in
-      subst (λ (l : List DirtyBlock). IsFilled Told s tree changes (count + 1) l waiting') (sym pushed.last) (record {
+      subst (λ (l : List DirtyBlock). IsFilled Told s tree changes bound (count + 1) l waiting') (sym pushed.last) (record {
         blocks = dirty_more count ds d pushed.index_is (subst IsDirectoryBlock (sym pushed.bytes_are) spelled) filled.blocks;
         few = omega (arith, filled.few, size, fewer, length-append ds (d ∷ []));
         least = omega (arith, filled.least);
-        most = omega (arith, filled.most, size, fewer);
+        most = omega (arith, filled.most, length-append ds (d ∷ []));
         behind = λ i low high clean.
             let parts = All-pop (λ (e : DirtyBlock). e.index ≢ i) (ds ++ d ∷ []) ds (Some d) refl clean in
             ⊎_elim
@@ -155,7 +155,7 @@ module _ (Told : Type 0) (s : Store) (tree : BlockTree) (changes : List NameChan
       })
 
   -- nothing waits any more
-  pub filled_changed : (count : ℕ) (ds : List DirtyBlock) → IsFilled Told s tree changes count ds [] → Told → AreOnce (names_of s (Tree tree)) → IsChanged changes (names_of s (Tree tree)) (names_to s tree ds count)
+  pub filled_changed : (count : ℕ) (ds : List DirtyBlock) → IsFilled Told s tree changes bound count ds [] → Told → AreOnce (names_of s (Tree tree)) → IsChanged changes (names_of s (Tree tree)) (names_to s tree ds count)
   filled_changed count ds filled told once =
       let way = filled.way told once in
       let names = names_to s tree ds count in

@@ -1,9 +1,11 @@
 -- Changes that are parted by whether their names stand.
-use Rattle.std.proofs.Common.{◌≡◌, ◌⊎◌, inl, inr, ⊎_elim, true, List, [], ◌∷◌, ◌++◌, None, refl, subst, arith}
+use Rattle.std.proofs.Common.{◌≡◌, ◌⊎◌, inl, inr, ⊎_elim, ℕ, ◌+◌, ◌<◌, ◌≤◌, ◌||◌, Bool, true, if◌then◌else◌, List, [], ◌∷◌, ◌++◌, length, take, get_or, Option, None, refl, sym, ap, subst, ◌∙◌, arith}
 use Rattle.std.specs.Prelude.{Contains, is_some}
+use Rattle.std.proofs.lemmas.List.{take_more}
 use Rattle.std.proofs.lemmas.List.Elements.{Contains-append_left, Contains-push, Contains-push_cases}
 use Rattle.sn_layout_node.specs.Directory.{Link, number_of}
-use Rattle.sn_dir_change.specs.Changes.{AreOnce, AreLinkChanges, IsChange}
+use Rattle.sn_image.proofs.ListLemmas.{count-append}
+use Rattle.sn_dir_change.specs.Changes.{AreOnce, AreLinkChanges, IsChange, is_needed, needed_changes}
 use Rattle.sn_dir_change.specs.UnderWay.{AreApart, IsUnderWay, AreParted}
 use Rattle.sn_dir_change.specs.declared.name_change.NameChange.{NameChange}
 use Rattle.sn_dir_change.proofs.ChangeLemmas.{times_joined}
@@ -83,3 +85,16 @@ link_change_more list change all is c there = ⊎_elim
     (λ (old : Contains list c). all c old)
     (λ (new : change ≡ c). subst IsChange new is)
     (Contains-push_cases list change c there)
+
+-- a name that was found stands also where the names are told otherwise
+pub found_as : (stands : Bool) (number : Option ℕ) (name : List ℕ) (now names : List Link) → stands ≡ is_some number → number ≡ number_of name now → now ≡ names → stands ≡ is_some (number_of name names)
+found_as stands number name now names found is same = found ∙ ap (λ (o : Option ℕ). is_some o) (is ∙ ap (λ (ls : List Link). number_of name ls) same)
+
+-- and one more of those that do something
+pub needed_more : (names : List Link) (changes : List NameChange) (i : ℕ) (d : NameChange) (stands : Bool) (before after : ℕ) → i < length changes → stands ≡ is_some (number_of (get_or changes i d).name.now names)
+    → before ≤ needed_changes names (take i changes) → after ≤ before + (if is_some (get_or changes i d).number || stands then 1 else 0) → after ≤ needed_changes names (take (i + 1) changes)
+needed_more names changes i d stands before after within is most more =
+    let change = get_or changes i d in
+    let all = ap (λ (xs : List NameChange). needed_changes names xs) (take_more changes i d within) ∙ count-append (is_needed names) (take i changes) (change ∷ []) in
+    let last : needed_changes names (change ∷ []) ≡ 0 + (if is_some change.number || stands then 1 else 0) = ap (λ (b : Bool). 0 + (if is_some change.number || b then 1 else 0)) (sym is) in
+    omega (arith, most, more, all, last)

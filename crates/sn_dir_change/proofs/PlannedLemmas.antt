@@ -22,7 +22,7 @@ use Rattle.sn_tree.specs.Replanned.{IsReplanned, IsPlanned}
 use Rattle.sn_tree.specs.declared.new_block.NewBlock.{NewBlock}
 use Rattle.sn_tree.specs.declared.new_block.DirtyBlock.{DirtyBlock}
 use Rattle.sn_tree.proofs.LawLemmas.{grown_end}
-use Rattle.sn_dir_change.specs.Changes.{AreOnce, IsChanged}
+use Rattle.sn_dir_change.specs.Changes.{AreOnce, IsChanged, needed_changes}
 use Rattle.sn_dir_change.specs.UnderWay.{IsUnderWay}
 use Rattle.sn_dir_change.specs.Through.{AreAllDirty, HaveNoRoom, names_to, AreDirty, IsThrough, IsFilled, IsWanted}
 use Rattle.sn_dir_change.specs.Planned.{HasRoom, HasChanged, IsDirectoryPlanned}
@@ -32,9 +32,9 @@ use Rattle.sn_dir_change.proofs.ThroughLemmas.{dirty_none, flat-same, names_from
 
 -- ---- the beginning
 
-pub through_begun : (Told : Type 0) (s : Store) (tree : BlockTree) (changes standing waiting : List NameChange) → length standing + length waiting ≤ length changes
-    → (Told → AreOnce (names_of s (Tree tree)) → IsUnderWay changes standing waiting [] (names_of s (Tree tree)) (names_of s (Tree tree))) → IsThrough Told s tree changes 0 [] standing waiting
-through_begun Told s tree changes standing waiting few way = record {
+pub through_begun : (Told : Type 0) (s : Store) (tree : BlockTree) (changes standing waiting : List NameChange) (bound : ℕ) → length standing + length waiting ≤ bound
+    → (Told → AreOnce (names_of s (Tree tree)) → IsUnderWay changes standing waiting [] (names_of s (Tree tree)) (names_of s (Tree tree))) → IsThrough Told s tree changes bound 0 [] standing waiting
+through_begun Told s tree changes standing waiting bound few way = record {
   blocks = dirty_none 0;
   few = omega (arith, few);
   full = λ told j low c there fits. omega (arith, low);
@@ -43,20 +43,21 @@ through_begun Told s tree changes standing waiting few way = record {
 
 -- ---- what is wanted
 
-pub wanted_is : (Told : Type 0) (s : Store) (tree : BlockTree) (changes : List NameChange) (keep count : ℕ) (ds : List DirtyBlock) → HasRoom tree (length changes) → keep ≡ tree.size / 4096
-    → IsFilled Told s tree changes count ds [] → IsWanted Told s tree changes (count * 4096) keep ds
-wanted_is Told s tree changes keep count ds room keep_is filled =
+pub wanted_is : (Told : Type 0) (s : Store) (tree : BlockTree) (changes : List NameChange) (bound keep count : ℕ) (ds : List DirtyBlock) → HasRoom tree (length changes) → bound ≤ length changes → (Told → bound ≤ needed_changes (names_of s (Tree tree)) changes)
+    → keep ≡ tree.size / 4096 → IsFilled Told s tree changes bound count ds [] → IsWanted Told s tree changes (count * 4096) keep ds
+wanted_is Told s tree changes bound keep count ds room few needed keep_is filled =
     let whole : count * 4096 / 4096 ≡ count = omega arith in
     record {
       blocks = subst (λ (n : ℕ). AreDirty n ds) (sym whole) filled.blocks;
-      few = omega (arith, filled.few);
+      few = omega (arith, filled.few, few);
+      needed = λ told. omega (arith, filled.few, needed told);
       keep_is = keep_is;
       whole = omega arith;
       least = omega (arith, filled.least, room.whole);
       most = omega (arith, filled.most, room.whole);
       behind = subst (λ (n : ℕ). AreAllDirty (tree.size / 4096) n ds) (sym whole) filled.behind;
       fit = λ told. subst (λ (n : ℕ). HaveNoRoom s tree n ds) (sym whole) (filled.fit told);
-      names = λ told once. subst (λ (n : ℕ). IsChanged changes (names_of s (Tree tree)) (names_to s tree ds n)) (sym whole) (filled_changed Told s tree changes count ds filled told once);
+      names = λ told once. subst (λ (n : ℕ). IsChanged changes (names_of s (Tree tree)) (names_to s tree ds n)) (sym whole) (filled_changed Told s tree changes bound count ds filled told once);
     }
 
 -- ---- the tree of it
@@ -85,7 +86,7 @@ spelled_after keep i (d ∷ ds) old all before = either (d.index == i) (spelled_
 
 module _ (Told : Type 0) (s : Store) (tree new : BlockTree) (changes : List NameChange) (size keep : ℕ) (ds : List DirtyBlock) (sized : new.size ≡ size) (room : HasRoom tree (length changes)) (wanted : IsWanted Told s tree changes size keep ds) where
   small : new.size ≤ 70368744177664
-  small = omega (arith, sized, room.most, wanted.most)
+  small = omega (arith, sized, room.most, wanted.most, wanted.few)
 
   module _ (added : List NewBlock) (released : List ℕ) (plan : IsReplanned s tree new keep ds added released) (r : Store) (same : SameIn (tree_reach s tree) s r) (held : Holds r added) where
     blocks_are : (i : ℕ) → 4096 * i + 4096 ≤ new.size → data_block r new i ≡ block_after (tree.size / 4096) ds i (data_block s tree i)
@@ -131,12 +132,11 @@ module _ (Told : Type 0) (s : Store) (tree new : BlockTree) (changes : List Name
         added = plan.added;
         released = plan.released;
         grew = plan.grew;
-        few =
-            let more : length ds + 1 ≤ length changes + 1 = omega (arith, wanted.few) in
-            let wider : (levels_of new.size + 1) * (length ds + 1) ≤ (levels_of new.size + 1) * (length changes + 1) = mul-le-mul_left (levels_of new.size + 1) more in
-            omega (arith, plan.few, wider);
+        few = plan.few;
         one_each = wanted.few;
+        needed = wanted.needed;
         kept = omega (arith, sized, wanted.least);
+        most = omega (arith, sized, wanted.most);
         whole = omega (arith, sized, wanted.whole);
         plans = λ told. subst (λ (k : ℕ). IsReplanned s tree new k ds plan.added plan.released) wanted.keep_is (here told);
         changed = λ told once r same held. has_changed plan.added plan.released (here told) r same held told once;
@@ -154,7 +154,7 @@ pub bound_more : (Told : Type 0) (s : Store) (tree : BlockTree) (changes : List 
     → (levels_of size + 1) * (length ds + 1) ≤ (levels_of (tree.size + 4096 * length changes) + 1) * (length changes + 1)
 bound_more Told s tree changes size keep ds room wanted =
     let most = tree.size + 4096 * length changes in
-    let higher : levels_of size + 1 ≤ levels_of most + 1 = omega (arith, levels_more size most wanted.most room.most) in
+    let higher : levels_of size + 1 ≤ levels_of most + 1 = omega (arith, levels_more size most (omega (arith, wanted.most, wanted.few)) room.most) in
     let more : length ds + 1 ≤ length changes + 1 = omega (arith, wanted.few) in
     let first : (levels_of size + 1) * (length ds + 1) ≤ (levels_of size + 1) * (length changes + 1) = mul-le-mul_left (levels_of size + 1) more in
     let second : (levels_of size + 1) * (length changes + 1) ≤ (levels_of most + 1) * (length changes + 1) = mul-le-mul_right (length changes + 1) higher in
@@ -162,13 +162,13 @@ bound_more Told s tree changes size keep ds room wanted =
 
 -- ---- all blocks were gone through
 
-pub gone_through : (Told : Type 0) (s r : Store) (tree : BlockTree) (changes standing waiting standing' waiting' : List NameChange) (ds : List DirtyBlock) → (Told → r ≡ s) → length standing + length waiting ≤ length changes
+pub gone_through : (Told : Type 0) (s r : Store) (tree : BlockTree) (changes standing waiting standing' waiting' : List NameChange) (bound : ℕ) (ds : List DirtyBlock) → (Told → r ≡ s) → length standing + length waiting ≤ bound
     → (Told → AreOnce (names_of s (Tree tree)) → IsUnderWay changes standing waiting [] (names_of s (Tree tree)) (names_of s (Tree tree)))
-    → (IsThrough Told r tree changes 0 [] standing waiting → IsThrough Told r tree changes (tree.size / 4096) ds standing' waiting')
-    → IsThrough Told s tree changes (tree.size / 4096) ds standing' waiting'
-gone_through Told s r tree changes standing waiting standing' waiting' ds same few way pass =
-    through_as Told s r tree changes (tree.size / 4096) ds standing' waiting' same
-    (pass (through_as Told r s tree changes 0 [] standing waiting (λ told. sym (same told)) (through_begun Told s tree changes standing waiting few way)))
+    → (IsThrough Told r tree changes bound 0 [] standing waiting → IsThrough Told r tree changes bound (tree.size / 4096) ds standing' waiting')
+    → IsThrough Told s tree changes bound (tree.size / 4096) ds standing' waiting'
+gone_through Told s r tree changes standing waiting standing' waiting' bound ds same few way pass =
+    through_as Told s r tree changes bound (tree.size / 4096) ds standing' waiting' same
+    (pass (through_as Told r s tree changes bound 0 [] standing waiting (λ told. sym (same told)) (through_begun Told s tree changes standing waiting bound few way)))
 
 pub planned_result : (Told : Type 0) (s : Store) (tree : BlockTree) (changes : List NameChange) (size keep : ℕ) (ds : List DirtyBlock) (t : Store) (old_draft new_draft : Draft) (result : Result BlockTree PlanFault)
     → HasRoom tree (length changes) → IsWanted Told s tree changes size keep ds → (Told → t ≡ s) → IfOk result (λ new. new.size ≡ size) → IfOk result (λ new. IsPlanned Told t tree new keep ds old_draft new_draft)
@@ -177,10 +177,10 @@ planned_result Told s tree changes size keep ds t old_draft new_draft (Err fault
 planned_result Told s tree changes size keep ds t old_draft new_draft (Ok new) room wanted same sized plan = planned_is Told s tree new changes size keep ds sized room wanted t old_draft new_draft same plan
 
 -- and the new blocks can be filled
-pub ready_to_fill : (Told : Type 0) (s r : Store) (tree : BlockTree) (changes standing waiting standing' waiting' : List NameChange) (ds : List DirtyBlock) (keep : ℕ) → keep ≡ tree.size / 4096 → (Told → r ≡ s) → length standing + length waiting ≤ length changes
+pub ready_to_fill : (Told : Type 0) (s r : Store) (tree : BlockTree) (changes standing waiting standing' waiting' : List NameChange) (bound : ℕ) (ds : List DirtyBlock) (keep : ℕ) → keep ≡ tree.size / 4096 → (Told → r ≡ s) → length standing + length waiting ≤ bound
     → (Told → AreOnce (names_of s (Tree tree)) → IsUnderWay changes standing waiting [] (names_of s (Tree tree)) (names_of s (Tree tree)))
-    → (IsThrough Told r tree changes 0 [] standing waiting → IsThrough Told r tree changes (tree.size / 4096) ds standing' waiting')
-    → IsFilled Told s tree changes keep ds waiting'
-ready_to_fill Told s r tree changes standing waiting standing' waiting' ds keep is same few way pass =
-    subst (λ (n : ℕ). IsFilled Told s tree changes n ds waiting') (sym is)
-    (filled_begun Told s tree changes ds standing' waiting' (gone_through Told s r tree changes standing waiting standing' waiting' ds same few way pass))
+    → (IsThrough Told r tree changes bound 0 [] standing waiting → IsThrough Told r tree changes bound (tree.size / 4096) ds standing' waiting')
+    → IsFilled Told s tree changes bound keep ds waiting'
+ready_to_fill Told s r tree changes standing waiting standing' waiting' bound ds keep is same few way pass =
+    subst (λ (n : ℕ). IsFilled Told s tree changes bound n ds waiting') (sym is)
+    (filled_begun Told s tree changes bound ds standing' waiting' (gone_through Told s r tree changes standing waiting standing' waiting' bound ds same few way pass))

@@ -156,8 +156,8 @@ passed_way changes standing waiting front here names old gone way = record {
 
 -- ---- one block more
 
-module _ (Told : Type 0) (s : Store) (tree : BlockTree) (changes : List NameChange) (i : ℕ) (ds : List DirtyBlock) (standing waiting standing' waiting' : List NameChange) (bytes : List ℕ) (is : Told → bytes ≡ data_block s tree i)
-    (within : i < tree.size / 4096) (through : IsThrough Told s tree changes i ds standing waiting) where
+module _ (Told : Type 0) (s : Store) (tree : BlockTree) (changes : List NameChange) (bound i : ℕ) (ds : List DirtyBlock) (standing waiting standing' waiting' : List NameChange) (bytes : List ℕ) (is : Told → bytes ≡ data_block s tree i)
+    (within : i < tree.size / 4096) (through : IsThrough Told s tree changes bound i ds standing waiting) where
   entered : Told → AreOnce (names_of s (Tree tree)) → IsUnderWay changes standing waiting (names_to s tree ds i) (names_to s tree ds i ++ names_in bytes ++ names_from s tree (i + 1)) (names_of s (Tree tree))
   entered told once =
       let front = names_to s tree ds i in
@@ -180,10 +180,10 @@ module _ (Told : Type 0) (s : Store) (tree : BlockTree) (changes : List NameChan
         subst (λ (ls : List Link). IsUnderWay changes standing' waiting' ls (ls ++ rest) (names_of s (Tree tree))) (sym made)
         (passed_way changes standing' waiting' front (names_in new) (front ++ names_in new ++ rest) (names_of s (Tree tree)) moved.1 moved.0)
 
-    pub through_pushed : (ds' : List DirtyBlock) → IsPushed i new ds ds' → IsDirectoryBlock new → length standing' + length waiting' < length standing + length waiting → IsThrough Told s tree changes (i + 1) ds' standing' waiting'
+    pub through_pushed : (ds' : List DirtyBlock) → IsPushed i new ds ds' → IsDirectoryBlock new → length standing' + length waiting' < length standing + length waiting → IsThrough Told s tree changes bound (i + 1) ds' standing' waiting'
     through_pushed ds' pushed spelled fewer =
         let d = pushed.block in
-        subst (λ (l : List DirtyBlock). IsThrough Told s tree changes (i + 1) l standing' waiting') (sym pushed.last) (record {
+        subst (λ (l : List DirtyBlock). IsThrough Told s tree changes bound (i + 1) l standing' waiting') (sym pushed.last) (record {
           blocks = dirty_more i ds d pushed.index_is (subst IsDirectoryBlock (sym pushed.bytes_are) spelled) through.blocks;
           few = omega (arith, through.few, fewer, length-append ds (d ∷ []));
           full = λ told j low. ⊎_elim
@@ -196,7 +196,7 @@ module _ (Told : Type 0) (s : Store) (tree : BlockTree) (changes : List NameChan
           way = left_behind (names_to s tree (ds ++ d ∷ []) (i + 1)) (names_to-pushed s tree ds d i pushed.index_is through.blocks ∙ ap (λ (b : List ℕ). names_to s tree ds i ++ names_in b) pushed.bytes_are);
         })
 
-    pub through_kept : new ≡ bytes → length standing' + length waiting' ≤ length standing + length waiting → IsThrough Told s tree changes (i + 1) ds standing' waiting'
+    pub through_kept : new ≡ bytes → length standing' + length waiting' ≤ length standing + length waiting → IsThrough Told s tree changes bound (i + 1) ds standing' waiting'
     through_kept same fewer = record {
       blocks = dirty_later i (i + 1) ds (omega arith) through.blocks;
       few = omega (arith, through.few, fewer);
@@ -218,8 +218,8 @@ pub none_full : (waiting : List NameChange) (links : List Link) → length waiti
 none_full waiting links none c (k, within, is) fits = omega (arith, within, none)
 
 -- the same over a store that the device still tells
-pub through_as : (Told : Type 0) (s r : Store) (tree : BlockTree) (changes : List NameChange) (i : ℕ) (ds : List DirtyBlock) (standing waiting : List NameChange) → (Told → r ≡ s) → IsThrough Told r tree changes i ds standing waiting → IsThrough Told s tree changes i ds standing waiting
-through_as Told s r tree changes i ds standing waiting same through = record {
+pub through_as : (Told : Type 0) (s r : Store) (tree : BlockTree) (changes : List NameChange) (bound i : ℕ) (ds : List DirtyBlock) (standing waiting : List NameChange) → (Told → r ≡ s) → IsThrough Told r tree changes bound i ds standing waiting → IsThrough Told s tree changes bound i ds standing waiting
+through_as Told s r tree changes bound i ds standing waiting same through = record {
   blocks = through.blocks;
   few = through.few;
   full = λ told. subst (λ (q : Store). (j : ℕ) → j < i → AreFull waiting (names_in (block_now q tree ds j))) (same told) (through.full told);

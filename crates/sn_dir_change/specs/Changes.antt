@@ -1,5 +1,5 @@
 -- Names that are to change, and what the directory has then.
-use Rattle.std.specs.Prelude.{◌≡◌, ◌≢◌, ℕ, ◌≤◌, List, [], ◌∷◌, Some, None, IfSome, Option, All, Contains, count_by}
+use Rattle.std.specs.Prelude.{◌≡◌, ◌≢◌, ℕ, ◌≤◌, ◌||◌, Bool, List, [], ◌∷◌, Some, None, IfSome, Option, All, Contains, count_by, is_some}
 use Rattle.std.specs.Str.{bytes_eq}
 use Rattle.sn_layout_node.specs.Directory.{Link, IsLink, number_of}
 use Rattle.sn_dir_change.specs.declared.name_change.NameChange.{NameChange}
@@ -27,6 +27,14 @@ IsChange change = IfSome change.number (λ number. IsLink (record { number = num
 
 abbrev pub AreLinkChanges : List NameChange → Type 0
 AreLinkChanges changes = (change : NameChange) → Contains changes change → IsChange change
+
+-- whether a change does anything: a name that is to go and doesn't stand is as it is to be
+abbrev pub is_needed : List Link → NameChange → Bool
+is_needed names change = is_some change.number || is_some (number_of change.name.now names)
+
+-- how many changes do
+abbrev pub needed_changes : List Link → List NameChange → ℕ
+needed_changes names changes = count_by (is_needed names) changes
 
 -- Changes of different names.
 pub record AreChanges (changes : List NameChange) : Type 0 where

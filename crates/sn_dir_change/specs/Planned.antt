@@ -15,7 +15,7 @@ use Rattle.sn_tree.specs.Steps.{LeadsOutside}
 use Rattle.sn_tree.specs.declared.new_block.NewBlock.{NewBlock}
 use Rattle.sn_tree.specs.declared.new_block.DirtyBlock.{DirtyBlock}
 use Rattle.sn_dir.specs.Blocks.{IsDamaged}
-use Rattle.sn_dir_change.specs.Changes.{AreOnce, IsChanged}
+use Rattle.sn_dir_change.specs.Changes.{AreOnce, IsChanged, needed_changes}
 use Rattle.sn_dir_change.specs.declared.name_change.NameChange.{NameChange}
 
 -- A directory's size, with room for so many blocks more in the largest tree.
@@ -41,15 +41,17 @@ pub record HasChanged (s r : Store) (old new : BlockTree) (changes : List NameCh
   -- where the tree ended at its size, so does the new one
   pub ends : EndsAtSize s old → EndsAtSize r new
 
--- A directory was planned with these changes. At most one of its blocks changes for each name, none is given back, and a path of new blocks for each name and one more is the most that is taken. Over a device that tells its bytes the tree is that of the changed blocks; where no name stood twice it is the directory that is wanted, in any store that has the new blocks and agrees with the old one in the blocks that the old tree reaches.
+-- A directory was planned with these changes. At most one of its blocks changes for each name that is to stand or go, so none for a name that is to go and doesn't stand; a block behind the old ones is one of those, none is given back, and a path of new blocks for each and one more is the most that is taken. Over a device that tells its bytes the tree is that of the changed blocks; where no name stood twice it is the directory that is wanted, in any store that has the new blocks and agrees with the old one in the blocks that the old tree reaches.
 pub record IsDirectoryPlanned (Told : Type 0) (s : Store) (old new : BlockTree) (changes : List NameChange) (old_draft new_draft : Draft) : Type 0 where
   pub dirty : List DirtyBlock
   pub added : List NewBlock
   pub released : List ℕ
   pub grew : new_draft ≡ grown old_draft added released
-  pub few : length added ≤ (levels_of new.size + 1) * (length changes + 1)
+  pub few : length added ≤ (levels_of new.size + 1) * (length dirty + 1)
   pub one_each : length dirty ≤ length changes
+  pub needed : Told → length dirty ≤ needed_changes (names_of s (Tree old)) changes
   pub kept : old.size ≤ new.size
+  pub most : new.size ≤ old.size + 4096 * length dirty
   pub whole : new.size % 4096 ≡ 0
   pub plans : Told → IsReplanned s old new (old.size / 4096) dirty added released
   pub changed : Told → AreOnce (names_of s (Tree old)) → (r : Store) → SameIn (tree_reach s old) s r → Holds r added → HasChanged s r old new changes

@@ -8,7 +8,7 @@ use Rattle.sn_ondisk.specs.Trees.{Store, data_block}
 use Rattle.sn_image.specs.Names.{names_in, names_of}
 use Rattle.sn_tree.specs.Dirty.{IsFrom, block_after}
 use Rattle.sn_tree.specs.declared.new_block.DirtyBlock.{DirtyBlock}
-use Rattle.sn_dir_change.specs.Changes.{AreOnce, IsChanged}
+use Rattle.sn_dir_change.specs.Changes.{AreOnce, IsChanged, needed_changes}
 use Rattle.sn_dir_change.specs.UnderWay.{AreFull, IsUnderWay}
 use Rattle.sn_dir_change.specs.declared.name_change.NameChange.{NameChange}
 
@@ -37,10 +37,10 @@ pub record IsPushed (index : ℕ) (bytes : List ℕ) (old new : List DirtyBlock)
   pub bytes_are : block.bytes.value ≡ bytes
   pub last : new ≡ old ++ block ∷ []
 
--- The blocks before this one were gone through.
-pub record IsThrough (Told : Type 0) (s : Store) (tree : BlockTree) (changes : List NameChange) (i : ℕ) (dirty : List DirtyBlock) (standing waiting : List NameChange) : Type 0 where
+-- The blocks before this one were gone through, for so many changes at most.
+pub record IsThrough (Told : Type 0) (s : Store) (tree : BlockTree) (changes : List NameChange) (bound i : ℕ) (dirty : List DirtyBlock) (standing waiting : List NameChange) : Type 0 where
   pub blocks : AreDirty i dirty
-  pub few : length dirty + (length standing + length waiting) ≤ length changes
+  pub few : length dirty + (length standing + length waiting) ≤ bound
   pub way : Told → AreOnce (names_of s (Tree tree)) → IsUnderWay changes standing waiting (names_to s tree dirty i) (names_to s tree dirty i ++ names_from s tree i) (names_of s (Tree tree))
   -- none of them has room for a name that waits
   pub full : Told → (j : ℕ) → j < i → AreFull waiting (names_in (block_now s tree dirty j))
@@ -55,11 +55,11 @@ HaveNoRoom s tree count dirty = (i j : ℕ) (link : Link) → i < tree.size / 40
     → Contains (names_in (block_now s tree dirty j)) link → AreLinks (names_in (block_now s tree dirty i) ++ link ∷ []) → ⊥
 
 -- The names that stood were changed, and the blocks behind the old ones are filled with those that wait.
-pub record IsFilled (Told : Type 0) (s : Store) (tree : BlockTree) (changes : List NameChange) (count : ℕ) (dirty : List DirtyBlock) (waiting : List NameChange) : Type 0 where
+pub record IsFilled (Told : Type 0) (s : Store) (tree : BlockTree) (changes : List NameChange) (bound count : ℕ) (dirty : List DirtyBlock) (waiting : List NameChange) : Type 0 where
   pub blocks : AreDirty count dirty
-  pub few : length dirty + length waiting ≤ length changes
+  pub few : length dirty + length waiting ≤ bound
   pub least : tree.size / 4096 ≤ count
-  pub most : count + length waiting ≤ tree.size / 4096 + length changes
+  pub most : count ≤ tree.size / 4096 + length dirty
   pub behind : AreAllDirty (tree.size / 4096) count dirty
   pub way : Told → AreOnce (names_of s (Tree tree)) → IsUnderWay changes [] waiting (names_to s tree dirty count) (names_to s tree dirty count) (names_of s (Tree tree))
   pub full : Told → (j : ℕ) → j < tree.size / 4096 → AreFull waiting (names_in (block_now s tree dirty j))
@@ -69,10 +69,11 @@ pub record IsFilled (Told : Type 0) (s : Store) (tree : BlockTree) (changes : Li
 pub record IsWanted (Told : Type 0) (s : Store) (tree : BlockTree) (changes : List NameChange) (size keep : ℕ) (dirty : List DirtyBlock) : Type 0 where
   pub blocks : AreDirty (size / 4096) dirty
   pub few : length dirty ≤ length changes
+  pub needed : Told → length dirty ≤ needed_changes (names_of s (Tree tree)) changes
   pub keep_is : keep ≡ tree.size / 4096
   pub whole : size % 4096 ≡ 0
   pub least : tree.size ≤ size
-  pub most : size ≤ tree.size + 4096 * length changes
+  pub most : size ≤ tree.size + 4096 * length dirty
   pub behind : AreAllDirty (tree.size / 4096) (size / 4096) dirty
   pub names : Told → AreOnce (names_of s (Tree tree)) → IsChanged changes (names_of s (Tree tree)) (names_to s tree dirty (size / 4096))
   pub fit : Told → HaveNoRoom s tree (size / 4096) dirty

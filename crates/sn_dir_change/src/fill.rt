@@ -1,5 +1,5 @@
 //! New blocks of a directory, for the names that there was no room for.
-ghost use Rattle.std.specs.Prelude.{◌≡◌, ◌+◌, ◌++◌, ◌≤◌, ◌<◌, ◌^◌, Bool, List, [], ◌∷◌, Contains, length, IsTrue, IfOk};
+ghost use Rattle.std.specs.Prelude.{◌≡◌, ℕ, ◌+◌, ◌++◌, ◌≤◌, ◌<◌, ◌^◌, Bool, List, [], ◌∷◌, Contains, length, IsTrue, IfOk};
 ghost use Rattle.sn_layout.specs.declared.tree.BlockTree.{BlockTree as TheTree};
 ghost use Rattle.sn_layout_node.specs.Directory.{Link, IsDirectoryBlock};
 ghost use Rattle.sn_ondisk.specs.Trees.{Store};
@@ -49,9 +49,9 @@ pub(crate) fn fill_blocks(
 ) -> Result<u64, AllocError>
     requires waiting { AreLinkChanges waiting.old.items }
     requires room { first + length waiting.old.items < 2 ^ 52 }
-    ensures filled { (told : Bool) (s : Store) (tree : TheTree) (changes : List TheChange)
-        → IsFilled (IsTrue told) s tree changes first dirty.old.items waiting.old.items
-        → IfOk result (λ count. IsFilled (IsTrue told) s tree changes count dirty.new.items []) }
+    ensures filled { (told : Bool) (s : Store) (tree : TheTree) (changes : List TheChange) (bound : ℕ)
+        → IsFilled (IsTrue told) s tree changes bound first dirty.old.items waiting.old.items
+        → IfOk result (λ count. IsFilled (IsTrue told) s tree changes bound count dirty.new.items []) }
 {
     let mut count = first;
     while let Some(change) = waiting.pop() {

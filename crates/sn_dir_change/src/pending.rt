@@ -1,5 +1,5 @@
 //! The changes that are still to be made.
-ghost use Rattle.std.specs.Prelude.{◌≡◌, ◌+◌, ◌==◌, ◌≤◌, List, [], ◌∷◌, ◌++◌, ⊤, Err, length, is_some, IsTrue, IfOk, OnOk};
+ghost use Rattle.std.specs.Prelude.{◌≡◌, ◌+◌, ◌==◌, ◌≤◌, ◌||◌, if◌then◌else◌, List, [], ◌∷◌, ◌++◌, ⊤, Err, length, is_some, IsTrue, IfOk, OnOk};
 ghost use Rattle.sn_device.specs.Disk.{reads};
 ghost use Rattle.sn_block.specs.Lending.{device_of};
 ghost use Rattle.sn_layout_node.specs.Directory.{Link, number_of};
@@ -9,7 +9,7 @@ ghost use Rattle.sn_image.specs.Names.{names_of};
 ghost use Rattle.sn_tree_read.specs.Counts.{CountsTree};
 ghost use Rattle.sn_tree_read.specs.declared.fault.TreeFault.TheVariants.{Damaged};
 ghost use Rattle.sn_dir.specs.Blocks.{IsDamaged};
-ghost use Rattle.sn_dir_change.specs.Changes.{AreChanges, AreLinkChanges, AreOnce, IsChange};
+ghost use Rattle.sn_dir_change.specs.Changes.{AreChanges, AreLinkChanges, AreOnce, IsChange, needed_changes};
 ghost use Rattle.sn_dir_change.specs.UnderWay.{AreParted, IsUnderWay};
 ghost use Rattle.sn_dir_change.specs.declared.name_change.NameChange.{NameChange as TheChange};
 
@@ -57,6 +57,9 @@ impl<'a> Pending<'a> {
             → OnOk result (AreParted names (taken ++ change.now ∷ []) self.new.standing.items self.new.waiting.items) }
         ensures few { OnOk result (length self.new.standing.items + length self.new.waiting.items
             ≤ length self.old.standing.items + length self.old.waiting.items + 1) }
+        ensures needed { OnOk result (length self.new.standing.items + length self.new.waiting.items
+            ≤ length self.old.standing.items + length self.old.waiting.items
+            + (if is_some change.now.number || stands then 1 else 0)) }
         ensures standing { AreLinkChanges self.old.standing.items → OnOk result (AreLinkChanges self.new.standing.items) }
         ensures waiting { AreLinkChanges self.old.waiting.items → OnOk result (AreLinkChanges self.new.waiting.items) }
     {
@@ -92,6 +95,9 @@ pub(crate) fn parted<'a, D: Device>(
         (names_of (store_of (reads (D.disk (device_of blocks.old)))) (Tree tree.now))) }
     ensures few { IfOk result (λ pending.
         length pending.standing.items + length pending.waiting.items ≤ length changes.now) }
+    ensures needed { IsTrue D.tells_bytes → IfOk result (λ pending.
+        length pending.standing.items + length pending.waiting.items
+        ≤ needed_changes (names_of (store_of (reads (D.disk (device_of blocks.old)))) (Tree tree.now)) changes.now) }
     ensures standing { IfOk result (λ pending. AreLinkChanges pending.standing.items) }
     ensures waiting { IfOk result (λ pending. AreLinkChanges pending.waiting.items) }
     ensures damaged { IsTrue D.tells_bytes → result ≡ Err Damaged

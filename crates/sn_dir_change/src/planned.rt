@@ -57,8 +57,8 @@ fn wanted<D: Device>(
 
 /// Plans a directory in which names were set and taken out, each name at most once in the list. A name
 /// that stands is set in its place; one that doesn't is put into a block with room, or into a new block
-/// behind the others where there is none. No block is given back, and at most one changes for each name.
-/// To take out a name that isn't there changes nothing.
+/// behind the others where there is none. No block is given back, and at most one changes for each name;
+/// to take out a name that isn't there changes none.
 ///
 /// After an error the build can only be given up. `Full` comes only where fewer blocks are left than a
 /// path for each name and one more, and `Damaged` only where a block of the directory can't be read or one

@@ -1,5 +1,5 @@
 //! Going through the blocks of a directory.
-ghost use Rattle.std.specs.Prelude.{◌≡◌, ◌+◌, ◌/◌, ◌<◌, List, [], ⊤, Err, IsTrue, IfOk, OnOk};
+ghost use Rattle.std.specs.Prelude.{◌≡◌, ℕ, ◌+◌, ◌/◌, ◌<◌, List, [], ⊤, Err, IsTrue, IfOk, OnOk};
 ghost use Rattle.sn_device.specs.Disk.{reads};
 ghost use Rattle.sn_block.specs.Lending.{device_of};
 ghost use Rattle.sn_ondisk.specs.Trees.{store_of};
@@ -47,10 +47,10 @@ fn pass_block<D: Device>(
     requires index { i < tree.now.size / 4096 }
     requires standing { AreLinkChanges pending.old.standing.items }
     requires waiting { AreLinkChanges pending.old.waiting.items }
-    ensures through { (changes : List TheChange)
-        → IsThrough (IsTrue D.tells_bytes) (store_of (reads (D.disk (device_of blocks.old)))) tree.now changes
+    ensures through { (changes : List TheChange) (bound : ℕ)
+        → IsThrough (IsTrue D.tells_bytes) (store_of (reads (D.disk (device_of blocks.old)))) tree.now changes bound
         i dirty.old.items pending.old.standing.items pending.old.waiting.items
-        → OnOk result (IsThrough (IsTrue D.tells_bytes) (store_of (reads (D.disk (device_of blocks.old)))) tree.now changes
+        → OnOk result (IsThrough (IsTrue D.tells_bytes) (store_of (reads (D.disk (device_of blocks.old)))) tree.now changes bound
         (i + 1) dirty.new.items pending.new.standing.items pending.new.waiting.items) }
     ensures standing { AreLinkChanges pending.new.standing.items }
     ensures waiting { AreLinkChanges pending.new.waiting.items }
@@ -82,10 +82,10 @@ pub(crate) fn pass_blocks<D: Device>(
 ) -> Result<VecDeque<DirtyBlock>, TreeFault>
     requires standing { AreLinkChanges pending.old.standing.items }
     requires waiting { AreLinkChanges pending.old.waiting.items }
-    ensures through { (changes : List TheChange)
-        → IsThrough (IsTrue D.tells_bytes) (store_of (reads (D.disk (device_of blocks.old)))) tree.now changes
+    ensures through { (changes : List TheChange) (bound : ℕ)
+        → IsThrough (IsTrue D.tells_bytes) (store_of (reads (D.disk (device_of blocks.old)))) tree.now changes bound
         0 [] pending.old.standing.items pending.old.waiting.items
-        → IfOk result (λ dirty. IsThrough (IsTrue D.tells_bytes) (store_of (reads (D.disk (device_of blocks.old)))) tree.now changes
+        → IfOk result (λ dirty. IsThrough (IsTrue D.tells_bytes) (store_of (reads (D.disk (device_of blocks.old)))) tree.now changes bound
         (tree.now.size / 4096) dirty.items pending.new.standing.items pending.new.waiting.items) }
     ensures waiting { AreLinkChanges pending.new.waiting.items }
     ensures damaged { IsTrue D.tells_bytes → result ≡ Err Damaged

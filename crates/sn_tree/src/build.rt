@@ -107,6 +107,7 @@ impl Build {
     /// The allocator, which took the new blocks, with those and the released ones.
     pub fn into_parts(self) -> (BlockAllocator, Vec<NewBlock>, Vec<u32>)
         ensures words { result.0.words ≡ self.words }
+        ensures first { result.0.first ≡ self.first }
         ensures taken { result.0.taken ≡ numbers_of self.added }
         ensures added { result.1.items ≡ self.added }
         ensures released { result.2.items ≡ self.released }

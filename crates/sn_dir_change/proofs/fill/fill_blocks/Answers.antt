@@ -14,14 +14,14 @@ loop-change-preserved c =
     record {
       waiting = c.filled-block.ensures.waiting;
       room = omega (arith, c.loop-change.invariant.room, size, c.filled-block.ensures.fewer);
-      filled = λ told s tree changes begun.
-          filled_more (IsTrue told) s tree changes c.loop-change.count c.loop-change.dirty.items c.push_dirty.new.dirty.items before waiting c.filled-block.new.waiting.items change c.filled-block.result
-          c.in-Some.ensures.items c.filled-block.ensures.fewer c.filled-block.ensures.listed c.filled-block.ensures.from c.in_ok-push_dirty.ensures c.filled-block.ensures.spelled (c.filled-block.ensures.way changes) (c.loop-change.invariant.filled told s tree changes begun);
+      filled = λ told s tree changes bound begun.
+          filled_more (IsTrue told) s tree changes bound c.loop-change.count c.loop-change.dirty.items c.push_dirty.new.dirty.items before waiting c.filled-block.new.waiting.items change c.filled-block.result
+          c.in-Some.ensures.items c.filled-block.ensures.fewer c.filled-block.ensures.listed c.filled-block.ensures.from c.in_ok-push_dirty.ensures c.filled-block.ensures.spelled (c.filled-block.ensures.way changes) (c.loop-change.invariant.filled told s tree changes bound begun);
     }
 
 pub returns : goal.returns
 returns c = record {
-  filled = λ told s tree changes begun.
+  filled = λ told s tree changes bound begun.
       let none : c.loop-change.waiting.items ≡ [] = nil_from_length c.loop-change.waiting.items (omega (arith, c.in_default.ensures.cases)) in
-      subst (λ (xs : List TheChange). IsFilled (IsTrue told) s tree changes c.loop-change.count c.loop-change.dirty.items xs) none (c.loop-change.invariant.filled told s tree changes begun);
+      subst (λ (xs : List TheChange). IsFilled (IsTrue told) s tree changes bound c.loop-change.count c.loop-change.dirty.items xs) none (c.loop-change.invariant.filled told s tree changes bound begun);
 }

@@ -7,29 +7,29 @@ use Rattle.sn_dir_change.proofs.ThroughLemmas.{through_pushed, through_kept, non
 use Rattle.sn_dir_change.proofs.through.pass_block.Goals as goal
 
 pub returns-then-is_empty-clause-through : goal.returns-then-is_empty-clause-through
-returns-then-is_empty-clause-through g c = λ changes through.
+returns-then-is_empty-clause-through g c = λ changes bound through.
     let s = store_of (reads (g.D.Device.disk (device_of c.args.blocks.now))) in
     let standing = c.args.pending.now.standing.items in
     let waiting = c.args.pending.now.waiting.items in
     let none : length standing + length waiting ≡ 0 = eqb-true (length standing + length waiting) 0 (sym c.is_empty.ensures ∙ c.if-is_empty.true) in
     let bytes = data_block s c.args.tree.now c.args.i in
-    through_kept _ s c.args.tree.now changes c.args.i c.args.dirty.now.items standing waiting standing waiting bytes (λ told. refl) c.requires.index through
+    through_kept _ s c.args.tree.now changes bound c.args.i c.args.dirty.now.items standing waiting standing waiting bytes (λ told. refl) c.requires.index through
     bytes (none_full waiting _ (omega (arith, none))) (λ x there. there) (λ front back old way. (way, none_gone standing _ (omega (arith, none)))) refl (omega arith)
 
 pub returns-in_ok-push_dirty-clause-through : goal.returns-in_ok-push_dirty-clause-through
-returns-in_ok-push_dirty-clause-through g c = λ changes through.
+returns-in_ok-push_dirty-clause-through g c = λ changes bound through.
     let s = store_of (reads (g.D.Device.disk (device_of c.args.blocks.now))) in
     let bytes = c.fetched-2.result.now in
-    through_pushed _ s c.args.tree.now changes c.args.i c.args.dirty.now.items c.args.pending.now.standing.items c.args.pending.now.waiting.items c.change_names.new.pending.standing.items c.change_names.new.pending.waiting.items
+    through_pushed _ s c.args.tree.now changes bound c.args.i c.args.dirty.now.items c.args.pending.now.standing.items c.args.pending.now.waiting.items c.change_names.new.pending.standing.items c.change_names.new.pending.waiting.items
     bytes (λ told. c.fetched-2.ensures.value ∙ c.in_ok-fetch_block.ensures.block told) c.requires.index through
     c.change_names.new.block c.change_names.ensures.full c.change_names.ensures.listed (c.change_names.ensures.way changes) c.push_dirty.new.dirty.items c.in_ok-push_dirty.ensures c.change_names.ensures.still (c.change_names.ensures.changed c.if-change_names.true)
 
 pub returns-else-change_names-clause-through : goal.returns-else-change_names-clause-through
-returns-else-change_names-clause-through g c = λ changes through.
+returns-else-change_names-clause-through g c = λ changes bound through.
     let s = store_of (reads (g.D.Device.disk (device_of c.args.blocks.now))) in
     let bytes = c.fetched-2.result.now in
     let same = c.change_names.ensures.same c.if-change_names.false in
-    through_kept _ s c.args.tree.now changes c.args.i c.args.dirty.now.items c.args.pending.now.standing.items c.args.pending.now.waiting.items c.change_names.new.pending.standing.items c.change_names.new.pending.waiting.items
+    through_kept _ s c.args.tree.now changes bound c.args.i c.args.dirty.now.items c.args.pending.now.standing.items c.args.pending.now.waiting.items c.change_names.new.pending.standing.items c.change_names.new.pending.waiting.items
     bytes (λ told. c.fetched-2.ensures.value ∙ c.in_ok-fetch_block.ensures.block told) c.requires.index through
     c.change_names.new.block c.change_names.ensures.full c.change_names.ensures.listed (c.change_names.ensures.way changes) same.0
     (omega (arith, ap (λ xs. length xs) same.1, ap (λ xs. length xs) same.2))

@@ -1,4 +1,4 @@
-use Rattle.std.proofs.Common.{◌≡◌, List, [], IsTrue}
+use Rattle.std.proofs.Common.{◌≡◌, ℕ, List, [], IsTrue}
 use Rattle.sn_device.specs.Disk.{reads}
 use Rattle.sn_block.specs.Lending.{device_of}
 use Rattle.sn_ondisk.specs.Trees.{store_of}
@@ -13,7 +13,7 @@ invariant-loop-i g l = record {
   same : IsTrue g.D.Device.tells_bytes → g.D.Device.disk (device_of l.blocks) ≡ g.D.Device.disk (device_of l.initial.blocks);
   standing : AreLinkChanges l.pending.standing.items;
   waiting : AreLinkChanges l.pending.waiting.items;
-  through : (changes : List TheChange)
-      → IsThrough (IsTrue g.D.Device.tells_bytes) (store_of (reads (g.D.Device.disk (device_of l.initial.blocks)))) l.tree changes 0 [] l.initial.pending.standing.items l.initial.pending.waiting.items
-      → IsThrough (IsTrue g.D.Device.tells_bytes) (store_of (reads (g.D.Device.disk (device_of l.initial.blocks)))) l.tree changes l.i l.dirty.items l.pending.standing.items l.pending.waiting.items;
+  through : (changes : List TheChange) (bound : ℕ)
+      → IsThrough (IsTrue g.D.Device.tells_bytes) (store_of (reads (g.D.Device.disk (device_of l.initial.blocks)))) l.tree changes bound 0 [] l.initial.pending.standing.items l.initial.pending.waiting.items
+      → IsThrough (IsTrue g.D.Device.tells_bytes) (store_of (reads (g.D.Device.disk (device_of l.initial.blocks)))) l.tree changes bound l.i l.dirty.items l.pending.standing.items l.pending.waiting.items;
 }
