@@ -9,7 +9,7 @@ use Rattle.sn_alloc.specs.Taking.{free_data}
 use Rattle.sn_image.specs.Reach.{block_reach}
 use Rattle.sn_layout.specs.Pointers.{levels_of}
 use Rattle.sn_layout.specs.declared.tree.BlockTree.{BlockTree}
-use Rattle.sn_ondisk.specs.Trees.{Store, below, entry, pointers_at, all_pointers}
+use Rattle.sn_ondisk.specs.Trees.{Store, below, pointers_at, all_pointers}
 use Rattle.sn_ondisk.proofs.TreeLemmas.{entry-level}
 use Rattle.sn_tree.specs.Drafts.{Draft, grown, numbers_of}
 use Rattle.sn_tree.specs.Dirty.{after}

@@ -115,10 +115,7 @@ fn leading_holes(pointers: &[u32]) -> usize
     if all_holes(first) {
         return first.len();
     }
-    first
-        .iter()
-        .position(|pointer| *pointer != 0)
-        .unwrap_or(0)
+    first.iter().position(|pointer| *pointer != 0).unwrap_or(0)
 }
 
 // How many of these are holes without a dirty block below them, counted from the first one, whose data
