@@ -41,7 +41,7 @@ pub record HasChanged (s r : Store) (old new : BlockTree) (changes : List NameCh
   -- where the tree ended at its size, so does the new one
   pub ends : EndsAtSize s old → EndsAtSize r new
 
--- A directory was planned with these changes. At most one of its blocks changes for each name that is to stand or go, so none for a name that is to go and doesn't stand; a block behind the old ones is one of those, none is given back, and a path of new blocks for each and one more is the most that is taken. Over a device that tells its bytes the tree is that of the changed blocks; where no name stood twice it is the directory that is wanted, in any store that has the new blocks and agrees with the old one in the blocks that the old tree reaches.
+-- A directory was planned with these changes. At most one of its blocks changes for each name, it grows by no more blocks than change, none is given back, and a path of new blocks for each changed one and one more is the most that is taken. Over a device that tells its bytes none changes for a name that is to go and doesn't stand, and the tree is that of the changed blocks; where no name stood twice it is the directory that is wanted, in any store that has the new blocks and agrees with the old one in the blocks that the old tree reaches.
 pub record IsDirectoryPlanned (Told : Type 0) (s : Store) (old new : BlockTree) (changes : List NameChange) (old_draft new_draft : Draft) : Type 0 where
   pub dirty : List DirtyBlock
   pub added : List NewBlock
