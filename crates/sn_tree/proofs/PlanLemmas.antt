@@ -6,6 +6,7 @@ use Rattle.std.proofs.lemmas.List.{map-append, length-map}
 use Rattle.std.proofs.lemmas.List.Elements.{All-nil, All-cons, All-head, All-tail}
 use Rattle.sn_device.proofs.SectorLemmas.{Contains-first, Contains-more}
 use Rattle.sn_image.specs.Reach.{block_reach}
+use Rattle.sn_ondisk.specs.Blocks.{numbers_in}
 use Rattle.sn_ondisk.specs.Trees.{Store, below, pointers_at, all_pointers}
 use Rattle.sn_ondisk.proofs.TreeLemmas.{Agree, pointers-same, all_pointers-same, of_level}
 use Rattle.sn_tree.specs.Drafts.{numbers_of}
@@ -14,7 +15,7 @@ use Rattle.sn_tree.specs.Plans.{DataBlocks, times, Holds, SameAmong, named_or, c
 use Rattle.sn_tree.specs.Steps.{AreHoles}
 use Rattle.sn_tree.specs.declared.new_block.NewBlock.{NewBlock}
 use Rattle.sn_tree.specs.declared.new_block.DirtyBlock.{DirtyBlock}
-use Rattle.sn_tree.proofs.CountLemmas.{times-append, times-other, among_times, times-all_append, times-down, pointers-down, pointers_at-append, length-pointers_at, times-block_reach}
+use Rattle.sn_tree.proofs.CountLemmas.{times-append, times-same, times-other, among_times, times-all_append, times-down, pointers-down, pointers_at-append, length-pointers_at, times-block_reach}
 use Rattle.sn_tree.proofs.DirtyLemmas.{blocks_wanted-append, length-blocks_wanted, block_wanted-cut, blocks_wanted-kept, blocks_wanted-holes, named-hole, named-there, contents-holes}
 use Rattle.sn_tree.proofs.EndLemmas.{ends_kept, ends_holes, ends_joined, ends_leaf, ends_up, ends_all}
 
@@ -207,6 +208,37 @@ module _ (s : Store) (depth base keep : ℕ) (ds : List DirtyBlock) (p : ℕ) (n
   pub plan_dropped : news ≡ replicate 1024 0 → Plans s (suc depth) base keep ds (p ∷ []) (0 ∷ []) a (x ++ block_reach p)
   plan_dropped none = to_upper (0 ∷ []) a (x ++ block_reach p)
       (plans_dropped s (all_pointers s depth (below s p)) (contents s depth (below s p)) depth base keep ds news a x plan (all_pointers s (suc depth) (p ∷ [])) (block_reach p) counted none)
+
+-- ---- an indirect block below which nothing changes
+
+below-agree : (s r : Store) (p : ℕ) → (p ≢ 0 → r p ≡ s p) → below r p ≡ below s p
+unfolding below
+below-agree s r p agree = either (p == 0) refl
+  where
+    either : (b : Bool) → (p == 0) ≡ b → (if b then replicate 1024 0 else numbers_in 1024 (r p)) ≡ (if b then replicate 1024 0 else numbers_in 1024 (s p))
+    either true is = refl
+    either false is = ap (numbers_in 1024) (agree (eqb-false p 0 is))
+
+module _ (s : Store) (depth base keep : ℕ) (ds : List DirtyBlock) (p : ℕ) where
+  same_below : (r : Store) → SameAmong s r (all_pointers s (suc depth) (p ∷ [])) → below r p ≡ below s p
+  same_below r same = below-agree s r p (λ some. same p some (omega (arith, times-down s p depth p, times-same p)))
+
+  pub plan_unchanged : base < keep → Plans s depth base keep ds (below s p) (below s p) [] [] → Plans s (suc depth) base keep ds (p ∷ []) (p ∷ []) [] []
+  plan_unchanged low plan = record {
+    content = λ hole r same held.
+        ap (λ (blocks : DataBlocks). blocks hole) (contents-down r depth p)
+        ∙ ap (λ (ps : List ℕ). contents r depth ps hole) (same_below r same)
+        ∙ plan.content hole r (fewer r same) held
+        ∙ ap (λ (blocks : DataBlocks). blocks_wanted hole keep ds base (blocks hole)) (sym (contents-down s depth p));
+    reach = λ r same held block some.
+        let lower = plan.reach r (fewer r same) held block some in
+        let new = times-down r block depth p ∙ ap (λ (ps : List ℕ). times block (p ∷ []) + times block (all_pointers r depth ps)) (same_below r same) in
+        omega (arith, lower, new, times-down s block depth p);
+    ends = λ r same held end high none. ends_up r depth base end p (below s p) (same_below r same) (λ past. absurd (omega (arith, low, high, past))) (plan.ends r (fewer r same) held end high none);
+  }
+    where
+      fewer : (r : Store) → SameAmong s r (all_pointers s (suc depth) (p ∷ [])) → SameAmong s r (all_pointers s depth (below s p))
+      fewer r same block some there = same block some (omega (arith, there, times-down s block depth p))
 
 -- ---- no pointers
 

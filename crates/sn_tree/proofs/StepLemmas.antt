@@ -1,8 +1,8 @@
 -- Steps of a plan: of one pointer, of pointers one after the other, of one level more.
-use Rattle.std.proofs.Common.{◌≡◌, ◌≢◌, ◌⊎◌, inl, inr, ⊎_elim, ℕ, suc, ◌+◌, ◌-◌, ◌*◌, ◌<◌, ◌≤◌, List, [], ◌∷◌, ◌++◌, length, replicate, refl, sym, ap, subst, ◌∙◌, arith, append_assoc}
+use Rattle.std.proofs.Common.{◌≡◌, ◌≢◌, ◌⊎◌, inl, inr, ⊎_elim, ℕ, suc, ◌+◌, ◌-◌, ◌*◌, ◌<◌, ◌≤◌, ◌==◌, Bool, true, false, List, [], ◌∷◌, ◌++◌, length, replicate, refl, sym, ap, subst, ◌∙◌, arith, append_assoc, if◌then◌else◌}
 use Rattle.std.specs.Prelude.{◌^◌, Result, Ok, Err, IfOk, Option, Some, None, IfSome, IfNone, IsNone, IsSome}
-use Rattle.std.proofs.lemmas.Bool.{cases_lt}
-use Rattle.std.proofs.lemmas.List.{append-nil, length-append}
+use Rattle.std.proofs.lemmas.Bool.{cases_lt, eqb-true}
+use Rattle.std.proofs.lemmas.List.{append-nil, length-append, nil_from_length}
 use Rattle.sn_alloc.specs.Taking.{free_data}
 use Rattle.sn_image.specs.Reach.{block_reach}
 use Rattle.sn_layout_node.specs.Indirect.{ArePointers, pointers_bytes}
@@ -10,13 +10,13 @@ use Rattle.sn_ondisk.specs.Trees.{Store, below, all_pointers}
 use Rattle.sn_tree_read.proofs.PointerLemmas.{below_read}
 use Rattle.sn_tree.specs.Drafts.{Draft, grown, IsFresh}
 use Rattle.sn_tree.specs.Dirty.{IsFrom, after, block_wanted, blocks_wanted}
-use Rattle.sn_tree.specs.Plans.{DataBlocks, named_or, contents, PlansTo, straddles, most_added}
+use Rattle.sn_tree.specs.Plans.{DataBlocks, named_or, contents, PlansTo, Plans, straddles, most_added}
 use Rattle.sn_tree.specs.Steps.{AreHoles, Planned, IsPut, IsReplaced}
 use Rattle.sn_tree.specs.declared.fault.PlanFault.{PlanFault}
 use Rattle.sn_tree.specs.declared.new_block.NewBlock.{NewBlock}
 use Rattle.sn_tree.specs.declared.new_block.DirtyBlock.{DirtyBlock}
 use Rattle.sn_tree.proofs.DirtyLemmas.{IsFrom-weaker, after-none, after-first, after-after, after-empty, first_before, length-after, AreHoles-append, blocks_wanted-after, block_wanted-dirty, most_added-joined, most_added-up, most_added-one, straddled}
-use Rattle.sn_tree.proofs.PlanLemmas.{plan_kept, plan_holes, plan_joined, plan_written, plan_cut, plan_put, plan_dropped, plan_nothing}
+use Rattle.sn_tree.proofs.PlanLemmas.{plan_kept, plan_holes, plan_joined, plan_written, plan_cut, plan_put, plan_dropped, plan_unchanged, plan_nothing}
 
 pub grown-grown : (draft : Draft) (a b : List NewBlock) (x y : List ℕ) → grown (grown draft a x) b y ≡ grown draft (a ++ b) (x ++ y)
 grown-grown draft a b x y =
@@ -223,6 +223,82 @@ module _ (Told : Type 0) (s : Store) (keep : ℕ) (base end p : ℕ) (ds left : 
       subst (λ (m : ℕ). Planned Told s (all_pointers s (suc depth) (p ∷ [])) (contents s (suc depth) (p ∷ [])) (suc depth) base end keep ds left (m ∷ []) old new) put.number_is
       (planned_put Told s keep depth base end p ds left news put.block old between new filled touched step put.some
       (λ r held. below_read r put.block.number news put.some are (held ∙ put.bytes_are)) put.grew)
+
+-- ---- where nothing is added and nothing released
+
+none_grown : (d : Draft) (a : List NewBlock) (x : List ℕ) → length a ≡ 0 → length x ≡ 0 → grown d a x ≡ d
+none_grown d a x no_added no_released =
+    ap (λ (added : List NewBlock). grown d added x) (nil_from_length a (omega (arith, no_added)))
+    ∙ ap (λ (released : List ℕ). grown d [] released) (nil_from_length x (omega (arith, no_released)))
+    ∙ sym (grown-none d)
+
+pub added-grown : (d : Draft) (a : List NewBlock) (x : List ℕ) → length (grown d a x).added ≡ length d.added + length a
+added-grown d a x = length-append d.added a
+
+pub released-grown : (d : Draft) (a : List NewBlock) (x : List ℕ) → length (grown d a x).released ≡ length d.released + length x
+released-grown d a x = length-append d.released x
+
+reaches_none : (p : ℕ) → length (block_reach p) ≡ 0 → p ≡ 0
+reaches_none p none = either (p == 0) refl none
+  where
+    either : (b : Bool) → (p == 0) ≡ b → length (if b then [] else p ∷ []) ≡ 0 → p ≡ 0
+    either true is none = eqb-true p 0 is
+    either false is none = absurd (omega (arith, none))
+
+module _ (old new : Draft) (p : ℕ) where
+  pub leaf_still : (result : Result ℕ PlanFault) (dirty : Option DirtyBlock) → (IsNone dirty → IfOk result (λ n. (n ≡ 0) × (new ≡ grown old [] (block_reach p)))) → IfSome dirty (λ (d : DirtyBlock). IfOk result (λ n. IsPut old new p n d.bytes.value))
+      → IfOk result (λ n. new ≡ old → n ≡ p)
+  leaf_still (Err fault) dirty cut put = tt
+  leaf_still (Ok n) None cut put = λ same.
+      let w = cut refl in
+      let count = ap (λ (d : Draft). length d.released) (sym same ∙ w.1) in
+      w.0 ∙ sym (reaches_none p (omega (arith, count, released-grown old [] (block_reach p))))
+  leaf_still (Ok n) (Some d) cut put = λ same.
+      let count = ap (λ (d : Draft). length d.added) (sym same ∙ put.grew) in
+      absurd (omega (arith, count, added-grown old (put.block ∷ []) (block_reach p)))
+
+  pub above_still : (between : Draft) (news : List ℕ) (a : List NewBlock) (x : List ℕ) (result : Result ℕ PlanFault) → between ≡ grown old a x → IfOk result (IsReplaced between new p news) → IfOk result (λ n. new ≡ old → n ≡ p)
+  above_still between news a x (Err fault) grew replaced = tt
+  above_still between news a x (Ok n) grew (are, inl dropped) = λ same.
+      let count = ap (λ (d : Draft). length d.released) (sym same ∙ dropped.2) in
+      let before = ap (λ (d : Draft). length d.released) grew in
+      dropped.1 ∙ sym (reaches_none p (omega (arith, count, released-grown between [] (block_reach p), before, released-grown old a x)))
+  above_still between news a x (Ok n) grew (are, inr (filled, put)) = λ same.
+      let count = ap (λ (d : Draft). length d.added) (sym same ∙ put.grew) in
+      let before = ap (λ (d : Draft). length d.added) grew in
+      absurd (omega (arith, count, added-grown between (put.block ∷ []) (block_reach p), before, added-grown old a x))
+
+-- two steps that come to nothing each do
+pub nothing_grown : (old between new : Draft) (a b : List NewBlock) (x y : List ℕ) → between ≡ grown old a x → new ≡ grown between b y → length new.added ≡ length old.added → length new.released ≡ length old.released → (between ≡ old) × (new ≡ between)
+nothing_grown old between new a b x y first second added released =
+    let added1 = ap (λ (d : Draft). length d.added) first ∙ added-grown old a x in
+    let added2 = ap (λ (d : Draft). length d.added) second ∙ added-grown between b y in
+    let released1 = ap (λ (d : Draft). length d.released) first ∙ released-grown old a x in
+    let released2 = ap (λ (d : Draft). length d.released) second ∙ released-grown between b y in (
+      first ∙ none_grown old a x (omega (arith, added, added1, added2)) (omega (arith, released, released1, released2)),
+      second ∙ none_grown between b y (omega (arith, added, added1, added2)) (omega (arith, released, released1, released2)),
+    )
+
+-- the block of an indirect block below which nothing changes stays
+pub planned_unchanged : (Told : Type 0) (s : Store) (keep depth base end p : ℕ) (ds left : List DirtyBlock) (news : List ℕ) (old new : Draft) → base < keep → length new.added ≡ length old.added → length new.released ≡ length old.released
+    → (new ≡ old → Told → news ≡ below s p) → Planned Told s (all_pointers s depth (below s p)) (contents s depth (below s p)) depth base end keep ds left news old new
+    → Planned Told s (all_pointers s (suc depth) (p ∷ [])) (contents s (suc depth) (p ∷ [])) (suc depth) base end keep ds left (p ∷ []) old new
+planned_unchanged Told s keep depth base end p ds left news old new low added released same step =
+    let of_added : length step.added ≡ 0 = omega (arith, added, ap (λ (d : Draft). length d.added) step.grew, added-grown old step.added step.released) in
+    let of_released : length step.released ≡ 0 = omega (arith, released, ap (λ (d : Draft). length d.released) step.grew, released-grown old step.added step.released) in
+    let still : new ≡ old = step.grew ∙ none_grown old step.added step.released of_added of_released in
+    record {
+      added = [];
+      released = [];
+      grew = still ∙ grown-none old;
+      few = omega arith;
+      rest = step.rest;
+      cut = λ past _. absurd (omega (arith, low, past));
+      plans = λ told. plan_unchanged s depth base keep ds p low
+          (subst (λ (ps : List ℕ). Plans s depth base keep ds (below s p) ps [] []) (same still told)
+          (subst (λ (x : List ℕ). Plans s depth base keep ds (below s p) news [] x) (nil_from_length step.released (omega (arith, of_released)))
+          (subst (λ (a : List NewBlock). Plans s depth base keep ds (below s p) news a step.released) (nil_from_length step.added (omega (arith, of_added))) (step.plans told))));
+    }
 
 -- the same over another store, which is no other where the device tells its bytes
 pub planned_as : (Told : Type 0) (s r : Store) (was is : List ℕ) (had has : DataBlocks) (depth base end keep : ℕ) (ds left : List DirtyBlock) (new : List ℕ) (old between : Draft)

@@ -115,6 +115,14 @@ impl Build {
         (self.allocator, self.added, self.released)
     }
 
+    // How many blocks were added, and how many released.
+    pub(crate) fn counts(&self) -> (usize, usize)
+        ensures added { result.0 ≡ length self.now.added }
+        ensures released { result.1 ≡ length self.now.released }
+    {
+        (self.added.len(), self.released.len())
+    }
+
     // No dirty block.
     pub(crate) fn no_dirty(&self) -> VecDeque<DirtyBlock>
         ensures { result.items ≡ [] }

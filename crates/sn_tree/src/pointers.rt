@@ -202,7 +202,7 @@ pub(crate) fn replace_pointers(
 }
 
 // The new pointer in place of one that stands so many levels above its data blocks, of which the first
-// has this index.
+// has this index. Where what stays ends below an indirect block and nothing below it changes, its block stays.
 #[cycle(plan)]
 fn plan_pointer<D: Device>(
     build: &mut Build,
@@ -220,6 +220,7 @@ fn plan_pointer<D: Device>(
         (all_pointers (store_of (reads (D.disk (device_of blocks.old)))) depth (pointer ∷ []))
         (contents (store_of (reads (D.disk (device_of blocks.old)))) depth (pointer ∷ []))
         depth first (first + 1024 ^ depth) keep dirty.old.items dirty.new.items (new ∷ []) build.old build.new) }
+    ensures still { IfOk result (λ new. build.new ≡ build.old → new ≡ pointer) }
     ensures full { IsTooFull result build.old
         (most_added depth first (first + 1024 ^ depth) keep dirty.old.items) }
     ensures damaged { IsTrue D.tells_bytes → result ≡ Err (Tree Damaged)
@@ -238,7 +239,11 @@ fn plan_pointer<D: Device>(
     }
     let mut pointers = [0; POINTERS_PER_BLOCK];
     read_below(blocks, pointer, &mut pointers)?;
+    let counts = build.counts();
     plan_pointers(build, blocks, dirty, keep, &mut pointers, depth - 1, first)?;
+    if first < keep && build.counts() == counts {
+        return Ok(pointer);
+    }
     replace_pointers(build, pointer, &pointers)
 }
 
@@ -261,6 +266,7 @@ pub(crate) fn plan_pointers<D: Device>(
         (all_pointers (store_of (reads (D.disk (device_of blocks.old)))) depth pointers.old)
         (contents (store_of (reads (D.disk (device_of blocks.old)))) depth pointers.old)
         depth first (first + length pointers.old * 1024 ^ depth) keep dirty.old.items dirty.new.items pointers.new build.old build.new) }
+    ensures still { OnOk result (build.new ≡ build.old → pointers.new ≡ pointers.old) }
     ensures full { IsTooFull result build.old
         (most_added depth first (first + length pointers.old * 1024 ^ depth) keep dirty.old.items) }
     ensures damaged { IsTrue D.tells_bytes → result ≡ Err (Tree Damaged)

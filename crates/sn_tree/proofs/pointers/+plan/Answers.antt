@@ -1,6 +1,7 @@
-use Rattle.std.proofs.Common.{rules, ◌≡◌, ◌⊎◌, inl, inr, ⊎_elim, ℕ, suc, ◌+◌, ◌-◌, ◌*◌, ◌<◌, ◌≤◌, List, [], ◌∷◌, length, get_or, take, drop, refl, sym, ap, subst, ◌∙◌, arith, IsTrue}
+use Rattle.std.proofs.Common.{rules, ◌≡◌, ◌⊎◌, inl, inr, ⊎_elim, ℕ, suc, ◌+◌, ◌-◌, ◌*◌, ◌<◌, ◌≤◌, ◌==◌, List, [], ◌∷◌, length, get_or, set, take, drop, refl, sym, ap, subst, ◌∙◌, arith, IsTrue}
 use Rattle.std.specs.Prelude.{◌^◌, All, Err, IfOk}
-use Rattle.std.proofs.lemmas.List.{length-drop, length-set, take_all}
+use Rattle.std.proofs.lemmas.Bool.{and_parts, eqb-true}
+use Rattle.std.proofs.lemmas.List.{length-drop, length-set, set-get_or, take_all}
 use Rattle.std.proofs.lemmas.List.Elements.{recursion_from_All}
 use Rattle.std.proofs.lemmas.Result.{err_from_is_err_and}
 use Rattle.sn_device.specs.Disk.{Disk, reads}
@@ -9,6 +10,7 @@ use Rattle.sn_alloc.specs.Taking.{free_data}
 use Rattle.sn_block.specs.Lending.{device_of}
 use Rattle.sn_ondisk.specs.Trees.{Store, store_of, all_pointers}
 use Rattle.sn_tree_read.specs.declared.fault.TreeFault.TheVariants.{Damaged}
+use Rattle.sn_tree.specs.Drafts.{Draft}
 use Rattle.sn_tree.specs.Dirty.{IsFrom, after}
 use Rattle.sn_tree.specs.Plans.{contents, most_added}
 use Rattle.sn_tree.specs.Steps.{AreHoles, Planned, LeadsOutside}
@@ -17,7 +19,7 @@ use Rattle.sn_tree.specs.declared.new_block.DirtyBlock.{DirtyBlock}
 use Rattle.sn_tree.proofs.CountLemmas.{span_some, span_down}
 use Rattle.sn_tree.proofs.DirtyLemmas.{IsFrom-after}
 use Rattle.sn_tree.proofs.FaultLemmas.{outside_here, outside_below}
-use Rattle.sn_tree.proofs.StepLemmas.{planned_stays, planned_leaf, planned_above, planned_under, planned_still, leaf_full, too_full_above}
+use Rattle.sn_tree.proofs.StepLemmas.{planned_stays, planned_leaf, planned_above, planned_under, planned_still, planned_unchanged, nothing_grown, leaf_full, too_full_above}
 use Rattle.sn_tree.proofs.LoopLemmas.{planned_begun, planned_next, too_full_next, outside_next, left_next, next_at}
 use Rattle.sn_tree.proofs.RunLemmas.{run_at, left_passed, planned_passed}
 use Rattle.sn_tree.proofs.pointers.+plan.Goals as goal
@@ -120,6 +122,27 @@ plan_pointer-returns-clause-full g t c = λ is.
     (subst (λ (d : ℕ). free_data c.args.build.now.words c.args.build.now.first < length c.args.build.now.added + most_added d c.args.first last c.args.keep items) up
     (too_full_above Told r (all_pointers r depth c.read_below.new.pointers) (contents r depth c.read_below.new.pointers) depth c.args.first last c.args.keep items c.plan_pointers.new.dirty.items c.plan_pointers.new.pointers c.args.build.now c.plan_pointers.new.build c.in_ok-plan_pointers.ensures.planned (c.replace_pointers.ensures.filled is) touched (c.replace_pointers.ensures.full is)))
 
+pub plan_pointer-returns-then-eq-clause-planned : goal.plan_pointer-returns-then-eq-clause-planned
+plan_pointer-returns-then-eq-clause-planned g t c =
+    let Told = IsTrue g.D.Device.tells_bytes in
+    let s = store_of (reads (g.D.Device.disk (device_of c.args.blocks.now))) in
+    let r = store_of (reads (g.D.Device.disk (device_of c.read_below.new.blocks))) in
+    let items = c.args.dirty.now.items in
+    let left = c.plan_pointers.new.dirty.items in
+    let news = c.plan_pointers.new.pointers in
+    let old = c.args.build.now in
+    let new = c.plan_pointers.new.build in
+    let depth = c.args.depth - 1 in
+    let end = c.args.first + 1024 ^ c.args.depth in
+    let up : suc depth ≡ c.args.depth = omega (arith, c.if-depth-eq0.false) in
+    let finish : c.args.first + length c.read_below.new.pointers * 1024 ^ depth ≡ end = ap (λ (n : ℕ). c.args.first + n * 1024 ^ depth) c.in_ok-read_below.ensures.count ∙ ap (λ (n : ℕ). c.args.first + n) (span_down c.args.depth c.if-depth-eq0.false) in
+    let step = planned_under Told s r c.args.keep depth c.args.first end (c.args.first + length c.read_below.new.pointers * 1024 ^ depth) c.args.pointer c.read_below.new.pointers news items left old new (λ told. ap (λ (d : Disk). store_of (reads d)) (c.read_below.ensures.same told)) c.in_ok-read_below.ensures.pointers finish c.in_ok-plan_pointers.ensures.planned in
+    let parts = and_parts (c.counts.result.0 == c.counts-counts.result.0) (c.counts.result.1 == c.counts-counts.result.1) (sym c.eq.ensures ∙ c.if-eq.true) in
+    let added : length new.added ≡ length old.added = omega (arith, eqb-true c.counts.result.0 c.counts-counts.result.0 parts.0, c.counts.ensures.added, c.counts-counts.ensures.added) in
+    let released : length new.released ≡ length old.released = omega (arith, eqb-true c.counts.result.1 c.counts-counts.result.1 parts.1, c.counts.ensures.released, c.counts-counts.ensures.released) in
+    subst (λ (d : ℕ). Planned Told s (all_pointers s d (c.args.pointer ∷ [])) (contents s d (c.args.pointer ∷ [])) d c.args.first end c.args.keep items left (c.args.pointer ∷ []) old new) up
+    (planned_unchanged Told s c.args.keep depth c.args.first end c.args.pointer items left news old new (omega (arith, c.if-first-keep.true)) added released (λ same told. c.in_ok-plan_pointers.ensures.still same ∙ c.in_ok-read_below.ensures.pointers told) step)
+
 pub plan_pointers-loop-k-init : goal.plan_pointers-loop-k-init
 plan_pointers-loop-k-init g t c =
     let s = store_of (reads (g.D.Device.disk (device_of c.args.blocks.now))) in
@@ -130,6 +153,7 @@ plan_pointers-loop-k-init g t c =
       within = omega arith;
       count = refl;
       left = refl;
+      still = λ _. refl;
       rise = subst (λ (n : ℕ). IsFrom n c.args.dirty.now.items) here c.requires.rise;
       planned = planned_begun (IsTrue g.D.Device.tells_bytes) s c.args.keep c.args.depth c.args.first c.args.pointers.now c.args.dirty.now.items c.args.build.now c.requires.rise;
     }
@@ -191,6 +215,10 @@ plan_pointers-loop-k-preserved g t c =
       within = omega (arith, within, length-set ps k new);
       count = length-set ps k new ∙ inv.count;
       left = left_next k olds ps within inv.left new;
+      still = λ same.
+          let none = nothing_grown c.args.build.now c.loop-k.build c.plan_pointer.new.build inv.planned.added c.in_ok-new.ensures.planned.added inv.planned.released c.in_ok-new.ensures.planned.released inv.planned.grew c.in_ok-new.ensures.planned.grew
+          (ap (λ (d : Draft). length d.added) same) (ap (λ (d : Draft). length d.released) same) in
+          ap (set ps k) (c.in_ok-new.ensures.still none.1) ∙ set-get_or ps k 0 ∙ inv.still none.0;
       rise = subst (λ (n : ℕ). IsFrom n c.plan_pointer.new.dirty.items) ended
           (subst (λ (l : List DirtyBlock). IsFrom (next + width) l) (sym c.in_ok-new.ensures.planned.rest) (IsFrom-after (c.args.first + k * width) (next + width) c.loop-k.dirty.items inv.rise));
       planned = planned_next k olds ps within inv.left Told s c.args.keep c.args.depth c.args.first new next (next + width) c.args.dirty.now.items c.loop-k.dirty.items c.plan_pointer.new.dirty.items c.args.build.now c.loop-k.build c.plan_pointer.new.build starts refl inv.planned step;
@@ -232,6 +260,7 @@ plan_pointers-loop-k-preserved-then-staying-gt0 g t c =
       within = within;
       count = inv.count;
       left = left_passed k n olds ps within same inv.left;
+      still = inv.still;
       rise = subst (λ (m : ℕ). IsFrom m items) ended rise;
       planned = planned_passed k n olds ps within same inv.left Told s keep c.args.depth c.args.first next end c.args.dirty.now.items items c.args.build.now c.loop-k.build starts refl some rise stay inv.planned;
     }

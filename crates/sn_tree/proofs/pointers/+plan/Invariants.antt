@@ -21,6 +21,7 @@ invariant-plan_pointers-loop-k g l = record {
   within : l.k ≤ length l.pointers;
   count : length l.pointers ≡ length l.fn.pointers;
   left : drop l.k l.pointers ≡ drop l.k l.fn.pointers;
+  still : l.build ≡ l.fn.build → l.pointers ≡ l.fn.pointers;
   rise : IsFrom (l.fn.first + l.k * 1024 ^ l.fn.depth) l.dirty.items;
   planned : Planned (IsTrue g.D.Device.tells_bytes) (store_of (reads (g.D.Device.disk (device_of l.fn.blocks))))
       (all_pointers (store_of (reads (g.D.Device.disk (device_of l.fn.blocks)))) l.fn.depth (take l.k l.fn.pointers))
