@@ -82,7 +82,6 @@ from pathlib import Path
 
 top, work = Path(sys.argv[1]), Path(sys.argv[2])
 dirs = top / "crates/sn_tests_dirs/out/sn_tests_dirs"
-LOOKUPS = 2000
 
 
 def least(folder, turns):
@@ -108,15 +107,15 @@ def table(names, asked):
     return folder
 
 
-def lookup(count):
+def lookup(count, times):
     """The time of one look-up, over names that lie all over the directory."""
     names = ["".join(name) for name in itertools.islice(itertools.product(string.ascii_letters + string.digits, repeat=3), count)]
-    asked = [i * 7919 % count for i in range(LOOKUPS)]
+    asked = [i * 7919 % count for i in range(times)]
     one = least(table(names, asked[:1]), 5)
-    return (least(table(names, asked), 5) - one) / (LOOKUPS - 1)
+    return (least(table(names, asked), 5) - one) / (times - 1)
 
 
-small, middle, large = (lookup(count) for count in (100, 10_000, 65_535))
+small, middle, large = lookup(100, 40_000), lookup(10_000, 4_000), lookup(65_535, 1_000)
 print(f"a look-up in 100 names: {small * 1e6:.2f} us; in 10,000: {middle * 1e6:.1f} us, {middle / small:.0f} of it; "
       f"in 65,535: {large * 1e6:.0f} us, {large / middle:.2f} of that in 10,000")
 P

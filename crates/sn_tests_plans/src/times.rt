@@ -66,7 +66,11 @@ fn file_of(alloc: Global, count: u32) -> Result<File> {
 
 /// The pointer to a data block of a file of so many.
 fn pointer_at(count: u32, index: u32) -> u32 {
-    if index < count { DATA.wrapping_add(index) } else { 0 }
+    if index < count {
+        DATA.wrapping_add(index)
+    } else {
+        0
+    }
 }
 
 fn write_pointers(blocks: &mut Blocks<MemDevice>, above: u32, count: u32) -> Result<()> {
