@@ -5,5 +5,6 @@ mod NameLemmas
 mod PartLemmas
 mod PassLemmas
 mod PlannedLemmas
+mod StandingLemmas
 mod ThroughLemmas
 mod WayLemmas

@@ -1,13 +1,15 @@
 -- Changes that are parted by whether their names stand.
-use Rattle.std.proofs.Common.{◌≡◌, ◌⊎◌, inl, inr, ⊎_elim, ℕ, ◌+◌, ◌<◌, ◌≤◌, ◌||◌, Bool, true, if◌then◌else◌, List, [], ◌∷◌, ◌++◌, length, take, get_or, Option, None, refl, sym, ap, subst, ◌∙◌, arith}
+use Rattle.std.proofs.Common.{◌≡◌, ◌⊎◌, inl, inr, ⊎_elim, ℕ, ◌+◌, ◌<◌, ◌≤◌, ◌||◌, Bool, true, if◌then◌else◌, List, [], ◌∷◌, ◌++◌, length, map, take, get_or, None, refl, sym, ap, subst, ◌∙◌, arith}
 use Rattle.std.specs.Prelude.{Contains, is_some}
-use Rattle.std.proofs.lemmas.List.{take_more}
-use Rattle.std.proofs.lemmas.List.Elements.{Contains-append_left, Contains-push, Contains-push_cases}
+use Rattle.std.proofs.lemmas.List.{get_or-map, length-map, take_more}
+use Rattle.std.proofs.lemmas.List.Elements.{Contains-append_left, Contains-get_or, Contains-push, Contains-push_cases}
 use Rattle.sn_layout_node.specs.Directory.{Link, number_of}
 use Rattle.sn_image.proofs.ListLemmas.{count-append}
 use Rattle.sn_dir_change.specs.Changes.{AreOnce, AreLinkChanges, IsChange, is_needed, needed_changes}
+use Rattle.sn_dir_change.specs.Standing.{change_of, seen}
 use Rattle.sn_dir_change.specs.UnderWay.{AreApart, IsUnderWay, AreParted}
 use Rattle.sn_dir_change.specs.declared.name_change.NameChange.{NameChange}
+use Rattle.sn_dir_change.specs.declared.standing.Sought.{Sought}
 use Rattle.sn_dir_change.proofs.ChangeLemmas.{times_joined}
 use Rattle.sn_dir_change.proofs.WayLemmas.{all_from}
 
@@ -86,15 +88,30 @@ link_change_more list change all is c there = ⊎_elim
     (λ (new : change ≡ c). subst IsChange new is)
     (Contains-push_cases list change c there)
 
--- a name that was found stands also where the names are told otherwise
-pub found_as : (stands : Bool) (number : Option ℕ) (name : List ℕ) (now names : List Link) → stands ≡ is_some number → number ≡ number_of name now → now ≡ names → stands ≡ is_some (number_of name names)
-found_as stands number name now names found is same = found ∙ ap (λ (o : Option ℕ). is_some o) (is ∙ ap (λ (ls : List Link). number_of name ls) same)
+-- one of the changes that were looked for
+module _ (names : List Link) (changes : List NameChange) (list : List Sought) (all : list ≡ map (seen names) changes) (i : ℕ) (d : Sought) (within : i < length list) where
+  within_changes : i < length changes
+  within_changes = omega (arith, within, ap (λ (xs : List Sought). length xs) all, length-map changes (seen names))
+
+  it-is : get_or list i d ≡ seen names (get_or changes i d.change)
+  it-is = ap (λ (xs : List Sought). get_or xs i d) all ∙ get_or-map (seen names) changes i d.change d within_changes
+
+  pub sought_more : take (i + 1) changes ≡ take i changes ++ (get_or list i d).change ∷ []
+  sought_more = take_more changes i d.change within_changes ∙ ap (λ (s : Sought). take i changes ++ s.change ∷ []) (sym it-is)
+
+  pub sought_stands : (get_or list i d).stands ≡ is_some (number_of (get_or list i d).change.name.now names)
+  sought_stands = ap (λ (s : Sought). s.stands) it-is ∙ ap (λ (s : Sought). is_some (number_of s.change.name.now names)) (sym it-is)
+
+-- a change that is looked for is one of them
+pub change_there : (list : List Sought) (i : ℕ) (d : Sought) → i < length list → Contains (map change_of list) (get_or list i d).change
+change_there list i d within =
+    let here = Contains-get_or (map change_of list) i d.change (omega (arith, within, length-map list change_of)) in
+    subst (λ (c : NameChange). Contains (map change_of list) c) (get_or-map change_of list i d d.change within) here
 
 -- and one more of those that do something
-pub needed_more : (names : List Link) (changes : List NameChange) (i : ℕ) (d : NameChange) (stands : Bool) (before after : ℕ) → i < length changes → stands ≡ is_some (number_of (get_or changes i d).name.now names)
-    → before ≤ needed_changes names (take i changes) → after ≤ before + (if is_some (get_or changes i d).number || stands then 1 else 0) → after ≤ needed_changes names (take (i + 1) changes)
-needed_more names changes i d stands before after within is most more =
-    let change = get_or changes i d in
-    let all = ap (λ (xs : List NameChange). needed_changes names xs) (take_more changes i d within) ∙ count-append (is_needed names) (take i changes) (change ∷ []) in
+pub needed_more : (names : List Link) (taken : List NameChange) (change : NameChange) (stands : Bool) (before after : ℕ) → stands ≡ is_some (number_of change.name.now names)
+    → before ≤ needed_changes names taken → after ≤ before + (if is_some change.number || stands then 1 else 0) → after ≤ needed_changes names (taken ++ change ∷ [])
+needed_more names taken change stands before after is most more =
+    let all = count-append (is_needed names) taken (change ∷ []) in
     let last : needed_changes names (change ∷ []) ≡ 0 + (if is_some change.number || stands then 1 else 0) = ap (λ (b : Bool). 0 + (if is_some change.number || b then 1 else 0)) (sym is) in
     omega (arith, most, more, all, last)

@@ -1,4 +1,5 @@
 pub mod Changes
 pub mod Planned
+pub mod Standing
 pub mod UnderWay
 pub mod Through

@@ -5,17 +5,20 @@
 //! tree holds in every store that has the new blocks and agrees with the old one in what the old tree
 //! reaches (`IsDirectoryPlanned`). There the names of the list stand for what they were to stand for, or not
 //! at all, all others for what they stood for, and none stands twice (`IsChanged`); that is promised where
-//! none stood twice before, as on any sound image. Where none of its blocks was a hole, none is. A name that stands is set in its place, so each name
-//! touches one block. The tree itself is that of the changed blocks, by `plan_tree`.
+//! none stood twice before, as on any sound image. Where none of its blocks was a hole, none is. A name that
+//! stands is set in its place, so each name touches one block. The tree itself is that of the changed blocks,
+//! by `plan_tree`.
 //!
 //! Whether a name stands is known only behind the last block, and a name that were put before would touch a
-//! second one. So the names are looked up first, and then the blocks are gone through once: in each, names
-//! that stand are set or taken out, and names that wait are put where there is room, also where one was
-//! taken out. `IsUnderWay` is what holds between two blocks. What still waits behind the last block fills
-//! new ones.
+//! second one. So the blocks are gone through twice, however many names there are. First all names are looked
+//! for in them, up to the block where the last one is found; that changes nothing. Then names that stand are
+//! set or taken out, and names that wait are put where there is room, also where one was taken out, up to
+//! where no change is left. `IsUnderWay` is what holds between two blocks. What still waits behind the last
+//! block fills new ones.
 //!
-//! The way through: `amend` changes one name in one block, `pass` all of them, `pending` are the changes
-//! still to be made, `through` goes over the blocks, `fill` makes new ones, and `planned` puts all together.
+//! The way through: `amend` changes one name in one block, `pass` all of them, `standing` tells which names
+//! the directory has, `pending` are the changes still to be made, `through` goes over the blocks, `fill` makes
+//! new ones, and `planned` puts all together.
 //!
 //! ```text
 //! let mut build = Build::new(alloc, allocator);
@@ -30,6 +33,7 @@ mod name_change;
 mod pass;
 mod pending;
 mod planned;
+mod standing;
 mod through;
 
 pub use name_change::{NameChange, are_changes};

@@ -1,5 +1,5 @@
 //! The changes that are still to be made.
-ghost use Rattle.std.specs.Prelude.{◌≡◌, ◌+◌, ◌==◌, ◌≤◌, ◌||◌, if◌then◌else◌, List, [], ◌∷◌, ◌++◌, ⊤, Err, length, is_some, IsTrue, IfOk, OnOk};
+ghost use Rattle.std.specs.Prelude.{◌≡◌, ◌+◌, ◌==◌, ◌≤◌, ◌||◌, if◌then◌else◌, List, [], ◌∷◌, ◌++◌, ⊤, Err, length, map, is_some, IsTrue, IfOk, OnOk};
 ghost use Rattle.sn_device.specs.Disk.{reads};
 ghost use Rattle.sn_block.specs.Lending.{device_of};
 ghost use Rattle.sn_layout_node.specs.Directory.{Link, number_of};
@@ -10,13 +10,14 @@ ghost use Rattle.sn_tree_read.specs.Counts.{CountsTree};
 ghost use Rattle.sn_tree_read.specs.declared.fault.TreeFault.TheVariants.{Damaged};
 ghost use Rattle.sn_dir.specs.Blocks.{IsDamaged};
 ghost use Rattle.sn_dir_change.specs.Changes.{AreChanges, AreLinkChanges, AreOnce, IsChange, needed_changes};
+ghost use Rattle.sn_dir_change.specs.Standing.{change_of, seen};
 ghost use Rattle.sn_dir_change.specs.UnderWay.{AreParted, IsUnderWay};
 ghost use Rattle.sn_dir_change.specs.declared.name_change.NameChange.{NameChange as TheChange};
 
 use crate::NameChange;
+use crate::standing::{Sought, seek};
 use sn_block::Blocks;
 use sn_device::Device;
-use sn_dir::lookup;
 use sn_layout::BlockTree;
 use sn_tree_read::TreeFault;
 use std::alloc::{AllocError, Global};
@@ -72,6 +73,26 @@ impl<'a> Pending<'a> {
         note(&mut self.waiting, change)
     }
 
+    // Parts changes whose names were looked for.
+    fn of(alloc: Global, list: &[Sought<'a>]) -> Result<Self, AllocError>
+        requires { AreLinkChanges (map change_of list.now) }
+        ensures parted { (names : List Link) (changes : List TheChange) → list.now ≡ map (seen names) changes
+            → IfOk result (λ pending. AreParted names changes pending.standing.items pending.waiting.items) }
+        ensures few { IfOk result (λ pending.
+            length pending.standing.items + length pending.waiting.items ≤ length list.now) }
+        ensures needed { (names : List Link) (changes : List TheChange) → list.now ≡ map (seen names) changes
+            → IfOk result (λ pending. length pending.standing.items + length pending.waiting.items
+            ≤ needed_changes names changes) }
+        ensures standing { IfOk result (λ pending. AreLinkChanges pending.standing.items) }
+        ensures waiting { IfOk result (λ pending. AreLinkChanges pending.waiting.items) }
+    {
+        let mut pending = Pending::none(alloc);
+        for sought in list {
+            pending.add(&sought.change, sought.stands)?;
+        }
+        Ok(pending)
+    }
+
     /// Whether there are none.
     pub fn is_empty(&self) -> bool
         ensures { result ≡ (length self.now.standing.items + length self.now.waiting.items == 0) }
@@ -106,10 +127,7 @@ pub(crate) fn parted<'a, D: Device>(
     ensures same { IsTrue D.tells_bytes → D.disk (device_of blocks.new) ≡ D.disk (device_of blocks.old) }
     ensures counts { CountsTree result (D.status (device_of blocks.old)) (D.status (device_of blocks.new)) }
 {
-    let mut pending = Pending::none(alloc);
-    for change in changes {
-        let number = lookup(blocks, tree, change.name)?;
-        pending.add(change, number.is_some())?;
-    }
+    let sought = seek(alloc, blocks, tree, changes)?;
+    let pending = Pending::of(alloc, &sought)?;
     Ok(pending)
 }

@@ -1,0 +1,46 @@
+use Rattle.std.proofs.Common.{◌≡◌, ◌+◌, ◌<◌, ◌≤◌, List, length, take, take_all, sym, ap, subst, arith}
+use Rattle.std.proofs.lemmas.List.{length-map}
+use Rattle.sn_dir_change.specs.Changes.{needed_changes}
+use Rattle.sn_dir_change.specs.Standing.{seen}
+use Rattle.sn_dir_change.specs.UnderWay.{AreParted}
+use Rattle.sn_dir_change.specs.declared.name_change.NameChange.{NameChange as TheChange}
+use Rattle.sn_dir_change.specs.declared.standing.Sought.{Sought}
+use Rattle.sn_dir_change.proofs.PartLemmas.{change_there, sought_more, sought_stands, needed_more}
+use Rattle.sn_dir_change.proofs.pending.Pending.of.Goals as goal
+
+pub add-requires : goal.add-requires
+add-requires c =
+    let i = c.loop-sought.sought-index in
+    let list = c.args.list.now in
+    c.requires _ (change_there list i _ (omega (arith, c.loop-sought-test.true)))
+
+pub loop-sought-preserved : goal.loop-sought-preserved
+loop-sought-preserved c =
+    let i = c.loop-sought.sought-index in
+    let list = c.args.list.now in
+    let old = c.loop-sought.pending in
+    let new = c.add.new.self in
+    let within : i < length list = omega (arith, c.loop-sought-test.true) in
+    record {
+      few = omega (arith, c.in_ok-add.ensures.few, c.loop-sought.invariant.few);
+      needed = λ names changes all. subst (λ (xs : List TheChange). length new.standing.items + length new.waiting.items ≤ needed_changes names xs) (sym (sought_more names changes list all i _ within))
+          (needed_more names (take i changes) _ _ _ _ (sought_stands names changes list all i _ within) (c.loop-sought.invariant.needed names changes all) c.in_ok-add.ensures.needed);
+      standing = c.in_ok-add.ensures.standing c.loop-sought.invariant.standing;
+      waiting = c.in_ok-add.ensures.waiting c.loop-sought.invariant.waiting;
+      parted = λ names changes all. subst (λ (xs : List TheChange). AreParted names xs new.standing.items new.waiting.items) (sym (sought_more names changes list all i _ within))
+          (c.in_ok-add.ensures.parted names (take i changes) (sought_stands names changes list all i _ within) (c.loop-sought.invariant.parted names changes all));
+    }
+
+pub returns-clause-parted : goal.returns-clause-parted
+returns-clause-parted c = λ names changes all.
+    let pending = c.loop-sought.pending in
+    let i = c.loop-sought.sought-index in
+    let whole : take i changes ≡ changes = take_all i changes (omega (arith, c.loop-sought-test.false, ap (λ (xs : List Sought). length xs) all, length-map changes (seen names))) in
+    subst (λ (xs : List TheChange). AreParted names xs pending.standing.items pending.waiting.items) whole (c.loop-sought.invariant.parted names changes all)
+
+pub returns-clause-needed : goal.returns-clause-needed
+returns-clause-needed c = λ names changes all.
+    let pending = c.loop-sought.pending in
+    let i = c.loop-sought.sought-index in
+    let whole : take i changes ≡ changes = take_all i changes (omega (arith, c.loop-sought-test.false, ap (λ (xs : List Sought). length xs) all, length-map changes (seen names))) in
+    subst (λ (xs : List TheChange). length pending.standing.items + length pending.waiting.items ≤ needed_changes names xs) whole (c.loop-sought.invariant.needed names changes all)
