@@ -1,5 +1,5 @@
 //! Which names the directory has.
-ghost use Rattle.std.specs.Prelude.{◌≡◌, [], ⊤, true, map, All, Err, IsTrue, IfOk, OnOk};
+ghost use Rattle.std.specs.Prelude.{◌≡◌, ◌↔◌, [], ⊤, true, map, All, Err, IsTrue, IfOk, OnOk};
 ghost use Rattle.sn_device.specs.Disk.{reads};
 ghost use Rattle.sn_block.specs.Lending.{device_of};
 ghost use Rattle.sn_layout_node.specs.declared.content.Content.TheVariants.{Tree};
@@ -56,7 +56,7 @@ fn unseen<'a>(alloc: Global, changes: &[NameChange<'a>]) -> Result<Vec<Sought<'a
 
 // Whether no name is left to be found.
 fn all_stand(list: &[Sought<'_>]) -> bool
-    ensures { IsTrue result → All (λ (sought : TheSought). sought.stands ≡ true) list.now }
+    ensures { IsTrue result ↔ All (λ (sought : TheSought). sought.stands ≡ true) list.now }
 {
     list.iter().all(|sought| sought.stands)
 }

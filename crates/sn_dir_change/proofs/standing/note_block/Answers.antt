@@ -7,7 +7,7 @@ use Rattle.sn_dir_change.proofs.StandingLemmas.{seen-all, listed-too}
 use Rattle.sn_dir_change.proofs.standing.note_block.Goals as goal
 
 pub returns-then-all_stand-clause-sought : goal.returns-then-all_stand-clause-sought
-returns-then-all_stand-clause-sought g c = λ told. sym (seen-all _ _ (c.all_stand.ensures c.if-all_stand.true))
+returns-then-all_stand-clause-sought g c = λ told. sym (seen-all _ _ (c.all_stand.ensures.0 c.if-all_stand.true))
 
 pub returns-clause-sought : goal.returns-clause-sought
 returns-clause-sought g c = λ told.
