@@ -4,9 +4,10 @@
 #
 # Prints the time of reading 64 MiB through lent blocks, in parts of 64 KiB, beside a copy of as many bytes; of a plan
 # of one dirty block in files of 64 KiB, of which it makes one new block, and of 68 KiB and 64 MiB, of which it makes an
-# indirect block too; of a look-up in directories of 100, 10,000 and 65,535 names, each
-# name as often; and the most memory that is held at a time while the plan in 64 MiB is made, over that of a run that
-# plans nothing. Each time is the least of several turns, those of look-ups without that of a run with one.
+# indirect block too, from the block's bytes on and without its making; of a look-up in directories of 100, 10,000 and
+# 65,535 names, each name as often; and the most memory that is held at a time while the plan in 64 MiB is made, over
+# that of a run that plans nothing. Each time is the least of several turns, those of look-ups without that of a run
+# with one.
 set -eu
 top=$(cd "$(dirname "$0")/.." && pwd)
 work=$(mktemp -d)
@@ -20,9 +21,11 @@ plans=$top/crates/sn_tests_plans/out/sn_tests_plans
 awk '{ t[$1, $2] = $3 } END {
     all = t["read", 16384]
     printf "reading 64 MiB: %.1f ms, %.2f of a copy; %.0f MB/s\n", all / 1e6, all / t["copy", 16384], 67108864000 / all
+    whole = t["whole", 16384]
     plan = t["plan", 16384]
-    printf "a plan of one dirty block in 64 MiB, of two new blocks: %.2f us, %.2f of one in 68 KiB, of two too;", plan / 1000, plan / t["plan", 17]
-    printf " for each of them %.2f of one in 64 KiB, of one (%.2f us)\n", plan / 2 / t["plan", 16], t["plan", 16] / 1000
+    printf "a plan of one dirty block, from its bytes on: %.2f us in 64 MiB, %.2f of that in 64 KiB (%.2f us)\n", whole / 1000, whole / t["whole", 16], t["whole", 16] / 1000
+    printf "without the making of the block and of the build: %.2f us in 64 MiB, of two new blocks, %.2f of that in 68 KiB, of two too,", plan / 1000, plan / t["plan", 17]
+    printf " and %.2f of that in 64 KiB, of one (%.2f us)\n", plan / t["plan", 16], t["plan", 16] / 1000
 }' "$work/times"
 
 cat > "$work/peak.c" <<'C'

@@ -49,7 +49,7 @@ pub fn dirty_of(alloc: Global, next: Next, wanted: &[Written]) -> Result<Dirty>
         });
     }
     if wanted.len() == 1 {
-        return dirty_one(alloc, next, wanted[0]);
+        return dirty_one(alloc, next, block_of(alloc, wanted[0])?);
     }
     if wanted.len() > 2 {
         bail!("too many blocks");
@@ -57,13 +57,12 @@ pub fn dirty_of(alloc: Global, next: Next, wanted: &[Written]) -> Result<Dirty>
     dirty_two(alloc, next, wanted[0], wanted[1])
 }
 
-fn dirty_one(alloc: Global, next: Next, one: Written) -> Result<Dirty>
+/// The change that writes one block.
+pub fn dirty_one(alloc: Global, next: Next, block: DirtyBlock) -> Result<Dirty>
     ensures rise { IfOk result (λ change. IsFrom 0 change.blocks.items) }
 {
     let mut blocks = VecDeque::new(alloc);
-    blocks
-        .push_back(block_of(alloc, one)?)
-        .map_err(AllocError::from)?;
+    blocks.push_back(block).map_err(AllocError::from)?;
     Ok(Dirty {
         size: next.size,
         keep: next.keep,

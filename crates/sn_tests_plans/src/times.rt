@@ -1,15 +1,15 @@
 //! What reading and planning cost, for the bench.
 
-use crate::changes::dirty_of;
-use crate::plain::{Next, Written};
+use crate::changes::dirty_one;
+use crate::plain::Next;
 use anyhow::{Result, bail, ensure};
 use sn_alloc::BlockAllocator;
 use sn_block::Blocks;
 use sn_device::MemDevice;
-use sn_layout::{BlockTree, Pointers};
+use sn_layout::{Block, BlockTree, Pointers};
 use sn_layout_node::{Content, IndirectBlock, POINTERS_PER_BLOCK};
 use sn_map::Map;
-use sn_tree::{Build, plan_tree};
+use sn_tree::{Build, DirtyBlock, plan_tree};
 use sn_tree_read::read;
 use std::alloc::{AllocError, Global};
 use std::time::{Duration, Instant};
@@ -90,6 +90,24 @@ fn write_pointers(blocks: &mut Blocks<MemDevice>, above: u32, count: u32) -> Res
     Ok(())
 }
 
+/// What a plan of one dirty block takes: `whole` with the making of the block, out of its bytes, and of the build,
+/// and `alone` without.
+#[derive(Clone, Copy)]
+struct PlanTimes {
+    whole: Duration,
+    alone: Duration,
+}
+
+impl PlanTimes {
+    /// The lesser ones of two turns.
+    fn least(self, other: PlanTimes) -> PlanTimes {
+        PlanTimes {
+            whole: least(self.whole, other.whole),
+            alone: least(self.alone, other.alone),
+        }
+    }
+}
+
 fn least(one: Duration, other: Duration) -> Duration {
     if other < one { other } else { one }
 }
@@ -98,12 +116,9 @@ fn least(one: Duration, other: Duration) -> Duration {
 /// 64 KiB, 68 KiB and 64 MiB, reading 64 MiB, and a copy of as many bytes.
 pub fn times(rt: &HostRuntime) -> Result<()> {
     for count in [16, BELOW, MOST] {
-        let mut file = file_of(rt.alloc(), count)?;
-        let mut time = Duration::MAX;
-        for turn in 0..TURNS {
-            time = least(time, plan_time(rt, &mut file, count, turn)?);
-        }
-        println!(rt; "plan {count} {}", time.as_nanos())?;
+        let PlanTimes { whole, alone } = least_plan(rt, count)?;
+        println!(rt; "whole {count} {}", whole.as_nanos())?;
+        println!(rt; "plan {count} {}", alone.as_nanos())?;
     }
     let mut file = file_of(rt.alloc(), MOST)?;
     let mut reading = Duration::MAX;
@@ -117,30 +132,40 @@ pub fn times(rt: &HostRuntime) -> Result<()> {
     Ok(())
 }
 
-/// A plan of one dirty block, the making of the block and of the build left out.
-fn plan_time(rt: &HostRuntime, file: &mut File, count: u32, turn: u32) -> Result<Duration> {
+fn least_plan(rt: &HostRuntime, count: u32) -> Result<PlanTimes> {
+    let mut file = file_of(rt.alloc(), count)?;
+    let mut times = PlanTimes {
+        whole: Duration::MAX,
+        alone: Duration::MAX,
+    };
+    for turn in 0..TURNS {
+        times = times.least(plan_time(rt, &mut file, count, turn)?);
+    }
+    Ok(times)
+}
+
+fn plan_time(rt: &HostRuntime, file: &mut File, count: u32, turn: u32) -> Result<PlanTimes> {
     ensure!(count > 0, "a file without blocks");
     let index = u64::from(turn.wrapping_mul(997) % count);
     let next = Next {
         size: file.tree.size,
         keep: u64::from(count),
     };
-    let wanted = [Written {
-        index,
-        byte: 1,
-        end: file.tree.size,
-    }];
-    let dirty = dirty_of(rt.alloc(), next, &wanted)?;
+    let written: Block = [1; 4096];
     let map = Map::new(rt.alloc(), DISK)?;
-    let mut build = Build::new(rt.alloc(), BlockAllocator::new(rt.alloc(), map, FREE));
     let begun = Instant::now(rt)?;
+    let bytes = Box::new(rt.alloc(), written).map_err(AllocError::from)?;
+    let dirty = dirty_one(rt.alloc(), next, DirtyBlock { index, bytes })?;
+    let mut build = Build::new(rt.alloc(), BlockAllocator::new(rt.alloc(), map, FREE));
+    let planned = Instant::now(rt)?;
     let new = plan_tree(&mut build, &mut file.blocks, &file.tree, dirty)?;
-    let time = begun.elapsed(rt)?;
+    let alone = planned.elapsed(rt)?;
+    let whole = begun.elapsed(rt)?;
     ensure!(
         new.size == file.tree.size && !build.added().is_empty(),
         "another plan"
     );
-    Ok(time)
+    Ok(PlanTimes { whole, alone })
 }
 
 fn read_time(rt: &HostRuntime, file: &mut File) -> Result<Duration> {
@@ -174,9 +199,11 @@ fn copy_time(rt: &HostRuntime) -> Result<Duration> {
 pub fn once(rt: &HostRuntime, what: &str) -> Result<()> {
     let mut file = file_of(rt.alloc(), MOST)?;
     match what {
-        "plan" => plan_time(rt, &mut file, MOST, 1)?,
-        "nothing" => Duration::ZERO,
+        "plan" => {
+            plan_time(rt, &mut file, MOST, 1)?;
+            Ok(())
+        }
+        "nothing" => Ok(()),
         _ => bail!("nothing to plan: {what}"),
-    };
-    Ok(())
+    }
 }

@@ -131,3 +131,7 @@ span_more depth above within = pow-le-pow_right (omega arith) within
 pub span_down : (depth : ℕ) → depth ≢ 0 → 1024 * 1024 ^ (depth - 1) ≡ 1024 ^ depth
 span_down zero some = absurd (some refl)
 span_down (suc depth) some = let here : suc depth - 1 ≡ depth = omega arith in ap (λ n. 1024 * 1024 ^ n) here ∙ sym (pow-succ' 1024 depth)
+
+-- where the data blocks below an indirect block end
+pub indirect_end : (base up count : ℕ) → up ≢ 0 → count ≡ 1024 → base + count * 1024 ^ (up - 1) ≡ base + 1024 ^ up
+indirect_end base up count some all = ap (λ (n : ℕ). base + n * 1024 ^ (up - 1)) all ∙ ap (λ (n : ℕ). base + n) (span_down up some)

@@ -1,4 +1,5 @@
 pub mod CountLemmas
+pub mod CopyLemmas
 pub mod DirtyLemmas
 pub mod EndLemmas
 pub mod PlanLemmas

@@ -14,7 +14,10 @@ use Rattle.sn_tree.specs.declared.new_block.DirtyBlock.{DirtyBlock}
 use Rattle.sn_tree.proofs.FaultLemmas.{outside_among}
 use Rattle.sn_tree.proofs.StepLemmas.{planned_none, planned_joined, too_full_behind}
 
--- where the pointer with number k + 1 begins, and where all of them end
+-- where the pointers with numbers k and k + 1 begin, and where all of them end
+pub begins : (base k width : ℕ) → base + width * k ≡ base + k * width
+begins base k width = omega arith
+
 pub next_at : (base k width : ℕ) → base + k * width + width ≡ base + (k + 1) * width
 next_at base k width = omega arith
 

@@ -326,6 +326,17 @@ planned_under Told s r keep depth base end finish p ps news ds left old between 
     (subst (λ (q : Store). PlansTo q (all_pointers q depth ps) (contents q depth ps) depth base keep ds news added released) (store told) plans))
     step)
 
+-- a pointer to an indirect block, whose pointers were read from it, planned, and replaced
+pub planned_indirect : (Told : Type 0) (s r : Store) (keep up base end finish p : ℕ) (ps news : List ℕ) (ds left : List DirtyBlock) (old between new : Draft) (result : Result ℕ PlanFault) → up ≢ 0 → (Told → r ≡ s) → (Told → ps ≡ below s p) → finish ≡ end
+    → (length (after end ds) ≡ length ds → keep < end)
+    → Planned Told r (all_pointers r (up - 1) ps) (contents r (up - 1) ps) (up - 1) base finish keep ds left news old between
+    → IfOk result (IsReplaced between new p news)
+    → IfOk result (λ n. Planned Told s (all_pointers s up (p ∷ [])) (contents s up (p ∷ [])) up base end keep ds left (n ∷ []) old new)
+planned_indirect Told s r keep up base end finish p ps news ds left old between new result some store pointers ends touched step replaced =
+    let next : suc (up - 1) ≡ up = omega (arith, some) in
+    subst (λ (d : ℕ). IfOk result (λ n. Planned Told s (all_pointers s d (p ∷ [])) (contents s d (p ∷ [])) d base end keep ds left (n ∷ []) old new)) next
+    (planned_above Told s keep base end p ds left old new (up - 1) result news between touched (planned_under Told s r keep (up - 1) base end finish p ps news ds left old between store pointers ends step) replaced)
+
 -- the same over a store that the device still tells
 pub planned_still : (Told : Type 0) (s r : Store) (keep depth base end : ℕ) (ps news : List ℕ) (ds left : List DirtyBlock) (old between : Draft) → (Told → r ≡ s)
     → Planned Told r (all_pointers r depth ps) (contents r depth ps) depth base end keep ds left news old between
@@ -365,3 +376,15 @@ module _ (Told : Type 0) (s : Store) (was : List ℕ) (had : DataBlocks) (depth 
   too_full_behind end last low within inside none =
       let behind : most_added depth next end keep left ≡ most_added depth next end keep (after next ds) = ap (λ (l : List DirtyBlock). most_added depth next end keep l) step.rest in
       omega (arith, none, free-same, added-more, step.few, behind, most_added-joined depth base next end keep ds low within, most_added-joined depth base end last keep ds (omega (arith, low, within)) inside)
+
+-- for an indirect block, whose pointers were planned
+pub too_full_indirect : (Told : Type 0) (s : Store) (keep up base end last : ℕ) (ps news : List ℕ) (ds left : List DirtyBlock) (old between : Draft) → up ≢ 0 → last ≡ end → (length (after end ds) ≡ length ds → keep < end)
+    → Planned Told s (all_pointers s (up - 1) ps) (contents s (up - 1) ps) (up - 1) base last keep ds left news old between
+    → ¬ AreHoles news → free_data between.words between.first ≤ length between.added
+    → free_data old.words old.first < length old.added + most_added up base end keep ds
+too_full_indirect Told s keep up base end last ps news ds left old between some ends touched step filled none =
+    let next : suc (up - 1) ≡ up = omega (arith, some) in
+    let above : length (after last ds) ≡ length ds → keep < last = subst (λ (n : ℕ). length (after n ds) ≡ length ds → keep < n) (sym ends) touched in
+    subst (λ (n : ℕ). free_data old.words old.first < length old.added + most_added up base n keep ds) ends
+    (subst (λ (d : ℕ). free_data old.words old.first < length old.added + most_added d base last keep ds) next
+    (too_full_above Told s (all_pointers s (up - 1) ps) (contents s (up - 1) ps) (up - 1) base last keep ds left news old between step filled above none))

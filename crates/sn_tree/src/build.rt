@@ -9,7 +9,7 @@ ghost use Rattle.sn_tree_read.specs.declared.fault.TreeFault.{TreeFault};
 
 use crate::{DirtyBlock, NewBlock, PlanFault};
 use sn_alloc::BlockAllocator;
-use sn_layout::Block;
+use sn_layout::{BLOCK_SIZE, Block};
 use std::alloc::{AllocError, Global};
 use std::collections::VecDeque;
 use std::marker::Model;
@@ -130,10 +130,19 @@ impl Build {
         VecDeque::new(*self.added.allocator())
     }
 
-    // A block of its own with these bytes.
-    pub(crate) fn boxed(&self, block: Block) -> Result<Box<Block>, AllocError>
-        ensures { IfOk result (λ boxed. boxed.value ≡ block) }
+    // A block of its own, of zeros.
+    pub(crate) fn zeros(&self) -> Result<Box<Block>, AllocError>
+        ensures { IfOk result (λ boxed. boxed.value ≡ replicate 4096 0) }
     {
-        Ok(Box::new(*self.added.allocator(), block)?)
+        Ok(Box::new(*self.added.allocator(), [0; BLOCK_SIZE])?)
+    }
+
+    // A block of its own with these bytes.
+    pub(crate) fn boxed(&self, block: &Block) -> Result<Box<Block>, AllocError>
+        ensures { IfOk result (λ boxed. boxed.value ≡ block.now) }
+    {
+        let mut boxed = self.zeros()?;
+        boxed.copy_from_slice(block);
+        Ok(boxed)
     }
 }

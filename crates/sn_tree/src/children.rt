@@ -1,5 +1,5 @@
-//! The pointers of an indirect block as numbers that can be changed.
-ghost use Rattle.std.specs.Prelude.{◌≡◌, false, Err, IsTrue, OnOk, length, replicate};
+//! The pointers of an indirect block, as numbers or in a copy of it, to be changed.
+ghost use Rattle.std.specs.Prelude.{◌≡◌, false, Err, IsTrue, IfOk, OnOk, length, replicate};
 ghost use Rattle.sn_device.specs.Disk.{reads};
 ghost use Rattle.sn_block.specs.Lending.{device_of};
 ghost use Rattle.sn_layout_node.specs.Indirect.{ArePointers, pointers_bytes};
@@ -8,6 +8,8 @@ ghost use Rattle.sn_tree_read.specs.Counts.{CountsTree};
 ghost use Rattle.sn_tree_read.specs.Paths.{lies_on};
 ghost use Rattle.sn_tree_read.specs.declared.fault.TreeFault.TheVariants.{Damaged};
 
+use crate::Build;
+use crate::indirect_copy::IndirectCopy;
 use sn_block::Blocks;
 use sn_device::Device;
 use sn_layout::Block;
@@ -55,4 +57,28 @@ pub(crate) fn read_below<D: Device>(
     blocks.fetch(pointer)?;
     list(blocks.fetched(), pointers);
     Ok(())
+}
+
+/// Copies the indirect block behind a pointer. Below a hole there are holes. `Damaged` comes only where the
+/// block isn't on the device.
+pub(crate) fn copy_below<D: Device>(
+    build: &Build,
+    blocks: &mut Blocks<D>,
+    pointer: u32,
+) -> Result<IndirectCopy, TreeFault>
+    ensures pointers { IsTrue D.tells_bytes
+        → IfOk result (λ copy. copy ≡ below (store_of (reads (D.disk (device_of blocks.old)))) pointer) }
+    ensures count { IfOk result (λ copy. length copy ≡ 1024) }
+    ensures damaged { result ≡ Err Damaged → lies_on (D.status (device_of blocks.old)).sectors pointer ≡ false }
+    ensures same { IsTrue D.tells_bytes → D.disk (device_of blocks.new) ≡ D.disk (device_of blocks.old) }
+    ensures counts { CountsTree result (D.status (device_of blocks.old)) (D.status (device_of blocks.new)) }
+{
+    if !lies_on(blocks.sectors(), pointer) {
+        return Err(TreeFault::Damaged);
+    }
+    if pointer == 0 {
+        return Ok(IndirectCopy::new(build.zeros()?));
+    }
+    blocks.fetch(pointer)?;
+    Ok(IndirectCopy::new(build.boxed(blocks.fetched())?))
 }

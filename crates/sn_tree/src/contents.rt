@@ -188,7 +188,7 @@ fn move_out(
     if keep == 0 || inline.as_slice().is_empty() || dirty_first(dirty).is_some() {
         return Ok(());
     }
-    let bytes = build.boxed(inline_block(inline))?;
+    let bytes = build.boxed(&inline_block(inline))?;
     dirty.push_front(DirtyBlock { index: 0, bytes })?;
     Ok(())
 }

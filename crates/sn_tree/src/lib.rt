@@ -23,11 +23,12 @@
 //! and else `plan_tree`. `plan_tree` takes the sixteen pointers at the lesser of the old and the new height
 //! (`lowered`), plans them by `plan_pointers`, and raises them to the new height (`raised`), one level
 //! after the other: the sixteen become the first pointers of an indirect block, with holes behind them.
-//! `plan_pointers` plans each pointer by `plan_pointer`, which goes down to the pointers below: a recursion
-//! over levels, so a tree of three levels is no case of its own. A pointer stays where no dirty block lies
-//! below it and all below it stays, or it is a hole; a run of pointers up to the next dirty block, or to the end
-//! of what stays, is passed over at once, and one of holes in a few steps. An indirect block is copied once,
-//! where a pointer in it changes, and is a hole where all of its pointers are.
+//! `plan_pointers` plans each pointer by `plan_pointer`, which copies an indirect block and plans the pointers in the
+//! copy by `plan_copy`, each by `plan_pointer` again: a recursion over levels, so a tree of three levels is no case of
+//! its own. A pointer stays where no dirty block lies below it and all below it stays, or it is a hole; a run of
+//! pointers up to the next dirty block, or to the end of what stays, is passed over at once, and one of holes in a
+//! few steps. The copy takes the indirect block's place where a pointer in it changes, and a hole does where all of
+//! its pointers are holes.
 //!
 //! ```text
 //! let mut build = Build::new(alloc, allocator);
@@ -40,6 +41,7 @@ mod build;
 mod children;
 mod contents;
 mod fault;
+mod indirect_copy;
 mod laws;
 mod levels;
 mod new_block;

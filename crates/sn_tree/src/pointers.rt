@@ -1,5 +1,5 @@
 //! The pointers of a tree, planned from the top down.
-ghost use Rattle.std.specs.Prelude.{◌≡◌, ◌≢◌, ◌⊎◌, ◌+◌, ◌-◌, ◌*◌, ◌/◌, ◌^◌, ◌<◌, ◌≤◌, ◌↔◌, ℕ, [], ◌∷◌, false, length, min, take, Err, All, IsTrue, IsNone, IsSome, IfNone, IfSome, IfOk, OnOk, MatchOption};
+ghost use Rattle.std.specs.Prelude.{◌≡◌, ◌≢◌, ◌⊎◌, ◌+◌, ◌-◌, ◌*◌, ◌/◌, ◌^◌, ◌<◌, ◌≤◌, ◌↔◌, ℕ, [], ◌∷◌, false, length, min, take, drop, Err, All, IsTrue, IsNone, IsSome, IfNone, IfSome, IfOk, OnOk, MatchOption};
 ghost use Rattle.sn_device.specs.Disk.{reads};
 ghost use Rattle.sn_alloc.specs.Taking.{free_data};
 ghost use Rattle.sn_block.specs.Lending.{device_of};
@@ -15,11 +15,11 @@ ghost use Rattle.sn_tree.specs.declared.fault.PlanFault.TheVariants.{Tree, Full}
 ghost use Rattle.sn_tree_read.specs.declared.fault.TreeFault.{TreeFault as TheFault};
 ghost use Rattle.sn_tree_read.specs.declared.fault.TreeFault.TheVariants.{Damaged};
 
-use crate::children::read_below;
+use crate::children::copy_below;
+use crate::indirect_copy::IndirectCopy;
 use crate::{Build, DirtyBlock, PlanFault};
 use sn_block::Blocks;
 use sn_device::Device;
-use sn_layout::BLOCK_SIZE;
 use sn_layout_node::{IndirectBlock, POINTERS_PER_BLOCK};
 use std::collections::VecDeque;
 
@@ -90,32 +90,15 @@ fn count_kept(dirty: &VecDeque<DirtyBlock>, keep: u64, at: u64, span: u64, count
     kept.min(count as u64) as usize
 }
 
-// How many pointers are looked at together.
-const LOOKED_AT: usize = 64;
-
-// Whether all of these are holes. The greatest of them tells, and is found several pointers at a time.
-fn all_holes(pointers: &[u32]) -> bool
-    ensures { IsTrue result → All (λ p. p ≡ 0) pointers.now }
-{
-    let mut greatest = 0;
-    for pointer in pointers {
-        if *pointer > greatest {
-            greatest = *pointer;
-        }
-    }
-    greatest == 0
-}
-
 // How many of the first pointers are holes, counted from the first one.
 fn leading_holes(pointers: &[u32]) -> usize
     ensures most { result ≤ length pointers.now }
     ensures holes { All (λ p. p ≡ 0) (take result pointers.now) }
 {
-    let first = &pointers[..pointers.len().min(LOOKED_AT)];
-    if all_holes(first) {
-        return first.len();
-    }
-    first.iter().position(|pointer| *pointer != 0).unwrap_or(0)
+    pointers
+        .iter()
+        .position(|pointer| *pointer != 0)
+        .unwrap_or(pointers.len())
 }
 
 // How many of these are holes without a dirty block below them, counted from the first one, whose data
@@ -150,6 +133,30 @@ fn count_staying(
         return kept;
     }
     count_holes(dirty, at, span, pointers)
+}
+
+// The same for the pointers of a copy from one on.
+fn count_staying_in(
+    dirty: &VecDeque<DirtyBlock>,
+    keep: u64,
+    at: u64,
+    span: u64,
+    copy: &IndirectCopy,
+    from: usize,
+) -> usize
+    requires span { 0 < span }
+    requires from { from ≤ 1024 }
+    ensures most { from + result ≤ 1024 }
+    ensures stay { 0 < result → (least : ℕ) → IsFrom least dirty.now.items
+        → IsFrom (at + result * span) dirty.now.items
+        × ((at + result * span ≤ keep) ⊎ All (λ p. p ≡ 0) (take result (drop from copy.now))) }
+{
+    let left = POINTERS_PER_BLOCK - from;
+    let kept = count_kept(dirty, keep, at, span, left);
+    if kept > 0 {
+        return kept;
+    }
+    copy.count_holes(from, count_kept(dirty, u64::MAX, at, span, left))
 }
 
 // The new pointer in place of one to a data block: that of the dirty block, or a hole.
@@ -196,9 +203,23 @@ pub(crate) fn replace_pointers(
     if are_holes(pointers) {
         return Ok(0);
     }
-    let mut block = build.boxed([0; BLOCK_SIZE])?;
+    let mut block = build.zeros()?;
     IndirectBlock::encode(pointers, &mut block);
     build.put(block)
+}
+
+// The same of pointers that were set in a copy.
+fn replace_copy(build: &mut Build, pointer: u32, copy: IndirectCopy) -> Result<u32, PlanFault>
+    ensures replaced { IfOk result (IsReplaced build.old build.new pointer copy) }
+    ensures full { result ≡ Err Full → free_data build.old.words build.old.first ≤ length build.old.added }
+    ensures filled { result ≡ Err Full → ¬ AreHoles copy }
+    ensures own { (fault : TheFault) → result ≢ Err (Tree fault) }
+{
+    build.release(pointer)?;
+    if copy.is_empty() {
+        return Ok(0);
+    }
+    build.put(copy.into_bytes())
 }
 
 // The new pointer in place of one that stands so many levels above its data blocks, of which the first
@@ -237,19 +258,61 @@ fn plan_pointer<D: Device>(
         let block = take_before(dirty, end);
         return replace_block(build, pointer, block);
     }
-    let mut pointers = [0; POINTERS_PER_BLOCK];
-    read_below(blocks, pointer, &mut pointers)?;
+    let mut copy = copy_below(build, blocks, pointer)?;
     let counts = build.counts();
-    plan_pointers(build, blocks, dirty, keep, &mut pointers, depth - 1, first)?;
+    plan_copy(build, blocks, dirty, keep, &mut copy, depth - 1, first)?;
     if first < keep && build.counts() == counts {
         return Ok(pointer);
     }
-    replace_pointers(build, pointer, &pointers)
+    replace_copy(build, pointer, copy)
 }
 
-// The same for pointers that stand side by side, in their place. A run of them that stay is passed over at
-// once: most of an indirect block's are such.
+// The same for the pointers of an indirect block, which are set in a copy of it. A run of them that stay is passed
+// over at once: most are such.
 #[cycle(plan)]
+fn plan_copy<D: Device>(
+    build: &mut Build,
+    blocks: &mut Blocks<D>,
+    dirty: &mut VecDeque<DirtyBlock>,
+    keep: u64,
+    copy: &mut IndirectCopy,
+    depth: u32,
+    first: u64,
+) -> Result<(), PlanFault>
+    requires depth { depth ≤ 3 }
+    requires count { length copy.old ≡ 1024 }
+    requires room { first + length copy.old * 1024 ^ depth ≤ 2 ^ 62 }
+    requires rise { IsFrom first dirty.old.items }
+    ensures planned { OnOk result (Planned (IsTrue D.tells_bytes) (store_of (reads (D.disk (device_of blocks.old))))
+        (all_pointers (store_of (reads (D.disk (device_of blocks.old)))) depth copy.old)
+        (contents (store_of (reads (D.disk (device_of blocks.old)))) depth copy.old)
+        depth first (first + length copy.old * 1024 ^ depth) keep dirty.old.items dirty.new.items copy.new build.old build.new) }
+    ensures still { OnOk result (build.new ≡ build.old → copy.new ≡ copy.old) }
+    ensures full { IsTooFull result build.old
+        (most_added depth first (first + length copy.old * 1024 ^ depth) keep dirty.old.items) }
+    ensures damaged { IsTrue D.tells_bytes → result ≡ Err (Tree Damaged)
+        → LeadsOutside (D.status (device_of blocks.old)).sectors
+        (all_pointers (store_of (reads (D.disk (device_of blocks.old)))) depth copy.old) }
+    ensures same { IsTrue D.tells_bytes → D.disk (device_of blocks.new) ≡ D.disk (device_of blocks.old) }
+    ensures counts { CountsPlan result (D.status (device_of blocks.old)) (D.status (device_of blocks.new)) }
+{
+    let span = span_of(depth);
+    let mut k = 0;
+    while k < POINTERS_PER_BLOCK {
+        let at = first + span * k as u64;
+        let staying = count_staying_in(dirty, keep, at, span, copy, k);
+        if staying > 0 {
+            k += staying;
+        } else {
+            let new = plan_pointer(build, blocks, dirty, keep, copy.pointer(k), depth, at)?;
+            copy.set(k, new);
+            k += 1;
+        }
+    }
+    Ok(())
+}
+
+// The same for pointers that stand side by side, in their place.
 pub(crate) fn plan_pointers<D: Device>(
     build: &mut Build,
     blocks: &mut Blocks<D>,

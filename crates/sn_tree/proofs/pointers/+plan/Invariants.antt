@@ -11,23 +11,23 @@ use Rattle.sn_tree.proofs.pointers.+plan.Given as goal
 abbrev pub decreases-plan_pointer : goal.decreases-plan_pointer
 decreases-plan_pointer g l = 2 * l.depth
 
-abbrev pub decreases-plan_pointers : goal.decreases-plan_pointers
-decreases-plan_pointers g l = 2 * l.depth + 1
+abbrev pub decreases-plan_copy : goal.decreases-plan_copy
+decreases-plan_copy g l = 2 * l.depth + 1
 
-abbrev pub invariant-plan_pointers-loop-k : goal.invariant-plan_pointers-loop-k
-invariant-plan_pointers-loop-k g l = record {
+abbrev pub invariant-plan_copy-loop-k : goal.invariant-plan_copy-loop-k
+invariant-plan_copy-loop-k g l = record {
   same : IsTrue g.D.Device.tells_bytes → g.D.Device.disk (device_of l.blocks) ≡ g.D.Device.disk (device_of l.fn.blocks);
   status : g.D.Device.status (device_of l.blocks) ≡ g.D.Device.status (device_of l.fn.blocks);
-  within : l.k ≤ length l.pointers;
-  count : length l.pointers ≡ length l.fn.pointers;
-  left : drop l.k l.pointers ≡ drop l.k l.fn.pointers;
-  still : l.build ≡ l.fn.build → l.pointers ≡ l.fn.pointers;
+  within : l.k ≤ 1024;
+  count : length l.copy ≡ length l.fn.copy;
+  left : drop l.k l.copy ≡ drop l.k l.fn.copy;
+  still : l.build ≡ l.fn.build → l.copy ≡ l.fn.copy;
   rise : IsFrom (l.fn.first + l.k * 1024 ^ l.fn.depth) l.dirty.items;
   planned : Planned (IsTrue g.D.Device.tells_bytes) (store_of (reads (g.D.Device.disk (device_of l.fn.blocks))))
-      (all_pointers (store_of (reads (g.D.Device.disk (device_of l.fn.blocks)))) l.fn.depth (take l.k l.fn.pointers))
-      (contents (store_of (reads (g.D.Device.disk (device_of l.fn.blocks)))) l.fn.depth (take l.k l.fn.pointers))
-      l.fn.depth l.fn.first (l.fn.first + l.k * 1024 ^ l.fn.depth) l.fn.keep l.fn.dirty.items l.dirty.items (take l.k l.pointers) l.fn.build l.build;
+      (all_pointers (store_of (reads (g.D.Device.disk (device_of l.fn.blocks)))) l.fn.depth (take l.k l.fn.copy))
+      (contents (store_of (reads (g.D.Device.disk (device_of l.fn.blocks)))) l.fn.depth (take l.k l.fn.copy))
+      l.fn.depth l.fn.first (l.fn.first + l.k * 1024 ^ l.fn.depth) l.fn.keep l.fn.dirty.items l.dirty.items (take l.k l.copy) l.fn.build l.build;
 }
 
-abbrev pub decreases-plan_pointers-loop-k : goal.decreases-plan_pointers-loop-k
-decreases-plan_pointers-loop-k g l = length l.initial.pointers - l.k
+abbrev pub decreases-plan_copy-loop-k : goal.decreases-plan_copy-loop-k
+decreases-plan_copy-loop-k g l = 1024 - l.k
