@@ -7,6 +7,7 @@ pub mod StepLemmas
 pub mod FaultLemmas
 pub mod ReplannedLemmas
 pub mod LoopLemmas
+pub mod ProgressLemmas
 pub mod RunLemmas
 pub mod LawLemmas
 pub mod FrontLemmas

@@ -3,7 +3,7 @@ use Rattle.std.proofs.Common.{◌≡◌, ℕ, suc, ◌+◌, ◌*◌, ◌<◌, �
 use Rattle.std.specs.Prelude.{◌^◌}
 use Rattle.std.proofs.Math.Nat.{mul-le-mul_left}
 use Rattle.std.proofs.Math.Seq.{drop-cons}
-use Rattle.std.proofs.lemmas.List.{length-take-le, length-drop, take_all, take_more, take_more_set, drop-set-lt, drop-drop, get_or-drop, take-append-drop}
+use Rattle.std.proofs.lemmas.List.{length-take-le, length-drop, take_more, take_more_set, drop-set-lt, drop-drop, get_or-drop, take-append-drop}
 use Rattle.sn_alloc.specs.Taking.{free_data}
 use Rattle.sn_ondisk.specs.Trees.{Store, all_pointers}
 use Rattle.sn_tree.specs.Drafts.{Draft}
@@ -14,10 +14,7 @@ use Rattle.sn_tree.specs.declared.new_block.DirtyBlock.{DirtyBlock}
 use Rattle.sn_tree.proofs.FaultLemmas.{outside_among}
 use Rattle.sn_tree.proofs.StepLemmas.{planned_none, planned_joined, too_full_behind}
 
--- where the pointers with numbers k and k + 1 begin, and where all of them end
-pub begins : (base k width : ℕ) → base + width * k ≡ base + k * width
-begins base k width = omega arith
-
+-- where the pointer with number k + 1 begins, and where all of them end
 pub next_at : (base k width : ℕ) → base + k * width + width ≡ base + (k + 1) * width
 next_at base k width = omega arith
 
@@ -80,11 +77,3 @@ module _ (Told : Type 0) (s : Store) (keep depth base : ℕ) (olds : List ℕ) w
   planned_begun ds draft rise =
       let here : base ≡ base + 0 * 1024 ^ depth = omega arith in
       subst (λ (n : ℕ). Planned Told s (all_pointers s depth []) (contents s depth []) depth base n keep ds ds [] draft draft) here (planned_none Told s keep depth base ds draft rise)
-
-  pub planned_ended : (k : ℕ) (ps : List ℕ) (ds left : List DirtyBlock) (draft behind : Draft) → k ≡ length ps → length ps ≡ length olds
-      → Planned Told s (all_pointers s depth (take k olds)) (contents s depth (take k olds)) depth base (base + k * 1024 ^ depth) keep ds left (take k ps) draft behind
-      → Planned Told s (all_pointers s depth olds) (contents s depth olds) depth base (base + length olds * 1024 ^ depth) keep ds left ps draft behind
-  planned_ended k ps ds left draft behind whole same step =
-      subst (λ (n : ℕ). Planned Told s (all_pointers s depth olds) (contents s depth olds) depth base (base + n * 1024 ^ depth) keep ds left ps draft behind) (whole ∙ same)
-      (subst (λ (news : List ℕ). Planned Told s (all_pointers s depth olds) (contents s depth olds) depth base (base + k * 1024 ^ depth) keep ds left news draft behind) (take_all k ps (omega (arith, whole)))
-      (subst (λ (qs : List ℕ). Planned Told s (all_pointers s depth qs) (contents s depth qs) depth base (base + k * 1024 ^ depth) keep ds left (take k ps) draft behind) (take_all k olds (omega (arith, whole, same))) step))

@@ -1,27 +1,22 @@
-use Rattle.std.proofs.Common.{rules, ◌≡◌, ◌⊎◌, inl, inr, ⊎_elim, ℕ, suc, ◌+◌, ◌-◌, ◌*◌, ◌<◌, ◌≤◌, ◌==◌, List, [], ◌∷◌, length, get_or, set, take, drop, refl, sym, ap, subst, ◌∙◌, arith, IsTrue}
-use Rattle.std.specs.Prelude.{◌^◌, All, Err, IfOk}
+use Rattle.std.proofs.Common.{rules, ◌≡◌, ◌⊎◌, ℕ, suc, ◌+◌, ◌-◌, ◌*◌, ◌<◌, ◌≤◌, ◌==◌, List, [], ◌∷◌, length, take, drop, refl, sym, ap, subst, ◌∙◌, arith, IsTrue}
+use Rattle.std.specs.Prelude.{◌^◌, Err, IfOk}
 use Rattle.std.proofs.lemmas.Bool.{and_parts, eqb-true}
-use Rattle.std.proofs.lemmas.List.{length-set, set-get_or}
-use Rattle.std.proofs.lemmas.List.Elements.{recursion_from_All}
+use Rattle.std.proofs.lemmas.List.{length-set}
 use Rattle.std.proofs.lemmas.Result.{err_from_is_err_and}
 use Rattle.sn_device.specs.Disk.{Disk, reads}
 use Rattle.sn_device.specs.declared.status.Status.{Status}
 use Rattle.sn_alloc.specs.Taking.{free_data}
 use Rattle.sn_block.specs.Lending.{device_of}
-use Rattle.sn_ondisk.specs.Trees.{Store, store_of, all_pointers}
+use Rattle.sn_ondisk.specs.Trees.{store_of, all_pointers}
 use Rattle.sn_tree_read.specs.declared.fault.TreeFault.TheVariants.{Damaged}
-use Rattle.sn_tree.specs.Drafts.{Draft}
 use Rattle.sn_tree.specs.Dirty.{IsFrom, after}
 use Rattle.sn_tree.specs.Plans.{contents, most_added}
-use Rattle.sn_tree.specs.Steps.{AreHoles, Planned, LeadsOutside}
+use Rattle.sn_tree.specs.Steps.{Planned, LeadsOutside}
 use Rattle.sn_tree.specs.declared.fault.PlanFault.TheVariants.{Tree, Full}
-use Rattle.sn_tree.specs.declared.new_block.DirtyBlock.{DirtyBlock}
 use Rattle.sn_tree.proofs.CountLemmas.{span_some, indirect_end}
-use Rattle.sn_tree.proofs.DirtyLemmas.{IsFrom-after}
 use Rattle.sn_tree.proofs.FaultLemmas.{outside_here, outside_indirect}
-use Rattle.sn_tree.proofs.StepLemmas.{planned_stays, planned_leaf, planned_under, planned_still, planned_unchanged, planned_indirect, nothing_grown, leaf_full, too_full_indirect}
-use Rattle.sn_tree.proofs.LoopLemmas.{begins, planned_begun, planned_next, too_full_next, outside_next, left_next, next_at}
-use Rattle.sn_tree.proofs.RunLemmas.{run_at, left_passed, planned_passed}
+use Rattle.sn_tree.proofs.StepLemmas.{planned_stays, planned_leaf, planned_under, planned_unchanged, planned_indirect, leaf_full, too_full_indirect}
+use Rattle.sn_tree.proofs.ProgressLemmas.{progress_begun, progress_at, progress_step, progress_run, progress_full, progress_outside}
 use Rattle.sn_tree.proofs.pointers.+plan.Goals as goal
 
 pub plan_pointer-returns-then-stays-clause-planned : goal.plan_pointer-returns-then-stays-clause-planned
@@ -128,119 +123,61 @@ plan_pointer-returns-then-eq-clause-planned g t c =
 pub plan_copy-loop-k-init : goal.plan_copy-loop-k-init
 plan_copy-loop-k-init g t c =
     let s = store_of (reads (g.D.Device.disk (device_of c.args.blocks.now))) in
-    let here : c.args.first ≡ c.args.first + 0 * 1024 ^ c.args.depth = omega arith in
     record {
       same = λ _. refl;
       status = refl;
       within = omega arith;
-      count = refl;
-      left = refl;
-      still = λ _. refl;
-      rise = subst (λ (n : ℕ). IsFrom n c.args.dirty.now.items) here c.requires.rise;
-      planned = planned_begun (IsTrue g.D.Device.tells_bytes) s c.args.keep c.args.depth c.args.first c.args.copy.now c.args.dirty.now.items c.args.build.now c.requires.rise;
+      done = progress_begun (IsTrue g.D.Device.tells_bytes) s c.args.depth c.args.first c.args.keep c.args.dirty.now.items c.args.copy.now c.args.build.now c.requires.rise;
     }
+
+pub plan_copy-plan_pointer-requires : goal.plan_copy-plan_pointer-requires
+plan_copy-plan_pointer-requires g t c κs within =
+    let s = store_of (reads (g.D.Device.disk (device_of c.args.blocks.now))) in
+    let inside : c.loop-k.k < length c.loop-k.copy = omega (arith, c.loop-k.invariant.done.count, c.requires.count) in
+    let at = progress_at (IsTrue g.D.Device.tells_bytes) s c.args.depth c.args.first c.args.keep c.span_of-span.result c.args.dirty.now.items c.loop-k.dirty.items c.args.copy.now c.loop-k.copy c.args.build.now c.loop-k.build c.loop-k.k c.span_of-span.ensures.value c.loop-k.invariant.done inside in
+    (first_of (search rules, omega (arith, c.decreases)), (search rules, (c.requires.depth, (omega (arith, at.0, c.requires.room), at.1))))
 
 pub plan_copy-returns-in_err-new-clause-full : goal.plan_copy-returns-in_err-new-clause-full
 plan_copy-returns-in_err-new-clause-full g t c = λ is.
     let s = store_of (reads (g.D.Device.disk (device_of c.args.blocks.now))) in
-    let k = c.loop-k.k in
-    let ps = c.loop-k.copy in
-    let olds = c.args.copy.now in
-    let width = 1024 ^ c.args.depth in
-    let next = c.args.first + c.span_of-span.result * k in
-    let starts : next ≡ c.args.first + k * width = ap (λ (w : ℕ). c.args.first + w * k) c.span_of-span.ensures.value ∙ begins c.args.first k width in
-    let same : length ps ≡ length olds = c.loop-k.invariant.count in
-    let within : k < length ps = omega (arith, same, c.requires.count) in
+    let within : c.loop-k.k < length c.loop-k.copy = omega (arith, c.loop-k.invariant.done.count, c.requires.count) in
     let p = err_from_is_err_and c.from_residual.result c.from_residual.ensures.1 in
     let fault : c.in_err-new.field-0.0 ≡ Full = cc (p.1, p.2) in
-    too_full_next k olds ps within c.loop-k.invariant.left (IsTrue g.D.Device.tells_bytes) s c.args.keep c.args.depth c.args.first next (next + width) c.args.dirty.now.items c.loop-k.dirty.items c.args.build.now c.loop-k.build starts refl same c.loop-k.invariant.planned (c.in_err-new.ensures.full (ap (λ fault. Err fault) fault))
+    progress_full (IsTrue g.D.Device.tells_bytes) s c.args.depth c.args.first c.args.keep c.span_of-span.result c.args.dirty.now.items c.loop-k.dirty.items c.args.copy.now c.loop-k.copy c.args.build.now c.loop-k.build c.loop-k.k c.span_of-span.ensures.value c.loop-k.invariant.done within (c.in_err-new.ensures.full (ap (λ fault. Err fault) fault))
 
 pub plan_copy-returns-in_err-new-clause-damaged : goal.plan_copy-returns-in_err-new-clause-damaged
 plan_copy-returns-in_err-new-clause-damaged g t c told is =
-    let sectors = (g.D.Device.status (device_of c.args.blocks.now)).sectors in
     let s = store_of (reads (g.D.Device.disk (device_of c.args.blocks.now))) in
     let r = store_of (reads (g.D.Device.disk (device_of c.loop-k.blocks))) in
-    let k = c.loop-k.k in
-    let ps = c.loop-k.copy in
-    let within : k < length ps = omega (arith, c.loop-k.invariant.count, c.requires.count) in
+    let within : c.loop-k.k < length c.loop-k.copy = omega (arith, c.loop-k.invariant.done.count, c.requires.count) in
     let p = err_from_is_err_and c.from_residual.result c.from_residual.ensures.1 in
     let fault : c.in_err-new.field-0.0 ≡ Tree Damaged = cc (p.1, p.2) in
-    let leads = c.in_err-new.ensures.damaged told (ap (λ fault. Err fault) fault) in
-    let still : r ≡ s = ap (λ (d : Disk). store_of (reads d)) (c.loop-k.invariant.same told) in
-    outside_next k c.args.copy.now ps within c.loop-k.invariant.left (IsTrue g.D.Device.tells_bytes) s c.args.keep c.args.depth c.args.first sectors
-    (subst (λ (q : ℕ). LeadsOutside sectors (all_pointers s c.args.depth (q ∷ []))) c.pointer.ensures
-    (subst (λ (q : Store). LeadsOutside sectors (all_pointers q c.args.depth (c.pointer.result ∷ []))) still
-    (subst (λ (n : ℕ). LeadsOutside n (all_pointers r c.args.depth (c.pointer.result ∷ []))) (ap (λ (t : Status). t.sectors) c.loop-k.invariant.status) leads)))
+    progress_outside (IsTrue g.D.Device.tells_bytes) s c.args.depth c.args.first c.args.keep c.span_of-span.result c.args.dirty.now.items c.loop-k.dirty.items c.args.copy.now c.loop-k.copy c.args.build.now c.loop-k.build c.loop-k.k c.span_of-span.ensures.value c.loop-k.invariant.done within r (ap (λ (d : Disk). store_of (reads d)) (c.loop-k.invariant.same told))
+    (g.D.Device.status (device_of c.args.blocks.now)).sectors (g.D.Device.status (device_of c.loop-k.blocks)).sectors (ap (λ (t : Status). t.sectors) c.loop-k.invariant.status) c.pointer.result c.pointer.ensures (c.in_err-new.ensures.damaged told (ap (λ fault. Err fault) fault))
 
 pub plan_copy-loop-k-preserved : goal.plan_copy-loop-k-preserved
 plan_copy-loop-k-preserved g t c =
-    let Told = IsTrue g.D.Device.tells_bytes in
     let s = store_of (reads (g.D.Device.disk (device_of c.args.blocks.now))) in
     let r = store_of (reads (g.D.Device.disk (device_of c.loop-k.blocks))) in
-    let k = c.loop-k.k in
-    let ps = c.loop-k.copy in
-    let olds = c.args.copy.now in
-    let width = 1024 ^ c.args.depth in
-    let next = c.args.first + c.span_of-span.result * k in
-    let starts : next ≡ c.args.first + k * width = ap (λ (w : ℕ). c.args.first + w * k) c.span_of-span.ensures.value ∙ begins c.args.first k width in
-    let inv = c.loop-k.invariant in
-    let within : k < length ps = omega (arith, inv.count, c.requires.count) in
-    let still : Told → r ≡ s = λ told. ap (λ (d : Disk). store_of (reads d)) (inv.same told) in
-    let new = c.in_ok-new.new in
-    let rest = c.plan_pointer.new.dirty.items in
-    let behind = c.plan_pointer.new.build in
-    let step = planned_still Told s r c.args.keep c.args.depth next (next + width) (get_or ps k 0 ∷ []) (new ∷ []) c.loop-k.dirty.items rest c.loop-k.build behind still
-    (subst (λ (q : ℕ). Planned Told r (all_pointers r c.args.depth (q ∷ [])) (contents r c.args.depth (q ∷ [])) c.args.depth next (next + width) c.args.keep c.loop-k.dirty.items rest (new ∷ []) c.loop-k.build behind) c.pointer.ensures c.in_ok-new.ensures.planned) in
-    let ended : next + width ≡ c.args.first + (k + 1) * width = ap (λ (n : ℕ). n + width) starts ∙ next_at c.args.first k width in
+    let within : c.loop-k.k < length c.loop-k.copy = omega (arith, c.loop-k.invariant.done.count, c.requires.count) in
     record {
-      same = λ told. c.plan_pointer.ensures.same told ∙ inv.same told;
-      status = c.in_ok-new.ensures.counts.other (λ failed. absurd cc) ∙ inv.status;
-      within = omega (arith, within, inv.count, c.requires.count);
-      count = ap (λ (qs : List ℕ). length qs) c.set.ensures ∙ length-set ps k new ∙ inv.count;
-      left = ap (drop (k + 1)) c.set.ensures ∙ left_next k olds ps within inv.left new;
-      still = λ same.
-          let none = nothing_grown c.args.build.now c.loop-k.build behind inv.planned.added c.in_ok-new.ensures.planned.added inv.planned.released c.in_ok-new.ensures.planned.released inv.planned.grew c.in_ok-new.ensures.planned.grew
-          (ap (λ (d : Draft). length d.added) same) (ap (λ (d : Draft). length d.released) same) in
-          c.set.ensures ∙ ap (set ps k) (c.in_ok-new.ensures.still none.1 ∙ c.pointer.ensures) ∙ set-get_or ps k 0 ∙ inv.still none.0;
-      rise = subst (λ (n : ℕ). IsFrom n rest) ended
-          (subst (λ (l : List DirtyBlock). IsFrom (next + width) l) (sym c.in_ok-new.ensures.planned.rest) (IsFrom-after (c.args.first + k * width) (next + width) c.loop-k.dirty.items inv.rise));
-      planned = subst (λ (qs : List ℕ). Planned Told s (all_pointers s c.args.depth (take (k + 1) olds)) (contents s c.args.depth (take (k + 1) olds)) c.args.depth c.args.first (c.args.first + (k + 1) * width) c.args.keep c.args.dirty.now.items rest (take (k + 1) qs) c.args.build.now behind) (sym c.set.ensures)
-          (planned_next k olds ps within inv.left Told s c.args.keep c.args.depth c.args.first new next (next + width) c.args.dirty.now.items c.loop-k.dirty.items rest c.args.build.now c.loop-k.build behind starts refl inv.planned step);
+      same = λ told. c.plan_pointer.ensures.same told ∙ c.loop-k.invariant.same told;
+      status = c.in_ok-new.ensures.counts.other (λ failed. absurd cc) ∙ c.loop-k.invariant.status;
+      within = omega (arith, within, ap (λ (qs : List ℕ). length qs) c.set.ensures, length-set c.loop-k.copy c.loop-k.k c.in_ok-new.new);
+      done = progress_step (IsTrue g.D.Device.tells_bytes) s c.args.depth c.args.first c.args.keep c.span_of-span.result c.args.dirty.now.items c.loop-k.dirty.items c.args.copy.now c.loop-k.copy c.args.build.now c.loop-k.build c.loop-k.k c.span_of-span.ensures.value c.loop-k.invariant.done within r (λ told. ap (λ (d : Disk). store_of (reads d)) (c.loop-k.invariant.same told)) c.pointer.result c.in_ok-new.new c.pointer.ensures c.plan_pointer.new.dirty.items c.plan_pointer.new.build c.in_ok-new.ensures.planned c.in_ok-new.ensures.still c.set.new.self c.set.ensures;
     }
 
 pub plan_copy-loop-k-preserved-then-staying-gt0 : goal.plan_copy-loop-k-preserved-then-staying-gt0
 plan_copy-loop-k-preserved-then-staying-gt0 g t c =
-    let Told = IsTrue g.D.Device.tells_bytes in
     let s = store_of (reads (g.D.Device.disk (device_of c.args.blocks.now))) in
     let k = c.loop-k.k in
     let n = c.count_staying_in-staying.result in
     let ps = c.loop-k.copy in
-    let olds = c.args.copy.now in
-    let keep = c.args.keep in
-    let items = c.loop-k.dirty.items in
-    let width = 1024 ^ c.args.depth in
-    let next = c.args.first + c.span_of-span.result * k in
-    let end = next + n * width in
-    let inv = c.loop-k.invariant in
-    let starts : next ≡ c.args.first + k * width = ap (λ (w : ℕ). c.args.first + w * k) c.span_of-span.ensures.value ∙ begins c.args.first k width in
     let some : 0 < n = omega arith in
-    let many : length ps ≡ 1024 = inv.count ∙ c.requires.count in
-    let within : k + n ≤ length ps = omega (arith, c.count_staying_in-staying.ensures.most, many) in
-    let told = c.count_staying_in-staying.ensures.stay some (c.args.first + k * width) inv.rise in
-    let wide : next + n * c.span_of-span.result ≡ end = ap (λ (w : ℕ). next + n * w) c.span_of-span.ensures.value in
-    let rise : IsFrom end items = subst (λ (m : ℕ). IsFrom m items) wide told.0 in
-    let stay : (end ≤ keep) ⊎ AreHoles (take n (drop k ps)) = ⊎_elim
-    (λ (low : next + n * c.span_of-span.result ≤ keep). inl (omega (arith, low, wide)))
-    (λ (holes : All (λ (p : ℕ). p ≡ 0) (take n (drop k ps))). inr (recursion_from_All (λ (p : ℕ). p ≡ 0) (take n (drop k ps)) holes))
-    told.1 in
-    let ended : end ≡ c.args.first + (k + n) * width = ap (λ (m : ℕ). m + n * width) starts ∙ run_at c.args.first k n width in
+    let within : k + n ≤ length ps = omega (arith, c.count_staying_in-staying.ensures.most, c.loop-k.invariant.done.count, c.requires.count) in
     record {
-      same = inv.same;
-      status = inv.status;
-      within = omega (arith, within, many);
-      count = inv.count;
-      left = left_passed k n olds ps within inv.count inv.left;
-      still = inv.still;
-      rise = subst (λ (m : ℕ). IsFrom m items) ended rise;
-      planned = planned_passed k n olds ps within inv.count inv.left Told s keep c.args.depth c.args.first next end c.args.dirty.now.items items c.args.build.now c.loop-k.build starts refl some rise stay inv.planned;
+      same = c.loop-k.invariant.same;
+      status = c.loop-k.invariant.status;
+      within = within;
+      done = progress_run (IsTrue g.D.Device.tells_bytes) s c.args.depth c.args.first c.args.keep c.span_of-span.result c.args.dirty.now.items c.loop-k.dirty.items c.args.copy.now c.loop-k.copy c.args.build.now c.loop-k.build c.loop-k.k c.span_of-span.ensures.value c.loop-k.invariant.done n some within (take n (drop k ps)) refl (c.count_staying_in-staying.ensures.stay some (c.args.first + k * 1024 ^ c.args.depth) c.loop-k.invariant.done.rise);
     }

@@ -1,11 +1,8 @@
-use Rattle.std.proofs.Common.{◌≡◌, ◌+◌, ◌-◌, ◌*◌, ◌≤◌, length, take, drop, IsTrue}
-use Rattle.std.specs.Prelude.{◌^◌}
+use Rattle.std.proofs.Common.{◌≡◌, ◌+◌, ◌-◌, ◌*◌, ◌≤◌, length, IsTrue}
 use Rattle.sn_device.specs.Disk.{reads}
 use Rattle.sn_block.specs.Lending.{device_of}
-use Rattle.sn_ondisk.specs.Trees.{store_of, all_pointers}
-use Rattle.sn_tree.specs.Dirty.{IsFrom}
-use Rattle.sn_tree.specs.Plans.{contents}
-use Rattle.sn_tree.specs.Steps.{Planned}
+use Rattle.sn_ondisk.specs.Trees.{store_of}
+use Rattle.sn_tree.proofs.ProgressLemmas.{Progress}
 use Rattle.sn_tree.proofs.pointers.+plan.Given as goal
 
 abbrev pub decreases-plan_pointer : goal.decreases-plan_pointer
@@ -18,15 +15,8 @@ abbrev pub invariant-plan_copy-loop-k : goal.invariant-plan_copy-loop-k
 invariant-plan_copy-loop-k g l = record {
   same : IsTrue g.D.Device.tells_bytes → g.D.Device.disk (device_of l.blocks) ≡ g.D.Device.disk (device_of l.fn.blocks);
   status : g.D.Device.status (device_of l.blocks) ≡ g.D.Device.status (device_of l.fn.blocks);
-  within : l.k ≤ 1024;
-  count : length l.copy ≡ length l.fn.copy;
-  left : drop l.k l.copy ≡ drop l.k l.fn.copy;
-  still : l.build ≡ l.fn.build → l.copy ≡ l.fn.copy;
-  rise : IsFrom (l.fn.first + l.k * 1024 ^ l.fn.depth) l.dirty.items;
-  planned : Planned (IsTrue g.D.Device.tells_bytes) (store_of (reads (g.D.Device.disk (device_of l.fn.blocks))))
-      (all_pointers (store_of (reads (g.D.Device.disk (device_of l.fn.blocks)))) l.fn.depth (take l.k l.fn.copy))
-      (contents (store_of (reads (g.D.Device.disk (device_of l.fn.blocks)))) l.fn.depth (take l.k l.fn.copy))
-      l.fn.depth l.fn.first (l.fn.first + l.k * 1024 ^ l.fn.depth) l.fn.keep l.fn.dirty.items l.dirty.items (take l.k l.copy) l.fn.build l.build;
+  within : l.k ≤ length l.copy;
+  done : Progress (IsTrue g.D.Device.tells_bytes) (store_of (reads (g.D.Device.disk (device_of l.fn.blocks)))) l.fn.depth l.fn.first l.fn.keep l.fn.dirty.items l.dirty.items l.fn.copy l.copy l.fn.build l.build l.k;
 }
 
 abbrev pub decreases-plan_copy-loop-k : goal.decreases-plan_copy-loop-k
