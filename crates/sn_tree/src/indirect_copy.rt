@@ -1,5 +1,5 @@
 //! A copy of an indirect block, whose pointers are set where they stand.
-ghost use Rattle.std.specs.Prelude.{◌≡◌, ◌↔◌, ◌<◌, ◌≤◌, ◌+◌, ℕ, List, All, IsTrue, slice_index, slice_set, take, drop};
+ghost use Rattle.std.specs.Prelude.{◌≡◌, ◌≢◌, ◌↔◌, ◌<◌, ◌≤◌, ◌+◌, ℕ, List, All, IsTrue, slice_index, slice_set, take, drop};
 ghost use Rattle.sn_layout_node.specs.Indirect.{ArePointers, pointers_of, pointers_bytes};
 
 use sn_layout::Block;
@@ -65,6 +65,7 @@ impl IndirectCopy {
         requires { from + most ≤ 1024 }
         ensures most { result ≤ most }
         ensures holes { All (λ p. p ≡ 0) (take result (drop from self.now)) }
+        ensures ends { result < most → slice_index self.now (from + result) ≢ 0 }
     {
         let pointers = pointers_in(&self.bytes);
         let mut count = 0;

@@ -1,5 +1,5 @@
 //! The pointers of a tree, planned from the top down.
-ghost use Rattle.std.specs.Prelude.{◌≡◌, ◌≢◌, ◌⊎◌, ◌+◌, ◌-◌, ◌*◌, ◌/◌, ◌^◌, ◌<◌, ◌≤◌, ◌↔◌, ℕ, [], ◌∷◌, false, length, min, take, drop, Err, All, IsTrue, IsNone, IsSome, IfNone, IfSome, IfOk, OnOk, MatchOption};
+ghost use Rattle.std.specs.Prelude.{◌≡◌, ◌≢◌, ◌⊎◌, ◌+◌, ◌-◌, ◌*◌, ◌/◌, ◌^◌, ◌<◌, ◌≤◌, ◌↔◌, ℕ, [], ◌∷◌, false, length, slice_index, min, take, drop, Err, All, IsTrue, IsNone, IsSome, IfNone, IfSome, IfOk, OnOk, MatchOption};
 ghost use Rattle.sn_device.specs.Disk.{reads};
 ghost use Rattle.sn_alloc.specs.Taking.{free_data};
 ghost use Rattle.sn_block.specs.Lending.{device_of};
@@ -94,6 +94,7 @@ fn count_kept(dirty: &VecDeque<DirtyBlock>, keep: u64, at: u64, span: u64, count
 fn leading_holes(pointers: &[u32]) -> usize
     ensures most { result ≤ length pointers.now }
     ensures holes { All (λ p. p ≡ 0) (take result pointers.now) }
+    ensures ends { result < length pointers.now → slice_index pointers.now result ≢ 0 }
 {
     pointers
         .iter()
