@@ -1,8 +1,7 @@
-//! The pointers of an indirect block, as numbers or in a copy of it, to be changed.
-ghost use Rattle.std.specs.Prelude.{◌≡◌, false, Err, IsTrue, IfOk, OnOk, length, replicate};
+//! The indirect block behind a pointer.
+ghost use Rattle.std.specs.Prelude.{◌≡◌, false, Err, IsTrue, IfOk, length};
 ghost use Rattle.sn_device.specs.Disk.{reads};
 ghost use Rattle.sn_block.specs.Lending.{device_of};
-ghost use Rattle.sn_layout_node.specs.Indirect.{ArePointers, pointers_bytes};
 ghost use Rattle.sn_ondisk.specs.Trees.{store_of, below};
 ghost use Rattle.sn_tree_read.specs.Counts.{CountsTree};
 ghost use Rattle.sn_tree_read.specs.Paths.{lies_on};
@@ -12,52 +11,7 @@ use crate::Build;
 use crate::indirect_copy::IndirectCopy;
 use sn_block::Blocks;
 use sn_device::Device;
-use sn_layout::Block;
-use sn_layout_node::{IndirectBlock, POINTERS_PER_BLOCK};
 use sn_tree_read::{TreeFault, lies_on};
-
-// Puts the pointers that a block spells in place of others.
-fn list(block: &Block, pointers: &mut [u32; POINTERS_PER_BLOCK])
-    ensures are { ArePointers pointers.new }
-    ensures bytes { block.now ≡ pointers_bytes pointers.new }
-{
-    let indirect = IndirectBlock::decode(block);
-    for (i, pointer) in pointers.iter_mut().enumerate() {
-        *pointer = indirect.pointer(i);
-    }
-}
-
-fn clear(pointers: &mut [u32; POINTERS_PER_BLOCK])
-    ensures { pointers.new ≡ replicate 1024 0 }
-{
-    *pointers = [0; POINTERS_PER_BLOCK];
-}
-
-/// Puts the 1,024 pointers that stand below a pointer in place of others. Below a hole there are holes.
-/// `Damaged` comes only where the block isn't on the device.
-pub(crate) fn read_below<D: Device>(
-    blocks: &mut Blocks<D>,
-    pointer: u32,
-    pointers: &mut [u32; POINTERS_PER_BLOCK],
-) -> Result<(), TreeFault>
-    ensures pointers { IsTrue D.tells_bytes
-        → OnOk result (pointers.new ≡ below (store_of (reads (D.disk (device_of blocks.old)))) pointer) }
-    ensures count { OnOk result (length pointers.new ≡ 1024) }
-    ensures damaged { result ≡ Err Damaged → lies_on (D.status (device_of blocks.old)).sectors pointer ≡ false }
-    ensures same { IsTrue D.tells_bytes → D.disk (device_of blocks.new) ≡ D.disk (device_of blocks.old) }
-    ensures counts { CountsTree result (D.status (device_of blocks.old)) (D.status (device_of blocks.new)) }
-{
-    if !lies_on(blocks.sectors(), pointer) {
-        return Err(TreeFault::Damaged);
-    }
-    if pointer == 0 {
-        clear(pointers);
-        return Ok(());
-    }
-    blocks.fetch(pointer)?;
-    list(blocks.fetched(), pointers);
-    Ok(())
-}
 
 /// Copies the indirect block behind a pointer. Below a hole there are holes. `Damaged` comes only where the
 /// block isn't on the device.

@@ -38,6 +38,16 @@ impl IndirectCopy {
         pointers_in(&self.bytes).pointer(index)
     }
 
+    // Puts all of its pointers in place of others.
+    pub(crate) fn list(&self, numbers: &mut [u32; POINTERS_PER_BLOCK])
+        ensures { numbers.new ≡ self.now }
+    {
+        let pointers = pointers_in(&self.bytes);
+        for (i, number) in numbers.iter_mut().enumerate() {
+            *number = pointers.pointer(i);
+        }
+    }
+
     // Sets one pointer, and leaves the others.
     pub(crate) fn set(&mut self, index: usize, pointer: u32)
         requires { index < 1024 }

@@ -10,7 +10,7 @@ ghost use Rattle.sn_tree.specs.Steps.{IsTooFull, LeadsOutside, CountsPlan};
 ghost use Rattle.sn_tree.specs.declared.fault.PlanFault.TheVariants.{Tree};
 ghost use Rattle.sn_tree_read.specs.declared.fault.TreeFault.TheVariants.{Damaged};
 
-use crate::children::read_below;
+use crate::children::copy_below;
 use crate::parts::{behind_of, beside_of, front_of, joined, led_by, no_behind, no_beside};
 use crate::pointers::{plan_pointers, replace_pointers, span_of};
 use crate::{Build, DirtyBlock, PlanFault};
@@ -155,8 +155,9 @@ fn lower<D: Device>(
 {
     let mut beside = beside_of(pointers);
     cut(build, blocks, &mut beside, depth + 1)?;
+    let copy = copy_below(build, blocks, pointers[0])?;
     let mut below = [0; POINTERS_PER_BLOCK];
-    read_below(blocks, pointers[0], &mut below)?;
+    copy.list(&mut below);
     let mut behind = behind_of(&below);
     cut(build, blocks, &mut behind, depth)?;
     build.release(pointers[0])?;
