@@ -6,6 +6,8 @@
 The gate is `rt ci` at the top of the repository; what it prints goes to FILE, or else to standard error. Run it with
 nothing beside it. The figures come from looking at the gate's processes some times a second, so a crate's are a little
 less than the whole, whose processor time the system counts: what is left over stands in the line `other`.
+On a virtual machine whose host is busy the same check takes two to four times the processor time: the last line has the
+share of time that the host took away. Compare runs only where it is small.
 The status is that of the gate.
 """
 
@@ -64,6 +66,12 @@ def look(top, seen):
                 seen[pid, found[pid][1]] = work, found[pid][2]
 
 
+def ticks():
+    """All ticks of the machine so far, and those that its host took away."""
+    words = [int(it) for it in Path("/proc/stat").read_text().split("\n")[0].split()[1:9]]
+    return sum(words), words[7]
+
+
 def report(seen, wall):
     """Prints a line for each crate, dearest first, and the whole."""
     costs = defaultdict(lambda: defaultdict(float))
@@ -82,12 +90,15 @@ def report(seen, wall):
 
 def main():
     out = open(sys.argv[1], "w") if len(sys.argv) > 1 else sys.stderr
+    before, stolen_before = ticks()
     begun, seen = time.time(), {}
     gate = subprocess.Popen(["rt", "ci"], cwd=TOP, stdout=out, stderr=subprocess.STDOUT)
     while gate.poll() is None:
         look(gate.pid, seen)
         time.sleep(PERIOD)
     report(seen, time.time() - begun)
+    after, stolen = ticks()
+    print(f"{100 * (stolen - stolen_before) / max(after - before, 1):.0f}% of the time was taken away by the host")
     sys.exit(gate.returncode)
 
 

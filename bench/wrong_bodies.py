@@ -1,22 +1,28 @@
 #!/usr/bin/env python3
 """Tries the wrong bodies of bench/wrong_bodies/CRATE, which the gate leaves out; run by hand before a release.
 
-    bench/wrong_bodies.py [CRATE..]
+    bench/wrong_bodies.py [--jobs N] [CRATE..]
 
 Each file there is an edit as those in crates/CRATE/must-fail: a line `file:`, then pairs of lines `old:` and `new:`.
 Edits of different functions are made in one copy of the repository, which is checked once; an edit counts as refused
 where the function that it changes has an error of its own. One whose function only waits for another is tried again
-in a copy of its own, where any error counts, and so is an edit of a definition. A line is printed for each edit that
-isn't refused, and one for each crate; the status is 1 where an edit was let through or doesn't fit its file.
+by itself, where any error counts, and so is an edit of a definition. A line is printed for each edit that isn't
+refused, and one for each crate; the status is 1 where an edit was let through or doesn't fit its file.
 
-It needs the command rt on the path, and takes less time where `rt all check` was run before, since it copies out/.
+Tried are the crates that are named, or all: those that a change touched before it lands, and all of them where a
+contract of sn_model, sn_device or sn_walk changed. It needs the command rt on the path, and takes less time where
+`rt all check` was run before, since it takes over what that built.
 """
 
+import argparse
+import os
 import re
 import shutil
 import subprocess
 import sys
 import tempfile
+import time
+from concurrent.futures import ThreadPoolExecutor
 from pathlib import Path
 
 TOP = Path(__file__).resolve().parent.parent
@@ -114,24 +120,47 @@ def below(crate):
     return found
 
 
-def check(crate, edits):
-    """What the check of a copy with these edits says of each function, and its whole output."""
-    with tempfile.TemporaryDirectory() as folder:
-        copy = Path(folder)
+def linked(source, target):
+    """A second name of a file, or a copy of it where there can be none."""
+    try:
+        os.link(source, target)
+    except OSError:
+        shutil.copy2(source, target)
+
+
+class Copy:
+    """A copy of a crate and of all that it stands on, whose libraries are taken as they were built, and with `keeps` what
+    was proved of the crate."""
+
+    def __init__(self, crate, folder, keeps=True):
+        self.crate, self.top = crate, Path(folder)
+        self.folder = self.top / "crates" / crate
         wanted = below(crate)
-        (copy / "crates.txt").write_text("".join(f"{line}\n" for line in wanted.values()))
+        (self.top / "crates.txt").write_text("".join(f"{line}\n" for line in wanted.values()))
         for name in wanted:
-            shutil.copytree(TOP / "crates" / name, copy / "crates" / name, symlinks=True)
+            source, target = TOP / "crates" / name, self.top / "crates" / name
+            shutil.copytree(source, target, ignore=shutil.ignore_patterns("out", "must-fail", "data"))
+            if (source / "out" / "rlib").is_dir():
+                shutil.copytree(source / "out" / "rlib", target / "out" / "rlib", copy_function=linked)
+        kept = TOP / "crates" / crate / "out" / "incremental"
+        if keeps and kept.is_dir():
+            shutil.copytree(kept, self.folder / "out" / "incremental")
+
+    def check(self, edits):
+        """What a check with these edits says of each function, and its whole output."""
+        before = {edit.file: (self.folder / edit.file).read_text() for edit in edits}
         for edit in edits:
-            path = copy / "crates" / crate / edit.file
+            path = self.folder / edit.file
             path.write_text(edit.made_in(path.read_text()))
-        run = subprocess.run(["rt", "check"], cwd=copy / "crates" / crate, capture_output=True, text=True)
+        run = subprocess.run(["rt", "check"], cwd=self.folder, capture_output=True, text=True)
+        for file, text in before.items():
+            (self.folder / file).write_text(text)
         output = run.stdout + run.stderr
         return statuses(output), output
 
 
 def batches(crate, edits):
-    """Lists of edits of which no two change one function or spoil one another's place."""
+    """Lists of edits of which no two change one function or spoil one another's text."""
     lists = []
     for edit in edits:
         for taken in lists:
@@ -154,41 +183,66 @@ def fits(crate, taken, edit):
     return edit.made_in(source) is not None
 
 
-def try_crate(crate):
-    """Tries the edits of a crate; the number of those that are let through or don't fit."""
-    edits, bad, refused = [], 0, 0
+def fitting(crate):
+    """The edits of a crate that fit their files, and a line for each that doesn't."""
+    edits, said = [], []
     for path in sorted((EDITS / crate).glob("*.edit")):
         edit = Edit(crate, path)
-        source = (TOP / "crates" / crate / edit.file)
+        source = TOP / "crates" / crate / edit.file
         if not source.is_file() or edit.made_in(source.read_text()) is None:
-            print(f"{crate}/{edit.name}: doesn't fit {edit.file}")
-            bad += 1
+            said.append(f"{crate}/{edit.name}: doesn't fit {edit.file}")
         else:
             edits.append(edit)
-    alone = [edit for edit in edits if not edit.file.startswith("src/")]
-    for batch in batches(crate, [edit for edit in edits if edit not in alone]):
-        said, _ = check(crate, batch)
+    return edits, said
+
+
+def try_together(copy, edits):
+    """Tries edits of functions, many in one check; those of which that tells nothing."""
+    left = []
+    for batch in batches(copy.crate, edits):
+        said, _ = copy.check(batch)
         for edit in batch:
-            source = (TOP / "crates" / crate / edit.file).read_text()
-            if is_refused(edit, edit.functions(source), said):
-                refused += 1
-            else:
-                alone.append(edit)
-    for edit in alone:
-        said, output = check(crate, [edit])
-        if any(said.values()):
-            refused += 1
-        else:
-            reason = "let through" if "logic=proved" in output else "not judged: it may not compile"
-            print(f"{crate}/{edit.name}: {reason}")
-            bad += 1
-    print(f"{crate}: {refused} refused, {bad} not", flush=True)
-    return bad
+            source = (TOP / "crates" / copy.crate / edit.file).read_text()
+            if not is_refused(edit, edit.functions(source), said):
+                left.append(edit)
+    return left
+
+
+def try_alone(copy, edit):
+    """Why an edit isn't refused where it is tried by itself, or None where it is."""
+    said, output = copy.check([edit])
+    if any(said.values()):
+        return None
+    return "let through" if "logic=proved" in output else "not judged: it may not compile"
+
+
+def try_crate(crate):
+    """Tries the edits of a crate, and prints what came of them; the number of those that are let through or don't fit."""
+    begun = time.time()
+    edits, lines = fitting(crate)
+    with tempfile.TemporaryDirectory() as folder:
+        copy = Copy(crate, folder)
+        alone = [edit for edit in edits if not edit.file.startswith("src/")]
+        alone += try_together(copy, [edit for edit in edits if edit not in alone])
+        for edit in alone:
+            reason = try_alone(copy, edit)
+            if reason:
+                lines.append(f"{crate}/{edit.name}: {reason}")
+    refused = len(list((EDITS / crate).glob("*.edit"))) - len(lines)
+    took = f"{len(alone)} by themselves, {time.time() - begun:.0f} s"
+    print("\n".join([*lines, f"{crate}: {refused} refused, {len(lines)} not ({took})"]), flush=True)
+    return len(lines)
 
 
 def main():
-    crates = sys.argv[1:] or sorted(path.name for path in EDITS.iterdir() if path.is_dir())
-    bad = sum(try_crate(crate) for crate in crates)
+    asked = argparse.ArgumentParser(description="Tries wrong bodies, which the prover has to refuse.")
+    asked.add_argument("--jobs", type=int, default=1, help="how many crates at a time, of some 2 GB each")
+    asked.add_argument("crates", nargs="*", help="which crates; all, where none is named")
+    words = asked.parse_args()
+    crates = words.crates or sorted(path.name for path in EDITS.iterdir() if path.is_dir())
+    with ThreadPoolExecutor(words.jobs) as pool:
+        bad = sum(pool.map(try_crate, crates))
+    print(f"{bad} not refused in all")
     sys.exit(1 if bad else 0)
 
 

@@ -76,6 +76,36 @@ pub(crate) fn does(charge: u64, change: Change<'_>) -> Outcome<'_>
     }
 }
 
+/// A directory that goes from the one that its name was walked to in.
+fn rmdir_in<'a, V: CallView>(
+    limits: &Limits,
+    view: &mut V,
+    caller: &Session,
+    path: &Path<'a>,
+    parent: &Object,
+    place: u16,
+    found: &Found,
+) -> Result<Outcome<'a>, Failure<Refusal, V::Fault>>
+    requires { V.holds view.old }
+    ensures kept { V.holds view.new }
+    ensures follows { V.follows view.old view.new }
+    ensures same { IsTrue V.is_told → V.shows view.new ≡ V.shows view.old }
+    ensures exact { IsTrue V.is_told → Gives (λ o. o) result (calls.rmdir_in limits.now (seen_by (V.shows view.old) (V.room view.old) (V.names view.old)) caller.now path.now parent.now place found.now) }
+    ensures cause { IfFault result (λ f. V.causes view.old view.new f) }
+{
+    let number = live(&found.object)?;
+    let attributes = writable_parent(view, &caller.cred, PathNumber::FIRST, place, parent)?;
+    sticky(&caller.cred, PathNumber::FIRST, &attributes, found)?;
+    empty(view, number)?;
+    Ok(does(
+        2 * u64::from(limits.inode_charge) + u64::from(limits.block_charge),
+        Change::Remove {
+            directory: parent.number(),
+            name: Bytes::new(path.last().unwrap_or(b"")),
+        },
+    ))
+}
+
 /// What rmdir comes to: an empty directory goes.
 #[tactic(auto, unfolding(sn_model::specs::NameCalls::rmdir_outcome))]
 pub fn rmdir<'a, V: CallView>(
@@ -95,17 +125,7 @@ pub fn rmdir<'a, V: CallView>(
     let (parent, place) = parent_of(Errno::Ebusy, &walked)?;
     let found = there(view, walked)?;
     is_listable(&found)?;
-    let number = live(&found.object)?;
-    let attributes = writable_parent(view, &caller.cred, PathNumber::FIRST, place, &parent)?;
-    sticky(&caller.cred, PathNumber::FIRST, &attributes, &found)?;
-    empty(view, number)?;
-    Ok(does(
-        2 * u64::from(limits.inode_charge) + u64::from(limits.block_charge),
-        Change::Remove {
-            directory: parent.number(),
-            name: Bytes::new(path.last().unwrap_or(b"")),
-        },
-    ))
+    rmdir_in(limits, view, caller, path, &parent, place, &found)
 }
 
 /// A file's new name in a directory that was walked to.

@@ -1,5 +1,5 @@
 //! rename.
-ghost use Rattle.std.specs.Prelude.{◌≡◌, IsTrue};
+ghost use Rattle.std.specs.Prelude.{◌≡◌, ℕ, IsTrue};
 ghost use Rattle.sn_model.specs.NameCalls as calls;
 ghost use Rattle.sn_walk.specs.Gives.{Gives, IfFault};
 ghost use Rattle.sn_core_decide.specs.Views.{seen_by};
@@ -12,7 +12,7 @@ use sn_limits::{Kind, Limits};
 use sn_model::{
     Bytes, Caller, Change, Errno, Moving, Outcome, PathNumber, Pending, Refusal, Reply, Session,
 };
-use sn_walk::{Attributes, Failure, Path, TreeView, reached};
+use sn_walk::{Attributes, Failure, Found, Object, Path, TreeView, reached};
 
 /// `/` and `/.snapshot` stay where they are, and nothing takes their place: EBUSY.
 fn movable(path: &Path<'_>) -> Result<(), Refusal>
@@ -114,6 +114,32 @@ fn room_to_move<V: CallView>(
     view.has_room_for_name(new)
 }
 
+/// Where the new name of what was found leads to: its directory, its place and what has it already, in the
+/// tree of the old name, the live one. EBUSY, EXDEV or EROFS otherwise.
+fn moving_to<V: TreeView>(
+    view: &mut V,
+    cred: &Cred,
+    new: &Path<'_>,
+    old_directory: &Object,
+    found: &Found,
+) -> Result<(Object, u16, Option<Found>), Failure<Refusal, V::Fault>>
+    requires { V.holds view.old }
+    ensures kept { V.holds view.new }
+    ensures follows { V.follows view.old view.new }
+    ensures same { IsTrue V.is_told → V.shows view.new ≡ V.shows view.old }
+    ensures exact { IsTrue V.is_told → (place : ℕ) → Gives (λ to. record { old_directory = old_directory.now; old_place = place; new_directory = to.0; new_place = to.1; found = found.now; target = to.2 }) result (calls.moving_to (V.shows view.old) cred.now new.now old_directory.now place found.now) }
+    ensures cause { IfFault result (λ f. V.causes view.old view.new f) }
+{
+    let walked = prefix(view, cred, PathNumber::SECOND, new)?;
+    let (directory, place) = parent_of(Errno::Ebusy, &walked)?;
+    one_tree(old_directory, &directory)?;
+    live(&found.object)?;
+    match reached(view, walked) {
+        Ok(target) => Ok((directory, place, target)),
+        Err(fault) => Err(Failure::Fault(fault)),
+    }
+}
+
 /// What the names of a rename lead to, in one tree, the live one: ENOENT, EXDEV or EROFS otherwise.
 #[tactic(auto, unfolding(sn_model::specs::NameCalls::moving_of))]
 fn moving_of<V: TreeView>(
@@ -133,21 +159,15 @@ fn moving_of<V: TreeView>(
     let parent = parent_of(Errno::Ebusy, &walked);
     let found = there(view, walked)?;
     let (old_directory, old_place) = parent?;
-    let walked = prefix(view, cred, PathNumber::SECOND, new)?;
-    let (new_directory, new_place) = parent_of(Errno::Ebusy, &walked)?;
-    one_tree(&old_directory, &new_directory)?;
-    live(&found.object)?;
-    match reached(view, walked) {
-        Ok(target) => Ok(Moving {
-            old_directory,
-            old_place,
-            new_directory,
-            new_place,
-            found,
-            target,
-        }),
-        Err(fault) => Err(Failure::Fault(fault)),
-    }
+    let (new_directory, new_place, target) = moving_to(view, cred, new, &old_directory, &found)?;
+    Ok(Moving {
+        old_directory,
+        old_place,
+        new_directory,
+        new_place,
+        found,
+        target,
+    })
 }
 
 /// A name that is moved from one directory to another.

@@ -91,18 +91,23 @@ read = record { read = true; write = false; execute = false }
 
 -- ---- the calls
 
--- rmdir: `/`; Full; a directory; live; w(p); sticky; no names
+-- a directory that goes from its own at a place: live; w(p); sticky; no names
+abbrev pub rmdir_in : Limits → Seen → Session → List (List ℕ) → Object → ℕ → Found → Result Outcome Refusal
+rmdir_in limits seen session names at place found = do
+  number ← live found.object
+  parent ← writable_parent seen.trees session.cred 1 place at
+  _ ← sticky session.cred 1 parent found
+  _ ← empty (seen.names.is_empty number)
+  Ok (does (2 * limits.inode_charge + limits.block_charge) (Remove (number_of at) (last_name names)))
+
+-- rmdir: `/`; Full; a directory; then it goes
 unfoldable pub rmdir_outcome : Limits → Seen → Session → List (List ℕ) → Result Outcome Refusal
 rmdir_outcome limits seen session names = do
   walked ← prefix seen.trees session.cred 1 names
   at ← parent_of Ebusy walked
   found ← there (found_at seen.trees walked)
   _ ← is_listable found
-  number ← live found.object
-  parent ← writable_parent seen.trees session.cred 1 at.1 at.0
-  _ ← sticky session.cred 1 parent found
-  _ ← empty (seen.names.is_empty number)
-  Ok (does (2 * limits.inode_charge + limits.block_charge) (Remove (number_of at.0) (last_name names)))
+  rmdir_in limits seen session names at.0 at.1 found
 
 -- a file's new name in a directory at a place: w(new); room for a name of the file, and of the directory
 abbrev pub link_in : Limits → Seen → Session → List (List ℕ) → Found → ℕ → Object → ℕ → Result Outcome Refusal
@@ -123,17 +128,22 @@ link_outcome limits seen session names others = do
   at ← not_present walked
   link_in limits seen session others found number at.0 at.1
 
--- Full of the old name; Prefix of the new one; one tree; live
+-- what is found under a name at a place, and the new name: Prefix of it; one tree; live
+abbrev pub moving_to : ViewedTrees → Credential → List (List ℕ) → Object → ℕ → Found → Result Moving Refusal
+moving_to trees cred others at place found = do
+  other ← prefix trees cred 2 others
+  to ← parent_of Ebusy other
+  _ ← one_tree at to.0
+  _ ← live found.object
+  Ok (record { old_directory = at; old_place = place; new_directory = to.0; new_place = to.1; found = found; target = found_at trees other })
+
+-- Full of the old name; then the new one
 unfoldable pub moving_of : ViewedTrees → Credential → List (List ℕ) → List (List ℕ) → Result Moving Refusal
 moving_of trees cred names others = do
   walked ← prefix trees cred 1 names
   found ← there (found_at trees walked)
   at ← parent_of Ebusy walked
-  other ← prefix trees cred 2 others
-  to ← parent_of Ebusy other
-  _ ← one_tree at.0 to.0
-  _ ← live found.object
-  Ok (record { old_directory = at.0; old_place = at.1; new_directory = to.0; new_place = to.1; found = found; target = found_at trees other })
+  moving_to trees cred others at.0 at.1 found
 
 -- a name that is moved from one directory to another: sticky; what has the new name gives way; room for a name
 abbrev pub moved_in : Limits → Seen → Session → List (List ℕ) → List (List ℕ) → Moving → Attributes → Attributes → Result Outcome Refusal
