@@ -1,5 +1,5 @@
-//! The file system as a program over maps in memory: plain and slow, and the measure of the bodies
-//! that are to come.
+//! The file system over the live tree in memory, without a device: what a call comes to, the change that
+//! it makes, and what becomes of its session. `sn_fs` puts the same parts together over a device.
 //!
 //! [`run_plain`] answers a list of events, and its contract is the machine of `sn_model`: the replies
 //! are a run of it from the empty world. Below it, `world` has the tree of `sn_plain` and the sessions of

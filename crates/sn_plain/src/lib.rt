@@ -1,5 +1,4 @@
-//! The live tree in memory: a program over maps, without a device, and the measure of the trees that
-//! are read from a disk.
+//! The live tree in memory: a program over maps, without a device.
 //!
 //! [`PlainTree`] stands for a tree of `sn_model` (`tree_of` in `specs/Plain`). Its methods are the
 //! look-ups of a walk and the changes of the model, each exact: at `Ok` the change applies, and the
