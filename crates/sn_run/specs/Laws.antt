@@ -1,25 +1,18 @@
--- What crashes leave of runs: event by event, and life by life.
-use Rattle.std.specs.Prelude.{◌≡◌, ℕ, ◌≤◌, List, [], ◌∷◌, ◌++◌, replicate}
+-- What crashes leave of runs, life by life.
+use Rattle.std.specs.Prelude.{◌≡◌, ℕ, ◌≤◌, List, [], ◌∷◌, replicate}
 use Rattle.sn_device.specs.Sectors.{Contents}
-use Rattle.sn_device.specs.Crash.{LeavesOnly}
 use Rattle.sn_limits.specs.Versions.{version_1}
 use Rattle.sn_model.specs.declared.call.Event.{Event}
 use Rattle.sn_model.specs.declared.reply.Reply.{Reply}
-use Rattle.sn_model.specs.Machine.{Running, Anything, Life, RunBy}
+use Rattle.sn_model.specs.Machine.{Running, Anything, Life}
 use Rattle.sn_model.specs.World.{World, new_world}
 use Rattle.sn_ondisk.specs.LogHalf.{base_of}
 use Rattle.sn_ondisk.specs.OneAnswer.{IsOnDisk}
 use Rattle.sn_recovery.specs.Moments.{OpensOn}
 use Rattle.sn_fs.specs.Held.{ground}
-use Rattle.sn_run.specs.Runs.{Standing, Goes, OpensToCut}
+use Rattle.sn_run.specs.Runs.{OpensToCut}
 
--- A run has answered some events, and a crash comes in the next: it leaves what the machine's run leaves that is cut short there. So what was answered isn't lost.
-abbrev pub CrashesInEvents : Type 0
-CrashesInEvents = (world : World) (first mid next : Standing) (done todo : List Event) (e : Event) (said : List Reply) (reply : Reply)
-    → first.state ≡ Running world → RunBy Goes first done said mid → Goes mid e reply next
-    → LeavesOnly mid.held.disk next.held.disk (OpensToCut (Running world) (done ++ e ∷ todo) said)
-
--- a run from what the contents open to, of which a crash left the others
+-- a run from what the contents open to, of which a crash behind these replies left the others, as the contract of a run says
 pub record Cuts (c : Contents) (events : List Event) (said : List Reply) (left : Contents) : Type 0 where
   pub world : World
   pub opens : OpensOn ground c world

@@ -1,10 +1,9 @@
 //! The laws that the definitions of `specs/` keep.
-ghost use Rattle.sn_run.specs.Laws.{CrashesInEvents, LivesAreLives, ZerosAreNew};
+ghost use Rattle.sn_run.specs.Laws.{LivesAreLives, ZerosAreNew};
 
-/// What a crash leaves of a run: event by event, and over lives.
+/// Runs, each from what a crash in the one before has left, are a life of the machine.
 pub fn crash_laws()
-    ensures events { CrashesInEvents }
-    ensures lives { LivesAreLives }
+    ensures { LivesAreLives }
 {}
 
 /// What a disk of zeros, of 2,048 sectors and more, opens to.
