@@ -1,5 +1,6 @@
 -- Counts of calls one after another.
-use Rattle.std.proofs.Common.{◌≡◌, ◌⊎◌, inl, inr, ℕ, ◌+◌, ◌<◌, ◌≤◌, Bool, true, false, IsTrue, MatchBool, Result, Ok, Err, refl, sym, subst, ◌∙◌, ap, arith}
+use Rattle.std.proofs.Common.{◌≡◌, ◌⊎◌, inl, inr, ℕ, ◌+◌, ◌-◌, ◌^◌, ◌<◌, ◌≤◌, ◌||◌, nat_le, Bool, true, false, IsTrue, MatchBool, Result, Ok, Err, refl, sym, subst, ◌∙◌, ap, arith}
+use Rattle.std.proofs.lemmas.Bool.{le-leb, leb-true, or_cases, or_left, or_right}
 use Rattle.sn_device.specs.Status.{has_ended, one_failure}
 use Rattle.sn_device.specs.declared.status.Status.{Status}
 use Rattle.sn_block.specs.declared.fault.ReadFault.{ReadFault}
@@ -61,3 +62,18 @@ later-read (Err Device) old new counts = from (has_ended old) (counts.device ref
     from : (ended : Bool) → MatchBool ended (new ≡ old) (new ≡ one_failure old) → IsLater old new
     from true same = later-same old new same
     from false failed = subst (IsLater old) (sym failed) (later-failure old)
+
+-- what has come to its end stays there
+still_top : (a b : ℕ) → nat_le (2 ^ 64 - 1) a ≡ true → a ≤ b → nat_le (2 ^ 64 - 1) b ≡ true
+still_top a b is more = le-leb (2 ^ 64 - 1) b (omega (arith, leb-true (2 ^ 64 - 1) a is, more))
+
+pub later-ended : (old new : Status) → IsLater old new → IsTrue (has_ended old) → IsTrue (has_ended new)
+later-ended old new later ended = from (or_cases (old.is_spent || nat_le (2 ^ 64 - 1) old.failures) (nat_le (2 ^ 64 - 1) (old.writes + old.syncs)) ended)
+  where
+    failed : (old.is_spent ≡ true) ⊎ (nat_le (2 ^ 64 - 1) old.failures ≡ true) → (new.is_spent || nat_le (2 ^ 64 - 1) new.failures) ≡ true
+    failed (inl is) = or_left new.is_spent (nat_le (2 ^ 64 - 1) new.failures) (later.spent is)
+    failed (inr is) = or_right new.is_spent (nat_le (2 ^ 64 - 1) new.failures) (still_top old.failures new.failures is later.failures)
+
+    from : ((old.is_spent || nat_le (2 ^ 64 - 1) old.failures) ≡ true) ⊎ (nat_le (2 ^ 64 - 1) (old.writes + old.syncs) ≡ true) → has_ended new ≡ true
+    from (inl is) = or_left (new.is_spent || nat_le (2 ^ 64 - 1) new.failures) (nat_le (2 ^ 64 - 1) (new.writes + new.syncs)) (failed (or_cases old.is_spent (nat_le (2 ^ 64 - 1) old.failures) is))
+    from (inr is) = or_right (new.is_spent || nat_le (2 ^ 64 - 1) new.failures) (nat_le (2 ^ 64 - 1) (new.writes + new.syncs)) (still_top (old.writes + old.syncs) (new.writes + new.syncs) is (omega (arith, later.writes, later.syncs)))

@@ -1,5 +1,5 @@
 -- What is so of the change that a call has decided.
-use Rattle.std.proofs.Common.{◌≡◌, ℕ, ◌<◌, Bool, true, Option, Some, None, Ok, Err, is_some, sym, ap, subst, refl, ◌∙◌, lit<, lit≤}
+use Rattle.std.proofs.Common.{◌≡◌, ℕ, ◌<◌, Bool, true, Option, Some, None, Result, Ok, Err, is_some, sym, ap, subst, refl, ◌∙◌, lit<, lit≤}
 use Rattle.std.proofs.lemmas.Bool.{true≢false}
 use Rattle.sn_limits.specs.Versions.{version_1}
 use Rattle.sn_model.specs.declared.call.Call.{Call}
@@ -66,12 +66,12 @@ none_picked tree kept Nothing caller picked other change first none second some 
 none_picked tree kept (Makes directory name kind o) caller picked other change first none second some = none_is_some (Make directory name first.0 kind o) (sym none ∙ ap (λ (x : Chosen). x.change) first.2)
 none_picked tree kept (Does c) caller picked other change first none second some = none_is_some c (sym none ∙ ap (λ (x : Chosen). x.change) first)
 
-ok_is : (a b : Outcome) → Ok {E = Refusal} a ≡ Ok b → a ≡ b
-ok_is a b e = cc
+ok_is : (x : Result Outcome Refusal) (a b : Outcome) → x ≡ Ok a → x ≡ Ok b → a ≡ b
+ok_is x a b e f = cc
 
 pub has_no_change : (w : World) (kept : ℕ → Bool) (session : ℕ) (c : Call) (o : Outcome) (picked : Chosen) → decision version_1 w session c ≡ Ok o → Chooses w.live kept o.change o.caller picked → picked.change ≡ None → HasNoChange w kept session c
 has_no_change w kept session c o picked decided chosen none change is =
-    let same : is.outcome ≡ o = ok_is is.outcome o (sym is.decided ∙ decided) in
+    let same : is.outcome ≡ o = ok_is (decision version_1 w session c) is.outcome o is.decided decided in
     none_picked w.live kept o.change o.caller picked is.picked change chosen none (subst (λ (x : Outcome). Chooses w.live kept x.change x.caller is.picked) same is.chosen) is.is
 
 -- It can be applied, and has a record.

@@ -22,6 +22,6 @@ mod laws;
 mod running;
 mod server;
 
-pub use laws::{crash_laws, new_disk_law};
+pub use laws::{crash_laws, new_disk_law, no_failure_is_invented};
 pub use running::{Ran, run};
 pub use server::Server;

@@ -5,7 +5,7 @@ pub returns-in-Ok-append-clause-made : goal.returns-in-Ok-append-clause-made
 returns-in-Ok-append-clause-made g c =
     let made = c.in-Ok.ensures.made in
     record {
-      room = c.has_room.ensures.0 c.if-has_room.false;
+      room = c.has_room.ensures.0 c.if-not-has_room.false;
       made = record { tree = made.0; applied = made.1; world = made.2 };
       kept = c.in-Ok.ensures.kept;
       at = c.in-Ok-append.ensures.moves;
@@ -18,7 +18,7 @@ pub returns-in-Err-append-clause-made : goal.returns-in-Err-append-clause-made
 returns-in-Err-append-clause-made g c =
     let made = c.in-Ok.ensures.made in
     record {
-      room = c.has_room.ensures.0 c.if-has_room.false;
+      room = c.has_room.ensures.0 c.if-not-has_room.false;
       made = record { tree = made.0; applied = made.1; world = made.2 };
       moments = λ told. (c.in-Err-append.ensures.disk told).any_moment;
       failed = c.in-Err-append.ensures.counts.cause;

@@ -51,7 +51,7 @@ returns-in-Err-CannotApply-clause-replayed g c told done =
       found = Change c.in-Ok-Change.change;
       finds = finds;
       bad = none.0;
-      gate = c.block.ensures ∙ ap (λ (p : LogPosition). (base_at p + p.place) / 8) c.position.ensures;
+      gate = c.block.ensures ∙ ap (λ (p : LogPosition). (base_at p + p.place) / 8) c.position-at.ensures;
       none = inapplicable_none disk at (world_of c.args.world.now).live c.requires.place on_disk done c.in-Ok-Change.change finds none.0;
     }
 
