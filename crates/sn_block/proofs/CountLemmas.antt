@@ -1,10 +1,11 @@
 -- Counts of calls one after another.
-use Rattle.std.proofs.Common.{◌≡◌, ◌⊎◌, inl, inr, ℕ, ◌+◌, ◌<◌, Bool, true, false, IsTrue, MatchBool, Result, Err, refl, ◌∙◌, ap, arith}
+use Rattle.std.proofs.Common.{◌≡◌, ◌⊎◌, inl, inr, ℕ, ◌+◌, ◌-◌, ◌^◌, ◌<◌, ◌≤◌, ◌||◌, nat_le, Bool, true, false, IsTrue, MatchBool, Result, Ok, Err, refl, sym, subst, ◌∙◌, ap, arith}
+use Rattle.std.proofs.lemmas.Bool.{le-leb, leb-true, or_cases, or_left, or_right}
 use Rattle.sn_device.specs.Status.{has_ended, one_failure}
 use Rattle.sn_device.specs.declared.status.Status.{Status}
 use Rattle.sn_block.specs.declared.fault.ReadFault.{ReadFault}
-use Rattle.sn_block.specs.declared.fault.ReadFault.TheVariants.{Device}
-use Rattle.sn_block.specs.Counts.{called, CountsRead}
+use Rattle.sn_block.specs.declared.fault.ReadFault.TheVariants.{Device, Memory}
+use Rattle.sn_block.specs.Counts.{called, CountsCalls, CountsRead, IsLater}
 
 pub called-none : (s : Status) → s ≡ called 0 0 s
 called-none s =
@@ -26,3 +27,53 @@ CountsRead-cause r old new counts fault = from (has_ended old) refl (counts.devi
     from : (ended : Bool) → has_ended old ≡ ended → MatchBool ended (new ≡ old) (new ≡ one_failure old) → (old.failures < new.failures) ⊎ IsTrue (has_ended new)
     from true is same = inr (ap has_ended same ∙ is)
     from false is failed = let more : new.failures ≡ old.failures + 1 = ap (λ (s : Status). s.failures) failed in inl (omega arith)
+
+-- ---- later statuses
+
+pub later-called : (w y : ℕ) (s : Status) → IsLater s (called w y s)
+later-called w y s = record { sectors = refl; failures = omega arith; writes = omega arith; syncs = omega arith; spent = λ was. was }
+
+pub later-same : (old new : Status) → new ≡ old → IsLater old new
+later-same old new same = subst (IsLater old) (sym same) (record { sectors = refl; failures = omega arith; writes = omega arith; syncs = omega arith; spent = λ was. was })
+
+pub later-is : (w y : ℕ) (old new : Status) → new ≡ called w y old → IsLater old new
+later-is w y old new is = subst (IsLater old) (sym is) (later-called w y old)
+
+pub later-join : (old mid new : Status) → IsLater old mid → IsLater mid new → IsLater old new
+later-join old mid new first second = record {
+  sectors = second.sectors ∙ first.sectors;
+  failures = omega (arith, first.failures, second.failures);
+  writes = omega (arith, first.writes, second.writes);
+  syncs = omega (arith, first.syncs, second.syncs);
+  spent = λ was. second.spent (first.spent was);
+}
+
+pub later-calls : {T E : Type 0} (w y : ℕ) (r : Result T E) (old new : Status) → CountsCalls w y r old new → IsLater old new
+later-calls w y r old new counts = record { sectors = counts.sectors; failures = counts.failures; writes = counts.writes.0; syncs = counts.syncs.0; spent = counts.spent }
+
+later-failure : (s : Status) → IsLater s (one_failure s)
+later-failure s = record { sectors = refl; failures = omega arith; writes = omega arith; syncs = omega arith; spent = λ was. was }
+
+pub later-read : {T : Type 0} (r : Result T ReadFault) (old new : Status) → CountsRead r old new → IsLater old new
+later-read (Ok x) old new counts = later-same old new counts.done
+later-read (Err Memory) old new counts = later-same old new (counts.memory refl)
+later-read (Err Device) old new counts = from (has_ended old) (counts.device refl)
+  where
+    from : (ended : Bool) → MatchBool ended (new ≡ old) (new ≡ one_failure old) → IsLater old new
+    from true same = later-same old new same
+    from false failed = subst (IsLater old) (sym failed) (later-failure old)
+
+-- what has come to its end stays there
+still_top : (a b : ℕ) → nat_le (2 ^ 64 - 1) a ≡ true → a ≤ b → nat_le (2 ^ 64 - 1) b ≡ true
+still_top a b is more = le-leb (2 ^ 64 - 1) b (omega (arith, leb-true (2 ^ 64 - 1) a is, more))
+
+pub later-ended : (old new : Status) → IsLater old new → IsTrue (has_ended old) → IsTrue (has_ended new)
+later-ended old new later ended = from (or_cases (old.is_spent || nat_le (2 ^ 64 - 1) old.failures) (nat_le (2 ^ 64 - 1) (old.writes + old.syncs)) ended)
+  where
+    failed : (old.is_spent ≡ true) ⊎ (nat_le (2 ^ 64 - 1) old.failures ≡ true) → (new.is_spent || nat_le (2 ^ 64 - 1) new.failures) ≡ true
+    failed (inl is) = or_left new.is_spent (nat_le (2 ^ 64 - 1) new.failures) (later.spent is)
+    failed (inr is) = or_right new.is_spent (nat_le (2 ^ 64 - 1) new.failures) (still_top old.failures new.failures is later.failures)
+
+    from : ((old.is_spent || nat_le (2 ^ 64 - 1) old.failures) ≡ true) ⊎ (nat_le (2 ^ 64 - 1) (old.writes + old.syncs) ≡ true) → has_ended new ≡ true
+    from (inl is) = or_left (new.is_spent || nat_le (2 ^ 64 - 1) new.failures) (nat_le (2 ^ 64 - 1) (new.writes + new.syncs)) (failed (or_cases old.is_spent (nat_le (2 ^ 64 - 1) old.failures) is))
+    from (inr is) = or_right (new.is_spent || nat_le (2 ^ 64 - 1) new.failures) (nat_le (2 ^ 64 - 1) (new.writes + new.syncs)) (still_top (old.writes + old.syncs) (new.writes + new.syncs) is (omega (arith, later.writes, later.syncs)))

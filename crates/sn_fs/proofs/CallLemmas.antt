@@ -25,14 +25,16 @@ use Rattle.sn_core.specs.declared.error.CallError.TheVariants as lack
 use Rattle.sn_core.specs.Numbering.{has_closed}
 use Rattle.sn_core.proofs.NumberLemmas.{kept_by, same_numbers}
 use Rattle.sn_core.proofs.StepLemmas.{IsServed, MadeBy, chosen_becomes, chosen_served, change_takes, opening_takes}
+use Rattle.sn_block.proofs.CountLemmas.{later-is, later-same}
+use Rattle.sn_device.specs.declared.status.Status.{Status}
 use Rattle.sn_device.proofs.CrashLemmas.{LeavesOnly-start}
 use Rattle.sn_recovery.specs.Moments.{ShowsState}
-use Rattle.sn_fs.specs.Answers.{Answers, AnswersFrom, Costs, IsChangeOf, MayMeet, NumbersIn}
+use Rattle.sn_fs.specs.Answers.{Answers, AnswersFrom, Costs, IsChangeOf, MayMeet, NumbersIn, writes_of}
 use Rattle.sn_fs.specs.Changing.{FailsChange, IsLogged, errno_of, stops}
 use Rattle.sn_fs.specs.declared.fault.ChangeFault.{ChangeFault}
 use Rattle.sn_fs.specs.declared.fault.ChangeFault.TheVariants as fault
 use Rattle.sn_fs.specs.Held.{Held, Means, Runs, ground}
-use Rattle.sn_fs.proofs.DecisionLemmas.{CanBeMade, can_be_made, is_charged}
+use Rattle.sn_fs.proofs.DecisionLemmas.{CanBeMade, can_be_made, has_no_change, is_charged, refused_none}
 use Rattle.sn_fs.proofs.MeaningLemmas.{IsOfTree, left_keeps, left_of_tree, runs_lasts, runs_on, runs_show, stays_lasts, stops_between, stops_lasts}
 
 -- no node is new
@@ -41,14 +43,14 @@ stays_numbers session c (Running w) kept = same_numbers session c w w kept kept 
 stays_numbers session c (Stopped before after) kept = tt
 
 -- an event that a state answers with a refusal, and that changes nothing
-kept : (h : Held) (has_stopped : Bool) (s : State) (session : ℕ) (c : Call) (met : Option Mishap) (reply : Reply) → Means h has_stopped s → MayMeet h (event.Call session c) met h.status → Costs h (event.Call session c) met h.status
+kept : (h : Held) (has_stopped : Bool) (s : State) (session : ℕ) (c : Call) (met : Option Mishap) (reply : Reply) → Means h has_stopped s → MayMeet h (event.Call session c) met h.status → Costs s h (event.Call session c) met h.status
     → EventStep version_1 s (event.Call session c) met reply s → AnswersFrom s (event.Call session c) reply h h has_stopped
-kept h has_stopped s session c met reply m may costs step = record { met = met; may = may; next = s; step = step; means = m; lasts = stays_lasts h has_stopped s m; numbers = stays_numbers session c s h.kept; costs = costs }
+kept h has_stopped s session c met reply m may costs step = record { met = met; may = may; next = s; step = step; means = m; lasts = stays_lasts h has_stopped s m; begins = tt; numbers = stays_numbers session c s h.kept; later = later-same h.status h.status refl; costs = costs; works = tt }
 
 -- one that has stopped
 pub stopped_answers : (h : Held) (session : ℕ) (c : Call) → Answers (event.Call session c) (refused Estopped) h true h true
 stopped_answers h session c (Running w) m = absurd (true≢false m.0)
-stopped_answers h session c (Stopped before after) m = kept h true (Stopped before after) session c None (refused Estopped) m tt (inl refl) (refl, refl)
+stopped_answers h session c (Stopped before after) m = kept h true (Stopped before after) session c None (refused Estopped) m refl refl (refl, refl)
 
 -- ---- of one that runs, in the world that it holds
 
@@ -69,9 +71,9 @@ pub undecided_answers : (h : Held) (session : ℕ) (c : Call) (e : CallError) �
 undecided_answers h session c e none = in_world h h false session c (reply_of e) (λ r. told r e none)
   where
     told : Runs h h.world → (e : CallError) → HasNone e h.world session c → AnswersFrom (Running h.world) (event.Call session c) (reply_of e) h h false
-    told r (lack.Refused refusal) none = kept h false (Running h.world) session c None (answer.Refused refusal) (refl, r) tt (inl refl)
+    told r (lack.Refused refusal) none = kept h false (Running h.world) session c None (answer.Refused refusal) (refl, r) refl (inl (refused_none h.world h.kept session c refusal none, refl))
         (record { next = h.world; becomes = subst (λ (d : Result Outcome Refusal). Becomes version_1 h.world session d (answer.Refused refusal) h.world) (sym none) (refl, refl); runs = refl })
-    told r lack.Memory none = kept h false (Running h.world) session c (Some Memory) (refused Enomem) (refl, r) tt refl (none, record { told = refl; same = refl })
+    told r lack.Memory none = kept h false (Running h.world) session c (Some Memory) (refused Enomem) (refl, r) refl refl (none, record { told = refl; same = refl })
 
 -- the call has an outcome, and a change was chosen
 module _ (old : Held) (session : ℕ) (c : Call) (o : Outcome) (picked : Chosen) (change : Change) (numbers : IsCall c) (whole : IsWorld version_1 old.world) (decided : decision version_1 old.world session c ≡ Ok o) (chosen : Chooses old.world.live old.kept o.change o.caller picked) (some : picked.change ≡ Some change) where
@@ -103,9 +105,9 @@ module _ (old : Held) (session : ℕ) (c : Call) (o : Outcome) (picked : Chosen)
 
       told : (f : ChangeFault) → Runs old old.world → FailsChange true f change old new → AnswersFrom (Running old.world) (event.Call session c) (refused (errno_of f)) old new (stops f)
       told fault.Space r fails = same new fault.Space fails.1 (kept old false (Running old.world) session c (Some Space) (refused (errno_of fault.Space)) (refl, r)
-          (record { change = change; is = is_change; none = fails.0 }) refl
+          (record { change = change; is = is_change; none = fails.0 }, refl) refl
           ((o, decided, is_charged old.world old.kept session c o picked change decided chosen some), record { told = refl; same = refl }))
-      told fault.Memory r fails = same new fault.Memory fails (kept old false (Running old.world) session c (Some Memory) (refused (errno_of fault.Memory)) (refl, r) tt refl
+      told fault.Memory r fails = same new fault.Memory fails.1 (kept old false (Running old.world) session c (Some Memory) (refused (errno_of fault.Memory)) (refl, r) refl refl
           (change_takes old.world old.kept session c o picked change decided chosen some, record { told = refl; same = refl }))
       told fault.Device r fails =
           let tree = fails.made.tree in
@@ -125,8 +127,11 @@ module _ (old : Held) (session : ℕ) (c : Call) (o : Outcome) (picked : Chosen)
             };
             means = (refl, between);
             lasts = stops_lasts old new old.world next change tree r can.spelled fails.made.applied (of_tree tree) (fails.moments refl);
+            begins = tt;
             numbers = tt;
-            costs = (change, is_change, fails.costs);
+            later = fails.later;
+            costs = record { change = change; is = is_change; room = fails.room; costs = fails.costs };
+            works = tt;
           }
 
   -- it is made and logged
@@ -154,13 +159,16 @@ module _ (old : Held) (session : ℕ) (c : Call) (o : Outcome) (picked : Chosen)
           let on : Runs after next = runs_on old after old.world next change tree r can.spelled logged.made.applied (of_tree tree) (logged.acknowledged refl) logged.at made in
           subst (λ (x : Held). AnswersFrom (Running old.world) (event.Call session c) o.told old x false) (sym is) (record {
             met = None;
-            may = tt;
+            may = ap (λ (s : Status). s.failures) logged.costs;
             next = Running next;
             step = record { next = next; becomes = served.0; runs = refl };
             means = (refl, on);
             lasts = runs_lasts old after old.world next change tree r can.spelled logged.made.applied (of_tree tree) (logged.moments refl) on;
+            begins = tt;
             numbers = served.1;
-            costs = inr (change, is_change, logged.costs);
+            later = later-is (writes_of change) 2 old.status mid.status logged.costs;
+            costs = inr (record { change = change; is = is_change; room = logged.room; costs = logged.costs });
+            works = tt;
           })
 
 -- a call that changes nothing of the tree, but for files that nobody has
@@ -186,21 +194,24 @@ told_answers old new session c o picked numbers whole decided chosen none is kee
         old.kept new.kept (λ n. sym (ap (λ (x : Option Change). kept_by x old.kept n) none)) keeps in
         subst (λ (x : Held). AnswersFrom (Running old.world) (event.Call session c) o.told old x false) (sym is) (record {
           met = None;
-          may = tt;
+          may = refl;
           next = Running next;
           step = record { next = next; becomes = served.0; runs = refl };
           means = (refl, on);
           lasts = record { moments = LeavesOnly-start old.disk (λ d. ShowsState ground (Running old.world) d ⊎ ShowsState ground (Running next) d) (λ d crash. inr (shows d crash)); answered = shows };
+          begins = tt;
           numbers = served.1;
-          costs = inl refl;
+          later = later-same old.status old.status refl;
+          costs = inl (has_no_change old.world old.kept session c o picked decided chosen none, refl);
+          works = tt;
         })
 
 -- there is no memory for what is to be opened
 pub unprepared_answers : (h : Held) (session : ℕ) (c : Call) (o : Outcome) → decision version_1 h.world session c ≡ Ok o → is_opening o.caller ≡ true → Answers (event.Call session c) (refused Enomem) h false h false
-unprepared_answers h session c o decided opens = in_world h h false session c (refused Enomem) (λ r. kept h false (Running h.world) session c (Some Memory) (refused Enomem) (refl, r) tt refl (opening_takes h.world session c o decided opens, record { told = refl; same = refl }))
+unprepared_answers h session c o decided opens = in_world h h false session c (refused Enomem) (λ r. kept h false (Running h.world) session c (Some Memory) (refused Enomem) (refl, r) refl refl (opening_takes h.world session c o decided opens, record { told = refl; same = refl }))
 
 -- where a change isn't made and the mount goes on, its world is the one from before
 pub still_whole : (told : Bool) (f : ChangeFault) (change : Change) (old new : Held) → FailsChange told f change old new → stops f ≡ false → IsWorld version_1 old.world → IsWorld version_1 new.world
 still_whole told fault.Space change old new fails runs whole = subst (λ (h : Held). IsWorld version_1 h.world) (sym fails.1) whole
-still_whole told fault.Memory change old new fails runs whole = subst (λ (h : Held). IsWorld version_1 h.world) (sym fails) whole
+still_whole told fault.Memory change old new fails runs whole = subst (λ (h : Held). IsWorld version_1 h.world) (sym fails.1) whole
 still_whole told fault.Device change old new fails runs whole = absurd (true≢false runs)

@@ -1,5 +1,5 @@
 -- What is so of the change that a call has decided.
-use Rattle.std.proofs.Common.{◌≡◌, ℕ, ◌<◌, Bool, true, Option, Some, None, Ok, is_some, sym, ap, subst, refl, ◌∙◌, lit<, lit≤}
+use Rattle.std.proofs.Common.{◌≡◌, ℕ, ◌<◌, Bool, true, Option, Some, None, Result, Ok, Err, is_some, sym, ap, subst, refl, ◌∙◌, lit<, lit≤}
 use Rattle.std.proofs.lemmas.Bool.{true≢false}
 use Rattle.sn_limits.specs.Versions.{version_1}
 use Rattle.sn_model.specs.declared.call.Call.{Call}
@@ -9,6 +9,7 @@ use Rattle.sn_model.specs.declared.outcome.Caller.{Caller}
 use Rattle.sn_model.specs.declared.outcome.Outcome.{Outcome}
 use Rattle.sn_model.specs.declared.outcome.Pending.{Pending}
 use Rattle.sn_model.specs.declared.outcome.Pending.TheVariants.{Nothing, Makes, Does}
+use Rattle.sn_model.specs.declared.reply.Refusal.{Refusal}
 use Rattle.sn_model.specs.Changes.{apply}
 use Rattle.sn_model.specs.Steps.{IsNumberFor, changed, decision}
 use Rattle.sn_model.specs.Tree.{Tree}
@@ -22,6 +23,7 @@ use Rattle.sn_core.specs.declared.choosing.Chosen.{Chosen}
 use Rattle.sn_core.specs.Served.{Chooses}
 use Rattle.sn_recovery.proofs.SpelledLemmas.{applied_spelled, old_spelled}
 use Rattle.sn_record.specs.Payload.{IsSpelled}
+use Rattle.sn_fs.specs.Answers.{HasNoChange}
 
 -- a change that was chosen is the one that is pending
 abbrev IsPicked : Tree → (ℕ → Bool) → Pending → Change → Type 0
@@ -47,6 +49,30 @@ module _ (w : World) (kept : ℕ → Bool) (session : ℕ) (c : Call) (o : Outco
   -- It is charged for.
   pub is_charged : 0 < o.charge
   is_charged = when_picked w.live kept o.change change (picked_is w.live kept o.change o.caller picked change chosen is) ((decided_is version_1 w session c o decided).charged (lit< tt))
+
+-- ---- calls that come to no change
+
+err_is_ok : {A : Type 0} (r : Refusal) (o : Outcome) → Err r ≡ Ok o → A
+err_is_ok r o e = cc
+
+pub refused_none : (w : World) (kept : ℕ → Bool) (session : ℕ) (c : Call) (r : Refusal) → decision version_1 w session c ≡ Err r → HasNoChange w kept session c
+refused_none w kept session c r refused change is = err_is_ok r is.outcome (sym refused ∙ is.decided)
+
+none_is_some : {A : Type 0} (change : Change) → None ≡ Some change → A
+none_is_some change e = cc
+
+none_picked : {A : Type 0} (tree : Tree) (kept : ℕ → Bool) (pending : Pending) (caller : Caller) (picked other : Chosen) (change : Change) → Chooses tree kept pending caller picked → picked.change ≡ None → Chooses tree kept pending caller other → other.change ≡ Some change → A
+none_picked tree kept Nothing caller picked other change first none second some = none_is_some change (sym (ap (λ (x : Chosen). x.change) second) ∙ some)
+none_picked tree kept (Makes directory name kind o) caller picked other change first none second some = none_is_some (Make directory name first.0 kind o) (sym none ∙ ap (λ (x : Chosen). x.change) first.2)
+none_picked tree kept (Does c) caller picked other change first none second some = none_is_some c (sym none ∙ ap (λ (x : Chosen). x.change) first)
+
+ok_is : (x : Result Outcome Refusal) (a b : Outcome) → x ≡ Ok a → x ≡ Ok b → a ≡ b
+ok_is x a b e f = cc
+
+pub has_no_change : (w : World) (kept : ℕ → Bool) (session : ℕ) (c : Call) (o : Outcome) (picked : Chosen) → decision version_1 w session c ≡ Ok o → Chooses w.live kept o.change o.caller picked → picked.change ≡ None → HasNoChange w kept session c
+has_no_change w kept session c o picked decided chosen none change is =
+    let same : is.outcome ≡ o = ok_is (decision version_1 w session c) is.outcome o is.decided decided in
+    none_picked w.live kept o.change o.caller picked is.picked change chosen none (subst (λ (x : Outcome). Chooses w.live kept x.change x.caller is.picked) same is.chosen) is.is
 
 -- It can be applied, and has a record.
 pub record CanBeMade (w : World) (change : Change) : Type 0 where

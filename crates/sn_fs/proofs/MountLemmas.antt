@@ -14,7 +14,8 @@ use Rattle.sn_model.specs.Changes.{apply, apply_all}
 use Rattle.sn_model.specs.Tree.{Tree}
 use Rattle.sn_model.specs.World.{World, new_tree, new_world}
 use Rattle.sn_model.proofs.ListLemmas.{lists_join}
-use Rattle.sn_block.specs.Counts.{CountsRead}
+use Rattle.sn_block.specs.Counts.{CountsRead, IsLater}
+use Rattle.sn_block.proofs.CountLemmas.{later-read}
 use Rattle.sn_block.specs.declared.fault.ReadFault.{ReadFault}
 use Rattle.sn_block.specs.declared.fault.ReadFault.TheVariants as read
 use Rattle.sn_ondisk.specs.LogHalf.{ReplaysTo, base_of}
@@ -36,7 +37,7 @@ use Rattle.sn_fs.proofs.MeaningLemmas.{opens_here}
 use Rattle.sn_fs.specs.Recovering.{IsLeft, IsNotRecovered, IsRecovered, Mounts, Refuses}
 use Rattle.sn_model.specs.declared.mount.MountFault.{MountFault}
 use Rattle.sn_model.specs.declared.mount.MountFault.TheVariants as fault
-use Rattle.sn_fs.specs.Answers.{CostsAtMost, HasFailed}
+use Rattle.sn_fs.specs.Costs.{CostsAtMost, HasFailed}
 use Rattle.sn_fs.specs.Held.{Held, IsOnGround, ground}
 use Rattle.sn_fs.specs.Mounting.{HasAll, HasCause, HasReplayed, IsSoOf, KeepsTheWorld, LeavesTheWorld, OpensToNone, WritesNothing, read_fault}
 
@@ -89,17 +90,20 @@ failed_read false old new e more = inl (let rose : new.failures ≡ old.failures
 
 pub read_failed : {T : Type 0} (result : Result T ReadFault) (f : ReadFault) (old new : Status) → CountsRead result old new → result ≡ Err f → IsSoOf (read_fault f) old new
 read_failed result read.Device old new counts e = failed_read (has_ended old) old new refl (counts.device e)
-read_failed result read.Memory old new counts e = tt
+read_failed result read.Memory old new counts e = ap (λ (s : Status). s.failures) (counts.memory e)
 
-fails_reading : (b : Bool) (old new : Status) → MatchBool b (new ≡ old) (new ≡ record old { failures = old.failures + 1 }) → WritesNothing old new
-fails_reading true old new same = record { writes = ap (λ (s : Status). s.writes) same; syncs = ap (λ (s : Status). s.syncs) same }
-fails_reading false old new more = record { writes = ap (λ (s : Status). s.writes) more; syncs = ap (λ (s : Status). s.syncs) more }
+idle : (old new : Status) → IsLater old new → new ≡ old → WritesNothing old new
+idle old new later same = record { later = later; writes = ap (λ (s : Status). s.writes) same; syncs = ap (λ (s : Status). s.syncs) same }
+
+fails_reading : (b : Bool) (old new : Status) → IsLater old new → MatchBool b (new ≡ old) (new ≡ record old { failures = old.failures + 1 }) → WritesNothing old new
+fails_reading true old new later same = idle old new later same
+fails_reading false old new later more = record { later = later; writes = ap (λ (s : Status). s.writes) more; syncs = ap (λ (s : Status). s.syncs) more }
 
 -- a read writes nothing
 pub reads_only : {T : Type 0} (result : Result T ReadFault) (old new : Status) → CountsRead result old new → WritesNothing old new
-reads_only (Ok x) old new counts = record { writes = ap (λ (s : Status). s.writes) counts.done; syncs = ap (λ (s : Status). s.syncs) counts.done }
-reads_only (Err read.Device) old new counts = fails_reading (has_ended old) old new (counts.device refl)
-reads_only (Err read.Memory) old new counts = let same = counts.memory refl in record { writes = ap (λ (s : Status). s.writes) same; syncs = ap (λ (s : Status). s.syncs) same }
+reads_only (Ok x) old new counts = idle old new (later-read (Ok x) old new counts) counts.done
+reads_only (Err read.Device) old new counts = fails_reading (has_ended old) old new (later-read (Err read.Device) old new counts) (counts.device refl)
+reads_only (Err read.Memory) old new counts = idle old new (later-read (Err read.Memory) old new counts) (counts.memory refl)
 
 -- a sync, reads, and clearing a place
 pub mount_costs : {T : Type 0} (result : Result T ReadFault) (old mid read new : Status) → CostsAtMost 0 1 old mid → WritesNothing mid read → CountsClearing result read new → CostsAtMost 1 2 old new
@@ -121,7 +125,7 @@ starts c at w e f = record {
 -- clearing a place that fails
 pub clear_failed : {T : Type 0} (result : Result T ReadFault) (f : ReadFault) (old mid new : Status) → CountsClearing result mid new → result ≡ Err f → mid.failures ≡ old.failures → IsSoOf (read_fault f) old new
 clear_failed result read.Device old mid new counts e same = subst (λ (n : ℕ). (n < new.failures) ⊎ IsTrue (has_ended new)) same (counts.device e)
-clear_failed result read.Memory old mid new counts e same = tt
+clear_failed result read.Memory old mid new counts e same = ap (λ (s : Status). s.failures) (counts.memory e) ∙ same
 
 -- ---- what all records come to
 

@@ -12,8 +12,9 @@ use Rattle.sn_model.specs.declared.reply.Errno.{Errno}
 use Rattle.sn_model.specs.declared.reply.Errno.TheVariants.{Enospc, Enomem, Eio}
 use Rattle.sn_numbers.specs.Numbers.{kept_after}
 use Rattle.sn_log.specs.Places.{LogPosition, HasRoom, IsReadyAt, behind}
-use Rattle.sn_block.specs.Counts.{called}
-use Rattle.sn_fs.specs.Answers.{CostsAtMost, HasFailed, writes_of}
+use Rattle.sn_block.specs.Counts.{IsLater, called}
+use Rattle.sn_fs.specs.Answers.{writes_of}
+use Rattle.sn_fs.specs.Costs.{CostsAtMost, HasFailed}
 use Rattle.sn_fs.specs.Held.{Held}
 use Rattle.sn_fs.specs.declared.fault.ChangeFault.{ChangeFault}
 use Rattle.sn_fs.specs.declared.fault.ChangeFault.TheVariants.{Space, Memory, Device}
@@ -34,8 +35,9 @@ abbrev pub LeavesMore : LogPosition → Change → Disk → Disk → Type 0
 LeavesMore at change old new = (changes : List Change) → Always old (IsReadyAt at changes)
     → Always new (IsReadyAt (behind at change) (changes ++ change ∷ []))
 
--- it is made, and its record stands in the log
+-- it had room, is made, and its record stands in the log
 pub record IsLogged (told : Bool) (change : Change) (old new : Held) : Type 0 where
+  pub room : HasRoom old.at change
   pub made : IsMade change old.world new.world
   pub kept : (n : ℕ) → new.kept n ≡ kept_after change old.kept n
   pub at : new.at ≡ behind old.at change
@@ -45,14 +47,16 @@ pub record IsLogged (told : Bool) (change : Change) (old new : Held) : Type 0 wh
 
 -- the device failed while its record was appended
 pub record IsCut (told : Bool) (change : Change) (old new : Held) : Type 0 where
+  pub room : HasRoom old.at change
   pub made : IsMade change old.world new.world
   pub moments : IsTrue told → LeavesEither old.at change old.disk new.disk
   pub failed : HasFailed old.status new.status
+  pub later : IsLater old.status new.status
   pub costs : CostsAtMost (writes_of change) 2 old.status new.status
 
 abbrev pub FailsChange : Bool → ChangeFault → Change → Held → Held → Type 0
 FailsChange told Space change old new = (HasRoom old.at change → ⊥) × (new ≡ old)
-FailsChange told Memory change old new = new ≡ old
+FailsChange told Memory change old new = HasRoom old.at change × (new ≡ old)
 FailsChange told Device change old new = IsCut told change old new
 
 -- At `Ok` the change is made and logged. Where the device fails, it may be logged or not. Else nothing has changed.

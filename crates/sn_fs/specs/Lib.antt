@@ -1,5 +1,6 @@
 pub mod Answers
 pub mod Changing
+pub mod Costs
 pub mod Filesystem
 pub mod Held
 pub mod Mounted

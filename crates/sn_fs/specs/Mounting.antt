@@ -1,26 +1,31 @@
 -- What a mount finds in the log.
-use Rattle.std.specs.Prelude.{◌≡◌, ◌⊎◌, Bool, true, false, List, Some, Result, Ok, Err, IfErr}
+use Rattle.std.specs.Prelude.{◌≡◌, ◌⊎◌, ℕ, ◌+◌, ◌/◌, Bool, true, false, List, None, Some, Result, Ok, Err, IfErr}
 use Rattle.sn_device.specs.Sectors.{Contents}
 use Rattle.sn_device.specs.Disk.{Disk, IsSynced, reads}
 use Rattle.sn_device.specs.Crash.{LeavesOnly, Touches}
 use Rattle.sn_limits.specs.Versions.{version_1}
 use Rattle.sn_model.specs.declared.change.Change.{Change}
+use Rattle.sn_model.specs.declared.mount.Damage.{Damage}
 use Rattle.sn_model.specs.declared.mount.Damage.TheVariants.{Log}
 use Rattle.sn_model.specs.declared.mount.MountFault.{MountFault}
 use Rattle.sn_model.specs.declared.mount.MountFault.TheVariants.{NotFormatted, Version, NoRoot, Damaged, Memory, Device}
-use Rattle.sn_model.specs.Changes.{apply_all}
+use Rattle.sn_model.specs.Changes.{apply, apply_all}
 use Rattle.sn_model.specs.Tree.{Tree}
 use Rattle.sn_model.specs.World.{World, new_tree}
 use Rattle.sn_device.specs.declared.status.Status.{Status}
+use Rattle.sn_block.specs.Counts.{IsLater}
 use Rattle.sn_block.specs.Effects.{Nowhere}
 use Rattle.sn_block.specs.declared.fault.ReadFault.{ReadFault}
 use Rattle.sn_block.specs.declared.fault.ReadFault.TheVariants as read
 use Rattle.sn_ondisk.specs.LogHalf.{Stops}
 use Rattle.sn_log.specs.Places.{LogPosition, IsBehind, base_at}
+use Rattle.sn_log.specs.Replaying.{Finds}
+use Rattle.sn_log.specs.declared.replay.Found.{Found}
+use Rattle.sn_log.specs.declared.replay.Found.TheVariants as entry
 use Rattle.sn_recovery.specs.Moments.{OpensOn}
 use Rattle.sn_recovery.specs.Opens.{AreSpelled}
-use Rattle.sn_fs.specs.Answers.{HasFailed}
-use Rattle.sn_fs.specs.Held.{ground}
+use Rattle.sn_fs.specs.Costs.{HasFailed, HasNotFailed}
+use Rattle.sn_fs.specs.Held.{IsOnGround, ground}
 
 -- Up to a position stand these changes, and they make this tree of an empty one.
 pub record HasReplayed (c : Contents) (at : LogPosition) (tree : Tree) : Type 0 where
@@ -33,9 +38,28 @@ pub record HasReplayed (c : Contents) (at : LogPosition) (tree : Tree) : Type 0 
 abbrev pub OpensToNone : Contents → Type 0
 OpensToNone c = (world : World) → OpensOn ground c world → ⊥
 
--- It is damaged only where the log is, and then the contents open to no world.
+-- what replay finds behind the changes that make this tree is no change that can be made of it
+abbrev pub IsBad : Found → Tree → Type 0
+IsBad (entry.Change change) tree = apply version_1 change tree ≡ None
+IsBad entry.End tree = ⊥
+IsBad (entry.Misspelt block) tree = Unit {0}
+
+-- The log is damaged: behind the records that can be replayed stands one that is misspelt, or whose change can't be made. Its gate is in this block. The contents open to no world.
+pub record IsDamaged (damage : Damage) (block : ℕ) (c : Contents) : Type 0 where
+  pub log : damage ≡ Log
+  pub at : LogPosition
+  pub place : IsOnGround at
+  pub tree : Tree
+  pub before : HasReplayed c at tree
+  pub found : Found
+  pub finds : Finds c at found
+  pub bad : IsBad found tree
+  pub gate : block ≡ (base_at at + at.place) / 8
+  pub none : OpensToNone c
+
+-- It is damaged only where the log is.
 abbrev pub HasCause : MountFault → Contents → Type 0
-HasCause (Damaged damage block) c = (damage ≡ Log) × OpensToNone c
+HasCause (Damaged damage block) c = IsDamaged damage block c
 HasCause NotFormatted c = ⊥
 HasCause Version c = ⊥
 HasCause NoRoot c = ⊥
@@ -70,6 +94,7 @@ KeepsTheWorld old new = (world : World) → OpensOn ground (reads old) world →
 
 -- nothing was written or synced
 pub record WritesNothing (old new : Status) : Type 0 where
+  pub later : IsLater old new
   pub writes : new.writes ≡ old.writes
   pub syncs : new.syncs ≡ old.syncs
 
@@ -78,14 +103,14 @@ abbrev pub read_fault : ReadFault → MountFault
 read_fault read.Device = Device
 read_fault read.Memory = Memory
 
--- the device is told to have failed only where it has, or has come to its end
+-- the device is told to have failed where it has, or has come to its end, and nowhere else
 abbrev pub IsSoOf : MountFault → Status → Status → Type 0
 IsSoOf Device old new = HasFailed old new
-IsSoOf NotFormatted old new = Unit {0}
-IsSoOf Version old new = Unit {0}
-IsSoOf NoRoot old new = Unit {0}
-IsSoOf (Damaged damage block) old new = Unit {0}
-IsSoOf Memory old new = Unit {0}
+IsSoOf NotFormatted old new = HasNotFailed old new
+IsSoOf Version old new = HasNotFailed old new
+IsSoOf NoRoot old new = HasNotFailed old new
+IsSoOf (Damaged damage block) old new = HasNotFailed old new
+IsSoOf Memory old new = HasNotFailed old new
 
 abbrev pub FailsAs : {T : Type 0} → Result T MountFault → Status → Status → Type 0
 FailsAs result old new = IfErr result (λ fault. IsSoOf fault old new)

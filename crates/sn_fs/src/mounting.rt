@@ -1,6 +1,7 @@
 //! Mount and unmount.
 ghost use Rattle.std.specs.Prelude.{◌≡◌, IsTrue, IfOk, IfErr};
-ghost use Rattle.sn_fs.specs.Answers.{CostsAtMost};
+ghost use Rattle.sn_block.specs.Counts.{IsLater, called};
+ghost use Rattle.sn_fs.specs.Costs.{CostsAtMost};
 ghost use Rattle.sn_fs.specs.Filesystem.{IsFs, has_stopped, held};
 ghost use Rattle.sn_fs.specs.Mounting.{IsSoOf};
 ghost use Rattle.sn_fs.specs.Recovering.{IsLeft, Mounts};
@@ -26,7 +27,8 @@ pub fn mount<D: Device>(alloc: Global, device: D) -> Result<Fs<D>, Unmounted<D>>
     ensures unmounted { IsTrue D.tells_bytes → IfErr result (λ u. IsLeft u.fault (D.disk device) (D.disk u.device) (D.status device).sectors) }
     ensures failed { IfErr result (λ u. IsSoOf u.fault (D.status device) (D.status u.device)) }
     ensures sectors { IfErr result (λ u. (D.status u.device).sectors ≡ (D.status device).sectors) }
-    ensures costs { IfOk result (λ fs. CostsAtMost 1 2 (D.status device) (held fs).status) }
+    ensures later { IfErr result (λ u. IsLater (D.status device) (D.status u.device)) }
+    ensures costs { IfOk result (λ fs. (held fs).status ≡ called 1 2 (D.status device)) }
     ensures tries { IfErr result (λ u. CostsAtMost 1 2 (D.status device) (D.status u.device)) }
 {
     if device.sectors() < SECTORS {

@@ -1,10 +1,11 @@
 //! Recovery: replay of the log, and clearing the place where it ends.
-ghost use Rattle.std.specs.Prelude.{◌≡◌, ◌≤◌, ℕ, false, IsTrue, IfOk};
+ghost use Rattle.std.specs.Prelude.{◌≡◌, ◌≤◌, ℕ, false, IsTrue, IfOk, OnOk};
+ghost use Rattle.sn_block.specs.Counts.{IsLater, called};
 ghost use Rattle.sn_block.specs.Lending.{device_of};
 ghost use Rattle.sn_core.specs.Plain.{kept_of, world_of};
 ghost use Rattle.sn_limits.specs.Versions.{version_1};
 ghost use Rattle.sn_model.specs.Worlds.{IsWorld};
-ghost use Rattle.sn_fs.specs.Answers.{CostsAtMost};
+ghost use Rattle.sn_fs.specs.Costs.{CostsAtMost};
 ghost use Rattle.sn_fs.specs.Held.{IsOnGround};
 ghost use Rattle.sn_fs.specs.Mounting.{FailsAs};
 ghost use Rattle.sn_fs.specs.Recovering.{Recovers};
@@ -30,6 +31,8 @@ pub(crate) fn recover<D: Device>(
     ensures kept { IfOk result (λ r. (number : ℕ) → kept_of r.world number ≡ false) }
     ensures place { IfOk result (λ r. IsOnGround r.log) }
     ensures sectors { (D.status (device_of blocks.new)).sectors ≡ (D.status (device_of blocks.old)).sectors }
+    ensures later { IsLater (D.status (device_of blocks.old)) (D.status (device_of blocks.new)) }
+    ensures done { OnOk result (D.status (device_of blocks.new) ≡ called 1 2 (D.status (device_of blocks.old))) }
     ensures failed { FailsAs result (D.status (device_of blocks.old)) (D.status (device_of blocks.new)) }
     ensures costs { CostsAtMost 1 2 (D.status (device_of blocks.old)) (D.status (device_of blocks.new)) }
 {

@@ -1,13 +1,13 @@
 -- An append, from the writes that it makes.
 use Rattle.std.proofs.Common.{◌≡◌, ◌⊎◌, inl, inr, ⊎_elim, ℕ, ◌+◌, ◌<◌, ◌≤◌, List, [], ◌∷◌, ◌++◌, length, slice_index, slice_set, Result, Ok, Err, refl, sym, ◌∙◌, ap, subst, arith}
 use Rattle.std.proofs.lemmas.List.{get_or-set_same, get_or-set_other, length-set}
-use Rattle.sn_device.specs.Sectors.{Contents, AreSectors, AgreesOutside, Single, Run}
+use Rattle.sn_device.specs.Sectors.{Contents, AreSectors, AgreesOutside, Single, Run, sector_at}
 use Rattle.sn_device.specs.Disk.{Disk, Always, IsSynced, reads}
 use Rattle.sn_device.specs.Crash.{Touches, LeavesOnly}
 use Rattle.sn_device.proofs.CrashLemmas.{LeavesOnly-touched, LeavesOnly-now, LeavesOnly-weaker, Touches-join, Touches-within, Always-synced, Always-reads}
 use Rattle.sn_device.proofs.SectorLemmas.{Run-within, Run-single}
 use Rattle.sn_layout.specs.Gate.{gate_bytes}
-use Rattle.sn_layout.specs.declared.gate.Gate.TheVariants.{Open}
+use Rattle.sn_layout.specs.declared.gate.Gate.TheVariants.{Open, Closed}
 use Rattle.sn_model.specs.declared.change.Change.{Change}
 use Rattle.sn_ondisk.specs.Gates.{IsOpen, IsClosed}
 use Rattle.sn_ondisk.specs.Blocks.{bytes_at}
@@ -15,7 +15,7 @@ use Rattle.sn_ondisk.specs.LogHalf.{HasRecord, IsReady, InHalf, body_bytes, body
 use Rattle.sn_ondisk.proofs.LogLemmas.{ready-same, open_gate_adds}
 use Rattle.sn_ondisk.proofs.AppendLemmas.{append_adds}
 use Rattle.sn_block.specs.Effects.{WritesSynced}
-use Rattle.sn_block.proofs.EffectLemmas.{OnOk-both}
+use Rattle.sn_block.proofs.EffectLemmas.{OnOk-both, OnOk-then}
 use Rattle.sn_record.specs.Payload.{IsSpelled, payload_bytes}
 use Rattle.sn_log.specs.Places.{LogPosition, base_at, payloads_of, behind, HasRoom, IsReadyAt}
 use Rattle.sn_log.specs.Appending.{Appends, WritesBehind}
@@ -38,6 +38,10 @@ agrees-set c at sector = record { count = length-set c at sector; same = λ i ou
 
 pub opened-set : (c : Contents) (at : ℕ) → at < length c → IsOpen (slice_set c at (gate_bytes Open)) at
 opened-set c at room = ap (λ s. slice_index s 0) (get_or-set_same c at (gate_bytes Open) [] room)
+
+-- a closed gate's sector
+closed_there : (c : Contents) (at : ℕ) → sector_at c at ≡ gate_bytes Closed → IsClosed c at
+closed_there c at is opened = let zero_is : 0 ≡ 1 = sym (ap (λ s. slice_index s 0) is) ∙ opened in omega (arith, zero_is)
 
 module _ (at : LogPosition) (change : Change) (spelled : IsSpelled change) (room : HasRoom at change) where
   abbrev base : ℕ
@@ -67,16 +71,25 @@ module _ (at : LogPosition) (change : Change) (spelled : IsSpelled change) (room
     any_moment = λ changes before. LeavesOnly-weaker old new (IsReadyAt at changes) _ (λ c ready. inl ready) (behind_kept changes old new whole before touched);
     acknowledged = λ changes before. tt;
     synced = tt;
+    gate = tt;
+    next_gate = tt;
   }
 
   module _ (bytes : List ℕ) (is : bytes ≡ body_bytes at.epoch at.count payload) (fits : (1 ≤ length payload) × (length payload ≤ 65547)) (old mid new : Disk) (whole : AreSectors (reads old)) (whole_mid : AreSectors (reads mid))
       (inside : gate < length (reads mid)) (touched : Touches (Run (gate + 1) (body_sectors payload + 1)) old mid) (body : bytes_at (reads mid) (gate + 1) (body_sectors payload) ≡ bytes)
-      (shut : IsClosed (reads mid) (gate + 1 + body_sectors payload)) (synced : IsSynced mid) where
+      (shut : sector_at (reads mid) (gate + 1 + body_sectors payload) ≡ gate_bytes Closed) (synced : IsSynced mid) where
     has_record : HasRecord (reads mid) base at.epoch at.place at.count payload
     has_record = record { least = fits.0; most = fits.1; room = room; bytes = body ∙ is }
 
+    -- the next gate
+    next_at : gate + 1 + body_sectors payload ≡ base + place_after at.place payload
+    next_at = omega arith
+
+    next_shut : sector_at (reads mid) (base + place_after at.place payload) ≡ gate_bytes Closed
+    next_shut = subst (λ n. sector_at (reads mid) n ≡ gate_bytes Closed) next_at shut
+
     is_shut : IsClosed (reads mid) (base + place_after at.place payload)
-    is_shut = subst (IsClosed (reads mid)) (omega arith) shut
+    is_shut = closed_there (reads mid) (base + place_after at.place payload) next_shut
 
     module _ {T E : Type 0} (r : Result T E) (opening : WritesSynced gate (gate_bytes Open) r mid new) where
       all_touched : Touches (InHalf base) old new
@@ -118,6 +131,9 @@ module _ (at : LogPosition) (change : Change) (spelled : IsSpelled change) (room
         any_moment = at_any_moment;
         acknowledged = λ changes before. OnOk-both r (λ is_synced done. Always-synced new (IsReadyAt (behind at change) (changes ++ change ∷ [])) is_synced (ready_then changes before done)) opening.synced opening.done;
         synced = opening.synced;
+        gate = OnOk-then r (λ done. ap (λ c. sector_at c gate) done ∙ get_or-set_same (reads mid) gate (gate_bytes Open) [] inside) opening.done;
+        next_gate = OnOk-then r (λ done. ap (λ c. sector_at c (base + place_after at.place payload)) done
+            ∙ get_or-set_other (reads mid) gate (base + place_after at.place payload) (gate_bytes Open) [] (λ same. omega (arith, same)) ∙ next_shut) opening.done;
       }
 
   -- the same, where the gate's sector and the number of sectors are numbers of their own

@@ -1,7 +1,7 @@
 -- The writes behind a gate, one after another.
-use Rattle.std.proofs.Common.{◌≡◌, ℕ, ◌+◌, ◌<◌, List, [], length, slice_index, slice_set, Result, refl, sym, ◌∙◌, ap, subst, arith}
+use Rattle.std.proofs.Common.{◌≡◌, ℕ, ◌+◌, ◌<◌, List, [], length, slice_set, Result, ◌∙◌, ap, arith}
 use Rattle.std.proofs.lemmas.List.{get_or-set_same, get_or-set_other}
-use Rattle.sn_device.specs.Sectors.{Contents, Single, Run}
+use Rattle.sn_device.specs.Sectors.{Contents, Single, Run, sector_at}
 use Rattle.sn_device.specs.Disk.{Disk, reads}
 use Rattle.sn_device.specs.Crash.{Touches}
 use Rattle.sn_device.proofs.CrashLemmas.{Touches-join, Touches-within}
@@ -9,7 +9,6 @@ use Rattle.sn_device.proofs.SectorLemmas.{Run-within, Run-single}
 use Rattle.sn_layout.specs.Gate.{gate_bytes}
 use Rattle.sn_layout.specs.declared.gate.Gate.TheVariants.{Closed}
 use Rattle.sn_ondisk.specs.Blocks.{bytes_at}
-use Rattle.sn_ondisk.specs.Gates.{IsClosed}
 use Rattle.sn_ondisk.proofs.BlockLemmas.{bytes_at-same}
 use Rattle.sn_block.specs.Effects.{SyncsAll}
 use Rattle.sn_block.proofs.EffectLemmas.{Touches-settled, OnOk-always}
@@ -28,7 +27,7 @@ module _ (at n : ℕ) where
   behind-synced r bytes old mid next new run body room gate closed sync = record {
     touched = Touches-settled (Run (at + 1) (n + 1)) old next new (behind-gate old mid next run gate) sync.touched;
     body = OnOk-always r (ap (λ c. bytes_at c (at + 1) n) is ∙ bytes_at-same (reads mid) put (at + 1) n (λ i from to. get_or-set_other (reads mid) (at + 1 + n) i (gate_bytes Closed) [] (λ same. omega (arith, same, to))) ∙ body);
-    shut = OnOk-always r (subst (λ c. IsClosed c (at + 1 + n)) (sym is) shut_there);
+    shut = OnOk-always r (ap (λ c. sector_at c (at + 1 + n)) is ∙ get_or-set_same (reads mid) (at + 1 + n) (gate_bytes Closed) [] room);
     synced = sync.synced;
   }
     where
@@ -37,9 +36,3 @@ module _ (at n : ℕ) where
 
       is : reads new ≡ put
       is = sync.same ∙ closed
-
-      first_byte : slice_index (gate_bytes Closed) 0 ≡ 0
-      first_byte = refl
-
-      shut_there : IsClosed put (at + 1 + n)
-      shut_there opened = let zero_is : 0 ≡ 1 = sym (ap (λ s. slice_index s 0) (get_or-set_same (reads mid) (at + 1 + n) (gate_bytes Closed) [] room) ∙ first_byte) ∙ opened in omega (arith, zero_is)

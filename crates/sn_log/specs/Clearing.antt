@@ -4,7 +4,7 @@ use Rattle.sn_device.specs.Disk.{Disk, Always, IsSynced, reads}
 use Rattle.sn_device.specs.Crash.{LeavesOnly}
 use Rattle.sn_device.specs.Status.{has_ended}
 use Rattle.sn_device.specs.declared.status.Status.{Status}
-use Rattle.sn_block.specs.Counts.{called}
+use Rattle.sn_block.specs.Counts.{IsLater, called}
 use Rattle.sn_block.specs.Effects.{WritesSynced}
 use Rattle.sn_block.specs.declared.fault.ReadFault.{ReadFault}
 use Rattle.sn_block.specs.declared.fault.ReadFault.TheVariants.{Device, Memory}
@@ -22,7 +22,7 @@ pub record Clears {T E : Type 0} (base place : ℕ) (result : Result T E) (old n
 -- At `Ok` one write and one sync were made. Want of memory comes before them. Before a failure of the device there were at most as many, and it has a cause.
 pub record CountsClearing {T : Type 0} (result : Result T ReadFault) (old new : Status) : Type 0 where
   pub done : OnOk result (new ≡ called 1 1 old)
-  pub sectors : new.sectors ≡ old.sectors
+  pub later : IsLater old new
   pub writes : new.writes ≤ old.writes + 1
   pub syncs : new.syncs ≤ old.syncs + 1
   pub memory : result ≡ Err Memory → new ≡ old

@@ -4,7 +4,7 @@ use Rattle.std.specs.FinMap as map
 use Rattle.sn_device.specs.Sectors.{Contents}
 use Rattle.sn_device.specs.Disk.{Always}
 use Rattle.sn_device.specs.Crash.{LeavesOnly}
-use Rattle.sn_device.proofs.CrashLemmas.{LeavesOnly-join, LeavesOnly-start, LeavesOnly-weaker}
+use Rattle.sn_device.proofs.CrashLemmas.{LeavesOnly-weaker}
 use Rattle.sn_limits.specs.Versions.{version_1}
 use Rattle.sn_model.specs.declared.call.Call.{Call}
 use Rattle.sn_model.specs.declared.call.Event.{Event}
@@ -22,7 +22,8 @@ use Rattle.sn_model.proofs.ListLemmas.{covers_itself}
 use Rattle.sn_model.proofs.SettlingLemmas.{dropping_kept, settle_alike}
 use Rattle.sn_recovery.specs.Moments.{OpensOn, ShowsState}
 use Rattle.sn_fs.specs.Held.{ground}
-use Rattle.sn_run.specs.Runs.{Goes, OpensToCut, OpensToSome, Standing}
+use Rattle.sn_core.proofs.StepLemmas.{run_more}
+use Rattle.sn_run.specs.Runs.{Goes, LeavesFrom, OpensToCut, Standing}
 
 -- ---- settling twice
 
@@ -211,22 +212,32 @@ cut_in first mid next (d ∷ done) todo e (r ∷ said) reply here run goes =
     (λ c h. (h.0, h.1, (run.0.state, step_of first run.0 d r run.1, h.2)))
     (cut_in run.0 mid next done todo e said reply (goes_settled first run.0 d r here run.1) run.2 goes)
 
--- a crash at any moment of a run
-pub run_leaves : (first last : Standing) (events : List Event) (replies : List Reply) → AreSettled first.state → Always first.held.disk (λ c. ShowsState ground first.state c) → RunBy Goes first events replies last
-    → LeavesOnly first.held.disk last.held.disk (OpensToSome first.state events replies)
-run_leaves first last [] [] here shows run =
-    subst (λ (x : Standing). LeavesOnly first.held.disk x.held.disk (OpensToSome first.state [] [])) (sym run)
-    (LeavesOnly-start first.held.disk (OpensToSome first.state [] []) (λ c crash. (0, opens_now first.state c (shows c crash))))
-run_leaves first last [] (reply ∷ replies) here shows run = absurd run
-run_leaves first last (e ∷ events) [] here shows run = absurd run
-run_leaves first last (e ∷ events) (reply ∷ replies) here shows run =
-    let mid = run.0 in
-    let P = OpensToSome first.state (e ∷ events) (reply ∷ replies) in
-    LeavesOnly-join first.held.disk mid.held.disk last.held.disk P
-    (LeavesOnly-weaker first.held.disk mid.held.disk (OpensToLeft first.state e) P (λ c h. (0, h)) (goes_leaves first mid e reply here run.1))
-    (LeavesOnly-weaker mid.held.disk last.held.disk (OpensToSome mid.state events replies) P
-    (λ c h. (suc h.0, (h.1.0, h.1.1, (mid.state, step_of first mid e reply run.1, h.1.2))))
-    (run_leaves mid last events replies (goes_settled first mid e reply here run.1) (goes_shows first mid e reply run.1) run.2))
+-- a crash behind the last event
+cut_behind : (first last : Standing) (events : List Event) (said : List Reply) (w : World) → RunBy Goes first events said last → Left last.state w → CutRun Anything version_1 first.state (events ++ []) said w
+cut_behind first last [] [] w run here = subst (λ (x : Standing). Left x.state w) run here
+cut_behind first last [] (reply ∷ said) w run here = absurd run
+cut_behind first last (e ∷ events) [] w run here = absurd run
+cut_behind first last (e ∷ events) (reply ∷ said) w run here = (run.0.state, step_of first run.0 e reply run.1, cut_behind run.0 last events said w run.2 here)
+
+list_joined : (xs : List Event) (y : Event) (ys : List Event) → (xs ++ y ∷ []) ++ ys ≡ xs ++ y ∷ ys
+list_joined [] y ys = refl
+list_joined (x ∷ xs) y ys = ap (λ (zs : List Event). x ∷ zs) (list_joined xs y ys)
+
+-- a crash at any moment of what is left of a run, behind the events that were answered
+pub run_leaves : (first mid last : Standing) (done todo : List Event) (said replies : List Reply) → AreSettled first.state → Always mid.held.disk (λ c. ShowsState ground mid.state c) → RunBy Goes first done said mid → RunBy Goes mid todo replies last
+    → LeavesFrom first.state (done ++ todo) said replies mid.held.disk last.held.disk
+run_leaves first mid last done [] said [] here shows before run =
+    (ap (λ (x : Standing). x.held.disk) run, λ c crash. let now = opens_now mid.state c (shows c crash) in (now.0, now.1, cut_behind first mid done said now.0 before now.2))
+run_leaves first mid last done [] said (reply ∷ replies) here shows before run = absurd run
+run_leaves first mid last done (e ∷ todo) said [] here shows before run = absurd run
+run_leaves first mid last done (e ∷ todo) said (reply ∷ replies) here shows before run =
+    let next = run.0 in
+    (
+      next.held.disk,
+      cut_in first mid next done todo e said reply here before run.1,
+      subst (λ (events : List Event). LeavesFrom first.state events (said ++ reply ∷ []) replies next.held.disk last.held.disk) (list_joined done e todo)
+      (run_leaves first next last (done ++ e ∷ []) todo (said ++ reply ∷ []) replies here (goes_shows mid next e reply run.1) (run_more Goes first mid next done said e reply before run.1) run.2),
+    )
 
 -- before the first event
 pub cut_now : (world : World) (events : List Event) → settle world ≡ world → CutRun Anything version_1 (Running world) events [] world

@@ -1,4 +1,5 @@
 mod CutLemmas
+mod FailureLemmas
 pub mod NewDiskLemmas
 mod RestartLemmas
 mod RunLemmas

@@ -6,7 +6,10 @@ use Rattle.sn_device.specs.Sectors.{AgreesOutside, AreSectors, Contents}
 use Rattle.sn_device.specs.Disk.{Disk, Always, reads}
 use Rattle.sn_device.specs.Crash.{LeavesOnly, Touches}
 use Rattle.sn_device.proofs.CrashLemmas.{Always-reads, LeavesOnly-join, LeavesOnly-now, LeavesOnly-torn, LeavesOnly-weaker}
+use Rattle.sn_block.specs.Counts.{IsLater, called}
 use Rattle.sn_block.specs.Effects.{Nowhere}
+use Rattle.sn_block.proofs.CountLemmas.{later-is, later-same}
+use Rattle.sn_device.specs.declared.status.Status.{Status}
 use Rattle.sn_limits.specs.Versions.{version_1}
 use Rattle.sn_model.specs.declared.call.Event.TheVariants as event
 use Rattle.sn_model.specs.declared.mount.MountFault.{MountFault}
@@ -24,7 +27,8 @@ use Rattle.sn_core.proofs.NumberLemmas.{step_numbers}
 use Rattle.sn_core.proofs.RestartLemmas.{restart_numbers}
 use Rattle.sn_recovery.specs.Moments.{LastsOver, OpensOn, ShowsState}
 use Rattle.sn_recovery.proofs.RecoveryLemmas.{opens_to_one}
-use Rattle.sn_fs.specs.Answers.{Answers, AnswersFrom, CostsAtMost, MayMeet}
+use Rattle.sn_fs.specs.Answers.{Answers, AnswersFrom, MayMeet}
+use Rattle.sn_fs.specs.Costs.{CostsAtMost}
 use Rattle.sn_fs.specs.Held.{Held, ground}
 use Rattle.sn_fs.specs.Mounting.{IsSoOf, LeavesTheWorld}
 use Rattle.sn_fs.specs.Recovering.{IsLeft, Mounts, Refuses}
@@ -34,13 +38,43 @@ use Rattle.sn_run.proofs.CutLemmas.{found_settled}
 
 -- ---- steps
 
+done_is_more : {A : Type 0} → answer.Progress progress.Done ≡ answer.Progress progress.More → A
+done_is_more e = cc
+
+refused_is_more : {A : Type 0} → refused Estopped ≡ answer.Progress progress.More → A
+refused_is_more e = cc
+
 pub runs_step : (h : Held) → Answers event.Step (answer.Progress progress.Done) h false h false
-runs_step h (Running w) m = record { met = None; may = tt; next = Running w; step = (inr refl, refl); means = m; lasts = stays_lasts h false (Running w) m; numbers = step_numbers w h.kept; costs = refl }
+runs_step h (Running w) m = record {
+  met = None;
+  may = refl;
+  next = Running w;
+  step = (inr refl, refl);
+  means = m;
+  lasts = stays_lasts h false (Running w) m;
+  begins = tt;
+  numbers = step_numbers w h.kept;
+  later = later-same h.status h.status refl;
+  costs = refl;
+  works = λ e. done_is_more e;
+}
 runs_step h (Stopped before after) m = absurd (true≢false (sym m.0))
 
 pub stopped_step : (h : Held) → Answers event.Step (refused Estopped) h true h true
 stopped_step h (Running w) m = absurd (true≢false m.0)
-stopped_step h (Stopped before after) m = record { met = None; may = tt; next = Stopped before after; step = (refl, refl); means = m; lasts = stays_lasts h true (Stopped before after) m; numbers = tt; costs = refl }
+stopped_step h (Stopped before after) m = record {
+  met = None;
+  may = refl;
+  next = Stopped before after;
+  step = (refl, refl);
+  means = m;
+  lasts = stays_lasts h true (Stopped before after) m;
+  begins = tt;
+  numbers = tt;
+  later = later-same h.status h.status refl;
+  costs = refl;
+  works = λ e. refused_is_more e;
+}
 
 -- ---- mounts
 
@@ -68,7 +102,7 @@ on_ground c whole count = lies_on c (first_of 256 1) (record { blocks = refl; ep
 pub one_of : (c : Contents) (world other : World) → AreSectors c → 2048 ≤ length c → OpensOn ground c world → OpensOn ground c other → world ≡ other
 one_of c world other whole count h k = opens_to_one version_1 c (base_of 256 1) 1 new_world world other (on_ground c whole count) h k
 
-module _ (old new : Held) (had : Bool) (whole : AreSectors (reads old.disk)) (count : 2048 ≤ length (reads old.disk)) (costs : CostsAtMost 1 2 old.status new.status) where
+module _ (old new : Held) (had : Bool) (whole : AreSectors (reads old.disk)) (count : 2048 ≤ length (reads old.disk)) (costs : new.status ≡ called 1 2 old.status) where
   -- the mount runs over the world that the disk opened to
   mounted_lasts : (s : State) (world : World) → Always old.disk (λ c. ShowsState ground s c) → OpensOn ground (reads old.disk) world → LeavesTheWorld old.disk new.disk world → LastsOver ground s (Running world) old.disk new.disk
   mounted_lasts s world shows opens leaves =
@@ -88,26 +122,32 @@ module _ (old new : Held) (had : Bool) (whole : AreSectors (reads old.disk)) (co
       let same = one_of (reads old.disk) m.world (settle w) whole count m.opens (Always-reads old.disk (λ c. OpensOn ground c (settle w)) whole shows) in
       record {
         met = None;
-        may = tt;
+        may = ap (λ (x : Status). x.failures) costs;
         next = Running m.world;
         step = (refl, ap (λ (x : World). Running x) same);
         means = m.means;
         lasts = mounted_lasts (Running w) m.world shows m.opens m.leaves;
+        begins = m.leaves;
         numbers = restart_numbers w m.world old.kept new.kept same m.none_kept;
+        later = later-is 1 2 old.status new.status costs;
         costs = costs;
+        works = tt;
       }
   mounted_answers has m (Stopped before after) means = told (Always-reads old.disk (λ c. ShowsState ground (Stopped before after) c) whole means.1)
     where
       answers : (Running m.world ≡ Running before) ⊎ (Running m.world ≡ Running after) → AnswersFrom (Stopped before after) event.Restart answer.Done old new has
       answers same = record {
         met = None;
-        may = tt;
+        may = ap (λ (x : Status). x.failures) costs;
         next = Running m.world;
         step = (refl, same);
         means = m.means;
         lasts = mounted_lasts (Stopped before after) m.world means.1 m.opens m.leaves;
+        begins = m.leaves;
         numbers = m.none_kept;
+        later = later-is 1 2 old.status new.status costs;
         costs = costs;
+        works = tt;
       }
 
       told : OpensOn ground (reads old.disk) before ⊎ OpensOn ground (reads old.disk) after → AnswersFrom (Stopped before after) event.Restart answer.Done old new has
@@ -119,14 +159,14 @@ module _ (old new : Held) (had : Bool) (whole : AreSectors (reads old.disk)) (co
 -- the mishap of a fault, where the contents open to a world
 pub met_with : (f : MountFault) (c : Contents) (world : World) (sectors : ℕ) (old new : Held) → OpensOn ground c world → 2048 ≤ sectors → Refuses f c sectors → IsSoOf f old.status new.status
     → (m : Mishap) × (mount_fault_of m ≡ Some f) × MayMeet old event.Restart (Some m) new.status
-met_with (fault.Damaged damage block) c world sectors old new opens count cause failed = absurd (cause.1 world opens)
+met_with (fault.Damaged damage block) c world sectors old new opens count cause failed = absurd (cause.none world opens)
 met_with fault.NotFormatted c world sectors old new opens count cause failed = absurd (omega arith)
 met_with fault.Version c world sectors old new opens count cause failed = absurd cause
 met_with fault.NoRoot c world sectors old new opens count cause failed = absurd cause
-met_with fault.Memory c world sectors old new opens count cause failed = (Memory, refl, tt)
+met_with fault.Memory c world sectors old new opens count cause failed = (Memory, refl, failed)
 met_with fault.Device c world sectors old new opens count cause failed = (Read, refl, failed)
 
-module _ (old new : Held) (had : Bool) (f : MountFault) (sectors : ℕ) (whole : AreSectors (reads old.disk)) (enough : 2048 ≤ sectors) (left : IsLeft f old.disk new.disk sectors) (failed : IsSoOf f old.status new.status) (costs : CostsAtMost 1 2 old.status new.status) where
+module _ (old new : Held) (had : Bool) (f : MountFault) (sectors : ℕ) (whole : AreSectors (reads old.disk)) (enough : 2048 ≤ sectors) (left : IsLeft f old.disk new.disk sectors) (failed : IsSoOf f old.status new.status) (later : IsLater old.status new.status) (costs : CostsAtMost 1 2 old.status new.status) where
   -- between two worlds, of which the disk opened to one
   unmounted_from : (before after world : World) → Always old.disk (λ c. ShowsState ground (Stopped before after) c) → OpensOn ground (reads old.disk) world
       → ((c : Contents) → OpensOn ground c world → ShowsState ground (Stopped before after) c) → LeavesOnly old.disk new.disk (λ c. ShowsState ground (Stopped before after) c)
@@ -150,8 +190,11 @@ module _ (old new : Held) (had : Bool) (f : MountFault) (sectors : ℕ) (whole :
           moments = LeavesOnly-weaker old.disk new.disk (λ c. ShowsState ground next c) (λ c. ShowsState ground (Running w) c ⊎ ShowsState ground next c) (λ c h. inr h) all;
           answered = LeavesOnly-now old.disk new.disk (λ c. ShowsState ground next c) all;
         };
+        begins = tt;
         numbers = tt;
+        later = later;
         costs = costs;
+        works = tt;
       }
   unmounted_answers (Stopped before after) means = told (Always-reads old.disk (λ c. ShowsState ground (Stopped before after) c) whole means.1)
     where
@@ -169,8 +212,11 @@ module _ (old new : Held) (had : Bool) (f : MountFault) (sectors : ℕ) (whole :
               moments = LeavesOnly-weaker old.disk new.disk (λ c. ShowsState ground (Stopped before after) c) (λ c. ShowsState ground (Stopped before after) c ⊎ ShowsState ground (Stopped before after) c) (λ c h. inr h) all;
               answered = LeavesOnly-now old.disk new.disk (λ c. ShowsState ground (Stopped before after) c) all;
             };
+            begins = tt;
             numbers = tt;
+            later = later;
             costs = costs;
+            works = tt;
           }
 
       told : OpensOn ground (reads old.disk) before ⊎ OpensOn ground (reads old.disk) after → AnswersFrom (Stopped before after) event.Restart (answer.Unmounted f) old new true

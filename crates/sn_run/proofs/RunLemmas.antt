@@ -5,7 +5,8 @@ use Rattle.sn_device.specs.Sectors.{AreSectors, Contents}
 use Rattle.sn_device.specs.Disk.{Disk, reads}
 use Rattle.sn_device.specs.Crash.{LeavesOnly, Touches}
 use Rattle.sn_device.specs.declared.status.Status.{Status}
-use Rattle.sn_device.proofs.CrashLemmas.{LeavesOnly-join, LeavesOnly-weaker, Touches-start}
+use Rattle.sn_device.proofs.CrashLemmas.{LeavesOnly-now, LeavesOnly-weaker, Touches-start}
+use Rattle.sn_block.specs.Counts.{called}
 use Rattle.sn_block.specs.Effects.{Nowhere}
 use Rattle.sn_limits.specs.Versions.{version_1}
 use Rattle.sn_model.specs.declared.call.Event.{Event}
@@ -20,13 +21,13 @@ use Rattle.sn_log.specs.Places.{first_of}
 use Rattle.sn_core.proofs.StepLemmas.{run_more}
 use Rattle.sn_recovery.specs.Moments.{OpensOn}
 use Rattle.sn_recovery.proofs.RecoveryLemmas.{opens_to_one}
-use Rattle.sn_fs.specs.Answers.{Answers, CostsAtMost}
+use Rattle.sn_fs.specs.Answers.{Answers}
 use Rattle.sn_fs.specs.Held.{Held, Means, ground}
 use Rattle.sn_fs.specs.Mounting.{LeavesTheWorld}
 use Rattle.sn_fs.specs.Recovering.{Mounts}
 use Rattle.sn_fs.proofs.MeaningLemmas.{means_show}
 use Rattle.sn_run.specs.Laws.{LivesOn}
-use Rattle.sn_run.specs.Runs.{AnswersAll, Goes, IsRunOf, LeavesItsRun, NotMounted, OpensToSome, RunsTo, Served}
+use Rattle.sn_run.specs.Runs.{AnswersAll, Goes, IsRunOf, LeavesAll, LeavesFrom, LeavesItsRun, NotMounted, OpensToCut, RunsTo, Served}
 use Rattle.sn_run.proofs.CutLemmas.{AreSettled, cut_now, found_settled, machine_run, run_leaves}
 use Rattle.sn_run.proofs.RestartLemmas.{met_with, one_of}
 
@@ -57,7 +58,7 @@ ends_stopped : (h : Held) (s : State) → Means h true s → Ends s None ending.
 ends_stopped h (Running w) means = absurd (true≢false means.0)
 ends_stopped h (Stopped before after) means = refl
 
-module _ (events : List Event) (replies : List Reply) (disk last_disk : Disk) (status last_status : Status) (h new : Held) (had : Bool) (m : Mounts disk h had) (costs : CostsAtMost 1 2 status h.status) (same_disk : last_disk ≡ new.disk) (same_status : last_status ≡ new.status) where
+module _ (events : List Event) (replies : List Reply) (disk last_disk : Disk) (status last_status : Status) (h new : Held) (had : Bool) (m : Mounts disk h had) (costs : h.status ≡ called 1 2 status) (same_disk : last_disk ≡ new.disk) (same_status : last_status ≡ new.status) where
   served : (has : Bool) (end : End) → AnswersAll events replies h had new has → ((s : State) → Means new has s → Ends s None end) → Served events replies end disk status last_disk last_status
   served has end all ends =
       let a = all (Running m.world) m.means in
@@ -92,18 +93,14 @@ bare disk status = record { world = new_world; kept = λ number. false; at = fir
 module _ (events : List Event) (replies : List Reply) (disk last_disk : Disk) (status last_status : Status) (world : World) (whole : AreSectors (reads disk)) (count : 2048 ≤ length (reads disk)) (enough : 2048 ≤ status.sectors) (opens : OpensOn ground (reads disk) world) where
   served_leaves : (end : End) (s : Served events replies end disk status last_disk last_status) → s.world ≡ world → LeavesItsRun world events replies disk last_disk
   served_leaves end s same =
-      let P = OpensToSome (Running world) events replies in
       let starts : s.first.state ≡ Running world = s.mounted ∙ ap (λ (w : World). Running w) same in
-      let settled = found_settled (reads disk) world opens in
-      let rest = run_leaves s.first s.last events replies (subst AreSettled (sym starts) tt) (means_show s.first.held s.first.has_stopped s.first.state s.means) s.run in
+      let shows = means_show s.first.held s.first.has_stopped s.first.state s.means in
+      let rest = run_leaves s.first s.first s.last [] events [] replies (subst AreSettled (sym starts) tt) shows refl s.run in
       record {
-        mid = s.leaves.mid;
-        first = s.leaves.first;
-        same = s.leaves.same;
-        synced = s.leaves.synced;
-        moments = LeavesOnly-join s.leaves.mid s.first.held.disk last_disk P
-            (LeavesOnly-weaker s.leaves.mid s.first.held.disk (λ c. OpensOn ground c s.world) P (λ c h. (0, (world, subst (OpensOn ground c) same h, cut_now world events settled))) s.leaves.moments)
-            (subst (λ (d : Disk). LeavesOnly s.first.held.disk d P) s.left (subst (λ (x : State). LeavesOnly s.first.held.disk s.last.held.disk (OpensToSome x events replies)) starts rest));
+        mounted = s.first.held.disk;
+        mounts = subst (LeavesTheWorld disk s.first.held.disk) same s.leaves;
+        moments = subst (λ (d : Disk). LeavesFrom (Running world) events [] replies s.first.held.disk d) s.left
+            (subst (λ (x : State). LeavesFrom x events [] replies s.first.held.disk s.last.held.disk) starts rest);
       }
 
   served_run : (end : End) → Served events replies end disk status last_disk last_status → IsRunOf world events replies end disk last_disk
@@ -121,15 +118,17 @@ module _ (events : List Event) (replies : List Reply) (disk last_disk : Disk) (s
         crash = inr (served_leaves end s same);
       }
 
-  left_so : Touches Nowhere disk last_disk ⊎ LeavesTheWorld disk last_disk world → Touches Nowhere disk last_disk ⊎ LeavesItsRun world events replies disk last_disk
-  left_so (inl touches) = inl touches
-  left_so (inr leaves) = inr (record {
-    mid = leaves.mid;
-    first = leaves.first;
-    same = leaves.same;
-    synced = leaves.synced;
-    moments = LeavesOnly-weaker leaves.mid last_disk (λ c. OpensOn ground c world) (OpensToSome (Running world) events replies)
-        (λ c h. (0, (world, h, cut_now world events (found_settled (reads disk) world opens)))) leaves.moments;
+  -- what a mount that failed leaves, before any event
+  opens_to_cut : (c : Contents) → OpensOn ground c world → OpensToCut (Running world) events [] c
+  opens_to_cut c h = (world, h, cut_now world events (found_settled (reads disk) world opens))
+
+  left_so : replies ≡ [] → Touches Nowhere disk last_disk ⊎ LeavesTheWorld disk last_disk world → LeavesAll replies disk last_disk ⊎ LeavesItsRun world events replies disk last_disk
+  left_so none (inl touches) = inl (record { none = none; touches = touches })
+  left_so none (inr leaves) = inr (record {
+    mounted = last_disk;
+    mounts = leaves;
+    moments = subst (λ (said : List Reply). LeavesFrom (Running world) events [] said last_disk last_disk) (sym none)
+        (refl, LeavesOnly-now leaves.mid last_disk (OpensToCut (Running world) events []) (LeavesOnly-weaker leaves.mid last_disk (λ c. OpensOn ground c world) (OpensToCut (Running world) events []) opens_to_cut leaves.moments));
   })
 
   unserved_run : (f : MountFault) → NotMounted f replies disk status last_disk last_status → IsRunOf world events replies (ending.Mount f) disk last_disk
@@ -137,7 +136,7 @@ module _ (events : List Event) (replies : List Reply) (disk last_disk : Disk) (s
       let met = met_with f (reads disk) world status.sectors (bare disk status) (bare last_disk last_status) opens enough n.left.cause n.failed in
       record {
         run = inr (inl (record { met = met.0; may = tt; fault = f; is = met.1; none = n.none; ends = refl }));
-        crash = left_so (n.left.keeps world opens);
+        crash = left_so n.none (n.left.keeps world opens);
       }
 
   pub is_run : (end : End) → RunsTo end events replies disk status last_disk last_status → IsRunOf world events replies end disk last_disk
@@ -145,7 +144,7 @@ module _ (events : List Event) (replies : List Reply) (disk last_disk : Disk) (s
   is_run ending.Stopped h = served_run ending.Stopped h
   is_run ending.Memory h = record {
     run = inl (record { may = tt; none = h.none; ends = refl });
-    crash = inl (subst (λ (d : Disk). Touches Nowhere disk d) (sym h.left) (Touches-start Nowhere disk));
+    crash = inl (record { none = h.none; touches = subst (λ (d : Disk). Touches Nowhere disk d) (sym h.left) (Touches-start Nowhere disk) });
   }
   is_run (ending.Mount f) h = unserved_run f h
 

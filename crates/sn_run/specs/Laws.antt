@@ -1,25 +1,19 @@
--- What crashes leave of runs: event by event, and life by life.
-use Rattle.std.specs.Prelude.{◌≡◌, ℕ, ◌≤◌, List, [], ◌∷◌, ◌++◌, replicate}
+-- What crashes leave of runs, life by life.
+use Rattle.std.specs.Prelude.{◌≡◌, ℕ, ◌≤◌, Bool, false, Option, None, Some, List, [], ◌∷◌, replicate}
 use Rattle.sn_device.specs.Sectors.{Contents}
-use Rattle.sn_device.specs.Crash.{LeavesOnly}
+use Rattle.sn_device.specs.Status.{has_ended}
 use Rattle.sn_limits.specs.Versions.{version_1}
 use Rattle.sn_model.specs.declared.call.Event.{Event}
 use Rattle.sn_model.specs.declared.reply.Reply.{Reply}
-use Rattle.sn_model.specs.Machine.{Running, Anything, Life, RunBy}
+use Rattle.sn_model.specs.Machine.{Running, Anything, Life, Mishap, Memory, Read, Write, Space, Age, Run, RunBy}
 use Rattle.sn_model.specs.World.{World, new_world}
 use Rattle.sn_ondisk.specs.LogHalf.{base_of}
 use Rattle.sn_ondisk.specs.OneAnswer.{IsOnDisk}
 use Rattle.sn_recovery.specs.Moments.{OpensOn}
 use Rattle.sn_fs.specs.Held.{ground}
-use Rattle.sn_run.specs.Runs.{Standing, Goes, OpensToCut}
+use Rattle.sn_run.specs.Runs.{Goes, OpensToCut, Standing}
 
--- A run has answered some events, and a crash comes in the next: it leaves what the machine's run leaves that is cut short there. So what was answered isn't lost.
-abbrev pub CrashesInEvents : Type 0
-CrashesInEvents = (world : World) (first mid next : Standing) (done todo : List Event) (e : Event) (said : List Reply) (reply : Reply)
-    → first.state ≡ Running world → RunBy Goes first done said mid → Goes mid e reply next
-    → LeavesOnly mid.held.disk next.held.disk (OpensToCut (Running world) (done ++ e ∷ todo) said)
-
--- a run from what the contents open to, of which a crash left the others
+-- a run from what the contents open to, of which a crash behind these replies left the others, as the contract of a run says
 pub record Cuts (c : Contents) (events : List Event) (said : List Reply) (left : Contents) : Type 0 where
   pub world : World
   pub opens : OpensOn ground c world
@@ -35,6 +29,21 @@ LivesOn c (r ∷ rs) last = (next : Contents) × Cuts c r.0 r.1 next × LivesOn 
 abbrev pub LivesAreLives : Type 0
 LivesAreLives = (c last : Contents) (runs : List (List Event × List Reply)) (first : World) → OpensOn ground c first → LivesOn c runs last
     → (world : World) × OpensOn ground last world × Life Anything version_1 first runs world
+
+-- no read, no write and no sync of a device failed
+abbrev pub Unfailing : Option Mishap → Type 0
+Unfailing None = Unit {0}
+Unfailing (Some Memory) = Unit {0}
+Unfailing (Some Space) = Unit {0}
+Unfailing (Some Read) = ⊥
+Unfailing (Some Write) = ⊥
+Unfailing (Some Age) = ⊥
+
+-- Where the device failed in none of the events, and isn't at its end, they are a run in which no failure was met with: none is invented.
+abbrev pub NoFailureIsInvented : Type 0
+NoFailureIsInvented = (first last : Standing) (events : List Event) (replies : List Reply) → RunBy Goes first events replies last
+    → last.held.status.failures ≡ first.held.status.failures → has_ended last.held.status ≡ false
+    → Run Unfailing version_1 first.state events replies last.state
 
 -- A disk of zeros is an empty file system.
 abbrev pub ZerosAreNew : Type 0

@@ -1,9 +1,10 @@
 -- Runs over a device, and what a crash leaves of them.
-use Rattle.std.specs.Prelude.{◌≡◌, ◌⊎◌, ℕ, Bool, false, List, [], None, take}
+use Rattle.std.specs.Prelude.{◌≡◌, ◌⊎◌, ℕ, Bool, false, List, [], ◌∷◌, ◌++◌, None}
 use Rattle.sn_device.specs.Sectors.{Contents}
-use Rattle.sn_device.specs.Disk.{Disk, IsSynced, reads}
+use Rattle.sn_device.specs.Disk.{Disk, Always, reads}
 use Rattle.sn_device.specs.Crash.{LeavesOnly, Touches}
 use Rattle.sn_device.specs.declared.status.Status.{Status}
+use Rattle.sn_block.specs.Counts.{IsLater, called}
 use Rattle.sn_block.specs.Effects.{Nowhere}
 use Rattle.sn_limits.specs.Versions.{version_1}
 use Rattle.sn_model.specs.declared.call.Event.{Event}
@@ -14,7 +15,8 @@ use Rattle.sn_model.specs.declared.reply.Reply.{Reply}
 use Rattle.sn_model.specs.Machine.{State, Running, Anything, CutRun, Ends, RunBy, WholeRun}
 use Rattle.sn_model.specs.World.{World}
 use Rattle.sn_recovery.specs.Moments.{OpensOn}
-use Rattle.sn_fs.specs.Answers.{AnswersFrom, CostsAtMost}
+use Rattle.sn_fs.specs.Answers.{AnswersFrom}
+use Rattle.sn_fs.specs.Costs.{CostsAtMost}
 use Rattle.sn_fs.specs.Held.{Held, Means, ground}
 use Rattle.sn_fs.specs.Mounting.{IsSoOf, LeavesTheWorld}
 use Rattle.sn_fs.specs.Recovering.{IsLeft}
@@ -40,7 +42,7 @@ pub record IsAnswered (s : State) (events : List Event) (replies : List Reply) (
 abbrev pub AnswersAll : List Event → List Reply → Held → Bool → Held → Bool → Type 0
 AnswersAll events replies old had_stopped new has_stopped = (s : State) → Means old had_stopped s → IsAnswered s events replies old had_stopped new has_stopped
 
--- The world that the device opened to was mounted, with no number kept back, and the events were answered; the last unmount calls nothing.
+-- The world that the device opened to was mounted, with one write and two syncs and no number kept back, and the events were answered; the last unmount calls nothing.
 pub record Served (events : List Event) (replies : List Reply) (end : End) (disk : Disk) (status : Status) (last_disk : Disk) (last_status : Status) : Type 0 where
   pub world : World
   pub opens : OpensOn ground (reads disk) world
@@ -49,7 +51,7 @@ pub record Served (events : List Event) (replies : List Reply) (end : End) (disk
   pub means : Means first.held first.has_stopped first.state
   pub none_kept : (number : ℕ) → first.held.kept number ≡ false
   pub leaves : LeavesTheWorld disk first.held.disk world
-  pub costs : CostsAtMost 1 2 status first.held.status
+  pub costs : first.held.status ≡ called 1 2 status
   pub last : Standing
   pub run : RunBy Goes first events replies last
   pub ends : Ends last.state None end
@@ -61,6 +63,7 @@ pub record NotMounted (fault : MountFault) (replies : List Reply) (disk : Disk) 
   pub none : replies ≡ []
   pub left : IsLeft fault disk last_disk status.sectors
   pub failed : IsSoOf fault status last_status
+  pub later : IsLater status last_status
   pub costs : CostsAtMost 1 2 status last_status
 
 -- nothing was done, not even a mount
@@ -80,19 +83,23 @@ RunsTo (ending.Mount fault) events replies disk status last_disk last_status = N
 abbrev pub OpensToCut : State → List Event → List Reply → Contents → Type 0
 OpensToCut s events said c = (world : World) × OpensOn ground c world × CutRun Anything version_1 s events said world
 
--- after some of the replies
-abbrev pub OpensToSome : State → List Event → List Reply → Contents → Type 0
-OpensToSome s events replies c = (n : ℕ) × OpensToCut s events (take n replies) c
+-- From a disk on the events that are left get these replies, behind those that were given: in the course of each a crash leaves a run that was cut short in it or behind it, and once all are answered one that was cut short behind the last.
+abbrev pub LeavesFrom : State → List Event → List Reply → List Reply → Disk → Disk → Type 0
+LeavesFrom s events said [] old new = (new ≡ old) × Always old (OpensToCut s events said)
+LeavesFrom s events said (reply ∷ replies) old new = (mid : Disk) × LeavesOnly old mid (OpensToCut s events said) × LeavesFrom s events (said ++ reply ∷ []) replies mid new
 
--- Up to a first sync that succeeds nothing is written. From then on a crash at any moment leaves what the machine's run, cut short, leaves.
+-- Up to a first sync that succeeds nothing is written. From then on a crash leaves the world that was found, and once it is mounted, what the machine's run leaves, event by event.
 pub record LeavesItsRun (world : World) (events : List Event) (replies : List Reply) (old new : Disk) : Type 0 where
-  pub mid : Disk
-  pub first : Touches Nowhere old mid
-  pub same : reads mid ≡ reads old
-  pub synced : IsSynced mid
-  pub moments : LeavesOnly mid new (OpensToSome (Running world) events replies)
+  pub mounted : Disk
+  pub mounts : LeavesTheWorld old mounted world
+  pub moments : LeavesFrom (Running world) events [] replies mounted new
+
+-- no event was answered, and nothing was written
+pub record LeavesAll (replies : List Reply) (old new : Disk) : Type 0 where
+  pub none : replies ≡ []
+  pub touches : Touches Nowhere old new
 
 -- Where the device opens to a world, this is a run of the machine from that world, and it is all that a crash leaves.
 pub record IsRunOf (world : World) (events : List Event) (replies : List Reply) (end : End) (old new : Disk) : Type 0 where
   pub run : WholeRun Anything version_1 world events replies end
-  pub crash : Touches Nowhere old new ⊎ LeavesItsRun world events replies old new
+  pub crash : LeavesAll replies old new ⊎ LeavesItsRun world events replies old new

@@ -7,11 +7,12 @@
 //! What the clauses say, of each device that tells its bytes:
 //! - [`Server::answer`]: the reply is that of a step of the machine. A crash at any moment of the event
 //!   leaves the settled world from before it or from after it, and once it is answered the one after alone.
+//!   No count of the device falls, and a failure is told only where the device failed.
 //! - [`run`]: the replies and the end are those of a whole run of the machine from the world that the device
-//!   opens to. From the mount's first sync on a crash at any moment leaves what the machine's run, cut short
-//!   after the replies that were given by then, leaves (`LeavesItsRun`).
-//! - [`crash_laws`]: so it is event by event, and over lives, each of which begins from what a crash in the
-//!   one before has left.
+//!   opens to. A crash in the course of an event leaves what the machine's run leaves that is cut short in
+//!   that event or behind it, and behind the last event all that was answered (`LeavesItsRun`).
+//! - [`no_failure_is_invented`]: where the device didn't fail, no event was refused for a failure.
+//! - [`crash_laws`]: so it is over lives, each of which begins from what a crash in the one before has left.
 //!
 //! ```text
 //! let Ran { replies, end, device } = run(alloc, device, &events);
@@ -22,6 +23,6 @@ mod laws;
 mod running;
 mod server;
 
-pub use laws::{crash_laws, new_disk_law};
+pub use laws::{crash_laws, new_disk_law, no_failure_is_invented};
 pub use running::{Ran, run};
 pub use server::Server;

@@ -1,9 +1,11 @@
+use Rattle.sn_block.proofs.CountLemmas.{later-calls}
 use Rattle.sn_fs.proofs.changing.make_change.Goals as goal
 
 pub returns-in-Ok-append-clause-made : goal.returns-in-Ok-append-clause-made
 returns-in-Ok-append-clause-made g c =
     let made = c.in-Ok.ensures.made in
     record {
+      room = c.has_room.ensures.0 c.if-not-has_room.false;
       made = record { tree = made.0; applied = made.1; world = made.2 };
       kept = c.in-Ok.ensures.kept;
       at = c.in-Ok-append.ensures.moves;
@@ -16,8 +18,10 @@ pub returns-in-Err-append-clause-made : goal.returns-in-Err-append-clause-made
 returns-in-Err-append-clause-made g c =
     let made = c.in-Ok.ensures.made in
     record {
+      room = c.has_room.ensures.0 c.if-not-has_room.false;
       made = record { tree = made.0; applied = made.1; world = made.2 };
       moments = λ told. (c.in-Err-append.ensures.disk told).any_moment;
       failed = c.in-Err-append.ensures.counts.cause;
+      later = later-calls _ _ _ _ _ c.in-Err-append.ensures.counts;
       costs = record { writes = c.in-Err-append.ensures.counts.writes.1; syncs = c.in-Err-append.ensures.counts.syncs.1 };
     }

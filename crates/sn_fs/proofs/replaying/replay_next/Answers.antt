@@ -1,12 +1,13 @@
-use Rattle.std.proofs.Common.{◌≤◌, ◌++◌, ◌∷◌, [], Some, refl, sym, ap, subst, ◌∙◌}
+use Rattle.std.proofs.Common.{◌+◌, ◌/◌, ◌≤◌, ◌++◌, ◌∷◌, [], Some, refl, sym, ap, subst, ◌∙◌}
 use Rattle.sn_device.specs.Disk.{reads}
 use Rattle.sn_limits.specs.Versions.{version_1}
 use Rattle.sn_model.specs.World.{World}
 use Rattle.sn_model.proofs.TreeLemmas.{tree_kept}
 use Rattle.sn_block.specs.Lending.{device_of}
-use Rattle.sn_log.specs.Places.{LogPosition, IsBehind}
+use Rattle.sn_log.specs.Places.{LogPosition, IsBehind, base_at}
 use Rattle.sn_log.specs.Replaying.{Finds, changes_in, position_after}
 use Rattle.sn_log.specs.declared.replay.Found.{Found}
+use Rattle.sn_log.specs.declared.replay.Found.TheVariants.{Change, Misspelt}
 use Rattle.sn_core.specs.Plain.{world_of}
 use Rattle.sn_fs.specs.Mounting.{HasReplayed}
 use Rattle.sn_fs.proofs.MountLemmas.{inapplicable_none, lies_on, misspelt_none, replayed_more}
@@ -41,7 +42,18 @@ returns-in-Err-CannotApply-clause-replayed g c told done =
     let on_disk = lies_on disk at c.requires.place (g.met.D.Device.whole device told) (subst (λ n. 2048 ≤ n) (sym (g.met.D.Device.count device told)) c.requires.sectors) in
     let finds = subst (λ (f : Found). Finds disk at f) c.in-Ok-Change.field-0-is (c.in-Ok-Change.ensures.found told) in
     let none = rw c.in-Err-CannotApply.field-0-is at c.in-Err-CannotApply.ensures.made in
-    (refl, inapplicable_none disk at (world_of c.args.world.now).live c.requires.place on_disk done c.in-Ok-Change.change finds none.0)
+    record {
+      log = refl;
+      at = at;
+      place = c.requires.place;
+      tree = (world_of c.args.world.now).live;
+      before = done;
+      found = Change c.in-Ok-Change.change;
+      finds = finds;
+      bad = none.0;
+      gate = c.block.ensures ∙ ap (λ (p : LogPosition). (base_at p + p.place) / 8) c.position-at.ensures;
+      none = inapplicable_none disk at (world_of c.args.world.now).live c.requires.place on_disk done c.in-Ok-Change.change finds none.0;
+    }
 
 pub returns-in-Ok-Misspelt-clause-replayed : goal.returns-in-Ok-Misspelt-clause-replayed
 returns-in-Ok-Misspelt-clause-replayed g c told done =
@@ -50,4 +62,15 @@ returns-in-Ok-Misspelt-clause-replayed g c told done =
     let at = c.args.replay.now in
     let on_disk = lies_on disk at c.requires.place (g.met.D.Device.whole device told) (subst (λ n. 2048 ≤ n) (sym (g.met.D.Device.count device told)) c.requires.sectors) in
     let finds = subst (λ (f : Found). Finds disk at f) c.in-Ok-Misspelt.field-0-is (c.in-Ok-Misspelt.ensures.found told) in
-    (refl, misspelt_none disk at (world_of c.args.world.now).live c.requires.place on_disk done c.in-Ok-Misspelt.block finds)
+    record {
+      log = refl;
+      at = at;
+      place = c.requires.place;
+      tree = (world_of c.args.world.now).live;
+      before = done;
+      found = Misspelt c.in-Ok-Misspelt.block;
+      finds = finds;
+      bad = tt;
+      gate = finds.2;
+      none = misspelt_none disk at (world_of c.args.world.now).live c.requires.place on_disk done c.in-Ok-Misspelt.block finds;
+    }

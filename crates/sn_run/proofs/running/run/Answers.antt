@@ -49,4 +49,4 @@ returns-in-Err-clause-machine g c told world enough opens =
     let count = subst (λ n. 2048 ≤ n) (sym (g.met.D.Device.count device told)) enough in
     is_run c.args.events.now c.in-Ok.replies.items (g.D.Device.disk device) (g.D.Device.disk u.device) (g.D.Device.status device) (g.D.Device.status u.device)
     world (g.met.D.Device.whole device told) count enough opens (Mount u.fault)
-    (record { none = c.in-Ok.ensures.0; left = c.in-Err.ensures.unmounted told; failed = c.in-Err.ensures.failed; costs = c.in-Err.ensures.tries })
+    (record { none = c.in-Ok.ensures.0; left = c.in-Err.ensures.unmounted told; failed = c.in-Err.ensures.failed; later = c.in-Err.ensures.later; costs = c.in-Err.ensures.tries })
