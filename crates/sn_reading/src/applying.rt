@@ -86,10 +86,10 @@ impl<'a> Tree<'a> {
                 number,
                 kind,
                 attributes,
-            } => self.make(link, number, kind, attributes)?,
-            Change::AddLink { link, number } => self.link(link, number)?,
+            } => return self.make(link, number, kind, attributes),
+            Change::AddLink { link, number } => return self.link(link, number),
+            Change::Rename { from, to } => return self.rename(&from, to),
             Change::Remove { link } => self.remove(&link),
-            Change::Rename { from, to } => self.rename(&from, to)?,
             Change::Write {
                 number,
                 offset,

@@ -21,15 +21,15 @@ pub enum Tag {
 }
 
 impl Tag {
-    fn of(number: u8) -> Result<Tag, Misspelling> {
+    fn of(number: u8) -> Option<Tag> {
         match number {
-            1 => Ok(Tag::UserObj),
-            2 => Ok(Tag::User),
-            3 => Ok(Tag::GroupObj),
-            4 => Ok(Tag::Group),
-            5 => Ok(Tag::Mask),
-            6 => Ok(Tag::Other),
-            _ => Err(Misspelling::Entry),
+            1 => Some(Tag::UserObj),
+            2 => Some(Tag::User),
+            3 => Some(Tag::GroupObj),
+            4 => Some(Tag::Group),
+            5 => Some(Tag::Mask),
+            6 => Some(Tag::Other),
+            _ => None,
         }
     }
 
@@ -56,18 +56,26 @@ impl Entry {
     /// The entry that eight bytes spell.
     pub fn read(bytes: &[u8]) -> Result<Entry, Misspelling> {
         let mut fields = Fields::new(bytes);
-        let tag = Tag::of(fields.read_u8()?)?;
-        let rights = fields.read_u8()?;
-        let zeros = fields.read_u16()?;
-        let number = fields.read_u32()?;
-        if rights > 7 || zeros != 0 || (number != 0 && !tag.is_named()) {
-            return Err(Misspelling::Entry);
-        }
-        Ok(Entry {
+        let entry = Entry::read_from(&mut fields);
+        fields.finish()?;
+        Ok(entry)
+    }
+
+    fn read_from(fields: &mut Fields<'_>) -> Entry {
+        let found = Tag::of(fields.read_u8());
+        fields.test(found.is_some(), Misspelling::Entry);
+        let tag = found.unwrap_or(Tag::Other);
+        let rights = fields.read_u8();
+        let zeros = fields.read_u16();
+        let number = fields.read_u32();
+        fields.test(rights <= 7, Misspelling::Entry);
+        fields.test(zeros == 0, Misspelling::Entry);
+        fields.test(number == 0 || tag.is_named(), Misspelling::Entry);
+        Entry {
             tag,
             rights,
             number,
-        })
+        }
     }
 
     fn precedes(self, next: Entry) -> bool {
@@ -77,7 +85,7 @@ impl Entry {
 }
 
 /// How many entries of each sort a list has.
-#[derive(Drop)]
+#[derive(Clone, Copy)]
 struct Sorts {
     objects: usize,
     named: usize,
@@ -159,32 +167,47 @@ impl<'a> Attributes<'a> {
         }
     }
 
-    pub(crate) fn read(fields: &mut Fields<'a>) -> Result<Attributes<'a>, Misspelling> {
-        let special = fields.read_u8()?;
-        if special > 3 {
-            return Err(Misspelling::SpecialBits);
-        }
-        let rights = fields.read_u16()?;
-        if rights > 0o777 {
-            return Err(Misspelling::Rights);
-        }
-        let owner = fields.read_u32()?;
-        let group = fields.read_u32()?;
-        let access_count = usize::from(fields.read_u8()?);
-        let default_count = usize::from(fields.read_u8()?);
-        let access = fields.bytes(ENTRY_SIZE * access_count)?;
-        let default = fields.bytes(ENTRY_SIZE * default_count)?;
-        Sorts::of(access)?.check(0)?;
-        if default_count > 0 {
-            Sorts::of(default)?.check(3)?;
-        }
-        Ok(Attributes {
+    pub(crate) fn read(fields: &mut Fields<'a>) -> Attributes<'a> {
+        let special = fields.read_u8();
+        fields.test(special <= 3, Misspelling::SpecialBits);
+        let rights = fields.read_u16();
+        fields.test(rights <= 0o777, Misspelling::Rights);
+        let owner = fields.read_u32();
+        let group = fields.read_u32();
+        let (access, default) = read_lists(fields);
+        Attributes {
             special,
             rights,
             owner,
             group,
             access,
             default,
-        })
+        }
     }
+}
+
+/// The entries of the access ACL and of the default ACL, behind how many each has.
+fn read_lists<'a>(fields: &mut Fields<'a>) -> (&'a [u8], &'a [u8]) {
+    let access_count = usize::from(fields.read_u8());
+    let default_count = usize::from(fields.read_u8());
+    let access = fields.bytes(ENTRY_SIZE * access_count);
+    let default = fields.bytes(ENTRY_SIZE * default_count);
+    fields.test_list(access, 0);
+    if default_count > 0 {
+        fields.test_list(default, 3);
+    }
+    (access, default)
+}
+
+impl Fields<'_> {
+    /// Tests a list, which has so many entries of the owner, the group and others.
+    fn test_list(&mut self, list: &[u8], objects: usize) {
+        if let Err(misspelling) = check_list(list, objects) {
+            self.test(false, misspelling);
+        }
+    }
+}
+
+fn check_list(list: &[u8], objects: usize) -> Result<(), Misspelling> {
+    Sorts::of(list)?.check(objects)
 }

@@ -2,51 +2,78 @@
 
 use crate::payload::Misspelling;
 
-/// What is left of some bytes.
-#[derive(Drop)]
+/// What is left of some bytes, and the first thing that they lacked: once they lack something, what is read
+/// from them means nothing, and `finish` tells.
+#[derive(Clone, Copy)]
 pub(crate) struct Fields<'a> {
     rest: &'a [u8],
+    lacked: Option<Misspelling>,
 }
 
 impl<'a> Fields<'a> {
     pub fn new(rest: &'a [u8]) -> Self {
-        Fields { rest }
+        Fields { rest, lacked: None }
     }
 
     pub fn rest(&self) -> &'a [u8] {
         self.rest
     }
 
-    pub fn bytes(&mut self, count: usize) -> Result<&'a [u8], Misspelling> {
-        let Some((front, rest)) = self.rest.split_at_checked(count) else {
-            return Err(Misspelling::CutOff);
-        };
-        self.rest = rest;
-        Ok(front)
+    /// What the bytes lacked first, if they lacked anything.
+    pub fn finish(&self) -> Result<(), Misspelling> {
+        match self.lacked {
+            Some(misspelling) => Err(misspelling),
+            None => Ok(()),
+        }
     }
 
-    fn array<const N: usize>(&mut self) -> Result<[u8; N], Misspelling> {
-        let Some((front, rest)) = self.rest.split_first_chunk::<N>() else {
-            return Err(Misspelling::CutOff);
-        };
-        self.rest = rest;
-        Ok(*front)
+    /// A test of what was read.
+    pub fn test(&mut self, holds: bool, misspelling: Misspelling) {
+        if !holds {
+            self.lacked = self.lacked.or(Some(misspelling));
+        }
     }
 
-    pub fn read_u8(&mut self) -> Result<u8, Misspelling> {
-        let [byte] = self.array::<1>()?;
-        Ok(byte)
+    pub fn bytes(&mut self, count: usize) -> &'a [u8] {
+        match self.rest.split_at_checked(count) {
+            Some((front, rest)) => {
+                self.rest = rest;
+                front
+            }
+            None => {
+                self.test(false, Misspelling::CutOff);
+                &[]
+            }
+        }
     }
 
-    pub fn read_u16(&mut self) -> Result<u16, Misspelling> {
-        Ok(u16::from_le_bytes(self.array::<2>()?))
+    fn array<const N: usize>(&mut self) -> [u8; N] {
+        match self.rest.split_first_chunk::<N>() {
+            Some((front, rest)) => {
+                self.rest = rest;
+                *front
+            }
+            None => {
+                self.test(false, Misspelling::CutOff);
+                [0; N]
+            }
+        }
     }
 
-    pub fn read_u32(&mut self) -> Result<u32, Misspelling> {
-        Ok(u32::from_le_bytes(self.array::<4>()?))
+    pub fn read_u8(&mut self) -> u8 {
+        let [byte] = self.array::<1>();
+        byte
     }
 
-    pub fn read_u64(&mut self) -> Result<u64, Misspelling> {
-        Ok(u64::from_le_bytes(self.array::<8>()?))
+    pub fn read_u16(&mut self) -> u16 {
+        u16::from_le_bytes(self.array::<2>())
+    }
+
+    pub fn read_u32(&mut self) -> u32 {
+        u32::from_le_bytes(self.array::<4>())
+    }
+
+    pub fn read_u64(&mut self) -> u64 {
+        u64::from_le_bytes(self.array::<8>())
     }
 }

@@ -81,36 +81,35 @@ impl<'a> Records<'a> {
             return Err(Ending::Last);
         };
         let mut fields = Fields::new(body);
-        if fields.read_u64()? != self.epoch {
+        let epoch = fields.read_u64();
+        fields.finish()?;
+        if epoch != self.epoch {
             return Err(Ending::OtherEpoch);
         }
-        Ok(self.payload_of(&mut fields)?)
+        let payload = self.payload_of(&mut fields);
+        fields.finish()?;
+        Ok(payload)
     }
 
     /// The payload of a body, whose epoch was read.
-    fn payload_of(&self, fields: &mut Fields<'a>) -> Result<&'a [u8], Misspelling> {
-        let sequence = fields.read_u32()?;
-        let size = fields.read_u32()? as usize;
-        if sequence != self.count {
-            return Err(Misspelling::Sequence);
-        }
-        if size == 0 {
-            return Err(Misspelling::NoPayload);
-        }
-        if size > LONGEST {
-            return Err(Misspelling::LongPayload);
-        }
+    fn payload_of(&self, fields: &mut Fields<'a>) -> &'a [u8] {
+        let sequence = fields.read_u32();
+        let size = fields.read_u32() as usize;
+        fields.test(sequence == self.count, Misspelling::Sequence);
+        fields.test(size != 0, Misspelling::NoPayload);
+        fields.test(size <= LONGEST, Misspelling::LongPayload);
         let sectors = sectors_of(size);
-        if self.place.saturating_add(sectors) > LAST_GATE + 1 {
-            return Err(Misspelling::NoRoom);
-        }
-        let payload = fields.bytes(size)?;
-        let padding = fields.bytes((SECTOR * sectors).saturating_sub(HEAD + size))?;
-        if padding.iter().any(|byte| *byte != 0) {
-            return Err(Misspelling::Padding);
-        }
-        Ok(payload)
+        let end = self.place.saturating_add(sectors);
+        fields.test(end <= LAST_GATE + 1, Misspelling::NoRoom);
+        let payload = fields.bytes(size);
+        let padding = fields.bytes(SECTOR.saturating_mul(sectors).saturating_sub(HEAD + size));
+        fields.test(are_zeros(padding), Misspelling::Padding);
+        payload
     }
+}
+
+fn are_zeros(bytes: &[u8]) -> bool {
+    bytes.iter().all(|byte| *byte == 0)
 }
 
 /// The sectors of a body whose payload has so many bytes, which are no more than the longest's.

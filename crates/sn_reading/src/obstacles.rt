@@ -108,6 +108,19 @@ impl<'a> Tree<'a> {
         }
     }
 
+    /// A name may go.
+    fn may_lose(&self, link: &Link<'_>) -> Result<(), Obstacle> {
+        self.may_go(&self.named(link)?)
+    }
+
+    /// A node may get these attributes.
+    fn may_set(&self, number: u16, attributes: &Attributes<'_>) -> Result<(), Obstacle> {
+        match self.node(number) {
+            Some(node) => fits(node.kind, attributes),
+            None => Err(Obstacle::NoNode),
+        }
+    }
+
     /// A name may be moved. Two names of one object always may.
     fn may_move(&self, from: &Link<'_>, to: &Link<'_>) -> Result<(), Obstacle> {
         let moved = self.named(from)?;
@@ -140,32 +153,22 @@ impl<'a> Tree<'a> {
                 kind,
                 attributes,
             } => {
-                self.is_free(*number)?;
-                self.is_vacant(link)?;
-                fits(*kind, attributes)
+                let may_be = self.is_free(*number).and(self.is_vacant(link));
+                may_be.and(fits(*kind, attributes))
             }
-            Change::AddLink { link, number } => {
-                self.file(*number)?;
-                self.is_vacant(link)
-            }
-            Change::Remove { link } => self.may_go(&self.named(link)?),
+            Change::AddLink { link, number } => self.file(*number).and(self.is_vacant(link)),
+            Change::Remove { link } => self.may_lose(link),
             Change::Rename { from, to } => self.may_move(from, to),
             Change::Write {
                 number,
                 offset,
                 count,
             } => {
-                self.file(*number)?;
-                is_within(offset.saturating_add(*count))
+                let end = offset.saturating_add(*count);
+                self.file(*number).and(is_within(end))
             }
-            Change::SetSize { number, size } => {
-                self.file(*number)?;
-                is_within(*size)
-            }
-            Change::SetAttributes { number, attributes } => match self.node(*number) {
-                Some(node) => fits(node.kind, attributes),
-                None => Err(Obstacle::NoNode),
-            },
+            Change::SetSize { number, size } => self.file(*number).and(is_within(*size)),
+            Change::SetAttributes { number, attributes } => self.may_set(*number, attributes),
         }
     }
 }

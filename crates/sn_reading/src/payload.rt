@@ -83,64 +83,69 @@ pub enum ChangeKind {
     SetAttributes,
 }
 
-fn read_name<'a>(fields: &mut Fields<'a>) -> Result<&'a [u8], Misspelling> {
-    let count = fields.read_u8()?;
-    let name = fields.bytes(usize::from(count))?;
-    let is_printable = name
-        .iter()
-        .all(|byte| 0x21 <= *byte && *byte <= 0x7e && *byte != b'/');
-    if !is_printable || matches!(name, [] | b"." | b"..") {
-        return Err(Misspelling::Name);
-    }
-    Ok(name)
+fn read_name<'a>(fields: &mut Fields<'a>) -> &'a [u8] {
+    let count = fields.read_u8();
+    let name = fields.bytes(usize::from(count));
+    fields.test(is_name(name), Misspelling::Name);
+    name
 }
 
-fn read_kind(fields: &mut Fields<'_>) -> Result<Kind, Misspelling> {
-    match fields.read_u8()? {
-        1 => Ok(Kind::File),
-        2 => Ok(Kind::Directory),
-        _ => Err(Misspelling::Kind),
+fn is_name(name: &[u8]) -> bool {
+    !matches!(name, [] | b"." | b"..")
+        && name
+            .iter()
+            .all(|byte| 0x21 <= *byte && *byte <= 0x7e && *byte != b'/')
+}
+
+fn read_kind(fields: &mut Fields<'_>) -> Kind {
+    match fields.read_u8() {
+        1 => Kind::File,
+        2 => Kind::Directory,
+        _ => {
+            fields.test(false, Misspelling::Kind);
+            Kind::File
+        }
     }
 }
 
-fn read_make<'a>(fields: &mut Fields<'a>) -> Result<Change<'a>, Misspelling> {
-    let directory = fields.read_u16()?;
-    let number = fields.read_u16()?;
-    let kind = read_kind(fields)?;
-    let attributes = Attributes::read(fields)?;
-    let name = read_name(fields)?;
-    Ok(Change::Make {
+fn read_make<'a>(fields: &mut Fields<'a>) -> Change<'a> {
+    let directory = fields.read_u16();
+    let number = fields.read_u16();
+    let kind = read_kind(fields);
+    let attributes = Attributes::read(fields);
+    let name = read_name(fields);
+    Change::Make {
         link: Link { directory, name },
         number,
         kind,
         attributes,
-    })
+    }
 }
 
-fn read_link<'a>(fields: &mut Fields<'a>) -> Result<Change<'a>, Misspelling> {
-    let directory = fields.read_u16()?;
-    let number = fields.read_u16()?;
-    let name = read_name(fields)?;
-    Ok(Change::AddLink {
+fn read_link<'a>(fields: &mut Fields<'a>) -> Change<'a> {
+    let directory = fields.read_u16();
+    let number = fields.read_u16();
+    let name = read_name(fields);
+    Change::AddLink {
         link: Link { directory, name },
         number,
-    })
+    }
 }
 
-fn read_remove<'a>(fields: &mut Fields<'a>) -> Result<Change<'a>, Misspelling> {
-    let directory = fields.read_u16()?;
-    let name = read_name(fields)?;
-    Ok(Change::Remove {
+fn read_remove<'a>(fields: &mut Fields<'a>) -> Change<'a> {
+    let directory = fields.read_u16();
+    let name = read_name(fields);
+    Change::Remove {
         link: Link { directory, name },
-    })
+    }
 }
 
-fn read_rename<'a>(fields: &mut Fields<'a>) -> Result<Change<'a>, Misspelling> {
-    let old_directory = fields.read_u16()?;
-    let new_directory = fields.read_u16()?;
-    let old_name = read_name(fields)?;
-    let new_name = read_name(fields)?;
-    Ok(Change::Rename {
+fn read_rename<'a>(fields: &mut Fields<'a>) -> Change<'a> {
+    let old_directory = fields.read_u16();
+    let new_directory = fields.read_u16();
+    let old_name = read_name(fields);
+    let new_name = read_name(fields);
+    Change::Rename {
         from: Link {
             directory: old_directory,
             name: old_name,
@@ -149,53 +154,59 @@ fn read_rename<'a>(fields: &mut Fields<'a>) -> Result<Change<'a>, Misspelling> {
             directory: new_directory,
             name: new_name,
         },
-    })
+    }
 }
 
-fn read_write<'a>(fields: &mut Fields<'a>) -> Result<Change<'a>, Misspelling> {
-    let number = fields.read_u16()?;
-    let offset = fields.read_u64()?;
-    let written = fields.bytes(fields.rest().len())?;
-    if written.is_empty() {
-        return Err(Misspelling::NoBytes);
-    }
-    Ok(Change::Write {
+fn read_write<'a>(fields: &mut Fields<'a>) -> Change<'a> {
+    let number = fields.read_u16();
+    let offset = fields.read_u64();
+    let written = fields.bytes(fields.rest().len());
+    fields.test(!written.is_empty(), Misspelling::NoBytes);
+    Change::Write {
         number,
         offset,
         count: written.len() as u64,
-    })
+    }
 }
 
-fn read_size<'a>(fields: &mut Fields<'a>) -> Result<Change<'a>, Misspelling> {
-    let number = fields.read_u16()?;
-    let size = fields.read_u64()?;
-    Ok(Change::SetSize { number, size })
+fn read_size<'a>(fields: &mut Fields<'a>) -> Change<'a> {
+    let number = fields.read_u16();
+    let size = fields.read_u64();
+    Change::SetSize { number, size }
 }
 
-fn read_attributes<'a>(fields: &mut Fields<'a>) -> Result<Change<'a>, Misspelling> {
-    let number = fields.read_u16()?;
-    let attributes = Attributes::read(fields)?;
-    Ok(Change::SetAttributes { number, attributes })
+fn read_attributes<'a>(fields: &mut Fields<'a>) -> Change<'a> {
+    let number = fields.read_u16();
+    let attributes = Attributes::read(fields);
+    Change::SetAttributes { number, attributes }
+}
+
+/// The change of a kind, or none where no change has the number.
+fn read_change<'a>(number: u8, fields: &mut Fields<'a>) -> Option<Change<'a>> {
+    match number {
+        1 => Some(read_make(fields)),
+        2 => Some(read_link(fields)),
+        3 => Some(read_remove(fields)),
+        4 => Some(read_rename(fields)),
+        5 => Some(read_write(fields)),
+        6 => Some(read_size(fields)),
+        7 => Some(read_attributes(fields)),
+        _ => None,
+    }
 }
 
 impl<'a> Change<'a> {
     /// The change that all of the bytes spell.
     pub fn read(payload: &'a [u8]) -> Result<Change<'a>, Misspelling> {
         let mut fields = Fields::new(payload);
-        let change = match fields.read_u8()? {
-            1 => read_make(&mut fields)?,
-            2 => read_link(&mut fields)?,
-            3 => read_remove(&mut fields)?,
-            4 => read_rename(&mut fields)?,
-            5 => read_write(&mut fields)?,
-            6 => read_size(&mut fields)?,
-            7 => read_attributes(&mut fields)?,
-            _ => return Err(Misspelling::UnknownChange),
-        };
-        if !fields.rest().is_empty() {
-            return Err(Misspelling::BytesLeft);
+        let number = fields.read_u8();
+        let change = read_change(number, &mut fields);
+        fields.finish()?;
+        match change {
+            None => Err(Misspelling::UnknownChange),
+            Some(_) if !fields.rest().is_empty() => Err(Misspelling::BytesLeft),
+            Some(change) => Ok(change),
         }
-        Ok(change)
     }
 
     pub fn kind(&self) -> ChangeKind {

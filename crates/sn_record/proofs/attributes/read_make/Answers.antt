@@ -1,4 +1,4 @@
-use Rattle.std.proofs.Common.{◌≡◌, ◌∙◌, ◌++◌, ◌∷◌, ℕ, List, refl, append_assoc}
+use Rattle.std.proofs.Common.{◌≡◌, ◌∙◌, ◌++◌, ◌∷◌, ℕ, List, refl, sym, ap, append_assoc, rules}
 use Rattle.sn_limits.specs.declared.kind.Kind.{Kind}
 use Rattle.sn_layout.specs.Bytes.{number_bytes}
 use Rattle.sn_layout.proofs.Fields.{some_some}
@@ -37,3 +37,16 @@ returns-clause-only c = λ directory number kind o name rest fits e.
     let same-ownership = some_some c.read_ownership.result c.in_ok-ownership.ownership o c.in_ok-ownership.was four.0 in
     let same-name = c.new-name.ensures ∙ read.1 in
     (rw (same-directory, same-number, same-kind, same-ownership, same-name) refl, read.2)
+
+pub returns-clause-found : goal.returns-clause-found
+returns-clause-found c =
+    let directory = c.in_ok-directory.directory in
+    let number = c.in_ok-number.number in
+    let o = c.in_ok-ownership.ownership in
+    let rest = c.read_name.new.reader in
+    let name : c.read_ownership.new.reader ≡ name_bytes c.new-name.result ++ rest = c.in_ok-read_name.ensures.found.1 ∙ ap (λ (n : List ℕ). name_bytes n ++ rest) (sym c.new-name.ensures) in
+    let owned : c.read_kind.new.reader ≡ ownership_bytes o ++ (name_bytes c.new-name.result ++ rest) = c.in_ok-ownership.ensures.found.1 ∙ ap (λ (r : List ℕ). ownership_bytes o ++ r) name in
+    let kind = c.in_ok-kind.ensures.found ∙ ap (λ (r : List ℕ). kind_number c.in_ok-kind.kind ∷ r) owned in
+    let numbered = c.in_ok-number.ensures.found ∙ ap (λ (r : List ℕ). number_bytes 2 number ++ r) kind in
+    let all = c.in_ok-directory.ensures.found ∙ ap (λ (r : List ℕ). number_bytes 2 directory ++ r) numbered in
+    (search rules, ap (λ (l : List ℕ). 1 ∷ l) (all ∙ sym (flat directory number c.in_ok-kind.kind o c.new-name.result rest)))

@@ -1,0 +1,32 @@
+use Rattle.std.proofs.Common.{arith, rules}
+use Rattle.std.proofs.lemmas.Grind.{common_steps}
+use Rattle.sn_model.specs.Calls.{mkdir_outcome}
+use Rattle.sn_core_decide.proofs.decisions.mkdir.Goals as goal
+
+pub returns-in_err-walked-clause-exact : goal.returns-in_err-walked-clause-exact
+unfolding mkdir_outcome
+returns-in_err-walked-clause-exact g c = search rules
+
+pub returns-in_err-parent-clause-exact : goal.returns-in_err-parent-clause-exact
+unfolding mkdir_outcome
+returns-in_err-parent-clause-exact g c = search rules
+
+pub returns-in_err-directory-clause-exact : goal.returns-in_err-directory-clause-exact
+unfolding mkdir_outcome
+returns-in_err-directory-clause-exact g c = search rules
+
+pub returns-in_err-attributes-clause-exact : goal.returns-in_err-attributes-clause-exact
+unfolding mkdir_outcome
+returns-in_err-attributes-clause-exact g c = search rules
+
+pub returns-in-Err-clause-exact : goal.returns-in-Err-clause-exact
+unfolding mkdir_outcome
+returns-in-Err-clause-exact g c = search rules
+
+pub returns-clause-exact : goal.returns-clause-exact
+unfolding mkdir_outcome
+returns-clause-exact g c = search rules
+
+pub returns-in_err-has_room-clause-exact : goal.returns-in_err-has_room-clause-exact
+unfolding mkdir_outcome
+returns-in_err-has_room-clause-exact g c = grind (arith, common_steps)

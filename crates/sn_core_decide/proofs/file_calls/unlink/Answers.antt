@@ -1,0 +1,31 @@
+use Rattle.std.proofs.Common.{rules}
+use Rattle.sn_model.specs.FileCalls.{unlink_outcome}
+use Rattle.sn_core_decide.proofs.file_calls.unlink.Goals as goal
+
+pub returns-in_err-walked-clause-exact : goal.returns-in_err-walked-clause-exact
+unfolding unlink_outcome
+returns-in_err-walked-clause-exact g c = search rules
+
+pub returns-in_err-no_directory-clause-exact : goal.returns-in_err-no_directory-clause-exact
+unfolding unlink_outcome
+returns-in_err-no_directory-clause-exact g c = search rules
+
+pub returns-in_err-live-clause-exact : goal.returns-in_err-live-clause-exact
+unfolding unlink_outcome
+returns-in_err-live-clause-exact g c = search rules
+
+pub returns-in_err-parent-clause-exact : goal.returns-in_err-parent-clause-exact
+unfolding unlink_outcome
+returns-in_err-parent-clause-exact g c = search rules
+
+pub returns-in_err-attributes-clause-exact : goal.returns-in_err-attributes-clause-exact
+unfolding unlink_outcome
+returns-in_err-attributes-clause-exact g c = search rules
+
+pub returns-in_err-sticky-clause-exact : goal.returns-in_err-sticky-clause-exact
+unfolding unlink_outcome
+returns-in_err-sticky-clause-exact g c = search rules
+
+pub returns-clause-exact : goal.returns-clause-exact
+unfolding unlink_outcome
+returns-clause-exact g c = search rules
