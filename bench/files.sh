@@ -10,10 +10,10 @@ set -eu
 top=$(cd "$(dirname "$0")/.." && pwd)
 work=$(mktemp -d)
 trap 'rm -rf "$work"' EXIT
-(cd "$top/crates/sn_tests_run" && rt run -- data > "$work/log" 2>&1) || { tail -n 20 "$work/log"; exit 1; }
+"$top/bench/program.py" measure_runs
 
 MALLOC_TRIM_THRESHOLD_=4294967296 MALLOC_TOP_PAD_=268435456 MALLOC_MMAP_THRESHOLD_=33554432 \
-    "$top/crates/sn_tests_run/out/sn_tests_run" files > "$work/times"
+    "$top/bench/out/measure_runs" files > "$work/times"
 awk '{ t[$1, $2] = $3 } END {
     once = (t["writes", 200] - t["writes", 0]) / 200
     copy = t["copies", 400] / 400

@@ -7,9 +7,9 @@ set -eu
 top=$(cd "$(dirname "$0")/.." && pwd)
 work=$(mktemp -d)
 trap 'rm -rf "$work"' EXIT
-(cd "$top/crates/sn_tests_run" && rt run -- data > "$work/log" 2>&1) || { tail -n 20 "$work/log"; exit 1; }
+"$top/bench/program.py" measure_runs
 
-"$top/crates/sn_tests_run/out/sn_tests_run" names > "$work/times"
+"$top/bench/out/measure_runs" names > "$work/times"
 awk '{ t[$1, $2] = $3 } END {
     renamed = t["renamed", 10000] - t["made", 10000]
     printf "a rename: %.2f us, %.2f of one among 100 names\n", renamed / 1e5, renamed / (t["renamed", 100] - t["made", 100])

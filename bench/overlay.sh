@@ -1,6 +1,6 @@
 #!/bin/bash
-# Times changes through overlays, and look-ups through two of them, by runs of the test programs of overlays
-# and of runs. Run by hand.
+# Times changes through overlays, and look-ups through two of them, by runs of the test program of what stands in
+# memory. Run by hand.
 #
 # Prints the time of 1,000 makes of a directory, each laid over an overlay of those before, beside 1,000 mkdir in
 # the tree in memory, where the program also walks and checks access; and the time of 10,000 look-ups of a name
@@ -10,8 +10,8 @@ set -eu
 top=$(cd "$(dirname "$0")/.." && pwd)
 work=$(mktemp -d)
 trap 'rm -rf "$work"' EXIT
-(cd "$top/crates/sn_tests_overlay" && rt run -- data > "$work/log" 2>&1) || { tail -n 20 "$work/log"; exit 1; }
-(cd "$top/crates/sn_tests_run" && rt run -- data > "$work/log" 2>&1) || { tail -n 20 "$work/log"; exit 1; }
+(cd "$top/crates/sn_tests_memory" && rt run -- data > "$work/log" 2>&1) || { tail -n 20 "$work/log"; exit 1; }
+"$top/bench/program.py" measure_runs
 
 python3 - "$top" "$work" <<'P'
 import subprocess
@@ -20,8 +20,8 @@ import time
 from pathlib import Path
 
 top, work = Path(sys.argv[1]), Path(sys.argv[2])
-overlays = top / "crates/sn_tests_overlay/out/sn_tests_overlay"
-runs = top / "crates/sn_tests_run/out/sn_tests_run"
+overlays = top / "crates/sn_tests_memory/out/sn_tests_memory"
+runs = top / "bench/out/measure_runs"
 
 
 def least(*command):
@@ -37,7 +37,8 @@ def table(steps, answers):
     """The time of a table of one case over that of an empty one."""
     folder = work / "data"
     folder.mkdir(exist_ok=True)
-    (folder / "changes.txt").write_text("")
+    for name in ("file_bytes.txt", "descriptors.txt", "changes.txt"):
+        (folder / name).write_text("")
     empty = least(overlays, folder)
     (folder / "changes.txt").write_text(" ".join(steps) + " => " + " ".join(answers) + "\n")
     return least(overlays, folder) - empty

@@ -12,8 +12,8 @@ set -eu
 top=$(cd "$(dirname "$0")/.." && pwd)
 work=$(mktemp -d)
 trap 'rm -rf "$work"' EXIT
-program=$top/crates/sn_tests_run/out/sn_tests_run
-(cd "$top/crates/sn_tests_run" && rt run -- data > "$work/log" 2>&1) || { tail -n 20 "$work/log"; exit 1; }
+"$top/bench/program.py" measure_runs
+program=$top/bench/out/measure_runs
 
 "$program" time > "$work/times"
 awk '{ device[$1] = $2; memory[$1] = $3 } END {

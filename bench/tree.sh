@@ -1,6 +1,7 @@
 #!/bin/bash
-# Times block trees and directories on a device in memory, by runs of the test programs of plans and of directories.
-# Run by hand; the memory wants gcc, since it is counted by a small library that stands before the C library's malloc.
+# Times block trees and directories on a device in memory, by runs of the program `measure_plans` and of the test program
+# of directories. Run by hand; the memory wants gcc, since it is counted by a small library that stands before the C
+# library's malloc.
 #
 # Prints the time of reading 64 MiB through lent blocks, in parts of 64 KiB, beside a copy of as many bytes; of a plan
 # of one dirty block in files of 64 KiB, of which it makes one new block, and of 68 KiB and 64 MiB, of which it makes an
@@ -12,10 +13,9 @@ set -eu
 top=$(cd "$(dirname "$0")/.." && pwd)
 work=$(mktemp -d)
 trap 'rm -rf "$work"' EXIT
-for crate in sn_tests_plans sn_tests_dirs; do
-    (cd "$top/crates/$crate" && rt run -- data > "$work/log" 2>&1) || { tail -n 20 "$work/log"; exit 1; }
-done
-plans=$top/crates/sn_tests_plans/out/sn_tests_plans
+(cd "$top/crates/sn_tests_dirs" && rt run -- data > "$work/log" 2>&1) || { tail -n 20 "$work/log"; exit 1; }
+"$top/bench/program.py" measure_plans
+plans=$top/bench/out/measure_plans
 
 "$plans" time > "$work/times"
 awk '{ t[$1, $2] = $3 } END {

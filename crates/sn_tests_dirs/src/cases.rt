@@ -4,7 +4,7 @@ use crate::disk::{BLOCKS, Disk, push_record};
 use anyhow::{Context, Result, bail};
 use sn_block::Blocks;
 use sn_device::MemDevice;
-use sn_dir::{count, is_empty, lookup, names};
+use sn_dir::{ListedName, count, is_empty, lookup, names};
 use sn_layout::BlockTree;
 use sn_table::Case;
 use sn_tree_read::TreeFault;
@@ -17,24 +17,55 @@ const LONG: usize = 17;
 /// The answers of `count`, `is_empty` and `names`, and of `lookup` for the names of the first word. The
 /// other words are the blocks of the directory.
 pub fn answers(alloc: Global, case: Case<'_>) -> Result<String> {
+    let mut text = String::new(alloc);
+    push_answers(alloc, case, &mut text)?;
+    Ok(text)
+}
+
+fn push_answers(alloc: Global, case: Case<'_>, text: &mut String) -> Result<()> {
+    let asked = case.word(0)?;
+    let mut disk = disk_of(alloc, case)?;
+    let tree = disk.tree();
+    let mut blocks = disk.blocks(alloc)?;
+    push_told(alloc, &mut blocks, &tree, text)?;
+    push_all_found(alloc, &mut blocks, &tree, asked, text)
+}
+
+/// A directory of the blocks of a case's words, all but the first.
+pub fn disk_of(alloc: Global, case: Case<'_>) -> Result<Disk> {
     let mut disk = Disk::new(alloc)?;
     for word in case.text().split_ascii_whitespace().skip(1) {
         push_word(alloc, &mut disk, word)?;
     }
-    let tree = disk.tree();
-    let mut blocks = disk.blocks(alloc)?;
-    let mut text = String::new(alloc);
-    push_count(&mut blocks, &tree, &mut text)?;
-    push_names(alloc, &mut blocks, &tree, &mut text)?;
-    for name in case.word(0)?.split(',') {
-        let name = name_of(alloc, name)?;
-        push_found(&mut blocks, &tree, name.as_slice(), &mut text)?;
+    Ok(disk)
+}
+
+fn push_told(
+    alloc: Global,
+    blocks: &mut Blocks<MemDevice>,
+    tree: &BlockTree,
+    text: &mut String,
+) -> Result<()> {
+    push_count(blocks, tree, text)?;
+    push_names(alloc, blocks, tree, text)
+}
+
+fn push_all_found(
+    alloc: Global,
+    blocks: &mut Blocks<MemDevice>,
+    tree: &BlockTree,
+    asked: &str,
+    text: &mut String,
+) -> Result<()> {
+    for word in asked.split(',') {
+        let name = name_of(alloc, word)?;
+        push_found(blocks, tree, name.as_slice(), text)?;
     }
-    Ok(text)
+    Ok(())
 }
 
 /// Gives the directory the block of a word.
-pub fn push_word(alloc: Global, disk: &mut Disk, word: &str) -> Result<()> {
+fn push_word(alloc: Global, disk: &mut Disk, word: &str) -> Result<()> {
     match word {
         "hole" => disk.push_pointer(0)?,
         "off" => disk.push_pointer(u32::from(BLOCKS))?,
@@ -51,23 +82,30 @@ pub fn push_word(alloc: Global, disk: &mut Disk, word: &str) -> Result<()> {
 fn records_of(alloc: Global, word: &str) -> Result<Vec<u8>> {
     let mut bytes = Vec::new(alloc);
     for record in word.split('+') {
-        let (number, name) = record.split_once(':').context("no record")?;
-        let name = name_of(alloc, name)?;
-        push_record(&mut bytes, number.parse()?, name.as_slice())?;
+        push_record_of(alloc, &mut bytes, record)?;
     }
     Ok(bytes)
 }
 
+fn push_record_of(alloc: Global, bytes: &mut Vec<u8>, record: &str) -> Result<()> {
+    let (number, name) = record.split_once(':').context("no record")?;
+    let number = number.parse()?;
+    let name = name_of(alloc, name)?;
+    push_record(bytes, number, name.as_slice())
+}
+
 /// The name of a word, in which `a*255` is 255 letters.
 pub fn name_of(alloc: Global, word: &str) -> Result<Vec<u8>> {
-    let mut name = Vec::new(alloc);
     match word.split_once('*') {
-        Some((letter, count)) => {
-            for _ in 0..count.parse::<u16>()? {
-                name.extend_from_slice(letter.as_bytes())?;
-            }
-        }
-        None => name.extend_from_slice(word.as_bytes())?,
+        Some((letter, count)) => repeated(alloc, letter.as_bytes(), count.parse()?),
+        None => Ok(word.as_bytes().to_vec(alloc)?),
+    }
+}
+
+fn repeated(alloc: Global, letter: &[u8], count: u16) -> Result<Vec<u8>> {
+    let mut name = Vec::new(alloc);
+    for _ in 0..count {
+        name.extend_from_slice(letter)?;
     }
     Ok(name)
 }
@@ -86,12 +124,16 @@ fn push_count(blocks: &mut Blocks<MemDevice>, tree: &BlockTree, text: &mut Strin
         Some(count) => write!(text, "{count}, ")?,
         None => text.push_str("damaged, ")?,
     }
-    text.push_str(match told(is_empty(blocks, tree))? {
+    text.push_str(emptiness(told(is_empty(blocks, tree))?))?;
+    Ok(())
+}
+
+fn emptiness(told: Option<bool>) -> &'static str {
+    match told {
         Some(true) => "empty:",
         Some(false) => "not empty:",
         None => "damaged:",
-    })?;
-    Ok(())
+    }
 }
 
 fn push_names(
@@ -100,11 +142,14 @@ fn push_names(
     tree: &BlockTree,
     text: &mut String,
 ) -> Result<()> {
-    let Some(all) = told(names(alloc, blocks, tree))? else {
-        text.push_str(" damaged;")?;
-        return Ok(());
-    };
-    for listed in &all {
+    match told(names(alloc, blocks, tree))? {
+        Some(all) => push_listed(all.as_slice(), text),
+        None => Ok(text.push_str(" damaged;")?),
+    }
+}
+
+fn push_listed(all: &[ListedName], text: &mut String) -> Result<()> {
+    for listed in all {
         let number = listed.number;
         text.push_str(" ")?;
         push_name(listed.name.as_bytes(), text)?;

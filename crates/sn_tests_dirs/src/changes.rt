@@ -1,7 +1,7 @@
 //! Directories that change, by a table.
 
-use crate::cases::{name_of, push_name, push_word};
-use crate::disk::Disk;
+use crate::cases::{disk_of, name_of, push_name};
+use crate::disk::{Disk, new_build};
 use anyhow::{Context, Result, bail, ensure};
 use sn_block::Blocks;
 use sn_device::MemDevice;
@@ -11,7 +11,7 @@ use sn_layout::BlockTree;
 use sn_layout_node::DirectoryBlock;
 use sn_map::Map;
 use sn_table::Case;
-use sn_tree::{Build, PlanFault};
+use sn_tree::{Build, NewBlock, PlanFault};
 use sn_tree_read::TreeFault;
 use std::alloc::Global;
 
@@ -24,35 +24,68 @@ pub struct Wanted {
 
 /// The new blocks of a directory, what was taken and released. The first word is the changes.
 pub fn answers(alloc: Global, case: Case<'_>) -> Result<String> {
-    let mut disk = Disk::new(alloc)?;
-    for word in case.text().split_ascii_whitespace().skip(1) {
-        push_word(alloc, &mut disk, word)?;
-    }
-    let tree = disk.tree();
-    let wanted = wanted_of(alloc, case.word(0)?)?;
-    let mut blocks = disk.blocks(alloc)?;
-    let mut build = disk.build(alloc, disk.map(alloc)?)?;
     let mut text = String::new(alloc);
-    match planned(alloc, &mut build, &mut blocks, &tree, wanted.as_slice())? {
-        Outcome::Tree(new) => push_planned(alloc, build, &mut blocks, &new, &mut text)?,
-        Outcome::Damaged => text.push_str("damaged")?,
-        Outcome::NoChanges => text.push_str("no changes")?,
-    }
+    push_answers(alloc, case, &mut text)?;
     Ok(text)
+}
+
+fn push_answers(alloc: Global, case: Case<'_>, text: &mut String) -> Result<()> {
+    let wanted = wanted_of(alloc, case.word(0)?)?;
+    let mut disk = disk_of(alloc, case)?;
+    push_changed(alloc, &mut disk, wanted.as_slice(), text)
+}
+
+fn push_changed(
+    alloc: Global,
+    disk: &mut Disk,
+    wanted: &[Wanted],
+    text: &mut String,
+) -> Result<()> {
+    let tree = disk.tree();
+    let mut blocks = disk.blocks(alloc)?;
+    let build = build_of(alloc, disk)?;
+    push_outcome(alloc, build, &mut blocks, &tree, wanted, text)
+}
+
+fn build_of(alloc: Global, disk: &Disk) -> Result<Build> {
+    new_build(alloc, disk.map(alloc)?)
+}
+
+fn push_outcome(
+    alloc: Global,
+    mut build: Build,
+    blocks: &mut Blocks<MemDevice>,
+    tree: &BlockTree,
+    wanted: &[Wanted],
+    text: &mut String,
+) -> Result<()> {
+    match planned(alloc, &mut build, blocks, tree, wanted)? {
+        Outcome::Tree(new) => push_planned(alloc, build, blocks, &new, text),
+        Outcome::Damaged => Ok(text.push_str("damaged")?),
+        Outcome::NoChanges => Ok(text.push_str("no changes")?),
+    }
 }
 
 fn wanted_of(alloc: Global, word: &str) -> Result<Vec<Wanted>> {
     let mut all = Vec::new(alloc);
     for change in word.split('+') {
-        let (number, name) = change.split_once(':').context("no change")?;
-        let number = match number {
-            "-" => None,
-            _ => Some(number.parse()?),
-        };
-        let name = name_of(alloc, name)?;
-        all.push(Wanted { name, number })?;
+        all.push(wanted_change(alloc, change)?)?;
     }
     Ok(all)
+}
+
+fn wanted_change(alloc: Global, change: &str) -> Result<Wanted> {
+    let (number, name) = change.split_once(':').context("no change")?;
+    let number = number_of(number)?;
+    let name = name_of(alloc, name)?;
+    Ok(Wanted { name, number })
+}
+
+fn number_of(word: &str) -> Result<Option<u16>> {
+    match word {
+        "-" => Ok(None),
+        _ => Ok(Some(word.parse()?)),
+    }
 }
 
 /// What a list of changes comes to.
@@ -71,13 +104,27 @@ pub fn planned(
     tree: &BlockTree,
     wanted: &[Wanted],
 ) -> Result<Outcome> {
-    let mut changes = Vec::with_capacity(alloc, wanted.len())?;
+    let changes = changes_of(alloc, wanted)?;
+    plan(alloc, build, blocks, tree, changes.as_slice())
+}
+
+fn changes_of<'a>(alloc: Global, wanted: &'a [Wanted]) -> Result<Vec<NameChange<'a>>> {
+    let mut changes = Vec::new(alloc);
     for it in wanted {
         let name = it.name.as_slice();
         let number = it.number;
         changes.push(NameChange { name, number })?;
     }
-    let changes = changes.as_slice();
+    Ok(changes)
+}
+
+fn plan(
+    alloc: Global,
+    build: &mut Build,
+    blocks: &mut Blocks<MemDevice>,
+    tree: &BlockTree,
+    changes: &[NameChange<'_>],
+) -> Result<Outcome> {
     if !are_changes(changes) {
         return Ok(Outcome::NoChanges);
     }
@@ -96,20 +143,35 @@ pub fn planned(
 pub fn settled(build: Build, blocks: &mut Blocks<MemDevice>) -> Result<Map> {
     let (allocator, added, released) = build.into_parts();
     let mut map = allocator.give_up();
-    for block in &added {
-        let number = block.number;
-        ensure!(
-            number < map.len() && 8 * u64::from(number) + 8 <= blocks.sectors(),
-            "no block {number}"
-        );
-        blocks.write_block(number, &block.bytes)?;
-        map.set_word(number, 1);
+    settle(&mut map, blocks, added.as_slice(), released.as_slice())?;
+    Ok(map)
+}
+
+fn settle(
+    map: &mut Map,
+    blocks: &mut Blocks<MemDevice>,
+    added: &[NewBlock],
+    released: &[u32],
+) -> Result<()> {
+    for block in added {
+        write_added(map, blocks, block)?;
     }
-    for number in &released {
+    for number in released {
         ensure!(*number < map.len(), "no block {number}");
         map.set_word(*number, 0);
     }
-    Ok(map)
+    Ok(())
+}
+
+fn write_added(map: &mut Map, blocks: &mut Blocks<MemDevice>, block: &NewBlock) -> Result<()> {
+    let number = block.number;
+    ensure!(
+        number < map.len() && 8 * u64::from(number) + 8 <= blocks.sectors(),
+        "no block {number}"
+    );
+    blocks.write_block(number, &block.bytes)?;
+    map.set_word(number, 1);
+    Ok(())
 }
 
 fn push_planned(
@@ -119,17 +181,27 @@ fn push_planned(
     tree: &BlockTree,
     text: &mut String,
 ) -> Result<()> {
-    let mut taken = String::new(alloc);
-    write!(taken, "; new")?;
-    for block in build.added() {
-        let number = block.number;
-        write!(taken, " {number}")?;
-    }
-    let released = build.released();
-    write!(taken, ", released {released:?}")?;
+    let taken = taken_by(alloc, &build)?;
     settled(build, blocks)?;
     push_blocks(blocks, tree, text)?;
     text.push_str(taken.as_str())?;
+    Ok(())
+}
+
+fn taken_by(alloc: Global, build: &Build) -> Result<String> {
+    let mut text = String::new(alloc);
+    push_taken(build, &mut text)?;
+    Ok(text)
+}
+
+fn push_taken(build: &Build, text: &mut String) -> Result<()> {
+    text.push_str("; new")?;
+    for block in build.added() {
+        let number = block.number;
+        write!(text, " {number}")?;
+    }
+    let released = build.released();
+    write!(text, ", released {released:?}")?;
     Ok(())
 }
 

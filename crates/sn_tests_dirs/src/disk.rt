@@ -91,17 +91,17 @@ impl Disk {
         Ok(map)
     }
 
-    /// A build over a map.
-    pub fn build(&self, alloc: Global, map: Map) -> Result<Build> {
-        ensure!(map.len() == u32::from(BLOCKS), "another map");
-        Ok(Build::new(alloc, BlockAllocator::new(alloc, map, FIRST)))
-    }
-
     /// The device behind a cache.
     pub fn blocks(&self, alloc: Global) -> Result<Blocks<MemDevice>> {
         let device = self.device(alloc)?;
         Ok(Blocks::new(alloc, device).map_err(AllocError::from)?)
     }
+}
+
+/// A build over a map.
+pub fn new_build(alloc: Global, map: Map) -> Result<Build> {
+    ensure!(map.len() == u32::from(BLOCKS), "another map");
+    Ok(Build::new(alloc, BlockAllocator::new(alloc, map, FIRST)))
 }
 
 /// Writes bytes at a place of a block, as far as the disk goes.

@@ -45,45 +45,66 @@ fn letter(random: &mut Pcg32) -> u8 {
 /// A name that no other number below 676 is drawn with. None begins with a lowercase letter.
 pub fn draw(alloc: Global, random: &mut Pcg32, number: u32) -> Result<Drawn> {
     let mut name = Vec::new(alloc);
-    name.push(letter(random))?;
-    name.push(b'a' + (number / 26 % 26) as u8)?;
-    name.push(b'a' + (number % 26) as u8)?;
-    let more = if random.next_u32() % 4 == 0 {
-        random.next_u32() % 253
-    } else {
-        random.next_u32() % 9
-    };
-    for _ in 0..more {
-        name.push(letter(random))?;
-    }
+    push_drawn(&mut name, random, number)?;
     Ok(Drawn {
         name,
         number: (2 + random.next_u32() % 65_534) as u16,
     })
 }
 
+fn push_drawn(name: &mut Vec<u8>, random: &mut Pcg32, number: u32) -> Result<()> {
+    name.push(letter(random))?;
+    name.push(b'a' + (number / 26 % 26) as u8)?;
+    name.push(b'a' + (number % 26) as u8)?;
+    for _ in 0..letters_more(random) {
+        name.push(letter(random))?;
+    }
+    Ok(())
+}
+
+fn letters_more(random: &mut Pcg32) -> u32 {
+    if random.next_u32() % 4 == 0 {
+        random.next_u32() % 253
+    } else {
+        random.next_u32() % 9
+    }
+}
+
 /// The names of a directory, which are put into its blocks in turn. Now and then a block is left early, or
 /// stays empty.
 pub fn fill(alloc: Global, random: &mut Pcg32, disk: &mut Disk) -> Result<Vec<Drawn>> {
     let mut all = Vec::new(alloc);
+    fill_blocks(alloc, random, disk, &mut all)?;
+    Ok(all)
+}
+
+fn fill_blocks(
+    alloc: Global,
+    random: &mut Pcg32,
+    disk: &mut Disk,
+    all: &mut Vec<Drawn>,
+) -> Result<()> {
     let mut block = Vec::new(alloc);
     for number in 0..random.next_u32() % NAMES {
         let drawn = draw(alloc, random, number)?;
-        if block
-            .len()
-            .saturating_add(drawn.name.len())
-            .saturating_add(3)
-            > ROOM
-            || random.next_u32() % 5 == 0
-        {
-            disk.push_block(block.as_slice())?;
-            block.clear();
-        }
-        push_record(&mut block, drawn.number, drawn.name.as_slice())?;
+        put(random, disk, &mut block, &drawn)?;
         all.push(drawn)?;
     }
     disk.push_block(block.as_slice())?;
-    Ok(all)
+    Ok(())
+}
+
+/// Puts a name into the block, or where that ends into the next one.
+fn put(random: &mut Pcg32, disk: &mut Disk, block: &mut Vec<u8>, drawn: &Drawn) -> Result<()> {
+    let size = block
+        .len()
+        .saturating_add(drawn.name.len())
+        .saturating_add(3);
+    if size > ROOM || random.next_u32() % 5 == 0 {
+        disk.push_block(block.as_slice())?;
+        block.clear();
+    }
+    push_record(block, drawn.number, drawn.name.as_slice())
 }
 
 fn directory(
@@ -97,16 +118,33 @@ fn directory(
     let all = fill(alloc, random, &mut disk)?;
     let tree = disk.tree();
     let mut blocks = disk.blocks(alloc)?;
-    let is_right = is_right(alloc, &mut blocks, &tree, all.as_slice())?;
-    listings.check(report.runtime(), is_right, &[number])?;
-    for drawn in &all {
-        let found = lookup(&mut blocks, &tree, drawn.name.as_slice())?;
+    let all = all.as_slice();
+    check(
+        report,
+        listings,
+        number,
+        is_right(alloc, &mut blocks, &tree, all)?,
+    )?;
+    find_all(report, lookups, number, (&mut blocks, &tree), all)
+}
+
+fn check(report: &Report<'_>, tally: &mut Tally, number: u32, is_right: bool) -> Result<()> {
+    tally.check(report.runtime(), is_right, &[number])?;
+    Ok(())
+}
+
+fn find_all(
+    report: &Report<'_>,
+    lookups: &mut Tally,
+    number: u32,
+    (blocks, tree): (&mut Blocks<MemDevice>, &BlockTree),
+    all: &[Drawn],
+) -> Result<()> {
+    for drawn in all {
+        let found = lookup(blocks, tree, drawn.name.as_slice())?;
         let is_right = found == Some(drawn.number);
-        lookups.check(
-            report.runtime(),
-            is_right,
-            &[number, u32::from(drawn.number)],
-        )?;
+        let case = [number, u32::from(drawn.number)];
+        lookups.check(report.runtime(), is_right, &case)?;
     }
     Ok(())
 }

@@ -61,15 +61,36 @@ fn is_set(
     blocks: &mut Blocks<MemDevice>,
     tree: &BlockTree,
 ) -> Result<bool, TreeFault> {
-    let mut build = new_build(alloc)?;
+    let is_inserted = is_inserted(alloc, blocks, tree)?;
+    let is_removed = is_removed(alloc, blocks, tree)?;
+    Ok(is_inserted && is_removed)
+}
+
+fn is_inserted(
+    alloc: Global,
+    blocks: &mut Blocks<MemDevice>,
+    tree: &BlockTree,
+) -> Result<bool, TreeFault> {
     if !tree.size.is_multiple_of(4096) || tree.size > 1 << 40 {
         return Ok(false);
     }
+    let mut build = new_build(alloc)?;
     let set = read_fault(insert(alloc, &mut build, blocks, tree, b"a", 9))?;
     let is_one = build.added().len() == 1 && build.released().len() == 1;
+    Ok(is_one && set.size == tree.size)
+}
+
+fn is_removed(
+    alloc: Global,
+    blocks: &mut Blocks<MemDevice>,
+    tree: &BlockTree,
+) -> Result<bool, TreeFault> {
+    if !tree.size.is_multiple_of(4096) || tree.size > 1 << 40 {
+        return Ok(false);
+    }
     let mut build = new_build(alloc)?;
     let gone = read_fault(remove(alloc, &mut build, blocks, tree, b"a"))?;
-    Ok(is_one && set.size == tree.size && gone.size == tree.size)
+    Ok(gone.size == tree.size)
 }
 
 fn new_build(alloc: Global) -> Result<Build, AllocError> {
@@ -98,14 +119,25 @@ fn answer(
     }
 }
 
+/// A directory of two blocks, whose one name is in the second one.
+fn small_disk(alloc: Global) -> Result<Disk> {
+    let mut disk = Disk::new(alloc)?;
+    disk.push_block(&[])?;
+    push_only_name(alloc, &mut disk)?;
+    Ok(disk)
+}
+
+fn push_only_name(alloc: Global, disk: &mut Disk) -> Result<()> {
+    let mut record = Vec::new(alloc);
+    push_record(&mut record, 2, b"a")?;
+    disk.push_block(record.as_slice())?;
+    Ok(())
+}
+
 /// A read that fails is told, and the next call finds what is there.
 fn reads(report: &Report<'_>) -> Result<Tally> {
     let alloc = report.alloc();
-    let mut disk = Disk::new(alloc)?;
-    let mut record = Vec::new(alloc);
-    push_record(&mut record, 2, b"a")?;
-    disk.push_block(&[])?;
-    disk.push_block(record.as_slice())?;
+    let mut disk = small_disk(alloc)?;
     let tree = disk.tree();
     let mut tally = Tally::new();
     for (number, call) in CALLS.iter().enumerate() {
@@ -119,12 +151,17 @@ fn reads(report: &Report<'_>) -> Result<Tally> {
 
 /// Whether a call tells that a read failed, or is right where it makes fewer, and is right from then on.
 fn is_told(alloc: Global, call: Call, read: u32, disk: &Disk, tree: &BlockTree) -> Result<bool> {
-    let mut device = disk.device(alloc)?;
-    ensure!(read > 0, "calls are counted from 1");
-    device.fail_at(u64::from(read));
-    let mut blocks = Blocks::new(alloc, device).map_err(AllocError::from)?;
+    let mut blocks = failing_at(alloc, read, disk)?;
     let first = answer(alloc, call, &mut blocks, tree)?;
     let second = answer(alloc, call, &mut blocks, tree)?;
-    let wanted = if read > READS { Some(true) } else { None };
+    let wanted = (read > READS).then_some(true);
     Ok(first == wanted && second == Some(true))
+}
+
+/// The blocks of a device of which one call fails.
+fn failing_at(alloc: Global, call: u32, disk: &Disk) -> Result<Blocks<MemDevice>> {
+    ensure!(call > 0, "calls are counted from 1");
+    let mut device = disk.device(alloc)?;
+    device.fail_at(u64::from(call));
+    Ok(Blocks::new(alloc, device).map_err(AllocError::from)?)
 }

@@ -11,10 +11,6 @@
 //! ```text
 //! rt run -- data
 //! ```
-//!
-//! With the word `large` it fills directories with as many names as one may have, or as the next word says, name
-//! by name and in one list, takes every other name out, and compares what is read with a plain list each time.
-//! It prints a line with the time of each step, and takes minutes (`large`).
 #![tactic(auto)]
 
 mod cases;
@@ -23,31 +19,12 @@ mod disk;
 mod drawn;
 mod drawn_changes;
 mod faults;
-mod large;
 
-use anyhow::{Context, Result};
-use sn_limits::Limits;
+use anyhow::Result;
 use sn_table::Report;
-use std::env;
 
 fn main(rt: HostRuntime) -> Result<()> {
-    let mut words = env::args(&rt)?.skip(1);
-    match words.next().context("no folder of tables")?.as_str() {
-        "large" => large::run(&rt, count_of(words.next())?),
-        _ => run_cases(&rt),
-    }
-}
-
-/// How many names a word says, or the most that there may be.
-fn count_of(word: Option<String>) -> Result<u32> {
-    match word {
-        Some(word) => word.parse().context(format_args!("no number: {word}")),
-        None => Ok(Limits::VERSION_1.names),
-    }
-}
-
-fn run_cases(rt: &HostRuntime) -> Result<()> {
-    let mut report = Report::new(rt)?;
+    let mut report = Report::new(&rt)?;
     report.table("directories.txt", cases::answers)?;
     report.table("changes.txt", changes::answers)?;
     drawn::run(&mut report)?;

@@ -33,20 +33,32 @@ fn push_taken(text: &mut String, taken: Result<u32, Full>) -> Result<()> {
 
 /// The blocks that are taken, and what the allocator then says of itself.
 fn takes(alloc: Global, case: Case<'_>) -> Result<String> {
-    let words = case.numbers(alloc, 1)?;
-    let first = case.number(0)?;
-    let count = case.number(2)?;
-    ensure!(words.len() < 1000, "too many words");
-    ensure!(first as usize <= words.len(), "no such block");
-    let mut allocator = BlockAllocator::new(alloc, Map::from_words(words), first);
-    allocator.reserve(count)?;
     let mut text = String::new(alloc);
-    for _ in 0..count {
-        push_taken(&mut text, take(&mut allocator)?)?;
-    }
-    push_counts(&mut text, &allocator)?;
-    push_parts(&mut text, allocator)?;
+    push_takes(alloc, case, &mut text)?;
     Ok(text)
+}
+
+fn push_takes(alloc: Global, case: Case<'_>, text: &mut String) -> Result<()> {
+    let count = case.number(2)?;
+    let mut allocator = allocator_of(alloc, case)?;
+    take_all(&mut allocator, count, text)?;
+    push_parts(text, allocator)
+}
+
+fn allocator_of(alloc: Global, case: Case<'_>) -> Result<BlockAllocator> {
+    let first = case.number(0)?;
+    let words = case.numbers(alloc, 1)?;
+    let count = words.len();
+    ensure!(count < 1000 && first as usize <= count, "no such block");
+    Ok(BlockAllocator::new(alloc, Map::from_words(words), first))
+}
+
+fn take_all(allocator: &mut BlockAllocator, count: u32, text: &mut String) -> Result<()> {
+    allocator.reserve(count)?;
+    for _ in 0..count {
+        push_taken(text, take(allocator)?)?;
+    }
+    push_counts(text, allocator)
 }
 
 fn push_counts(text: &mut String, allocator: &BlockAllocator) -> Result<()> {
@@ -68,18 +80,27 @@ fn push_parts(text: &mut String, allocator: BlockAllocator) -> Result<()> {
 /// 1 + 2 + .. + 256 = 32,896 words.
 fn whole_disk(report: &Report<'_>) -> Result<Tally> {
     let alloc = report.alloc();
-    let mut allocator = BlockAllocator::new(alloc, Map::new(alloc, 256)?, 0);
-    allocator.reserve(257)?;
     let mut tally = Tally::new();
-    for block in 0..256 {
-        let taken = take(&mut allocator)?;
-        tally.check(report.runtime(), taken == Ok(block), &[block])?;
-    }
-    let is_right = is_used_up(&mut allocator)?;
-    tally.check(report.runtime(), is_right, &[256])?;
+    let mut allocator = BlockAllocator::new(alloc, Map::new(alloc, 256)?, 0);
+    take_whole(report, &mut allocator, &mut tally)?;
     let is_free = allocator.give_up().count_free() == 256;
     tally.check(report.runtime(), is_free, &[257])?;
     Ok(tally)
+}
+
+fn take_whole(
+    report: &Report<'_>,
+    allocator: &mut BlockAllocator,
+    tally: &mut Tally,
+) -> Result<()> {
+    allocator.reserve(257)?;
+    for block in 0..256 {
+        let taken = take(allocator)?;
+        tally.check(report.runtime(), taken == Ok(block), &[block])?;
+    }
+    let is_right = is_used_up(allocator)?;
+    tally.check(report.runtime(), is_right, &[256])?;
+    Ok(())
 }
 
 fn is_used_up(allocator: &mut BlockAllocator) -> Result<bool> {
@@ -91,18 +112,19 @@ fn only_free_blocks(report: &Report<'_>) -> Result<Tally> {
     let mut tally = Tally::new();
     for size in SIZES {
         for free in [0, size.saturating_sub(1), size / 64 * 64, size] {
-            let map = taken_but(report.alloc(), size, free)?;
-            let mut allocator = BlockAllocator::new(report.alloc(), map, 0);
-            allocator.reserve(2)?;
-            let is_right = is_only_free(&mut allocator, size, free)?;
+            let is_right = is_only_free(report.alloc(), size, free)?;
             tally.check(report.runtime(), is_right, &[size, free])?;
         }
     }
     Ok(tally)
 }
 
-fn is_only_free(allocator: &mut BlockAllocator, size: u32, free: u32) -> Result<bool> {
-    let is_taken = free >= size || take(allocator)? == Ok(free);
-    let is_full = take(allocator)? == Err(Full);
+/// Whether this block, if it is there, is the one that is taken of a map that has no other.
+fn is_only_free(alloc: Global, size: u32, free: u32) -> Result<bool> {
+    let map = taken_but(alloc, size, free)?;
+    let mut allocator = BlockAllocator::new(alloc, map, 0);
+    allocator.reserve(2)?;
+    let is_taken = free >= size || take(&mut allocator)? == Ok(free);
+    let is_full = take(&mut allocator)? == Err(Full);
     Ok(is_taken && is_full && allocator.looked() == u64::from(size))
 }

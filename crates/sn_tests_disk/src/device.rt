@@ -40,28 +40,35 @@ fn fill_of(word: &str) -> Result<Fill> {
 fn device_of(alloc: Global, word: &str) -> Result<MemDevice> {
     match word.split_once('=') {
         Some(("sectors", count)) => Ok(MemDevice::new(alloc, number_of(count)?)?),
-        Some(("bytes", count)) => {
-            let bytes = vec![in alloc; 7; usize::from(count.parse::<u16>()?)]?;
-            Ok(MemDevice::from_bytes(alloc, bytes.as_slice())?)
-        }
+        Some(("bytes", count)) => device_of_bytes(alloc, count.parse()?),
         _ => bail!("no device: {word}"),
     }
 }
 
+fn device_of_bytes(alloc: Global, count: u16) -> Result<MemDevice> {
+    let bytes = vec![in alloc; 7; usize::from(count)]?;
+    Ok(MemDevice::from_bytes(alloc, bytes.as_slice())?)
+}
+
 /// What a device answers to calls, one after the other.
 fn steps(alloc: Global, case: Case<'_>) -> Result<String> {
-    let mut device = device_of(alloc, case.word(0)?)?;
     let mut text = String::new(alloc);
+    take_steps(alloc, case, &mut text)?;
+    Ok(text)
+}
+
+fn take_steps(alloc: Global, case: Case<'_>, text: &mut String) -> Result<()> {
+    let mut device = device_of(alloc, case.word(0)?)?;
     for word in case.text().split_ascii_whitespace().skip(1) {
         let (step, value) = word.split_once('=').unwrap_or((word, ""));
         if step == "crash" {
             device = device.crash(fill_of(value)?);
         } else {
-            take_step(&mut device, step, value, &mut text)?;
+            take_step(&mut device, step, value, text)?;
         }
         ensure!(!device.status().is_spent, "no memory for a call");
     }
-    Ok(text)
+    Ok(())
 }
 
 fn take_step(device: &mut MemDevice, step: &str, value: &str, text: &mut String) -> Result<()> {
@@ -173,18 +180,32 @@ fn want_of_memory(report: &Report<'_>) -> Result<Tally> {
 /// A body that was put into an empty journal is there after a crash, and sectors that are wiped are zeros.
 fn journal_cases(report: &Report<'_>) -> Result<Tally> {
     let mut tally = Tally::new();
-    let mut device = MemDevice::new(report.alloc(), 2)?;
+    let is_there = is_put(report.alloc())?;
+    tally.check(report.runtime(), is_there, &[0])?;
+    let is_wiped = is_wiped(report.alloc())?;
+    tally.check(report.runtime(), is_wiped, &[1])?;
+    Ok(tally)
+}
+
+fn is_put(alloc: Global) -> Result<bool> {
+    let mut device = MemDevice::new(alloc, 2)?;
     journal::put(&mut &mut device, &[0x22; SECTOR_SIZE])?;
-    let is_there = match device.crash(Fill::Junk).contents() {
+    Ok(match device.crash(Fill::Junk).contents() {
         [gate, body] => gate[0] == 1 && *body == [0x22; SECTOR_SIZE],
         _ => false,
-    };
-    tally.check(report.runtime(), is_there, &[0])?;
-    let mut device = MemDevice::from_bytes(report.alloc(), &[7; 3 * SECTOR_SIZE])?;
+    })
+}
+
+fn is_wiped(alloc: Global) -> Result<bool> {
+    let device = wiped(alloc)?;
+    let mut text = String::new(alloc);
+    show(&device, &mut text)?;
+    Ok(text.as_str() == "07 00 00")
+}
+
+fn wiped(alloc: Global) -> Result<MemDevice> {
+    let mut device = MemDevice::from_bytes(alloc, &[7; 3 * SECTOR_SIZE])?;
     ensure!(device.sectors() == 3, "another number of sectors");
     journal::wipe(&mut device, 1, 3)?;
-    let mut text = String::new(report.alloc());
-    show(&device, &mut text)?;
-    tally.check(report.runtime(), text.as_str() == "07 00 00", &[1])?;
-    Ok(tally)
+    Ok(device)
 }

@@ -20,16 +20,25 @@ pub fn run(report: &mut Report<'_>) -> Result<()> {
 
 /// What is left of a map of some words after calls, and what can be asked of it.
 fn steps(alloc: Global, case: Case<'_>) -> Result<String> {
+    let mut map = map_of(alloc, case)?;
+    take_steps(&mut map, case)?;
+    told(alloc, &map.try_clone()?)
+}
+
+fn map_of(alloc: Global, case: Case<'_>) -> Result<Map> {
     let words = case.numbers(alloc, 0)?;
     ensure!(words.len() < 1000, "too many words");
-    let mut map = Map::from_words(words);
+    Ok(Map::from_words(words))
+}
+
+fn take_steps(map: &mut Map, case: Case<'_>) -> Result<()> {
     for word in case.text().split_ascii_whitespace().skip(1) {
         let (step, value) = word
             .split_once('=')
             .context(format_args!("no step: {word}"))?;
-        take_step(&mut map, step, value)?;
+        take_step(map, step, value)?;
     }
-    told(alloc, &map.try_clone()?)
+    Ok(())
 }
 
 fn take_step(map: &mut Map, step: &str, value: &str) -> Result<()> {
@@ -52,14 +61,23 @@ fn pass(map: &mut Map, step: &str, bit: u32) -> Result<()> {
 
 fn take_block_step(map: &mut Map, step: &str, block: u32, value: u32) -> Result<()> {
     ensure!(block < map.len(), "no block {block}");
-    if step == "word" {
-        map.set_word(block, value);
-        return Ok(());
-    }
-    ensure!(value < 32, "no bit {value}");
     match step {
-        "set" => map.set_bit(block, value),
-        "unset" => map.unset_bit(block, value),
+        "word" => {
+            map.set_word(block, value);
+            Ok(())
+        }
+        _ => take_bit_step(map, step, block, value),
+    }
+}
+
+fn take_bit_step(map: &mut Map, step: &str, block: u32, bit: u32) -> Result<()> {
+    ensure!(
+        block < map.len() && bit < 32,
+        "no bit {bit} of block {block}"
+    );
+    match step {
+        "set" => map.set_bit(block, bit),
+        "unset" => map.unset_bit(block, bit),
         _ => bail!("no step: {step}"),
     }
     Ok(())
@@ -68,43 +86,57 @@ fn take_block_step(map: &mut Map, step: &str, block: u32, value: u32) -> Result<
 fn told(alloc: Global, map: &Map) -> Result<String> {
     let words = map.words();
     let free = map.count_free();
-    let behind = if map.is_empty() {
+    let behind = free_behind_first(map);
+    let mut text = format!(in alloc; "{words:?}, free {free}, behind the first word {behind}, ")?;
+    push_next(&mut text, map.next_free(0))?;
+    Ok(text)
+}
+
+fn free_behind_first(map: &Map) -> u32 {
+    if map.is_empty() {
         0
     } else {
         map.count_free_from(1)
-    };
-    Ok(match map.next_free(0) {
-        Some(first) => {
-            format!(in alloc;
-                "{words:?}, free {free}, behind the first word {behind}, next {first}"
-            )?
-        }
-        None => format!(in alloc; "{words:?}, free {free}, behind the first word {behind}, none")?,
-    })
+    }
+}
+
+fn push_next(text: &mut String, next: Option<u32>) -> Result<()> {
+    match next {
+        Some(first) => write!(text, "next {first}")?,
+        None => text.push_str("none")?,
+    }
+    Ok(())
 }
 
 /// Words with all bits in use, of which every seventh is 0, and the first.
 fn mixed(alloc: Global, size: u32) -> Result<Vec<u32>> {
     let mut words = Vec::new(alloc);
     for block in 0..size {
-        let is_free = block % 7 == 3;
-        words.push(if is_free {
-            0
-        } else {
-            block.wrapping_mul(2_654_435_761)
-        })?;
+        words.push(mixed_word(block))?;
     }
     Ok(words)
+}
+
+fn mixed_word(block: u32) -> u32 {
+    if block % 7 == 3 {
+        0
+    } else {
+        block.wrapping_mul(2_654_435_761)
+    }
 }
 
 /// A map of which one block is free, or none where the size is not above `free`.
 pub fn taken_but(alloc: Global, size: u32, free: u32) -> Result<Map> {
     let mut words = Vec::new(alloc);
     for block in 0..size {
-        words.push(if block == free { 0 } else { 1 << (block % 32) })?;
+        words.push(taken_word(block, free))?;
     }
     ensure!(words.len() <= 1_048_576, "too many words");
     Ok(Map::from_words(words))
+}
+
+fn taken_word(block: u32, free: u32) -> u32 {
+    if block == free { 0 } else { 1 << (block % 32) }
 }
 
 fn mixed_map(alloc: Global, size: u32) -> Result<Map> {
@@ -160,39 +192,75 @@ fn is_only_free(map: &Map, free: u32, is_there: bool) -> bool {
         && map.count_free() == u32::from(is_there)
 }
 
+/// A bit, and the word that has it alone.
+#[derive(Clone, Copy)]
+struct Bit {
+    at: u32,
+    mask: u32,
+}
+
+const BITS: [Bit; 3] = [
+    Bit { at: 1, mask: 0x2 },
+    Bit { at: 5, mask: 0x20 },
+    Bit {
+        at: 20,
+        mask: 0x10_0000,
+    },
+];
+
 /// The passes that change a bit against loops over the words.
 fn passes(report: &Report<'_>) -> Result<Tally> {
     let mut tally = Tally::new();
     for size in SIZES {
-        for (bit, mask) in [(1, 0x2), (5, 0x20), (20, 0x10_0000)] {
-            let mut map = mixed_map(report.alloc(), size)?;
-            let mut words = mixed(report.alloc(), size)?;
-            map.copy_bit0_to(bit);
-            copy_bit(words.as_mut_slice(), 1, mask);
-            let is_right = map.words() == words.as_slice();
-            tally.check(report.runtime(), is_right, &[size, 0, bit])?;
-            map.clear_bit(0);
-            clear_bit(words.as_mut_slice(), 1);
-            map.copy_bit_to_0(bit);
-            copy_bit(words.as_mut_slice(), mask, 1);
-            let is_right = map.words() == words.as_slice();
-            tally.check(report.runtime(), is_right, &[size, bit, 0])?;
-            map.clear_bit(bit);
-            clear_bit(words.as_mut_slice(), mask);
-            let is_right = map.words() == words.as_slice();
-            tally.check(report.runtime(), is_right, &[size, bit])?;
+        for bit in BITS {
+            passes_of(report, &mut tally, size, bit)?;
         }
     }
     Ok(tally)
 }
 
+fn passes_of(report: &Report<'_>, tally: &mut Tally, size: u32, bit: Bit) -> Result<()> {
+    let mut map = mixed_map(report.alloc(), size)?;
+    let mut words = mixed(report.alloc(), size)?;
+    check_passes(report, tally, bit, &mut map, words.as_mut_slice())
+}
+
+fn check_passes(
+    report: &Report<'_>,
+    tally: &mut Tally,
+    Bit { at, mask }: Bit,
+    map: &mut Map,
+    words: &mut [u32],
+) -> Result<()> {
+    let size = map.len();
+    let rt = report.runtime();
+    ensure!(at < 32, "no bit {at}");
+    map.copy_bit0_to(at);
+    copy_bit(words, 1, mask);
+    tally.check(rt, map.words() == words, &[size, 0, at])?;
+    map.clear_bit(0);
+    clear_bit(words, 1);
+    map.copy_bit_to_0(at);
+    copy_bit(words, mask, 1);
+    tally.check(rt, map.words() == words, &[size, at, 0])?;
+    map.clear_bit(at);
+    clear_bit(words, mask);
+    tally.check(rt, map.words() == words, &[size, at])?;
+    Ok(())
+}
+
 fn copy_bit(words: &mut [u32], from: u32, to: u32) {
     for word in words.iter_mut() {
-        *word = if *word & from == 0 {
-            *word & !to
-        } else {
-            *word | to
-        };
+        *word = copied_bit(*word, from, to);
+    }
+}
+
+/// The word in which the bit `to` is as `from` is.
+fn copied_bit(word: u32, from: u32, to: u32) -> u32 {
+    if word & from == 0 {
+        word & !to
+    } else {
+        word | to
     }
 }
 

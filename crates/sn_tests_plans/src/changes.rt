@@ -19,46 +19,43 @@ pub fn change_of(alloc: Global, size: u64, word: &str) -> Result<Dirty>
     let (size, rest) = sized(size, word)?;
     let mut parts = rest.split('/');
     let keep = number_of(parts.next())?;
+    let next = Next { size, keep };
     let Some(index) = parts.next() else {
-        return Ok(Dirty {
-            size,
-            keep,
-            blocks: VecDeque::new(alloc),
-        });
+        return Ok(dirty_none(alloc, next));
     };
-    let index = number_of(Some(index))?;
-    let byte = u8::try_from(number_of(parts.next())?)?;
-    let mut blocks = VecDeque::new(alloc);
-    let bytes = Box::new(alloc, filled(size, index, byte)).map_err(AllocError::from)?;
-    blocks
-        .push_back(DirtyBlock { index, bytes })
-        .map_err(AllocError::from)?;
-    Ok(Dirty { size, keep, blocks })
+    let written = Written {
+        index: number_of(Some(index))?,
+        byte: u8::try_from(number_of(parts.next())?)?,
+        end: size,
+    };
+    dirty_one(alloc, next, block_of(alloc, written)?)
 }
 
 /// The change that writes these blocks, which are two at most.
 pub fn dirty_of(alloc: Global, next: Next, wanted: &[Written]) -> Result<Dirty>
     ensures rise { IfOk result (λ change. IsFrom 0 change.blocks.items) }
 {
-    let Next { size, keep } = next;
-    if wanted.is_empty() {
-        return Ok(Dirty {
-            size,
-            keep,
-            blocks: VecDeque::new(alloc),
-        });
+    match wanted {
+        [] => Ok(dirty_none(alloc, next)),
+        [one] => dirty_one(alloc, next, block_of(alloc, *one)?),
+        [one, two] => dirty_two(alloc, next, *one, *two),
+        _ => bail!("too many blocks"),
     }
-    if wanted.len() == 1 {
-        return dirty_one(alloc, next, block_of(alloc, wanted[0])?);
+}
+
+/// The change that writes no block.
+fn dirty_none(alloc: Global, next: Next) -> Dirty
+    ensures rise { IsFrom 0 result.blocks.items }
+{
+    Dirty {
+        size: next.size,
+        keep: next.keep,
+        blocks: VecDeque::new(alloc),
     }
-    if wanted.len() > 2 {
-        bail!("too many blocks");
-    }
-    dirty_two(alloc, next, wanted[0], wanted[1])
 }
 
 /// The change that writes one block.
-pub fn dirty_one(alloc: Global, next: Next, block: DirtyBlock) -> Result<Dirty>
+fn dirty_one(alloc: Global, next: Next, block: DirtyBlock) -> Result<Dirty>
     ensures rise { IfOk result (λ change. IsFrom 0 change.blocks.items) }
 {
     let mut blocks = VecDeque::new(alloc);

@@ -5,7 +5,7 @@ use sn_alloc::BlockAllocator;
 use sn_block::Blocks;
 use sn_device::MemDevice;
 use sn_map::Map;
-use sn_tree::Build;
+use sn_tree::{Build, NewBlock};
 use std::alloc::{AllocError, Global};
 
 const DISK: u32 = 256;
@@ -49,20 +49,35 @@ pub fn push_build(build: &Build, text: &mut String) -> Result<()> {
 pub fn settled(build: Build, blocks: &mut Blocks<MemDevice>) -> Result<Map> {
     let (allocator, added, released) = build.into_parts();
     let mut map = allocator.give_up();
-    for block in &added {
-        let number = block.number;
-        ensure!(
-            number < map.len() && 8 * u64::from(number) + 8 <= blocks.sectors(),
-            "no block {number}"
-        );
-        blocks.write_block(number, &block.bytes)?;
-        map.set_word(number, 1);
+    settle(&mut map, blocks, added.as_slice(), released.as_slice())?;
+    Ok(map)
+}
+
+fn settle(
+    map: &mut Map,
+    blocks: &mut Blocks<MemDevice>,
+    added: &[NewBlock],
+    released: &[u32],
+) -> Result<()> {
+    for block in added {
+        write_added(map, blocks, block)?;
     }
-    for number in &released {
+    for number in released {
         ensure!(*number < map.len(), "no block {number}");
         map.set_word(*number, 0);
     }
-    Ok(map)
+    Ok(())
+}
+
+fn write_added(map: &mut Map, blocks: &mut Blocks<MemDevice>, block: &NewBlock) -> Result<()> {
+    let number = block.number;
+    ensure!(
+        number < map.len() && 8 * u64::from(number) + 8 <= blocks.sectors(),
+        "no block {number}"
+    );
+    blocks.write_block(number, &block.bytes)?;
+    map.set_word(number, 1);
+    Ok(())
 }
 
 /// How many blocks are taken.

@@ -10,6 +10,7 @@ use sn_block::Blocks;
 use sn_device::MemDevice;
 use sn_layout::BlockTree;
 use sn_layout_node::{Content, InlineBytes};
+use sn_map::Map;
 use sn_table::{Report, Tally};
 use sn_tree::plan;
 use sn_tree_read::read;
@@ -41,38 +42,90 @@ pub fn run(report: &mut Report<'_>) -> Result<()> {
     report.add("maps of drawn contents", maps)
 }
 
-/// Each second file is dense: it keeps its size for long, and its blocks are written in turn.
+/// A file on a disk, beside a plain list of what it holds.
+#[derive(Drop)]
+struct DrawnFile {
+    blocks: Blocks<MemDevice>,
+    map: Map,
+    content: Content,
+    plain: Plain,
+}
+
+/// Which file it is, and the how-manieth change of its content.
+#[derive(Clone, Copy)]
+struct Turn {
+    number: u32,
+    step: u32,
+}
+
+/// What is right behind a change.
+#[derive(Clone, Copy)]
+struct Answer {
+    has_bytes: bool,
+    has_blocks: bool,
+}
+
 fn file(
     report: &Report<'_>,
     random: &mut Pcg32,
     number: u32,
     (bytes, maps): (&mut Tally, &mut Tally),
 ) -> Result<()> {
-    let alloc = report.alloc();
-    let mut blocks = new_blocks(alloc)?;
-    let mut map = new_map(alloc)?;
-    let mut content = Content::Inline(InlineBytes::new(&[]));
-    let mut plain = Plain::new(alloc);
+    let mut file = new_file(report.alloc())?;
     for step in 0..STEPS {
-        let size = if number % 2 == 0 || step % 20 == 0 {
-            SIZES[(random.next_u32() % 13) as usize]
-        } else {
-            plain.size
-        };
-        let next = next_of(&plain, size);
-        let wanted = wanted_of(alloc, random, &plain, next, number, step)?;
-        let mut build = new_build(alloc, map)?;
-        let dirty = dirty_of(alloc, next, wanted.as_slice())?;
-        content = plan(&mut build, &mut blocks, &content, dirty)?;
-        plain.change(alloc, next, wanted.as_slice())?;
-        let is_few = build.added().len() as u64 <= most_added(next, wanted.as_slice());
-        map = settled(build, &mut blocks)?;
-        let has_bytes = has_bytes(alloc, &mut blocks, &content, &plain)?;
-        bytes.check(report.runtime(), has_bytes, &[number, step])?;
-        let is_right = is_few && taken(&map) == plain.blocks();
-        maps.check(report.runtime(), is_right, &[number, step])?;
+        let turn = Turn { number, step };
+        let answer = take_turn(report.alloc(), random, &mut file, turn)?;
+        bytes.check(report.runtime(), answer.has_bytes, &[number, step])?;
+        maps.check(report.runtime(), answer.has_blocks, &[number, step])?;
     }
     Ok(())
+}
+
+fn new_file(alloc: Global) -> Result<DrawnFile> {
+    let map = new_map(alloc)?;
+    Ok(DrawnFile {
+        blocks: new_blocks(alloc)?,
+        map,
+        content: Content::Inline(InlineBytes::new(&[])),
+        plain: Plain::new(alloc),
+    })
+}
+
+/// Draws a change, and makes it.
+fn take_turn(
+    alloc: Global,
+    random: &mut Pcg32,
+    file: &mut DrawnFile,
+    turn: Turn,
+) -> Result<Answer> {
+    let size = drawn_size(random, turn, file.plain.size);
+    let next = next_of(&file.plain, size);
+    let wanted = wanted_of(alloc, random, &file.plain, next, turn)?;
+    let is_few = change(alloc, file, next, wanted.as_slice())?;
+    Ok(Answer {
+        has_bytes: has_bytes(alloc, &mut file.blocks, &file.content, &file.plain)?,
+        has_blocks: is_few && taken(&file.map) == file.plain.blocks(),
+    })
+}
+
+/// Each second file is dense: it keeps its size for long, and its blocks are written in turn.
+fn drawn_size(random: &mut Pcg32, turn: Turn, size: u64) -> u64 {
+    if turn.number % 2 == 0 || turn.step % 20 == 0 {
+        SIZES[(random.next_u32() % 13) as usize]
+    } else {
+        size
+    }
+}
+
+/// Changes a file: whether that adds few blocks.
+fn change(alloc: Global, file: &mut DrawnFile, next: Next, wanted: &[Written]) -> Result<bool> {
+    let dirty = dirty_of(alloc, next, wanted)?;
+    let mut build = new_build(alloc, file.map.try_clone()?)?;
+    file.content = plan(&mut build, &mut file.blocks, &file.content, dirty)?;
+    let is_few = build.added().len() as u64 <= most_added(next, wanted);
+    file.map = settled(build, &mut file.blocks)?;
+    file.plain.change(alloc, next, wanted)?;
+    Ok(is_few)
 }
 
 /// A path for each dirty block, and one more.
@@ -97,39 +150,63 @@ fn wanted_of(
     random: &mut Pcg32,
     plain: &Plain,
     next: Next,
-    number: u32,
-    step: u32,
+    turn: Turn,
 ) -> Result<Vec<Written>> {
     let mut wanted = Vec::new(alloc);
-    let count = next.size.div_ceil(BLOCK_SIZE);
-    if count == 0 {
-        return Ok(wanted);
-    }
-    let last = next.size / BLOCK_SIZE;
-    let is_cut = next.size < plain.size && last < count;
-    if let Some(cut) = plain.block(last).filter(|_| is_cut) {
-        let end = cut.end.min(next.size);
-        wanted.push(Written { end, ..cut })?;
-    }
-    let more = random.next_u32() % 3;
-    for k in 0..more {
-        let index = drawn_index(
-            random,
-            count,
-            number % 2 == 1,
-            u64::from(step.saturating_add(k)),
-        );
-        if wanted.len() < 2 && !wanted.iter().any(|it: &Written| it.index == index) {
-            let byte = 1 + (random.next_u32() % 255) as u8;
-            let end = index.saturating_add(1).saturating_mul(BLOCK_SIZE);
-            let end = end.min(next.size);
-            wanted.push(Written { index, byte, end })?;
-        }
-    }
+    draw_wanted(random, plain, next, turn, &mut wanted)?;
     if wanted.len() == 2 && wanted[1].index < wanted[0].index {
         wanted.swap(0, 1);
     }
     Ok(wanted)
+}
+
+fn draw_wanted(
+    random: &mut Pcg32,
+    plain: &Plain,
+    next: Next,
+    turn: Turn,
+    wanted: &mut Vec<Written>,
+) -> Result<()> {
+    let count = next.size.div_ceil(BLOCK_SIZE);
+    if count == 0 {
+        return Ok(());
+    }
+    if let Some(cut) = cut_of(plain, next, count) {
+        wanted.push(cut)?;
+    }
+    let is_dense = turn.number % 2 == 1;
+    for k in 0..random.next_u32() % 3 {
+        let nth = u64::from(turn.step.saturating_add(k));
+        let index = drawn_index(random, count, is_dense, nth);
+        draw_block(random, index, next.size, wanted)?;
+    }
+    Ok(())
+}
+
+/// What stays of the block that a cut goes through.
+fn cut_of(plain: &Plain, next: Next, count: u64) -> Option<Written> {
+    let last = next.size / BLOCK_SIZE;
+    if next.size >= plain.size || last >= count {
+        return None;
+    }
+    let cut = plain.block(last)?;
+    let end = cut.end.min(next.size);
+    Some(Written { end, ..cut })
+}
+
+/// Adds a block with a drawn byte, where there is room and it isn't there.
+fn draw_block(random: &mut Pcg32, index: u64, size: u64, wanted: &mut Vec<Written>) -> Result<()> {
+    if wanted.len() < 2 && !has_index(wanted.as_slice(), index) {
+        let byte = 1 + (random.next_u32() % 255) as u8;
+        let end = index.saturating_add(1).saturating_mul(BLOCK_SIZE);
+        let end = end.min(size);
+        wanted.push(Written { index, byte, end })?;
+    }
+    Ok(())
+}
+
+fn has_index(wanted: &[Written], index: u64) -> bool {
+    wanted.iter().any(|it| it.index == index)
 }
 
 fn drawn_index(random: &mut Pcg32, count: u64, is_dense: bool, turn: u64) -> u64 {
@@ -153,15 +230,27 @@ fn has_bytes(
     content: &Content,
     plain: &Plain,
 ) -> Result<bool> {
-    let mut is_right = content.size() == plain.size
-        && matches!(content, Content::Inline(_)) == (plain.size <= 64);
+    let is_inline = matches!(content, Content::Inline(_));
+    let has_form = content.size() == plain.size && is_inline == (plain.size <= 64);
     let places = plain.places(alloc)?;
-    for place in &places {
-        is_right = is_right && is_near(alloc, blocks, content, plain, *place)?;
+    let near_places = are_near(alloc, blocks, content, plain, places.as_slice())?;
+    let near_ends = are_near(alloc, blocks, content, plain, &[plain.size, 0])?;
+    Ok(has_form && near_places && near_ends)
+}
+
+fn are_near(
+    alloc: Global,
+    blocks: &mut Blocks<MemDevice>,
+    content: &Content,
+    plain: &Plain,
+    places: &[u64],
+) -> Result<bool> {
+    for place in places {
+        if !is_near(alloc, blocks, content, plain, *place)? {
+            return Ok(false);
+        }
     }
-    let near_end = is_near(alloc, blocks, content, plain, plain.size)?;
-    let near_front = is_near(alloc, blocks, content, plain, 0)?;
-    Ok(is_right && near_end && near_front)
+    Ok(true)
 }
 
 fn is_near(

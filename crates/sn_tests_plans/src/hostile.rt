@@ -2,9 +2,9 @@
 
 use crate::changes::dirty_of;
 use crate::disk::{new_build, new_map};
-use crate::faults::{BLOCKS, pointer};
+use crate::faults::{BLOCKS, blocks_of, pointer, released_by};
 use crate::plain::{Next, Written};
-use anyhow::{Context, Result, bail, ensure};
+use anyhow::{Context, Result, ensure};
 use rand_core::Rng;
 use rand_pcg::Pcg32;
 use sn_block::Blocks;
@@ -12,9 +12,8 @@ use sn_device::MemDevice;
 use sn_layout::{BlockTree, Pointers};
 use sn_layout_node::Content;
 use sn_table::{Report, Tally};
-use sn_tree::{PlanFault, plan};
-use sn_tree_read::TreeFault;
-use std::alloc::{AllocError, Global};
+use sn_tree::plan;
+use std::alloc::Global;
 
 /// How many disks are drawn, and how many data blocks are written on each.
 const DISKS: u32 = 50;
@@ -53,22 +52,32 @@ fn disk_of(alloc: Global, random: &mut Pcg32) -> Result<Disk> {
 /// The block above the data block is copied, and both are released where they were there; `Damaged` comes exactly where
 /// the block above isn't on the disk, wherever the data block lies.
 fn writes(report: &Report<'_>) -> Result<Tally> {
-    let alloc = report.alloc();
     let mut random = Pcg32::new(7, 0);
     let mut tally = Tally::new();
     for number in 0..DISKS {
-        let disk = disk_of(alloc, &mut random)?;
-        for _write in 0..WRITES {
-            let index = random.next_u32() % DATA;
-            let is_right = is_written(alloc, &disk, index)?;
-            tally.check(report.runtime(), is_right, &[number, index])?;
-        }
+        let disk = disk_of(report.alloc(), &mut random)?;
+        writes_on(report, &mut random, &disk, number, &mut tally)?;
     }
     Ok(tally)
 }
 
+fn writes_on(
+    report: &Report<'_>,
+    random: &mut Pcg32,
+    disk: &Disk,
+    number: u32,
+    tally: &mut Tally,
+) -> Result<()> {
+    for _write in 0..WRITES {
+        let index = random.next_u32() % DATA;
+        let is_right = is_written(report.alloc(), disk, index)?;
+        tally.check(report.runtime(), is_right, &[number, index])?;
+    }
+    Ok(())
+}
+
 /// How many blocks a write of a data block releases, or none where the block above it isn't on the disk.
-fn released_by(disk: &Disk, index: u32) -> Result<Option<usize>> {
+fn wanted_by(disk: &Disk, index: u32) -> Result<Option<usize>> {
     ensure!(index < DATA, "no data block {index}");
     let top = disk.tops[(index / 1024) as usize];
     if top == 0 {
@@ -84,16 +93,31 @@ fn released_by(disk: &Disk, index: u32) -> Result<Option<usize>> {
 
 /// Whether a plan of one dirty block adds it and the block above it, and releases what it has to.
 fn is_written(alloc: Global, disk: &Disk, index: u32) -> Result<bool> {
-    let mut bytes = Vec::new(alloc);
-    for below in &disk.below {
-        bytes.extend_from_slice(&below.to_le_bytes())?;
-    }
-    let device = MemDevice::from_bytes(alloc, bytes.as_slice())?;
-    let mut blocks = Blocks::new(alloc, device).map_err(AllocError::from)?;
+    let released = wanted_by(disk, index)?;
+    let mut blocks = blocks_with(alloc, disk)?;
     let content = Content::Tree(BlockTree {
         size: SIZE,
         pointers: Pointers::new(&disk.tops),
     });
+    is_planned(alloc, &mut blocks, &content, index, released)
+}
+
+fn blocks_with(alloc: Global, disk: &Disk) -> Result<Blocks<MemDevice>> {
+    let mut bytes = Vec::new(alloc);
+    for below in &disk.below {
+        bytes.extend_from_slice(&below.to_le_bytes())?;
+    }
+    blocks_of(alloc, bytes.as_slice())
+}
+
+/// Whether the plan adds both blocks and releases so many, or finds that the block above isn't on the disk.
+fn is_planned(
+    alloc: Global,
+    blocks: &mut Blocks<MemDevice>,
+    content: &Content,
+    index: u32,
+    released: Option<usize>,
+) -> Result<bool> {
     let next = Next {
         size: SIZE,
         keep: u64::from(DATA),
@@ -105,11 +129,8 @@ fn is_written(alloc: Global, disk: &Disk, index: u32) -> Result<bool> {
     }];
     let dirty = dirty_of(alloc, next, &wanted)?;
     let mut build = new_build(alloc, new_map(alloc)?)?;
-    let released = match plan(&mut build, &mut blocks, &content, dirty) {
-        Ok(_) => Some(build.released().len()),
-        Err(PlanFault::Tree(TreeFault::Damaged)) => None,
-        Err(fault) => bail!("{fault}"),
-    };
-    let has_both = released.is_none() || build.added().len() == 2;
-    Ok(has_both && released == released_by(disk, index)?)
+    let planned = plan(&mut build, blocks, content, dirty);
+    let found = released_by(planned, &build)?;
+    let has_both = found.is_none() || build.added().len() == 2;
+    Ok(has_both && found == released)
 }

@@ -10,8 +10,6 @@
 //! ```text
 //! rt run -- data
 //! ```
-//!
-//! With the word `time`, or `once` and what to do, it runs what `bench/tree.sh` measures (`times`).
 #![tactic(auto)]
 
 mod changes;
@@ -21,27 +19,12 @@ mod faults;
 mod hostile;
 mod plain;
 mod plans;
-mod times;
 
-use anyhow::{Context, Result};
+use anyhow::Result;
 use sn_table::Report;
-use std::env;
-
-/// The word at a place of the command line.
-fn argument(rt: &HostRuntime, at: usize) -> Result<String> {
-    env::args(rt)?.nth(at).context("a word is missing")
-}
 
 fn main(rt: HostRuntime) -> Result<()> {
-    match argument(&rt, 1)?.as_str() {
-        "time" => times::times(&rt),
-        "once" => times::once(&rt, argument(&rt, 2)?.as_str()),
-        _ => cases(&rt),
-    }
-}
-
-fn cases(rt: &HostRuntime) -> Result<()> {
-    let mut report = Report::new(rt)?;
+    let mut report = Report::new(&rt)?;
     report.table("plans.txt", plans::plans)?;
     drawn::run(&mut report)?;
     faults::run(&mut report)?;

@@ -6,31 +6,58 @@ use anyhow::Result;
 use sn_block::Blocks;
 use sn_device::MemDevice;
 use sn_layout::{BlockTree, Pointers};
+use sn_map::Map;
 use sn_table::Case;
 use sn_tree::plan_tree;
 use sn_tree_read::fetch_data;
 use std::alloc::Global;
 
+/// A file on a disk, and the blocks that are taken there.
+#[derive(Drop)]
+struct File {
+    blocks: Blocks<MemDevice>,
+    taken: Map,
+    tree: BlockTree,
+}
+
 /// What each plan of a case takes and releases, and the first bytes of the data blocks behind it.
 pub fn plans(alloc: Global, case: Case<'_>) -> Result<String> {
-    let mut blocks = new_blocks(alloc)?;
-    let mut taken = new_map(alloc)?;
-    let mut tree = BlockTree {
-        size: u64::from(case.number(0)?),
-        pointers: Pointers::default(),
-    };
-    let shown = case.numbers(alloc, 1)?;
     let mut text = String::new(alloc);
-    for word in case.text().split_ascii_whitespace().skip(2) {
-        let change = change_of(alloc, tree.size, word)?;
-        let mut build = new_build(alloc, taken)?;
-        tree = plan_tree(&mut build, &mut blocks, &tree, change)?;
-        push_build(&build, &mut text)?;
-        write!(text, ":")?;
-        taken = settled(build, &mut blocks)?;
-        push_data(&mut blocks, &tree, &shown, &mut text)?;
-    }
+    push_plans(alloc, case, &mut text)?;
     Ok(text)
+}
+
+fn push_plans(alloc: Global, case: Case<'_>, text: &mut String) -> Result<()> {
+    let shown = case.numbers(alloc, 1)?;
+    let mut file = new_file(alloc, case.number(0)?)?;
+    for word in case.text().split_ascii_whitespace().skip(2) {
+        push_plan(alloc, &mut file, word, text)?;
+        push_data(&mut file.blocks, &file.tree, shown.as_slice(), text)?;
+    }
+    Ok(())
+}
+
+/// A file of a size that is all holes.
+fn new_file(alloc: Global, size: u32) -> Result<File> {
+    let taken = new_map(alloc)?;
+    Ok(File {
+        blocks: new_blocks(alloc)?,
+        taken,
+        tree: BlockTree {
+            size: u64::from(size),
+            pointers: Pointers::default(),
+        },
+    })
+}
+
+fn push_plan(alloc: Global, file: &mut File, word: &str, text: &mut String) -> Result<()> {
+    let change = change_of(alloc, file.tree.size, word)?;
+    let mut build = new_build(alloc, file.taken.try_clone()?)?;
+    file.tree = plan_tree(&mut build, &mut file.blocks, &file.tree, change)?;
+    push_build(&build, text)?;
+    text.push_str(":")?;
+    file.taken = settled(build, &mut file.blocks)?;
+    Ok(())
 }
 
 fn push_data(

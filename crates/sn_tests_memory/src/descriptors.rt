@@ -5,14 +5,10 @@ use sn_acl::{Cred, Mode, Permissions};
 use sn_desc::{DESCRIPTORS, OpenFile, SESSIONS, Sessions};
 use sn_limits::Limits;
 use sn_model::{Refusal, Session};
-use sn_table::{Case, Report};
+use sn_table::Case;
 use sn_walk::Home;
 use std::alloc::Global;
 use std::fmt;
-
-pub fn run(report: &mut Report<'_>) -> Result<()> {
-    report.table("descriptors.txt", steps)
-}
 
 /// Puts a word behind the others.
 fn say(text: &mut String, word: impl fmt::Display + Drop) -> Result<()> {
@@ -23,13 +19,18 @@ fn say(text: &mut String, word: impl fmt::Display + Drop) -> Result<()> {
 }
 
 /// What the steps of a case answer.
-fn steps(alloc: Global, case: Case<'_>) -> Result<String> {
-    let mut sessions = Sessions::new(alloc)?;
+pub fn answers(alloc: Global, case: Case<'_>) -> Result<String> {
     let mut text = String::new(alloc);
-    for word in case.text().split_ascii_whitespace() {
-        take_step(&mut sessions, word, &mut text)?;
-    }
+    take_steps(alloc, case, &mut text)?;
     Ok(text)
+}
+
+fn take_steps(alloc: Global, case: Case<'_>, text: &mut String) -> Result<()> {
+    let mut sessions = Sessions::new(alloc)?;
+    for word in case.text().split_ascii_whitespace() {
+        take_step(&mut sessions, word, text)?;
+    }
+    Ok(())
 }
 
 fn take_step(sessions: &mut Sessions, word: &str, text: &mut String) -> Result<()> {
@@ -122,27 +123,49 @@ fn on_descriptor(
     let fd: u32 = fd.parse().context("no descriptor")?;
     let offset: u64 = offset.parse().context("no offset")?;
     match step {
-        "close" => match sessions.close(session, fd) {
-            Ok(Some(number)) => {
-                say(text, "last-of")?;
-                say(text, number)
-            }
-            Ok(None) => say(text, "ok"),
-            Err(refusal) => refused(&refusal, text),
-        },
-        "seek" => match sessions.seek(&Limits::VERSION_1, session, fd, offset) {
-            Ok(()) => say(text, "ok"),
-            Err(refusal) => refused(&refusal, text),
-        },
-        "tell" => match sessions.readable(session, fd) {
-            Ok(file) => say(text, file.offset),
-            Err(refusal) => refused(&refusal, text),
-        },
-        "write" => match sessions.writable(session, fd) {
-            Ok(_) => say(text, "ok"),
-            Err(refusal) => refused(&refusal, text),
-        },
+        "close" => close(sessions, session, fd, text),
+        "seek" => seek(sessions, session, fd, offset, text),
+        "tell" => tell(sessions, session, fd, text),
+        "write" => write(sessions, session, fd, text),
         _ => bail!("no step: {step}"),
+    }
+}
+
+fn close(sessions: &mut Sessions, session: u32, fd: u32, text: &mut String) -> Result<()> {
+    match sessions.close(session, fd) {
+        Ok(Some(number)) => {
+            say(text, "last-of")?;
+            say(text, number)
+        }
+        Ok(None) => say(text, "ok"),
+        Err(refusal) => refused(&refusal, text),
+    }
+}
+
+fn seek(
+    sessions: &mut Sessions,
+    session: u32,
+    fd: u32,
+    offset: u64,
+    text: &mut String,
+) -> Result<()> {
+    match sessions.seek(&Limits::VERSION_1, session, fd, offset) {
+        Ok(()) => say(text, "ok"),
+        Err(refusal) => refused(&refusal, text),
+    }
+}
+
+fn tell(sessions: &Sessions, session: u32, fd: u32, text: &mut String) -> Result<()> {
+    match sessions.readable(session, fd) {
+        Ok(file) => say(text, file.offset),
+        Err(refusal) => refused(&refusal, text),
+    }
+}
+
+fn write(sessions: &Sessions, session: u32, fd: u32, text: &mut String) -> Result<()> {
+    match sessions.writable(session, fd) {
+        Ok(_) => say(text, "ok"),
+        Err(refusal) => refused(&refusal, text),
     }
 }
 

@@ -1,10 +1,11 @@
 //! A tree that is seen through two overlays.
 
+use crate::file_bytes::character_of;
 use crate::root::Root;
 use anyhow::{Result, bail};
 use sn_limits::{Kind, Limits};
 use sn_model::{Change, Link, Word};
-use sn_overlay::{BLOCK_SIZE, Below, FileBlock, Overlay, Through};
+use sn_overlay::{BLOCK_SIZE, Below, FileBlock, Overlay, SeenNode, Through};
 use sn_overlay_change::of_change;
 use std::alloc::Global;
 
@@ -67,14 +68,7 @@ impl Trees {
         };
         match shown.node(number)? {
             None => text.push_str("none")?,
-            Some(node) => {
-                let kind = match node.kind {
-                    Kind::File => "file",
-                    Kind::Directory => "directory",
-                };
-                let (owner, links, size) = (node.ownership.owner, node.links, node.size);
-                write!(text, "{kind}:{owner}:{links}:{size}")?;
-            }
+            Some(node) => push_node(text, &node)?,
         }
         Ok(())
     }
@@ -121,8 +115,18 @@ impl Trees {
         let mut block = [0; BLOCK_SIZE];
         shown.read_block(file_block, &mut block)?;
         for byte in block.iter().skip(from).take(count) {
-            text.push(if *byte == 0 { '.' } else { char::from(*byte) })?;
+            text.push(character_of(*byte))?;
         }
         Ok(())
     }
+}
+
+fn push_node(text: &mut String, node: &SeenNode) -> Result<()> {
+    let kind = match node.kind {
+        Kind::File => "file",
+        Kind::Directory => "directory",
+    };
+    let (owner, links, size) = (node.ownership.owner, node.links, node.size);
+    write!(text, "{kind}:{owner}:{links}:{size}")?;
+    Ok(())
 }

@@ -97,13 +97,11 @@ fn changing(step: Step<'_>) -> Result<Option<Change<'_>>> {
 
 /// So many bytes `x` are written at an offset.
 fn fill(alloc: Global, trees: &mut Trees, step: Step<'_>) -> Result<()> {
-    let mut bytes = Vec::new(alloc);
-    for _count in 0..step.short(3)? {
-        bytes.push(b'x')?;
-    }
+    let (number, offset, count) = (step.short(1)?, step.number(2)?, step.short(3)?);
+    let bytes = vec![in alloc; b'x'; usize::from(count)]?;
     trees.change(&Change::Write {
-        number: step.short(1)?,
-        offset: step.number(2)?,
+        number,
+        offset,
         bytes: Bytes::new(bytes.as_slice()),
     })
 }
@@ -115,16 +113,18 @@ fn ask(trees: &Trees, step: Step<'_>, text: &mut String) -> Result<()> {
     match step.part(0)? {
         "node" => trees.node(step.short(1)?, text),
         "name" => trees.name(step.short(1)?, step.part(2)?, text),
-        "bytes" => {
-            let file_block = FileBlock {
-                file: step.short(1)?,
-                index: step.number(2)?,
-            };
-            let (from, count) = (step.short(3)?, step.short(4)?);
-            trees.bytes(file_block, usize::from(from), usize::from(count), text)
-        }
+        "bytes" => ask_bytes(trees, step, text),
         other => bail!("no step: {other}"),
     }
+}
+
+fn ask_bytes(trees: &Trees, step: Step<'_>, text: &mut String) -> Result<()> {
+    let file_block = FileBlock {
+        file: step.short(1)?,
+        index: step.number(2)?,
+    };
+    let (from, count) = (step.short(3)?, step.short(4)?);
+    trees.bytes(file_block, usize::from(from), usize::from(count), text)
 }
 
 fn take(alloc: Global, trees: &mut Trees, step: Step<'_>, text: &mut String) -> Result<()> {
@@ -144,10 +144,15 @@ fn take(alloc: Global, trees: &mut Trees, step: Step<'_>, text: &mut String) -> 
 
 /// The answers to the questions of a list of steps.
 pub fn answers(alloc: Global, case: Case<'_>) -> Result<String> {
-    let mut trees = Trees::new(alloc);
     let mut text = String::new(alloc);
-    for word in case.text().split_ascii_whitespace() {
-        take(alloc, &mut trees, Step { text: word }, &mut text)?;
-    }
+    take_all(alloc, case, &mut text)?;
     Ok(text)
+}
+
+fn take_all(alloc: Global, case: Case<'_>, text: &mut String) -> Result<()> {
+    let mut trees = Trees::new(alloc);
+    for word in case.text().split_ascii_whitespace() {
+        take(alloc, &mut trees, Step { text: word }, text)?;
+    }
+    Ok(())
 }
