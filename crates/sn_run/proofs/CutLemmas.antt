@@ -231,12 +231,11 @@ run_leaves first mid last done [] said [] here shows before run =
 run_leaves first mid last done [] said (reply ∷ replies) here shows before run = absurd run
 run_leaves first mid last done (e ∷ todo) said [] here shows before run = absurd run
 run_leaves first mid last done (e ∷ todo) said (reply ∷ replies) here shows before run =
-    let next = run.0 in
-    (
+    let next = run.0 in (
       next.held.disk,
       cut_in first mid next done todo e said reply here before run.1,
       subst (λ (events : List Event). LeavesFrom first.state events (said ++ reply ∷ []) replies next.held.disk last.held.disk) (list_joined done e todo)
-      (run_leaves first next last (done ++ e ∷ []) todo (said ++ reply ∷ []) replies here (goes_shows mid next e reply run.1) (run_more Goes first mid next done said e reply before run.1) run.2),
+          (run_leaves first next last (done ++ e ∷ []) todo (said ++ reply ∷ []) replies here (goes_shows mid next e reply run.1) (run_more Goes first mid next done said e reply before run.1) run.2),
     )
 
 -- before the first event

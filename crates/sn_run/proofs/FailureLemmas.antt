@@ -50,8 +50,7 @@ run_unfailing first last (e ∷ events) (reply ∷ replies) run same goes_on =
     let rest = runs_later mid last events replies run.2 in
     let here : mid.held.status.failures ≡ first.held.status.failures = omega (arith, a.later.failures, rest.failures, same) in
     let there : last.held.status.failures ≡ mid.held.status.failures = omega (arith, here, same) in
-    let on : has_ended mid.held.status ≡ false = not_ended (has_ended mid.held.status) (λ ended. true≢false (sym (later-ended mid.held.status last.held.status rest ended) ∙ goes_on)) in
-    (
+    let on : has_ended mid.held.status ≡ false = not_ended (has_ended mid.held.status) (λ ended. true≢false (sym (later-ended mid.held.status last.held.status rest ended) ∙ goes_on)) in (
       mid.state,
       (a.met, met_unfailing first.held e a.met mid.held.status a.may here on, subst (λ (s : State). EventStep version_1 first.state e a.met reply s) (sym run.1.next) a.step),
       run_unfailing mid last events replies run.2 there goes_on,
