@@ -3,7 +3,7 @@
 //!
 //! The model. `sn_ondisk` says which records a log half has, as payloads, `sn_record` which change a
 //! payload spells, and `sn_model` what a change does to a tree. Here they come together:
-//! - `Spell`: payloads that are the spellings of changes.
+//! - `AreSpelled`: changes that have payloads.
 //! - `Replays`: the changes that replay of an epoch finds in the half that it writes to.
 //! - `Opens`: what a mount of the contents finds, from the world of the root on: the changes applied in
 //!   their order, and files without names dropped.
