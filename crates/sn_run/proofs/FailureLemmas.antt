@@ -1,5 +1,5 @@
 -- Failures that a run tells are the device's.
-use Rattle.std.proofs.Common.{◌≡◌, ◌⊎◌, inl, inr, ◌<◌, Bool, true, false, List, [], ◌∷◌, Option, None, Some, IsTrue, sym, ap, subst, ◌∙◌, refl, arith}
+use Rattle.std.proofs.Common.{◌≡◌, inl, inr, Bool, true, false, List, [], ◌∷◌, Option, None, Some, sym, ap, subst, ◌∙◌, refl, arith}
 use Rattle.std.proofs.lemmas.Bool.{true≢false}
 use Rattle.sn_device.specs.Status.{has_ended}
 use Rattle.sn_device.specs.declared.status.Status.{Status}

@@ -1,5 +1,5 @@
 -- What crashes leave of runs, life by life.
-use Rattle.std.specs.Prelude.{◌≡◌, ℕ, ◌≤◌, Bool, false, Option, None, Some, List, [], ◌∷◌, replicate}
+use Rattle.std.specs.Prelude.{◌≡◌, ℕ, ◌≤◌, false, Option, None, Some, List, [], ◌∷◌, replicate}
 use Rattle.sn_device.specs.Sectors.{Contents}
 use Rattle.sn_device.specs.Status.{has_ended}
 use Rattle.sn_limits.specs.Versions.{version_1}
