@@ -4,6 +4,7 @@ pub mod DirtyLemmas
 pub mod EndLemmas
 pub mod PlanLemmas
 pub mod StepLemmas
+pub mod ErrorLemmas
 pub mod FaultLemmas
 pub mod ReplannedLemmas
 pub mod LoopLemmas

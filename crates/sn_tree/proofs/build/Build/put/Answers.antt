@@ -4,6 +4,7 @@ use Rattle.std.proofs.lemmas.List.{length-map}
 use Rattle.sn_alloc.specs.Taking.{Taking, free_data}
 use Rattle.sn_tree.specs.Drafts.{Draft}
 use Rattle.sn_tree.specs.declared.new_block.NewBlock.{NewBlock}
+use Rattle.sn_tree.proofs.ErrorLemmas.{memory_not_full, memory_not_tree}
 use Rattle.sn_tree.proofs.build.Build.put.Goals as goal
 
 pub returns-in_err-number-clause-full : goal.returns-in_err-number-clause-full
@@ -19,3 +20,15 @@ returns-in_err-number-clause-full c = λ _.
       | inl some ↦ absurd (false≢true (c.in_err-number.ensures.counted.1 some))
       | inr none ↦ omega (arith, none, taken, free, count, seen, listed)
     ]
+
+pub returns-in_err-reserve-clause-full : goal.returns-in_err-reserve-clause-full
+returns-in_err-reserve-clause-full c = λ e. absurd (memory_not_full _ c.from_residual.ensures.1 e)
+
+pub returns-in_err-reserve-clause-own : goal.returns-in_err-reserve-clause-own
+returns-in_err-reserve-clause-own c = memory_not_tree _ c.from_residual.ensures.1
+
+pub returns-in_err-reserve-2-clause-full : goal.returns-in_err-reserve-2-clause-full
+returns-in_err-reserve-2-clause-full c = λ e. absurd (memory_not_full _ c.from_residual-in_err-reserve-2.ensures.1 e)
+
+pub returns-in_err-reserve-2-clause-own : goal.returns-in_err-reserve-2-clause-own
+returns-in_err-reserve-2-clause-own c = memory_not_tree _ c.from_residual-in_err-reserve-2.ensures.1
