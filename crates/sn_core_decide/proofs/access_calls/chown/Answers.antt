@@ -29,3 +29,9 @@ returns-in-Err-clause-exact g c = search rules
 pub returns-clause-exact : goal.returns-clause-exact
 unfolding chown_outcome
 returns-clause-exact g c = search rules
+
+pub returns-in-Err-clause-follows : goal.returns-in-Err-clause-follows
+returns-in-Err-clause-follows g c = g.met.V.TreeView.follows_on _ _ _ c.full.ensures.follows c.ownership_at.ensures.follows
+
+pub returns-clause-follows : goal.returns-clause-follows
+returns-clause-follows g c = g.met.V.TreeView.follows_on _ _ _ c.full.ensures.follows c.ownership_at.ensures.follows

@@ -30,3 +30,15 @@ returns-clause-exact g c = search rules
 pub returns-in_err-has_room-clause-exact : goal.returns-in_err-has_room-clause-exact
 unfolding mkdir_outcome
 returns-in_err-has_room-clause-exact g c = grind (arith, common_steps)
+
+pub returns-in_err-attributes-clause-follows : goal.returns-in_err-attributes-clause-follows
+returns-in_err-attributes-clause-follows g c = g.met.V.TreeView.follows_on _ _ _ c.prefix.ensures.follows c.writable_parent.ensures.follows
+
+pub returns-in_err-has_room-clause-follows : goal.returns-in_err-has_room-clause-follows
+returns-in_err-has_room-clause-follows g c = g.met.V.TreeView.follows_on _ _ _ (g.met.V.TreeView.follows_on _ _ _ c.prefix.ensures.follows c.writable_parent.ensures.follows) c.has_room.ensures.follows
+
+pub returns-in-Err-clause-follows : goal.returns-in-Err-clause-follows
+returns-in-Err-clause-follows g c = g.met.V.TreeView.follows_on _ _ _ (g.met.V.TreeView.follows_on _ _ _ (g.met.V.TreeView.follows_on _ _ _ c.prefix.ensures.follows c.writable_parent.ensures.follows) c.has_room.ensures.follows) c.default_acl.ensures.follows
+
+pub returns-clause-follows : goal.returns-clause-follows
+returns-clause-follows g c = g.met.V.TreeView.follows_on _ _ _ (g.met.V.TreeView.follows_on _ _ _ (g.met.V.TreeView.follows_on _ _ _ c.prefix.ensures.follows c.writable_parent.ensures.follows) c.has_room.ensures.follows) c.default_acl.ensures.follows

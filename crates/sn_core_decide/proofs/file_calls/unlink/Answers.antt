@@ -29,3 +29,21 @@ returns-in_err-sticky-clause-exact g c = search rules
 pub returns-clause-exact : goal.returns-clause-exact
 unfolding unlink_outcome
 returns-clause-exact g c = search rules
+
+pub returns-in_err-no_directory-clause-follows : goal.returns-in_err-no_directory-clause-follows
+returns-in_err-no_directory-clause-follows g c = g.met.V.TreeView.follows_on _ _ _ c.prefix.ensures.follows c.reached.ensures.follows
+
+pub returns-in_err-live-clause-follows : goal.returns-in_err-live-clause-follows
+returns-in_err-live-clause-follows g c = g.met.V.TreeView.follows_on _ _ _ c.prefix.ensures.follows c.reached.ensures.follows
+
+pub returns-in_err-parent-clause-follows : goal.returns-in_err-parent-clause-follows
+returns-in_err-parent-clause-follows g c = g.met.V.TreeView.follows_on _ _ _ c.prefix.ensures.follows c.reached.ensures.follows
+
+pub returns-in_err-attributes-clause-follows : goal.returns-in_err-attributes-clause-follows
+returns-in_err-attributes-clause-follows g c = g.met.V.TreeView.follows_on _ _ _ (g.met.V.TreeView.follows_on _ _ _ c.prefix.ensures.follows c.reached.ensures.follows) c.writable_parent.ensures.follows
+
+pub returns-in_err-sticky-clause-follows : goal.returns-in_err-sticky-clause-follows
+returns-in_err-sticky-clause-follows g c = g.met.V.TreeView.follows_on _ _ _ (g.met.V.TreeView.follows_on _ _ _ c.prefix.ensures.follows c.reached.ensures.follows) c.writable_parent.ensures.follows
+
+pub returns-clause-follows : goal.returns-clause-follows
+returns-clause-follows g c = g.met.V.TreeView.follows_on _ _ _ (g.met.V.TreeView.follows_on _ _ _ c.prefix.ensures.follows c.reached.ensures.follows) c.writable_parent.ensures.follows
