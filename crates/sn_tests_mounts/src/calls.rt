@@ -4,7 +4,8 @@ use crate::drawing::{below, is_once_in, plain_name};
 use crate::sectors::{EPOCH, half_of};
 use anyhow::Result;
 use rand_pcg::Pcg32;
-use sn_mounted::{login, new_device, remounted};
+use sn_device::MemDevice;
+use sn_mounted::{Mounted, login, new_device, remounted};
 use sn_reading::Records;
 use std::alloc::Global;
 
@@ -29,37 +30,63 @@ fn path(alloc: Global, random: &mut Pcg32) -> Result<String> {
 /// A line of a script that changes the tree where it isn't refused.
 fn line(alloc: Global, random: &mut Pcg32) -> Result<String> {
     let path = path(alloc, random)?;
+    line_at(alloc, random, path.as_str())
+}
+
+fn line_at(alloc: Global, random: &mut Pcg32, path: &str) -> Result<String> {
     let acl = ACLS[below(random, 4) as usize];
-    Ok(match below(random, 8) {
-        0 => {
-            let mode = below(random, 0o4000);
-            format!(in alloc; "0 chmod {path} {mode:04o}")?
-        }
-        1 => format!(in alloc; "0 setacl {path} a {acl}")?,
-        2 => format!(in alloc; "0 setacl {path} d {acl}")?,
-        3 if is_once_in(random, 4) => format!(in alloc; "0 setacl {path} d -")?,
-        _ => {
-            let mode = below(random, 0o1000);
-            format!(in alloc; "0 mkdir {path} {mode:04o}")?
-        }
-    })
+    match below(random, 8) {
+        0 => chmod(alloc, path, below(random, 0o4000)),
+        1 => Ok(format!(in alloc; "0 setacl {path} a {acl}")?),
+        2 => Ok(format!(in alloc; "0 setacl {path} d {acl}")?),
+        3 if is_once_in(random, 4) => Ok(format!(in alloc; "0 setacl {path} d -")?),
+        _ => mkdir(alloc, path, below(random, 0o1000)),
+    }
+}
+
+fn chmod(alloc: Global, path: &str, mode: u32) -> Result<String> {
+    Ok(format!(in alloc; "0 chmod {path} {mode:04o}")?)
+}
+
+fn mkdir(alloc: Global, path: &str, mode: u32) -> Result<String> {
+    Ok(format!(in alloc; "0 mkdir {path} {mode:04o}")?)
 }
 
 /// The payloads of a log of drawn calls. Some calls are refused, and leave none.
 pub fn payloads(alloc: Global, random: &mut Pcg32) -> Result<Vec<Vec<u8>>> {
+    let device = called(alloc, random)?;
+    let half = half_of(alloc, &device)?;
+    payloads_in(alloc, half.as_slice())
+}
+
+/// A device behind drawn calls.
+fn called(alloc: Global, random: &mut Pcg32) -> Result<MemDevice> {
     let mut mounted = remounted(alloc, new_device(alloc)?)?;
     mounted.call(0, &login(alloc)?);
+    ask_some(alloc, &mut mounted, random)?;
+    Ok(mounted.into_device())
+}
+
+fn ask_some(alloc: Global, mounted: &mut Mounted, random: &mut Pcg32) -> Result<()> {
     for _ in 0..below(random, 24) {
         let line = line(alloc, random)?;
         mounted.asked(alloc, line.as_str())?;
     }
-    let half = half_of(alloc, &mounted.into_device())?;
-    let mut records = Records::new(half.as_slice(), EPOCH);
+    Ok(())
+}
+
+fn payloads_in(alloc: Global, half: &[u8]) -> Result<Vec<Vec<u8>>> {
+    let mut records = Records::new(half, EPOCH);
     let mut payloads = Vec::new(alloc);
     for _ in 0..24 {
-        if let Ok(payload) = records.read_next() {
-            payloads.push(Vec::from_slice(alloc, payload)?)?;
-        }
+        push_next(alloc, &mut records, &mut payloads)?;
     }
     Ok(payloads)
+}
+
+fn push_next(alloc: Global, records: &mut Records<'_>, payloads: &mut Vec<Vec<u8>>) -> Result<()> {
+    if let Ok(payload) = records.read_next() {
+        payloads.push(Vec::from_slice(alloc, payload)?)?;
+    }
+    Ok(())
 }

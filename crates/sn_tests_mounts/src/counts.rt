@@ -261,24 +261,32 @@ impl Counts {
         Ok(())
     }
 
+    /// The same of a subject in two parts.
+    fn add_of(&self, report: &mut Report<'_>, at: usize, before: &str, text: &str) -> Result<()> {
+        let subject = format!(in report.alloc(); "{before}{text}")?;
+        self.add(report, at, subject.as_str())
+    }
+
     /// Prints them all.
     pub fn report(&self, report: &mut Report<'_>) -> Result<()> {
-        let alloc = report.alloc();
         for (at, (_, text)) in ENDS.iter().enumerate() {
-            let subject = format!(in alloc; "a tree that {text}")?;
-            self.add(report, at, subject.as_str())?;
+            self.add_of(report, at, "a tree that ", text)?;
         }
         for (at, (_, text)) in MISSPELLINGS.iter().enumerate() {
-            let subject = format!(in alloc; "a misspelt record, {text}")?;
-            self.add(report, at.saturating_add(MISSPELT_AT), subject.as_str())?;
+            let at = at.saturating_add(MISSPELT_AT);
+            self.add_of(report, at, "a misspelt record, ", text)?;
         }
+        self.report_records(report)
+    }
+
+    fn report_records(&self, report: &mut Report<'_>) -> Result<()> {
         for (at, (_, _, text)) in OBSTACLES.iter().enumerate() {
-            let subject = format!(in alloc; "a record that can't be applied, {text}")?;
-            self.add(report, at.saturating_add(OBSTRUCTED_AT), subject.as_str())?;
+            let at = at.saturating_add(OBSTRUCTED_AT);
+            self.add_of(report, at, "a record that can't be applied, ", text)?;
         }
         for (at, (_, text)) in KINDS.iter().enumerate() {
-            let subject = format!(in alloc; "applied records, {text}")?;
-            self.add(report, at.saturating_add(APPLIED_AT), subject.as_str())?;
+            let at = at.saturating_add(APPLIED_AT);
+            self.add_of(report, at, "applied records, ", text)?;
         }
         Ok(())
     }

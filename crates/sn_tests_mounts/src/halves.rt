@@ -22,19 +22,47 @@ const HALVES: u32 = 10_000;
 const TURN: u32 = 8;
 
 pub fn run(report: &mut Report<'_>) -> Result<()> {
-    let alloc = report.alloc();
-    let mut random = Pcg32::new(1, 0);
-    let mut counts = Counts::new(alloc)?;
-    let mut device = new_device(alloc)?;
-    let mut made = Vec::new(alloc);
-    for half in 0..HALVES {
-        if half % TURN == 0 {
-            made = calls::payloads(alloc, &mut random)?;
-        }
-        draw_half(alloc, &mut device, made.as_slice(), &mut random)?;
-        device = compared(report, &mut counts, device.crash(Fill::New), half)?;
-    }
+    let mut counts = Counts::new(report.alloc())?;
+    count_all(report, &mut counts)?;
     counts.report(report)
+}
+
+fn count_all(report: &Report<'_>, counts: &mut Counts) -> Result<()> {
+    let mut random = Pcg32::new(1, 0);
+    let mut device = new_device(report.alloc())?;
+    for turn in 0..HALVES / TURN {
+        device = take_turn(report, counts, device, &mut random, turn * TURN)?;
+    }
+    Ok(())
+}
+
+/// The halves from one on that begin with the records of one list of calls.
+fn take_turn(
+    report: &Report<'_>,
+    counts: &mut Counts,
+    device: MemDevice,
+    random: &mut Pcg32,
+    first: u32,
+) -> Result<MemDevice> {
+    let made = calls::payloads(report.alloc(), random)?;
+    count_some(report, counts, device, made.as_slice(), random, first)
+}
+
+fn count_some(
+    report: &Report<'_>,
+    counts: &mut Counts,
+    device: MemDevice,
+    made: &[Vec<u8>],
+    random: &mut Pcg32,
+    first: u32,
+) -> Result<MemDevice> {
+    let mut device = device;
+    for half in 0..TURN {
+        draw_half(report.alloc(), &mut device, made, random)?;
+        let half = first.saturating_add(half);
+        device = compared(report, counts, device.crash(Fill::New), half)?;
+    }
+    Ok(device)
 }
 
 fn copy_of(alloc: Global, list: &[Vec<u8>]) -> Result<Vec<Vec<u8>>> {
@@ -54,22 +82,39 @@ fn draw_half(
 ) -> Result<()> {
     match below(random, 8) {
         0 => draw(device, random)?,
-        kind => {
-            let mut list = if kind < 4 {
-                copy_of(alloc, made)?
-            } else {
-                payloads(alloc, random)?
-            };
-            if is_once_in(random, 2) {
-                change_list(alloc, &mut list, random)?;
-            }
-            lay_list(alloc, device, &mut list, random)?;
-        }
+        kind => draw_list(alloc, device, made, random, kind < 4)?,
     }
     if is_once_in(random, 2) {
         change_some(device, random)?;
     }
     Ok(())
+}
+
+fn draw_list(
+    alloc: Global,
+    device: &mut MemDevice,
+    made: &[Vec<u8>],
+    random: &mut Pcg32,
+    is_made: bool,
+) -> Result<()> {
+    let mut list = list_of(alloc, made, random, is_made)?;
+    if is_once_in(random, 2) {
+        change_list(alloc, &mut list, random)?;
+    }
+    lay_list(alloc, device, &mut list, random)
+}
+
+fn list_of(
+    alloc: Global,
+    made: &[Vec<u8>],
+    random: &mut Pcg32,
+    is_made: bool,
+) -> Result<Vec<Vec<u8>>> {
+    if is_made {
+        copy_of(alloc, made)
+    } else {
+        Ok(payloads(alloc, random)?)
+    }
 }
 
 /// Reads the half plainly, mounts it twice, makes a directory the second time, and counts it.
@@ -82,11 +127,21 @@ fn compared(
     let alloc = report.alloc();
     let bytes = half_of(alloc, &device)?;
     let reading = read_half(alloc, bytes.as_slice(), EPOCH)?;
-    let (is_right, device) = is_mounted(alloc, device, &reading, false)?;
-    let fill = Fill::Seeded(u64::from(half));
-    let (is_kept, device) = is_mounted(alloc, device.crash(fill), &reading, true)?;
-    counts.count(report.runtime(), &reading, is_right && is_kept, half)?;
+    let (is_right, device) = is_mounted_twice(alloc, device, &reading, half)?;
+    counts.count(report.runtime(), &reading, is_right, half)?;
     Ok(device)
+}
+
+fn is_mounted_twice(
+    alloc: Global,
+    device: MemDevice,
+    reading: &Reading<'_>,
+    half: u32,
+) -> Result<(bool, MemDevice)> {
+    let (is_right, device) = is_mounted(alloc, device, reading, false)?;
+    let fill = Fill::Seeded(u64::from(half));
+    let (is_kept, device) = is_mounted(alloc, device.crash(fill), reading, true)?;
+    Ok((is_right && is_kept, device))
 }
 
 /// The fault of a half that is damaged.
@@ -104,17 +159,30 @@ fn is_mounted(
     reading: &Reading<'_>,
     makes: bool,
 ) -> Result<(bool, MemDevice)> {
-    let wants_tree = reading.outcome.is_tree();
     match Mounted::new(alloc, device) {
         Ok(mut mounted) => {
-            let is_right = wants_tree
-                && is_tree(alloc, &mut mounted, &reading.tree)?
-                && (!makes || is_made(alloc, &mut mounted, reading)?);
+            let is_right = is_read(alloc, &mut mounted, reading, makes)?;
             Ok((is_right, mounted.into_device()))
         }
         Err(unmounted) => {
-            let is_right = !wants_tree && unmounted.fault == fault_of(reading);
+            let is_right = !reading.outcome.is_tree() && unmounted.fault == fault_of(reading);
             Ok((is_right, unmounted.device))
         }
     }
+}
+
+/// Whether what is mounted is what was read, and where it is wanted a directory can be made there.
+fn is_read(
+    alloc: Global,
+    mounted: &mut Mounted,
+    reading: &Reading<'_>,
+    makes: bool,
+) -> Result<bool> {
+    if !reading.outcome.is_tree() || !is_tree(alloc, mounted, &reading.tree)? {
+        return Ok(false);
+    }
+    if makes {
+        return is_made(alloc, mounted, reading);
+    }
+    Ok(true)
 }

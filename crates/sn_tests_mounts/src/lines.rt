@@ -51,28 +51,43 @@ fn push_entries(text: &mut String, list: &[u8], is_user: bool) -> Result<()> {
 /// What getacl answers of the access ACL.
 pub fn access_line(alloc: Global, attributes: &Attributes<'_>) -> Result<String> {
     let mut text = String::new(alloc);
-    let rights = attributes.rights;
-    push_object(&mut text, Tag::UserObj, rights / 64)?;
-    push_entries(&mut text, attributes.access, true)?;
-    push_object(&mut text, Tag::GroupObj, rights / 8)?;
-    push_entries(&mut text, attributes.access, false)?;
-    push_object(&mut text, Tag::Other, rights)?;
+    push_access(&mut text, attributes)?;
     Ok(format!(in alloc; "ok {text}\n")?)
+}
+
+fn push_access(text: &mut String, attributes: &Attributes<'_>) -> Result<()> {
+    let rights = attributes.rights;
+    push_object(text, Tag::UserObj, rights / 64)?;
+    push_entries(text, attributes.access, true)?;
+    push_object(text, Tag::GroupObj, rights / 8)?;
+    push_entries(text, attributes.access, false)?;
+    push_object(text, Tag::Other, rights)
 }
 
 /// What getacl answers of the default ACL.
 pub fn default_line(alloc: Global, node: &Node<'_>) -> Result<String> {
+    match node.kind {
+        Kind::File => Ok(String::from_str(alloc, "err EINVAL\n")?),
+        Kind::Directory => directory_line(alloc, node.attributes.default),
+    }
+}
+
+fn directory_line(alloc: Global, list: &[u8]) -> Result<String> {
     let mut text = String::new(alloc);
-    for bytes in node.attributes.default.chunks_exact(ENTRY_SIZE) {
+    push_list(&mut text, list)?;
+    if text.is_empty() {
+        text.push_str("-")?;
+    }
+    Ok(format!(in alloc; "ok {text}\n")?)
+}
+
+fn push_list(text: &mut String, list: &[u8]) -> Result<()> {
+    for bytes in list.chunks_exact(ENTRY_SIZE) {
         if let Ok(entry) = Entry::read(bytes) {
-            push_entry(&mut text, &entry)?;
+            push_entry(text, &entry)?;
         }
     }
-    Ok(match (node.kind, text.is_empty()) {
-        (Kind::File, _) => String::from_str(alloc, "err EINVAL\n")?,
-        (Kind::Directory, true) => String::from_str(alloc, "ok -\n")?,
-        (Kind::Directory, false) => format!(in alloc; "ok {text}\n")?,
-    })
+    Ok(())
 }
 
 /// The mode: the bits of the group are those of the MASK, where there is one.

@@ -28,46 +28,45 @@ impl Spelling {
 
     fn put_entries(&mut self, random: &mut Pcg32, entries: &[(u8, u32)]) -> Result<(), AllocError> {
         for (tag, number) in entries {
-            let rights = if is_once_in(random, 400) {
-                8
-            } else {
-                below(random, 8) as u8
-            };
-            self.put(&[*tag, rights, 0, 0])?;
+            self.put(&[*tag, entry_rights(random), 0, 0])?;
             self.put(&number.to_le_bytes())?;
         }
         Ok(())
     }
 
     fn put_attributes(&mut self, random: &mut Pcg32) -> Result<(), AllocError> {
-        let special = if is_odd(random) { 4 } else { below(random, 4) };
-        let rights = if is_odd(random) {
-            0o1000
-        } else {
-            below(random, 0o1000)
-        };
-        self.put(&[special as u8])?;
-        self.put(&(rights as u16).to_le_bytes())?;
+        let special = special(random);
+        let rights = rights(random);
+        self.put(&[special])?;
+        self.put(&rights.to_le_bytes())?;
         for _ in 0..2 {
             let owner = below(random, 3).wrapping_sub(1);
             self.put(&owner.to_le_bytes())?;
         }
+        self.put_acls(random)
+    }
+
+    fn put_acls(&mut self, random: &mut Pcg32) -> Result<(), AllocError> {
         let access = access_acl(self.alloc, random)?;
         let defaults = default_acl(self.alloc, random)?;
+        self.put_lists(random, access.as_slice(), defaults.as_slice())
+    }
+
+    fn put_lists(
+        &mut self,
+        random: &mut Pcg32,
+        access: &[(u8, u32)],
+        defaults: &[(u8, u32)],
+    ) -> Result<(), AllocError> {
         self.put(&[(access.len() % 256) as u8, (defaults.len() % 256) as u8])?;
-        self.put_entries(random, access.as_slice())?;
-        self.put_entries(random, defaults.as_slice())
+        self.put_entries(random, access)?;
+        self.put_entries(random, defaults)
     }
 
     fn put_make(&mut self, random: &mut Pcg32) -> Result<(), AllocError> {
         self.put(&directory(random).to_le_bytes())?;
         self.put(&number(random).to_le_bytes())?;
-        let kind = if is_odd(random) {
-            3
-        } else {
-            1 + below(random, 2)
-        };
-        self.put(&[kind as u8])?;
+        self.put(&[kind(random)])?;
         self.put_attributes(random)?;
         self.put_name(name(random))
     }
@@ -93,12 +92,7 @@ impl Spelling {
     fn put_write(&mut self, random: &mut Pcg32) -> Result<(), AllocError> {
         self.put(&number(random).to_le_bytes())?;
         self.put(&offset(random).to_le_bytes())?;
-        let count = match below(random, 40) {
-            0 => 0,
-            1 => below(random, 20_000),
-            _ => 1 + below(random, 600),
-        };
-        for _ in 0..count {
+        for _ in 0..count(random) {
             self.put(&[7])?;
         }
         Ok(())
@@ -124,6 +118,51 @@ impl Spelling {
             }
             _ => Ok(()),
         }
+    }
+}
+
+/// The rights of an entry, now and then more than there are.
+fn entry_rights(random: &mut Pcg32) -> u8 {
+    if is_once_in(random, 400) {
+        8
+    } else {
+        below(random, 8) as u8
+    }
+}
+
+/// The S bits, now and then more than there are.
+fn special(random: &mut Pcg32) -> u8 {
+    if is_odd(random) {
+        4
+    } else {
+        below(random, 4) as u8
+    }
+}
+
+/// The rights of an inode, now and then more than there are.
+fn rights(random: &mut Pcg32) -> u16 {
+    if is_odd(random) {
+        0o1000
+    } else {
+        below(random, 0o1000) as u16
+    }
+}
+
+/// A kind, now and then none.
+fn kind(random: &mut Pcg32) -> u8 {
+    if is_odd(random) {
+        3
+    } else {
+        1 + below(random, 2) as u8
+    }
+}
+
+/// How many bytes a write has.
+fn count(random: &mut Pcg32) -> u32 {
+    match below(random, 40) {
+        0 => 0,
+        1 => below(random, 20_000),
+        _ => 1 + below(random, 600),
     }
 }
 
@@ -179,13 +218,26 @@ fn is_kept<'a>(
 
 /// Payloads that can be applied one after the other, but for a few.
 pub fn payloads(alloc: Global, random: &mut Pcg32) -> Result<Vec<Vec<u8>>, AllocError> {
+    let pool = pool(alloc, random)?;
+    keep_some(alloc, random, pool.as_slice())
+}
+
+fn pool(alloc: Global, random: &mut Pcg32) -> Result<Vec<Vec<u8>>, AllocError> {
     let mut pool = Vec::new(alloc);
     for _ in 0..POOL {
         pool.push(payload(alloc, random)?)?;
     }
+    Ok(pool)
+}
+
+fn keep_some(
+    alloc: Global,
+    random: &mut Pcg32,
+    pool: &[Vec<u8>],
+) -> Result<Vec<Vec<u8>>, AllocError> {
     let mut tree = Tree::new(alloc)?;
     let mut kept = Vec::new(alloc);
-    for payload in pool.iter() {
+    for payload in pool {
         if is_kept(random, &mut tree, payload.as_slice())? {
             kept.push(Vec::from_slice(alloc, payload.as_slice())?)?;
         }

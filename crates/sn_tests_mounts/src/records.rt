@@ -115,6 +115,11 @@ fn change_head(head: &mut Head, random: &mut Pcg32) {
 /// A body: its head, its payload, and zeros to the end of the sector.
 fn body(alloc: Global, head: Head, payload: &[u8]) -> Result<Vec<u8>> {
     let mut body = Vec::new(alloc);
+    spell(&mut body, head, payload)?;
+    Ok(body)
+}
+
+fn spell(body: &mut Vec<u8>, head: Head, payload: &[u8]) -> Result<()> {
     body.extend_from_slice(&head.epoch.to_le_bytes())?;
     body.extend_from_slice(&head.sequence.to_le_bytes())?;
     body.extend_from_slice(&head.size.to_le_bytes())?;
@@ -122,7 +127,7 @@ fn body(alloc: Global, head: Head, payload: &[u8]) -> Result<Vec<u8>> {
     // The last sector is filled up, and what is behind it left out.
     let zeros = [0; SECTOR_SIZE];
     body.extend_from_slice(&zeros[1..])?;
-    Ok(body)
+    Ok(())
 }
 
 /// Puts a body behind a gate, and answers the place behind it.
@@ -138,6 +143,19 @@ fn put_body(device: &mut MemDevice, place: u64, body: &[u8]) -> Result<u64> {
         put(device, place, &sector)?;
     }
     Ok(place.saturating_add(1))
+}
+
+/// Lays a record at a place, and answers the one behind it.
+fn lay_one(
+    alloc: Global,
+    device: &mut MemDevice,
+    place: u64,
+    head: Head,
+    payload: &[u8],
+) -> Result<u64> {
+    let body = body(alloc, head, payload)?;
+    put(device, place, &gate())?;
+    put_body(device, place, body.as_slice())
 }
 
 /// Lays the payloads as records from the first place on, one of them, where there is one at `odd`, with a head
@@ -159,10 +177,8 @@ fn lay(
         if at == odd {
             change_head(&mut head, random);
         }
-        let body = body(alloc, head, payload.as_slice())?;
         if place < PLACES {
-            put(device, place, &gate())?;
-            place = put_body(device, place, body.as_slice())?;
+            place = lay_one(alloc, device, place, head, payload.as_slice())?;
         }
     }
     if place < PLACES && !is_once_in(random, 12) {

@@ -58,17 +58,37 @@ fn is_there(
     path: &str,
     node: &Node<'_>,
 ) -> Result<bool> {
+    let has_status = has_status(alloc, mounted, tree, path, node)?;
+    let access = access_line(alloc, &node.attributes)?;
+    let has_access = has_acl(alloc, mounted, path, AclKind::Access, access.as_str())?;
+    let default = default_line(alloc, node)?;
+    let has_default = has_acl(alloc, mounted, path, AclKind::Default, default.as_str())?;
+    Ok(has_status && has_access && has_default)
+}
+
+fn has_status(
+    alloc: Global,
+    mounted: &mut Mounted,
+    tree: &Tree<'_>,
+    path: &str,
+    node: &Node<'_>,
+) -> Result<bool> {
     let reply = mounted.call(0, &stat(alloc, path)?);
     let is_numbered = number_of(&reply) == Some(node.number);
     let status = line_of(alloc, &reply)?;
-    let is_status = status.as_str() == status_line(alloc, tree, node)?.as_str();
-    let access = getacl(alloc, path, AclKind::Access)?;
-    let line = access_line(alloc, &node.attributes)?;
-    let is_access = is_told(alloc, mounted, &access, line.as_str())?;
-    let default = getacl(alloc, path, AclKind::Default)?;
-    let line = default_line(alloc, node)?;
-    let is_default = is_told(alloc, mounted, &default, line.as_str())?;
-    Ok(is_numbered && is_status && is_access && is_default)
+    let wanted = status_line(alloc, tree, node)?;
+    Ok(is_numbered && status.as_str() == wanted.as_str())
+}
+
+fn has_acl(
+    alloc: Global,
+    mounted: &mut Mounted,
+    path: &str,
+    kind: AclKind,
+    wanted: &str,
+) -> Result<bool> {
+    let call = getacl(alloc, path, kind)?;
+    is_told(alloc, mounted, &call, wanted)
 }
 
 /// Of the names that are drawn a directory has no other than those of the tree.
@@ -84,31 +104,37 @@ fn has_no_other(
             directory,
             name: name.as_bytes(),
         };
-        if tree.object(&link).is_none() {
-            let absent = format!(in alloc; "{path}/{name}")?;
-            let call = stat(alloc, absent.as_str())?;
-            if !is_told(alloc, mounted, &call, "err ENOENT\n")? {
-                return Ok(false);
-            }
+        if tree.object(&link).is_none() && !is_absent(alloc, mounted, path.as_str(), name)? {
+            return Ok(false);
         }
     }
     Ok(true)
 }
 
+fn is_absent(alloc: Global, mounted: &mut Mounted, above: &str, name: &str) -> Result<bool> {
+    let path = format!(in alloc; "{above}/{name}")?;
+    let call = stat(alloc, path.as_str())?;
+    is_told(alloc, mounted, &call, "err ENOENT\n")
+}
+
 /// Each name of the tree is there, with what it stands for.
 fn has_names(alloc: Global, mounted: &mut Mounted, tree: &Tree<'_>) -> Result<bool> {
     for name in tree.names() {
-        let above = path_of(alloc, tree, name.link.directory)?;
-        let last = str::from_utf8(name.link.name)?;
-        let path = format!(in alloc; "{above}/{last}")?;
         let Some(node) = tree.node(name.number) else {
             return Ok(false);
         };
+        let path = path_under(alloc, tree, name.link)?;
         if !is_there(alloc, mounted, tree, path.as_str(), &node)? {
             return Ok(false);
         }
     }
     Ok(true)
+}
+
+fn path_under(alloc: Global, tree: &Tree<'_>, link: Link<'_>) -> Result<String> {
+    let above = path_of(alloc, tree, link.directory)?;
+    let last = str::from_utf8(link.name)?;
+    Ok(format!(in alloc; "{above}/{last}")?)
 }
 
 /// Whether what is mounted is the tree, as far as the user 0 is told.
