@@ -9,10 +9,7 @@ use sn_script::read_script;
 use std::alloc::Global;
 use std::str;
 
-/// The blocks of the disk.
-pub const BLOCKS: u32 = 256;
-
-/// Its sectors.
+/// The sectors of the disk.
 pub const SECTORS: u64 = 2048;
 
 /// A restart, a step, or the call of a script's line.
