@@ -1,0 +1,19 @@
+use Rattle.std.proofs.Common.{rules}
+use Rattle.sn_model.specs.NameCalls.{rmdir_outcome}
+use Rattle.sn_core_names.proofs.calls.rmdir.Goals as goal
+
+pub returns-in_err-walked-clause-exact : goal.returns-in_err-walked-clause-exact
+unfolding rmdir_outcome
+returns-in_err-walked-clause-exact g c = search rules
+
+pub returns-in_err-parent-clause-exact : goal.returns-in_err-parent-clause-exact
+unfolding rmdir_outcome
+returns-in_err-parent-clause-exact g c = search rules
+
+pub returns-in_err-found-clause-exact : goal.returns-in_err-found-clause-exact
+unfolding rmdir_outcome
+returns-in_err-found-clause-exact g c = search rules
+
+pub returns-in_err-is_listable-clause-exact : goal.returns-in_err-is_listable-clause-exact
+unfolding rmdir_outcome
+returns-in_err-is_listable-clause-exact g c = search rules

@@ -1,0 +1,23 @@
+use Rattle.std.proofs.Common.{rules}
+use Rattle.sn_model.specs.NameCalls.{moving_of}
+use Rattle.sn_core_names.proofs.renaming.moving_of.Goals as goal
+
+pub returns-in_err-walked-clause-exact : goal.returns-in_err-walked-clause-exact
+unfolding moving_of
+returns-in_err-walked-clause-exact g c = search rules
+
+pub returns-in_err-found-clause-exact : goal.returns-in_err-found-clause-exact
+unfolding moving_of
+returns-in_err-found-clause-exact g c = search rules
+
+pub returns-in_err-old_directory-clause-exact : goal.returns-in_err-old_directory-clause-exact
+unfolding moving_of
+returns-in_err-old_directory-clause-exact g c = search rules
+
+pub returns-in_err-new_directory-clause-exact : goal.returns-in_err-new_directory-clause-exact
+unfolding moving_of
+returns-in_err-new_directory-clause-exact g c = search rules
+
+pub returns-clause-exact : goal.returns-clause-exact
+unfolding moving_of
+returns-clause-exact g c = search rules

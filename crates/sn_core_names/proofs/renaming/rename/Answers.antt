@@ -1,0 +1,15 @@
+use Rattle.std.proofs.Common.{rules}
+use Rattle.sn_model.specs.NameCalls.{rename_outcome}
+use Rattle.sn_core_names.proofs.renaming.rename.Goals as goal
+
+pub returns-in_err-movable-clause-exact : goal.returns-in_err-movable-clause-exact
+unfolding rename_outcome
+returns-in_err-movable-clause-exact g c = search rules
+
+pub returns-in_err-movable-2-clause-exact : goal.returns-in_err-movable-2-clause-exact
+unfolding rename_outcome
+returns-in_err-movable-2-clause-exact g c = search rules
+
+pub returns-in_err-moving-clause-exact : goal.returns-in_err-moving-clause-exact
+unfolding rename_outcome
+returns-in_err-moving-clause-exact g c = search rules
