@@ -25,3 +25,15 @@ returns-in_err-number-clause-exact g c = search rules
 pub returns-in_err-parent-clause-exact : goal.returns-in_err-parent-clause-exact
 unfolding link_outcome
 returns-in_err-parent-clause-exact g c = search rules
+
+pub returns-in_err-one_tree-clause-follows : goal.returns-in_err-one_tree-clause-follows
+returns-in_err-one_tree-clause-follows g c = g.met.V.TreeView.follows_on _ _ _ c.full.ensures.follows c.prefix.ensures.follows
+
+pub returns-in_err-number-clause-follows : goal.returns-in_err-number-clause-follows
+returns-in_err-number-clause-follows g c = g.met.V.TreeView.follows_on _ _ _ c.full.ensures.follows c.prefix.ensures.follows
+
+pub returns-in_err-parent-clause-follows : goal.returns-in_err-parent-clause-follows
+returns-in_err-parent-clause-follows g c = g.met.V.TreeView.follows_on _ _ _ c.full.ensures.follows c.prefix.ensures.follows
+
+pub returns-clause-follows : goal.returns-clause-follows
+returns-clause-follows g c = g.met.V.TreeView.follows_on _ _ _ (g.met.V.TreeView.follows_on _ _ _ c.full.ensures.follows c.prefix.ensures.follows) c.link_in.ensures.follows
