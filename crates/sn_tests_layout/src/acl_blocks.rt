@@ -1,8 +1,8 @@
 //! Blocks and lists of ACL entries.
 
-use crate::block::{DIRTY, block_of, spelled};
-use anyhow::{Context, Result, ensure};
-use sn_acl::{Acl, MAX_ENTRIES, Mode};
+use crate::block::{DIRTY, block_of, ensure_same, spelled};
+use anyhow::{Context, Result, bail, ensure};
+use sn_acl::{Acl, Entry, MAX_ENTRIES, Mode};
 use sn_layout::{Block, Reader};
 use sn_layout_acl::{AclBlock, AclParts, put_entries, read_entries};
 use sn_table::{Case, Report};
@@ -18,7 +18,10 @@ pub fn run(report: &mut Report<'_>) -> Result<()> {
 }
 
 fn acl_of(word: &str) -> Result<Acl> {
-    Acl::parse(word.as_bytes()).context(format_args!("no ACL: {word}"))
+    match Acl::parse(word.as_bytes()) {
+        Some(acl) => Ok(acl),
+        None => bail!("no ACL: {word}"),
+    }
 }
 
 fn block_with(acls: &AclBlock) -> Result<Block> {
@@ -34,31 +37,29 @@ fn acl_block(alloc: Global, case: Case<'_>) -> Result<String> {
     let Some(acls) = AclBlock::decode(&block) else {
         return Ok(String::from_str(alloc, "refused")?);
     };
-    ensure!(
-        block_with(&acls)? == block,
-        "another spelling: {}",
-        case.text()
-    );
-    let access = acls
-        .access
-        .join(Mode::from_bits(0).context("a mode")?)
-        .print();
+    ensure_same(block_with(&acls)? == block, case)?;
+    told(alloc, &acls)
+}
+
+fn told(alloc: Global, acls: &AclBlock) -> Result<String> {
+    let objects = Mode::from_bits(0).context("a mode")?;
+    let access = acls.access.join(objects).print();
     let access = access.as_str();
-    Ok(match acls.default {
-        Some(acl) => format!(in alloc; "{access} {}", acl.print().as_str())?,
-        None => format!(in alloc; "{access} -")?,
-    })
+    match &acls.default {
+        Some(acl) => Ok(format!(in alloc; "{access} {}", acl.print().as_str())?),
+        None => Ok(format!(in alloc; "{access} -")?),
+    }
 }
 
 /// The mode bits and the block of an access ACL.
 fn parts(alloc: Global, case: Case<'_>) -> Result<String> {
     let acl = acl_of(case.text())?;
     let parts = AclParts::of(&acl);
-    ensure!(
-        parts.access.join(parts.objects) == acl,
-        "joined otherwise: {}",
-        case.text()
-    );
+    ensure_same(parts.access.join(parts.objects) == acl, case)?;
+    told_parts(alloc, parts)
+}
+
+fn told_parts(alloc: Global, parts: AclParts) -> Result<String> {
     let mode = parts.objects.bits();
     let block = block_with(&AclBlock {
         access: parts.access,
@@ -73,18 +74,19 @@ fn parts(alloc: Global, case: Case<'_>) -> Result<String> {
 fn entries(alloc: Global, case: Case<'_>) -> Result<String> {
     let acl = acl_of(case.text())?;
     let entries = acl.entries();
-    let count = entries.len();
-    ensure!(count <= MAX_ENTRIES, "too many entries");
+    ensure!(entries.len() <= MAX_ENTRIES, "too many entries");
     let mut bytes = [0xa5; LONGEST];
     let end = put_entries(&mut bytes, 0, entries);
-    let mut reader = Reader::new(&bytes);
-    ensure!(reader.remaining() >= LONGEST, "too few bytes");
-    let read = read_entries(&mut reader, count).context("entries")?;
-    ensure!(
-        read.as_slice() == entries,
-        "read otherwise: {}",
-        case.text()
-    );
+    ensure_same(is_read(&bytes, entries)?, case)?;
     ensure!(end <= bytes.len(), "too many bytes");
     Ok(hex::encode(alloc, &bytes[..end])?)
+}
+
+/// Whether bytes begin with these entries.
+fn is_read(bytes: &[u8; LONGEST], entries: &[Entry]) -> Result<bool> {
+    ensure!(entries.len() <= MAX_ENTRIES, "too many entries");
+    let mut reader = Reader::new(bytes);
+    ensure!(reader.remaining() >= LONGEST, "too few bytes");
+    let read = read_entries(&mut reader, entries.len()).context("entries")?;
+    Ok(read.as_slice() == entries)
 }

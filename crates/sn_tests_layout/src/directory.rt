@@ -3,7 +3,7 @@
 use crate::block::{DIRTY, block_of, spelled};
 use anyhow::{Context, Result, bail, ensure};
 use sn_layout::{BLOCK_SIZE, Block};
-use sn_layout_node::DirectoryBlock;
+use sn_layout_node::{DirectoryBlock, DirectoryEntry};
 use sn_limits::is_name;
 use sn_table::{Case, Report, Tally};
 use std::alloc::Global;
@@ -26,16 +26,23 @@ pub fn run(report: &mut Report<'_>) -> Result<()> {
 
 fn directory_block(alloc: Global, case: Case<'_>) -> Result<String> {
     let block = block_of(alloc, case.text())?;
-    let Some(names) = DirectoryBlock::decode(&block) else {
-        return Ok(String::from_str(alloc, "refused")?);
-    };
+    match DirectoryBlock::decode(&block) {
+        Some(names) => told(alloc, &names),
+        None => Ok(String::from_str(alloc, "refused")?),
+    }
+}
+
+fn told(alloc: Global, names: &DirectoryBlock<'_>) -> Result<String> {
     let mut text = String::new(alloc);
     for entry in names.entries() {
-        let name = str::from_utf8(entry.name)?;
-        write!(text, "{} {name}, ", entry.number)?;
+        push_entry(&mut text, entry.number, entry.name)?;
     }
     text.push_str("end")?;
     Ok(text)
+}
+
+fn push_entry(text: &mut String, number: u16, name: &[u8]) -> Result<()> {
+    Ok(write!(text, "{number} {}, ", str::from_utf8(name)?)?)
 }
 
 /// The number of a name in the block of `f`, which is 3, and `dir`, which is 65,535.
@@ -66,22 +73,44 @@ fn steps(alloc: Global, case: Case<'_>) -> Result<String> {
     let mut block = DIRTY;
     DirectoryBlock::clear(&mut block);
     let mut text = String::new(alloc);
-    for word in case.text().split_ascii_whitespace() {
-        match word.split_once(':') {
-            Some(("remove", name)) => match remove(&mut block, name.as_bytes())? {
-                Some(number) => write!(text, "{number}, ")?,
-                None => text.push_str("none, ")?,
-            },
-            Some((number, name)) => {
-                let is_put = insert(&mut block, name.as_bytes(), number.parse()?)?;
-                text.push_str(if is_put { "put, " } else { "full, " })?;
-            }
-            None => bail!("no step: {word}"),
-        }
-    }
-    let spelled = spelled(alloc, &block)?;
-    text.push_str(spelled.as_str())?;
+    take_steps(case, &mut block, &mut text)?;
+    push_block(alloc, &block, &mut text)?;
     Ok(text)
+}
+
+fn push_block(alloc: Global, block: &Block, text: &mut String) -> Result<()> {
+    let spelled = spelled(alloc, block)?;
+    Ok(text.push_str(spelled.as_str())?)
+}
+
+fn take_steps(case: Case<'_>, block: &mut Block, text: &mut String) -> Result<()> {
+    for word in case.text().split_ascii_whitespace() {
+        take_step(word, block, text)?;
+    }
+    Ok(())
+}
+
+fn take_step(word: &str, block: &mut Block, text: &mut String) -> Result<()> {
+    match word.split_once(':') {
+        Some(("remove", name)) => push_removed(remove(block, name.as_bytes())?, text),
+        Some((number, name)) => {
+            let is_put = insert(block, name.as_bytes(), number.parse()?)?;
+            push_put(is_put, text)
+        }
+        None => bail!("no step: {word}"),
+    }
+}
+
+fn push_removed(removed: Option<u16>, text: &mut String) -> Result<()> {
+    match removed {
+        Some(number) => Ok(write!(text, "{number}, ")?),
+        None => Ok(text.push_str("none, ")?),
+    }
+}
+
+fn push_put(is_put: bool, text: &mut String) -> Result<()> {
+    let word = if is_put { "put, " } else { "full, " };
+    Ok(text.push_str(word)?)
 }
 
 /// The name of a place below 400.
@@ -121,15 +150,19 @@ fn many_names(report: &Report<'_>) -> Result<Tally> {
     let mut entries = names.entries();
     for place in 0..MANY {
         let entry = entries.next().context("a name")?;
-        let name = name_at(place);
-        let is_right = entry.name == name.as_slice()
-            && usize::from(entry.number) == place + 2
-            && names.find(&name) == Some(entry.number);
+        let is_right = is_at(&names, &entry, place);
         tally.check(report.runtime(), is_right, &[place as u32])?;
     }
     let is_end = entries.next().is_none() && names.find(b"n400---").is_none();
     tally.check(report.runtime(), is_end, &[])?;
     Ok(tally)
+}
+
+fn is_at(names: &DirectoryBlock<'_>, entry: &DirectoryEntry<'_>, place: usize) -> bool {
+    let name = name_at(place);
+    entry.name == name.as_slice()
+        && usize::from(entry.number) == place.saturating_add(2)
+        && names.find(&name) == Some(entry.number)
 }
 
 fn one_of_many_removed(report: &Report<'_>) -> Result<Tally> {

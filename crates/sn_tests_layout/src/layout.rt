@@ -1,7 +1,7 @@
 //! The superblock, root bodies and the places of a disk.
 
-use crate::block::{DIRTY, block_of, push_pointers};
-use anyhow::{Context, Result, ensure};
+use crate::block::{DIRTY, block_of, ensure_same, push_pointers};
+use anyhow::{Context, Result, bail, ensure};
 use sn_layout::{
     Area, Block, BlockTree, LogHalf, Places, RootBody, SNAPSHOT_ROOM, Slot, Snapshot, Snapshots,
     Superblock,
@@ -42,7 +42,7 @@ fn superblock(alloc: Global, case: Case<'_>) -> Result<String> {
     };
     let mut again = DIRTY;
     superblock.encode(&mut again);
-    ensure!(again == block, "another spelling: {}", case.text());
+    ensure_same(again == block, case)?;
     Ok(format!(in alloc; "{} blocks", superblock.places.blocks())?)
 }
 
@@ -53,20 +53,27 @@ fn root_body(alloc: Global, case: Case<'_>) -> Result<String> {
     };
     let mut again = DIRTY;
     body.encode(&mut again);
-    ensure!(again == block, "another spelling: {}", case.text());
+    ensure_same(again == block, case)?;
     told(alloc, &block, &body)
 }
 
 fn told(alloc: Global, block: &Block, body: &RootBody) -> Result<String> {
     let mut text = String::new(alloc);
-    write!(text, "version {}, ", RootBody::version(block))?;
-    write!(text, "generation {}, ", body.generation)?;
-    write!(text, "epoch {}, ", body.epoch)?;
-    push_tree(&mut text, &body.inode_file)?;
-    for snapshot in body.snapshots.as_slice() {
-        push_snapshot(&mut text, snapshot)?;
-    }
+    push_body(&mut text, RootBody::version(block), body)?;
     Ok(text)
+}
+
+fn push_body(text: &mut String, version: u32, body: &RootBody) -> Result<()> {
+    let (generation, epoch) = (body.generation, body.epoch);
+    write!(
+        text,
+        "version {version}, generation {generation}, epoch {epoch}, "
+    )?;
+    push_tree(text, &body.inode_file)?;
+    for snapshot in body.snapshots.as_slice() {
+        push_snapshot(text, snapshot)?;
+    }
+    Ok(())
 }
 
 fn push_snapshot(text: &mut String, snapshot: &Snapshot) -> Result<()> {
@@ -86,7 +93,7 @@ fn area_of(name: &str) -> Result<Area> {
             return Ok(area);
         }
     }
-    Err(anyhow::anyhow!("no area: {name}"))
+    bail!("no area: {name}")
 }
 
 fn name_of(area: Area) -> Result<&'static str> {
@@ -95,7 +102,7 @@ fn name_of(area: Area) -> Result<&'static str> {
             return Ok(name);
         }
     }
-    Err(anyhow::anyhow!("an area without a name"))
+    bail!("an area without a name")
 }
 
 /// The blocks of an area on a disk of so many, or the area of a block.
@@ -103,41 +110,56 @@ fn place(alloc: Global, case: Case<'_>) -> Result<String> {
     let Some(places) = Places::new(case.number(0)?) else {
         return Ok(String::from_str(alloc, "no disk")?);
     };
-    let word = case.word(1)?;
-    if word == "block" {
-        let block = case.number(2)?;
-        ensure!(block < places.blocks(), "no block {block}");
-        return Ok(String::from_str(alloc, name_of(places.area_of(block))?)?);
+    match case.word(1)? {
+        "block" => Ok(String::from_str(alloc, area_at(&places, case.number(2)?)?)?),
+        name => range_of(alloc, &places, area_of(name)?),
     }
-    let range = places.range(area_of(word)?);
+}
+
+fn area_at(places: &Places, block: u32) -> Result<&'static str> {
+    ensure!(block < places.blocks(), "no block {block}");
+    name_of(places.area_of(block))
+}
+
+fn range_of(alloc: Global, places: &Places, area: Area) -> Result<String> {
+    let range = places.range(area);
     Ok(format!(in alloc; "{} to {}", range.start, range.end - 1)?)
 }
 
 fn snapshot_name(alloc: Global, case: Case<'_>) -> Result<String> {
     let word = case.bytes(alloc)?;
-    let Some(name) = SnapshotName::parse(word.as_slice()) else {
-        return refused(alloc);
-    };
-    Ok(String::from_str(alloc, str::from_utf8(name.copy().as_bytes())?)?)
+    match SnapshotName::parse(word.as_slice()) {
+        Some(name) => Ok(String::from_str(alloc, str::from_utf8(name.copy().as_bytes())?)?),
+        None => refused(alloc),
+    }
 }
 
 /// Snapshots with these bits and one name, of which one is removed.
 fn snapshots(alloc: Global, case: Case<'_>) -> Result<String> {
+    let index = case.number(1)? as usize;
+    let bits = case.numbers(alloc, 0)?;
+    let mut snapshots = snapshots_of(bits.as_slice())?;
+    ensure!(index < snapshots.as_slice().len(), "no snapshot {index}");
+    let removed = snapshots.remove(index).bit;
+    told_snapshots(alloc, removed, &snapshots)
+}
+
+fn snapshots_of(bits: &[u32]) -> Result<Snapshots> {
     let mut snapshots = Snapshots::default();
-    for bit in case.numbers(alloc, 0)?.as_slice() {
-        let name = SnapshotName::parse(b"x.y_Z-9").context("a name")?;
+    for bit in bits {
         ensure!(snapshots.as_slice().len() < SNAPSHOT_ROOM, "no room");
         snapshots.push(Snapshot {
             bit: u8::try_from(*bit)?,
-            name,
+            name: SnapshotName::parse(b"x.y_Z-9").context("a name")?,
             tree: BlockTree::default(),
         });
     }
-    let index = case.number(1)? as usize;
-    ensure!(index < snapshots.as_slice().len(), "no snapshot {index}");
-    let removed = snapshots.remove(index).bit;
+    Ok(snapshots)
+}
+
+fn told_snapshots(alloc: Global, removed: u8, left: &Snapshots) -> Result<String> {
     let mut text = format!(in alloc; "removed {removed}, left")?;
-    for snapshot in snapshots.as_slice() {
+    for snapshot in left.as_slice() {
         write!(text, " {}", snapshot.bit)?;
     }
     Ok(text)

@@ -1,6 +1,6 @@
 //! Inode records and indirect blocks.
 
-use crate::block::{DIRTY, block_of, fill, push_pointers, spelled};
+use crate::block::{DIRTY, block_of, ensure_same, fill, push_pointers, spelled};
 use anyhow::{Result, ensure};
 use sn_layout::{BLOCK_SIZE, Block};
 use sn_layout_node::{Content, INODE_SIZE, IndirectBlock, Inode, InodeRecord, POINTERS_PER_BLOCK};
@@ -23,7 +23,7 @@ fn record(alloc: Global, case: Case<'_>) -> Result<String> {
     };
     let mut again = [0xa5; INODE_SIZE];
     record.encode(&Limits::VERSION_1, &mut again);
-    ensure!(again == bytes, "another spelling: {}", case.text());
+    ensure_same(again == bytes, case)?;
     match record {
         InodeRecord::Unused => Ok(String::from_str(alloc, "unused")?),
         InodeRecord::Used(inode) => told(alloc, &inode),
@@ -32,32 +32,46 @@ fn record(alloc: Global, case: Case<'_>) -> Result<String> {
 
 fn told(alloc: Global, inode: &Inode) -> Result<String> {
     let mut text = String::new(alloc);
-    text.push_str(match inode.kind {
-        Kind::File => "file",
-        Kind::Directory => "directory",
-    })?;
-    if inode.set_gid {
-        text.push_str(", S_ISGID")?;
-    }
-    if inode.sticky {
-        text.push_str(", S_ISVTX")?;
-    }
-    write!(text, ", mode {:o}, ", inode.objects.bits())?;
-    write!(text, "links {}, ", inode.links)?;
-    write!(text, "owner {}, group {}, ", inode.owner, inode.group)?;
-    write!(text, "ACL block {}, ", inode.acl_block)?;
-    write!(text, "size {}", inode.content.size())?;
+    push_inode(&mut text, inode)?;
     push_content(&mut text, &inode.content)?;
     Ok(text)
 }
 
+fn push_inode(text: &mut String, inode: &Inode) -> Result<()> {
+    text.push_str(kind_word(inode.kind))?;
+    push_if(inode.set_gid, ", S_ISGID", text)?;
+    push_if(inode.sticky, ", S_ISVTX", text)?;
+    let (mode, links) = (inode.objects.bits(), inode.links);
+    let (owner, group) = (inode.owner, inode.group);
+    let acl_block = inode.acl_block;
+    write!(
+        text,
+        ", mode {mode:o}, links {links}, owner {owner}, group {group}"
+    )?;
+    Ok(write!(
+        text,
+        ", ACL block {acl_block}, size {}",
+        inode.content.size()
+    )?)
+}
+
+fn kind_word(kind: Kind) -> &'static str {
+    match kind {
+        Kind::File => "file",
+        Kind::Directory => "directory",
+    }
+}
+
+fn push_if(is_set: bool, word: &str, text: &mut String) -> Result<()> {
+    if is_set {
+        text.push_str(word)?;
+    }
+    Ok(())
+}
+
 fn push_content(text: &mut String, content: &Content) -> Result<()> {
     match content {
-        Content::Inline(bytes) => {
-            text.push_str(" ")?;
-            text.push_str(str::from_utf8(bytes.as_slice())?)?;
-            Ok(())
-        }
+        Content::Inline(bytes) => Ok(write!(text, " {}", str::from_utf8(bytes.as_slice())?)?),
         Content::Tree(tree) => push_pointers(text, tree.pointers.as_slice()),
     }
 }
@@ -66,7 +80,17 @@ fn push_content(text: &mut String, content: &Content) -> Result<()> {
 /// block again.
 fn indirect_block(alloc: Global, case: Case<'_>) -> Result<String> {
     let block = block_of(alloc, case.text())?;
-    let indirect = IndirectBlock::decode(&block);
+    let (pointers, set) = pointers_of(&IndirectBlock::decode(&block));
+    let mut again = DIRTY;
+    IndirectBlock::encode(&pointers, &mut again);
+    ensure_same(again == block && set == block, case)?;
+    let mut text = String::from_str(alloc, "pointers")?;
+    push_pointers(&mut text, &pointers)?;
+    Ok(text)
+}
+
+/// The pointers of a block, and a block in which they are set one by one.
+fn pointers_of(indirect: &IndirectBlock<'_>) -> ([u32; POINTERS_PER_BLOCK], Block) {
     let mut pointers = [0; POINTERS_PER_BLOCK];
     let mut set: Block = [0; BLOCK_SIZE];
     for at in 0..POINTERS_PER_BLOCK {
@@ -74,16 +98,7 @@ fn indirect_block(alloc: Global, case: Case<'_>) -> Result<String> {
         pointers[at] = pointer;
         IndirectBlock::set_pointer(&mut set, at, pointer);
     }
-    let mut again = DIRTY;
-    IndirectBlock::encode(&pointers, &mut again);
-    ensure!(
-        again == block && set == block,
-        "another spelling: {}",
-        case.text()
-    );
-    let mut text = String::from_str(alloc, "pointers")?;
-    push_pointers(&mut text, &pointers)?;
-    Ok(text)
+    (pointers, set)
 }
 
 /// The block in which one pointer is set and the others are holes.
