@@ -26,46 +26,53 @@ pub fn run(report: &mut Report<'_>) -> Result<()> {
     report.add("a failure at each read", tally)
 }
 
-/// What a failure leaves of a read: the bytes, or none where the device failed.
+/// Whether a read finds the bytes, or none where the device failed.
 fn answer(
     alloc: Global,
     blocks: &mut Blocks<MemDevice>,
     content: &Content,
-) -> Result<Option<Vec<u8>>> {
+) -> Result<Option<bool>> {
     match read(alloc, blocks, content, OFFSET, 2) {
-        Ok(bytes) => Ok(Some(bytes)),
+        Ok(bytes) => Ok(Some(are_right(bytes.as_slice()))),
         Err(TreeFault::Read(ReadFault::Device)) => Ok(None),
         Err(fault) => bail!("{fault}"),
     }
 }
 
-fn is_right(bytes: Option<Vec<u8>>) -> bool {
-    match bytes {
-        Some(bytes) => bytes.as_slice() == [SHAPE.byte(OFFSET), SHAPE.byte(OFFSET + 1)].as_slice(),
-        None => false,
-    }
+fn are_right(bytes: &[u8]) -> bool {
+    bytes == [SHAPE.byte(OFFSET), SHAPE.byte(OFFSET + 1)].as_slice()
 }
 
 /// A read that fails is told, and the next one finds the bytes.
 fn reads(report: &Report<'_>) -> Result<Tally> {
-    let alloc = report.alloc();
-    let mut tally = Tally::new();
-    let mut image = Image::new(alloc, 256, 70)?;
+    let mut image = Image::new(report.alloc(), 256, 70)?;
     let file = write(&mut image, SHAPE)?;
     let content = content_of(&file, SHAPE)?;
+    read_each(report, &image, &content)
+}
+
+fn read_each(report: &Report<'_>, image: &Image, content: &Content) -> Result<Tally> {
+    let mut tally = Tally::new();
     for call in 1..READS + 2 {
-        let mut device = MemDevice::from_bytes(alloc, image.bytes())?;
-        ensure!(call > 0, "calls are counted from 1");
-        device.fail_at(u64::from(call));
-        let mut blocks = Blocks::new(alloc, device).map_err(AllocError::from)?;
-        let first = answer(alloc, &mut blocks, &content)?;
-        let is_told = if call > READS {
-            is_right(first)
-        } else {
-            first.is_none()
-        };
-        let second = answer(alloc, &mut blocks, &content)?;
-        tally.check(report.runtime(), is_told && is_right(second), &[call])?;
+        let is_right = is_told(report.alloc(), image, content, call)?;
+        tally.check(report.runtime(), is_right, &[call])?;
     }
     Ok(tally)
+}
+
+/// Whether a read tells that a call of the device failed, or is right where it makes fewer, and is right then.
+fn is_told(alloc: Global, image: &Image, content: &Content, call: u32) -> Result<bool> {
+    let mut blocks = failing_at(alloc, image, call)?;
+    let first = answer(alloc, &mut blocks, content)?;
+    let second = answer(alloc, &mut blocks, content)?;
+    let wanted = (call > READS).then_some(true);
+    Ok(first == wanted && second == Some(true))
+}
+
+/// The blocks of a device of which one call fails.
+fn failing_at(alloc: Global, image: &Image, call: u32) -> Result<Blocks<MemDevice>> {
+    ensure!(call > 0, "calls are counted from 1");
+    let mut device = MemDevice::from_bytes(alloc, image.bytes())?;
+    device.fail_at(u64::from(call));
+    Ok(Blocks::new(alloc, device).map_err(AllocError::from)?)
 }

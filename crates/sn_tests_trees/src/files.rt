@@ -75,23 +75,42 @@ fn lead(image: &mut Image, file: &mut File, index: u64, number: u32) -> Result<(
         .pointers
         .get_mut(first as usize)
         .context("no such pointer")?;
-    let Some(second) = second else {
-        *pointer = number;
-        return Ok(());
-    };
-    if *pointer == 0 {
-        *pointer = image.take()?;
+    match second {
+        None => {
+            *pointer = number;
+            Ok(())
+        }
+        Some(second) => {
+            *pointer = taken_at(image, *pointer)?;
+            lead_below(image, *pointer, (second, third), number)
+        }
     }
-    let Some(third) = third else {
-        put_pointer(image, *pointer, second, number);
-        return Ok(());
-    };
-    let mut below = pointer_in(image.bytes(), *pointer, second).context("no such block")?;
-    if below == 0 {
-        below = image.take()?;
-        put_pointer(image, *pointer, second, below);
+}
+
+/// The block of a pointer, which is taken where the pointer is a hole.
+fn taken_at(image: &mut Image, pointer: u32) -> Result<u32> {
+    if pointer == 0 {
+        return image.take();
     }
-    put_pointer(image, below, third, number);
+    Ok(pointer)
+}
+
+/// Lets a pointer of an indirect block lead to a block, or one of the indirect block below it.
+fn lead_below(
+    image: &mut Image,
+    above: u32,
+    (second, third): (u64, Option<u64>),
+    number: u32,
+) -> Result<()> {
+    match third {
+        None => put_pointer(image, above, second, number),
+        Some(third) => {
+            let below = pointer_in(image.bytes(), above, second).context("no such block")?;
+            let below = taken_at(image, below)?;
+            put_pointer(image, above, second, below);
+            put_pointer(image, below, third, number);
+        }
+    }
     Ok(())
 }
 
@@ -105,18 +124,26 @@ fn record_of(file: &File, shape: Shape) -> [u8; 128] {
     record[..6].copy_from_slice(&[1, 0, 0xa4, 1, 1, 0]);
     record[16..24].copy_from_slice(&file.size.to_le_bytes());
     if file.size <= 64 {
-        for (at, place) in record[64..].iter_mut().enumerate() {
-            if (at as u64) < file.size {
-                *place = shape.byte(at as u64);
-            }
-        }
+        put_bytes(&mut record, file.size, shape);
     } else {
-        for (at, pointer) in file.pointers.iter().enumerate() {
-            let start = 64 + 4 * (at % 16);
-            record[start..start + 4].copy_from_slice(&pointer.to_le_bytes());
-        }
+        put_pointers(&mut record, file);
     }
     record
+}
+
+fn put_bytes(record: &mut [u8; 128], size: u64, shape: Shape) {
+    for (at, place) in record[64..].iter_mut().enumerate() {
+        if (at as u64) < size {
+            *place = shape.byte(at as u64);
+        }
+    }
+}
+
+fn put_pointers(record: &mut [u8; 128], file: &File) {
+    for (at, pointer) in file.pointers.iter().enumerate() {
+        let start = 64 + 4 * (at % 16);
+        record[start..start + 4].copy_from_slice(&pointer.to_le_bytes());
+    }
 }
 
 /// The tree of a file that has one.

@@ -66,58 +66,79 @@ fn drawn(alloc: Global, random: &mut Pcg32) -> Result<Image> {
     Ok(image)
 }
 
+/// A part of a file.
+#[derive(Clone, Copy)]
+struct Part {
+    file: File,
+    offset: u64,
+    count: usize,
+}
+
 fn disk_of(
     report: &Report<'_>,
     random: &mut Pcg32,
     disk: u32,
     (whole, damaged): (&mut Tally, &mut Tally),
 ) -> Result<()> {
-    let alloc = report.alloc();
-    let image = drawn(alloc, random)?;
-    let mut blocks = blocks_of(alloc, image.bytes())?;
+    let image = drawn(report.alloc(), random)?;
+    let mut blocks = blocks_of(report.alloc(), image.bytes())?;
     for number in 0..READS {
-        let file = file(random);
-        let offset = random.next_u64() % file.size.max(1);
-        let count = (random.next_u32() % 9_000) as usize;
-        let found = found(alloc, &mut blocks, &file, offset, count)?;
-        match plain_bytes(alloc, image.bytes(), &file, offset, count)? {
-            Some(wanted) => {
-                let is_right = found.is_some_and(|found| found.as_slice() == wanted.as_slice());
-                whole.check(report.runtime(), is_right, &[disk, number])?;
-            }
-            None => damaged.check(report.runtime(), found.is_none(), &[disk, number])?,
-        }
+        let part = draw_part(random);
+        let (is_whole, is_right) = compared(report.alloc(), &mut blocks, &image, part)?;
+        let tally = if is_whole { &mut *whole } else { &mut *damaged };
+        tally.check(report.runtime(), is_right, &[disk, number])?;
     }
     Ok(())
 }
 
-/// The bytes that are read, or none where the disk is told to be damaged.
-fn found(
+fn draw_part(random: &mut Pcg32) -> Part {
+    let file = file(random);
+    Part {
+        file,
+        offset: random.next_u64() % file.size.max(1),
+        count: (random.next_u32() % 9_000) as usize,
+    }
+}
+
+/// Whether all blocks that a part needs lie on the disk, and whether it is read so.
+fn compared(
     alloc: Global,
     blocks: &mut Blocks<MemDevice>,
-    file: &File,
-    offset: u64,
-    count: usize,
-) -> Result<Option<Vec<u8>>> {
-    match read(alloc, blocks, &Content::Tree(tree_of(file)), offset, count) {
+    image: &Image,
+    part: Part,
+) -> Result<(bool, bool)> {
+    let found = found(alloc, blocks, part)?;
+    let wanted = plain_bytes(alloc, image.bytes(), part)?;
+    Ok((wanted.is_some(), is_same(&found, &wanted)))
+}
+
+fn is_same(found: &Option<Vec<u8>>, wanted: &Option<Vec<u8>>) -> bool {
+    match (found, wanted) {
+        (Some(found), Some(wanted)) => found.as_slice() == wanted.as_slice(),
+        (None, None) => true,
+        _ => false,
+    }
+}
+
+/// The bytes that are read, or none where the disk is told to be damaged.
+fn found(alloc: Global, blocks: &mut Blocks<MemDevice>, part: Part) -> Result<Option<Vec<u8>>> {
+    let content = Content::Tree(tree_of(&part.file));
+    match read(alloc, blocks, &content, part.offset, part.count) {
         Ok(bytes) => Ok(Some(bytes)),
         Err(TreeFault::Damaged) => Ok(None),
         Err(fault) => bail!("{fault}"),
     }
 }
 
-/// The bytes from an offset on, if all blocks that they need lie on the disk.
-fn plain_bytes(
-    alloc: Global,
-    image: &[u8],
-    file: &File,
-    offset: u64,
-    count: usize,
-) -> Result<Option<Vec<u8>>> {
+/// The bytes of a part, if all blocks that they need lie on the disk.
+fn plain_bytes(alloc: Global, image: &[u8], part: Part) -> Result<Option<Vec<u8>>> {
     let mut bytes = Vec::new(alloc);
-    let end = offset.saturating_add(count as u64).min(file.size);
-    for at in offset..end {
-        match byte(image, file, at) {
+    let end = part
+        .offset
+        .saturating_add(part.count as u64)
+        .min(part.file.size);
+    for at in part.offset..end {
+        match byte(image, &part.file, at) {
             Some(byte) => bytes.push(byte)?,
             None => return Ok(None),
         }

@@ -10,6 +10,7 @@ use sn_layout::BlockTree;
 use sn_layout_node::Content;
 use sn_table::{Report, Tally};
 use sn_tree_read::{entry, fetch_data, read};
+use std::alloc::Global;
 
 /// Around the bytes of an inode, of a block, of sixteen pointers, and of an indirect block under each. The last
 /// two lie under two levels.
@@ -41,6 +42,16 @@ const COUNTS: [usize; 6] = [0, 1, 65, 4_096, 4_097, 9_000];
 /// The blocks that are looked at one by one.
 const INDEXES: [u64; 9] = [0, 1, 2, 15, 16, 1_023, 1_024, 1_025, 16_384];
 
+/// A file on a disk, by its bytes and behind a device.
+#[derive(Drop)]
+struct WrittenFile {
+    shape: Shape,
+    image: Image,
+    file: File,
+    content: Content,
+    blocks: Blocks<MemDevice>,
+}
+
 pub fn run(report: &mut Report<'_>) -> Result<()> {
     let mut parts = Tally::new();
     let mut blocks = Tally::new();
@@ -66,48 +77,81 @@ fn file(
     shape: Shape,
     (parts, blocks): (&mut Tally, &mut Tally),
 ) -> Result<()> {
-    let alloc = report.alloc();
-    let mut image = Image::new(alloc, 256, 70)?;
-    let file = write(&mut image, shape)?;
-    let content = content_of(&file, shape)?;
-    let mut device = blocks_of(alloc, image.bytes())?;
+    let mut file = written(report.alloc(), shape)?;
     for (at, offset) in OFFSETS.iter().enumerate() {
-        for count in COUNTS {
-            let is_right = is_part(report, &mut device, &content, shape, *offset, count)?;
-            parts.check(
-                report.runtime(),
-                is_right,
-                &[number, at as u32, count as u32],
-            )?;
-        }
+        check_parts(report, &mut file, *offset, (number, at as u32), parts)?;
     }
     if shape.size > 64 {
-        let tree = tree_of(&file);
-        for index in INDEXES {
-            let is_right = is_block(&mut device, &tree, shape, index)?
-                && is_path(&mut device, image.bytes(), &file, &tree, index)?;
-            blocks.check(report.runtime(), is_right, &[number, index as u32])?;
-        }
+        check_blocks(report, &mut file, number, blocks)?;
     }
     Ok(())
 }
 
-/// Whether the bytes from an offset on, and from the place as far before the end, are those of a file.
-fn is_part(
+fn written(alloc: Global, shape: Shape) -> Result<WrittenFile> {
+    let mut image = Image::new(alloc, 256, 70)?;
+    let file = write(&mut image, shape)?;
+    let content = content_of(&file, shape)?;
+    let blocks = blocks_of(alloc, image.bytes())?;
+    Ok(WrittenFile {
+        shape,
+        image,
+        file,
+        content,
+        blocks,
+    })
+}
+
+fn check_parts(
     report: &Report<'_>,
-    blocks: &mut Blocks<MemDevice>,
-    content: &Content,
-    shape: Shape,
+    file: &mut WrittenFile,
     offset: u64,
-    count: usize,
-) -> Result<bool> {
-    let from_end = shape.size.saturating_sub(offset);
-    let first = read(report.alloc(), blocks, content, offset, count)?;
-    let last = read(report.alloc(), blocks, content, from_end, count)?;
-    Ok(
-        are_bytes(shape, offset, count, first.as_slice())
-            && are_bytes(shape, from_end, count, last.as_slice()),
-    )
+    (number, at): (u32, u32),
+    parts: &mut Tally,
+) -> Result<()> {
+    for count in COUNTS {
+        let is_right = is_part(report.alloc(), file, offset, count)?;
+        parts.check(report.runtime(), is_right, &[number, at, count as u32])?;
+    }
+    Ok(())
+}
+
+fn check_blocks(
+    report: &Report<'_>,
+    file: &mut WrittenFile,
+    number: u32,
+    blocks: &mut Tally,
+) -> Result<()> {
+    let tree = tree_of(&file.file);
+    for index in INDEXES {
+        let is_right = is_reached(file, &tree, index)?;
+        blocks.check(report.runtime(), is_right, &[number, index as u32])?;
+    }
+    Ok(())
+}
+
+fn is_reached(file: &mut WrittenFile, tree: &BlockTree, index: u64) -> Result<bool> {
+    let is_block = is_block(&mut file.blocks, tree, file.shape, index)?;
+    let pointer = entry(
+        &mut file.blocks,
+        tree,
+        BlockTree::levels_of(tree.size),
+        index,
+    )?;
+    let wanted = data_pointer(file.image.bytes(), &file.file, index);
+    Ok(is_block && wanted == Some(pointer))
+}
+
+/// Whether the bytes from an offset on, and from the place as far before the end, are those of a file.
+fn is_part(alloc: Global, file: &mut WrittenFile, offset: u64, count: usize) -> Result<bool> {
+    let from_end = file.shape.size.saturating_sub(offset);
+    let is_first = is_read(alloc, file, offset, count)?;
+    let is_last = is_read(alloc, file, from_end, count)?;
+    Ok(is_first && is_last)
+}
+
+fn is_read(alloc: Global, file: &mut WrittenFile, offset: u64, count: usize) -> Result<bool> {
+    let bytes = read(alloc, &mut file.blocks, &file.content, offset, count)?;
+    Ok(are_bytes(file.shape, offset, count, bytes.as_slice()))
 }
 
 fn are_bytes(shape: Shape, offset: u64, count: usize, bytes: &[u8]) -> bool {
@@ -135,16 +179,4 @@ fn is_block(
             && are_bytes(shape, start, BLOCK_SIZE, &block[..count])
             && block[count..].iter().all(|byte| *byte == 0),
     )
-}
-
-/// Whether the pointer to a data block is that of the bytes.
-fn is_path(
-    blocks: &mut Blocks<MemDevice>,
-    image: &[u8],
-    file: &File,
-    tree: &BlockTree,
-    index: u64,
-) -> Result<bool> {
-    let pointer = entry(blocks, tree, BlockTree::levels_of(tree.size), index)?;
-    Ok(data_pointer(image, file, index) == Some(pointer))
 }
