@@ -2,7 +2,7 @@
 
 use crate::entries::{acl_of, entries_of, rights_of};
 use anyhow::{Context, Result, ensure};
-use sn_acl::{Acl, Cred, MAX_GROUPS, Mode, Permissions, check, inherit};
+use sn_acl::{Acl, Cred, MAX_GROUPS, Mode, Permissions, Tag, check, inherit};
 use sn_table::{Case, Report};
 use std::alloc::Global;
 
@@ -18,44 +18,56 @@ pub fn run(report: &mut Report<'_>) -> Result<()> {
 
 /// The caller whose user, group and groups stand at these places.
 fn caller_of(alloc: Global, case: Case<'_>, places: [usize; 3]) -> Result<Cred> {
+    let (user, group) = (case.number(places[0])?, case.number(places[1])?);
     let groups = case.numbers(alloc, places[2])?;
     ensure!(groups.len() <= MAX_GROUPS, "too many groups");
-    Ok(Cred::new(
-        case.number(places[0])?,
-        case.number(places[1])?,
-        groups.as_slice(),
-    ))
+    Ok(Cred::new(user, group, groups.as_slice()))
 }
 
 fn decision(alloc: Global, case: Case<'_>) -> Result<String> {
+    match decided(alloc, case)? {
+        None => Ok(String::from_str(alloc, "granted")?),
+        Some(tag) => Ok(format!(in alloc; "denied by {tag}")?),
+    }
+}
+
+/// The entry that denies what is wanted.
+fn decided(alloc: Global, case: Case<'_>) -> Result<Option<Tag>> {
     let acl = acl_of(case.word(0)?)?;
     let caller = caller_of(alloc, case, [3, 4, 5])?;
+    decided_by(case, &acl, &caller)
+}
+
+fn decided_by(case: Case<'_>, acl: &Acl, caller: &Cred) -> Result<Option<Tag>> {
+    let (owner, group) = (case.number(1)?, case.number(2)?);
     let want = rights_of(case.word(6)?)?;
-    let answer = check(&caller, case.number(1)?, case.number(2)?, &acl, want);
-    Ok(match answer {
-        Ok(()) => String::from_str(alloc, "granted")?,
-        Err(entry) => format!(in alloc; "denied by {}", entry.tag)?,
-    })
+    match check(caller, owner, group, acl, want) {
+        Ok(()) => Ok(None),
+        Err(entry) => Ok(Some(entry.tag)),
+    }
 }
 
 fn membership(alloc: Global, case: Case<'_>) -> Result<String> {
-    let caller = caller_of(alloc, case, [0, 1, 2])?.copy();
-    let is_member = caller.is_member(case.number(3)?);
+    let group = case.number(3)?;
+    let is_member = caller_of(alloc, case, [0, 1, 2])?.copy().is_member(group);
     Ok(format!(in alloc; "{is_member}")?)
 }
 
 fn reading(alloc: Global, case: Case<'_>) -> Result<String> {
     let text = case.bytes(alloc)?;
-    let Some(acl) = Acl::parse(text.as_slice()) else {
-        return Ok(String::from_str(alloc, "refused")?);
-    };
+    match Acl::parse(text.as_slice()) {
+        Some(acl) => counted(alloc, &acl, text.as_slice()),
+        None => Ok(String::from_str(alloc, "refused")?),
+    }
+}
+
+/// How many entries an ACL has that is printed as this text.
+fn counted(alloc: Global, acl: &Acl, text: &[u8]) -> Result<String> {
     let printed = acl.print();
-    ensure!(
-        printed.as_str().as_bytes() == text.as_slice(),
-        "printed as {}",
-        printed.as_str()
-    );
-    Ok(format!(in alloc; "{} entries", acl.entries().len())?)
+    let printed = printed.as_str();
+    ensure!(printed.as_bytes() == text, "printed as {printed}");
+    let count = acl.entries().len();
+    Ok(format!(in alloc; "{count} entries")?)
 }
 
 fn building(alloc: Global, case: Case<'_>) -> Result<String> {
@@ -67,58 +79,94 @@ fn building(alloc: Global, case: Case<'_>) -> Result<String> {
 }
 
 fn mode_at(case: Case<'_>, at: usize) -> Result<Mode> {
-    Mode::from_bits(case.octal(at)?).context(format_args!("no mode: {}", case.text()))
+    Mode::from_bits(case.octal(at)?).context("no mode")
 }
 
 fn acl_and_mode(alloc: Global, acl: &Acl) -> Result<String> {
-    Ok(format!(in alloc; "{} {:03o}", acl.print().as_str(), acl.mode().bits())?)
+    let (printed, mode) = (acl.print(), acl.mode().bits());
+    let printed = printed.as_str();
+    Ok(format!(in alloc; "{printed} {mode:03o}")?)
 }
 
 fn mode_answer(alloc: Global, case: Case<'_>) -> Result<String> {
     match case.word(0)? {
-        "of" => acl_and_mode(alloc, &acl_of(case.word(1)?)?),
-        "from" => match Mode::from_bits(case.octal(1)?) {
-            Some(mode) => acl_and_mode(alloc, &Acl::from_mode(mode)),
-            None => Ok(String::from_str(alloc, "no mode")?),
-        },
-        _ => {
-            let mut acl = acl_of(case.word(1)?)?;
-            acl.chmod(mode_at(case, 2)?);
+        "of" => {
+            let acl = acl_of(case.word(1)?)?;
             acl_and_mode(alloc, &acl)
         }
+        "from" => answer_from(alloc, Mode::from_bits(case.octal(1)?)),
+        _ => changed(alloc, case),
     }
+}
+
+fn answer_from(alloc: Global, mode: Option<Mode>) -> Result<String> {
+    match mode {
+        Some(mode) => acl_and_mode(alloc, &Acl::from_mode(mode)),
+        None => Ok(String::from_str(alloc, "no mode")?),
+    }
+}
+
+fn changed(alloc: Global, case: Case<'_>) -> Result<String> {
+    let mode = mode_at(case, 2)?;
+    let mut acl = acl_of(case.word(1)?)?;
+    acl.chmod(mode);
+    acl_and_mode(alloc, &acl)
 }
 
 fn inheritance(alloc: Global, case: Case<'_>) -> Result<String> {
     let is_directory = case.word(0)? == "directory";
-    let default = match case.word(1)? {
-        "-" => None,
-        word => Some(acl_of(word)?),
-    };
-    let made = inherit(
-        default.as_ref(),
-        mode_at(case, 2)?,
-        mode_at(case, 3)?,
-        is_directory,
-    );
-    let access = made.access.print();
-    let access = access.as_str();
-    Ok(match made.default {
-        Some(acl) => format!(in alloc; "{access} {}", acl.print().as_str())?,
-        None => format!(in alloc; "{access} -")?,
-    })
+    let (mode, umask) = (mode_at(case, 2)?, mode_at(case, 3)?);
+    let default = default_of(case.word(1)?)?;
+    let made = inherit(default.as_ref(), mode, umask, is_directory);
+    told(alloc, &made.access, made.default.as_ref())
+}
+
+fn default_of(word: &str) -> Result<Option<Acl>> {
+    match word {
+        "-" => Ok(None),
+        _ => Ok(Some(acl_of(word)?)),
+    }
+}
+
+fn told(alloc: Global, access: &Acl, default: Option<&Acl>) -> Result<String> {
+    let access = access.print();
+    match default {
+        Some(acl) => told_both(alloc, access.as_str(), acl.print().as_str()),
+        None => told_both(alloc, access.as_str(), "-"),
+    }
+}
+
+fn told_both(alloc: Global, access: &str, default: &str) -> Result<String> {
+    Ok(format!(in alloc; "{access} {default}")?)
 }
 
 fn rights_answer(alloc: Global, case: Case<'_>) -> Result<String> {
-    let rights = match case.word(0)? {
-        "bits" => Permissions::from_bits(u8::try_from(case.octal(1)?)?),
-        "letters" => Permissions::parse(case.word(1)?.as_bytes()),
-        "either" => Some(rights_of(case.word(1)?)?.union(rights_of(case.word(2)?)?)),
-        "both" => Some(rights_of(case.word(1)?)?.intersection(rights_of(case.word(2)?)?)),
-        _ => Some(rights_of(case.word(1)?)?.difference(rights_of(case.word(2)?)?)),
-    };
-    Ok(match rights {
-        Some(rights) => format!(in alloc; "{} {rights}", rights.bits())?,
-        None => String::from_str(alloc, "no rights")?,
-    })
+    match rights_at(case)? {
+        Some(rights) => {
+            let bits = rights.bits();
+            Ok(format!(in alloc; "{bits} {rights}")?)
+        }
+        None => Ok(String::from_str(alloc, "no rights")?),
+    }
+}
+
+fn rights_at(case: Case<'_>) -> Result<Option<Permissions>> {
+    match case.word(0)? {
+        "bits" => {
+            let bits = u8::try_from(case.octal(1)?)?;
+            Ok(Permissions::from_bits(bits))
+        }
+        "letters" => Ok(Permissions::parse(case.word(1)?.as_bytes())),
+        word => combined(case, word),
+    }
+}
+
+fn combined(case: Case<'_>, word: &str) -> Result<Option<Permissions>> {
+    let one = rights_of(case.word(1)?)?;
+    let other = rights_of(case.word(2)?)?;
+    Ok(Some(match word {
+        "either" => one.union(other),
+        "both" => one.intersection(other),
+        _ => one.difference(other),
+    }))
 }

@@ -6,7 +6,10 @@ use sn_table::Case;
 use std::alloc::Global;
 
 pub fn acl_of(word: &str) -> Result<Acl> {
-    Acl::parse(word.as_bytes()).context(format_args!("no ACL: {word}"))
+    match Acl::parse(word.as_bytes()) {
+        Some(acl) => Ok(acl),
+        None => bail!("no ACL: {word}"),
+    }
 }
 
 pub fn rights_of(word: &str) -> Result<Permissions> {
@@ -23,9 +26,7 @@ pub fn entries_of(alloc: Global, case: Case<'_>) -> Result<Vec<Entry>> {
 }
 
 fn entry_of(word: &str) -> Result<Entry> {
-    let (tag, rights) = word
-        .split_once('=')
-        .context(format_args!("no entry: {word}"))?;
+    let (tag, rights) = word.split_once('=').context("no entry")?;
     Ok(Entry {
         tag: tag_of(tag)?,
         permissions: rights_of(rights)?,
@@ -33,23 +34,21 @@ fn entry_of(word: &str) -> Result<Entry> {
 }
 
 fn tag_of(word: &str) -> Result<Tag> {
-    Ok(match word {
-        "owner" => Tag::UserObj,
-        "group" => Tag::GroupObj,
-        "mask" => Tag::Mask,
-        "other" => Tag::Other,
-        _ => named_tag(word)?,
-    })
+    match word {
+        "owner" => Ok(Tag::UserObj),
+        "group" => Ok(Tag::GroupObj),
+        "mask" => Ok(Tag::Mask),
+        "other" => Ok(Tag::Other),
+        _ => named_tag(word),
+    }
 }
 
 fn named_tag(word: &str) -> Result<Tag> {
-    let (kind, number) = word
-        .split_once(':')
-        .context(format_args!("no tag: {word}"))?;
-    let number = number.parse().context(format_args!("no number: {number}"))?;
-    Ok(match kind {
-        "user" => Tag::User(number),
-        "group" => Tag::Group(number),
+    let (kind, number) = word.split_once(':').context("no tag")?;
+    let number: u32 = number.parse().context("no number")?;
+    match kind {
+        "user" => Ok(Tag::User(number)),
+        "group" => Ok(Tag::Group(number)),
         _ => bail!("no tag: {word}"),
-    })
+    }
 }

@@ -1,7 +1,7 @@
 //! Cases of access control lists, paths, scripts and the plain run.
 //!
 //! `data/` has the tables of the cases: their head lines say where the answers come from. A file has
-//! a module for each subject: `acl`, `walk`, `script` and `plain`. What is printed is compared with
+//! a module for each subject: `acl`, `walk`, `script`, `replies` and `plain`. What is printed is compared with
 //! `stdout`. The argument is the folder of the tables, as in
 //!
 //! ```text
@@ -10,8 +10,10 @@
 #![tactic(auto)]
 
 mod acl;
+mod calls;
 mod entries;
 mod plain;
+mod replies;
 mod script;
 mod trees;
 mod walk;
@@ -24,6 +26,7 @@ fn main(rt: HostRuntime) -> Result<()> {
     acl::run(&mut report)?;
     walk::run(&mut report)?;
     script::run(&mut report)?;
+    replies::run(&report)?;
     plain::run(&mut report)?;
     report.end()
 }

@@ -49,21 +49,25 @@ fn text_of(name: &[u8]) -> &str {
 }
 
 fn node_at(tree: &str, number: u16) -> Option<Attributes> {
-    for (home, at, kind, owner, acl) in NODES {
-        if home == tree && at == number {
-            return Some(Attributes {
-                kind,
-                set_gid: false,
-                sticky: false,
-                owner,
-                group: 100,
-                acl: Acl::parse(acl.as_bytes())?,
-                links: 1,
-                size: 0,
-            });
+    for (home, at, kind, owner, acl) in &NODES {
+        if *home == tree && *at == number {
+            return attributes_of(*kind, *owner, acl);
         }
     }
     None
+}
+
+fn attributes_of(kind: Kind, owner: u32, acl: &str) -> Option<Attributes> {
+    Some(Attributes {
+        kind,
+        set_gid: false,
+        sticky: false,
+        owner,
+        group: 100,
+        acl: Acl::parse(acl.as_bytes())?,
+        links: 1,
+        size: 0,
+    })
 }
 
 fn link_at(tree: &str, directory: u16, name: &str) -> Option<u16> {
@@ -112,7 +116,8 @@ impl TreeView for SmallTrees {
     }
 
     fn default_acl(&mut self, home: &Home, number: u16) -> Result<Option<Acl>, AllocError> {
-        write!(self.looked, ", default {} {number}", tree_word(home))?;
+        let tree = tree_word(home);
+        write!(self.looked, ", default {tree} {number}")?;
         Ok(None)
     }
 

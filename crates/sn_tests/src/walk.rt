@@ -5,8 +5,10 @@ use anyhow::Result;
 use sn_acl::Cred;
 use sn_table::{Case, Report};
 use sn_walk::{Failure, Object, Obstacle, PATH_MAX, Path, WalkRefusal, Walked, walk};
-use std::alloc::Global;
+use std::alloc::{AllocError, Global};
 use std::str;
+
+type Outcome = Result<Walked, Failure<WalkRefusal, AllocError>>;
 
 pub fn run(report: &mut Report<'_>) -> Result<()> {
     report.table("paths.txt", path)?;
@@ -15,51 +17,60 @@ pub fn run(report: &mut Report<'_>) -> Result<()> {
 
 /// A name, or only its length where it is long.
 fn push_name(text: &mut String, name: &[u8]) -> Result<()> {
-    if name.len() > 32 {
-        write!(text, "({} bytes)", name.len())?;
-    } else {
-        text.push_str(str::from_utf8(name)?)?;
+    let count = name.len();
+    if count > 32 {
+        return Ok(write!(text, "({count} bytes)")?);
     }
-    Ok(())
+    Ok(text.push_str(str::from_utf8(name)?)?)
 }
 
-fn names_of(alloc: Global, path: &Path<'_>) -> Result<String> {
-    let mut text = String::new(alloc);
+fn push_names(text: &mut String, path: &Path<'_>) -> Result<()> {
     let Some((first, mut rest)) = path.split_first() else {
-        text.push_str("no names")?;
-        return Ok(text);
+        return Ok(text.push_str("no names")?);
     };
-    push_name(&mut text, first)?;
+    push_name(text, first)?;
     for _ in 0..PATH_MAX {
         let Some((name, more)) = rest.split_first() else {
             break;
         };
         text.push_str(" ")?;
-        push_name(&mut text, name)?;
+        push_name(text, name)?;
         rest = more;
     }
-    Ok(text)
+    Ok(())
 }
 
 fn path(alloc: Global, case: Case<'_>) -> Result<String> {
     let word = case.bytes(alloc)?;
-    let path = match Path::parse(word.as_slice()) {
-        Ok(path) => path,
-        Err(fault) => return Ok(fault.to_string(alloc)?),
-    };
-    let mut text = names_of(alloc, &path)?;
+    match Path::parse(word.as_slice()) {
+        Ok(path) => names_of(alloc, &path),
+        Err(fault) => Ok(fault.to_string(alloc)?),
+    }
+}
+
+fn names_of(alloc: Global, path: &Path<'_>) -> Result<String> {
+    let mut text = String::new(alloc);
+    push_names(&mut text, path)?;
+    push_last(&mut text, path)?;
+    Ok(text)
+}
+
+fn push_last(text: &mut String, path: &Path<'_>) -> Result<()> {
     if let Some(last) = path.last() {
         text.push_str(", last ")?;
-        push_name(&mut text, last)?;
+        push_name(text, last)?;
     }
-    Ok(text)
+    Ok(())
 }
 
 fn push_object(text: &mut String, object: Option<&Object>) -> Result<()> {
     match object {
         None => text.push_str("nothing")?,
         Some(Object::Snapshots) => text.push_str("the snapshots")?,
-        Some(Object::Node { home, number }) => write!(text, "{} {number}", tree_word(home))?,
+        Some(Object::Node { home, number }) => {
+            let tree = tree_word(home);
+            write!(text, "{tree} {number}")?;
+        }
     }
     Ok(())
 }
@@ -84,11 +95,10 @@ fn push_walked(text: &mut String, walked: &Walked) -> Result<()> {
 fn push_refusal(text: &mut String, refusal: WalkRefusal) -> Result<()> {
     let place = refusal.place;
     match refusal.obstacle {
-        Obstacle::NotADirectory => write!(text, "no directory at place {place}")?,
-        Obstacle::Denied(tag) => write!(text, "denied at place {place} by {tag}")?,
-        Obstacle::Missing => write!(text, "missing at place {place}")?,
+        Obstacle::NotADirectory => Ok(write!(text, "no directory at place {place}")?),
+        Obstacle::Denied(tag) => Ok(write!(text, "denied at place {place} by {tag}")?),
+        Obstacle::Missing => Ok(write!(text, "missing at place {place}")?),
     }
-    Ok(())
 }
 
 /// Where a caller's path leads, and the look-ups that were made for it.
@@ -99,12 +109,21 @@ fn walked(alloc: Global, case: Case<'_>) -> Result<String> {
         alloc,
         looked: String::new(alloc),
     };
+    let outcome = walk(&mut trees, &caller, &path);
+    told(alloc, outcome, trees.looked.as_str())
+}
+
+fn told(alloc: Global, outcome: Outcome, looked: &str) -> Result<String> {
     let mut text = String::new(alloc);
-    match walk(&mut trees, &caller, &path) {
-        Ok(walked) => push_walked(&mut text, &walked)?,
-        Err(Failure::Refused(refusal)) => push_refusal(&mut text, refusal)?,
-        Err(Failure::Fault(fault)) => return Err(fault.into()),
-    }
-    text.push_str(trees.looked.as_str())?;
+    push_outcome(&mut text, outcome)?;
+    text.push_str(looked)?;
     Ok(text)
+}
+
+fn push_outcome(text: &mut String, outcome: Outcome) -> Result<()> {
+    match outcome {
+        Ok(walked) => push_walked(text, &walked),
+        Err(Failure::Refused(refusal)) => push_refusal(text, refusal),
+        Err(Failure::Fault(fault)) => Err(fault.into()),
+    }
 }
