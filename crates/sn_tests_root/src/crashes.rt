@@ -1,8 +1,8 @@
 //! Each write of a replacement cut short, once, twice and three times in a row.
 
-use crate::disk::{Held, blocks_of, crashed, disk_of, generation_of, image_of, is_done, tree_of};
-use crate::point::{Form, SECTORS, renew};
-use anyhow::{Result, ensure};
+use crate::disk::{Held, blocks_of, crashed, disk_of, image_of, renewed};
+use crate::point::Form;
+use anyhow::Result;
 use sn_block::Blocks;
 use sn_device::{Fill, MemDevice};
 use sn_layout::Slot;
@@ -79,11 +79,8 @@ fn cut(
     let mut device = blocks.into_device();
     device.stop_at(u64::from(writes));
     let mut blocks = blocks_of(alloc, device)?;
-    ensure!(blocks.sectors() >= SECTORS, "a smaller disk");
-    let answer = renew(&mut blocks, tree_of(generation.wrapping_add(1)), form);
-    is_done(&blocks, answer)?;
-    let (blocks, found) = crashed(alloc, blocks, fill)?;
-    Ok((blocks, generation_of(&found)))
+    renewed(&mut blocks, generation.wrapping_add(1), form)?;
+    crashed(alloc, blocks, fill)
 }
 
 /// Whether the write that opens the gate leaves the new root, if that is known.
@@ -134,16 +131,27 @@ fn once_filled(
     (number, start, form, more): (u32, Start, Form, u32),
     i: u32,
 ) -> Result<()> {
-    let alloc = report.alloc();
     let fill = fill_at(i);
-    let image = image_of(alloc, &start.slots)?;
+    let image = image_of(report.alloc(), &start.slots)?;
     for writes in 0..WRITES {
-        let blocks = disk_of(alloc, image.as_slice())?;
-        let (_blocks, found) = cut(alloc, blocks, form, (5, writes, fill))?;
+        let found = found_after(report.alloc(), image.as_slice(), form, writes, fill)?;
         let right = is_right(start.before_opening.wrapping_add(more), writes, fill, found);
         tally.check(report.runtime(), right, &[number, more, i, writes])?;
     }
     Ok(())
+}
+
+/// What is found after a replacement on a new disk that is cut short.
+fn found_after(
+    alloc: Global,
+    image: &[u8],
+    form: Form,
+    writes: u32,
+    fill: Fill,
+) -> Result<Option<u64>> {
+    let blocks = disk_of(alloc, image)?;
+    let (_blocks, found) = cut(alloc, blocks, form, (5, writes, fill))?;
+    Ok(found)
 }
 
 /// Whether what is found is the root that was newest or the next one, and that root's generation.

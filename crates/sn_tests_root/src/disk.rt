@@ -1,6 +1,6 @@
 //! Disks in memory with roots on them.
 
-use crate::point::SECTORS;
+use crate::point::{Form, SECTORS, renew};
 use anyhow::{Result, bail, ensure};
 use sn_block::{Blocks, ReadFault};
 use sn_device::{Fill, MemDevice, SECTOR_SIZE};
@@ -40,18 +40,23 @@ pub fn root_of(generation: u64) -> RootBody {
 pub fn image_of(alloc: Global, slots: &[Held]) -> Result<Vec<u8>> {
     let mut bytes = vec![in alloc; 0; SECTORS as usize * SECTOR_SIZE]?;
     for held in slots {
-        let root = root_of(held.generation);
-        ensure!(root.is_valid(), "no root");
-        let mut block = [0; BLOCK_SIZE];
-        root.encode(&mut block);
-        let (body, gate) = match held.slot {
-            Slot::A => (4096, 12_288),
-            Slot::B => (8192, 12_800),
-        };
-        put(&mut bytes, body, &block);
-        put(&mut bytes, gate, &[u8::from(held.is_open)]);
+        put_held(&mut bytes, held)?;
     }
     Ok(bytes)
+}
+
+fn put_held(bytes: &mut Vec<u8>, held: &Held) -> Result<()> {
+    let root = root_of(held.generation);
+    ensure!(root.is_valid(), "no root");
+    let mut block = [0; BLOCK_SIZE];
+    root.encode(&mut block);
+    let (body, gate) = match held.slot {
+        Slot::A => (4096, 12_288),
+        Slot::B => (8192, 12_800),
+    };
+    put(bytes, body, &block);
+    put(bytes, gate, &[u8::from(held.is_open)]);
+    Ok(())
 }
 
 /// Writes bytes at a place, as far as there is room.
@@ -72,16 +77,28 @@ pub fn blocks_of(alloc: Global, device: MemDevice) -> Result<Blocks<MemDevice>> 
     Ok(Blocks::new(alloc, device).map_err(AllocError::from)?)
 }
 
-/// After a crash, with what is found there.
+/// Renews the root, and says whether that was done.
+pub fn renewed(blocks: &mut Blocks<MemDevice>, generation: u64, form: Form) -> Result<bool> {
+    ensure!(blocks.sectors() >= SECTORS, "a smaller disk");
+    let answer = renew(blocks, tree_of(generation), form);
+    is_done(blocks, answer)
+}
+
+/// After a crash, with the generation that is found there.
 pub fn crashed(
     alloc: Global,
     blocks: Blocks<MemDevice>,
     fill: Fill,
-) -> Result<(Blocks<MemDevice>, NewestRoot)> {
+) -> Result<(Blocks<MemDevice>, Option<u64>)> {
     let mut blocks = blocks_of(alloc, blocks.into_device().crash(fill))?;
+    let generation = found_generation(&mut blocks)?;
+    Ok((blocks, generation))
+}
+
+fn found_generation(blocks: &mut Blocks<MemDevice>) -> Result<Option<u64>> {
     ensure!(blocks.sectors() >= 32, "a smaller disk");
-    match newest(&mut blocks) {
-        Ok(found) => Ok((blocks, found)),
+    match newest(blocks) {
+        Ok(found) => Ok(generation_of(&found)),
         Err(fault) => bail!("after a crash: {fault}"),
     }
 }
@@ -104,7 +121,7 @@ pub fn find(blocks: &mut Blocks<MemDevice>) -> Result<Result<NewestRoot, RootFau
 
 /// Whether a call was done that the device may have failed. Where it wasn't and the device didn't fail,
 /// that is for want of memory, an error.
-pub fn is_done(blocks: &Blocks<MemDevice>, answer: Result<()>) -> Result<bool> {
+fn is_done(blocks: &Blocks<MemDevice>, answer: Result<()>) -> Result<bool> {
     let status = blocks.status();
     let is_done = answer.is_ok();
     ensure!(!status.is_spent, "no memory for a call");

@@ -1,13 +1,14 @@
 //! Each call of the device failing in turn.
 
-use crate::disk::{Held, blocks_of, crashed, find, generation_of, image_of, is_done, tree_of};
-use crate::point::{Form, SECTORS, renew};
+use crate::disk::{Held, blocks_of, crashed, find, generation_of, image_of, renewed};
+use crate::point::Form;
 use anyhow::{Result, ensure};
-use sn_block::ReadFault;
+use sn_block::{Blocks, ReadFault};
 use sn_device::{Fill, MemDevice};
 use sn_layout::Slot;
 use sn_root::RootFault;
 use sn_table::{Report, Tally};
+use std::alloc::Global;
 
 const SLOTS: [Held; 2] = [
     Held {
@@ -35,54 +36,71 @@ pub fn run(report: &mut Report<'_>) -> Result<()> {
     report.add("a failure at each call", calls)
 }
 
-fn failing(report: &Report<'_>, image: &[u8], call: u32) -> Result<MemDevice> {
-    let mut device = MemDevice::from_bytes(report.alloc(), image)?;
+/// A disk of these bytes whose device fails at a call.
+fn failing(alloc: Global, image: &[u8], call: u32) -> Result<Blocks<MemDevice>> {
+    let mut device = MemDevice::from_bytes(alloc, image)?;
     ensure!(call > 0, "calls are counted from 1");
     device.fail_at(u64::from(call));
-    Ok(device)
+    blocks_of(alloc, device)
 }
 
-/// A read that fails is told, and the root is found by the next try.
 fn reads(report: &Report<'_>) -> Result<Tally> {
     let mut tally = Tally::new();
     let image = image_of(report.alloc(), &SLOTS)?;
     for call in 1..READS + 2 {
-        let mut blocks = blocks_of(report.alloc(), failing(report, image.as_slice(), call)?)?;
-        let is_told = match find(&mut blocks)? {
-            Ok(_) => call > READS,
-            Err(fault) => call <= READS && fault == RootFault::Read(ReadFault::Device),
-        };
-        let is_found = match find(&mut blocks)? {
-            Ok(newest) => generation_of(&newest) == Some(5),
-            Err(_) => false,
-        };
-        tally.check(report.runtime(), is_told && is_found, &[call])?;
+        let is_right = is_read_right(report.alloc(), image.as_slice(), call)?;
+        tally.check(report.runtime(), is_right, &[call])?;
+    }
+    Ok(tally)
+}
+
+/// A read that fails is told, and the root is found by the next try.
+fn is_read_right(alloc: Global, image: &[u8], call: u32) -> Result<bool> {
+    let mut blocks = failing(alloc, image, call)?;
+    let is_told = is_told(&mut blocks, call)?;
+    let is_found = is_found(&mut blocks)?;
+    Ok(is_told && is_found)
+}
+
+fn is_told(blocks: &mut Blocks<MemDevice>, call: u32) -> Result<bool> {
+    match find(blocks)? {
+        Ok(_) => Ok(call > READS),
+        Err(fault) => Ok(call <= READS && fault == RootFault::Read(ReadFault::Device)),
+    }
+}
+
+fn is_found(blocks: &mut Blocks<MemDevice>) -> Result<bool> {
+    match find(blocks)? {
+        Ok(newest) => Ok(generation_of(&newest) == Some(5)),
+        Err(_) => Ok(false),
+    }
+}
+
+fn calls(report: &Report<'_>) -> Result<Tally> {
+    let mut tally = Tally::new();
+    let image = image_of(report.alloc(), &SLOTS)?;
+    for call in 1..CALLS + 2 {
+        for fill in [Fill::New, Fill::Seeded(u64::from(call))] {
+            let is_right = is_call_right(report.alloc(), image.as_slice(), call, fill)?;
+            tally.check(report.runtime(), is_right, &[call])?;
+        }
     }
     Ok(tally)
 }
 
 /// After a failure the old root is there or the next one, and from there it goes on.
-fn calls(report: &Report<'_>) -> Result<Tally> {
-    let mut tally = Tally::new();
-    let alloc = report.alloc();
-    let image = image_of(alloc, &SLOTS)?;
-    for call in 1..CALLS + 2 {
-        for fill in [Fill::New, Fill::Seeded(u64::from(call))] {
-            let mut blocks = blocks_of(alloc, failing(report, image.as_slice(), call)?)?;
-            ensure!(blocks.sectors() >= SECTORS, "a smaller disk");
-            let answer = renew(&mut blocks, tree_of(6), Form::InParts);
-            let is_ok = is_done(&blocks, answer)?;
-            let (mut blocks, found) = crashed(alloc, blocks, fill)?;
-            let generation = generation_of(&found).unwrap_or(0);
-            ensure!(blocks.sectors() >= SECTORS, "a smaller disk");
-            let next = generation.wrapping_add(1);
-            renew(&mut blocks, tree_of(next), Form::Whole)?;
-            let (_blocks, later) = crashed(alloc, blocks, Fill::Old)?;
-            let is_right = is_ok == (call > CALLS)
-                && (generation == 6 || generation == 5 && !is_ok)
-                && generation_of(&later) == Some(next);
-            tally.check(report.runtime(), is_right, &[call])?;
-        }
-    }
-    Ok(tally)
+fn is_call_right(alloc: Global, image: &[u8], call: u32, fill: Fill) -> Result<bool> {
+    let mut blocks = failing(alloc, image, call)?;
+    let is_ok = renewed(&mut blocks, 6, Form::InParts)?;
+    let (blocks, found) = crashed(alloc, blocks, fill)?;
+    let goes_on = goes_on(alloc, blocks, found.unwrap_or(0).wrapping_add(1))?;
+    let is_left = found == Some(6) || found == Some(5) && !is_ok;
+    Ok(is_ok == (call > CALLS) && is_left && goes_on)
+}
+
+fn goes_on(alloc: Global, blocks: Blocks<MemDevice>, next: u64) -> Result<bool> {
+    let mut blocks = blocks;
+    let is_ok = renewed(&mut blocks, next, Form::Whole)?;
+    let (_blocks, later) = crashed(alloc, blocks, Fill::Old)?;
+    Ok(is_ok && later == Some(next))
 }

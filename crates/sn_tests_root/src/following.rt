@@ -2,6 +2,7 @@
 
 use crate::disk::root_of;
 use anyhow::{Context, Result, bail};
+use sn_layout::RootBody;
 use sn_root::{PointKind, next_root};
 use sn_table::{Case, Report};
 use std::alloc::Global;
@@ -11,29 +12,40 @@ pub fn run(report: &mut Report<'_>) -> Result<()> {
 }
 
 fn age_of(word: &str) -> Result<u64> {
-    word.parse().context(format_args!("no age: {word}"))
+    word.parse().context("no age")
+}
+
+fn kind_of(word: &str) -> Result<PointKind> {
+    match word {
+        "ordinary" => Ok(PointKind::Ordinary),
+        "recovery" => Ok(PointKind::Recovery),
+        _ => bail!("no kind"),
+    }
+}
+
+fn root_in(case: Case<'_>) -> Result<RootBody> {
+    let generation = age_of(case.word(0)?)?;
+    let epoch = age_of(case.word(1)?)?;
+    let mut root = root_of(generation);
+    root.epoch = epoch;
+    Ok(root)
 }
 
 fn following(alloc: Global, case: Case<'_>) -> Result<String> {
-    let mut root = root_of(age_of(case.word(0)?)?);
-    root.epoch = age_of(case.word(1)?)?;
-    let kind = match case.word(2)? {
-        "ordinary" => PointKind::Ordinary,
-        "recovery" => PointKind::Recovery,
-        other => bail!("no kind: {other}"),
-    };
-    let mut text = String::new(alloc);
+    let kind = kind_of(case.word(2)?)?;
+    let root = root_in(case)?;
     match next_root(&root, kind) {
-        Some(next) => {
-            let (generation, epoch) = (next.generation, next.epoch);
-            let tree = if next.inode_file == root.inode_file {
-                "same"
-            } else {
-                "another"
-            };
-            write!(text, "{generation} {epoch} {tree} tree")?;
-        }
-        None => text.push_str("none")?,
+        Some(next) => told(alloc, &root, &next),
+        None => Ok(String::from_str(alloc, "none")?),
     }
-    Ok(text)
+}
+
+fn told(alloc: Global, root: &RootBody, next: &RootBody) -> Result<String> {
+    let (generation, epoch) = (next.generation, next.epoch);
+    let tree = name_of(next.inode_file == root.inode_file);
+    Ok(format!(in alloc; "{generation} {epoch} {tree} tree")?)
+}
+
+fn name_of(is_same: bool) -> &'static str {
+    if is_same { "same" } else { "another" }
 }

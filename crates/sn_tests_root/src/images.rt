@@ -1,7 +1,8 @@
 //! Disks whose bytes were laid out by hand.
 
-use crate::disk::{blocks_of, find, put};
+use crate::disk::{disk_of, find, put};
 use anyhow::{Context, Result};
+use sn_block::Blocks;
 use sn_device::MemDevice;
 use sn_layout::{Gate, Slot};
 use sn_root::{NewestRoot, RootFault};
@@ -14,31 +15,56 @@ pub fn run(report: &mut Report<'_>) -> Result<()> {
 
 /// What is found on the disk that the words spell.
 fn found(alloc: Global, case: Case<'_>) -> Result<String> {
-    let mut bytes = vec![in alloc; 0; 32 * 512]?;
-    for word in case.text().split_ascii_whitespace() {
-        let (at, run) = word
-            .split_once(':')
-            .context(format_args!("no run of bytes: {word}"))?;
-        let at: u16 = at.parse().context(format_args!("no place: {at}"))?;
-        let run = hex::decode(alloc, run)?;
-        put(&mut bytes, usize::from(at), run.as_slice());
-    }
-    let mut blocks = blocks_of(alloc, MemDevice::from_bytes(alloc, bytes.as_slice())?)?;
     let mut text = String::new(alloc);
-    match find(&mut blocks)? {
-        Ok(newest) => push_newest(&mut text, &newest)?,
-        Err(fault) => push_fault(&mut text, fault)?,
-    }
+    push_found(alloc, case, &mut text)?;
     Ok(text)
 }
 
+fn push_found(alloc: Global, case: Case<'_>, text: &mut String) -> Result<()> {
+    let mut blocks = spelled(alloc, case)?;
+    match find(&mut blocks)? {
+        Ok(newest) => push_newest(text, &newest),
+        Err(fault) => push_fault(text, fault),
+    }
+}
+
+fn spelled(alloc: Global, case: Case<'_>) -> Result<Blocks<MemDevice>> {
+    let bytes = bytes_of(alloc, case)?;
+    disk_of(alloc, bytes.as_slice())
+}
+
+fn bytes_of(alloc: Global, case: Case<'_>) -> Result<Vec<u8>> {
+    let mut bytes = vec![in alloc; 0; 32 * 512]?;
+    for word in case.text().split_ascii_whitespace() {
+        put_run(alloc, &mut bytes, word)?;
+    }
+    Ok(bytes)
+}
+
+fn put_run(alloc: Global, bytes: &mut Vec<u8>, word: &str) -> Result<()> {
+    let (at, run) = word.split_once(':').context("no run of bytes")?;
+    let at: u16 = at.parse().context("no place")?;
+    let run = hex::decode(alloc, run)?;
+    put(bytes, usize::from(at), run.as_slice());
+    Ok(())
+}
+
+fn slot_name(slot: Slot) -> &'static str {
+    match slot {
+        Slot::A => "A",
+        Slot::B => "B",
+    }
+}
+
+fn gate_name(gate: Gate) -> &'static str {
+    match gate {
+        Gate::Open => "open",
+        Gate::Closed => "closed",
+    }
+}
+
 fn push_newest(text: &mut String, newest: &NewestRoot) -> Result<()> {
-    let slot = if newest.slot == Slot::A { "A" } else { "B" };
-    let other = if newest.other == Gate::Open {
-        "open"
-    } else {
-        "closed"
-    };
+    let (slot, other) = (slot_name(newest.slot), gate_name(newest.other));
     let (generation, epoch) = (newest.root.generation, newest.root.epoch);
     write!(text, "{slot} {generation} {epoch} other {other}")?;
     Ok(())
