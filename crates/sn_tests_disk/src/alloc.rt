@@ -95,17 +95,24 @@ fn take_whole(
 ) -> Result<()> {
     allocator.reserve(257)?;
     for block in 0..256 {
-        let taken = take(allocator)?;
-        tally.check(report.runtime(), taken == Ok(block), &[block])?;
+        let is_right = is_taken(take(allocator)?, block);
+        tally.check(report.runtime(), is_right, &[block])?;
     }
     let is_right = is_used_up(allocator)?;
     tally.check(report.runtime(), is_right, &[256])?;
     Ok(())
 }
 
+fn is_taken(taken: Result<u32, Full>, wanted: u32) -> bool {
+    match taken {
+        Ok(block) => block == wanted,
+        Err(Full) => false,
+    }
+}
+
 fn is_used_up(allocator: &mut BlockAllocator) -> Result<bool> {
-    let full = take(allocator)?;
-    Ok(full == Err(Full) && allocator.looked() == 256 && allocator.left() == 0)
+    let is_full = take(allocator)?.is_err();
+    Ok(is_full && allocator.looked() == 256 && allocator.left() == 0)
 }
 
 fn only_free_blocks(report: &Report<'_>) -> Result<Tally> {
@@ -124,7 +131,7 @@ fn is_only_free(alloc: Global, size: u32, free: u32) -> Result<bool> {
     let map = taken_but(alloc, size, free)?;
     let mut allocator = BlockAllocator::new(alloc, map, 0);
     allocator.reserve(2)?;
-    let is_taken = free >= size || take(&mut allocator)? == Ok(free);
-    let is_full = take(&mut allocator)? == Err(Full);
-    Ok(is_taken && is_full && allocator.looked() == u64::from(size))
+    let is_found = free >= size || is_taken(take(&mut allocator)?, free);
+    let is_full = take(&mut allocator)?.is_err();
+    Ok(is_found && is_full && allocator.looked() == u64::from(size))
 }

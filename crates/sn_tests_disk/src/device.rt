@@ -15,11 +15,11 @@ pub fn run(report: &mut Report<'_>) -> Result<()> {
 }
 
 fn number_of(word: &str) -> Result<u64> {
-    word.parse().context(format_args!("no number: {word}"))
+    word.parse().context("no number")
 }
 
 fn byte_of(word: &str) -> Result<u8> {
-    u8::from_str_radix(word, 16).context(format_args!("no byte: {word}"))
+    u8::from_str_radix(word, 16).context("no byte")
 }
 
 fn fill_of(word: &str) -> Result<Fill> {
@@ -31,7 +31,7 @@ fn fill_of(word: &str) -> Result<Fill> {
         "junk" => Fill::Junk,
         _ => match word.strip_prefix("seed") {
             Some(seed) => Fill::Seeded(number_of(seed)?),
-            None => bail!("no fill: {word}"),
+            None => bail!("no such fill"),
         },
     })
 }
@@ -41,7 +41,7 @@ fn device_of(alloc: Global, word: &str) -> Result<MemDevice> {
     match word.split_once('=') {
         Some(("sectors", count)) => Ok(MemDevice::new(alloc, number_of(count)?)?),
         Some(("bytes", count)) => device_of_bytes(alloc, count.parse()?),
-        _ => bail!("no device: {word}"),
+        _ => bail!("no such device"),
     }
 }
 
@@ -121,15 +121,12 @@ fn push_sector(text: &mut String, sector: &Sector) -> Result<()> {
 }
 
 fn read(device: &mut MemDevice, at: u64, text: &mut String) -> Result<()> {
-    ensure!(at < device.sectors(), "no sector {at}");
+    ensure!(at < device.sectors(), "no such sector");
     let mut sector = [0xee; SECTOR_SIZE];
     match device.read(at, &mut sector) {
         Ok(()) => push_sector(text, &sector),
-        Err(fault) => {
-            ensure!(
-                sector == [0xee; SECTOR_SIZE],
-                "{fault}, and bytes were read"
-            );
+        Err(_) => {
+            ensure!(sector == [0xee; SECTOR_SIZE], "bytes of a failed read");
             push_word(text, "fault")
         }
     }
@@ -139,7 +136,7 @@ fn read(device: &mut MemDevice, at: u64, text: &mut String) -> Result<()> {
 fn write(device: &mut MemDevice, sector: &str, byte: &str, text: &mut String) -> Result<()> {
     let at = number_of(sector)?;
     let byte = byte_of(byte)?;
-    ensure!(at < device.sectors(), "no sector {at}");
+    ensure!(at < device.sectors(), "no such sector");
     push_answer(text, device.write(at, &[byte; SECTOR_SIZE]).is_ok())
 }
 
@@ -165,16 +162,28 @@ fn want_of_memory(report: &Report<'_>) -> Result<Tally> {
     let mut tally = Tally::new();
     let mut has_failed = false;
     for at in 0..3 {
-        ensure!(at < device.sectors(), "no sector {at}");
-        let write = device.write(at, &[0x11; SECTOR_SIZE]).is_err();
-        let sync = device.sync().is_err();
-        let is_right = write >= has_failed && sync >= write;
-        tally.check(report.runtime(), is_right, &[at as u32])?;
-        has_failed = sync;
+        let failed = failed_calls(&mut device, u64::from(at))?;
+        let is_right = failed.write >= has_failed && failed.sync >= failed.write;
+        tally.check(report.runtime(), is_right, &[at])?;
+        has_failed = failed.sync;
     }
     let is_right = device.status().has_ended() == has_failed && device.failures() == 0;
     tally.check(report.runtime(), is_right, &[])?;
     Ok(tally)
+}
+
+/// Whether a write and the sync behind it failed.
+#[derive(Clone, Copy)]
+struct Failed {
+    write: bool,
+    sync: bool,
+}
+
+fn failed_calls(device: &mut MemDevice, at: u64) -> Result<Failed> {
+    ensure!(at < device.sectors(), "no such sector");
+    let write = device.write(at, &[0x11; SECTOR_SIZE]).is_err();
+    let sync = device.sync().is_err();
+    Ok(Failed { write, sync })
 }
 
 /// A body that was put into an empty journal is there after a crash, and sectors that are wiped are zeros.

@@ -33,9 +33,7 @@ fn map_of(alloc: Global, case: Case<'_>) -> Result<Map> {
 
 fn take_steps(map: &mut Map, case: Case<'_>) -> Result<()> {
     for word in case.text().split_ascii_whitespace().skip(1) {
-        let (step, value) = word
-            .split_once('=')
-            .context(format_args!("no step: {word}"))?;
+        let (step, value) = word.split_once('=').context("no step")?;
         take_step(map, step, value)?;
     }
     Ok(())
@@ -49,18 +47,18 @@ fn take_step(map: &mut Map, step: &str, value: &str) -> Result<()> {
 }
 
 fn pass(map: &mut Map, step: &str, bit: u32) -> Result<()> {
-    ensure!(bit < 32, "no bit {bit}");
+    ensure!(bit < 32, "no such bit");
     match step {
         "live_to" => map.copy_bit0_to(bit),
         "to_live" => map.copy_bit_to_0(bit),
         "clear" => map.clear_bit(bit),
-        _ => bail!("no step: {step}"),
+        _ => bail!("no such step"),
     }
     Ok(())
 }
 
 fn take_block_step(map: &mut Map, step: &str, block: u32, value: u32) -> Result<()> {
-    ensure!(block < map.len(), "no block {block}");
+    ensure!(block < map.len(), "no such block");
     match step {
         "word" => {
             map.set_word(block, value);
@@ -71,14 +69,11 @@ fn take_block_step(map: &mut Map, step: &str, block: u32, value: u32) -> Result<
 }
 
 fn take_bit_step(map: &mut Map, step: &str, block: u32, bit: u32) -> Result<()> {
-    ensure!(
-        block < map.len() && bit < 32,
-        "no bit {bit} of block {block}"
-    );
+    ensure!(block < map.len() && bit < 32, "no such bit");
     match step {
         "set" => map.set_bit(block, bit),
         "unset" => map.unset_bit(block, bit),
-        _ => bail!("no step: {step}"),
+        _ => bail!("no such step"),
     }
     Ok(())
 }
@@ -150,15 +145,38 @@ fn searches(report: &Report<'_>) -> Result<Tally> {
     let mut tally = Tally::new();
     for size in SIZES {
         let map = mixed_map(report.alloc(), size)?;
-        let free = map.words().iter().filter(|word| **word == 0).count();
-        tally.check(report.runtime(), map.count_free() as usize == free, &[size])?;
-        for from in [0, 1, 3, 4, size / 2] {
-            let first = first_free(map.words(), from);
-            let is_right = map.next_free(from).map(u64::from) == first;
-            tally.check(report.runtime(), is_right, &[size, from])?;
-        }
+        search(report, &mut tally, &map)?;
     }
     Ok(tally)
+}
+
+fn search(report: &Report<'_>, tally: &mut Tally, map: &Map) -> Result<()> {
+    let size = map.len();
+    let is_right = u64::from(map.count_free()) == count_free(map.words());
+    tally.check(report.runtime(), is_right, &[size])?;
+    for from in [0, 1, 3, 4, size / 2] {
+        let is_right = is_first(map.next_free(from), first_free(map.words(), from));
+        tally.check(report.runtime(), is_right, &[size, from])?;
+    }
+    Ok(())
+}
+
+fn is_first(found: Option<u32>, wanted: Option<u64>) -> bool {
+    match (found, wanted) {
+        (Some(found), Some(wanted)) => u64::from(found) == wanted,
+        (None, None) => true,
+        _ => false,
+    }
+}
+
+fn count_free(words: &[u32]) -> u64 {
+    let mut count = 0_u64;
+    for word in words {
+        if *word == 0 {
+            count = count.saturating_add(1);
+        }
+    }
+    count
 }
 
 fn first_free(words: &[u32], from: u32) -> Option<u64> {
@@ -234,7 +252,7 @@ fn check_passes(
 ) -> Result<()> {
     let size = map.len();
     let rt = report.runtime();
-    ensure!(at < 32, "no bit {at}");
+    ensure!(at < 32, "no such bit");
     map.copy_bit0_to(at);
     copy_bit(words, 1, mask);
     tally.check(rt, map.words() == words, &[size, 0, at])?;
