@@ -28,6 +28,14 @@ pub fn stat(alloc: Global, path: &str) -> Result<Call> {
     })
 }
 
+/// The number of the node of which a stat tells.
+pub fn number_of(reply: &Reply) -> Option<u16> {
+    match reply {
+        Reply::Status(status) => Some(status.number),
+        _ => None,
+    }
+}
+
 /// The line of a reply.
 pub fn line_of(alloc: Global, reply: &Reply) -> Result<String> {
     let line = print_replies(alloc, slice::from_ref(reply))?;

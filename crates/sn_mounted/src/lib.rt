@@ -6,12 +6,13 @@
 //!
 //! ```text
 //! let mut mounted = remounted(alloc, new_device(alloc)?)?;
-//! let line = mounted.told(alloc, &stat(alloc, "/")?)?;
+//! mounted.login(alloc)?;
+//! let line = mounted.stat(alloc, "/")?;
 //! ```
 #![tactic(auto)]
 
 mod asking;
 mod mounted;
 
-pub use asking::{line_of, login, mkdir, stat};
+pub use asking::{line_of, login, mkdir, number_of, stat};
 pub use mounted::{Mounted, new_device, remounted};

@@ -1,6 +1,6 @@
 //! A mounted file system, and its device.
 
-use crate::asking::line_of;
+use crate::asking::{line_of, login, mkdir, stat};
 use anyhow::{Context, Result, bail};
 use sn_device::MemDevice;
 use sn_fs::{Fs, Unmounted, mount};
@@ -45,6 +45,30 @@ impl Mounted {
     pub fn told(&mut self, alloc: Global, call: &Call) -> Result<String> {
         let reply = self.call(0, call);
         line_of(alloc, &reply)
+    }
+
+    /// Whether a call of session 0 is answered by this line.
+    pub fn is_told(&mut self, alloc: Global, call: &Call, wanted: &str) -> Result<bool> {
+        let line = self.told(alloc, call)?;
+        Ok(line.as_str() == wanted)
+    }
+
+    /// Logs the user 0 in as session 0.
+    pub fn login(&mut self, alloc: Global) -> Result<()> {
+        self.call(0, &login(alloc)?);
+        Ok(())
+    }
+
+    /// The line of the reply of session 0 to a mkdir.
+    pub fn mkdir(&mut self, alloc: Global, path: &str, mode: u16) -> Result<String> {
+        let call = mkdir(alloc, path, mode)?;
+        self.told(alloc, &call)
+    }
+
+    /// The line of the reply of session 0 to a stat.
+    pub fn stat(&mut self, alloc: Global, path: &str) -> Result<String> {
+        let call = stat(alloc, path)?;
+        self.told(alloc, &call)
     }
 
     /// The reply to the call of a script's line.

@@ -5,12 +5,12 @@
 //! Each record takes two sectors, so that a crash may leave one of them without the other.
 
 use crate::directories::{ALL, make, present};
-use crate::disk::{FILLS, fill_of, remounted};
+use crate::disk::{FILLS, fill_of};
 use crate::inheriting::inheriting_device;
 use anyhow::Result;
 use sn_device::{Device, Fill, MemDevice};
-use sn_fs::mount;
 use sn_model::MountFault;
+use sn_mounted::{Mounted, remounted};
 use sn_table::{Report, Tally};
 use std::alloc::Global;
 
@@ -75,33 +75,39 @@ struct Left {
 
 /// All is made by as many writes as the lists are cut at.
 fn whole(report: &Report<'_>) -> Result<Tally> {
-    let alloc = report.alloc();
     let mut tally = Tally::new();
+    let is_right = is_whole_right(report.alloc())?;
+    tally.check(report.runtime(), is_right, &[])?;
+    Ok(tally)
+}
+
+fn is_whole_right(alloc: Global) -> Result<bool> {
     let mut mounted = remounted(alloc, inheriting_device(alloc)?)?;
     let made = make(alloc, &mut mounted, 0)?;
     let writes = mounted.into_device().status().writes;
-    let is_right = made == Some(ALL) && writes == u64::from(WRITES);
-    tally.check(report.runtime(), is_right, &[])?;
-    Ok(tally)
+    Ok(made == Some(ALL) && writes == u64::from(WRITES))
 }
 
 /// Mounts the disk, makes the list until the device fails, and crashes.
 fn life(alloc: Global, cut: Cut, fill: Fill) -> Result<Left> {
     let mut device = inheriting_device(alloc)?;
     set(&mut device, cut);
-    match mount(alloc, device) {
-        Ok(mut mounted) => {
-            let acknowledged = make(alloc, &mut mounted, 0)?;
-            Ok(Left {
-                device: mounted.into_device().crash(fill),
-                acknowledged,
-            })
-        }
+    match Mounted::new(alloc, device) {
+        Ok(mounted) => making_life(alloc, mounted, fill),
         Err(unmounted) => Ok(Left {
             device: unmounted.device.crash(fill),
             acknowledged: (unmounted.fault == MountFault::Device).then_some(0),
         }),
     }
+}
+
+fn making_life(alloc: Global, mounted: Mounted, fill: Fill) -> Result<Left> {
+    let mut mounted = mounted;
+    let acknowledged = make(alloc, &mut mounted, 0)?;
+    Ok(Left {
+        device: mounted.into_device().crash(fill),
+        acknowledged,
+    })
 }
 
 /// Whether so many may be there after so many were acknowledged.
@@ -116,35 +122,56 @@ fn may_follow(acknowledged: Option<usize>, found: Option<usize>) -> bool {
 
 /// How many of the list are on a device that has no fault, where it mounts.
 fn found_on(alloc: Global, device: MemDevice) -> Result<Option<usize>> {
-    match mount(alloc, device) {
-        Ok(mut mounted) => present(alloc, &mut mounted),
+    match Mounted::new(alloc, device) {
+        Ok(mounted) => found_in(alloc, mounted),
         Err(_) => Ok(None),
     }
 }
 
+fn found_in(alloc: Global, mounted: Mounted) -> Result<Option<usize>> {
+    let mut mounted = mounted;
+    present(alloc, &mut mounted)
+}
+
 /// A life that is cut short, a mount of what a crash left, and one more crash.
 fn is_list_right(alloc: Global, cut: Cut, fill: u32) -> Result<bool> {
-    let left = life(alloc, cut, fill_of(fill))?;
-    let Ok(mut mounted) = mount(alloc, left.device) else {
-        return Ok(false);
-    };
+    let Left {
+        device,
+        acknowledged,
+    } = life(alloc, cut, fill_of(fill))?;
+    match Mounted::new(alloc, device) {
+        Ok(mounted) => is_left_right(alloc, mounted, acknowledged, fill),
+        Err(_) => Ok(false),
+    }
+}
+
+fn is_left_right(
+    alloc: Global,
+    mounted: Mounted,
+    acknowledged: Option<usize>,
+    fill: u32,
+) -> Result<bool> {
+    let mut mounted = mounted;
     let found = present(alloc, &mut mounted)?;
     let second = fill_of(fill.saturating_add(20));
     let device = mounted.into_device().crash(second);
-    Ok(
-        may_follow(left.acknowledged, found)
-            && is_rest_right(alloc, device, found.unwrap_or(0), fill_of(fill))?,
-    )
+    let is_rest_right = is_rest_right(alloc, device, found.unwrap_or(0), fill_of(fill))?;
+    Ok(may_follow(acknowledged, found) && is_rest_right)
 }
 
 /// The rest of the list, and one more crash.
 fn is_rest_right(alloc: Global, device: MemDevice, from: usize, fill: Fill) -> Result<bool> {
-    let Ok(mut mounted) = mount(alloc, device) else {
-        return Ok(false);
-    };
+    match Mounted::new(alloc, device) {
+        Ok(mounted) => is_rest_made(alloc, mounted, from, fill),
+        Err(_) => Ok(false),
+    }
+}
+
+fn is_rest_made(alloc: Global, mounted: Mounted, from: usize, fill: Fill) -> Result<bool> {
+    let mut mounted = mounted;
     let made = make(alloc, &mut mounted, from)?;
-    let device = mounted.into_device().crash(fill);
-    Ok(made == Some(ALL) && found_on(alloc, device)? == Some(ALL))
+    let found = found_on(alloc, mounted.into_device().crash(fill))?;
+    Ok(made == Some(ALL) && found == Some(ALL))
 }
 
 fn lists(report: &Report<'_>) -> Result<Tally> {
@@ -159,23 +186,16 @@ fn lists(report: &Report<'_>) -> Result<Tally> {
 }
 
 /// What is found after a mount that is cut short and a crash.
-fn found_after(
-    alloc: Global,
-    mut device: MemDevice,
-    cut: Cut,
-    fill: Fill,
-) -> Result<Option<usize>> {
+fn found_after(alloc: Global, device: MemDevice, cut: Cut, fill: Fill) -> Result<Option<usize>> {
+    let mut device = device;
     set(&mut device, cut);
-    let device = match mount(alloc, device) {
-        Ok(mounted) => mounted.into_device(),
-        Err(unmounted) => {
-            if unmounted.fault != MountFault::Device {
-                return Ok(None);
-            }
-            unmounted.device
+    match Mounted::new(alloc, device) {
+        Ok(mounted) => found_on(alloc, mounted.into_device().crash(fill)),
+        Err(unmounted) if unmounted.fault == MountFault::Device => {
+            found_on(alloc, unmounted.device.crash(fill))
         }
-    };
-    found_on(alloc, device.crash(fill))
+        Err(_) => Ok(None),
+    }
 }
 
 /// A life, and a mount of what a crash left.
@@ -192,18 +212,24 @@ fn found_later(alloc: Global, cut: Cut, fill: u32, again: u32) -> Result<Option<
 }
 
 fn mounts(report: &Report<'_>) -> Result<Tally> {
-    let alloc = report.alloc();
     let mut tally = Tally::new();
     for number in 0..FIRST_WRITES + 1 {
         for fill in 0..FIRST_FILLS {
-            let cut = Cut::Stop(u64::from(number));
-            let wanted = found_at_once(alloc, cut, fill)?;
-            for again in 0..MOUNT_STOPS + MOUNT_FAILURES {
-                let found = found_later(alloc, cut, fill, again)?;
-                let is_right = wanted.is_some() && wanted == found;
-                tally.check(report.runtime(), is_right, &[number, fill, again])?;
-            }
+            mounts_of(report, &mut tally, number, fill)?;
         }
     }
     Ok(tally)
+}
+
+/// The mounts behind one life.
+fn mounts_of(report: &Report<'_>, tally: &mut Tally, number: u32, fill: u32) -> Result<()> {
+    let alloc = report.alloc();
+    let cut = Cut::Stop(u64::from(number));
+    let wanted = found_at_once(alloc, cut, fill)?;
+    for again in 0..MOUNT_STOPS + MOUNT_FAILURES {
+        let found = found_later(alloc, cut, fill, again)?;
+        let is_right = wanted.is_some() && wanted == found;
+        tally.check(report.runtime(), is_right, &[number, fill, again])?;
+    }
+    Ok(())
 }

@@ -1,11 +1,8 @@
 //! A list of directories that is made, and how much of it is there.
-ghost use Rattle.sn_fs.specs.Filesystem.{IsFs};
 
-use crate::disk::{line_of, login, mkdir, stat, told};
 use anyhow::Result;
-use sn_device::MemDevice;
-use sn_fs::Fs;
 use sn_model::Reply;
+use sn_mounted::{Mounted, line_of, number_of, stat};
 use std::alloc::Global;
 
 /// How many directories are made.
@@ -20,56 +17,137 @@ const DIRECTORIES: [(&str, u16, &str); 5] = [
     ("/e", 0o505, "ok d 0505 1 0 0 0\n"),
 ];
 
-/// Logs in, and makes the directories from a place of the list on. How many of the list are there then
-/// that were acknowledged, where the answers are right: done, then at most one EIO, and behind it ESTOPPED.
-pub fn make(alloc: Global, mounted: &mut Fs<MemDevice>, from: usize) -> Result<Option<usize>>
-    requires { IsFs mounted.old }
-    ensures sound { IsFs mounted.new }
-{
-    mounted.call(0, &login(alloc)?);
-    let mut count = from;
-    let mut has_stopped = false;
-    for (path, mode, _status) in DIRECTORIES.iter().skip(from) {
-        let line = told(alloc, mounted, &mkdir(alloc, path, *mode)?)?;
-        match (line.as_str(), has_stopped) {
-            ("ok\n", false) => count = count.saturating_add(1),
-            ("err EIO\n", false) => has_stopped = true,
-            ("err ESTOPPED\n", true) => {}
-            _ => return Ok(None),
-        }
-    }
-    Ok(Some(count))
+/// What the making of a directory answers.
+#[derive(Clone, Copy, PartialEq, Eq)]
+enum Answer {
+    Done,
+    Failed,
+    Stopped,
+    Other,
 }
 
-// The number of the node of which stat tells.
-fn number_of(reply: &Reply) -> Option<u16> {
-    match reply {
-        Reply::Status(status) => Some(status.number),
-        _ => None,
+fn answer_of(line: &str) -> Answer {
+    match line {
+        "ok\n" => Answer::Done,
+        "err EIO\n" => Answer::Failed,
+        "err ESTOPPED\n" => Answer::Stopped,
+        _ => Answer::Other,
     }
+}
+
+fn made(alloc: Global, mounted: &mut Mounted, path: &str, mode: u16) -> Result<Answer> {
+    let line = mounted.mkdir(alloc, path, mode)?;
+    Ok(answer_of(line.as_str()))
+}
+
+/// How many of the list are there, and whether no more may be.
+#[derive(Clone, Copy)]
+struct Progress {
+    count: usize,
+    has_ended: bool,
+}
+
+impl Progress {
+    fn one_more(self) -> Progress {
+        Progress {
+            count: self.count.saturating_add(1),
+            has_ended: false,
+        }
+    }
+
+    fn ended(self) -> Progress {
+        Progress {
+            count: self.count,
+            has_ended: true,
+        }
+    }
+
+    /// Where the answer may come: done, then at most one EIO, and behind it ESTOPPED.
+    fn behind(self, answer: Answer) -> Option<Progress> {
+        match (answer, self.has_ended) {
+            (Answer::Done, false) => Some(self.one_more()),
+            (Answer::Failed, false) | (Answer::Stopped, true) => Some(self.ended()),
+            _ => None,
+        }
+    }
+
+    /// Where it may be found so: the first are there, and of the others there is none.
+    fn at(self, found: Found) -> Option<Progress> {
+        match (found, self.has_ended) {
+            (Found::There, false) => Some(self.one_more()),
+            (Found::Absent, _) => Some(self.ended()),
+            _ => None,
+        }
+    }
+}
+
+/// Logs in, and makes the directories from a place of the list on. How many of the list are there then
+/// that were acknowledged, where the answers are right.
+pub fn make(alloc: Global, mounted: &mut Mounted, from: usize) -> Result<Option<usize>> {
+    mounted.login(alloc)?;
+    let mut progress = Progress {
+        count: from,
+        has_ended: false,
+    };
+    for (path, mode, _status) in DIRECTORIES.iter().skip(from) {
+        match progress.behind(made(alloc, mounted, path, *mode)?) {
+            Some(next) => progress = next,
+            None => return Ok(None),
+        }
+    }
+    Ok(Some(progress.count))
+}
+
+/// What stat tells of a directory.
+#[derive(Clone, Copy, PartialEq, Eq)]
+enum Found {
+    There,
+    Absent,
+    Other,
+}
+
+fn found_in(line: &str, status: &str, is_numbered: bool) -> Found {
+    if line == status && is_numbered {
+        Found::There
+    } else if line == "err ENOENT\n" {
+        Found::Absent
+    } else {
+        Found::Other
+    }
+}
+
+fn found_by(alloc: Global, reply: &Reply, number: u16, status: &str) -> Result<Found> {
+    let line = line_of(alloc, reply)?;
+    let is_numbered = number_of(reply) == Some(number);
+    Ok(found_in(line.as_str(), status, is_numbered))
+}
+
+fn looked_at(
+    alloc: Global,
+    mounted: &mut Mounted,
+    path: &str,
+    number: u16,
+    status: &str,
+) -> Result<Found> {
+    let reply = mounted.call(0, &stat(alloc, path)?);
+    found_by(alloc, &reply, number, status)
 }
 
 /// Logs in, and asks for each directory. How many of the list are there, where these are the first of
 /// it, each as it was made, and of the others there is none.
-pub fn present(alloc: Global, mounted: &mut Fs<MemDevice>) -> Result<Option<usize>>
-    requires { IsFs mounted.old }
-    ensures sound { IsFs mounted.new }
-{
-    mounted.call(0, &login(alloc)?);
-    let mut count = 0_usize;
-    let mut has_ended = false;
+pub fn present(alloc: Global, mounted: &mut Mounted) -> Result<Option<usize>> {
+    mounted.login(alloc)?;
+    let mut progress = Progress {
+        count: 0,
+        has_ended: false,
+    };
     for (at, (path, _mode, status)) in DIRECTORIES.iter().enumerate() {
-        let reply = mounted.call(0, &stat(alloc, path)?);
         // The first of them has the number 3.
-        let is_numbered = number_of(&reply) == Some(3 + (at % 100) as u16);
-        let line = line_of(alloc, &reply)?;
-        if line.as_str() == *status && is_numbered && !has_ended {
-            count = count.saturating_add(1);
-        } else if line.as_str() == "err ENOENT\n" {
-            has_ended = true;
-        } else {
-            return Ok(None);
+        let number = 3 + (at % 100) as u16;
+        match progress.at(looked_at(alloc, mounted, path, number, status)?) {
+            Some(next) => progress = next,
+            None => return Ok(None),
         }
     }
-    Ok(Some(count))
+    Ok(Some(progress.count))
 }

@@ -1,15 +1,13 @@
 //! Logs with bytes that a seed draws.
 //!
 //! What is wanted is a tree, the same at the next mount, or the block of the half that is damaged.
-ghost use Rattle.sn_fs.specs.Filesystem.{IsFs};
 
-use crate::disk::{login, mkdir, new_device, remounted, stat, told as line_told};
 use anyhow::{Result, ensure};
 use rand_core::Rng;
 use rand_pcg::Pcg32;
 use sn_device::{Device, Fill, MemDevice, SECTOR_SIZE, Sector};
-use sn_fs::{Fs, mount};
 use sn_model::{Damage, MountFault};
+use sn_mounted::{Mounted, new_device, remounted};
 use sn_table::{Report, Tally};
 use std::alloc::Global;
 
@@ -24,12 +22,11 @@ const PATHS: [&str; 20] = [
     "/c/b", "/c/c", "/c/d", "/d/a", "/d/b", "/d/c", "/d/d",
 ];
 
-/// What a mount comes to, and the device.
-#[derive(Drop)]
-enum Ending {
-    Tree(String, MemDevice),
-    Damaged(u32, MemDevice),
-    Wrong,
+/// What a half came to: a tree or a damage, and whether that is right.
+#[derive(Clone, Copy)]
+struct Ending {
+    is_tree: bool,
+    is_right: bool,
 }
 
 pub fn run(report: &mut Report<'_>) -> Result<()> {
@@ -41,70 +38,91 @@ pub fn run(report: &mut Report<'_>) -> Result<()> {
 }
 
 fn halves(report: &Report<'_>, trees: &mut Tally, damaged: &mut Tally) -> Result<()> {
-    let alloc = report.alloc();
     let rt = report.runtime();
     let mut random = Pcg32::new(1, 0);
     for half in 0..HALVES {
-        let mut device = filled(alloc, &mut random)?;
-        change_some(&mut device, &mut random)?;
-        match found(alloc, device.crash(Fill::New))? {
-            Ending::Tree(told, device) => {
-                let is_right = is_tree_again(alloc, told.as_str(), device)?;
-                trees.check(rt, is_right, &[half])?;
-            }
-            Ending::Damaged(block, device) => {
-                let is_right = is_damaged_again(alloc, block, device)?;
-                damaged.check(rt, is_right, &[half])?;
-            }
-            Ending::Wrong => damaged.check(rt, false, &[half])?,
+        let ending = mounted_twice(report.alloc(), &mut random)?;
+        if ending.is_tree {
+            trees.check(rt, ending.is_right, &[half])?;
+        } else {
+            damaged.check(rt, ending.is_right, &[half])?;
         }
     }
     Ok(())
 }
 
-fn is_tree_again(alloc: Global, told: &str, device: MemDevice) -> Result<bool> {
-    Ok(match found(alloc, device.crash(Fill::Old))? {
-        Ending::Tree(again, _) => again.as_str() == told,
-        _ => false,
-    })
-}
-
-fn is_damaged_again(alloc: Global, block: u32, device: MemDevice) -> Result<bool> {
-    Ok(match found(alloc, device.crash(Fill::Old))? {
-        Ending::Damaged(again, _) => again == block && 38 <= block && block <= 69,
-        _ => false,
-    })
-}
-
-/// Mounts, and asks for each directory that may be there.
-fn found(alloc: Global, device: MemDevice) -> Result<Ending> {
-    match mount(alloc, device) {
-        Ok(mut mounted) => {
-            let told = told(alloc, &mut mounted)?;
-            Ok(Ending::Tree(told, mounted.into_device()))
-        }
-        Err(unmounted) => Ok(match unmounted.fault {
-            MountFault::Damaged {
-                damage: Damage::Log,
-                block,
-            } => Ending::Damaged(block, unmounted.device),
-            _ => Ending::Wrong,
+/// What a half that is drawn comes to at two mounts.
+fn mounted_twice(alloc: Global, random: &mut Pcg32) -> Result<Ending> {
+    let device = drawn(alloc, random)?;
+    match Mounted::new(alloc, device) {
+        Ok(mounted) => Ok(Ending {
+            is_tree: true,
+            is_right: is_tree_kept(alloc, mounted)?,
+        }),
+        Err(unmounted) => Ok(Ending {
+            is_tree: false,
+            is_right: is_damaged_again(alloc, unmounted.device, unmounted.fault),
         }),
     }
 }
 
+fn drawn(alloc: Global, random: &mut Pcg32) -> Result<MemDevice> {
+    let mut device = filled(alloc, random)?;
+    change_some(&mut device, random)?;
+    Ok(device.crash(Fill::New))
+}
+
+fn is_tree_kept(alloc: Global, mounted: Mounted) -> Result<bool> {
+    let mut mounted = mounted;
+    let told = told(alloc, &mut mounted)?;
+    is_tree_again(alloc, mounted.into_device(), told.as_str())
+}
+
+fn is_tree_again(alloc: Global, device: MemDevice, told: &str) -> Result<bool> {
+    match Mounted::new(alloc, device.crash(Fill::Old)) {
+        Ok(mounted) => is_told_by(alloc, mounted, told),
+        Err(_) => Ok(false),
+    }
+}
+
+fn is_told_by(alloc: Global, mounted: Mounted, wanted: &str) -> Result<bool> {
+    let mut mounted = mounted;
+    let told = told(alloc, &mut mounted)?;
+    Ok(told.as_str() == wanted)
+}
+
+/// Whether a fault is that of a damage in the half, and comes again.
+fn is_damaged_again(alloc: Global, device: MemDevice, fault: MountFault) -> bool {
+    match Mounted::new(alloc, device.crash(Fill::Old)) {
+        Ok(_) => false,
+        Err(unmounted) => is_of_half(fault) && unmounted.fault == fault,
+    }
+}
+
+fn is_of_half(fault: MountFault) -> bool {
+    match fault {
+        MountFault::Damaged {
+            damage: Damage::Log,
+            block,
+        } => 38 <= block && block <= 69,
+        _ => false,
+    }
+}
+
 /// What is told of each directory that may be there.
-fn told(alloc: Global, mounted: &mut Fs<MemDevice>) -> Result<String>
-    requires { IsFs mounted.old }
-    ensures sound { IsFs mounted.new }
-{
+fn told(alloc: Global, mounted: &mut Mounted) -> Result<String> {
     let mut lines = String::new(alloc);
-    mounted.call(0, &login(alloc)?);
+    mounted.login(alloc)?;
+    push_told(alloc, mounted, &mut lines)?;
+    Ok(lines)
+}
+
+fn push_told(alloc: Global, mounted: &mut Mounted, lines: &mut String) -> Result<()> {
     for path in &PATHS {
-        let line = line_told(alloc, mounted, &stat(alloc, path)?)?;
+        let line = mounted.stat(alloc, path)?;
         lines.push_str(line.as_str())?;
     }
-    Ok(lines)
+    Ok(())
 }
 
 /// One of the four, or one in them.
@@ -120,30 +138,44 @@ fn path(random: &mut Pcg32) -> &'static str {
 /// A device with a log of drawn directories. Some calls are refused, and leave no record.
 fn filled(alloc: Global, random: &mut Pcg32) -> Result<MemDevice> {
     let mut mounted = remounted(alloc, new_device(alloc)?)?;
-    mounted.call(0, &login(alloc)?);
-    for _ in 0..random.next_u32() % 20 {
-        mounted.call(0, &mkdir(alloc, path(random), 0o755)?);
-    }
+    mounted.login(alloc)?;
+    make_some(alloc, &mut mounted, random)?;
     Ok(mounted.into_device())
+}
+
+fn make_some(alloc: Global, mounted: &mut Mounted, random: &mut Pcg32) -> Result<()> {
+    for _ in 0..random.next_u32() % 20 {
+        mounted.mkdir(alloc, path(random), 0o755)?;
+    }
+    Ok(())
+}
+
+/// A place of the half, more often than not one of the first.
+fn some_place(random: &mut Pcg32) -> u32 {
+    if random.next_u32() % 4 == 0 {
+        random.next_u32() % 256
+    } else {
+        random.next_u32() % 24
+    }
 }
 
 /// Draws a few sectors of the half, and in each of them a byte of its head, or all of them.
 fn change_some(device: &mut MemDevice, random: &mut Pcg32) -> Result<()> {
     for _ in 0..random.next_u32() % 4 {
-        let place = if random.next_u32() % 4 == 0 {
-            random.next_u32() % 256
-        } else {
-            random.next_u32() % 24
-        };
-        let at = FIRST + u64::from(place);
-        ensure!(at < device.sectors(), "no sector {at}");
-        let mut sector = [0; SECTOR_SIZE];
-        let is_read = device.read(at, &mut sector).is_ok();
-        change(&mut sector, random);
-        ensure!(at < device.sectors(), "no sector {at}");
-        let is_written = device.write(at, &sector).is_ok();
-        ensure!(is_read && is_written, "a device without a fault");
+        let at = FIRST + u64::from(some_place(random));
+        change_sector(device, at, random)?;
     }
+    Ok(())
+}
+
+fn change_sector(device: &mut MemDevice, at: u64, random: &mut Pcg32) -> Result<()> {
+    let mut sector = [0; SECTOR_SIZE];
+    ensure!(at < device.sectors(), "no such sector");
+    let is_read = device.read(at, &mut sector).is_ok();
+    change(&mut sector, random);
+    ensure!(at < device.sectors(), "no such sector");
+    let is_written = device.write(at, &sector).is_ok();
+    ensure!(is_read && is_written, "a device without a fault");
     Ok(())
 }
 

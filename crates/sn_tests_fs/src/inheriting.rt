@@ -3,9 +3,9 @@
 //! Its log has one record, by which the root directory has that ACL. The bytes are those of
 //! docs/FORMAT.md.
 
-use crate::disk::new_device;
 use anyhow::{Result, ensure};
 use sn_device::{Device, Fill, MemDevice, SECTOR_SIZE, Sector};
+use sn_mounted::new_device;
 use std::alloc::Global;
 
 /// The first place of the log of epoch 1.
@@ -48,14 +48,22 @@ fn body() -> Sector {
     sector
 }
 
-pub fn inheriting_device(alloc: Global) -> Result<MemDevice> {
-    let mut device = new_device(alloc)?;
+fn gate() -> Sector {
     let mut gate = [0; SECTOR_SIZE];
     gate[0] = 1;
-    ensure!(device.sectors() > GATE + 1, "a smaller device");
-    let is_open = device.write(GATE, &gate).is_ok();
-    ensure!(device.sectors() > GATE + 1, "a smaller device");
-    let is_written = device.write(GATE + 1, &body()).is_ok();
-    ensure!(is_open && is_written, "no memory for a write");
+    gate
+}
+
+fn put(device: &mut MemDevice, at: u64, sector: &Sector) -> Result<()> {
+    ensure!(at < device.sectors(), "a smaller device");
+    let is_written = device.write(at, sector).is_ok();
+    ensure!(is_written, "no memory for a write");
+    Ok(())
+}
+
+pub fn inheriting_device(alloc: Global) -> Result<MemDevice> {
+    let mut device = new_device(alloc)?;
+    put(&mut device, GATE, &gate())?;
+    put(&mut device, GATE + 1, &body())?;
     Ok(device.crash(Fill::New))
 }

@@ -1,12 +1,9 @@
 //! The tables of calls and of crashes.
-ghost use Rattle.sn_fs.specs.Filesystem.{IsFs};
 
-use crate::disk::{line_of, login, mkdir, new_device, remounted, stat, told};
 use anyhow::{Context, Result, bail};
 use sn_device::{Fill, MemDevice};
-use sn_fs::{Fs, mount};
-use sn_model::{Event, Reply};
-use sn_script::read_script;
+use sn_model::{Call, Reply};
+use sn_mounted::{Mounted, line_of, login, mkdir, new_device, remounted, stat};
 use sn_table::{Case, Report};
 use std::alloc::Global;
 
@@ -28,81 +25,127 @@ fn fill_of(word: &str) -> Result<Fill> {
 
 /// A line for each line of a script, in which `crash` and a fill stand for a crash and a mount.
 fn replies(alloc: Global, script: &str) -> Result<String> {
-    let mut mounted = remounted(alloc, new_device(alloc)?)?;
     let mut text = String::new(alloc);
-    for line in script.lines() {
-        match line.split_once(' ') {
-            Some(("crash", word)) => {
-                let device = mounted.into_device().crash(fill_of(word)?);
-                mounted = remounted(alloc, device)?;
-                text.push_str("mounted\n")?;
-            }
-            _ => {
-                let reply = asked(alloc, &mut mounted, line)?;
-                text.push_str(line_of(alloc, &reply)?.as_str())?;
-            }
-        }
-    }
+    push_replies(alloc, script, &mut text)?;
     Ok(text)
 }
 
-fn asked(alloc: Global, mounted: &mut Fs<MemDevice>, line: &str) -> Result<Reply>
-    requires { IsFs mounted.old }
-    ensures sound { IsFs mounted.new }
-{
-    let script = format!(in alloc; "{line}\n")?;
-    let mut events = read_script(alloc, script.as_str().as_bytes())?;
-    match events.pop().context("one event")? {
-        Event::Call { session, call } => Ok(mounted.call(session, &call)),
-        _ => bail!("no call: {line}"),
+fn push_replies(alloc: Global, script: &str, text: &mut String) -> Result<()> {
+    let mut mounted = remounted(alloc, new_device(alloc)?)?;
+    for line in script.lines() {
+        mounted = answered(alloc, mounted, line, text)?;
     }
+    Ok(())
+}
+
+/// The file system behind a line.
+fn answered(alloc: Global, mounted: Mounted, line: &str, text: &mut String) -> Result<Mounted> {
+    match line.strip_prefix("crash ") {
+        Some(word) => crashed(alloc, mounted, word, text),
+        None => asked(alloc, mounted, line, text),
+    }
+}
+
+fn crashed(alloc: Global, mounted: Mounted, word: &str, text: &mut String) -> Result<Mounted> {
+    text.push_str("mounted\n")?;
+    let fill = fill_of(word)?;
+    remounted(alloc, mounted.into_device().crash(fill))
+}
+
+fn asked(alloc: Global, mounted: Mounted, line: &str, text: &mut String) -> Result<Mounted> {
+    let mut mounted = mounted;
+    let reply = mounted.asked(alloc, line)?;
+    push_reply(alloc, &reply, text)?;
+    Ok(mounted)
+}
+
+fn push_reply(alloc: Global, reply: &Reply, text: &mut String) -> Result<()> {
+    let line = line_of(alloc, reply)?;
+    text.push_str(line.as_str())?;
+    Ok(())
+}
+
+/// So many writes succeed, and then there is a crash.
+#[derive(Clone, Copy)]
+struct Life {
+    stop: u64,
+    fill: Fill,
+}
+
+fn life_of(word: &str) -> Result<Life> {
+    let (stop, fill) = word
+        .split_once(':')
+        .context(format_args!("no fill in: {word}"))?;
+    let stop = stop.parse().context("a number")?;
+    let fill = fill_of(fill)?;
+    Ok(Life { stop, fill })
 }
 
 /// What the first life answers, and what is found in the end.
 fn stops(alloc: Global, case: Case<'_>) -> Result<String> {
     let mut text = String::new(alloc);
-    let mut device = new_device(alloc)?;
-    for (at, word) in case.text().split_ascii_whitespace().enumerate() {
-        let (stop, fill) = word
-            .split_once(':')
-            .context(format_args!("no fill in: {word}"))?;
-        device.stop_at(stop.parse().context("a number")?);
-        device = match mount(alloc, device) {
-            Ok(mounted) if at > 0 => mounted.into_device(),
-            Ok(mut mounted) => {
-                push_answers(alloc, &mut mounted, &mut text)?;
-                mounted.into_device()
-            }
-            Err(unmounted) => {
-                if at == 0 {
-                    text.push_str("unmounted, ")?;
-                }
-                unmounted.device
-            }
-        };
-        device = device.crash(fill_of(fill)?);
-    }
-    push_found(alloc, device, &mut text)?;
+    push_lives(alloc, case.text(), &mut text)?;
     Ok(text)
 }
 
-/// The answers to a login and the making of `/x`.
-fn push_answers(alloc: Global, mounted: &mut Fs<MemDevice>, text: &mut String) -> Result<()>
-    requires { IsFs mounted.old }
-    ensures sound { IsFs mounted.new }
-{
-    for call in [login(alloc)?, mkdir(alloc, "/x", 0o755)?] {
-        text.push_str(told(alloc, mounted, &call)?.as_str().trim())?;
-        text.push_str(", ")?;
+fn push_lives(alloc: Global, lives: &str, text: &mut String) -> Result<()> {
+    let mut lives = lives.split_ascii_whitespace();
+    let first = life_of(lives.next().context("no life")?)?;
+    let mut device = first_life(alloc, first, text)?;
+    for word in lives {
+        device = later_life(alloc, device, life_of(word)?);
     }
+    push_found(alloc, device, text)
+}
+
+fn first_life(alloc: Global, life: Life, text: &mut String) -> Result<MemDevice> {
+    let mut device = new_device(alloc)?;
+    device.stop_at(life.stop);
+    let device = push_first(alloc, device, text)?;
+    Ok(device.crash(life.fill))
+}
+
+/// Mounts a device, and asks for `/x`.
+fn push_first(alloc: Global, device: MemDevice, text: &mut String) -> Result<MemDevice> {
+    match Mounted::new(alloc, device) {
+        Ok(mounted) => push_answers(alloc, mounted, text),
+        Err(unmounted) => {
+            text.push_str("unmounted, ")?;
+            Ok(unmounted.device)
+        }
+    }
+}
+
+/// The answers to a login and the making of `/x`.
+fn push_answers(alloc: Global, mounted: Mounted, text: &mut String) -> Result<MemDevice> {
+    let mut mounted = mounted;
+    push_told(alloc, &mut mounted, &login(alloc)?, text)?;
+    text.push_str(", ")?;
+    push_told(alloc, &mut mounted, &mkdir(alloc, "/x", 0o755)?, text)?;
+    text.push_str(", ")?;
+    Ok(mounted.into_device())
+}
+
+fn push_told(alloc: Global, mounted: &mut Mounted, call: &Call, text: &mut String) -> Result<()> {
+    let line = mounted.told(alloc, call)?;
+    text.push_str(line.as_str().trim())?;
     Ok(())
+}
+
+/// A mount that nothing is asked of.
+fn later_life(alloc: Global, device: MemDevice, life: Life) -> MemDevice {
+    let mut device = device;
+    device.stop_at(life.stop);
+    let device = match Mounted::new(alloc, device) {
+        Ok(mounted) => mounted.into_device(),
+        Err(unmounted) => unmounted.device,
+    };
+    device.crash(life.fill)
 }
 
 /// Whether `/x` is on a device.
 fn push_found(alloc: Global, device: MemDevice, text: &mut String) -> Result<()> {
     let mut mounted = remounted(alloc, device)?;
-    mounted.call(0, &login(alloc)?);
-    let line = told(alloc, &mut mounted, &stat(alloc, "/x")?)?;
-    text.push_str(line.as_str().trim())?;
-    Ok(())
+    mounted.login(alloc)?;
+    push_told(alloc, &mut mounted, &stat(alloc, "/x")?, text)
 }
