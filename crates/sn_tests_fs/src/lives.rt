@@ -128,7 +128,14 @@ fn push_answers(alloc: Global, mounted: Mounted, text: &mut String) -> Result<Me
 
 fn push_told(alloc: Global, mounted: &mut Mounted, call: &Call, text: &mut String) -> Result<()> {
     let line = mounted.told(alloc, call)?;
-    text.push_str(line.as_str().trim())?;
+    push_text(text, line.as_str())
+}
+
+/// A line without its end.
+fn push_text(text: &mut String, line: &str) -> Result<()> {
+    for part in line.lines() {
+        text.push_str(part)?;
+    }
     Ok(())
 }
 
