@@ -1,1 +1,2 @@
+pub mod Unlinking
 pub mod Views

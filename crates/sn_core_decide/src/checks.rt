@@ -7,14 +7,15 @@ ghost use Rattle.sn_model.specs.Tests as tests;
 ghost use Rattle.sn_walk.specs.Gives.{Answers, Gives, IfFault};
 ghost use Rattle.sn_walk.specs.Walks.{end_of, found_at};
 
+use crate::view::CallView;
 use sn_acl::{Acl, Cred, Mode, Permissions, Tag, check};
 use sn_limits::Kind;
 use sn_model::{
     Access, AclKind, Denial, Errno, ModeBits, NewAcl, OpenFlags, PathNumber, Refusal, Rule, Word,
 };
 use sn_walk::{
-    Attributes, Failure, Found, Object, Obstacle, Path, PathFault, TreeView, WalkRefusal, Walked,
-    attributes_of, reached, walk,
+    Attributes, Failure, Found, Home, Object, Obstacle, Path, PathFault, TreeView, WalkRefusal,
+    Walked, attributes_of, reached, walk,
 };
 
 /// An argument that is a path: EINVAL where it is misspelt, ENAMETOOLONG where it or a name is too
@@ -341,6 +342,27 @@ pub fn writable_parent<V: TreeView>(
     };
     granted(cred, which, place, Access::WRITE, &a)?;
     Ok(a)
+}
+
+/// What a directory gives a new node: its default ACL, where a number is left and the directory has room. It
+/// is ELIMIT otherwise.
+pub(crate) fn given_in<V: CallView>(
+    view: &mut V,
+    directory: u16,
+) -> Result<Option<Acl>, Failure<Refusal, V::Fault>>
+    requires { V.holds view.old }
+    ensures kept { V.holds view.new }
+    ensures follows { V.follows view.old view.new }
+    ensures same { IsTrue V.is_told → V.shows view.new ≡ V.shows view.old }
+    ensures room { IsTrue V.is_told → Gives (λ _. tt) result (V.room view.old directory) }
+    ensures found { IsTrue V.is_told → IfOk result (λ acl. acl ≡ ((V.shows view.old).tree Home.Live).default_acl directory) }
+    ensures cause { IfFault result (λ f. V.causes view.old view.new f) }
+{
+    view.has_room(directory)?;
+    match view.default_acl(&Home::Live, directory) {
+        Ok(acl) => Ok(acl),
+        Err(fault) => Err(Failure::Fault(fault)),
+    }
 }
 
 /// From a directory with S_ISVTX a caller removes what it owns, or anything where it owns the

@@ -3,14 +3,14 @@ ghost use Rattle.sn_model.specs.Calls.{mkdir_outcome, stat_outcome, new_director
 ghost use Rattle.sn_walk.specs.Gives.{Gives, IfFault};
 ghost use Rattle.sn_core_decide.specs.Views.{seen_by};
 
-use crate::checks::{full, live, not_present, prefix, writable_parent};
+use crate::checks::{full, given_in, live, not_present, prefix, writable_parent};
 use crate::view::CallView;
 use sn_acl::{Acl, Inherited, Mode, inherit};
 use sn_limits::{Kind, Limits};
 use sn_model::{
     Bytes, Caller, Outcome, Ownership, PathNumber, Pending, Refusal, Reply, Session, Status,
 };
-use sn_walk::{Attributes, Failure, Home, Path, TreeView};
+use sn_walk::{Attributes, Failure, Path, TreeView};
 
 /// What a directory is given that a session makes in a directory.
 fn new_directory(
@@ -56,11 +56,7 @@ pub fn mkdir<'a, V: CallView>(
     let (parent, place) = not_present(walked)?;
     let directory = live(&parent)?;
     let attributes = writable_parent(view, &caller.cred, PathNumber::FIRST, place, &parent)?;
-    view.has_room(directory)?;
-    let default_acl = match view.default_acl(&Home::Live, directory) {
-        Ok(acl) => acl,
-        Err(fault) => return Err(Failure::Fault(fault)),
-    };
+    let default_acl = given_in(view, directory)?;
     Ok(Outcome {
         charge: 2 * u64::from(limits.inode_charge) + u64::from(limits.block_charge),
         change: Pending::Makes {

@@ -3,10 +3,14 @@ ghost use Rattle.std.specs.Prelude.{◌≡◌, IsTrue};
 ghost use Rattle.sn_model.specs.FileCalls as calls;
 ghost use Rattle.sn_model.specs.Calls.{last_name};
 ghost use Rattle.sn_walk.specs.Gives.{Answers, Gives, IfFault};
+ghost use Rattle.sn_model.specs.Seen.{parent_of};
+ghost use Rattle.sn_walk.specs.declared.walking.Walked.{Walked};
+ghost use Rattle.sn_core_decide.specs.Unlinking.{unlink_in};
 ghost use Rattle.sn_core_decide.specs.Views.{seen_by};
 
 use crate::checks::{
-    granted, live, live_if, no_directory, parent_of, prefix, sticky, writable_parent,
+    given_in, granted, live, live_if, no_directory, parent_of, prefix, sticky, there,
+    writable_parent,
 };
 use crate::view::CallView;
 use sn_acl::{Acl, Inherited, Mode, inherit};
@@ -47,6 +51,13 @@ fn file(found: &Found) -> Result<(Home, u16), Refusal>
     }
 }
 
+/// The charge for a file and one of its blocks.
+fn file_charge(limits: &Limits) -> u64
+    ensures { result ≡ calls.file_charge limits.now 1 }
+{
+    u64::from(limits.inode_charge) + u64::from(limits.block_charge)
+}
+
 /// What the opening of a file that is there comes to.
 fn opens_there(
     limits: &Limits,
@@ -66,7 +77,7 @@ fn opens_there(
     let told = Reply::Number(u64::from(fd));
     if flags.truncate {
         return Outcome {
-            charge: u64::from(limits.inode_charge) + u64::from(limits.block_charge),
+            charge: file_charge(limits),
             change: Pending::Does(Change::SetSize { number, size: 0 }),
             caller,
             told,
@@ -154,11 +165,7 @@ fn open_in<'a, V: CallView>(
 {
     let directory = live(parent)?;
     let attributes = writable_parent(view, &caller.cred, PathNumber::FIRST, place, parent)?;
-    view.has_room(directory)?;
-    let default_acl = match view.default_acl(&Home::Live, directory) {
-        Ok(acl) => acl,
-        Err(fault) => return Err(Failure::Fault(fault)),
-    };
+    let default_acl = given_in(view, directory)?;
     Ok(Outcome {
         charge: 2 * u64::from(limits.inode_charge) + u64::from(limits.block_charge),
         change: Pending::Makes {
@@ -172,8 +179,31 @@ fn open_in<'a, V: CallView>(
     })
 }
 
-/// What open comes to, under the descriptor that it answers.
+/// What open comes to where the name isn't there: the directory of the name is known, or why there is none.
 #[tactic(auto, unfolding(sn_model::specs::FileCalls::open_absent))]
+fn open_absent<'a, V: CallView>(
+    limits: &Limits,
+    view: &mut V,
+    caller: &Session,
+    fd: u32,
+    flags: OpenFlags,
+    mode: Mode,
+    path: &Path<'a>,
+    parent: Result<(Object, u16), Refusal>,
+) -> Result<Outcome<'a>, Failure<Refusal, V::Fault>>
+    requires { V.holds view.old }
+    ensures kept { V.holds view.new }
+    ensures follows { V.follows view.old view.new }
+    ensures same { IsTrue V.is_told → V.shows view.new ≡ V.shows view.old }
+    ensures exact { IsTrue V.is_told → (walked : Walked) → parent ≡ parent_of Errno.Enoent walked → Gives (λ o. o) result (calls.open_absent limits.now (seen_by (V.shows view.old) (V.room view.old) (V.names view.old)) caller.now fd flags mode path.now walked) }
+    ensures cause { IfFault result (λ f. V.causes view.old view.new f) }
+{
+    creating(flags)?;
+    let (parent, place) = parent?;
+    open_in(limits, view, caller, fd, flags, mode, path, &parent, place)
+}
+
+/// What open comes to, under the descriptor that it answers.
 pub fn open<'a, V: CallView>(
     limits: &Limits,
     view: &mut V,
@@ -194,13 +224,39 @@ pub fn open<'a, V: CallView>(
     let parent = parent_of(Errno::Enoent, &walked);
     match reached(view, walked) {
         Ok(Some(found)) => Ok(open_there(limits, caller, fd, flags, &found)?),
-        Ok(None) => {
-            creating(flags)?;
-            let (parent, place) = parent?;
-            open_in(limits, view, caller, fd, flags, mode, path, &parent, place)
-        }
+        Ok(None) => open_absent(limits, view, caller, fd, flags, mode, path, parent),
         Err(fault) => Err(Failure::Fault(fault)),
     }
+}
+
+/// A name that goes from the directory that it was walked to in.
+fn unlink_in<'a, V: TreeView>(
+    limits: &Limits,
+    view: &mut V,
+    caller: &Session,
+    path: &Path<'a>,
+    parent: &Object,
+    place: u16,
+    found: &Found,
+) -> Result<Outcome<'a>, Failure<Refusal, V::Fault>>
+    requires { V.holds view.old }
+    ensures kept { V.holds view.new }
+    ensures follows { V.follows view.old view.new }
+    ensures same { IsTrue V.is_told → V.shows view.new ≡ V.shows view.old }
+    ensures exact { IsTrue V.is_told → Gives (λ o. o) result (unlink_in limits.now (V.shows view.old) caller.now path.now parent.now place found.now) }
+    ensures cause { IfFault result (λ f. V.causes view.old view.new f) }
+{
+    let attributes = writable_parent(view, &caller.cred, PathNumber::FIRST, place, parent)?;
+    sticky(&caller.cred, PathNumber::FIRST, &attributes, found)?;
+    Ok(Outcome {
+        charge: 3 * u64::from(limits.inode_charge) + u64::from(limits.block_charge),
+        change: Pending::Does(Change::Remove {
+            directory: parent.number(),
+            name: Bytes::new(path.last().unwrap_or(b"")),
+        }),
+        caller: Caller::Stays,
+        told: Reply::Done,
+    })
 }
 
 /// What unlink comes to: a name of a file goes.
@@ -220,23 +276,9 @@ pub fn unlink<'a, V: TreeView>(
 {
     let walked = prefix(view, &caller.cred, PathNumber::FIRST, path)?;
     let parent = parent_of(Errno::Eperm, &walked);
-    let found = match reached(view, walked) {
-        Ok(Some(found)) => found,
-        Ok(None) => return Err(Failure::Refused(Refusal::plain(Errno::Enoent))),
-        Err(fault) => return Err(Failure::Fault(fault)),
-    };
+    let found = there(view, walked)?;
     no_directory(&found)?;
     live(&found.object)?;
     let (parent, place) = parent?;
-    let attributes = writable_parent(view, &caller.cred, PathNumber::FIRST, place, &parent)?;
-    sticky(&caller.cred, PathNumber::FIRST, &attributes, &found)?;
-    Ok(Outcome {
-        charge: 3 * u64::from(limits.inode_charge) + u64::from(limits.block_charge),
-        change: Pending::Does(Change::Remove {
-            directory: parent.number(),
-            name: Bytes::new(path.last().unwrap_or(b"")),
-        }),
-        caller: Caller::Stays,
-        told: Reply::Done,
-    })
+    unlink_in(limits, view, caller, path, &parent, place, &found)
 }

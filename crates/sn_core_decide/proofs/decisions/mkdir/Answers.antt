@@ -1,5 +1,4 @@
-use Rattle.std.proofs.Common.{arith, rules}
-use Rattle.std.proofs.lemmas.Grind.{common_steps}
+use Rattle.std.proofs.Common.{rules}
 use Rattle.sn_model.specs.Calls.{mkdir_outcome}
 use Rattle.sn_core_decide.proofs.decisions.mkdir.Goals as goal
 
@@ -19,26 +18,15 @@ pub returns-in_err-attributes-clause-exact : goal.returns-in_err-attributes-clau
 unfolding mkdir_outcome
 returns-in_err-attributes-clause-exact g c = search rules
 
-pub returns-in-Err-clause-exact : goal.returns-in-Err-clause-exact
-unfolding mkdir_outcome
-returns-in-Err-clause-exact g c = search rules
-
 pub returns-clause-exact : goal.returns-clause-exact
 unfolding mkdir_outcome
 returns-clause-exact g c = search rules
 
-pub returns-in_err-has_room-clause-exact : goal.returns-in_err-has_room-clause-exact
-unfolding mkdir_outcome
-returns-in_err-has_room-clause-exact g c = grind (arith, common_steps)
-
 pub returns-in_err-attributes-clause-follows : goal.returns-in_err-attributes-clause-follows
 returns-in_err-attributes-clause-follows g c = g.met.V.TreeView.follows_on _ _ _ c.prefix.ensures.follows c.writable_parent.ensures.follows
 
-pub returns-in_err-has_room-clause-follows : goal.returns-in_err-has_room-clause-follows
-returns-in_err-has_room-clause-follows g c = g.met.V.TreeView.follows_on _ _ _ (g.met.V.TreeView.follows_on _ _ _ c.prefix.ensures.follows c.writable_parent.ensures.follows) c.has_room.ensures.follows
-
-pub returns-in-Err-clause-follows : goal.returns-in-Err-clause-follows
-returns-in-Err-clause-follows g c = g.met.V.TreeView.follows_on _ _ _ (g.met.V.TreeView.follows_on _ _ _ (g.met.V.TreeView.follows_on _ _ _ c.prefix.ensures.follows c.writable_parent.ensures.follows) c.has_room.ensures.follows) c.default_acl.ensures.follows
+pub returns-in_err-default_acl-clause-follows : goal.returns-in_err-default_acl-clause-follows
+returns-in_err-default_acl-clause-follows g c = g.met.V.TreeView.follows_on _ _ _ (g.met.V.TreeView.follows_on _ _ _ c.prefix.ensures.follows c.writable_parent.ensures.follows) c.given_in.ensures.follows
 
 pub returns-clause-follows : goal.returns-clause-follows
-returns-clause-follows g c = g.met.V.TreeView.follows_on _ _ _ (g.met.V.TreeView.follows_on _ _ _ (g.met.V.TreeView.follows_on _ _ _ c.prefix.ensures.follows c.writable_parent.ensures.follows) c.has_room.ensures.follows) c.default_acl.ensures.follows
+returns-clause-follows g c = g.met.V.TreeView.follows_on _ _ _ (g.met.V.TreeView.follows_on _ _ _ c.prefix.ensures.follows c.writable_parent.ensures.follows) c.given_in.ensures.follows

@@ -6,6 +6,10 @@ pub returns-in_err-walked-clause-exact : goal.returns-in_err-walked-clause-exact
 unfolding unlink_outcome
 returns-in_err-walked-clause-exact g c = search rules
 
+pub returns-in_err-found-clause-exact : goal.returns-in_err-found-clause-exact
+unfolding unlink_outcome
+returns-in_err-found-clause-exact g c = search rules
+
 pub returns-in_err-no_directory-clause-exact : goal.returns-in_err-no_directory-clause-exact
 unfolding unlink_outcome
 returns-in_err-no_directory-clause-exact g c = search rules
@@ -18,32 +22,17 @@ pub returns-in_err-parent-clause-exact : goal.returns-in_err-parent-clause-exact
 unfolding unlink_outcome
 returns-in_err-parent-clause-exact g c = search rules
 
-pub returns-in_err-attributes-clause-exact : goal.returns-in_err-attributes-clause-exact
-unfolding unlink_outcome
-returns-in_err-attributes-clause-exact g c = search rules
-
-pub returns-in_err-sticky-clause-exact : goal.returns-in_err-sticky-clause-exact
-unfolding unlink_outcome
-returns-in_err-sticky-clause-exact g c = search rules
-
-pub returns-clause-exact : goal.returns-clause-exact
-unfolding unlink_outcome
-returns-clause-exact g c = search rules
+pub returns-in_err-found-clause-follows : goal.returns-in_err-found-clause-follows
+returns-in_err-found-clause-follows g c = g.met.V.TreeView.follows_on _ _ _ c.prefix.ensures.follows c.there.ensures.follows
 
 pub returns-in_err-no_directory-clause-follows : goal.returns-in_err-no_directory-clause-follows
-returns-in_err-no_directory-clause-follows g c = g.met.V.TreeView.follows_on _ _ _ c.prefix.ensures.follows c.reached.ensures.follows
+returns-in_err-no_directory-clause-follows g c = g.met.V.TreeView.follows_on _ _ _ c.prefix.ensures.follows c.there.ensures.follows
 
 pub returns-in_err-live-clause-follows : goal.returns-in_err-live-clause-follows
-returns-in_err-live-clause-follows g c = g.met.V.TreeView.follows_on _ _ _ c.prefix.ensures.follows c.reached.ensures.follows
+returns-in_err-live-clause-follows g c = g.met.V.TreeView.follows_on _ _ _ c.prefix.ensures.follows c.there.ensures.follows
 
 pub returns-in_err-parent-clause-follows : goal.returns-in_err-parent-clause-follows
-returns-in_err-parent-clause-follows g c = g.met.V.TreeView.follows_on _ _ _ c.prefix.ensures.follows c.reached.ensures.follows
-
-pub returns-in_err-attributes-clause-follows : goal.returns-in_err-attributes-clause-follows
-returns-in_err-attributes-clause-follows g c = g.met.V.TreeView.follows_on _ _ _ (g.met.V.TreeView.follows_on _ _ _ c.prefix.ensures.follows c.reached.ensures.follows) c.writable_parent.ensures.follows
-
-pub returns-in_err-sticky-clause-follows : goal.returns-in_err-sticky-clause-follows
-returns-in_err-sticky-clause-follows g c = g.met.V.TreeView.follows_on _ _ _ (g.met.V.TreeView.follows_on _ _ _ c.prefix.ensures.follows c.reached.ensures.follows) c.writable_parent.ensures.follows
+returns-in_err-parent-clause-follows g c = g.met.V.TreeView.follows_on _ _ _ c.prefix.ensures.follows c.there.ensures.follows
 
 pub returns-clause-follows : goal.returns-clause-follows
-returns-clause-follows g c = g.met.V.TreeView.follows_on _ _ _ (g.met.V.TreeView.follows_on _ _ _ c.prefix.ensures.follows c.reached.ensures.follows) c.writable_parent.ensures.follows
+returns-clause-follows g c = g.met.V.TreeView.follows_on _ _ _ (g.met.V.TreeView.follows_on _ _ _ c.prefix.ensures.follows c.there.ensures.follows) c.unlink_in.ensures.follows
