@@ -13,3 +13,12 @@ returns-in_err-from-clause-exact g c = search rules
 pub returns-in_err-to-clause-exact : goal.returns-in_err-to-clause-exact
 unfolding moved_outcome
 returns-in_err-to-clause-exact g c = search rules
+
+pub returns-in_err-from-clause-follows : goal.returns-in_err-from-clause-follows
+returns-in_err-from-clause-follows g c = g.met.V.TreeView.follows_on _ _ _ c.not_below.ensures.follows c.writable_parent.ensures.follows
+
+pub returns-in_err-to-clause-follows : goal.returns-in_err-to-clause-follows
+returns-in_err-to-clause-follows g c = g.met.V.TreeView.follows_on _ _ _ (g.met.V.TreeView.follows_on _ _ _ c.not_below.ensures.follows c.writable_parent.ensures.follows) c.writable_parent-2.ensures.follows
+
+pub returns-clause-follows : goal.returns-clause-follows
+returns-clause-follows g c = g.met.V.TreeView.follows_on _ _ _ (g.met.V.TreeView.follows_on _ _ _ (g.met.V.TreeView.follows_on _ _ _ c.not_below.ensures.follows c.writable_parent.ensures.follows) c.writable_parent-2.ensures.follows) c.moved_in.ensures.follows

@@ -21,3 +21,15 @@ returns-in_err-new_directory-clause-exact g c = search rules
 pub returns-clause-exact : goal.returns-clause-exact
 unfolding moving_of
 returns-clause-exact g c = search rules
+
+pub returns-in_err-found-clause-follows : goal.returns-in_err-found-clause-follows
+returns-in_err-found-clause-follows g c = g.met.V.TreeView.follows_on _ _ _ c.prefix.ensures.follows c.there.ensures.follows
+
+pub returns-in_err-old_directory-clause-follows : goal.returns-in_err-old_directory-clause-follows
+returns-in_err-old_directory-clause-follows g c = g.met.V.TreeView.follows_on _ _ _ c.prefix.ensures.follows c.there.ensures.follows
+
+pub returns-in_err-new_directory-clause-follows : goal.returns-in_err-new_directory-clause-follows
+returns-in_err-new_directory-clause-follows g c = g.met.V.TreeView.follows_on _ _ _ (g.met.V.TreeView.follows_on _ _ _ c.prefix.ensures.follows c.there.ensures.follows) c.moving_to.ensures.follows
+
+pub returns-clause-follows : goal.returns-clause-follows
+returns-clause-follows g c = g.met.V.TreeView.follows_on _ _ _ (g.met.V.TreeView.follows_on _ _ _ c.prefix.ensures.follows c.there.ensures.follows) c.moving_to.ensures.follows

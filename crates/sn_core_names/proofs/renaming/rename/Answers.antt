@@ -13,3 +13,6 @@ returns-in_err-movable-2-clause-exact g c = search rules
 pub returns-in_err-moving-clause-exact : goal.returns-in_err-moving-clause-exact
 unfolding rename_outcome
 returns-in_err-moving-clause-exact g c = search rules
+
+pub returns-clause-follows : goal.returns-clause-follows
+returns-clause-follows g c = g.met.V.TreeView.follows_on _ _ _ c.moving_of.ensures.follows c.moved.ensures.follows
