@@ -235,7 +235,7 @@ fn unlink_in<'a, V: TreeView>(
     view: &mut V,
     caller: &Session,
     path: &Path<'a>,
-    parent: &Object,
+    directory: &Object,
     place: u16,
     found: &Found,
 ) -> Result<Outcome<'a>, Failure<Refusal, V::Fault>>
@@ -243,15 +243,15 @@ fn unlink_in<'a, V: TreeView>(
     ensures kept { V.holds view.new }
     ensures follows { V.follows view.old view.new }
     ensures same { IsTrue V.is_told → V.shows view.new ≡ V.shows view.old }
-    ensures exact { IsTrue V.is_told → Gives (λ o. o) result (unlink_in limits.now (V.shows view.old) caller.now path.now parent.now place found.now) }
+    ensures exact { IsTrue V.is_told → Gives (λ o. o) result (unlink_in limits.now (V.shows view.old) caller.now path.now directory.now place found.now) }
     ensures cause { IfFault result (λ f. V.causes view.old view.new f) }
 {
-    let attributes = writable_parent(view, &caller.cred, PathNumber::FIRST, place, parent)?;
+    let attributes = writable_parent(view, &caller.cred, PathNumber::FIRST, place, directory)?;
     sticky(&caller.cred, PathNumber::FIRST, &attributes, found)?;
     Ok(Outcome {
         charge: 3 * u64::from(limits.inode_charge) + u64::from(limits.block_charge),
         change: Pending::Does(Change::Remove {
-            directory: parent.number(),
+            directory: directory.number(),
             name: Bytes::new(path.last().unwrap_or(b"")),
         }),
         caller: Caller::Stays,
