@@ -1,7 +1,7 @@
 -- The bytes of contents, and those of blocks on a disk.
 use Rattle.std.proofs.Common.{◌≡◌, ◌≢◌, ℕ, zero, suc, ◌+◌, ◌*◌, ◌/◌, ◌%◌, ◌^◌, ◌<◌, ◌≤◌, ◌==◌, Bool, true, false, if◌then◌else◌, List, [], ◌∷◌, flat_map, length, replicate, Contains, slice_index, refl, sym, ap, ◌∙◌, arith, length-append}
 use Rattle.std.specs.List.{AllByRecursion}
-use Rattle.std.proofs.Math.Nat.{pow-suc, min-eq_left}
+use Rattle.std.proofs.Math.Nat.{min-eq_left}
 use Rattle.std.proofs.lemmas.Bool.{eqb-false}
 use Rattle.std.proofs.lemmas.List.{length-take, length-replicate}
 use Rattle.sn_device.specs.Sectors.{Contents, AreSectors, sector_at}
@@ -14,9 +14,10 @@ use Rattle.sn_layout.specs.declared.tree.BlockTree.{BlockTree}
 use Rattle.sn_layout_node.specs.Inode.{size_of}
 use Rattle.sn_layout_node.specs.declared.content.Content.{Content}
 use Rattle.sn_layout_node.specs.declared.content.Content.TheVariants.{Inline, Tree}
-use Rattle.sn_ondisk.specs.Blocks.{bytes_at, numbers_in}
-use Rattle.sn_ondisk.specs.Trees.{Store, store_of, named_by, below, pointers_at, tree_bytes, tree_reach}
-use Rattle.sn_ondisk.proofs.BlockLemmas.{length-bytes_at, length-numbers_in}
+use Rattle.sn_ondisk.specs.Blocks.{bytes_at}
+use Rattle.sn_ondisk.specs.Trees.{Store, store_of, named_by, pointers_at, tree_bytes, tree_reach}
+use Rattle.sn_ondisk.proofs.BlockLemmas.{length-bytes_at}
+use Rattle.sn_ondisk.proofs.CountLemmas.{length-pointers_at}
 use Rattle.sn_ondisk.proofs.TreeLemmas.{bytes_of_block, reach_has, levels_room}
 use Rattle.sn_image.specs.Contents.{bytes_of, byte_of, content_reach}
 use Rattle.sn_image.specs.Sound.{IsBlock}
@@ -39,24 +40,6 @@ rows f width (p ∷ ps) each =
     omega (arith, length-append (f p) (flat_map f ps), each p (Contains-first p ps), rows f width ps (λ q among. each q (Contains-more p ps q among)))
 
 module _ (s : Store) where
-  below_long : (p : ℕ) → length (below s p) ≡ 1024
-  unfolding below
-  below_long p = either (p == 0)
-    where
-      either : (b : Bool) → length (if b then replicate 1024 0 else numbers_in 1024 (s p)) ≡ 1024
-      either true = length-replicate {A = ℕ} 1024 0
-      either false = length-numbers_in 1024 (s p)
-
-  level_long : (depth : ℕ) (ps : List ℕ) → length (pointers_at s depth ps) ≡ length ps * 1024 ^ depth
-  unfolding pointers_at
-  level_long zero ps = omega arith
-  level_long (suc depth) ps =
-      let product : 1024 * (length ps * 1024 ^ depth) ≡ length ps * (1024 ^ depth * 1024) = omega arith in
-      rows (below s) 1024 (pointers_at s depth ps) (λ p among. below_long p)
-      ∙ ap (λ (m : ℕ). 1024 * m) (level_long depth ps)
-      ∙ product
-      ∙ sym (ap (λ (m : ℕ). length ps * m) (pow-suc 1024 depth))
-
   named_long : (p : ℕ) → (p ≢ 0 → length (s p) ≡ 4096) → length (named_by s p) ≡ 4096
   unfolding named_by zeros
   named_long p long = told (p == 0) refl
@@ -71,7 +54,7 @@ module _ (s : Store) where
       let depth = levels_of tree.size in
       let level = pointers_at s depth tree.pointers in
       let all : length (flat_map (named_by s) level) ≡ 4096 * length level = rows (named_by s) 4096 level (λ p among. named_long p (λ some. long p (reach_has s tree depth p (omega arith) some among))) in
-      let wide : length level ≡ 16 * 1024 ^ depth = level_long depth tree.pointers ∙ ap (λ (m : ℕ). m * 1024 ^ depth) count in
+      let wide : length level ≡ 16 * 1024 ^ depth = length-pointers_at s depth tree.pointers ∙ ap (λ (m : ℕ). m * 1024 ^ depth) count in
       let enough : tree.size ≤ length (flat_map (named_by s) level) = omega (arith, all, wide, levels_room tree.size most) in
       length-take tree.size (flat_map (named_by s) level) ∙ min-eq_left enough
 

@@ -7,3 +7,5 @@ pub mod PieceLemmas
 pub mod SoundNodeLemmas
 pub mod SoundNameLemmas
 pub mod ByteLemmas
+pub mod NameCountLemmas
+pub mod WellFormedLemmas

@@ -68,7 +68,7 @@ once b is = ap weight_of is
 -- ---- the number under a name that stands once
 
 -- 1 where the names are the same
-abbrev same_name : Link → Link → ℕ
+abbrev pub same_name : Link → Link → ℕ
 same_name x y = cond (bytes_eq y.name x.name) 1 0
 
 pub found_once : (names : List Link) (x : Link) → count_by (λ l. bytes_eq l.name x.name) names ≤ 1 → Contains names x → number_of x.name names ≡ Some x.number

@@ -113,7 +113,7 @@ same_test d a b = told (eq_by_cmp link_cmp (link_to d a) (link_to d b)) refl (by
         let same : b ≡ a = (bytes_eq-Decides b a).0 f in
         absurd (true≢false (sym ((eq_by_cmp_equiv links_total).refl (link_to d a)) ∙ ap (λ (n : List ℕ). eq_by_cmp link_cmp (link_to d a) (link_to d n)) (sym same) ∙ e))
 
-abbrev as_links : ℕ → List Link → List (TreeLink × ℕ)
+abbrev pub as_links : ℕ → List Link → List (TreeLink × ℕ)
 as_links d names = map (λ name. (link_to d name.name, name.number)) names
 
 pub own_names : (d : ℕ) (name : List ℕ) (names : List Link) → find link_cmp (link_to d name) (as_links d names) ≡ number_of name names
@@ -130,6 +130,18 @@ other_names d e name (l ∷ ls) other = told (eq_by_cmp link_cmp (link_to d name
     told true is rest = absurd (other (sym (ap (λ (k : TreeLink). k.directory) (tells_apart exact_links (link_to d name) (link_to e l.name) is))))
     told false is rest = rest
 
+-- the number under a name stands with it
+pub number_among : (name : List ℕ) (names : List Link) (number : ℕ) → number_of name names ≡ Some number → Contains names (record { number = number; name = name })
+number_among name [] number e = absurd cc
+number_among name (l ∷ ls) number e = told (number_among name ls number) (bytes_eq l.name name) refl e
+  where
+    told : (number_of name ls ≡ Some number → Contains ls (record { number = number; name = name })) → (b : Bool) → bytes_eq l.name name ≡ b → (if b then Some l.number else number_of name ls) ≡ Some number → Contains (l ∷ ls) (record { number = number; name = name })
+    told later true is f =
+        let one : l.number ≡ number = cc in
+        let two : l.name ≡ name = (bytes_eq-Decides l.name name).0 is in
+        (0, omega arith, λ i. record { number = one i; name = two i })
+    told later false is f = let w = later f in (suc w.0, omega (arith, w.1), w.2)
+
 module _ (s : Store) (inodes : BlockTree) (directory : ℕ) where
   -- a directory that has a name is one of the numbers
   pub named_inode : (name : Link) → Contains (names_at s inodes directory) name → (inode : Inode) × (inode_at s inodes directory ≡ Some inode)
@@ -140,24 +152,12 @@ module _ (s : Store) (inodes : BlockTree) (directory : ℕ) where
       told None e (k, within, is) = absurd (omega (arith, within))
       told (Some inode) e a = (inode, e)
 
-  -- the number under a name stands with it
-  pub number_among : (name : List ℕ) (names : List Link) (number : ℕ) → number_of name names ≡ Some number → Contains names (record { number = number; name = name })
-  number_among name [] number e = absurd cc
-  number_among name (l ∷ ls) number e = told (number_among name ls number) (bytes_eq l.name name) refl e
-    where
-      told : (number_of name ls ≡ Some number → Contains ls (record { number = number; name = name })) → (b : Bool) → bytes_eq l.name name ≡ b → (if b then Some l.number else number_of name ls) ≡ Some number → Contains (l ∷ ls) (record { number = number; name = name })
-      told later true is f =
-          let one : l.number ≡ number = cc in
-          let two : l.name ≡ name = (bytes_eq-Decides l.name name).0 is in
-          (0, omega arith, λ i. record { number = one i; name = two i })
-      told later false is f = let w = later f in (suc w.0, omega (arith, w.1), w.2)
-
   module _ (name : List ℕ) where
     own : find link_cmp (link_to directory name) (links_at s inodes directory) ≡ number_of name (names_at s inodes directory)
     unfolding links_at
     own = own_names directory name (names_at s inodes directory)
 
-    elsewhere : (n : ℕ) → n ≢ directory → find link_cmp (link_to directory name) (links_at s inodes n) ≡ None
+    pub elsewhere : (n : ℕ) → n ≢ directory → find link_cmp (link_to directory name) (links_at s inodes n) ≡ None
     unfolding links_at
     elsewhere n other = other_names directory n name (names_at s inodes n) other
 

@@ -1,8 +1,9 @@
 -- What a root reaches is what its parts reach.
-use Rattle.std.proofs.Common.{◌≡◌, ◌⊎◌, inl, inr, ⊎_elim, ℕ, ◌+◌, ◌==◌, flat_map, Option, Some, None, Contains, count_by, sum_by, refl, ◌∙◌, ap}
+use Rattle.std.proofs.Common.{◌≡◌, ◌⊎◌, inl, inr, ⊎_elim, ℕ, ◌+◌, ◌==◌, flat_map, Option, Some, None, Contains, sum_by, refl, ◌∙◌, ap}
 use Rattle.std.proofs.lemmas.List.Elements.{Contains-append_left, Contains-append_right, Contains-append_cases}
 use Rattle.sn_layout.specs.declared.tree.BlockTree.{BlockTree}
 use Rattle.sn_layout_node.specs.declared.inode.Inode.{Inode}
+use Rattle.sn_ondisk.specs.Counts.{times}
 use Rattle.sn_ondisk.specs.Trees.{Store, tree_reach}
 use Rattle.sn_image.specs.Inodes.{inode_at}
 use Rattle.sn_image.specs.Reach.{inode_reach, reach_at, numbers, reach}
@@ -10,11 +11,11 @@ use Rattle.sn_image.proofs.ListLemmas.{none_in, flat_map-has, flat_map-from, cou
 use Rattle.sn_image.proofs.PointLemmas.{used_in}
 
 module _ (s : Store) (inodes : BlockTree) (block : ℕ) where
-  pub reach_sum : count_by (λ b. b == block) (reach s inodes)
-      ≡ count_by (λ b. b == block) (tree_reach s inodes) + sum_by (λ number. count_by (λ b. b == block) (reach_at s inodes number)) (numbers inodes)
+  pub reach_sum : times block (reach s inodes)
+      ≡ times block (tree_reach s inodes) + sum_by (λ number. times block (reach_at s inodes number)) (numbers inodes)
   unfolding reach
   reach_sum = count-append (λ b. b == block) (tree_reach s inodes) (flat_map (reach_at s inodes) (numbers inodes))
-      ∙ ap (λ n. count_by (λ b. b == block) (tree_reach s inodes) + n) (count-flat_map (λ b. b == block) (reach_at s inodes) (numbers inodes))
+      ∙ ap (λ n. times block (tree_reach s inodes) + n) (count-flat_map (λ b. b == block) (reach_at s inodes) (numbers inodes))
 
   -- what reaches a block is in use
   reached_number : (number : ℕ) → Contains (reach_at s inodes number) block → Contains (numbers inodes) number

@@ -40,6 +40,11 @@ use Rattle.sn_image.proofs.SoundNodeLemmas.{only_version, valid_inode, node_fits
 
 -- ---- of any root
 
+pub none_counted : (p : TreeLink × ℕ → Bool) → count_by p (fin.entries (fin.empty {X = ℕ} {R = link_cmp})) ≡ 0
+none_counted p =
+    let none : length (fin.entries (fin.empty {X = ℕ} {R = link_cmp})) ≡ 0 = sym (fin.len-entries (fin.empty {X = ℕ} {R = link_cmp})) ∙ fin.len-empty link_cmp ℕ in
+    omega (arith, count_by-le-length p (fin.entries (fin.empty {X = ℕ} {R = link_cmp})), none)
+
 module _ (s : Store) (inodes : BlockTree) where
   kind_under : (o : Option Inode) (kind : Kind) → IsSomeAnd o (λ inode. inode.kind ≡ kind) → IsSomeAnd (option_map (node_of s) o) (λ node. node.kind ≡ kind)
   unfolding node_of
@@ -67,7 +72,7 @@ module _ (s : Store) (inodes : BlockTree) where
 
   -- the link of a name
   pub name_of : (link : TreeLink) (number : ℕ) → fin.get (image s inodes).links link ≡ Some number → Contains (names_at s inodes link.directory) (record { number = number; name = link.name })
-  name_of link number e = number_among s inodes link.directory link.name (names_at s inodes link.directory) number (sym (name_found s inodes link.directory link.name) ∙ e)
+  name_of link number e = number_among link.name (names_at s inodes link.directory) number (sym (name_found s inodes link.directory link.name) ∙ e)
 
   -- what has names is a directory
   pub named_directory : (directory : ℕ) (name : Link) → Contains (names_at s inodes directory) name → (inode : Inode) × (inode_at s inodes directory ≡ Some inode) × (inode.kind ≡ Directory)
@@ -113,13 +118,8 @@ module _ (s : Store) (inodes : BlockTree) where
 
   -- ---- how many names a directory and a number have
 
-  abbrev link_entries : List (TreeLink × ℕ)
+  abbrev pub link_entries : List (TreeLink × ℕ)
   link_entries = flat_map (links_at s inodes) (numbers inodes)
-
-  none_counted : (p : TreeLink × ℕ → Bool) → count_by p (fin.entries (fin.empty {X = ℕ} {R = link_cmp})) ≡ 0
-  none_counted p =
-      let none : length (fin.entries (fin.empty {X = ℕ} {R = link_cmp})) ≡ 0 = sym (fin.len-entries (fin.empty {X = ℕ} {R = link_cmp})) ∙ fin.len-empty link_cmp ℕ in
-      omega (arith, count_by-le-length p (fin.entries (fin.empty {X = ℕ} {R = link_cmp})), none)
 
   fewer : (p : TreeLink × ℕ → Bool) (es : List (TreeLink × ℕ)) → count_by p (fin.entries (fin.from_entries {R = link_cmp} es)) ≤ count_by p es
   fewer p [] = omega (arith, none_counted p)
@@ -129,7 +129,7 @@ module _ (s : Store) (inodes : BlockTree) where
   unfolding image
   counts p = omega (arith, fewer p link_entries, count-flat_map p (links_at s inodes) (numbers inodes))
 
-  few_links : (p : TreeLink × ℕ → Bool) (d : ℕ) → count_by p (links_at s inodes d) ≡ count_by (λ l. p (link_to d l.name, l.number)) (names_at s inodes d)
+  pub few_links : (p : TreeLink × ℕ → Bool) (d : ℕ) → count_by p (links_at s inodes d) ≡ count_by (λ l. p (link_to d l.name, l.number)) (names_at s inodes d)
   unfolding links_at
   few_links p d = count-map p (λ (l : Link). (link_to d l.name, l.number)) (names_at s inodes d)
 
@@ -148,7 +148,7 @@ module _ (s : Store) (inodes : BlockTree) where
           told true e = absurd (other (eqb-true n d e))
           told false e = refl
 
-  all_alike : (number : ℕ) (ns : List ℕ) → sum_by (λ d. count_by (λ e. e.1 == number) (links_at s inodes d)) ns ≡ sum_by (count_in number) ns
+  pub all_alike : (number : ℕ) (ns : List ℕ) → sum_by (λ d. count_by (λ e. e.1 == number) (links_at s inodes d)) ns ≡ sum_by (count_in number) ns
   all_alike number [] = refl
   all_alike number (d ∷ ns) =
       omega (arith, sum_by-cons (λ m. count_by (λ e. e.1 == number) (links_at s inodes m)) d ns, sum_by-cons (count_in number) d ns, few_links (λ e. e.1 == number) d, all_alike number ns)
@@ -158,13 +158,13 @@ module _ (s : Store) (inodes : BlockTree) where
 
 -- ---- of a sound root
 
+pub one_link : (kind : Kind) (links : ℕ) → kind ≡ Directory → IsTrue (are_links kind links) → links ≡ 1
+one_link File links is fits = absurd cc
+one_link Directory links is fits = eqb-true links 1 fits
+
 module _ (limits : Limits) (n : ℕ) (s : Store) (inodes : BlockTree) (version : limits_of limits.version ≡ Some limits) (whole : (block : ℕ) → IsIn n Data block → IsBlock (s block)) (sound : IsSound limits n s inodes) where
   unnamed : (directory : ℕ) (name : Link) → Contains (names_at s inodes directory) name → name.number ≢ 2
   unnamed directory name among same = omega (arith, counted s inodes directory name among, ap (name_count s inodes) same, sound.linked.unnamed)
-
-  one_link : (kind : Kind) (links : ℕ) → kind ≡ Directory → IsTrue (are_links kind links) → links ≡ 1
-  one_link File links is fits = absurd cc
-  one_link Directory links is fits = eqb-true links 1 fits
 
   once_linked : (a b : TreeLink) (number : ℕ) → HasKind (image s inodes) number Directory → fin.get (image s inodes).links a ≡ Some number → fin.get (image s inodes).links b ≡ Some number → a ≡ b
   once_linked a b number has one two = told (same_or_apart links_total exact_links a b)
@@ -174,7 +174,7 @@ module _ (limits : Limits) (n : ℕ) (s : Store) (inodes : BlockTree) (version :
       told (inr apart) =
           let w = from_kind s inodes number Directory has in
           let here = name_of s inodes a number one in
-          let valid = valid_inode limits n s inodes version whole sound number w.0 w.1 in
+          let valid = valid_inode limits s inodes sound.records.spelled number w.0 w.1 in
           let single : w.0.links ≡ 1 = one_link w.0.kind w.0.links w.2 valid.links in
           let count = sound.linked.counted number w.0 (unnamed a.directory (record { number = number; name = a.name }) here) w.1 in
           absurd (omega (arith, single, count, counted_twice s inodes a.directory b.directory (record { number = number; name = a.name }) (record { number = number; name = b.name }) refl apart here (name_of s inodes b number two)))
@@ -239,7 +239,7 @@ module _ (limits : Limits) (n : ℕ) (s : Store) (inodes : BlockTree) (version :
   few_names : (number : ℕ) → HasKind (image s inodes) number File → names_for (image s inodes) number ≤ limits.links
   few_names number has =
       let w = from_kind s inodes number File has in
-      let valid = valid_inode limits n s inodes version whole sound number w.0 w.1 in
+      let valid = valid_inode limits s inodes sound.records.spelled number w.0 w.1 in
       let most : 32767 ≡ limits.links = ap (λ (l : Limits). l.links) (only_version limits version) in
       let apart : number ≢ 2 = (λ same. not_root number w.0 w.1 w.2 same) in
       omega (arith, few_for s inodes number, sound.linked.counted number w.0 apart w.1, file_links w.0.kind w.0.links w.2 valid.links, most)

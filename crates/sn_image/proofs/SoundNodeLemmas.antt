@@ -112,6 +112,27 @@ valid_default : (default : Option (List Entry)) → IsDefault default → IfSome
 valid_default None valid = tt
 valid_default (Some entries) valid = valid
 
+-- ---- records
+
+module _ (s : Store) (inodes : BlockTree) (number : ℕ) (inode : Inode) (used : inode_at s inodes number ≡ Some inode) where
+  pub number_fits : (2 ≤ number) × (number < inodes.size / 128)
+  number_fits =
+      let parts = both (nat_le 2 number) (nat_lt number (inodes.size / 128)) (used_number s inodes number inode used) in
+      (leb-true 2 number parts.0, ltb-true number (inodes.size / 128) parts.1)
+
+  of_record : inode_of (record_at s inodes number) ≡ Some inode
+  unfolding inode_at
+  of_record = sym (ap (λ (b : Bool). if b then inode_of (record_at s inodes number) else None) (used_number s inodes number inode used)) ∙ used
+
+-- what is read of a record that is spelled is an inode that can be there
+pub valid_inode : (limits : Limits) (s : Store) (inodes : BlockTree) → ((number : ℕ) → number < inodes.size / 128 → SpellsRecord limits (record_at s inodes number))
+    → (number : ℕ) (inode : Inode) → inode_at s inodes number ≡ Some inode → IsInode limits inode
+valid_inode limits s inodes spelled number inode used = told (spelled number (number_fits s inodes number inode used).1)
+  where
+    told : SpellsRecord limits (record_at s inodes number) → IsInode limits inode
+    told (Unused, fits, bytes) = let never : None ≡ Some inode = sym unused_read ∙ sym (ap inode_of bytes) ∙ of_record s inodes number inode used in absurd cc
+    told (Used x, fits, bytes) = subst (IsInode limits) (same_some x inode (sym (inode_read limits x fits) ∙ sym (ap inode_of bytes) ∙ of_record s inodes number inode used)) fits
+
 -- ---- nodes
 
 module _ (limits : Limits) (n : ℕ) (s : Store) (inodes : BlockTree) (version : limits_of limits.version ≡ Some limits) (whole : (block : ℕ) → IsIn n Data block → IsBlock (s block)) (sound : IsSound limits n s inodes) where
@@ -126,27 +147,17 @@ module _ (limits : Limits) (n : ℕ) (s : Store) (inodes : BlockTree) (version :
   record_bytes_fit number = all_take (λ b. b < 256) 128 (drop (128 * (number % 32)) (data_block s inodes (number / 32))) (all_drop (λ b. b < 256) (128 * (number % 32)) (data_block s inodes (number / 32)) (of_block s inodes file_blocks (number / 32)))
 
   module _ (number : ℕ) (inode : Inode) (used : inode_at s inodes number ≡ Some inode) where
-    pub number_fits : (2 ≤ number) × (number < inodes.size / 128)
-    number_fits =
-        let parts = both (nat_le 2 number) (nat_lt number (inodes.size / 128)) (used_number s inodes number inode used) in
-        (leb-true 2 number parts.0, ltb-true number (inodes.size / 128) parts.1)
+    abbrev fits_at : (2 ≤ number) × (number < inodes.size / 128)
+    fits_at = number_fits s inodes number inode used
 
-    of_record : inode_of (record_at s inodes number) ≡ Some inode
-    unfolding inode_at
-    of_record = sym (ap (λ (b : Bool). if b then inode_of (record_at s inodes number) else None) (used_number s inodes number inode used)) ∙ used
-
-    pub valid_inode : IsInode limits inode
-    valid_inode = told (sound.records.spelled number number_fits.1)
-      where
-        told : SpellsRecord limits (record_at s inodes number) → IsInode limits inode
-        told (Unused, fits, bytes) = let never : None ≡ Some inode = sym unused_read ∙ sym (ap inode_of bytes) ∙ of_record in absurd cc
-        told (Used x, fits, bytes) = subst (IsInode limits) (same_some x inode (sym (inode_read limits x fits) ∙ sym (ap inode_of bytes) ∙ of_record)) fits
+    is_valid : IsInode limits inode
+    is_valid = valid_inode limits s inodes sound.records.spelled number inode used
 
     -- the inode's content is the one in its record
     content_read : content_in inode.kind (record_at s inodes number) ≡ inode.content
     unfolding inode_of inode_in
     content_read =
-        let w = mapped_from (inode_in (record_at s inodes number)) (kind_of (slice_index (record_at s inodes number) 0)) inode of_record in
+        let w = mapped_from (inode_in (record_at s inodes number)) (kind_of (slice_index (record_at s inodes number) 0)) inode (of_record s inodes number inode used) in
         let kind : w.0 ≡ inode.kind = ap (λ (i : Inode). i.kind) w.2 in
         ap (λ (k : Kind). content_in k (record_at s inodes number)) (sym kind) ∙ ap (λ (i : Inode). i.content) w.2
 
@@ -188,11 +199,11 @@ module _ (limits : Limits) (n : ℕ) (s : Store) (inodes : BlockTree) (version :
     pub node_fits : IsNode limits number (node_of s inode)
     unfolding node_of
     node_fits =
-        let fits = valid_inode in
+        let fits = is_valid in
         let acls = acls_fit s inode (sound.used.acls number inode used) in
         record {
-          first = number_fits.0;
-          within = omega (arith, number_fits.1, sound.file.most);
+          first = fits_at.0;
+          within = omega (arith, fits_at.1, sound.file.most);
           owner = fits.owner;
           group = fits.group;
           acl = joined_valid inode.objects (acls_at s inode.acl_block).access fits.objects acls.0;

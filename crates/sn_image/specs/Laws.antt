@@ -1,5 +1,5 @@
 -- What an image depends on, and how it is read.
-use Rattle.std.specs.Prelude.{◌≡◌, ◌⊎◌, ℕ, ◌+◌, ◌*◌, ◌<◌, ◌≤◌, ◌==◌, List, length, None, Some, count_by, sum_by, slice_index, Contains}
+use Rattle.std.specs.Prelude.{◌≡◌, ◌⊎◌, ℕ, ◌+◌, ◌*◌, ◌<◌, ◌≤◌, List, length, None, Some, sum_by, slice_index, Contains}
 use Rattle.std.specs.FinMap as fin
 use Rattle.sn_device.specs.Sectors.{Contents, AreSectors, AgreesOn}
 use Rattle.sn_limits.specs.declared.limits.Limits.{Limits}
@@ -14,9 +14,10 @@ use Rattle.sn_layout_node.specs.Directory.{Link, Spells, number_of}
 use Rattle.sn_layout_node.specs.Inode.{IsInode, inode_bytes, size_of}
 use Rattle.sn_layout_node.specs.declared.content.Content.{Content}
 use Rattle.sn_layout_node.specs.declared.inode.Inode.{Inode}
-use Rattle.sn_model.specs.Tree.{link_to}
+use Rattle.sn_model.specs.Tree.{link_to, names_in as tree_names_in, names_for, link_count}
 use Rattle.sn_model.specs.NameTree.{IsTree}
 use Rattle.sn_ondisk.specs.Blocks.{InBlocks}
+use Rattle.sn_ondisk.specs.Counts.{times}
 use Rattle.sn_ondisk.specs.TreeLaws.{SameIn}
 use Rattle.sn_ondisk.specs.Trees.{Store, store_of, tree_bytes, tree_reach}
 use Rattle.sn_image.specs.Acls.{acls_in}
@@ -25,7 +26,8 @@ use Rattle.sn_image.specs.Image.{node_of, node_at, image}
 use Rattle.sn_image.specs.Inodes.{inode_of, inode_at}
 use Rattle.sn_image.specs.Names.{names_in, names_at, names_under}
 use Rattle.sn_image.specs.Reach.{inode_reach, reach_at, numbers, reach}
-use Rattle.sn_image.specs.Sound.{IsBlock, IsSound}
+use Rattle.sn_image.specs.Sound.{IsBlock, IsPlaced, AreOnce, name_count, IsSound}
+use Rattle.sn_image.specs.WellFormed.{IsWellFormed}
 
 -- The node of a number is that of its inode.
 abbrev pub NodesAreTheirInodes : Type 0
@@ -62,8 +64,8 @@ RootsDependOnTheirSectors = (c d : Contents) (inodes : BlockTree) → AgreesOn (
 -- A root reaches a block as often as the inode file and each of its inodes do together.
 abbrev pub ReachIsASum : Type 0
 ReachIsASum = (s : Store) (inodes : BlockTree) (block : ℕ)
-    → count_by (λ b. b == block) (reach s inodes)
-    ≡ count_by (λ b. b == block) (tree_reach s inodes) + sum_by (λ number. count_by (λ b. b == block) (reach_at s inodes number)) (numbers inodes)
+    → times block (reach s inodes)
+    ≡ times block (tree_reach s inodes) + sum_by (λ number. times block (reach_at s inodes number)) (numbers inodes)
 
 -- It reaches what the inode file reaches, and what each inode does.
 abbrev pub ReachHasEachPart : Type 0
@@ -111,3 +113,27 @@ abbrev pub SoundRootsAreTrees : Type 0
 SoundRootsAreTrees = (limits : Limits) (n : ℕ) (s : Store) (inodes : BlockTree) → limits_of limits.version ≡ Some limits
     → ((block : ℕ) → IsIn n Data block → IsBlock (s block))
     → IsSound limits n s inodes → IsTree limits (image s inodes)
+
+-- Where no name stands twice in a directory, one has as many names in the tree as stand in it.
+abbrev pub NamesInAreCounted : Type 0
+NamesInAreCounted = (s : Store) (inodes : BlockTree) (directory : ℕ) → ((d : ℕ) → AreOnce (names_at s inodes d))
+    → tree_names_in (image s inodes) directory ≡ length (names_at s inodes directory)
+
+-- And a number as many as stand in all directories together.
+abbrev pub NamesForAreCounted : Type 0
+NamesForAreCounted = (s : Store) (inodes : BlockTree) (number : ℕ) → ((d : ℕ) → AreOnce (names_at s inodes d))
+    → names_for (image s inodes) number ≡ name_count s inodes number
+
+-- In a sound root an inode has as many links as the tree shows of its node.
+abbrev pub LinksAreCounted : Type 0
+LinksAreCounted = (limits : Limits) (n : ℕ) (s : Store) (inodes : BlockTree) (number : ℕ) (inode : Inode) → IsSound limits n s inodes → inode_at s inodes number ≡ Some inode
+    → inode.links ≡ link_count inode.kind (names_for (image s inodes) number)
+
+-- A sound root is well formed.
+abbrev pub SoundRootsAreWellFormed : Type 0
+SoundRootsAreWellFormed = (limits : Limits) (n : ℕ) (s : Store) (inodes : BlockTree) → IsSound limits n s inodes → IsWellFormed limits s inodes
+
+-- A well-formed root whose blocks are placed is sound where it denotes a name tree.
+abbrev pub NameTreesAreSound : Type 0
+NameTreesAreSound = (limits : Limits) (n : ℕ) (s : Store) (inodes : BlockTree) → IsPlaced n s inodes → IsWellFormed limits s inodes
+    → IsTree limits (image s inodes) → IsSound limits n s inodes

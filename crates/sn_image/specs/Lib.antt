@@ -6,3 +6,4 @@ pub mod Laws
 pub mod Names
 pub mod Reach
 pub mod Sound
+pub mod WellFormed

@@ -32,6 +32,7 @@ use Rattle.sn_layout_node.specs.declared.content.Content.{Content}
 use Rattle.sn_layout_node.specs.declared.content.Content.TheVariants.{Inline, Tree}
 use Rattle.sn_layout_node.specs.declared.inode.Inode.{Inode}
 use Rattle.sn_layout_node.specs.declared.inode.InodeRecord.{InodeRecord}
+use Rattle.sn_ondisk.specs.Counts.{times}
 use Rattle.sn_ondisk.specs.Trees.{Store, entry, data_block}
 use Rattle.sn_image.specs.Acls.{acls_at}
 use Rattle.sn_image.specs.Inodes.{record_at, inode_at}
@@ -46,7 +47,7 @@ pub record IsBlock (bytes : List ℕ) : Type 0 where
 -- Each pointer names a block of the data area, and no block is named twice.
 pub record IsPlaced (n : ℕ) (s : Store) (inodes : BlockTree) : Type 0 where
   pub within : (block : ℕ) → Contains (reach s inodes) block → IsIn n Data block
-  pub once : (block : ℕ) → count_by (λ b. b == block) (reach s inodes) ≤ 1
+  pub once : (block : ℕ) → times block (reach s inodes) ≤ 1
 
 -- The inode file has whole blocks, at least one, and at most a record for each number.
 pub record IsInodeFile (limits : Limits) (inodes : BlockTree) : Type 0 where
@@ -101,9 +102,13 @@ pub record HasInodes (s : Store) (inodes : BlockTree) : Type 0 where
   pub acls : (number : ℕ) (inode : Inode) → inode_at s inodes number ≡ Some inode → HasAcls s inode
   pub contents : (number : ℕ) (inode : Inode) → inode_at s inodes number ≡ Some inode → HasContent s inode.kind inode.content
 
+-- No name stands twice among these.
+abbrev pub AreOnce : List Link → Type 0
+AreOnce names = (name : List ℕ) → count_by (λ l. bytes_eq l.name name) names ≤ 1
+
 -- No name stands twice in a directory, none has too many, and none in the root hides the directory of snapshots.
 pub record HasNames (limits : Limits) (s : Store) (inodes : BlockTree) : Type 0 where
-  pub once : (directory : ℕ) (name : List ℕ) → count_by (λ l. bytes_eq l.name name) (names_at s inodes directory) ≤ 1
+  pub once : (directory : ℕ) → AreOnce (names_at s inodes directory)
   pub few : (directory : ℕ) → length (names_at s inodes directory) ≤ limits.names
   pub hidden : number_of (codes ".snapshot") (names_at s inodes 2) ≡ None
 

@@ -1,5 +1,5 @@
 //! The laws that the definitions of `specs/` keep.
-ghost use Rattle.sn_image.specs.Laws.{NodesAreTheirInodes, NamesAreInTheirDirectory, InodesDependOnTheirReach, RootsDependOnTheirReach, RootsDependOnTheirSectors, ReachIsASum, ReachHasEachPart, ReachIsOfAPart, RecordsAreRead, UnusedIsRead, AclBlocksAreRead, DirectoryBlocksAreRead, BytesAreInTheirBlocks, TreesHaveTheirSize, DataBlocksAreWhole, SoundRootsAreTrees};
+ghost use Rattle.sn_image.specs.Laws.{NodesAreTheirInodes, NamesAreInTheirDirectory, InodesDependOnTheirReach, RootsDependOnTheirReach, RootsDependOnTheirSectors, ReachIsASum, ReachHasEachPart, ReachIsOfAPart, RecordsAreRead, UnusedIsRead, AclBlocksAreRead, DirectoryBlocksAreRead, BytesAreInTheirBlocks, TreesHaveTheirSize, DataBlocksAreWhole, SoundRootsAreTrees, NamesInAreCounted, NamesForAreCounted, LinksAreCounted, SoundRootsAreWellFormed, NameTreesAreSound};
 
 /// The tree that a root denotes, point by point. Above this crate it is known by these alone.
 pub fn image_laws()
@@ -36,7 +36,17 @@ pub fn byte_laws()
     ensures disk { DataBlocksAreWhole }
 {}
 
-/// A sound root denotes a name tree.
+/// How many names the tree that a root denotes has, by what stands in its directories, and the links of
+/// inodes by those.
+pub fn name_laws()
+    ensures names_in { NamesInAreCounted }
+    ensures names_for { NamesForAreCounted }
+    ensures links { LinksAreCounted }
+{}
+
+/// A sound root denotes a name tree, and one that is placed and well formed is sound where it does.
 pub fn sound_laws()
-    ensures { SoundRootsAreTrees }
+    ensures trees { SoundRootsAreTrees }
+    ensures well_formed { SoundRootsAreWellFormed }
+    ensures sound { NameTreesAreSound }
 {}

@@ -12,7 +12,8 @@
 //! - `Image`: the node of an inode, and the tree of `sn_model` that a root denotes.
 //!
 //! `Sound` says beside these when a root is sound. Its head tells which definition has each rule of the
-//! format, so that readers, the check and consistency points speak of one soundness.
+//! format, so that readers, the check and consistency points speak of one soundness. `WellFormed` has those
+//! of the rules that the tree doesn't tell by itself.
 //!
 //! The way through the laws, each of them named by the contract of a function that does nothing:
 //! - `image_laws`: the node of a number is that of its inode, and the name of a directory stands for the
@@ -23,17 +24,25 @@
 //! - `reading_laws`: what a codec spells is read as it was spelled, so a decoder's answer is what stands
 //!   here.
 //! - `byte_laws`: where blocks are whole, a byte in its own block is the byte of the content.
+//! - `name_laws`: where no name stands twice, the tree has as many names as the directories.
 //! - `sound_laws`: a sound root denotes a name tree, whole: its hierarchy, its nodes, its names and their
-//!   limits.
+//!   limits. And one that is placed and well formed is sound where it denotes one: so whoever makes a root
+//!   shows of the tree what a change of it keeps anyhow, and of the blocks what they were filled with.
 //!
 //! ```text
 //! SoundRootsAreTrees = (limits : Limits) (n : ℕ) (s : Store) (inodes : BlockTree)
 //!     → limits_of limits.version ≡ Some limits
 //!     → ((block : ℕ) → IsIn n Data block → IsBlock (s block))
 //!     → IsSound limits n s inodes → IsTree limits (image s inodes)
+//!
+//! NameTreesAreSound = (limits : Limits) (n : ℕ) (s : Store) (inodes : BlockTree)
+//!     → IsPlaced n s inodes → IsWellFormed limits s inodes
+//!     → IsTree limits (image s inodes) → IsSound limits n s inodes
 //! ```
 #![tactic(auto)]
 
 mod laws;
 
-pub use laws::{byte_laws, footprints, image_laws, reach_laws, reading_laws, sound_laws};
+pub use laws::{
+    byte_laws, footprints, image_laws, name_laws, reach_laws, reading_laws, sound_laws,
+};

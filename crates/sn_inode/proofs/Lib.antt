@@ -5,3 +5,4 @@ mod PlacedLemmas
 mod RecordLemmas
 mod SettledLemmas
 mod WithLemmas
+pub mod ChangeLawLemmas

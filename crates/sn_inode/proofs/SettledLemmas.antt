@@ -10,9 +10,10 @@ use Rattle.sn_ondisk.specs.Trees.{Store}
 use Rattle.sn_image.specs.Inodes.{inode_at}
 use Rattle.sn_image.specs.Reach.{block_reach}
 use Rattle.sn_tree.specs.Drafts.{Draft, numbers_of, grown}
-use Rattle.sn_tree.specs.Plans.{times, Holds}
+use Rattle.sn_ondisk.specs.Counts.{times}
+use Rattle.sn_tree.specs.Plans.{Holds}
 use Rattle.sn_tree.specs.declared.new_block.NewBlock.{NewBlock}
-use Rattle.sn_tree.proofs.CountLemmas.{times-append}
+use Rattle.sn_ondisk.proofs.CountLemmas.{times-append}
 use Rattle.sn_tree.proofs.StepLemmas.{grown-grown, grown-none}
 use Rattle.sn_inode.specs.Changes.{numbers_in, acl_pointer, acl_times, IsChanged}
 use Rattle.sn_inode.specs.Stored.{IsPlaced, IsStored, AreSettled, inode_in, stored_times}
@@ -40,11 +41,11 @@ module _ (Told : Type 0) (s : Store) (inodes : BlockTree) where
   pub settled_none : (draft : Draft) → AreSettled Told s inodes [] [] draft draft
   settled_none draft = record { added = []; released = []; grew = grown-none draft; few = omega arith; numbers = refl; each = λ told r holds. tt; count = λ told block. refl }
 
-  pub settled_one : (change : InodeChange) (x : StoredRecord) (was : Option Inode) (pointer : ℕ) (old new : Draft) → pointer ≡ acl_pointer was → x.number ≡ change.number
+  pub settled_one : (change : InodeChange) (x : StoredRecord) (was : Option Inode) (old new : Draft) → x.number ≡ change.number
       → (Told → was ≡ inode_at s inodes change.number)
-      → IsPlaced (λ r. IsChanged r pointer change.record (inode_in x.record)) pointer (acl_pointer (inode_in x.record)) old new
+      → IsPlaced (λ r. IsChanged r was change.record (inode_in x.record)) (acl_pointer was) (acl_pointer (inode_in x.record)) old new
       → AreSettled Told s inodes (change ∷ []) (x ∷ []) old new
-  settled_one change x was pointer old new is number same placed = record {
+  settled_one change x was old new number same placed = record {
     added = placed.added;
     released = placed.released;
     grew = placed.grew;
@@ -53,12 +54,12 @@ module _ (Told : Type 0) (s : Store) (inodes : BlockTree) where
     each = λ told r holds. (
       record {
         number = number;
-        changed = subst (λ (p : ℕ). IsChanged r p change.record (inode_in x.record)) (is ∙ ap acl_pointer (same told)) (placed.is r holds);
+        changed = subst (λ (o : Option Inode). IsChanged r o change.record (inode_in x.record)) (same told) (placed.is r holds);
       },
       tt,
     );
     count = λ told block.
-        let at : times block (block_reach pointer) ≡ times block (block_reach (acl_pointer (inode_at s inodes change.number))) = ap (λ (p : ℕ). times block (block_reach p)) (is ∙ ap acl_pointer (same told)) in
+        let at : times block (block_reach (acl_pointer was)) ≡ times block (block_reach (acl_pointer (inode_at s inodes change.number))) = ap (λ (o : Option Inode). times block (block_reach (acl_pointer o))) (same told) in
         let one : stored_times block (x ∷ []) ≡ times block (block_reach (acl_pointer (inode_in x.record))) = omega arith in
         let had : acl_times s inodes block (change ∷ []) ≡ times block (block_reach (acl_pointer (inode_at s inodes change.number))) = omega arith in
         omega (arith, at, one, had, placed.count block);

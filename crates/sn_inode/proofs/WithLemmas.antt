@@ -26,12 +26,13 @@ use Rattle.sn_image.proofs.DecodeLemmas.{inode_read, unused_read}
 use Rattle.sn_tree.specs.Dirty.{block_after}
 use Rattle.sn_tree.specs.Drafts.{Draft, numbers_of, grown}
 use Rattle.sn_tree.specs.Laws.{EndsBy}
-use Rattle.sn_tree.specs.Plans.{times, Holds}
+use Rattle.sn_ondisk.specs.Counts.{times}
+use Rattle.sn_tree.specs.Plans.{Holds}
 use Rattle.sn_tree.specs.Replanned.{IsReplanned, IsPlanned}
 use Rattle.sn_tree.specs.declared.fault.PlanFault.{PlanFault}
 use Rattle.sn_tree.specs.declared.new_block.DirtyBlock.{DirtyBlock}
 use Rattle.sn_tree.specs.declared.new_block.NewBlock.{NewBlock}
-use Rattle.sn_tree.proofs.CountLemmas.{times-append}
+use Rattle.sn_ondisk.proofs.CountLemmas.{times-append}
 use Rattle.sn_tree.proofs.LawLemmas.{cut_end}
 use Rattle.sn_tree.proofs.StepLemmas.{grown-grown, grown-none}
 use Rattle.sn_inode.specs.Changes.{numbers_in, acl_pointer, acl_times, IsChange, IsChanged, IsWith}
@@ -200,28 +201,32 @@ module _ (limits : Limits) (s : Store) (old new : BlockTree) (changes : List Ino
         (of_numbers (λ (n : ℕ). (2 ≤ n) × (n < new.size / 128)) stored (subst (AllByRecursion (λ (n : ℕ). (2 ≤ n) × (n < new.size / 128))) (sym numbers) within))
 
     pub now_changed : AllZip (IsStored r s old) changes stored
-        → AllByRecursion (λ (change : InodeChange). IsChanged r (acl_pointer (inode_at s old change.number)) change.record (inode_at r new change.number)) changes
+        → AllByRecursion (λ (change : InodeChange). IsChanged r (inode_at s old change.number) change.record (inode_at r new change.number)) changes
     now_changed zip =
-        zip_changes (IsStored r s old) HasInode (λ (change : InodeChange). IsChanged r (acl_pointer (inode_at s old change.number)) change.record (inode_at r new change.number)) changes stored
-        (λ c x is inode. subst (λ (o : Option Inode). IsChanged r (acl_pointer (inode_at s old c.number)) c.record o) (sym (ap (inode_at r new) (sym is.number) ∙ inode)) is.changed)
+        zip_changes (IsStored r s old) HasInode (λ (change : InodeChange). IsChanged r (inode_at s old change.number) change.record (inode_at r new change.number)) changes stored
+        (λ c x is inode. subst (λ (o : Option Inode). IsChanged r (inode_at s old c.number) c.record o) (sym (ap (inode_at r new) (sym is.number) ∙ inode)) is.changed)
         zip has_inodes
+
+    module _ (number : ℕ) (not : ¬ Contains (numbers_in changes) number) where
+      other : bytes_after stored number (record_in (number % 32) (block_after keep [] (number / 32) (data_block s old (number / 32)))) ≡ record_in (number % 32) (block_after keep [] (number / 32) (data_block s old (number / 32)))
+      other = bytes_others stored number (record_in (number % 32) (block_after keep [] (number / 32) (data_block s old (number / 32)))) (none_has stored number (subst (λ (ns : List ℕ). ¬ Contains ns number) (sym numbers) not))
+
+      pub record_stays : number < old.size / 128 → record_at r new number ≡ record_at s old number
+      record_stays had = new_record number (omega (arith, had, larger)) ∙ other ∙ was_there number had
+
+      pub record_unused : old.size / 128 ≤ number → number < new.size / 128 → record_at r new number ≡ zeros 128
+      record_unused past has = new_record number has ∙ other ∙ was_none number past
 
     pub others_stay : (number : ℕ) → ¬ Contains (numbers_in changes) number → inode_at r new number ≡ inode_at s old number
     others_stay number not = told (cases_lt number 2) (cases_lt number (old.size / 128)) (cases_lt number (new.size / 128))
       where
-        base : List ℕ
-        base = record_in (number % 32) (block_after keep [] (number / 32) (data_block s old (number / 32)))
-
-        other : bytes_after stored number base ≡ base
-        other = bytes_others stored number base (none_has stored number (subst (λ (ns : List ℕ). ¬ Contains ns number) (sym numbers) not))
-
         told : (number < 2) ⊎ (2 ≤ number) → (number < old.size / 128) ⊎ (old.size / 128 ≤ number) → (number < new.size / 128) ⊎ (new.size / 128 ≤ number) → inode_at r new number ≡ inode_at s old number
         told (inl reserved) b d = inode_none r new number (λ least _. omega (arith, least, reserved)) ∙ sym (inode_none s old number (λ least _. omega (arith, least, reserved)))
         told (inr least) (inl had) d =
             let has : number < new.size / 128 = omega (arith, had, larger) in
-            inode_there r new number least has ∙ ap inode_of (new_record number has ∙ other ∙ was_there number had) ∙ sym (inode_there s old number least had)
+            inode_there r new number least has ∙ ap inode_of (record_stays number not had) ∙ sym (inode_there s old number least had)
         told (inr least) (inr past) (inl has) =
-            inode_there r new number least has ∙ ap inode_of (new_record number has ∙ other ∙ was_none number past) ∙ unused_read ∙ sym (inode_none s old number (λ _ under. omega (arith, under, past)))
+            inode_there r new number least has ∙ ap inode_of (record_unused number not past has) ∙ unused_read ∙ sym (inode_none s old number (λ _ under. omega (arith, under, past)))
         told (inr least) (inr past) (inr end) = inode_none r new number (λ _ under. omega (arith, under, end)) ∙ sym (inode_none s old number (λ _ under. omega (arith, under, past)))
 
     pub all_spelled : ((number : ℕ) → number < old.size / 128 → SpellsRecord limits (record_at s old number)) → (number : ℕ) → number < new.size / 128 → SpellsRecord limits (record_at r new number)
@@ -290,6 +295,10 @@ with_some Told limits s old new changes stored keep dirty before between after k
             now_changed limits s old new changes stored keep dirty keep_is whole larger new_whole small valid rise settled.numbers within below (patched told) planned.added planned.released plans r same (back r holds) (settled.each told r (front r holds));
         others = λ r same holds.
             others_stay limits s old new changes stored keep dirty keep_is whole larger new_whole small valid rise settled.numbers within below (patched told) planned.added planned.released plans r same (back r holds);
+        stays = λ r same holds.
+            record_stays limits s old new changes stored keep dirty keep_is whole larger new_whole small valid rise settled.numbers within below (patched told) planned.added planned.released plans r same (back r holds);
+        unused = λ r same holds.
+            record_unused limits s old new changes stored keep dirty keep_is whole larger new_whole small valid rise settled.numbers within below (patched told) planned.added planned.released plans r same (back r holds);
         spelled = λ r same holds.
             all_spelled limits s old new changes stored keep dirty keep_is whole larger new_whole small valid rise settled.numbers within below (patched told) planned.added planned.released plans r same (back r holds);
         reach = λ r same holds block some_block.
@@ -320,6 +329,8 @@ with_none Told limits s tree [] draft none = record {
   changes_inodes = λ told. record {
     changed = λ r same holds. tt;
     others = λ r same holds number not. same_inode s r tree same number;
+    stays = λ r same holds number not under. same_record s r tree same number;
+    unused = λ r same holds number not past under. absurd (omega (arith, past, under));
     spelled = λ r same holds spelled number under. subst (SpellsRecord limits) (sym (same_record s r tree same number)) (spelled number under);
     reach = λ r same holds block some.
         let reached : times block (tree_reach r tree) ≡ times block (tree_reach s tree) = ap (times block) (trees_depend s r tree same).reach in

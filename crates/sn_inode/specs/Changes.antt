@@ -1,8 +1,13 @@
 -- What a change makes of the inode of a number.
-use Rattle.std.specs.Prelude.{◌≡◌, ◌≢◌, ℕ, ◌+◌, ◌*◌, ◌/◌, ◌<◌, ◌≤◌, List, [], length, Option, Some, None, map, sum_by, Contains, ◌⊎◌}
+use Rattle.std.specs.Prelude.{◌≡◌, ◌≢◌, ℕ, ◌+◌, ◌*◌, ◌/◌, ◌<◌, ◌≤◌, Bool, true, false, if◌then◌else◌, List, [], length, Option, Some, None, map, sum_by, All, Contains, ◌⊎◌}
 use Rattle.std.specs.List.{AllByRecursion}
+use Rattle.std.specs.List.Sorted.{IsStrictlyIncreasing}
+use Rattle.sn_limits.specs.declared.kind.Kind.{Kind}
+use Rattle.sn_limits.specs.declared.kind.Kind.TheVariants.{File, Directory}
 use Rattle.sn_limits.specs.declared.limits.Limits.{Limits}
+use Rattle.sn_layout.specs.Bytes.{zeros}
 use Rattle.sn_layout.specs.declared.tree.BlockTree.{BlockTree}
+use Rattle.sn_layout_acl.specs.declared.acl_block.AclBlock.{AclBlock}
 use Rattle.sn_layout_node.specs.Inode.{IsInode}
 use Rattle.sn_layout_node.specs.declared.inode.Inode.{Inode}
 use Rattle.sn_ondisk.specs.TreeLaws.{SameIn}
@@ -12,7 +17,8 @@ use Rattle.sn_image.specs.Inodes.{record_at, inode_at}
 use Rattle.sn_image.specs.Reach.{block_reach}
 use Rattle.sn_image.specs.Sound.{SpellsRecord, SpellsAcls, EndsAtSize}
 use Rattle.sn_tree.specs.Drafts.{Draft, numbers_of, grown}
-use Rattle.sn_tree.specs.Plans.{times, Holds}
+use Rattle.sn_ondisk.specs.Counts.{times}
+use Rattle.sn_tree.specs.Plans.{Holds}
 use Rattle.sn_tree.specs.Steps.{LeadsOutside}
 use Rattle.sn_tree.specs.declared.new_block.NewBlock.{NewBlock}
 use Rattle.sn_inode.specs.Reads.{CanReadRecord}
@@ -27,15 +33,25 @@ use Rattle.sn_inode.specs.declared.changes.InodeChange.{InodeChange}
 abbrev pub numbers_in : List InodeChange → List ℕ
 numbers_in changes = map (λ (change : InodeChange). change.number) changes
 
+-- a file has no default ACL
+abbrev pub CanSet : Kind → AclChange → Type 0
+CanSet kind Kept = Unit {0}
+CanSet kind (Set acls) = kind ≡ File → acls.default ≡ None
+
 abbrev pub IsNew : Limits → RecordChange → Type 0
 IsNew limits Unused = Unit {0}
-IsNew limits (Used inode acls) = IsInode limits inode
+IsNew limits (Used inode acls) = IsInode limits inode × CanSet inode.kind acls
 
--- a change that a disk of this version allows: of a number that a node can have, to an inode that a record can hold
+-- a change that a disk of this version allows: of a number that a node can have, to an inode that a record can hold, with ACLs that it can have
 pub record IsChange (limits : Limits) (change : InodeChange) : Type 0 where
   pub least : 2 ≤ change.number
   pub most : change.number ≤ limits.largest_number
   pub new : IsNew limits change.record
+
+-- Changes that can be made together: each can, and their numbers rise.
+pub record AreChanges (limits : Limits) (changes : List InodeChange) : Type 0 where
+  pub each : All (IsChange limits) changes
+  pub rise : IsStrictlyIncreasing (numbers_in changes)
 
 -- ---- what comes of it
 
@@ -44,15 +60,31 @@ abbrev pub acl_pointer : Option Inode → ℕ
 acl_pointer None = 0
 acl_pointer (Some inode) = inode.acl_block
 
--- The block behind the new pointer has the ACLs that are set, and spells them; kept ones stay behind the old pointer.
-abbrev pub HasAclsOf : Store → ℕ → AclChange → ℕ → Type 0
-HasAclsOf s old Kept new = new ≡ old
-HasAclsOf s old (Set acls) new = (acls_at s new ≡ acls) × (new ≢ 0 → SpellsAcls (s new))
+-- whether the kinds are one
+abbrev pub is_same_kind : Kind → Kind → Bool
+is_same_kind File File = true
+is_same_kind File Directory = false
+is_same_kind Directory File = false
+is_same_kind Directory Directory = true
+
+-- the pointer to the ACLs that stay: those of an inode of this kind, and none of one of the other kind, which may have a default ACL
+abbrev pub kept_pointer : Option Inode → Kind → ℕ
+kept_pointer None kind = 0
+kept_pointer (Some inode) kind = if is_same_kind inode.kind kind then inode.acl_block else 0
+
+-- Behind the pointer stand these ACLs, in a block that spells them, or none behind 0.
+abbrev pub AclsStandAt : Store → AclBlock → ℕ → Type 0
+AclsStandAt s acls pointer = (acls_at s pointer ≡ acls) × (pointer ≢ 0 → SpellsAcls (s pointer))
+
+-- Behind the new pointer stand the ACLs that are set; kept ones stay behind that of the inode that was there.
+abbrev pub HasAclsOf : Store → Option Inode → Kind → AclChange → ℕ → Type 0
+HasAclsOf s was kind Kept new = new ≡ kept_pointer was kind
+HasAclsOf s was kind (Set acls) new = AclsStandAt s acls new
 
 -- The inode is that of the change, but for its pointer, which is that of its ACLs.
-abbrev pub IsChanged : Store → ℕ → RecordChange → Option Inode → Type 0
-IsChanged s old Unused new = new ≡ None
-IsChanged s old (Used inode acls) new = (pointer : ℕ) × (new ≡ Some (record inode { acl_block = pointer })) × HasAclsOf s old acls pointer
+abbrev pub IsChanged : Store → Option Inode → RecordChange → Option Inode → Type 0
+IsChanged s was Unused new = new ≡ None
+IsChanged s was (Used inode acls) new = (pointer : ℕ) × (new ≡ Some (record inode { acl_block = pointer })) × HasAclsOf s was inode.kind acls pointer
 
 -- how often these numbers' inodes name a block as their ACL block
 abbrev pub acl_times : Store → BlockTree → ℕ → List InodeChange → ℕ
@@ -62,10 +94,15 @@ acl_times s inodes block changes = sum_by (λ (change : InodeChange). times bloc
 pub record ChangesInodes (limits : Limits) (s : Store) (old new : BlockTree) (changes : List InodeChange) (added : List NewBlock) (released : List ℕ) : Type 0 where
   -- each number of a change has the inode of that
   pub changed : (r : Store) → SameIn (tree_reach s old) s r → Holds r added
-      → AllByRecursion (λ (change : InodeChange). IsChanged r (acl_pointer (inode_at s old change.number)) change.record (inode_at r new change.number)) changes
+      → AllByRecursion (λ (change : InodeChange). IsChanged r (inode_at s old change.number) change.record (inode_at r new change.number)) changes
   -- any other number has the inode that it had
   pub others : (r : Store) → SameIn (tree_reach s old) s r → Holds r added
       → (number : ℕ) → ¬ Contains (numbers_in changes) number → inode_at r new number ≡ inode_at s old number
+  -- its record stays byte for byte, and is zeros where the old file had none: those that no node can have, too
+  pub stays : (r : Store) → SameIn (tree_reach s old) s r → Holds r added
+      → (number : ℕ) → ¬ Contains (numbers_in changes) number → number < old.size / 128 → record_at r new number ≡ record_at s old number
+  pub unused : (r : Store) → SameIn (tree_reach s old) s r → Holds r added
+      → (number : ℕ) → ¬ Contains (numbers_in changes) number → old.size / 128 ≤ number → number < new.size / 128 → record_at r new number ≡ zeros 128
   -- where the old records are spelled, so are all of the new file
   pub spelled : (r : Store) → SameIn (tree_reach s old) s r → Holds r added
       → ((number : ℕ) → number < old.size / 128 → SpellsRecord limits (record_at s old number)) → (number : ℕ) → number < new.size / 128 → SpellsRecord limits (record_at r new number)

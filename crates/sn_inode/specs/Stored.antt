@@ -11,7 +11,8 @@ use Rattle.sn_image.specs.Inodes.{inode_at}
 use Rattle.sn_image.specs.Reach.{block_reach}
 use Rattle.sn_tree.specs.Dirty.{block_after}
 use Rattle.sn_tree.specs.Drafts.{Draft, numbers_of, grown}
-use Rattle.sn_tree.specs.Plans.{times, Holds}
+use Rattle.sn_ondisk.specs.Counts.{times}
+use Rattle.sn_tree.specs.Plans.{Holds}
 use Rattle.sn_tree.specs.declared.new_block.NewBlock.{NewBlock}
 use Rattle.sn_tree.specs.declared.new_block.DirtyBlock.{DirtyBlock}
 use Rattle.sn_tree_read.specs.Paths.{block_lies_on}
@@ -41,7 +42,7 @@ stored_times block stored = sum_by (λ (x : StoredRecord). times block (block_re
 -- The record is that of a change, in a store that has its ACLs.
 pub record IsStored (r s : Store) (inodes : BlockTree) (change : InodeChange) (stored : StoredRecord) : Type 0 where
   pub number : stored.number ≡ change.number
-  pub changed : IsChanged r (acl_pointer (inode_at s inodes change.number)) change.record (inode_in stored.record)
+  pub changed : IsChanged r (inode_at s inodes change.number) change.record (inode_in stored.record)
 
 -- Each change has its record, and their ACL blocks were placed.
 pub record AreSettled (Told : Type 0) (s : Store) (inodes : BlockTree) (changes : List InodeChange) (stored : List StoredRecord) (old new : Draft) : Type 0 where

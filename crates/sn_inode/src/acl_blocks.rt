@@ -26,7 +26,7 @@ fn no_acls() -> AclBlock
 }
 
 // A file has no default ACL.
-fn can_have(kind: Kind, acls: &AclBlock) -> bool
+pub(crate) fn can_have(kind: Kind, acls: &AclBlock) -> bool
     ensures { IsTrue result ↔ (kind ≡ File → acls.now.default ≡ None) }
 {
     match kind {

@@ -1,5 +1,5 @@
 //! The records of changes, whose ACL blocks are placed.
-ghost use Rattle.std.specs.Prelude.{◌≡◌, ◌≢◌, ◌<◌, ◌≤◌, [], ◌∷◌, false, length, Err, IsTrue, IfOk, OnOk, All};
+ghost use Rattle.std.specs.Prelude.{◌≡◌, ◌≢◌, ◌<◌, ◌≤◌, [], ◌∷◌, false, length, Some, Err, IsTrue, IfOk, OnOk, All};
 ghost use Rattle.std.specs.List.{AllByRecursion};
 ghost use Rattle.sn_device.specs.Disk.{reads};
 ghost use Rattle.sn_alloc.specs.Taking.{free_data};
@@ -13,10 +13,10 @@ ghost use Rattle.sn_tree.specs.Steps.{IsTooFull, CountsPlan};
 ghost use Rattle.sn_tree.specs.declared.fault.PlanFault.TheVariants.{Tree, Full};
 ghost use Rattle.sn_tree_read.specs.declared.fault.TreeFault.{TreeFault as TheFault};
 ghost use Rattle.sn_tree_read.specs.declared.fault.TreeFault.TheVariants.{Damaged};
-ghost use Rattle.sn_inode.specs.Changes.{IsChange, IsNew, IsChanged, HasAclsOf, acl_pointer, IsUnreadable};
+ghost use Rattle.sn_inode.specs.Changes.{IsChange, IsNew, IsChanged, AclsStandAt, HasAclsOf, acl_pointer, kept_pointer, IsUnreadable};
 ghost use Rattle.sn_inode.specs.Reads.{CanReadRecord};
 ghost use Rattle.sn_inode.specs.Stored.{IsPlaced, AreSettled, inode_in};
-ghost use Rattle.sn_inode.specs.declared.changes.AclChange.TheVariants.{Set};
+ghost use Rattle.sn_inode.specs.declared.changes.AclChange.TheVariants.{Kept};
 ghost use Rattle.sn_inode.specs.declared.changes.StoredRecord.{StoredRecord as TheStored};
 
 use crate::changes::StoredRecord;
@@ -26,7 +26,7 @@ use sn_device::Device;
 use sn_layout::BlockTree;
 use sn_layout_acl::AclBlock;
 use sn_layout_node::{Inode, InodeRecord};
-use sn_limits::Limits;
+use sn_limits::{Kind, Limits};
 use sn_tree::{Build, PlanFault};
 use std::alloc::{AllocError, Global};
 
@@ -62,7 +62,7 @@ fn replace_acls(
     pointer: u32,
     acls: &AclBlock,
 ) -> Result<u32, PlanFault>
-    ensures placed { IfOk result (λ new. IsPlaced (λ s. HasAclsOf s pointer (Set acls.now) new) pointer new build.old build.new) }
+    ensures placed { IfOk result (λ new. IsPlaced (λ s. AclsStandAt s acls.now new) pointer new build.old build.new) }
     ensures full { result ≡ Err Full → free_data build.old.words build.old.first ≤ length build.old.added }
     ensures own { (fault : TheFault) → result ≢ Err (Tree fault) }
 {
@@ -74,20 +74,64 @@ fn replace_acls(
     build.put(block)
 }
 
-// The new pointer to the ACL block of an inode, in place of the old one.
+fn acl_pointer(inode: &Option<Inode>) -> u32
+    ensures { result ≡ acl_pointer inode.now }
+{
+    match inode {
+        Some(inode) => inode.acl_block,
+        None => 0,
+    }
+}
+
+// The pointer that stays where ACLs are kept.
+fn kept_pointer(old: &Option<Inode>, kind: Kind) -> u32
+    ensures { result ≡ kept_pointer old.now kind }
+{
+    match old {
+        Some(inode) => pointer_of_kind(inode, kind),
+        None => 0,
+    }
+}
+
+fn pointer_of_kind(inode: &Inode, kind: Kind) -> u32
+    ensures { result ≡ kept_pointer (Some inode.now) kind }
+{
+    match (inode.kind, kind) {
+        (Kind::File, Kind::File) | (Kind::Directory, Kind::Directory) => inode.acl_block,
+        _ => 0,
+    }
+}
+
+// The pointer of an inode that keeps its ACLs, unless it is of another kind now.
+fn keep_acls(build: &mut Build, old: &Option<Inode>, kind: Kind) -> Result<u32, PlanFault>
+    ensures placed { IfOk result (λ new. IsPlaced (λ s. HasAclsOf s old.now kind Kept new) (acl_pointer old.now) new build.old build.new) }
+    ensures full { result ≡ Err Full → ⊥ }
+    ensures own { (fault : TheFault) → result ≢ Err (Tree fault) }
+{
+    let pointer = acl_pointer(old);
+    let kept = kept_pointer(old, kind);
+    if kept == pointer {
+        return Ok(kept);
+    }
+    build.release(pointer)?;
+    Ok(kept)
+}
+
+// The new pointer to the ACL block of an inode of this kind.
 fn place_acls(
     alloc: Global,
     build: &mut Build,
-    pointer: u32,
+    old: &Option<Inode>,
+    kind: Kind,
     change: &AclChange,
 ) -> Result<u32, PlanFault>
-    ensures placed { IfOk result (λ new. IsPlaced (λ s. HasAclsOf s pointer change.now new) pointer new build.old build.new) }
+    ensures placed { IfOk result (λ new. IsPlaced (λ s. HasAclsOf s old.now kind change.now new) (acl_pointer old.now) new build.old build.new) }
     ensures full { result ≡ Err Full → free_data build.old.words build.old.first ≤ length build.old.added }
     ensures own { (fault : TheFault) → result ≢ Err (Tree fault) }
 {
     match change {
-        AclChange::Kept => Ok(pointer),
-        AclChange::Set(acls) => replace_acls(alloc, build, pointer, acls),
+        AclChange::Kept => keep_acls(build, old, kind),
+        AclChange::Set(acls) => replace_acls(alloc, build, acl_pointer(old), acls),
     }
 }
 
@@ -101,36 +145,27 @@ fn with_acl_block(inode: &Inode, acl_block: u32) -> Inode
     changed
 }
 
-// The record of a change, in place of one with that pointer to its ACL block.
+// The record of a change, in place of that of an inode.
 fn new_record(
     alloc: Global,
     build: &mut Build,
-    pointer: u32,
+    old: &Option<Inode>,
     change: &RecordChange,
 ) -> Result<InodeRecord, PlanFault>
-    ensures placed { IfOk result (λ new. IsPlaced (λ s. IsChanged s pointer change.now (inode_in new)) pointer (acl_pointer (inode_in new)) build.old build.new) }
+    ensures placed { IfOk result (λ new. IsPlaced (λ s. IsChanged s old.now change.now (inode_in new)) (acl_pointer old.now) (acl_pointer (inode_in new)) build.old build.new) }
     ensures valid { IfOk result (λ new. (limits : TheLimits) → IsNew limits change.now → IsRecord limits new) }
     ensures full { result ≡ Err Full → free_data build.old.words build.old.first ≤ length build.old.added }
     ensures own { (fault : TheFault) → result ≢ Err (Tree fault) }
 {
     match change {
         RecordChange::Unused => {
-            build.release(pointer)?;
+            build.release(acl_pointer(old))?;
             Ok(InodeRecord::Unused)
         }
         RecordChange::Used(inode, acls) => {
-            let acl_block = place_acls(alloc, build, pointer, acls)?;
+            let acl_block = place_acls(alloc, build, old, inode.kind, acls)?;
             Ok(InodeRecord::Used(with_acl_block(inode, acl_block)))
         }
-    }
-}
-
-fn acl_pointer(inode: &Option<Inode>) -> u32
-    ensures { result ≡ acl_pointer inode.now }
-{
-    match inode {
-        Some(inode) => inode.acl_block,
-        None => 0,
     }
 }
 
@@ -155,8 +190,7 @@ fn settled<D: Device>(
     ensures counts { CountsPlan result (D.status (device_of blocks.old)) (D.status (device_of blocks.new)) }
 {
     let old = get(blocks, limits, file, change.number)?;
-    let pointer = acl_pointer(&old);
-    let record = new_record(alloc, build, pointer, &change.record)?;
+    let record = new_record(alloc, build, &old, &change.record)?;
     Ok(StoredRecord {
         number: change.number,
         record,

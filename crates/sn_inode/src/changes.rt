@@ -5,9 +5,10 @@ use sn_layout_node::{Inode, InodeRecord};
 /// What is to become of the ACLs of an inode.
 #[derive(Drop)]
 pub enum AclChange {
-    /// They stay. A number that had no inode has none.
+    /// They stay. A number that had no inode has none, and neither has one that had an inode of the other
+    /// kind.
     Kept,
-    /// These. Where both lists are empty, the inode has no ACL block.
+    /// These. Where both lists are empty, the inode has no ACL block. A file has no default ACL.
     Set(AclBlock),
 }
 

@@ -1,5 +1,5 @@
 //! What the answers come to.
-ghost use Rattle.sn_inode.specs.Laws.{SoundInodesAreRead, SoundAclsAreRead};
+ghost use Rattle.sn_inode.specs.Laws.{SoundInodesAreRead, SoundAclsAreRead, ChangedAclsAreFit, ReservedRecordsStay};
 
 use sn_tree_read::read_laws;
 
@@ -10,3 +10,9 @@ pub fn inode_laws()
 {
     read_laws();
 }
+
+/// What changes of inodes leave as it has to be.
+pub fn change_laws()
+    ensures acls { ChangedAclsAreFit }
+    ensures reserved { ReservedRecordsStay }
+{}

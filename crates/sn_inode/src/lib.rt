@@ -13,14 +13,16 @@
 //!
 //! Planning. `with` only reads. It says of the new file what stands in it in every store that has the new
 //! blocks and agrees with the old one in what the old file reaches: each changed number has the inode that
-//! is wanted, with its ACLs kept or in a block of their own, and each other number the inode that it had
-//! (`ChangesInodes`). What the file and the ACLs of changed numbers reach with what is released is what they
-//! reached with what was added, each block as often. The new blocks are at most three for each change and
-//! two more, and none for none.
+//! is wanted, with its ACLs kept or in a block of their own, and each other number the inode that it had, in
+//! a record that stays byte for byte (`ChangesInodes`). By `change_laws` no file gets a default ACL, and the
+//! two records stay zeros that no node can have. What the file and the ACLs of changed numbers reach with
+//! what is released is what they reached with what was added, each block as often. The new blocks are at most
+//! three for each change and two more, and none for none. `is_inode_file` and `are_changes` test exactly what
+//! `with` asks for.
 //!
-//! The way through: `inodes` reads a record, `acl_blocks` the ACLs. `planning` has `with`: `acl_changes` makes
-//! the record of each change and places its ACL block, `record_blocks` stores the records in copies of their
-//! blocks, and `plan_tree` of `sn_tree` plans the file with those.
+//! The way through: `inodes` reads a record, `acl_blocks` the ACLs. `premises` has the tests, and `planning`
+//! has `with`: `acl_changes` makes the record of each change and places its ACL block, `record_blocks` stores
+//! the records in copies of their blocks, and `plan_tree` of `sn_tree` plans the file with those.
 //!
 //! ```text
 //! let inode = get(blocks, &limits, &file, number)?;
@@ -35,10 +37,12 @@ mod changes;
 mod inodes;
 mod laws;
 mod planning;
+mod premises;
 mod record_blocks;
 
 pub use acl_blocks::acls;
 pub use changes::{AclChange, InodeChange, RecordChange};
 pub use inodes::get;
-pub use laws::inode_laws;
+pub use laws::{change_laws, inode_laws};
 pub use planning::with;
+pub use premises::{are_changes, is_change, is_inode_file};

@@ -1,5 +1,6 @@
 pub mod AppendLemmas
 pub mod BlockLemmas
+pub mod CountLemmas
 pub mod LogLemmas
 pub mod MapBlockLemmas
 pub mod MapLemmas

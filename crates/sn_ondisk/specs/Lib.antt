@@ -1,5 +1,7 @@
 pub mod BlockLaws
 pub mod Blocks
+pub mod CountLaws
+pub mod Counts
 pub mod Footprints
 pub mod GateLaws
 pub mod Gates

@@ -4,6 +4,7 @@ ghost use Rattle.sn_ondisk.specs.GateLaws.{GateAddsOneOrNone, OpenGateAddsOne, A
 ghost use Rattle.sn_ondisk.specs.PlaceLaws.{RootsLieInTheirAreas, HalvesAreTheirAreas, EpochsAlternate, AreasAreApart};
 ghost use Rattle.sn_ondisk.specs.OneAnswer.{RecordIsOne, ReadyIsReplayed, ReplayIsOne, RecordHasItsEpoch, LaterReplaysNothing, RootIsOne, NewestIsOne, ShownIsOne};
 ghost use Rattle.sn_ondisk.specs.TreeLaws.{TreesDependOnTheirReach, TreesDependOnTheirSectors, ReachHasEveryPointer, ReachHasNoHole, EntriesAreTheirLevel, BytesAreOfTheirBlock, LevelsHaveRoom, LevelsAreLeast};
+ghost use Rattle.sn_ondisk.specs.CountLaws.{NamedIsCounted, JoinedAddUp, LevelsAddUp, ReachIsCounted, LevelsAreFull};
 ghost use Rattle.sn_ondisk.specs.MapLaws.{WordsAreThoseSpelled, MapIsOne, MapsDependOnTheirSectors, WordsDependOnTheirSectors, BlocksMakeTheMap, MapIsOfItsBlocks};
 ghost use Rattle.sn_ondisk.specs.Footprints.{BlocksDependOnTheirSectors, RootsDependOnTheirBlock, NewestDependsOnTheRoots, RecordsDependOnTheirBody, ReadyDependsOnItsSectors, NoLaterDependsOnTheFirstPlace, ReplaysDependOnTheHalf, ShownDependsOnRootsAndLog};
 
@@ -58,6 +59,15 @@ pub fn tree_laws()
     ensures bytes { BytesAreOfTheirBlock }
     ensures levels { LevelsHaveRoom }
     ensures least { LevelsAreLeast }
+{}
+
+/// How often pointers lead to a block: they add up along lists and down a level.
+pub fn count_laws()
+    ensures named { NamedIsCounted }
+    ensures joined { JoinedAddUp }
+    ensures levels { LevelsAddUp }
+    ensures reach { ReachIsCounted }
+    ensures full { LevelsAreFull }
 {}
 
 /// What a slot's copy of the block map holds, on which sectors that depends, and how its blocks make

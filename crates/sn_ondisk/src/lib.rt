@@ -14,6 +14,7 @@
 //! - `Shown`: the newest root with the records that belong on top of it.
 //! - `Trees`: the bytes of a block tree and the blocks that it reaches, with repeats. One recursion
 //!   goes down the levels, and their number comes from the size.
+//! - `Counts`: how often a block stands in a list of pointers.
 //! - `MapCopy`: the words of a slot's copy of the block map.
 //!
 //! The way through the laws, each of them named by the contract of a function that does nothing:
@@ -21,6 +22,8 @@
 //! - `place_laws`: where roots, map copies and log halves lie, and that they are apart.
 //! - `footprints`, `tree_laws` and `map_laws`: on which sectors each reading depends. With the lemmas
 //!   of `sn_device` a fact of some sectors passes every write elsewhere.
+//! - `count_laws`: how often pointers lead to a block adds up along lists and down a level, so that
+//!   whatever goes through a tree piece by piece counts what the tree reaches.
 //! - `log_gate_laws`, `root_gate_laws` and `shown_laws`: what one gate's write does. They speak of two
 //!   contents that agree outside its sector, so they hold of the write that was done and of each one
 //!   that a crash tore.
@@ -40,6 +43,6 @@
 mod laws;
 
 pub use laws::{
-    block_laws, footprints, log_gate_laws, log_is_one, map_laws, place_laws, root_gate_laws,
-    root_is_one, tree_laws,
+    block_laws, count_laws, footprints, log_gate_laws, log_is_one, map_laws, place_laws,
+    root_gate_laws, root_is_one, tree_laws,
 };

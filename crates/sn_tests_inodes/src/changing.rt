@@ -1,14 +1,9 @@
 //! An inode file in which inodes change, on a disk in memory.
-ghost use Rattle.std.specs.Prelude.{◌≡◌, ◌<◌, ◌≤◌, length, IsTrue, All};
-ghost use Rattle.std.specs.List.Sorted.{IsStrictlyIncreasing};
-ghost use Rattle.sn_image.specs.Sound.{IsInodeFile};
-ghost use Rattle.sn_inode.specs.Changes.{IsChange, numbers_in};
-
 use anyhow::{Result, ensure};
 use sn_alloc::BlockAllocator;
 use sn_block::Blocks;
 use sn_device::MemDevice;
-use sn_inode::{InodeChange, RecordChange, with};
+use sn_inode::{InodeChange, are_changes, is_inode_file, with};
 use sn_layout::{BlockTree, Pointers};
 use sn_limits::Limits;
 use sn_map::Map;
@@ -103,41 +98,6 @@ pub fn new_build(alloc: Global, map: &Map) -> Result<Build> {
     let taken = map.try_clone()?;
     ensure!(taken.len() == DISK, "another map");
     Ok(Build::new(alloc, BlockAllocator::new(alloc, taken, FIRST)))
-}
-
-fn is_inode_file(limits: &Limits, file: &BlockTree) -> bool
-    ensures { IsTrue result → IsInodeFile limits.now file.now }
-{
-    file.size >= 4096
-        && file.size <= 128 * (u64::from(limits.largest_number) + 1)
-        && file.size.is_multiple_of(4096)
-}
-
-fn is_change(limits: &Limits, change: &InodeChange) -> bool
-    ensures { IsTrue result → IsChange limits.now change.now }
-{
-    if change.number < 2 || change.number > limits.largest_number {
-        return false;
-    }
-    match &change.record {
-        RecordChange::Unused => true,
-        RecordChange::Used(inode, _acls) => inode.is_valid(limits),
-    }
-}
-
-// Whether each is a change that can be made, and their numbers rise.
-fn are_changes(limits: &Limits, changes: &[InodeChange]) -> bool
-    ensures each { IsTrue result → All (IsChange limits.now) changes.now }
-    ensures rise { IsTrue result → IsStrictlyIncreasing (numbers_in changes.now) }
-{
-    let mut least = 0;
-    for change in changes {
-        if !is_change(limits, change) || u32::from(change.number) < least {
-            return false;
-        }
-        least = u32::from(change.number) + 1;
-    }
-    true
 }
 
 /// The planned file, or why there is none.

@@ -164,27 +164,30 @@ fn apply(plain: &mut Vec<Option<Plain>>, changes: Vec<InodeChange>) {
 fn made(old: Option<Plain>, record: RecordChange) -> Option<Plain> {
     match record {
         RecordChange::Unused => None,
-        RecordChange::Used(inode, change) => Some(Plain {
-            inode,
-            acls: acls_after(old, change),
-        }),
+        RecordChange::Used(inode, change) => {
+            let acls = acls_after(old, inode.kind, change);
+            Some(Plain { inode, acls })
+        }
     }
 }
 
-fn acls_after(old: Option<Plain>, change: AclChange) -> AclBlock {
+fn acls_after(old: Option<Plain>, kind: Kind, change: AclChange) -> AclBlock {
     match change {
-        AclChange::Kept => kept(old),
+        AclChange::Kept => kept(old, kind),
         AclChange::Set(acls) => acls,
     }
 }
 
-fn kept(old: Option<Plain>) -> AclBlock {
-    match old {
-        Some(plain) => plain.acls,
-        None => AclBlock {
-            access: NamedEntries::new(),
-            default: None,
-        },
+/// Those of an inode of this kind, and none of one of the other kind.
+fn kept(old: Option<Plain>, kind: Kind) -> AclBlock {
+    if let Some(plain) = old {
+        if plain.inode.kind == kind {
+            return plain.acls;
+        }
+    }
+    AclBlock {
+        access: NamedEntries::new(),
+        default: None,
     }
 }
 

@@ -17,17 +17,18 @@ use Rattle.sn_tree.specs.Contents.{inline_block, content_block, holes_of, IsBuil
 use Rattle.sn_tree.specs.Dirty.{IsFrom, after, block_wanted, block_after}
 use Rattle.sn_tree.specs.Drafts.{Draft}
 use Rattle.sn_tree.specs.Fronts.{IsCut}
-use Rattle.sn_tree.specs.Plans.{times, contents, straddles, most_added}
+use Rattle.sn_ondisk.specs.Counts.{times}
+use Rattle.sn_tree.specs.Plans.{contents, straddles, most_added}
 use Rattle.sn_tree.specs.Replanned.{EndsAt, IsPlanned, IsReplanned}
 use Rattle.sn_tree.specs.Steps.{LeadsOutside, Planned}
 use Rattle.sn_tree.specs.declared.fault.PlanFault.{PlanFault}
 use Rattle.sn_tree.specs.declared.new_block.DirtyBlock.{DirtyBlock}
-use Rattle.sn_tree.proofs.CountLemmas.{among_times}
+use Rattle.sn_ondisk.proofs.CountLemmas.{among_times, times-reach}
 use Rattle.sn_tree.proofs.DirtyLemmas.{block_wanted-dirty, block_wanted-clean, block_wanted-cut, block_wanted-any, named-zeros, AreHoles-replicate, AreHoles-at}
 use Rattle.sn_tree.proofs.EndLemmas.{hole_at, times-holes}
 use Rattle.sn_tree.proofs.FaultLemmas.{no_hole}
 use Rattle.sn_tree.proofs.FrontLemmas.{straddles-none}
-use Rattle.sn_tree.proofs.ReplannedLemmas.{times-reach, tree_plans}
+use Rattle.sn_tree.proofs.ReplannedLemmas.{tree_plans}
 
 -- ---- a block that isn't on the device
 

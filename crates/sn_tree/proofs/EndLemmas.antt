@@ -6,9 +6,11 @@ use Rattle.std.proofs.lemmas.Bool.{cases_lt}
 use Rattle.std.proofs.lemmas.List.{get_or_past, get_or_append_left, get_or-append_right}
 use Rattle.std.proofs.lemmas.Nat.{pow-add}
 use Rattle.sn_ondisk.specs.Trees.{Store, below, pointers_at, all_pointers}
-use Rattle.sn_tree.specs.Plans.{times, EndsBefore}
+use Rattle.sn_ondisk.specs.Counts.{times}
+use Rattle.sn_tree.specs.Plans.{EndsBefore}
 use Rattle.sn_tree.specs.Steps.{AreHoles}
-use Rattle.sn_tree.proofs.CountLemmas.{times-append, times-cons, times-other, at_0, span_some, length-pointers_at, pointers_at-append, pointers-down}
+use Rattle.sn_ondisk.proofs.CountLemmas.{times-append, times-cons, times-other, at_0, length-pointers_at, pointers_at-append, pointers-down}
+use Rattle.sn_tree.proofs.SpanLemmas.{span_some}
 use Rattle.sn_tree.proofs.DirtyLemmas.{AreHoles-at}
 
 -- the data blocks below a pointer, by the pointers of a level between

@@ -3,7 +3,7 @@ use Rattle.std.proofs.Common.{◌≡◌, ◌≢◌, ℕ, suc, ◌-◌, false, Li
 use Rattle.sn_ondisk.specs.Trees.{Store, below, all_pointers}
 use Rattle.sn_tree_read.specs.Paths.{lies_on}
 use Rattle.sn_tree.specs.Steps.{LeadsOutside}
-use Rattle.sn_tree.proofs.CountLemmas.{times-same, times-down, times-all_append}
+use Rattle.sn_ondisk.proofs.CountLemmas.{times-same, times-down, times-all_append}
 
 -- ---- pointers that lead outside
 

@@ -10,7 +10,8 @@ use Rattle.sn_ondisk.specs.Trees.{Store, all_pointers}
 use Rattle.sn_tree_read.proofs.PointerLemmas.{below_read}
 use Rattle.sn_tree.specs.Drafts.{Draft, grown}
 use Rattle.sn_tree.specs.Dirty.{after, blocks_wanted}
-use Rattle.sn_tree.specs.Plans.{DataBlocks, times, SameAmong, contents, PlansTo, straddles, most_added}
+use Rattle.sn_ondisk.specs.Counts.{times}
+use Rattle.sn_tree.specs.Plans.{DataBlocks, SameAmong, contents, PlansTo, straddles, most_added}
 use Rattle.sn_tree.specs.Steps.{AreHoles, Planned, IsReplaced, LeadsOutside}
 use Rattle.sn_tree.specs.Fronts.{Aim, AreHolesFrom, front_most, PlansFront, PlannedFront}
 use Rattle.sn_tree.specs.declared.new_block.NewBlock.{NewBlock}

@@ -13,13 +13,15 @@ use Rattle.sn_ondisk.specs.Trees.{Store, below, pointers_at, all_pointers}
 use Rattle.sn_ondisk.proofs.TreeLemmas.{entry-level}
 use Rattle.sn_tree.specs.Drafts.{Draft, grown, numbers_of}
 use Rattle.sn_tree.specs.Dirty.{after}
-use Rattle.sn_tree.specs.Plans.{times, Holds, SameAmong, named_or, contents, PlansTo, straddles, most_added}
+use Rattle.sn_ondisk.specs.Counts.{times}
+use Rattle.sn_tree.specs.Plans.{Holds, SameAmong, named_or, contents, PlansTo, straddles, most_added}
 use Rattle.sn_tree.specs.Steps.{Planned, LeadsOutside}
 use Rattle.sn_tree.specs.Replanned.{IsPlanned}
 use Rattle.sn_tree.specs.Fronts.{Aim, data_or, PlannedFront, IsCut, IsLowered, IsFirstOf}
 use Rattle.sn_tree.specs.declared.new_block.NewBlock.{NewBlock}
 use Rattle.sn_tree.specs.declared.new_block.DirtyBlock.{DirtyBlock}
-use Rattle.sn_tree.proofs.CountLemmas.{times-append, times-all_append, times-down, times-block_reach, pointers_at-append, pointers_at-down, length-pointers_at}
+use Rattle.sn_ondisk.proofs.CountLemmas.{times-append, times-all_append, times-down, pointers_at-append, pointers_at-down, length-pointers_at}
+use Rattle.sn_tree.proofs.SpanLemmas.{times-block_reach}
 use Rattle.sn_tree.proofs.DirtyLemmas.{after-nil}
 use Rattle.sn_tree.proofs.EndLemmas.{times-holes}
 use Rattle.sn_tree.proofs.PlanLemmas.{length-contents}

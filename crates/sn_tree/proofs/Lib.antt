@@ -1,4 +1,4 @@
-pub mod CountLemmas
+pub mod SpanLemmas
 pub mod CopyLemmas
 pub mod DirtyLemmas
 pub mod EndLemmas

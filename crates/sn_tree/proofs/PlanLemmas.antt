@@ -11,11 +11,13 @@ use Rattle.sn_ondisk.specs.Trees.{Store, below, pointers_at, all_pointers}
 use Rattle.sn_ondisk.proofs.TreeLemmas.{Agree, pointers-same, all_pointers-same, of_level}
 use Rattle.sn_tree.specs.Drafts.{numbers_of}
 use Rattle.sn_tree.specs.Dirty.{IsFrom, after, block_wanted, blocks_wanted}
-use Rattle.sn_tree.specs.Plans.{DataBlocks, times, Holds, SameAmong, named_or, contents, EndsBefore, PlansTo, Plans}
+use Rattle.sn_ondisk.specs.Counts.{times}
+use Rattle.sn_tree.specs.Plans.{DataBlocks, Holds, SameAmong, named_or, contents, EndsBefore, PlansTo, Plans}
 use Rattle.sn_tree.specs.Steps.{AreHoles}
 use Rattle.sn_tree.specs.declared.new_block.NewBlock.{NewBlock}
 use Rattle.sn_tree.specs.declared.new_block.DirtyBlock.{DirtyBlock}
-use Rattle.sn_tree.proofs.CountLemmas.{times-append, times-same, times-other, among_times, times-all_append, times-down, pointers-down, pointers_at-append, length-pointers_at, times-block_reach}
+use Rattle.sn_ondisk.proofs.CountLemmas.{times-append, times-same, times-other, among_times, times-all_append, times-down, pointers-down, pointers_at-append, length-pointers_at}
+use Rattle.sn_tree.proofs.SpanLemmas.{times-block_reach}
 use Rattle.sn_tree.proofs.DirtyLemmas.{blocks_wanted-append, length-blocks_wanted, block_wanted-cut, blocks_wanted-kept, blocks_wanted-holes, named-hole, named-there, contents-holes}
 use Rattle.sn_tree.proofs.EndLemmas.{ends_kept, ends_holes, ends_joined, ends_leaf, ends_up, ends_all}
 

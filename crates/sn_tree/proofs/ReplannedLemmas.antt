@@ -1,7 +1,7 @@
 -- A tree whose sixteen pointers were planned.
-use Rattle.std.proofs.Common.{◌≡◌, ◌≢◌, ⊎_elim, ℕ, zero, suc, ◌+◌, ◌-◌, ◌*◌, ◌/◌, ◌<◌, ◌≤◌, ◌==◌, not, Bool, true, false, List, [], ◌∷◌, length, get_or, refl, sym, ap, subst, ◌∙◌, arith, if◌then◌else◌}
+use Rattle.std.proofs.Common.{◌≡◌, ◌≢◌, ⊎_elim, ℕ, zero, suc, ◌+◌, ◌-◌, ◌*◌, ◌/◌, ◌<◌, ◌≤◌, ◌==◌, Bool, true, false, List, [], ◌∷◌, length, get_or, refl, sym, ap, subst, ◌∙◌, arith, if◌then◌else◌}
 use Rattle.std.specs.Prelude.{◌^◌, All}
-use Rattle.std.specs.List.{filter, AllByRecursion}
+use Rattle.std.specs.List.{AllByRecursion}
 use Rattle.std.proofs.lemmas.Bool.{cases_lt, eqb-true, eqb-false, lt-ltb}
 use Rattle.std.proofs.lemmas.List.{get_or-map, get_or-replicate, get_or_past}
 use Rattle.std.proofs.lemmas.List.Elements.{All-nil, All-cons}
@@ -13,13 +13,14 @@ use Rattle.sn_ondisk.specs.TreeLaws.{SameIn}
 use Rattle.sn_ondisk.proofs.TreeLemmas.{but_holes-has, entry-level}
 use Rattle.sn_tree.specs.Dirty.{after, block_wanted, block_after, blocks_wanted}
 use Rattle.sn_tree.specs.Fronts.{data_or}
-use Rattle.sn_tree.specs.Plans.{DataBlocks, times, Holds, SameAmong, named_or, contents, PlansTo}
+use Rattle.sn_ondisk.specs.Counts.{times}
+use Rattle.sn_tree.specs.Plans.{DataBlocks, Holds, SameAmong, named_or, contents, PlansTo}
 use Rattle.sn_tree.specs.Drafts.{Draft}
 use Rattle.sn_tree.specs.Steps.{Planned, LeadsOutside}
 use Rattle.sn_tree.specs.Replanned.{IsReplanned}
 use Rattle.sn_tree.specs.declared.new_block.NewBlock.{NewBlock}
 use Rattle.sn_tree.specs.declared.new_block.DirtyBlock.{DirtyBlock}
-use Rattle.sn_tree.proofs.CountLemmas.{times-cons, times-other, times_among, length-pointers_at}
+use Rattle.sn_ondisk.proofs.CountLemmas.{times_among, times-reach, length-pointers_at}
 use Rattle.sn_tree.proofs.DirtyLemmas.{after-first, named-hole, named-there, named-by}
 use Rattle.sn_tree.proofs.PlanLemmas.{length-contents}
 
@@ -52,20 +53,7 @@ wanted_hole keep (d ∷ ds) i p s each = told (d.index == i) refl (λ same. want
         let rest = later (λ hole. each hole ∙ ap (λ (b : Bool). if b then d.bytes.value else block_wanted hole keep ds i (named_or hole s p)) is) in
         (All-cons (λ (d : DirtyBlock). d.index ≢ i) d ds (eqb-false d.index i is) rest.0, rest.1)
 
-times-but_holes : (block : ℕ) (ps : List ℕ) → block ≢ 0 → times block (filter (λ pointer. not (pointer == 0)) ps) ≡ times block ps
-times-but_holes block [] some = refl
-times-but_holes block (p ∷ ps) some = either (times-but_holes block ps some) (p == 0) refl
-  where
-    either : times block (filter (λ pointer. not (pointer == 0)) ps) ≡ times block ps → (b : Bool) → (p == 0) ≡ b
-        → times block (if not b then p ∷ filter (λ pointer. not (pointer == 0)) ps else filter (λ pointer. not (pointer == 0)) ps) ≡ times block (p ∷ ps)
-    either later true is = omega (arith, later, times-cons block p ps, times-other block p (λ same. some (sym same ∙ eqb-true p 0 is)))
-    either later false is = omega (arith, later, times-cons block p ps, times-cons block p (filter (λ pointer. not (pointer == 0)) ps))
-
 module _ (s : Store) (tree : BlockTree) where
-  pub times-reach : (block : ℕ) → block ≢ 0 → times block (tree_reach s tree) ≡ times block (all_pointers s (levels_of tree.size) tree.pointers)
-  unfolding tree_reach
-  times-reach block some = times-but_holes block (all_pointers s (levels_of tree.size) tree.pointers) some
-
   same-among : (r : Store) → SameIn (tree_reach s tree) s r → SameAmong s r (all_pointers s (levels_of tree.size) tree.pointers)
   unfolding tree_reach
   same-among r same block some there = same block (but_holes-has (all_pointers s (levels_of tree.size) tree.pointers) block some (times_among block (all_pointers s (levels_of tree.size) tree.pointers) there))

@@ -11,7 +11,7 @@ use Rattle.sn_tree.specs.Plans.{contents}
 use Rattle.sn_tree.specs.Runs.{kept_until}
 use Rattle.sn_tree.specs.Steps.{AreHoles, Planned}
 use Rattle.sn_tree.specs.declared.new_block.DirtyBlock.{DirtyBlock}
-use Rattle.sn_tree.proofs.CountLemmas.{span_some}
+use Rattle.sn_tree.proofs.SpanLemmas.{span_some}
 use Rattle.sn_tree.proofs.DirtyLemmas.{after-none}
 use Rattle.sn_tree.proofs.PlanLemmas.{plan_kept, plan_holes}
 use Rattle.sn_tree.proofs.StepLemmas.{grown-none, planned_joined}

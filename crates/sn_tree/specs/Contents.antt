@@ -13,7 +13,8 @@ use Rattle.sn_image.specs.Contents.{content_reach}
 use Rattle.sn_image.specs.Sound.{ContentEnds}
 use Rattle.sn_tree.specs.Dirty.{IsFrom, block_after}
 use Rattle.sn_tree.specs.Drafts.{Draft, numbers_of, grown}
-use Rattle.sn_tree.specs.Plans.{times, Holds}
+use Rattle.sn_ondisk.specs.Counts.{times}
+use Rattle.sn_tree.specs.Plans.{Holds}
 use Rattle.sn_tree.specs.Replanned.{EndsAt, IsReplanned}
 use Rattle.sn_tree.specs.declared.new_block.NewBlock.{NewBlock}
 use Rattle.sn_tree.specs.declared.new_block.DirtyBlock.{DirtyBlock}

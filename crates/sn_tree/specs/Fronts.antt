@@ -5,7 +5,8 @@ use Rattle.sn_layout.specs.declared.tree.BlockTree.{BlockTree}
 use Rattle.sn_ondisk.specs.Trees.{Store, entry, pointers_at, all_pointers}
 use Rattle.sn_tree.specs.Drafts.{Draft, grown}
 use Rattle.sn_tree.specs.Dirty.{after}
-use Rattle.sn_tree.specs.Plans.{DataBlocks, named_or, times, PlansTo}
+use Rattle.sn_ondisk.specs.Counts.{times}
+use Rattle.sn_tree.specs.Plans.{DataBlocks, named_or, PlansTo}
 use Rattle.sn_tree.specs.declared.new_block.NewBlock.{NewBlock}
 use Rattle.sn_tree.specs.declared.new_block.DirtyBlock.{DirtyBlock}
 

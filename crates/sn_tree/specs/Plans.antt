@@ -1,14 +1,11 @@
 -- What planning makes of pointers and of the data blocks below them.
-use Rattle.std.specs.Prelude.{◌≡◌, ◌≢◌, ℕ, ◌+◌, ◌-◌, ◌*◌, ◌^◌, ◌<◌, ◌≤◌, ◌&&◌, ◌==◌, if◌then◌else◌, List, [], length, map, slice_index, nat_lt, count_by, All}
+use Rattle.std.specs.Prelude.{◌≡◌, ◌≢◌, ℕ, ◌+◌, ◌-◌, ◌*◌, ◌^◌, ◌<◌, ◌≤◌, ◌&&◌, ◌==◌, if◌then◌else◌, List, [], length, map, slice_index, nat_lt, All}
+use Rattle.sn_ondisk.specs.Counts.{times}
 use Rattle.sn_ondisk.specs.Trees.{Store, pointers_at, all_pointers}
 use Rattle.sn_tree.specs.Drafts.{numbers_of}
 use Rattle.sn_tree.specs.Dirty.{after, blocks_wanted}
 use Rattle.sn_tree.specs.declared.new_block.NewBlock.{NewBlock}
 use Rattle.sn_tree.specs.declared.new_block.DirtyBlock.{DirtyBlock}
-
--- how often a block stands in a list
-abbrev pub times : ℕ → List ℕ → ℕ
-times block blocks = count_by (λ b. b == block) blocks
 
 -- These new blocks stand in their places.
 abbrev pub Holds : Store → List NewBlock → Type 0

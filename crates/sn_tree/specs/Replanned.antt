@@ -8,7 +8,8 @@ use Rattle.sn_ondisk.specs.TreeLaws.{SameIn}
 use Rattle.sn_image.specs.Sound.{EndsAtSize}
 use Rattle.sn_tree.specs.Drafts.{Draft, numbers_of, grown}
 use Rattle.sn_tree.specs.Dirty.{block_after}
-use Rattle.sn_tree.specs.Plans.{times, Holds}
+use Rattle.sn_ondisk.specs.Counts.{times}
+use Rattle.sn_tree.specs.Plans.{Holds}
 use Rattle.sn_tree.specs.declared.new_block.NewBlock.{NewBlock}
 use Rattle.sn_tree.specs.declared.new_block.DirtyBlock.{DirtyBlock}
 

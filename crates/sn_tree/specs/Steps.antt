@@ -12,7 +12,8 @@ use Rattle.sn_tree_read.specs.Paths.{lies_on}
 use Rattle.sn_tree_read.specs.declared.fault.TreeFault.TheVariants.{Read}
 use Rattle.sn_tree.specs.Drafts.{Draft, grown}
 use Rattle.sn_tree.specs.Dirty.{after}
-use Rattle.sn_tree.specs.Plans.{DataBlocks, times, PlansTo, most_added}
+use Rattle.sn_ondisk.specs.Counts.{times}
+use Rattle.sn_tree.specs.Plans.{DataBlocks, PlansTo, most_added}
 use Rattle.sn_tree.specs.declared.fault.PlanFault.{PlanFault}
 use Rattle.sn_tree.specs.declared.fault.PlanFault.TheVariants.{Tree, Full}
 use Rattle.sn_tree.specs.declared.new_block.NewBlock.{NewBlock}

@@ -5,7 +5,7 @@ use Rattle.sn_inode.proofs.acl_changes.replace_acls.Goals as goal
 
 pub returns-then-not-has_entries-clause-placed : goal.returns-then-not-has_entries-clause-placed
 returns-then-not-has_entries-clause-placed c =
-    placed_none _ c.args.pointer 0 c.args.build.now c.release.new.self refl c.in_ok-release.ensures.ok (none_there c.args.acls.now c.args.pointer (c.has_entries.ensures.none c.if-not-has_entries.true))
+    placed_none _ c.args.pointer 0 c.args.build.now c.release.new.self refl c.in_ok-release.ensures.ok (none_there c.args.acls.now (c.has_entries.ensures.none c.if-not-has_entries.true))
 
 pub returns-clause-placed : goal.returns-clause-placed
 returns-clause-placed c =

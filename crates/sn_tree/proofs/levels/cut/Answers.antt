@@ -8,7 +8,7 @@ use Rattle.sn_tree.specs.Dirty.{IsFrom}
 use Rattle.sn_tree.specs.Plans.{contents, most_added}
 use Rattle.sn_tree.specs.Steps.{Planned}
 use Rattle.sn_tree.specs.declared.new_block.DirtyBlock.{DirtyBlock}
-use Rattle.sn_tree.proofs.CountLemmas.{span_most}
+use Rattle.sn_tree.proofs.SpanLemmas.{span_most}
 use Rattle.sn_tree.proofs.LevelLemmas.{cut_off, none_added}
 use Rattle.sn_tree.proofs.levels.cut.Goals as goal
 

@@ -3,7 +3,7 @@ use Rattle.std.specs.Prelude.{◌^◌, Err}
 use Rattle.std.proofs.lemmas.Result.{err_from_is_err_and}
 use Rattle.sn_tree.specs.Fronts.{AreHolesFrom, PlannedFront}
 use Rattle.sn_tree.specs.declared.fault.PlanFault.TheVariants.{Full}
-use Rattle.sn_tree.proofs.CountLemmas.{span_more}
+use Rattle.sn_tree.proofs.SpanLemmas.{span_more}
 use Rattle.sn_tree.proofs.FrontLemmas.{front_most-whole}
 use Rattle.sn_tree.proofs.levels.raised.Goals as goal
 

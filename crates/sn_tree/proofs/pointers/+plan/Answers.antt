@@ -13,7 +13,7 @@ use Rattle.sn_tree.specs.Dirty.{IsFrom, after}
 use Rattle.sn_tree.specs.Plans.{contents, most_added}
 use Rattle.sn_tree.specs.Steps.{Planned, LeadsOutside}
 use Rattle.sn_tree.specs.declared.fault.PlanFault.TheVariants.{Tree, Full}
-use Rattle.sn_tree.proofs.CountLemmas.{span_some, indirect_end}
+use Rattle.sn_tree.proofs.SpanLemmas.{span_some, indirect_end}
 use Rattle.sn_tree.proofs.FaultLemmas.{outside_here, outside_indirect}
 use Rattle.sn_tree.proofs.StepLemmas.{planned_stays, planned_leaf, planned_under, planned_unchanged, planned_indirect, leaf_full, too_full_indirect}
 use Rattle.sn_tree.proofs.ProgressLemmas.{progress_begun, progress_at, progress_step, progress_run, progress_full, progress_outside}

@@ -1,5 +1,5 @@
 use Rattle.std.proofs.Common.{arith}
-use Rattle.sn_tree.proofs.CountLemmas.{span_some, span_most}
+use Rattle.sn_tree.proofs.SpanLemmas.{span_some, span_most}
 use Rattle.sn_tree.proofs.pointers.span_of.Goals as goal
 
 pub pow-requires : goal.pow-requires

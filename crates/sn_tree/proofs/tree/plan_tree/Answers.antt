@@ -12,7 +12,7 @@ use Rattle.sn_tree.specs.Fronts.{data_or, AreHolesFrom, PlannedFront}
 use Rattle.sn_tree.specs.Steps.{LeadsOutside}
 use Rattle.sn_tree.specs.declared.fault.PlanFault.TheVariants.{Tree, Full}
 use Rattle.sn_tree.specs.declared.new_block.DirtyBlock.{DirtyBlock}
-use Rattle.sn_tree.proofs.CountLemmas.{span_most}
+use Rattle.sn_tree.proofs.SpanLemmas.{span_most}
 use Rattle.sn_tree.proofs.DirtyLemmas.{IsFrom-after}
 use Rattle.sn_tree.proofs.FrontLemmas.{most_added-front, front_most-whole}
 use Rattle.sn_tree.proofs.LevelLemmas.{first_outside, first_full, aim, front_begun, front_planned}

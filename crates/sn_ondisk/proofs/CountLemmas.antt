@@ -1,20 +1,21 @@
 -- How often a block stands in lists of pointers.
-use Rattle.std.proofs.Common.{◌≡◌, ◌≢◌, ⊎_elim, ℕ, zero, suc, ◌+◌, ◌-◌, ◌*◌, ◌<◌, ◌≤◌, ◌==◌, Bool, true, false, cond, List, [], ◌∷◌, ◌++◌, length, Contains, refl, sym, ap, subst, ◌∙◌, arith, if◌then◌else◌}
+use Rattle.std.proofs.Common.{◌≡◌, ◌≢◌, ◌↔◌, ⊎_elim, ℕ, zero, suc, ◌+◌, ◌*◌, ◌<◌, ◌==◌, not, Bool, true, false, cond, List, [], ◌∷◌, ◌++◌, length, Contains, refl, sym, ap, subst, ◌∙◌, arith, if◌then◌else◌}
 use Rattle.std.specs.Prelude.{◌^◌}
-use Rattle.std.specs.List.{flat_map}
-use Rattle.std.proofs.Math.Nat.{pow-succ', pow-le-pow_right, one-le-pow}
+use Rattle.std.specs.List.{flat_map, filter}
+use Rattle.std.proofs.Math.Nat.{pow-succ'}
 use Rattle.std.proofs.lemmas.Bool.{eqb-true, eqb-false, eq-eqb, ne_eqb}
 use Rattle.std.proofs.lemmas.Grind.{flat_map-append}
 use Rattle.std.proofs.lemmas.List.{append-nil, length-append}
+use Rattle.std.proofs.lemmas.List.Sums.{sum_by-append}
 use Rattle.sn_device.proofs.SectorLemmas.{Contains-cases}
-use Rattle.sn_image.specs.Reach.{block_reach}
-use Rattle.sn_image.proofs.ListLemmas.{count-append}
-use Rattle.sn_ondisk.specs.Trees.{Store, below, pointers_at, all_pointers}
+use Rattle.sn_layout.specs.Pointers.{levels_of}
+use Rattle.sn_layout.specs.declared.tree.BlockTree.{BlockTree}
+use Rattle.sn_ondisk.specs.Counts.{times}
+use Rattle.sn_ondisk.specs.Trees.{Store, below, pointers_at, all_pointers, tree_reach}
 use Rattle.sn_ondisk.proofs.TreeLemmas.{length-below}
-use Rattle.sn_tree.specs.Plans.{times}
 
 pub times-append : (block : ℕ) (xs ys : List ℕ) → times block (xs ++ ys) ≡ times block xs + times block ys
-times-append block xs ys = count-append (λ x. x == block) xs ys
+times-append block xs ys = sum_by-append (λ x. cond (x == block) 1 0) xs ys
 
 pub times-cons : (block x : ℕ) (xs : List ℕ) → times block (x ∷ xs) ≡ times block (x ∷ []) + times block xs
 times-cons block x xs = times-append block (x ∷ []) xs
@@ -108,30 +109,20 @@ times-down s block depth p = times-all_down s block depth (p ∷ []) ∙ ap (λ 
 pub pointers-down : (s : Store) (depth p : ℕ) → pointers_at s (suc depth) (p ∷ []) ≡ pointers_at s depth (below s p)
 pointers-down s depth p = pointers_at-down s depth (p ∷ []) ∙ ap (pointers_at s depth) (down-one s p)
 
--- ---- the block behind a pointer
+-- ---- what a tree reaches
 
-pub times-block_reach : (block p : ℕ) → block ≢ 0 → times block (block_reach p) ≡ times block (p ∷ [])
-times-block_reach block p some = either (p == 0) refl
+times-but_holes : (block : ℕ) (ps : List ℕ) → block ≢ 0 → times block (filter (λ pointer. not (pointer == 0)) ps) ≡ times block ps
+times-but_holes block [] some = refl
+times-but_holes block (p ∷ ps) some = either (times-but_holes block ps some) (p == 0) refl
   where
-    either : (b : Bool) → (p == 0) ≡ b → times block (if b then [] else p ∷ []) ≡ times block (p ∷ [])
-    either true is = let none : p ≢ block = (λ same. some (sym same ∙ eqb-true p 0 is)) in sym (times-other block p none)
-    either false is = refl
+    either : times block (filter (λ pointer. not (pointer == 0)) ps) ≡ times block ps → (b : Bool) → (p == 0) ≡ b
+        → times block (if not b then p ∷ filter (λ pointer. not (pointer == 0)) ps else filter (λ pointer. not (pointer == 0)) ps) ≡ times block (p ∷ ps)
+    either later true is = omega (arith, later, times-cons block p ps, times-other block p (λ same. some (sym same ∙ eqb-true p 0 is)))
+    either later false is = omega (arith, later, times-cons block p ps, times-cons block p (filter (λ pointer. not (pointer == 0)) ps))
 
--- ---- spans
+pub times-reach : (s : Store) (tree : BlockTree) (block : ℕ) → block ≢ 0 → times block (tree_reach s tree) ≡ times block (all_pointers s (levels_of tree.size) tree.pointers)
+unfolding tree_reach
+times-reach s tree block some = times-but_holes block (all_pointers s (levels_of tree.size) tree.pointers) some
 
-pub span_some : (depth : ℕ) → 0 < 1024 ^ depth
-span_some depth = one-le-pow depth 1024 (omega arith)
-
-pub span_most : (depth : ℕ) → depth ≤ 3 → 1024 ^ depth ≤ 1073741824
-span_most depth within = pow-le-pow_right (omega arith) within
-
-pub span_more : (depth above : ℕ) → depth ≤ above → 1024 ^ depth ≤ 1024 ^ above
-span_more depth above within = pow-le-pow_right (omega arith) within
-
-pub span_down : (depth : ℕ) → depth ≢ 0 → 1024 * 1024 ^ (depth - 1) ≡ 1024 ^ depth
-span_down zero some = absurd (some refl)
-span_down (suc depth) some = let here : suc depth - 1 ≡ depth = omega arith in ap (λ n. 1024 * 1024 ^ n) here ∙ sym (pow-succ' 1024 depth)
-
--- where the data blocks below an indirect block end
-pub indirect_end : (base up count : ℕ) → up ≢ 0 → count ≡ 1024 → base + count * 1024 ^ (up - 1) ≡ base + 1024 ^ up
-indirect_end base up count some all = ap (λ (n : ℕ). base + n * 1024 ^ (up - 1)) all ∙ ap (λ (n : ℕ). base + n) (span_down up some)
+pub named_counted : (block : ℕ) (blocks : List ℕ) → Contains blocks block ↔ 0 < times block blocks
+named_counted block blocks = (among_times block blocks, times_among block blocks)
