@@ -4,6 +4,7 @@ pub mod LayerLemmas
 pub mod MergeLemmas
 pub mod SortedLemmas
 pub mod OverlayLemmas
+pub mod ListLemmas
 pub mod NeedLemmas
 pub mod PutLemmas
 pub mod MergedLemmas

@@ -1,22 +1,24 @@
 -- The merge of two layers shows what both show.
-use Rattle.std.proofs.Common.{◌≡◌, ℕ, ◌+◌, ◌*◌, ◌<◌, ◌≤◌, Bool, true, false, cond, ◌||◌, leb, List, [], length, get_or, Option, Some, None, is_some, min, refl, sym, ap, subst, ◌∙◌, arith}
-use Rattle.std.specs.Option.{unwrap_or}
+use Rattle.std.proofs.Common.{◌≡◌, ℕ, ◌+◌, ◌*◌, ◌<◌, ◌≤◌, Bool, true, false, cond, ◌||◌, leb, List, [], length, get_or, Option, Some, None, is_some, min, refl, sym, ap, subst, ◌∙◌, ◌⊎◌, inl, inr, arith}
+use Rattle.std.specs.Option.{option_map, unwrap_or}
 use Rattle.std.specs.Cmp.{nat_cmp_total}
 use Rattle.std.specs.FinMap as map
 use Rattle.std.proofs.lemmas.Bool.{true≢false}
 use Rattle.std.proofs.lemmas.Bool.Decides.{nat_tests}
 use Rattle.std.proofs.lemmas.Map.Lookups.{exact_unsigned}
+use Rattle.sn_acl.specs.declared.entries.Entry.{Entry}
 use Rattle.sn_model.specs.declared.link.Link.{Link}
 use Rattle.sn_model.specs.Tree.{Node, Tree}
 use Rattle.sn_model.specs.Changes.{node_with}
 use Rattle.sn_model.proofs.LinkLemmas.{exact_links, links_total}
 use Rattle.sn_model.proofs.ChainLemmas.{some_same, some_none}
+use Rattle.sn_overlay.specs.declared.file_block.FileBlock.{FileBlock}
 use Rattle.sn_overlay.specs.declared.node.NodeChange.{NodeChange}
 use Rattle.sn_overlay.specs.declared.node.NodeChange.TheVariants.{Gone, Changed}
 use Rattle.sn_overlay.specs.declared.node.NodeState.{NodeState}
 use Rattle.sn_overlay.specs.Pieces.{zeros, piece, joined}
 use Rattle.sn_overlay.specs.Keys.{file_block_at}
-use Rattle.sn_overlay.specs.Layers.{Layer, IsLayer, Fits, through, hides_names, hides_block, block_seen, bytes_of, node_seen, name_seen}
+use Rattle.sn_overlay.specs.Layers.{Layer, IsLayer, Fits, through, hides_names, hides_block, block_seen, bytes_of, kind_of, acls_of, node_seen, name_seen}
 use Rattle.sn_overlay.specs.Merges.{merge, state_over}
 use Rattle.sn_overlay.proofs.PieceLemmas.{length-zeros, length-piece, joined_alike, piece-joined}
 use Rattle.sn_overlay.proofs.LayerLemmas.{get-through_nodes, get-through_links, get-merge_nodes, get-merge_names, get-merge_blocks, nodes_over, kept_under}
@@ -43,6 +45,45 @@ or_false false = refl
 first_part : (a b : Bool) → (a || b) ≡ false → a ≡ false
 first_part true b h = absurd (true≢false h)
 first_part false b h = refl
+
+second_part : (a b : Bool) → (a || b) ≡ false → b ≡ false
+second_part true b h = absurd (true≢false h)
+second_part false b h = h
+
+neither : (a b : Bool) → (a || b) ≡ false → (a ≡ false) × (b ≡ false)
+neither a b h = (first_part a b h, second_part a b h)
+
+told_some : {A B : Type 0} (f : A → B) (x : Option A) (y : B) → option_map f x ≡ Some y → is_some x ≡ true
+told_some f None y h = absurd (some_none _ _ refl (sym h))
+told_some f (Some x) y h = refl
+
+-- What a layer says of the node below, unless it says that the two may differ.
+record Tells {A : Type 0} (of_node : Node → A) (of_state : NodeState → A) (apart : NodeState → Bool) : Type 0 where
+  shown : (s : NodeState) (bytes : List ℕ) → of_node (node_with s.kind s.ownership bytes) ≡ of_state s
+  over : (o s : NodeState) → of_state (state_over o s) ≡ of_state s
+  parts : (o s : NodeState) → apart (state_over o s) ≡ false → (apart o ≡ false) × (apart s ≡ false)
+  old : (s : NodeState) → apart s ≡ false → s.fresh ≡ false
+
+tells_kinds : Tells kind_of (λ (s : NodeState). s.kind) (λ (s : NodeState). s.fresh)
+tells_kinds = record { shown = λ s bytes. refl; over = λ o s. refl; parts = λ o s h. neither o.fresh s.fresh h; old = λ s h. h }
+
+abbrev acls_told : NodeState → List Entry × Option (List Entry)
+acls_told s = (s.ownership.acl, s.ownership.default_acl)
+
+abbrev apart_acls : NodeState → Bool
+apart_acls s = s.fresh || s.acl_changed
+
+tells_acls : Tells acls_of acls_told apart_acls
+tells_acls = record {
+  shown = λ s bytes. refl;
+  over = λ o s. refl;
+  parts = λ o s h.
+      let both = neither (o.fresh || s.fresh) (o.acl_changed || s.acl_changed) h in
+      let fresh = neither o.fresh s.fresh both.0 in
+      let acl = neither o.acl_changed s.acl_changed both.1 in
+      (ap (λ b. b || o.acl_changed) fresh.0 ∙ acl.0, ap (λ b. b || s.acl_changed) fresh.1 ∙ acl.1);
+  old = λ s h. first_part s.fresh s.acl_changed h;
+}
 
 absent : {A : Type 0} (x : Option A) (b : Bool) → (is_some x ≡ true → b ≡ true) → b ≡ false → x ≡ None
 absent None b h e = refl
@@ -122,7 +163,7 @@ module _ (older newer : Layer) (ho : IsLayer older) (hn : IsLayer newer) where
   module _ (tree : Tree) (fo : Fits older tree) (fn : Fits newer (through older tree)) where
     -- what isn't made anew is seen below
     not_gone : (number : ℕ) (state : NodeState) (change : Option NodeChange) → map.get older.nodes number ≡ change → map.get newer.nodes number ≡ Some (Changed state) → state.fresh ≡ false → is_some (node_seen older number change (map.get tree.nodes number)) ≡ true
-    not_gone number state change e f g = ap (λ c. is_some (node_seen older number c (map.get tree.nodes number))) (sym e) ∙ ap is_some (sym (get-through_nodes older tree number)) ∙ fn.there number state f g
+    not_gone number state change e f g = ap (λ c. is_some (node_seen older number c (map.get tree.nodes number))) (sym e) ∙ ap is_some (sym (get-through_nodes older tree number)) ∙ told_some kind_of _ _ (fn.kinds number state f g)
 
     node_over : (number : ℕ) (old new : Option NodeChange) → map.get older.nodes number ≡ old → map.get newer.nodes number ≡ new
         → node_seen (merge older newer) number (nodes_over old new) (map.get tree.nodes number) ≡ node_seen newer number new (node_seen older number old (map.get tree.nodes number))
@@ -192,33 +233,36 @@ module _ (older newer : Layer) (ho : IsLayer older) (hn : IsLayer newer) where
         let links : (through (merge older newer) tree).links ≡ (through newer (through older tree)).links = map.same_map links_total exact_links _ _ merged_links in
         λ i. record { nodes = nodes i; links = links i }
 
-    there_over : (number : ℕ) (state : NodeState) (old new : Option NodeChange) → map.get older.nodes number ≡ old → map.get newer.nodes number ≡ new → nodes_over old new ≡ Some (Changed state) → state.fresh ≡ false → is_some (map.get tree.nodes number) ≡ true
-    there_over number state old None e f h g = fo.there number state (e ∙ h) g
-    there_over number state old (Some (Gone x)) e f h g = told old h
+    below_over : {A : Type 0} (of_node : Node → A) (of_state : NodeState → A) (apart : NodeState → Bool) → Tells of_node of_state apart → (number : ℕ)
+        → ((s : NodeState) → map.get older.nodes number ≡ Some (Changed s) → apart s ≡ false → option_map of_node (map.get tree.nodes number) ≡ Some (of_state s))
+        → ((s : NodeState) → map.get newer.nodes number ≡ Some (Changed s) → apart s ≡ false → option_map of_node (map.get (through older tree).nodes number) ≡ Some (of_state s))
+        → (state : NodeState) (old new : Option NodeChange) → map.get older.nodes number ≡ old → map.get newer.nodes number ≡ new → nodes_over old new ≡ Some (Changed state) → apart state ≡ false → option_map of_node (map.get tree.nodes number) ≡ Some (of_state state)
+    below_over {A} of_node of_state apart t number fits_older fits_newer state old None e f h g = fits_older state (e ∙ h) g
+    below_over {A} of_node of_state apart t number fits_older fits_newer state old (Some (Gone x)) e f h g = told old h
       where
-        told : (c : Option NodeChange) → nodes_over c (Some (Gone x)) ≡ Some (Changed state) → is_some (map.get tree.nodes number) ≡ true
+        told : (c : Option NodeChange) → nodes_over c (Some (Gone x)) ≡ Some (Changed state) → option_map of_node (map.get tree.nodes number) ≡ Some (of_state state)
         told None k = let never : Gone x ≡ Changed state = some_same _ _ k in cc
         told (Some (Gone y)) k = let never : Gone x ≡ Changed state = some_same _ _ k in cc
         told (Some (Changed s)) k = let never : Gone x ≡ Changed state = some_same _ _ k in cc
-    there_over number state None (Some (Changed s)) e f h g =
-        let same : Changed s ≡ Changed state = some_same _ _ h in
-        let one : s ≡ state = cc in
-        not_gone number s None e f (ap (λ (t : NodeState). t.fresh) one ∙ g)
-    there_over number state (Some (Gone x)) (Some (Changed s)) e f h g =
-        let same : Changed s ≡ Changed state = some_same _ _ h in
-        let one : s ≡ state = cc in
-        absurd (true≢false (sym (not_gone number s (Some (Gone x)) e f (ap (λ (t : NodeState). t.fresh) one ∙ g))))
-    there_over number state (Some (Changed o)) (Some (Changed s)) e f h g = told s.fresh refl
+    below_over {A} of_node of_state apart t number fits_older fits_newer state None (Some (Changed s)) e f h g =
+        ap (option_map of_node) (sym (get-through_nodes older tree number ∙ ap (λ c. node_seen older number c (map.get tree.nodes number)) e)) ∙ fits_newer state (f ∙ h) g
+    below_over {A} of_node of_state apart t number fits_older fits_newer state (Some (Gone x)) (Some (Changed s)) e f h g =
+        let none : None ≡ Some (of_state state) = ap (option_map of_node) (sym (get-through_nodes older tree number ∙ ap (λ c. node_seen older number c (map.get tree.nodes number)) e)) ∙ fits_newer state (f ∙ h) g in
+        absurd (some_none _ _ refl (sym none))
+    below_over {A} of_node of_state apart t number fits_older fits_newer state (Some (Changed o)) (Some (Changed s)) e f h g = told s.fresh refl
       where
-        told : (b : Bool) → s.fresh ≡ b → is_some (map.get tree.nodes number) ≡ true
+        told : (b : Bool) → s.fresh ≡ b → option_map of_node (map.get tree.nodes number) ≡ Some (of_state state)
         told true q =
             let same : Changed s ≡ Changed state = ap (λ b. cond b (Changed s) (Changed (state_over o s))) (sym q) ∙ some_same _ _ h in
             let one : s ≡ state = cc in
-            absurd (true≢false (sym q ∙ ap (λ (t : NodeState). t.fresh) one ∙ g))
+            absurd (true≢false (sym q ∙ t.old s (ap apart one ∙ g)))
         told false q =
             let same : Changed (state_over o s) ≡ Changed state = ap (λ b. cond b (Changed s) (Changed (state_over o s))) (sym q) ∙ some_same _ _ h in
             let one : state_over o s ≡ state = cc in
-            fo.there number o e (first_part o.fresh s.fresh (ap (λ (t : NodeState). t.fresh) one ∙ g))
+            let both = t.parts o s (ap apart one ∙ g) in
+            let seen : Some (of_node (node_with o.kind o.ownership (joined 4096 o.size (block_seen older number o (bytes_of (map.get tree.nodes number)))))) ≡ Some (of_state s) =
+            ap (option_map of_node) (sym (get-through_nodes older tree number ∙ ap (λ c. node_seen older number c (map.get tree.nodes number)) e)) ∙ fits_newer s f both.1 in
+            fits_older o e both.0 ∙ ap (λ a. Some a) (sym (t.shown o (joined 4096 o.size (block_seen older number o (bytes_of (map.get tree.nodes number)))))) ∙ seen ∙ ap (λ a. Some a) (sym (t.over o s) ∙ ap of_state one)
 
     abbrev AreZeros : Layer → ℕ → NodeState → List ℕ → ℕ → ℕ → Type 0
     AreZeros layer number state below index at = get_or (block_seen layer number state below index) at 0 ≡ 0
@@ -270,7 +314,8 @@ module _ (older newer : Layer) (ho : IsLayer older) (hn : IsLayer newer) where
 
     pub merge_fits : Fits (merge older newer) tree
     merge_fits = record {
-      there = λ n s e g. there_over n s (map.get older.nodes n) (map.get newer.nodes n) refl refl (sym (get-merge_nodes older newer n) ∙ e) g;
+      kinds = λ n s e g. below_over kind_of (λ (s : NodeState). s.kind) (λ (s : NodeState). s.fresh) tells_kinds n (fo.kinds n) (fn.kinds n) s (map.get older.nodes n) (map.get newer.nodes n) refl refl (sym (get-merge_nodes older newer n) ∙ e) g;
+      acls = λ n s e g k. below_over acls_of acls_told apart_acls tells_acls n (λ s e q. let both = neither s.fresh s.acl_changed q in fo.acls n s e both.0 both.1) (λ s e q. let both = neither s.fresh s.acl_changed q in fn.acls n s e both.0 both.1) s (map.get older.nodes n) (map.get newer.nodes n) refl refl (sym (get-merge_nodes older newer n) ∙ e) (ap (λ b. b || s.acl_changed) g ∙ k);
       zeros = λ n s index at e b k. zeros_over n s index at (map.get older.nodes n) (map.get newer.nodes n) refl refl (sym (get-merge_nodes older newer n) ∙ e) b k;
     }
 
@@ -305,10 +350,56 @@ module _ (older newer : Layer) (ho : IsLayer older) (hn : IsLayer newer) where
           let less : (state_over o s).cut ≤ (state_over o s).size = omega arith in
           subst (λ (t : NodeState). t.cut ≤ t.size) one less
 
+  size_over : (old : Option NodeChange) (s state : NodeState) → nodes_over old (Some (Changed s)) ≡ Some (Changed state) → s.size ≡ state.size
+  size_over None s state h =
+      let same : Changed s ≡ Changed state = some_same _ _ h in
+      let one : s ≡ state = cc in
+      ap (λ (t : NodeState). t.size) one
+  size_over (Some (Gone x)) s state h =
+      let same : Changed s ≡ Changed state = some_same _ _ h in
+      let one : s ≡ state = cc in
+      ap (λ (t : NodeState). t.size) one
+  size_over (Some (Changed o)) s state h = told s.fresh (some_same _ _ h)
+    where
+      told : (b : Bool) → cond b (Changed s) (Changed (state_over o s)) ≡ Changed state → s.size ≡ state.size
+      told true same =
+          let one : s ≡ state = cc in
+          ap (λ (t : NodeState). t.size) one
+      told false same =
+          let one : state_over o s ≡ state = cc in
+          ap (λ (t : NodeState). t.size) one
+
+  -- a block that a merge keeps is the newer one's, or one of the older one's that the newer one doesn't hide
+  kept_either : {X : Type 0} (x y : Option X) (hidden : Bool) → is_some (kept_under x hidden y) ≡ true → (is_some x ≡ true) ⊎ ((hidden ≡ false) × (is_some y ≡ true))
+  kept_either (Some x) y hidden h = inl refl
+  kept_either None y true h = absurd (true≢false (sym h))
+  kept_either None y false h = inr (refl, h)
+
+  begins_over : (file_block : FileBlock) (state : NodeState) (old new : Option NodeChange) → map.get older.nodes file_block.file ≡ old → map.get newer.nodes file_block.file ≡ new → nodes_over old new ≡ Some (Changed state)
+      → (is_some (map.get newer.blocks file_block) ≡ true) ⊎ ((hides_block new file_block.index ≡ false) × (is_some (map.get older.blocks file_block) ≡ true)) → file_block.index * 4096 < state.size
+  begins_over file_block state old None e f h (inl k) = absurd (true≢false (sym (hn.blocks file_block k) ∙ ap is_some f))
+  begins_over file_block state old None e f h (inr k) = ho.begins file_block state k.1 (e ∙ h)
+  begins_over file_block state old (Some (Gone x)) e f h (inl k) = told old h
+    where
+      told : (c : Option NodeChange) → nodes_over c (Some (Gone x)) ≡ Some (Changed state) → file_block.index * 4096 < state.size
+      told None q = let never : Gone x ≡ Changed state = some_same _ _ q in cc
+      told (Some (Gone y)) q = let never : Gone x ≡ Changed state = some_same _ _ q in cc
+      told (Some (Changed s)) q = let never : Gone x ≡ Changed state = some_same _ _ q in cc
+  begins_over file_block state old (Some (Gone x)) e f h (inr k) = absurd (true≢false k.0)
+  begins_over file_block state old (Some (Changed s)) e f h (inl k) = omega (arith, hn.begins file_block s k f, size_over old s state h)
+  begins_over file_block state old (Some (Changed s)) e f h (inr k) =
+      let visible : leb s.cut (file_block.index * 4096) ≡ false = second_part s.fresh (leb s.cut (file_block.index * 4096)) k.0 in
+      omega (arith, below_cut s.cut (file_block.index * 4096) visible, hn.cuts file_block.file s f, size_over old s state h)
+    where
+      below_cut : (cut at : ℕ) → leb cut at ≡ false → at < cut
+      below_cut cut at h = grind (arith, nat_tests)
+
   pub merge_is_layer : IsLayer (merge older newer)
   merge_is_layer = record {
     names = λ link h. ap is_some (get-merge_nodes older newer link.directory) ∙ kept_some (map.get newer.names link) (map.get older.names link) (map.get older.nodes link.directory) (map.get newer.nodes link.directory) (hides_names (map.get newer.nodes link.directory)) (hn.names link) (ho.names link) (ap is_some (sym (get-merge_names older newer link)) ∙ h);
     blocks = λ file_block h. ap is_some (get-merge_nodes older newer file_block.file) ∙ kept_some (map.get newer.blocks file_block) (map.get older.blocks file_block) (map.get older.nodes file_block.file) (map.get newer.nodes file_block.file) (hides_block (map.get newer.nodes file_block.file) file_block.index) (hn.blocks file_block) (ho.blocks file_block) (ap is_some (sym (get-merge_blocks older newer file_block)) ∙ h);
     lengths = λ file_block bytes e. kept_long (map.get newer.blocks file_block) (map.get older.blocks file_block) (hides_block (map.get newer.nodes file_block.file) file_block.index) bytes (hn.lengths file_block) (ho.lengths file_block) (sym (get-merge_blocks older newer file_block) ∙ e);
+    begins = λ file_block state h e. begins_over file_block state (map.get older.nodes file_block.file) (map.get newer.nodes file_block.file) refl refl (sym (get-merge_nodes older newer file_block.file) ∙ e)
+        (kept_either (map.get newer.blocks file_block) (map.get older.blocks file_block) (hides_block (map.get newer.nodes file_block.file) file_block.index) (ap is_some (sym (get-merge_blocks older newer file_block)) ∙ h));
     cuts = λ number state e. cut_over number state (map.get older.nodes number) (map.get newer.nodes number) refl refl (sym (get-merge_nodes older newer number) ∙ e);
   }

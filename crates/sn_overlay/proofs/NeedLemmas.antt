@@ -10,14 +10,20 @@ use native.Mathlib.Nat.{mul-add}
 use Rattle.std.proofs.lemmas.List.{length-map}
 use Rattle.std.proofs.lemmas.Map.Lookups.{CmpEqualImpliesEq, exact_unsigned}
 use Rattle.sn_limits.specs.declared.limits.Limits.{Limits}
+use Rattle.std.specs.Ordering.{nat_cmp}
 use Rattle.sn_model.specs.declared.link.Link.{Link}
+use Rattle.sn_model.specs.Tree.{link_cmp}
 use Rattle.sn_model.proofs.LinkLemmas.{exact_links, links_total}
 use Rattle.sn_model.proofs.EntryLemmas.{entries-retain}
 use Rattle.sn_overlay.specs.Overlaid.{overlaid, set_or_take}
 use Rattle.sn_overlay.specs.declared.file_block.FileBlock.{FileBlock}
+use Rattle.sn_overlay.specs.declared.node.NodeChange.{NodeChange}
+use Rattle.sn_overlay.specs.declared.node.NodeChange.TheVariants.{Gone}
+use Rattle.sn_overlay.specs.Keys.{file_block_cmp}
 use Rattle.sn_overlay.specs.Layers.{Layer, hides_names, hides_block}
 use Rattle.sn_overlay.specs.Merges.{merge, change_over}
-use Rattle.sn_overlay.specs.Needs.{levels, need, IsPaid}
+use Rattle.sn_overlay.specs.Needs.{levels, need, AreCharged, IsPaid}
+use Rattle.sn_overlay.specs.Overlays.{gone}
 use Rattle.sn_overlay.proofs.OverlaidLemmas.{exact_file_blocks, file_blocks_total}
 
 length-where_key : {K X : Type 0} (R : K → K → Ordering) (p : K → Bool) (es : List (K × X)) → length (where_key R p es) ≤ length es
@@ -87,3 +93,21 @@ paid i below between after more charged charge older newer both h p q k = omega 
 
 pub stays_paid : (limits : Limits) (older newer : Layer) (below between after more charged charge : ℕ) → IsPaid limits older below between charged → need limits newer + limits.inode_charge * more ≤ charge → after ≤ between + more → IsPaid limits (merge older newer) below after (charged + charge)
 stays_paid limits older newer below between after more charged charge p q k = paid limits.inode_charge below between after more charged charge (need limits older) (need limits newer) (need limits (merge older newer)) (needs_add limits older newer) p q k
+
+-- a layer of one node that goes
+need-gone : (limits : Limits) (number : ℕ) (by_close : Bool) → need limits (gone number by_close) ≤ (3 + levels limits) + 2
+need-gone limits number by_close =
+    let nodes : fin.len (gone number by_close).nodes ≤ 1 = omega (arith, len-set_or_take nat_cmp_total fin.empty number (Some (Gone by_close)), fin.len-empty nat_cmp NodeChange) in
+    at_most (levels limits) (fin.len (gone number by_close).nodes) (fin.len (gone number by_close).names + fin.len (gone number by_close).blocks) nodes
+    (omega (arith, fin.len-empty link_cmp (Option ℕ), fin.len-empty file_block_cmp (List ℕ)))
+  where
+    at_most : (l n m : ℕ) → n ≤ 1 → m ≡ 0 → (3 + l) * n + l * m + cond (eqb n 0) 0 2 ≤ (3 + l) + 2
+    at_most l n m h e = omega (arith, mul-le (3 + l) n (3 + l) 1 (omega arith) h, ap (λ (k : ℕ). l * k) e, two (eqb n 0))
+      where
+        two : (b : Bool) → cond b 0 2 ≤ 2
+        two true = omega arith
+        two false = omega arith
+
+pub drops_stay_paid : (limits : Limits) (older : Layer) (number : ℕ) (by_close : Bool) (below after charged : ℕ) → AreCharged limits → IsPaid limits older below (after + 1) charged → IsPaid limits (merge older (gone number by_close)) below after charged
+drops_stay_paid limits older number by_close below after charged figures paid =
+    omega (arith, needs_add limits older (gone number by_close), need-gone limits number by_close, figures.inodes, paid, mul-add limits.inode_charge after 1)

@@ -32,7 +32,7 @@ module _ {K X : Type 0} {R : K → K → Ordering} (o : IsTotalOrder R) where
   below_at x (e ∷ es) zero d h k = is_less (R x e.0) (and_parts (is_lt (R x e.0)) (below_all R x es) h).0
   below_at x (e ∷ es) (suc i) d h k = below_at x es i d (and_parts (is_lt (R x e.0)) (below_all R x es) h).1 (omega arith)
 
-  adjacent : (es : List (K × X)) (i : ℕ) (d : K × X) → is_sorted R es ≡ true → suc i < length es → R (get_or es i d).0 (get_or es (suc i) d).0 ≡ Less
+  pub adjacent : (es : List (K × X)) (i : ℕ) (d : K × X) → is_sorted R es ≡ true → suc i < length es → R (get_or es i d).0 (get_or es (suc i) d).0 ≡ Less
   adjacent [] i d h k = absurd (omega arith)
   adjacent (e ∷ es) zero d h k = below_at e.0 es 0 d (and_parts (below_all R e.0 es) (is_sorted R es) h).0 (omega arith)
   adjacent (e ∷ es) (suc i) d h k = adjacent es i d (and_parts (below_all R e.0 es) (is_sorted R es) h).1 (omega arith)
@@ -100,7 +100,7 @@ module _ {K : Type 0} (R : K → K → Ordering) where
   below-bytes x [] = refl
   below-bytes x (e ∷ es) = ap (λ b. is_lt (R x e.0) && b) (below-bytes x es)
 
-  sorted-bytes : (es : List (K × Box (List ℕ) Global)) → is_sorted R (bytes_by_file_block es) ≡ is_sorted R es
+  pub sorted-bytes : (es : List (K × Box (List ℕ) Global)) → is_sorted R (bytes_by_file_block es) ≡ is_sorted R es
   sorted-bytes [] = refl
   sorted-bytes (e ∷ es) = ap (λ b. b && is_sorted R (bytes_by_file_block es)) (below-bytes e.0 es) ∙ ap (λ b. below_all R e.0 es && b) (sorted-bytes es)
 

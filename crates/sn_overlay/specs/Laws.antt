@@ -1,5 +1,5 @@
 -- What follows from the definitions of layers.
-use Rattle.std.specs.Prelude.{◌≡◌, ℕ, ◌+◌, ◌*◌, ◌≤◌, Some}
+use Rattle.std.specs.Prelude.{◌≡◌, ℕ, ◌+◌, ◌*◌, ◌≤◌, Bool, Some}
 use Rattle.std.specs.FinMap as map
 use Rattle.sn_limits.specs.declared.limits.Limits.{Limits}
 use Rattle.sn_limits.specs.Versions.{limits_of}
@@ -8,6 +8,7 @@ use Rattle.sn_model.specs.declared.link.Link.{Link}
 use Rattle.sn_model.specs.Tree.{Tree}
 use Rattle.sn_overlay.specs.Layers.{Layer, IsLayer, Fits, through, node_seen, name_seen}
 use Rattle.sn_overlay.specs.Merges.{merge}
+use Rattle.sn_overlay.specs.Overlays.{gone}
 use Rattle.sn_overlay.specs.Seen.{CountsNames, LiesOver}
 use Rattle.sn_overlay.specs.Needs.{need, need_of, counts, counts_for, left_nameless, charge_for, AreCharged, IsPaid}
 
@@ -51,6 +52,10 @@ DropsArePaid = (limits : Limits) → AreCharged limits → need_of limits (count
 -- Where the older layer is paid and the newer one is, with what it leaves without names, the merge is.
 abbrev pub MergesStayPaid : Type 0
 MergesStayPaid = (limits : Limits) (older newer : Layer) (below between after more charged charge : ℕ) → IsPaid limits older below between charged → need limits newer + limits.inode_charge * more ≤ charge → after ≤ between + more → IsPaid limits (merge older newer) below after (charged + charge)
+
+-- A file without names that goes is paid by its own charge: nothing more is charged.
+abbrev pub DropsStayPaid : Type 0
+DropsStayPaid = (limits : Limits) (older : Layer) (number : ℕ) (by_close : Bool) (below after charged : ℕ) → AreCharged limits → IsPaid limits older below (after + 1) charged → IsPaid limits (merge older (gone number by_close)) below after charged
 
 -- A merge counts names where both layers do.
 abbrev pub MergesCount : Type 0

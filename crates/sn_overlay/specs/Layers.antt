@@ -1,8 +1,10 @@
 -- A layer: what changed of a tree, and the tree that is seen through it. What a layer has for a number, a name or a block stands before what is below.
 use Rattle.std.specs.Prelude.{◌≡◌, ℕ, ◌+◌, ◌*◌, ◌<◌, ◌≤◌, Bool, true, false, not, ◌||◌, nat_le, List, [], length, map, slice_index, Option, None, Some, is_some, if◌then◌else◌}
 use Rattle.std.specs.Ordering.{nat_cmp}
-use Rattle.std.specs.Option.{unwrap_or}
+use Rattle.std.specs.Option.{option_map, unwrap_or}
 use Rattle.std.specs.FinMap as map
+use Rattle.sn_acl.specs.declared.entries.Entry.{Entry}
+use Rattle.sn_limits.specs.declared.kind.Kind.{Kind}
 use Rattle.sn_model.specs.declared.link.Link.{Link}
 use Rattle.sn_model.specs.Tree.{Node, Tree, link_cmp}
 use Rattle.sn_model.specs.Changes.{node_with}
@@ -56,14 +58,23 @@ through layer tree = record {
   links = overlaid (map.entries layer.names) (map.retain_keys tree.links (λ link. not (hides_names (map.get layer.nodes link.directory))));
 }
 
--- A layer is whole: what it has of names and blocks belongs to numbers that it has, blocks have 4,096 bytes, and nothing is cut behind its end.
+-- A layer is whole: what it has of names and blocks belongs to numbers that it has, blocks have 4,096 bytes and begin before the end of their file, and nothing is cut behind its end.
 pub record IsLayer (layer : Layer) : Type 0 where
   pub names : (link : Link) → is_some (map.get layer.names link) ≡ true → is_some (map.get layer.nodes link.directory) ≡ true
   pub blocks : (file_block : FileBlock) → is_some (map.get layer.blocks file_block) ≡ true → is_some (map.get layer.nodes file_block.file) ≡ true
   pub lengths : (file_block : FileBlock) (bytes : List ℕ) → map.get layer.blocks file_block ≡ Some bytes → length bytes ≡ 4096
+  pub begins : (file_block : FileBlock) (state : NodeState) → is_some (map.get layer.blocks file_block) ≡ true → map.get layer.nodes file_block.file ≡ Some (Changed state) → file_block.index * 4096 < state.size
   pub cuts : (number : ℕ) (state : NodeState) → map.get layer.nodes number ≡ Some (Changed state) → state.cut ≤ state.size
 
--- It fits a tree below: what isn't made anew is there, and blocks are zeros past the end of their file.
+abbrev pub kind_of : Node → Kind
+kind_of node = node.kind
+
+-- the two ACLs of a node
+abbrev pub acls_of : Node → List Entry × Option (List Entry)
+acls_of node = (node.acl, node.default_acl)
+
+-- It fits a tree below: what isn't made anew is there and of that kind, with those ACLs unless it says that they may differ, and blocks are zeros past the end of their file.
 pub record Fits (layer : Layer) (tree : Tree) : Type 0 where
-  pub there : (number : ℕ) (state : NodeState) → map.get layer.nodes number ≡ Some (Changed state) → state.fresh ≡ false → is_some (map.get tree.nodes number) ≡ true
+  pub kinds : (number : ℕ) (state : NodeState) → map.get layer.nodes number ≡ Some (Changed state) → state.fresh ≡ false → option_map kind_of (map.get tree.nodes number) ≡ Some state.kind
+  pub acls : (number : ℕ) (state : NodeState) → map.get layer.nodes number ≡ Some (Changed state) → state.fresh ≡ false → state.acl_changed ≡ false → option_map acls_of (map.get tree.nodes number) ≡ Some (state.ownership.acl, state.ownership.default_acl)
   pub zeros : (number : ℕ) (state : NodeState) (index at : ℕ) → map.get layer.nodes number ≡ Some (Changed state) → at < 4096 → state.size ≤ index * 4096 + at → slice_index (block_seen layer number state (bytes_of (map.get tree.nodes number)) index) at ≡ 0

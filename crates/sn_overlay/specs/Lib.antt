@@ -5,6 +5,7 @@ pub mod Layers
 pub mod Merges
 pub mod Sorted
 pub mod Overlays
+pub mod Lists
 pub mod Needs
 pub mod Seen
 pub mod Laws

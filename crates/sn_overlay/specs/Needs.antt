@@ -1,5 +1,5 @@
 -- The blocks that a consistency point takes for a layer, at most, and what calls are charged for that.
-use Rattle.std.specs.Prelude.{◌≡◌, ℕ, ◌+◌, ◌-◌, ◌*◌, ◌/◌, ◌≤◌, ◌==◌, length, Option, None, Some, if◌then◌else◌}
+use Rattle.std.specs.Prelude.{◌≡◌, ℕ, ◌+◌, ◌-◌, ◌*◌, ◌/◌, ◌≤◌, ◌==◌, length, Option, None, Some, count_by, if◌then◌else◌}
 use Rattle.std.specs.FinMap as map
 use Rattle.sn_limits.specs.declared.limits.Limits.{Limits}
 use Rattle.sn_model.specs.declared.change.Change.{Change}
@@ -7,6 +7,7 @@ use Rattle.sn_model.specs.declared.change.Change.TheVariants.{Make, AddLink, Rem
 use Rattle.sn_model.specs.declared.link.Link.{Link}
 use Rattle.sn_model.specs.Tree.{Node, Tree, link_to}
 use Rattle.sn_model.specs.Changes.{is_file}
+use Rattle.sn_model.specs.Settling.{is_nameless}
 use Rattle.sn_overlay.specs.Layers.{Layer}
 use Rattle.sn_overlay.specs.Overlays.{Counts}
 
@@ -52,6 +53,10 @@ file_under tree link = counted (map.get tree.links link)
     counted : Option ℕ → ℕ
     counted None = 0
     counted (Some number) = is_one (map.get tree.nodes number)
+
+-- how many files of a tree have no name
+unfoldable pub nameless_in : Tree → ℕ
+nameless_in tree = count_by (λ (e : ℕ × Node). is_nameless tree e.0 (Some e.1)) (map.entries tree.nodes)
 
 -- how many more files a change may leave without names
 abbrev pub left_nameless : Tree → Change → ℕ

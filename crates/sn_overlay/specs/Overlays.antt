@@ -1,5 +1,5 @@
 -- What an overlay in memory holds, as a layer.
-use Rattle.std.specs.Prelude.{ℕ, ◌+◌, ◌≤◌, List, Option, vec_len, vec_capacity}
+use Rattle.std.specs.Prelude.{ℕ, ◌+◌, ◌≤◌, Bool, List, Option, vec_len, vec_capacity}
 use Rattle.std.specs.Ordering.{nat_cmp}
 use Rattle.std.specs.declared.boxed.Box.{Box}
 use Rattle.std.specs.Global.{Global}
@@ -8,6 +8,7 @@ use Rattle.sn_model.specs.declared.link.Link.{Link}
 use Rattle.sn_model.specs.Tree.{link_cmp}
 use Rattle.sn_overlay.specs.declared.file_block.FileBlock.{FileBlock}
 use Rattle.sn_overlay.specs.declared.node.NodeChange.{NodeChange}
+use Rattle.sn_overlay.specs.declared.node.NodeChange.TheVariants.{Gone}
 use Rattle.sn_overlay.specs.declared.overlay.Overlay.{Overlay}
 use Rattle.sn_overlay.specs.Keys.{file_block_cmp}
 use Rattle.sn_overlay.specs.Sorted.{bytes_by_file_block}
@@ -50,8 +51,16 @@ pub record TakesRoom (old new : Overlay) (taken : Counts) : Type 0 where
 abbrev pub sizes_of : Overlay → Counts
 sizes_of it = record { nodes = vec_len it.nodes.entries; names = vec_len it.names.entries; blocks = vec_len it.blocks.entries }
 
+-- and so many drops more
+abbrev pub and_drops : Counts → ℕ → Counts
+and_drops counts drops = record counts { nodes = counts.nodes + drops }
+
 abbrev pub with_node : Layer → ℕ → NodeChange → Layer
 with_node layer number change = record layer { nodes = insert layer.nodes number change }
+
+-- a node is gone, and nothing else changed
+abbrev pub gone : ℕ → Bool → Layer
+gone number by_close = with_node no_changes number (Gone by_close)
 
 abbrev pub with_name : Layer → Link → Option ℕ → Layer
 with_name layer link number = record layer { names = insert layer.names link number }

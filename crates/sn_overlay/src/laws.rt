@@ -1,4 +1,4 @@
-ghost use Rattle.sn_overlay.specs.Laws.{ChangesArePaid, DropsArePaid, LayersShowNames, LayersShowNodes, MergesAreLayers, MergesCount, MergesFit, MergesLie, MergesShowBoth, MergesStayPaid, NeedsAdd, TwoLevelsAreCharged, VersionsAreCharged};
+ghost use Rattle.sn_overlay.specs.Laws.{ChangesArePaid, DropsArePaid, DropsStayPaid, LayersShowNames, LayersShowNodes, MergesAreLayers, MergesCount, MergesFit, MergesLie, MergesShowBoth, MergesStayPaid, NeedsAdd, TwoLevelsAreCharged, VersionsAreCharged};
 
 /// At each number the tree that is seen through a layer has the layer's node, or none where the layer
 /// says so, or the node below.
@@ -56,6 +56,11 @@ pub fn drops_are_paid()
 /// A merge of layers that are paid is paid.
 pub fn merges_stay_paid()
     ensures { MergesStayPaid }
+{}
+
+/// A layer that drops a file without names stays paid: the file's own charge pays for that.
+pub fn drops_stay_paid()
+    ensures { DropsStayPaid }
 {}
 
 /// A merge says of each node that it has how many names the node has afterwards, where both layers do.

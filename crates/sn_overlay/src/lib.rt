@@ -16,9 +16,11 @@
 //! 5. `specs/Seen`: what is read of a tree below, and through a layer.
 //! 6. `specs/Laws`, each named by the contract of a function of `laws`: above all, that seeing a tree
 //!    through two layers is seeing it through their merge.
-//! 7. [`Overlay`], a layer in memory: three sorted maps in which room is made first, so that inserts and
-//!    [`Overlay::merge`] take no memory and can't fail.
-//! 8. [`Below`], the tree that an overlay lies over, and [`Through`], such a tree seen through an overlay.
+//! 7. `specs/Lists`: what a layer has of one directory and of one file, as lists in the order of keys.
+//! 8. [`Overlay`], a layer in memory: three sorted maps in which room is made first, so that inserts,
+//!    [`Overlay::drop_node`] and [`Overlay::merge`] take no memory and can't fail. What it has is handed
+//!    out by [`Overlay::nodes`], [`Overlay::names_of`] and [`Overlay::take_blocks`].
+//! 9. [`Below`], the tree that an overlay lies over, and [`Through`], such a tree seen through an overlay.
 //!
 //! ```text
 //! top.reserve_for(&newer)?;
@@ -31,6 +33,7 @@
 mod below;
 mod file_block;
 mod laws;
+mod lists;
 mod node;
 mod overlay;
 mod sorted;
@@ -39,9 +42,9 @@ mod through;
 pub use below::Below;
 pub use file_block::{BLOCK_SIZE, Block, FileBlock};
 pub use laws::{
-    changes_are_paid, drops_are_paid, layers_show_names, layers_show_nodes, merges_are_layers,
-    merges_count, merges_fit, merges_lie, merges_show_both, merges_stay_paid, needs_add,
-    two_levels_are_charged, versions_are_charged,
+    changes_are_paid, drops_are_paid, drops_stay_paid, layers_show_names, layers_show_nodes,
+    merges_are_layers, merges_count, merges_fit, merges_lie, merges_show_both, merges_stay_paid,
+    needs_add, two_levels_are_charged, versions_are_charged,
 };
 pub use node::{NodeChange, NodeState, SeenNode};
 pub use overlay::Overlay;

@@ -1,9 +1,11 @@
 //! What changed of a tree since a root.
-ghost use Rattle.std.specs.Prelude.{◌≡◌, IfOk, OnOk};
+ghost use Rattle.std.specs.Prelude.{◌≡◌, IfOk, OnOk, OnErr};
 ghost use Rattle.std.specs.Option.{option_copied};
 ghost use Rattle.std.specs.FinMap as map;
+ghost use Rattle.sn_overlay.specs.Lists.{changed_names, without_blocks, written_blocks};
 ghost use Rattle.sn_overlay.specs.Merges.{merge};
-ghost use Rattle.sn_overlay.specs.Overlays.{layer_of, no_changes, HasRoom, TakesRoom, sizes_of, with_node, with_name, with_block};
+ghost use Rattle.sn_overlay.specs.Overlays.{layer_of, no_changes, HasRoom, TakesRoom, sizes_of, and_drops, gone, with_node, with_name, with_block};
+ghost use Rattle.sn_overlay.specs.Sorted.{bytes_by_file_block};
 
 use crate::file_block::Block;
 use crate::sorted::SortedMap;
@@ -55,6 +57,36 @@ impl Overlay {
         }
     }
 
+    /// The nodes that changed, in the order of their numbers, each with what became of it.
+    pub fn nodes(&self) -> &[(u16, NodeChange)]
+        ensures { result.now ≡ map.entries (layer_of self.now).nodes }
+    {
+        &self.nodes.entries
+    }
+
+    /// The names of a directory that changed, in their order, each with its number now, or none.
+    pub fn names_of(&self, directory: u16) -> &[(Link, Option<u16>)]
+        ensures { result.now ≡ changed_names (layer_of self.now) directory }
+    {
+        self.names.names_of(directory)
+    }
+
+    /// Moves the blocks of a file that were written out, in their order; what else changed stays. Where
+    /// memory is refused, they stay too.
+    pub fn take_blocks(
+        &mut self,
+        alloc: Global,
+        file: u16,
+    ) -> Result<Vec<(FileBlock, Box<Block>)>, AllocError>
+        ensures taken { IfOk result (λ blocks. bytes_by_file_block blocks.items ≡ written_blocks (layer_of self.old) file) }
+        ensures left { OnOk result (layer_of self.new ≡ without_blocks (layer_of self.old) file) }
+        ensures same { OnErr result (layer_of self.new ≡ layer_of self.old) }
+        ensures room { TakesRoom self.old self.new (record { nodes = 0; names = 0; blocks = 0 }) }
+    {
+        let taken = self.blocks.take_blocks(alloc, file)?;
+        Ok(taken)
+    }
+
     /// Makes room for so many more nodes, names and blocks. Whatever the answer, nothing that it shows
     /// changes.
     pub fn reserve(&mut self, nodes: usize, names: usize, blocks: usize) -> Result<(), AllocError>
@@ -75,6 +107,17 @@ impl Overlay {
         ensures kept { TakesRoom self.old self.new (record { nodes = 0; names = 0; blocks = 0 }) }
     {
         self.reserve(newer.nodes.len(), newer.names.len(), newer.blocks.len())
+    }
+
+    /// Makes room for a newer overlay that is to be laid over this one, and then for so many drops.
+    /// Whatever the answer, nothing that it shows changes.
+    pub fn reserve_beside(&mut self, newer: &Overlay, drops: u16) -> Result<(), AllocError>
+        ensures same { layer_of self.new ≡ layer_of self.old }
+        ensures room { OnOk result (HasRoom self.new (and_drops (sizes_of newer.now) drops)) }
+        ensures kept { TakesRoom self.old self.new (record { nodes = 0; names = 0; blocks = 0 }) }
+    {
+        let nodes = newer.nodes.len() + usize::from(drops);
+        self.reserve(nodes, newer.names.len(), newer.blocks.len())
     }
 
     /// A copy. Where memory is refused, this one is as it was.
@@ -118,10 +161,22 @@ impl Overlay {
         self.blocks.insert(file_block, block);
     }
 
+    /// A node goes, with the names and blocks that it had. It takes no memory.
+    pub fn drop_node(&mut self, number: u16, by_close: bool)
+        requires { HasRoom self.old (record { nodes = 1; names = 0; blocks = 0 }) }
+        ensures layer { layer_of self.new ≡ merge (layer_of self.old) (gone number by_close) }
+        ensures taken { TakesRoom self.old self.new (record { nodes = 1; names = 0; blocks = 0 }) }
+    {
+        self.names.retain_others(number);
+        self.blocks.retain_others(number);
+        self.nodes.insert(number, NodeChange::Gone { by_close });
+    }
+
     /// Lays a newer overlay over this one, for which there is room. It takes no memory.
     pub fn merge(&mut self, newer: Overlay)
         requires { HasRoom self.old (sizes_of newer) }
-        ensures { layer_of self.new ≡ merge (layer_of self.old) (layer_of newer) }
+        ensures layer { layer_of self.new ≡ merge (layer_of self.old) (layer_of newer) }
+        ensures taken { TakesRoom self.old self.new (sizes_of newer) }
     {
         self.names.retain_seen(&newer.nodes);
         self.blocks.retain_seen(&newer.nodes);

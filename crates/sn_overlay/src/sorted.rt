@@ -77,7 +77,9 @@ impl<K: Ord + Drop, V: Drop> SortedMap<K, V> {
     /// Gives each of these keys its value.
     pub fn extend(&mut self, newer: SortedMap<K, V>)
         requires room { vec_len self.old.entries + vec_len newer.entries ≤ vec_capacity self.old.entries }
-        ensures { self.new.entries.items ≡ put_each K.cmp newer_value newer.entries.items self.old.entries.items }
+        ensures entries { self.new.entries.items ≡ put_each K.cmp newer_value newer.entries.items self.old.entries.items }
+        ensures len { vec_len self.new.entries ≤ vec_len self.old.entries + vec_len newer.entries }
+        ensures kept { vec_capacity self.old.entries ≤ vec_capacity self.new.entries }
     {
         for (key, value) in newer.entries {
             self.insert(key, value);
@@ -103,7 +105,9 @@ impl SortedMap<u16, NodeChange> {
     /// Lays newer changes of nodes over these.
     pub fn lay_over(&mut self, newer: SortedMap<u16, NodeChange>)
         requires room { vec_len self.old.entries + vec_len newer.entries ≤ vec_capacity self.old.entries }
-        ensures { self.new.entries.items ≡ put_each nat_cmp change_over newer.entries.items self.old.entries.items }
+        ensures entries { self.new.entries.items ≡ put_each nat_cmp change_over newer.entries.items self.old.entries.items }
+        ensures len { vec_len self.new.entries ≤ vec_len self.old.entries + vec_len newer.entries }
+        ensures kept { vec_capacity self.old.entries ≤ vec_capacity self.new.entries }
     {
         for (number, change) in newer.entries {
             let change = change.over(self.get(&number));
@@ -124,7 +128,7 @@ impl SortedMap<Link, Option<u16>> {
         Ok(SortedMap { entries })
     }
 
-    ghost use Rattle.std.specs.Prelude.{not};
+    ghost use Rattle.std.specs.Prelude.{not, ◌==◌};
     ghost use Rattle.std.specs.Ordering.{nat_cmp};
     ghost use Rattle.std.specs.FinMap.Entries.{where_key};
     ghost use Rattle.sn_model.specs.Tree.{link_cmp};
@@ -138,6 +142,15 @@ impl SortedMap<Link, Option<u16>> {
     {
         self.entries
             .retain(|entry| !hides_names(nodes.get(&entry.0.directory)));
+    }
+
+    /// Lets the names of a directory go.
+    pub fn retain_others(&mut self, directory: u16)
+        ensures entries { self.new.entries.items ≡ where_key link_cmp (λ link. not (link.directory == directory)) self.old.entries.items }
+        ensures len { vec_len self.new.entries ≤ vec_len self.old.entries }
+        ensures kept { vec_capacity self.new.entries ≡ vec_capacity self.old.entries }
+    {
+        self.entries.retain(|entry| entry.0.directory != directory);
     }
 }
 
@@ -162,7 +175,7 @@ impl SortedMap<FileBlock, Box<Block>> {
         Ok(SortedMap { entries })
     }
 
-    ghost use Rattle.std.specs.Prelude.{not};
+    ghost use Rattle.std.specs.Prelude.{not, ◌==◌};
     ghost use Rattle.std.specs.Ordering.{nat_cmp};
     ghost use Rattle.std.specs.FinMap.Entries.{where_key};
     ghost use Rattle.sn_overlay.specs.Keys.{file_block_cmp};
@@ -175,5 +188,14 @@ impl SortedMap<FileBlock, Box<Block>> {
         ensures kept { vec_capacity self.new.entries ≡ vec_capacity self.old.entries }
     {
         self.entries.retain(|entry| !hides_block(nodes.get(&entry.0.file), entry.0.index));
+    }
+
+    /// Lets the blocks of a file go.
+    pub fn retain_others(&mut self, file: u16)
+        ensures entries { self.new.entries.items ≡ where_key file_block_cmp (λ file_block. not (file_block.file == file)) self.old.entries.items }
+        ensures len { vec_len self.new.entries ≤ vec_len self.old.entries }
+        ensures kept { vec_capacity self.new.entries ≡ vec_capacity self.old.entries }
+    {
+        self.entries.retain(|entry| entry.0.file != file);
     }
 }

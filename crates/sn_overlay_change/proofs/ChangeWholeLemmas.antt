@@ -1,7 +1,8 @@
 -- The layer of each change is whole, and fits the tree that it changes.
-use Rattle.std.proofs.Common.{◌≡◌, ℕ, ◌+◌, ◌/◌, ◌%◌, ◌<◌, Bool, true, false, cond, List, length, Option, Some, None, is_some, refl, sym, ap, subst, inl, inr, arith}
+use Rattle.std.proofs.Common.{◌≡◌, ℕ, zero, suc, ◌+◌, ◌*◌, ◌/◌, ◌%◌, ◌<◌, Bool, true, false, cond, not, eqb, ltb, List, length, Option, Some, None, is_some, refl, sym, ap, subst, inl, inr, arith}
 use Rattle.std.specs.Prelude.{IsSomeAnd}
 use Rattle.std.specs.FinMap as map
+use Rattle.std.proofs.lemmas.Bool.{and_parts, true≢false}
 use Rattle.std.proofs.lemmas.Nat.{mod_below}
 use Rattle.sn_limits.specs.declared.kind.Kind.{Kind}
 use Rattle.sn_limits.specs.declared.kind.Kind.TheVariants.{Directory}
@@ -18,7 +19,7 @@ use Rattle.sn_model.proofs.LinkLemmas.{exact_links, links_total}
 use Rattle.sn_overlay.specs.declared.node.NodeChange.TheVariants.{Changed}
 use Rattle.sn_overlay.specs.Pieces.{piece}
 use Rattle.sn_overlay_change.specs.Blocks.{zeroed}
-use Rattle.sn_overlay.specs.Keys.{file_block_cmp, file_block_at}
+use Rattle.sn_overlay.specs.Keys.{file_block_at}
 use Rattle.sn_overlay.specs.Layers.{Layer, IsLayer, Fits}
 use Rattle.sn_overlay.specs.Overlays.{no_changes, with_node}
 use Rattle.sn_overlay_change.specs.ChangeLayers.{state_of, new_state, changing, touching, one_name_more, without_name, removing, with_ownership, make_layer, link_layer, remove_layer, ownership_layer, size_layer, cut_layer, size_state, cuts_block, with_tail, replacing, exchange_layer, renaming, rename_layer, writing, written_state, write_layer, layer_of_change}
@@ -28,7 +29,7 @@ use Rattle.sn_overlay.proofs.PieceLemmas.{length-piece}
 use Rattle.sn_overlay_change.proofs.ByteLemmas.{length-resized, length-zeroed}
 use Rattle.sn_overlay_change.proofs.SizeLemmas.{cut_block}
 use Rattle.sn_overlay_change.proofs.WriteLemmas.{nodes-with_blocks, names-with_blocks, written_block, length-new, writes_some}
-use Rattle.sn_overlay_change.proofs.WholeLemmas.{every_none, every_with, Has, has_with, has_changing, has_changed, has_without, AreIn, IsWhole, IsSoundLayer, sound_none, sound_with, sound_new, sound_changing, sound_touching, sound_without, KeepsBytes, whole_names, whole_file, blocks_written}
+use Rattle.sn_overlay_change.proofs.WholeLemmas.{every_none, every_with, IsBlockOf, no_blocks, Has, has_with, has_changing, has_changed, has_without, AreIn, IsWhole, IsSoundLayer, sound_none, sound_with, sound_new, sound_changing, sound_touching, sound_without, KeepsBytes, whole_names, whole_file, blocks_written}
 
 some_there : (o : Option Node) (node : Node) → o ≡ Some node → is_some o ≡ true
 some_there o node e = ap is_some e
@@ -71,7 +72,7 @@ make_whole limits tree after link number kind o e =
     (has_with parent number (Changed (new_state kind o)) link.directory (has_changed no_changes tree link.directory (λ state. state) (parent_there limits tree link number p.room)))
 
 keeps_more : KeepsBytes one_name_more
-keeps_more s = (refl, refl)
+keeps_more = record { size = λ s. refl; cut = λ s. refl; kind = λ s. refl; owned = λ s e. refl }
 
 link_whole : (limits : Limits) (tree after : Tree) (link : Link) (number : ℕ) → linked limits tree link number ≡ Some after → IsWhole (link_layer tree link number) tree
 link_whole limits tree after link number e =
@@ -91,7 +92,7 @@ remove_whole tree after link h e =
     (has_without parent tree p.number (map.get tree.nodes p.number) link.directory (has_changed no_changes tree link.directory (λ state. state) (held_there tree link p.number h p.named))))
 
 keeps_owned : (o : Ownership) → KeepsBytes (with_ownership o)
-keeps_owned o s = (refl, refl)
+keeps_owned o = record { size = λ s. refl; cut = λ s. refl; kind = λ s. refl; owned = λ s e. absurd (true≢false e) }
 
 ownership_whole : (tree : Tree) (number : ℕ) (o : Ownership) → IsWhole (ownership_layer tree number o) tree
 ownership_whole tree number o = unnamed (ownership_layer tree number o) tree (sound_changing no_changes tree number (with_ownership o) (keeps_owned o) (sound_none tree))
@@ -128,6 +129,18 @@ rename_whole limits tree after old new h e = subst (λ found. IsWhole (renaming 
     told (inr q) = subst (λ b. IsWhole (cond b no_changes (exchange_layer tree old new p.number)) tree) (sym q.0)
         (exchange_whole tree old new p.number (held_there tree old p.number h p.named) (some_there (map.get tree.nodes new.directory) (q.1).directory (directory_is tree new.directory (q.1).directory (q.1).parent).0))
 
+-- each block that bytes are written to begins before their end
+span_begins : (offset count index : ℕ) → 0 < count → index < offset / 4096 + spanned offset count → index * 4096 < offset + count
+span_begins offset count index some h = omega (arith, some, h)
+
+-- and the block in which a file is cut off before its end
+tail_begins : (bytes : List ℕ) (size : ℕ) → cuts_block bytes size ≡ true → size / 4096 * 4096 < size
+tail_begins bytes size h = inside (size % 4096) refl (and_parts (ltb size (length bytes)) (not (eqb (size % 4096) 0)) h).1
+  where
+    inside : (rest : ℕ) → size % 4096 ≡ rest → not (eqb rest 0) ≡ true → size / 4096 * 4096 < size
+    inside zero e k = absurd (true≢false (sym k))
+    inside (suc rest) e k = omega (arith, e)
+
 write_whole : (limits : Limits) (tree after : Tree) (number offset : ℕ) (bytes : List ℕ) → written limits tree number offset bytes ≡ Some after → IsWhole (write_layer tree number offset bytes) tree
 write_whole limits tree after number offset bytes e =
     let p = written_is limits tree number offset bytes after e in
@@ -143,8 +156,8 @@ write_whole limits tree after number offset bytes e =
         whole_file (writing tree number offset bytes (Some node)) tree number s node new
         (nodes-with_blocks bare number (piece 4096 new) (offset / 4096) (spanned offset (length bytes)))
         (names-with_blocks bare number (piece 4096 new) (offset / 4096) (spanned offset (length bytes)))
-        (blocks_written bare number (piece 4096 new) (offset / 4096) (spanned offset (length bytes)) (every_none file_block_cmp (λ file_block b. (file_block.file ≡ number) × (length b ≡ 4096))) (length-piece 4096 new))
-        there (omega arith) (length-new tree number offset bytes node some) (written_block tree number offset bytes node some)
+        (blocks_written bare number s.size (piece 4096 new) (offset / 4096) (spanned offset (length bytes)) (no_blocks number s.size) (length-piece 4096 new) (λ index k. omega (arith, span_begins offset (length bytes) index some k)))
+        there refl refl (omega arith) (length-new tree number offset bytes node some) (written_block tree number offset bytes node some)
 
 cut_whole : (limits : Limits) (tree after : Tree) (number size : ℕ) → cut limits tree number size ≡ Some after → IsWhole (size_layer tree number size) tree
 cut_whole limits tree after number size e =
@@ -155,13 +168,17 @@ cut_whole limits tree after number size e =
   where
     of_node : (node : Node) → map.get tree.nodes number ≡ Some node → (b : Bool) → cuts_block node.bytes size ≡ b → IsWhole (with_tail b (with_node no_changes number (Changed (size_state size (state_of tree number node)))) number size node.bytes) tree
     of_node node there false f =
-        whole_file _ tree number (size_state size (state_of tree number node)) node (resized node.bytes size) refl refl (every_none file_block_cmp (λ file_block b. (file_block.file ≡ number) × (length b ≡ 4096)))
-        there (omega arith) (length-resized node.bytes size) (cut_block tree number size node false f)
+        whole_file _ tree number (size_state size (state_of tree number node)) node (resized node.bytes size) refl refl (no_blocks number size)
+        there refl refl (omega arith) (length-resized node.bytes size) (cut_block tree number size node false f)
     of_node node there true f =
         whole_file _ tree number (size_state size (state_of tree number node)) node (resized node.bytes size) refl refl
-        (every_with file_blocks_total exact_file_blocks map.empty (λ file_block b. (file_block.file ≡ number) × (length b ≡ 4096)) (file_block_at number (size / 4096)) (zeroed (size % 4096) (piece 4096 node.bytes (size / 4096)))
-        (every_none file_block_cmp (λ file_block b. (file_block.file ≡ number) × (length b ≡ 4096))) (refl, length-zeroed (size % 4096) (piece 4096 node.bytes (size / 4096)) (length-piece 4096 node.bytes (size / 4096)) (omega (arith, mod_below size 4096 (omega arith)))))
-        there (omega arith) (length-resized node.bytes size) (cut_block tree number size node true f)
+        (every_with file_blocks_total exact_file_blocks map.empty (IsBlockOf number size) (file_block_at number (size / 4096)) (zeroed (size % 4096) (piece 4096 node.bytes (size / 4096)))
+        (no_blocks number size) (record {
+          file = refl;
+          long = length-zeroed (size % 4096) (piece 4096 node.bytes (size / 4096)) (length-piece 4096 node.bytes (size / 4096)) (omega (arith, mod_below size 4096 (omega arith)));
+          begins = tail_begins node.bytes size f;
+        }))
+        there refl refl (omega arith) (length-resized node.bytes size) (cut_block tree number size node true f)
 
 pub changes_are_whole : (limits : Limits) (change : Change) (tree after : Tree) → IsHierarchy tree → apply limits change tree ≡ Some after → IsLayer (layer_of_change tree change) × Fits (layer_of_change tree change) tree
 changes_are_whole limits (Make directory name number kind o) tree after h e = make_whole limits tree after (link_to directory name) number kind o e

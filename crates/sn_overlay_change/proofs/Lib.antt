@@ -9,5 +9,8 @@ pub mod WholeLemmas
 pub mod ChangeWholeLemmas
 pub mod CountLemmas
 pub mod NamesLemmas
+pub mod NamelessLemmas
+pub mod DropLemmas
+pub mod ChargeLemmas
 pub mod LiesLemmas
 pub mod ApplyLemmas

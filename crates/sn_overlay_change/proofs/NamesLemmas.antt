@@ -133,7 +133,7 @@ fewer tree link number e q = count_removed links_total exact_links (λ e. e.1 ==
 fewer_same : (tree : Tree) (link : Link) (number : ℕ) → map.get tree.links link ≡ Some number → names_for (take_link tree link) number + 1 ≡ names_for tree number
 fewer_same tree link number e = ap (λ (b : Bool). names_for (take_link tree link) number + cond b 1 0) (sym (eq-eqb number number refl)) ∙ fewer tree link number e number
 
-fewer_other : (tree : Tree) (link : Link) (number : ℕ) → map.get tree.links link ≡ Some number → (q : ℕ) → (number ≡ q → ⊥) → names_for (take_link tree link) q ≡ names_for tree q
+pub fewer_other : (tree : Tree) (link : Link) (number : ℕ) → map.get tree.links link ≡ Some number → (q : ℕ) → (number ≡ q → ⊥) → names_for (take_link tree link) q ≡ names_for tree q
 fewer_other tree link number e q apart = omega (arith, fewer tree link number e q, ap {B = ℕ} (λ (b : Bool). cond b 1 0) (false_from_ne_true (number == q) (λ t. apart (eqb-true number q t))))
 
 -- what loses a name, over directories that are touched
@@ -153,7 +153,7 @@ module _ (tree cleared : Tree) (link : Link) (number : ℕ) (node : Node) (there
   loss_others q none = same q ∙ fewer_other tree link number named q (apart_from (without_name tree number layer (map.get tree.nodes number)) number q
       (subst (λ found. Has (without_name tree number layer found) number) (sym there) (has_it layer number (lost (is_directory node.kind)))) none)
 
-unlinked_names : (tree : Tree) (link : Link) (number : ℕ) (node : Node) (after : Tree) → Unlinked tree link number node after → (q : ℕ) → names_for after q ≡ names_for (take_link tree link) q
+pub unlinked_names : (tree : Tree) (link : Link) (number : ℕ) (node : Node) (after : Tree) → Unlinked tree link number node after → (q : ℕ) → names_for after q ≡ names_for (take_link tree link) q
 unlinked_names tree link number node after (inl p) q = ap (λ (t : Tree). names_for t q) (sym p.gives)
 unlinked_names tree link number node after (inr p) q = ap (λ (t : Tree). names_for t q) (sym p.gives)
 
@@ -169,7 +169,7 @@ remove_counts tree after link h e =
     (loss_others tree after link p.number p.node p.there p.named same parent every))
 
 -- a rename: the name that is moved counts as before
-moved_names : (cleared : Tree) (old new : Link) (number : ℕ) → map.get cleared.links old ≡ Some number → map.get cleared.links new ≡ None → (q : ℕ) → names_for (put_link (take_link cleared old) new number) q ≡ names_for cleared q
+pub moved_names : (cleared : Tree) (old new : Link) (number : ℕ) → map.get cleared.links old ≡ Some number → map.get cleared.links new ≡ None → (q : ℕ) → names_for (put_link (take_link cleared old) new number) q ≡ names_for cleared q
 moved_names cleared old new number named absent q =
     count_inserted links_total exact_links (λ e. e.1 == q) (map.remove cleared.links old) new number
     (map.get-remove links_total cleared.links old new ∙ told (eq_by_cmp link_cmp new old))

@@ -1,19 +1,24 @@
 -- What follows from the definitions of the layers of changes.
-use Rattle.std.specs.Prelude.{◌≡◌, ℕ, ◌+◌, ◌-◌, ◌*◌, ◌<◌, ◌≤◌, ◌⊎◌, List, length, Some}
+use Rattle.std.specs.Prelude.{◌≡◌, ℕ, ◌+◌, ◌-◌, ◌*◌, ◌<◌, ◌≤◌, ◌⊎◌, Bool, true, List, length, Some}
+use Rattle.std.specs.FinMap as map
 use Rattle.sn_limits.specs.declared.kind.Kind.{Kind}
+use Rattle.sn_limits.specs.declared.kind.Kind.TheVariants.{File}
 use Rattle.sn_limits.specs.declared.limits.Limits.{Limits}
 use Rattle.sn_model.specs.declared.change.Change.{Change}
 use Rattle.sn_model.specs.declared.change.Ownership.{Ownership}
 use Rattle.sn_model.specs.declared.link.Link.{Link}
 use Rattle.sn_model.specs.Tree.{Tree}
-use Rattle.sn_model.specs.NameTree.{IsHierarchy}
-use Rattle.sn_model.specs.Changes.{made, linked, removed, renamed, written, owned, cut, resized, overwritten, apply}
+use Rattle.sn_model.specs.NameTree.{IsHierarchy, HasKind}
+use Rattle.sn_model.specs.Settling.{is_nameless}
+use Rattle.sn_model.specs.Changes.{made, linked, removed, renamed, written, owned, cut, resized, overwritten, take_node, apply}
 use Rattle.sn_overlay.specs.Pieces.{piece}
 use Rattle.sn_overlay_change.specs.Blocks.{zeroed, spliced, part_in}
+use Rattle.sn_overlay_change.specs.Charges.{AreChargedFor}
 use Rattle.sn_overlay.specs.Layers.{IsLayer, Fits, through}
 use Rattle.sn_overlay_change.specs.ChangeLayers.{make_layer, link_layer, remove_layer, rename_layer, write_layer, ownership_layer, size_layer, layer_of_change}
-use Rattle.sn_overlay.specs.Seen.{CountsNames}
-use Rattle.sn_overlay.specs.Needs.{need, need_of, counts_for}
+use Rattle.sn_overlay.specs.Seen.{CountsNames, LiesOver}
+use Rattle.sn_overlay.specs.Needs.{need, need_of, counts, counts_for, left_nameless, nameless_in}
+use Rattle.sn_overlay.specs.Overlays.{gone}
 
 -- Through the layer of a change, the tree is what the change makes of it.
 abbrev pub MakesShow : Type 0
@@ -51,6 +56,28 @@ ChangesNeed = (limits : Limits) (tree : Tree) (change : Change) → need limits 
 -- It counts names: each node that it has as many as the node has afterwards.
 abbrev pub ChangesCount : Type 0
 ChangesCount = (limits : Limits) (change : Change) (tree after : Tree) → IsHierarchy tree → apply limits change tree ≡ Some after → CountsNames (layer_of_change tree change) tree after
+
+-- A change leaves no more files without names than are counted for it.
+abbrev pub NamelessAreCounted : Type 0
+NamelessAreCounted = (limits : Limits) (change : Change) (tree after : Tree) → IsHierarchy tree → apply limits change tree ≡ Some after → nameless_in after ≤ nameless_in tree + left_nameless tree change
+
+-- Through the layer in which a file is gone, the tree is the one without its node; that layer lies over the tree, and needs what is counted for one node.
+abbrev pub DropsShow : Type 0
+DropsShow = (tree : Tree) (number : ℕ) (by_close : Bool) → IsHierarchy tree → HasKind tree number File → through (gone number by_close) tree ≡ take_node tree number
+
+abbrev pub DropsLie : Type 0
+DropsLie = (tree : Tree) (number : ℕ) (by_close : Bool) → IsHierarchy tree → HasKind tree number File → LiesOver (gone number by_close) tree
+
+abbrev pub DropsNeed : Type 0
+DropsNeed = (limits : Limits) (number : ℕ) (by_close : Bool) → need limits (gone number by_close) ≡ need_of limits (counts 1 0 0)
+
+-- A file without names that goes is one less of them.
+abbrev pub DropsAreCounted : Type 0
+DropsAreCounted = (tree : Tree) (number : ℕ) → is_nameless tree number (map.get tree.nodes number) ≡ true → nameless_in (take_node tree number) + 1 ≡ nameless_in tree
+
+-- Each outcome that a call may have is charged for its change.
+abbrev pub OutcomesAreCharged : Type 0
+OutcomesAreCharged = (limits : Limits) (tree : Tree) → AreChargedFor limits tree
 
 -- The block in which a file is cut off has zeros from there on; those before it, and all of a file that isn't made shorter, stay.
 abbrev pub CutsZero : Type 0

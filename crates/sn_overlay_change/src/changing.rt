@@ -3,11 +3,11 @@ ghost use Rattle.std.specs.Prelude.{◌≡◌, ◌+◌, ◌*◌, ◌/◌, ◌<�
 ghost use Rattle.sn_model.specs.Tree.{Tree, link_to};
 ghost use Rattle.sn_model.specs.Changes.{overwritten, apply};
 ghost use Rattle.sn_model.specs.NameTree.{IsHierarchy};
-ghost use Rattle.sn_overlay_change.specs.ChangeLayers.{make_layer, link_layer, remove_layer, rename_layer, exchange_layer, write_layer, with_blocks, size_layer, ownership_layer, layer_of_change};
+ghost use Rattle.sn_overlay_change.specs.ChangeLayers.{make_layer, link_layer, remove_layer, rename_layer, exchange_layer, replacing, touching, write_layer, with_blocks, size_layer, ownership_layer, layer_of_change};
 ghost use Rattle.sn_overlay_change.specs.Faults.{IfBelow};
 ghost use Rattle.sn_overlay.specs.Layers.{through, bytes_of};
 ghost use Rattle.sn_overlay.specs.Needs.{need, need_of, counts_for};
-ghost use Rattle.sn_overlay.specs.Overlays.{layer_of, HasRoom};
+ghost use Rattle.sn_overlay.specs.Overlays.{layer_of, no_changes, HasRoom, TakesRoom};
 ghost use Rattle.sn_overlay.specs.Pieces.{piece};
 ghost use Rattle.sn_overlay.specs.Seen.{seen_node, seen_block, LiesOver};
 ghost use Rattle.std.specs.FinMap as map;
@@ -111,6 +111,72 @@ fn own<B: Below>(
     Ok(overlay)
 }
 
+// A directory of which a name changes, as it is below.
+fn touch_below<B: Below>(
+    below: &mut B,
+    overlay: &mut Overlay,
+    number: u16,
+) -> Result<(), LayerFault<B::Fault>>
+    requires holds { B.holds below.old }
+    requires room { HasRoom overlay.old (record { nodes = 1; names = 0; blocks = 0 }) }
+    ensures kept { B.holds below.new }
+    ensures follows { B.follows below.old below.new }
+    ensures same { IsTrue B.is_told → B.shows below.new ≡ B.shows below.old }
+    ensures layer { IsTrue B.is_told → OnOk result (layer_of overlay.new ≡ touching (B.shows below.old) number (layer_of overlay.old)) }
+    ensures taken { TakesRoom overlay.old overlay.new (record { nodes = 1; names = 0; blocks = 0 }) }
+    ensures cause { IfBelow result (λ f. B.causes below.old below.new f) }
+{
+    let seen = node_of(below, number)?;
+    touch(overlay, number, seen);
+    Ok(())
+}
+
+// What has the new name of a rename loses it, if anything has it.
+fn replace_below<B: Below>(
+    below: &mut B,
+    overlay: &mut Overlay,
+    replaced: Option<u16>,
+) -> Result<(), LayerFault<B::Fault>>
+    requires holds { B.holds below.old }
+    requires room { HasRoom overlay.old (record { nodes = 1; names = 0; blocks = 0 }) }
+    ensures kept { B.holds below.new }
+    ensures follows { B.follows below.old below.new }
+    ensures same { IsTrue B.is_told → B.shows below.new ≡ B.shows below.old }
+    ensures layer { IsTrue B.is_told → OnOk result (layer_of overlay.new ≡ replacing (B.shows below.old) (layer_of overlay.old) replaced) }
+    ensures taken { TakesRoom overlay.old overlay.new (record { nodes = 1; names = 0; blocks = 0 }) }
+    ensures cause { IfBelow result (λ f. B.causes below.old below.new f) }
+{
+    let Some(number) = replaced else {
+        return Ok(());
+    };
+    let object = node_of(below, number)?;
+    lose_name(overlay, number, object);
+    Ok(())
+}
+
+// The nodes of which a rename changes the names, with room for both names.
+fn exchange_nodes<B: Below>(
+    alloc: Global,
+    below: &mut B,
+    old_directory: u16,
+    new_directory: u16,
+    replaced: Option<u16>,
+) -> Result<Overlay, LayerFault<B::Fault>>
+    requires { B.holds below.old }
+    ensures kept { B.holds below.new }
+    ensures follows { B.follows below.old below.new }
+    ensures same { IsTrue B.is_told → B.shows below.new ≡ B.shows below.old }
+    ensures layer { IsTrue B.is_told → IfOk result (λ o. layer_of o ≡ replacing (B.shows below.old) (touching (B.shows below.old) new_directory (touching (B.shows below.old) old_directory no_changes)) replaced) }
+    ensures room { IfOk result (λ o. HasRoom o (record { nodes = 0; names = 2; blocks = 0 })) }
+    ensures cause { IfBelow result (λ f. B.causes below.old below.new f) }
+{
+    let mut overlay = with_room(alloc, 3, 2, 0)?;
+    touch_below(below, &mut overlay, old_directory)?;
+    touch_below(below, &mut overlay, new_directory)?;
+    replace_below(below, &mut overlay, replaced)?;
+    Ok(overlay)
+}
+
 // What a rename leaves of the names: what had the new one loses it.
 fn exchange<B: Below>(
     alloc: Global,
@@ -127,15 +193,7 @@ fn exchange<B: Below>(
     ensures layer { IsTrue B.is_told → replaced ≡ map.get (B.shows below.old).links new → IfOk result (λ o. layer_of o ≡ exchange_layer (B.shows below.old) old new number) }
     ensures cause { IfBelow result (λ f. B.causes below.old below.new f) }
 {
-    let old_parent = node_of(below, old.directory)?;
-    let new_parent = node_of(below, new.directory)?;
-    let mut overlay = with_room(alloc, 3, 2, 0)?;
-    touch(&mut overlay, old.directory, old_parent);
-    touch(&mut overlay, new.directory, new_parent);
-    if let Some(replaced) = replaced {
-        let object = node_of(below, replaced)?;
-        lose_name(&mut overlay, replaced, object);
-    }
+    let mut overlay = exchange_nodes(alloc, below, old.directory, new.directory, replaced)?;
     overlay.set_name(old, None);
     overlay.set_name(new, Some(number));
     Ok(overlay)

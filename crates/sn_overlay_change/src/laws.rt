@@ -1,4 +1,4 @@
-ghost use Rattle.sn_overlay_change.specs.Laws.{AttributesShow, ChangesAreLayers, ChangesCount, ChangesNeed, ChangesShow, CutsKeep, CutsZero, LinksShow, MakesShow, RemovesShow, RenamesShow, SizesShow, WritesKeep, WritesShow, WritesSpan, WritesSplice};
+ghost use Rattle.sn_overlay_change.specs.Laws.{AttributesShow, ChangesAreLayers, ChangesCount, ChangesNeed, ChangesShow, CutsKeep, CutsZero, DropsAreCounted, DropsLie, DropsNeed, DropsShow, LinksShow, MakesShow, NamelessAreCounted, OutcomesAreCharged, RemovesShow, RenamesShow, SizesShow, WritesKeep, WritesShow, WritesSpan, WritesSplice};
 
 /// Through the layer of a make, the tree is the one with the new node under its name.
 pub fn makes_show()
@@ -54,6 +54,36 @@ pub fn changes_need()
 /// It says of each node that it has how many names the node has afterwards.
 pub fn changes_count()
     ensures { ChangesCount }
+{}
+
+/// A change leaves no more files without names than are counted for it.
+pub fn nameless_are_counted()
+    ensures { NamelessAreCounted }
+{}
+
+/// Each outcome that a call may have is charged for its change.
+pub fn outcomes_are_charged()
+    ensures { OutcomesAreCharged }
+{}
+
+/// Through the layer in which a file is gone, the tree is the one without its node.
+pub fn drops_show()
+    ensures { DropsShow }
+{}
+
+/// That layer lies over the tree.
+pub fn drops_lie()
+    ensures { DropsLie }
+{}
+
+/// It needs the blocks that are counted for one node.
+pub fn drops_need()
+    ensures { DropsNeed }
+{}
+
+/// A file without names that goes is one less of them.
+pub fn drops_are_counted()
+    ensures { DropsAreCounted }
 {}
 
 /// The block in which a file is cut off is the old one with zeros from there on.

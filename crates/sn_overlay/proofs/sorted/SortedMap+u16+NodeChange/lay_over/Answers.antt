@@ -24,10 +24,12 @@ loop-number-preserved c =
           ∙ c.loop-number.invariant.0,
       omega (arith, c.loop-number.invariant.1, c.insert.ensures.len, c.insert.ensures.kept),
       omega arith,
+      omega (arith, c.loop-number.invariant.3, c.insert.ensures.len),
+      omega (arith, c.loop-number.invariant.4, c.insert.ensures.kept),
     )
 
-pub returns : goal.returns
-returns c =
+pub returns-clause-entries : goal.returns-clause-entries
+returns-clause-entries c =
     let empty : into_iter_items c.loop-number.number-iterator ≡ [] = nothing_left _ (sym c.loop-number.invariant.2 ∙ c.in-None.ensures.steps.0) in
     sym (put_each-none nat_cmp change_over c.loop-number.self.entries.items)
     ∙ ap (λ es. put_each nat_cmp change_over es c.loop-number.self.entries.items) (sym empty)

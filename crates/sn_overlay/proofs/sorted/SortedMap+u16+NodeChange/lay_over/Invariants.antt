@@ -9,3 +9,5 @@ abbrev pub invariant-loop-number : goal.invariant-loop-number
 invariant-loop-number l = (put_each nat_cmp change_over (into_iter_items l.number-iterator) l.self.entries.items ≡ put_each nat_cmp change_over (into_iter_items l.initial.number-iterator) l.initial.self.entries.items)
     × (vec_len l.self.entries + into_iter_len l.number-iterator ≤ vec_capacity l.self.entries)
     × (into_iter_len l.number-iterator ≡ length (into_iter_items l.number-iterator))
+    × (vec_len l.self.entries + into_iter_len l.number-iterator ≤ vec_len l.initial.self.entries + into_iter_len l.initial.number-iterator)
+    × (vec_capacity l.initial.self.entries ≤ vec_capacity l.self.entries)

@@ -19,10 +19,12 @@ loop-key-preserved g c =
           ∙ c.loop-key.invariant.0,
       omega (arith, c.loop-key.invariant.1, c.insert.ensures.len, c.insert.ensures.kept),
       omega arith,
+      omega (arith, c.loop-key.invariant.3, c.insert.ensures.len),
+      omega (arith, c.loop-key.invariant.4, c.insert.ensures.kept),
     )
 
-pub returns : goal.returns
-returns g c =
+pub returns-clause-entries : goal.returns-clause-entries
+returns-clause-entries g c =
     let empty : into_iter_items c.loop-key.key-iterator ≡ [] = nothing_left _ (sym c.loop-key.invariant.2 ∙ c.in-None.ensures.steps.0) in
     sym (put_each-none g.K.Ord.cmp newer_value c.loop-key.self.entries.items)
     ∙ ap (λ es. put_each g.K.Ord.cmp newer_value es c.loop-key.self.entries.items) (sym empty)

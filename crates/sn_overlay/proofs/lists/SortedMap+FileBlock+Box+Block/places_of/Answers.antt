@@ -1,0 +1,15 @@
+use Rattle.std.proofs.Common.{◌≡◌, true, false, ltb, leb, rules}
+use Rattle.std.specs.List.Sorted.{IsPartitionPoint}
+use Rattle.std.proofs.lemmas.List.Sorted.{IsPartitionPoint-from_clause, IsPartitionedBy-leb, IsPartitionedBy-ltb}
+use Rattle.sn_overlay.proofs.ListLemmas.{span_found, rising-blocks}
+use Rattle.sn_overlay.proofs.lists.SortedMap+FileBlock+Box+Block.places_of.Goals as goal
+
+pub returns : goal.returns
+returns c =
+    let es = c.args.self.now.entries.items in
+    let rises = rising-blocks es c.args.self.now.sorted in
+    let low : IsPartitionPoint (λ e. ltb e.0.file c.args.file ≡ true) (λ e. ltb e.0.file c.args.file ≡ false) es c.partition_point-start.result =
+    IsPartitionPoint-from_clause (λ e. ltb e.0.file c.args.file) es _ (rw c.deref.ensures.value at c.partition_point-start.ensures.partitioned) (IsPartitionedBy-ltb (λ e. e.0.file) es c.args.file rises) (λ a r f called. search rules) in
+    let high : IsPartitionPoint (λ e. leb e.0.file c.args.file ≡ true) (λ e. leb e.0.file c.args.file ≡ false) es c.partition_point-end.result =
+    IsPartitionPoint-from_clause (λ e. leb e.0.file c.args.file) es _ (rw c.deref-2.ensures.value at c.partition_point-end.ensures.partitioned) (IsPartitionedBy-leb (λ e. e.0.file) es c.args.file rises) (λ a r f called. search rules) in
+    span_found (λ key. key.file) c.args.file es _ _ (rw c.deref.ensures.value at c.partition_point-start.ensures.bound) (rw c.deref-2.ensures.value at c.partition_point-end.ensures.bound) low high
