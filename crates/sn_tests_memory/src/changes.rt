@@ -106,14 +106,22 @@ fn fill(alloc: Global, trees: &mut Trees, step: Step<'_>) -> Result<()> {
     })
 }
 
-fn ask(trees: &Trees, step: Step<'_>, text: &mut String) -> Result<()> {
+// Sets an answer apart from the one before it.
+fn separate(text: &mut String) -> Result<()> {
     if !text.is_empty() {
         text.push(' ')?;
     }
+    Ok(())
+}
+
+fn ask(trees: &Trees, step: Step<'_>, text: &mut String) -> Result<()> {
+    separate(text)?;
     match step.part(0)? {
         "node" => trees.node(step.short(1)?, text),
         "name" => trees.name(step.short(1)?, step.part(2)?, text),
         "bytes" => ask_bytes(trees, step, text),
+        "nodes" => trees.nodes(text),
+        "names" => trees.names(step.short(1)?, text),
         other => bail!("no step: {other}"),
     }
 }
@@ -127,10 +135,17 @@ fn ask_bytes(trees: &Trees, step: Step<'_>, text: &mut String) -> Result<()> {
     trees.bytes(file_block, usize::from(from), usize::from(count), text)
 }
 
+fn take_blocks(trees: &mut Trees, step: Step<'_>, text: &mut String) -> Result<()> {
+    separate(text)?;
+    trees.take_blocks(step.short(1)?, text)
+}
+
 fn take(alloc: Global, trees: &mut Trees, step: Step<'_>, text: &mut String) -> Result<()> {
     match step.part(0)? {
         "settle" => return trees.settle(),
         "fill" => return fill(alloc, trees, step),
+        "drop" => return trees.drop_node(step.short(1)?),
+        "take" => return take_blocks(trees, step, text),
         _ => {}
     }
     if let Some(change) = naming(step)? {

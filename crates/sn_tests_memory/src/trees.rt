@@ -49,9 +49,44 @@ impl Trees {
     /// Lays a copy of the newer overlay over the older one, and begins a newer one.
     pub fn settle(&mut self) -> Result<()> {
         let newer = self.top.copy(self.alloc)?;
-        self.bottom.reserve_for(&newer)?;
+        self.bottom.reserve_beside(&newer, 1)?;
         self.bottom.merge(newer);
         self.top = Overlay::new(self.alloc);
+        Ok(())
+    }
+
+    /// Drops a node from what is seen.
+    pub fn drop_node(&mut self, number: u16) -> Result<()> {
+        self.top.reserve(1, 0, 0)?;
+        self.top.drop_node(number, true);
+        Ok(())
+    }
+
+    /// The numbers of the nodes that the newer overlay has, each with a `;`.
+    pub fn nodes(&self, text: &mut String) -> Result<()> {
+        for (number, _) in self.top.nodes() {
+            write!(text, "{number};")?;
+        }
+        Ok(())
+    }
+
+    /// The names of a directory that it has, each as `name=number;`, where a name that is gone has 0.
+    pub fn names(&self, directory: u16, text: &mut String) -> Result<()> {
+        for (link, number) in self.top.names_of(directory) {
+            for byte in link.name.as_bytes() {
+                text.push(character_of(*byte))?;
+            }
+            write!(text, "={};", number.unwrap_or(0))?;
+        }
+        Ok(())
+    }
+
+    /// The indices of the blocks of a file that it had, each with its first byte, as `index=byte;`. They
+    /// are taken out.
+    pub fn take_blocks(&mut self, file: u16, text: &mut String) -> Result<()> {
+        for (file_block, block) in self.top.take_blocks(self.alloc, file)? {
+            write!(text, "{}={};", file_block.index, character_of(block[0]))?;
+        }
         Ok(())
     }
 
