@@ -59,6 +59,7 @@ impl<'a> Model for Reader<'a> {
 }
 
 impl<'a> Reader<'a> {
+    /// Reads these bytes, from the first on.
     pub fn new(bytes: &'a [u8]) -> Self
         ensures { result ≡ bytes.now }
     {
@@ -92,6 +93,7 @@ impl<'a> Reader<'a> {
         front
     }
 
+    /// The next byte.
     pub fn u8(&mut self) -> u8
         requires { 1 ≤ length self.old }
         ensures read { self.old ≡ result ∷ self.new }
@@ -102,6 +104,7 @@ impl<'a> Reader<'a> {
         front[0]
     }
 
+    /// The number that the next two bytes spell, the low byte first.
     pub fn u16(&mut self) -> u16
         requires { 2 ≤ length self.old }
         ensures read { self.old ≡ number_bytes 2 result ++ self.new }
@@ -111,6 +114,7 @@ impl<'a> Reader<'a> {
         u16_of(self.bytes(2))
     }
 
+    /// The number that the next four bytes spell, the low byte first.
     pub fn u32(&mut self) -> u32
         requires { 4 ≤ length self.old }
         ensures read { self.old ≡ number_bytes 4 result ++ self.new }
@@ -120,6 +124,7 @@ impl<'a> Reader<'a> {
         u32_of(self.bytes(4))
     }
 
+    /// The number that the next eight bytes spell, the low byte first.
     pub fn u64(&mut self) -> u64
         requires { 8 ≤ length self.old }
         ensures read { self.old ≡ number_bytes 8 result ++ self.new }
@@ -162,6 +167,7 @@ impl<'a> Reader<'a> {
         }
     }
 
+    /// The next byte; `None` behind the last.
     pub fn try_u8(&mut self) -> Option<u8>
         ensures found { IfSome result (λ number. self.old ≡ number ∷ self.new) }
         ensures only { (number : ℕ) (rest : List ℕ) → self.old ≡ number ∷ rest → (result ≡ Some number) × (self.new ≡ rest) }
@@ -175,6 +181,7 @@ impl<'a> Reader<'a> {
         Some(self.u8())
     }
 
+    /// The number that the next two bytes spell, the low byte first; `None` where fewer are left.
     pub fn try_u16(&mut self) -> Option<u16>
         ensures found { IfSome result (λ number. self.old ≡ number_bytes 2 number ++ self.new) }
         ensures only { (number : ℕ) (rest : List ℕ) → number < 256 ^ 2 → self.old ≡ number_bytes 2 number ++ rest → (result ≡ Some number) × (self.new ≡ rest) }
@@ -188,6 +195,7 @@ impl<'a> Reader<'a> {
         Some(self.u16())
     }
 
+    /// The number that the next eight bytes spell, the low byte first; `None` where fewer are left.
     pub fn try_u64(&mut self) -> Option<u64>
         ensures found { IfSome result (λ number. self.old ≡ number_bytes 8 number ++ self.new) }
         ensures only { (number : ℕ) (rest : List ℕ) → number < 256 ^ 8 → self.old ≡ number_bytes 8 number ++ rest → (result ≡ Some number) × (self.new ≡ rest) }

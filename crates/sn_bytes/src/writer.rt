@@ -4,6 +4,7 @@ ghost use Rattle.sn_bytes.specs.Bytes.{number_bytes, numbers_bytes, zeros, Puts}
 
 use byteorder::{ByteOrder, LittleEndian};
 
+/// Puts bytes as they are.
 pub fn put_bytes(block: &mut [u8], at: usize, bytes: &[u8]) -> usize
     requires { at + length bytes.now ≤ length block.old }
     ensures { Puts block.old block.new at result bytes.now }
@@ -13,6 +14,7 @@ pub fn put_bytes(block: &mut [u8], at: usize, bytes: &[u8]) -> usize
     next
 }
 
+/// Puts one byte.
 pub fn put_u8(block: &mut [u8], at: usize, number: u8) -> usize
     requires { at + 1 ≤ length block.old }
     ensures { Puts block.old block.new at result (number ∷ []) }
@@ -21,6 +23,7 @@ pub fn put_u8(block: &mut [u8], at: usize, number: u8) -> usize
     at + 1
 }
 
+/// Puts a number as two bytes, the low one first.
 pub fn put_u16(block: &mut [u8], at: usize, number: u16) -> usize
     requires { at + 2 ≤ length block.old }
     ensures bytes { Puts block.old block.new at result (number_bytes 2 number) }
@@ -30,6 +33,7 @@ pub fn put_u16(block: &mut [u8], at: usize, number: u16) -> usize
     at + 2
 }
 
+/// Puts a number as four bytes, the low one first.
 pub fn put_u32(block: &mut [u8], at: usize, number: u32) -> usize
     requires { at + 4 ≤ length block.old }
     ensures bytes { Puts block.old block.new at result (number_bytes 4 number) }
@@ -39,6 +43,7 @@ pub fn put_u32(block: &mut [u8], at: usize, number: u32) -> usize
     at + 4
 }
 
+/// Puts a number as eight bytes, the low one first.
 pub fn put_u64(block: &mut [u8], at: usize, number: u64) -> usize
     requires { at + 8 ≤ length block.old }
     ensures bytes { Puts block.old block.new at result (number_bytes 8 number) }
@@ -54,6 +59,7 @@ fn fill_zeros(part: &mut [u8])
     part.fill(0);
 }
 
+/// Puts so many zeros.
 pub fn put_zeros(block: &mut [u8], at: usize, count: usize) -> usize
     requires { at + count ≤ length block.old }
     ensures bytes { Puts block.old block.new at result (zeros count) }
@@ -65,6 +71,7 @@ pub fn put_zeros(block: &mut [u8], at: usize, count: usize) -> usize
     next
 }
 
+/// Puts numbers one behind the other, each as four bytes, the low one first.
 pub fn put_u32s(block: &mut [u8], at: usize, numbers: &[u32]) -> usize
     requires { at + 4 * length numbers.now ≤ length block.old }
     ensures bytes { Puts block.old block.new at result (numbers_bytes 4 numbers.now) }

@@ -26,6 +26,7 @@ pub(crate) struct OpenFiles {
 impl OpenFiles {
     ghost use Rattle.sn_desc.specs.OpenFiles.{files_of, room_of, released_file};
 
+    /// Nothing is open. The memory for all counts is taken here.
     pub fn new(alloc: Global) -> Result<OpenFiles, AllocError>
         ensures files { IfOk result (λ f. files_of f ≡ replicate 4096 None) }
     {
@@ -35,6 +36,7 @@ impl OpenFiles {
         })
     }
 
+    /// The file that is open at a place; `None` also behind the last place.
     pub fn get(&self, place: usize) -> Option<&OpenFile>
         ensures { option_copied result ≡ slice_index_or (files_of self.now) place None }
     {
@@ -91,6 +93,7 @@ impl OpenFiles {
         self.released(&file)
     }
 
+    /// Moves the offset of what is open at a place, if anything is.
     pub fn set_offset(&mut self, place: usize, offset: u64)
         ensures files { files_of self.new ≡ slice_set (files_of self.old) place (option_map (with_offset offset) (slice_index_or (files_of self.old) place None)) }
         ensures room { room_of self.new ≡ room_of self.old }

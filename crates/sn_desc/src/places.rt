@@ -37,6 +37,7 @@ impl Places {
         }
     }
 
+    /// The file that is open at a place; `None` also behind the last place.
     pub fn get(&self, place: usize) -> Option<&OpenFile>
         ensures { option_copied result ≡ slice_index_or (files_at self.now) place None }
     {

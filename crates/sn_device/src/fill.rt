@@ -29,7 +29,7 @@ pub enum Fill {
 // The random words that a sector may take.
 const WORDS_PER_SECTOR: u64 = 129;
 
-// What a seed leaves in a sector, in which the one was there at the last sync and the other is now.
+/// What a seed leaves in a sector, in which the one was there at the last sync and the other is now.
 pub fn drawn(seed: u64, at: u64, before: Sector, after: Sector) -> Sector
     ensures filled { result ≡ drawn seed at before after }
     ensures whole { IsSector result }

@@ -14,6 +14,7 @@ impl Blocks {
     ghost use Rattle.sn_file_bytes.specs.Blocks.{cut_at, over, values_from};
     ghost use Rattle.sn_file_bytes.specs.Bytes.{byte_of, has_block};
 
+    /// Zeros everywhere. It takes no memory.
     pub fn new(alloc: Global) -> Blocks
         ensures { (k : ℕ) → byte_of result k ≡ 0 }
     {

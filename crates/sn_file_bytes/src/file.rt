@@ -37,6 +37,7 @@ impl FileBytes {
         }
     }
 
+    /// How many bytes the file has, holes counted.
     pub fn size(&self) -> u64
         ensures { result ≡ length self.now }
     {

@@ -15,6 +15,7 @@ pub struct Block {
 }
 
 impl Block {
+    /// Holds no block yet.
     pub fn new() -> Self
         ensures { result.number ≡ None }
     {
@@ -24,6 +25,7 @@ impl Block {
         }
     }
 
+    /// Whether it holds the block with this number.
     pub fn is(&self, number: u64) -> bool
         ensures { IsTrue result ↔ (self.now.number ≡ Some number) }
     {

@@ -17,6 +17,7 @@ pub struct Gathered {
 }
 
 impl Gathered {
+    /// Nothing is gathered. The memory for all that may be is taken here.
     pub fn new(alloc: Global) -> Result<Self, AllocError>
         ensures { IfOk result (λ g. g.bytes.items ≡ []) }
     {
@@ -26,6 +27,7 @@ impl Gathered {
         })
     }
 
+    /// Whether nothing is gathered.
     pub fn is_empty(&self) -> bool
         ensures { IsTrue result ↔ (self.now.bytes.items ≡ []) }
     {
@@ -76,6 +78,7 @@ impl Gathered {
         self.first * SECTOR_SIZE as u64
     }
 
+    /// Forgets what was gathered.
     pub fn clear(&mut self)
         ensures first { self.new.first ≡ self.old.first }
         ensures bytes { self.new.bytes.items ≡ [] }

@@ -34,6 +34,7 @@ pub enum Slot {
 impl Slot {
     ghost use Rattle.sn_layout.specs.Places.{other_slot};
 
+    /// The slot that this one isn't.
     pub fn other(self) -> Self
         ensures { result ≡ other_slot self }
     {

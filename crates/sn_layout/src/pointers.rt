@@ -37,6 +37,7 @@ fn fitting(numbers: &[u32]) -> &[u32]
 }
 
 impl Pointers {
+    /// The sixteen pointers of an inode or a root, as block numbers; 0 is a hole.
     pub fn new(numbers: &[u32; POINTERS]) -> Self
         ensures { result ≡ numbers.now }
     {
@@ -44,6 +45,7 @@ impl Pointers {
         Pointers { numbers: *numbers }
     }
 
+    /// All sixteen, in their order.
     pub fn as_slice(&self) -> &[u32]
         ensures value { result.now ≡ self.now }
         ensures fits { ArePointers self.now }
@@ -51,6 +53,7 @@ impl Pointers {
         &self.numbers
     }
 
+    /// The pointer at an index; 0 is a hole.
     pub fn get(&self, index: usize) -> u32
         requires { index < 16 }
         ensures { result ≡ slice_index self.now index }
@@ -58,6 +61,7 @@ impl Pointers {
         self.numbers[index]
     }
 
+    /// Puts a pointer in place of the one at an index.
     pub fn set(&mut self, index: usize, pointer: u32)
         requires { index < 16 }
         ensures { self.new ≡ slice_set self.old index pointer }

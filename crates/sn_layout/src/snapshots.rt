@@ -35,6 +35,7 @@ impl Model for Snapshots {
 }
 
 impl Snapshots {
+    /// No snapshot. The list has its room in itself, so it takes no memory.
     pub fn new() -> Self
         ensures { result ≡ [] }
     {
@@ -43,6 +44,7 @@ impl Snapshots {
         }
     }
 
+    /// The snapshots, in the order in which the root body has them.
     pub fn as_slice(&self) -> &[Snapshot]
         ensures value { result.now ≡ self.now }
         ensures room { length self.now ≤ 31 }
@@ -50,6 +52,7 @@ impl Snapshots {
         self.list.as_slice()
     }
 
+    /// Puts a snapshot behind the others.
     pub fn push(&mut self, snapshot: Snapshot)
         requires { length self.old < 31 }
         ensures { self.new ≡ self.old ++ snapshot ∷ [] }

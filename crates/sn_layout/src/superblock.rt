@@ -21,6 +21,7 @@ impl Superblock {
     ghost use Rattle.sn_layout.specs.Places.{IsDiskSize};
     ghost use Rattle.sn_layout.specs.declared.superblock.Superblock.{Superblock as TheSuperblock};
 
+    /// Makes the block the spelling of this superblock: all its 4,096 bytes are written.
     pub fn encode(&self, block: &mut Block)
         ensures { block.new ≡ superblock_bytes self.now }
     {

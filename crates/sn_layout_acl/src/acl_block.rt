@@ -158,6 +158,7 @@ impl NamedEntries {
         }
     }
 
+    /// The entries, in canonical order.
     pub fn as_slice(&self) -> &[Entry]
         ensures value { result.now ≡ self.now }
         ensures valid { IsNamedPart self.now }
@@ -177,6 +178,7 @@ pub struct AclParts {
 }
 
 impl AclParts {
+    /// Parts an access ACL into what an inode keeps: its three object entries, and the named ones with the mask.
     pub fn of(acl: &Acl) -> Self
         ensures { acl.now ≡ joined result.objects result.access }
     {

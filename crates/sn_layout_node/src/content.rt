@@ -45,6 +45,7 @@ fn kept(bytes: &[u8]) -> ArrayVec<u8, INLINE_MAX>
 }
 
 impl InlineBytes {
+    /// Keeps at most 64 bytes.
     pub fn new(bytes: &[u8]) -> Self
         requires { length bytes.now ≤ 64 }
         ensures { result ≡ bytes.now }
@@ -52,6 +53,7 @@ impl InlineBytes {
         InlineBytes { bytes: kept(bytes) }
     }
 
+    /// The bytes of the file.
     pub fn as_slice(&self) -> &[u8]
         ensures value { result.now ≡ self.now }
         ensures room { length self.now ≤ 64 }

@@ -225,6 +225,7 @@ impl<'a> DirectoryBlock<'a> {
         count_of(self.links)
     }
 
+    /// Whether no name is in it.
     pub fn is_empty(&self) -> bool
         ensures { result ≡ (length self.now == 0) }
     {

@@ -34,6 +34,7 @@ impl<'a> IndirectBlock<'a> {
         IndirectBlock { bytes }
     }
 
+    /// The 1,024 pointers that a block spells, read where it lies: each block spells some.
     pub fn decode(block: &'a Block) -> Self
         ensures read { block.now ≡ pointers_bytes result }
         ensures fits { ArePointers result }
@@ -42,6 +43,7 @@ impl<'a> IndirectBlock<'a> {
         IndirectBlock::over(block)
     }
 
+    /// The pointer at an index; 0 is a hole.
     pub fn pointer(&self, index: usize) -> u32
         requires { index < 1024 }
         ensures { result ≡ slice_index self.now index }
@@ -51,6 +53,7 @@ impl<'a> IndirectBlock<'a> {
         LittleEndian::read_u32(&bytes[at..at + 4])
     }
 
+    /// Makes the block the spelling of these pointers: all its 4,096 bytes are written.
     pub fn encode(pointers: &[u32; POINTERS_PER_BLOCK], block: &mut Block)
         ensures { block.new ≡ pointers_bytes pointers.now }
     {

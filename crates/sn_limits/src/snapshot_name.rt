@@ -74,6 +74,7 @@ impl SnapshotName {
         Some(SnapshotName { bytes: kept(name) })
     }
 
+    /// The bytes of the name, 1 to 31 of them.
     pub fn as_bytes(&self) -> &[u8]
         ensures value { result.now ≡ self.now }
         ensures valid { IsTrue (is_snapshot_name self.now) }

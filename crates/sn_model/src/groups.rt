@@ -20,6 +20,7 @@ impl Model for Groups {
 }
 
 impl Groups {
+    /// Keeps at most 32 group numbers. It takes memory for them.
     pub fn new(alloc: Global, numbers: &[u32]) -> Result<Groups, AllocError>
         requires { length numbers.now ≤ 32 }
         ensures { IfOk result (λ groups. groups ≡ numbers.now) }
@@ -29,6 +30,7 @@ impl Groups {
         })
     }
 
+    /// The numbers, in the order in which they were given.
     pub fn as_slice(&self) -> &[u32]
         ensures numbers { result.now ≡ self.now }
         ensures few { length self.now ≤ 32 }

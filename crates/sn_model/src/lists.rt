@@ -21,12 +21,14 @@ impl Model for Content {
 }
 
 impl Content {
+    /// Keeps these bytes as an answer.
     pub fn new(bytes: Vec<u8>) -> Content
         ensures { result ≡ bytes.items }
     {
         Content { bytes }
     }
 
+    /// The bytes, as they were read.
     pub fn as_bytes(&self) -> &[u8]
         ensures { result.now ≡ self.now }
     {
@@ -49,12 +51,14 @@ impl Model for Names {
 }
 
 impl Names {
+    /// Keeps these names as an answer.
     pub fn new(names: Vec<Word>) -> Names
         ensures { result ≡ names.items }
     {
         Names { names }
     }
 
+    /// The names, in their order.
     pub fn as_slice(&self) -> &[Word]
         ensures { result.now ≡ self.now }
     {
@@ -81,6 +85,7 @@ impl Model for StoredAcl {
 }
 
 impl StoredAcl {
+    /// Keeps a copy of an ACL, which takes memory for its entries alone.
     pub fn new(alloc: Global, acl: &Acl) -> Result<StoredAcl, AllocError>
         ensures { IfOk result (λ stored. stored ≡ acl.now) }
     {
@@ -100,6 +105,7 @@ impl StoredAcl {
         }
     }
 
+    /// The ACL that is kept.
     pub fn to_acl(&self) -> Acl
         ensures { result ≡ self.now }
     {

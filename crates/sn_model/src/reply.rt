@@ -92,6 +92,7 @@ impl PathNumber {
 
     pub const SECOND: PathNumber = PathNumber { number: 2 };
 
+    /// 1 or 2, as a denial tells it; 0 where the call has no path.
     pub fn get(self) -> u8
         ensures { result ≡ self }
     {

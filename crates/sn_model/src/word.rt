@@ -25,6 +25,7 @@ impl Model for Word {
 }
 
 impl Word {
+    /// Keeps a copy of these bytes.
     pub fn new(alloc: Global, bytes: &[u8]) -> Result<Word, AllocError>
         ensures { IfOk result (λ word. word ≡ bytes.now) }
     {
@@ -33,6 +34,7 @@ impl Word {
         })
     }
 
+    /// The bytes of the word.
     pub fn as_bytes(&self) -> &[u8]
         ensures { result.now ≡ self.now }
     {

@@ -15,6 +15,7 @@ pub fn login(alloc: Global) -> Result<Call> {
     })
 }
 
+/// The call that makes a directory.
 pub fn mkdir(alloc: Global, path: &str, mode: u16) -> Result<Call> {
     Ok(Call::Mkdir {
         path: Word::new(alloc, path.as_bytes())?,
@@ -22,6 +23,7 @@ pub fn mkdir(alloc: Global, path: &str, mode: u16) -> Result<Call> {
     })
 }
 
+/// The call that asks for attributes.
 pub fn stat(alloc: Global, path: &str) -> Result<Call> {
     Ok(Call::Stat {
         path: Word::new(alloc, path.as_bytes())?,

@@ -37,6 +37,7 @@ impl Mounted {
         }
     }
 
+    /// Answers a call of a session.
     pub fn call(&mut self, session: u32, call: &Call) -> Reply {
         self.fs.call(session, call)
     }
@@ -81,6 +82,7 @@ impl Mounted {
         }
     }
 
+    /// Hands the device back, and calls nothing of it.
     pub fn into_device(self) -> MemDevice {
         let Mounted { fs } = self;
         fs.into_device()

@@ -110,6 +110,7 @@ impl LiveTree {
         })
     }
 
+    /// The tree itself, to look things up in.
     pub fn tree(&self) -> &PlainTree
         ensures { tree_of result.now ≡ live_of self.now }
     {

@@ -34,6 +34,7 @@ impl<K: Ord, V> SortedMap<K, V> {
         self.entries.binary_search_by(|entry| entry.0.cmp(key))
     }
 
+    /// The value at a key.
     pub fn get(&self, key: &K) -> Option<&V>
         ensures { option_copied result ≡ find K.cmp key.now self.now.entries.items }
     {
@@ -43,6 +44,7 @@ impl<K: Ord, V> SortedMap<K, V> {
         }
     }
 
+    /// How many keys have a value.
     pub fn len(&self) -> usize
         ensures { result ≡ vec_len self.now.entries }
     {

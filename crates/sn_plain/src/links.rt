@@ -18,6 +18,7 @@ impl Links {
     ghost use Rattle.sn_plain.specs.Names.{names_at};
     ghost use Rattle.sn_plain.specs.Stored.{directories_of, links_of};
 
+    /// No link. It takes no memory.
     pub fn new(alloc: Global) -> Links
         ensures { links_of result ≡ map.empty }
     {
@@ -34,6 +35,7 @@ impl Links {
         self.directories.get(&directory)?.get(name)
     }
 
+    /// The number that a link leads to.
     pub fn get(&self, link: &Link) -> Option<u16>
         ensures { result ≡ map.get (links_of self.now) link.now }
     {
@@ -94,6 +96,7 @@ impl Links {
         }
     }
 
+    /// Takes a link out, if it is there.
     pub fn remove(&mut self, link: &Link)
         ensures { links_of self.new ≡ map.remove (links_of self.old) link.now }
     {

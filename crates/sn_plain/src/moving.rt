@@ -11,6 +11,7 @@ impl Nodes {
     ghost use Rattle.sn_plain.specs.Maps.{updated};
     ghost use Rattle.sn_plain.specs.Stored.{nodes_of, stored_of, counts_of, fewer_at, under, Clears, Moves};
 
+    /// Whether the number is that of a file.
     pub fn is_file(&self, number: u16) -> bool
         ensures { (links : map.FinMap link_cmp ℕ) → result ≡ is_some (file_at (record { nodes = nodes_of self.now; links = links }) number) }
     {

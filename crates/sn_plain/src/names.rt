@@ -14,6 +14,7 @@ pub(crate) struct Names {
 impl Names {
     ghost use Rattle.sn_plain.specs.Stored.{names_of};
 
+    /// No name. It takes no memory.
     pub fn new(alloc: Global) -> Names
         ensures { names_of result ≡ map.empty }
     {
@@ -22,6 +23,7 @@ impl Names {
         }
     }
 
+    /// The number under a name.
     pub fn get(&self, name: &[u8]) -> Option<u16>
         ensures { result ≡ map.get (names_of self.now) name.now }
     {
@@ -37,12 +39,14 @@ impl Names {
         Ok(())
     }
 
+    /// Takes a name out, if it is there.
     pub fn remove(&mut self, name: &[u8])
         ensures { names_of self.new ≡ map.remove (names_of self.old) name.now }
     {
         self.map.remove(name);
     }
 
+    /// Whether no name is left.
     pub fn is_empty(&self) -> bool
         ensures { IsTrue result ↔ (names_of self.now ≡ map.empty) }
     {

@@ -55,6 +55,7 @@ impl StoredNode {
     ghost use Rattle.sn_plain.specs.Stored.{node_of};
     ghost use Rattle.sn_model.specs.Tree.{Tree, attributes_of, names_for};
 
+    /// What `stat` answers of the node. A directory has one link and no bytes.
     pub fn attributes(&self) -> Attributes
         ensures { (tree : Tree) (number : ℕ) → self.now.counts.links ≡ names_for tree number → result ≡ attributes_of tree number (node_of self.now) }
     {
@@ -85,6 +86,7 @@ impl Nodes {
     ghost use Rattle.sn_plain.specs.Maps.{filtered, restored, updated};
     ghost use Rattle.sn_plain.specs.Stored.{node_of, nodes_of, stored_of, with_counts, with_ownership, owned_by, bytes_by, node_bytes_by, counts_of, Recounts, more_at, fewer_at, is_kept};
 
+    /// No node. It takes no memory.
     pub fn new(alloc: Global) -> Nodes
         ensures nodes { nodes_of result ≡ map.empty }
         ensures stored { stored_of result ≡ map.empty }
@@ -94,6 +96,7 @@ impl Nodes {
         }
     }
 
+    /// The node with a number, with what is kept beside it.
     pub fn get(&self, number: u16) -> Option<&StoredNode>
         ensures nodes { option_map node_of (option_copied result) ≡ map.get (nodes_of self.now) number }
         ensures stored { option_copied result ≡ map.get (stored_of self.now) number }
@@ -128,6 +131,7 @@ impl Nodes {
         Ok(self.map.insert(number, node)?)
     }
 
+    /// Takes a node out, if it is there.
     pub fn remove(&mut self, number: u16)
         ensures nodes { nodes_of self.new ≡ map.remove (nodes_of self.old) number }
         ensures stored { stored_of self.new ≡ map.remove (stored_of self.old) number }

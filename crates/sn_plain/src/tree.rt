@@ -67,12 +67,14 @@ impl PlainTree {
         })
     }
 
+    /// Whether a node has the number.
     pub fn has_node(&self, number: u16) -> bool
         ensures { result ≡ is_some (map.get (tree_of self.now).nodes number) }
     {
         self.nodes.get(number).is_some()
     }
 
+    /// What `stat` answers of the node with a number.
     pub fn attributes(&self, number: u16) -> Option<Attributes>
         ensures { result ≡ (viewed (tree_of self.now)).node number }
     {
@@ -80,6 +82,7 @@ impl PlainTree {
         Some(node.attributes())
     }
 
+    /// The default ACL of the directory with a number, where it has one.
     pub fn default_acl(&self, number: u16) -> Option<Acl>
         ensures { result ≡ (viewed (tree_of self.now)).default_acl number }
     {
