@@ -1,5 +1,5 @@
 -- What a call answers, by how it ends.
-use Rattle.std.proofs.Common.{◌≡◌, ◌⊎◌, inl, inr, ◌||◌, ℕ, Bool, true, false, Option, Some, None, Result, Ok, refl, sym, ap, subst, ◌∙◌}
+use Rattle.std.proofs.Common.{◌≡◌, ◌⊎◌, inl, inr, ◌||◌, ℕ, Bool, true, false, Option, Some, None, Result, Ok, refl, sym, ap, subst, ◌∙◌, arith}
 use Rattle.std.proofs.lemmas.Bool.{true≢false}
 use Rattle.sn_limits.specs.Versions.{version_1}
 use Rattle.sn_model.specs.declared.call.Call.{Call}
@@ -27,9 +27,13 @@ use Rattle.sn_core.proofs.NumberLemmas.{kept_by, same_numbers}
 use Rattle.sn_core.proofs.StepLemmas.{IsServed, MadeBy, chosen_becomes, chosen_served, change_takes, opening_takes}
 use Rattle.sn_block.proofs.CountLemmas.{later-is, later-same}
 use Rattle.sn_device.specs.declared.status.Status.{Status}
-use Rattle.sn_device.proofs.CrashLemmas.{LeavesOnly-start}
+use Rattle.sn_device.specs.Disk.{Disk}
+use Rattle.sn_device.proofs.CrashLemmas.{LeavesOnly-start, Touches-start}
+use Rattle.sn_block.specs.Effects.{Nowhere}
+use Rattle.sn_ondisk.specs.LogHalf.{InHalf}
+use Rattle.sn_log.specs.Places.{base_at}
 use Rattle.sn_recovery.specs.Moments.{ShowsState}
-use Rattle.sn_fs.specs.Answers.{Answers, AnswersFrom, Costs, IsChangeOf, MayMeet, NumbersIn, writes_of}
+use Rattle.sn_fs.specs.Answers.{Answers, AnswersFrom, Costs, CostsRefused, IsChangeOf, MayMeet, NumbersIn, Writes, writes_of}
 use Rattle.sn_fs.specs.Changing.{FailsChange, IsLogged, errno_of, stops}
 use Rattle.sn_fs.specs.declared.fault.ChangeFault.{ChangeFault}
 use Rattle.sn_fs.specs.declared.fault.ChangeFault.TheVariants as fault
@@ -42,10 +46,33 @@ stays_numbers : (session : ℕ) (c : Call) (s : State) (kept : ℕ → Bool) →
 stays_numbers session c (Running w) kept = same_numbers session c w w kept kept refl refl
 stays_numbers session c (Stopped before after) kept = tt
 
+-- nothing is written
+writes_nothing : (h : Held) (s : State) (session : ℕ) (c : Call) (d : Disk) → Writes s h (event.Call session c) d d
+writes_nothing h (Running w) session c d = Touches-start (InHalf (base_at h.at)) d
+writes_nothing h (Stopped before after) session c d = Touches-start Nowhere d
+
+costs_nothing : (h : Held) → CostsRefused h h.status
+costs_nothing h = record { writes = omega arith; syncs = omega arith }
+
 -- an event that a state answers with a refusal, and that changes nothing
-kept : (h : Held) (has_stopped : Bool) (s : State) (session : ℕ) (c : Call) (met : Option Mishap) (reply : Reply) → Means h has_stopped s → MayMeet h (event.Call session c) met h.status → Costs s h (event.Call session c) met h.status
+kept : (h : Held) (has_stopped : Bool) (s : State) (session : ℕ) (c : Call) (met : Option Mishap) (reply : Reply) → Means h has_stopped s → MayMeet h h (event.Call session c) met h.status → Costs s h h (event.Call session c) met h.status
     → EventStep version_1 s (event.Call session c) met reply s → AnswersFrom s (event.Call session c) reply h h has_stopped
-kept h has_stopped s session c met reply m may costs step = record { met = met; may = may; next = s; step = step; means = m; lasts = stays_lasts h has_stopped s m; begins = tt; numbers = stays_numbers session c s h.kept; later = later-same h.status h.status refl; costs = costs; works = tt }
+kept h has_stopped s session c met reply m may costs step = record {
+  met = met;
+  mid = h;
+  point = refl;
+  may = may;
+  next = s;
+  step = step;
+  means = m;
+  lasts = stays_lasts h has_stopped s m;
+  writes = writes_nothing h s session c h.disk;
+  begins = tt;
+  numbers = stays_numbers session c s h.kept;
+  later = later-same h.status h.status refl;
+  costs = costs;
+  works = tt;
+}
 
 -- one that has stopped
 pub stopped_answers : (h : Held) (session : ℕ) (c : Call) → Answers (event.Call session c) (refused Estopped) h true h true
@@ -73,7 +100,7 @@ undecided_answers h session c e none = in_world h h false session c (reply_of e)
     told : Runs h h.world → (e : CallError) → HasNone e h.world session c → AnswersFrom (Running h.world) (event.Call session c) (reply_of e) h h false
     told r (lack.Refused refusal) none = kept h false (Running h.world) session c None (answer.Refused refusal) (refl, r) refl (inl (refused_none h.world h.kept session c refusal none, refl))
         (record { next = h.world; becomes = subst (λ (d : Result Outcome Refusal). Becomes version_1 h.world session d (answer.Refused refusal) h.world) (sym none) (refl, refl); runs = refl })
-    told r lack.Memory none = kept h false (Running h.world) session c (Some Memory) (refused Enomem) (refl, r) refl refl (none, record { told = refl; same = refl })
+    told r lack.Memory none = kept h false (Running h.world) session c (Some Memory) (refused Enomem) (refl, r) refl (costs_nothing h) (none, record { told = refl; same = refl })
 
 -- the call has an outcome, and a change was chosen
 module _ (old : Held) (session : ℕ) (c : Call) (o : Outcome) (picked : Chosen) (change : Change) (numbers : IsCall c) (whole : IsWorld version_1 old.world) (decided : decision version_1 old.world session c ≡ Ok o) (chosen : Chooses old.world.live old.kept o.change o.caller picked) (some : picked.change ≡ Some change) where
@@ -105,9 +132,9 @@ module _ (old : Held) (session : ℕ) (c : Call) (o : Outcome) (picked : Chosen)
 
       told : (f : ChangeFault) → Runs old old.world → FailsChange true f change old new → AnswersFrom (Running old.world) (event.Call session c) (refused (errno_of f)) old new (stops f)
       told fault.Space r fails = same new fault.Space fails.1 (kept old false (Running old.world) session c (Some Space) (refused (errno_of fault.Space)) (refl, r)
-          (record { change = change; is = is_change; none = fails.0 }, refl) refl
+          (record { change = change; is = is_change; none = fails.0 }, refl) (costs_nothing old)
           ((o, decided, is_charged old.world old.kept session c o picked change decided chosen some), record { told = refl; same = refl }))
-      told fault.Memory r fails = same new fault.Memory fails.1 (kept old false (Running old.world) session c (Some Memory) (refused (errno_of fault.Memory)) (refl, r) refl refl
+      told fault.Memory r fails = same new fault.Memory fails.1 (kept old false (Running old.world) session c (Some Memory) (refused (errno_of fault.Memory)) (refl, r) refl (costs_nothing old)
           (change_takes old.world old.kept session c o picked change decided chosen some, record { told = refl; same = refl }))
       told fault.Device r fails =
           let tree = fails.made.tree in
@@ -115,18 +142,21 @@ module _ (old : Held) (session : ℕ) (c : Call) (o : Outcome) (picked : Chosen)
           let between = stops_between old new old.world next change tree r can.spelled fails.made.applied (of_tree tree) (fails.moments refl) in
           record {
             met = Some Write;
+            mid = old;
+            point = refl;
             may = fails.failed;
             next = Stopped (settle old.world) (settle next);
             step = record {
               outcome = o;
               decided = decided;
-              charged = is_charged old.world old.kept session c o picked change decided chosen some;
+              writes = inl (is_charged old.world old.kept session c o picked change decided chosen some);
               next = next;
               comes = comes tree fails.made.applied;
               stops = record { told = refl; left = refl };
             };
             means = (refl, between);
             lasts = stops_lasts old new old.world next change tree r can.spelled fails.made.applied (of_tree tree) (fails.moments refl);
+            writes = fails.touched refl;
             begins = tt;
             numbers = tt;
             later = fails.later;
@@ -159,11 +189,14 @@ module _ (old : Held) (session : ℕ) (c : Call) (o : Outcome) (picked : Chosen)
           let on : Runs after next = runs_on old after old.world next change tree r can.spelled logged.made.applied (of_tree tree) (logged.acknowledged refl) logged.at made in
           subst (λ (x : Held). AnswersFrom (Running old.world) (event.Call session c) o.told old x false) (sym is) (record {
             met = None;
+            mid = old;
+            point = refl;
             may = ap (λ (s : Status). s.failures) logged.costs;
             next = Running next;
             step = record { next = next; becomes = served.0; runs = refl };
             means = (refl, on);
             lasts = runs_lasts old after old.world next change tree r can.spelled logged.made.applied (of_tree tree) (logged.moments refl) on;
+            writes = logged.touched refl;
             begins = tt;
             numbers = served.1;
             later = later-is (writes_of change) 2 old.status mid.status logged.costs;
@@ -194,11 +227,14 @@ told_answers old new session c o picked numbers whole decided chosen none is kee
         old.kept new.kept (λ n. sym (ap (λ (x : Option Change). kept_by x old.kept n) none)) keeps in
         subst (λ (x : Held). AnswersFrom (Running old.world) (event.Call session c) o.told old x false) (sym is) (record {
           met = None;
+          mid = old;
+          point = refl;
           may = refl;
           next = Running next;
           step = record { next = next; becomes = served.0; runs = refl };
           means = (refl, on);
           lasts = record { moments = LeavesOnly-start old.disk (λ d. ShowsState ground (Running old.world) d ⊎ ShowsState ground (Running next) d) (λ d crash. inr (shows d crash)); answered = shows };
+          writes = Touches-start (InHalf (base_at old.at)) old.disk;
           begins = tt;
           numbers = served.1;
           later = later-same old.status old.status refl;
@@ -208,7 +244,7 @@ told_answers old new session c o picked numbers whole decided chosen none is kee
 
 -- there is no memory for what is to be opened
 pub unprepared_answers : (h : Held) (session : ℕ) (c : Call) (o : Outcome) → decision version_1 h.world session c ≡ Ok o → is_opening o.caller ≡ true → Answers (event.Call session c) (refused Enomem) h false h false
-unprepared_answers h session c o decided opens = in_world h h false session c (refused Enomem) (λ r. kept h false (Running h.world) session c (Some Memory) (refused Enomem) (refl, r) refl refl (opening_takes h.world session c o decided opens, record { told = refl; same = refl }))
+unprepared_answers h session c o decided opens = in_world h h false session c (refused Enomem) (λ r. kept h false (Running h.world) session c (Some Memory) (refused Enomem) (refl, r) refl (costs_nothing h) (opening_takes h.world session c o decided opens, record { told = refl; same = refl }))
 
 -- where a change isn't made and the mount goes on, its world is the one from before
 pub still_whole : (told : Bool) (f : ChangeFault) (change : Change) (old new : Held) → FailsChange told f change old new → stops f ≡ false → IsWorld version_1 old.world → IsWorld version_1 new.world

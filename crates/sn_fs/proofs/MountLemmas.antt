@@ -1,6 +1,7 @@
 -- Replay, record by record.
-use Rattle.std.proofs.Common.{◌≡◌, ◌⊎◌, inl, inr, ℕ, ◌+◌, ◌<◌, ◌≤◌, Bool, true, false, List, [], ◌∷◌, ◌++◌, length, Option, Some, None, Result, Ok, Err, refl, sym, ap, subst, ◌∙◌, arith}
-use Rattle.std.specs.Prelude.{IsTrue, MatchBool}
+use Rattle.std.proofs.Common.{◌≡◌, ◌⊎◌, inl, inr, ℕ, ◌+◌, ◌<◌, ◌≤◌, Bool, true, false, List, [], ◌∷◌, ◌++◌, length, Option, Some, None, Result, Ok, Err, refl, sym, ap, subst, ◌∙◌, arith, nat_le}
+use Rattle.std.specs.Prelude.{IsTrue, MatchBool, ◌==◌, ◌||◌, if◌then◌else◌}
+use Rattle.std.proofs.lemmas.Bool.{leb-false}
 use Rattle.sn_device.specs.Disk.{Disk, Always, IsSynced, reads}
 use Rattle.sn_device.specs.Crash.{LeavesOnly, Touches}
 use Rattle.sn_device.proofs.CrashLemmas.{LeavesOnly-now, LeavesOnly-weaker}
@@ -18,11 +19,11 @@ use Rattle.sn_block.specs.Counts.{CountsRead, IsLater}
 use Rattle.sn_block.proofs.CountLemmas.{later-read}
 use Rattle.sn_block.specs.declared.fault.ReadFault.{ReadFault}
 use Rattle.sn_block.specs.declared.fault.ReadFault.TheVariants as read
-use Rattle.sn_ondisk.specs.LogHalf.{ReplaysTo, base_of}
+use Rattle.sn_ondisk.specs.LogHalf.{InHalf, ReplaysTo, base_of, cleared_sector}
 use Rattle.sn_ondisk.specs.OneAnswer.{IsOnDisk}
 use Rattle.sn_record.proofs.OneSpelling.{one_spelling}
 use Rattle.sn_block.specs.Effects.{Nowhere}
-use Rattle.sn_ondisk.specs.Gates.{IsClosed}
+use Rattle.sn_ondisk.specs.Gates.{IsClosed, gate_at}
 use Rattle.sn_log.specs.Clearing.{Clears, CountsClearing}
 use Rattle.sn_log.specs.Places.{LogPosition, IsBehind, base_at, behind, first_of, payloads_of}
 use Rattle.sn_log.specs.Laws.{IsNextOf}
@@ -39,7 +40,9 @@ use Rattle.sn_model.specs.declared.mount.MountFault.{MountFault}
 use Rattle.sn_model.specs.declared.mount.MountFault.TheVariants as fault
 use Rattle.sn_fs.specs.Costs.{CostsAtMost, HasFailed}
 use Rattle.sn_fs.specs.Held.{Held, IsOnGround, ground}
-use Rattle.sn_fs.specs.Mounting.{HasAll, HasCause, HasReplayed, IsSoOf, KeepsTheWorld, LeavesTheWorld, OpensToNone, WritesNothing, read_fault}
+use Rattle.sn_device.specs.Sectors.{Single}
+use Rattle.sn_device.proofs.CrashLemmas.{Touches-join, Touches-start, Touches-within}
+use Rattle.sn_fs.specs.Mounting.{HasAll, HasCause, HasReplayed, IsSoOf, KeepsTheWorld, LeavesTheWorld, OpensToNone, TouchesOneGate, WritesAtFault, WritesNothing, read_fault}
 
 -- the half lies on a disk that has all its sectors
 pub lies_on : (c : Contents) (at : LogPosition) → IsOnGround at → AreSectors c → 2048 ≤ length c → IsOnDisk c (base_at at)
@@ -127,6 +130,45 @@ pub clear_failed : {T : Type 0} (result : Result T ReadFault) (f : ReadFault) (o
 clear_failed result read.Device old mid new counts e same = subst (λ (n : ℕ). (n < new.failures) ⊎ IsTrue (has_ended new)) same (counts.device e)
 clear_failed result read.Memory old mid new counts e same = ap (λ (s : Status). s.failures) (counts.memory e) ∙ same
 
+-- ---- what a mount has written
+
+-- the sector that clears a place lies in the half
+cleared_within : (c : Contents) (base place : ℕ) → place ≤ 255 → InHalf base (cleared_sector c base place)
+cleared_within c base place within = told (gate_at c (base + place) == 1) (nat_le 254 place) refl
+  where
+    told : (opened past : Bool) → nat_le 254 place ≡ past → InHalf base (if opened || past then base + place else base + place + 1)
+    told true past is = (omega arith, omega (arith, within))
+    told false true is = (omega arith, omega (arith, within))
+    told false false is = (omega arith, let near : place < 254 = leb-false 254 place is in omega (arith, near))
+
+-- nothing, and so one gate at most
+pub one_gate : (old new : Disk) → Touches Nowhere old new → TouchesOneGate old new
+one_gate old new touched = record { sector = ground.base; within = (omega arith, omega arith); touched = Touches-within Nowhere (Single ground.base) old new (λ i none. absurd none) touched }
+
+pub fault_quiet : (f : MountFault) (old new : Disk) → Touches Nowhere old new → WritesAtFault f old new
+fault_quiet (fault.Damaged damage block) old new touched = touched
+fault_quiet fault.NotFormatted old new touched = touched
+fault_quiet fault.Version old new touched = touched
+fault_quiet fault.NoRoot old new touched = touched
+fault_quiet fault.Memory old new touched = one_gate old new touched
+fault_quiet fault.Device old new touched = one_gate old new touched
+
+pub fault_gate : (f : MountFault) (old new : Disk) → WritesAtFault f old new → TouchesOneGate old new
+fault_gate (fault.Damaged damage block) old new touched = one_gate old new touched
+fault_gate fault.NotFormatted old new touched = one_gate old new touched
+fault_gate fault.Version old new touched = one_gate old new touched
+fault_gate fault.NoRoot old new touched = one_gate old new touched
+fault_gate fault.Memory old new touched = touched
+fault_gate fault.Device old new touched = touched
+
+pub read_fault_gate : (f : ReadFault) (old new : Disk) → TouchesOneGate old new → WritesAtFault (read_fault f) old new
+read_fault_gate read.Device old new touched = touched
+read_fault_gate read.Memory old new touched = touched
+
+-- a mount that failed before it wrote
+pub quiet_failure : (f : MountFault) (old new : Disk) → HasCause f (reads old) → Touches Nowhere old new → IsNotRecovered f old new
+quiet_failure f old new cause touched = record { cause = cause; touched = fault_quiet f old new touched; keeps = λ world opens. inl touched }
+
 -- ---- what all records come to
 
 module _ (old mid new : Disk) (at : LogPosition) (tree : Tree) (place : IsOnGround at) (on_disk : IsOnDisk (reads mid) (base_at at)) (first : Touches Nowhere old mid) (same : reads mid ≡ reads old) (synced : IsSynced mid) (all : HasAll (reads mid) at tree) {T E : Type 0} (result : Result T E) (clears : Clears (base_at at) at.place result mid new) where
@@ -156,15 +198,27 @@ module _ (old mid new : Disk) (at : LogPosition) (tree : Tree) (place : IsOnGrou
     settled = refl;
   }))
 
+  -- one gate was written at most
+  pub found_gate : at.place ≤ 255 → TouchesOneGate old new
+  found_gate within =
+      let sector = cleared_sector (reads mid) (base_at at) at.place in
+      let base : base_at at ≡ ground.base = ap (λ (n : ℕ). base_of n at.epoch) place.blocks ∙ ap (λ (e : ℕ). base_of 256 e) place.epoch in
+      record {
+        sector = sector;
+        within = subst (λ (b : ℕ). InHalf b sector) base (cleared_within (reads mid) (base_at at) at.place within);
+        touched = Touches-join (Single sector) old mid new (Touches-within Nowhere (Single sector) old mid (λ i none. absurd none) first) clears.written.touched;
+      }
+
   -- it is recovered
-  pub is_recovered : (w : World) (p : LogPosition) → w ≡ found → p ≡ at → Always new (λ c. IsClosed c (base_at at + at.place)) → IsRecovered p w old new
-  is_recovered w p e f closed =
+  pub is_recovered : (w : World) (p : LogPosition) → w ≡ found → p ≡ at → at.place ≤ 255 → Always new (λ c. IsClosed c (base_at at + at.place)) → IsRecovered p w old new
+  is_recovered w p e f within closed =
       let keeps = mount_keeps version_1 new at all.replayed.changes new_tree tree all.replayed.spelled all.replayed.behind.count all.replayed.applied (LeavesOnly-now mid new (ReplaysUpTo at all.replayed.changes) moments) closed in
       subst (λ (x : World). IsRecovered p x old new) (sym e) (subst (λ (q : LogPosition). IsRecovered q found old new) (sym f) (record {
         opens = found_opens;
         frozen = refl;
         changes = all.replayed.changes;
         keeps = keeps;
+        touched = found_gate within;
         leaves = found_leaves;
       }))
 
@@ -195,8 +249,9 @@ mounts old h place r none = record {
   none_kept = none;
   opens = r.opens;
   means = (refl, record { is = refl; frozen = r.frozen; place = place; changes = r.changes; keeps = r.keeps });
+  touched = r.touched;
   leaves = r.leaves;
 }
 
 pub is_left : (f : MountFault) (old new : Disk) (sectors : ℕ) → IsNotRecovered f old new → IsLeft f old new sectors
-is_left f old new sectors n = record { cause = refuses f (reads old) sectors n.cause; keeps = n.keeps }
+is_left f old new sectors n = record { cause = refuses f (reads old) sectors n.cause; touched = n.touched; keeps = n.keeps }

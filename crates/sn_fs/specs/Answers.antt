@@ -1,5 +1,6 @@
 -- What an event leads a mounted file system to, on its disk too.
 use Rattle.std.specs.Prelude.{◌≡◌, ◌⊎◌, ℕ, ◌+◌, ◌<◌, Bool, false, Option, None, Some, Ok}
+use Rattle.sn_device.specs.Crash.{Touches}
 use Rattle.sn_device.specs.Disk.{Disk}
 use Rattle.sn_device.specs.declared.status.Status.{Status}
 use Rattle.sn_limits.specs.Versions.{version_1}
@@ -15,16 +16,28 @@ use Rattle.sn_model.specs.Machine.{State, Running, Stopped, Mishap, Memory, Read
 use Rattle.sn_model.specs.Steps.{decision}
 use Rattle.sn_model.specs.World.{World}
 use Rattle.sn_block.specs.Counts.{IsLater, called}
-use Rattle.sn_ondisk.specs.LogHalf.{body_sectors}
+use Rattle.sn_block.specs.Effects.{Nowhere}
+use Rattle.sn_ondisk.specs.LogHalf.{InHalf, body_sectors}
 use Rattle.sn_record.specs.Payload.{payload_bytes}
-use Rattle.sn_log.specs.Places.{LogPosition, HasRoom}
+use Rattle.sn_log.specs.Places.{LogPosition, HasRoom, base_at}
 use Rattle.sn_core.specs.Numbering.{Numbers}
 use Rattle.sn_core.specs.declared.choosing.Chosen.{Chosen}
 use Rattle.sn_core.specs.Served.{Chooses}
 use Rattle.sn_recovery.specs.Moments.{LastsOver}
 use Rattle.sn_fs.specs.Costs.{CostsAtMost, HasFailed, HasNotFailed}
 use Rattle.sn_fs.specs.Held.{Held, Means, ground}
-use Rattle.sn_fs.specs.Mounting.{LeavesTheWorld}
+use Rattle.sn_fs.specs.Mounting.{LeavesTheWorld, TouchesOneGate}
+
+-- What is held behind the whole point that an event makes first: no event makes one yet.
+abbrev pub IsBehindPoint : Held → Held → Type 0
+IsBehindPoint old mid = mid ≡ old
+
+-- the most writes of such a point, and its syncs
+abbrev pub point_writes : Held → ℕ
+point_writes h = 0
+
+abbrev pub point_syncs : Held → ℕ
+point_syncs h = 0
 
 -- the change that a call comes to
 pub record IsChangeOf (world : World) (kept : ℕ → Bool) (session : ℕ) (c : Call) (change : Change) : Type 0 where
@@ -45,14 +58,14 @@ LacksRoom h (event.Call session c) = HasNoRoom h.at h.world h.kept session c
 LacksRoom h event.Step = ⊥
 LacksRoom h event.Restart = ⊥
 
--- what an event may meet with: EIO only where the device failed, ENOSPC only where the record has no room, and nothing but EIO where the device failed
-abbrev pub MayMeet : Held → Event → Option Mishap → Status → Type 0
-MayMeet h e None new = HasNotFailed h.status new
-MayMeet h e (Some Memory) new = HasNotFailed h.status new
-MayMeet h e (Some Read) new = HasFailed h.status new
-MayMeet h e (Some Write) new = HasFailed h.status new
-MayMeet h e (Some Space) new = LacksRoom h e × HasNotFailed h.status new
-MayMeet h e (Some Age) new = ⊥
+-- what an event may meet with: EIO only where the device failed, ENOSPC only where the record has no room behind the event's point, and nothing but EIO where the device failed
+abbrev pub MayMeet : Held → Held → Event → Option Mishap → Status → Type 0
+MayMeet old mid e None new = HasNotFailed old.status new
+MayMeet old mid e (Some Memory) new = HasNotFailed old.status new
+MayMeet old mid e (Some Read) new = HasFailed old.status new
+MayMeet old mid e (Some Write) new = HasFailed old.status new
+MayMeet old mid e (Some Space) new = LacksRoom mid e × HasNotFailed old.status new
+MayMeet old mid e (Some Age) new = ⊥
 
 -- Which number a new node gets, and which are kept back: none once a mount that had stopped runs again.
 abbrev pub NumbersIn : Event → State → (ℕ → Bool) → State → (ℕ → Bool) → Type 0
@@ -83,14 +96,18 @@ pub record IsTried (h : Held) (session : ℕ) (c : Call) (new : Status) : Type 0
   pub room : HasRoom h.at change
   pub costs : CostsAtMost (writes_of change) 2 h.status new
 
--- A call that comes to a change is recorded, also where the change alters nothing. Any other, and one that is refused, writes nothing.
-abbrev pub CostsCall : Held → ℕ → Call → Option Mishap → Status → Type 0
-CostsCall h session c None new = (HasNoChange h.world h.kept session c × (new ≡ h.status)) ⊎ IsRecorded h session c new
-CostsCall h session c (Some Memory) new = new ≡ h.status
-CostsCall h session c (Some Read) new = new ≡ h.status
-CostsCall h session c (Some Write) new = IsTried h session c new
-CostsCall h session c (Some Space) new = new ≡ h.status
-CostsCall h session c (Some Age) new = new ≡ h.status
+-- a call that is refused has made a point at most
+abbrev pub CostsRefused : Held → Status → Type 0
+CostsRefused h new = CostsAtMost (point_writes h) (point_syncs h) h.status new
+
+-- Behind the point that a call makes first, where it needs one: a call that comes to a change is recorded, also where the change alters nothing, and any other writes nothing.
+abbrev pub CostsCall : Held → Held → ℕ → Call → Option Mishap → Status → Type 0
+CostsCall old mid session c None new = (HasNoChange mid.world mid.kept session c × (new ≡ mid.status)) ⊎ IsRecorded mid session c new
+CostsCall old mid session c (Some Memory) new = CostsRefused old new
+CostsCall old mid session c (Some Read) new = CostsRefused old new
+CostsCall old mid session c (Some Write) new = IsTried mid session c new
+CostsCall old mid session c (Some Space) new = CostsRefused old new
+CostsCall old mid session c (Some Age) new = CostsRefused old new
 
 -- a mount makes one write and two syncs, or was cut off
 abbrev pub CostsMount : Option Mishap → Status → Status → Type 0
@@ -98,13 +115,22 @@ CostsMount None old new = new ≡ called 1 2 old
 CostsMount (Some m) old new = CostsAtMost 1 2 old new
 
 -- in a stopped mount nothing is called but by a restart
-abbrev pub Costs : State → Held → Event → Option Mishap → Status → Type 0
-Costs (Running w) h (event.Call session c) met new = CostsCall h session c met new
-Costs (Running w) h event.Step met new = new ≡ h.status
-Costs (Running w) h event.Restart met new = CostsMount met h.status new
-Costs (Stopped before after) h (event.Call session c) met new = new ≡ h.status
-Costs (Stopped before after) h event.Step met new = new ≡ h.status
-Costs (Stopped before after) h event.Restart met new = CostsMount met h.status new
+abbrev pub Costs : State → Held → Held → Event → Option Mishap → Status → Type 0
+Costs (Running w) old mid (event.Call session c) met new = CostsCall old mid session c met new
+Costs (Running w) old mid event.Step met new = new ≡ old.status
+Costs (Running w) old mid event.Restart met new = CostsMount met old.status new
+Costs (Stopped before after) old mid (event.Call session c) met new = new ≡ old.status
+Costs (Stopped before after) old mid event.Step met new = new ≡ old.status
+Costs (Stopped before after) old mid event.Restart met new = CostsMount met old.status new
+
+-- Which sectors an event may write: a call its half of the log, a mount one gate there, and a step none yet. In a stopped mount only a restart writes.
+abbrev pub Writes : State → Held → Event → Disk → Disk → Type 0
+Writes (Running w) h (event.Call session c) old new = Touches (InHalf (base_at h.at)) old new
+Writes (Running w) h event.Step old new = Touches Nowhere old new
+Writes (Running w) h event.Restart old new = TouchesOneGate old new
+Writes (Stopped before after) h (event.Call session c) old new = Touches Nowhere old new
+Writes (Stopped before after) h event.Step old new = Touches Nowhere old new
+Writes (Stopped before after) h event.Restart old new = TouchesOneGate old new
 
 -- a step that says that there is more has written something
 abbrev pub Works : Event → Reply → Status → Status → Type 0
@@ -119,18 +145,21 @@ Begins event.Restart (Stopped before after) old new = Unit {0}
 Begins (event.Call session c) next old new = Unit {0}
 Begins event.Step next old new = Unit {0}
 
--- The event is a step of the machine, from this state to the next: a crash at any moment of its course leaves one of the two, and once it is answered the next alone.
+-- The event is a step of the machine, from this state to the next: a crash at any moment of its course leaves one of the two, and once it is answered the next alone. The number of a new node, room and costs are those behind the point that the event makes first, where it makes one.
 pub record AnswersFrom (s : State) (e : Event) (reply : Reply) (old new : Held) (has_stopped : Bool) : Type 0 where
   pub met : Option Mishap
-  pub may : MayMeet old e met new.status
+  pub mid : Held
+  pub point : IsBehindPoint old mid
+  pub may : MayMeet old mid e met new.status
   pub next : State
   pub step : EventStep version_1 s e met reply next
   pub means : Means new has_stopped next
   pub lasts : LastsOver ground s next old.disk new.disk
+  pub writes : Writes s old e old.disk new.disk
   pub begins : Begins e next old.disk new.disk
-  pub numbers : NumbersIn e s old.kept next new.kept
+  pub numbers : NumbersIn e s mid.kept next new.kept
   pub later : IsLater old.status new.status
-  pub costs : Costs s old e met new.status
+  pub costs : Costs s old mid e met new.status
   pub works : Works e reply old.status new.status
 
 -- so it is from each state that is meant

@@ -1,7 +1,7 @@
 -- A change that is made in memory and then appended to the log.
 use Rattle.std.specs.Prelude.{◌≡◌, ◌⊎◌, ℕ, Bool, true, false, List, [], ◌∷◌, ◌++◌, Some, Result, Ok, Err, IsTrue}
 use Rattle.sn_device.specs.Disk.{Disk, Always}
-use Rattle.sn_device.specs.Crash.{LeavesOnly}
+use Rattle.sn_device.specs.Crash.{LeavesOnly, Touches}
 use Rattle.sn_limits.specs.Versions.{version_1}
 use Rattle.sn_model.specs.declared.change.Change.{Change}
 use Rattle.sn_model.specs.Changes.{apply}
@@ -11,7 +11,8 @@ use Rattle.sn_model.specs.World.{World}
 use Rattle.sn_model.specs.declared.reply.Errno.{Errno}
 use Rattle.sn_model.specs.declared.reply.Errno.TheVariants.{Enospc, Enomem, Eio}
 use Rattle.sn_numbers.specs.Numbers.{kept_after}
-use Rattle.sn_log.specs.Places.{LogPosition, HasRoom, IsReadyAt, behind}
+use Rattle.sn_ondisk.specs.LogHalf.{InHalf}
+use Rattle.sn_log.specs.Places.{LogPosition, HasRoom, IsReadyAt, base_at, behind}
 use Rattle.sn_block.specs.Counts.{IsLater, called}
 use Rattle.sn_fs.specs.Answers.{writes_of}
 use Rattle.sn_fs.specs.Costs.{CostsAtMost, HasFailed}
@@ -41,6 +42,7 @@ pub record IsLogged (told : Bool) (change : Change) (old new : Held) : Type 0 wh
   pub made : IsMade change old.world new.world
   pub kept : (n : ℕ) → new.kept n ≡ kept_after change old.kept n
   pub at : new.at ≡ behind old.at change
+  pub touched : IsTrue told → Touches (InHalf (base_at old.at)) old.disk new.disk
   pub moments : IsTrue told → LeavesEither old.at change old.disk new.disk
   pub acknowledged : IsTrue told → LeavesMore old.at change old.disk new.disk
   pub costs : new.status ≡ called (writes_of change) 2 old.status
@@ -49,6 +51,7 @@ pub record IsLogged (told : Bool) (change : Change) (old new : Held) : Type 0 wh
 pub record IsCut (told : Bool) (change : Change) (old new : Held) : Type 0 where
   pub room : HasRoom old.at change
   pub made : IsMade change old.world new.world
+  pub touched : IsTrue told → Touches (InHalf (base_at old.at)) old.disk new.disk
   pub moments : IsTrue told → LeavesEither old.at change old.disk new.disk
   pub failed : HasFailed old.status new.status
   pub later : IsLater old.status new.status

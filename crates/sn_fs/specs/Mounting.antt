@@ -1,6 +1,6 @@
 -- What a mount finds in the log.
 use Rattle.std.specs.Prelude.{◌≡◌, ◌⊎◌, ℕ, ◌+◌, ◌/◌, Bool, true, false, List, None, Some, Result, Ok, Err, IfErr}
-use Rattle.sn_device.specs.Sectors.{Contents}
+use Rattle.sn_device.specs.Sectors.{Contents, Single}
 use Rattle.sn_device.specs.Disk.{Disk, IsSynced, reads}
 use Rattle.sn_device.specs.Crash.{LeavesOnly, Touches}
 use Rattle.sn_limits.specs.Versions.{version_1}
@@ -17,7 +17,7 @@ use Rattle.sn_block.specs.Counts.{IsLater}
 use Rattle.sn_block.specs.Effects.{Nowhere}
 use Rattle.sn_block.specs.declared.fault.ReadFault.{ReadFault}
 use Rattle.sn_block.specs.declared.fault.ReadFault.TheVariants as read
-use Rattle.sn_ondisk.specs.LogHalf.{Stops}
+use Rattle.sn_ondisk.specs.LogHalf.{InHalf, Stops}
 use Rattle.sn_log.specs.Places.{LogPosition, IsBehind, base_at}
 use Rattle.sn_log.specs.Replaying.{Finds}
 use Rattle.sn_log.specs.declared.replay.Found.{Found}
@@ -79,6 +79,21 @@ ReplaysOne (Err fault) c at tree next after = HasCause fault c
 pub record HasAll (c : Contents) (at : LogPosition) (tree : Tree) : Type 0 where
   pub replayed : HasReplayed c at tree
   pub stops : Stops c (base_at at) at.epoch at.place
+
+-- of all sectors one at most was written, in the half of the log
+pub record TouchesOneGate (old new : Disk) : Type 0 where
+  pub sector : ℕ
+  pub within : InHalf ground.base sector
+  pub touched : Touches (Single sector) old new
+
+-- A mount that finds that it can't be one has written nothing; one that was refused memory, or whose device failed, may have cleared its place in the log.
+abbrev pub WritesAtFault : MountFault → Disk → Disk → Type 0
+WritesAtFault (Damaged damage block) old new = Touches Nowhere old new
+WritesAtFault NotFormatted old new = Touches Nowhere old new
+WritesAtFault Version old new = Touches Nowhere old new
+WritesAtFault NoRoot old new = Touches Nowhere old new
+WritesAtFault Memory old new = TouchesOneGate old new
+WritesAtFault Device old new = TouchesOneGate old new
 
 -- Up to a sync that succeeded nothing was written. From then on a crash leaves the world that was there.
 pub record LeavesTheWorld (old new : Disk) (world : World) : Type 0 where

@@ -15,7 +15,7 @@ use Rattle.sn_recovery.specs.Moments.{OpensOn}
 use Rattle.sn_recovery.specs.Opens.{Keeps}
 use Rattle.sn_fs.specs.declared.found.Recovered.{Recovered}
 use Rattle.sn_fs.specs.Held.{Held, Means, ground}
-use Rattle.sn_fs.specs.Mounting.{HasCause, KeepsTheWorld, LeavesTheWorld}
+use Rattle.sn_fs.specs.Mounting.{HasCause, KeepsTheWorld, LeavesTheWorld, TouchesOneGate, WritesAtFault}
 
 -- the world that the disk opens to runs, over a log that goes on at this position, and at no moment a crash would have left another
 pub record IsRecovered (at : LogPosition) (world : World) (old new : Disk) : Type 0 where
@@ -23,11 +23,13 @@ pub record IsRecovered (at : LogPosition) (world : World) (old new : Disk) : Typ
   pub frozen : world.frozen ≡ map.empty
   pub changes : List Change
   pub keeps : Keeps version_1 new at changes new_tree world.live
+  pub touched : TouchesOneGate old new
   pub leaves : LeavesTheWorld old new world
 
 -- it isn't mounted, for a cause, and the world that the disk opens to, if any, is still there
 pub record IsNotRecovered (fault : MountFault) (old new : Disk) : Type 0 where
   pub cause : HasCause fault (reads old)
+  pub touched : WritesAtFault fault old new
   pub keeps : KeepsTheWorld old new
 
 abbrev pub Recovers : Result Recovered MountFault → Disk → Disk → Type 0
@@ -49,9 +51,11 @@ pub record Mounts (old : Disk) (h : Held) (has_stopped : Bool) : Type 0 where
   pub none_kept : (number : ℕ) → h.kept number ≡ false
   pub opens : OpensOn ground (reads old) world
   pub means : Means h has_stopped (Running world)
+  pub touched : TouchesOneGate old h.disk
   pub leaves : LeavesTheWorld old h.disk world
 
 -- It isn't, for a cause, and the world that it opens to, if any, is still there.
 pub record IsLeft (fault : MountFault) (old new : Disk) (sectors : ℕ) : Type 0 where
   pub cause : Refuses fault (reads old) sectors
+  pub touched : WritesAtFault fault old new
   pub keeps : KeepsTheWorld old new

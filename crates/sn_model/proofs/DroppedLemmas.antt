@@ -1,12 +1,13 @@
 -- Worlds whose files that nobody has and no name stands for go.
 use Rattle.std.proofs.Common.{◌≡◌, ℕ, ◌≤◌, Bool, true, false, not, cond, ◌||◌, List, Option, Some, None, length, refl, sym, ap, ◌∙◌}
-use Rattle.std.specs.Prelude.{IsSomeAnd}
+use Rattle.std.specs.Prelude.{IsSomeAnd, IsTrue}
 use Rattle.std.specs.Cmp.{nat_cmp_total}
 use Rattle.std.specs.FinMap as map
 use Rattle.std.specs.List.{AllByRecursion}
 use Rattle.std.proofs.lemmas.Map.Lookups.{exact_unsigned}
 use Rattle.sn_limits.specs.declared.kind.Kind.TheVariants.{File}
 use Rattle.sn_limits.specs.declared.limits.Limits.{Limits}
+use Rattle.sn_limits.specs.SnapshotName.{is_snapshot_name}
 use Rattle.sn_walk.specs.declared.object.Home.{Home}
 use Rattle.sn_walk.specs.declared.object.Home.TheVariants.{Live, Frozen}
 use Rattle.sn_model.specs.Descriptors.{is_held_in}
@@ -25,13 +26,14 @@ use Rattle.sn_model.proofs.SettlingLemmas.{get_without, nameless_file, nameless_
 pub record IsUndropped (limits : Limits) (world : World) : Type 0 where
   pub live : IsTree limits world.live
   pub frozen : (name : List ℕ) (tree : Tree) → map.get world.frozen name ≡ Some tree → IsTree limits tree
+  pub snapshot_names : (name : List ℕ) (tree : Tree) → map.get world.frozen name ≡ Some tree → IsTrue (is_snapshot_name name)
   pub few_snapshots : map.len world.frozen ≤ limits.snapshots
   pub count : length world.sessions ≡ 64
   pub callers : AllByRecursion IsSession world.sessions
   pub open_files : (session fd : ℕ) (d : Descriptor) → map.get world.descriptors (session, fd) ≡ Some d → IsOpenFile limits world session fd d
 
 pub undropped : (limits : Limits) (world : World) → IsWorld limits world → IsUndropped limits world
-undropped limits world w = record { live = w.live; frozen = w.frozen; few_snapshots = w.few_snapshots; count = w.count; callers = w.callers; open_files = w.open_files }
+undropped limits world w = record { live = w.live; frozen = w.frozen; snapshot_names = w.snapshot_names; few_snapshots = w.few_snapshots; count = w.count; callers = w.callers; open_files = w.open_files }
 
 -- a file that is held stays
 kept : (held : ℕ → Bool) (tree : Tree) (n : ℕ) → held n ≡ true → map.get (without_nameless held tree).nodes n ≡ map.get tree.nodes n
@@ -62,6 +64,7 @@ module _ (limits : Limits) (world : World) where
   dropped_world w = record {
     live = dropping_tree limits world.live (is_held world) w.live;
     frozen = w.frozen;
+    snapshot_names = w.snapshot_names;
     few_snapshots = w.few_snapshots;
     count = w.count;
     callers = w.callers;

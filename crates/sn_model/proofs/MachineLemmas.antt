@@ -44,6 +44,7 @@ pub settle_tree : (limits : Limits) (world : World) (tree : Tree) → IsWorld li
 settle_tree limits world tree w whole = record {
   live = dropping_tree limits tree (λ _. false) whole;
   frozen = w.frozen;
+  snapshot_names = w.snapshot_names;
   few_snapshots = w.few_snapshots;
   count = length-replicate {A = Option Session} 64 None;
   callers = free_sessions 64;

@@ -81,6 +81,7 @@ seated : (limits : Limits) (world : World) (session : ℕ) (o : Option Session) 
 seated limits world session o w k stays = record {
   live = w.live;
   frozen = w.frozen;
+  snapshot_names = w.snapshot_names;
   few_snapshots = w.few_snapshots;
   count = length-set world.sessions session o ∙ w.count;
   callers = all_set world.sessions session o k w.callers;
@@ -98,6 +99,7 @@ with_table : (limits : Limits) (world : World) (table : Descriptors) → IsUndro
 with_table limits world table w files = record {
   live = w.live;
   frozen = w.frozen;
+  snapshot_names = w.snapshot_names;
   few_snapshots = w.few_snapshots;
   count = w.count;
   callers = w.callers;
@@ -129,6 +131,7 @@ logged_off : (limits : Limits) (world : World) (session : ℕ) → IsUndropped l
 logged_off limits world session w = record {
   live = w.live;
   frozen = w.frozen;
+  snapshot_names = w.snapshot_names;
   few_snapshots = w.few_snapshots;
   count = length-set world.sessions session None ∙ w.count;
   callers = all_set world.sessions session None tt w.callers;
@@ -188,6 +191,7 @@ with_tree : (limits : Limits) (world : World) (tree : Tree) → IsWorld limits w
 with_tree limits world tree w whole stays = record {
   live = whole;
   frozen = w.frozen;
+  snapshot_names = w.snapshot_names;
   few_snapshots = w.few_snapshots;
   count = w.count;
   callers = w.callers;
@@ -319,6 +323,7 @@ pub new_is_world : IsWorld version_1 new_world
 new_is_world = record {
   live = new_whole;
   frozen = λ name tree e. let never : None ≡ Some tree = sym (map.get-empty (slice_cmp nat_cmp) name) ∙ e in cc;
+  snapshot_names = λ name tree e. let never : None ≡ Some tree = sym (map.get-empty (slice_cmp nat_cmp) name) ∙ e in cc;
   few_snapshots = subst (λ n. n ≤ 20) (sym (map.len-empty (slice_cmp nat_cmp) Tree)) (lit≤ tt);
   count = length-replicate {A = Option Session} 64 None;
   callers = free_sessions 64;

@@ -1,5 +1,5 @@
 -- The machine: what it answers to calls, steps and restarts, whatever fails; how its runs end, and what a crash leaves of them.
-use Rattle.std.specs.Prelude.{◌≡◌, ◌⊎◌, ℕ, ◌<◌, List, [], ◌∷◌, Option, None, Some, Ok, IsOk}
+use Rattle.std.specs.Prelude.{◌≡◌, ◌≢◌, ◌⊎◌, ℕ, ◌<◌, List, [], ◌∷◌, Option, None, Some, Ok, IsOk}
 use Rattle.sn_limits.specs.declared.limits.Limits.{Limits}
 use Rattle.sn_model.specs.declared.call.Call.{Call}
 use Rattle.sn_model.specs.declared.call.Event.{Event}
@@ -18,7 +18,7 @@ use Rattle.sn_model.specs.Outcomes.{Outcome}
 use Rattle.sn_model.specs.Settling.{settle}
 use Rattle.sn_model.specs.Tests.{plain}
 use Rattle.sn_model.specs.Calls.{ready}
-use Rattle.sn_model.specs.Steps.{Becomes, Comes, TakesMemory, decision}
+use Rattle.sn_model.specs.Steps.{AsksForPoint, Becomes, Comes, TakesMemory, decision}
 
 -- What the next mount of a stopped machine may find is the settled world from before what stopped it, or the one from after.
 pub data State : Type 0 where
@@ -72,13 +72,21 @@ pub record IsUnmounted (before after : World) (m : Mishap) (reply : Reply) (new 
 abbrev pub IsCharged : Limits → World → ℕ → Call → Type 0
 IsCharged limits old session c = (o : Outcome) × (decision limits old session c ≡ Ok o) × (0 < o.charge)
 
--- what a call may be refused for: memory and reads once its session and arguments have passed, room and age where it is charged for something
+-- what may write: a call that is charged for something, or that asks for a point
+abbrev pub MayWrite : Call → Outcome → Type 0
+MayWrite c o = (0 < o.charge) ⊎ AsksForPoint c
+
+-- a call whose tests pass, and that may write
+abbrev pub IsWriting : Limits → World → ℕ → Call → Type 0
+IsWriting limits old session c = (o : Outcome) × (decision limits old session c ≡ Ok o) × MayWrite c o
+
+-- what a call may be refused for: memory and reads once its session and arguments have passed, room where it is charged for something, and age where it may write
 abbrev pub MayRefuse : Limits → World → ℕ → Call → Mishap → Type 0
 MayRefuse limits old session c Memory = TakesMemory c × IsOk (ready old session c)
 MayRefuse limits old session c Read = TakesMemory c × IsOk (ready old session c)
 MayRefuse limits old session c Write = ⊥
 MayRefuse limits old session c Space = IsCharged limits old session c
-MayRefuse limits old session c Age = IsCharged limits old session c
+MayRefuse limits old session c Age = IsWriting limits old session c
 
 -- a call is answered as its decision says
 pub record IsAnswered (limits : Limits) (old : World) (session : ℕ) (c : Call) (reply : Reply) (new : State) : Type 0 where
@@ -86,11 +94,11 @@ pub record IsAnswered (limits : Limits) (old : World) (session : ℕ) (c : Call)
   pub becomes : Becomes limits old session (decision limits old session c) reply next
   pub runs : new ≡ Running next
 
--- a write or a sync fails while a charged call is made so
+-- a write or a sync fails while a call that may write is made so
 pub record IsCutOff (limits : Limits) (old : World) (session : ℕ) (c : Call) (reply : Reply) (new : State) : Type 0 where
   pub outcome : Outcome
   pub decided : decision limits old session c ≡ Ok outcome
-  pub charged : 0 < outcome.charge
+  pub writes : MayWrite c outcome
   pub next : World
   pub comes : Comes limits old session outcome next
   pub stops : IsStopped (settle old) (settle next) reply new
@@ -159,14 +167,26 @@ OfMemory None = Unit {0}
 OfMemory (Some Memory) = Unit {0}
 OfMemory (Some m) = ⊥
 
--- the last unmount, and the end that it makes
-abbrev pub Ends : State → Option Mishap → End → Type 0
-Ends (Running w) None end = end ≡ ending.Clean
-Ends (Running w) (Some Memory) end = end ≡ ending.Memory
-Ends (Running w) (Some Space) end = ⊥
-Ends (Running w) (Some m) end = end ≡ ending.Stopped
-Ends (Stopped before after) None end = end ≡ ending.Stopped
-Ends (Stopped before after) (Some m) end = ⊥
+-- What an unmount answers. It is a point, which never lacks room; a stopped machine has nothing to unmount.
+abbrev pub UnmountStep : State → Option Mishap → Reply → Type 0
+UnmountStep (Running w) None reply = reply ≡ answer.Done
+UnmountStep (Running w) (Some Space) reply = ⊥
+UnmountStep (Running w) (Some m) reply = reply ≡ refused (errno_of m)
+UnmountStep (Stopped before after) None reply = reply ≡ refused Estopped
+UnmountStep (Stopped before after) (Some m) reply = ⊥
+
+-- The end that this answer makes.
+abbrev pub EndsBy : Reply → End → Type 0
+EndsBy reply ending.Clean = reply ≡ answer.Done
+EndsBy reply ending.Memory = reply ≡ refused Enomem
+EndsBy reply ending.Stopped = (reply ≢ answer.Done) × (reply ≢ refused Enomem)
+EndsBy reply (ending.Mount fault) = ⊥
+
+-- the last unmount, what it answers, and the end of the run
+pub record Ends (last : State) (met : Option Mishap) (end : End) : Type 0 where
+  pub reply : Reply
+  pub unmounts : UnmountStep last met reply
+  pub ends : EndsBy reply end
 
 -- the list of replies finds no memory
 pub record HasNoList (May : Option Mishap → Type 0) (replies : List Reply) (end : End) : Type 0 where
@@ -191,9 +211,24 @@ pub record HasRun (May : Option Mishap → Type 0) (limits : Limits) (first : Wo
   pub may : May met
   pub ends : Ends last met end
 
--- A whole run: from what the disk holds, a mount, the events, and an unmount.
-abbrev pub WholeRun : (Option Mishap → Type 0) → Limits → World → List Event → List Reply → End → Type 0
-WholeRun May limits first events replies end = HasNoList May replies end ⊎ HasNoMount May replies end ⊎ HasRun May limits first events replies end
+-- What a first mount finds on a device: a world, or what keeps it from being mounted.
+pub data Image : Type 0 where
+  Holds : World → Image
+  Lacks : MountFault → Image
+
+-- the first mount is refused for what it finds
+pub record IsUnfit (fault : MountFault) (replies : List Reply) (end : End) : Type 0 where
+  pub none : replies ≡ []
+  pub ends : end ≡ ending.Mount fault
+
+-- every event is answered, if there is a world
+abbrev pub Serves : (Option Mishap → Type 0) → Limits → Image → List Event → List Reply → End → Type 0
+Serves May limits (Holds first) events replies end = HasRun May limits first events replies end
+Serves May limits (Lacks fault) events replies end = IsUnfit fault replies end
+
+-- A whole run: from what the device holds, a mount, the events, and an unmount.
+abbrev pub WholeRun : (Option Mishap → Type 0) → Limits → Image → List Event → List Reply → End → Type 0
+WholeRun May limits image events replies end = HasNoList May replies end ⊎ HasNoMount May replies end ⊎ Serves May limits image events replies end
 
 -- what the next mount may find after a crash between two events
 abbrev pub Left : State → World → Type 0

@@ -115,6 +115,10 @@ TakesMemory (call.Write fd bytes) = Unit {0}
 TakesMemory (call.Seek fd offset) = ⊥
 TakesMemory (call.Ftruncate fd size) = Unit {0}
 
+-- the calls that ask for a whole consistency point: none does yet, and those that will are charged for nothing
+abbrev pub AsksForPoint : Call → Type 0
+AsksForPoint c = ⊥
+
 -- a call may find no memory once its session and arguments have passed, and then changes nothing
 pub record LacksMemory (world : World) (session : ℕ) (c : Call) (reply : Reply) (new : World) : Type 0 where
   pub takes : TakesMemory c

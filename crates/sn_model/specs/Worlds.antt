@@ -1,10 +1,11 @@
 -- When a world is one that runs can reach.
-use Rattle.std.specs.Prelude.{◌≡◌, ℕ, ◌≤◌, ◌<◌, ◌^◌, true, List, Option, None, Some, IsSomeAnd, is_some, length, replicate, slice_get}
+use Rattle.std.specs.Prelude.{◌≡◌, ℕ, ◌≤◌, ◌<◌, ◌^◌, true, List, Option, None, Some, IsTrue, IsSomeAnd, is_some, length, replicate, slice_get}
 use Rattle.std.specs.List.{AllByRecursion}
 use Rattle.std.specs.FinMap as map
 use Rattle.sn_walk.specs.declared.object.Home.TheVariants.{Live}
 use Rattle.sn_limits.specs.declared.kind.Kind.TheVariants.{File}
 use Rattle.sn_limits.specs.declared.limits.Limits.{Limits}
+use Rattle.sn_limits.specs.SnapshotName.{is_snapshot_name}
 use Rattle.sn_model.specs.declared.call.Call.{Call}
 use Rattle.sn_model.specs.declared.call.Call.TheVariants as call
 use Rattle.sn_model.specs.declared.call.Event.{Event}
@@ -35,10 +36,11 @@ pub record IsOpenFile (limits : Limits) (world : World) (session fd : ℕ) (d : 
   pub offset : d.offset ≤ limits.largest_file
   pub live : d.writable ≡ true → d.home ≡ Live
 
--- Its trees are name trees, open files are there, and a live file without a name is held.
+-- Its trees are name trees, the frozen ones have the names of snapshots, open files are there, and a live file without a name is held.
 pub record IsWorld (limits : Limits) (world : World) : Type 0 where
   pub live : IsTree limits world.live
   pub frozen : (name : List ℕ) (tree : Tree) → map.get world.frozen name ≡ Some tree → IsTree limits tree
+  pub snapshot_names : (name : List ℕ) (tree : Tree) → map.get world.frozen name ≡ Some tree → IsTrue (is_snapshot_name name)
   pub few_snapshots : map.len world.frozen ≤ limits.snapshots
   pub count : length world.sessions ≡ 64
   pub callers : AllByRecursion IsSession world.sessions

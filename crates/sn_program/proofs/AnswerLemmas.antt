@@ -17,9 +17,9 @@ use Rattle.sn_device.specs.declared.memory.MemDevice.{MemDevice}
 use Rattle.sn_device.specs.declared.status.Status.{Status}
 use Rattle.sn_recovery.specs.Moments.{OpensOn}
 use Rattle.sn_fs.specs.Held.{ground}
-use Rattle.sn_run.specs.Runs.{IsRunOf}
+use Rattle.sn_run.specs.Runs.{IsImageOf, IsRunOf}
 use Rattle.sn_run.proofs.NewDiskLemmas.{new_disk_opens}
-use Rattle.sn_model.specs.Machine.{State, Running, HasNoList, HasNoMount, HasRun, Anything, Run, WholeRun}
+use Rattle.sn_model.specs.Machine.{State, Running, HasNoList, HasNoMount, HasRun, Holds, Anything, Run, WholeRun}
 use Rattle.sn_model.specs.World.{World, new_world}
 use Rattle.sn_replies.specs.Replies.{reply_line}
 use Rattle.sn_script.specs.Scripts.{IsScript}
@@ -49,7 +49,7 @@ answers script read given replies shown last same kept is run = record {
 }
 
 -- a run that ends well has answered, and any other has too, or has no replies
-pub clean_answers : (script : List ℕ) (read given : List Event) (replies shown : List Reply) (e : End) → given ≡ read → shown ≡ replies → IsScript read script → WholeRun Anything version_1 new_world given replies e → e ≡ Clean → IsAnswer script (flat_map reply_line shown)
+pub clean_answers : (script : List ℕ) (read given : List Event) (replies shown : List Reply) (e : End) → given ≡ read → shown ≡ replies → IsScript read script → WholeRun Anything version_1 (Holds new_world) given replies e → e ≡ Clean → IsAnswer script (flat_map reply_line shown)
 clean_answers script read given replies shown e same kept is (inl h) clean = let never : Memory ≡ Clean = sym h.ends ∙ clean in cc
 clean_answers script read given replies shown e same kept is (inr (inl h)) clean = let never : Mount h.fault ≡ Clean = sym h.ends ∙ clean in cc
 clean_answers script read given replies shown e same kept is (inr (inr h)) clean = answers script read given replies shown h.last same kept is h.run
@@ -57,7 +57,7 @@ clean_answers script read given replies shown e same kept is (inr (inr h)) clean
 no_lines : (replies shown : List Reply) → shown ≡ replies → replies ≡ [] → flat_map reply_line shown ≡ []
 no_lines replies shown kept none = ap (flat_map reply_line) (kept ∙ none)
 
-pub some_answers : (script : List ℕ) (read given : List Event) (replies shown : List Reply) (e : End) → given ≡ read → shown ≡ replies → IsScript read script → WholeRun Anything version_1 new_world given replies e → (flat_map reply_line shown ≡ []) ⊎ IsAnswer script (flat_map reply_line shown)
+pub some_answers : (script : List ℕ) (read given : List Event) (replies shown : List Reply) (e : End) → given ≡ read → shown ≡ replies → IsScript read script → WholeRun Anything version_1 (Holds new_world) given replies e → (flat_map reply_line shown ≡ []) ⊎ IsAnswer script (flat_map reply_line shown)
 some_answers script read given replies shown e same kept is (inl h) = inl (no_lines replies shown kept h.none)
 some_answers script read given replies shown e same kept is (inr (inl h)) = inl (no_lines replies shown kept h.none)
 some_answers script read given replies shown e same kept is (inr (inr h)) = inr (answers script read given replies shown h.last same kept is h.run)
@@ -84,6 +84,6 @@ script_fault (Err e) why n p (inr q) = inr (p ∙ ap fault.Script q)
 
 -- a run on a new device in memory is one from a new world
 pub new_run : (device : MemDevice) (events : List Event) (replies : List Reply) (end : End) (last : Disk) → disk_of device ≡ first (replicate 2048 (replicate 512 0)) → status_of device ≡ uncalled 2048
-    → (2048 ≤ (status_of device).sectors → OpensOn ground (reads (disk_of device)) new_world → IsRunOf new_world events replies end (disk_of device) last) → WholeRun Anything version_1 new_world events replies end
+    → (IsImageOf new_world (status_of device).sectors (reads (disk_of device)) → IsRunOf new_world events replies end (disk_of device) last) → WholeRun Anything version_1 (Holds new_world) events replies end
 new_run device events replies end last zeros status runs =
-    (runs (subst (λ (s : Status). 2048 ≤ s.sectors) (sym status) (lit≤ tt)) (subst (λ (d : Disk). OpensOn ground (reads d) new_world) (sym zeros) (new_disk_opens 2048 (lit≤ tt)))).run
+    (runs (record { sound = subst (λ (s : Status). 2048 ≤ s.sectors) (sym status) (lit≤ tt); opens = subst (λ (d : Disk). OpensOn ground (reads d) new_world) (sym zeros) (new_disk_opens 2048 (lit≤ tt)) })).run

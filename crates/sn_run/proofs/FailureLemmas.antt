@@ -23,13 +23,13 @@ never_failed : (old new : Status) → new.failures ≡ old.failures → has_ende
 never_failed old new same goes_on (inl rose) = omega (arith, same, rose)
 never_failed old new same goes_on (inr ended) = true≢false (sym ended ∙ goes_on)
 
-met_unfailing : (h : Held) (e : Event) (met : Option Mishap) (new : Status) → MayMeet h e met new → new.failures ≡ h.status.failures → has_ended new ≡ false → Unfailing met
-met_unfailing h e None new may same goes_on = tt
-met_unfailing h e (Some Memory) new may same goes_on = tt
-met_unfailing h e (Some Read) new may same goes_on = never_failed h.status new same goes_on may
-met_unfailing h e (Some Write) new may same goes_on = never_failed h.status new same goes_on may
-met_unfailing h e (Some Space) new may same goes_on = tt
-met_unfailing h e (Some Age) new may same goes_on = may
+met_unfailing : (h mid : Held) (e : Event) (met : Option Mishap) (new : Status) → MayMeet h mid e met new → new.failures ≡ h.status.failures → has_ended new ≡ false → Unfailing met
+met_unfailing h mid e None new may same goes_on = tt
+met_unfailing h mid e (Some Memory) new may same goes_on = tt
+met_unfailing h mid e (Some Read) new may same goes_on = never_failed h.status new same goes_on may
+met_unfailing h mid e (Some Write) new may same goes_on = never_failed h.status new same goes_on may
+met_unfailing h mid e (Some Space) new may same goes_on = tt
+met_unfailing h mid e (Some Age) new may same goes_on = may
 
 -- over a run no count falls
 runs_later : (first last : Standing) (events : List Event) (replies : List Reply) → RunBy Goes first events replies last → IsLater first.held.status last.held.status
@@ -52,6 +52,6 @@ run_unfailing first last (e ∷ events) (reply ∷ replies) run same goes_on =
     let there : last.held.status.failures ≡ mid.held.status.failures = omega (arith, here, same) in
     let on : has_ended mid.held.status ≡ false = not_ended (has_ended mid.held.status) (λ ended. true≢false (sym (later-ended mid.held.status last.held.status rest ended) ∙ goes_on)) in (
       mid.state,
-      (a.met, met_unfailing first.held e a.met mid.held.status a.may here on, subst (λ (s : State). EventStep version_1 first.state e a.met reply s) (sym run.1.next) a.step),
+      (a.met, met_unfailing first.held a.mid e a.met mid.held.status a.may here on, subst (λ (s : State). EventStep version_1 first.state e a.met reply s) (sym run.1.next) a.step),
       run_unfailing mid last events replies run.2 there goes_on,
     )

@@ -5,7 +5,7 @@ use Rattle.std.proofs.lemmas.List.{same_lists, get_or_default}
 use Rattle.sn_device.specs.Sectors.{AgreesOutside, AreSectors, Contents}
 use Rattle.sn_device.specs.Disk.{Disk, Always, reads}
 use Rattle.sn_device.specs.Crash.{LeavesOnly, Touches}
-use Rattle.sn_device.proofs.CrashLemmas.{Always-reads, LeavesOnly-join, LeavesOnly-now, LeavesOnly-torn, LeavesOnly-weaker}
+use Rattle.sn_device.proofs.CrashLemmas.{Always-reads, LeavesOnly-join, LeavesOnly-now, LeavesOnly-torn, LeavesOnly-weaker, Touches-start}
 use Rattle.sn_block.specs.Counts.{IsLater, called}
 use Rattle.sn_block.specs.Effects.{Nowhere}
 use Rattle.sn_block.proofs.CountLemmas.{later-is, later-same}
@@ -33,7 +33,7 @@ use Rattle.sn_fs.specs.Held.{Held, ground}
 use Rattle.sn_fs.specs.Mounting.{IsSoOf, LeavesTheWorld}
 use Rattle.sn_fs.specs.Recovering.{IsLeft, Mounts, Refuses}
 use Rattle.sn_fs.proofs.MeaningLemmas.{runs_show, stays_lasts}
-use Rattle.sn_fs.proofs.MountLemmas.{lies_on}
+use Rattle.sn_fs.proofs.MountLemmas.{fault_gate, lies_on}
 use Rattle.sn_run.proofs.CutLemmas.{found_settled}
 
 -- ---- steps
@@ -47,11 +47,14 @@ refused_is_more e = cc
 pub runs_step : (h : Held) → Answers event.Step (answer.Progress progress.Done) h false h false
 runs_step h (Running w) m = record {
   met = None;
+  mid = h;
+  point = refl;
   may = refl;
   next = Running w;
   step = (inr refl, refl);
   means = m;
   lasts = stays_lasts h false (Running w) m;
+  writes = Touches-start Nowhere h.disk;
   begins = tt;
   numbers = step_numbers w h.kept;
   later = later-same h.status h.status refl;
@@ -64,11 +67,14 @@ pub stopped_step : (h : Held) → Answers event.Step (refused Estopped) h true h
 stopped_step h (Running w) m = absurd (true≢false m.0)
 stopped_step h (Stopped before after) m = record {
   met = None;
+  mid = h;
+  point = refl;
   may = refl;
   next = Stopped before after;
   step = (refl, refl);
   means = m;
   lasts = stays_lasts h true (Stopped before after) m;
+  writes = Touches-start Nowhere h.disk;
   begins = tt;
   numbers = tt;
   later = later-same h.status h.status refl;
@@ -122,11 +128,14 @@ module _ (old new : Held) (had : Bool) (whole : AreSectors (reads old.disk)) (co
       let same = one_of (reads old.disk) m.world (settle w) whole count m.opens (Always-reads old.disk (λ c. OpensOn ground c (settle w)) whole shows) in
       record {
         met = None;
+        mid = old;
+        point = refl;
         may = ap (λ (x : Status). x.failures) costs;
         next = Running m.world;
         step = (refl, ap (λ (x : World). Running x) same);
         means = m.means;
         lasts = mounted_lasts (Running w) m.world shows m.opens m.leaves;
+        writes = m.touched;
         begins = m.leaves;
         numbers = restart_numbers w m.world old.kept new.kept same m.none_kept;
         later = later-is 1 2 old.status new.status costs;
@@ -138,11 +147,14 @@ module _ (old new : Held) (had : Bool) (whole : AreSectors (reads old.disk)) (co
       answers : (Running m.world ≡ Running before) ⊎ (Running m.world ≡ Running after) → AnswersFrom (Stopped before after) event.Restart answer.Done old new has
       answers same = record {
         met = None;
+        mid = old;
+        point = refl;
         may = ap (λ (x : Status). x.failures) costs;
         next = Running m.world;
         step = (refl, same);
         means = m.means;
         lasts = mounted_lasts (Stopped before after) m.world means.1 m.opens m.leaves;
+        writes = m.touched;
         begins = m.leaves;
         numbers = m.none_kept;
         later = later-is 1 2 old.status new.status costs;
@@ -158,7 +170,7 @@ module _ (old new : Held) (had : Bool) (whole : AreSectors (reads old.disk)) (co
 
 -- the mishap of a fault, where the contents open to a world
 pub met_with : (f : MountFault) (c : Contents) (world : World) (sectors : ℕ) (old new : Held) → OpensOn ground c world → 2048 ≤ sectors → Refuses f c sectors → IsSoOf f old.status new.status
-    → (m : Mishap) × (mount_fault_of m ≡ Some f) × MayMeet old event.Restart (Some m) new.status
+    → (m : Mishap) × (mount_fault_of m ≡ Some f) × MayMeet old old event.Restart (Some m) new.status
 met_with (fault.Damaged damage block) c world sectors old new opens count cause failed = absurd (cause.none world opens)
 met_with fault.NotFormatted c world sectors old new opens count cause failed = absurd (omega arith)
 met_with fault.Version c world sectors old new opens count cause failed = absurd cause
@@ -182,6 +194,8 @@ module _ (old new : Held) (had : Bool) (f : MountFault) (sectors : ℕ) (whole :
       let next = Stopped (settle w) (settle w) in
       record {
         met = Some met.0;
+        mid = old;
+        point = refl;
         may = met.2;
         next = next;
         step = inr (record { fault = f; is = met.1; told = refl; left = refl });
@@ -190,6 +204,7 @@ module _ (old new : Held) (had : Bool) (f : MountFault) (sectors : ℕ) (whole :
           moments = LeavesOnly-weaker old.disk new.disk (λ c. ShowsState ground next c) (λ c. ShowsState ground (Running w) c ⊎ ShowsState ground next c) (λ c h. inr h) all;
           answered = LeavesOnly-now old.disk new.disk (λ c. ShowsState ground next c) all;
         };
+        writes = fault_gate f old.disk new.disk left.touched;
         begins = tt;
         numbers = tt;
         later = later;
@@ -204,6 +219,8 @@ module _ (old new : Held) (had : Bool) (f : MountFault) (sectors : ℕ) (whole :
           let all = unmounted_from before after world means.1 here so in
           record {
             met = Some met.0;
+            mid = old;
+            point = refl;
             may = met.2;
             next = Stopped before after;
             step = record { fault = f; is = met.1; told = refl; left = refl };
@@ -212,6 +229,7 @@ module _ (old new : Held) (had : Bool) (f : MountFault) (sectors : ℕ) (whole :
               moments = LeavesOnly-weaker old.disk new.disk (λ c. ShowsState ground (Stopped before after) c) (λ c. ShowsState ground (Stopped before after) c ⊎ ShowsState ground (Stopped before after) c) (λ c h. inr h) all;
               answered = LeavesOnly-now old.disk new.disk (λ c. ShowsState ground (Stopped before after) c) all;
             };
+            writes = fault_gate f old.disk new.disk left.touched;
             begins = tt;
             numbers = tt;
             later = later;

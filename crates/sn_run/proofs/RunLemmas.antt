@@ -13,8 +13,14 @@ use Rattle.sn_model.specs.declared.call.Event.{Event}
 use Rattle.sn_model.specs.declared.mount.End.{End}
 use Rattle.sn_model.specs.declared.mount.End.TheVariants as ending
 use Rattle.sn_model.specs.declared.mount.MountFault.{MountFault}
+use Rattle.sn_model.specs.declared.mount.MountFault.TheVariants.{Memory}
+use Rattle.sn_model.specs.declared.reply.Refusal.{Refusal}
 use Rattle.sn_model.specs.declared.reply.Reply.{Reply}
-use Rattle.sn_model.specs.Machine.{State, Running, Stopped, Anything, CutRun, Ends, Life, Run}
+use Rattle.sn_model.specs.declared.reply.Errno.{Errno}
+use Rattle.sn_model.specs.declared.reply.Errno.TheVariants.{Enomem, Estopped}
+use Rattle.sn_model.specs.declared.reply.Reply.TheVariants as answer
+use Rattle.sn_model.specs.Machine.{State, Running, Stopped, Anything, CutRun, Ends, Life, Run, refused}
+use Rattle.sn_model.specs.Tests.{plain}
 use Rattle.sn_model.specs.World.{World, new_world}
 use Rattle.sn_ondisk.specs.LogHalf.{base_of}
 use Rattle.sn_log.specs.Places.{first_of}
@@ -27,7 +33,7 @@ use Rattle.sn_fs.specs.Mounting.{LeavesTheWorld}
 use Rattle.sn_fs.specs.Recovering.{Mounts}
 use Rattle.sn_fs.proofs.MeaningLemmas.{means_show}
 use Rattle.sn_run.specs.Laws.{LivesOn}
-use Rattle.sn_run.specs.Runs.{AnswersAll, Goes, IsRunOf, LeavesAll, LeavesFrom, LeavesItsRun, NotMounted, OpensToCut, RunsTo, Served}
+use Rattle.sn_run.specs.Runs.{AnswersAll, Goes, HoldsNone, IsImageOf, IsRunOf, IsUnfitRun, LeavesAll, LeavesFrom, LeavesItsRun, NotMounted, OpensToCut, RunsTo, Served}
 use Rattle.sn_run.proofs.CutLemmas.{AreSettled, cut_now, found_settled, machine_run, run_leaves}
 use Rattle.sn_run.proofs.RestartLemmas.{met_with, one_of}
 
@@ -50,25 +56,34 @@ answers_more events replies e reply old mid new had was has all next s means =
 
 -- ---- a run that was served
 
+done_is_refused : (errno : Errno) → refused errno ≡ answer.Done → ⊥
+done_is_refused errno e = cc
+
+stopped_is_memory : refused Estopped ≡ refused Enomem → ⊥
+stopped_is_memory e =
+    let same : plain Estopped ≡ plain Enomem = cc in
+    let never : Estopped ≡ Enomem = ap (λ (r : Refusal). r.errno) same in cc
+
 ends_clean : (h : Held) (s : State) → Means h false s → Ends s None ending.Clean
-ends_clean h (Running w) means = refl
+ends_clean h (Running w) means = record { reply = answer.Done; unmounts = refl; ends = refl }
 ends_clean h (Stopped before after) means = absurd (true≢false (sym means.0))
 
 ends_stopped : (h : Held) (s : State) → Means h true s → Ends s None ending.Stopped
 ends_stopped h (Running w) means = absurd (true≢false means.0)
-ends_stopped h (Stopped before after) means = refl
+ends_stopped h (Stopped before after) means = record { reply = refused Estopped; unmounts = refl; ends = (done_is_refused Estopped, stopped_is_memory) }
 
-module _ (events : List Event) (replies : List Reply) (disk last_disk : Disk) (status last_status : Status) (h new : Held) (had : Bool) (m : Mounts disk h had) (costs : h.status ≡ called 1 2 status) (same_disk : last_disk ≡ new.disk) (same_status : last_status ≡ new.status) where
+module _ (events : List Event) (replies : List Reply) (disk last_disk : Disk) (status last_status : Status) (h new : Held) (had : Bool) (m : Mounts disk h had) (enough : 2048 ≤ status.sectors) (costs : h.status ≡ called 1 2 status) (same_disk : last_disk ≡ new.disk) (same_status : last_status ≡ new.status) where
   served : (has : Bool) (end : End) → AnswersAll events replies h had new has → ((s : State) → Means new has s → Ends s None end) → Served events replies end disk status last_disk last_status
   served has end all ends =
       let a = all (Running m.world) m.means in
       record {
         world = m.world;
-        opens = m.opens;
+        image = record { sound = enough; opens = m.opens };
         first = record { state = Running m.world; held = h; has_stopped = had };
         mounted = refl;
         means = m.means;
         none_kept = m.none_kept;
+        touched = m.touched;
         leaves = m.leaves;
         costs = costs;
         last = record { state = a.state; held = new; has_stopped = has };
@@ -90,7 +105,7 @@ module _ (events : List Event) (replies : List Reply) (disk last_disk : Disk) (s
 abbrev bare : Disk → Status → Held
 bare disk status = record { world = new_world; kept = λ number. false; at = first_of 256 1; disk = disk; status = status }
 
-module _ (events : List Event) (replies : List Reply) (disk last_disk : Disk) (status last_status : Status) (world : World) (whole : AreSectors (reads disk)) (count : 2048 ≤ length (reads disk)) (enough : 2048 ≤ status.sectors) (opens : OpensOn ground (reads disk) world) where
+module _ (events : List Event) (replies : List Reply) (disk last_disk : Disk) (status last_status : Status) (world : World) (whole : AreSectors (reads disk)) (count : 2048 ≤ length (reads disk)) (image : IsImageOf world status.sectors (reads disk)) where
   served_leaves : (end : End) (s : Served events replies end disk status last_disk last_status) → s.world ≡ world → LeavesItsRun world events replies disk last_disk
   served_leaves end s same =
       let starts : s.first.state ≡ Running world = s.mounted ∙ ap (λ (w : World). Running w) same in
@@ -105,7 +120,7 @@ module _ (events : List Event) (replies : List Reply) (disk last_disk : Disk) (s
 
   served_run : (end : End) → Served events replies end disk status last_disk last_status → IsRunOf world events replies end disk last_disk
   served_run end s =
-      let same = one_of (reads disk) s.world world whole count s.opens opens in
+      let same = one_of (reads disk) s.world world whole count s.image.opens image.opens in
       let starts : s.first.state ≡ Running world = s.mounted ∙ ap (λ (w : World). Running w) same in
       record {
         run = inr (inr (record {
@@ -120,7 +135,7 @@ module _ (events : List Event) (replies : List Reply) (disk last_disk : Disk) (s
 
   -- what a mount that failed leaves, before any event
   opens_to_cut : (c : Contents) → OpensOn ground c world → OpensToCut (Running world) events [] c
-  opens_to_cut c h = (world, h, cut_now world events (found_settled (reads disk) world opens))
+  opens_to_cut c h = (world, h, cut_now world events (found_settled (reads disk) world image.opens))
 
   left_so : replies ≡ [] → Touches Nowhere disk last_disk ⊎ LeavesTheWorld disk last_disk world → LeavesAll replies disk last_disk ⊎ LeavesItsRun world events replies disk last_disk
   left_so none (inl touches) = inl (record { none = none; touches = touches })
@@ -133,10 +148,10 @@ module _ (events : List Event) (replies : List Reply) (disk last_disk : Disk) (s
 
   unserved_run : (f : MountFault) → NotMounted f replies disk status last_disk last_status → IsRunOf world events replies (ending.Mount f) disk last_disk
   unserved_run f n =
-      let met = met_with f (reads disk) world status.sectors (bare disk status) (bare last_disk last_status) opens enough n.left.cause n.failed in
+      let met = met_with f (reads disk) world status.sectors (bare disk status) (bare last_disk last_status) image.opens image.sound n.left.cause n.failed in
       record {
         run = inr (inl (record { met = met.0; may = tt; fault = f; is = met.1; none = n.none; ends = refl }));
-        crash = left_so n.none (n.left.keeps world opens);
+        crash = left_so n.none (n.left.keeps world image.opens);
       }
 
   pub is_run : (end : End) → RunsTo end events replies disk status last_disk last_status → IsRunOf world events replies end disk last_disk
@@ -147,6 +162,15 @@ module _ (events : List Event) (replies : List Reply) (disk last_disk : Disk) (s
     crash = inl (record { none = h.none; touches = subst (λ (d : Disk). Touches Nowhere disk d) (sym h.left) (Touches-start Nowhere disk) });
   }
   is_run (ending.Mount f) h = unserved_run f h
+
+-- ---- a device that holds no world
+
+module _ (events : List Event) (replies : List Reply) (disk last_disk : Disk) (status last_status : Status) (none : HoldsNone status.sectors (reads disk)) where
+  pub is_unfit : (end : End) → RunsTo end events replies disk status last_disk last_status → IsUnfitRun events replies end status.sectors (reads disk)
+  is_unfit ending.Clean h = absurd (none h.world h.image)
+  is_unfit ending.Stopped h = absurd (none h.world h.image)
+  is_unfit ending.Memory h = record { fault = Memory; run = inl (record { may = tt; none = h.none; ends = refl }); cause = λ e. tt }
+  is_unfit (ending.Mount f) h = record { fault = f; run = inr (inr (record { none = h.none; ends = refl })); cause = λ e. h.left.cause }
 
 -- ---- lives
 

@@ -1,5 +1,5 @@
 -- Runs over a device, and what a crash leaves of them.
-use Rattle.std.specs.Prelude.{◌≡◌, ◌⊎◌, ℕ, Bool, false, List, [], ◌∷◌, ◌++◌, None}
+use Rattle.std.specs.Prelude.{◌≡◌, ◌⊎◌, ℕ, ◌≤◌, Bool, false, List, [], ◌∷◌, ◌++◌, None}
 use Rattle.sn_device.specs.Sectors.{Contents}
 use Rattle.sn_device.specs.Disk.{Disk, Always, reads}
 use Rattle.sn_device.specs.Crash.{LeavesOnly, Touches}
@@ -12,14 +12,14 @@ use Rattle.sn_model.specs.declared.mount.End.{End}
 use Rattle.sn_model.specs.declared.mount.End.TheVariants as ending
 use Rattle.sn_model.specs.declared.mount.MountFault.{MountFault}
 use Rattle.sn_model.specs.declared.reply.Reply.{Reply}
-use Rattle.sn_model.specs.Machine.{State, Running, Anything, CutRun, Ends, RunBy, WholeRun}
+use Rattle.sn_model.specs.Machine.{State, Running, Anything, CutRun, Ends, Holds, Lacks, RunBy, WholeRun}
 use Rattle.sn_model.specs.World.{World}
 use Rattle.sn_recovery.specs.Moments.{OpensOn}
 use Rattle.sn_fs.specs.Answers.{AnswersFrom}
 use Rattle.sn_fs.specs.Costs.{CostsAtMost}
 use Rattle.sn_fs.specs.Held.{Held, Means, ground}
-use Rattle.sn_fs.specs.Mounting.{IsSoOf, LeavesTheWorld}
-use Rattle.sn_fs.specs.Recovering.{IsLeft}
+use Rattle.sn_fs.specs.Mounting.{IsSoOf, LeavesTheWorld, TouchesOneGate}
+use Rattle.sn_fs.specs.Recovering.{IsLeft, Refuses}
 
 -- where a run stands between two events: the state of the machine, and what is held
 pub record Standing : Type 0 where
@@ -42,14 +42,24 @@ pub record IsAnswered (s : State) (events : List Event) (replies : List Reply) (
 abbrev pub AnswersAll : List Event → List Reply → Held → Bool → Held → Bool → Type 0
 AnswersAll events replies old had_stopped new has_stopped = (s : State) → Means old had_stopped s → IsAnswered s events replies old had_stopped new has_stopped
 
+-- A sound disk has all its sectors: there is no root on it yet whose tree could be unsound.
+abbrev pub IsSound : ℕ → Contents → Type 0
+IsSound sectors c = 2048 ≤ sectors
+
+-- The device holds a world: its contents are those of a sound disk, and open to it.
+pub record IsImageOf (world : World) (sectors : ℕ) (c : Contents) : Type 0 where
+  pub sound : IsSound sectors c
+  pub opens : OpensOn ground c world
+
 -- The world that the device opened to was mounted, with one write and two syncs and no number kept back, and the events were answered; the last unmount calls nothing.
 pub record Served (events : List Event) (replies : List Reply) (end : End) (disk : Disk) (status : Status) (last_disk : Disk) (last_status : Status) : Type 0 where
   pub world : World
-  pub opens : OpensOn ground (reads disk) world
+  pub image : IsImageOf world status.sectors (reads disk)
   pub first : Standing
   pub mounted : first.state ≡ Running world
   pub means : Means first.held first.has_stopped first.state
   pub none_kept : (number : ℕ) → first.held.kept number ≡ false
+  pub touched : TouchesOneGate disk first.held.disk
   pub leaves : LeavesTheWorld disk first.held.disk world
   pub costs : first.held.status ≡ called 1 2 status
   pub last : Standing
@@ -99,7 +109,17 @@ pub record LeavesAll (replies : List Reply) (old new : Disk) : Type 0 where
   pub none : replies ≡ []
   pub touches : Touches Nowhere old new
 
--- Where the device opens to a world, this is a run of the machine from that world, and it is all that a crash leaves.
+-- Where the device holds a world, this is a run of the machine from that world, and it is all that a crash leaves.
 pub record IsRunOf (world : World) (events : List Event) (replies : List Reply) (end : End) (old new : Disk) : Type 0 where
-  pub run : WholeRun Anything version_1 world events replies end
+  pub run : WholeRun Anything version_1 (Holds world) events replies end
   pub crash : LeavesAll replies old new ⊎ LeavesItsRun world events replies old new
+
+-- the device holds no world
+abbrev pub HoldsNone : ℕ → Contents → Type 0
+HoldsNone sectors c = (world : World) → IsImageOf world sectors c → ⊥
+
+-- Where it holds none, this is a run of the machine that finds why: it tells no other fault, but for want of memory and a failure of the device.
+pub record IsUnfitRun (events : List Event) (replies : List Reply) (end : End) (sectors : ℕ) (c : Contents) : Type 0 where
+  pub fault : MountFault
+  pub run : WholeRun Anything version_1 (Lacks fault) events replies end
+  pub cause : end ≡ ending.Mount fault → Refuses fault c sectors

@@ -2,9 +2,7 @@
 ghost use Rattle.std.specs.Prelude.{◌≡◌, ◌≤◌, [], IsTrue, IfOk, length, vec_capacity};
 ghost use Rattle.sn_device.specs.Disk.{reads};
 ghost use Rattle.sn_model.specs.World.{World};
-ghost use Rattle.sn_recovery.specs.Moments.{OpensOn};
-ghost use Rattle.sn_fs.specs.Held.{ground};
-ghost use Rattle.sn_run.specs.Runs.{AnswersAll, IsRunOf, RunsTo};
+ghost use Rattle.sn_run.specs.Runs.{AnswersAll, HoldsNone, IsImageOf, IsRunOf, IsUnfitRun, RunsTo};
 ghost use Rattle.sn_run.specs.Servers.{IsServer, is_stopped, standing};
 
 use crate::Server;
@@ -61,8 +59,10 @@ fn answer_all<D: Device>(
 pub fn run<D: Device>(alloc: Global, device: D, events: &[Event]) -> Ran<D>
     ensures runs { IsTrue D.tells_bytes → RunsTo result.end events.now result.replies.items
         (D.disk device) (D.status device) (D.disk result.device) (D.status result.device) }
-    ensures machine { IsTrue D.tells_bytes → (world : World) → 2048 ≤ (D.status device).sectors → OpensOn ground (reads (D.disk device)) world
+    ensures machine { IsTrue D.tells_bytes → (world : World) → IsImageOf world (D.status device).sectors (reads (D.disk device))
         → IsRunOf world events.now result.replies.items result.end (D.disk device) (D.disk result.device) }
+    ensures unfit { IsTrue D.tells_bytes → HoldsNone (D.status device).sectors (reads (D.disk device))
+        → IsUnfitRun events.now result.replies.items result.end (D.status device).sectors (reads (D.disk device)) }
 {
     let Ok(mut replies) = room_for(alloc, events.len()) else {
         return Ran {

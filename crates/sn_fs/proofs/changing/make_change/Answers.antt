@@ -9,6 +9,7 @@ returns-in-Ok-append-clause-made g c =
       made = record { tree = made.0; applied = made.1; world = made.2 };
       kept = c.in-Ok.ensures.kept;
       at = c.in-Ok-append.ensures.moves;
+      touched = λ told. (c.in-Ok-append.ensures.disk told).touched;
       moments = λ told. (c.in-Ok-append.ensures.disk told).any_moment;
       acknowledged = λ told. (c.in-Ok-append.ensures.disk told).acknowledged;
       costs = c.in-Ok-append.ensures.counts.done;
@@ -20,6 +21,7 @@ returns-in-Err-append-clause-made g c =
     record {
       room = c.has_room.ensures.0 c.if-not-has_room.false;
       made = record { tree = made.0; applied = made.1; world = made.2 };
+      touched = λ told. (c.in-Err-append.ensures.disk told).touched;
       moments = λ told. (c.in-Err-append.ensures.disk told).any_moment;
       failed = c.in-Err-append.ensures.counts.cause;
       later = later-calls _ _ _ _ _ c.in-Err-append.ensures.counts;
