@@ -32,7 +32,7 @@ met_unfailing h mid e (Some Space) new may same goes_on = tt
 met_unfailing h mid e (Some Age) new may same goes_on = may
 
 -- over a run no count falls
-runs_later : (first last : Standing) (events : List Event) (replies : List Reply) → RunBy Goes first events replies last → IsLater first.held.status last.held.status
+pub runs_later : (first last : Standing) (events : List Event) (replies : List Reply) → RunBy Goes first events replies last → IsLater first.held.status last.held.status
 runs_later first last [] [] run = later-same first.held.status last.held.status (ap (λ (x : Standing). x.held.status) run)
 runs_later first last [] (reply ∷ replies) run = absurd run
 runs_later first last (e ∷ events) [] run = absurd run

@@ -1,3 +1,4 @@
+pub mod CauseLemmas
 mod CutLemmas
 mod FailureLemmas
 pub mod NewDiskLemmas

@@ -1,3 +1,4 @@
+pub mod Causes
 pub mod Servers
 pub mod Runs
 pub mod Laws

@@ -12,6 +12,8 @@
 //!   opens to. A crash in the course of an event leaves what the machine's run leaves that is cut short in
 //!   that event or behind it, and behind the last event all that was answered (`LeavesItsRun`).
 //! - [`no_failure_is_invented`]: where the device didn't fail, no event was refused for a failure.
+//! - [`only_its_end_fails`]: where the device's count of failures stayed, each failure was the device's end: a
+//!   device whose type keeps that count at 0 fails in no other way.
 //! - [`crash_laws`]: so it is over lives, each of which begins from what a crash in the one before has left.
 //!
 //! ```text
@@ -23,6 +25,6 @@ mod laws;
 mod running;
 mod server;
 
-pub use laws::{crash_laws, new_disk_law, no_failure_is_invented};
+pub use laws::{crash_laws, new_disk_law, no_failure_is_invented, only_its_end_fails};
 pub use running::{Ran, run};
 pub use server::Server;
