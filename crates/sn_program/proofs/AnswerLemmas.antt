@@ -1,6 +1,7 @@
 -- From what the layers say to what the program's text is.
-use Rattle.std.proofs.Common.{◌≡◌, ◌≤◌, ◌∙◌, ℕ, List, [], Result, Ok, Err, take, replicate, inl, inr, refl, sym, ap, subst, lit≤}
-use Rattle.std.specs.Prelude.{◌⊎◌, OnOk, OnErr, IsErrAnd}
+use Rattle.std.proofs.Common.{◌≡◌, ◌≤◌, ◌<◌, ◌+◌, ◌-◌, ◌^◌, ◌||◌, ◌∙◌, ℕ, nat_le, true, IsTrue, List, [], Result, Ok, Err, take, replicate, inl, inr, refl, sym, ap, subst, lit≤, arith}
+use Rattle.std.proofs.lemmas.Bool.{leb-true, or_cases}
+use Rattle.std.specs.Prelude.{◌⊎◌, OnOk, OnErr, IfErr, IsErrAnd}
 use Rattle.std.specs.declared.option.Option.{Option}
 use Rattle.std.specs.Io.KnownBytes.{Keeps}
 use Rattle.std.specs.List.{flat_map}
@@ -8,24 +9,30 @@ use Rattle.std.proofs.Math.Seq.{take-nil}
 use Rattle.sn_model.specs.declared.call.Event.{Event}
 use Rattle.sn_model.specs.declared.mount.End.{End}
 use Rattle.sn_model.specs.declared.mount.End.TheVariants.{Clean, Stopped, Memory, Mount}
+use Rattle.sn_model.specs.declared.mount.MountFault.{MountFault}
+use Rattle.sn_model.specs.declared.mount.MountFault.TheVariants as mount
 use Rattle.sn_model.specs.declared.reply.Reply.{Reply}
 use Rattle.sn_limits.specs.Versions.{version_1}
 use Rattle.sn_device.specs.Disk.{Disk, reads}
-use Rattle.sn_device.specs.Memory.{disk_of, first, status_of}
-use Rattle.sn_device.specs.Status.{uncalled}
-use Rattle.sn_device.specs.declared.memory.MemDevice.{MemDevice}
+use Rattle.sn_device.specs.Memory.{first}
+use Rattle.sn_device.specs.Status.{has_ended}
 use Rattle.sn_device.specs.declared.status.Status.{Status}
 use Rattle.sn_recovery.specs.Moments.{OpensOn}
 use Rattle.sn_fs.specs.Held.{ground}
-use Rattle.sn_run.specs.Runs.{IsImageOf, IsRunOf}
+use Rattle.sn_fs.specs.Recovering.{Refuses}
+use Rattle.sn_run.specs.Causes.{FailsAtItsEnd}
+use Rattle.sn_run.specs.Runs.{IsImageOf, IsRunOf, RunsTo}
+use Rattle.sn_run.proofs.CauseLemmas.{causes}
 use Rattle.sn_run.proofs.NewDiskLemmas.{new_disk_opens}
-use Rattle.sn_model.specs.Machine.{State, Running, HasNoList, HasNoMount, HasRun, Holds, Anything, Run, WholeRun}
+use Rattle.sn_model.specs.Machine.{State, Running, Holds, Anything, Run, WholeRun}
 use Rattle.sn_model.specs.World.{World, new_world}
 use Rattle.sn_replies.specs.Replies.{reply_line}
 use Rattle.sn_script.specs.Scripts.{IsScript}
-use Rattle.sn_program.specs.Answers.{AppendsFront, BeginsToAnswer, IsAnswer}
+use Rattle.sn_program.specs.Answers.{AppendsFront, BeginsToAnswer, HasItsRun, IsAnswer, MountFails, RunsInMemory, new_disk, new_status}
+use Rattle.sn_program.specs.ScriptDisks.{disk_under, status_under}
+use Rattle.sn_program.specs.declared.disk.ScriptDisk.{ScriptDisk}
 use Rattle.sn_program.proofs.OutputLemmas.{keeps_none}
-use Rattle.sn_program.specs.Fault.{fault_of}
+use Rattle.sn_program.specs.Fault.{IsOfFile, fault_of}
 use Rattle.sn_program.specs.declared.fault.Fault.{Fault}
 use Rattle.sn_program.specs.declared.fault.Fault.TheVariants as fault
 use Rattle.sn_script.specs.declared.fault.ScriptFault.{ScriptFault}
@@ -37,35 +44,143 @@ clean_end Stopped x h = absurd cc
 clean_end Memory x h = absurd cc
 clean_end (Mount m) x h = absurd cc
 
-answers : (script : List ℕ) (read given : List Event) (replies shown : List Reply) (last : State) → given ≡ read → shown ≡ replies
-    → IsScript read script → Run Anything version_1 (Running new_world) given replies last → IsAnswer script (flat_map reply_line shown)
-answers script read given replies shown last same kept is run = record {
-  events = read;
+-- A disk that has counted few calls and no failure has ended since its record couldn't grow.
+spent_so : (s : Status) → s.failures ≡ 0 → s.writes ≤ 1 → s.syncs ≤ 2 → IsTrue (has_ended s) → IsTrue s.is_spent
+spent_so s unfailing writes syncs ended = from (or_cases (s.is_spent || nat_le (2 ^ 64 - 1) s.failures) (nat_le (2 ^ 64 - 1) (s.writes + s.syncs)) ended)
+  where
+    early : (s.is_spent ≡ true) ⊎ (nat_le (2 ^ 64 - 1) s.failures ≡ true) → s.is_spent ≡ true
+    early (inl is) = is
+    early (inr is) = absurd (omega (arith, leb-true (2 ^ 64 - 1) s.failures is, unfailing))
+
+    from : ((s.is_spent || nat_le (2 ^ 64 - 1) s.failures) ≡ true) ⊎ (nat_le (2 ^ 64 - 1) (s.writes + s.syncs) ≡ true) → s.is_spent ≡ true
+    from (inl is) = early (or_cases s.is_spent (nat_le (2 ^ 64 - 1) s.failures) is)
+    from (inr is) = absurd (omega (arith, leb-true (2 ^ 64 - 1) (s.writes + s.syncs) is, writes, syncs))
+
+is_new : (d : Disk) → d ≡ first (replicate 2048 (replicate 512 0)) → d ≡ new_disk
+unfolding new_disk
+is_new d zeros = zeros
+
+opens_new : OpensOn ground (reads new_disk) new_world
+unfolding new_disk
+opens_new = new_disk_opens 2048 (lit≤ tt)
+
+never_less : 2048 < 2048 → ⊥
+never_less h = omega arith
+
+-- a first mount of the new disk fails for memory, or at its end
+refuses : (m : MountFault) (s : Status) → Refuses m (reads new_disk) 2048 → FailsAtItsEnd m s → s.failures ≡ 0 → s.writes ≤ 1 → s.syncs ≤ 2 → MountFails m s
+refuses mount.NotFormatted s cause ended unfailing writes syncs = absurd (never_less cause)
+refuses mount.Version s cause ended unfailing writes syncs = cause
+refuses mount.NoRoot s cause ended unfailing writes syncs = cause
+refuses (mount.Damaged damage block) s cause ended unfailing writes syncs = absurd (cause.none new_world opens_new)
+refuses mount.Memory s cause ended unfailing writes syncs = tt
+refuses mount.Device s cause ended unfailing writes syncs = spent_so s unfailing writes syncs ended
+
+mount_fails : (m : MountFault) (events : List Event) (replies : List Reply) (h : RunsInMemory (Mount m) events replies) → MountFails m h.status
+mount_fails m events replies h = refuses m h.status h.runs.left.cause h.causes h.unfailing h.runs.costs.writes h.runs.costs.syncs
+
+-- a run on a new disk in memory
+pub runs_in_memory : (disk last : ScriptDisk) (events : List Event) (replies : List Reply) (end : End) → disk_under disk ≡ first (replicate 2048 (replicate 512 0)) → status_under disk ≡ new_status
+    → RunsTo end events replies (disk_under disk) (status_under disk) (disk_under last) (status_under last) → RunsInMemory end events replies
+runs_in_memory disk last events replies end zeros status runs =
+    let of_disk : RunsTo end events replies new_disk (status_under disk) (disk_under last) (status_under last) = subst (λ (d : Disk). RunsTo end events replies d (status_under disk) (disk_under last) (status_under last)) (is_new (disk_under disk) zeros) runs in
+    let anew : RunsTo end events replies new_disk new_status (disk_under last) (status_under last) = subst (λ (s : Status). RunsTo end events replies new_disk s (disk_under last) (status_under last)) status of_disk in
+    record {
+      disk = disk_under last;
+      status = status_under last;
+      runs = anew;
+      unfailing = last.unfailing;
+      causes = causes events replies new_disk (disk_under last) new_status (status_under last) last.unfailing end anew;
+    }
+
+-- ---- ends that differ
+
+memory_is_no_clean : Memory ≡ Clean → ⊥
+memory_is_no_clean h = cc
+
+mount_is_no_clean : (m : MountFault) → Mount m ≡ Clean → ⊥
+mount_is_no_clean m h = cc
+
+stopped_is_no_memory : Stopped ≡ Memory → ⊥
+stopped_is_no_memory h = cc
+
+stopped_is_no_mount : (m : MountFault) → Stopped ≡ Mount m → ⊥
+stopped_is_no_mount m h = cc
+
+ok_is_no_err : (x : Unit {0}) (why : Fault) → Ok x ≡ Err why → ⊥
+ok_is_no_err x why h = cc
+
+same_fault : (a b : Fault) (r : Result (Unit {0}) Fault) → r ≡ Err a → r ≡ Err b → a ≡ b
+same_fault a b r h k = cc
+
+-- ---- answers
+
+answers : (end : End) (script : List ℕ) (read given : List Event) (replies shown : List Reply) (last : State) → given ≡ read → shown ≡ replies
+    → IsScript read script → Run Anything version_1 (Running new_world) given replies last → RunsInMemory end given replies → IsAnswer end script (flat_map reply_line shown)
+answers end script read given replies shown last same kept is run in_memory = record {
+  events = given;
   replies = replies;
   last = last;
-  read = is;
-  run = subst (λ (es : List Event). Run Anything version_1 (Running new_world) es replies last) same run;
+  read = subst (λ (es : List Event). IsScript es script) (sym same) is;
+  run = run;
+  in_memory = in_memory;
   printed = ap (flat_map reply_line) kept;
 }
-
--- a run that ends well has answered, and any other has too, or has no replies
-pub clean_answers : (script : List ℕ) (read given : List Event) (replies shown : List Reply) (e : End) → given ≡ read → shown ≡ replies → IsScript read script → WholeRun Anything version_1 (Holds new_world) given replies e → e ≡ Clean → IsAnswer script (flat_map reply_line shown)
-clean_answers script read given replies shown e same kept is (inl h) clean = let never : Memory ≡ Clean = sym h.ends ∙ clean in cc
-clean_answers script read given replies shown e same kept is (inr (inl h)) clean = let never : Mount h.fault ≡ Clean = sym h.ends ∙ clean in cc
-clean_answers script read given replies shown e same kept is (inr (inr h)) clean = answers script read given replies shown h.last same kept is h.run
 
 no_lines : (replies shown : List Reply) → shown ≡ replies → replies ≡ [] → flat_map reply_line shown ≡ []
 no_lines replies shown kept none = ap (flat_map reply_line) (kept ∙ none)
 
-pub some_answers : (script : List ℕ) (read given : List Event) (replies shown : List Reply) (e : End) → given ≡ read → shown ≡ replies → IsScript read script → WholeRun Anything version_1 (Holds new_world) given replies e → (flat_map reply_line shown ≡ []) ⊎ IsAnswer script (flat_map reply_line shown)
-some_answers script read given replies shown e same kept is (inl h) = inl (no_lines replies shown kept h.none)
-some_answers script read given replies shown e same kept is (inr (inl h)) = inl (no_lines replies shown kept h.none)
-some_answers script read given replies shown e same kept is (inr (inr h)) = inr (answers script read given replies shown h.last same kept is h.run)
+module _ (script : List ℕ) (read given : List Event) (replies shown : List Reply) (same : given ≡ read) (kept : shown ≡ replies) (is : IsScript read script) where
+  -- a run that ends well has answered, and any other has too, or has no replies
+  pub clean_answers : (e : End) → WholeRun Anything version_1 (Holds new_world) given replies e → RunsInMemory e given replies → e ≡ Clean → IsAnswer Clean script (flat_map reply_line shown)
+  clean_answers e (inl h) in_memory clean = absurd (memory_is_no_clean (sym h.ends ∙ clean))
+  clean_answers e (inr (inl h)) in_memory clean = absurd (mount_is_no_clean h.fault (sym h.ends ∙ clean))
+  clean_answers e (inr (inr h)) in_memory clean = subst (λ (x : End). IsAnswer x script (flat_map reply_line shown)) clean (answers e script read given replies shown h.last same kept is h.run in_memory)
+
+  pub some_answers : (e : End) → WholeRun Anything version_1 (Holds new_world) given replies e → RunsInMemory e given replies → (flat_map reply_line shown ≡ []) ⊎ IsAnswer e script (flat_map reply_line shown)
+  some_answers e (inl h) in_memory = inl (no_lines replies shown kept h.none)
+  some_answers e (inr (inl h)) in_memory = inl (no_lines replies shown kept h.none)
+  some_answers e (inr (inr h)) in_memory = inr (answers e script read given replies shown h.last same kept is h.run in_memory)
+
+  stopped_answers : WholeRun Anything version_1 (Holds new_world) given replies Stopped → RunsInMemory Stopped given replies → IsAnswer Stopped script (flat_map reply_line shown)
+  stopped_answers (inl h) in_memory = absurd (stopped_is_no_memory h.ends)
+  stopped_answers (inr (inl h)) in_memory = absurd (stopped_is_no_mount h.fault h.ends)
+  stopped_answers (inr (inr h)) in_memory = answers Stopped script read given replies shown h.last same kept is h.run in_memory
+
+  -- a fault that a run ended with has its cause in it
+  pub ends_for : (e : End) (why : Fault) (old new : Option (List ℕ)) → fault_of e ≡ Err why → WholeRun Anything version_1 (Holds new_world) given replies e → RunsInMemory e given replies → AppendsFront old new (flat_map reply_line shown) → HasItsRun why script old new
+  ends_for Clean why old new told whole in_memory front = absurd (ok_is_no_err tt why told)
+  ends_for Stopped why old new told whole in_memory front =
+      let named : fault.Stopped ≡ why = same_fault fault.Stopped why (fault_of Stopped) refl told in
+      subst (λ (f : Fault). HasItsRun f script old new) named (flat_map reply_line shown, stopped_answers whole in_memory, front)
+  ends_for Memory why old new told whole in_memory front =
+      let named : fault.Memory ≡ why = same_fault fault.Memory why (fault_of Memory) refl told in
+      subst (λ (f : Fault). HasItsRun f script old new) named tt
+  ends_for (Mount m) why old new told whole in_memory front =
+      let named : fault.Mount m ≡ why = same_fault (fault.Mount m) why (fault_of (Mount m)) refl told in
+      subst (λ (f : Fault). HasItsRun f script old new) named (record {
+        events = given;
+        replies = replies;
+        read = subst (λ (es : List Event). IsScript es script) (sym same) is;
+        in_memory = in_memory;
+        fails = mount_fails m given replies in_memory;
+      })
 
 -- what was written of the text of a run
-pub written_front : (script text : List ℕ) (old new : Option (List ℕ)) → (text ≡ []) ⊎ IsAnswer script text → AppendsFront old new text → Keeps old new ⊎ BeginsToAnswer script old new
-written_front script text old new (inl none) front = inl (keeps_none old new (take front.0 text) (ap (take front.0) none ∙ take-nil {A = ℕ} front.0) front.1)
-written_front script text old new (inr answer) front = inr (text, answer, front)
+pub written_front : (end : End) (script text : List ℕ) (old new : Option (List ℕ)) → (text ≡ []) ⊎ IsAnswer end script text → AppendsFront old new text → Keeps old new ⊎ BeginsToAnswer script old new
+written_front end script text old new (inl none) front = inl (keeps_none old new (take front.0 text) (ap (take front.0) none ∙ take-nil {A = ℕ} front.0) front.1)
+written_front end script text old new (inr answer) front = inr (end, (text, answer, front))
+
+-- a fault of writing needs no cause in the run
+pub file_cause : (r : Result (Unit {0}) Fault) (script : List ℕ) (old new : Option (List ℕ)) → IfErr r IsOfFile → IfErr r (λ why. HasItsRun why script old new)
+file_cause (Ok x) script old new h = tt
+file_cause (Err why) script old new (inl is) = subst (λ (f : Fault). HasItsRun f script old new) (sym is) tt
+file_cause (Err why) script old new (inr is) = subst (λ (f : Fault). HasItsRun f script old new) (sym is) tt
+
+-- that of a run has it
+pub run_cause : (r : Result (Unit {0}) Fault) (why : Fault) (script : List ℕ) (old new : Option (List ℕ)) → IsErrAnd r (λ given. given ≡ why) → HasItsRun why script old new → IfErr r (λ given. HasItsRun given script old new)
+run_cause (Ok x) why script old new is h = absurd is
+run_cause (Err given) why script old new is h = subst (λ (f : Fault). HasItsRun f script old new) (sym is) h
 
 pub on_ok : {T E P Q : Type 0} (r : Result T E) → (P → Q) → OnOk r P → OnOk r Q
 on_ok (Ok x) f h = f h
@@ -83,7 +198,7 @@ script_fault (Err e) why n p (inl q) = inl (p ∙ ap fault.Script q)
 script_fault (Err e) why n p (inr q) = inr (p ∙ ap fault.Script q)
 
 -- a run on a new device in memory is one from a new world
-pub new_run : (device : MemDevice) (events : List Event) (replies : List Reply) (end : End) (last : Disk) → disk_of device ≡ first (replicate 2048 (replicate 512 0)) → status_of device ≡ uncalled 2048
-    → (IsImageOf new_world (status_of device).sectors (reads (disk_of device)) → IsRunOf new_world events replies end (disk_of device) last) → WholeRun Anything version_1 (Holds new_world) events replies end
+pub new_run : (device : ScriptDisk) (events : List Event) (replies : List Reply) (end : End) (last : Disk) → disk_under device ≡ first (replicate 2048 (replicate 512 0)) → status_under device ≡ new_status
+    → (IsImageOf new_world (status_under device).sectors (reads (disk_under device)) → IsRunOf new_world events replies end (disk_under device) last) → WholeRun Anything version_1 (Holds new_world) events replies end
 new_run device events replies end last zeros status runs =
     (runs (record { sound = subst (λ (s : Status). 2048 ≤ s.sectors) (sym status) (lit≤ tt); opens = subst (λ (d : Disk). OpensOn ground (reads d) new_world) (sym zeros) (new_disk_opens 2048 (lit≤ tt)) })).run

@@ -1,6 +1,6 @@
 -- A script that was read from a reader is all that the reader had, unless it is too long.
-use Rattle.std.proofs.Common.{◌≡◌, ◌∙◌, ℕ, ◌<◌, ◌≤◌, Bool, true, false, ltb, List, [], ◌++◌, Some, None, Result, Ok, Err, take, length, inl, inr, refl, ap, subst, arith, ltb-true}
-use Rattle.std.specs.Prelude.{◌⊎◌, ◌↔◌, OnOk, OnErr, IfSome, IsErrOf}
+use Rattle.std.proofs.Common.{◌≡◌, ◌∙◌, ℕ, ◌<◌, ◌≤◌, Bool, true, false, ltb, List, [], ◌++◌, Some, None, Result, Ok, Err, take, length, inl, inr, refl, sym, ap, subst, arith, ltb-true}
+use Rattle.std.specs.Prelude.{◌⊎◌, ◌↔◌, OnOk, OnErr, IfErr, IfSome, IsErrAnd, IsErrOf}
 use Rattle.std.specs.declared.option.Option.{Option}
 use Rattle.std.specs.declared.io.traits.Take.{Take}
 use Rattle.std.specs.Option.{option_map}
@@ -11,7 +11,8 @@ use Rattle.std.proofs.lemmas.List.{length-take, take_all}
 use Rattle.sn_script.specs.declared.fault.ScriptFault.TheVariants as reading
 use Rattle.sn_program.specs.declared.fault.Fault.{Fault}
 use Rattle.sn_program.specs.declared.fault.Fault.TheVariants as fault
-use Rattle.sn_program.specs.Answers.{Answers, BeginsToAnswer, HasAnswered, HasBegun, IsOf}
+use Rattle.sn_program.specs.Answers.{Answers, BeginsToAnswer, HasAnswered, HasBegun, HasItsRun, HasItsRunOf, IsOf}
+use Rattle.sn_program.specs.Fault.{IsOfFile}
 use Rattle.sn_program.proofs.OutputLemmas.{keeps_same}
 
 -- the front of what a reader had, up to one byte past the most that a script may have
@@ -57,3 +58,29 @@ begun_all (Err e) known script old new read long same (inr h) = told (ltb 167772
 pub long_all : (r : Result (Unit {0}) Fault) (known : Option (List ℕ)) (script : List ℕ) → IsRead known script → TellsLong r script → IfSome known (λ all. IsTooLong r → 16777216 < length all)
 long_all r None script read long = tt
 long_all r (Some all) script read long = λ e. omega (arith, long.0 e, ap length read, length-take {A = ℕ} 16777217 all)
+
+some_script : (known : Option (List ℕ)) → (script : List ℕ) × IsOf known script
+some_script None = ([], tt)
+some_script (Some all) = (all, refl)
+
+-- a fault that is none of a run needs no script
+no_run : (known old new : Option (List ℕ)) (why other : Fault) → why ≡ other → ((script : List ℕ) → HasItsRun other script old new) → HasItsRunOf known why old new
+no_run known old new why other is h =
+    let some = some_script known in
+    (some.0, some.1, subst (λ (f : Fault). HasItsRun f some.0 old new) (sym is) (h some.0))
+
+pub cause_unread : (r : Result (Unit {0}) Fault) (given : Fault) (known old new : Option (List ℕ)) → IsErrAnd r (λ why. why ≡ given) → IsOfFile given → IfErr r (λ why. HasItsRunOf known why old new)
+cause_unread (Ok x) given known old new is h = absurd is
+cause_unread (Err why) given known old new is (inl file) = no_run known old new why fault.File (is ∙ file) (λ script. tt)
+cause_unread (Err why) given known old new is (inr memory) = no_run known old new why fault.Memory (is ∙ memory) (λ script. tt)
+
+too_long : (why : Fault) → IsTooLong (Err why) → why ≡ fault.Script (reading.Line 0)
+too_long why h = cc
+
+pub cause_all : (r : Result (Unit {0}) Fault) (known : Option (List ℕ)) (script : List ℕ) (old new : Option (List ℕ)) → IsRead known script → TellsLong r script → IfErr r (λ why. HasItsRun why script old new) → IfErr r (λ why. HasItsRunOf known why old new)
+cause_all (Ok x) known script old new read long h = tt
+cause_all (Err why) known script old new read long h = told (ltb 16777216 (length script)) refl
+  where
+    told : (b : Bool) → ltb 16777216 (length script) ≡ b → HasItsRunOf known why old new
+    told true t = no_run known old new why (fault.Script (reading.Line 0)) (too_long why (long.1 (ltb-true 16777216 (length script) t))) (λ s. tt)
+    told false t = (script, read_all known script read (ltb-false 16777216 (length script) t), h)

@@ -3,13 +3,14 @@
 //!
 //! [`program`] is all of it. It reads the words by `sn_command`, then the script's file, and [`answer`] makes of the
 //! script's bytes the bytes of its replies: its clause, by `specs/Answers`, is the whole way from a script to what is
-//! written. [`answer_from`] reads the script from any reader. Each fault is a [`Fault`], whose text is the line on standard error and whose status the shell sees.
+//! written, over a disk in memory that fails in no other way than by coming to its end. [`answer_from`] reads the script from any reader. Each fault is a [`Fault`], whose text is the line on standard error and whose status the shell sees.
 //!
 //! ```text
 //! let status = program(&rt, &["run", "image", "first.snap"], &mut out, &mut err);
 //! ```
 #![tactic(auto)]
 
+mod disk;
 mod fault;
 mod output;
 mod run;

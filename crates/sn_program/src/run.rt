@@ -3,14 +3,14 @@ ghost use Rattle.std.specs.Io.KnownBytes.{Keeps};
 ghost use Rattle.sn_script.specs.Scripts.{IsFirstBad};
 ghost use Rattle.sn_script.specs.declared.fault.ScriptFault.{ScriptFault};
 ghost use Rattle.sn_script.specs.declared.fault.ScriptFault.TheVariants as reading;
-ghost use Rattle.sn_program.specs.Answers.{Answers, BeginsToAnswer, HasAnswered, HasBegun};
+ghost use Rattle.sn_program.specs.Answers.{Answers, BeginsToAnswer, HasAnswered, HasBegun, HasItsRun, HasItsRunOf};
 ghost use Rattle.sn_program.specs.Fault.{IsOfFile};
 ghost use Rattle.sn_program.specs.declared.fault.Fault.TheVariants as fault;
 
+use crate::disk::ScriptDisk;
 use crate::fault::{Fault, tell};
 use crate::output::write_replies;
 use sn_command::{Task, parse};
-use sn_device::MemDevice;
 use sn_run::{Ran, run};
 use sn_script::{SCRIPT_MAX, read_script};
 use std::alloc::Global;
@@ -39,6 +39,9 @@ pub fn answer<W: Write>(alloc: Global, script: &[u8], out: &mut W) -> Result<(),
     ensures answered { OnOk result (Answers script.now (W.contents out.old) (W.contents out.new)) }
     ensures front { OnErr result (Keeps (W.contents out.old) (W.contents out.new) ⊎ BeginsToAnswer script.now (W.contents out.old) (W.contents out.new)) }
 
+    // The run stopped, or wasn't mounted, only where the disk in memory had come to its end, or memory was refused.
+    ensures cause { IfErr result (λ why. HasItsRun why script.now (W.contents out.old) (W.contents out.new)) }
+
     // A fault of the script names its first bad line, or 0 where it is too long, and nothing is written.
     ensures long { IsErrOf result (fault.Script (reading.Line 0)) ↔ (16777216 < length script.now) }
     ensures bad { (n : ℕ) → IsErrOf result (fault.Script (reading.Line (n + 1))) → IsFirstBad script.now (n + 1) }
@@ -50,7 +53,7 @@ pub fn answer<W: Write>(alloc: Global, script: &[u8], out: &mut W) -> Result<(),
     ensures words { IfErr result (λ why. why ≢ fault.Usage) }
 {
     let events = read_script(alloc, script)?;
-    let device = MemDevice::new(alloc, SECTORS)?;
+    let device = ScriptDisk::new(alloc, SECTORS)?;
     let Ran { replies, end, .. } = run(alloc, device, events.as_slice());
     let written = write_replies(alloc, replies.as_slice(), out);
     Fault::of_end(end)?;
@@ -65,6 +68,7 @@ pub fn answer_from<R: Read + Drop, W: Write>(
 ) -> Result<(), Fault>
     ensures answered { OnOk result (HasAnswered (R.remaining reader) (W.contents out.old) (W.contents out.new)) }
     ensures front { OnErr result (HasBegun (R.remaining reader) (W.contents out.old) (W.contents out.new)) }
+    ensures cause { IfErr result (λ why. HasItsRunOf (R.remaining reader) why (W.contents out.old) (W.contents out.new)) }
     ensures long { IfSome (R.remaining reader) (λ script. IsErrOf result (fault.Script (reading.Line 0)) → 16777216 < length script) }
     ensures words { IfErr result (λ why. why ≢ fault.Usage) }
 {
