@@ -9,6 +9,8 @@
 //! ACL and its mode, `inheritance.rt` the ACLs of a new object, `text.rt` the texts, and `laws.rt` what follows
 //! from the definitions.
 //!
+//! What the sources leave open is decided in `docs/DECISIONS.md`, under "Access control lists".
+//!
 //! ```text
 //! let acl = Acl::parse(b"u::rw-,u:1001:rw-,g::r--,m::r--,o::---")?;
 //! let caller = Cred::new(1001, 100, &[]);

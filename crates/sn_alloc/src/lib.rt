@@ -6,6 +6,8 @@
 //! stopped, so no word is looked at twice, and a block is never taken twice. The map stays as it was
 //! given: its words change when the blocks come to be reached by a root.
 //!
+//! What the sources leave open is decided in `docs/DECISIONS.md`, under "The block map and the allocator".
+//!
 //! ```text
 //! let mut allocator = BlockAllocator::new(alloc, map, 70);
 //! allocator.reserve(2)?;

@@ -30,6 +30,8 @@
 //! - `examples.rt` has three layers over any device, proved from these contracts alone. The first
 //!   lends two blocks in turn and has no proof file:
 //!
+//! What the sources leave open is decided in `docs/DECISIONS.md`, under "Blocks".
+//!
 //! ```text
 //! let first = blocks.read_block(first)?[0];
 //! let second = blocks.read_block(second)?[0];

@@ -8,6 +8,8 @@
 //! change; and `calling` sets what becomes of the session and its descriptors, and drops a file that nobody has
 //! and no name stands for. `specs/Plain` says which world this stands for.
 //!
+//! What the sources leave open is decided in `docs/DECISIONS.md`, under "The tree in memory".
+//!
 //! ```text
 //! let (replies, end) = run_plain(alloc, &events);
 //! ```

@@ -7,6 +7,8 @@
 //! `checks` has the tests, each once for all calls; `decisions`, `access_calls` and `file_calls` have the
 //! calls, and `sn_core_names` has those on names and listings.
 //!
+//! What the sources leave open is decided in `docs/DECISIONS.md`, under "Decisions of calls".
+//!
 //! ```text
 //! let path = path_argument(&word)?;
 //! let outcome = mkdir(&limits, &mut view, &caller, &path, mode)?;

@@ -5,6 +5,8 @@
 //! tests of each (`specs/NameCalls` there). [`MoveView`] is what [`rename`] asks beside: whether a directory is
 //! below another. `calls` has rmdir, link and readdir, `renaming` has rename.
 //!
+//! What the sources leave open is decided in `docs/DECISIONS.md`, under "Decisions of calls".
+//!
 //! ```text
 //! let outcome = rename(&limits, &mut view, &caller, &old, &new)?;
 //! ```

@@ -13,6 +13,8 @@
 //! `open_files` counts beside them how many descriptors each live file has, so that whether a file is
 //! held is a look-up; and `sessions` has the calls.
 //!
+//! What the sources leave open is decided in `docs/DECISIONS.md`, under "Sessions and open files".
+//!
 //! ```text
 //! let mut sessions = Sessions::new(alloc)?;
 //! sessions.login(0, caller);

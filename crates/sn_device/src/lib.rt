@@ -33,6 +33,8 @@
 //! - An example of a layer over any device is the journal of two sectors, a body and a gate, that the crate
 //!   `sn_tests_disk` proves and runs. Its writer is
 //!
+//! What the sources leave open is decided in `docs/DECISIONS.md`, under "The device".
+//!
 //! ```text
 //! pub fn put<D: Device>(device: &mut D, body: &Sector) -> Result<(), Fault>
 //!     requires room { BODY < (D.status device.old).sectors }

@@ -16,6 +16,8 @@
 //! The way through: `blocks` fetches and decodes one block, `lookups` goes over them, `listings` copies the
 //! names and sorts them. A block by itself, by `fetch_block` and `decoded`, is for those who change names.
 //!
+//! What the sources leave open is decided in `docs/DECISIONS.md`, under "Images and their readers".
+//!
 //! ```text
 //! let number = lookup(blocks, &tree, b"passwd")?;
 //! for listed in &names(alloc, blocks, &tree)? { .. }

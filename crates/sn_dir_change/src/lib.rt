@@ -20,6 +20,8 @@
 //! the directory has, `pending` are the changes still to be made, `through` goes over the blocks, `fill` makes
 //! new ones, and `planned` puts all together.
 //!
+//! What the sources leave open is decided in `docs/DECISIONS.md`, under "Directories that change".
+//!
 //! ```text
 //! let mut build = Build::new(alloc, allocator);
 //! let tree = insert(alloc, &mut build, &mut blocks, &tree, b"passwd", 17)?;

@@ -4,6 +4,8 @@
 //! block that isn't there is a hole, and reads as zeros. `file` has the calls, each exact over the
 //! list; below it, `blocks` has the map, over which `byte_at` in `specs/Blocks` tells the byte at an
 //! offset, and `block` has one block.
+//!
+//! What the sources leave open is decided in `docs/DECISIONS.md`, under "The tree in memory".
 #![tactic(auto)]
 
 mod block;

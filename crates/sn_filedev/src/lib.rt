@@ -13,6 +13,8 @@
 //! none is left, and that a read gives its sector as the block around it had it when it was read, of
 //! which no sector is gathered. That nothing is let go before the file took it is tested.
 //!
+//! What the sources leave open is decided in `docs/DECISIONS.md`, under "The device".
+//!
 //! ```text
 //! let mut device = FileDevice::create(rt.alloc(), &rt, "image", 256)?;
 //! device.write(15, &sector)?;

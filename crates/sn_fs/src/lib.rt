@@ -19,6 +19,8 @@
 //! mount finds. A call is decided by `sn_core`; `changing` makes its change in memory, which takes all the
 //! memory, and then appends its record; `replaying` and `recovering` are the parts of a mount.
 //!
+//! What the sources leave open is decided in `docs/DECISIONS.md`, under "Mount and calls over a device".
+//!
 //! ```text
 //! let mut fs = mount(alloc, device)?;
 //! let reply = fs.call(session, &call);

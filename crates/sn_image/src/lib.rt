@@ -29,6 +29,8 @@
 //!   limits. And one that is placed and well formed is sound where it denotes one: so whoever makes a root
 //!   shows of the tree what a change of it keeps anyhow, and of the blocks what they were filled with.
 //!
+//! What the sources leave open is decided in `docs/DECISIONS.md`, under "Images and their readers".
+//!
 //! ```text
 //! SoundRootsAreTrees = (limits : Limits) (n : ℕ) (s : Store) (inodes : BlockTree)
 //!     → limits_of limits.version ≡ Some limits

@@ -24,6 +24,8 @@
 //! has `with`: `acl_changes` makes the record of each change and places its ACL block, `record_blocks` stores
 //! the records in copies of their blocks, and `plan_tree` of `sn_tree` plans the file with those.
 //!
+//! What the sources leave open is decided in `docs/DECISIONS.md`, under "Planning trees".
+//!
 //! ```text
 //! let inode = get(blocks, &limits, &file, number)?;
 //! let acls = acls(blocks, &inode)?;

@@ -10,6 +10,8 @@
 //! `tree` (a root of blocks), `snapshot` and `snapshots`, `root`, whose limits and names are those
 //! of `sn_limits`. What reads and writes the bytes is `sn_bytes`, which comes with this crate.
 //!
+//! What the sources leave open is decided in `docs/DECISIONS.md`, under "The codecs".
+//!
 //! ```text
 //! let superblock = Superblock::decode(&block)?;
 //! let map = superblock.places.range(Area::MapCopy(Slot::A));

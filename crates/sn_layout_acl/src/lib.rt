@@ -8,6 +8,8 @@
 //!
 //! The way through: `acl_entries` (an entry, and many of them), `acl_block`, `mode`.
 //!
+//! What the sources leave open is decided in `docs/DECISIONS.md`, under "The codecs".
+//!
 //! ```text
 //! let acls = AclBlock::decode(&block)?;
 //! let acl = acls.access.join(inode.objects);

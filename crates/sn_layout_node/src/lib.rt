@@ -11,6 +11,8 @@
 //! The way through: `inode` over `head` and `content`, `directory`, `indirect`. `fields` and `name`
 //! are what inodes and names look like in a log record too, whose bytes may end early.
 //!
+//! What the sources leave open is decided in `docs/DECISIONS.md`, under "The codecs".
+//!
 //! ```text
 //! let names = DirectoryBlock::decode(&block)?;
 //! let number = names.find(b"passwd");

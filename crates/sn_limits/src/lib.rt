@@ -5,6 +5,8 @@
 //! exactly. No other crate has a number of its own for what stands here. `specs/Names` and
 //! `specs/SnapshotName` are the grammars of names, which [`is_name`] and [`SnapshotName`] decide.
 //!
+//! What the sources leave open is decided in `docs/DECISIONS.md`, under "Limits".
+//!
 //! ```text
 //! let limits = Limits::of_version(1)?;
 //! let name = SnapshotName::parse(b"nightly")?;

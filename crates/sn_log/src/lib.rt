@@ -25,6 +25,8 @@
 //! in their order, `body` what a record is spelled with, `sectors` what is read, and `clearing` the
 //! rule for a place that is to count no longer.
 //!
+//! What the sources leave open is decided in `docs/DECISIONS.md`, under "The log".
+//!
 //! ```text
 //! let mut buffer = Buffer::new(alloc)?;
 //! let mut replay = Replay::new(places, epoch);

@@ -12,6 +12,8 @@
 //! `block_map` has the type, `lanes` the passes, a vector of words at a time, and `plain` the same
 //! passes a word at a time, to which `lanes` leaves the last words.
 //!
+//! What the sources leave open is decided in `docs/DECISIONS.md`, under "The block map and the allocator".
+//!
 //! ```text
 //! let mut map = Map::new(alloc, 256)?;
 //! map.set_word(0, 1);

@@ -25,6 +25,8 @@
 //!
 //! A call is added by a variant of [`Call`] and one equation each in `ready`, `outcome_of`,
 //! `TakesMemory`, `IsCall` and `path_of`.
+//!
+//! What the sources leave open is decided in `docs/DECISIONS.md`, under "The model".
 #![tactic(auto)]
 
 mod argument;

@@ -29,6 +29,8 @@
 //!   that a crash tore.
 //! - `log_is_one` and `root_is_one`: each reading has one answer.
 //!
+//! What the sources leave open is decided in `docs/DECISIONS.md`, under "What a disk means".
+//!
 //! ```text
 //! -- whatever the gate of a record comes to hold that is written and doesn't count,
 //! -- the record is there as a whole or not at all

@@ -22,6 +22,8 @@
 //!    out by [`Overlay::nodes`], [`Overlay::names_of`] and [`Overlay::take_blocks`].
 //! 9. [`Below`], the tree that an overlay lies over, and [`Through`], such a tree seen through an overlay.
 //!
+//! What the sources leave open is decided in `docs/DECISIONS.md`, under "What changed since a root".
+//!
 //! ```text
 //! top.reserve_for(&newer)?;
 //! top.merge(newer);

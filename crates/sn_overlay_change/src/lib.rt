@@ -16,6 +16,8 @@
 //! 6. [`of_change`], which reads the tree below and takes all the memory that the change needs, and
 //!    [`LayerFault`], why there is no overlay. Merging what it gives, where room was made, can't fail.
 //!
+//! What the sources leave open is decided in `docs/DECISIONS.md`, under "What changed since a root".
+//!
 //! ```text
 //! let mut shown = Through { overlay: &top, below: &mut image };
 //! let newer = of_change(alloc, &limits, &mut shown, &change)?;

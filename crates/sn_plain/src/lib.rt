@@ -12,6 +12,8 @@
 //! `renaming` and `writing` have the changes, each with its test first, then all that takes memory,
 //! then the rest (`moving` has that of a rename, over the nodes). `applying` makes any change, as the
 //! model's `apply` does. `reading` hands out the bytes of a file.
+//!
+//! What the sources leave open is decided in `docs/DECISIONS.md`, under "The tree in memory".
 #![tactic(auto)]
 
 mod applying;

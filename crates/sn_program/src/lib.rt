@@ -5,6 +5,8 @@
 //! script's bytes the bytes of its replies: its clause, by `specs/Answers`, is the whole way from a script to what is
 //! written, over a disk in memory that fails in no other way than by coming to its end. [`answer_from`] reads the script from any reader. Each fault is a [`Fault`], whose text is the line on standard error and whose status the shell sees.
 //!
+//! What the sources leave open is decided in `docs/DECISIONS.md`, under "Scripts and the program".
+//!
 //! ```text
 //! let status = program(&rt, &["run", "image", "first.snap"], &mut out, &mut err);
 //! ```

@@ -12,6 +12,8 @@
 //! The way through: `payload` chooses by the kind, `links` has the changes of names, `contents` those
 //! of a file's bytes, `attributes` those that give a node its owner and its ACLs, over `ownership`.
 //!
+//! What the sources leave open is decided in `docs/DECISIONS.md`, under "The log".
+//!
 //! ```text
 //! let end = put_change(&mut body, 16, &change);
 //! let change = decode(&body[16..end])?;

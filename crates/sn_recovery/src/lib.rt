@@ -13,6 +13,8 @@
 //! The laws, each named by the contract of a function that does nothing: a disk opens to one world;
 //! what is kept opens to the settled world; a change that is appended is there after a crash or it
 //! isn't, and after the append it is; a file that a close drops changes nothing of it.
+//!
+//! What the sources leave open is decided in `docs/DECISIONS.md`, under "Mount and calls over a device".
 #![tactic(auto)]
 
 mod laws;

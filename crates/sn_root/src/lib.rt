@@ -25,6 +25,8 @@
 //! `slots` reads the gates and what an open slot holds, `finding` chooses, `following` has the next
 //! root's generation and epoch, and `replacing` the three parts.
 //!
+//! What the sources leave open is decided in `docs/DECISIONS.md`, under "Roots".
+//!
 //! ```text
 //! let newest = newest(&mut blocks)?;
 //! let next = next_root(&newest.root, PointKind::Ordinary)?;

@@ -16,6 +16,8 @@
 //!   device whose type keeps that count at 0 fails in no other way.
 //! - [`crash_laws`]: so it is over lives, each of which begins from what a crash in the one before has left.
 //!
+//! What the sources leave open is decided in `docs/DECISIONS.md`, under "Mount and calls over a device".
+//!
 //! ```text
 //! let Ran { replies, end, device } = run(alloc, device, &events);
 //! ```

@@ -30,6 +30,8 @@
 //! few steps. The copy takes the indirect block's place where a pointer in it changes, and a hole does where all of
 //! its pointers are holes.
 //!
+//! What the sources leave open is decided in `docs/DECISIONS.md`, under "Planning trees".
+//!
 //! ```text
 //! let mut build = Build::new(alloc, allocator);
 //! let tree = plan_tree(&mut build, &mut blocks, &tree, Dirty { size, keep, blocks: changed })?;

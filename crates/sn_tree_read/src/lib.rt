@@ -13,6 +13,8 @@
 //! The levels are a recursion: to look a pointer up, look up the one above it, and read one pointer of
 //! its block. A tree of three levels is no case of its own.
 //!
+//! What the sources leave open is decided in `docs/DECISIONS.md`, under "Images and their readers".
+//!
 //! ```text
 //! if fetch_data(blocks, &tree, 0)? {
 //!     let block = blocks.fetched();

@@ -9,6 +9,8 @@
 //! Begin with `specs/Paths` and `specs/Walks`, which say what `parse` and `walk` answer, and
 //! `specs/LookUps`, which says what `walk` looks up.
 //!
+//! What the sources leave open is decided in `docs/DECISIONS.md`, under "Walks and views".
+//!
 //! ```text
 //! let path = Path::parse(b"/home/ada")?;
 //! match walk(&mut view, &cred, &path)? {
