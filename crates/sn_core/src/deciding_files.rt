@@ -53,7 +53,7 @@ fn blocks_spanned(offset: u64, count: u64) -> u64
     ensures spanned { result ≡ calls.blocks_spanned offset count }
     ensures few { result ≤ 16385 }
 {
-    (offset + count - 1) / 4096 + 1 - offset / 4096
+    (offset + count - 1) / 4096 - offset / 4096 + 1
 }
 
 /// The charge for a file and so many of its blocks.

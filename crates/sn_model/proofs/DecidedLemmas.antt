@@ -42,6 +42,7 @@ use Rattle.sn_model.specs.FileCalls.{OpenFlags, bytes_argument, count_argument, 
 use Rattle.sn_model.proofs.OpenLemmas.{opening_is, unlink_is}
 use Rattle.sn_model.proofs.SeatLemmas.{seat_of}
 use Rattle.sn_model.proofs.FileDecidedLemmas.{bytes_are, close_is, ftruncate_is, logout_is, reads_is, seek_is, write_is}
+use Rattle.sn_model.proofs.ChargeLemmas.{remove_pays}
 use Rattle.sn_model.proofs.OutcomeLemmas.{IsAnswer, done, told, turned}
 pub use Rattle.sn_model.proofs.OutcomeLemmas.{IsDecided}
 use Rattle.sn_model.specs.AccessLaws.{GivesTo, SetsAcl, ShowsMode}
@@ -242,6 +243,7 @@ module _ (limits : Limits) (world : World) (session : ℕ) where
         of_old = tt;
         keeps = λ h. cc h;
         charged = λ h. omega (arith, h);
+        pays = refl;
         takes = tt;
         opens = λ f. cc f;
         applies = λ number some_links whole free.
@@ -253,7 +255,7 @@ module _ (limits : Limits) (world : World) (session : ℕ) where
 
   -- attributes that are set
   set_decided : (c : Call) (o : Outcome) (is : SetsSome limits o) → TakesMemory c → (IsWorld limits world → is_some (owned world.live is.0 is.1) ≡ true) → IsDecided limits world session c o
-  set_decided c o is takes can = subst (IsDecided limits world session c) (sym is.2) (done limits world session c limits.inode_charge (SetAttributes is.0 is.1) takes tt (λ _. tt) (λ h. h) can)
+  set_decided c o is takes can = subst (IsDecided limits world session c) (sym is.2) (done limits world session c limits.inode_charge (SetAttributes is.0 is.1) refl takes tt (λ _. tt) (λ h. h) can)
 
   chmod_decided : (path : List ℕ) (mode : ℕ) (o : Outcome) → ReadyTo (call.Chmod path mode) o → IsDecided limits world session (call.Chmod path mode) o
   chmod_decided path mode o r =
@@ -305,7 +307,7 @@ module _ (limits : Limits) (world : World) (session : ℕ) where
   rmdir_decided path o r =
       let k = called world session path (λ s names. found.ok (calls.Rmdir s names)) r.0 r.1 in
       let p = rmdir_is limits world k.caller k.names o (goes_on (calls.Rmdir k.caller k.names) r.0 o k.passed r.2) in
-      subst (IsDecided limits world session (call.Rmdir path)) (sym p.made) (done limits world session (call.Rmdir path) (2 * limits.inode_charge + limits.block_charge) (Remove p.directory (last_name k.names)) tt tt (λ h. cc h) (λ h. omega (arith, h)) (λ whole. rmdir_applies limits world.live k.names o p))
+      subst (IsDecided limits world session (call.Rmdir path)) (sym p.made) (done limits world session (call.Rmdir path) (2 * limits.inode_charge + limits.block_charge) (Remove p.directory (last_name k.names)) (remove_pays limits world.live p.directory (last_name k.names) p.number p.node true p.named p.there p.kind) tt tt (λ h. cc h) (λ h. omega (arith, h)) (λ whole. rmdir_applies limits world.live k.names o p))
 
   unlink_decided : (path : List ℕ) (o : Outcome) → ReadyTo (call.Unlink path) o → IsDecided limits world session (call.Unlink path) o
   unlink_decided path o r =
@@ -317,7 +319,7 @@ module _ (limits : Limits) (world : World) (session : ℕ) where
       let k = called world session old (λ s names. path_argument new >>= (λ others. found.ok (calls.Link s names others))) r.0 r.1 in
       let n = bind_ok (path_argument new) (λ others. found.ok (calls.Link k.caller k.names others)) r.0 k.passed in
       let p = link_is limits world k.caller k.names n.0 o (goes_on (calls.Link k.caller k.names n.0) r.0 o n.2 r.2) in
-      subst (IsDecided limits world session (call.Link old new)) (sym p.made) (done limits world session (call.Link old new) (2 * limits.inode_charge + limits.block_charge) (AddLink p.directory (last_name n.0) p.number) tt tt (λ h. cc h) (λ h. omega (arith, h)) (λ whole. link_applies limits world.live n.0 o p (last_is n.0 p.new.first p.new.more p.new.some_names (path_names new n.0 n.1))))
+      subst (IsDecided limits world session (call.Link old new)) (sym p.made) (done limits world session (call.Link old new) (2 * limits.inode_charge + limits.block_charge) (AddLink p.directory (last_name n.0) p.number) refl tt tt (λ h. cc h) (λ h. omega (arith, h)) (λ whole. link_applies limits world.live n.0 o p (last_is n.0 p.new.first p.new.more p.new.some_names (path_names new n.0 n.1))))
 
   -- a name is moved, or both are of one thing
   rename_comes : (old new : List ℕ) (caller : Session) (names others : List (List ℕ)) (o : Outcome) → path_argument new ≡ Ok others
@@ -333,6 +335,7 @@ module _ (limits : Limits) (world : World) (session : ℕ) where
         of_old = tt;
         keeps = λ h. cc h;
         charged = λ h. omega (arith, h);
+        pays = refl;
         takes = tt;
         opens = λ f. cc f;
         applies = λ number some_links whole free. rename_applies limits world caller names others o some_links whole.live p (λ first more e. last_is others first more e (path_names new others read));

@@ -182,6 +182,7 @@ module _ (limits : Limits) (world : World) (session : ℕ) where
         of_old = are.few;
         keeps = λ h. tt;
         charged = λ h. omega (arith, h);
+        pays = refl;
         takes = tt;
         opens = λ f. cc f;
         applies = λ n l w f. write_applies d fd offset bytes are some few at is w;
@@ -209,7 +210,7 @@ module _ (limits : Limits) (world : World) (session : ℕ) where
       let p = bind_ok (writable_at world.descriptors session fd) (λ d. is_size limits size >>= (λ _. ok (cuts limits d.number size))) o e in
       let q = bind_ok (is_size limits size) (λ _. ok (cuts limits p.0.number size)) o p.2 in
       let at = writable_is world.descriptors session fd p.0 p.1 in
-      subst (Decides (call.Ftruncate fd size)) (same_ok _ o q.2) (done limits world session (call.Ftruncate fd size) (file_charge limits 1) (SetSize p.0.number size) tt tt (λ _. tt) (λ h. omega (arith, h)) (λ w. applies p.0 at.0 at.1 (size_is limits size q.0 q.1) w))
+      subst (Decides (call.Ftruncate fd size)) (same_ok _ o q.2) (done limits world session (call.Ftruncate fd size) (file_charge limits 1) (SetSize p.0.number size) (omega arith) tt tt (λ _. tt) (λ h. omega (arith, h)) (λ w. applies p.0 at.0 at.1 (size_is limits size q.0 q.1) w))
     where
       applies : (d : Descriptor) → map.get world.descriptors (session, fd) ≡ Some d → d.writable ≡ true → nat_le size limits.largest_file ≡ true → IsWorld limits world → is_some (cut limits world.live d.number size) ≡ true
       applies d at is few w =

@@ -23,6 +23,7 @@ pub mod ListLemmas
 pub mod BringLemmas
 pub mod DecisionLemmas
 pub mod DenialLemmas
+pub mod ChargeLemmas
 pub mod OutcomeLemmas
 pub mod SeatLemmas
 pub mod OpenLemmas

@@ -35,6 +35,7 @@ use Rattle.sn_model.specs.declared.session.Session.{Session}
 use Rattle.sn_model.specs.AccessCalls.{live_if}
 use Rattle.sn_model.specs.Calls.{seen}
 use Rattle.sn_model.specs.Changes.{cut, is_file, node_with, made, removed, take_link}
+use Rattle.sn_model.specs.Charges.{charge_for}
 use Rattle.sn_model.specs.Descriptors.{Descriptors, descriptor_for, first_without, given, next_descriptor}
 use Rattle.sn_model.specs.FileCalls.{OpenFlags, access_of, are_flags, creating, file, file_charge, file_of, flags_argument, new_file, no_directory, not_exclusive, open_absent, open_found, open_outcome, open_there, opens_new, opens_there, or_not, unlink_outcome, unlinks}
 use Rattle.sn_model.specs.NameTree.{HasKind, IsTree}
@@ -48,6 +49,7 @@ use Rattle.sn_model.specs.Worlds.{IsLoggedIn, IsWorld}
 use Rattle.sn_model.proofs.AccessCallLemmas.{found_has, there_is}
 use Rattle.sn_model.proofs.DecisionLemmas.{HasPlace, default_at, granted_at, hidden_apart, live_node, ok, room_is, same_ok, seen_node, walked_ok}
 use Rattle.sn_model.proofs.MoveLemmas.{is_kind, some_node}
+use Rattle.sn_model.proofs.ChargeLemmas.{remove_pays}
 use Rattle.sn_model.proofs.OutcomeLemmas.{IsDecided, IsOpening, done, turned}
 use Rattle.sn_model.proofs.PartLemmas.{cut_of, is_file_at, removed_of, unlinked_of}
 use Rattle.sn_model.proofs.SeatLemmas.{seat_of}
@@ -136,6 +138,13 @@ module _ (limits : Limits) (world : World) (session : ℕ) (s : Session) (names 
       ap (λ (o : Object). is_some (removed world.live (link_to (number_of o) (last_name names)))) n.is
       ∙ ap is_some (removed_of world.live link (take_link world.live link) (record { number = number; node = x.0; named = n.named; there = x.1; gone = unlinked_of world.live link number x.0 _ (inr (record { kind = kind; gives = refl })) }))
 
+  name_pays : (at : Object) (found : Found) (number : ℕ) → IsNamed world.live at (last_name names) number → attributes_at trees (object.Node Live number) ≡ Some found.attributes → is_directory found.attributes.kind ≡ false → 3 * limits.inode_charge + limits.block_charge ≡ charge_for limits world.live (Remove (number_of at) (last_name names))
+  name_pays at found number n a k =
+      let x = seen_node world.live number (map.get world.live.nodes number) found.attributes a in
+      let kind : is_directory x.0.kind ≡ false = ap (λ (b : Attributes). is_directory b.kind) (sym x.2) ∙ k in
+      remove_pays limits world.live n.directory (last_name names) number x.0 false n.named x.1 kind
+      ∙ ap (λ (o : Object). charge_for limits world.live (Remove (number_of o) (last_name names))) (sym n.is)
+
   pub unlink_is : (path : List ℕ) (o : Outcome) → unlink_outcome limits trees s names ≡ Ok o → Decides (call.Unlink path) o
   unfolding unlink_outcome
   unlink_is path o e =
@@ -153,7 +162,7 @@ module _ (limits : Limits) (world : World) (session : ℕ) (s : Session) (names 
       let found = there_is (found_at trees w.0) f.0 f.1 in
       let n = named_at world names w.0 Eperm at.0 f.0 l.0 ends at.1 found is in
       let a = ap (attributes_at trees) (sym is) ∙ found_has trees w.0 f.0 found in
-      subst (Decides (call.Unlink path)) (same_ok _ o t.2) (done limits world session (call.Unlink path) (3 * limits.inode_charge + limits.block_charge) (Remove (number_of at.0.0) (last_name names)) tt tt (λ h. cc h) (λ h. omega (arith, h))
+      subst (Decides (call.Unlink path)) (same_ok _ o t.2) (done limits world session (call.Unlink path) (3 * limits.inode_charge + limits.block_charge) (Remove (number_of at.0.0) (last_name names)) (name_pays at.0.0 f.0 l.0 n a (none_directory f.0 d.0 d.1)) tt tt (λ h. cc h) (λ h. omega (arith, h))
       (λ whole. name_goes at.0.0 f.0 l.0 n a (none_directory f.0 d.0 d.1)))
 
   -- ---- open
@@ -242,6 +251,7 @@ module _ (limits : Limits) (world : World) (session : ℕ) (s : Session) (names 
         of_old = tt;
         keeps = λ h. cc h;
         charged = λ h. omega (arith, h);
+        pays = omega arith;
         takes = tt;
         opens = λ _. tt;
         applies = λ n l w f. cut_applies at is (writes (truncates flags are t));
@@ -305,6 +315,7 @@ module _ (limits : Limits) (world : World) (session : ℕ) (s : Session) (names 
         of_old = tt;
         keeps = λ h. cc h;
         charged = λ h. omega (arith, h);
+        pays = refl;
         takes = tt;
         opens = λ _. tt;
         applies = λ number links whole free.

@@ -13,6 +13,7 @@ use Rattle.sn_model.specs.declared.reply.Refusal.{Refusal}
 use Rattle.sn_model.specs.declared.reply.Reply.{Reply}
 use Rattle.sn_model.specs.declared.reply.Reply.TheVariants as reply
 use Rattle.sn_model.specs.Changes.{apply}
+use Rattle.sn_model.specs.Charges.{IsPaidFor, charge_for}
 use Rattle.sn_model.specs.Descriptors.{next_descriptor}
 use Rattle.sn_model.specs.NameLaws.{changes_names}
 use Rattle.sn_model.specs.NameTree.{HasKind}
@@ -97,6 +98,7 @@ pub record IsDecided (limits : Limits) (world : World) (session : ℕ) (c : Call
   pub of_old : DoesToOld o.change
   pub keeps : changes_names c ≡ false → KeepsNames o.change
   pub charged : 0 < limits.inode_charge → OnChange (0 < o.charge) o.change
+  pub pays : IsPaidFor limits world.live o
   pub takes : OnChange (TakesMemory c) o.change
   pub opens : is_opening o.caller ≡ true → TakesMemory c
   pub applies : (number : ℕ) → 0 < limits.links → IsWorld limits world → IsNumberFor limits world.live number o.change → is_some (changed limits number o.change world.live) ≡ true
@@ -105,20 +107,21 @@ pub record IsDecided (limits : Limits) (world : World) (session : ℕ) (c : Call
 module _ (limits : Limits) (world : World) (session : ℕ) (c : Call) where
   -- a session or its descriptors change, and nothing else
   pub turned : (caller : Caller) (answer : Reply) → IsAnswer answer → (is_opening caller ≡ true → TakesMemory c) → (IsCall c → IsWorld limits world → FitsCaller limits world session Nothing caller) → IsDecided limits world session c (turns caller answer)
-  turned caller answer is opens fits = record { answers = is; left = tt; of_old = tt; keeps = λ h. tt; charged = λ h. tt; takes = tt; opens = opens; applies = λ n l w f. refl; fits = fits }
+  turned caller answer is opens fits = record { answers = is; left = tt; of_old = tt; keeps = λ h. tt; charged = λ h. tt; pays = refl; takes = tt; opens = opens; applies = λ n l w f. refl; fits = fits }
 
   -- nothing changes
   pub told : (answer : Reply) → IsAnswer answer → IsDecided limits world session c (tells answer)
   told answer is = turned Stays answer is (λ f. cc f) (λ k w. tt)
 
   -- a change of what is there
-  pub done : (charge : ℕ) (change : Change) → TakesMemory c → IsOfOld change → (changes_names c ≡ false → KeepsLinks change) → (0 < limits.inode_charge → 0 < charge) → (IsWorld limits world → is_some (apply limits change world.live) ≡ true) → IsDecided limits world session c (does charge change)
-  done charge change takes old keeps charged applies = record {
+  pub done : (charge : ℕ) (change : Change) → charge ≡ charge_for limits world.live change → TakesMemory c → IsOfOld change → (changes_names c ≡ false → KeepsLinks change) → (0 < limits.inode_charge → 0 < charge) → (IsWorld limits world → is_some (apply limits change world.live) ≡ true) → IsDecided limits world session c (does charge change)
+  done charge change pays takes old keeps charged applies = record {
     answers = λ r e. cc e;
     left = tt;
     of_old = old;
     keeps = keeps;
     charged = charged;
+    pays = pays;
     takes = takes;
     opens = λ f. cc f;
     applies = λ n l w f. applies w;

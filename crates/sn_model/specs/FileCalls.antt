@@ -132,7 +132,7 @@ write_offset d bytes = if d.appends then length bytes else d.offset
 
 -- how many blocks of 4,096 bytes bytes from an offset on lie in
 abbrev pub blocks_spanned : ℕ → ℕ → ℕ
-blocks_spanned offset count = (offset + count - 1) / 4096 + 1 - offset / 4096
+blocks_spanned offset count = (offset + count - 1) / 4096 - offset / 4096 + 1
 
 abbrev pub writes : Limits → ℕ → ℕ → ℕ → List ℕ → Outcome
 writes limits fd number offset bytes = record {

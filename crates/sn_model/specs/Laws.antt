@@ -1,6 +1,7 @@
 -- What the definitions of calls come to, said as a user of a file system would say it.
 use Rattle.std.specs.Prelude.{◌≡◌, ◌≢◌, ℕ, ◌<◌, true, Some, Ok, is_some}
 use Rattle.std.specs.FinMap as map
+use Rattle.sn_model.specs.Charges.{IsPaidFor}
 use Rattle.sn_model.specs.declared.call.Call.{Call}
 use Rattle.sn_model.specs.declared.link.Link.{Link}
 use Rattle.sn_model.specs.declared.reply.Refusal.{Refusal}
@@ -25,6 +26,10 @@ pub record OneMore (old new : Tree) (number : ℕ) (link : Link) (node : Node) :
 
 abbrev pub MakesOneMore : Type 0
 MakesOneMore = (tree : Tree) (number : ℕ) (link : Link) (node : Node) → OneMore tree (with_node tree number link node) number link node
+
+-- What a call comes to is charged for its change.
+abbrev pub DecidedChangesPay : Type 0
+DecidedChangesPay = (limits : Limits) (world : World) (session : ℕ) (c : Call) (o : Outcome) → decision limits world session c ≡ Ok o → IsPaidFor limits world.live o
 
 -- What a call has decided can be applied, whatever number the machine chooses.
 abbrev pub DecidedChangesApply : Type 0

@@ -22,6 +22,7 @@ pub mod Example
 pub mod Denials
 pub mod Descriptors
 pub mod FileCalls
+pub mod Charges
 pub mod FileLaws
 pub mod NameCalls
 pub mod NameLaws

@@ -5,7 +5,7 @@ ghost use Rattle.sn_model.specs.Example.{Answers, Settles};
 ghost use Rattle.sn_model.specs.MachineLaws.{EventsKeepTheState, LivesKeepTheWorld, RefusedEventsChangeNothing, RestartsSettle, RunsKeepTheWorld, StoppedStays};
 ghost use Rattle.sn_model.specs.FileLaws.{AppendsGoToTheEnd, ReadsAskForNoRight, ReadsPastTheEndGiveNothing, WritesOfNothingDoNothing};
 ghost use Rattle.sn_model.specs.NameLaws.{FewCallsChangeNames, LinkGivesOneMoreName, ReaddirListsTheNames, RenameMovesTheName, RmdirTakesAnEmptyDirectory};
-ghost use Rattle.sn_model.specs.Laws.{DecidedChangesApply, MakesOneMore, RefusalsChangeNothing};
+ghost use Rattle.sn_model.specs.Laws.{DecidedChangesApply, DecidedChangesPay, MakesOneMore, RefusalsChangeNothing};
 
 /// Whatever a call is refused for, the world stays as it was.
 pub fn refusals_change_nothing()
@@ -20,6 +20,12 @@ pub fn makes_one_more()
 /// What a call has decided can be applied.
 pub fn decided_changes_apply()
     ensures { DecidedChangesApply }
+{}
+
+/// What a call has decided is charged for its change: a write by the blocks that its bytes lie in, and a
+/// remove as the name leads to a file or to a directory.
+pub fn decided_changes_pay()
+    ensures { DecidedChangesPay }
 {}
 
 /// A stopped machine answers ESTOPPED to each call and step, and stays as it is.

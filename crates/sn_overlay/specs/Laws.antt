@@ -3,6 +3,7 @@ use Rattle.std.specs.Prelude.{◌≡◌, ℕ, ◌+◌, ◌*◌, ◌≤◌, Bool,
 use Rattle.std.specs.FinMap as map
 use Rattle.sn_limits.specs.declared.limits.Limits.{Limits}
 use Rattle.sn_limits.specs.Versions.{limits_of}
+use Rattle.sn_model.specs.Charges.{charge_for}
 use Rattle.sn_model.specs.declared.change.Change.{Change}
 use Rattle.sn_model.specs.declared.link.Link.{Link}
 use Rattle.sn_model.specs.Tree.{Tree}
@@ -10,7 +11,7 @@ use Rattle.sn_overlay.specs.Layers.{Layer, IsLayer, Fits, through, node_seen, na
 use Rattle.sn_overlay.specs.Merges.{merge}
 use Rattle.sn_overlay.specs.Overlays.{gone}
 use Rattle.sn_overlay.specs.Seen.{CountsNames, LiesOver}
-use Rattle.sn_overlay.specs.Needs.{need, need_of, counts, counts_for, left_nameless, charge_for, AreCharged, IsPaid}
+use Rattle.sn_overlay.specs.Needs.{need, need_of, counts, counts_for, left_nameless, AreCharged, IsPaid}
 
 -- At each number and each name the tree seen through a layer has what the layer shows there.
 abbrev pub LayersShowNodes : Type 0

@@ -1,12 +1,12 @@
--- The blocks that a consistency point takes for a layer, at most, and what calls are charged for that.
-use Rattle.std.specs.Prelude.{◌≡◌, ℕ, ◌+◌, ◌-◌, ◌*◌, ◌/◌, ◌≤◌, ◌==◌, length, Option, None, Some, count_by, if◌then◌else◌}
+-- The blocks that a consistency point takes for a layer, at most.
+use Rattle.std.specs.Prelude.{◌≡◌, ℕ, ◌+◌, ◌*◌, ◌≤◌, ◌==◌, length, Some, count_by, if◌then◌else◌}
 use Rattle.std.specs.FinMap as map
 use Rattle.sn_limits.specs.declared.limits.Limits.{Limits}
 use Rattle.sn_model.specs.declared.change.Change.{Change}
 use Rattle.sn_model.specs.declared.change.Change.TheVariants.{Make, AddLink, Remove, Rename, Write, SetSize, SetAttributes}
-use Rattle.sn_model.specs.declared.link.Link.{Link}
 use Rattle.sn_model.specs.Tree.{Node, Tree, link_to}
-use Rattle.sn_model.specs.Changes.{is_file}
+use Rattle.sn_model.specs.Charges.{file_under}
+use Rattle.sn_model.specs.FileCalls.{blocks_spanned}
 use Rattle.sn_model.specs.Settling.{is_nameless}
 use Rattle.sn_overlay.specs.Layers.{Layer}
 use Rattle.sn_overlay.specs.Overlays.{Counts}
@@ -25,10 +25,6 @@ counts_of layer = record { nodes = map.len layer.nodes; names = map.len layer.na
 abbrev pub need : Limits → Layer → ℕ
 need limits layer = need_of limits (counts_of layer)
 
--- the blocks that some bytes from an offset on lie in
-abbrev pub spanned : ℕ → ℕ → ℕ
-spanned offset size = (offset + size - 1) / 4096 - offset / 4096 + 1
-
 abbrev pub counts : ℕ → ℕ → ℕ → Counts
 counts nodes names blocks = record { nodes = nodes; names = names; blocks = blocks }
 
@@ -38,21 +34,9 @@ counts_for (Make directory name number kind o) = counts 2 1 0
 counts_for (AddLink directory name number) = counts 2 1 0
 counts_for (Remove directory name) = counts 2 1 0
 counts_for (Rename old_directory old_name new_directory new_name) = counts 3 2 0
-counts_for (Write number offset bytes) = counts 1 0 (spanned offset (length bytes))
+counts_for (Write number offset bytes) = counts 1 0 (blocks_spanned offset (length bytes))
 counts_for (SetSize number size) = counts 1 0 1
 counts_for (SetAttributes number o) = counts 1 0 0
-
--- a file that is found under a name, as a number
-abbrev pub file_under : Tree → Link → ℕ
-file_under tree link = counted (map.get tree.links link)
-  where
-    is_one : Option Node → ℕ
-    is_one None = 0
-    is_one (Some node) = if is_file node.kind then 1 else 0
-
-    counted : Option ℕ → ℕ
-    counted None = 0
-    counted (Some number) = is_one (map.get tree.nodes number)
 
 -- how many files of a tree have no name
 unfoldable pub nameless_in : Tree → ℕ
@@ -67,16 +51,6 @@ left_nameless tree (Rename old_directory old_name new_directory new_name) = 1
 left_nameless tree (Write number offset bytes) = 0
 left_nameless tree (SetSize number size) = 0
 left_nameless tree (SetAttributes number o) = 0
-
--- What a call with this change is charged: for each inode that it may touch, one more where a file may stay without names, and for each directory or data block.
-abbrev pub charge_for : Limits → Tree → Change → ℕ
-charge_for limits tree (Make directory name number kind o) = 2 * limits.inode_charge + limits.block_charge
-charge_for limits tree (AddLink directory name number) = 2 * limits.inode_charge + limits.block_charge
-charge_for limits tree (Remove directory name) = (2 + file_under tree (link_to directory name)) * limits.inode_charge + limits.block_charge
-charge_for limits tree (Rename old_directory old_name new_directory new_name) = 5 * limits.inode_charge + 2 * limits.block_charge
-charge_for limits tree (Write number offset bytes) = limits.inode_charge + limits.block_charge * spanned offset (length bytes)
-charge_for limits tree (SetSize number size) = limits.inode_charge + limits.block_charge
-charge_for limits tree (SetAttributes number o) = limits.inode_charge
 
 -- The figures of a version pay for what changes need.
 pub record AreCharged (limits : Limits) : Type 0 where

@@ -23,7 +23,7 @@ use Rattle.sn_overlay.specs.Keys.{file_block_at}
 use Rattle.sn_overlay.specs.Layers.{Layer, IsLayer, Fits}
 use Rattle.sn_overlay.specs.Overlays.{no_changes, with_node}
 use Rattle.sn_overlay_change.specs.ChangeLayers.{state_of, new_state, changing, touching, one_name_more, without_name, removing, with_ownership, make_layer, link_layer, remove_layer, ownership_layer, size_layer, cut_layer, size_state, cuts_block, with_tail, replacing, exchange_layer, renaming, rename_layer, writing, written_state, write_layer, layer_of_change}
-use Rattle.sn_overlay.specs.Needs.{spanned}
+use Rattle.sn_model.specs.FileCalls.{blocks_spanned}
 use Rattle.sn_overlay.proofs.OverlaidLemmas.{exact_file_blocks, file_blocks_total}
 use Rattle.sn_overlay.proofs.PieceLemmas.{length-piece}
 use Rattle.sn_overlay_change.proofs.ByteLemmas.{length-resized, length-zeroed}
@@ -130,7 +130,7 @@ rename_whole limits tree after old new h e = subst (λ found. IsWhole (renaming 
         (exchange_whole tree old new p.number (held_there tree old p.number h p.named) (some_there (map.get tree.nodes new.directory) (q.1).directory (directory_is tree new.directory (q.1).directory (q.1).parent).0))
 
 -- each block that bytes are written to begins before their end
-span_begins : (offset count index : ℕ) → 0 < count → index < offset / 4096 + spanned offset count → index * 4096 < offset + count
+span_begins : (offset count index : ℕ) → 0 < count → index < offset / 4096 + blocks_spanned offset count → index * 4096 < offset + count
 span_begins offset count index some h = omega (arith, some, h)
 
 -- and the block in which a file is cut off before its end
@@ -154,9 +154,9 @@ write_whole limits tree after number offset bytes e =
         let bare = with_node no_changes number (Changed s) in
         let new = overwritten node.bytes offset bytes in
         whole_file (writing tree number offset bytes (Some node)) tree number s node new
-        (nodes-with_blocks bare number (piece 4096 new) (offset / 4096) (spanned offset (length bytes)))
-        (names-with_blocks bare number (piece 4096 new) (offset / 4096) (spanned offset (length bytes)))
-        (blocks_written bare number s.size (piece 4096 new) (offset / 4096) (spanned offset (length bytes)) (no_blocks number s.size) (length-piece 4096 new) (λ index k. omega (arith, span_begins offset (length bytes) index some k)))
+        (nodes-with_blocks bare number (piece 4096 new) (offset / 4096) (blocks_spanned offset (length bytes)))
+        (names-with_blocks bare number (piece 4096 new) (offset / 4096) (blocks_spanned offset (length bytes)))
+        (blocks_written bare number s.size (piece 4096 new) (offset / 4096) (blocks_spanned offset (length bytes)) (no_blocks number s.size) (length-piece 4096 new) (λ index k. omega (arith, span_begins offset (length bytes) index some k)))
         there refl refl (omega arith) (length-new tree number offset bytes node some) (written_block tree number offset bytes node some)
 
 cut_whole : (limits : Limits) (tree after : Tree) (number size : ℕ) → cut limits tree number size ≡ Some after → IsWhole (size_layer tree number size) tree

@@ -21,7 +21,8 @@ use Rattle.sn_overlay.specs.declared.node.NodeState.{NodeState}
 use Rattle.sn_overlay.specs.Pieces.{piece}
 use Rattle.sn_overlay.specs.Keys.{file_block_cmp, file_block_at}
 use Rattle.sn_overlay.specs.Layers.{Layer}
-use Rattle.sn_overlay.specs.Needs.{levels, need, need_of, counts_for, spanned}
+use Rattle.sn_model.specs.FileCalls.{blocks_spanned}
+use Rattle.sn_overlay.specs.Needs.{levels, need, need_of, counts_for}
 use Rattle.sn_overlay.specs.Overlays.{no_changes, with_node, with_name, with_block}
 use Rattle.sn_overlay_change.specs.ChangeLayers.{state_of, new_state, with_change, changing, touching, one_name_more, one_name_less, without_name, removing, with_ownership, size_state, cuts_block, with_tail, cut_layer, replacing, exchange_layer, renaming, with_blocks, written_state, writing, layer_of_change}
 use Rattle.sn_overlay.proofs.OverlaidLemmas.{file_blocks_total}
@@ -101,13 +102,13 @@ within_renaming tree old new (Some number) = told (same_number number (fin.get t
         let nodes = replacing tree (touching tree new.directory (touching tree old.directory no_changes)) (fin.get tree.links new) in
         within_name (with_name nodes old None) 3 1 0 new (Some number) (within_name nodes 3 0 0 old None (replaced (fin.get tree.links new)))
 
-within_writing : (tree : Tree) (number offset : ℕ) (bytes : List ℕ) (found : Option Node) → IsWithin (writing tree number offset bytes found) 1 0 (spanned offset (length bytes))
-within_writing tree number offset bytes None = within_more no_changes 0 0 0 1 0 (spanned offset (length bytes)) within_none (omega arith) (omega arith) (omega arith)
+within_writing : (tree : Tree) (number offset : ℕ) (bytes : List ℕ) (found : Option Node) → IsWithin (writing tree number offset bytes found) 1 0 (blocks_spanned offset (length bytes))
+within_writing tree number offset bytes None = within_more no_changes 0 0 0 1 0 (blocks_spanned offset (length bytes)) within_none (omega arith) (omega arith) (omega arith)
 within_writing tree number offset bytes (Some node) =
     let s = written_state (offset + length bytes) (state_of tree number node) in
     let bare = with_node no_changes number (Changed s) in
-    let h = within_blocks bare 1 0 0 number (piece 4096 (overwritten node.bytes offset bytes)) (offset / 4096) (spanned offset (length bytes)) (within_node no_changes 0 0 0 number (Changed s) within_none) in
-    within_more (writing tree number offset bytes (Some node)) 1 0 (0 + spanned offset (length bytes)) 1 0 (spanned offset (length bytes)) h (omega arith) (omega arith) (omega arith)
+    let h = within_blocks bare 1 0 0 number (piece 4096 (overwritten node.bytes offset bytes)) (offset / 4096) (blocks_spanned offset (length bytes)) (within_node no_changes 0 0 0 number (Changed s) within_none) in
+    within_more (writing tree number offset bytes (Some node)) 1 0 (0 + blocks_spanned offset (length bytes)) 1 0 (blocks_spanned offset (length bytes)) h (omega arith) (omega arith) (omega arith)
 
 within_cut : (tree : Tree) (number size : ℕ) (found : Option Node) → IsWithin (cut_layer tree number size found) 1 0 1
 within_cut tree number size None = within_more no_changes 0 0 0 1 0 1 within_none (omega arith) (omega arith) (omega arith)

@@ -11,6 +11,5 @@ pub mod CountLemmas
 pub mod NamesLemmas
 pub mod NamelessLemmas
 pub mod DropLemmas
-pub mod ChargeLemmas
 pub mod LiesLemmas
 pub mod ApplyLemmas

@@ -25,7 +25,8 @@ use Rattle.sn_model.proofs.KeepLemmas.{vacant_absent, replaced_clears}
 use Rattle.sn_model.proofs.MapLemmas.{same_or_apart, get_inserted, get_other, get_removed, get_left, get_was}
 use Rattle.sn_model.proofs.NameLemmas.{names_for_more, names_for_other}
 use Rattle.sn_model.proofs.PartLemmas.{made_is, linked_is, removed_is, renamed_is, replaced_is, unlinked_is, written_is, cut_is, owned_is, file_is, Unlinked, Renamed, IsRenamed}
-use Rattle.sn_overlay.specs.Needs.{file_under, left_nameless, nameless_in}
+use Rattle.sn_model.specs.Charges.{file_under}
+use Rattle.sn_overlay.specs.Needs.{left_nameless, nameless_in}
 use Rattle.sn_overlay_change.proofs.NamesLemmas.{fewer_other, moved_names}
 
 -- whether an entry is a file without names

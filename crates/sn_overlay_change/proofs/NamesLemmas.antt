@@ -29,7 +29,7 @@ use Rattle.sn_overlay.specs.declared.node.NodeState.{NodeState}
 use Rattle.sn_overlay.specs.Layers.{Layer}
 use Rattle.sn_overlay.specs.Overlays.{no_changes, with_node}
 use Rattle.sn_overlay_change.specs.ChangeLayers.{state_of, new_state, with_change, changing, touching, one_name_more, one_name_less, without_name, with_ownership, make_layer, link_layer, remove_layer, removing, replacing, exchange_layer, renaming, rename_layer, layer_of_change, write_layer, writing, written_state, size_layer, cut_layer, size_state, cuts_block, with_tail, ownership_layer}
-use Rattle.sn_overlay.specs.Needs.{spanned}
+use Rattle.sn_model.specs.FileCalls.{blocks_spanned}
 use Rattle.sn_overlay.specs.Pieces.{piece}
 use Rattle.sn_overlay.specs.Seen.{CountsNames}
 use Rattle.sn_overlay_change.proofs.WriteLemmas.{nodes-with_blocks}
@@ -246,7 +246,7 @@ write_counts limits tree after number offset bytes e =
     let s = written_state (offset + length bytes) (state_of tree number p.node) in
     subst (λ found. CountsNames (writing tree number offset bytes found) tree after) (sym (file_is tree number p.node p.file).0)
     (one_counts (writing tree number offset bytes (Some p.node)) tree after number s
-    (nodes-with_blocks (with_node no_changes number (Changed s)) number (piece 4096 (overwritten p.node.bytes offset bytes)) (offset / 4096) (spanned offset (length bytes)))
+    (nodes-with_blocks (with_node no_changes number (Changed s)) number (piece 4096 (overwritten p.node.bytes offset bytes)) (offset / 4096) (blocks_spanned offset (length bytes)))
     refl (ap (λ (t : Tree). t.links) (sym p.gives)))
 
 cut_counts : (limits : Limits) (tree after : Tree) (number size : ℕ) → cut limits tree number size ≡ Some after → CountsNames (size_layer tree number size) tree after

@@ -20,7 +20,7 @@ use Rattle.sn_overlay.specs.Pieces.{zeros, piece, joined}
 use Rattle.sn_overlay.specs.Keys.{file_block_cmp, file_block_at}
 use Rattle.sn_overlay.specs.Layers.{Layer, through, block_seen, node_seen}
 use Rattle.sn_overlay.specs.Overlays.{no_changes, with_node, with_block}
-use Rattle.sn_overlay.specs.Needs.{spanned}
+use Rattle.sn_model.specs.FileCalls.{blocks_spanned}
 use Rattle.sn_overlay_change.specs.ChangeLayers.{state_of, with_blocks, written_state, writing, write_layer}
 use Rattle.sn_overlay.proofs.OverlaidLemmas.{exact_file_blocks, file_blocks_total}
 use Rattle.sn_overlay.proofs.PieceLemmas.{joined_alike, joined-piece, piece_past}
@@ -104,7 +104,7 @@ module _ (tree : Tree) (number offset : ℕ) (bytes : List ℕ) (node : Node) (s
   first = offset / 4096
 
   abbrev many : ℕ
-  many = spanned offset (length bytes)
+  many = blocks_spanned offset (length bytes)
 
   abbrev bare : Layer
   bare = with_node no_changes number (Changed state)

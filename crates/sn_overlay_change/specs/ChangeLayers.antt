@@ -16,7 +16,7 @@ use Rattle.sn_overlay_change.specs.Blocks.{zeroed}
 use Rattle.sn_overlay.specs.Keys.{file_block_at}
 use Rattle.sn_overlay.specs.Layers.{Layer}
 use Rattle.sn_overlay.specs.Overlays.{no_changes, with_node, with_name, with_block}
-use Rattle.sn_overlay.specs.Needs.{spanned}
+use Rattle.sn_model.specs.FileCalls.{blocks_spanned}
 
 -- a node that is there, as it is
 abbrev pub state_of : Tree → ℕ → Node → NodeState
@@ -119,7 +119,7 @@ written_state end state = record state { size = max state.size end }
 -- each block that bytes are written to, as it is afterwards
 abbrev pub writing : Tree → ℕ → ℕ → List ℕ → Option Node → Layer
 writing tree number offset bytes None = no_changes
-writing tree number offset bytes (Some node) = with_blocks (with_node no_changes number (Changed (written_state (offset + length bytes) (state_of tree number node)))) number (piece 4096 (overwritten node.bytes offset bytes)) (offset / 4096) (spanned offset (length bytes))
+writing tree number offset bytes (Some node) = with_blocks (with_node no_changes number (Changed (written_state (offset + length bytes) (state_of tree number node)))) number (piece 4096 (overwritten node.bytes offset bytes)) (offset / 4096) (blocks_spanned offset (length bytes))
 
 abbrev pub write_layer : Tree → ℕ → ℕ → List ℕ → Layer
 write_layer tree number offset bytes = writing tree number offset bytes (map.get tree.nodes number)

@@ -13,7 +13,6 @@ use Rattle.sn_model.specs.Settling.{is_nameless}
 use Rattle.sn_model.specs.Changes.{made, linked, removed, renamed, written, owned, cut, resized, overwritten, take_node, apply}
 use Rattle.sn_overlay.specs.Pieces.{piece}
 use Rattle.sn_overlay_change.specs.Blocks.{zeroed, spliced, part_in}
-use Rattle.sn_overlay_change.specs.Charges.{AreChargedFor}
 use Rattle.sn_overlay.specs.Layers.{IsLayer, Fits, through}
 use Rattle.sn_overlay_change.specs.ChangeLayers.{make_layer, link_layer, remove_layer, rename_layer, write_layer, ownership_layer, size_layer, layer_of_change}
 use Rattle.sn_overlay.specs.Seen.{CountsNames, LiesOver}
@@ -74,10 +73,6 @@ DropsNeed = (limits : Limits) (number : ℕ) (by_close : Bool) → need limits (
 -- A file without names that goes is one less of them.
 abbrev pub DropsAreCounted : Type 0
 DropsAreCounted = (tree : Tree) (number : ℕ) → is_nameless tree number (map.get tree.nodes number) ≡ true → nameless_in (take_node tree number) + 1 ≡ nameless_in tree
-
--- Each outcome that a call may have is charged for its change.
-abbrev pub OutcomesAreCharged : Type 0
-OutcomesAreCharged = (limits : Limits) (tree : Tree) → AreChargedFor limits tree
 
 -- The block in which a file is cut off has zeros from there on; those before it, and all of a file that isn't made shorter, stay.
 abbrev pub CutsZero : Type 0

@@ -2,5 +2,4 @@ pub mod Blocks
 pub mod ChangeLayers
 pub mod SeenLayers
 pub mod Faults
-pub mod Charges
 pub mod Laws

@@ -10,10 +10,9 @@
 //! 1. `specs/Blocks`: what a cut or a write leaves of a block of a file.
 //! 2. `specs/ChangeLayers`: the layer of each change.
 //! 3. `specs/SeenLayers`: what a layer has of the nodes that were read.
-//! 4. `specs/Charges`: what an outcome of `sn_model` is charged, against the charge for its change.
-//! 5. `specs/Laws`, each named by the contract of a function of `laws`: above all, that through the layer
+//! 4. `specs/Laws`, each named by the contract of a function of `laws`: above all, that through the layer
 //!    of a change a tree is what the change makes of it.
-//! 6. [`of_change`], which reads the tree below and takes all the memory that the change needs, and
+//! 5. [`of_change`], which reads the tree below and takes all the memory that the change needs, and
 //!    [`LayerFault`], why there is no overlay. Merging what it gives, where room was made, can't fail.
 //!
 //! What the sources leave open is decided in `docs/DECISIONS.md`, under "What changed since a root".
@@ -38,6 +37,6 @@ pub use fault::LayerFault;
 pub use laws::{
     attributes_show, changes_are_layers, changes_count, changes_need, changes_show, cuts_keep,
     cuts_zero, drops_are_counted, drops_lie, drops_need, drops_show, links_show, makes_show,
-    nameless_are_counted, outcomes_are_charged, removes_show, renames_show, sizes_show,
-    writes_keep, writes_show, writes_span, writes_splice,
+    nameless_are_counted, removes_show, renames_show, sizes_show, writes_keep, writes_show,
+    writes_span, writes_splice,
 };

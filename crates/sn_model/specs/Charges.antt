@@ -1,0 +1,45 @@
+-- What a call is charged for its change: the blocks that a consistency point may take for it.
+use Rattle.std.specs.Prelude.{◌≡◌, ℕ, ◌+◌, ◌*◌, length, Option, None, Some, if◌then◌else◌}
+use Rattle.std.specs.FinMap as map
+use Rattle.sn_limits.specs.declared.limits.Limits.{Limits}
+use Rattle.sn_model.specs.declared.change.Change.{Change}
+use Rattle.sn_model.specs.declared.change.Change.TheVariants.{Make, AddLink, Remove, Rename, Write, SetSize, SetAttributes}
+use Rattle.sn_model.specs.declared.link.Link.{Link}
+use Rattle.sn_model.specs.declared.outcome.Outcome.{Outcome}
+use Rattle.sn_model.specs.declared.outcome.Pending.{Pending}
+use Rattle.sn_model.specs.declared.outcome.Pending.TheVariants.{Nothing, Makes, Does}
+use Rattle.sn_model.specs.Changes.{is_file}
+use Rattle.sn_model.specs.FileCalls.{blocks_spanned}
+use Rattle.sn_model.specs.Tree.{Node, Tree, link_to}
+
+-- a file that is found under a name, as a number
+abbrev pub file_under : Tree → Link → ℕ
+file_under tree link = counted (map.get tree.links link)
+  where
+    is_one : Option Node → ℕ
+    is_one None = 0
+    is_one (Some node) = if is_file node.kind then 1 else 0
+
+    counted : Option ℕ → ℕ
+    counted None = 0
+    counted (Some number) = is_one (map.get tree.nodes number)
+
+-- A change is charged for each inode that it may touch, one more where a file may stay without names, and for each directory or data block.
+abbrev pub charge_for : Limits → Tree → Change → ℕ
+charge_for limits tree (Make directory name number kind o) = 2 * limits.inode_charge + limits.block_charge
+charge_for limits tree (AddLink directory name number) = 2 * limits.inode_charge + limits.block_charge
+charge_for limits tree (Remove directory name) = (2 + file_under tree (link_to directory name)) * limits.inode_charge + limits.block_charge
+charge_for limits tree (Rename old_directory old_name new_directory new_name) = 5 * limits.inode_charge + 2 * limits.block_charge
+charge_for limits tree (Write number offset bytes) = limits.inode_charge + limits.block_charge * blocks_spanned offset (length bytes)
+charge_for limits tree (SetSize number size) = limits.inode_charge + limits.block_charge
+charge_for limits tree (SetAttributes number o) = limits.inode_charge
+
+-- a node that is made is charged alike whatever its number
+abbrev pub charge_of : Limits → Tree → Pending → ℕ
+charge_of limits tree Nothing = 0
+charge_of limits tree (Makes directory name kind o) = charge_for limits tree (Make directory name 0 kind o)
+charge_of limits tree (Does change) = charge_for limits tree change
+
+-- an outcome is charged for its change in this tree
+abbrev pub IsPaidFor : Limits → Tree → Outcome → Type 0
+IsPaidFor limits tree o = o.charge ≡ charge_of limits tree o.change
