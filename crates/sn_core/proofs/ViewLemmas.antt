@@ -1,5 +1,5 @@
 -- What is seen of the tree in memory, and what was decided over it.
-use Rattle.std.proofs.Common.{◌≡◌, ℕ, false, List, [], ◌∷◌, length, map as list_map, Option, Result, is_some, refl, sym, ap, ◌∙◌, arith}
+use Rattle.std.proofs.Common.{◌≡◌, ℕ, false, List, [], ◌∷◌, length, map as list_map, Option, Result, Ok, Err, is_some, refl, sym, ap, ◌∙◌, arith}
 use Rattle.std.specs.Option.{option_and_then}
 use Rattle.std.specs.Ordering.{nat_cmp}
 use Rattle.std.specs.Cmp.Lexicographic.{slice_cmp}
@@ -9,7 +9,7 @@ use Rattle.sn_walk.specs.declared.object.Home.{Home}
 use Rattle.sn_walk.specs.declared.object.Home.TheVariants.{Frozen}
 use Rattle.sn_walk.specs.declared.failure.Failure.{Failure}
 use Rattle.sn_walk.specs.declared.failure.Failure.TheVariants.{Refused, Fault}
-use Rattle.sn_walk.specs.Gives.{Fails}
+use Rattle.sn_walk.specs.Gives.{Fails, Gives}
 use Rattle.sn_walk.specs.Views.{nothing}
 use Rattle.sn_limits.specs.Versions.{version_1}
 use Rattle.sn_model.specs.declared.call.Call.{Call}
@@ -21,7 +21,7 @@ use Rattle.sn_model.specs.Tree.{Tree}
 use Rattle.sn_model.specs.Steps.{decision}
 use Rattle.sn_model.specs.World.{World, tree_in, viewed_if}
 use Rattle.sn_core.specs.Plain.{plain_trees}
-use Rattle.sn_core.specs.Served.{HasNone, as_error}
+use Rattle.sn_core.specs.Served.{Decides, HasNone, answer_of, as_error}
 
 -- nothing is seen of a frozen tree
 pub none_frozen : (tree : Tree) (home : Home) (name : List ℕ) → home ≡ Frozen name → viewed_if (tree_in (plain_trees tree) home) ≡ nothing
@@ -54,3 +54,8 @@ no_keys tree = ap (list_map (λ (e : List ℕ × Tree). e.0)) (no_items (fin.ent
 pub gives_none : (world : World) (session : ℕ) (c : Call) (decided : Result Outcome Refusal) (e : Failure Refusal Infallible) → Fails e decided → decision version_1 world session c ≡ decided → HasNone (as_error e) world session c
 gives_none world session c decided (Refused r) fails is = is ∙ fails
 gives_none world session c decided (Fault f) fails is = elim f [ ]
+
+pub gives_decided : (world : World) (session : ℕ) (c : Call) (given : Result Outcome (Failure Refusal Infallible)) → Gives (λ o. o) given (decision version_1 world session c) → Decides world session c (answer_of given)
+gives_decided world session c (Ok o) gives = gives
+gives_decided world session c (Err (Refused r)) gives = gives
+gives_decided world session c (Err (Fault f)) gives = elim f [ ]

@@ -33,6 +33,10 @@ abbrev pub as_error : {F : Type 0} → Failure Refusal F → CallError
 as_error (failure.Refused r) = Refused r
 as_error (failure.Fault f) = Memory
 
+abbrev pub answer_of : {X F : Type 0} → Result X (Failure Refusal F) → Result X CallError
+answer_of (Ok x) = Ok x
+answer_of (Err e) = Err (as_error e)
+
 -- why a call has no outcome
 abbrev pub HasNone : CallError → World → ℕ → Call → Type 0
 HasNone (Refused r) world session c = decision version_1 world session c ≡ Err r

@@ -4,7 +4,7 @@ ghost use Rattle.std.specs.Prelude.{◌≡◌, ◌<◌, ◌^◌, IfOk};
 ghost use Rattle.sn_model.specs.Calls.{new_session};
 ghost use Rattle.sn_model.specs.Outcomes.{opens};
 ghost use Rattle.sn_model.specs.Worlds.{IsCall};
-ghost use Rattle.sn_core.specs.Served.{Decides};
+ghost use Rattle.sn_core.specs.Served.{Decides, answer_of};
 
 use crate::PlainWorld;
 use crate::error::CallError;
@@ -15,9 +15,21 @@ use sn_core_decide::{
 };
 use sn_limits::Limits;
 use sn_model::{
-    Access, AclKind, Call, Caller, Groups, Outcome, Pending, Reply, Session, StoredAcl, Word,
+    Access, AclKind, Call, Caller, Groups, Outcome, Pending, Refusal, Reply, Session, StoredAcl,
+    Word,
 };
+use sn_walk::Failure;
 use std::alloc::Global;
+use std::convert::Infallible;
+
+/// What was decided over the tree in memory, in which no look-up finds a fault.
+pub(crate) fn decided<'a>(
+    outcome: Result<Outcome<'a>, Failure<Refusal, Infallible>>,
+) -> Result<Outcome<'a>, CallError>
+    ensures { result ≡ answer_of outcome.entry }
+{
+    Ok(outcome?)
+}
 
 /// What a login comes to.
 fn login(uid: u32, gid: u32, groups: &Groups) -> Outcome<'static>
@@ -63,7 +75,7 @@ impl PlainWorld {
         let path = path_argument(path)?;
         let mode = new_mode_argument(mode)?;
         let mut view = self.view();
-        Ok(decide::mkdir(&Limits::VERSION_1, &mut view, caller, &path, mode)?)
+        decided(decide::mkdir(&Limits::VERSION_1, &mut view, caller, &path, mode))
     }
 
     fn decide_chmod(
@@ -78,7 +90,7 @@ impl PlainWorld {
         let path = path_argument(path)?;
         let bits = mode_bits_argument(mode)?;
         let mut view = self.view();
-        Ok(decide::chmod(&Limits::VERSION_1, &mut view, caller, &path, bits)?)
+        decided(decide::chmod(&Limits::VERSION_1, &mut view, caller, &path, bits))
     }
 
     fn decide_chown(
@@ -95,7 +107,7 @@ impl PlainWorld {
         let uid = id_argument(uid)?;
         let gid = id_argument(gid)?;
         let mut view = self.view();
-        Ok(decide::chown(&Limits::VERSION_1, &mut view, caller, &path, uid, gid)?)
+        decided(decide::chown(&Limits::VERSION_1, &mut view, caller, &path, uid, gid))
     }
 
     fn decide_stat<'a>(&self, session: u32, path: &'a Word) -> Result<Outcome<'a>, CallError>
@@ -104,7 +116,7 @@ impl PlainWorld {
         let caller = self.logged_in(session)?;
         let path = path_argument(path)?;
         let mut view = self.view();
-        Ok(decide::stat(&mut view, caller, &path)?)
+        decided(decide::stat(&mut view, caller, &path))
     }
 
     fn decide_access(
@@ -118,7 +130,7 @@ impl PlainWorld {
         let caller = self.logged_in(session)?;
         let path = path_argument(path)?;
         let mut view = self.view();
-        Ok(decide::access(&mut view, caller, &path, want)?)
+        decided(decide::access(&mut view, caller, &path, want))
     }
 
     fn decide_getacl(
@@ -156,7 +168,7 @@ impl PlainWorld {
         let path = path_argument(path)?;
         let acl = acl_argument(kind, acl)?;
         let mut view = self.view();
-        Ok(decide::setacl(&Limits::VERSION_1, &mut view, caller, &path, acl)?)
+        decided(decide::setacl(&Limits::VERSION_1, &mut view, caller, &path, acl))
     }
 
     /// What a call comes to, or its first refusal. `Memory` comes only once its session and arguments

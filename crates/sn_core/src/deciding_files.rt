@@ -10,6 +10,7 @@ ghost use Rattle.sn_walk.specs.Gives.{Answers};
 ghost use Rattle.sn_core.specs.Served.{Decides};
 
 use crate::PlainWorld;
+use crate::deciding::decided;
 use crate::error::CallError;
 use sn_core_decide as decide;
 use sn_core_decide::{
@@ -111,7 +112,7 @@ impl PlainWorld {
         let caller = self.logged_in(session)?;
         let path = path_argument(path)?;
         let mut view = self.view();
-        Ok(decide::unlink(&Limits::VERSION_1, &mut view, caller, &path)?)
+        decided(decide::unlink(&Limits::VERSION_1, &mut view, caller, &path))
     }
 
     #[tactic(auto, unfolding(sn_model::specs::FileCalls::open_outcome))]
@@ -130,7 +131,7 @@ impl PlainWorld {
         let mode = new_mode_argument(mode)?;
         let fd = self.sessions.next_descriptor(session)?;
         let mut view = self.view();
-        Ok(decide::open(
+        decided(decide::open(
             &Limits::VERSION_1,
             &mut view,
             caller,
@@ -138,7 +139,7 @@ impl PlainWorld {
             &path,
             flags,
             mode,
-        )?)
+        ))
     }
 
     #[tactic(auto, unfolding(sn_model::specs::FileCalls::close_outcome))]

@@ -6,6 +6,7 @@ ghost use Rattle.sn_model.specs.World.{trees_of};
 ghost use Rattle.sn_core.specs.Served.{Decides};
 
 use crate::PlainWorld;
+use crate::deciding::decided;
 use crate::error::CallError;
 use sn_core_decide::path_argument;
 use sn_core_names as decide;
@@ -27,7 +28,7 @@ impl PlainWorld {
         let caller = self.logged_in(session)?;
         let path = path_argument(path)?;
         let mut view = self.view();
-        Ok(decide::rmdir(&Limits::VERSION_1, &mut view, caller, &path)?)
+        decided(decide::rmdir(&Limits::VERSION_1, &mut view, caller, &path))
     }
 
     pub(crate) fn decide_link<'a>(
@@ -42,7 +43,7 @@ impl PlainWorld {
         let old = path_argument(old)?;
         let new = path_argument(new)?;
         let mut view = self.view();
-        Ok(decide::link(&Limits::VERSION_1, &mut view, caller, &old, &new)?)
+        decided(decide::link(&Limits::VERSION_1, &mut view, caller, &old, &new))
     }
 
     pub(crate) fn decide_rename<'a>(
@@ -57,7 +58,7 @@ impl PlainWorld {
         let old = path_argument(old)?;
         let new = path_argument(new)?;
         let mut view = self.view();
-        Ok(decide::rename(&Limits::VERSION_1, &mut view, caller, &old, &new)?)
+        decided(decide::rename(&Limits::VERSION_1, &mut view, caller, &old, &new))
     }
 
     /// The names that a directory is listed with. There are no snapshots yet.

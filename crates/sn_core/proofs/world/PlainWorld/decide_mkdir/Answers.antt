@@ -1,10 +1,9 @@
-use Rattle.std.proofs.Common.{rules, refl}
-use Rattle.std.proofs.lemmas.Result.{err_from_is_err_and}
+use Rattle.std.proofs.Common.{rules}
+use Rattle.sn_model.specs.declared.call.Call.TheVariants as call
 use Rattle.sn_core.specs.Plain.{world_of}
-use Rattle.sn_core.proofs.ViewLemmas.{gives_none}
+use Rattle.sn_core.proofs.ViewLemmas.{gives_decided}
 use Rattle.sn_core.proofs.world.PlainWorld.decide_mkdir.Goals as goal
 
-pub returns-in_err-mkdir : goal.returns-in_err-mkdir
-returns-in_err-mkdir c =
-    let p = err_from_is_err_and c.from_residual-in_err-mkdir.result c.from_residual-in_err-mkdir.ensures.1 in
-    rw (p.1, p.2) (gives_none (world_of c.args.self.now) c.args.session _ _ _ (c.in_err-mkdir.ensures.exact refl) (rw c.in_ok-caller.ensures (rw c.in_ok-path.ensures (rw (← c.in_ok-mode.ensures) (search rules)))))
+pub returns : goal.returns
+returns c =
+    rw c.decided.ensures (gives_decided (world_of c.args.self.now) c.args.session (call.Mkdir c.args.path.now c.args.mode) c.mkdir.result (rw c.in_ok-caller.ensures (rw c.in_ok-path.ensures (rw (← c.in_ok-mode.ensures) (search rules)))))
