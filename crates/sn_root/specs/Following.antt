@@ -1,5 +1,6 @@
 -- The root that a consistency point writes after another one.
 use Rattle.std.specs.Prelude.{ℕ, ◌+◌}
+use Rattle.sn_limits.specs.declared.limits.Limits.{Limits}
 use Rattle.sn_layout.specs.declared.root.RootBody.{RootBody}
 use Rattle.sn_root.specs.declared.following.PointKind.{PointKind}
 use Rattle.sn_root.specs.declared.following.PointKind.TheVariants.{Ordinary, Recovery}
@@ -9,6 +10,6 @@ abbrev pub epochs_of : PointKind → ℕ
 epochs_of Ordinary = 1
 epochs_of Recovery = 2
 
--- the next root, with the same trees
-abbrev pub following : PointKind → RootBody → RootBody
-following kind root = record root { generation = root.generation + 1; epoch = root.epoch + epochs_of kind }
+-- the next root, in the version of these limits, with the same trees
+abbrev pub following : PointKind → Limits → RootBody → RootBody
+following kind limits root = record root { limits = limits; generation = root.generation + 1; epoch = root.epoch + epochs_of kind }

@@ -1,9 +1,12 @@
 //! The root that a consistency point writes after another one.
-ghost use Rattle.std.specs.Prelude.{◌≡◌, ◌+◌, ◌^◌, ◌≤◌, ◌↔◌, IsSome, IfSome};
+ghost use Rattle.std.specs.Prelude.{◌≡◌, ◌+◌, ◌^◌, ◌≤◌, ◌↔◌, Some, IsSome, IfSome};
+ghost use Rattle.sn_limits.specs.Versions.{limits_of};
 ghost use Rattle.sn_layout.specs.RootBody.{IsRootBody};
+ghost use Rattle.sn_layout.specs.Snapshot.{AreSnapshots};
 ghost use Rattle.sn_root.specs.Following.{epochs_of, following};
 
 use sn_layout::{LARGEST_AGE, RootBody};
+use sn_limits::Limits;
 
 /// Which consistency point the root is of.
 #[derive(Clone, Copy, PartialEq, Eq)]
@@ -25,19 +28,21 @@ impl PointKind {
     }
 }
 
-/// The root that follows on this one, with the next generation and a later epoch, and with the same
-/// trees until its caller puts others in. There is none past a generation or an epoch of 2^62.
-pub fn next_root(root: &RootBody, kind: PointKind) -> Option<RootBody>
+/// The root that follows on this one, in the version of these limits, with the next generation and a later
+/// epoch, and with the same trees until its caller puts others in. There is none past a generation or an epoch
+/// of 2^62. It can be written where the limits are those of a version, and its snapshots fit them.
+pub fn next_root(root: &RootBody, limits: &Limits, kind: PointKind) -> Option<RootBody>
     ensures some { IsSome result ↔ ((root.now.generation + 1 ≤ 2 ^ 62) × (root.now.epoch + epochs_of kind ≤ 2 ^ 62)) }
-    ensures value { IfSome result (λ next. next ≡ following kind root.now) }
-    ensures fits { IsRootBody root.now → IfSome result IsRootBody }
+    ensures value { IfSome result (λ next. next ≡ following kind limits.now root.now) }
+    ensures fits { IsRootBody root.now → limits_of limits.now.version ≡ Some limits.now
+        → AreSnapshots limits.now root.now.snapshots → IfSome result IsRootBody }
 {
     let epochs = kind.epochs();
     if root.generation >= LARGEST_AGE || root.epoch > LARGEST_AGE - epochs {
         return None;
     }
     Some(RootBody {
-        limits: root.limits,
+        limits: *limits,
         generation: root.generation + 1,
         epoch: root.epoch + epochs,
         inode_file: root.inode_file,

@@ -29,7 +29,7 @@
 //!
 //! ```text
 //! let newest = newest(&mut blocks)?;
-//! let next = next_root(&newest.root, PointKind::Ordinary)?;
+//! let next = next_root(&newest.root, &newest.root.limits, PointKind::Ordinary)?;
 //! close_slot(&mut blocks, newest.slot.other(), newest.other)?;
 //! write_body(&mut blocks, newest.slot.other(), &next)?;
 //! open_slot(&mut blocks, newest.slot.other())?;

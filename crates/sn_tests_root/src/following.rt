@@ -34,7 +34,7 @@ fn root_in(case: Case<'_>) -> Result<RootBody> {
 fn following(alloc: Global, case: Case<'_>) -> Result<String> {
     let kind = kind_of(case.word(2)?)?;
     let root = root_in(case)?;
-    match next_root(&root, kind) {
+    match next_root(&root, &root.limits, kind) {
         Some(next) => told(alloc, &root, &next),
         None => Ok(String::from_str(alloc, "none")?),
     }

@@ -36,7 +36,7 @@ pub fn renew<D: Device>(blocks: &mut Blocks<D>, tree: BlockTree, form: Form) -> 
     requires room { 56 ≤ (D.status (device_of blocks.old)).sectors }
 {
     let newest = mounted(blocks)?;
-    let Some(mut next) = next_root(&newest.root, PointKind::Ordinary) else {
+    let Some(mut next) = next_root(&newest.root, &newest.root.limits, PointKind::Ordinary) else {
         bail!("no next root")
     };
     next.inode_file = tree;
