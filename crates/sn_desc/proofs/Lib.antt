@@ -4,3 +4,4 @@ pub mod HeldLemmas
 pub mod ReleaseLemmas
 pub mod SessionLemmas
 pub mod LogoutLemmas
+pub mod OpenLemmas

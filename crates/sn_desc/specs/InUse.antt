@@ -1,9 +1,10 @@
 -- Who is logged in, what is open, and which files were dropped.
-use Rattle.std.specs.Prelude.{ℕ, ◌+◌, ◌*◌, ◌/◌, ◌%◌, ◌&&◌, nat_lt, List, [], ◌∷◌, Option, None, Some, replicate, if◌then◌else◌}
+use Rattle.std.specs.Prelude.{◌≡◌, ℕ, ◌+◌, ◌*◌, ◌/◌, ◌%◌, ◌&&◌, nat_lt, List, [], ◌∷◌, Option, None, Some, IsSomeAnd, replicate, if◌then◌else◌}
 use Rattle.std.specs.FinMap as map
 use Rattle.sn_model.specs.declared.session.Session.{Session}
 use Rattle.sn_model.specs.Descriptors.{Descriptors}
 use Rattle.sn_model.specs.World.{Descriptor, World}
+use Rattle.sn_walk.specs.declared.object.Home.{Home}
 use Rattle.sn_desc.specs.declared.dropped.Dropped.{Dropped}
 use Rattle.sn_desc.specs.declared.dropped.Dropped.TheVariants.{Never}
 use Rattle.sn_desc.specs.declared.open_file.OpenFile.{OpenFile}
@@ -39,3 +40,7 @@ nothing_in_use room = record { sessions = replicate 64 None; descriptors = map.e
 -- a world with these sessions and descriptors
 abbrev pub in_world : InUse → World → World
 in_world u world = record world { sessions = u.sessions; descriptors = u.descriptors }
+
+-- a descriptor has a file of this tree
+abbrev pub HasOpen : Descriptors → Home → Type 0
+HasOpen table home = (session : ℕ) × (fd : ℕ) × IsSomeAnd (map.get table (session, fd)) (λ d. d.home ≡ home)

@@ -1,5 +1,5 @@
 -- What is open by place, and which live file a place that is closed was the last to have.
-use Rattle.std.specs.Prelude.{ℕ, ◌==◌, List, Option, None, Some, if◌then◌else◌}
+use Rattle.std.specs.Prelude.{◌≡◌, ℕ, ◌==◌, List, Option, None, Some, if◌then◌else◌}
 use Rattle.sn_walk.specs.declared.object.Home.{Home}
 use Rattle.sn_walk.specs.declared.object.Home.TheVariants.{Live, Frozen}
 use Rattle.sn_desc.specs.Files.{files_at, room_at}
@@ -21,3 +21,8 @@ released_from left (Frozen name) number = None
 abbrev pub released_file : List (Option OpenFile) → Option OpenFile → Option ℕ
 released_file left None = None
 released_file left (Some file) = released_from left file.home file.number
+
+-- what is open at a place, if anything is, is a file of this tree
+abbrev pub IsOpenIn : Home → Option OpenFile → Type 0
+IsOpenIn home None = ⊥
+IsOpenIn home (Some file) = file.home ≡ home

@@ -1,4 +1,4 @@
-ghost use Rattle.std.specs.Prelude.{◌≡◌, ◌-◌, ◌<◌, ◌≤◌, replicate, length, slice_index_or, slice_set, option_copied, nat_lt, count_by, None, Some, IsOk, IfOk, OnOk};
+ghost use Rattle.std.specs.Prelude.{◌≡◌, ◌-◌, ◌<◌, ◌≤◌, ◌↔◌, ℕ, IsTrue, replicate, length, slice_index_or, slice_set, option_copied, nat_lt, count_by, None, Some, IsOk, IfOk, OnOk};
 ghost use Rattle.std.specs.Option.{option_map};
 ghost use Rattle.sn_desc.specs.Holders.{IsCounted, is_live_file};
 ghost use Rattle.sn_desc.specs.Files.{files_at, with_offset, room_at};
@@ -24,7 +24,7 @@ pub(crate) struct OpenFiles {
 }
 
 impl OpenFiles {
-    ghost use Rattle.sn_desc.specs.OpenFiles.{files_of, room_of, released_file};
+    ghost use Rattle.sn_desc.specs.OpenFiles.{files_of, room_of, released_file, IsOpenIn};
 
     /// Nothing is open. The memory for all counts is taken here.
     pub fn new(alloc: Global) -> Result<OpenFiles, AllocError>
@@ -41,6 +41,28 @@ impl OpenFiles {
         ensures { option_copied result ≡ slice_index_or (files_of self.now) place None }
     {
         self.places.get(place)
+    }
+
+    /// Whether a file of this tree is open at a place.
+    fn is_open_in(&self, home: &Home, place: usize) -> bool
+        ensures { IsTrue result ↔ IsOpenIn home.now (slice_index_or (files_of self.now) place None) }
+    {
+        match self.get(place) {
+            Some(file) => file.is_in(home),
+            None => false,
+        }
+    }
+
+    /// Whether a file of this tree is open at any place. It passes over the places once.
+    pub fn has_open(&self, home: &Home) -> bool
+        ensures { IsTrue result ↔ ((place : ℕ) × IsOpenIn home.now (slice_index_or (files_of self.now) place None)) }
+    {
+        for place in 0..PLACES {
+            if self.is_open_in(home, place) {
+                return true;
+            }
+        }
+        false
     }
 
     /// How many descriptors have the live file with this number.

@@ -1,4 +1,4 @@
-ghost use Rattle.std.specs.Prelude.{◌≡◌, ◌+◌, length, ◌-◌, ◌*◌, ◌<◌, ◌≤◌, map, replicate, slice_get, slice_index_or, slice_set, vec_len, option_copied, None, Some, IsOk, IfOk, OnOk, OnErr};
+ghost use Rattle.std.specs.Prelude.{◌≡◌, ◌+◌, ◌↔◌, IsTrue, length, ◌-◌, ◌*◌, ◌<◌, ◌≤◌, map, replicate, slice_get, slice_index_or, slice_set, vec_len, option_copied, None, Some, IsOk, IfOk, OnOk, OnErr};
 ghost use Rattle.std.specs.Option.{option_map};
 ghost use Rattle.std.specs.FinMap as finite;
 ghost use Rattle.sn_model.specs.Descriptors.{at_offset, closed, descriptor_at, is_held_in, moved_to, next_descriptor, opened, readable_at, sought, without_session, writable_at};
@@ -10,7 +10,7 @@ ghost use Rattle.arrayvec.specs.ArrayVec.{array_vec_len};
 ghost use Rattle.sn_desc.specs.Closing.{AreReleased, closing, pushed, released_if};
 ghost use Rattle.sn_desc.specs.Drops.{aged, forgotten, is_dropped};
 ghost use Rattle.sn_desc.specs.Seeking.{Seeks};
-ghost use Rattle.sn_desc.specs.InUse.{descriptor_of, in_world, nothing_in_use, place_of};
+ghost use Rattle.sn_desc.specs.InUse.{HasOpen, descriptor_of, in_world, nothing_in_use, place_of};
 ghost use Rattle.sn_desc.specs.declared.dropped.Dropped.TheVariants as drop;
 
 use crate::dropped::{self, Dropped};
@@ -20,6 +20,7 @@ use arrayvec::ArrayVec;
 use sn_acl::Mode;
 use sn_limits::Limits;
 use sn_model::{Errno, Refusal, Session};
+use sn_walk::Home;
 use std::alloc::{AllocError, Global};
 
 /// How many sessions there are.
@@ -325,6 +326,13 @@ impl Sessions {
         ensures { result ≡ is_held_in (in_use_of self.now).descriptors number }
     {
         self.files.holders(number) > 0
+    }
+
+    /// Whether any descriptor has a file of this tree, live or frozen: it passes over all of them once.
+    pub fn has_open(&self, home: &Home) -> bool
+        ensures { IsTrue result ↔ HasOpen (in_use_of self.now).descriptors home.now }
+    {
+        self.files.has_open(home)
     }
 
     /// Notes that the file with this number was dropped, because its last descriptor was closed.
