@@ -18,12 +18,14 @@
 //! - [`clear`] and [`close_half`]: zeros are written over the one sector that `cleared_sector` names,
 //!   which at no moment changes the records that end there or adds a later one. After `Ok` the place is
 //!   closed after each crash.
+//! - [`has_no_later`]: whether a record of a later epoch stands at the first place of a half, exactly over any
+//!   bytes. A mount asks it of both halves, since such a record would count once its epoch begins.
 //! - [`Log::turn`] and [`Log::turn_back`] go to another epoch and back in memory alone.
 //!
 //! The way through: `specs/Places.antt`, `Appending.antt`, `Replaying.antt` and `Clearing.antt` have
 //! the words of the clauses, `Laws.antt` the law. `log` and `replay` have the two types, `appending` the writes of an append
-//! in their order, `body` what a record is spelled with, `sectors` what is read, and `clearing` the
-//! rule for a place that is to count no longer.
+//! in their order, `body` what a record is spelled with, `sectors` what is read, `later` the test of a first
+//! place, and `clearing` the rule for a place that is to count no longer.
 //!
 //! What the sources leave open is decided in `docs/DECISIONS.md`, under "The log".
 //!
@@ -49,6 +51,7 @@ mod appending;
 mod body;
 mod buffer;
 mod clearing;
+mod later;
 mod laws;
 mod log;
 mod position;
@@ -57,6 +60,7 @@ mod sectors;
 
 pub use buffer::Buffer;
 pub use clearing::{clear, close_half};
+pub use later::has_no_later;
 pub use laws::replay_finds_the_next;
 pub use log::Log;
 pub use position::Position;
