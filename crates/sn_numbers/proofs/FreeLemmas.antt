@@ -1,11 +1,10 @@
 -- The numbers that a new node can get: the search for one, and what a change leaves taken.
-use Rattle.std.proofs.Common.{◌≡◌, ◌≢◌, ◌⊎◌, inl, inr, ℕ, zero, suc, ◌+◌, ◌-◌, ◌<◌, ◌≤◌, Bool, true, false, cond, ◌||◌, ◌==◌, Option, Some, None, Result, Ok, Err, is_some, is_none, min, max, nat_le, refl, sym, ap, subst, ◌∙◌, arith, add-zero, nat_lt, List, [], length, get_or, set, replicate}
+use Rattle.std.proofs.Common.{◌≡◌, ◌≢◌, ◌⊎◌, inl, inr, ℕ, zero, suc, ◌+◌, ◌-◌, ◌<◌, ◌≤◌, Bool, true, false, cond, ◌||◌, ◌==◌, Option, Some, None, Result, Ok, Err, is_some, is_none, min, max, nat_le, refl, sym, ap, subst, ◌∙◌, arith, add-zero, nat_lt, List, [], set}
 use Rattle.std.specs.Option.{option_or}
 use Rattle.std.specs.Ordering.{nat_cmp, eq_by_cmp}
 use Rattle.std.specs.Cmp.{nat_cmp_total}
 use Rattle.std.specs.FinMap as map
-use Rattle.std.proofs.lemmas.Bool.{eq-eqb, eqb-true, false_from_ne_true, lt-leb, ltb-true, ltb-false, true≢false}
-use Rattle.std.proofs.lemmas.List.{get_or-replicate, get_or_past, get_or-set_same, get_or-set_other, length-replicate}
+use Rattle.std.proofs.lemmas.Bool.{eq-eqb, lt-leb, ltb-true, ltb-false, true≢false}
 use Rattle.std.proofs.lemmas.Map.Lookups.{exact_unsigned}
 use Rattle.sn_limits.specs.declared.kind.Kind.{Kind}
 use Rattle.sn_limits.specs.declared.kind.Kind.TheVariants.{Directory}
@@ -28,21 +27,6 @@ use Rattle.sn_model.proofs.MapLemmas.{same_or_apart, get_inserted, get_left}
 use Rattle.sn_model.proofs.MoveLemmas.{some_node}
 use Rattle.sn_model.proofs.PartLemmas.{Unlinked, IsRenamed, cut_is, linked_is, made_is, owned_is, removed_is, renamed_is, replaced_is, unlinked_is, written_is}
 use Rattle.sn_numbers.specs.Numbers.{AreTaken, free_from, is_taken, least_free, next_after, next_number}
-
--- ---- the marks
-pub none_marked : (n k : ℕ) → get_or (replicate n false) k false ≡ false
-none_marked n k = told (nat_lt k n) refl
-  where
-    told : (b : Bool) → nat_lt k n ≡ b → get_or (replicate n false) k false ≡ false
-    told true e = get_or-replicate n k false false (ltb-true k n e)
-    told false e = get_or_past (replicate n false) k false (omega (arith, ltb-false k n e, length-replicate n false))
-
-pub marked_at : (marks : List Bool) (number n : ℕ) → number < length marks → get_or (set marks number true) n false ≡ (n == number || get_or marks n false)
-marked_at marks number n lt = told (same_or_apart nat_cmp_total exact_unsigned n number)
-  where
-    told : (n ≡ number) ⊎ (n ≢ number) → get_or (set marks number true) n false ≡ (n == number || get_or marks n false)
-    told (inl q) = ap (λ k. get_or (set marks number true) k false) q ∙ get_or-set_same marks number true false lt ∙ sym (ap (λ b. b || get_or marks n false) (eq-eqb n number q))
-    told (inr q) = get_or-set_other marks number n true false q ∙ sym (ap (λ b. b || get_or marks n false) (false_from_ne_true (n == number) (λ e. q (eqb-true n number e))))
 
 -- ---- the search
 module _ (tree : Tree) (kept : ℕ → Bool) where

@@ -1,1 +1,2 @@
 pub mod FreeLemmas
+pub mod MarkLemmas

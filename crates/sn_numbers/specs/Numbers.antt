@@ -7,10 +7,16 @@ use Rattle.sn_model.specs.declared.change.Change.{Change}
 use Rattle.sn_model.specs.declared.change.Change.TheVariants.{Make, AddLink, Remove, Rename, Write, SetSize, SetAttributes}
 use Rattle.sn_model.specs.Tree.{Tree, least_unused}
 use Rattle.sn_numbers.specs.declared.kept_back.KeptBack.{KeptBack}
+use Rattle.sn_numbers.specs.declared.kept_back.Mark.TheVariants.{Free}
+use Rattle.sn_numbers.specs.Marks.{is_kept, is_since}
 
 -- the numbers that are kept back
 unfoldable pub held_of : KeptBack → ℕ → Bool
-held_of k number = slice_index_or k.marks.items number false
+held_of k number = is_kept (slice_index_or k.marks.items number Free)
+
+-- those of them that are so since the consistency point in progress began
+unfoldable pub since_of : KeptBack → ℕ → Bool
+since_of k number = is_since (slice_index_or k.marks.items number Free)
 
 -- a number that no new node gets yet: it has a node, or it is kept back
 abbrev pub is_taken : Tree → (ℕ → Bool) → ℕ → Bool
@@ -37,6 +43,16 @@ kept_after (Rename old_directory old_name new_directory new_name) kept n = kept 
 kept_after (Write number offset bytes) kept n = kept n
 kept_after (SetSize number size) kept n = kept n
 kept_after (SetAttributes number o) kept n = kept n
+
+-- The same of those that are kept back since the consistency point in progress began.
+abbrev pub since_after : Change → (ℕ → Bool) → (ℕ → Bool) → ℕ → Bool
+since_after (Make directory name number kind o) kept since n = since n && not (kept number)
+since_after (AddLink directory name number) kept since n = since n
+since_after (Remove directory name) kept since n = since n
+since_after (Rename old_directory old_name new_directory new_name) kept since n = since n
+since_after (Write number offset bytes) kept since n = since n
+since_after (SetSize number size) kept since n = since n
+since_after (SetAttributes number o) kept since n = since n
 
 -- each number below the next one is taken
 pub record AreTaken (tree : Tree) (kept : ℕ → Bool) (next : ℕ) : Type 0 where

@@ -7,7 +7,7 @@ ghost use Rattle.sn_model.specs.Settling.{is_nameless, loses, settled};
 ghost use Rattle.sn_model.specs.Tests.{has_room};
 ghost use Rattle.sn_model.specs.Tree.{Tree};
 ghost use Rattle.sn_model.specs.World.{new_tree};
-ghost use Rattle.sn_numbers.specs.Numbers.{AreTaken, held_of, is_taken, kept_after, next_after, next_number};
+ghost use Rattle.sn_numbers.specs.Numbers.{AreTaken, held_of, since_of, is_taken, kept_after, since_after, next_after, next_number};
 ghost use Rattle.sn_plain.specs.Plain.{Applies, tree_of};
 
 use crate::kept_back::KeptBack;
@@ -54,6 +54,7 @@ fn first_free(tree: &PlainTree, kept_back: &KeptBack, from: u32) -> u32
 /// It hands on the next number.
 fn release(kept_back: &mut KeptBack, next: u32, number: u16) -> u32
     ensures kept { (n : ℕ) → held_of kept_back.new n ≡ (held_of kept_back.old n && not (held_of kept_back.old number)) }
+    ensures since { (n : ℕ) → since_of kept_back.new n ≡ (since_of kept_back.old n && not (held_of kept_back.old number)) }
     ensures next { (tree : Tree) → AreTaken tree (held_of kept_back.old) next → AreTaken tree (held_of kept_back.new) result }
 {
     if !kept_back.has(number) {
@@ -94,12 +95,13 @@ fn next_after_loss(tree: &PlainTree, next: u32, lost: Option<u16>) -> u32
 }
 
 impl LiveTree {
-    ghost use Rattle.sn_numbers.specs.Live.{kept_back_of, live_of};
+    ghost use Rattle.sn_numbers.specs.Live.{kept_back_of, kept_since_of, live_of};
 
     /// A root directory alone, and no number kept back.
     pub fn new(alloc: Global) -> Result<LiveTree, AllocError>
         ensures tree { IfOk result (λ t. live_of t ≡ new_tree) }
         ensures none { IfOk result (λ t. (n : ℕ) → kept_back_of t n ≡ false) }
+        ensures since { IfOk result (λ t. (n : ℕ) → kept_since_of t n ≡ false) }
     {
         let tree = PlainTree::new(alloc)?;
         let kept_back = KeptBack::new(alloc)?;
@@ -168,7 +170,10 @@ impl LiveTree {
         requires { (l : Limits) × IsTree l (live_of self.old) }
         ensures tree { Applies result (apply limits.now change.now (live_of self.old)) (live_of self.old) (live_of self.new) }
         ensures kept { OnOk result ((n : ℕ) → kept_back_of self.new n ≡ kept_after change.now (kept_back_of self.old) n) }
+        ensures since { OnOk result ((n : ℕ) → kept_since_of self.new n
+            ≡ since_after change.now (kept_back_of self.old) (kept_since_of self.old) n) }
         ensures same { OnErr result ((n : ℕ) → kept_back_of self.new n ≡ kept_back_of self.old n) }
+        ensures same_since { OnErr result ((n : ℕ) → kept_since_of self.new n ≡ kept_since_of self.old n) }
     {
         let lost = self.loses(change);
         match self.tree.apply(alloc, limits, change) {
@@ -192,6 +197,7 @@ impl LiveTree {
         requires nameless { is_nameless (live_of self.old) number (map.get (live_of self.old).nodes number) ≡ true }
         ensures tree { live_of self.new ≡ take_node (live_of self.old) number }
         ensures kept { (n : ℕ) → kept_back_of self.new n ≡ (n == number || kept_back_of self.old n) }
+        ensures since { (n : ℕ) → kept_since_of self.new n ≡ (n == number || kept_since_of self.old n) }
     {
         self.tree.drop_file(number);
         self.kept_back.put(number);
@@ -204,6 +210,7 @@ impl LiveTree {
         requires nameless { is_nameless (live_of self.old) number (map.get (live_of self.old).nodes number) ≡ true }
         ensures tree { live_of self.new ≡ take_node (live_of self.old) number }
         ensures kept { (n : ℕ) → kept_back_of self.new n ≡ kept_back_of self.old n }
+        ensures since { (n : ℕ) → kept_since_of self.new n ≡ kept_since_of self.old n }
     {
         self.tree.drop_file(number);
         self.next = next_after_loss(&self.tree, self.next, Some(number));
@@ -214,9 +221,38 @@ impl LiveTree {
     pub fn settle(&mut self)
         ensures tree { live_of self.new ≡ settled (live_of self.old) }
         ensures none { (n : ℕ) → kept_back_of self.new n ≡ false }
+        ensures since { (n : ℕ) → kept_since_of self.new n ≡ false }
     {
         self.tree.settle();
         self.kept_back.clear();
         self.next = first_free(&self.tree, &self.kept_back, u32::from(ROOT_NUMBER));
+    }
+
+    /// Whether a number is kept back: its file went with its last descriptor, since the durable root's point
+    /// began.
+    pub fn is_kept_back(&self, number: u16) -> bool
+        ensures { result ≡ kept_back_of self.now number }
+    {
+        self.kept_back.has(number)
+    }
+
+    /// A consistency point begins: what is kept back so far is so since before it.
+    pub fn begin_point(&mut self)
+        ensures tree { live_of self.new ≡ live_of self.old }
+        ensures kept { (n : ℕ) → kept_back_of self.new n ≡ kept_back_of self.old n }
+        ensures since { (n : ℕ) → kept_since_of self.new n ≡ false }
+    {
+        self.kept_back.begin_point();
+    }
+
+    /// The root of the consistency point is durable: numbers that were kept back before it began can be given
+    /// out again.
+    pub fn end_point(&mut self)
+        ensures tree { live_of self.new ≡ live_of self.old }
+        ensures kept { (n : ℕ) → kept_back_of self.new n ≡ kept_since_of self.old n }
+        ensures since { (n : ℕ) → kept_since_of self.new n ≡ kept_since_of self.old n }
+    {
+        self.kept_back.end_point();
+        self.next = u32::from(ROOT_NUMBER);
     }
 }

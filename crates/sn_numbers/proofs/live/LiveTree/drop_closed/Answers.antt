@@ -8,5 +8,5 @@ use Rattle.sn_numbers.proofs.live.LiveTree.drop_closed.Goals as goal
 pub invariant_of-self : goal.invariant_of-self
 invariant_of-self c =
     let old = c.args.self.now in
-    let after = taken_closed (tree_of old.tree) (held_of old.kept_back) (held_of c.put.new.self) old.next c.args.number c.put.ensures old.taken in
+    let after = taken_closed (tree_of old.tree) (held_of old.kept_back) (held_of c.put.new.self) old.next c.args.number c.put.ensures.held old.taken in
     record { taken = subst (λ (t : Tree). AreTaken t (held_of c.put.new.self) old.next) (sym c.drop_file.ensures) after }
