@@ -103,18 +103,3 @@ module _ (Told : Type 0) (s : Store) (inodes : BlockTree) where
       subst (λ (zs : List InodeChange). AreSettled Told s inodes zs ys old new) (sym more)
       (subst (λ (zs : List StoredRecord). AreSettled Told s inodes (cs ++ c ∷ []) zs old new) (sym stored)
       (settled_more cs (c ∷ []) xs (x ∷ []) old mid new before (settled_as t (c ∷ []) (x ∷ []) mid new same here)))
-
--- one of the numbers
-pub stored_among : (stored : List StoredRecord) (k : ℕ) (x : StoredRecord) → k < length stored → x ≡ get_or stored k x → Contains (map (λ (y : StoredRecord). y.number) stored) x.number
-stored_among stored k x within is = (
-  k,
-  omega (arith, within, length-map stored (λ (y : StoredRecord). y.number)),
-  get_or-map (λ (y : StoredRecord). y.number) stored k x x.number within ∙ ap (λ (y : StoredRecord). y.number) (sym is),
-)
-
-pub number_among : (changes : List InodeChange) (k : ℕ) (change : InodeChange) → k < length changes → change ≡ get_or changes k change → Contains (numbers_in changes) change.number
-number_among changes k change within is = (
-  k,
-  omega (arith, within, length-map changes (λ (c : InodeChange). c.number)),
-  get_or-map (λ (c : InodeChange). c.number) changes k change change.number within ∙ ap (λ (c : InodeChange). c.number) (sym is),
-)

@@ -380,7 +380,7 @@ module _ (Told : Type 0) (limits : Limits) (s t : Store) (old : BlockTree) (chan
       let room : 4096 * (slice_index (numbers_in changes) (length changes - 1) / 32 + 1) ≤ size = omega (arith, size_is) in
       (least, omega (arith, most, room))))
 
-  all_below : (i : ℕ) → i + 1 ≡ length changes → map (λ (x : StoredRecord). x.number) stored ≡ numbers_in changes
+  pub all_below : (i : ℕ) → i + 1 ≡ length changes → map (λ (x : StoredRecord). x.number) stored ≡ numbers_in changes
       → All (λ (d : DirtyBlock). d.index ≤ slice_index (map (λ (x : StoredRecord). x.number) stored) i / 32) dirty → AllByRecursion (λ (d : DirtyBlock). 4096 * d.index < size) dirty
   all_below i at numbers below =
       let last_one : i ≡ length changes - 1 = omega (arith, at) in

@@ -1,6 +1,6 @@
 //! The words of changes.
-ghost use Rattle.std.specs.Prelude.{◌≡◌, IfOk};
-ghost use Rattle.sn_tree.specs.Dirty.{IsFrom};
+ghost use Rattle.std.specs.Prelude.{IfOk};
+ghost use Rattle.sn_tree.specs.Orders.{AreInOrder};
 
 use crate::plain::{Next, Written};
 use anyhow::{Context, Result, bail, ensure};
@@ -14,8 +14,20 @@ const BLOCK_SIZE: u64 = 4096;
 /// The change of a word `KEEP` or `KEEP/INDEX/BYTE`, with `SIZE:` before it where the size changes. The
 /// block has that byte up to the size, and zeros behind it.
 pub fn change_of(alloc: Global, size: u64, word: &str) -> Result<Dirty>
-    ensures rise { IfOk result (λ change. IsFrom 0 change.blocks.items) }
+    ensures { IfOk result (λ change. AreInOrder change.size change.blocks.items) }
 {
+    in_order(spelled(alloc, size, word)?)
+}
+
+/// The change, whose blocks a plan takes.
+fn in_order(change: Dirty) -> Result<Dirty>
+    ensures { IfOk result (λ change. AreInOrder change.size change.blocks.items) }
+{
+    ensure!(change.is_in_order(), "blocks out of order, or past the end");
+    Ok(change)
+}
+
+fn spelled(alloc: Global, size: u64, word: &str) -> Result<Dirty> {
     let (size, rest) = sized(size, word)?;
     let mut parts = rest.split('/');
     let keep = number_of(parts.next())?;
@@ -33,20 +45,18 @@ pub fn change_of(alloc: Global, size: u64, word: &str) -> Result<Dirty>
 
 /// The change that writes these blocks, which are two at most.
 pub fn dirty_of(alloc: Global, next: Next, wanted: &[Written]) -> Result<Dirty>
-    ensures rise { IfOk result (λ change. IsFrom 0 change.blocks.items) }
+    ensures { IfOk result (λ change. AreInOrder change.size change.blocks.items) }
 {
-    match wanted {
-        [] => Ok(dirty_none(alloc, next)),
-        [one] => dirty_one(alloc, next, block_of(alloc, *one)?),
-        [one, two] => dirty_two(alloc, next, *one, *two),
+    in_order(match wanted {
+        [] => dirty_none(alloc, next),
+        [one] => dirty_one(alloc, next, block_of(alloc, *one)?)?,
+        [one, two] => dirty_two(alloc, next, *one, *two)?,
         _ => bail!("too many blocks"),
-    }
+    })
 }
 
 /// The change that writes no block.
-fn dirty_none(alloc: Global, next: Next) -> Dirty
-    ensures rise { IsFrom 0 result.blocks.items }
-{
+fn dirty_none(alloc: Global, next: Next) -> Dirty {
     Dirty {
         size: next.size,
         keep: next.keep,
@@ -55,9 +65,7 @@ fn dirty_none(alloc: Global, next: Next) -> Dirty
 }
 
 /// The change that writes one block.
-fn dirty_one(alloc: Global, next: Next, block: DirtyBlock) -> Result<Dirty>
-    ensures rise { IfOk result (λ change. IsFrom 0 change.blocks.items) }
-{
+fn dirty_one(alloc: Global, next: Next, block: DirtyBlock) -> Result<Dirty> {
     let mut blocks = VecDeque::new(alloc);
     blocks.push_back(block).map_err(AllocError::from)?;
     Ok(Dirty {
@@ -67,10 +75,7 @@ fn dirty_one(alloc: Global, next: Next, block: DirtyBlock) -> Result<Dirty>
     })
 }
 
-fn dirty_two(alloc: Global, next: Next, one: Written, two: Written) -> Result<Dirty>
-    ensures rise { IfOk result (λ change. IsFrom 0 change.blocks.items) }
-{
-    ensure!(one.index < two.index, "blocks out of order");
+fn dirty_two(alloc: Global, next: Next, one: Written, two: Written) -> Result<Dirty> {
     let mut blocks = VecDeque::new(alloc);
     blocks
         .push_back(block_of(alloc, one)?)
@@ -85,9 +90,7 @@ fn dirty_two(alloc: Global, next: Next, one: Written, two: Written) -> Result<Di
     })
 }
 
-fn block_of(alloc: Global, written: Written) -> Result<DirtyBlock>
-    ensures index { IfOk result (λ block. block.index ≡ written.index) }
-{
+fn block_of(alloc: Global, written: Written) -> Result<DirtyBlock> {
     let Written { index, byte, end } = written;
     let bytes = Box::new(alloc, filled(end, index, byte)).map_err(AllocError::from)?;
     Ok(DirtyBlock { index, bytes })

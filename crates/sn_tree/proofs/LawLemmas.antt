@@ -1,21 +1,23 @@
 -- When what is wanted of a tree or a content ends at its size, and what bytes a content has.
-use Rattle.std.proofs.Common.{◌≡◌, ℕ, zero, suc, ◌+◌, ◌-◌, ◌*◌, ◌/◌, ◌%◌, ◌<◌, ◌≤◌, ◌==◌, Bool, true, false, List, [], ◌∷◌, ◌++◌, length, get_or, slice_index, replicate, refl, sym, ap, ◌∙◌, arith, if◌then◌else◌}
+use Rattle.std.proofs.Common.{◌≡◌, ⊎_elim, ℕ, zero, suc, ◌+◌, ◌-◌, ◌*◌, ◌/◌, ◌%◌, ◌<◌, ◌≤◌, ◌==◌, ◌||◌, Bool, true, false, List, [], ◌∷◌, ◌++◌, length, get_or, slice_index, replicate, refl, sym, ap, ◌∙◌, arith, if◌then◌else◌}
 use Rattle.std.specs.Prelude.{◌^◌, nat_lt}
-use Rattle.std.specs.List.{AllByRecursion}
-use Rattle.std.proofs.lemmas.Bool.{eqb-true, ltb-true, ne_eqb}
+use Rattle.std.specs.List.{AllByRecursion, list_all, enumerate_from}
+use Rattle.std.proofs.lemmas.Bool.{cases_lt, eq-eqb, eqb-true, lt-ltb, ltb-true, ne_eqb}
 use Rattle.std.proofs.lemmas.List.{get_or-replicate, get_or-append_right, get_or-take}
 use Rattle.sn_layout.specs.Bytes.{zeros}
-use Rattle.sn_layout.specs.Pointers.{levels_of}
+use Rattle.sn_layout.specs.BlockTree.{ends_at_size}
+use Rattle.sn_layout.specs.Pointers.{levels_of, span_of}
 use Rattle.sn_layout.specs.declared.tree.BlockTree.{BlockTree}
 use Rattle.sn_layout_node.specs.Inode.{size_of}
 use Rattle.sn_layout_node.specs.declared.content.Content.{Content}
 use Rattle.sn_layout_node.specs.declared.content.Content.TheVariants.{Inline, Tree}
-use Rattle.sn_ondisk.specs.Trees.{Store, data_block}
+use Rattle.sn_ondisk.specs.Trees.{Store, entry, data_block}
 use Rattle.sn_ondisk.proofs.TreeLemmas.{levels_room}
 use Rattle.sn_image.specs.Contents.{byte_of}
 use Rattle.sn_image.specs.Sound.{EndsAtSize, ContentEnds}
 use Rattle.sn_tree.specs.Contents.{inline_block, content_block, HasDataBlocks, HasItsForm}
 use Rattle.sn_tree.specs.Dirty.{block_wanted, block_after}
+use Rattle.sn_tree.specs.Orders.{KeepsWithin}
 use Rattle.sn_tree.specs.Replanned.{EndsAt}
 use Rattle.sn_tree.specs.Laws.{EndsBy}
 use Rattle.sn_tree.specs.declared.new_block.DirtyBlock.{DirtyBlock}
@@ -38,7 +40,7 @@ begin : (size : ℕ) (ds : List DirtyBlock) → AllByRecursion (EndsBy size) ds 
 begin size [] all = tt
 begin size (d ∷ ds) all = (all.0.begins, begin size ds all.1)
 
-pub grown_end : (s : Store) (old : BlockTree) (size keep : ℕ) (dirty : List DirtyBlock) → EndsAtSize s old → old.size ≤ size → 4096 * keep < size + 4096 → AllByRecursion (EndsBy size) dirty → EndsAt (data_block s old) size keep dirty
+pub grown_end : (s : Store) (old : BlockTree) (size keep : ℕ) (dirty : List DirtyBlock) → EndsAtSize s old → old.size ≤ size → KeepsWithin size keep → AllByRecursion (EndsBy size) dirty → EndsAt (data_block s old) size keep dirty
 grown_end s old size keep dirty ends larger stays all = record {
   stays = stays;
   begins = begin size dirty all;
@@ -52,6 +54,29 @@ cut_end s old size keep dirty whole all = record {
   past = past_zero (data_block s old) size keep (λ i k low within far. absurd (omega (arith, low, within, far, whole))) dirty all;
 }
 
+-- ---- the sixteen pointers
+
+pointers_end : (size span k : ℕ) (ps : List ℕ) → ((i : ℕ) → size ≤ (k + i) * span → slice_index ps i ≡ 0) → list_all (λ p. (p.1 == 0) || nat_lt (p.0 * span) size) (enumerate_from k ps) ≡ true
+pointers_end size span k [] holes = refl
+pointers_end size span k (p ∷ ps) holes =
+    let here : ((p == 0) || nat_lt (k * span) size) ≡ true = ⊎_elim
+    (λ (before : k * span < size). either (p == 0) (nat_lt (k * span) size) (lt-ltb (k * span) size before))
+    (λ (past : size ≤ k * span). ap (λ (b : Bool). b || nat_lt (k * span) size) (eq-eqb p 0 (holes 0 (omega (arith, past)))))
+    (cases_lt (k * span) size) in
+    rw here (pointers_end size span (k + 1) ps (λ i far. holes (suc i) (let at : (k + suc i) * span ≡ (k + 1 + i) * span = ap (λ (n : ℕ). n * span) (let n : k + suc i ≡ k + 1 + i = omega arith in n) in omega (arith, far, at))))
+  where
+    either : (a b : Bool) → b ≡ true → (a || b) ≡ true
+    either true b is = refl
+    either false b is = is
+
+pub ended_pointers : (s : Store) (tree : BlockTree) → EndsAtSize s tree → ends_at_size tree ≡ true
+unfolding entry
+ended_pointers s tree ends =
+    let whole : levels_of tree.size - 0 ≡ levels_of tree.size = omega arith in
+    pointers_end tree.size (span_of tree.size) 0 tree.pointers (λ i far.
+    let wide : i * (4096 * 1024 ^ (levels_of tree.size - 0)) ≡ (0 + i) * span_of tree.size = ap (λ (n : ℕ). i * (4096 * 1024 ^ n)) whole ∙ ap (λ (n : ℕ). n * span_of tree.size) (let n : i ≡ 0 + i = omega arith in n) in
+    ends.pointers 0 i (omega arith) (omega (arith, far, wide)))
+
 -- ---- contents
 
 inline_past : (bytes : List ℕ) (size : ℕ) → length bytes ≤ size → (i k : ℕ) → k < 4096 → size ≤ 4096 * i + k → get_or (inline_block bytes i) k 0 ≡ 0
@@ -62,7 +87,7 @@ inline_past bytes size few zero k within far =
 inline_past bytes size few (suc i) k within far =
     ap (λ (b : Bool). get_or (if b then bytes ++ zeros (4096 - length bytes) else zeros 4096) k 0) (ne_eqb (suc i) 0 (λ is. absurd (omega (arith, is)))) ∙ get_or-replicate 4096 k 0 0 within
 
-pub grown_content_end : (s : Store) (old : Content) (size keep : ℕ) (dirty : List DirtyBlock) → ContentEnds s old → size_of old ≤ size → 4096 * keep < size + 4096 → AllByRecursion (EndsBy size) dirty → EndsAt (content_block s old) size keep dirty
+pub grown_content_end : (s : Store) (old : Content) (size keep : ℕ) (dirty : List DirtyBlock) → ContentEnds s old → size_of old ≤ size → KeepsWithin size keep → AllByRecursion (EndsBy size) dirty → EndsAt (content_block s old) size keep dirty
 grown_content_end s (Inline bytes) size keep dirty ends larger stays all = record {
   stays = stays;
   begins = begin size dirty all;

@@ -1,6 +1,7 @@
 pub mod SpanLemmas
 pub mod CopyLemmas
 pub mod DirtyLemmas
+pub mod OrderLemmas
 pub mod EndLemmas
 pub mod PlanLemmas
 pub mod StepLemmas
@@ -11,6 +12,7 @@ pub mod LoopLemmas
 pub mod ProgressLemmas
 pub mod RunLemmas
 pub mod LawLemmas
+pub mod ListLemmas
 pub mod FrontLemmas
 pub mod LevelLemmas
 pub mod ContentLemmas

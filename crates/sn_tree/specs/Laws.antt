@@ -1,6 +1,7 @@
 -- When what is wanted of a tree or a content ends at its size, and what bytes a content has.
-use Rattle.std.specs.Prelude.{◌≡◌, ℕ, ◌+◌, ◌*◌, ◌/◌, ◌%◌, ◌<◌, ◌≤◌, List, slice_index}
+use Rattle.std.specs.Prelude.{◌≡◌, true, ℕ, ◌+◌, ◌*◌, ◌/◌, ◌%◌, ◌<◌, ◌≤◌, List, slice_index}
 use Rattle.std.specs.List.{AllByRecursion}
+use Rattle.sn_layout.specs.BlockTree.{ends_at_size}
 use Rattle.sn_layout.specs.declared.tree.BlockTree.{BlockTree}
 use Rattle.sn_layout_node.specs.Inode.{size_of}
 use Rattle.sn_layout_node.specs.declared.content.Content.{Content}
@@ -8,6 +9,7 @@ use Rattle.sn_ondisk.specs.Trees.{Store, data_block}
 use Rattle.sn_image.specs.Contents.{byte_of}
 use Rattle.sn_image.specs.Sound.{EndsAtSize, ContentEnds}
 use Rattle.sn_tree.specs.Contents.{content_block, HasDataBlocks, HasItsForm}
+use Rattle.sn_tree.specs.Orders.{KeepsWithin}
 use Rattle.sn_tree.specs.Replanned.{EndsAt}
 use Rattle.sn_tree.specs.declared.new_block.DirtyBlock.{DirtyBlock}
 
@@ -18,7 +20,7 @@ pub record EndsBy (size : ℕ) (dirty : DirtyBlock) : Type 0 where
 
 -- That of a tree that doesn't shrink and ends at its own size.
 abbrev pub GrownTreesEnd : Type 0
-GrownTreesEnd = (s : Store) (old : BlockTree) (size keep : ℕ) (dirty : List DirtyBlock) → EndsAtSize s old → old.size ≤ size → 4096 * keep < size + 4096
+GrownTreesEnd = (s : Store) (old : BlockTree) (size keep : ℕ) (dirty : List DirtyBlock) → EndsAtSize s old → old.size ≤ size → KeepsWithin size keep
     → AllByRecursion (EndsBy size) dirty → EndsAt (data_block s old) size keep dirty
 
 -- That of a tree of which whole blocks stay, whatever it was.
@@ -28,13 +30,17 @@ CutTreesEnd = (s : Store) (old : BlockTree) (size keep : ℕ) (dirty : List Dirt
 
 -- The same of a content that doesn't shrink.
 abbrev pub GrownContentsEnd : Type 0
-GrownContentsEnd = (s : Store) (old : Content) (size keep : ℕ) (dirty : List DirtyBlock) → ContentEnds s old → size_of old ≤ size → 4096 * keep < size + 4096
+GrownContentsEnd = (s : Store) (old : Content) (size keep : ℕ) (dirty : List DirtyBlock) → ContentEnds s old → size_of old ≤ size → KeepsWithin size keep
     → AllByRecursion (EndsBy size) dirty → EndsAt (content_block s old) size keep dirty
 
 -- The same of a content of which whole blocks stay.
 abbrev pub CutContentsEnd : Type 0
 CutContentsEnd = (s : Store) (old : Content) (size keep : ℕ) (dirty : List DirtyBlock) → 4096 * keep ≤ size
     → AllByRecursion (EndsBy size) dirty → EndsAt (content_block s old) size keep dirty
+
+-- A tree that ends at its size has sixteen pointers that do, as the record of an inode asks.
+abbrev pub EndedTreesHaveEndedPointers : Type 0
+EndedTreesHaveEndedPointers = (s : Store) (tree : BlockTree) → EndsAtSize s tree → ends_at_size tree ≡ true
 
 -- A content has the bytes of its data blocks, up to the most that three levels hold.
 abbrev pub ContentsHaveTheBytes : Type 0

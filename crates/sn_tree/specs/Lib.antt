@@ -2,6 +2,7 @@ pub mod Fault
 pub mod Drafts
 pub mod Build
 pub mod Dirty
+pub mod Orders
 pub mod Plans
 pub mod Steps
 pub mod Replanned

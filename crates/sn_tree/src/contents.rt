@@ -9,8 +9,9 @@ ghost use Rattle.sn_layout_node.specs.Inode.{size_of};
 ghost use Rattle.sn_ondisk.specs.Trees.{store_of};
 ghost use Rattle.sn_tree.specs.Contents.{content_block, IsBuilt, IsContentPlanned, IsMovedOut, IsReleased};
 ghost use Rattle.sn_tree.specs.Dirty.{IsFrom, block_after};
+ghost use Rattle.sn_tree.specs.Orders.{AreInOrder};
 ghost use Rattle.sn_tree.specs.Steps.{IsTooFull, LeadsOutside, CountsPlan};
-ghost use Rattle.sn_tree.specs.declared.fault.PlanFault.TheVariants.{Tree};
+ghost use Rattle.sn_tree.specs.declared.fault.PlanFault.TheVariants.{Tree, Full};
 ghost use Rattle.sn_tree_read.specs.Counts.{CountsTree};
 ghost use Rattle.sn_tree_read.specs.declared.fault.TreeFault.TheVariants.{Damaged};
 
@@ -118,15 +119,17 @@ fn wanted_bytes<D: Device>(
     first_bytes(blocks, content, count)
 }
 
-// Releases all blocks of a content.
-fn release_all<D: Device>(
+/// Releases all blocks that a content reaches: those of a node that is gone, or of one whose number is given to
+/// another. It takes no block, so `Full` never comes. `Damaged` comes only where a block that the content reaches
+/// isn't on the device. After an error the build can only be given up.
+pub fn release_all<D: Device>(
     build: &mut Build,
     blocks: &mut Blocks<D>,
     content: &Content,
 ) -> Result<(), PlanFault>
     ensures released { OnOk result (IsReleased (IsTrue D.tells_bytes)
         (store_of (reads (D.disk (device_of blocks.old)))) content.now build.old build.new) }
-    ensures full { IsTooFull result build.old 0 }
+    ensures full { result ≢ Err Full }
     ensures damaged { IsTrue D.tells_bytes → result ≡ Err (Tree Damaged)
         → LeadsOutside (D.status (device_of blocks.old)).sectors
         (content_reach (store_of (reads (D.disk (device_of blocks.old)))) content.now) }
@@ -136,6 +139,8 @@ fn release_all<D: Device>(
     match content {
         Content::Inline(_) => Ok(()),
         Content::Tree(tree) => {
+            // No more blocks were added than are free.
+            build.left();
             let mut pointers = [0; POINTERS];
             pointers.copy_from_slice(tree.pointers.as_slice());
             cut(
@@ -163,7 +168,7 @@ fn plan_inline<D: Device>(
     ensures count { IfOk result (λ bytes. length bytes ≡ dirty.now.size) }
     ensures released { OnOk result (IsReleased (IsTrue D.tells_bytes)
         (store_of (reads (D.disk (device_of blocks.old)))) content.now build.old build.new) }
-    ensures full { IsTooFull result build.old 0 }
+    ensures full { result ≢ Err Full }
     ensures damaged { IsTrue D.tells_bytes → result ≡ Err (Tree Damaged)
         → LeadsOutside (D.status (device_of blocks.old)).sectors
         (content_reach (store_of (reads (D.disk (device_of blocks.old)))) content.now) }
@@ -257,7 +262,7 @@ pub fn plan<D: Device>(
     content: &Content,
     dirty: Dirty,
 ) -> Result<Content, PlanFault>
-    requires { IsFrom 0 dirty.blocks.items }
+    requires { AreInOrder dirty.size dirty.blocks.items }
     ensures size { IfOk result (λ new. size_of new ≡ dirty.size) }
     ensures planned { IfOk result (λ new. IsContentPlanned (IsTrue D.tells_bytes)
         (store_of (reads (D.disk (device_of blocks.old)))) content.now new

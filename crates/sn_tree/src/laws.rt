@@ -1,11 +1,13 @@
 //! When what is wanted of a tree or a content ends at its size, and what bytes a content has.
-ghost use Rattle.sn_tree.specs.Laws.{GrownTreesEnd, CutTreesEnd, GrownContentsEnd, CutContentsEnd, ContentsHaveTheBytes};
+ghost use Rattle.sn_tree.specs.Laws.{GrownTreesEnd, CutTreesEnd, EndedTreesHaveEndedPointers, GrownContentsEnd, CutContentsEnd, ContentsHaveTheBytes};
 
 /// Where the dirty blocks end at the new size, so does what is wanted of a tree that doesn't shrink, and
-/// of one of which whole blocks stay: a block that a cut goes through has to be dirty, or a hole.
+/// of one of which whole blocks stay: a block that a cut goes through has to be dirty, or a hole. And a tree
+/// that ends at its size is one that `Inode::is_valid` and the record of an inode take.
 pub fn plan_laws()
     ensures grown { GrownTreesEnd }
     ensures cut { CutTreesEnd }
+    ensures pointers { EndedTreesHaveEndedPointers }
 {}
 
 /// The same for contents; and each byte of a planned content is the one that is wanted.

@@ -52,7 +52,7 @@ mod pointers;
 mod tree;
 
 pub use build::Build;
-pub use contents::plan;
+pub use contents::{plan, release_all};
 pub use fault::PlanFault;
 pub use laws::{content_laws, plan_laws};
 pub use new_block::{DirtyBlock, NewBlock};

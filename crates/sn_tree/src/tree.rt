@@ -1,10 +1,10 @@
 //! A tree with other data blocks.
-ghost use Rattle.std.specs.Prelude.{◌≡◌, ◌+◌, ◌*◌, length, Err, IsTrue, IfOk};
+ghost use Rattle.std.specs.Prelude.{◌≡◌, ◌+◌, ◌*◌, ◌↔◌, length, Err, IsTrue, IfOk};
 ghost use Rattle.sn_device.specs.Disk.{reads};
 ghost use Rattle.sn_block.specs.Lending.{device_of};
 ghost use Rattle.sn_layout.specs.Pointers.{levels_of};
 ghost use Rattle.sn_ondisk.specs.Trees.{store_of, tree_reach};
-ghost use Rattle.sn_tree.specs.Dirty.{IsFrom};
+ghost use Rattle.sn_tree.specs.Orders.{AreInOrder, KeepsWithin};
 ghost use Rattle.sn_tree.specs.Replanned.{IsPlanned};
 ghost use Rattle.sn_tree.specs.Steps.{IsTooFull, LeadsOutside, CountsPlan};
 ghost use Rattle.sn_tree.specs.declared.fault.PlanFault.TheVariants.{Tree};
@@ -15,7 +15,7 @@ use crate::pointers::plan_pointers;
 use crate::{Build, DirtyBlock, PlanFault};
 use sn_block::Blocks;
 use sn_device::Device;
-use sn_layout::{BlockTree, Pointers};
+use sn_layout::{BLOCK_SIZE, BlockTree, Pointers};
 use std::collections::VecDeque;
 
 /// What is to become of a tree.
@@ -24,10 +24,41 @@ pub struct Dirty {
     /// How many bytes it is to have.
     pub size: u64,
     /// How many of its data blocks stay, counted from the first one, where they aren't dirty. Those
-    /// behind them are cut off.
+    /// behind them are cut off. So that the tree ends at its size, none of them may begin past it
+    /// (`keeps_within`), and the one that a cut goes through has to be dirty, or a hole, or zeros from there on:
+    /// where it stays as it was, so do its bytes past the size.
     pub keep: u64,
-    /// The data blocks with other bytes, their indices rising.
+    /// The data blocks with other bytes, their indices rising. None begins past the size (`is_in_order`).
     pub blocks: VecDeque<DirtyBlock>,
+}
+
+impl Dirty {
+    /// Whether the indices of the dirty blocks rise, and each begins before the new size. A plan takes no
+    /// others, since one past the end would have no place in the tree.
+    pub fn is_in_order(&self) -> bool
+        ensures { IsTrue result ↔ AreInOrder self.now.size self.now.blocks.items }
+    {
+        let end = self.size.div_ceil(BLOCK_SIZE as u64);
+        let mut least = 0;
+        for k in 0..self.blocks.len() {
+            let index = self.blocks[k].index;
+            if index < least {
+                return false;
+            }
+            if index >= end {
+                return false;
+            }
+            least = index + 1;
+        }
+        true
+    }
+
+    /// Whether none of the blocks that stay begins past the new size.
+    pub fn keeps_within(&self) -> bool
+        ensures { IsTrue result ↔ KeepsWithin self.now.size self.now.keep }
+    {
+        self.keep <= self.size.div_ceil(BLOCK_SIZE as u64)
+    }
 }
 
 /// Plans a tree with another size and other data blocks. A changed block and those on the way to it
@@ -42,7 +73,7 @@ pub fn plan_tree<D: Device>(
     tree: &BlockTree,
     dirty: Dirty,
 ) -> Result<BlockTree, PlanFault>
-    requires { IsFrom 0 dirty.blocks.items }
+    requires { AreInOrder dirty.size dirty.blocks.items }
     ensures size { IfOk result (λ new. new.size ≡ dirty.size) }
     ensures planned { IfOk result (λ new. IsPlanned (IsTrue D.tells_bytes) (store_of (reads (D.disk (device_of blocks.old))))
         tree.now new dirty.keep dirty.blocks.items build.old build.new) }

@@ -12,7 +12,8 @@ use Rattle.sn_tree_read.specs.declared.fault.TreeFault.TheVariants.{Damaged}
 use Rattle.sn_inode.specs.Reads.{CanReadRecord}
 use Rattle.sn_inode.specs.declared.changes.InodeChange.{InodeChange}
 use Rattle.sn_inode.specs.declared.changes.StoredRecord.{StoredRecord}
-use Rattle.sn_inode.proofs.SettledLemmas.{settled_begun, settled_next, number_among}
+use Rattle.sn_inode.proofs.SettledLemmas.{settled_begun, settled_next}
+use Rattle.sn_tree.proofs.ListLemmas.{mapped_there}
 use Rattle.sn_inode.proofs.acl_changes.settle.Goals as goal
 
 pub loop-change-init : goal.loop-change-init
@@ -47,7 +48,7 @@ returns-in_err-record-clause-damaged g c told is =
     let sectors = (g.D.Device.status (device_of c.loop-change.blocks)).sectors in
     inl (
       item.number,
-      number_among c.args.changes.now c.loop-change.change-index item c.loop-change-test.true c.change-item.is,
+      mapped_there (λ (x : InodeChange). x.number) c.args.changes.now c.loop-change.change-index item c.loop-change-test.true c.change-item.is,
       subst (λ (s : Status). (CanReadRecord c.args.limits.now s.sectors (store_of (reads (g.D.Device.disk (device_of c.args.blocks.now)))) c.args.file.now item.number → ⊥)) c.loop-change.invariant.status
           (subst (λ (d : Disk). (CanReadRecord c.args.limits.now sectors (store_of (reads d)) c.args.file.now item.number → ⊥)) (c.loop-change.invariant.same told) here),
     )

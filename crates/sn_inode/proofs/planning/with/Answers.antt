@@ -1,6 +1,7 @@
-use Rattle.std.proofs.Common.{◌≡◌, ◌≢◌, inl, ℕ, ◌/◌, ◌+◌, ◌≤◌, List, Err, slice_index, length, map, IsTrue, refl, sym, ap, subst, ◌∙◌, arith}
+use Rattle.std.proofs.Common.{◌≡◌, ◌≢◌, inl, ℕ, ◌/◌, ◌+◌, ◌-◌, ◌≤◌, List, Err, slice_index, length, map, IsTrue, refl, sym, ap, subst, ◌∙◌, arith}
 use Rattle.std.specs.Prelude.{All}
 use Rattle.std.proofs.lemmas.Bool.{eqb-true, eqb-false, true≢false}
+use Rattle.std.proofs.lemmas.List.{length-map}
 use Rattle.std.proofs.lemmas.Result.{err_from_is_err_and}
 use Rattle.sn_device.specs.Disk.{Disk, reads}
 use Rattle.sn_device.specs.declared.status.Status.{Status}
@@ -13,7 +14,7 @@ use Rattle.sn_inode.specs.Changes.{numbers_in}
 use Rattle.sn_inode.specs.Stored.{ArePatched, IsOff}
 use Rattle.sn_inode.specs.declared.changes.InodeChange.{InodeChange}
 use Rattle.sn_inode.specs.declared.changes.StoredRecord.{StoredRecord}
-use Rattle.sn_inode.proofs.WithLemmas.{with_none, empty_list, has_number, with_result, file_result}
+use Rattle.sn_inode.proofs.WithLemmas.{with_none, empty_list, has_number, all_below, with_result, file_result}
 use Rattle.sn_inode.proofs.planning.with.Goals as goal
 
 pub returns-then-is_empty-clause-with : goal.returns-then-is_empty-clause-with
@@ -38,6 +39,24 @@ returns-in_err-dirty-clause-damaged g c = λ told is.
       among,
       λ can. true≢false (sym (can.lies (has_number c.args.limits.now file c.args.changes.now number c.requires.file.whole c.requires.changes among under)) ∙ off),
     )
+
+pub plan_tree-requires : goal.plan_tree-requires
+plan_tree-requires g c =
+    let file = c.args.file.now in
+    let changes = c.args.changes.now in
+    let stored = c.in_ok-stored.stored.items in
+    let dirty = c.in_ok-dirty.dirty.items in
+    let s = store_of (reads (g.D.Device.disk (device_of c.args.blocks.now))) in
+    let other : length changes ≢ 0 = eqb-false (length changes) 0 (sym c.is_empty.ensures ∙ c.if-is_empty.false) in
+    let settled = c.in_ok-stored.ensures.settled in
+    let long : length stored ≡ length changes = sym (length-map stored (λ (x : StoredRecord). x.number)) ∙ ap (λ (ns : List ℕ). length ns) settled.numbers ∙ length-map changes (λ (x : InodeChange). x.number) in
+    let most = subst (λ (xs : List StoredRecord). (i : ℕ) → i + 1 ≡ length xs → All (λ (d : DirtyBlock). d.index ≤ slice_index (map (λ (x : StoredRecord). x.number) xs) i / 32) dirty) c.as_slice.ensures.value c.in_ok-dirty.ensures.most in
+    record {
+      rise = c.in_ok-dirty.ensures.rise;
+      begins = all_below (IsTrue g.D.Device.tells_bytes) c.args.limits.now s s file changes stored (file.size / 4096) c.size_with.result dirty c.args.build.now c.settle.new.build c.settle.new.build
+          refl c.requires.file c.size_with.ensures.value (c.size_with.ensures.most c.fits.ensures) c.requires.changes c.requires.rise (λ none. other (ap (λ (cs : List InodeChange). length cs) none)) (omega (arith, other))
+          (length changes - 1) (omega (arith, other)) settled.numbers (most (length changes - 1) (omega (arith, other, long)));
+    }
 
 pub returns-clause-with : goal.returns-clause-with
 returns-clause-with g c =

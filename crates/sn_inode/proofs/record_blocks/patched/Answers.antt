@@ -14,7 +14,7 @@ use Rattle.sn_tree_read.specs.declared.fault.TreeFault.TheVariants.{Damaged}
 use Rattle.sn_inode.specs.declared.changes.StoredRecord.{StoredRecord}
 use Rattle.sn_inode.specs.Stored.{ArePatched}
 use Rattle.sn_inode.proofs.BlockLemmas.{patched_none, patched_next, rising_to}
-use Rattle.sn_inode.proofs.SettledLemmas.{stored_among}
+use Rattle.sn_tree.proofs.ListLemmas.{mapped_there}
 use Rattle.sn_inode.proofs.record_blocks.patched.Goals as goal
 
 pub loop-next-preserved : goal.loop-next-preserved
@@ -72,7 +72,7 @@ returns-in_err-store_record-clause-damaged g c = λ told is.
     let here = c.in_err-store_record.ensures.damaged told (ap (λ f. Err f) fault) in
     let sectors = (g.D.Device.status (device_of c.loop-next.blocks)).sectors in (
       item.number,
-      stored_among c.args.stored.now c.loop-next.next-index item c.loop-next-test.true c.next-item.is,
+      mapped_there (λ (x : StoredRecord). x.number) c.args.stored.now c.loop-next.next-index item c.loop-next-test.true c.next-item.is,
       here.0,
       subst (λ (s : Status). block_lies_on s.sectors (store_of (reads (g.D.Device.disk (device_of c.args.blocks.now)))) c.args.file.now (item.number / 32) ≡ false) c.loop-next.invariant.status
           (subst (λ (d : Disk). block_lies_on sectors (store_of (reads d)) c.args.file.now (item.number / 32) ≡ false) (c.loop-next.invariant.same told) here.1),

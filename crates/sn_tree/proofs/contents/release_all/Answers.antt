@@ -1,4 +1,4 @@
-use Rattle.std.proofs.Common.{◌≡◌, ℕ, List, sym, subst, ◌∙◌, IsTrue}
+use Rattle.std.proofs.Common.{◌≡◌, ℕ, List, sym, subst, ◌∙◌, arith, IsTrue}
 use Rattle.std.proofs.lemmas.Result.{on_ok_weaker}
 use Rattle.sn_device.specs.Disk.{reads}
 use Rattle.sn_block.specs.Lending.{device_of}
@@ -32,3 +32,6 @@ returns-in-Tree-clause-damaged g c told is =
     (tree_outside s tree sectors
     (subst (λ (n : ℕ). LeadsOutside sectors (all_pointers s n tree.pointers)) c.levels_of.ensures.value
     (subst (λ (ps : List ℕ). LeadsOutside sectors (all_pointers s c.levels_of.result ps)) pointers (c.cut.ensures.damaged told is))))
+
+pub returns-in-Tree-clause-full : goal.returns-in-Tree-clause-full
+returns-in-Tree-clause-full g c = λ is. omega (arith, c.cut.ensures.full is, c.left.ensures)

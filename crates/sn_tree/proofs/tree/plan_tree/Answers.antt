@@ -41,7 +41,7 @@ raised-requires-clause-rise g c =
     let end = 0 + length c.in_ok-pointers.pointers * 1024 ^ least in
     let ends = ends_at (length c.in_ok-pointers.pointers) (1024 ^ least) c.in_ok-pointers.ensures.count in
     subst (λ (n : ℕ). IsFrom n c.plan_pointers.new.dirty.items) ends
-    (subst (λ (l : List DirtyBlock). IsFrom end l) (sym c.in_ok-plan_pointers.ensures.planned.rest) (IsFrom-after 0 end c.args.dirty.blocks.items c.requires))
+    (subst (λ (l : List DirtyBlock). IsFrom end l) (sym c.in_ok-plan_pointers.ensures.planned.rest) (IsFrom-after 0 end c.args.dirty.blocks.items c.requires.rise))
 
 pub returns-in_err-pointers-clause-full : goal.returns-in_err-pointers-clause-full
 returns-in_err-pointers-clause-full g c = λ is.
