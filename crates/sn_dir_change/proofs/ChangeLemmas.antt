@@ -1,12 +1,16 @@
 -- Lists of changes of different names, one of which is taken out.
-use Rattle.std.proofs.Common.{◌≡◌, ◌≢◌, ◌⊎◌, inl, inr, ⊎_elim, ℕ, zero, suc, ◌+◌, ◌<◌, false, cond, List, [], ◌∷◌, ◌++◌, length, take, drop, get_or, refl, sym, ap, subst, ◌∙◌, arith}
+use Rattle.std.proofs.Common.{◌≡◌, ◌≢◌, ◌⊎◌, inl, inr, ⊎_elim, ℕ, zero, suc, ◌+◌, ◌-◌, ◌<◌, false, cond, List, [], ◌∷◌, ◌++◌, length, take, drop, get_or, refl, sym, ap, subst, ◌∙◌, arith}
 use Rattle.std.specs.Prelude.{All, Contains}
 use Rattle.std.specs.Str.{bytes_eq}
+use Rattle.std.specs.Ordering.{nat_cmp}
+use Rattle.std.specs.declared.cmp.Ordering.TheVariants.{Less, Equal}
+use Rattle.std.specs.Cmp.Lexicographic.{slice_cmp}
 use Rattle.std.proofs.lemmas.Bool.{true≢false}
-use Rattle.std.proofs.lemmas.List.{take_more}
+use Rattle.std.proofs.lemmas.Cmp.{nat_list_cmp_total, tied_itself}
+use Rattle.std.proofs.lemmas.List.{get_or_default, take_more}
 use Rattle.std.proofs.lemmas.List.Elements.{All-head, All-tail, All-more, Contains-append_cases, Contains-append_left, Contains-append_right, Contains-get_or, Contains-push_cases}
 use Rattle.sn_image.proofs.ListLemmas.{count-append}
-use Rattle.sn_dir_change.specs.Changes.{AreChanges, IsChange}
+use Rattle.sn_dir_change.specs.Changes.{AreLinkChanges, IsChange}
 use Rattle.sn_dir_change.specs.UnderWay.{AreApart, times_changed}
 use Rattle.sn_dir_change.specs.declared.name_change.NameChange.{NameChange}
 use Rattle.sn_dir_change.proofs.NameLemmas.{same_name, other_name, cases_name}
@@ -108,23 +112,60 @@ new_more list k d name within all other =
     All-more (λ (c : NameChange). c.name.now ≢ name) list k d within all (λ same. true≢false (sym (same_name (get_or list k d).name.now name same) ∙ other))
 
 module _ (list : List NameChange) (k : ℕ) (d : NameChange) (within : k < length list) where
-  pub changes_more : AreChanges (take k list) → IsChange (get_or list k d) → All (λ (c : NameChange). c.name.now ≢ (get_or list k d).name.now) (take k list) → AreChanges (take (k + 1) list)
-  changes_more all is new =
+  pub apart_more : AreApart (take k list) → All (λ (c : NameChange). c.name.now ≢ (get_or list k d).name.now) (take k list) → AreApart (take (k + 1) list)
+  apart_more all new =
       let change = get_or list k d in
-      subst AreChanges (sym (take_more list k d within)) (record {
-        each = λ c there. ⊎_elim
-            (λ (old : Contains (take k list) c). all.each c old)
-            (λ (last : change ≡ c). subst IsChange last is)
-            (Contains-push_cases (take k list) change c there);
-        once = λ name. ⊎_elim
-            (λ (same : change.name.now ≡ name). omega (arith, times_joined name (take k list) (change ∷ []), times-same name change same, absent name (take k list) (subst (λ (n : List ℕ). All (λ (c : NameChange). c.name.now ≢ n) (take k list)) same new)))
-            (λ (other : change.name.now ≢ name). omega (arith, times_joined name (take k list) (change ∷ []), all.once name, times-not name change other))
-            (cases_name change.name.now name);
-      })
+      subst AreApart (sym (take_more list k d within)) (λ name. ⊎_elim
+      (λ (same : change.name.now ≡ name). omega (arith, times_joined name (take k list) (change ∷ []), times-same name change same, absent name (take k list) (subst (λ (n : List ℕ). All (λ (c : NameChange). c.name.now ≢ n) (take k list)) same new)))
+      (λ (other : change.name.now ≢ name). omega (arith, times_joined name (take k list) (change ∷ []), all name, times-not name change other))
+      (cases_name change.name.now name))
 
   -- one of a name that was there
-  pub changes_apart : AreChanges list → All (λ (c : NameChange). c.name.now ≢ (get_or list k d).name.now) (take k list)
+  pub changes_apart : AreApart list → All (λ (c : NameChange). c.name.now ≢ (get_or list k d).name.now) (take k list)
   changes_apart all j e low =
       let split = split_at list k d within in
-      let apart = subst AreApart split all.once in
+      let apart = subst AreApart split all in
       other_change (take k list) (drop (suc k) list) (get_or list k d) apart (get_or (take k list) j e) (Contains-append_left (take k list) (drop (suc k) list) (get_or (take k list) j e) (Contains-get_or (take k list) j e low))
+
+  pub link_changes_more : AreLinkChanges (take k list) → IsChange (get_or list k d) → AreLinkChanges (take (k + 1) list)
+  link_changes_more all is =
+      let change = get_or list k d in
+      subst AreLinkChanges (sym (take_more list k d within)) (λ c there. ⊎_elim
+      (λ (old : Contains (take k list) c). all c old)
+      (λ (last : change ≡ c). subst IsChange last is)
+      (Contains-push_cases (take k list) change c there))
+
+-- ---- names that rise
+
+not_itself : (a b : NameChange) → slice_cmp nat_cmp a.name.now b.name.now ≡ Less → a.name.now ≢ b.name.now
+not_itself a b less same =
+    let equal : slice_cmp nat_cmp a.name.now b.name.now ≡ Equal = ap (λ (n : List ℕ). slice_cmp nat_cmp a.name.now n) (sym same) ∙ tied_itself nat_list_cmp_total a.name.now in
+    let never : Less ≡ Equal = sym less ∙ equal in absurd cc
+
+-- each name that comes later is greater
+first_less : (c : NameChange) (cs : List NameChange) → ((j : ℕ) (d : NameChange) → suc j < length (c ∷ cs) → slice_cmp nat_cmp (get_or (c ∷ cs) j d).name.now (get_or (c ∷ cs) (suc j) d).name.now ≡ Less)
+    → (k : ℕ) (d : NameChange) → k < length cs → slice_cmp nat_cmp c.name.now (get_or cs k d).name.now ≡ Less
+first_less c [] rise k d within = absurd (omega (arith, within))
+first_less c (x ∷ xs) rise zero d within = rise zero d (omega arith)
+first_less c (x ∷ xs) rise (suc k) d within =
+    nat_list_cmp_total.trans c.name.now x.name.now (get_or xs k d).name.now (rise zero d (omega arith)) (first_less x xs (λ j e low. rise (suc j) e (omega (arith, low))) k d (omega (arith, within)))
+
+pub rise_apart : (cs : List NameChange) → ((j : ℕ) (d : NameChange) → suc j < length cs → slice_cmp nat_cmp (get_or cs j d).name.now (get_or cs (suc j) d).name.now ≡ Less) → AreApart cs
+rise_apart [] rise name = omega arith
+rise_apart (c ∷ cs) rise name =
+    let rest = rise_apart cs (λ j d low. rise (suc j) d (omega (arith, low))) name in
+    ⊎_elim
+    (λ (same : c.name.now ≡ name).
+    let none : All (λ (x : NameChange). x.name.now ≢ name) cs = (λ k d within is. not_itself c (get_or cs k d) (first_less c cs rise k d within) (same ∙ sym is)) in
+    omega (arith, times_joined name (c ∷ []) cs, times-same name c same, absent name cs none))
+    (λ (other : c.name.now ≢ name). omega (arith, times_joined name (c ∷ []) cs, times-not name c other, rest))
+    (cases_name c.name.now name)
+
+-- one more that comes before the next
+pub rise_more : (cs : List NameChange) (i j : ℕ) (d e : NameChange) → suc j ≡ i → i < length cs → slice_cmp nat_cmp (get_or cs (i - 1) e).name.now (get_or cs i e).name.now ≡ Less
+    → slice_cmp nat_cmp (get_or cs j d).name.now (get_or cs (suc j) d).name.now ≡ Less
+rise_more cs i j d e at within less =
+    let before : j ≡ i - 1 = omega (arith, at) in
+    let one : get_or cs j d ≡ get_or cs (i - 1) e = get_or_default cs j d e (omega (arith, at, within)) ∙ ap (λ k. get_or cs k e) before in
+    let other : get_or cs (suc j) d ≡ get_or cs i e = get_or_default cs (suc j) d e (omega (arith, at, within)) ∙ ap (λ k. get_or cs k e) at in
+    ap (λ (x : NameChange). slice_cmp nat_cmp x.name.now (get_or cs (suc j) d).name.now) one ∙ ap (λ (x : NameChange). slice_cmp nat_cmp (get_or cs (i - 1) e).name.now x.name.now) other ∙ less

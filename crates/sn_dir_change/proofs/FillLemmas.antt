@@ -11,10 +11,11 @@ use Rattle.sn_layout_node.specs.declared.content.Content.TheVariants.{Tree}
 use Rattle.sn_layout_node.proofs.Links.{length-links}
 use Rattle.sn_ondisk.specs.Trees.{Store, data_block}
 use Rattle.sn_tree.specs.Dirty.{block_after}
-use Rattle.sn_dir_change.proofs.ChangeLemmas.{cases_there}
+use Rattle.sn_dir_change.proofs.ChangeLemmas.{cases_there, first_there}
 use Rattle.sn_image.specs.Names.{names_in, names_of}
 use Rattle.sn_tree.specs.declared.new_block.DirtyBlock.{DirtyBlock}
-use Rattle.sn_dir_change.specs.Changes.{AreOnce, IsChanged, IsChange, numbered, link_for}
+use Rattle.sn_image.specs.Sound.{AreOnce}
+use Rattle.sn_dir_change.specs.Changes.{IsChanged, IsChange, numbered, link_for}
 use Rattle.sn_dir_change.specs.UnderWay.{AreFull, IsLinkFrom, IsUnderWay}
 use Rattle.sn_dir_change.specs.Through.{block_now, names_to, IsPushed, IsThrough, IsFilled}
 use Rattle.sn_dir_change.specs.declared.name_change.NameChange.{NameChange}
@@ -34,6 +35,11 @@ alone name (Some n) is =
 
 pub change_alone : (change : NameChange) → IsChange change → AreLinks (link_for change)
 change_alone change is = alone change.name.now change.number is
+
+-- a change that puts a name leaves a link
+pub put_some : (name : List ℕ) (number : Option ℕ) → is_some number ≡ true → 0 < length (numbered name number)
+put_some name None some = absurd cc
+put_some name (Some n) some = omega arith
 
 -- ---- the first name of a new block
 
@@ -79,6 +85,11 @@ first_from waiting change first new made from link has = ⊎_elim
 
 -- ---- all blocks
 
+-- a list of some names has one
+first_of : (links : List Link) → 0 < length links → (link : Link) × Contains links link
+first_of [] some = absurd (omega (arith, some))
+first_of (link ∷ links) some = (link, first_there link links)
+
 module _ (Told : Type 0) (s : Store) (tree : BlockTree) (changes : List NameChange) (bound : ℕ) where
   -- a name that stands was found
   pub filled_begun : (ds : List DirtyBlock) (standing waiting : List NameChange) → IsThrough Told s tree changes bound (tree.size / 4096) ds standing waiting → IsFilled Told s tree changes bound (tree.size / 4096) ds waiting
@@ -88,8 +99,10 @@ module _ (Told : Type 0) (s : Store) (tree : BlockTree) (changes : List NameChan
     least = omega arith;
     most = omega arith;
     behind = λ i low high clean. omega (arith, low, high);
+    puts = through.puts;
     full = through.full;
-    fit = λ told i j link low past within has fits. omega (arith, past, within);
+    fit = λ told i j link less past within has fits. omega (arith, past, within);
+    some = λ j low high. absurd (omega (arith, low, high));
     way = λ told once. all_found (subst (λ (ls : List Link). IsUnderWay changes standing waiting (names_to s tree ds (tree.size / 4096)) ls (names_of s (Tree tree)))
         (ap (λ (ls : List Link). names_to s tree ds (tree.size / 4096) ++ ls) (names_from-end s tree) ∙ append-nil (names_to s tree ds (tree.size / 4096)))
         (through.way told once));
@@ -117,10 +130,10 @@ module _ (Told : Type 0) (s : Store) (tree : BlockTree) (changes : List NameChan
 
   pub filled_more : (count : ℕ) (ds ds' : List DirtyBlock) (before waiting waiting' : List NameChange) (change : NameChange) (new : List ℕ) → before ≡ waiting ++ change ∷ [] → length waiting' ≤ length waiting
       → ((c : NameChange) → Contains waiting' c → Contains waiting c) → ((link : Link) → Contains (names_in new) link → IsLinkFrom (waiting ++ change ∷ []) [] link)
-      → IsPushed count new ds ds' → IsDirectoryBlock new
+      → AreFull waiting' (names_in new) → (is_some change.number ≡ true → 0 < length (names_in new)) → IsPushed count new ds ds' → IsDirectoryBlock new
       → ((names old : List Link) → IsUnderWay changes [] (waiting ++ change ∷ []) names names old → IsUnderWay changes [] waiting' (names ++ names_in new) (names ++ names_in new) old)
       → IsFilled Told s tree changes bound count ds before → IsFilled Told s tree changes bound (count + 1) ds' waiting'
-  filled_more count ds ds' before waiting waiting' change new was fewer listed from pushed spelled step filled =
+  filled_more count ds ds' before waiting waiting' change new was fewer listed from shut some pushed spelled step filled =
       let d = pushed.block in
       let beside : (i : ℕ) → i < count → block_now s tree (ds ++ d ∷ []) i ≡ block_now s tree ds i = (λ i low. block-beside (tree.size / 4096) ds d i (data_block s tree i) (λ same. omega (arith, low, same, pushed.index_is))) in
       let is_new : block_now s tree (ds ++ d ∷ []) count ≡ new = subst (λ (n : ℕ). block_after (tree.size / 4096) (ds ++ d ∷ []) n (data_block s tree n) ≡ d.bytes.value) pushed.index_is (block-pushed (tree.size / 4096) ds d count (data_block s tree d.index) (omega (arith, pushed.index_is)) filled.blocks.before) ∙ pushed.bytes_are in
@@ -136,12 +149,26 @@ module _ (Told : Type 0) (s : Store) (tree : BlockTree) (changes : List NameChan
             (λ (old : i < count). filled.behind i low old parts.0)
             (λ (last : count ≤ i). parts.1 (omega (arith, pushed.index_is, last, high)))
             (cases_lt i count);
-        full = λ told j low c there.
+        puts = λ c there. filled.puts c (subst (λ (xs : List NameChange). Contains xs c) (sym was) (Contains-append_left waiting (change ∷ []) c (listed c there)));
+        full = λ told j low. ⊎_elim
+            (λ (old : j < count). λ c there.
             let of_before : Contains before c = subst (λ (xs : List NameChange). Contains xs c) (sym was) (Contains-append_left waiting (change ∷ []) c (listed c there)) in
-            subst (λ (b : List ℕ). AreLinks (names_in b ++ link_for c) → ⊥) (sym (beside j (omega (arith, low, filled.least)))) (filled.full told j low c of_before);
-        fit = λ told i j link low past within.
-            subst (λ (b : List ℕ). Contains (names_in (block_now s tree (ds ++ d ∷ []) j)) link → AreLinks (names_in b ++ link ∷ []) → ⊥) (sym (beside i (omega (arith, low, filled.least)))) (⊎_elim
-            (λ (old : j < count). subst (λ (b : List ℕ). Contains (names_in b) link → AreLinks (names_in (block_now s tree ds i) ++ link ∷ []) → ⊥) (sym (beside j old)) (filled.fit told i j link low past old))
+            subst (λ (b : List ℕ). AreLinks (names_in b ++ link_for c) → ⊥) (sym (beside j old)) (filled.full told j old c of_before))
+            (λ (last : count ≤ j).
+            let at : count ≡ j = omega (arith, last, low) in
+            subst (λ (n : ℕ). AreFull waiting' (names_in (block_now s tree (ds ++ d ∷ []) n))) at (subst (λ (b : List ℕ). AreFull waiting' (names_in b)) (sym is_new) shut))
+            (cases_lt j count);
+        some = λ j low high. ⊎_elim
+            (λ (old : j < count). subst (λ (b : List ℕ). (link : Link) × Contains (names_in b) link) (sym (beside j old)) (filled.some j low old))
+            (λ (last : count ≤ j).
+            let at : count ≡ j = omega (arith, last, high) in
+            let put : is_some change.number ≡ true = filled.puts change (subst (λ (xs : List NameChange). Contains xs change) (sym was) (Contains-push waiting change)) in
+            subst (λ (n : ℕ). (link : Link) × Contains (names_in (block_now s tree (ds ++ d ∷ []) n)) link) at (subst (λ (b : List ℕ). (link : Link) × Contains (names_in b) link) (sym is_new) (first_of (names_in new) (some put))))
+            (cases_lt j count);
+        fit = λ told i j link less past within.
+            let low : i < count = omega (arith, less, within) in
+            subst (λ (b : List ℕ). Contains (names_in (block_now s tree (ds ++ d ∷ []) j)) link → AreLinks (names_in b ++ link ∷ []) → ⊥) (sym (beside i low)) (⊎_elim
+            (λ (old : j < count). subst (λ (b : List ℕ). Contains (names_in b) link → AreLinks (names_in (block_now s tree ds i) ++ link ∷ []) → ⊥) (sym (beside j old)) (filled.fit told i j link less past old))
             (λ (last : count ≤ j).
             let at : count ≡ j = omega (arith, last, within) in
             subst (λ (n : ℕ). Contains (names_in (block_now s tree (ds ++ d ∷ []) n)) link → AreLinks (names_in (block_now s tree ds i) ++ link ∷ []) → ⊥) at

@@ -5,6 +5,7 @@ mod NameLemmas
 mod PartLemmas
 mod PassLemmas
 mod PlannedLemmas
+mod SizeLemmas
 mod StandingLemmas
 mod ThroughLemmas
 mod WayLemmas

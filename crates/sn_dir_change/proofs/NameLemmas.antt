@@ -44,10 +44,10 @@ module _ (name : List ℕ) where
   pub times-other : (link : Link) → bytes_eq link.name name ≡ false → times_named name (link ∷ []) ≡ 0
   times-other link other = ap (λ b. 0 + cond b 1 0) other
 
-  times-first : (link : Link) (links : List Link) → bytes_eq link.name name ≡ true → times_named name (link ∷ links) ≡ 1 + times_named name links
+  pub times-first : (link : Link) (links : List Link) → bytes_eq link.name name ≡ true → times_named name (link ∷ links) ≡ 1 + times_named name links
   times-first link links same = omega (arith, times-append (link ∷ []) links, times-same link same)
 
-  times-rest : (link : Link) (links : List Link) → bytes_eq link.name name ≡ false → times_named name (link ∷ links) ≡ times_named name links
+  pub times-rest : (link : Link) (links : List Link) → bytes_eq link.name name ≡ false → times_named name (link ∷ links) ≡ times_named name links
   times-rest link links other = omega (arith, times-append (link ∷ []) links, times-other link other)
 
   pub number-first : (link : Link) (links : List Link) → bytes_eq link.name name ≡ true → number_of name (link ∷ links) ≡ Some link.number

@@ -5,7 +5,8 @@ use Rattle.std.proofs.lemmas.List.{get_or-map, length-map, take_more}
 use Rattle.std.proofs.lemmas.List.Elements.{Contains-append_left, Contains-get_or, Contains-push, Contains-push_cases}
 use Rattle.sn_layout_node.specs.Directory.{Link, number_of}
 use Rattle.sn_image.proofs.ListLemmas.{count-append}
-use Rattle.sn_dir_change.specs.Changes.{AreOnce, AreLinkChanges, IsChange, is_needed, needed_changes}
+use Rattle.sn_image.specs.Sound.{AreOnce}
+use Rattle.sn_dir_change.specs.Changes.{AreLinkChanges, ArePuts, IsChange, is_needed, needed_changes}
 use Rattle.sn_dir_change.specs.Standing.{change_of, seen}
 use Rattle.sn_dir_change.specs.UnderWay.{AreApart, IsUnderWay, AreParted}
 use Rattle.sn_dir_change.specs.declared.name_change.NameChange.{NameChange}
@@ -88,6 +89,13 @@ link_change_more list change all is c there = ⊎_elim
     (λ (new : change ≡ c). subst IsChange new is)
     (Contains-push_cases list change c there)
 
+-- one more of those after which a name is to be there
+pub puts_more : (list : List NameChange) (change : NameChange) → ArePuts list → is_some change.number ≡ true → ArePuts (list ++ change ∷ [])
+puts_more list change all is c there = ⊎_elim
+    (λ (old : Contains list c). all c old)
+    (λ (new : change ≡ c). subst (λ (x : NameChange). is_some x.number ≡ true) new is)
+    (Contains-push_cases list change c there)
+
 -- one of the changes that were looked for
 module _ (names : List Link) (changes : List NameChange) (list : List Sought) (all : list ≡ map (seen names) changes) (i : ℕ) (d : Sought) (within : i < length list) where
   within_changes : i < length changes
@@ -101,12 +109,6 @@ module _ (names : List Link) (changes : List NameChange) (list : List Sought) (a
 
   pub sought_stands : (get_or list i d).stands ≡ is_some (number_of (get_or list i d).change.name.now names)
   sought_stands = ap (λ (s : Sought). s.stands) it-is ∙ ap (λ (s : Sought). is_some (number_of s.change.name.now names)) (sym it-is)
-
--- a change that is looked for is one of them
-pub change_there : (list : List Sought) (i : ℕ) (d : Sought) → i < length list → Contains (map change_of list) (get_or list i d).change
-change_there list i d within =
-    let here = Contains-get_or (map change_of list) i d.change (omega (arith, within, length-map list change_of)) in
-    subst (λ (c : NameChange). Contains (map change_of list) c) (get_or-map change_of list i d d.change within) here
 
 -- and one more of those that do something
 pub needed_more : (names : List Link) (taken : List NameChange) (change : NameChange) (stands : Bool) (before after : ℕ) → stands ≡ is_some (number_of change.name.now names)

@@ -2,7 +2,7 @@
 use Rattle.std.proofs.Common.{◌≡◌, ⊎_elim, ℕ, ◌+◌, ◌*◌, ◌/◌, ◌<◌, ◌≤◌, ◌==◌, Bool, true, false, if◌then◌else◌, List, [], ◌∷◌, ◌++◌, length, refl, sym, ap, subst, ◌∙◌, arith}
 use Rattle.std.specs.Prelude.{Contains, nat_lt, Result, IfOk, Ok, Err}
 use Rattle.std.specs.List.{AllByRecursion}
-use Rattle.std.proofs.Math.Nat.{mul-le-mul_left, mul-le-mul_right}
+use Rattle.std.proofs.Math.Nat.{mul-le-mul_left}
 use Rattle.std.proofs.lemmas.Bool.{cases_lt, ltb-true}
 use Rattle.sn_layout.specs.Bytes.{zeros}
 use Rattle.sn_layout.specs.Pointers.{levels_of}
@@ -11,7 +11,7 @@ use Rattle.sn_layout_node.specs.Directory.{Link, AreLinks, IsDirectoryBlock}
 use Rattle.sn_layout_node.specs.declared.content.Content.TheVariants.{Tree}
 use Rattle.sn_ondisk.specs.Trees.{Store, data_block, tree_reach}
 use Rattle.sn_ondisk.specs.TreeLaws.{SameIn}
-use Rattle.sn_ondisk.proofs.TreeLemmas.{levels_room, levels_least}
+use Rattle.sn_ondisk.proofs.TreeLemmas.{levels_room}
 use Rattle.sn_image.specs.Names.{names_in, names_of}
 use Rattle.sn_tree.specs.declared.fault.PlanFault.{PlanFault}
 use Rattle.sn_tree.specs.Drafts.{Draft}
@@ -19,24 +19,28 @@ use Rattle.sn_tree.specs.Dirty.{block_wanted, block_after}
 use Rattle.sn_tree.specs.Laws.{EndsBy}
 use Rattle.sn_tree.specs.Plans.{Holds}
 use Rattle.sn_tree.specs.Replanned.{IsReplanned, IsPlanned}
+use Rattle.sn_tree.specs.Steps.{IsTooFull}
 use Rattle.sn_tree.specs.declared.new_block.NewBlock.{NewBlock}
 use Rattle.sn_tree.specs.declared.new_block.DirtyBlock.{DirtyBlock}
 use Rattle.sn_tree.proofs.LawLemmas.{grown_end}
-use Rattle.sn_dir_change.specs.Changes.{AreOnce, IsChanged, needed_changes}
+use Rattle.sn_image.specs.Sound.{AreOnce}
+use Rattle.sn_dir_change.specs.Changes.{ArePuts, IsChanged, needed_changes}
 use Rattle.sn_dir_change.specs.UnderWay.{IsUnderWay}
-use Rattle.sn_dir_change.specs.Through.{AreAllDirty, HaveNoRoom, names_to, AreDirty, IsThrough, IsFilled, IsWanted}
-use Rattle.sn_dir_change.specs.Planned.{HasRoom, HasChanged, IsDirectoryPlanned}
+use Rattle.sn_dir_change.specs.Through.{AreAllDirty, HaveNames, HaveNoRoom, names_to, AreDirty, IsThrough, IsFilled, IsWanted}
+use Rattle.sn_dir_change.specs.Planned.{HasRoom, HasChanged, IsDirectoryPlanned, IsSizeWith, IsTooFullFor}
 use Rattle.sn_dir_change.specs.declared.name_change.NameChange.{NameChange}
 use Rattle.sn_dir_change.proofs.FillLemmas.{filled_begun, filled_changed}
+use Rattle.sn_dir_change.proofs.SizeLemmas.{size_with, spelled_after}
 use Rattle.sn_dir_change.proofs.ThroughLemmas.{dirty_none, flat-same, names_from-begin, through_as}
 
 -- ---- the beginning
 
-pub through_begun : (Told : Type 0) (s : Store) (tree : BlockTree) (changes standing waiting : List NameChange) (bound : ℕ) → length standing + length waiting ≤ bound
+pub through_begun : (Told : Type 0) (s : Store) (tree : BlockTree) (changes standing waiting : List NameChange) (bound : ℕ) → length standing + length waiting ≤ bound → ArePuts waiting
     → (Told → AreOnce (names_of s (Tree tree)) → IsUnderWay changes standing waiting [] (names_of s (Tree tree)) (names_of s (Tree tree))) → IsThrough Told s tree changes bound 0 [] standing waiting
-through_begun Told s tree changes standing waiting bound few way = record {
+through_begun Told s tree changes standing waiting bound few puts way = record {
   blocks = dirty_none 0;
   few = omega (arith, few);
+  puts = puts;
   full = λ told j low c there fits. omega (arith, low);
   way = λ told once. subst (λ (ls : List Link). IsUnderWay changes standing waiting [] ls (names_of s (Tree tree))) (sym (names_from-begin s tree)) (way told once);
 }
@@ -57,6 +61,7 @@ wanted_is Told s tree changes bound keep count ds room few needed keep_is filled
       most = omega (arith, filled.most, room.whole);
       behind = subst (λ (n : ℕ). AreAllDirty (tree.size / 4096) n ds) (sym whole) filled.behind;
       fit = λ told. subst (λ (n : ℕ). HaveNoRoom s tree n ds) (sym whole) (filled.fit told);
+      some = subst (λ (n : ℕ). HaveNames s tree n ds) (sym whole) filled.some;
       names = λ told once. subst (λ (n : ℕ). IsChanged changes (names_of s (Tree tree)) (names_to s tree ds n)) (sym whole) (filled_changed Told s tree changes bound count ds filled told once);
     }
 
@@ -67,22 +72,6 @@ all_end size [] all = tt
 all_end size (d ∷ ds) all =
     let low : d.index < size / 4096 = all.0 in
     (record { begins = omega (arith, low); past = λ k within far. absurd (omega (arith, low, within, far)) }, all_end size ds all.1)
-
-no_names : IsDirectoryBlock (zeros 4096)
-no_names = ([], record { fit = record { each = tt; room = omega arith }; bytes = refl })
-
-spelled_after : (keep i : ℕ) (ds : List DirtyBlock) (old : List ℕ) → AllByRecursion (λ (d : DirtyBlock). IsDirectoryBlock d.bytes.value) ds → (i < keep → IsDirectoryBlock old) → IsDirectoryBlock (block_after keep ds i old)
-unfolding block_wanted
-spelled_after keep i [] old all before = either (nat_lt i keep) refl
-  where
-    either : (b : Bool) → nat_lt i keep ≡ b → IsDirectoryBlock (if b then old else zeros 4096)
-    either true is = before (ltb-true i keep is)
-    either false is = no_names
-spelled_after keep i (d ∷ ds) old all before = either (d.index == i) (spelled_after keep i ds old all.1 before)
-  where
-    either : (b : Bool) → IsDirectoryBlock (block_after keep ds i old) → IsDirectoryBlock (if b then d.bytes.value else block_after keep ds i old)
-    either true later = all.0
-    either false later = later
 
 module _ (Told : Type 0) (s : Store) (tree new : BlockTree) (changes : List NameChange) (size keep : ℕ) (ds : List DirtyBlock) (sized : new.size ≡ size) (room : HasRoom tree (length changes)) (wanted : IsWanted Told s tree changes size keep ds) where
   small : new.size ≤ 70368744177664
@@ -103,10 +92,10 @@ module _ (Told : Type 0) (s : Store) (tree new : BlockTree) (changes : List Name
     pub has_changed : Told → AreOnce (names_of s (Tree tree)) → HasChanged s r tree new changes
     has_changed told once = record {
       names = subst (λ (ls : List Link). IsChanged changes (names_of s (Tree tree)) ls) (sym names_are) (wanted.names told once);
-      fit = λ i j link low past within has fits.
-          let first : 4096 * i + 4096 ≤ new.size = omega (arith, low, sized, wanted.least, room.whole) in
+      fit = λ i j link less past within has fits.
+          let first : 4096 * i + 4096 ≤ new.size = omega (arith, less, within, sized, wanted.whole) in
           let second : 4096 * j + 4096 ≤ new.size = omega (arith, within, sized, wanted.whole) in
-          wanted.fit told i j link (omega (arith, low, room.whole)) (omega (arith, past)) (omega (arith, second, sized))
+          wanted.fit told i j link less (omega (arith, past)) (omega (arith, second, sized))
           (subst (λ (b : List ℕ). Contains (names_in b) link) (blocks_are j second) has)
           (subst (λ (b : List ℕ). AreLinks (names_in b ++ link ∷ [])) (blocks_are i first) fits);
       spelled = λ before i within.
@@ -135,40 +124,35 @@ module _ (Told : Type 0) (s : Store) (tree new : BlockTree) (changes : List Name
         few = plan.few;
         one_each = wanted.few;
         needed = wanted.needed;
-        kept = omega (arith, sized, wanted.least);
         most = omega (arith, sized, wanted.most);
-        whole = omega (arith, sized, wanted.whole);
+        sized = subst (λ (n : ℕ). IsSizeWith Told s tree changes n) (sym sized) (size_with Told s tree changes size keep ds wanted);
         plans = λ told. subst (λ (k : ℕ). IsReplanned s tree new k ds plan.added plan.released) wanted.keep_is (here told);
         changed = λ told once r same held. has_changed plan.added plan.released (here told) r same held told once;
       }
 
 -- ---- how many blocks may be taken
 
-pub levels_more : (a b : ℕ) → a ≤ b → b ≤ 70368744177664 → levels_of a ≤ levels_of b
-levels_more a b less most = ⊎_elim
-    (λ (above : levels_of b < levels_of a). absurd (omega (arith, less, levels_room b most, levels_least a (levels_of b) above)))
-    (λ (fine : levels_of a ≤ levels_of b). fine)
-    (cases_lt (levels_of b) (levels_of a))
+-- dirty blocks that a plan takes
+pub begin_before : (size : ℕ) (ds : List DirtyBlock) → AllByRecursion (λ (d : DirtyBlock). d.index < size / 4096) ds → AllByRecursion (λ (d : DirtyBlock). 4096 * d.index < size) ds
+begin_before size [] all = tt
+begin_before size (d ∷ ds) all = let low : d.index < size / 4096 = all.0 in (omega (arith, low), begin_before size ds all.1)
 
-pub bound_more : (Told : Type 0) (s : Store) (tree : BlockTree) (changes : List NameChange) (size keep : ℕ) (ds : List DirtyBlock) → HasRoom tree (length changes) → IsWanted Told s tree changes size keep ds
-    → (levels_of size + 1) * (length ds + 1) ≤ (levels_of (tree.size + 4096 * length changes) + 1) * (length changes + 1)
-bound_more Told s tree changes size keep ds room wanted =
-    let most = tree.size + 4096 * length changes in
-    let higher : levels_of size + 1 ≤ levels_of most + 1 = omega (arith, levels_more size most (omega (arith, wanted.most, wanted.few)) room.most) in
+pub too_full : {T : Type 0} (Told : Type 0) (s : Store) (tree : BlockTree) (changes : List NameChange) (size keep : ℕ) (ds : List DirtyBlock) (result : Result T PlanFault) (draft : Draft) → IsWanted Told s tree changes size keep ds
+    → IsTooFull result draft ((levels_of size + 1) * (length ds + 1)) → IsTooFullFor Told s tree changes result draft
+too_full Told s tree changes size keep ds result draft wanted full is =
     let more : length ds + 1 ≤ length changes + 1 = omega (arith, wanted.few) in
-    let first : (levels_of size + 1) * (length ds + 1) ≤ (levels_of size + 1) * (length changes + 1) = mul-le-mul_left (levels_of size + 1) more in
-    let second : (levels_of size + 1) * (length changes + 1) ≤ (levels_of most + 1) * (length changes + 1) = mul-le-mul_right (length changes + 1) higher in
-    omega (arith, first, second)
+    let most : (levels_of size + 1) * (length ds + 1) ≤ (levels_of size + 1) * (length changes + 1) = mul-le-mul_left (levels_of size + 1) more in
+    (size, size_with Told s tree changes size keep ds wanted, omega (arith, full is, most))
 
 -- ---- all blocks were gone through
 
-pub gone_through : (Told : Type 0) (s r : Store) (tree : BlockTree) (changes standing waiting standing' waiting' : List NameChange) (bound : ℕ) (ds : List DirtyBlock) → (Told → r ≡ s) → length standing + length waiting ≤ bound
+pub gone_through : (Told : Type 0) (s r : Store) (tree : BlockTree) (changes standing waiting standing' waiting' : List NameChange) (bound : ℕ) (ds : List DirtyBlock) → (Told → r ≡ s) → length standing + length waiting ≤ bound → ArePuts waiting
     → (Told → AreOnce (names_of s (Tree tree)) → IsUnderWay changes standing waiting [] (names_of s (Tree tree)) (names_of s (Tree tree)))
     → (IsThrough Told r tree changes bound 0 [] standing waiting → IsThrough Told r tree changes bound (tree.size / 4096) ds standing' waiting')
     → IsThrough Told s tree changes bound (tree.size / 4096) ds standing' waiting'
-gone_through Told s r tree changes standing waiting standing' waiting' bound ds same few way pass =
+gone_through Told s r tree changes standing waiting standing' waiting' bound ds same few puts way pass =
     through_as Told s r tree changes bound (tree.size / 4096) ds standing' waiting' same
-    (pass (through_as Told r s tree changes bound 0 [] standing waiting (λ told. sym (same told)) (through_begun Told s tree changes standing waiting bound few way)))
+    (pass (through_as Told r s tree changes bound 0 [] standing waiting (λ told. sym (same told)) (through_begun Told s tree changes standing waiting bound few puts way)))
 
 pub planned_result : (Told : Type 0) (s : Store) (tree : BlockTree) (changes : List NameChange) (size keep : ℕ) (ds : List DirtyBlock) (t : Store) (old_draft new_draft : Draft) (result : Result BlockTree PlanFault)
     → HasRoom tree (length changes) → IsWanted Told s tree changes size keep ds → (Told → t ≡ s) → IfOk result (λ new. new.size ≡ size) → IfOk result (λ new. IsPlanned Told t tree new keep ds old_draft new_draft)
@@ -177,10 +161,10 @@ planned_result Told s tree changes size keep ds t old_draft new_draft (Err fault
 planned_result Told s tree changes size keep ds t old_draft new_draft (Ok new) room wanted same sized plan = planned_is Told s tree new changes size keep ds sized room wanted t old_draft new_draft same plan
 
 -- and the new blocks can be filled
-pub ready_to_fill : (Told : Type 0) (s r : Store) (tree : BlockTree) (changes standing waiting standing' waiting' : List NameChange) (bound : ℕ) (ds : List DirtyBlock) (keep : ℕ) → keep ≡ tree.size / 4096 → (Told → r ≡ s) → length standing + length waiting ≤ bound
+pub ready_to_fill : (Told : Type 0) (s r : Store) (tree : BlockTree) (changes standing waiting standing' waiting' : List NameChange) (bound : ℕ) (ds : List DirtyBlock) (keep : ℕ) → keep ≡ tree.size / 4096 → (Told → r ≡ s) → length standing + length waiting ≤ bound → ArePuts waiting
     → (Told → AreOnce (names_of s (Tree tree)) → IsUnderWay changes standing waiting [] (names_of s (Tree tree)) (names_of s (Tree tree)))
     → (IsThrough Told r tree changes bound 0 [] standing waiting → IsThrough Told r tree changes bound (tree.size / 4096) ds standing' waiting')
     → IsFilled Told s tree changes bound keep ds waiting'
-ready_to_fill Told s r tree changes standing waiting standing' waiting' bound ds keep is same few way pass =
+ready_to_fill Told s r tree changes standing waiting standing' waiting' bound ds keep is same few puts way pass =
     subst (λ (n : ℕ). IsFilled Told s tree changes bound n ds waiting') (sym is)
-    (filled_begun Told s tree changes bound ds standing' waiting' (gone_through Told s r tree changes standing waiting standing' waiting' bound ds same few way pass))
+    (filled_begun Told s tree changes bound ds standing' waiting' (gone_through Told s r tree changes standing waiting standing' waiting' bound ds same few puts way pass))

@@ -15,7 +15,7 @@ use Rattle.sn_image.specs.Names.{names_in, names_of}
 use Rattle.sn_tree.specs.Dirty.{IsFrom, block_wanted, block_after}
 use Rattle.sn_tree.specs.declared.new_block.DirtyBlock.{DirtyBlock}
 use Rattle.sn_dir.proofs.NameLemmas.{range-more}
-use Rattle.sn_dir_change.specs.Changes.{AreOnce}
+use Rattle.sn_image.specs.Sound.{AreOnce}
 use Rattle.sn_dir_change.specs.UnderWay.{AreFull, AreGone, IsUnderWay}
 use Rattle.sn_dir_change.specs.Through.{block_now, names_to, names_from, AreDirty, IsPushed, IsThrough}
 use Rattle.sn_dir_change.specs.declared.name_change.NameChange.{NameChange}
@@ -186,6 +186,7 @@ module _ (Told : Type 0) (s : Store) (tree : BlockTree) (changes : List NameChan
         subst (λ (l : List DirtyBlock). IsThrough Told s tree changes bound (i + 1) l standing' waiting') (sym pushed.last) (record {
           blocks = dirty_more i ds d pushed.index_is (subst IsDirectoryBlock (sym pushed.bytes_are) spelled) through.blocks;
           few = omega (arith, through.few, fewer, length-append ds (d ∷ []));
+          puts = λ c there. through.puts c (listed c there);
           full = λ told j low. ⊎_elim
               (λ (before : j < i). subst (λ (b : List ℕ). AreFull waiting' (names_in b)) (sym (block-beside (tree.size / 4096) ds d j (data_block s tree j) (λ same. omega (arith, before, same, pushed.index_is)))) (fewer_full (names_in (block_now s tree ds j)) (through.full told j before)))
               (λ (last : i ≤ j).
@@ -200,6 +201,7 @@ module _ (Told : Type 0) (s : Store) (tree : BlockTree) (changes : List NameChan
     through_kept same fewer = record {
       blocks = dirty_later i (i + 1) ds (omega arith) through.blocks;
       few = omega (arith, through.few, fewer);
+      puts = λ c there. through.puts c (listed c there);
       full = λ told j low. ⊎_elim
           (λ (before : j < i). fewer_full (names_in (block_now s tree ds j)) (through.full told j before))
           (λ (last : i ≤ j).
@@ -222,6 +224,7 @@ pub through_as : (Told : Type 0) (s r : Store) (tree : BlockTree) (changes : Lis
 through_as Told s r tree changes bound i ds standing waiting same through = record {
   blocks = through.blocks;
   few = through.few;
+  puts = through.puts;
   full = λ told. subst (λ (q : Store). (j : ℕ) → j < i → AreFull waiting (names_in (block_now q tree ds j))) (same told) (through.full told);
   way = λ told. subst (λ (q : Store). AreOnce (names_of q (Tree tree)) → IsUnderWay changes standing waiting (names_to q tree ds i) (names_to q tree ds i ++ names_from q tree i) (names_of q (Tree tree))) (same told) (through.way told);
 }

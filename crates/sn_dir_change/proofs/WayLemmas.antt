@@ -3,7 +3,8 @@ use Rattle.std.proofs.Common.{◌≡◌, ◌≢◌, ◌⊎◌, inl, inr, ⊎_eli
 use Rattle.std.specs.Prelude.{All, Contains, is_some}
 use Rattle.std.proofs.lemmas.List.Elements.{All-contains, Contains-get_or}
 use Rattle.sn_layout_node.specs.Directory.{Link, number_of, without}
-use Rattle.sn_dir_change.specs.Changes.{AreOnce, times_named, numbered}
+use Rattle.sn_image.specs.Sound.{AreOnce}
+use Rattle.sn_dir_change.specs.Changes.{times_named, numbered}
 use Rattle.sn_dir_change.specs.UnderWay.{IsUnderWay}
 use Rattle.sn_dir_change.specs.declared.name_change.NameChange.{NameChange}
 use Rattle.sn_dir_change.proofs.NameLemmas.{cases_name, times-append, none-times, times-none, some-times, or_else, or_none, number-append, times-without, number-without, times-kept, number-numbered, times-numbered, number-unnumbered, times-unnumbered}

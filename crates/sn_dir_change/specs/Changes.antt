@@ -1,16 +1,13 @@
 -- Names that are to change, and what the directory has then.
-use Rattle.std.specs.Prelude.{◌≡◌, ◌≢◌, ℕ, ◌≤◌, ◌||◌, Bool, List, [], ◌∷◌, Some, None, IfSome, Option, All, Contains, count_by, is_some}
+use Rattle.std.specs.Prelude.{◌≡◌, ◌≢◌, ℕ, ◌≤◌, ◌||◌, Bool, true, List, [], ◌∷◌, Some, None, IfSome, Option, All, Contains, count_by, is_some}
 use Rattle.std.specs.Str.{bytes_eq}
 use Rattle.sn_layout_node.specs.Directory.{Link, IsLink, number_of}
+use Rattle.sn_image.specs.Sound.{AreOnce}
 use Rattle.sn_dir_change.specs.declared.name_change.NameChange.{NameChange}
 
 -- how often a name stands among links
 abbrev pub times_named : List ℕ → List Link → ℕ
 times_named name links = count_by (λ (l : Link). bytes_eq l.name name) links
-
--- no name stands twice
-abbrev pub AreOnce : List Link → Type 0
-AreOnce links = (name : List ℕ) → times_named name links ≤ 1
 
 -- a name and the number that is to stand under it, if one is
 abbrev pub numbered : List ℕ → Option ℕ → List Link
@@ -27,6 +24,10 @@ IsChange change = IfSome change.number (λ number. IsLink (record { number = num
 
 abbrev pub AreLinkChanges : List NameChange → Type 0
 AreLinkChanges changes = (change : NameChange) → Contains changes change → IsChange change
+
+-- a name is to be there after each of them
+abbrev pub ArePuts : List NameChange → Type 0
+ArePuts changes = (change : NameChange) → Contains changes change → is_some change.number ≡ true
 
 -- whether a change does anything: a name that is to go and doesn't stand is as it is to be
 abbrev pub is_needed : List Link → NameChange → Bool

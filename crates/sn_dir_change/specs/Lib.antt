@@ -3,3 +3,4 @@ pub mod Planned
 pub mod Standing
 pub mod UnderWay
 pub mod Through
+pub mod Laws

@@ -6,9 +6,10 @@ use Rattle.sn_layout_node.specs.Directory.{Link, AreLinks, IsDirectoryBlock}
 use Rattle.sn_layout_node.specs.declared.content.Content.TheVariants.{Tree}
 use Rattle.sn_ondisk.specs.Trees.{Store, data_block}
 use Rattle.sn_image.specs.Names.{names_in, names_of}
+use Rattle.sn_image.specs.Sound.{AreOnce}
 use Rattle.sn_tree.specs.Dirty.{IsFrom, block_after}
 use Rattle.sn_tree.specs.declared.new_block.DirtyBlock.{DirtyBlock}
-use Rattle.sn_dir_change.specs.Changes.{AreOnce, IsChanged, needed_changes}
+use Rattle.sn_dir_change.specs.Changes.{ArePuts, IsChanged, needed_changes}
 use Rattle.sn_dir_change.specs.UnderWay.{AreFull, IsUnderWay}
 use Rattle.sn_dir_change.specs.declared.name_change.NameChange.{NameChange}
 
@@ -41,6 +42,7 @@ pub record IsPushed (index : ℕ) (bytes : List ℕ) (old new : List DirtyBlock)
 pub record IsThrough (Told : Type 0) (s : Store) (tree : BlockTree) (changes : List NameChange) (bound i : ℕ) (dirty : List DirtyBlock) (standing waiting : List NameChange) : Type 0 where
   pub blocks : AreDirty i dirty
   pub few : length dirty + (length standing + length waiting) ≤ bound
+  pub puts : ArePuts waiting
   pub way : Told → AreOnce (names_of s (Tree tree)) → IsUnderWay changes standing waiting (names_to s tree dirty i) (names_to s tree dirty i ++ names_from s tree i) (names_of s (Tree tree))
   -- none of them has room for a name that waits
   pub full : Told → (j : ℕ) → j < i → AreFull waiting (names_in (block_now s tree dirty j))
@@ -49,10 +51,14 @@ pub record IsThrough (Told : Type 0) (s : Store) (tree : BlockTree) (changes : L
 abbrev pub AreAllDirty : ℕ → ℕ → List DirtyBlock → Type 0
 AreAllDirty first end dirty = (i : ℕ) → first ≤ i → i < end → ¬ All (λ (d : DirtyBlock). d.index ≢ i) dirty
 
--- no old block has room for a name of those behind them
+-- no block has room for a name of a new one behind it
 abbrev pub HaveNoRoom : Store → BlockTree → ℕ → List DirtyBlock → Type 0
-HaveNoRoom s tree count dirty = (i j : ℕ) (link : Link) → i < tree.size / 4096 → tree.size / 4096 ≤ j → j < count
+HaveNoRoom s tree count dirty = (i j : ℕ) (link : Link) → i < j → tree.size / 4096 ≤ j → j < count
     → Contains (names_in (block_now s tree dirty j)) link → AreLinks (names_in (block_now s tree dirty i) ++ link ∷ []) → ⊥
+
+-- each new block has a name
+abbrev pub HaveNames : Store → BlockTree → ℕ → List DirtyBlock → Type 0
+HaveNames s tree count dirty = (j : ℕ) → tree.size / 4096 ≤ j → j < count → (link : Link) × Contains (names_in (block_now s tree dirty j)) link
 
 -- The names that stood were changed, and the blocks behind the old ones are filled with those that wait.
 pub record IsFilled (Told : Type 0) (s : Store) (tree : BlockTree) (changes : List NameChange) (bound count : ℕ) (dirty : List DirtyBlock) (waiting : List NameChange) : Type 0 where
@@ -62,8 +68,10 @@ pub record IsFilled (Told : Type 0) (s : Store) (tree : BlockTree) (changes : Li
   pub most : count ≤ tree.size / 4096 + length dirty
   pub behind : AreAllDirty (tree.size / 4096) count dirty
   pub way : Told → AreOnce (names_of s (Tree tree)) → IsUnderWay changes [] waiting (names_to s tree dirty count) (names_to s tree dirty count) (names_of s (Tree tree))
-  pub full : Told → (j : ℕ) → j < tree.size / 4096 → AreFull waiting (names_in (block_now s tree dirty j))
+  pub puts : ArePuts waiting
+  pub full : Told → (j : ℕ) → j < count → AreFull waiting (names_in (block_now s tree dirty j))
   pub fit : Told → HaveNoRoom s tree count dirty
+  pub some : HaveNames s tree count dirty
 
 -- What is to become of a directory's tree.
 pub record IsWanted (Told : Type 0) (s : Store) (tree : BlockTree) (changes : List NameChange) (size keep : ℕ) (dirty : List DirtyBlock) : Type 0 where
@@ -77,3 +85,4 @@ pub record IsWanted (Told : Type 0) (s : Store) (tree : BlockTree) (changes : Li
   pub behind : AreAllDirty (tree.size / 4096) (size / 4096) dirty
   pub names : Told → AreOnce (names_of s (Tree tree)) → IsChanged changes (names_of s (Tree tree)) (names_to s tree dirty (size / 4096))
   pub fit : Told → HaveNoRoom s tree (size / 4096) dirty
+  pub some : HaveNames s tree (size / 4096) dirty

@@ -2,7 +2,8 @@
 use Rattle.std.specs.Prelude.{◌≡◌, ◌≢◌, ◌⊎◌, ℕ, ◌+◌, ◌≤◌, true, List, ◌++◌, None, All, Contains, count_by, is_some}
 use Rattle.std.specs.Str.{bytes_eq}
 use Rattle.sn_layout_node.specs.Directory.{Link, AreLinks, number_of}
-use Rattle.sn_dir_change.specs.Changes.{AreOnce, link_for}
+use Rattle.sn_image.specs.Sound.{AreOnce}
+use Rattle.sn_dir_change.specs.Changes.{link_for}
 use Rattle.sn_dir_change.specs.declared.name_change.NameChange.{NameChange}
 
 -- how often a name is to change

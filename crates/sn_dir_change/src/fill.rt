@@ -1,12 +1,12 @@
 //! New blocks of a directory, for the names that there was no room for.
-ghost use Rattle.std.specs.Prelude.{◌≡◌, ℕ, ◌+◌, ◌++◌, ◌≤◌, ◌<◌, ◌^◌, Bool, List, [], ◌∷◌, Contains, length, IsTrue, IfOk};
+ghost use Rattle.std.specs.Prelude.{◌≡◌, ℕ, ◌+◌, ◌++◌, ◌≤◌, ◌<◌, ◌^◌, Bool, true, List, [], ◌∷◌, Contains, length, is_some, IsTrue, IfOk};
 ghost use Rattle.sn_layout.specs.declared.tree.BlockTree.{BlockTree as TheTree};
 ghost use Rattle.sn_layout_node.specs.Directory.{Link, IsDirectoryBlock};
 ghost use Rattle.sn_ondisk.specs.Trees.{Store};
 ghost use Rattle.sn_image.specs.Names.{names_in};
 ghost use Rattle.sn_dir_change.specs.Changes.{AreLinkChanges, IsChange};
 ghost use Rattle.sn_dir_change.specs.Through.{IsFilled};
-ghost use Rattle.sn_dir_change.specs.UnderWay.{IsLinkFrom, IsUnderWay};
+ghost use Rattle.sn_dir_change.specs.UnderWay.{AreFull, IsLinkFrom, IsUnderWay};
 ghost use Rattle.sn_dir_change.specs.declared.name_change.NameChange.{NameChange as TheChange};
 
 use crate::NameChange;
@@ -30,6 +30,8 @@ fn filled(change: &NameChange<'_>, waiting: &mut Vec<NameChange<'_>>) -> Block
         → IsLinkFrom (waiting.old.items ++ change.now ∷ []) [] link }
     ensures listed { (change : TheChange) → Contains waiting.new.items change → Contains waiting.old.items change }
     ensures fewer { length waiting.new.items ≤ length waiting.old.items }
+    ensures full { AreFull waiting.new.items (names_in result) }
+    ensures some { is_some change.now.number ≡ true → 0 < length (names_in result) }
     ensures waiting { AreLinkChanges waiting.new.items }
     ensures spelled { IsDirectoryBlock result }
 {

@@ -31,6 +31,7 @@
 
 mod amend;
 mod fill;
+mod laws;
 mod name_change;
 mod pass;
 mod pending;
@@ -38,5 +39,6 @@ mod planned;
 mod standing;
 mod through;
 
+pub use laws::size_laws;
 pub use name_change::{NameChange, are_changes};
 pub use planned::{change, insert, remove};

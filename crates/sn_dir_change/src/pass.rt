@@ -49,6 +49,7 @@ pub(crate) fn put_waiting(block: &mut Block, waiting: &mut Vec<NameChange<'_>>)
         → IsLinkFrom waiting.old.items (names_in block.old) link }
     ensures listed { (change : TheChange) → Contains waiting.new.items change → Contains waiting.old.items change }
     ensures fewer { length waiting.new.items ≤ length waiting.old.items }
+    ensures more { length (names_in block.old) ≤ length (names_in block.new) }
     ensures same { length waiting.new.items ≡ length waiting.old.items
         → (block.new ≡ block.old) × (waiting.new.items ≡ waiting.old.items) }
     ensures changes { AreLinkChanges waiting.new.items }

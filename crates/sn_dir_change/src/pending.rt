@@ -9,7 +9,8 @@ ghost use Rattle.sn_image.specs.Names.{names_of};
 ghost use Rattle.sn_tree_read.specs.Counts.{CountsTree};
 ghost use Rattle.sn_tree_read.specs.declared.fault.TreeFault.TheVariants.{Damaged};
 ghost use Rattle.sn_dir.specs.Blocks.{IsDamaged};
-ghost use Rattle.sn_dir_change.specs.Changes.{AreChanges, AreLinkChanges, AreOnce, IsChange, needed_changes};
+ghost use Rattle.sn_image.specs.Sound.{AreOnce};
+ghost use Rattle.sn_dir_change.specs.Changes.{AreChanges, AreLinkChanges, ArePuts, IsChange, needed_changes};
 ghost use Rattle.sn_dir_change.specs.Standing.{change_of, seen};
 ghost use Rattle.sn_dir_change.specs.UnderWay.{AreParted, IsUnderWay};
 ghost use Rattle.sn_dir_change.specs.declared.name_change.NameChange.{NameChange as TheChange};
@@ -63,6 +64,7 @@ impl<'a> Pending<'a> {
             + (if is_some change.now.number || stands then 1 else 0)) }
         ensures standing { AreLinkChanges self.old.standing.items → OnOk result (AreLinkChanges self.new.standing.items) }
         ensures waiting { AreLinkChanges self.old.waiting.items → OnOk result (AreLinkChanges self.new.waiting.items) }
+        ensures puts { ArePuts self.old.waiting.items → OnOk result (ArePuts self.new.waiting.items) }
     {
         if stands {
             return note(&mut self.standing, change);
@@ -85,6 +87,7 @@ impl<'a> Pending<'a> {
             ≤ needed_changes names changes) }
         ensures standing { IfOk result (λ pending. AreLinkChanges pending.standing.items) }
         ensures waiting { IfOk result (λ pending. AreLinkChanges pending.waiting.items) }
+        ensures puts { IfOk result (λ pending. ArePuts pending.waiting.items) }
     {
         let mut pending = Pending::none(alloc);
         for sought in list {
@@ -121,6 +124,7 @@ pub(crate) fn parted<'a, D: Device>(
         ≤ needed_changes (names_of (store_of (reads (D.disk (device_of blocks.old)))) (Tree tree.now)) changes.now) }
     ensures standing { IfOk result (λ pending. AreLinkChanges pending.standing.items) }
     ensures waiting { IfOk result (λ pending. AreLinkChanges pending.waiting.items) }
+    ensures puts { IfOk result (λ pending. ArePuts pending.waiting.items) }
     ensures damaged { IsTrue D.tells_bytes → result ≡ Err Damaged
         → IsDamaged (λ names. ⊤) (D.status (device_of blocks.old)).sectors
         (store_of (reads (D.disk (device_of blocks.old)))) tree.now }

@@ -1,17 +1,16 @@
 //! A directory with other names.
-ghost use Rattle.std.specs.Prelude.{◌≡◌, ◌+◌, ◌*◌, [], ◌∷◌, ⊤, Some, None, Err, length, IsTrue, IfOk};
+ghost use Rattle.std.specs.Prelude.{◌≡◌, [], ◌∷◌, ⊤, Some, None, Err, length, IsTrue, IfOk};
 ghost use Rattle.sn_device.specs.Disk.{reads};
 ghost use Rattle.sn_block.specs.Lending.{device_of};
-ghost use Rattle.sn_layout.specs.Pointers.{levels_of};
 ghost use Rattle.sn_layout_node.specs.Directory.{IsLink};
 ghost use Rattle.sn_ondisk.specs.Trees.{store_of};
-ghost use Rattle.sn_tree.specs.Steps.{IsTooFull, CountsPlan};
+ghost use Rattle.sn_tree.specs.Steps.{CountsPlan};
 ghost use Rattle.sn_tree.specs.declared.fault.PlanFault.TheVariants.{Tree};
 ghost use Rattle.sn_tree_read.specs.Counts.{CountsTree};
 ghost use Rattle.sn_tree_read.specs.declared.fault.TreeFault.TheVariants.{Damaged};
 ghost use Rattle.sn_dir.specs.Blocks.{IsDamaged};
 ghost use Rattle.sn_dir_change.specs.Changes.{AreChanges};
-ghost use Rattle.sn_dir_change.specs.Planned.{HasRoom, IsDirectoryPlanned, CannotRead};
+ghost use Rattle.sn_dir_change.specs.Planned.{HasRoom, IsDirectoryPlanned, IsTooFullFor, CannotRead};
 ghost use Rattle.sn_dir_change.specs.Through.{IsWanted};
 
 use crate::NameChange;
@@ -61,7 +60,7 @@ fn wanted<D: Device>(
 /// to take out a name that isn't there changes none.
 ///
 /// After an error the build can only be given up. `Full` comes only where fewer blocks are left than a
-/// path for each name and one more, and `Damaged` only where a block of the directory can't be read or one
+/// path for each name and one more, in a directory of the size that this one gets, and `Damaged` only where a block of the directory can't be read or one
 /// that its tree reaches isn't on the device. Memory is taken for the lists, for changed blocks, and for
 /// blocks that aren't kept.
 pub fn change<D: Device>(
@@ -75,8 +74,8 @@ pub fn change<D: Device>(
     requires room { HasRoom tree.now (length changes.now) }
     ensures planned { IfOk result (λ new. IsDirectoryPlanned (IsTrue D.tells_bytes)
         (store_of (reads (D.disk (device_of blocks.old)))) tree.now new changes.now build.old build.new) }
-    ensures full { IsTooFull result build.old
-        ((levels_of (tree.now.size + 4096 * length changes.now) + 1) * (length changes.now + 1)) }
+    ensures full { IsTooFullFor (IsTrue D.tells_bytes)
+        (store_of (reads (D.disk (device_of blocks.old)))) tree.now changes.now result build.old }
     ensures damaged { IsTrue D.tells_bytes → result ≡ Err (Tree Damaged)
         → CannotRead (D.status (device_of blocks.old)).sectors
         (store_of (reads (D.disk (device_of blocks.old)))) tree.now }
@@ -102,7 +101,9 @@ pub fn insert<D: Device>(
     ensures planned { IfOk result (λ new. IsDirectoryPlanned (IsTrue D.tells_bytes)
         (store_of (reads (D.disk (device_of blocks.old)))) tree.now new
         (record { name = name.entry; number = Some number } ∷ []) build.old build.new) }
-    ensures full { IsTooFull result build.old ((levels_of (tree.now.size + 4096) + 1) * 2) }
+    ensures full { IsTooFullFor (IsTrue D.tells_bytes)
+        (store_of (reads (D.disk (device_of blocks.old)))) tree.now
+        (record { name = name.entry; number = Some number } ∷ []) result build.old }
     ensures damaged { IsTrue D.tells_bytes → result ≡ Err (Tree Damaged)
         → CannotRead (D.status (device_of blocks.old)).sectors
         (store_of (reads (D.disk (device_of blocks.old)))) tree.now }
@@ -125,7 +126,9 @@ pub fn remove<D: Device>(
     ensures planned { IfOk result (λ new. IsDirectoryPlanned (IsTrue D.tells_bytes)
         (store_of (reads (D.disk (device_of blocks.old)))) tree.now new
         (record { name = name.entry; number = None } ∷ []) build.old build.new) }
-    ensures full { IsTooFull result build.old ((levels_of (tree.now.size + 4096) + 1) * 2) }
+    ensures full { IsTooFullFor (IsTrue D.tells_bytes)
+        (store_of (reads (D.disk (device_of blocks.old)))) tree.now
+        (record { name = name.entry; number = None } ∷ []) result build.old }
     ensures damaged { IsTrue D.tells_bytes → result ≡ Err (Tree Damaged)
         → CannotRead (D.status (device_of blocks.old)).sectors
         (store_of (reads (D.disk (device_of blocks.old)))) tree.now }

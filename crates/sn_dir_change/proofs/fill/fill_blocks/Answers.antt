@@ -16,7 +16,7 @@ loop-change-preserved c =
       room = omega (arith, c.loop-change.invariant.room, size, c.filled-block.ensures.fewer);
       filled = λ told s tree changes bound begun.
           filled_more (IsTrue told) s tree changes bound c.loop-change.count c.loop-change.dirty.items c.push_dirty.new.dirty.items before waiting c.filled-block.new.waiting.items change c.filled-block.result
-          c.in-Some.ensures.items c.filled-block.ensures.fewer c.filled-block.ensures.listed c.filled-block.ensures.from c.in_ok-push_dirty.ensures c.filled-block.ensures.spelled (c.filled-block.ensures.way changes) (c.loop-change.invariant.filled told s tree changes bound begun);
+          c.in-Some.ensures.items c.filled-block.ensures.fewer c.filled-block.ensures.listed c.filled-block.ensures.from c.filled-block.ensures.full c.filled-block.ensures.some c.in_ok-push_dirty.ensures c.filled-block.ensures.spelled (c.filled-block.ensures.way changes) (c.loop-change.invariant.filled told s tree changes bound begun);
     }
 
 pub returns : goal.returns

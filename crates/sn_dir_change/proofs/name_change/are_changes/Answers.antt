@@ -1,16 +1,12 @@
-use Rattle.std.proofs.Common.{sym, ◌∙◌, arith}
+use Rattle.std.proofs.Common.{refl, sym, ◌∙◌}
 use Rattle.std.proofs.lemmas.Bool.{true≢false}
-use Rattle.sn_dir_change.proofs.ChangeLemmas.{changes_more, changes_apart}
 use Rattle.sn_dir_change.proofs.name_change.are_changes.Goals as goal
 
-pub loop-i-preserved : goal.loop-i-preserved
-loop-i-preserved c =
-    changes_more c.args.changes.now c.loop-i.i _ (omega (arith, c.loop-i-test.true)) c.loop-i.invariant (c.is_change.ensures.0 c.if-not-is_change.false) (c.is_new.ensures.0 c.if-not-is_new.false)
+pub returns-then-not-can_each : goal.returns-then-not-can_each
+returns-then-not-can_each c = (λ no. absurd (true≢false (sym no)), λ all. absurd (true≢false (sym (c.can_each.ensures.1 all.each) ∙ c.if-not-can_each.true)))
 
-pub returns-then-not-is_new : goal.returns-then-not-is_new
-returns-then-not-is_new c = (
-  λ no. absurd (true≢false (sym no)),
-  λ all.
-      let new = c.is_new.ensures.1 (changes_apart c.args.changes.now c.loop-i.i _ (omega (arith, c.loop-i-test.true)) all) in
-      absurd (true≢false (sym new ∙ c.if-not-is_new.true)),
-)
+pub returns-then-do_rise : goal.returns-then-do_rise
+returns-then-do_rise c = (λ _. record { each = c.can_each.ensures.0 c.if-not-can_each.false; once = c.do_rise.ensures c.if-do_rise.true }, λ _. refl)
+
+pub returns : goal.returns
+returns c = (λ yes. record { each = c.can_each.ensures.0 c.if-not-can_each.false; once = c.are_apart.ensures.0 yes }, λ all. c.are_apart.ensures.1 all.once)

@@ -1,6 +1,9 @@
-use Rattle.std.proofs.Common.{◌≡◌, ◌++◌, ◌+◌, ◌<◌, ℕ, List, length, sym, ap, subst, ◌∙◌, arith, take, take_all}
+use Rattle.std.proofs.Common.{◌≡◌, ◌++◌, ◌+◌, ◌<◌, ◌≤◌, ℕ, List, length, sym, ap, subst, ◌∙◌, arith, take, take_all}
 use Rattle.std.specs.Prelude.{Contains}
+use Rattle.std.proofs.lemmas.List.{length-append}
+use Rattle.sn_layout_node.specs.Directory.{Link}
 use Rattle.sn_image.specs.Names.{names_in}
+use Rattle.sn_dir_change.specs.Changes.{link_for}
 use Rattle.sn_dir_change.specs.UnderWay.{AreFull, AreGone, IsUnderWay}
 use Rattle.sn_dir_change.specs.declared.name_change.NameChange.{NameChange as TheChange}
 use Rattle.sn_dir_change.proofs.PassLemmas.{put_one, one_fewer, rest_changes, full_put, full_more, from_put, is_listed, rest_listed}
@@ -22,6 +25,7 @@ loop-k-preserved-then-put c =
       from = from_put list k change within c.index.ensures c.args.waiting.now.items (names_in c.args.block.now) (names_in c.loop-k.block) (names_in c.put.new.block) made (c.loop-k.invariant.listed change (is_listed list k change within c.index.ensures)) c.loop-k.invariant.from;
       listed = λ x there. c.loop-k.invariant.listed x (rest_listed list k change within c.index.ensures x (subst (λ (xs : List TheChange). Contains xs x) c.remove.ensures.items there));
       fewer = omega (arith, fewer, c.loop-k.invariant.fewer);
+      more = omega (arith, c.loop-k.invariant.more, ap (λ (ls : List Link). length ls) made, length-append (names_in c.loop-k.block) (link_for change));
       same = λ same. absurd (omega (arith, same, fewer, c.loop-k.invariant.fewer));
       way = λ changes standing front back old way gone.
           let moved = put_one list k change within c.index.ensures changes standing front (names_in c.loop-k.block) (names_in c.put.new.block) back old made (c.loop-k.invariant.way changes standing front back old way gone) in
@@ -41,6 +45,7 @@ loop-k-preserved c =
       from = λ link has. c.loop-k.invariant.from link (subst (λ (b : List ℕ). Contains (names_in b) link) bytes has);
       listed = c.loop-k.invariant.listed;
       fewer = c.loop-k.invariant.fewer;
+      more = subst (λ (b : List ℕ). length (names_in c.args.block.now) ≤ length (names_in b)) (sym bytes) c.loop-k.invariant.more;
       same = λ same. let before = c.loop-k.invariant.same same in (bytes ∙ before.0, before.1);
       way = λ changes standing front back old way gone.
           subst (λ (b : List ℕ). IsUnderWay changes standing list front (front ++ names_in b ++ back) old × AreGone standing (names_in b)) (sym bytes)

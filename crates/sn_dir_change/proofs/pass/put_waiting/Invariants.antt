@@ -13,6 +13,7 @@ invariant-loop-k l = record {
   changes : AreLinkChanges l.waiting.items;
   within : l.k ≤ length l.waiting.items;
   fewer : length l.waiting.items ≤ length l.initial.waiting.items;
+  more : length (names_in l.initial.block) ≤ length (names_in l.block);
   same : length l.waiting.items ≡ length l.initial.waiting.items → (l.block ≡ l.initial.block) × (l.waiting.items ≡ l.initial.waiting.items);
   full : AreFull (take l.k l.waiting.items) (names_in l.block);
   from : (link : Link) → Contains (names_in l.block) link → IsLinkFrom l.initial.waiting.items (names_in l.initial.block) link;

@@ -1,8 +1,8 @@
-use Rattle.std.proofs.Common.{◌≡◌, IsTrue, ap}
+use Rattle.std.proofs.Common.{◌≡◌, IsTrue, ap, arith}
 use Rattle.sn_device.specs.Disk.{Disk, reads}
 use Rattle.sn_block.specs.Lending.{device_of}
 use Rattle.sn_ondisk.specs.Trees.{store_of}
-use Rattle.sn_dir_change.proofs.PlannedLemmas.{planned_result}
+use Rattle.sn_dir_change.proofs.PlannedLemmas.{begin_before, too_full, planned_result}
 use Rattle.sn_dir_change.proofs.planned.change.Goals as goal
 
 pub returns-clause-planned : goal.returns-clause-planned
@@ -13,3 +13,15 @@ returns-clause-planned g c =
     let same : Told → t ≡ s = (λ told. ap (λ (d : Disk). store_of (reads d)) (c.wanted.ensures.same told)) in
     planned_result Told s c.args.tree.now c.args.changes.now c.in_ok-dirty.dirty.size c.in_ok-dirty.dirty.keep c.in_ok-dirty.dirty.blocks.items t c.args.build.now c.plan_tree.new.build c.plan_tree.result
     c.requires.room c.in_ok-dirty.ensures.wanted same c.plan_tree.ensures.size c.plan_tree.ensures.planned
+
+pub plan_tree-requires : goal.plan_tree-requires
+plan_tree-requires g c =
+    let blocks = c.in_ok-dirty.ensures.wanted.blocks in
+    record { rise = blocks.rise; begins = begin_before c.in_ok-dirty.dirty.size c.in_ok-dirty.dirty.blocks.items blocks.before }
+
+pub returns-clause-full : goal.returns-clause-full
+returns-clause-full g c =
+    let Told = IsTrue g.D.Device.tells_bytes in
+    let s = store_of (reads (g.D.Device.disk (device_of c.args.blocks.now))) in
+    let dirty = c.in_ok-dirty.dirty in
+    too_full Told s c.args.tree.now c.args.changes.now dirty.size dirty.keep dirty.blocks.items c.plan_tree.result c.args.build.now c.in_ok-dirty.ensures.wanted c.plan_tree.ensures.full

@@ -10,7 +10,7 @@ fill_blocks-requires-clause-room g c =
     let s = store_of (reads (g.D.Device.disk (device_of c.args.blocks.now))) in
     let bound = length c.in_ok-pending.pending.standing.items + length c.in_ok-pending.pending.waiting.items in
     let ready = ready_to_fill (IsTrue g.D.Device.tells_bytes) s _ c.args.tree.now c.args.changes.now _ _ _ _ bound c.in_ok-dirty.dirty.items _ c.block_count-keep.ensures.value
-    (λ told. ap (λ (d : Disk). store_of (reads d)) (c.parted.ensures.same told)) (omega arith) c.in_ok-pending.ensures.way (c.in_ok-dirty.ensures.through c.args.changes.now bound) in
+    (λ told. ap (λ (d : Disk). store_of (reads d)) (c.parted.ensures.same told)) (omega arith) c.in_ok-pending.ensures.puts c.in_ok-pending.ensures.way (c.in_ok-dirty.ensures.through c.args.changes.now bound) in
     omega (arith, ready.few, c.in_ok-pending.ensures.few, c.block_count-keep.ensures.value, c.requires.room.most)
 
 pub overflow_mul-result : goal.overflow_mul-result
@@ -18,7 +18,7 @@ overflow_mul-result g c =
     let s = store_of (reads (g.D.Device.disk (device_of c.args.blocks.now))) in
     let bound = length c.in_ok-pending.pending.standing.items + length c.in_ok-pending.pending.waiting.items in
     let ready = ready_to_fill (IsTrue g.D.Device.tells_bytes) s _ c.args.tree.now c.args.changes.now _ _ _ _ bound c.in_ok-dirty.dirty.items _ c.block_count-keep.ensures.value
-    (λ told. ap (λ (d : Disk). store_of (reads d)) (c.parted.ensures.same told)) (omega arith) c.in_ok-pending.ensures.way (c.in_ok-dirty.ensures.through c.args.changes.now bound) in
+    (λ told. ap (λ (d : Disk). store_of (reads d)) (c.parted.ensures.same told)) (omega arith) c.in_ok-pending.ensures.puts c.in_ok-pending.ensures.way (c.in_ok-dirty.ensures.through c.args.changes.now bound) in
     let filled = c.in_ok-count.ensures.filled g.D.Device.tells_bytes s c.args.tree.now c.args.changes.now bound ready in
     omega (arith, filled.few, filled.most, c.in_ok-pending.ensures.few, c.requires.room.most)
 
@@ -27,7 +27,7 @@ returns-clause-wanted g c =
     let s = store_of (reads (g.D.Device.disk (device_of c.args.blocks.now))) in
     let bound = length c.in_ok-pending.pending.standing.items + length c.in_ok-pending.pending.waiting.items in
     let ready = ready_to_fill (IsTrue g.D.Device.tells_bytes) s _ c.args.tree.now c.args.changes.now _ _ _ _ bound c.in_ok-dirty.dirty.items _ c.block_count-keep.ensures.value
-    (λ told. ap (λ (d : Disk). store_of (reads d)) (c.parted.ensures.same told)) (omega arith) c.in_ok-pending.ensures.way (c.in_ok-dirty.ensures.through c.args.changes.now bound) in
+    (λ told. ap (λ (d : Disk). store_of (reads d)) (c.parted.ensures.same told)) (omega arith) c.in_ok-pending.ensures.puts c.in_ok-pending.ensures.way (c.in_ok-dirty.ensures.through c.args.changes.now bound) in
     wanted_is (IsTrue g.D.Device.tells_bytes) s c.args.tree.now c.args.changes.now bound c.block_count-keep.result c.in_ok-count.count c.fill_blocks.new.dirty.items c.requires.room
     c.in_ok-pending.ensures.few c.in_ok-pending.ensures.needed c.block_count-keep.ensures.value
     (c.in_ok-count.ensures.filled g.D.Device.tells_bytes s c.args.tree.now c.args.changes.now bound ready)

@@ -1,11 +1,11 @@
-use Rattle.std.proofs.Common.{◌≡◌, ◌++◌, ◌∷◌, [], false, List, sym, subst, ◌∙◌}
+use Rattle.std.proofs.Common.{◌≡◌, ◌++◌, ◌∷◌, [], false, not, List, sym, ap, subst, ◌∙◌}
 use Rattle.std.specs.Prelude.{is_some}
 use Rattle.sn_block.proofs.EffectLemmas.{OnOk-then}
 use Rattle.sn_layout_node.specs.Directory.{number_of}
-use Rattle.sn_dir_change.specs.Changes.{AreLinkChanges}
+use Rattle.sn_dir_change.specs.Changes.{AreLinkChanges, ArePuts}
 use Rattle.sn_dir_change.specs.UnderWay.{AreParted}
 use Rattle.sn_dir_change.specs.declared.name_change.NameChange.{NameChange as TheChange}
-use Rattle.sn_dir_change.proofs.PartLemmas.{parted_stands, parted_waits, parted_nothing, link_change_more}
+use Rattle.sn_dir_change.proofs.PartLemmas.{parted_stands, parted_waits, parted_nothing, link_change_more, puts_more}
 use Rattle.sn_dir_change.proofs.PassLemmas.{is_none}
 use Rattle.sn_dir_change.proofs.pending.Pending.add.Goals as goal
 
@@ -35,4 +35,12 @@ returns-clause-parted c = λ names taken stands parted. OnOk-then c.note-2.resul
 pub returns-clause-waiting : goal.returns-clause-waiting
 returns-clause-waiting c = λ all. OnOk-then c.note-2.result
     (λ made. subst AreLinkChanges (sym made) (link_change_more c.args.self.now.waiting.items c.args.change.now all c.requires))
+    c.note-2.ensures
+
+pub returns-then-stands-clause-puts : goal.returns-then-stands-clause-puts
+returns-then-stands-clause-puts c = λ all. OnOk-then c.note.result (λ made. all) c.note.ensures
+
+pub returns-clause-puts : goal.returns-clause-puts
+returns-clause-puts c = λ all. OnOk-then c.note-2.result
+    (λ made. subst ArePuts (sym made) (puts_more c.args.self.now.waiting.items c.args.change.now all (c.is_none.ensures ∙ ap not c.if-is_none.false)))
     c.note-2.ensures

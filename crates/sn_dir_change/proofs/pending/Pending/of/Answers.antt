@@ -1,18 +1,19 @@
 use Rattle.std.proofs.Common.{◌≡◌, ◌+◌, ◌<◌, ◌≤◌, List, length, take, take_all, sym, ap, subst, arith}
 use Rattle.std.proofs.lemmas.List.{length-map}
 use Rattle.sn_dir_change.specs.Changes.{needed_changes}
-use Rattle.sn_dir_change.specs.Standing.{seen}
+use Rattle.sn_dir_change.specs.Standing.{change_of, seen}
 use Rattle.sn_dir_change.specs.UnderWay.{AreParted}
 use Rattle.sn_dir_change.specs.declared.name_change.NameChange.{NameChange as TheChange}
 use Rattle.sn_dir_change.specs.declared.standing.Sought.{Sought}
-use Rattle.sn_dir_change.proofs.PartLemmas.{change_there, sought_more, sought_stands, needed_more}
+use Rattle.sn_tree.proofs.ListLemmas.{mapped_at}
+use Rattle.sn_dir_change.proofs.PartLemmas.{sought_more, sought_stands, needed_more}
 use Rattle.sn_dir_change.proofs.pending.Pending.of.Goals as goal
 
 pub add-requires : goal.add-requires
 add-requires c =
     let i = c.loop-sought.sought-index in
     let list = c.args.list.now in
-    c.requires _ (change_there list i _ (omega (arith, c.loop-sought-test.true)))
+    c.requires _ (mapped_at change_of list i _ (omega (arith, c.loop-sought-test.true)))
 
 pub loop-sought-preserved : goal.loop-sought-preserved
 loop-sought-preserved c =
@@ -27,6 +28,7 @@ loop-sought-preserved c =
           (needed_more names (take i changes) _ _ _ _ (sought_stands names changes list all i _ within) (c.loop-sought.invariant.needed names changes all) c.in_ok-add.ensures.needed);
       standing = c.in_ok-add.ensures.standing c.loop-sought.invariant.standing;
       waiting = c.in_ok-add.ensures.waiting c.loop-sought.invariant.waiting;
+      puts = c.in_ok-add.ensures.puts c.loop-sought.invariant.puts;
       parted = λ names changes all. subst (λ (xs : List TheChange). AreParted names xs new.standing.items new.waiting.items) (sym (sought_more names changes list all i _ within))
           (c.in_ok-add.ensures.parted names (take i changes) (sought_stands names changes list all i _ within) (c.loop-sought.invariant.parted names changes all));
     }
