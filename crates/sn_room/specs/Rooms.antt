@@ -1,0 +1,70 @@
+-- Room: what calls are charged against the free blocks.
+use Rattle.std.specs.Prelude.{ℕ, ◌+◌, ◌*◌, ◌≤◌, Bool, true, false, nat_le, if◌then◌else◌}
+use Rattle.sn_limits.specs.declared.limits.Limits.{Limits}
+use Rattle.sn_model.specs.declared.change.Change.{Change}
+use Rattle.sn_model.specs.declared.change.Change.TheVariants.{Make, AddLink, Remove, Rename, Write, SetSize, SetAttributes}
+use Rattle.sn_model.specs.declared.outcome.Outcome.{Outcome}
+use Rattle.sn_model.specs.declared.outcome.Pending.{Pending}
+use Rattle.sn_model.specs.declared.outcome.Pending.TheVariants.{Nothing, Makes, Does}
+
+pub record RoomCounts : Type 0 where
+  -- the data blocks that no durable root reaches
+  pub free : ℕ
+  -- the charges of the calls that were logged since the durable root's moment, and of those since the point in progress began
+  pub charged : ℕ
+  pub charged_since : ℕ
+  -- the files that a close or a logout dropped, likewise
+  pub dropped : ℕ
+  pub dropped_since : ℕ
+
+-- what came since the point is among what came since the root
+pub record IsRoom (room : RoomCounts) : Type 0 where
+  pub charges : room.charged_since ≤ room.charged
+  pub drops : room.dropped_since ≤ room.dropped
+
+-- the files without names that are live, so many, or were dropped since the durable root's moment
+abbrev pub parked : RoomCounts → ℕ → ℕ
+parked room nameless = nameless + room.dropped
+
+-- the changes that go without the reserve
+abbrev pub removes : Change → Bool
+removes (Make directory name number kind o) = false
+removes (AddLink directory name number) = false
+removes (Remove directory name) = true
+removes (Rename old_directory old_name new_directory new_name) = false
+removes (Write number offset bytes) = false
+removes (SetSize number size) = false
+removes (SetAttributes number o) = false
+
+abbrev pub gives_back : Pending → Bool
+gives_back Nothing = false
+gives_back (Makes directory name kind o) = false
+gives_back (Does change) = removes change
+
+-- what is charged once the call is logged, with an inode's charge for each parked file
+abbrev pub charged_behind : Limits → RoomCounts → ℕ → Outcome → ℕ
+charged_behind limits room nameless o = room.charged + o.charge + limits.inode_charge * parked room nameless
+
+-- a call fits that comes to this, where so many live files have no name
+abbrev pub fits : Limits → RoomCounts → ℕ → Outcome → Bool
+fits limits room nameless o = nat_le (charged_behind limits room nameless o + (if gives_back o.change then 0 else limits.reserve)) room.free
+
+-- ---- how it changes
+
+abbrev pub logged : ℕ → RoomCounts → RoomCounts
+logged charge room = record room { charged = room.charged + charge; charged_since = room.charged_since + charge }
+
+abbrev pub dropping : RoomCounts → RoomCounts
+dropping room = record room { dropped = room.dropped + 1; dropped_since = room.dropped_since + 1 }
+
+-- a point begins
+abbrev pub begun : RoomCounts → RoomCounts
+begun room = record room { charged_since = 0; dropped_since = 0 }
+
+-- its root is durable, and leaves so many blocks free
+abbrev pub done : ℕ → RoomCounts → RoomCounts
+done free room = record room { free = free; charged = room.charged_since; dropped = room.dropped_since }
+
+-- nothing is charged against so many blocks
+abbrev pub fresh : ℕ → RoomCounts
+fresh free = record { free = free; charged = 0; charged_since = 0; dropped = 0; dropped_since = 0 }

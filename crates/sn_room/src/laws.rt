@@ -1,0 +1,12 @@
+//! The laws that the definitions of `specs/` keep.
+ghost use Rattle.sn_room.specs.Laws.{CallsThatFitArePaid, PointsBeginAnew};
+
+/// A call that fits leaves its charge, and one for each parked file, within what is free.
+pub fn calls_that_fit_are_paid()
+    ensures { CallsThatFitArePaid }
+{}
+
+/// Behind a whole point nothing is charged, and no dropped file is parked.
+pub fn points_begin_anew()
+    ensures { PointsBeginAnew }
+{}

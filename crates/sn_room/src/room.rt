@@ -1,0 +1,111 @@
+//! What is kept of room.
+ghost use Rattle.std.specs.Prelude.{◌≡◌, ◌+◌, ◌<◌, ◌≤◌, ◌^◌};
+ghost use Rattle.sn_room.specs.Rooms.{begun, done, dropping, fits, fresh, gives_back, logged};
+
+use sn_limits::Limits;
+use sn_model::{Change, Outcome, Pending};
+use std::marker::Model;
+
+/// The free blocks of the durable root, and what calls have been charged against them since its moment.
+#[derive(Drop)]
+pub struct Room {
+    free: u32,
+    charged: u64,
+    charged_since: u64,
+    dropped: u64,
+    dropped_since: u64,
+}
+
+impl Model for Room {
+    ghost use Rattle.sn_room.specs.Rooms.{RoomCounts, IsRoom};
+
+    ghost Value = { RoomCounts };
+
+    ghost use Rattle.sn_room.specs.Room.{room_of};
+
+    ghost view = { room_of };
+
+    ghost invariant = { λ r. IsRoom (room_of r) };
+}
+
+/// Whether a change gives blocks back, so that it may use the reserve: whoever has filled a disk can still remove.
+fn gives_back(change: &Pending<'_>) -> bool
+    ensures { result ≡ gives_back change.now }
+{
+    match change {
+        Pending::Does(Change::Remove { .. }) => true,
+        _ => false,
+    }
+}
+
+impl Room {
+    /// So many data blocks are free, and nothing is charged: behind a format, a recovery, or a mount that needed none.
+    pub fn fresh(free: u32) -> Room
+        ensures { result ≡ fresh free }
+    {
+        Room {
+            free,
+            charged: 0,
+            charged_since: 0,
+            dropped: 0,
+            dropped_since: 0,
+        }
+    }
+
+    /// The data blocks that no durable root reaches.
+    pub fn free(&self) -> u32
+        ensures { result ≡ self.now.free }
+    {
+        self.free
+    }
+
+    /// Whether a call fits that comes to this, where so many live files have no name.
+    pub fn fits(&self, limits: &Limits, nameless: u32, outcome: &Outcome<'_>) -> bool
+        ensures { result ≡ fits limits.now self.now nameless outcome.now }
+    {
+        let parked = u128::from(nameless) + u128::from(self.dropped);
+        let reserve = if gives_back(&outcome.change) {
+            0
+        } else {
+            limits.reserve
+        };
+        let charges = u128::from(self.charged) + u128::from(outcome.charge);
+        charges + u128::from(limits.inode_charge) * parked + u128::from(reserve)
+            <= u128::from(self.free)
+    }
+
+    /// A call was logged, and is charged.
+    pub fn log(&mut self, charge: u64)
+        requires { self.old.charged + charge < 2 ^ 64 }
+        ensures { self.new ≡ logged charge self.old }
+    {
+        self.charged += charge;
+        self.charged_since += charge;
+    }
+
+    /// A close or a logout dropped a file that no name stood for.
+    pub fn drop_file(&mut self)
+        requires { self.old.dropped + 1 < 2 ^ 64 }
+        ensures { self.new ≡ dropping self.old }
+    {
+        self.dropped += 1;
+        self.dropped_since += 1;
+    }
+
+    /// A consistency point begins.
+    pub fn begin_point(&mut self)
+        ensures { self.new ≡ begun self.old }
+    {
+        self.charged_since = 0;
+        self.dropped_since = 0;
+    }
+
+    /// The root of the consistency point is durable, and leaves so many data blocks free.
+    pub fn end_point(&mut self, free: u32)
+        ensures { self.new ≡ done free self.old }
+    {
+        self.free = free;
+        self.charged = self.charged_since;
+        self.dropped = self.dropped_since;
+    }
+}
