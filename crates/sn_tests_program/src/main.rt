@@ -1,27 +1,43 @@
-//! The tests of the program: `sn_program::program` on the examples of the repository, on rows of calls with their
-//! replies, on words of the command line, and on outputs that take nothing.
+//! The tests of the program and of runs: `sn_program::program` on the examples of the repository, on rows of calls with
+//! their replies, on words of the command line, and on outputs that take nothing; and `sn_run::run` on lists of events
+//! with restarts among them.
 //!
-//! It runs in the folder `data/`, where `examples` is a copy of the repository's folder of that name. Each part prints what
-//! isn't as the files there say, and how many cases it had; the status is 1 where one was wrong.
+//! It runs in the folder `data/`, where `examples` is a copy of the repository's folder of that name. Each part prints
+//! what isn't as the files there say, and how many cases it had; the status is 1 where one was wrong. `runs.txt` is one
+//! run on a new disk, an event a line with its reply. `refused` makes a run with each call of the device refused in
+//! turn, and looks at what it answers from then on.
 #![tactic(auto)]
 
 mod ended;
+mod events;
 mod examples;
 mod faults;
 mod files;
+mod refused;
 mod rows;
 mod words;
 
-use std::io;
-use std::process::ExitCode;
+use anyhow::{Result, ensure};
+use sn_table::Report;
 
-fn main(rt: HostRuntime) -> io::Result<ExitCode> {
-    let wrong = [
-        examples::run_all(&rt)?,
-        rows::run_all(&rt)?,
-        words::run_all(&rt)?,
-        faults::run_all(&rt)?,
-    ];
-    let is_well = wrong.iter().all(|count| *count == 0);
-    Ok(ExitCode::from(if is_well { 0 } else { 1 }))
+/// How many cases of the program were wrong.
+fn wrong_in_program(rt: &HostRuntime) -> std::io::Result<u64> {
+    let examples = examples::run_all(rt)?;
+    let rows = rows::run_all(rt)?;
+    let words = words::run_all(rt)?;
+    let faults = faults::run_all(rt)?;
+    Ok(examples
+        .saturating_add(rows)
+        .saturating_add(words)
+        .saturating_add(faults))
+}
+
+fn main(rt: HostRuntime) -> Result<()> {
+    let wrong = wrong_in_program(&rt)?;
+    let mut report = Report::new(&rt)?;
+    report.script("runs.txt", events::replies)?;
+    refused::run(&mut report)?;
+    report.end()?;
+    ensure!(wrong == 0, "cases of the program were wrong");
+    Ok(())
 }
