@@ -1,3 +1,2 @@
 pub mod RecoveryLemmas
-pub mod MomentLemmas
-pub mod SpelledLemmas
+pub use Rattle.sn_opening.proofs.SpelledLemmas

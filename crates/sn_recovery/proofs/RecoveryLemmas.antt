@@ -6,7 +6,6 @@ use Rattle.sn_device.specs.Crash.{LeavesOnly}
 use Rattle.sn_device.proofs.CrashLemmas.{LeavesOnly-weaker}
 use Rattle.sn_limits.specs.declared.limits.Limits.{Limits}
 use Rattle.sn_model.specs.declared.change.Change.{Change}
-use Rattle.sn_model.specs.Chains.{◌>>=◌}
 use Rattle.sn_model.specs.Tree.{Tree}
 use Rattle.sn_model.specs.World.{World}
 use Rattle.sn_model.specs.Changes.{apply, apply_all}
@@ -14,34 +13,19 @@ use Rattle.sn_model.specs.Covers.{Covers}
 use Rattle.sn_model.specs.Settling.{settle, settled, without_nameless}
 use Rattle.sn_model.specs.Steps.{with_live}
 use Rattle.sn_model.proofs.ChainLemmas.{some_same}
-use Rattle.sn_model.proofs.ListLemmas.{lists_join, covers_itself}
-use Rattle.sn_model.proofs.CoversLemmas.{change_kept}
+use Rattle.sn_model.proofs.ListLemmas.{covers_itself}
 use Rattle.sn_model.proofs.SettlingLemmas.{settle_alike, dropping_kept}
-use Rattle.sn_record.specs.Payload.{IsSpelled, payload_bytes}
-use Rattle.sn_record.proofs.OneSpelling.{one_spelling}
+use Rattle.sn_record.specs.Payload.{IsSpelled}
 use Rattle.sn_ondisk.specs.Gates.{IsClosed}
 use Rattle.sn_ondisk.specs.OneAnswer.{IsOnDisk}
 use Rattle.sn_ondisk.proofs.OneLemmas.{ready_replays, replay_is_one}
 use Rattle.sn_log.specs.Places.{LogPosition, IsReadyAt, base_at, behind, payloads_of}
+use Rattle.sn_opening.specs.Covering.{MakesCover}
+use Rattle.sn_opening.proofs.CoveringLemmas.{one_more_covers}
+pub use Rattle.sn_opening.proofs.CoveringLemmas.{applied_one}
+pub use Rattle.sn_opening.proofs.SpelledLemmas.{spelled_once, spelled_more}
 use Rattle.sn_recovery.specs.Opens.{AreSpelled, Opens, Keeps}
 use Rattle.sn_recovery.specs.Laws.{OpensAt, ReplaysUpTo, settled_at}
-
-same_head : {A : Type 0} (a b : A) (xs ys : List A) → a ∷ xs ≡ b ∷ ys → (a ≡ b) × (xs ≡ ys)
-same_head a b xs ys e = (cc, cc)
-
-none_is_one : {A : Type 0} (a : A) (xs : List A) → a ∷ xs ≡ [] → ⊥
-none_is_one a xs e = cc
-
--- payloads spell one list of changes
-pub spelled_once : (cs ds : List Change) → AreSpelled cs → AreSpelled ds → payloads_of cs ≡ payloads_of ds → cs ≡ ds
-spelled_once [] [] fits-c fits-d e = refl
-spelled_once [] (d ∷ ds) fits-c fits-d e = absurd (none_is_one (payload_bytes d) (payloads_of ds) (sym e))
-spelled_once (c ∷ cs) [] fits-c fits-d e = absurd (none_is_one (payload_bytes c) (payloads_of cs) e)
-spelled_once (c ∷ cs) (d ∷ ds) fits-c fits-d e =
-    let parts = same_head (payload_bytes c) (payload_bytes d) (payloads_of cs) (payloads_of ds) e in
-    let first = one_spelling c d fits-c.0 fits-d.0 parts.0 in
-    let rest = spelled_once cs ds fits-c.1 fits-d.1 parts.1 in
-    ap (λ x. x ∷ cs) first ∙ ap (λ xs. d ∷ xs) rest
 
 pub opens_to_one : (limits : Limits) (c : Contents) (base epoch : ℕ) (root world other : World) → IsOnDisk c base
     → Opens limits c base epoch root world → Opens limits c base epoch root other → world ≡ other
@@ -75,30 +59,9 @@ kept_opens limits d at changes root live k c crash =
 
 -- ---- one change more
 
-pub spelled_more : (cs : List Change) (change : Change) → AreSpelled cs → IsSpelled change → AreSpelled (cs ++ change ∷ [])
-spelled_more [] change fits fit = (fit, tt)
-spelled_more (c ∷ cs) change fits fit = (fits.0, spelled_more cs change fits.1 fit)
-
--- the tree that replay makes with one change more
-record More (limits : Limits) (changes : List Change) (change : Change) (root after : Tree) : Type 0 where
-  tree : Tree
-  applied : apply_all limits (changes ++ change ∷ []) root ≡ Some tree
-  covers : Covers tree after
-
-pub applied_one : (limits : Limits) (change : Change) (tree after : Tree) → apply limits change tree ≡ Some after → apply_all limits (change ∷ []) tree ≡ Some after
-unfolding apply_all
-applied_one limits change tree after e = ap (λ o. o >>= (λ t. Some t)) e
-
-one_more : (limits : Limits) (changes : List Change) (change : Change) (root tree live after : Tree)
-    → apply_all limits changes root ≡ Some tree → Covers tree live → apply limits change live ≡ Some after
-    → More limits changes change root after
-one_more limits changes change root tree live after applied covers e =
-    let more = change_kept limits change tree live after covers e in
-    record {
-      tree = more.0;
-      applied = lists_join limits changes (change ∷ []) root ∙ ap (λ o. o >>= apply_all limits (change ∷ [])) applied ∙ applied_one limits change tree more.0 more.1;
-      covers = more.2;
-    }
+-- the changes that are kept cover the live tree
+kept_cover : (limits : Limits) (d : Disk) (at : LogPosition) (changes : List Change) (root live : Tree) → Keeps limits d at changes root live → MakesCover limits changes root live
+kept_cover limits d at changes root live k = record { tree = k.tree; applied = k.applied; covers = k.covers }
 
 pub append_opens : (limits : Limits) (old new : Disk) (at : LogPosition) (changes : List Change) (change : Change) (root : World) (live after : Tree)
     → Keeps limits old at changes root.live live
@@ -106,12 +69,12 @@ pub append_opens : (limits : Limits) (old new : Disk) (at : LogPosition) (change
     → LeavesOnly old new (λ c. IsReadyAt at changes c ⊎ IsReadyAt (behind at change) (changes ++ change ∷ []) c)
     → LeavesOnly old new (λ c. OpensAt limits c at root (settled_at root live) ⊎ OpensAt limits c at root (settled_at root after))
 append_opens limits old new at changes change root live after k fits e leaves =
-    let more = one_more limits changes change root.live k.tree live after k.applied k.covers e in
+    let more = one_more_covers limits changes change root.live live after (kept_cover limits old at changes root.live live k) e in
     LeavesOnly-weaker old new (λ c. IsReadyAt at changes c ⊎ IsReadyAt (behind at change) (changes ++ change ∷ []) c)
     (λ c. OpensAt limits c at root (settled_at root live) ⊎ OpensAt limits c at root (settled_at root after))
     (λ c. either c more) leaves
   where
-    either : (c : Contents) → More limits changes change root.live after
+    either : (c : Contents) → MakesCover limits (changes ++ change ∷ []) root.live after
         → IsReadyAt at changes c ⊎ IsReadyAt (behind at change) (changes ++ change ∷ []) c
         → OpensAt limits c at root (settled_at root live) ⊎ OpensAt limits c at root (settled_at root after)
     either c more (inl ready) = inl (ready_opens limits c at changes root k.tree live k.spelled k.applied k.covers ready)
@@ -123,7 +86,7 @@ pub append_keeps : (limits : Limits) (old new : Disk) (at : LogPosition) (change
     → Always new (IsReadyAt (behind at change) (changes ++ change ∷ []))
     → Keeps limits new (behind at change) (changes ++ change ∷ []) root after
 append_keeps limits old new at changes change root live after k fits e ready =
-    let more = one_more limits changes change root k.tree live after k.applied k.covers e in
+    let more = one_more_covers limits changes change root live after (kept_cover limits old at changes root live k) e in
     record {
       spelled = spelled_more changes change k.spelled fits;
       ready = ready;

@@ -1,12 +1,12 @@
--- What the disk of a mount opens to in the course of events, whatever a crash leaves of it.
-use Rattle.std.specs.Prelude.{◌≡◌, ◌⊎◌, ℕ, List, [], ◌∷◌}
+-- What the disk of a mount opens to in the course of events, on the ground of one root.
+use Rattle.std.specs.Prelude.{ℕ, List}
 use Rattle.sn_device.specs.Sectors.{Contents}
-use Rattle.sn_device.specs.Disk.{Disk, Always}
-use Rattle.sn_device.specs.Crash.{LeavesOnly}
+use Rattle.sn_device.specs.Disk.{Disk}
 use Rattle.sn_limits.specs.declared.limits.Limits.{Limits}
-use Rattle.sn_model.specs.Machine.{State, Running, Stopped}
-use Rattle.sn_model.specs.Settling.{settle}
+use Rattle.sn_model.specs.Machine.{State}
 use Rattle.sn_model.specs.World.{World}
+use Rattle.sn_opening.specs.Moments as moments
+pub use Rattle.sn_opening.specs.Moments.{last_state}
 use Rattle.sn_recovery.specs.Opens.{Opens}
 
 -- on a disk whose newest root has this epoch and this world, and whose half of that epoch begins at this sector
@@ -19,27 +19,18 @@ pub record Ground : Type 0 where
 abbrev pub OpensOn : Ground → Contents → World → Type 0
 OpensOn g c world = Opens g.limits c g.base g.epoch g.root world
 
--- Of a mount that runs, the contents open to its settled world; of one that a failure has stopped, to one of the two worlds that it left.
+-- the contents open to what this state leaves
 abbrev pub ShowsState : Ground → State → Contents → Type 0
-ShowsState g (Running w) c = OpensOn g c (settle w)
-ShowsState g (Stopped before after) c = OpensOn g c before ⊎ OpensOn g c after
+ShowsState g = moments.ShowsState (OpensOn g)
 
 -- they open to one of these states
 abbrev pub ShowsOne : Ground → List State → Contents → Type 0
-ShowsOne g [] c = ⊥
-ShowsOne g (s ∷ states) c = ShowsState g s c ⊎ ShowsOne g states c
+ShowsOne g = moments.ShowsOne (OpensOn g)
 
--- the last state, where the first one was `s`
-abbrev pub last_state : State → List State → State
-last_state s [] = s
-last_state s (next ∷ states) = last_state next states
-
--- An event leads from a state to the next: a crash at any moment of its course leaves one of the two, and once it is answered the next alone.
-pub record LastsOver (g : Ground) (s next : State) (old new : Disk) : Type 0 where
-  pub moments : LeavesOnly old new (λ c. ShowsState g s c ⊎ ShowsState g next c)
-  pub answered : Always new (λ c. ShowsState g next c)
+-- An event leads from a state to the next, and a crash leaves one of the two.
+abbrev pub LastsOver : Ground → State → State → Disk → Disk → Type 0
+LastsOver g = moments.LastsOver (OpensOn g)
 
 -- Events, one after the other, lead to these states so.
 abbrev pub RunsOver : Ground → State → Disk → List State → Disk → Type 0
-RunsOver g s d [] end = end ≡ d
-RunsOver g s d (next ∷ states) end = (mid : Disk) × LastsOver g s next d mid × RunsOver g next mid states end
+RunsOver g = moments.RunsOver (OpensOn g)

@@ -1,6 +1,5 @@
 -- What the contents of a disk open to, and what a mount that runs knows of that.
 use Rattle.std.specs.Prelude.{◌≡◌, ℕ, List, Some}
-use Rattle.std.specs.List.{AllByRecursion}
 use Rattle.sn_device.specs.Sectors.{Contents}
 use Rattle.sn_device.specs.Disk.{Disk, Always}
 use Rattle.sn_limits.specs.declared.limits.Limits.{Limits}
@@ -11,13 +10,9 @@ use Rattle.sn_model.specs.Changes.{apply_all}
 use Rattle.sn_model.specs.Covers.{Covers}
 use Rattle.sn_model.specs.Settling.{settle}
 use Rattle.sn_model.specs.Steps.{with_live}
-use Rattle.sn_record.specs.Payload.{IsSpelled}
 use Rattle.sn_ondisk.specs.LogHalf.{Replays as ReplaysPayloads}
 use Rattle.sn_log.specs.Places.{LogPosition, IsReadyAt, payloads_of}
-
--- changes that have payloads
-abbrev pub AreSpelled : List Change → Type 0
-AreSpelled = AllByRecursion IsSpelled
+pub use Rattle.sn_opening.specs.Spelled.{AreSpelled}
 
 -- Replay of the epoch finds these changes, in their order.
 pub record Replays (c : Contents) (base epoch : ℕ) (changes : List Change) : Type 0 where

@@ -1,5 +1,5 @@
--- A change that can be applied has a record.
-use Rattle.std.proofs.Common.{◌≡◌, ℕ, ◌+◌, ◌<◌, ◌≤◌, ◌^◌, ◌&&◌, ◌||◌, ◌==◌, true, not, List, Option, Some, None, is_none, is_some, length, nat_lt, nat_le, refl, inl, inr, arith}
+-- Changes and their records: payloads spell one list of changes, and a change that can be applied has a payload.
+use Rattle.std.proofs.Common.{◌≡◌, ℕ, ◌+◌, ◌<◌, ◌≤◌, ◌^◌, ◌&&◌, ◌||◌, ◌==◌, true, not, List, [], ◌∷◌, ◌++◌, Option, Some, None, is_none, is_some, length, nat_lt, nat_le, refl, sym, ap, ◌∙◌, inl, inr, arith}
 use Rattle.std.specs.FinMap as map
 use Rattle.std.specs.List.{list_all}
 use Rattle.std.proofs.lemmas.Bool.{ltb-true, leb-true}
@@ -23,7 +23,35 @@ use Rattle.sn_model.proofs.MoveLemmas.{some_node}
 use Rattle.sn_model.proofs.OutcomeLemmas.{IsOfOld}
 use Rattle.sn_model.proofs.PartLemmas.{IsRenamed, cut_is, directory_is, file_is, linked_is, made_is, owned_is, removed_is, renamed_is, written_is}
 use Rattle.sn_layout_acl.specs.AclBlock.{IsDefault}
-use Rattle.sn_record.specs.Payload.{IsOwnership, IsSpelled}
+use Rattle.sn_record.specs.Payload.{IsOwnership, IsSpelled, payload_bytes}
+use Rattle.sn_record.proofs.OneSpelling.{one_spelling}
+use Rattle.sn_log.specs.Places.{payloads_of}
+use Rattle.sn_opening.specs.Spelled.{AreSpelled}
+
+-- ---- lists of changes
+
+same_head : {A : Type 0} (a b : A) (xs ys : List A) → a ∷ xs ≡ b ∷ ys → (a ≡ b) × (xs ≡ ys)
+same_head a b xs ys e = (cc, cc)
+
+none_is_one : {A : Type 0} (a : A) (xs : List A) → a ∷ xs ≡ [] → ⊥
+none_is_one a xs e = cc
+
+-- payloads spell one list of changes
+pub spelled_once : (cs ds : List Change) → AreSpelled cs → AreSpelled ds → payloads_of cs ≡ payloads_of ds → cs ≡ ds
+spelled_once [] [] fits-c fits-d e = refl
+spelled_once [] (d ∷ ds) fits-c fits-d e = absurd (none_is_one (payload_bytes d) (payloads_of ds) (sym e))
+spelled_once (c ∷ cs) [] fits-c fits-d e = absurd (none_is_one (payload_bytes c) (payloads_of cs) e)
+spelled_once (c ∷ cs) (d ∷ ds) fits-c fits-d e =
+    let parts = same_head (payload_bytes c) (payload_bytes d) (payloads_of cs) (payloads_of ds) e in
+    let first = one_spelling c d fits-c.0 fits-d.0 parts.0 in
+    let rest = spelled_once cs ds fits-c.1 fits-d.1 parts.1 in
+    ap (λ x. x ∷ cs) first ∙ ap (λ xs. d ∷ xs) rest
+
+pub spelled_more : (cs : List Change) (change : Change) → AreSpelled cs → IsSpelled change → AreSpelled (cs ++ change ∷ [])
+spelled_more [] change fits fit = (fit, tt)
+spelled_more (c ∷ cs) change fits fit = (fits.0, spelled_more cs change fits.1 fit)
+
+-- ---- changes that can be applied
 
 default_is : (kind : Kind) (acl : Option (List Entry)) → is_default_acl kind acl ≡ true → IsDefault acl
 default_is kind None e = tt

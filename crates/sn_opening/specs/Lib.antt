@@ -1,0 +1,10 @@
+pub mod Spelled
+pub mod Worlds
+pub mod Covering
+pub mod Opens
+pub mod Points
+pub mod Moments
+pub mod Grounds
+pub mod Laws
+pub mod LogLaws
+pub mod PointLaws
