@@ -30,7 +30,7 @@ any_from {A} p (y ∷ ys) t = told (p y) refl t (λ h. any_from p ys h)
     told true e h rest = (y, (zero, omega arith, refl), e)
     told false e h rest = let w = rest h in (w.0, (suc w.1.0, omega (arith, w.1.1), w.1.2), w.2)
 
-same_count : (p q : ℕ → Bool) (xs : List ℕ) → ((x : ℕ) → Contains xs x → p x ≡ q x) → count_by p xs ≡ count_by q xs
+pub same_count : (p q : ℕ → Bool) (xs : List ℕ) → ((x : ℕ) → Contains xs x → p x ≡ q x) → count_by p xs ≡ count_by q xs
 same_count p q [] each = refl
 same_count p q (x ∷ xs) each = omega (
   arith,

@@ -1,23 +1,32 @@
 -- A root that stands is sound in whatever a crash leaves.
-use Rattle.std.proofs.Common.{◌≡◌, ◌⊎◌, inl, inr, ⊎_elim, ℕ, zero, suc, List, [], ◌∷◌, map, flat_map, Contains, slice_index, refl, sym, subst, arith}
+use Rattle.std.proofs.Common.{◌≡◌, ◌⊎◌, inl, inr, ⊎_elim, ℕ, zero, suc, ◌-◌, ◌==◌, List, [], ◌∷◌, ◌++◌, map, flat_map, Contains, slice_index, refl, sym, ap, subst, ◌∙◌, arith}
+use Rattle.std.specs.List.{range_with_len}
 use Rattle.std.proofs.lemmas.List.Elements.{Contains-append_left, Contains-append_right, Contains-append_cases}
-use Rattle.sn_device.specs.Disk.{Disk, Always}
+use Rattle.sn_device.specs.Sectors.{Contents}
+use Rattle.sn_device.specs.Disk.{Disk, Always, CrashNow}
 use Rattle.sn_layout.specs.declared.places.Area.TheVariants.{Data}
 use Rattle.sn_layout.specs.declared.places.Slot.{Slot}
 use Rattle.sn_layout.specs.declared.root.RootBody.{RootBody}
 use Rattle.sn_layout.specs.declared.snapshot.Snapshot.{Snapshot}
-use Rattle.sn_layout.specs.Places.{IsIn}
+use Rattle.sn_layout.specs.Places.{IsIn, start_of}
 use Rattle.sn_model.specs.declared.change.Change.{Change}
-use Rattle.sn_ondisk.specs.MapCopy.{map_word}
+use Rattle.sn_model.specs.Changes.{apply_all}
+use Rattle.sn_model.specs.Tree.{Tree}
+use Rattle.sn_ondisk.specs.MapCopy.{HasMap, map_word}
 use Rattle.sn_ondisk.specs.TreeLaws.{SameIn}
 use Rattle.sn_ondisk.specs.Trees.{Store, store_of}
 use Rattle.sn_ondisk.proofs.MapLemmas.{map_word-spelled}
+use Rattle.sn_image.specs.Image.{image}
 use Rattle.sn_image.specs.Reach.{reach}
 use Rattle.sn_image.proofs.FootprintLemmas.{roots_depend}
-use Rattle.sn_opening.specs.Opens.{LieInData}
+use Rattle.sn_opening.specs.Opens.{LieInData, Shows}
 use Rattle.sn_opening.specs.Worlds.{all_reach}
-use Rattle.sn_sound.specs.Maps.{IsSetOfRoots, IsSoundRoot, Rooted, frozen_root, rooted_in}
-use Rattle.sn_sound.specs.Standing.{RootStands}
+use Rattle.sn_sound.specs.Charges.{Fits}
+use Rattle.sn_sound.specs.Disks.{IsFormatted, IsSoundDisk}
+use Rattle.sn_sound.specs.Logs.{HasSoundLog}
+use Rattle.sn_sound.specs.Maps.{IsSetOfRoots, IsSoundRoot, Rooted, free_blocks, frozen_root, rooted_in}
+use Rattle.sn_sound.specs.Standing.{LogStands, RootStands}
+use Rattle.sn_sound.proofs.FreeLemmas.{free_counted, same_count}
 use Rattle.sn_sound.proofs.ReachLemmas.{sound_depends}
 
 none_among : {A B : Type 0} (x : A) → Contains [] x → B
@@ -97,3 +106,46 @@ pub standing_sound : (n : ℕ) (d : Disk) (s : Store) (slot : Slot) (root : Root
     → RootStands n d s slot root words older newer → Always d (λ c. IsSoundRoot n (store_of c) root (map_word n c slot))
 standing_sound n d s slot root words older newer stands c crash =
     root_same n s (store_of c) root (stands.shows c crash).same (slice_index words) (map_word n c slot) (map_word-spelled n c slot words (stands.map c crash)) stands.sound
+
+-- ---- the whole disk
+
+module _ (n : ℕ) (c : Contents) (s : Store) (slot : Slot) (root : RootBody) (words : List ℕ) (same : SameIn (all_reach s root) s (store_of c)) where
+  live_image : image (store_of c) root.inode_file ≡ image s root.inode_file
+  live_image =
+      let live : Rooted = record { bit = 0; inodes = root.inode_file } in
+      (roots_depend s (store_of c) root.inode_file (of_root n s (store_of c) root same live (first_among live (map frozen_root root.snapshots)))).image
+
+  same_free : HasMap n c slot words → IsSoundRoot n s root (slice_index words) → IsSoundRoot n (store_of c) root (map_word n c slot) → free_blocks n (store_of c) root ≡ free_blocks n s root
+  same_free has old new =
+      free_counted n (store_of c) root (map_word n c slot) new
+      ∙ same_count (λ block. map_word n c slot block == 0) (λ block. slice_index words block == 0) (range_with_len (start_of n Data) (n - start_of n Data))
+      (λ block among. ap (λ (w : ℕ). w == 0) (map_word-spelled n c slot words has block))
+      ∙ sym (free_counted n s root (slice_index words) old)
+
+  log_sound : (older newer : List Change) (d : Disk) → Shows n s slot root older newer c → LogStands n d s root older newer → CrashNow d c → free_blocks n (store_of c) root ≡ free_blocks n s root
+      → HasSoundLog n c root (free_blocks n (store_of c) root)
+  log_sound older newer d shows log crash free = record {
+    older = older;
+    newer = newer;
+    middle = log.middle;
+    tree = log.tree;
+    has_older = record { spelled = log.older_spelled; records = shows.shown.has_older; applied = ap (apply_all root.limits older) live_image ∙ log.older_made };
+    has_newer = record { spelled = log.newer_spelled; records = shows.shown.has_newer; applied = log.newer_made };
+    none_later = λ epoch. log.none_later epoch c crash;
+    fits = subst (λ (t : Tree). Fits root.limits (older ++ newer) t (free_blocks n (store_of c) root)) (sym live_image)
+        (subst (Fits root.limits (older ++ newer) (image s root.inode_file)) (sym free) log.fits);
+    age = log.age;
+  }
+
+pub disk_stands : (sectors n : ℕ) (d : Disk) (s : Store) (slot : Slot) (root : RootBody) (words : List ℕ) (older newer : List Change)
+    → Always d (λ c. IsFormatted sectors c n) → RootStands n d s slot root words older newer → LogStands n d s root older newer
+    → Always d (λ c. IsSoundDisk sectors c n slot root)
+disk_stands sectors n d s slot root words older newer formatted stands log c crash =
+    let shows = stands.shows c crash in
+    let roots = standing_sound n d s slot root words older newer stands c crash in
+    record {
+      formatted = formatted c crash;
+      newest = shows.shown.newest;
+      roots = roots;
+      log = log_sound n c s slot root words shows.same older newer d shows log crash (same_free n c s slot root words shows.same (stands.map c crash) stands.sound roots);
+    }

@@ -26,10 +26,10 @@ use Rattle.sn_image.specs.Sound.{IsSound}
 use Rattle.sn_opening.specs.Opens.{LieInData, Opens}
 use Rattle.sn_opening.specs.Worlds.{all_reach}
 use Rattle.sn_overlay.specs.Needs.{charge_for}
-use Rattle.sn_sound.specs.Disks.{IsImageOf, IsOfDevice, IsSoundDisk, IsSoundImage}
+use Rattle.sn_sound.specs.Disks.{IsFormatted, IsImageOf, IsOfDevice, IsSoundDisk, IsSoundImage}
 use Rattle.sn_sound.specs.Faults.{LeadsOut, IsReachedTwice, IsMisspelt, IsLinkFault}
 use Rattle.sn_sound.specs.Maps.{IsSoundRoot, free_blocks}
-use Rattle.sn_sound.specs.Standing.{RootStands}
+use Rattle.sn_sound.specs.Standing.{LogStands, RootStands}
 use Rattle.sn_sound.specs.Verdicts.{HasNoVerdict, IsClean, IsFaulty, Stands}
 
 -- ---- soundness and faults
@@ -95,6 +95,12 @@ SoundnessIsOfTheReach = (limits : Limits) (n : ℕ) (s r : Store) (inodes : Bloc
 abbrev pub StandingRootsAreSound : Type 0
 StandingRootsAreSound = (n : ℕ) (d : Disk) (s : Store) (slot : Slot) (root : RootBody) (words : List ℕ) (older newer : List Change)
     → RootStands n d s slot root words older newer → Always d (λ c. IsSoundRoot n (store_of c) root (map_word n c slot))
+
+-- And where the log on top of it stands too, whatever a crash leaves is a sound disk with that root.
+abbrev pub StandingDisksAreSound : Type 0
+StandingDisksAreSound = (sectors n : ℕ) (d : Disk) (s : Store) (slot : Slot) (root : RootBody) (words : List ℕ) (older newer : List Change)
+    → Always d (λ c. IsFormatted sectors c n) → RootStands n d s slot root words older newer → LogStands n d s root older newer
+    → Always d (λ c. IsSoundDisk sectors c n slot root)
 
 -- ---- charges
 

@@ -59,6 +59,7 @@ pub record IsRootFault (c : Contents) (damage : Damage) (block : ℕ) : Type 0 w
   pub damaged : IsDamaged c which
   pub here : block ≡ block_of which
 
+-- The disk is sound, and no root reaches so many of its data blocks.
 pub record IsClean (sectors : ℕ) (c : Contents) (free : ℕ) : Type 0 where
   pub blocks : ℕ
   pub slot : Slot
@@ -66,15 +67,17 @@ pub record IsClean (sectors : ℕ) (c : Contents) (free : ℕ) : Type 0 where
   pub sound : IsSoundDisk sectors c blocks slot root
   pub free_is : free ≡ free_blocks blocks (store_of c) root
 
+-- The disk is formatted, and the fault is one that it has, of the first group that has one.
 pub record IsFaulty (sectors : ℕ) (c : Contents) (damage : Damage) (block : ℕ) : Type 0 where
   pub blocks : ℕ
   pub formatted : IsFormatted sectors c blocks
   pub why : IsRootFault c damage block ⊎ ((slot : Slot) × (root : RootBody) × IsFirst blocks c slot root damage block)
 
+-- the disk is formatted for some number of blocks
 abbrev pub IsSomeSize : ℕ → Contents → Type 0
 IsSomeSize sectors c = (n : ℕ) × IsFormatted sectors c n
 
--- why a check has no verdict
+-- Why a check has no verdict: superblock, gates and versions come first, in this order. Want of memory and a failure of the device are told by the device's clauses.
 abbrev pub HasNoVerdict : ℕ → Contents → MountFault → Type 0
 HasNoVerdict sectors c mount.NotFormatted = IsSomeSize sectors c → ⊥
 HasNoVerdict sectors c mount.NoRoot = IsSomeSize sectors c × ((slot : Slot) → IsClosed c (gate_sector slot))

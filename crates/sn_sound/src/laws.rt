@@ -1,5 +1,5 @@
 //! The laws that the definitions of `specs/` keep.
-ghost use Rattle.sn_sound.specs.Laws.{CleanHasAVerdict, CleanIsNotFaulty, CoversAreChargedAlike, FreeIsCounted, ImagesHoldOneWorld, SoundDisksHaveNoFault, SoundDisksOpen, SoundDisksOpenToWorlds, SoundImagesHoldAWorld, SoundRootsHaveNoFault, SoundRootsLieInData, SoundnessIsOfTheReach, StandingRootsAreSound};
+ghost use Rattle.sn_sound.specs.Laws.{CleanHasAVerdict, CleanIsNotFaulty, CoversAreChargedAlike, FreeIsCounted, ImagesHoldOneWorld, SoundDisksHaveNoFault, SoundDisksOpen, SoundDisksOpenToWorlds, SoundImagesHoldAWorld, SoundRootsHaveNoFault, SoundRootsLieInData, SoundnessIsOfTheReach, StandingDisksAreSound, StandingRootsAreSound};
 
 /// What stands makes a disk unsound.
 pub fn fault_laws()
@@ -23,6 +23,7 @@ pub fn standing_laws()
     ensures data { SoundRootsLieInData }
     ensures reach { SoundnessIsOfTheReach }
     ensures crash { StandingRootsAreSound }
+    ensures disk { StandingDisksAreSound }
 {}
 
 /// What a call is charged for is told alike by the live tree and by the one that replay makes.

@@ -12,7 +12,7 @@
 //! - `Faults`: the faults of one root, each with the block that it is told of.
 //! - `Verdicts`: `Stands` is one relation for all kinds of faults, of any contents at all; `IsFirst` adds
 //!   that none of an earlier group stands; and what a check is to answer.
-//! - `Standing`: what a mounted file system knows of its root.
+//! - `Standing`: what a mounted file system knows of its root, and of the log on top of it.
 //!
 //! | kind | its rule, where the disk is sound | what stands otherwise |
 //! |---|---|---|
@@ -29,7 +29,7 @@
 //!   the map.
 //! - `opening_laws`: a sound disk opens to a world, to one alone, and that is one that a mount may find.
 //! - `standing_laws`: whether a root is sound depends on the blocks that it reaches; so one that stands is
-//!   sound in whatever a crash leaves.
+//!   sound in whatever a crash leaves, and with its log that is a sound disk.
 //! - `charge_laws`: charges are alike on the live tree and on the one that replay makes.
 //!
 //! What the sources leave open is decided in `docs/DECISIONS.md`, under "When a disk is sound".
