@@ -9,7 +9,7 @@ use Rattle.sn_model.specs.declared.link.Link.{Link}
 use Rattle.sn_model.specs.Covers.{Covers}
 use Rattle.sn_model.specs.NameTree.{IsHierarchy}
 use Rattle.sn_model.specs.Tree.{Node, Tree, link_to}
-use Rattle.sn_overlay.specs.Needs.{charge_for, file_under}
+use Rattle.sn_model.specs.Charges.{charge_for, file_under}
 
 under : (replayed live : Tree) → IsHierarchy live → Covers replayed live → (link : Link) → file_under replayed link ≡ file_under live link
 under replayed live h c link = told (map.get live.links link) refl

@@ -25,7 +25,7 @@ use Rattle.sn_image.specs.Reach.{reach}
 use Rattle.sn_image.specs.Sound.{IsSound}
 use Rattle.sn_opening.specs.Opens.{LieInData, Opens}
 use Rattle.sn_opening.specs.Worlds.{all_reach}
-use Rattle.sn_overlay.specs.Needs.{charge_for}
+use Rattle.sn_model.specs.Charges.{charge_for}
 use Rattle.sn_sound.specs.Disks.{IsFormatted, IsImageOf, IsOfDevice, IsSoundDisk, IsSoundImage}
 use Rattle.sn_sound.specs.Faults.{LeadsOut, IsReachedTwice, IsMisspelt, IsLinkFault}
 use Rattle.sn_sound.specs.Maps.{IsSoundRoot, free_blocks}
