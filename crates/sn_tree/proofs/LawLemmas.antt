@@ -1,8 +1,9 @@
 -- When what is wanted of a tree or a content ends at its size, and what bytes a content has.
 use Rattle.std.proofs.Common.{◌≡◌, ⊎_elim, ℕ, zero, suc, ◌+◌, ◌-◌, ◌*◌, ◌/◌, ◌%◌, ◌<◌, ◌≤◌, ◌==◌, ◌||◌, Bool, true, false, List, [], ◌∷◌, ◌++◌, length, get_or, slice_index, replicate, refl, sym, ap, ◌∙◌, arith, if◌then◌else◌}
-use Rattle.std.specs.Prelude.{◌^◌, nat_lt}
+use Rattle.std.specs.Prelude.{◌≢◌, ◌^◌, nat_lt, All}
 use Rattle.std.specs.List.{AllByRecursion, list_all, enumerate_from}
-use Rattle.std.proofs.lemmas.Bool.{cases_lt, eq-eqb, eqb-true, lt-ltb, ltb-true, ne_eqb}
+use Rattle.std.proofs.lemmas.Bool.{cases_lt, eq-eqb, eqb-false, eqb-true, lt-ltb, ltb-true, ne_eqb}
+use Rattle.std.proofs.lemmas.List.Elements.{All-cons, All-nil}
 use Rattle.std.proofs.lemmas.List.{get_or-replicate, get_or-append_right, get_or-take}
 use Rattle.sn_layout.specs.Bytes.{zeros}
 use Rattle.sn_layout.specs.BlockTree.{ends_at_size}
@@ -100,6 +101,28 @@ cut_content_end s old size keep dirty whole all = record {
   stays = omega (arith, whole);
   begins = begin size dirty all;
   past = past_zero (content_block s old) size keep (λ i k low within far. absurd (omega (arith, low, within, far, whole))) dirty all;
+}
+
+module _ (old : List ℕ) (size keep i k : ℕ) (within : k < 4096) (far : size ≤ 4096 * i + k) where
+  past_kept : (ds : List DirtyBlock) → AllByRecursion (EndsBy size) ds → (i < keep → All (λ (d : DirtyBlock). d.index ≢ i) ds → get_or old k 0 ≡ 0) → get_or (block_after keep ds i old) k 0 ≡ 0
+  unfolding block_wanted zeros
+  past_kept [] all stay = either (nat_lt i keep) refl
+    where
+      either : (b : Bool) → nat_lt i keep ≡ b → get_or (if b then old else zeros 4096) k 0 ≡ 0
+      either true low = stay (ltb-true i keep low) (All-nil (λ (d : DirtyBlock). d.index ≢ i))
+      either false _ = get_or-replicate 4096 k 0 0 within
+  past_kept (d ∷ ds) all stay = either (λ (other : d.index ≢ i). past_kept ds all.1 (λ low clean. stay low (All-cons (λ (e : DirtyBlock). e.index ≢ i) d ds other clean))) (d.index == i) refl
+    where
+      either : (d.index ≢ i → get_or (block_after keep ds i old) k 0 ≡ 0) → (b : Bool) → (d.index == i) ≡ b → get_or (if b then d.bytes.value else block_after keep ds i old) k 0 ≡ 0
+      either later true is = let here : d.index ≡ i = eqb-true d.index i is in all.0.past k within (omega (arith, far, here))
+      either later false is = later (eqb-false d.index i is)
+
+pub kept_content_end : (s : Store) (old : Content) (size keep : ℕ) (dirty : List DirtyBlock) → KeepsWithin size keep → AllByRecursion (EndsBy size) dirty
+    → ((i k : ℕ) → i < keep → All (λ (d : DirtyBlock). d.index ≢ i) dirty → k < 4096 → size ≤ 4096 * i + k → slice_index (content_block s old i) k ≡ 0) → EndsAt (content_block s old) size keep dirty
+kept_content_end s old size keep dirty stays all zero_past = record {
+  stays = stays;
+  begins = begin size dirty all;
+  past = λ i k within far. past_kept (content_block s old i) size keep i k within far dirty all (λ low clean. zero_past i k low clean within far);
 }
 
 pub content_byte : (s : Store) (content : Content) (wanted : ℕ → List ℕ) → HasItsForm content → size_of content ≤ 70368744177664 → HasDataBlocks s content wanted → (k : ℕ) → k < size_of content

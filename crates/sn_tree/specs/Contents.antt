@@ -57,6 +57,12 @@ pub record IsContentPlanned (Told : Type 0) (s : Store) (old new : Content) (kee
   pub form : HasItsForm new
   pub plans : Told → IsContentReplanned s old new keep dirty added released
 
+-- All that a content reaches was released.
+pub record IsReleased (Told : Type 0) (s : Store) (content : Content) (old_draft new_draft : Draft) : Type 0 where
+  pub released : List ℕ
+  pub grew : new_draft ≡ grown old_draft [] released
+  pub all : Told → (block : ℕ) → block ≢ 0 → times block released ≡ times block (content_reach s content)
+
 -- ---- on the way
 
 -- Dirty blocks that are all that there is are those of a file whose bytes lay in the inode.
@@ -77,9 +83,3 @@ pub record IsBuilt (Told : Type 0) (s : Store) (new : BlockTree) (dirty : List D
   pub grew : new_draft ≡ grown old_draft added released
   pub few : length added ≤ (levels_of new.size + 1) * length dirty
   pub plans : Told → IsReplanned s (holes_of new.size) new 0 dirty added released
-
--- All that a content reaches was released.
-pub record IsReleased (Told : Type 0) (s : Store) (content : Content) (old_draft new_draft : Draft) : Type 0 where
-  pub released : List ℕ
-  pub grew : new_draft ≡ grown old_draft [] released
-  pub all : Told → (block : ℕ) → block ≢ 0 → times block released ≡ times block (content_reach s content)

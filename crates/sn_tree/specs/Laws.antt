@@ -1,5 +1,5 @@
 -- When what is wanted of a tree or a content ends at its size, and what bytes a content has.
-use Rattle.std.specs.Prelude.{◌≡◌, true, ℕ, ◌+◌, ◌*◌, ◌/◌, ◌%◌, ◌<◌, ◌≤◌, List, slice_index}
+use Rattle.std.specs.Prelude.{◌≡◌, ◌≢◌, true, ℕ, ◌+◌, ◌*◌, ◌/◌, ◌%◌, ◌<◌, ◌≤◌, List, slice_index, All}
 use Rattle.std.specs.List.{AllByRecursion}
 use Rattle.sn_layout.specs.BlockTree.{ends_at_size}
 use Rattle.sn_layout.specs.declared.tree.BlockTree.{BlockTree}
@@ -37,6 +37,12 @@ GrownContentsEnd = (s : Store) (old : Content) (size keep : ℕ) (dirty : List D
 abbrev pub CutContentsEnd : Type 0
 CutContentsEnd = (s : Store) (old : Content) (size keep : ℕ) (dirty : List DirtyBlock) → 4096 * keep ≤ size
     → AllByRecursion (EndsBy size) dirty → EndsAt (content_block s old) size keep dirty
+
+-- And of any content, where the blocks that stay and aren't dirty have zeros past the size.
+abbrev pub KeptContentsEnd : Type 0
+KeptContentsEnd = (s : Store) (old : Content) (size keep : ℕ) (dirty : List DirtyBlock) → KeepsWithin size keep → AllByRecursion (EndsBy size) dirty
+    → ((i k : ℕ) → i < keep → All (λ (d : DirtyBlock). d.index ≢ i) dirty → k < 4096 → size ≤ 4096 * i + k → slice_index (content_block s old i) k ≡ 0)
+    → EndsAt (content_block s old) size keep dirty
 
 -- A tree that ends at its size has sixteen pointers that do, as the record of an inode asks.
 abbrev pub EndedTreesHaveEndedPointers : Type 0
