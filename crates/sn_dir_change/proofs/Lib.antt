@@ -1,6 +1,7 @@
 mod BlockLemmas
 mod ChangeLemmas
 mod FillLemmas
+mod MarkLemmas
 mod NameLemmas
 mod PartLemmas
 mod PassLemmas

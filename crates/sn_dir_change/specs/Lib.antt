@@ -4,3 +4,4 @@ pub mod Standing
 pub mod UnderWay
 pub mod Through
 pub mod Laws
+pub mod NameMarks

@@ -3,8 +3,10 @@ ghost use Rattle.std.specs.Prelude.{◌≡◌, ◌++◌, false, IsTrue, is_some}
 ghost use Rattle.sn_layout_node.specs.Directory.{AreLinks, IsDirectoryBlock, number_of, without};
 ghost use Rattle.sn_image.specs.Names.{names_in};
 ghost use Rattle.sn_dir_change.specs.Changes.{IsChange, link_for};
+ghost use Rattle.sn_dir_change.specs.NameMarks.{AreMarked};
 
 use crate::NameChange;
+use crate::name_marks::NameMarks;
 use sn_layout::Block;
 use sn_layout_node::DirectoryBlock;
 
@@ -22,6 +24,24 @@ pub(crate) fn amend(block: &mut Block, change: &NameChange<'_>) -> bool
         return false;
     }
     put(block, change)
+}
+
+// The same where the names of the block are marked: one without a mark isn't looked for.
+pub(crate) fn amend_marked(block: &mut Block, marks: &NameMarks, change: &NameChange<'_>) -> bool
+    requires block { IsDirectoryBlock block.old }
+    requires marks { AreMarked marks.now.marks (names_in block.old) }
+    requires change { IsChange change.now }
+    ensures stood { result ≡ is_some (number_of change.now.name.now (names_in block.old)) }
+    ensures amended { IsTrue result → names_in block.new
+        ≡ without change.now.name.now (names_in block.old) ++ link_for change.now }
+    ensures none { result ≡ false → block.new ≡ block.old }
+    ensures marks { AreMarked marks.now.marks (names_in block.new) }
+    ensures still { IsDirectoryBlock block.new }
+{
+    if !marks.may_have(change.name) {
+        return false;
+    }
+    amend(block, change)
 }
 
 // Puts a name behind the others of a block. `false` where there is no room for it.

@@ -14,7 +14,9 @@
 //! for in them, up to the block where the last one is found; that changes nothing. Then names that stand are
 //! set or taken out, and names that wait are put where there is room, also where one was taken out, up to
 //! where no change is left. `IsUnderWay` is what holds between two blocks. What still waits behind the last
-//! block fills new ones.
+//! block fills new ones, one after the other, so a directory that grows has few blocks for its names
+//! (`IsSizeWith`): by `size_laws` it stays within the largest size. Each block's names are marked first
+//! (`name_marks`), so that a change costs a block that doesn't have its name one look, and not one at each name.
 //!
 //! The way through: `amend` changes one name in one block, `pass` all of them, `standing` tells which names
 //! the directory has, `pending` are the changes still to be made, `through` goes over the blocks, `fill` makes
@@ -33,6 +35,7 @@ mod amend;
 mod fill;
 mod laws;
 mod name_change;
+mod name_marks;
 mod pass;
 mod pending;
 mod planned;

@@ -3,17 +3,20 @@ ghost use Rattle.std.specs.Prelude.{◌≡◌, ◌+◌, ◌++◌, ◌<◌, ◌�
 ghost use Rattle.sn_layout_node.specs.Directory.{Link, IsDirectoryBlock};
 ghost use Rattle.sn_image.specs.Names.{names_in};
 ghost use Rattle.sn_dir_change.specs.Changes.{AreLinkChanges};
+ghost use Rattle.sn_dir_change.specs.NameMarks.{AreMarked};
 ghost use Rattle.sn_dir_change.specs.UnderWay.{AreFull, AreGone, IsLinkFrom, IsUnderWay};
 ghost use Rattle.sn_dir_change.specs.declared.name_change.NameChange.{NameChange as TheChange};
 
 use crate::NameChange;
-use crate::amend::{amend, put};
+use crate::amend::{amend_marked, put};
+use crate::name_marks::NameMarks;
 use crate::pending::Pending;
 use sn_layout::Block;
 
-// Makes the changes of the names that stand in a block.
-fn amend_standing(block: &mut Block, standing: &mut Vec<NameChange<'_>>)
+// Makes the changes of the names that stand in a block, whose names are marked.
+fn amend_standing(block: &mut Block, marks: &NameMarks, standing: &mut Vec<NameChange<'_>>)
     requires block { IsDirectoryBlock block.old }
+    requires marks { AreMarked marks.now.marks (names_in block.old) }
     requires changes { AreLinkChanges standing.old.items }
     ensures way { (changes waiting : List TheChange) (front back old : List Link)
         → IsUnderWay changes standing.old.items waiting front (front ++ names_in block.old ++ back) old
@@ -27,7 +30,7 @@ fn amend_standing(block: &mut Block, standing: &mut Vec<NameChange<'_>>)
 {
     let mut k = 0;
     while k < standing.len() {
-        if amend(block, &standing[k]) {
+        if amend_marked(block, marks, &standing[k]) {
             standing.remove(k);
         } else {
             k += 1;
@@ -66,9 +69,11 @@ pub(crate) fn put_waiting(block: &mut Block, waiting: &mut Vec<NameChange<'_>>)
 }
 
 /// Makes the changes of the names that stand in a block, and puts those that wait behind the others as
-/// far as there is room: so a name is put where one was taken out. Answers whether the block is changed.
-pub(crate) fn change_names(block: &mut Block, pending: &mut Pending<'_>) -> bool
+/// far as there is room: so a name is put where one was taken out. The names of the block are marked. Answers
+/// whether it is changed.
+pub(crate) fn change_names(block: &mut Block, marks: &NameMarks, pending: &mut Pending<'_>) -> bool
     requires block { IsDirectoryBlock block.old }
+    requires marks { AreMarked marks.now.marks (names_in block.old) }
     requires standing { AreLinkChanges pending.old.standing.items }
     requires waiting { AreLinkChanges pending.old.waiting.items }
     ensures way { (changes : List TheChange) (front back old : List Link)
@@ -88,7 +93,7 @@ pub(crate) fn change_names(block: &mut Block, pending: &mut Pending<'_>) -> bool
 {
     let standing = pending.standing.len();
     let waiting = pending.waiting.len();
-    amend_standing(block, &mut pending.standing);
+    amend_standing(block, marks, &mut pending.standing);
     put_waiting(block, &mut pending.waiting);
     pending.standing.len() < standing || pending.waiting.len() < waiting
 }

@@ -8,10 +8,12 @@ ghost use Rattle.sn_image.specs.Names.{names_in, names_of};
 ghost use Rattle.sn_tree_read.specs.Counts.{CountsTree};
 ghost use Rattle.sn_tree_read.specs.declared.fault.TreeFault.TheVariants.{Damaged};
 ghost use Rattle.sn_dir.specs.Blocks.{CanRead, IsDamaged};
+ghost use Rattle.sn_dir_change.specs.NameMarks.{AreMarked};
 ghost use Rattle.sn_dir_change.specs.Standing.{change_of, seen, seen_too};
 ghost use Rattle.sn_dir_change.specs.declared.standing.Sought.{Sought as TheSought};
 
 use crate::NameChange;
+use crate::name_marks::NameMarks;
 use sn_block::Blocks;
 use sn_device::Device;
 use sn_dir::{block_count, decoded, fetch_block};
@@ -30,12 +32,13 @@ pub(crate) struct Sought<'a> {
 
 impl<'a> Sought<'a> {
     // It, with one more block gone through.
-    fn seen_in(self, names: &DirectoryBlock<'_>) -> Self
+    fn seen_in(self, names: &DirectoryBlock<'_>, marks: &NameMarks) -> Self
+        requires { AreMarked marks.now.marks names.now }
         ensures { result ≡ seen_too names.now self.entry }
     {
         Sought {
             change: self.change,
-            stands: self.stands || names.find(self.change.name).is_some(),
+            stands: self.stands || marks.has(names, self.change.name),
         }
     }
 }
@@ -65,8 +68,9 @@ fn all_stand(list: &[Sought<'_>]) -> bool
 fn note_names(names: &DirectoryBlock<'_>, list: &mut [Sought<'_>])
     ensures { list.new ≡ map (seen_too names.now) list.old }
 {
+    let marks = NameMarks::of(names);
     for sought in list.iter_mut() {
-        *sought = sought.seen_in(names);
+        *sought = sought.seen_in(names, &marks);
     }
 }
 

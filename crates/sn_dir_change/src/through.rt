@@ -10,6 +10,7 @@ ghost use Rattle.sn_dir_change.specs.Changes.{AreLinkChanges};
 ghost use Rattle.sn_dir_change.specs.Through.{IsPushed, IsThrough};
 ghost use Rattle.sn_dir_change.specs.declared.name_change.NameChange.{NameChange as TheChange};
 
+use crate::name_marks::NameMarks;
 use crate::pass::change_names;
 use crate::pending::Pending;
 use sn_block::Blocks;
@@ -64,9 +65,9 @@ fn pass_block<D: Device>(
         return Ok(());
     }
     fetch_block(blocks, tree, i)?;
-    decoded(blocks.fetched())?;
+    let marks = NameMarks::of(&decoded(blocks.fetched())?);
     let mut bytes = *blocks.fetched();
-    if change_names(&mut bytes, pending) {
+    if change_names(&mut bytes, &marks, pending) {
         push_dirty(alloc, dirty, i, bytes)?;
     }
     Ok(())

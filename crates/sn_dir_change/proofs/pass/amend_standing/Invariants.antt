@@ -2,6 +2,7 @@ use Rattle.std.proofs.Common.{◌≡◌, ◌++◌, ◌-◌, ◌≤◌, List, len
 use Rattle.sn_layout_node.specs.Directory.{Link, IsDirectoryBlock}
 use Rattle.sn_image.specs.Names.{names_in}
 use Rattle.sn_dir_change.specs.Changes.{AreLinkChanges}
+use Rattle.sn_dir_change.specs.NameMarks.{AreMarked}
 use Rattle.sn_dir_change.specs.UnderWay.{AreGone, IsUnderWay}
 use Rattle.sn_dir_change.specs.declared.name_change.NameChange.{NameChange as TheChange}
 use Rattle.sn_dir_change.proofs.pass.amend_standing.Given as goal
@@ -9,6 +10,7 @@ use Rattle.sn_dir_change.proofs.pass.amend_standing.Given as goal
 abbrev pub invariant-loop-k : goal.invariant-loop-k
 invariant-loop-k l = record {
   block : IsDirectoryBlock l.block;
+  marks : AreMarked l.marks.marks (names_in l.block);
   changes : AreLinkChanges l.standing.items;
   within : l.k ≤ length l.standing.items;
   fewer : length l.standing.items ≤ length l.initial.standing.items;

@@ -1,8 +1,11 @@
-use Rattle.std.proofs.Common.{◌≡◌, ◌+◌, length, ap, refl, sym, ◌∙◌, arith}
+use Rattle.std.proofs.Common.{◌≡◌, ◌+◌, List, length, ap, refl, sym, subst, ◌∙◌, arith}
 use Rattle.std.proofs.lemmas.Bool.{eqb-true}
 use Rattle.sn_device.specs.Disk.{reads}
 use Rattle.sn_block.specs.Lending.{device_of}
 use Rattle.sn_ondisk.specs.Trees.{store_of, data_block}
+use Rattle.sn_layout_node.specs.Directory.{Link}
+use Rattle.sn_dir.proofs.BlockLemmas.{names_read}
+use Rattle.sn_dir_change.specs.NameMarks.{AreMarked}
 use Rattle.sn_dir_change.proofs.ThroughLemmas.{through_pushed, through_kept, none_gone, none_full}
 use Rattle.sn_dir_change.proofs.through.pass_block.Goals as goal
 
@@ -33,3 +36,9 @@ returns-else-change_names-clause-through g c = λ changes bound through.
     bytes (λ told. c.fetched-2.ensures.value ∙ c.in_ok-fetch_block.ensures.block told) c.requires.index through
     c.change_names.new.block c.change_names.ensures.full c.change_names.ensures.listed (c.change_names.ensures.way changes) same.0
     (omega (arith, ap (λ xs. length xs) same.1, ap (λ xs. length xs) same.2))
+
+pub change_names-requires-clause-marks : goal.change_names-requires-clause-marks
+change_names-requires-clause-marks g c =
+    subst (λ (links : List Link). AreMarked c.of-marks.result.marks links)
+    (names_read c.fetched.result.now c.fetched-2.result.now _ (c.fetched.ensures.value ∙ sym c.fetched-2.ensures.value) c.in_ok-decoded.ensures.spelled)
+    c.of-marks.ensures
