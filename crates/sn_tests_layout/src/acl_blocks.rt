@@ -5,22 +5,16 @@ use anyhow::{Context, Result, bail, ensure};
 use sn_acl::{Acl, Entry, MAX_ENTRIES, Mode};
 use sn_layout::{Block, Reader};
 use sn_layout_acl::{AclBlock, AclParts, put_entries, read_entries};
-use sn_table::{Case, Report};
+use sn_table::Case;
 use std::alloc::Global;
 
 /// As many bytes as the entries of the longest ACL take.
 const LONGEST: usize = 288;
 
-pub fn run(report: &mut Report<'_>) -> Result<()> {
-    report.table("acl_block.txt", acl_block)?;
-    report.table("acl_parts.txt", parts)?;
-    report.table("acl_entries.txt", entries)
-}
-
 fn acl_of(word: &str) -> Result<Acl> {
     match Acl::parse(word.as_bytes()) {
         Some(acl) => Ok(acl),
-        None => bail!("no ACL: {word}"),
+        None => bail!("no ACL"),
     }
 }
 
@@ -32,7 +26,7 @@ fn block_with(acls: &AclBlock) -> Result<Block> {
 }
 
 /// The access ACL that a block makes with no rights in the mode bits, and the default ACL.
-fn acl_block(alloc: Global, case: Case<'_>) -> Result<String> {
+pub fn acl_block(alloc: Global, case: Case<'_>) -> Result<String> {
     let block = block_of(alloc, case.text())?;
     let Some(acls) = AclBlock::decode(&block) else {
         return Ok(String::from_str(alloc, "refused")?);
@@ -52,7 +46,7 @@ fn told(alloc: Global, acls: &AclBlock) -> Result<String> {
 }
 
 /// The mode bits and the block of an access ACL.
-fn parts(alloc: Global, case: Case<'_>) -> Result<String> {
+pub fn parts(alloc: Global, case: Case<'_>) -> Result<String> {
     let acl = acl_of(case.text())?;
     let parts = AclParts::of(&acl);
     ensure_same(parts.access.join(parts.objects) == acl, case)?;
@@ -71,7 +65,7 @@ fn told_parts(alloc: Global, parts: AclParts) -> Result<String> {
 }
 
 /// The bytes of a list of entries.
-fn entries(alloc: Global, case: Case<'_>) -> Result<String> {
+pub fn entries(alloc: Global, case: Case<'_>) -> Result<String> {
     let acl = acl_of(case.text())?;
     let entries = acl.entries();
     ensure!(entries.len() <= MAX_ENTRIES, "too many entries");

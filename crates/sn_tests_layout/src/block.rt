@@ -17,7 +17,7 @@ pub fn block_of(alloc: Global, words: &str) -> Result<Block> {
 
 /// An error where a case isn't spelled as it stood there.
 pub fn ensure_same(is_same: bool, case: Case<'_>) -> Result<()> {
-    ensure!(is_same, "another spelling: {}", case.text());
+    ensure!(is_same, "another spelling");
     Ok(())
 }
 
@@ -39,7 +39,7 @@ fn put(alloc: Global, bytes: &mut [u8], word: &str) -> Result<()> {
 fn put_run(bytes: &mut [u8], offset: usize, run: &[u8]) -> Result<()> {
     ensure!(
         offset <= bytes.len() && run.len() <= bytes.len() - offset,
-        "past the end: {offset}"
+        "past the end"
     );
     for (byte, wanted) in bytes.iter_mut().skip(offset).zip(run) {
         *byte = *wanted;

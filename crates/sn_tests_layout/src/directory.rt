@@ -1,7 +1,7 @@
 //! Directory blocks.
 
 use crate::block::{DIRTY, block_of, spelled};
-use anyhow::{Context, Result, bail, ensure};
+use anyhow::{Context, Result, ensure};
 use sn_layout::{BLOCK_SIZE, Block};
 use sn_layout_node::{DirectoryBlock, DirectoryEntry};
 use sn_limits::is_name;
@@ -13,9 +13,6 @@ use std::str;
 const MANY: usize = 400;
 
 pub fn run(report: &mut Report<'_>) -> Result<()> {
-    report.table("directory_block.txt", directory_block)?;
-    report.table("directory_find.txt", find)?;
-    report.table("directory_steps.txt", steps)?;
     let many = many_names(report)?;
     report.add("400 names", many)?;
     let removed = one_of_many_removed(report)?;
@@ -24,7 +21,7 @@ pub fn run(report: &mut Report<'_>) -> Result<()> {
     report.add("names up to the last byte", last)
 }
 
-fn directory_block(alloc: Global, case: Case<'_>) -> Result<String> {
+pub fn directory_block(alloc: Global, case: Case<'_>) -> Result<String> {
     let block = block_of(alloc, case.text())?;
     match DirectoryBlock::decode(&block) {
         Some(names) => told(alloc, &names),
@@ -42,17 +39,18 @@ fn told(alloc: Global, names: &DirectoryBlock<'_>) -> Result<String> {
 }
 
 fn push_entry(text: &mut String, number: u16, name: &[u8]) -> Result<()> {
-    Ok(write!(text, "{number} {}, ", str::from_utf8(name)?)?)
+    let name = str::from_utf8(name)?;
+    Ok(write!(text, "{number} {name}, ")?)
 }
 
 /// The number of a name in the block of `f`, which is 3, and `dir`, which is 65,535.
-fn find(alloc: Global, case: Case<'_>) -> Result<String> {
+pub fn find(alloc: Global, case: Case<'_>) -> Result<String> {
     let block = block_of(alloc, "0:03 2:0166ffff03646972")?;
     let names = DirectoryBlock::decode(&block).context("a directory block")?;
-    Ok(match names.find(case.text().as_bytes()) {
-        Some(number) => format!(in alloc; "{number}")?,
-        None => String::from_str(alloc, "none")?,
-    })
+    match names.find(case.text().as_bytes()) {
+        Some(number) => Ok(format!(in alloc; "{number}")?),
+        None => Ok(String::from_str(alloc, "none")?),
+    }
 }
 
 fn insert(block: &mut Block, name: &[u8], number: u16) -> Result<bool> {
@@ -69,7 +67,7 @@ fn remove(block: &mut Block, name: &[u8]) -> Result<Option<u16>> {
 }
 
 /// What a block answers to calls and then is, if it was cleared first.
-fn steps(alloc: Global, case: Case<'_>) -> Result<String> {
+pub fn steps(alloc: Global, case: Case<'_>) -> Result<String> {
     let mut block = DIRTY;
     DirectoryBlock::clear(&mut block);
     let mut text = String::new(alloc);
@@ -91,14 +89,12 @@ fn take_steps(case: Case<'_>, block: &mut Block, text: &mut String) -> Result<()
 }
 
 fn take_step(word: &str, block: &mut Block, text: &mut String) -> Result<()> {
-    match word.split_once(':') {
-        Some(("remove", name)) => push_removed(remove(block, name.as_bytes())?, text),
-        Some((number, name)) => {
-            let is_put = insert(block, name.as_bytes(), number.parse()?)?;
-            push_put(is_put, text)
-        }
-        None => bail!("no step: {word}"),
+    let (step, name) = word.split_once(':').context("no such step")?;
+    if step == "remove" {
+        return push_removed(remove(block, name.as_bytes())?, text);
     }
+    let is_put = insert(block, name.as_bytes(), step.parse()?)?;
+    push_put(is_put, text)
 }
 
 fn push_removed(removed: Option<u16>, text: &mut String) -> Result<()> {
@@ -188,15 +184,25 @@ fn full_block() -> Block {
 
 fn up_to_the_last_byte(report: &Report<'_>) -> Result<Tally> {
     let mut tally = Tally::new();
-    let long = [b'z'; 94];
-    let mut block = names_without(MANY);
-    let is_right = !insert(&mut block, &long, 500)? && block == names_without(MANY);
-    tally.check(report.runtime(), is_right, &[94])?;
-    let is_right = insert(&mut block, &long[..93], 500)? && block == full_block();
-    tally.check(report.runtime(), is_right, &[93])?;
-    let is_right = !insert(&mut block, b"a", 501)? && block == full_block();
-    tally.check(report.runtime(), is_right, &[1])?;
-    let is_right = remove(&mut block, &long[..93])? == Some(500) && block == names_without(MANY);
-    tally.check(report.runtime(), is_right, &[0])?;
+    for (at, is_right) in last_bytes()?.iter().enumerate() {
+        tally.check(report.runtime(), *is_right, &[at as u32])?;
+    }
     Ok(tally)
+}
+
+/// Whether a name of 94 bytes finds no room, one of 93 does, then none does, and the block is as before when it is gone.
+fn last_bytes() -> Result<[bool; 4]> {
+    let long = [b'z'; 94];
+    let (many, full) = (names_without(MANY), full_block());
+    let mut block = names_without(MANY);
+    let is_refused = is_inserted(&mut block, &long, false, &many)?;
+    let is_put = is_inserted(&mut block, &long[..93], true, &full)?;
+    let is_full = is_inserted(&mut block, b"a", false, &full)?;
+    let is_gone = remove(&mut block, &long[..93])? == Some(500) && block == many;
+    Ok([is_refused, is_put, is_full, is_gone])
+}
+
+/// Whether a name is put or not, and the block is this one then.
+fn is_inserted(block: &mut Block, name: &[u8], is_put: bool, wanted: &Block) -> Result<bool> {
+    Ok(insert(block, name, 500)? == is_put && *block == *wanted)
 }

@@ -7,7 +7,7 @@ use sn_layout::{
     Superblock,
 };
 use sn_limits::SnapshotName;
-use sn_table::{Case, Report};
+use sn_table::Case;
 use std::alloc::Global;
 use std::str;
 
@@ -23,19 +23,11 @@ const AREAS: [(&str, Area); 9] = [
     ("data", Area::Data),
 ];
 
-pub fn run(report: &mut Report<'_>) -> Result<()> {
-    report.table("superblock.txt", superblock)?;
-    report.table("root_body.txt", root_body)?;
-    report.table("places.txt", place)?;
-    report.table("snapshot_names.txt", snapshot_name)?;
-    report.table("snapshots.txt", snapshots)
-}
-
 fn refused(alloc: Global) -> Result<String> {
     Ok(String::from_str(alloc, "refused")?)
 }
 
-fn superblock(alloc: Global, case: Case<'_>) -> Result<String> {
+pub fn superblock(alloc: Global, case: Case<'_>) -> Result<String> {
     let block = block_of(alloc, case.text())?;
     let Some(superblock) = Superblock::decode(&block) else {
         return refused(alloc);
@@ -43,10 +35,11 @@ fn superblock(alloc: Global, case: Case<'_>) -> Result<String> {
     let mut again = DIRTY;
     superblock.encode(&mut again);
     ensure_same(again == block, case)?;
-    Ok(format!(in alloc; "{} blocks", superblock.places.blocks())?)
+    let blocks = superblock.places.blocks();
+    Ok(format!(in alloc; "{blocks} blocks")?)
 }
 
-fn root_body(alloc: Global, case: Case<'_>) -> Result<String> {
+pub fn root_body(alloc: Global, case: Case<'_>) -> Result<String> {
     let block = block_of(alloc, case.text())?;
     let Some(body) = RootBody::decode(&block) else {
         return refused(alloc);
@@ -93,7 +86,7 @@ fn area_of(name: &str) -> Result<Area> {
             return Ok(area);
         }
     }
-    bail!("no area: {name}")
+    bail!("no such area")
 }
 
 fn name_of(area: Area) -> Result<&'static str> {
@@ -106,7 +99,7 @@ fn name_of(area: Area) -> Result<&'static str> {
 }
 
 /// The blocks of an area on a disk of so many, or the area of a block.
-fn place(alloc: Global, case: Case<'_>) -> Result<String> {
+pub fn place(alloc: Global, case: Case<'_>) -> Result<String> {
     let Some(places) = Places::new(case.number(0)?) else {
         return Ok(String::from_str(alloc, "no disk")?);
     };
@@ -117,16 +110,17 @@ fn place(alloc: Global, case: Case<'_>) -> Result<String> {
 }
 
 fn area_at(places: &Places, block: u32) -> Result<&'static str> {
-    ensure!(block < places.blocks(), "no block {block}");
+    ensure!(block < places.blocks(), "no such block");
     name_of(places.area_of(block))
 }
 
 fn range_of(alloc: Global, places: &Places, area: Area) -> Result<String> {
     let range = places.range(area);
-    Ok(format!(in alloc; "{} to {}", range.start, range.end - 1)?)
+    let (first, last) = (range.start, range.end - 1);
+    Ok(format!(in alloc; "{first} to {last}")?)
 }
 
-fn snapshot_name(alloc: Global, case: Case<'_>) -> Result<String> {
+pub fn snapshot_name(alloc: Global, case: Case<'_>) -> Result<String> {
     let word = case.bytes(alloc)?;
     match SnapshotName::parse(word.as_slice()) {
         Some(name) => Ok(String::from_str(alloc, str::from_utf8(name.copy().as_bytes())?)?),
@@ -135,11 +129,11 @@ fn snapshot_name(alloc: Global, case: Case<'_>) -> Result<String> {
 }
 
 /// Snapshots with these bits and one name, of which one is removed.
-fn snapshots(alloc: Global, case: Case<'_>) -> Result<String> {
+pub fn snapshots(alloc: Global, case: Case<'_>) -> Result<String> {
     let index = case.number(1)? as usize;
     let bits = case.numbers(alloc, 0)?;
     let mut snapshots = snapshots_of(bits.as_slice())?;
-    ensure!(index < snapshots.as_slice().len(), "no snapshot {index}");
+    ensure!(index < snapshots.as_slice().len(), "no such snapshot");
     let removed = snapshots.remove(index).bit;
     told_snapshots(alloc, removed, &snapshots)
 }

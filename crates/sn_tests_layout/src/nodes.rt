@@ -5,17 +5,11 @@ use anyhow::{Result, ensure};
 use sn_layout::{BLOCK_SIZE, Block};
 use sn_layout_node::{Content, INODE_SIZE, IndirectBlock, Inode, InodeRecord, POINTERS_PER_BLOCK};
 use sn_limits::{Kind, Limits};
-use sn_table::{Case, Report};
+use sn_table::Case;
 use std::alloc::Global;
 use std::str;
 
-pub fn run(report: &mut Report<'_>) -> Result<()> {
-    report.table("inode_record.txt", record)?;
-    report.table("indirect_block.txt", indirect_block)?;
-    report.table("pointers.txt", pointer)
-}
-
-fn record(alloc: Global, case: Case<'_>) -> Result<String> {
+pub fn record(alloc: Global, case: Case<'_>) -> Result<String> {
     let mut bytes = [0; INODE_SIZE];
     fill(alloc, &mut bytes, case.text())?;
     let Some(record) = InodeRecord::decode(&Limits::VERSION_1, &bytes) else {
@@ -48,11 +42,8 @@ fn push_inode(text: &mut String, inode: &Inode) -> Result<()> {
         text,
         ", mode {mode:o}, links {links}, owner {owner}, group {group}"
     )?;
-    Ok(write!(
-        text,
-        ", ACL block {acl_block}, size {}",
-        inode.content.size()
-    )?)
+    let size = inode.content.size();
+    Ok(write!(text, ", ACL block {acl_block}, size {size}")?)
 }
 
 fn kind_word(kind: Kind) -> &'static str {
@@ -71,40 +62,49 @@ fn push_if(is_set: bool, word: &str, text: &mut String) -> Result<()> {
 
 fn push_content(text: &mut String, content: &Content) -> Result<()> {
     match content {
-        Content::Inline(bytes) => Ok(write!(text, " {}", str::from_utf8(bytes.as_slice())?)?),
+        Content::Inline(bytes) => {
+            let bytes = str::from_utf8(bytes.as_slice())?;
+            Ok(write!(text, " {bytes}")?)
+        }
         Content::Tree(tree) => push_pointers(text, tree.pointers.as_slice()),
     }
 }
 
 /// The pointers of a block that are no holes. Encoded together, and set one by one, they make the same
 /// block again.
-fn indirect_block(alloc: Global, case: Case<'_>) -> Result<String> {
+pub fn indirect_block(alloc: Global, case: Case<'_>) -> Result<String> {
     let block = block_of(alloc, case.text())?;
-    let (pointers, set) = pointers_of(&IndirectBlock::decode(&block));
+    let pointers = pointers_of(&block);
     let mut again = DIRTY;
     IndirectBlock::encode(&pointers, &mut again);
-    ensure_same(again == block && set == block, case)?;
+    ensure_same(again == block && set_one_by_one(&pointers) == block, case)?;
     let mut text = String::from_str(alloc, "pointers")?;
     push_pointers(&mut text, &pointers)?;
     Ok(text)
 }
 
-/// The pointers of a block, and a block in which they are set one by one.
-fn pointers_of(indirect: &IndirectBlock<'_>) -> ([u32; POINTERS_PER_BLOCK], Block) {
+fn pointers_of(block: &Block) -> [u32; POINTERS_PER_BLOCK] {
+    let indirect = IndirectBlock::decode(block);
     let mut pointers = [0; POINTERS_PER_BLOCK];
-    let mut set: Block = [0; BLOCK_SIZE];
     for at in 0..POINTERS_PER_BLOCK {
-        let pointer = indirect.pointer(at);
-        pointers[at] = pointer;
-        IndirectBlock::set_pointer(&mut set, at, pointer);
+        pointers[at] = indirect.pointer(at);
     }
-    (pointers, set)
+    pointers
+}
+
+/// A block of holes in which the pointers are set one by one.
+fn set_one_by_one(pointers: &[u32; POINTERS_PER_BLOCK]) -> Block {
+    let mut block = [0; BLOCK_SIZE];
+    for at in 0..POINTERS_PER_BLOCK {
+        IndirectBlock::set_pointer(&mut block, at, pointers[at]);
+    }
+    block
 }
 
 /// The block in which one pointer is set and the others are holes.
-fn pointer(alloc: Global, case: Case<'_>) -> Result<String> {
+pub fn pointer(alloc: Global, case: Case<'_>) -> Result<String> {
     let index = case.number(0)? as usize;
-    ensure!(index < POINTERS_PER_BLOCK, "no pointer {index}");
+    ensure!(index < POINTERS_PER_BLOCK, "no such pointer");
     let mut block = [0; BLOCK_SIZE];
     IndirectBlock::set_pointer(&mut block, index, case.number(1)?);
     spelled(alloc, &block)
