@@ -78,7 +78,7 @@ impl<F: FileExt + OpenFile + Drop> FileDevice<F> {
         Ok(FileDevice::over(file, gathered, sectors))
     }
 
-    pub(crate) fn over(file: F, gathered: Gathered, sectors: u64) -> Self
+    fn over(file: F, gathered: Gathered, sectors: u64) -> Self
         requires { sectors * 512 < 2 ^ 64 }
         ensures { status_of result ≡ uncalled sectors }
     {

@@ -25,7 +25,5 @@
 mod block;
 mod file;
 mod gathered;
-#[cfg(test)]
-mod tests;
 
 pub use file::FileDevice;

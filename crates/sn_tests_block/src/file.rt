@@ -1,7 +1,7 @@
 //! The table over a file.
 
 use crate::steps::take_step;
-use crate::words::number_of;
+use crate::words::{number_of, push_number};
 use anyhow::{Result, bail};
 use sn_block::Blocks;
 use sn_filedev::FileDevice;
@@ -22,40 +22,70 @@ pub fn run(report: &mut Report<'_>) -> Result<()> {
 
 /// What blocks of a file answer to calls, one after the other. The file is there no longer then.
 fn steps(rt: &HostRuntime, alloc: Global, case: Case<'_>) -> Result<String> {
-    let answer = steps_over_file(rt, alloc, case);
-    let removed = fs::remove_file(rt, IMAGE);
-    let text = answer?;
-    removed?;
+    let mut text = String::new(alloc);
+    take_steps(rt, alloc, case, &mut text)?;
     Ok(text)
 }
 
-fn steps_over_file(rt: &HostRuntime, alloc: Global, case: Case<'_>) -> Result<String> {
+fn take_steps(rt: &HostRuntime, alloc: Global, case: Case<'_>, text: &mut String) -> Result<()> {
+    let taken = take_steps_over_file(rt, alloc, case, text);
+    let removed = fs::remove_file(rt, IMAGE);
+    taken?;
+    Ok(removed?)
+}
+
+fn take_steps_over_file(
+    rt: &HostRuntime,
+    alloc: Global,
+    case: Case<'_>,
+    text: &mut String,
+) -> Result<()> {
     let mut blocks = made(rt, alloc, case.word(0)?)?;
-    let mut text = String::new(alloc);
     for word in case.text().split_ascii_whitespace().skip(1) {
-        let (step, value) = word.split_once('=').unwrap_or((word, ""));
-        if step == "open" {
-            drop(blocks.into_device());
-            blocks = opened(rt, alloc)?;
+        if word == "open" {
+            blocks = opened_again(rt, alloc, blocks)?;
         } else {
-            take_step(alloc, &mut blocks, (step, value), &mut text)?;
+            take_file_step(rt, alloc, &mut blocks, word, text)?;
         }
     }
-    Ok(text)
+    Ok(())
 }
 
-/// A new file of so many blocks.
+fn take_file_step(
+    rt: &HostRuntime,
+    alloc: Global,
+    blocks: &mut FileBlocks,
+    word: &str,
+    text: &mut String,
+) -> Result<()> {
+    if word == "length" {
+        return push_number(text, fs::metadata(rt, IMAGE)?.len());
+    }
+    take_step(
+        alloc,
+        blocks,
+        word.split_once('=').unwrap_or((word, "")),
+        text,
+    )
+}
+
+/// A new file of so many blocks, in the place of one that is there.
 fn made(rt: &HostRuntime, alloc: Global, word: &str) -> Result<FileBlocks> {
     match word.split_once('=') {
         Some(("blocks", count)) => {
+            fs::write(rt, IMAGE, "what was there")?;
             let device = FileDevice::create(alloc, rt, IMAGE, number_of(count)?)?;
-            Ok(Blocks::new(alloc, device).map_err(AllocError::from)?)
+            blocks_of(alloc, device)
         }
-        _ => bail!("no device: {word}"),
+        _ => bail!("no such device"),
     }
 }
 
-fn opened(rt: &HostRuntime, alloc: Global) -> Result<FileBlocks> {
-    let device = FileDevice::open(alloc, rt, IMAGE)?;
+fn opened_again(rt: &HostRuntime, alloc: Global, blocks: FileBlocks) -> Result<FileBlocks> {
+    drop(blocks.into_device());
+    blocks_of(alloc, FileDevice::open(alloc, rt, IMAGE)?)
+}
+
+fn blocks_of(alloc: Global, device: FileDevice<File>) -> Result<FileBlocks> {
     Ok(Blocks::new(alloc, device).map_err(AllocError::from)?)
 }

@@ -18,7 +18,7 @@ fn text_of(alloc: Global, case: Case<'_>) -> Result<String> {
     let fault = match case.word(0)? {
         "device" => ReadFault::Device,
         "memory" => ReadFault::Memory,
-        other => bail!("no fault: {other}"),
+        _ => bail!("no such fault"),
     };
     Ok(fault.to_string(alloc)?)
 }
@@ -27,7 +27,7 @@ fn text_of(alloc: Global, case: Case<'_>) -> Result<String> {
 fn device_of(alloc: Global, word: &str) -> Result<MemDevice> {
     match word.split_once('=') {
         Some(("sectors", count)) => Ok(MemDevice::new(alloc, u64::from(number_of(count)?))?),
-        _ => bail!("no device: {word}"),
+        _ => bail!("no such device"),
     }
 }
 
@@ -37,27 +37,53 @@ fn blocks_of(alloc: Global, device: MemDevice) -> Result<Blocks<MemDevice>> {
 
 /// What blocks answer to calls, one after the other.
 fn steps(alloc: Global, case: Case<'_>) -> Result<String> {
-    let mut blocks = blocks_of(alloc, device_of(alloc, case.word(0)?)?)?;
     let mut text = String::new(alloc);
+    take_steps(alloc, case, &mut text)?;
+    Ok(text)
+}
+
+fn take_steps(alloc: Global, case: Case<'_>, text: &mut String) -> Result<()> {
+    let mut blocks = blocks_of(alloc, device_of(alloc, case.word(0)?)?)?;
     for word in case.text().split_ascii_whitespace().skip(1) {
         let (step, value) = word.split_once('=').unwrap_or((word, ""));
-        if matches!(step, "fail" | "stop" | "crash" | "show" | "lent") {
-            let lent = lend_all(alloc, &mut blocks, step)?;
-            let device = take_device_step(blocks.into_device(), (step, value), &lent, &mut text)?;
-            blocks = blocks_of(alloc, device)?;
-        } else {
-            take_step(alloc, &mut blocks, (step, value), &mut text)?;
+        match step {
+            "fail" | "stop" | "crash" | "show" => {
+                blocks = over_device(alloc, blocks, (step, value), text)?;
+            }
+            "lent" => blocks = over_lent(alloc, blocks, text)?,
+            _ => take_step(alloc, &mut blocks, (step, value), text)?,
         }
         ensure!(!blocks.status().is_spent, "no memory for a call");
     }
-    Ok(text)
+    Ok(())
+}
+
+fn over_device(
+    alloc: Global,
+    blocks: Blocks<MemDevice>,
+    step: (&str, &str),
+    text: &mut String,
+) -> Result<Blocks<MemDevice>> {
+    let device = take_device_step(blocks.into_device(), step, text)?;
+    blocks_of(alloc, device)
+}
+
+/// Tells how many blocks can be read, where each is what the device has.
+fn over_lent(
+    alloc: Global,
+    mut blocks: Blocks<MemDevice>,
+    text: &mut String,
+) -> Result<Blocks<MemDevice>> {
+    let lent = lend_all(alloc, &mut blocks)?;
+    let device = blocks.into_device();
+    push_lent(&device, lent.as_slice(), text)?;
+    blocks_of(alloc, device)
 }
 
 /// A step that takes the device out of its blocks, which keep none then.
 fn take_device_step(
     mut device: MemDevice,
     (step, value): (&str, &str),
-    lent: &[(u32, Block)],
     text: &mut String,
 ) -> Result<MemDevice> {
     match step {
@@ -68,8 +94,7 @@ fn take_device_step(
         }
         "stop" => device.stop_at(u64::from(number_of(value)?)),
         "crash" => return Ok(device.crash(fill_of(value)?)),
-        "show" => show(&device, text)?,
-        _ => push_lent(&device, lent, text)?,
+        _ => show(&device, text)?,
     }
     Ok(device)
 }
@@ -83,26 +108,24 @@ fn show(device: &MemDevice, text: &mut String) -> Result<()> {
     Ok(())
 }
 
-/// For the step `lent`, each block that can be read, with its number.
-fn lend_all(
-    alloc: Global,
-    blocks: &mut Blocks<MemDevice>,
-    step: &str,
-) -> Result<Vec<(u32, Block)>> {
+/// Each block that can be read, with its number.
+fn lend_all(alloc: Global, blocks: &mut Blocks<MemDevice>) -> Result<Vec<(u32, Block)>> {
     let mut lent = Vec::new(alloc);
-    if step != "lent" {
-        return Ok(lent);
-    }
     for number in 0..256 {
-        if 8 * u64::from(number) + 8 <= blocks.sectors() {
-            match blocks.read_block(number) {
-                Ok(block) => lent.push((number, *block))?,
-                Err(ReadFault::Device) => {}
-                Err(fault) => return Err(fault.into()),
-            }
-        }
+        lend(blocks, number, &mut lent)?;
     }
     Ok(lent)
+}
+
+fn lend(blocks: &mut Blocks<MemDevice>, number: u32, lent: &mut Vec<(u32, Block)>) -> Result<()> {
+    if 8 * u64::from(number) + 8 > blocks.sectors() {
+        return Ok(());
+    }
+    match blocks.read_block(number) {
+        Ok(block) => Ok(lent.push((number, *block))?),
+        Err(ReadFault::Device) => Ok(()),
+        Err(fault) => Err(fault.into()),
+    }
 }
 
 /// How many blocks were lent, where each was what the device has.

@@ -53,21 +53,55 @@ const MANY_BLOCKS: Plan = Plan {
 fn seeds(report: &Report<'_>, plan: Plan) -> Result<Tally> {
     let mut tally = Tally::new();
     for seed in 1..=plan.seeds {
-        let mut pair = Pair::new(report.alloc(), plan, seed)?;
-        if plan.is_full {
-            let is_right = pair.read_all(plan.blocks)?;
-            tally.check(report.runtime(), is_right, &[seed])?;
-        }
-        for step in 0..plan.steps {
-            let is_right = pair.step()?;
-            tally.check(report.runtime(), is_right, &[seed, step])?;
-        }
-        let is_right = pair.read_all(plan.blocks)?;
-        tally.check(report.runtime(), is_right, &[seed])?;
-        let fill = if seed % 2 == 0 { Fill::Old } else { Fill::New };
-        tally.check(report.runtime(), pair.crash(fill), &[seed])?;
+        take_seed(report, plan, seed, &mut tally)?;
     }
     Ok(tally)
+}
+
+fn take_seed(report: &Report<'_>, plan: Plan, seed: u32, tally: &mut Tally) -> Result<()> {
+    let mut pair = Pair::new(report.alloc(), plan, seed)?;
+    take_steps(report, plan, seed, &mut pair, tally)?;
+    let is_right = pair.crash(fill_of(seed));
+    tally.check(report.runtime(), is_right, &[seed])?;
+    Ok(())
+}
+
+fn fill_of(seed: u32) -> Fill {
+    if seed % 2 == 0 { Fill::Old } else { Fill::New }
+}
+
+fn take_steps(
+    report: &Report<'_>,
+    plan: Plan,
+    seed: u32,
+    pair: &mut Pair,
+    tally: &mut Tally,
+) -> Result<()> {
+    if plan.is_full {
+        let is_right = pair.read_all(plan.blocks)?;
+        tally.check(report.runtime(), is_right, &[seed])?;
+    }
+    for step in 0..plan.steps {
+        let is_right = pair.step()?;
+        tally.check(report.runtime(), is_right, &[seed, step])?;
+    }
+    let is_right = pair.read_all(plan.blocks)?;
+    tally.check(report.runtime(), is_right, &[seed])?;
+    Ok(())
+}
+
+/// The blocks of a device of which so many calls succeed, and then one fails.
+fn blocks_of(alloc: Global, sectors: u64, calls: u64) -> Result<Blocks<MemDevice>> {
+    let mut device = MemDevice::new(alloc, sectors)?;
+    ensure!(calls < 1 << 40, "too many calls");
+    device.fail_at(calls + 1);
+    Ok(Blocks::new(alloc, device).map_err(AllocError::from)?)
+}
+
+fn plain_of(alloc: Global, sectors: usize, calls: u64) -> Result<Plain, AllocError> {
+    let mut plain = Plain::new(alloc, sectors)?;
+    plain.fail_after(calls);
+    Ok(plain)
 }
 
 /// The blocks of a device, and plain lists beside.
@@ -82,12 +116,9 @@ impl Pair {
     fn new(alloc: Global, plan: Plan, seed: u32) -> Result<Self> {
         let sectors = 8 * u64::from(plan.blocks);
         let calls = u64::from(seed) * u64::from(plan.calls);
-        let mut device = MemDevice::new(alloc, sectors)?;
-        device.fail_at(calls + 1);
-        let mut plain = Plain::new(alloc, sectors as usize)?;
-        plain.fail_after(calls);
+        let plain = plain_of(alloc, sectors as usize, calls)?;
         Ok(Pair {
-            blocks: Blocks::new(alloc, device).map_err(AllocError::from)?,
+            blocks: blocks_of(alloc, sectors, calls)?,
             plain,
             random: Pcg32::new(u64::from(seed), 0),
         })
@@ -160,7 +191,7 @@ impl Pair {
         let at = self.some_sector()?;
         let mut sector = [0; SECTOR_SIZE];
         self.random.fill_bytes(&mut sector);
-        ensure!(at < self.blocks.sectors(), "no sector {at}");
+        ensure!(at < self.blocks.sectors(), "no such sector");
         let answer = self.blocks.write_sector(at, &sector);
         Ok(answer.is_ok() == self.plain.write(at, &sector))
     }
@@ -169,7 +200,7 @@ impl Pair {
         let at = self.some_sector()?;
         let mut sector = [0; SECTOR_SIZE];
         self.random.fill_bytes(&mut sector);
-        ensure!(at < self.blocks.sectors(), "no sector {at}");
+        ensure!(at < self.blocks.sectors(), "no such sector");
         let answer = self.blocks.write_synced(at, &sector);
         Ok(answer.is_ok() == (self.plain.write(at, &sector) && self.plain.sync()))
     }

@@ -38,13 +38,13 @@ fn write<D: Device>(
         "run" => write_run(alloc, blocks, u64::from(number_of(place)?), what, text),
         "block" => write_block(blocks, number_of(place)?, what, text),
         "zeros" => zero_range(blocks, number_of(place)?, number_of(what)?, text),
-        _ => bail!("no step: {step}"),
+        _ => bail!("no such step"),
     }
 }
 
 /// A fault of the device is an answer, and want of memory an error.
 fn push_fault(text: &mut String, fault: ReadFault) -> Result<()> {
-    ensure!(fault != ReadFault::Memory, "{fault}");
+    ensure!(fault != ReadFault::Memory, "no memory for a block");
     push_word(text, "fault")
 }
 
@@ -86,12 +86,9 @@ fn fetches<D: Device>(blocks: &mut Blocks<D>, value: &str, text: &mut String) ->
 /// The writes, syncs and failures.
 fn counts<D: Device>(blocks: &Blocks<D>, text: &mut String) -> Result<()> {
     let status = blocks.status();
+    let (writes, syncs, failures) = (status.writes, status.syncs, status.failures);
     push_word(text, "")?;
-    write!(
-        text,
-        "{}/{}/{}",
-        status.writes, status.syncs, status.failures
-    )?;
+    write!(text, "{writes}/{syncs}/{failures}")?;
     Ok(())
 }
 
@@ -103,7 +100,7 @@ fn write_sector<D: Device>(
     text: &mut String,
 ) -> Result<()> {
     let (at, sector) = (u64::from(number_of(place)?), sector_of(byte)?);
-    ensure!(at < blocks.sectors(), "no sector {at}");
+    ensure!(at < blocks.sectors(), "no such sector");
     let answer = match step {
         "synced" => blocks.write_synced(at, &sector),
         _ => blocks.write_sector(at, &sector),
@@ -133,7 +130,7 @@ fn write_block<D: Device>(
     word: &str,
     text: &mut String,
 ) -> Result<()> {
-    ensure!(word.len() == 16, "no eight bytes: {word}");
+    ensure!(word.len() == 16, "no eight bytes");
     let block = block_of(u64::from_str_radix(word, 16)?.to_be_bytes());
     ensure!(8 * u64::from(number) + 8 <= blocks.sectors(), "no block");
     push_answer(text, blocks.write_block(number, &block))

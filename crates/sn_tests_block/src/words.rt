@@ -5,17 +5,16 @@ use sn_block::Block;
 use sn_device::{Fault, Fill, SECTOR_SIZE, Sector};
 
 pub fn number_of(word: &str) -> Result<u32> {
-    word.parse().context(format_args!("no number: {word}"))
+    word.parse().context("no number")
 }
 
-fn byte_of(word: &str) -> Result<u8> {
-    u8::from_str_radix(word, 16).context(format_args!("no byte: {word}"))
+pub fn byte_of(word: &str) -> Result<u8> {
+    u8::from_str_radix(word, 16).context("no byte")
 }
 
 /// The two words around a colon.
 pub fn pair_of(word: &str) -> Result<(&str, &str)> {
-    word.split_once(':')
-        .context(format_args!("no pair: {word}"))
+    word.split_once(':').context("no pair")
 }
 
 /// A sector that is made of one byte.
@@ -32,17 +31,21 @@ pub fn push_sectors(bytes: &mut Vec<u8>, word: &str) -> Result<()> {
 }
 
 pub fn fill_of(word: &str) -> Result<Fill> {
-    Ok(match word {
-        "old" => Fill::Old,
-        "new" => Fill::New,
-        "zero" => Fill::Zero,
-        "one" => Fill::One,
-        "junk" => Fill::Junk,
-        _ => match word.split_once(':') {
-            Some(("seed", seed)) => Fill::Seeded(u64::from(number_of(seed)?)),
-            _ => bail!("no fill: {word}"),
-        },
-    })
+    match word {
+        "old" => Ok(Fill::Old),
+        "new" => Ok(Fill::New),
+        "zero" => Ok(Fill::Zero),
+        "one" => Ok(Fill::One),
+        "junk" => Ok(Fill::Junk),
+        _ => seeded(word),
+    }
+}
+
+fn seeded(word: &str) -> Result<Fill> {
+    match word.split_once(':') {
+        Some(("seed", seed)) => Ok(Fill::Seeded(u64::from(number_of(seed)?))),
+        _ => bail!("no such fill"),
+    }
 }
 
 pub fn push_word(text: &mut String, word: &str) -> Result<()> {
@@ -60,7 +63,11 @@ pub fn push_number(text: &mut String, number: u64) -> Result<()> {
 }
 
 pub fn push_answer(text: &mut String, answer: Result<(), Fault>) -> Result<()> {
-    push_word(text, if answer.is_ok() { "ok" } else { "fault" })
+    push_word(text, answer_word(answer.is_ok()))
+}
+
+fn answer_word(is_ok: bool) -> &'static str {
+    if is_ok { "ok" } else { "fault" }
 }
 
 /// The first byte of each sector, and behind it a `~` where another one differs.
@@ -75,8 +82,17 @@ pub fn push_block(text: &mut String, block: &Block) -> Result<()> {
 pub fn push_sector(text: &mut String, sector: &[u8]) -> Result<()> {
     let first = sector.first().copied().unwrap_or(0);
     write!(text, "{first:02x}")?;
-    if !sector.iter().all(|byte| *byte == first) {
+    if !are_all(sector, first) {
         text.push_str("~")?;
     }
     Ok(())
+}
+
+fn are_all(bytes: &[u8], wanted: u8) -> bool {
+    for byte in bytes {
+        if *byte != wanted {
+            return false;
+        }
+    }
+    true
 }
