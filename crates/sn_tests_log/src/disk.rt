@@ -2,7 +2,7 @@
 
 use anyhow::{Context, Result, bail, ensure};
 use sn_block::{Blocks, ReadFault};
-use sn_device::MemDevice;
+use sn_device::{Fill, MemDevice, SECTOR_SIZE, Sector};
 use sn_layout::{LogHalf, Places};
 use sn_log::{Buffer, Found, Log, Position, Replay, clear};
 use sn_model::{Bytes, Change};
@@ -46,9 +46,27 @@ pub fn blocks_of(alloc: Global, device: MemDevice) -> Result<Blocks<MemDevice>> 
     Ok(Blocks::new(alloc, device).map_err(AllocError::from)?)
 }
 
+/// What a crash leaves of a disk.
+pub fn crashed(alloc: Global, blocks: Blocks<MemDevice>, fill: Fill) -> Result<Blocks<MemDevice>> {
+    blocks_of(alloc, blocks.into_device().crash(fill))
+}
+
 /// A disk of zeros.
 pub fn new_blocks(alloc: Global) -> Result<Blocks<MemDevice>> {
     blocks_of(alloc, MemDevice::new(alloc, SECTORS)?)
+}
+
+/// The bytes of a sector of the disk.
+pub fn sector_at(blocks: &mut Blocks<MemDevice>, at: u64) -> Result<Sector> {
+    ensure!(
+        at < SECTORS && blocks.sectors() >= SECTORS,
+        "no such sector"
+    );
+    let block = blocks.read_block((at / 8) as u32)?;
+    let mut sector = [0; SECTOR_SIZE];
+    let from = SECTOR_SIZE * (at % 8) as usize;
+    sector.copy_from_slice(&block[from..from + SECTOR_SIZE]);
+    Ok(sector)
 }
 
 /// A log at a position.
@@ -84,16 +102,23 @@ pub fn append(
 ) -> Result<Appended> {
     match added {
         Added::Size(size) => append_change(blocks, log, &Change::SetSize { number: 1, size }),
-        Added::Write(count) => {
-            let bytes = vec![in alloc; b'w'; count]?;
-            let change = Change::Write {
-                number: 4,
-                offset: 0,
-                bytes: Bytes::new(bytes.as_slice()),
-            };
-            append_change(blocks, log, &change)
-        }
+        Added::Write(count) => append_write(alloc, blocks, log, count),
     }
+}
+
+fn append_write(
+    alloc: Global,
+    blocks: &mut Blocks<MemDevice>,
+    log: &mut Log,
+    count: usize,
+) -> Result<Appended> {
+    let bytes = vec![in alloc; b'w'; count]?;
+    let change = Change::Write {
+        number: 4,
+        offset: 0,
+        bytes: Bytes::new(bytes.as_slice()),
+    };
+    append_change(blocks, log, &change)
 }
 
 /// Clears a place of a half.
@@ -103,7 +128,7 @@ pub fn clear_place(
     place: u64,
 ) -> Result<Result<(), ReadFault>> {
     let places = places()?;
-    ensure!(place <= 255, "no place {place}");
+    ensure!(place <= 255, "no such place");
     ensure!(
         8 * u64::from(places.blocks()) <= blocks.sectors(),
         "a smaller device"
@@ -146,13 +171,23 @@ pub fn replayed(
     blocks: &mut Blocks<MemDevice>,
     epoch: u64,
 ) -> Result<(Vec<u64>, Ending, Position)> {
+    let mut found = Vec::new(alloc);
+    let (ending, position) = replay_all(alloc, blocks, epoch, &mut found)?;
+    Ok((found, ending, position))
+}
+
+fn replay_all(
+    alloc: Global,
+    blocks: &mut Blocks<MemDevice>,
+    epoch: u64,
+    found: &mut Vec<u64>,
+) -> Result<(Ending, Position)> {
     let mut buffer = Buffer::new(alloc)?;
     let mut replay = Replay::new(places()?, epoch);
-    let mut found = Vec::new(alloc);
     for _ in 0..256 {
         match next_of(&mut replay, blocks, &mut buffer)? {
             Step::Record(number) => found.push(number)?,
-            Step::Last(ending) => return Ok((found, ending, replay.position())),
+            Step::Last(ending) => return Ok((ending, replay.position())),
         }
     }
     bail!("replay goes on")

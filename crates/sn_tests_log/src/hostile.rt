@@ -1,7 +1,7 @@
 //! Halves of the log with bytes that a seed draws, replayed and read plainly beside.
 
 use crate::disk::{
-    Added, Appended, Ending, append, blocks_of, log_at, new_blocks, places, replayed,
+    Added, Appended, Ending, append, blocks_of, log_at, new_blocks, places, replayed, sector_at,
 };
 use anyhow::{Result, ensure};
 use rand_core::Rng;
@@ -15,6 +15,9 @@ use std::alloc::Global;
 
 const HALVES: u32 = 10_000;
 
+/// How often a half is changed before another one is drawn.
+const CHANGES: u32 = 8;
+
 const EPOCH: u64 = 1;
 
 /// The first sector of the half.
@@ -26,59 +29,89 @@ pub fn run(report: &mut Report<'_>) -> Result<()> {
 }
 
 fn halves(report: &Report<'_>) -> Result<Tally> {
-    let alloc = report.alloc();
     let mut random = Pcg32::new(1, 0);
-    let mut blocks = filled(alloc, &mut random)?;
     let mut tally = Tally::new();
-    for half in 0..HALVES {
-        if half % 8 == 0 {
-            blocks = filled(alloc, &mut random)?;
-        }
-        change_some(&mut blocks, &mut random)?;
-        let device = blocks.into_device().crash(Fill::New);
-        let wanted = plain_of(alloc, device.contents())?;
-        blocks = blocks_of(alloc, device)?;
-        let (found, ending, _) = replayed(alloc, &mut blocks, EPOCH)?;
-        let is_right = found.len() == wanted.0 && ending == wanted.1;
-        tally.check(report.runtime(), is_right, &[half])?;
+    for group in 0..HALVES / CHANGES {
+        change_half(report, &mut random, group, &mut tally)?;
     }
     Ok(tally)
+}
+
+/// Changes a half again and again.
+fn change_half(
+    report: &Report<'_>,
+    random: &mut Pcg32,
+    group: u32,
+    tally: &mut Tally,
+) -> Result<()> {
+    let mut blocks = filled(report.alloc(), random)?;
+    for time in 0..CHANGES {
+        change_some(&mut blocks, random)?;
+        let (compared, is_right) = compared(report.alloc(), blocks)?;
+        blocks = compared;
+        tally.check(report.runtime(), is_right, &[group, time])?;
+    }
+    Ok(())
+}
+
+/// Whether what is replayed is what the bytes spell.
+fn compared(alloc: Global, blocks: Blocks<MemDevice>) -> Result<(Blocks<MemDevice>, bool)> {
+    let device = blocks.into_device().crash(Fill::New);
+    let wanted = plain_of(alloc, device.contents())?;
+    let mut blocks = blocks_of(alloc, device)?;
+    let is_right = is_replayed(alloc, &mut blocks, wanted)?;
+    Ok((blocks, is_right))
+}
+
+fn is_replayed(
+    alloc: Global,
+    blocks: &mut Blocks<MemDevice>,
+    (count, wanted): (usize, Ending),
+) -> Result<bool> {
+    let (found, ending, _) = replayed(alloc, blocks, EPOCH)?;
+    Ok(found.len() == count && ending == wanted)
 }
 
 /// A half with records of drawn sizes, some of them of several sectors.
 fn filled(alloc: Global, random: &mut Pcg32) -> Result<Blocks<MemDevice>> {
     let mut blocks = new_blocks(alloc)?;
+    append_some(alloc, random, &mut blocks)?;
+    Ok(blocks)
+}
+
+fn append_some(alloc: Global, random: &mut Pcg32, blocks: &mut Blocks<MemDevice>) -> Result<()> {
     let mut log = log_at(alloc, Position::first(places()?, EPOCH))?;
     for _ in 0..random.next_u32() % 40 {
-        let count = match random.next_u32() % 4 {
-            0 => 1 + random.next_u32() % 9000,
-            _ => 1 + random.next_u32() % 600,
-        };
-        let answer = append(alloc, &mut blocks, &mut log, Added::Write(count as usize))?;
+        let count = drawn_count(random) as usize;
+        let answer = append(alloc, blocks, &mut log, Added::Write(count))?;
         ensure!(answer != Appended::Failed, "an append without a fault");
     }
-    Ok(blocks)
+    Ok(())
+}
+
+fn drawn_count(random: &mut Pcg32) -> u32 {
+    match random.next_u32() % 4 {
+        0 => 1 + random.next_u32() % 9000,
+        _ => 1 + random.next_u32() % 600,
+    }
 }
 
 /// Draws a few sectors of the half, and in each of them a byte of its head, or all of them.
 fn change_some(blocks: &mut Blocks<MemDevice>, random: &mut Pcg32) -> Result<()> {
     for _ in 0..random.next_u32() % 4 {
-        let reach = random.next_u32() % 2;
-        let place = if reach == 0 {
-            random.next_u32() % 12
-        } else {
-            random.next_u32() % 240
-        };
-        let at = FIRST + u64::from(place);
-        ensure!(at < 2048 && blocks.sectors() >= 2048, "no sector {at}");
-        let block = blocks.read_block((at / 8) as u32)?;
-        let mut sector = [0; SECTOR_SIZE];
-        let from = SECTOR_SIZE * (at % 8) as usize;
-        sector.copy_from_slice(&block[from..from + SECTOR_SIZE]);
+        let at = drawn_sector(random);
+        let mut sector = sector_at(blocks, at)?;
         change(&mut sector, random);
+        ensure!(at < blocks.sectors(), "no such sector");
         blocks.write_sector(at, &sector)?;
     }
     Ok(())
+}
+
+/// One of the first sectors of the half, or of nearly all.
+fn drawn_sector(random: &mut Pcg32) -> u64 {
+    let reach = if random.next_u32() % 2 == 0 { 12 } else { 240 };
+    FIRST + u64::from(random.next_u32() % reach)
 }
 
 fn change(sector: &mut Sector, random: &mut Pcg32) {
@@ -92,27 +125,29 @@ fn change(sector: &mut Sector, random: &mut Pcg32) {
 
 /// How many records the bytes of a disk spell, and how they end, read off the format.
 fn plain_of(alloc: Global, disk: &[Sector]) -> Result<(usize, Ending)> {
-    let mut bytes = Vec::new(alloc);
+    let mut half = Vec::new(alloc);
     for sector in disk.iter().skip(FIRST as usize).take(256) {
-        bytes.extend_from_slice(sector)?;
+        half.extend_from_slice(sector)?;
     }
+    Ok(plain_records(half.as_slice()))
+}
+
+fn plain_records(half: &[u8]) -> (usize, Ending) {
     let mut place = 0_usize;
     let mut count = 0_usize;
     for _ in 0..256 {
-        match plain_record(bytes.as_slice(), place, count) {
-            Plain::Record { sectors } => {
-                place = place.saturating_add(sectors.min(256) + 1);
-            }
+        match plain_record(half, place, count) {
+            Plain::Record { sectors } => place = place.saturating_add(sectors.min(256) + 1),
             Plain::End => break,
             Plain::Misspelt => {
                 let block = 38 + (place.min(255) / 8) as u32;
-                return Ok((count, Ending::Misspelt { block }));
+                return (count, Ending::Misspelt { block });
             }
         }
         count = count.saturating_add(1);
     }
     let place = place as u64;
-    Ok((count, Ending::End { place }))
+    (count, Ending::End { place })
 }
 
 enum Plain {
@@ -132,10 +167,10 @@ fn plain_number(half: &[u8], at: usize, count: usize) -> u64 {
 
 fn plain_record(half: &[u8], place: usize, count: usize) -> Plain {
     let gate = 512 * place.min(256);
-    if place > 253 || plain_number(half, gate, 1) != 1 {
-        return Plain::End;
-    }
-    if plain_number(half, gate + 512, 8) != EPOCH {
+    if place > 253
+        || plain_number(half, gate, 1) != 1
+        || plain_number(half, gate + 512, 8) != EPOCH
+    {
         return Plain::End;
     }
     let size = plain_number(half, gate + 524, 4) as usize % (1 << 32);
@@ -144,16 +179,28 @@ fn plain_record(half: &[u8], place: usize, count: usize) -> Plain {
         return Plain::Misspelt;
     }
     let is_next = plain_number(half, gate + 520, 4) == count as u64;
-    let Some(body) = half.get(gate + 512..gate + 512 + 512 * sectors) else {
-        return Plain::Misspelt;
-    };
-    let Some(payload) = body.get(16..16 + size) else {
-        return Plain::Misspelt;
-    };
-    let is_zero = body.iter().skip(16 + size).all(|byte| *byte == 0);
-    if is_next && is_zero && decode(payload).is_some() {
-        Plain::Record { sectors }
-    } else {
-        Plain::Misspelt
+    match half.get(gate + 512..gate + 512 + 512 * sectors) {
+        Some(body) if is_next && is_body(body, size) => Plain::Record { sectors },
+        _ => Plain::Misspelt,
     }
+}
+
+/// Whether sectors have a payload of this size behind their head, and then zeros.
+fn is_body(body: &[u8], size: usize) -> bool {
+    if size > 65_547 {
+        return false;
+    }
+    match (body.get(16..16 + size), body.get(16 + size..)) {
+        (Some(payload), Some(rest)) => are_zeros(rest) && decode(payload).is_some(),
+        _ => false,
+    }
+}
+
+fn are_zeros(bytes: &[u8]) -> bool {
+    for byte in bytes {
+        if *byte != 0 {
+            return false;
+        }
+    }
+    true
 }

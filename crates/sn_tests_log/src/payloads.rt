@@ -1,8 +1,9 @@
 //! Payloads of log records.
 
-use anyhow::{Result, ensure};
+use anyhow::{Result, bail, ensure};
+use sn_acl::Acl;
 use sn_limits::Kind;
-use sn_model::{Change, Ownership};
+use sn_model::{Bytes, Change, Ownership};
 use sn_record::{decode, is_valid, payload_size, put_change};
 use sn_table::{Case, Report};
 use std::alloc::Global;
@@ -18,20 +19,31 @@ pub fn run(report: &mut Report<'_>) -> Result<()> {
 /// The bytes that the words of a case spell.
 fn bytes_of(alloc: Global, case: Case<'_>) -> Result<Vec<u8>> {
     let mut digits = String::new(alloc);
-    for word in case.text().split_ascii_whitespace() {
-        digits.push_str(word)?;
-    }
+    push_words(case, &mut digits)?;
     Ok(hex::decode(alloc, digits.as_str())?)
 }
 
-/// The change that a payload spells, which has to be spelled so again.
+fn push_words(case: Case<'_>, digits: &mut String) -> Result<()> {
+    for word in case.text().split_ascii_whitespace() {
+        digits.push_str(word)?;
+    }
+    Ok(())
+}
+
 fn payload(alloc: Global, case: Case<'_>) -> Result<String> {
     let bytes = bytes_of(alloc, case)?;
-    let Some(change) = decode(bytes.as_slice()) else {
-        return Ok(String::from_str(alloc, "refused")?);
-    };
-    ensure!(is_spelled_so(&change, bytes.as_slice()), "another spelling");
-    told(alloc, &change)
+    spelled(alloc, bytes.as_slice())
+}
+
+/// The change that a payload spells, which has to be spelled so again.
+fn spelled(alloc: Global, payload: &[u8]) -> Result<String> {
+    match decode(payload) {
+        Some(change) => {
+            ensure!(is_spelled_so(&change, payload), "another spelling");
+            told(alloc, &change)
+        }
+        None => Ok(String::from_str(alloc, "refused")?),
+    }
 }
 
 fn is_spelled_so(change: &Change<'_>, bytes: &[u8]) -> bool {
@@ -45,6 +57,11 @@ fn is_spelled_so(change: &Change<'_>, bytes: &[u8]) -> bool {
 
 fn told(alloc: Global, change: &Change<'_>) -> Result<String> {
     let mut text = String::new(alloc);
+    push_change(&mut text, change)?;
+    Ok(text)
+}
+
+fn push_change(text: &mut String, change: &Change<'_>) -> Result<()> {
     match change {
         Change::Make {
             directory,
@@ -53,42 +70,11 @@ fn told(alloc: Global, change: &Change<'_>) -> Result<String> {
             kind,
             ownership,
         } => {
-            let kind = if *kind == Kind::File {
-                "file"
-            } else {
-                "directory"
-            };
-            let name = str::from_utf8(name.as_slice())?;
-            write!(text, "make {kind} {number} as {name} in {directory}, ")?;
-            push_ownership(&mut text, ownership)?;
-        }
-        Change::AddLink {
-            directory,
-            name,
-            number,
-        } => {
-            let name = str::from_utf8(name.as_slice())?;
-            write!(text, "link {number} as {name} in {directory}")?;
-        }
-        Change::Remove { directory, name } => {
-            write!(
-                text,
-                "remove {} from {directory}",
-                str::from_utf8(name.as_slice())?
-            )?;
-        }
-        Change::Rename {
-            old_directory,
-            old_name,
-            new_directory,
-            new_name,
-        } => {
-            let old = str::from_utf8(old_name.as_slice())?;
-            let new = str::from_utf8(new_name.as_slice())?;
-            write!(
-                text,
-                "rename {old} in {old_directory} to {new} in {new_directory}"
-            )?;
+            let kind = kind_word(*kind);
+            write!(text, "make {kind} {number} as ")?;
+            push_name(text, name, " in ", *directory)?;
+            text.push_str(", ")?;
+            push_ownership(text, ownership)
         }
         Change::Write {
             number,
@@ -96,30 +82,75 @@ fn told(alloc: Global, change: &Change<'_>) -> Result<String> {
             bytes,
         } => {
             let bytes = str::from_utf8(bytes.as_slice())?;
-            write!(text, "write {bytes} into {number} at {offset}")?;
+            Ok(write!(text, "write {bytes} into {number} at {offset}")?)
         }
-        Change::SetSize { number, size } => write!(text, "size of {number} is {size}")?,
+        Change::SetSize { number, size } => Ok(write!(text, "size of {number} is {size}")?),
         Change::SetAttributes { number, ownership } => {
             write!(text, "attributes of {number}: ")?;
-            push_ownership(&mut text, ownership)?;
+            push_ownership(text, ownership)
         }
+        _ => push_naming(text, change),
     }
-    Ok(text)
+}
+
+/// A change of names alone.
+fn push_naming(text: &mut String, change: &Change<'_>) -> Result<()> {
+    match change {
+        Change::AddLink {
+            directory,
+            name,
+            number,
+        } => {
+            write!(text, "link {number} as ")?;
+            push_name(text, name, " in ", *directory)
+        }
+        Change::Remove { directory, name } => {
+            text.push_str("remove ")?;
+            push_name(text, name, " from ", *directory)
+        }
+        Change::Rename {
+            old_directory,
+            old_name,
+            new_directory,
+            new_name,
+        } => {
+            text.push_str("rename ")?;
+            push_name(text, old_name, " in ", *old_directory)?;
+            text.push_str(" to ")?;
+            push_name(text, new_name, " in ", *new_directory)
+        }
+        _ => bail!("no change of names"),
+    }
+}
+
+fn kind_word(kind: Kind) -> &'static str {
+    match kind {
+        Kind::File => "file",
+        Kind::Directory => "directory",
+    }
+}
+
+/// A name with its directory.
+fn push_name(text: &mut String, name: &Bytes<'_>, place: &str, directory: u16) -> Result<()> {
+    let name = str::from_utf8(name.as_slice())?;
+    Ok(write!(text, "{name}{place}{directory}")?)
 }
 
 fn push_ownership(text: &mut String, ownership: &Ownership) -> Result<()> {
-    let acl = ownership.acl.print();
+    let (owner, group) = (ownership.owner, ownership.group);
+    let (set_gid, sticky) = (ownership.set_gid, ownership.sticky);
     write!(
         text,
-        "{}:{}, set-gid {}, sticky {}, {}",
-        ownership.owner,
-        ownership.group,
-        ownership.set_gid,
-        ownership.sticky,
-        acl.as_str()
+        "{owner}:{group}, set-gid {set_gid}, sticky {sticky}, "
     )?;
+    push_acl(text, &ownership.acl)?;
     if let Some(default_acl) = &ownership.default_acl {
-        write!(text, ", default {}", default_acl.print().as_str())?;
+        text.push_str(", default ")?;
+        push_acl(text, default_acl)?;
     }
     Ok(())
+}
+
+fn push_acl(text: &mut String, acl: &Acl) -> Result<()> {
+    Ok(text.push_str(acl.print().as_str())?)
 }

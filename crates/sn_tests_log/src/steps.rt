@@ -2,6 +2,7 @@
 
 use crate::disk::{
     Added, Appended, Ending, append, blocks_of, clear_place, log_at, new_blocks, places, replayed,
+    sector_at,
 };
 use anyhow::{Context, Result, bail, ensure};
 use sn_block::{Blocks, ReadFault};
@@ -16,7 +17,7 @@ pub fn run(report: &mut Report<'_>) -> Result<()> {
 }
 
 fn number_of(word: &str) -> Result<u64> {
-    word.parse().context(format_args!("no number: {word}"))
+    word.parse().context("no number")
 }
 
 fn fill_of(word: &str) -> Result<Fill> {
@@ -26,7 +27,7 @@ fn fill_of(word: &str) -> Result<Fill> {
         "zero" => Fill::Zero,
         "one" => Fill::One,
         "junk" => Fill::Junk,
-        _ => bail!("no fill: {word}"),
+        _ => bail!("no such fill"),
     })
 }
 
@@ -40,24 +41,41 @@ fn push_word(text: &mut String, word: &str) -> Result<()> {
 
 /// What the log answers to the steps of a case.
 fn steps(alloc: Global, case: Case<'_>) -> Result<String> {
-    let mut blocks = new_blocks(alloc)?;
-    let mut log = log_at(alloc, Position::first(places()?, 1))?;
-    let mut mark = log.position();
     let mut text = String::new(alloc);
+    take_steps(alloc, case, &mut text)?;
+    Ok(text)
+}
+
+fn take_steps(alloc: Global, case: Case<'_>, text: &mut String) -> Result<()> {
+    let mut log = log_at(alloc, Position::first(places()?, 1))?;
+    take_all(alloc, case, &mut log, text)
+}
+
+fn take_all(alloc: Global, case: Case<'_>, log: &mut Log, text: &mut String) -> Result<()> {
+    let mut mark = log.position();
+    let mut blocks = new_blocks(alloc)?;
     for word in case.text().split_ascii_whitespace() {
         let (step, value) = word.split_once('=').unwrap_or((word, ""));
         match step {
-            "fail" | "stop" | "crash" => {
-                let device = take_device_step(blocks.into_device(), step, value)?;
-                blocks = blocks_of(alloc, device)?;
-            }
+            "fail" | "stop" | "crash" => blocks = over_device(alloc, blocks, step, value)?,
             "turn" => mark = log.turn(number_of(value)?),
             "back" => log.turn_back(mark),
-            _ => take_step(alloc, &mut blocks, &mut log, (step, value), &mut text)?,
+            _ => take_step(alloc, &mut blocks, log, (step, value), text)?,
         }
         ensure!(!blocks.status().is_spent, "no memory for a call");
     }
-    Ok(text)
+    Ok(())
+}
+
+/// Takes a step of the device, whose blocks keep none then.
+fn over_device(
+    alloc: Global,
+    blocks: Blocks<MemDevice>,
+    step: &str,
+    value: &str,
+) -> Result<Blocks<MemDevice>> {
+    let device = take_device_step(blocks.into_device(), step, value)?;
+    blocks_of(alloc, device)
 }
 
 fn take_device_step(mut device: MemDevice, step: &str, value: &str) -> Result<MemDevice> {
@@ -81,36 +99,57 @@ fn take_step(
     text: &mut String,
 ) -> Result<()> {
     match step {
-        "size" => {
-            let answer = append(alloc, blocks, log, Added::Size(number_of(value)?))?;
-            push_word(text, name_of(answer))
-        }
+        "size" => push_append(alloc, blocks, log, Added::Size(number_of(value)?), text),
         "write" => {
             let count = number_of(value)? as usize;
-            let answer = append(alloc, blocks, log, Added::Write(count))?;
-            push_word(text, name_of(answer))
+            push_append(alloc, blocks, log, Added::Write(count), text)
         }
         "clear" => clear_step(blocks, value, text),
         "set" => set_byte(blocks, value),
-        "place" => {
-            push_word(text, "")?;
-            let position = log.position();
-            write!(text, "{}/{}", position.place(), position.count())?;
-            Ok(())
-        }
-        "calls" => {
-            push_word(text, "")?;
-            let status = blocks.status();
-            write!(text, "{},{}", status.writes, status.syncs)?;
-            Ok(())
-        }
-        "replay" => {
-            let (found, ending, position) = replayed(alloc, blocks, number_of(value)?)?;
-            *log = log_at(alloc, position)?;
-            push_replay(text, &found, ending)
-        }
-        _ => bail!("no step: {step}"),
+        "place" => push_place(text, log.position()),
+        "calls" => push_calls(text, blocks),
+        "replay" => replay(alloc, blocks, log, number_of(value)?, text),
+        _ => bail!("no such step"),
     }
+}
+
+fn push_append(
+    alloc: Global,
+    blocks: &mut Blocks<MemDevice>,
+    log: &mut Log,
+    added: Added,
+    text: &mut String,
+) -> Result<()> {
+    let answer = append(alloc, blocks, log, added)?;
+    push_word(text, name_of(answer))
+}
+
+fn push_place(text: &mut String, position: Position) -> Result<()> {
+    let (place, count) = (position.place(), position.count());
+    push_word(text, "")?;
+    Ok(write!(text, "{place}/{count}")?)
+}
+
+/// The writes and the syncs so far.
+fn push_calls(text: &mut String, blocks: &Blocks<MemDevice>) -> Result<()> {
+    let status = blocks.status();
+    let (writes, syncs) = (status.writes, status.syncs);
+    push_word(text, "")?;
+    Ok(write!(text, "{writes},{syncs}")?)
+}
+
+/// Replays an epoch, behind whose records the log goes on.
+fn replay(
+    alloc: Global,
+    blocks: &mut Blocks<MemDevice>,
+    log: &mut Log,
+    epoch: u64,
+    text: &mut String,
+) -> Result<()> {
+    let (found, ending, position) = replayed(alloc, blocks, epoch)?;
+    push_replay(text, found.as_slice(), ending)?;
+    *log = log_at(alloc, position)?;
+    Ok(())
 }
 
 fn name_of(answer: Appended) -> &'static str {
@@ -138,19 +177,18 @@ fn clear_step(blocks: &mut Blocks<MemDevice>, value: &str, text: &mut String) ->
 
 /// As in `304:0:1`: the sector, the offset in it, and the byte that is put there and synced.
 fn set_byte(blocks: &mut Blocks<MemDevice>, value: &str) -> Result<()> {
-    let mut numbers = value.split(':');
-    let at = number_of(numbers.next().unwrap_or(""))?;
-    let offset = number_of(numbers.next().unwrap_or(""))? as usize;
-    let byte = number_of(numbers.next().unwrap_or(""))?;
-    ensure!(at < 2048 && blocks.sectors() >= 2048, "no sector {at}");
-    let block = blocks.read_block((at / 8) as u32)?;
-    let mut sector = [0; SECTOR_SIZE];
-    let from = SECTOR_SIZE * (at % 8) as usize;
-    sector.copy_from_slice(&block[from..from + SECTOR_SIZE]);
-    ensure!(offset < SECTOR_SIZE && byte < 256, "no byte");
-    sector[offset] = byte as u8;
-    blocks.write_synced(at, &sector)?;
-    Ok(())
+    let (at, rest) = value.split_once(':').context("no sector")?;
+    let (offset, byte) = rest.split_once(':').context("no offset and byte")?;
+    put_byte(blocks, number_of(at)?, offset.parse()?, byte.parse()?)
+}
+
+fn put_byte(blocks: &mut Blocks<MemDevice>, at: u64, offset: u16, byte: u8) -> Result<()> {
+    let offset = usize::from(offset);
+    ensure!(offset < SECTOR_SIZE, "no such byte");
+    let mut sector = sector_at(blocks, at)?;
+    sector[offset] = byte;
+    ensure!(at < blocks.sectors(), "no such sector");
+    Ok(blocks.write_synced(at, &sector)?)
 }
 
 fn push_replay(text: &mut String, found: &[u64], ending: Ending) -> Result<()> {
