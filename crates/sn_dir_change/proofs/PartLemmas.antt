@@ -2,12 +2,12 @@
 use Rattle.std.proofs.Common.{◌≡◌, ◌⊎◌, inl, inr, ⊎_elim, ℕ, ◌+◌, ◌<◌, ◌≤◌, ◌||◌, Bool, true, if◌then◌else◌, List, [], ◌∷◌, ◌++◌, length, map, take, get_or, None, refl, sym, ap, subst, ◌∙◌, arith}
 use Rattle.std.specs.Prelude.{Contains, is_some}
 use Rattle.std.proofs.lemmas.List.{get_or-map, length-map, take_more}
-use Rattle.std.proofs.lemmas.List.Elements.{Contains-append_left, Contains-get_or, Contains-push, Contains-push_cases}
+use Rattle.std.proofs.lemmas.List.Elements.{Contains-append_left, Contains-push, Contains-push_cases}
 use Rattle.sn_layout_node.specs.Directory.{Link, number_of}
 use Rattle.sn_image.proofs.ListLemmas.{count-append}
 use Rattle.sn_image.specs.Sound.{AreOnce}
 use Rattle.sn_dir_change.specs.Changes.{AreLinkChanges, ArePuts, IsChange, is_needed, needed_changes}
-use Rattle.sn_dir_change.specs.Standing.{change_of, seen}
+use Rattle.sn_dir_change.specs.Standing.{seen}
 use Rattle.sn_dir_change.specs.UnderWay.{AreApart, IsUnderWay, AreParted}
 use Rattle.sn_dir_change.specs.declared.name_change.NameChange.{NameChange}
 use Rattle.sn_dir_change.specs.declared.standing.Sought.{Sought}

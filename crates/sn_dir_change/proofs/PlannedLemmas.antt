@@ -1,10 +1,9 @@
 -- From the blocks that are wanted to the tree that is planned.
-use Rattle.std.proofs.Common.{◌≡◌, ⊎_elim, ℕ, ◌+◌, ◌*◌, ◌/◌, ◌<◌, ◌≤◌, ◌==◌, Bool, true, false, if◌then◌else◌, List, [], ◌∷◌, ◌++◌, length, refl, sym, ap, subst, ◌∙◌, arith}
-use Rattle.std.specs.Prelude.{Contains, nat_lt, Result, IfOk, Ok, Err}
+use Rattle.std.proofs.Common.{◌≡◌, ⊎_elim, ℕ, ◌+◌, ◌*◌, ◌/◌, ◌<◌, ◌≤◌, List, [], ◌∷◌, ◌++◌, length, sym, ap, subst, ◌∙◌, arith}
+use Rattle.std.specs.Prelude.{Contains, Result, IfOk, Ok, Err}
 use Rattle.std.specs.List.{AllByRecursion}
 use Rattle.std.proofs.Math.Nat.{mul-le-mul_left}
-use Rattle.std.proofs.lemmas.Bool.{cases_lt, ltb-true}
-use Rattle.sn_layout.specs.Bytes.{zeros}
+use Rattle.std.proofs.lemmas.Bool.{cases_lt}
 use Rattle.sn_layout.specs.Pointers.{levels_of}
 use Rattle.sn_layout.specs.declared.tree.BlockTree.{BlockTree}
 use Rattle.sn_layout_node.specs.Directory.{Link, AreLinks, IsDirectoryBlock}
@@ -15,7 +14,7 @@ use Rattle.sn_ondisk.proofs.TreeLemmas.{levels_room}
 use Rattle.sn_image.specs.Names.{names_in, names_of}
 use Rattle.sn_tree.specs.declared.fault.PlanFault.{PlanFault}
 use Rattle.sn_tree.specs.Drafts.{Draft}
-use Rattle.sn_tree.specs.Dirty.{block_wanted, block_after}
+use Rattle.sn_tree.specs.Dirty.{block_after}
 use Rattle.sn_tree.specs.Laws.{EndsBy}
 use Rattle.sn_tree.specs.Plans.{Holds}
 use Rattle.sn_tree.specs.Replanned.{IsReplanned, IsPlanned}

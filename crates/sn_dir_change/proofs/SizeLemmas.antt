@@ -24,7 +24,7 @@ use Rattle.sn_dir_change.specs.Changes.{IsChanged, times_named}
 use Rattle.sn_dir_change.specs.Planned.{AreSpelled, IsSizeWith}
 use Rattle.sn_dir_change.specs.Through.{block_now, names_to, IsWanted}
 use Rattle.sn_dir_change.specs.declared.name_change.NameChange.{NameChange}
-use Rattle.sn_dir_change.proofs.NameLemmas.{same_name, other_name, cases_name, times-first, times-rest, none-times, times-none, number-first, number-rest, number-without, times-kept, times-without}
+use Rattle.sn_dir_change.proofs.NameLemmas.{same_name, other_name, cases_name, times-first, times-rest, none-times, number-first, number-rest, number-without, times-kept, times-without}
 use Rattle.sn_dir_change.proofs.ChangeLemmas.{first_there, more_there}
 use Rattle.sn_dir_change.proofs.ThroughLemmas.{flat-more}
 

@@ -1,4 +1,4 @@
-use Rattle.std.proofs.Common.{◌<◌, List, take, take_all, length, refl, sym, subst, ◌∙◌, arith}
+use Rattle.std.proofs.Common.{List, take_all, refl, sym, subst, ◌∙◌, arith}
 use Rattle.std.proofs.lemmas.Bool.{true≢false}
 use Rattle.std.proofs.lemmas.List.Elements.{Contains-get_or}
 use Rattle.sn_dir_change.specs.Changes.{AreLinkChanges}

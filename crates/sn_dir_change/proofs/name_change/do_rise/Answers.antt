@@ -1,4 +1,4 @@
-use Rattle.std.proofs.Common.{ℕ, suc, ◌<◌, ◌≤◌, ⊎_elim, sym, ◌∙◌, arith}
+use Rattle.std.proofs.Common.{suc, ◌<◌, ◌≤◌, ⊎_elim, sym, ◌∙◌, arith}
 use Rattle.std.proofs.lemmas.Bool.{cases_lt}
 use Rattle.sn_dir_change.proofs.ChangeLemmas.{rise_apart, rise_more}
 use Rattle.sn_dir_change.proofs.name_change.do_rise.Goals as goal

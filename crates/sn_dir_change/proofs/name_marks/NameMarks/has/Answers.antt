@@ -1,4 +1,4 @@
-use Rattle.std.proofs.Common.{◌≡◌, false, is_some, sym, ap, ◌∙◌}
+use Rattle.std.proofs.Common.{is_some, sym, ap, ◌∙◌}
 use Rattle.sn_dir_change.proofs.MarkLemmas.{unmarked}
 use Rattle.sn_dir_change.proofs.name_marks.NameMarks.has.Goals as goal
 
