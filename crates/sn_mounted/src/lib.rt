@@ -13,6 +13,8 @@
 
 mod asking;
 mod mounted;
+mod tears;
 
 pub use asking::{line_of, login, mkdir, number_of, stat};
 pub use mounted::{Mounted, new_device, remounted};
+pub use tears::{FILLS, crashed};

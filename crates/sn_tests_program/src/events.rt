@@ -2,7 +2,7 @@
 
 use anyhow::{Context, Result, ensure};
 use sn_device::MemDevice;
-use sn_model::{End, Event};
+use sn_model::{End, Event, Reply};
 use sn_replies::print_replies;
 use sn_run::{Ran, run};
 use sn_script::read_script;
@@ -40,6 +40,17 @@ pub fn replies(alloc: Global, text: &str) -> Result<String> {
     let device = MemDevice::new(alloc, SECTORS)?;
     let Ran { replies, end, .. } = run(alloc, device, events.as_slice());
     ensure!(end == End::Clean, "no memory for the run");
-    let lines = print_replies(alloc, replies.as_slice())?;
+    lines_of(alloc, replies.as_slice())
+}
+
+fn lines_of(alloc: Global, replies: &[Reply]) -> Result<String> {
+    let lines = print_replies(alloc, replies)?;
     Ok(String::from_str(alloc, str::from_utf8(lines.as_slice())?)?)
+}
+
+/// A line for each event of a run on a device, or none where it isn't mounted.
+pub fn found_on(alloc: Global, device: MemDevice, text: &str) -> Result<String> {
+    let events = events_of(alloc, text)?;
+    let Ran { replies, .. } = run(alloc, device, events.as_slice());
+    lines_of(alloc, replies.as_slice())
 }

@@ -5,7 +5,8 @@
 //! It runs in the folder `data/`, where `examples` is a copy of the repository's folder of that name. Each part prints
 //! what isn't as the files there say, and how many cases it had; the status is 1 where one was wrong. `runs.txt` is one
 //! run on a new disk, an event a line with its reply. `refused` makes a run with each call of the device refused in
-//! turn, and looks at what it answers from then on.
+//! turn, and looks at what it answers from then on; `torn` cuts runs off behind each of their writes by crashes of many
+//! kinds, and looks at what they leave (`torn.txt`).
 #![tactic(auto)]
 
 mod ended;
@@ -15,6 +16,7 @@ mod faults;
 mod files;
 mod refused;
 mod rows;
+mod torn;
 mod words;
 
 use anyhow::{Result, ensure};
@@ -37,6 +39,7 @@ fn main(rt: HostRuntime) -> Result<()> {
     let mut report = Report::new(&rt)?;
     report.script("runs.txt", events::replies)?;
     refused::run(&mut report)?;
+    report.script("torn.txt", torn::torn)?;
     report.end()?;
     ensure!(wrong == 0, "cases of the program were wrong");
     Ok(())

@@ -1,0 +1,156 @@
+//! Crashes at each write of each event of a list.
+//!
+//! What is wanted is what was there before the event or what is there behind it, and where it was answered the
+//! second alone. Some records take several sectors, so that a crash may leave one of them without another, or a part
+//! of one.
+
+use crate::events::{SECTORS, events_of, found_on};
+use anyhow::{Result, ensure};
+use sn_device::{Device, MemDevice};
+use sn_model::{End, Event};
+use sn_mounted::{FILLS, crashed};
+use sn_run::{Ran, run};
+use std::alloc::Global;
+
+/// What is asked behind a crash: attributes, lists of entries, names and bytes.
+const ASKED: &str = "0 login 0 0 -\n0 stat /a\n0 getacl /a a\n0 getacl /a d\n0 readdir /a\n0 stat /a/f\n0 getacl /a/f a\n0 open /a/f r\n0 read 0 65536\n";
+
+/// How many crashes there are behind each number of writes, and how many of them fill sectors.
+const CRASHES: u32 = 40;
+
+const FILLED: u32 = 12;
+
+/// A longer line is told by its front and the number of its bytes.
+const SHOWN: usize = 24;
+
+/// What is there before an event and behind it, and how many writes were made.
+#[derive(Drop)]
+struct Step {
+    before: Whole,
+    behind: Whole,
+}
+
+/// What events leave that aren't cut short, and how many writes they make.
+#[derive(Drop)]
+struct Whole {
+    found: String,
+    writes: u64,
+}
+
+/// A line for each event of a text: how many writes it makes, how many crashes in it left what they may not, and
+/// what is there behind it.
+pub fn torn(alloc: Global, text: &str) -> Result<String> {
+    let events = events_of(alloc, text)?;
+    lines_of(alloc, events.as_slice())
+}
+
+fn lines_of(alloc: Global, events: &[Event]) -> Result<String> {
+    let mut lines = String::new(alloc);
+    push_all(alloc, events, &mut lines)?;
+    Ok(lines)
+}
+
+fn push_all(alloc: Global, events: &[Event], lines: &mut String) -> Result<()> {
+    for count in 0..events.len() {
+        push_one(alloc, &events[..count], &events[..count + 1], lines)?;
+    }
+    Ok(())
+}
+
+/// The line of the last of some events.
+fn push_one(alloc: Global, before: &[Event], events: &[Event], lines: &mut String) -> Result<()> {
+    let step = step_of(alloc, before, events)?;
+    push_step(alloc, events, &step, lines)
+}
+
+fn step_of(alloc: Global, before: &[Event], events: &[Event]) -> Result<Step> {
+    let before = run_whole(alloc, before)?;
+    Ok(Step {
+        before,
+        behind: run_whole(alloc, events)?,
+    })
+}
+
+fn run_whole(alloc: Global, events: &[Event]) -> Result<Whole> {
+    let Ran { end, device, .. } = run(alloc, MemDevice::new(alloc, SECTORS)?, events);
+    ensure!(end == End::Clean, "no memory for a run");
+    let writes = device.status().writes;
+    let found = found_on(alloc, device, ASKED)?;
+    Ok(Whole { found, writes })
+}
+
+fn push_step(alloc: Global, events: &[Event], step: &Step, lines: &mut String) -> Result<()> {
+    let wrong = wrong_crashes(alloc, events, step)?;
+    let writes = step.behind.writes.saturating_sub(step.before.writes);
+    write!(lines, "{writes} writes, {wrong} wrong")?;
+    push_found(step.behind.found.as_str(), lines)
+}
+
+/// The lines that were found, in one.
+fn push_found(found: &str, lines: &mut String) -> Result<()> {
+    for line in found.lines() {
+        lines.push_str(", ")?;
+        push_short(line, lines)?;
+    }
+    Ok(lines.push_str("\n")?)
+}
+
+fn push_short(line: &str, lines: &mut String) -> Result<()> {
+    let count = line.len();
+    match line.get(..SHOWN) {
+        Some(front) => write!(lines, "{front}.. ({count})")?,
+        None => lines.push_str(line)?,
+    }
+    Ok(())
+}
+
+/// How many crashes in the last of some events leave what they may not.
+fn wrong_crashes(alloc: Global, events: &[Event], step: &Step) -> Result<u32> {
+    let mut wrong = 0_u32;
+    for stop in step.before.writes..step.behind.writes.saturating_add(1) {
+        wrong = wrong.saturating_add(wrong_behind(alloc, events, step, stop)?);
+    }
+    Ok(wrong)
+}
+
+/// The same behind so many writes of the whole run.
+fn wrong_behind(alloc: Global, events: &[Event], step: &Step, stop: u64) -> Result<u32> {
+    let mut wrong = 0_u32;
+    for number in 0..CRASHES {
+        if !is_left(alloc, events, step, stop, number)? {
+            wrong = wrong.saturating_add(1);
+        }
+    }
+    Ok(wrong)
+}
+
+/// The fills first, and then crashes that tear sectors.
+fn crash_of(number: u32) -> u32 {
+    if number < FILLED {
+        number
+    } else {
+        FILLS.saturating_add(number)
+    }
+}
+
+fn is_left(alloc: Global, events: &[Event], step: &Step, stop: u64, number: u32) -> Result<bool> {
+    let device = cut_short(alloc, events, stop)?;
+    let left = crashed(alloc, device, crash_of(number))?;
+    is_right(alloc, left, step, stop)
+}
+
+/// The device behind a run of which so many writes succeed, and no later call.
+fn cut_short(alloc: Global, events: &[Event], stop: u64) -> Result<MemDevice> {
+    let mut device = MemDevice::new(alloc, SECTORS)?;
+    device.stop_at(stop);
+    let Ran { device, .. } = run(alloc, device, events);
+    Ok(device)
+}
+
+fn is_right(alloc: Global, device: MemDevice, step: &Step, stop: u64) -> Result<bool> {
+    let found = found_on(alloc, device, ASKED)?;
+    let found = found.as_str();
+    let is_in_flight = stop < step.behind.writes;
+    Ok(found == step.behind.found.as_str()
+        || is_in_flight && found == step.before.found.as_str())
+}
