@@ -1,11 +1,11 @@
 //! Records that real calls leave.
 
-use crate::drawing::{below, is_once_in, plain_name};
 use crate::sectors::{EPOCH, half_of};
 use anyhow::Result;
 use rand_pcg::Pcg32;
 use sn_device::MemDevice;
-use sn_mounted::{Mounted, login, new_device, remounted};
+use sn_drawn::{below, is_once_in, plain_name, push_copy};
+use sn_mounted::{Mounted, new_device, remounted};
 use sn_reading::Records;
 use std::alloc::Global;
 
@@ -20,11 +20,16 @@ const ACLS: [&str; 4] = [
 /// A path of one to three names.
 fn path(alloc: Global, random: &mut Pcg32) -> Result<String> {
     let mut path = String::new(alloc);
+    push_path(random, &mut path)?;
+    Ok(path)
+}
+
+fn push_path(random: &mut Pcg32, path: &mut String) -> Result<()> {
     for _ in 0..1 + below(random, 3) {
         path.push_str("/")?;
         path.push_str(plain_name(random))?;
     }
-    Ok(path)
+    Ok(())
 }
 
 /// A line of a script that changes the tree where it isn't refused.
@@ -54,15 +59,19 @@ fn mkdir(alloc: Global, path: &str, mode: u32) -> Result<String> {
 
 /// The payloads of a log of drawn calls. Some calls are refused, and leave none.
 pub fn payloads(alloc: Global, random: &mut Pcg32) -> Result<Vec<Vec<u8>>> {
-    let device = called(alloc, random)?;
-    let half = half_of(alloc, &device)?;
+    let half = called_half(alloc, random)?;
     payloads_in(alloc, half.as_slice())
+}
+
+fn called_half(alloc: Global, random: &mut Pcg32) -> Result<Vec<u8>> {
+    let device = called(alloc, random)?;
+    half_of(alloc, &device)
 }
 
 /// A device behind drawn calls.
 fn called(alloc: Global, random: &mut Pcg32) -> Result<MemDevice> {
     let mut mounted = remounted(alloc, new_device(alloc)?)?;
-    mounted.call(0, &login(alloc)?);
+    mounted.login(alloc)?;
     ask_some(alloc, &mut mounted, random)?;
     Ok(mounted.into_device())
 }
@@ -86,7 +95,7 @@ fn payloads_in(alloc: Global, half: &[u8]) -> Result<Vec<Vec<u8>>> {
 
 fn push_next(alloc: Global, records: &mut Records<'_>, payloads: &mut Vec<Vec<u8>>) -> Result<()> {
     if let Ok(payload) = records.read_next() {
-        payloads.push(Vec::from_slice(alloc, payload)?)?;
+        push_copy(alloc, payloads, payload)?;
     }
     Ok(())
 }

@@ -2,14 +2,13 @@
 
 use crate::calls;
 use crate::counts::Counts;
-use crate::drawing::{below, is_once_in};
-use crate::payloads::payloads;
 use crate::records::{change_list, lay_list};
 use crate::sectors::{EPOCH, FIRST_BLOCK, change_some, draw, half_of};
 use crate::trees::{is_made, is_tree};
 use anyhow::Result;
 use rand_pcg::Pcg32;
 use sn_device::{Fill, MemDevice};
+use sn_drawn::{below, is_once_in, payloads, push_copy};
 use sn_model::{Damage, MountFault};
 use sn_mounted::{Mounted, new_device};
 use sn_reading::{Reading, read_half};
@@ -68,7 +67,7 @@ fn count_some(
 fn copy_of(alloc: Global, list: &[Vec<u8>]) -> Result<Vec<Vec<u8>>> {
     let mut copy = Vec::new(alloc);
     for bytes in list {
-        copy.push(Vec::from_slice(alloc, bytes.as_slice())?)?;
+        push_copy(alloc, &mut copy, bytes.as_slice())?;
     }
     Ok(copy)
 }
@@ -98,10 +97,19 @@ fn draw_list(
     is_made: bool,
 ) -> Result<()> {
     let mut list = list_of(alloc, made, random, is_made)?;
+    lay_changed(alloc, device, &mut list, random)
+}
+
+fn lay_changed(
+    alloc: Global,
+    device: &mut MemDevice,
+    list: &mut Vec<Vec<u8>>,
+    random: &mut Pcg32,
+) -> Result<()> {
     if is_once_in(random, 2) {
-        change_list(alloc, &mut list, random)?;
+        change_list(alloc, list, random)?;
     }
-    lay_list(alloc, device, &mut list, random)
+    lay_list(alloc, device, list, random)
 }
 
 fn list_of(
@@ -124,10 +132,19 @@ fn compared(
     device: MemDevice,
     half: u32,
 ) -> Result<MemDevice> {
-    let alloc = report.alloc();
-    let bytes = half_of(alloc, &device)?;
-    let reading = read_half(alloc, bytes.as_slice(), EPOCH)?;
-    let (is_right, device) = is_mounted_twice(alloc, device, &reading, half)?;
+    let bytes = half_of(report.alloc(), &device)?;
+    read_and_compared(report, counts, device, bytes.as_slice(), half)
+}
+
+fn read_and_compared(
+    report: &Report<'_>,
+    counts: &mut Counts,
+    device: MemDevice,
+    bytes: &[u8],
+    half: u32,
+) -> Result<MemDevice> {
+    let reading = read_half(report.alloc(), bytes, EPOCH)?;
+    let (is_right, device) = is_mounted_twice(report.alloc(), device, &reading, half)?;
     counts.count(report.runtime(), &reading, is_right, half)?;
     Ok(device)
 }
@@ -160,15 +177,23 @@ fn is_mounted(
     makes: bool,
 ) -> Result<(bool, MemDevice)> {
     match Mounted::new(alloc, device) {
-        Ok(mut mounted) => {
-            let is_right = is_read(alloc, &mut mounted, reading, makes)?;
-            Ok((is_right, mounted.into_device()))
-        }
+        Ok(mounted) => is_mounted_right(alloc, mounted, reading, makes),
         Err(unmounted) => {
             let is_right = !reading.outcome.is_tree() && unmounted.fault == fault_of(reading);
             Ok((is_right, unmounted.device))
         }
     }
+}
+
+fn is_mounted_right(
+    alloc: Global,
+    mounted: Mounted,
+    reading: &Reading<'_>,
+    makes: bool,
+) -> Result<(bool, MemDevice)> {
+    let mut mounted = mounted;
+    let is_right = is_read(alloc, &mut mounted, reading, makes)?;
+    Ok((is_right, mounted.into_device()))
 }
 
 /// Whether what is mounted is what was read, and where it is wanted a directory can be made there.

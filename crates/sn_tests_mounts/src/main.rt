@@ -1,7 +1,7 @@
 //! Halves of the log that a seed draws, mounted, and read plainly beside.
 //!
 //! Each half has random sectors, or records: those that real calls have left (`calls`), or drawn ones of all
-//! seven kinds (`payloads`, `entries`), which apply to one another but for a few. Then some of it is changed:
+//! seven kinds (`sn_drawn`), which apply to one another but for a few. Then some of it is changed:
 //! the list of records and their heads (`records`), and bytes of its sectors (`sectors`). `sn_reading` reads the
 //! bytes by docs/FORMAT.md, to a tree or to the place of a damage. What is wanted is that a mount of the same
 //! bytes finds that tree, which is looked at by calls of the user 0 (`trees`, with the lines that are wanted
@@ -17,11 +17,8 @@
 
 mod calls;
 mod counts;
-mod drawing;
-mod entries;
 mod halves;
 mod lines;
-mod payloads;
 mod records;
 mod sectors;
 mod trees;

@@ -1,11 +1,10 @@
 //! Lists of payloads that are changed, and laid in the half as records.
 
-use crate::drawing::{below, is_once_in};
-use crate::payloads::payload;
 use crate::sectors::{EPOCH, PLACES, put};
 use anyhow::Result;
 use rand_pcg::Pcg32;
 use sn_device::{MemDevice, SECTOR_SIZE, Sector};
+use sn_drawn::{below, is_once_in, payload, push_copy};
 use std::alloc::Global;
 
 /// The attributes of the root directory, as a new disk has them.
@@ -57,32 +56,56 @@ pub fn change_list(alloc: Global, list: &mut Vec<Vec<u8>>, random: &mut Pcg32) -
         return Ok(());
     }
     match below(random, 6) {
-        0 => {
-            list.remove(at);
-        }
-        1 => {
-            let twice = Vec::from_slice(alloc, list[at].as_slice())?;
-            list.insert(at, twice)?;
-        }
-        2 => {
-            let moved = list.remove(at);
-            list.push(moved)?;
-        }
-        3 => list.insert(at, payload(alloc, random)?)?,
-        _ => {
-            if let Some(bytes) = list.get_mut(at) {
-                change_payload(bytes, random)?;
-            }
-        }
+        0 => drop_one(list, at),
+        1 => repeat_one(alloc, list, at)?,
+        2 => move_one(list, at)?,
+        3 => insert(list, at, payload(alloc, random)?)?,
+        _ => change_one(list, at, random)?,
     }
     Ok(())
+}
+
+fn drop_one(list: &mut Vec<Vec<u8>>, at: usize) {
+    if at < list.len() {
+        list.remove(at);
+    }
+}
+
+fn repeat_one(alloc: Global, list: &mut Vec<Vec<u8>>, at: usize) -> Result<()> {
+    if let Some(bytes) = list.get(at) {
+        let twice = Vec::from_slice(alloc, bytes.as_slice())?;
+        insert(list, at, twice)?;
+    }
+    Ok(())
+}
+
+fn insert(list: &mut Vec<Vec<u8>>, at: usize, bytes: Vec<u8>) -> Result<()> {
+    if at <= list.len() {
+        list.insert(at, bytes)?;
+    }
+    Ok(())
+}
+
+fn move_one(list: &mut Vec<Vec<u8>>, at: usize) -> Result<()> {
+    if at < list.len() {
+        let moved = list.remove(at);
+        list.push(moved)?;
+    }
+    Ok(())
+}
+
+fn change_one(list: &mut Vec<Vec<u8>>, at: usize, random: &mut Pcg32) -> Result<()> {
+    match list.get_mut(at) {
+        Some(bytes) => change_payload(bytes, random),
+        None => Ok(()),
+    }
 }
 
 /// Sets the attributes of the root directory over and over, more often than the half has room for, and
 /// answers which of the records gets an odd head: one in the second part of the half.
 fn fill_up(alloc: Global, list: &mut Vec<Vec<u8>>, random: &mut Pcg32) -> Result<usize> {
     for _ in 0..PLACES / 2 {
-        list.push(Vec::from_slice(alloc, &ROOT)?)?;
+        push_copy(alloc, list, &ROOT)?;
     }
     Ok(64 + below(random, 64) as usize)
 }

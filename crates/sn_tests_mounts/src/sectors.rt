@@ -1,10 +1,10 @@
 //! The sectors of the half, and bytes that are drawn for them.
 
-use crate::drawing::{below, is_once_in};
 use anyhow::{Result, ensure};
 use rand_core::Rng;
 use rand_pcg::Pcg32;
 use sn_device::{Device, MemDevice, SECTOR_SIZE, Sector};
+use sn_drawn::{below, is_once_in};
 use std::alloc::Global;
 
 /// The epoch of the records.

@@ -1,11 +1,11 @@
 //! A tree that was read plainly, beside one that is mounted.
 
-use crate::drawing::NAMES;
 use crate::lines::{access_line, default_line, status_line};
 use anyhow::Result;
+use sn_drawn::NAMES;
 use sn_model::{AclKind, Call, Reply, Word};
-use sn_mounted::{Mounted, line_of, login, mkdir, stat};
-use sn_reading::{Kind, Link, Node, Reading, Tree};
+use sn_mounted::{Mounted, line_of, number_of, stat};
+use sn_reading::{Kind, Link, Name, Node, Reading, Tree};
 use std::alloc::Global;
 use std::str;
 
@@ -18,29 +18,26 @@ const LAST_GATE: usize = 253;
 /// The path of a directory, which is empty for the root directory.
 fn path_of(alloc: Global, tree: &Tree<'_>, directory: u16) -> Result<String> {
     let mut path = String::new(alloc);
+    put_path(alloc, tree, directory, &mut path)?;
+    Ok(path)
+}
+
+fn put_path(alloc: Global, tree: &Tree<'_>, directory: u16, path: &mut String) -> Result<()> {
     let mut at = directory;
     for _ in 0..DEPTH {
         let Some(up) = tree.name_for(at) else {
             break;
         };
-        let name = str::from_utf8(up.link.name)?;
-        path = format!(in alloc; "/{name}{path}")?;
+        put_before(alloc, up.link.name, path)?;
         at = up.link.directory;
     }
-    Ok(path)
+    Ok(())
 }
 
-fn is_told(alloc: Global, mounted: &mut Mounted, call: &Call, wanted: &str) -> Result<bool> {
-    let line = mounted.told(alloc, call)?;
-    Ok(line.as_str() == wanted)
-}
-
-/// The number of the node of which stat tells.
-fn number_of(reply: &Reply) -> Option<u16> {
-    match reply {
-        Reply::Status(status) => Some(status.number),
-        _ => None,
-    }
+fn put_before(alloc: Global, name: &[u8], path: &mut String) -> Result<()> {
+    let name = str::from_utf8(name)?;
+    *path = format!(in alloc; "/{name}{path}")?;
+    Ok(())
 }
 
 fn getacl(alloc: Global, path: &str, kind: AclKind) -> Result<Call> {
@@ -59,10 +56,8 @@ fn is_there(
     node: &Node<'_>,
 ) -> Result<bool> {
     let has_status = has_status(alloc, mounted, tree, path, node)?;
-    let access = access_line(alloc, &node.attributes)?;
-    let has_access = has_acl(alloc, mounted, path, AclKind::Access, access.as_str())?;
-    let default = default_line(alloc, node)?;
-    let has_default = has_acl(alloc, mounted, path, AclKind::Default, default.as_str())?;
+    let has_access = has_access(alloc, mounted, path, node)?;
+    let has_default = has_default(alloc, mounted, path, node)?;
     Ok(has_status && has_access && has_default)
 }
 
@@ -73,11 +68,29 @@ fn has_status(
     path: &str,
     node: &Node<'_>,
 ) -> Result<bool> {
-    let reply = mounted.call(0, &stat(alloc, path)?);
-    let is_numbered = number_of(&reply) == Some(node.number);
-    let status = line_of(alloc, &reply)?;
     let wanted = status_line(alloc, tree, node)?;
-    Ok(is_numbered && status.as_str() == wanted.as_str())
+    let reply = stat_reply(alloc, mounted, path)?;
+    is_status(alloc, &reply, node.number, wanted.as_str())
+}
+
+fn stat_reply(alloc: Global, mounted: &mut Mounted, path: &str) -> Result<Reply> {
+    let call = stat(alloc, path)?;
+    Ok(mounted.call(0, &call))
+}
+
+fn is_status(alloc: Global, reply: &Reply, number: u16, wanted: &str) -> Result<bool> {
+    let line = line_of(alloc, reply)?;
+    Ok(line.as_str() == wanted && number_of(reply) == Some(number))
+}
+
+fn has_access(alloc: Global, mounted: &mut Mounted, path: &str, node: &Node<'_>) -> Result<bool> {
+    let wanted = access_line(alloc, &node.attributes)?;
+    has_acl(alloc, mounted, path, AclKind::Access, wanted.as_str())
+}
+
+fn has_default(alloc: Global, mounted: &mut Mounted, path: &str, node: &Node<'_>) -> Result<bool> {
+    let wanted = default_line(alloc, node)?;
+    has_acl(alloc, mounted, path, AclKind::Default, wanted.as_str())
 }
 
 fn has_acl(
@@ -88,7 +101,7 @@ fn has_acl(
     wanted: &str,
 ) -> Result<bool> {
     let call = getacl(alloc, path, kind)?;
-    is_told(alloc, mounted, &call, wanted)
+    mounted.is_told(alloc, &call, wanted)
 }
 
 /// Of the names that are drawn a directory has no other than those of the tree.
@@ -99,36 +112,63 @@ fn has_no_other(
     directory: u16,
 ) -> Result<bool> {
     let path = path_of(alloc, tree, directory)?;
+    are_others_absent(alloc, mounted, tree, directory, path.as_str())
+}
+
+fn are_others_absent(
+    alloc: Global,
+    mounted: &mut Mounted,
+    tree: &Tree<'_>,
+    directory: u16,
+    path: &str,
+) -> Result<bool> {
     for name in NAMES {
-        let link = Link {
-            directory,
-            name: name.as_bytes(),
-        };
-        if tree.object(&link).is_none() && !is_absent(alloc, mounted, path.as_str(), name)? {
+        if !has_name(tree, directory, name) && !is_absent(alloc, mounted, path, name)? {
             return Ok(false);
         }
     }
     Ok(true)
 }
 
+fn has_name(tree: &Tree<'_>, directory: u16, name: &str) -> bool {
+    let link = Link {
+        directory,
+        name: name.as_bytes(),
+    };
+    tree.object(&link).is_some()
+}
+
 fn is_absent(alloc: Global, mounted: &mut Mounted, above: &str, name: &str) -> Result<bool> {
     let path = format!(in alloc; "{above}/{name}")?;
-    let call = stat(alloc, path.as_str())?;
-    is_told(alloc, mounted, &call, "err ENOENT\n")
+    is_no_entry(alloc, mounted, path.as_str())
+}
+
+fn is_no_entry(alloc: Global, mounted: &mut Mounted, path: &str) -> Result<bool> {
+    let call = stat(alloc, path)?;
+    mounted.is_told(alloc, &call, "err ENOENT\n")
 }
 
 /// Each name of the tree is there, with what it stands for.
 fn has_names(alloc: Global, mounted: &mut Mounted, tree: &Tree<'_>) -> Result<bool> {
     for name in tree.names() {
-        let Some(node) = tree.node(name.number) else {
-            return Ok(false);
-        };
-        let path = path_under(alloc, tree, name.link)?;
-        if !is_there(alloc, mounted, tree, path.as_str(), &node)? {
+        if !is_name_there(alloc, mounted, tree, name)? {
             return Ok(false);
         }
     }
     Ok(true)
+}
+
+fn is_name_there(
+    alloc: Global,
+    mounted: &mut Mounted,
+    tree: &Tree<'_>,
+    name: &Name<'_>,
+) -> Result<bool> {
+    let Some(node) = tree.node(name.number) else {
+        return Ok(false);
+    };
+    let path = path_under(alloc, tree, name.link)?;
+    is_there(alloc, mounted, tree, path.as_str(), &node)
 }
 
 fn path_under(alloc: Global, tree: &Tree<'_>, link: Link<'_>) -> Result<String> {
@@ -139,38 +179,64 @@ fn path_under(alloc: Global, tree: &Tree<'_>, link: Link<'_>) -> Result<String> 
 
 /// Whether what is mounted is the tree, as far as the user 0 is told.
 pub fn is_tree(alloc: Global, mounted: &mut Mounted, tree: &Tree<'_>) -> Result<bool> {
-    mounted.call(0, &login(alloc)?);
+    mounted.login(alloc)?;
     for node in tree.nodes() {
-        if node.kind == Kind::Directory && !has_no_other(alloc, mounted, tree, node.number)? {
-            return Ok(false);
-        }
-        if node.number == 2 && !is_there(alloc, mounted, tree, "/", node)? {
+        if !is_node_there(alloc, mounted, tree, node)? {
             return Ok(false);
         }
     }
     has_names(alloc, mounted, tree)
 }
 
-/// The least number that no name stands for, behind that of the root directory.
-fn free_number(tree: &Tree<'_>) -> Option<u16> {
-    (3..u16::MAX).find(|number| tree.name_for(*number).is_none())
+/// A directory has no other names than those of the tree, and the root directory is there.
+fn is_node_there(
+    alloc: Global,
+    mounted: &mut Mounted,
+    tree: &Tree<'_>,
+    node: &Node<'_>,
+) -> Result<bool> {
+    if node.kind == Kind::Directory && !has_no_other(alloc, mounted, tree, node.number)? {
+        return Ok(false);
+    }
+    if node.number == 2 {
+        return is_there(alloc, mounted, tree, "/", node);
+    }
+    Ok(true)
 }
 
-/// Whether a directory is made behind the records, and gets that number: files without names have gone. One
-/// of an earlier half may be there.
+/// The least number that no name stands for, behind that of the root directory.
+fn free_number(tree: &Tree<'_>) -> Option<u16> {
+    for number in 3..u16::MAX {
+        if tree.name_for(number).is_none() {
+            return Some(number);
+        }
+    }
+    None
+}
+
+/// What the making of `/new` answers behind the records. A directory of that name may be there.
+fn made_line(reading: &Reading<'_>) -> &'static str {
+    if has_name(&reading.tree, 2, "new") {
+        "err EEXIST\n"
+    } else if reading.place > LAST_GATE {
+        "err ENOSPC\n"
+    } else {
+        "ok\n"
+    }
+}
+
+/// Whether a directory is made behind the records, and gets the least number that is free: files without names
+/// have gone.
 pub fn is_made(alloc: Global, mounted: &mut Mounted, reading: &Reading<'_>) -> Result<bool> {
-    let call = mkdir(alloc, "/new", 0o700)?;
-    let link = Link {
-        directory: 2,
-        name: "new".as_bytes(),
-    };
-    if reading.tree.object(&link).is_some() {
-        return is_told(alloc, mounted, &call, "err EEXIST\n");
+    let wanted = made_line(reading);
+    let line = mounted.mkdir(alloc, "/new", 0o700)?;
+    if wanted != "ok\n" {
+        return Ok(line.as_str() == wanted);
     }
-    if reading.place > LAST_GATE {
-        return is_told(alloc, mounted, &call, "err ENOSPC\n");
-    }
-    let is_done = is_told(alloc, mounted, &call, "ok\n")?;
-    let reply = mounted.call(0, &stat(alloc, "/new")?);
-    Ok(is_done && number_of(&reply) == free_number(&reading.tree))
+    Ok(line.as_str() == wanted && has_number(alloc, mounted, free_number(&reading.tree))?)
+}
+
+fn has_number(alloc: Global, mounted: &mut Mounted, number: Option<u16>) -> Result<bool> {
+    let reply = stat_reply(alloc, mounted, "/new")?;
+    Ok(number_of(&reply) == number)
 }

@@ -48,8 +48,17 @@ impl Spelling {
 
     fn put_acls(&mut self, random: &mut Pcg32) -> Result<(), AllocError> {
         let access = access_acl(self.alloc, random)?;
+        self.put_acls_behind(random, access.as_slice())
+    }
+
+    /// The ACLs of which the first is drawn.
+    fn put_acls_behind(
+        &mut self,
+        random: &mut Pcg32,
+        access: &[(u8, u32)],
+    ) -> Result<(), AllocError> {
         let defaults = default_acl(self.alloc, random)?;
-        self.put_lists(random, access.as_slice(), defaults.as_slice())
+        self.put_lists(random, access, defaults.as_slice())
     }
 
     fn put_lists(
@@ -235,12 +244,29 @@ fn keep_some(
     random: &mut Pcg32,
     pool: &[Vec<u8>],
 ) -> Result<Vec<Vec<u8>>, AllocError> {
-    let mut tree = Tree::new(alloc)?;
     let mut kept = Vec::new(alloc);
+    push_kept(alloc, random, pool, &mut kept)?;
+    Ok(kept)
+}
+
+fn push_kept(
+    alloc: Global,
+    random: &mut Pcg32,
+    pool: &[Vec<u8>],
+    kept: &mut Vec<Vec<u8>>,
+) -> Result<(), AllocError> {
+    let mut tree = Tree::new(alloc)?;
     for payload in pool {
         if is_kept(random, &mut tree, payload.as_slice())? {
-            kept.push(Vec::from_slice(alloc, payload.as_slice())?)?;
+            push_copy(alloc, kept, payload.as_slice())?;
         }
     }
-    Ok(kept)
+    Ok(())
+}
+
+/// Pushes a copy of some bytes.
+pub fn push_copy(alloc: Global, list: &mut Vec<Vec<u8>>, bytes: &[u8]) -> Result<(), AllocError> {
+    let copy = Vec::from_slice(alloc, bytes)?;
+    list.push(copy)?;
+    Ok(())
 }
