@@ -13,7 +13,8 @@ use sn_run::{Ran, run};
 use std::alloc::Global;
 
 /// What is asked behind a crash: attributes, lists of entries, names and bytes.
-const ASKED: &str = "0 login 0 0 -\n0 stat /a\n0 getacl /a a\n0 getacl /a d\n0 readdir /a\n0 stat /a/f\n0 getacl /a/f a\n0 open /a/f r\n0 read 0 65536\n";
+const ASKED: &str =
+    "0 login 0 0 -\n0 stat /a\n0 getacl /a a\n0 getacl /a d\n0 readdir /a\n0 stat /a/f\n0 getacl /a/f a\n0 open /a/f r\n0 read 0 65536\n";
 
 /// How many crashes there are behind each number of writes, and how many of them fill sectors.
 const CRASHES: u32 = 40;
@@ -151,6 +152,5 @@ fn is_right(alloc: Global, device: MemDevice, step: &Step, stop: u64) -> Result<
     let found = found_on(alloc, device, ASKED)?;
     let found = found.as_str();
     let is_in_flight = stop < step.behind.writes;
-    Ok(found == step.behind.found.as_str()
-        || is_in_flight && found == step.before.found.as_str())
+    Ok(found == step.behind.found.as_str() || is_in_flight && found == step.before.found.as_str())
 }
