@@ -39,11 +39,14 @@ fn decided(alloc: Global, case: Case<'_>) -> Result<Option<Tag>> {
 }
 
 fn decided_by(case: Case<'_>, acl: &Acl, caller: &Cred) -> Result<Option<Tag>> {
-    let (owner, group) = (case.number(1)?, case.number(2)?);
     let want = rights_of(case.word(6)?)?;
+    Ok(denied_by(acl, caller, case.number(1)?, case.number(2)?, want))
+}
+
+fn denied_by(acl: &Acl, caller: &Cred, owner: u32, group: u32, want: Permissions) -> Option<Tag> {
     match check(caller, owner, group, acl, want) {
-        Ok(()) => Ok(None),
-        Err(entry) => Ok(Some(entry.tag)),
+        Ok(()) => None,
+        Err(entry) => Some(entry.tag),
     }
 }
 
@@ -83,9 +86,20 @@ fn mode_at(case: Case<'_>, at: usize) -> Result<Mode> {
 }
 
 fn acl_and_mode(alloc: Global, acl: &Acl) -> Result<String> {
-    let (printed, mode) = (acl.print(), acl.mode().bits());
-    let printed = printed.as_str();
-    Ok(format!(in alloc; "{printed} {mode:03o}")?)
+    let printed = acl.print();
+    text_and_mode(alloc, printed.as_str(), acl.mode().bits())
+}
+
+fn text_and_mode(alloc: Global, acl: &str, mode: u16) -> Result<String> {
+    let mut text = String::from_str(alloc, acl)?;
+    push_mode(&mut text, mode)?;
+    Ok(text)
+}
+
+fn push_mode(text: &mut String, mode: u16) -> Result<()> {
+    text.push_str(" ")?;
+    write!(text, "{mode:03o}")?;
+    Ok(())
 }
 
 fn mode_answer(alloc: Global, case: Case<'_>) -> Result<String> {
@@ -137,7 +151,15 @@ fn told(alloc: Global, access: &Acl, default: Option<&Acl>) -> Result<String> {
 }
 
 fn told_both(alloc: Global, access: &str, default: &str) -> Result<String> {
-    Ok(format!(in alloc; "{access} {default}")?)
+    let mut text = String::from_str(alloc, access)?;
+    push_both(&mut text, default)?;
+    Ok(text)
+}
+
+fn push_both(text: &mut String, default: &str) -> Result<()> {
+    text.push_str(" ")?;
+    text.push_str(default)?;
+    Ok(())
 }
 
 fn rights_answer(alloc: Global, case: Case<'_>) -> Result<String> {
@@ -152,13 +174,15 @@ fn rights_answer(alloc: Global, case: Case<'_>) -> Result<String> {
 
 fn rights_at(case: Case<'_>) -> Result<Option<Permissions>> {
     match case.word(0)? {
-        "bits" => {
-            let bits = u8::try_from(case.octal(1)?)?;
-            Ok(Permissions::from_bits(bits))
-        }
+        "bits" => rights_of_bits(case.octal(1)?),
         "letters" => Ok(Permissions::parse(case.word(1)?.as_bytes())),
         word => combined(case, word),
     }
+}
+
+fn rights_of_bits(bits: u16) -> Result<Option<Permissions>> {
+    ensure!(bits < 256, "more than a byte");
+    Ok(Permissions::from_bits(bits as u8))
 }
 
 fn combined(case: Case<'_>, word: &str) -> Result<Option<Permissions>> {

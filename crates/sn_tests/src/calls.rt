@@ -78,12 +78,16 @@ fn push(text: &mut String, words: &str) -> Result<()> {
 }
 
 fn push_number(text: &mut String, before: &str, number: u64) -> Result<()> {
-    Ok(write!(text, "{before} {number}")?)
+    text.push_str(before)?;
+    write!(text, " {number}")?;
+    Ok(())
 }
 
 fn push_word(text: &mut String, before: &str, word: &Word) -> Result<()> {
-    let word = str::from_utf8(word.as_bytes())?;
-    Ok(write!(text, "{before} {word}")?)
+    text.push_str(before)?;
+    text.push_str(" ")?;
+    text.push_str(str::from_utf8(word.as_bytes())?)?;
+    Ok(())
 }
 
 fn push_path(text: &mut String, call: &str, path: &Word) -> Result<()> {
@@ -132,17 +136,17 @@ fn push_open(text: &mut String, path: &Word, flags: OpenFlags, mode: u16) -> Res
 
 /// The names of the flags that are set.
 fn push_flags(text: &mut String, flags: OpenFlags) -> Result<()> {
-    for (set, name) in [
-        (flags.read, " read"),
-        (flags.write, " write"),
-        (flags.append, " append"),
-        (flags.create, " create"),
-        (flags.exclusive, " exclusive"),
-        (flags.truncate, " truncate"),
-    ] {
-        if set {
-            text.push_str(name)?;
-        }
+    push_if(text, flags.read, " read")?;
+    push_if(text, flags.write, " write")?;
+    push_if(text, flags.append, " append")?;
+    push_if(text, flags.create, " create")?;
+    push_if(text, flags.exclusive, " exclusive")?;
+    push_if(text, flags.truncate, " truncate")
+}
+
+fn push_if(text: &mut String, is_set: bool, name: &str) -> Result<()> {
+    if is_set {
+        text.push_str(name)?;
     }
     Ok(())
 }
@@ -154,5 +158,8 @@ fn push_on_file(
     fd: u32,
     number: u64,
 ) -> Result<()> {
-    Ok(write!(text, "{call}, fd {fd}, {field} {number}")?)
+    text.push_str(call)?;
+    push_number(text, ", fd", u64::from(fd))?;
+    text.push_str(", ")?;
+    push_number(text, field, number)
 }

@@ -45,10 +45,13 @@ fn tag_of(word: &str) -> Result<Tag> {
 
 fn named_tag(word: &str) -> Result<Tag> {
     let (kind, number) = word.split_once(':').context("no tag")?;
-    let number: u32 = number.parse().context("no number")?;
+    tag_with(kind, number.parse().context("no number")?)
+}
+
+fn tag_with(kind: &str, number: u32) -> Result<Tag> {
     match kind {
         "user" => Ok(Tag::User(number)),
         "group" => Ok(Tag::Group(number)),
-        _ => bail!("no tag: {word}"),
+        _ => bail!("no such tag"),
     }
 }

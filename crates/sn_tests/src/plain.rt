@@ -32,38 +32,73 @@ fn event_of(alloc: Global, line: &str) -> Result<Event> {
     match line {
         "step" => Ok(Event::Step),
         "restart" => Ok(Event::Restart),
-        _ => {
-            let script = format!(in alloc; "{line}\n")?;
-            let mut events = read_script(alloc, script.as_str().as_bytes())?;
-            events.pop().context("one event")
-        }
+        _ => call_of(alloc, line),
     }
+}
+
+fn call_of(alloc: Global, line: &str) -> Result<Event> {
+    let script = format!(in alloc; "{line}\n")?;
+    only_event(alloc, script.as_str())
+}
+
+fn only_event(alloc: Global, script: &str) -> Result<Event> {
+    let mut events = read_script(alloc, script.as_bytes())?;
+    events.pop().context("one event")
 }
 
 fn events_of(alloc: Global, script: &str) -> Result<Vec<Event>> {
     let mut events = Vec::new(alloc);
+    push_events(alloc, script, &mut events)?;
+    Ok(events)
+}
+
+fn push_events(alloc: Global, script: &str, events: &mut Vec<Event>) -> Result<()> {
     for line in script.lines() {
         events.push(event_of(alloc, line)?)?;
     }
-    Ok(events)
+    Ok(())
 }
 
 /// A line for each reply, with the number of the node where it is a status.
 fn replies_to(alloc: Global, script: &str) -> Result<String> {
     let events = events_of(alloc, script)?;
-    let (replies, end) = run_plain(alloc, events.as_slice());
+    replies_to_all(alloc, events.as_slice())
+}
+
+fn replies_to_all(alloc: Global, events: &[Event]) -> Result<String> {
+    let (replies, end) = run_plain(alloc, events);
     ensure!(end == End::Clean, "no memory for a run");
-    let lines = print_replies(alloc, replies.as_slice())?;
+    lines_of(alloc, replies.as_slice())
+}
+
+fn lines_of(alloc: Global, replies: &[Reply]) -> Result<String> {
     let mut text = String::new(alloc);
-    for (line, reply) in str::from_utf8(lines.as_slice())?.lines().zip(&replies) {
+    push_replies(alloc, replies, &mut text)?;
+    Ok(text)
+}
+
+fn push_replies(alloc: Global, replies: &[Reply], text: &mut String) -> Result<()> {
+    let lines = print_replies(alloc, replies)?;
+    push_lines(str::from_utf8(lines.as_slice())?, replies, text)
+}
+
+fn push_lines(lines: &str, replies: &[Reply], text: &mut String) -> Result<()> {
+    for (line, reply) in lines.lines().zip(replies) {
         ensure!(!is_no_memory(reply), "no memory for a call");
         text.push_str(line)?;
-        if let Reply::Status(status) = reply {
-            write!(text, " number {}", status.number)?;
-        }
-        text.push_str("\n")?;
+        push_node(reply, text)?;
     }
-    Ok(text)
+    Ok(())
+}
+
+/// The number of the node, and the end of the line.
+fn push_node(reply: &Reply, text: &mut String) -> Result<()> {
+    if let Reply::Status(status) = reply {
+        let number = status.number;
+        write!(text, " number {number}")?;
+    }
+    text.push_str("\n")?;
+    Ok(())
 }
 
 const TWO_OF_EACH: &[u8] =
@@ -84,9 +119,29 @@ fn is_honest(alloc: Global, events: &[Event]) -> bool {
     if end != End::Clean {
         return replies.is_empty();
     }
-    let refused = replies.iter().filter(|reply| is_no_memory(reply)).count();
-    let told = replies.iter().filter(|reply| is_made(reply)).count();
-    replies.len() == 5 && refused <= 1 && told >= 1 && told + refused >= 2
+    let refused = count_refused(replies.as_slice());
+    let told = count_told(replies.as_slice());
+    replies.len() == 5 && refused <= 1 && told >= 1 && told.saturating_add(refused) >= 2
+}
+
+fn count_refused(replies: &[Reply]) -> usize {
+    let mut count = 0_usize;
+    for reply in replies {
+        if is_no_memory(reply) {
+            count = count.saturating_add(1);
+        }
+    }
+    count
+}
+
+fn count_told(replies: &[Reply]) -> usize {
+    let mut count = 0_usize;
+    for reply in replies {
+        if is_made(reply) {
+            count = count.saturating_add(1);
+        }
+    }
+    count
 }
 
 /// Whether the reply is the status of the first directory that was made.

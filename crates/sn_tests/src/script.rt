@@ -51,10 +51,16 @@ fn two_lines(alloc: Global, case: Case<'_>) -> Result<Vec<u8>> {
 }
 
 fn behind_another(alloc: Global, line: &[u8]) -> Result<Vec<u8>> {
-    let mut script = Vec::from_slice(alloc, b"0 stat /\n".as_slice())?;
+    let mut script = Vec::new(alloc);
+    push_two(&mut script, line)?;
+    Ok(script)
+}
+
+fn push_two(script: &mut Vec<u8>, line: &[u8]) -> Result<()> {
+    script.extend_from_slice(b"0 stat /\n".as_slice())?;
     script.extend_from_slice(line)?;
     script.push(b'\n')?;
-    Ok(script)
+    Ok(())
 }
 
 /// The fault of a script that is none.

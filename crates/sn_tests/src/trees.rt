@@ -40,7 +40,7 @@ pub struct SmallTrees {
 pub fn tree_word(home: &Home) -> &str {
     match home {
         Home::Live => "live",
-        Home::Frozen(name) => str::from_utf8(name.as_bytes()).unwrap_or("?"),
+        Home::Frozen(name) => text_of(name.as_bytes()),
     }
 }
 

@@ -1,9 +1,8 @@
 //! Cases of the file system over a device: calls, and what of them a crash leaves.
 //!
-//! `data/` has the tables of the cases: their head lines say where the answers come from. `disk` has a
-//! file system on a device in memory and the calls of it, `lives` the tables over them, `cuts` cuts
-//! lists of calls and mounts short at each call of the device, on the disk of `inheriting`, and `hostile`
-//! mounts logs of any bytes.
+//! `data/` has the tables of the cases: their head lines say where the answers come from. `lives` has the tables
+//! over calls and crashes, `sizes` devices of several sizes and a full log, `cuts` cuts lists of calls and mounts short
+//! at each call of the device, on the disk of `inheriting`, and `hostile` mounts logs of any bytes.
 //! What is printed is compared with `stdout`. The argument is the folder of the tables, as in
 //!
 //! ```text
@@ -13,7 +12,6 @@
 
 mod cuts;
 mod directories;
-mod disk;
 mod hostile;
 mod inheriting;
 mod lives;

@@ -13,16 +13,26 @@ fn push_entry(text: &mut String, entry: &Entry) -> Result<()> {
     if !text.is_empty() {
         text.push_str(",")?;
     }
-    let rights = RIGHTS[usize::from(entry.rights % 8)];
-    let number = entry.number;
+    push_tag(text, entry)?;
+    text.push_str(RIGHTS[usize::from(entry.rights % 8)])?;
+    Ok(())
+}
+
+fn push_tag(text: &mut String, entry: &Entry) -> Result<()> {
     match entry.tag {
-        Tag::UserObj => write!(text, "u::{rights}")?,
-        Tag::User => write!(text, "u:{number}:{rights}")?,
-        Tag::GroupObj => write!(text, "g::{rights}")?,
-        Tag::Group => write!(text, "g:{number}:{rights}")?,
-        Tag::Mask => write!(text, "m::{rights}")?,
-        Tag::Other => write!(text, "o::{rights}")?,
+        Tag::UserObj => text.push_str("u::")?,
+        Tag::User => push_named(text, "u:", entry.number)?,
+        Tag::GroupObj => text.push_str("g::")?,
+        Tag::Group => push_named(text, "g:", entry.number)?,
+        Tag::Mask => text.push_str("m::")?,
+        Tag::Other => text.push_str("o::")?,
     }
+    Ok(())
+}
+
+fn push_named(text: &mut String, tag: &str, number: u32) -> Result<()> {
+    text.push_str(tag)?;
+    write!(text, "{number}:")?;
     Ok(())
 }
 
@@ -90,8 +100,8 @@ fn push_list(text: &mut String, list: &[u8]) -> Result<()> {
     Ok(())
 }
 
-/// The mode: the bits of the group are those of the MASK, where there is one.
-fn mode(attributes: &Attributes<'_>) -> u16 {
+/// The rights of the group in a mode: those of the MASK, where there is one.
+fn group_rights(attributes: &Attributes<'_>) -> u16 {
     let mut group = attributes.rights / 8 % 8;
     for bytes in attributes.access.chunks_exact(ENTRY_SIZE) {
         if let Ok(entry) = Entry::read(bytes)
@@ -100,13 +110,21 @@ fn mode(attributes: &Attributes<'_>) -> u16 {
             group = u16::from(entry.rights % 8);
         }
     }
-    let special = match attributes.special {
+    group
+}
+
+fn special_bits(special: u8) -> u16 {
+    match special {
         0 => 0,
         1 => 0o2000,
         2 => 0o1000,
         _ => 0o3000,
-    };
-    special + attributes.rights / 64 % 8 * 64 + group % 8 * 8 + attributes.rights % 8
+    }
+}
+
+fn mode(attributes: &Attributes<'_>) -> u16 {
+    let rights = attributes.rights % 512 & 0o707 | group_rights(attributes) % 8 * 8;
+    special_bits(attributes.special) | rights
 }
 
 /// What stat answers.

@@ -36,8 +36,12 @@ fn put_path(alloc: Global, tree: &Tree<'_>, directory: u16, path: &mut String) -
 
 fn put_before(alloc: Global, name: &[u8], path: &mut String) -> Result<()> {
     let name = str::from_utf8(name)?;
-    *path = format!(in alloc; "/{name}{path}")?;
+    *path = under(alloc, name, path.as_str())?;
     Ok(())
+}
+
+fn under(alloc: Global, name: &str, path: &str) -> Result<String> {
+    Ok(format!(in alloc; "/{name}{path}")?)
 }
 
 fn getacl(alloc: Global, path: &str, kind: AclKind) -> Result<Call> {
