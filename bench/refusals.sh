@@ -151,7 +151,6 @@ for crate in sn_tests sn_tests_disk sn_tests_block sn_tests_layout sn_tests_log 
 done
 
 step=1
-folder=$top/crates/sn_tests_changes
-(cd "$folder" && rt run -- 1 40 > "$work/log" 2>&1) || { tail -n 20 "$work/log"; exit 1; }
-"$folder/out/sn_tests_changes" 1 40 > "$work/whole"
-each_refused "$folder/out/sn_tests_changes" 1 40
+folder=$top/crates/sn_tests_memory
+"$folder/out/sn_tests_memory" "$folder/data" 1 40 > "$work/whole"
+each_refused "$folder/out/sn_tests_memory" "$folder/data" 1 40

@@ -1,6 +1,6 @@
 //! What the calls answer over the inodes of a table.
 
-use crate::disk::{ACLS, BLOCKS, Disk, RECORDS, file};
+use crate::inode_disk::{ACLS, BLOCKS, Disk, RECORDS, file};
 use anyhow::{Context, Result, bail};
 use sn_block::Blocks;
 use sn_device::MemDevice;

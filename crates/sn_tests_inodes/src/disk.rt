@@ -1,34 +1,38 @@
-//! An inode and its ACL block in the bytes of a disk, and a device in memory that has them.
+//! The bytes of a disk, and a device in memory that has them.
 
-use anyhow::Result;
+use anyhow::{Context, Result};
 use sn_block::Blocks;
 use sn_device::MemDevice;
-use sn_layout::{BlockTree, Pointers};
 use std::alloc::{AllocError, Global};
 
-const BLOCK_SIZE: usize = 4096;
+pub const BLOCK_SIZE: usize = 4096;
 
-/// How many blocks the disk has.
-pub const BLOCKS: u32 = 80;
-
-/// The one block of the inode file.
-pub const RECORDS: u32 = 70;
-
-/// The ACL block.
-pub const ACLS: u32 = 71;
-
-/// The bytes of a disk with one block of inodes.
+/// The bytes of a disk, of which the first blocks are in use.
 #[derive(Drop)]
-pub struct Disk {
+pub struct Image {
     bytes: Vec<u8>,
+    used: u32,
 }
 
-impl Disk {
-    /// All inodes are unused.
-    pub fn new(alloc: Global) -> Result<Disk, AllocError> {
-        Ok(Disk {
-            bytes: vec![in alloc; 0; BLOCKS as usize * BLOCK_SIZE]?,
+impl Image {
+    /// Zeros, with so many blocks in use.
+    pub fn new(alloc: Global, blocks: u16, used: u32) -> Result<Image, AllocError> {
+        let count = usize::from(blocks) * BLOCK_SIZE;
+        Ok(Image {
+            bytes: vec![in alloc; 0; count]?,
+            used,
         })
+    }
+
+    pub fn bytes(&self) -> &[u8] {
+        self.bytes.as_slice()
+    }
+
+    /// A block that isn't in use yet.
+    pub fn take(&mut self) -> Result<u32> {
+        let number = self.used;
+        self.used = number.checked_add(1).context("a number of a block")?;
+        Ok(number)
     }
 
     /// Writes bytes at a place of a block, as far as the disk goes.
@@ -38,25 +42,10 @@ impl Disk {
             *place = *byte;
         }
     }
-
-    /// A device with these bytes.
-    pub fn device(&self, alloc: Global) -> Result<MemDevice, AllocError> {
-        MemDevice::from_bytes(alloc, self.bytes.as_slice())
-    }
-
-    /// The device behind a cache.
-    pub fn blocks(&self, alloc: Global) -> Result<Blocks<MemDevice>> {
-        let device = self.device(alloc)?;
-        Ok(Blocks::new(alloc, device).map_err(AllocError::from)?)
-    }
 }
 
-/// An inode file of two blocks, of which the second is a hole.
-pub fn file(first: u32) -> BlockTree {
-    let mut pointers = [0; 16];
-    pointers[0] = first;
-    BlockTree {
-        size: 8192,
-        pointers: Pointers::new(&pointers),
-    }
+/// A device with these bytes.
+pub fn blocks_of(alloc: Global, bytes: &[u8]) -> Result<Blocks<MemDevice>> {
+    let device = MemDevice::from_bytes(alloc, bytes)?;
+    Ok(Blocks::new(alloc, device).map_err(AllocError::from)?)
 }
