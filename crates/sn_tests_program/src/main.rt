@@ -28,10 +28,12 @@ fn wrong_in_program(rt: &HostRuntime) -> std::io::Result<u64> {
     let rows = rows::run_all(rt)?;
     let words = words::run_all(rt)?;
     let faults = faults::run_all(rt)?;
-    Ok(examples
-        .saturating_add(rows)
-        .saturating_add(words)
-        .saturating_add(faults))
+    Ok(
+        examples
+            .saturating_add(rows)
+            .saturating_add(words)
+            .saturating_add(faults),
+    )
 }
 
 fn main(rt: HostRuntime) -> Result<()> {
