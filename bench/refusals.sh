@@ -149,8 +149,3 @@ for crate in sn_tests sn_tests_disk sn_tests_block sn_tests_layout sn_tests_log 
     "$folder/out/$crate" "$folder/data" > "$work/whole"
     each_refused "$folder/out/$crate" "$folder/data"
 done
-
-step=1
-folder=$top/crates/sn_tests_memory
-"$folder/out/sn_tests_memory" "$folder/data" 1 40 > "$work/whole"
-each_refused "$folder/out/sn_tests_memory" "$folder/data" 1 40

@@ -1,10 +1,9 @@
 //! Cases of the blocks of a device, and of a device over a file.
 //!
 //! `data/` has the tables of the cases: their head lines say where the answers come from. `steps` has the
-//! calls of the tables over any device, `memory` and `file` have the tables over each device, and `seeded`
-//! compares calls that a seed draws with the plain lists of `plain`. `calls` has those of a device alone, which
-//! `fake` makes over a file in memory whose calls fail, and `files` over files that are no images. What is
-//! printed is compared with `stdout`. The argument is the folder of the tables, as in
+//! calls of the tables over any device, and `memory` and `file` have the tables over each device. `calls` has those
+//! of a device alone, which `fake` makes over a file in memory whose calls fail, and `files` over files that are no
+//! images. What is printed is compared with `stdout`. The argument is the folder of the tables, as in
 //!
 //! ```text
 //! rt run -- data
@@ -16,8 +15,6 @@ mod fake;
 mod file;
 mod files;
 mod memory;
-mod plain;
-mod seeded;
 mod steps;
 mod words;
 
@@ -30,6 +27,5 @@ fn main(rt: HostRuntime) -> Result<()> {
     file::run(&mut report)?;
     fake::run(&mut report)?;
     files::run(&mut report)?;
-    seeded::run(&mut report)?;
     report.end()
 }

@@ -139,7 +139,7 @@ fn push_lent(device: &MemDevice, lent: &[(u32, Block)], text: &mut String) -> Re
 }
 
 /// Whether a block is these sectors.
-pub fn is_block_at(sectors: &[Sector], number: u32, block: &Block) -> bool {
+fn is_block_at(sectors: &[Sector], number: u32, block: &Block) -> bool {
     let mut is_same = true;
     for (i, bytes) in block.chunks(SECTOR_SIZE).enumerate() {
         let at = (number as usize).saturating_mul(8).saturating_add(i);
