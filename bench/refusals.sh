@@ -136,11 +136,11 @@ judge=honest
 each_refused "$program" run none "$work/script"
 
 judge=tested
-for crate in sn_tests sn_tests_disk sn_tests_block sn_tests_layout sn_tests_log sn_tests_memory sn_tests_root \
+for crate in sn_tests sn_tests_disk sn_tests_block sn_tests_layout sn_tests_log sn_tests_memory \
     sn_tests_plans sn_tests_inodes sn_tests_dirs; do
     # Some have tens of thousands of allocations, nearly all of them in devices and contents that are made anew.
     case $crate in
-        sn_tests_root) step=61 ;;
+        sn_tests_disk) step=7 ;;
         sn_tests_plans | sn_tests_dirs) step=31 ;;
         *) step=1 ;;
     esac

@@ -1,1 +1,2 @@
 mod JournalLemmas
+pub mod PointLemmas

@@ -1,21 +1,10 @@
 //! The allocator.
 
-use crate::map::taken_but;
 use anyhow::{Result, ensure};
 use sn_alloc::{BlockAllocator, Full};
 use sn_map::Map;
-use sn_table::{Case, Report, Tally};
+use sn_table::Case;
 use std::alloc::Global;
-
-const SIZES: [u32; 10] = [1, 7, 8, 9, 63, 64, 65, 256, 1_023, 1_048_576];
-
-pub fn run(report: &mut Report<'_>) -> Result<()> {
-    report.table("allocator.txt", takes)?;
-    let whole = whole_disk(report)?;
-    report.add("takes of a whole disk", whole)?;
-    let only = only_free_blocks(report)?;
-    report.add("takes of the only free block", only)
-}
 
 /// The next block, for which there is room.
 fn take(allocator: &mut BlockAllocator) -> Result<Result<u32, Full>> {
@@ -32,7 +21,7 @@ fn push_taken(text: &mut String, taken: Result<u32, Full>) -> Result<()> {
 }
 
 /// The blocks that are taken, and what the allocator then says of itself.
-fn takes(alloc: Global, case: Case<'_>) -> Result<String> {
+pub fn takes(alloc: Global, case: Case<'_>) -> Result<String> {
     let mut text = String::new(alloc);
     push_takes(alloc, case, &mut text)?;
     Ok(text)
@@ -74,64 +63,4 @@ fn push_parts(text: &mut String, allocator: BlockAllocator) -> Result<()> {
     let taken = taken.as_slice();
     write!(text, "of {free} free, taken {taken:?}")?;
     Ok(())
-}
-
-/// Each word of a disk that is free is looked at once: a search from the front each time would look at
-/// 1 + 2 + .. + 256 = 32,896 words.
-fn whole_disk(report: &Report<'_>) -> Result<Tally> {
-    let alloc = report.alloc();
-    let mut tally = Tally::new();
-    let mut allocator = BlockAllocator::new(alloc, Map::new(alloc, 256)?, 0);
-    take_whole(report, &mut allocator, &mut tally)?;
-    let is_free = allocator.give_up().count_free() == 256;
-    tally.check(report.runtime(), is_free, &[257])?;
-    Ok(tally)
-}
-
-fn take_whole(
-    report: &Report<'_>,
-    allocator: &mut BlockAllocator,
-    tally: &mut Tally,
-) -> Result<()> {
-    allocator.reserve(257)?;
-    for block in 0..256 {
-        let is_right = is_taken(take(allocator)?, block);
-        tally.check(report.runtime(), is_right, &[block])?;
-    }
-    let is_right = is_used_up(allocator)?;
-    tally.check(report.runtime(), is_right, &[256])?;
-    Ok(())
-}
-
-fn is_taken(taken: Result<u32, Full>, wanted: u32) -> bool {
-    match taken {
-        Ok(block) => block == wanted,
-        Err(Full) => false,
-    }
-}
-
-fn is_used_up(allocator: &mut BlockAllocator) -> Result<bool> {
-    let is_full = take(allocator)?.is_err();
-    Ok(is_full && allocator.looked() == 256 && allocator.left() == 0)
-}
-
-fn only_free_blocks(report: &Report<'_>) -> Result<Tally> {
-    let mut tally = Tally::new();
-    for size in SIZES {
-        for free in [0, size.saturating_sub(1), size / 64 * 64, size] {
-            let is_right = is_only_free(report.alloc(), size, free)?;
-            tally.check(report.runtime(), is_right, &[size, free])?;
-        }
-    }
-    Ok(tally)
-}
-
-/// Whether this block, if it is there, is the one that is taken of a map that has no other.
-fn is_only_free(alloc: Global, size: u32, free: u32) -> Result<bool> {
-    let map = taken_but(alloc, size, free)?;
-    let mut allocator = BlockAllocator::new(alloc, map, 0);
-    allocator.reserve(2)?;
-    let is_found = free >= size || is_taken(take(&mut allocator)?, free);
-    let is_full = take(&mut allocator)?.is_err();
-    Ok(is_found && is_full && allocator.looked() == u64::from(size))
 }

@@ -8,8 +8,6 @@ use std::alloc::Global;
 
 pub fn run(report: &mut Report<'_>) -> Result<()> {
     report.table("device.txt", steps)?;
-    let spent = want_of_memory(report)?;
-    report.add("want of memory", spent)?;
     let journal = journal_cases(report)?;
     report.add("the journal", journal)
 }
@@ -154,36 +152,6 @@ fn show(device: &MemDevice, text: &mut String) -> Result<()> {
         push_sector(text, sector)?;
     }
     Ok(())
-}
-
-/// Whichever allocation is refused, if one is, the device has then come to its end.
-fn want_of_memory(report: &Report<'_>) -> Result<Tally> {
-    let mut device = MemDevice::new(report.alloc(), 3)?;
-    let mut tally = Tally::new();
-    let mut has_failed = false;
-    for at in 0..3 {
-        let failed = failed_calls(&mut device, u64::from(at))?;
-        let is_right = failed.write >= has_failed && failed.sync >= failed.write;
-        tally.check(report.runtime(), is_right, &[at])?;
-        has_failed = failed.sync;
-    }
-    let is_right = device.status().has_ended() == has_failed && device.failures() == 0;
-    tally.check(report.runtime(), is_right, &[])?;
-    Ok(tally)
-}
-
-/// Whether a write and the sync behind it failed.
-#[derive(Clone, Copy)]
-struct Failed {
-    write: bool,
-    sync: bool,
-}
-
-fn failed_calls(device: &mut MemDevice, at: u64) -> Result<Failed> {
-    ensure!(at < device.sectors(), "no such sector");
-    let write = device.write(at, &[0x11; SECTOR_SIZE]).is_err();
-    let sync = device.sync().is_err();
-    Ok(Failed { write, sync })
 }
 
 /// A body that was put into an empty journal is there after a crash, and sectors that are wiped are zeros.

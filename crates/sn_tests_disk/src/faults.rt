@@ -1,7 +1,7 @@
 //! Each call of the device failing in turn.
 
-use crate::disk::{Held, blocks_of, crashed, find, generation_of, image_of, renewed};
 use crate::point::Form;
+use crate::roots::{Held, blocks_of, crashed, find, generation_of, image_of, renewed};
 use anyhow::{Result, ensure};
 use sn_block::{Blocks, ReadFault};
 use sn_device::{Fill, MemDevice};

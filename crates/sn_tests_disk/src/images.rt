@@ -1,20 +1,16 @@
 //! Disks whose bytes were laid out by hand.
 
-use crate::disk::{disk_of, find, put};
+use crate::roots::{disk_of, find, put};
 use anyhow::{Context, Result};
 use sn_block::Blocks;
 use sn_device::MemDevice;
 use sn_layout::{Gate, Slot};
 use sn_root::{NewestRoot, RootFault};
-use sn_table::{Case, Report};
+use sn_table::Case;
 use std::alloc::Global;
 
-pub fn run(report: &mut Report<'_>) -> Result<()> {
-    report.table("images.txt", found)
-}
-
 /// What is found on the disk that the words spell.
-fn found(alloc: Global, case: Case<'_>) -> Result<String> {
+pub fn found(alloc: Global, case: Case<'_>) -> Result<String> {
     let mut text = String::new(alloc);
     push_found(alloc, case, &mut text)?;
     Ok(text)

@@ -1,6 +1,6 @@
 use Rattle.sn_layout.specs.Places.{other_slot}
-use Rattle.sn_tests_root.proofs.PointLemmas.{gate_synced}
-use Rattle.sn_tests_root.proofs.point.mounted.Goals as goal
+use Rattle.sn_tests_disk.proofs.PointLemmas.{gate_synced}
+use Rattle.sn_tests_disk.proofs.point.mounted.Goals as goal
 
 pub returns-clause-gate : goal.returns-clause-gate
 returns-clause-gate g c told =

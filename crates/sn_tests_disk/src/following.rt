@@ -1,15 +1,11 @@
 //! The ages of the next root.
 
-use crate::disk::root_of;
+use crate::roots::root_of;
 use anyhow::{Context, Result, bail};
 use sn_layout::RootBody;
 use sn_root::{PointKind, next_root};
-use sn_table::{Case, Report};
+use sn_table::Case;
 use std::alloc::Global;
-
-pub fn run(report: &mut Report<'_>) -> Result<()> {
-    report.table("following.txt", following)
-}
 
 fn age_of(word: &str) -> Result<u64> {
     word.parse().context("no age")
@@ -31,7 +27,7 @@ fn root_in(case: Case<'_>) -> Result<RootBody> {
     Ok(root)
 }
 
-fn following(alloc: Global, case: Case<'_>) -> Result<String> {
+pub fn following(alloc: Global, case: Case<'_>) -> Result<String> {
     let kind = kind_of(case.word(2)?)?;
     let root = root_in(case)?;
     match next_root(&root, &root.limits, kind) {

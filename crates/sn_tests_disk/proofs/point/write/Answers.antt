@@ -1,8 +1,8 @@
 use Rattle.std.proofs.Common.{◌≤◌, arith}
 use Rattle.sn_block.specs.Lending.{device_of}
 use Rattle.sn_block.proofs.EffectLemmas.{OnOk-always}
-use Rattle.sn_tests_root.proofs.PointLemmas.{closed_beside, body_beside}
-use Rattle.sn_tests_root.proofs.point.write.Goals as goal
+use Rattle.sn_tests_disk.proofs.PointLemmas.{closed_beside, body_beside}
+use Rattle.sn_tests_disk.proofs.point.write.Goals as goal
 
 pub returns-clause-closed : goal.returns-clause-closed
 returns-clause-closed g c told =
