@@ -136,7 +136,7 @@ judge=honest
 each_refused "$program" run none "$work/script"
 
 judge=tested
-for crate in sn_tests sn_tests_disk sn_tests_block sn_tests_layout sn_tests_log sn_tests_memory \
+for crate in sn_tests sn_tests_disk sn_tests_block sn_tests_formats sn_tests_memory \
     sn_tests_plans sn_tests_inodes sn_tests_dirs; do
     # Some have tens of thousands of allocations, nearly all of them in devices and contents that are made anew.
     case $crate in

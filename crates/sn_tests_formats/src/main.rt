@@ -1,9 +1,9 @@
-//! Cases of the codecs: blocks and records whose bytes were laid out by hand.
+//! Cases of what stands on a disk byte by byte: blocks and records whose bytes were laid out by hand, and a log.
 //!
 //! `data/` has the tables of the cases: their head lines say where the answers come from. There is a
-//! module for each subject: `layout`, `nodes`, `acl_blocks` and `directory`. `block` has the spelling
-//! of blocks in tables. What is printed is compared with `stdout`. The argument is the folder of the
-//! tables, as in
+//! module for each subject: `layout`, `nodes`, `acl_blocks`, `directory` and `payloads`. `block` has the spelling
+//! of blocks in tables. `log_steps` has what is appended, replayed and cleared, by the calls of a log on a device in
+//! memory in `log`. What is printed is compared with `stdout`. The argument is the folder of the tables, as in
 //!
 //! ```text
 //! rt run -- data
@@ -14,18 +14,20 @@ mod acl_blocks;
 mod block;
 mod directory;
 mod layout;
+mod log;
+mod log_steps;
 mod nodes;
+mod payloads;
 
 use anyhow::{Result, bail};
 use sn_table::{Case, Report};
 use std::alloc::Global;
 
-const TABLES: [&str; 14] = [
+const TABLES: [&str; 15] = [
     "superblock.txt",
     "root_body.txt",
     "places.txt",
     "snapshot_names.txt",
-    "snapshots.txt",
     "inode_record.txt",
     "indirect_block.txt",
     "pointers.txt",
@@ -35,6 +37,8 @@ const TABLES: [&str; 14] = [
     "directory_block.txt",
     "directory_find.txt",
     "directory_steps.txt",
+    "payloads.txt",
+    "log.txt",
 ];
 
 fn main(rt: HostRuntime) -> Result<()> {
@@ -42,7 +46,6 @@ fn main(rt: HostRuntime) -> Result<()> {
     for table in TABLES {
         report.table(table, |alloc, case| answer(table, alloc, case))?;
     }
-    directory::run(&mut report)?;
     report.end()
 }
 
@@ -53,7 +56,8 @@ fn answer(table: &str, alloc: Global, case: Case<'_>) -> Result<String> {
         "root_body.txt" => layout::root_body(alloc, case),
         "places.txt" => layout::place(alloc, case),
         "snapshot_names.txt" => layout::snapshot_name(alloc, case),
-        "snapshots.txt" => layout::snapshots(alloc, case),
+        "payloads.txt" => payloads::payload(alloc, case),
+        "log.txt" => log_steps::steps(alloc, case),
         _ => node_answer(table, alloc, case),
     }
 }

@@ -46,7 +46,7 @@ fn push_inode(text: &mut String, inode: &Inode) -> Result<()> {
     Ok(write!(text, ", ACL block {acl_block}, size {size}")?)
 }
 
-fn kind_word(kind: Kind) -> &'static str {
+pub fn kind_word(kind: Kind) -> &'static str {
     match kind {
         Kind::File => "file",
         Kind::Directory => "directory",

@@ -1,6 +1,6 @@
 //! The table of appends, replays and crashes.
 
-use crate::disk::{
+use crate::log::{
     Added, Appended, Ending, append, blocks_of, clear_place, log_at, new_blocks, places, replayed,
     sector_at,
 };
@@ -9,12 +9,8 @@ use sn_block::{Blocks, ReadFault};
 use sn_device::{Fill, MemDevice, SECTOR_SIZE};
 use sn_layout::LogHalf;
 use sn_log::{Log, Position};
-use sn_table::{Case, Report};
+use sn_table::Case;
 use std::alloc::Global;
-
-pub fn run(report: &mut Report<'_>) -> Result<()> {
-    report.table("log.txt", steps)
-}
 
 fn number_of(word: &str) -> Result<u64> {
     word.parse().context("no number")
@@ -40,7 +36,7 @@ fn push_word(text: &mut String, word: &str) -> Result<()> {
 }
 
 /// What the log answers to the steps of a case.
-fn steps(alloc: Global, case: Case<'_>) -> Result<String> {
+pub fn steps(alloc: Global, case: Case<'_>) -> Result<String> {
     let mut text = String::new(alloc);
     take_steps(alloc, case, &mut text)?;
     Ok(text)

@@ -2,7 +2,7 @@
 
 use anyhow::{Context, Result, bail, ensure};
 use sn_block::{Blocks, ReadFault};
-use sn_device::{Fill, MemDevice, SECTOR_SIZE, Sector};
+use sn_device::{MemDevice, SECTOR_SIZE, Sector};
 use sn_layout::{LogHalf, Places};
 use sn_log::{Buffer, Found, Log, Position, Replay, clear};
 use sn_model::{Bytes, Change};
@@ -44,11 +44,6 @@ pub fn places() -> Result<Places> {
 
 pub fn blocks_of(alloc: Global, device: MemDevice) -> Result<Blocks<MemDevice>> {
     Ok(Blocks::new(alloc, device).map_err(AllocError::from)?)
-}
-
-/// What a crash leaves of a disk.
-pub fn crashed(alloc: Global, blocks: Blocks<MemDevice>, fill: Fill) -> Result<Blocks<MemDevice>> {
-    blocks_of(alloc, blocks.into_device().crash(fill))
 }
 
 /// A disk of zeros.

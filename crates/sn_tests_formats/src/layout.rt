@@ -1,11 +1,8 @@
 //! The superblock, root bodies and the places of a disk.
 
 use crate::block::{DIRTY, block_of, ensure_same, push_pointers};
-use anyhow::{Context, Result, bail, ensure};
-use sn_layout::{
-    Area, Block, BlockTree, LogHalf, Places, RootBody, SNAPSHOT_ROOM, Slot, Snapshot, Snapshots,
-    Superblock,
-};
+use anyhow::{Result, bail, ensure};
+use sn_layout::{Area, Block, BlockTree, LogHalf, Places, RootBody, Slot, Snapshot, Superblock};
 use sn_limits::SnapshotName;
 use sn_table::Case;
 use std::alloc::Global;
@@ -126,35 +123,4 @@ pub fn snapshot_name(alloc: Global, case: Case<'_>) -> Result<String> {
         Some(name) => Ok(String::from_str(alloc, str::from_utf8(name.copy().as_bytes())?)?),
         None => refused(alloc),
     }
-}
-
-/// Snapshots with these bits and one name, of which one is removed.
-pub fn snapshots(alloc: Global, case: Case<'_>) -> Result<String> {
-    let index = case.number(1)? as usize;
-    let bits = case.numbers(alloc, 0)?;
-    let mut snapshots = snapshots_of(bits.as_slice())?;
-    ensure!(index < snapshots.as_slice().len(), "no such snapshot");
-    let removed = snapshots.remove(index).bit;
-    told_snapshots(alloc, removed, &snapshots)
-}
-
-fn snapshots_of(bits: &[u32]) -> Result<Snapshots> {
-    let mut snapshots = Snapshots::default();
-    for bit in bits {
-        ensure!(snapshots.as_slice().len() < SNAPSHOT_ROOM, "no room");
-        snapshots.push(Snapshot {
-            bit: u8::try_from(*bit)?,
-            name: SnapshotName::parse(b"x.y_Z-9").context("a name")?,
-            tree: BlockTree::default(),
-        });
-    }
-    Ok(snapshots)
-}
-
-fn told_snapshots(alloc: Global, removed: u8, left: &Snapshots) -> Result<String> {
-    let mut text = format!(in alloc; "removed {removed}, left")?;
-    for snapshot in left.as_slice() {
-        write!(text, " {}", snapshot.bit)?;
-    }
-    Ok(text)
 }

@@ -1,20 +1,16 @@
 //! Payloads of log records.
 
+use crate::nodes::kind_word;
 use anyhow::{Result, bail, ensure};
 use sn_acl::Acl;
-use sn_limits::Kind;
 use sn_model::{Bytes, Change, Ownership};
 use sn_record::{decode, is_valid, payload_size, put_change};
-use sn_table::{Case, Report};
+use sn_table::Case;
 use std::alloc::Global;
 use std::str;
 
 /// More bytes than a payload of the tables has.
 const ROOM: usize = 600;
-
-pub fn run(report: &mut Report<'_>) -> Result<()> {
-    report.table("payloads.txt", payload)
-}
 
 /// The bytes that the words of a case spell.
 fn bytes_of(alloc: Global, case: Case<'_>) -> Result<Vec<u8>> {
@@ -30,7 +26,7 @@ fn push_words(case: Case<'_>, digits: &mut String) -> Result<()> {
     Ok(())
 }
 
-fn payload(alloc: Global, case: Case<'_>) -> Result<String> {
+pub fn payload(alloc: Global, case: Case<'_>) -> Result<String> {
     let bytes = bytes_of(alloc, case)?;
     spelled(alloc, bytes.as_slice())
 }
@@ -120,13 +116,6 @@ fn push_naming(text: &mut String, change: &Change<'_>) -> Result<()> {
             push_name(text, new_name, " in ", *new_directory)
         }
         _ => bail!("no change of names"),
-    }
-}
-
-fn kind_word(kind: Kind) -> &'static str {
-    match kind {
-        Kind::File => "file",
-        Kind::Directory => "directory",
     }
 }
 
