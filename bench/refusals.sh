@@ -136,12 +136,10 @@ judge=honest
 each_refused "$program" run none "$work/script"
 
 judge=tested
-for crate in sn_tests sn_tests_disk sn_tests_block sn_tests_formats sn_tests_memory \
-    sn_tests_plans sn_tests_inodes sn_tests_dirs; do
+for crate in sn_tests sn_tests_disk sn_tests_block sn_tests_formats sn_tests_memory sn_tests_trees; do
     # Some have tens of thousands of allocations, nearly all of them in devices and contents that are made anew.
     case $crate in
-        sn_tests_disk) step=7 ;;
-        sn_tests_plans | sn_tests_dirs) step=31 ;;
+        sn_tests_disk | sn_tests_trees) step=7 ;;
         *) step=1 ;;
     esac
     folder=$top/crates/$crate

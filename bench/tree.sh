@@ -1,6 +1,6 @@
 #!/bin/bash
 # Times block trees and directories on a device in memory, by runs of the program `measure_plans` and of the test program
-# of directories. Run by hand; the memory wants gcc, since it is counted by a small library that stands before the C
+# of trees. Run by hand; the memory wants gcc, since it is counted by a small library that stands before the C
 # library's malloc.
 #
 # Prints the time of reading 64 MiB through lent blocks, in parts of 64 KiB, beside a copy of as many bytes; of a plan
@@ -13,7 +13,7 @@ set -eu
 top=$(cd "$(dirname "$0")/.." && pwd)
 work=$(mktemp -d)
 trap 'rm -rf "$work"' EXIT
-(cd "$top/crates/sn_tests_dirs" && rt run -- data > "$work/log" 2>&1) || { tail -n 20 "$work/log"; exit 1; }
+(cd "$top/crates/sn_tests_trees" && rt run -- data > "$work/log" 2>&1) || { tail -n 20 "$work/log"; exit 1; }
 "$top/bench/program.py" measure_plans
 plans=$top/bench/out/measure_plans
 
@@ -84,14 +84,14 @@ import time
 from pathlib import Path
 
 top, work = Path(sys.argv[1]), Path(sys.argv[2])
-dirs = top / "crates/sn_tests_dirs/out/sn_tests_dirs"
+trees = top / "crates/sn_tests_trees/out/sn_tests_trees"
 
 
 def least(folder, turns):
     times = []
     for _ in range(turns):
         start = time.perf_counter()
-        subprocess.run([dirs, folder], stdout=subprocess.DEVNULL, stderr=subprocess.DEVNULL, check=True)
+        subprocess.run([trees, folder], stdout=subprocess.DEVNULL, stderr=subprocess.DEVNULL, check=True)
         times.append(time.perf_counter() - start)
     return min(times)
 
@@ -104,7 +104,8 @@ def table(names, asked):
     found = " ".join(str(2 + i % 65534) for i in asked)
     folder = work / "data"
     folder.mkdir(exist_ok=True)
-    (folder / "changes.txt").write_text("")
+    for name in ("plans.txt", "inodes.txt", "changes.txt"):
+        (folder / name).write_text("")
     (folder / "directories.txt").write_text(
         f"{','.join(names[i] for i in asked)} {' '.join(blocks)} => {len(names)}, not empty: {listed}; {found}\n")
     return folder

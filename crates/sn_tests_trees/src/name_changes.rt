@@ -1,7 +1,8 @@
 //! Directories that change, by a table.
 
-use crate::cases::{disk_of, name_of, push_name};
-use crate::disk::{Disk, new_build};
+use crate::builds::{new_build, push_build, settled};
+use crate::directories::{directory_of, name_of, push_name};
+use crate::directory::Directory;
 use anyhow::{Context, Result, bail, ensure};
 use sn_block::Blocks;
 use sn_device::MemDevice;
@@ -9,17 +10,16 @@ use sn_dir::{block_count, decoded, fetch_block};
 use sn_dir_change::{NameChange, are_changes, change};
 use sn_layout::BlockTree;
 use sn_layout_node::DirectoryBlock;
-use sn_map::Map;
 use sn_table::Case;
-use sn_tree::{Build, NewBlock, PlanFault};
+use sn_tree::{Build, PlanFault};
 use sn_tree_read::TreeFault;
 use std::alloc::Global;
 
 /// A name, and the number that it is to have.
 #[derive(Drop)]
-pub struct Wanted {
-    pub name: Vec<u8>,
-    pub number: Option<u16>,
+struct Wanted {
+    name: Vec<u8>,
+    number: Option<u16>,
 }
 
 /// The new blocks of a directory, what was taken and released. The first word is the changes.
@@ -31,24 +31,20 @@ pub fn answers(alloc: Global, case: Case<'_>) -> Result<String> {
 
 fn push_answers(alloc: Global, case: Case<'_>, text: &mut String) -> Result<()> {
     let wanted = wanted_of(alloc, case.word(0)?)?;
-    let mut disk = disk_of(alloc, case)?;
-    push_changed(alloc, &mut disk, wanted.as_slice(), text)
+    let mut directory = directory_of(alloc, case)?;
+    push_changed(alloc, &mut directory, wanted.as_slice(), text)
 }
 
 fn push_changed(
     alloc: Global,
-    disk: &mut Disk,
+    directory: &mut Directory,
     wanted: &[Wanted],
     text: &mut String,
 ) -> Result<()> {
-    let tree = disk.tree();
-    let mut blocks = disk.blocks(alloc)?;
-    let build = build_of(alloc, disk)?;
+    let tree = directory.tree();
+    let mut blocks = directory.image.blocks(alloc)?;
+    let build = new_build(alloc, directory.map(alloc)?)?;
     push_outcome(alloc, build, &mut blocks, &tree, wanted, text)
-}
-
-fn build_of(alloc: Global, disk: &Disk) -> Result<Build> {
-    new_build(alloc, disk.map(alloc)?)
 }
 
 fn push_outcome(
@@ -90,14 +86,14 @@ fn number_of(word: &str) -> Result<Option<u16>> {
 
 /// What a list of changes comes to.
 #[derive(Drop)]
-pub enum Outcome {
+enum Outcome {
     Tree(BlockTree),
     Damaged,
     NoChanges,
 }
 
 /// Plans a directory with these names.
-pub fn planned(
+fn planned(
     alloc: Global,
     build: &mut Build,
     blocks: &mut Blocks<MemDevice>,
@@ -139,41 +135,6 @@ fn plan(
     }
 }
 
-/// Writes the new blocks, and sets the map to what is reached then.
-pub fn settled(build: Build, blocks: &mut Blocks<MemDevice>) -> Result<Map> {
-    let (allocator, added, released) = build.into_parts();
-    let mut map = allocator.give_up();
-    settle(&mut map, blocks, added.as_slice(), released.as_slice())?;
-    Ok(map)
-}
-
-fn settle(
-    map: &mut Map,
-    blocks: &mut Blocks<MemDevice>,
-    added: &[NewBlock],
-    released: &[u32],
-) -> Result<()> {
-    for block in added {
-        write_added(map, blocks, block)?;
-    }
-    for number in released {
-        ensure!(*number < map.len(), "no block {number}");
-        map.set_word(*number, 0);
-    }
-    Ok(())
-}
-
-fn write_added(map: &mut Map, blocks: &mut Blocks<MemDevice>, block: &NewBlock) -> Result<()> {
-    let number = block.number;
-    ensure!(
-        number < map.len() && 8 * u64::from(number) + 8 <= blocks.sectors(),
-        "no block {number}"
-    );
-    blocks.write_block(number, &block.bytes)?;
-    map.set_word(number, 1);
-    Ok(())
-}
-
 fn push_planned(
     alloc: Global,
     build: Build,
@@ -189,20 +150,9 @@ fn push_planned(
 }
 
 fn taken_by(alloc: Global, build: &Build) -> Result<String> {
-    let mut text = String::new(alloc);
-    push_taken(build, &mut text)?;
+    let mut text = String::from_str(alloc, "; ")?;
+    push_build(build, &mut text)?;
     Ok(text)
-}
-
-fn push_taken(build: &Build, text: &mut String) -> Result<()> {
-    text.push_str("; new")?;
-    for block in build.added() {
-        let number = block.number;
-        write!(text, " {number}")?;
-    }
-    let released = build.released();
-    write!(text, ", released {released:?}")?;
-    Ok(())
 }
 
 fn push_blocks(blocks: &mut Blocks<MemDevice>, tree: &BlockTree, text: &mut String) -> Result<()> {

@@ -2,14 +2,28 @@
 ghost use Rattle.std.specs.Prelude.{IfOk};
 ghost use Rattle.sn_tree.specs.Orders.{AreInOrder};
 
-use crate::plain::{Next, Written};
-use anyhow::{Context, Result, bail, ensure};
+use anyhow::{Context, Result, ensure};
 use sn_layout::Block;
 use sn_tree::{Dirty, DirtyBlock};
 use std::alloc::{AllocError, Global};
 use std::collections::VecDeque;
 
 const BLOCK_SIZE: u64 = 4096;
+
+/// How many bytes a file is to have, and how many of its blocks stay.
+#[derive(Clone, Copy)]
+struct Next {
+    size: u64,
+    keep: u64,
+}
+
+/// A block of one byte up to a place of the file, and zeros behind it.
+#[derive(Clone, Copy)]
+struct Written {
+    index: u64,
+    byte: u8,
+    end: u64,
+}
 
 /// The change of a word `KEEP` or `KEEP/INDEX/BYTE`, with `SIZE:` before it where the size changes. The
 /// block has that byte up to the size, and zeros behind it.
@@ -43,18 +57,6 @@ fn spelled(alloc: Global, size: u64, word: &str) -> Result<Dirty> {
     dirty_one(alloc, next, block_of(alloc, written)?)
 }
 
-/// The change that writes these blocks, which are two at most.
-pub fn dirty_of(alloc: Global, next: Next, wanted: &[Written]) -> Result<Dirty>
-    ensures { IfOk result (λ change. AreInOrder change.size change.blocks.items) }
-{
-    in_order(match wanted {
-        [] => dirty_none(alloc, next),
-        [one] => dirty_one(alloc, next, block_of(alloc, *one)?)?,
-        [one, two] => dirty_two(alloc, next, *one, *two)?,
-        _ => bail!("too many blocks"),
-    })
-}
-
 /// The change that writes no block.
 fn dirty_none(alloc: Global, next: Next) -> Dirty {
     Dirty {
@@ -68,21 +70,6 @@ fn dirty_none(alloc: Global, next: Next) -> Dirty {
 fn dirty_one(alloc: Global, next: Next, block: DirtyBlock) -> Result<Dirty> {
     let mut blocks = VecDeque::new(alloc);
     blocks.push_back(block).map_err(AllocError::from)?;
-    Ok(Dirty {
-        size: next.size,
-        keep: next.keep,
-        blocks,
-    })
-}
-
-fn dirty_two(alloc: Global, next: Next, one: Written, two: Written) -> Result<Dirty> {
-    let mut blocks = VecDeque::new(alloc);
-    blocks
-        .push_back(block_of(alloc, one)?)
-        .map_err(AllocError::from)?;
-    blocks
-        .push_back(block_of(alloc, two)?)
-        .map_err(AllocError::from)?;
     Ok(Dirty {
         size: next.size,
         keep: next.keep,
@@ -117,5 +104,5 @@ fn filled(size: u64, index: u64, byte: u8) -> Block {
 
 fn number_of(word: Option<&str>) -> Result<u64> {
     let word = word.context("no number")?;
-    word.parse().context(format_args!("no number: {word}"))
+    word.parse().context("no number")
 }

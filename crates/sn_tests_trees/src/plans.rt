@@ -1,14 +1,15 @@
 //! Plans of trees one after the other.
 
-use crate::changes::change_of;
-use crate::disk::{new_blocks, new_build, new_map, push_build, settled};
+use crate::builds::{new_build, new_map, push_build, settled};
+use crate::image::new_blocks;
+use crate::tree_changes::change_of;
 use anyhow::Result;
 use sn_block::Blocks;
 use sn_device::MemDevice;
 use sn_layout::{BlockTree, Pointers};
 use sn_map::Map;
 use sn_table::Case;
-use sn_tree::plan_tree;
+use sn_tree::{Build, plan_tree};
 use sn_tree_read::fetch_data;
 use std::alloc::Global;
 
@@ -54,9 +55,19 @@ fn push_plan(alloc: Global, file: &mut File, word: &str, text: &mut String) -> R
     let change = change_of(alloc, file.tree.size, word)?;
     let mut build = new_build(alloc, file.taken.try_clone()?)?;
     file.tree = plan_tree(&mut build, &mut file.blocks, &file.tree, change)?;
-    push_build(&build, text)?;
-    text.push_str(":")?;
+    push_taken(&build, text)?;
     file.taken = settled(build, &mut file.blocks)?;
+    Ok(())
+}
+
+/// What a plan takes and releases, and how many blocks are left.
+fn push_taken(build: &Build, text: &mut String) -> Result<()> {
+    if !text.is_empty() {
+        text.push_str(" ")?;
+    }
+    push_build(build, text)?;
+    let left = build.left();
+    write!(text, ", {left} left:")?;
     Ok(())
 }
 

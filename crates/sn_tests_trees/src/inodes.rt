@@ -1,16 +1,21 @@
 //! What the calls answer over the inodes of a table.
 
-use crate::inode_disk::{ACLS, BLOCKS, Disk, RECORDS, file};
-use anyhow::{Context, Result, bail};
+use crate::image::{BLOCKS, Image, told};
+use anyhow::{Context, Result};
 use sn_block::Blocks;
 use sn_device::MemDevice;
 use sn_inode::{acls, get};
+use sn_layout::{BlockTree, Pointers};
 use sn_layout_acl::AclBlock;
 use sn_layout_node::{Content, Inode};
 use sn_limits::{Kind, Limits};
 use sn_table::Case;
-use sn_tree_read::TreeFault;
 use std::alloc::Global;
+
+/// The block of the inode file, and the ACL block.
+pub const RECORDS: u32 = 70;
+
+pub const ACLS: u32 = 71;
 
 /// The bytes of a record.
 const INODE_SIZE: usize = 128;
@@ -18,50 +23,79 @@ const INODE_SIZE: usize = 128;
 /// The answers of `get` and `acls` for the number of the first word. The second word says where the inode
 /// file's first block is. The others are bytes, each with its place: `r` in the record, `a` in the ACL block.
 pub fn answers(alloc: Global, case: Case<'_>) -> Result<String> {
-    let number = u16::try_from(case.number(0)?)?;
-    let mut disk = Disk::new(alloc)?;
-    for word in case.text().split_ascii_whitespace().skip(2) {
-        push_word(alloc, &mut disk, number, word)?;
-    }
-    let first = match case.word(1)? {
-        "hole" => 0,
-        "off" => BLOCKS,
-        _ => RECORDS,
-    };
-    let mut blocks = disk.blocks(alloc)?;
     let mut text = String::new(alloc);
-    match told(get(&mut blocks, &Limits::VERSION_1, &file(first), number))? {
-        Some(Some(inode)) => {
-            push_inode(&inode, &mut text)?;
-            push_acls(&mut blocks, &inode, &mut text)?;
-        }
-        Some(None) => text.push_str("none")?,
-        None => text.push_str("damaged")?,
-    }
+    push_answers(alloc, case, &mut text)?;
     Ok(text)
 }
 
-/// Writes the bytes of a word `rAT:HEX` or `aAT:HEX`.
-fn push_word(alloc: Global, disk: &mut Disk, number: u16, word: &str) -> Result<()> {
-    let (place, digits) = word.split_once(':').context("no place")?;
-    let bytes = hex::decode(alloc, digits)?;
-    if let Some(at) = place.strip_prefix("r") {
-        let at = usize::from(at.parse::<u16>()?);
-        let record = INODE_SIZE * usize::from(number % 32);
-        disk.put(RECORDS, record.saturating_add(at), bytes.as_slice());
-    } else {
-        let at = place.strip_prefix("a").context("no block")?;
-        disk.put(ACLS, usize::from(at.parse::<u16>()?), bytes.as_slice());
+fn push_answers(alloc: Global, case: Case<'_>, text: &mut String) -> Result<()> {
+    let number = u16::try_from(case.number(0)?)?;
+    let file = file(first_of(case.word(1)?));
+    let image = image_of(alloc, case, number)?;
+    let mut blocks = image.blocks(alloc)?;
+    push_told(&mut blocks, &file, number, text)
+}
+
+fn first_of(word: &str) -> u32 {
+    match word {
+        "hole" => 0,
+        "off" => BLOCKS,
+        _ => RECORDS,
     }
+}
+
+/// An inode file of two blocks, of which the second is a hole.
+pub fn file(first: u32) -> BlockTree {
+    let mut pointers = [0; 16];
+    pointers[0] = first;
+    BlockTree {
+        size: 8192,
+        pointers: Pointers::new(&pointers),
+    }
+}
+
+fn image_of(alloc: Global, case: Case<'_>, number: u16) -> Result<Image> {
+    let mut image = Image::new(alloc)?;
+    for word in case.text().split_ascii_whitespace().skip(2) {
+        put_word(alloc, &mut image, number, word)?;
+    }
+    Ok(image)
+}
+
+/// Writes the bytes of a word `rAT:HEX` or `aAT:HEX`.
+fn put_word(alloc: Global, image: &mut Image, number: u16, word: &str) -> Result<()> {
+    let (place, digits) = word.split_once(':').context("no place")?;
+    let (block, at) = place_of(place, number)?;
+    let bytes = hex::decode(alloc, digits)?;
+    image.put(block, at, bytes.as_slice());
     Ok(())
 }
 
-/// The value, or none where the image is told to be damaged.
-fn told<T: Drop>(answer: Result<T, TreeFault>) -> Result<Option<T>> {
-    match answer {
-        Ok(value) => Ok(Some(value)),
-        Err(TreeFault::Damaged) => Ok(None),
-        Err(fault) => bail!("{fault}"),
+fn place_of(place: &str, number: u16) -> Result<(u32, usize)> {
+    if let Some(at) = place.strip_prefix("r") {
+        let record = INODE_SIZE * usize::from(number % 32);
+        return Ok((
+            RECORDS,
+            record.saturating_add(usize::from(at.parse::<u16>()?)),
+        ));
+    }
+    let at = place.strip_prefix("a").context("no block")?;
+    Ok((ACLS, usize::from(at.parse::<u16>()?)))
+}
+
+fn push_told(
+    blocks: &mut Blocks<MemDevice>,
+    file: &BlockTree,
+    number: u16,
+    text: &mut String,
+) -> Result<()> {
+    match told(get(blocks, &Limits::VERSION_1, file, number))? {
+        Some(Some(inode)) => {
+            push_inode(&inode, text)?;
+            push_acls(blocks, &inode, text)
+        }
+        Some(None) => Ok(text.push_str("none")?),
+        None => Ok(text.push_str("damaged")?),
     }
 }
 

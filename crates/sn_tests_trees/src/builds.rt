@@ -1,47 +1,34 @@
-//! A disk in memory, on which plans are carried out.
+//! Builds of plans, and what comes of them on a disk in memory.
 
+use crate::image::{BLOCKS, FIRST};
 use anyhow::{Result, ensure};
 use sn_alloc::BlockAllocator;
 use sn_block::Blocks;
 use sn_device::MemDevice;
 use sn_map::Map;
 use sn_tree::{Build, NewBlock};
-use std::alloc::{AllocError, Global};
-
-const DISK: u32 = 256;
-
-const FIRST: u32 = 70;
-
-/// The blocks of a new disk, which are zeros.
-pub fn new_blocks(alloc: Global) -> Result<Blocks<MemDevice>> {
-    let device = MemDevice::new(alloc, 8 * u64::from(DISK))?;
-    Ok(Blocks::new(alloc, device).map_err(AllocError::from)?)
-}
+use std::alloc::Global;
 
 /// A map in which nothing is taken.
 pub fn new_map(alloc: Global) -> Result<Map> {
-    Ok(Map::new(alloc, DISK)?)
+    Ok(Map::new(alloc, BLOCKS)?)
 }
 
 /// A build over a map.
 pub fn new_build(alloc: Global, taken: Map) -> Result<Build> {
-    ensure!(taken.len() == DISK, "another map");
+    ensure!(taken.len() == BLOCKS, "another map");
     Ok(Build::new(alloc, BlockAllocator::new(alloc, taken, FIRST)))
 }
 
 /// Tells the blocks that a build takes and releases.
 pub fn push_build(build: &Build, text: &mut String) -> Result<()> {
-    if !text.is_empty() {
-        write!(text, " ")?;
-    }
-    write!(text, "new")?;
+    text.push_str("new")?;
     for block in build.added() {
         let number = block.number;
         write!(text, " {number}")?;
     }
     let released = build.released();
-    let left = build.left();
-    write!(text, ", released {released:?}, {left} left")?;
+    write!(text, ", released {released:?}")?;
     Ok(())
 }
 
@@ -63,7 +50,7 @@ fn settle(
         write_added(map, blocks, block)?;
     }
     for number in released {
-        ensure!(*number < map.len(), "no block {number}");
+        ensure!(*number < map.len(), "no such block");
         map.set_word(*number, 0);
     }
     Ok(())
@@ -73,20 +60,9 @@ fn write_added(map: &mut Map, blocks: &mut Blocks<MemDevice>, block: &NewBlock) 
     let number = block.number;
     ensure!(
         number < map.len() && 8 * u64::from(number) + 8 <= blocks.sectors(),
-        "no block {number}"
+        "no such block"
     );
     blocks.write_block(number, &block.bytes)?;
     map.set_word(number, 1);
     Ok(())
-}
-
-/// How many blocks are taken.
-pub fn taken(map: &Map) -> usize {
-    let mut count = 0usize;
-    for number in 0..DISK {
-        if number < map.len() && map.word(number) != 0 {
-            count = count.saturating_add(1);
-        }
-    }
-    count
 }

@@ -1,13 +1,13 @@
 //! What the calls answer over the directories of a table.
 
-use crate::disk::{BLOCKS, Disk, push_record};
-use anyhow::{Context, Result, bail};
+use crate::directory::{Directory, push_record};
+use crate::image::{BLOCKS, told};
+use anyhow::{Context, Result};
 use sn_block::Blocks;
 use sn_device::MemDevice;
 use sn_dir::{ListedName, count, is_empty, lookup, names};
 use sn_layout::BlockTree;
 use sn_table::Case;
-use sn_tree_read::TreeFault;
 use std::alloc::Global;
 use std::str;
 
@@ -24,20 +24,20 @@ pub fn answers(alloc: Global, case: Case<'_>) -> Result<String> {
 
 fn push_answers(alloc: Global, case: Case<'_>, text: &mut String) -> Result<()> {
     let asked = case.word(0)?;
-    let mut disk = disk_of(alloc, case)?;
-    let tree = disk.tree();
-    let mut blocks = disk.blocks(alloc)?;
+    let mut directory = directory_of(alloc, case)?;
+    let tree = directory.tree();
+    let mut blocks = directory.image.blocks(alloc)?;
     push_told(alloc, &mut blocks, &tree, text)?;
     push_all_found(alloc, &mut blocks, &tree, asked, text)
 }
 
 /// A directory of the blocks of a case's words, all but the first.
-pub fn disk_of(alloc: Global, case: Case<'_>) -> Result<Disk> {
-    let mut disk = Disk::new(alloc)?;
+pub fn directory_of(alloc: Global, case: Case<'_>) -> Result<Directory> {
+    let mut directory = Directory::new(alloc)?;
     for word in case.text().split_ascii_whitespace().skip(1) {
-        push_word(alloc, &mut disk, word)?;
+        push_word(alloc, &mut directory, word)?;
     }
-    Ok(disk)
+    Ok(directory)
 }
 
 fn push_told(
@@ -65,14 +65,14 @@ fn push_all_found(
 }
 
 /// Gives the directory the block of a word.
-fn push_word(alloc: Global, disk: &mut Disk, word: &str) -> Result<()> {
+fn push_word(alloc: Global, directory: &mut Directory, word: &str) -> Result<()> {
     match word {
-        "hole" => disk.push_pointer(0)?,
-        "off" => disk.push_pointer(u32::from(BLOCKS))?,
-        "zeros" => disk.push_block(&[])?,
+        "hole" => directory.push_pointer(0)?,
+        "off" => directory.push_pointer(BLOCKS)?,
+        "zeros" => directory.push_block(&[])?,
         _ => {
             let records = records_of(alloc, word)?;
-            disk.push_block(records.as_slice())?;
+            directory.push_block(records.as_slice())?;
         }
     }
     Ok(())
@@ -108,15 +108,6 @@ fn repeated(alloc: Global, letter: &[u8], count: u16) -> Result<Vec<u8>> {
         name.extend_from_slice(letter)?;
     }
     Ok(name)
-}
-
-/// The value, or none where the directory is told to be damaged.
-fn told<T: Drop>(answer: Result<T, TreeFault>) -> Result<Option<T>> {
-    match answer {
-        Ok(value) => Ok(Some(value)),
-        Err(TreeFault::Damaged) => Ok(None),
-        Err(fault) => bail!("{fault}"),
-    }
 }
 
 fn push_count(blocks: &mut Blocks<MemDevice>, tree: &BlockTree, text: &mut String) -> Result<()> {
