@@ -2,7 +2,7 @@
 use Rattle.std.specs.Prelude.{ℕ, Bool}
 use Rattle.std.specs.FinMap as map
 use Rattle.sn_model.specs.Tree.{Tree}
-use Rattle.sn_model.specs.World.{Trees, World}
+use Rattle.sn_model.specs.World.{Trees, World, new_world}
 use Rattle.sn_desc.specs.Sessions.{in_use_of}
 use Rattle.sn_numbers.specs.Live.{kept_back_of, live_of}
 use Rattle.sn_core.specs.PlainRuns.{Numbered}
@@ -25,3 +25,7 @@ numbered_of w = record { world = world_of w; kept = kept_of w }
 -- so many more files can be opened without memory
 abbrev pub room_of : PlainWorld → ℕ
 room_of w = (in_use_of w.sessions).room
+
+-- nobody is logged in over a tree that is there
+abbrev pub world_over : Tree → World
+world_over tree = record new_world { live = tree }

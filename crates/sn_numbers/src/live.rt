@@ -103,7 +103,15 @@ impl LiveTree {
         ensures none { IfOk result (λ t. (n : ℕ) → kept_back_of t n ≡ false) }
         ensures since { IfOk result (λ t. (n : ℕ) → kept_since_of t n ≡ false) }
     {
-        let tree = PlainTree::new(alloc)?;
+        LiveTree::over(alloc, PlainTree::new(alloc)?)
+    }
+
+    /// A tree that is there already, and no number kept back.
+    pub fn over(alloc: Global, tree: PlainTree) -> Result<LiveTree, AllocError>
+        ensures tree { IfOk result (λ t. live_of t ≡ tree_of tree) }
+        ensures none { IfOk result (λ t. (n : ℕ) → kept_back_of t n ≡ false) }
+        ensures since { IfOk result (λ t. (n : ℕ) → kept_since_of t n ≡ false) }
+    {
         let kept_back = KeptBack::new(alloc)?;
         Ok(LiveTree {
             tree,
