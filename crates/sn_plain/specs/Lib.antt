@@ -1,3 +1,4 @@
+pub mod Added
 pub mod Maps
 pub mod Moves
 pub mod Names

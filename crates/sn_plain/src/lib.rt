@@ -11,11 +11,13 @@
 //! counts over the whole tree. `tests` has the tests that changes share; `making`, `linking`,
 //! `renaming` and `writing` have the changes, each with its test first, then all that takes memory,
 //! then the rest (`moving` has that of a rename, over the nodes). `applying` makes any change, as the
-//! model's `apply` does. `reading` hands out the bytes of a file.
+//! model's `apply` does. `adding` makes a file without a name (`file_added` in `specs/Added`), as whoever
+//! fills a tree with what stands on a disk does. `reading` hands out the bytes of a file.
 //!
 //! What the sources leave open is decided in `docs/DECISIONS.md`, under "The tree in memory".
 #![tactic(auto)]
 
+mod adding;
 mod applying;
 mod error;
 mod linking;
@@ -31,5 +33,6 @@ mod tests;
 mod tree;
 mod writing;
 
+pub use adding::adding_laws;
 pub use error::ApplyError;
 pub use tree::PlainTree;

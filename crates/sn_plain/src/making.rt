@@ -26,7 +26,7 @@ fn stored(alloc: Global, ownership: &Ownership) -> Result<StoredOwnership, Alloc
 }
 
 /// A node that no name stands for yet. Its directory is to be this one.
-fn new_node(
+pub(crate) fn new_node(
     alloc: Global,
     kind: Kind,
     directory: u16,
@@ -48,7 +48,7 @@ fn new_node(
 }
 
 /// The first number that may be unused, once a number is used.
-fn after_use(first: u32, number: u16) -> u32
+pub(crate) fn after_use(first: u32, number: u16) -> u32
     ensures { result ≡ (if first == number then first + 1 else first) }
 {
     if first == u32::from(number) {
