@@ -1,0 +1,5 @@
+pub mod ByteLemmas
+pub mod EndLemmas
+pub mod NameLemmas
+pub mod RootLemmas
+pub mod StepLemmas

@@ -1,0 +1,41 @@
+use Rattle.std.proofs.Common.{[], refl, subst, ap, ◌∙◌}
+use Rattle.sn_device.specs.Disk.{Disk, reads}
+use Rattle.sn_block.specs.Lending.{device_of}
+use Rattle.sn_ondisk.specs.Trees.{Store, store_of}
+use Rattle.sn_limits.specs.declared.kind.Kind.TheVariants.{File}
+use Rattle.sn_model.specs.Changes.{node_with}
+use Rattle.sn_model.specs.Tree.{Node}
+use Rattle.sn_image.specs.Contents.{bytes_of}
+use Rattle.sn_layout_node.specs.Inode.{IsContent}
+use Rattle.sn_plain.specs.Added.{file_added}
+use Rattle.sn_plain.specs.Plain.{tree_of}
+use Rattle.sn_plain.proofs.AddedLemmas.{added_keeps}
+use Rattle.sn_load.specs.Steps.{Puts}
+use Rattle.sn_load.proofs.StepLemmas.{added_puts, file_made, ok_applied, ok_then, puts_both}
+use Rattle.sn_load.proofs.files.load_file.Goals as goal
+
+pub write_bytes-requires-clause-content : goal.write_bytes-requires-clause-content
+write_bytes-requires-clause-content g c = subst (λ k. IsContent c.args.limits.now k c.args.inode.now.content) c.requires.kind c.requires.inode.content
+
+pub returns-clause-file : goal.returns-clause-file
+returns-clause-file g c told =
+    let s = store_of (reads (g.D.Device.disk (device_of c.args.blocks.now))) in
+    let later = store_of (reads (g.D.Device.disk (device_of c.ownership.new.blocks))) in
+    let o = c.in_ok-owner.owner in
+    let old = tree_of c.args.tree.now in
+    let mid = tree_of c.add_file.new.self in
+    let new = tree_of c.write_bytes.new.tree in
+    let file = node_with File o [] in
+    let asked = ok_applied c.add_file.result c.applied.result c.in_ok-applied.field-0 (file_added c.args.limits.now old c.args.number o) old mid c.applied.ensures c.in_ok-applied.was c.add_file.ensures in
+    let put = added_puts c.args.limits.now old mid c.args.number o asked in
+    let whole = ap (λ (r : Store). record file { bytes = bytes_of r c.args.inode.now.content }) (ap (λ (d : Disk). store_of (reads d)) (c.ownership.ensures.same told)) ∙ file_made s c.args.inode.now o c.requires.kind (c.in_ok-owner.ensures.ownership told) in
+    ok_then c.write_bytes.result (c.write_bytes.ensures.written told file put.there refl refl)
+    (λ puts. subst (λ (x : Node). Puts c.args.number x old new) whole (puts_both c.args.number file (record file { bytes = bytes_of later c.args.inode.now.content }) old mid new put puts))
+
+pub returns-clause-whole : goal.returns-clause-whole
+returns-clause-whole g c =
+    let o = c.in_ok-owner.owner in
+    let old = tree_of c.args.tree.now in
+    let mid = tree_of c.add_file.new.self in
+    let asked = ok_applied c.add_file.result c.applied.result c.in_ok-applied.field-0 (file_added c.args.limits.now old c.args.number o) old mid c.applied.ensures c.in_ok-applied.was c.add_file.ensures in
+    ok_then c.write_bytes.result c.write_bytes.ensures.whole (λ keeps whole. keeps (added_keeps c.args.limits.now old mid c.args.number o whole asked))

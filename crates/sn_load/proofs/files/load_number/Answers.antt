@@ -1,0 +1,24 @@
+use Rattle.std.proofs.Common.{sym, subst, ap, ◌∙◌}
+use Rattle.sn_device.specs.Disk.{Disk, reads}
+use Rattle.sn_block.specs.Lending.{device_of}
+use Rattle.sn_ondisk.specs.Trees.{Store, store_of}
+use Rattle.sn_image.specs.Image.{node_of}
+use Rattle.sn_plain.specs.Plain.{tree_of}
+use Rattle.sn_load.specs.Steps.{Puts}
+use Rattle.sn_load.proofs.StepLemmas.{loads_directory, loads_file, loads_none, ok_then}
+use Rattle.sn_load.proofs.files.load_number.Goals as goal
+
+pub returns-in_default-clause-number : goal.returns-in_default-clause-number
+returns-in_default-clause-number g c told = loads_none (store_of (reads (g.D.Device.disk (device_of c.args.blocks.now)))) c.args.file.now c.args.number (tree_of c.args.tree.now) c.args.noted.now.items (sym (c.in_ok-inode.ensures.inode told) ∙ c.in_default.is)
+
+pub returns-in-File-clause-number : goal.returns-in-File-clause-number
+returns-in-File-clause-number g c told =
+    let s = store_of (reads (g.D.Device.disk (device_of c.args.blocks.now))) in
+    let old = tree_of c.args.tree.now in
+    let new = tree_of c.load_file.new.tree in
+    let same = ap (λ (d : Disk). store_of (reads d)) (c.get.ensures.same told) in
+    ok_then c.load_file.result (c.load_file.ensures.file told)
+    (λ puts. loads_file s c.args.file.now c.args.number c.in-Some.inode old new c.args.noted.now.items (sym (c.in_ok-inode.ensures.inode told) ∙ c.in-Some.is) c.in-File.is (subst (λ (r : Store). Puts c.args.number (node_of r c.in-Some.inode) old new) same puts))
+
+pub returns-in_ok-note-in-Directory-clause-number : goal.returns-in_ok-note-in-Directory-clause-number
+returns-in_ok-note-in-Directory-clause-number g c told = loads_directory (store_of (reads (g.D.Device.disk (device_of c.args.blocks.now)))) c.args.file.now c.args.number c.in-Some.inode (tree_of c.args.tree.now) c.args.noted.now.items c.note.new.numbers.items (sym (c.in_ok-inode.ensures.inode told) ∙ c.in-Some.is) c.in-Directory.is c.in_ok-note-in-Directory.ensures

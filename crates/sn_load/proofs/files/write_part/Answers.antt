@@ -1,0 +1,29 @@
+use Rattle.std.proofs.Common.{sym, subst}
+use Rattle.sn_device.specs.Disk.{reads}
+use Rattle.sn_block.specs.Lending.{device_of}
+use Rattle.sn_ondisk.specs.Trees.{store_of}
+use Rattle.sn_model.specs.Changes.{written}
+use Rattle.sn_model.specs.declared.change.Change.TheVariants.{Write}
+use Rattle.sn_model.proofs.TreeLemmas.{tree_kept}
+use Rattle.sn_plain.specs.Plain.{tree_of}
+use Rattle.sn_tree_read.specs.Reads.{IsPart}
+use Rattle.sn_load.proofs.StepLemmas.{on_applied, writes_part}
+use Rattle.sn_load.proofs.files.write_part.Goals as goal
+
+pub returns-clause-written : goal.returns-clause-written
+returns-clause-written g c told =
+    let s = store_of (reads (g.D.Device.disk (device_of c.args.blocks.now))) in
+    let sectors = (g.D.Device.status (device_of c.args.blocks.now)).sectors in
+    let bytes = c.as_slice.result.now in
+    let old = tree_of c.args.tree.now in
+    let new = tree_of c.write.new.self in
+    let part = subst (IsPart s c.args.content.now c.args.offset 65536) (sym c.as_slice.ensures.value) (c.in_ok-part.ensures.bytes told) in
+    on_applied c.write.result c.applied.result (written c.args.limits.now old c.args.number c.args.offset bytes) old new c.applied.ensures c.write.ensures
+    (λ e. writes_part sectors s c.args.content.now c.args.limits.now c.args.number c.args.offset bytes old new part (c.in_ok-part.ensures.lies told) e)
+
+pub returns-clause-whole : goal.returns-clause-whole
+returns-clause-whole g c =
+    let old = tree_of c.args.tree.now in
+    let new = tree_of c.write.new.self in
+    on_applied c.write.result c.applied.result (written c.args.limits.now old c.args.number c.args.offset c.as_slice.result.now) old new c.applied.ensures c.write.ensures
+    (λ e whole. tree_kept c.args.limits.now (Write c.args.number c.args.offset c.as_slice.result.now) old new whole e)

@@ -1,0 +1,22 @@
+use Rattle.std.proofs.Common.{ℕ, arith}
+use Rattle.sn_ondisk.specs.Trees.{Store}
+use Rattle.sn_image.specs.Image.{node_at}
+use Rattle.sn_plain.specs.Plain.{tree_of}
+use Rattle.sn_load.specs.Steps.{LoadsNumber}
+use Rattle.sn_load.proofs.StepLemmas.{at_start, files_more, stays_begun, stays_more}
+use Rattle.sn_load.proofs.loading.load_files.Goals as goal
+
+pub loop-number-init : goal.loop-number-init
+loop-number-init g c = record { stays = stays_begun _ _ _; whole = λ whole. whole; files = λ told files. files }
+
+pub loop-number-preserved : goal.loop-number-preserved
+loop-number-preserved g c =
+    let now = tree_of c.loop-number.tree in
+    let next = tree_of c.load_number.new.tree in
+    record {
+      stays = stays_more _ _ _ _ _ _ _ c.loop-number.invariant.stays c.in_ok-load_number.ensures.counts.done c.load_number.ensures.same;
+      whole = λ whole. c.in_ok-load_number.ensures.whole (c.loop-number.invariant.whole whole);
+      files = λ told files.
+          let loads = at_start _ _ _ _ _ c.loop-number.invariant.stays (λ (k : ℕ) (r : Store). LoadsNumber (node_at r c.args.file.now c.loop-number.number) c.loop-number.number now next c.loop-number.noted.items c.load_number.new.noted.items) told (c.in_ok-load_number.ensures.number told) in
+          files_more _ c.args.file.now c.loop-number.number c.loop-number.noted.items c.load_number.new.noted.items now next (omega (arith, c.loop-number.auto.number)) (c.loop-number.invariant.files told files) loads;
+    }

@@ -1,0 +1,17 @@
+use Rattle.std.proofs.Common.{IsTrue}
+use Rattle.sn_device.specs.Disk.{reads}
+use Rattle.sn_block.specs.Lending.{device_of}
+use Rattle.sn_model.specs.NameTree.{IsTree}
+use Rattle.sn_ondisk.specs.Trees.{store_of}
+use Rattle.sn_plain.specs.Plain.{tree_of}
+use Rattle.sn_load.specs.Loading.{HasFiles}
+use Rattle.sn_load.proofs.StepLemmas.{Stays}
+use Rattle.sn_load.proofs.loading.load_files.Given as goal
+
+abbrev pub invariant-loop-number : goal.invariant-loop-number
+invariant-loop-number g l = record {
+  stays : Stays g.D.Device.tells_bytes (g.D.Device.status (device_of l.initial.blocks)) (g.D.Device.status (device_of l.blocks)) (g.D.Device.disk (device_of l.initial.blocks)) (g.D.Device.disk (device_of l.blocks));
+  whole : IsTree l.limits (tree_of l.initial.tree) → IsTree l.limits (tree_of l.tree);
+  files : IsTrue g.D.Device.tells_bytes → HasFiles (store_of (reads (g.D.Device.disk (device_of l.initial.blocks)))) l.file 3 l.initial.noted.items (tree_of l.initial.tree)
+      → HasFiles (store_of (reads (g.D.Device.disk (device_of l.initial.blocks)))) l.file l.number l.noted.items (tree_of l.tree);
+}

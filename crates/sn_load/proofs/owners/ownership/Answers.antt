@@ -1,0 +1,8 @@
+use Rattle.sn_device.specs.Disk.{reads}
+use Rattle.sn_block.specs.Lending.{device_of}
+use Rattle.sn_ondisk.specs.Trees.{store_of}
+use Rattle.sn_load.proofs.StepLemmas.{owner_made}
+use Rattle.sn_load.proofs.owners.ownership.Goals as goal
+
+pub returns-clause-ownership : goal.returns-clause-ownership
+returns-clause-ownership g c told = owner_made (store_of (reads (g.D.Device.disk (device_of c.args.blocks.now)))) c.args.inode.now c.in_ok-acls.acls c.join.result c.join.ensures (c.in_ok-acls.ensures.acls told)
