@@ -2,8 +2,9 @@
 //!
 //! The model is that of `sn_image`, which says for any blocks at all what tree a root denotes, and that of
 //! `sn_plain`. What [`load`] answers is that tree, whatever stands on the device: what a mount runs over is
-//! what the disk opens to. On any device it is a name tree within the limits. `Damaged` comes where a block
-//! that is needed can't be read, or where the tree would be no name tree. No block is written.
+//! what the disk opens to. On any device it is a name tree within the limits. Where it can't be read, or would
+//! be no name tree, the answer is `Damaged`; no contract says yet that a sound root isn't. No block is
+//! written.
 //!
 //! The way through: `loading` goes over the numbers of the inode file and then over the directories, from
 //! the root down. `files` puts a file under its number, without a name, and writes its bytes in parts;

@@ -1,6 +1,5 @@
-use Rattle.std.proofs.Common.{◌≡◌, ◌∙◌, ap, sym, subst, refl, Some}
+use Rattle.std.proofs.Common.{◌∙◌, ap, sym, subst, refl, Some}
 use Rattle.std.specs.FinMap as map
-use Rattle.sn_limits.specs.declared.kind.Kind.TheVariants.{File}
 use Rattle.sn_model.specs.Tree.{Tree}
 use Rattle.sn_plain.specs.Plain.{tree_of}
 use Rattle.sn_plain.specs.Stored.{IsCounted, nodes_of, stored_of, tree_with}
