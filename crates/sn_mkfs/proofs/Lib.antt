@@ -1,0 +1,4 @@
+pub mod InodeLemmas
+pub mod TreeLemmas
+pub mod DiskLemmas
+pub mod WritingLemmas
