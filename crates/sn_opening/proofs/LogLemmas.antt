@@ -34,7 +34,7 @@ pub end_from : (n : ℕ) (half : LogHalf) → end_of n (Log half) ≤ start_of n
 end_from n Zero = omega arith
 end_from n One = omega arith
 
-log_and_data : (n epoch : ℕ) (blocks : List ℕ) → LieInData n blocks → AreDisjoint (InHalf (base_of n epoch)) (InBlocks blocks)
+pub log_and_data : (n epoch : ℕ) (blocks : List ℕ) → LieInData n blocks → AreDisjoint (InHalf (base_of n epoch)) (InBlocks blocks)
 log_and_data n epoch blocks lie i is among = let placed = lie (i / 8) among in omega (arith, is.1, (halves_are n epoch).1, end_from n (half_of_epoch epoch), placed.from)
 
 -- ---- all that is shown but the records of one half
@@ -68,12 +68,12 @@ module _ (n : ℕ) (s : Store) (slot : Slot) (root : RootBody) (epoch other : �
       LeavesOnly-touched (InHalf (base_of n other)) (InRests n s root epoch) (Rests n s slot root epoch kept) (rests_depend n s slot root epoch kept) log_and_rests old new whole here touched
 
 -- what is written to the log of a position is written to that of its epoch
-of_position : (n epoch : ℕ) (at : LogPosition) (old new : Disk) → at.blocks ≡ n → at.epoch ≡ epoch → Touches (InHalf (base_at at)) old new → Touches (InHalf (base_of n epoch)) old new
+pub of_position : (n epoch : ℕ) (at : LogPosition) (old new : Disk) → at.blocks ≡ n → at.epoch ≡ epoch → Touches (InHalf (base_at at)) old new → Touches (InHalf (base_of n epoch)) old new
 of_position n epoch at old new in_n in_epoch touched =
     subst (λ (e : ℕ). Touches (InHalf (base_of n e)) old new) in_epoch (subst (λ (m : ℕ). Touches (InHalf (base_of m at.epoch)) old new) in_n touched)
 
 -- records that are ready are replayed
-replayed : (n epoch : ℕ) (at : LogPosition) (changes : List Change) (c : Contents) → at.blocks ≡ n → at.epoch ≡ epoch → IsReadyAt at changes c
+pub replayed : (n epoch : ℕ) (at : LogPosition) (changes : List Change) (c : Contents) → at.blocks ≡ n → at.epoch ≡ epoch → IsReadyAt at changes c
     → Replays c (base_of n epoch) epoch (payloads_of changes)
 replayed n epoch at changes c in_n in_epoch is_ready =
     subst (λ (e : ℕ). Replays c (base_of n e) e (payloads_of changes)) in_epoch

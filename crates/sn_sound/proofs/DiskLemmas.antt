@@ -41,11 +41,11 @@ use Rattle.sn_sound.proofs.SoundLemmas.{root_clean}
 -- ---- the log
 
 -- the records of an epoch spell one list of changes, which make one tree
-record AreOne (changes others : List Change) (tree other : Tree) : Type 0 where
-  lists : changes ≡ others
-  trees : tree ≡ other
+pub record AreOne (changes others : List Change) (tree other : Tree) : Type 0 where
+  pub lists : changes ≡ others
+  pub trees : tree ≡ other
 
-replayed_once : (c : Contents) (limits : Limits) (from : Tree) (n epoch : ℕ) (changes others : List Change) (tree other : Tree) → IsOnDisk c (base_of n epoch)
+pub replayed_once : (c : Contents) (limits : Limits) (from : Tree) (n epoch : ℕ) (changes others : List Change) (tree other : Tree) → IsOnDisk c (base_of n epoch)
     → AreReplayed c limits from n epoch changes tree → AreReplayed c limits from n epoch others other → AreOne changes others tree other
 replayed_once c limits from n epoch changes others tree other on_disk a b =
     let payloads = (replay_is_one c (base_of n epoch) epoch on_disk a.records.0 b.records.0 (payloads_of changes) (payloads_of others) a.records.1 b.records.1).0 in
@@ -53,7 +53,7 @@ replayed_once c limits from n epoch changes others tree other on_disk a b =
     record { lists = same; trees = some_same tree other (sym a.applied ∙ ap (λ cs. apply_all limits cs from) same ∙ b.applied) }
 
 -- replay meets nothing bad where all the records are made
-never_breaks : (c : Contents) (limits : Limits) (from : Tree) (n epoch block : ℕ) (changes : List Change) (tree : Tree) → IsOnDisk c (base_of n epoch)
+pub never_breaks : (c : Contents) (limits : Limits) (from : Tree) (n epoch block : ℕ) (changes : List Change) (tree : Tree) → IsOnDisk c (base_of n epoch)
     → AreReplayed c limits from n epoch changes tree → BreaksAt c limits from n epoch block → ⊥
 unfolding apply_all
 never_breaks c limits from n epoch block changes tree on_disk all b = meets b.bad

@@ -96,7 +96,7 @@ module _ (n : ℕ) (s t : Store) (root : RootBody) (same : SameIn (all_reach s r
     );
   }
 
-  root_same : (word other : ℕ → ℕ) → ((block : ℕ) → other block ≡ word block) → IsSoundRoot n s root word → IsSoundRoot n t root other
+  pub root_same : (word other : ℕ → ℕ) → ((block : ℕ) → other block ≡ word block) → IsSoundRoot n s root word → IsSoundRoot n t root other
   root_same word other words sound = record {
     roots = λ r among. sound_depends s t r.inodes (of_root r among) root.limits n (sound.roots r among);
     map = λ block within. subst (IsSetOfRoots t (rooted_in root) block) (sym (words block)) (set_same block (word block) (sound.map block within));

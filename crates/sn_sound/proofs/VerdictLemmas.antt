@@ -44,7 +44,7 @@ not_equal c B root n e = ⊎_elim
     absurd (omega (arith, one, two, e.same, older.2)))
     n.other
 
-not_damaged : (c : Contents) (slot : Slot) (root : RootBody) (damage : RootDamage) → IsNewest c slot root → IsDamaged c damage → ⊥
+pub not_damaged : (c : Contents) (slot : Slot) (root : RootBody) (damage : RootDamage) → IsNewest c slot root → IsDamaged c damage → ⊥
 not_damaged c slot root (Misspelt A) n d = let r = open_root c slot A root n d.is_open in d.none r.0 r.1
 not_damaged c slot root (Misspelt B) n d = let r = open_root c slot B root n d.0.is_open in d.0.none r.0 r.1
 not_damaged c slot root EqualGenerations n d = not_equal c slot root n d

@@ -1,0 +1,271 @@
+-- What the disk of a mounted file system is an image of, call by call.
+use Rattle.std.proofs.Common.{◌≡◌, ◌⊎◌, inl, inr, ⊎_elim, ℕ, ◌+◌, ◌*◌, ◌≤◌, Bool, true, List, [], ◌∷◌, ◌++◌, None, Some, length, replicate, slice_index, refl, sym, ap, subst, ◌∙◌, append-nil, append_assoc, arith}
+use Rattle.std.specs.FinMap as map
+use Rattle.sn_device.specs.Sectors.{Contents, AreSectors}
+use Rattle.sn_device.specs.Disk.{Always, CrashNow, Disk, reads}
+use Rattle.sn_device.specs.Crash.{LeavesOnly, Touches}
+use Rattle.sn_device.proofs.CrashLemmas.{LeavesOnly-start, LeavesOnly-weaker, LeavesOnly-now, Always-reads}
+use Rattle.sn_layout.specs.declared.root.RootBody.{RootBody}
+use Rattle.sn_layout.specs.Superblock.{superblock_bytes}
+use Rattle.sn_limits.specs.declared.limits.Limits.{Limits}
+use Rattle.sn_limits.specs.Versions.{version_1}
+use Rattle.sn_model.specs.declared.change.Change.{Change}
+use Rattle.sn_model.specs.declared.outcome.Caller.{Caller}
+use Rattle.sn_model.specs.declared.outcome.Caller.TheVariants.{Stays, LogsIn, SetsUmask, LogsOut, Opens as OpensFile, OpensNew, Closes, Moves}
+use Rattle.sn_model.specs.Changes.{apply}
+use Rattle.sn_model.specs.Machine.{State, Running, Stopped}
+use Rattle.sn_model.specs.Settling.{dropped, is_held, settle, settled, without_nameless}
+use Rattle.sn_model.specs.Steps.{with_caller, with_live}
+use Rattle.sn_model.specs.Tree.{Tree}
+use Rattle.sn_model.specs.World.{World}
+use Rattle.sn_model.proofs.OtherCallLemmas.{caller_live}
+use Rattle.sn_ondisk.specs.Blocks.{block_at}
+use Rattle.sn_ondisk.specs.LogHalf.{HasNoLater, InHalf, base_of}
+use Rattle.sn_ondisk.specs.Trees.{Store}
+use Rattle.sn_record.specs.Payload.{IsSpelled}
+use Rattle.sn_log.specs.Places.{LogPosition, IsReadyAt, base_at, behind}
+use Rattle.sn_image.specs.Image.{image}
+use Rattle.sn_opening.specs.Covering.{MakesCover}
+use Rattle.sn_opening.specs.Opens.{IsDisk, Opens, Shows}
+use Rattle.sn_opening.specs.Spelled.{AreSpelled}
+use Rattle.sn_opening.specs.Worlds.{StandsFor, found, frozen_of}
+use Rattle.sn_opening.proofs.CoveringLemmas.{covers_stand, dropping_covers, one_more_covers}
+use Rattle.sn_opening.proofs.LogLemmas.{of_position}
+use Rattle.sn_opening.proofs.OpeningLemmas.{opens_to_one}
+use Rattle.sn_opening.proofs.SpelledLemmas.{spelled_more}
+use Rattle.sn_ondisk.proofs.PlaceLemmas.{halves_apart}
+use Rattle.sn_sound.specs.Disks.{IsFormatted}
+use Rattle.sn_sound.proofs.DiskLemmas.{one_size}
+use Rattle.sn_sound.proofs.StandingLemmas.{lies_in_data}
+use Rattle.sn_held.specs.Held.{GoesOn, Held, Means, Runs}
+use Rattle.sn_held.specs.Images.{IsImage}
+use Rattle.sn_held.specs.Moments.{LastsOver, ShowsState}
+use Rattle.sn_held.specs.Events.{IsOfTree, LeavesEither, LeavesMore}
+use Rattle.sn_held.proofs.HeldLemmas.{Rests, image_newer, image_older, image_shown, newer_none, newer_shows, older_none, older_shows, rests_stay}
+
+-- ---- what a crash leaves of a mount that runs
+
+-- contents that a crash leaves have as many sectors, and whole ones
+disk_always : (n : ℕ) (d : Disk) → IsDisk n (reads d) → Always d (IsDisk n)
+disk_always n d disk c crash = record { size = disk.size; whole = crash.whole; long = subst (λ (m : ℕ). 8 * n ≤ m) (sym crash.others.count) disk.long }
+
+-- a root with changes that cover the live tree stands for the settled world
+stands_of : (s : Store) (root : RootBody) (changes : List Change) (w : World) → root.limits ≡ version_1 → MakesCover version_1 changes (image s root.inode_file) w.live → w.frozen ≡ frozen_of s root.snapshots
+    → StandsFor s root changes (settle w)
+stands_of s root changes w limits cover frozen =
+    let settles : found w.live (frozen_of s root.snapshots) ≡ settle w = λ i. record { live = settled w.live; frozen = sym frozen i; sessions = replicate 64 None; descriptors = map.empty } in
+    subst (StandsFor s root changes) settles
+    (covers_stand s root changes w.live (subst (λ (l : Limits). MakesCover l changes (image s root.inode_file) w.live) (sym limits) cover))
+
+module _ (h : Held) (w : World) (r : Runs h w) where
+  pub stands_for : StandsFor r.store r.root (r.older ++ r.newer) (settle w)
+  stands_for = stands_of r.store r.root (r.older ++ r.newer) w r.limits r.cover r.frozen
+
+  pub runs_show : Always h.disk (λ c. IsImage c (settle w))
+  runs_show c crash =
+      image_shown h.at.blocks r.store r.slot r.root r.words r.older r.newer (settle w) r.older_spelled r.newer_spelled r.stands.sound stands_for c
+      (disk_always h.at.blocks h.disk r.stands.disk c crash) (r.formatted c crash) (r.stands.map c crash) (λ epoch. r.none_later epoch c crash) (r.stands.shows c crash)
+
+pub means_show : (h : Held) (has_stopped : Bool) (s : State) → Means h has_stopped s → Always h.disk (ShowsState s)
+means_show h has_stopped (Running w) m = runs_show h w m.1
+means_show h has_stopped (Stopped before after) m = m.1
+
+-- an event that leaves state and disk as they are
+pub stays_lasts : (h : Held) (has_stopped : Bool) (s : State) → Means h has_stopped s → LastsOver s s h.disk h.disk
+stays_lasts h has_stopped s m =
+    let shows = means_show h has_stopped s m in
+    record { moments = LeavesOnly-start h.disk (λ c. ShowsState s c ⊎ ShowsState s c) (λ c crash. inl (shows c crash)); answered = shows }
+
+-- ---- what a call leaves of the tree
+
+caller_frozen : (w : World) (session : ℕ) (caller : Caller) → (with_caller w session caller).frozen ≡ w.frozen
+caller_frozen w session Stays = refl
+caller_frozen w session (LogsIn s) = refl
+caller_frozen w session (SetsUmask mask) = refl
+caller_frozen w session LogsOut = refl
+caller_frozen w session (OpensFile fd home number flags) = refl
+caller_frozen w session (OpensNew fd flags) = refl
+caller_frozen w session (Closes fd) = refl
+caller_frozen w session (Moves fd offset) = refl
+
+pub left_of_tree : (w : World) (session : ℕ) (caller : Caller) (tree : Tree) → IsOfTree w tree (dropped (with_caller (with_live w tree) session caller))
+left_of_tree w session caller tree = record {
+  held = is_held (with_caller (with_live w tree) session caller);
+  live = ap (without_nameless (is_held (with_caller (with_live w tree) session caller))) (caller_live (with_live w tree) session caller);
+  frozen = caller_frozen (with_live w tree) session caller;
+}
+
+left_covers : (changes : List Change) (from tree live : Tree) (held : ℕ → Bool) → live ≡ without_nameless held tree → MakesCover version_1 changes from tree → MakesCover version_1 changes from live
+left_covers changes from tree live held e m = subst (MakesCover version_1 changes from) (sym e) (dropping_covers version_1 changes from tree held m)
+
+-- files without names that go change nothing of the disk
+pub dropped_runs : (h : Held) (w next : World) (kept : ℕ → Bool) → Runs h w → IsOfTree w w.live next → Runs (record h { world = next; kept = kept }) next
+dropped_runs h w next kept r of = record {
+  is = refl;
+  store = r.store;
+  slot = r.slot;
+  root = r.root;
+  words = r.words;
+  older = r.older;
+  newer = r.newer;
+  older_spelled = r.older_spelled;
+  newer_spelled = r.newer_spelled;
+  limits = r.limits;
+  formatted = r.formatted;
+  stands = r.stands;
+  none_later = r.none_later;
+  log = r.log;
+  cover = left_covers (r.older ++ r.newer) (image r.store r.root.inode_file) w.live next.live of.held of.live r.cover;
+  frozen = of.frozen ∙ r.frozen;
+}
+
+-- ---- a change of the live tree that is appended
+
+-- it comes behind all changes, whichever half it is in
+behind_older : (older newer : List Change) (change : Change) → newer ≡ [] → (older ++ newer) ++ change ∷ [] ≡ (older ++ change ∷ []) ++ newer
+behind_older older newer change none =
+    subst (λ (ns : List Change). (older ++ ns) ++ change ∷ [] ≡ (older ++ change ∷ []) ++ ns) (sym none)
+    (ap (λ (cs : List Change). cs ++ change ∷ []) (append-nil older) ∙ sym (append-nil (older ++ change ∷ [])))
+
+module _ (old new : Held) (w next : World) (change : Change) (tree : Tree) (r : Runs old w) (spelled : IsSpelled change) (applied : apply version_1 change w.live ≡ Some tree) (of : IsOfTree w tree next)
+    (touched : Touches (InHalf (base_at old.at)) old.disk new.disk) where
+  abbrev pub n : ℕ
+  n = old.at.blocks
+
+  more_covers : MakesCover version_1 ((r.older ++ r.newer) ++ change ∷ []) (image r.store r.root.inode_file) next.live
+  more_covers =
+      left_covers ((r.older ++ r.newer) ++ change ∷ []) (image r.store r.root.inode_file) tree next.live of.held of.live
+      (one_more_covers version_1 (r.older ++ r.newer) change (image r.store r.root.inode_file) w.live tree r.cover applied)
+
+  more_frozen : next.frozen ≡ frozen_of r.store r.root.snapshots
+  more_frozen = of.frozen ∙ r.frozen
+
+  -- what stays where the half of the one epoch is written, and where that of the other is
+  older_rest : old.at.epoch ≡ r.root.epoch → LeavesOnly old.disk new.disk (Rests n r.store r.slot r.root r.words (r.root.epoch + 1) r.newer)
+  older_rest epoch =
+      rests_stay n r.store r.slot r.root r.words (r.root.epoch + 1) r.newer r.root.epoch (lies_in_data n r.store r.root (slice_index r.words) r.stands.sound) (halves_apart n r.root.epoch) old.disk new.disk r.stands.disk.whole
+      (λ c crash. let shows = r.stands.shows c crash in record { disk = disk_always n old.disk r.stands.disk c crash; spelled = r.formatted c crash; newest = shows.shown.newest; same = shows.same; map = r.stands.map c crash; found = shows.shown.has_newer; none = r.none_later (r.root.epoch + 1) c crash })
+      (of_position n r.root.epoch old.at old.disk new.disk refl epoch touched)
+
+  newer_rest : old.at.epoch ≡ r.root.epoch + 1 → LeavesOnly old.disk new.disk (Rests n r.store r.slot r.root r.words r.root.epoch r.older)
+  newer_rest epoch =
+      rests_stay n r.store r.slot r.root r.words r.root.epoch r.older (r.root.epoch + 1) (lies_in_data n r.store r.root (slice_index r.words) r.stands.sound) (λ i one two. halves_apart n r.root.epoch i two one) old.disk new.disk r.stands.disk.whole
+      (λ c crash. let shows = r.stands.shows c crash in record { disk = disk_always n old.disk r.stands.disk c crash; spelled = r.formatted c crash; newest = shows.shown.newest; same = shows.same; map = r.stands.map c crash; found = shows.shown.has_older; none = r.none_later r.root.epoch c crash })
+      (of_position n (r.root.epoch + 1) old.at old.disk new.disk refl epoch touched)
+
+  -- a crash leaves the settled world from before it, or from after it
+  pub leaves_either : LeavesEither old.at change old.disk new.disk → LeavesOnly old.disk new.disk (λ c. IsImage c (settle w) ⊎ IsImage c (settle next))
+  leaves_either leaves = ⊎_elim in_older in_newer r.log
+    where
+      in_older : (r.newer ≡ []) × (old.at.epoch ≡ r.root.epoch) × Always old.disk (IsReadyAt old.at r.older) → LeavesOnly old.disk new.disk (λ c. IsImage c (settle w) ⊎ IsImage c (settle next))
+      in_older (none, epoch, is_ready) =
+          let rest = older_rest epoch in
+          let either = leaves r.older is_ready in
+          let stands = stands_of r.store r.root ((r.older ++ change ∷ []) ++ r.newer) next r.limits (subst (λ (cs : List Change). MakesCover version_1 cs (image r.store r.root.inode_file) next.live) (behind_older r.older r.newer change none) more_covers) more_frozen in
+          record {
+            follows = either.follows;
+            each = λ c since. ⊎_elim
+                (λ ready. inl (image_older n r.store r.slot r.root r.words r.older r.newer (settle w) r.older_spelled r.newer_spelled r.stands.sound (stands_for old w r) c old.at (rest.each c since) refl epoch ready))
+                (λ ready. inr (image_older n r.store r.slot r.root r.words (r.older ++ change ∷ []) r.newer (settle next) (spelled_more r.older change r.older_spelled spelled) r.newer_spelled r.stands.sound stands c (behind old.at change) (rest.each c since) refl epoch ready))
+                (either.each c since);
+          }
+
+      in_newer : (old.at.epoch ≡ r.root.epoch + 1) × Always old.disk (IsReadyAt old.at r.newer) → LeavesOnly old.disk new.disk (λ c. IsImage c (settle w) ⊎ IsImage c (settle next))
+      in_newer (epoch, is_ready) =
+          let rest = newer_rest epoch in
+          let either = leaves r.newer is_ready in
+          let stands = stands_of r.store r.root (r.older ++ (r.newer ++ change ∷ [])) next r.limits (subst (λ (cs : List Change). MakesCover version_1 cs (image r.store r.root.inode_file) next.live) (append_assoc r.older r.newer (change ∷ [])) more_covers) more_frozen in
+          record {
+            follows = either.follows;
+            each = λ c since. ⊎_elim
+                (λ ready. inl (image_newer n r.store r.slot r.root r.words r.older r.newer (settle w) r.older_spelled r.newer_spelled r.stands.sound (stands_for old w r) c old.at (rest.each c since) refl epoch ready))
+                (λ ready. inr (image_newer n r.store r.slot r.root r.words r.older (r.newer ++ change ∷ []) (settle next) r.older_spelled (spelled_more r.newer change r.newer_spelled spelled) r.stands.sound stands c (behind old.at change) (rest.each c since) refl epoch ready))
+                (either.each c since);
+          }
+
+  -- after the append the new world runs
+  pub runs_on : LeavesMore old.at change old.disk new.disk → AreSectors (reads new.disk) → new.at ≡ behind old.at change → new.world ≡ next → Runs new next
+  runs_on leaves whole at is = subst (λ (h : Held). Runs h next) (λ i. record new { at = sym at i; world = sym is i }) (⊎_elim in_older in_newer r.log)
+    where
+      after : Held
+      after = record new { at = behind old.at change; world = next }
+
+      in_older : (r.newer ≡ []) × (old.at.epoch ≡ r.root.epoch) × Always old.disk (IsReadyAt old.at r.older) → Runs after next
+      in_older (none, epoch, is_ready) =
+          let rests = LeavesOnly-now old.disk new.disk (Rests n r.store r.slot r.root r.words (r.root.epoch + 1) r.newer) (older_rest epoch) in
+          let more = leaves r.older is_ready in
+          record {
+            is = refl;
+            store = r.store;
+            slot = r.slot;
+            root = r.root;
+            words = r.words;
+            older = r.older ++ change ∷ [];
+            newer = r.newer;
+            older_spelled = spelled_more r.older change r.older_spelled spelled;
+            newer_spelled = r.newer_spelled;
+            limits = r.limits;
+            formatted = λ c crash. (rests c crash).spelled;
+            stands = record {
+              disk = Always-reads new.disk (IsDisk n) whole (λ c crash. (rests c crash).disk);
+              shows = λ c crash. older_shows n r.store r.slot r.root r.words (r.older ++ change ∷ []) r.newer c (behind old.at change) (rests c crash) refl epoch (more c crash);
+              map = λ c crash. (rests c crash).map;
+              sound = r.stands.sound;
+            };
+            none_later = λ e c crash. older_none n r.store r.slot r.root r.words (r.older ++ change ∷ []) r.newer c (behind old.at change) (rests c crash) refl epoch (more c crash) e;
+            log = inl (none, epoch, more);
+            cover = subst (λ (cs : List Change). MakesCover version_1 cs (image r.store r.root.inode_file) next.live) (behind_older r.older r.newer change none) more_covers;
+            frozen = more_frozen;
+          }
+
+      in_newer : (old.at.epoch ≡ r.root.epoch + 1) × Always old.disk (IsReadyAt old.at r.newer) → Runs after next
+      in_newer (epoch, is_ready) =
+          let rests = LeavesOnly-now old.disk new.disk (Rests n r.store r.slot r.root r.words r.root.epoch r.older) (newer_rest epoch) in
+          let more = leaves r.newer is_ready in
+          record {
+            is = refl;
+            store = r.store;
+            slot = r.slot;
+            root = r.root;
+            words = r.words;
+            older = r.older;
+            newer = r.newer ++ change ∷ [];
+            older_spelled = r.older_spelled;
+            newer_spelled = spelled_more r.newer change r.newer_spelled spelled;
+            limits = r.limits;
+            formatted = λ c crash. (rests c crash).spelled;
+            stands = record {
+              disk = Always-reads new.disk (IsDisk n) whole (λ c crash. (rests c crash).disk);
+              shows = λ c crash. newer_shows n r.store r.slot r.root r.words r.older (r.newer ++ change ∷ []) c (behind old.at change) (rests c crash) refl epoch (more c crash);
+              map = λ c crash. (rests c crash).map;
+              sound = r.stands.sound;
+            };
+            none_later = λ e c crash. newer_none n r.store r.slot r.root r.words r.older (r.newer ++ change ∷ []) c (behind old.at change) (rests c crash) refl epoch (more c crash) e;
+            log = inr (epoch, more);
+            cover = subst (λ (cs : List Change). MakesCover version_1 cs (image r.store r.root.inode_file) next.live) (append_assoc r.older r.newer (change ∷ [])) more_covers;
+            frozen = more_frozen;
+          }
+
+  pub runs_lasts : LeavesEither old.at change old.disk new.disk → Runs new next → LastsOver (Running w) (Running next) old.disk new.disk
+  runs_lasts leaves runs = record { moments = leaves_either leaves; answered = runs_show new next runs }
+
+  -- and where the device failed, the mount has stopped between the two
+  pub stops_between : LeavesEither old.at change old.disk new.disk → Always new.disk (ShowsState (Stopped (settle w) (settle next)))
+  stops_between leaves = LeavesOnly-now old.disk new.disk (λ c. IsImage c (settle w) ⊎ IsImage c (settle next)) (leaves_either leaves)
+
+  pub stops_lasts : LeavesEither old.at change old.disk new.disk → LastsOver (Running w) (Stopped (settle w) (settle next)) old.disk new.disk
+  stops_lasts leaves = record {
+    moments = LeavesOnly-weaker old.disk new.disk (λ c. IsImage c (settle w) ⊎ IsImage c (settle next)) (λ c. ShowsState (Running w) c ⊎ ShowsState (Stopped (settle w) (settle next)) c) (λ c h. inr h) (leaves_either leaves);
+    answered = stops_between leaves;
+  }
+
+-- ---- one world
+
+-- contents are formatted for one size
+formatted_of : (c : Contents) (w : World) (im : IsImage c w) → IsFormatted (length c) c im.blocks
+formatted_of c w im = record { size = im.disk.size; spelled = im.spelled; room = im.disk.long }
+
+pub images_one : (c : Contents) (w other : World) → IsImage c w → IsImage c other → w ≡ other
+images_one c w other a b =
+    opens_to_one a.blocks c w other a.disk a.opens
+    (subst (λ (n : ℕ). Opens n c other) (sym (one_size (length c) c a.blocks b.blocks (formatted_of c w a) (formatted_of c other b))) b.opens)

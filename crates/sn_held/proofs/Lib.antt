@@ -1,0 +1,3 @@
+pub mod HeldLemmas
+pub mod EventLemmas
+pub mod MountLemmas

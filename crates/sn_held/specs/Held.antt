@@ -1,0 +1,59 @@
+-- What a mounted file system over a root holds, and what that means.
+use Rattle.std.specs.Prelude.{◌≡◌, ◌⊎◌, ℕ, ◌+◌, Bool, true, false, List, [], ◌++◌, slice_index}
+use Rattle.sn_device.specs.Disk.{Disk, Always}
+use Rattle.sn_device.specs.declared.status.Status.{Status}
+use Rattle.sn_layout.specs.declared.places.Slot.{Slot}
+use Rattle.sn_layout.specs.declared.root.RootBody.{RootBody}
+use Rattle.sn_layout.specs.Superblock.{superblock_bytes}
+use Rattle.sn_limits.specs.Versions.{version_1}
+use Rattle.sn_model.specs.declared.change.Change.{Change}
+use Rattle.sn_model.specs.Machine.{State, Running, Stopped}
+use Rattle.sn_model.specs.World.{World}
+use Rattle.sn_ondisk.specs.Blocks.{block_at}
+use Rattle.sn_ondisk.specs.LogHalf.{HasNoLater, base_of}
+use Rattle.sn_ondisk.specs.Trees.{Store}
+use Rattle.sn_log.specs.Places.{LogPosition, IsReadyAt}
+use Rattle.sn_image.specs.Image.{image}
+use Rattle.sn_opening.specs.Covering.{MakesCover}
+use Rattle.sn_opening.specs.Spelled.{AreSpelled}
+use Rattle.sn_opening.specs.Worlds.{frozen_of}
+use Rattle.sn_sound.specs.Standing.{RootStands}
+use Rattle.sn_held.specs.Moments.{ShowsState}
+
+-- the world in memory and the numbers that are kept back in it, where its log goes on, and the device
+pub record Held : Type 0 where
+  pub world : World
+  pub kept : ℕ → Bool
+  pub at : LogPosition
+  pub disk : Disk
+  pub status : Status
+
+-- Whatever a crash leaves, the next record goes behind the last one: in the half of the root's epoch while the next epoch has none, else in the half of that.
+abbrev pub GoesOn : LogPosition → RootBody → List Change → List Change → Disk → Type 0
+GoesOn at root older newer d = ((newer ≡ []) × (at.epoch ≡ root.epoch) × Always d (IsReadyAt at older)) ⊎ ((at.epoch ≡ root.epoch + 1) × Always d (IsReadyAt at newer))
+
+-- A mount that runs over a world stands on a root, and keeps the changes of its log, which make of the root's tree one that covers the live one.
+pub record Runs (h : Held) (world : World) : Type 0 where
+  pub is : h.world ≡ world
+  -- the blocks as they were when the root was made
+  pub store : Store
+  pub slot : Slot
+  pub root : RootBody
+  -- the words of its map
+  pub words : List ℕ
+  pub older : List Change
+  pub newer : List Change
+  pub older_spelled : AreSpelled older
+  pub newer_spelled : AreSpelled newer
+  pub limits : root.limits ≡ version_1
+  pub formatted : Always h.disk (λ c. block_at c 0 ≡ superblock_bytes (record { places = h.at.blocks }))
+  pub stands : RootStands h.at.blocks h.disk store slot root words older newer
+  pub none_later : (epoch : ℕ) → Always h.disk (λ c. HasNoLater c (base_of h.at.blocks epoch) (root.epoch + 1))
+  pub log : GoesOn h.at root older newer h.disk
+  pub cover : MakesCover version_1 (older ++ newer) (image store root.inode_file) world.live
+  pub frozen : world.frozen ≡ frozen_of store root.snapshots
+
+-- One that a failure has stopped knows of its disk alone, that the next mount finds one of two worlds there.
+abbrev pub Means : Held → Bool → State → Type 0
+Means h has_stopped (Running world) = (has_stopped ≡ false) × Runs h world
+Means h has_stopped (Stopped before after) = (has_stopped ≡ true) × Always h.disk (ShowsState (Stopped before after))

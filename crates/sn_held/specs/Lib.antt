@@ -1,0 +1,5 @@
+pub mod Images
+pub mod Moments
+pub mod Held
+pub mod Events
+pub mod Laws
