@@ -1,0 +1,160 @@
+-- What a mount finds on an image, and why it finds none elsewhere.
+use Rattle.std.proofs.Common.{◌≡◌, ◌⊎◌, inl, inr, ℕ, zero, ◌+◌, ◌*◌, ◌^◌, ◌<◌, ◌≤◌, List, [], ◌∷◌, ◌++◌, length, map as map_list, Contains, Option, Some, None, Result, Ok, Err, refl, sym, ap, subst, ◌∙◌, arith}
+use Rattle.std.specs.FinMap as map
+use Rattle.sn_device.specs.Sectors.{Contents}
+use Rattle.sn_limits.specs.declared.limits.Limits.{Limits}
+use Rattle.sn_limits.specs.Versions.{version_1}
+use Rattle.sn_layout.specs.declared.places.Slot.{Slot}
+use Rattle.sn_layout.specs.declared.root.RootBody.{RootBody}
+use Rattle.sn_model.specs.declared.change.Change.{Change}
+use Rattle.sn_model.specs.declared.mount.Damage.{Damage}
+use Rattle.sn_model.specs.declared.mount.Damage.TheVariants.{Log, Misspelt}
+use Rattle.sn_model.specs.declared.mount.MountFault.{MountFault}
+use Rattle.sn_model.specs.declared.mount.MountFault.TheVariants as fault
+use Rattle.sn_model.specs.Chains.{◌>>=◌}
+use Rattle.sn_model.specs.Changes.{apply_all}
+use Rattle.sn_model.specs.Tree.{Tree}
+use Rattle.sn_model.specs.World.{World}
+use Rattle.sn_model.proofs.ListLemmas.{lists_join}
+use Rattle.sn_ondisk.specs.LogHalf.{HasNoLater, Replays as ReplaysPayloads, ReplaysTo, base_of}
+use Rattle.sn_ondisk.specs.Roots.{IsNewest}
+use Rattle.sn_ondisk.specs.Trees.{store_of}
+use Rattle.sn_ondisk.proofs.OneRootLemmas.{newest_is_one}
+use Rattle.sn_log.specs.Places.{LogPosition, base_at, payloads_of}
+use Rattle.sn_image.specs.Image.{image}
+use Rattle.sn_image.proofs.SoundNodeLemmas.{only_version}
+use Rattle.sn_opening.proofs.OpeningLemmas.{half_lies}
+use Rattle.sn_sound.specs.Disks.{IsFormatted}
+use Rattle.sn_sound.specs.Logs.{AreReplayed, BreaksAt, IsLogFault, later, newer, older}
+use Rattle.sn_sound.specs.Maps.{free_blocks}
+use Rattle.sn_sound.proofs.DiskLemmas.{never_breaks, one_size, replayed_once}
+use Rattle.sn_held.specs.Images.{IsImage}
+use Rattle.sn_mount.specs.Both.{BreaksBoth, HasBoth, Replays, ReplaysBoth, in_newer, in_older}
+use Rattle.sn_mount.specs.Examining.{SomeIsLater}
+use Rattle.sn_mount.specs.Finding.{IsOfTree}
+use Rattle.sn_mount.specs.Refusing.{HasLogFault, IsNoImage, Refuses}
+
+-- ---- the same root
+
+-- An image has the size and the newest root that are found.
+pub record IsSameRoot (c : Contents) (n : ℕ) (slot : Slot) (root : RootBody) (w : World) (im : IsImage c w) : Type 0 where
+  pub blocks : im.blocks ≡ n
+  pub slots : im.opens.slot ≡ slot
+  pub roots : im.opens.root ≡ root
+
+pub same_root : (sectors : ℕ) (c : Contents) (n : ℕ) (slot : Slot) (root : RootBody) (w : World) (im : IsImage c w) → length c ≡ sectors → IsFormatted sectors c n → IsNewest c slot root → IsSameRoot c n slot root w im
+same_root sectors c n slot root w im count formatted newest =
+    let one = newest_is_one c im.opens.slot slot im.opens.root root im.opens.shown.newest newest in
+    record {
+      blocks = one_size sectors c im.blocks n (record { size = im.disk.size; spelled = im.spelled; room = subst (λ (m : ℕ). 8 * im.blocks ≤ m) count im.disk.long }) formatted;
+      slots = one.0;
+      roots = one.1;
+    }
+
+-- ---- records that are made
+
+-- the records of an epoch up to a position, as those that a log has
+pub are_replayed : (c : Contents) (from : Tree) (n epoch : ℕ) (at : LogPosition) (tree : Tree) (r : Replays c from n epoch at tree) → AreReplayed c version_1 from n epoch r.all.replayed.changes tree
+are_replayed c from n epoch at tree r = record {
+  spelled = r.all.replayed.spelled;
+  records =
+      subst (λ (e : ℕ). ReplaysPayloads c (base_of n e) e (payloads_of r.all.replayed.changes)) r.of_epoch
+      (subst (λ (m : ℕ). ReplaysPayloads c (base_of m at.epoch) at.epoch (payloads_of r.all.replayed.changes)) r.blocks
+      (at.place, record { leads = r.all.replayed.behind.leads; stops = r.all.stops }));
+  applied = r.all.replayed.applied;
+}
+
+-- changes that are made one behind the other have a tree between them
+split_made : (first : Option Tree) (second : Tree → Option Tree) (tree : Tree) → (first >>= second) ≡ Some tree → (middle : Tree) × (first ≡ Some middle) × (second middle ≡ Some tree)
+split_made (Some middle) second tree e = (middle, refl, e)
+split_made None second tree e = never e
+  where
+    never : {A : Type 0} → None ≡ Some tree → A
+    never e = cc
+
+module _ (c : Contents) (w : World) (im : IsImage c w) where
+  limits_one : version_1 ≡ im.opens.root.limits
+  limits_one = only_version im.opens.root.limits im.opens.shown.newest.body.fits.version
+
+  abbrev from : Tree
+  from = image (store_of c) im.opens.root.inode_file
+
+  made : apply_all version_1 (im.opens.older ++ im.opens.newer) from ≡ Some im.opens.stands.tree
+  made = ap (λ (l : Limits). apply_all l (im.opens.older ++ im.opens.newer) from) limits_one ∙ im.opens.stands.applied
+
+  halves : (middle : Tree) × (apply_all version_1 im.opens.older from ≡ Some middle) × (apply_all version_1 im.opens.newer middle ≡ Some im.opens.stands.tree)
+  halves = split_made (apply_all version_1 im.opens.older from) (apply_all version_1 im.opens.newer) im.opens.stands.tree (sym (lists_join version_1 im.opens.older im.opens.newer from) ∙ made)
+
+  image_older : AreReplayed c version_1 from im.blocks im.opens.root.epoch im.opens.older halves.0
+  image_older = record { spelled = im.opens.older_spelled; records = im.opens.shown.has_older; applied = halves.1 }
+
+  image_newer : AreReplayed c version_1 halves.0 im.blocks (im.opens.root.epoch + 1) im.opens.newer im.opens.stands.tree
+  image_newer = record { spelled = im.opens.newer_spelled; records = im.opens.shown.has_newer; applied = halves.2 }
+
+  -- nothing breaks the log of an image
+  pub image_breaks : (block : ℕ) → BreaksBoth c from im.blocks im.opens.root.epoch block → ⊥
+  image_breaks block (in_older b) =
+      never_breaks c version_1 from im.blocks im.opens.root.epoch block im.opens.older halves.0 (half_lies im.blocks im.opens.root.epoch c im.disk) image_older b
+  image_breaks block (in_newer at middle first b) =
+      let one = replayed_once c version_1 from im.blocks im.opens.root.epoch first.all.replayed.changes im.opens.older middle halves.0 (half_lies im.blocks im.opens.root.epoch c im.disk)
+      (are_replayed c from im.blocks im.opens.root.epoch at middle first) image_older in
+      never_breaks c version_1 halves.0 im.blocks (im.opens.root.epoch + 1) block im.opens.newer im.opens.stands.tree (half_lies im.blocks (im.opens.root.epoch + 1) c im.disk) image_newer
+      (subst (λ (t : Tree). BreaksAt c version_1 t im.blocks (im.opens.root.epoch + 1) block) one.trees b)
+
+-- ---- refusals
+
+-- a tree that can't be read
+pub tree_refuses : (f : MountFault) (sectors : ℕ) (c : Contents) → IsOfTree f → Refuses f sectors c
+tree_refuses (fault.Damaged damage block) sectors c is = subst (λ (d : Damage). Refuses (fault.Damaged d block) sectors c) (sym is) tt
+tree_refuses fault.NotFormatted sectors c is = absurd is
+tree_refuses fault.Version sectors c is = absurd is
+tree_refuses fault.NoRoot sectors c is = absurd is
+tree_refuses fault.Memory sectors c is = tt
+tree_refuses fault.Device sectors c is = tt
+
+module _ (sectors : ℕ) (c : Contents) (n : ℕ) (slot : Slot) (root : RootBody) (count : length c ≡ sectors) where
+  -- a damage of the log
+  log_refuses : (damage : Damage) (block : ℕ) → damage ≡ Log → IsNoImage c → HasLogFault sectors c block → Refuses (fault.Damaged damage block) sectors c
+  log_refuses damage block is none has = subst (λ (d : Damage). Refuses (fault.Damaged d block) sectors c) (sym is) (none, has)
+
+  pub later_refuses : (f : MountFault) → IsFormatted sectors c n → IsNewest c slot root → SomeIsLater f c n (root.epoch + 1) → Refuses f sectors c
+  later_refuses (fault.Damaged damage block) formatted newest is =
+      log_refuses damage block is.0
+      (λ w im.
+      let same = same_root sectors c n slot root w im count formatted newest in
+      is.1.1 (subst (λ (r : RootBody). HasNoLater c (base_of n is.1.0) (r.epoch + 1)) same.roots (subst (λ (m : ℕ). HasNoLater c (base_of m is.1.0) (im.opens.root.epoch + 1)) same.blocks (im.none_later is.1.0))))
+      (record { blocks = n; formatted = formatted; slot = slot; root = root; newest = newest; is = subst (IsLogFault n c root (free_blocks n (store_of c) root)) (sym is.1.2) (later is.1.0 is.1.1) })
+  later_refuses fault.NotFormatted formatted newest is = absurd is
+  later_refuses fault.Version formatted newest is = absurd is
+  later_refuses fault.NoRoot formatted newest is = absurd is
+  later_refuses fault.Memory formatted newest is = tt
+  later_refuses fault.Device formatted newest is = tt
+
+  -- a record that can't be replayed
+  log_fault : (block : ℕ) → IsNewest c slot root → BreaksBoth c (image (store_of c) root.inode_file) n root.epoch block → IsLogFault n c root (free_blocks n (store_of c) root) block
+  log_fault block newest b = told b
+    where
+      limits_is : version_1 ≡ root.limits
+      limits_is = only_version root.limits newest.body.fits.version
+
+      told : BreaksBoth c (image (store_of c) root.inode_file) n root.epoch block → IsLogFault n c root (free_blocks n (store_of c) root) block
+      told (in_older b) = older block (subst (λ (l : Limits). BreaksAt c l (image (store_of c) root.inode_file) n root.epoch block) limits_is b)
+      told (in_newer at middle first b) =
+          newer block first.all.replayed.changes middle
+          (subst (λ (l : Limits). AreReplayed c l (image (store_of c) root.inode_file) n root.epoch first.all.replayed.changes middle) limits_is (are_replayed c (image (store_of c) root.inode_file) n root.epoch at middle first))
+          (subst (λ (l : Limits). BreaksAt c l middle n (root.epoch + 1) block) limits_is b)
+
+  pub both_refuses : (f : MountFault) (tree : Tree) → IsFormatted sectors c n → IsNewest c slot root → ReplaysBoth (Err f) c (image (store_of c) root.inode_file) n root.epoch tree → Refuses f sectors c
+  both_refuses (fault.Damaged damage block) tree formatted newest is =
+      log_refuses damage block is.0
+      (λ w im.
+      let same = same_root sectors c n slot root w im count formatted newest in
+      image_breaks c w im block
+      (subst (λ (m : ℕ). BreaksBoth c (image (store_of c) im.opens.root.inode_file) m im.opens.root.epoch block) (sym same.blocks)
+      (subst (λ (r : RootBody). BreaksBoth c (image (store_of c) r.inode_file) n r.epoch block) (sym same.roots) is.1)))
+      (record { blocks = n; formatted = formatted; slot = slot; root = root; newest = newest; is = log_fault block newest is.1 })
+  both_refuses fault.NotFormatted tree formatted newest is = absurd is
+  both_refuses fault.Version tree formatted newest is = absurd is
+  both_refuses fault.NoRoot tree formatted newest is = absurd is
+  both_refuses fault.Memory tree formatted newest is = tt
+  both_refuses fault.Device tree formatted newest is = tt

@@ -1,0 +1,91 @@
+-- What replay has made of a tree, record by record.
+use Rattle.std.proofs.Common.{◌≡◌, ◌⊎◌, inl, inr, ℕ, ◌+◌, ◌/◌, ◌<◌, Bool, true, false, List, [], ◌∷◌, ◌++◌, Option, Some, None, Result, Ok, Err, MatchBool, refl, sym, ap, subst, ◌∙◌, arith}
+use Rattle.std.specs.Prelude.{IsTrue}
+use Rattle.sn_device.specs.Sectors.{Contents}
+use Rattle.sn_device.specs.declared.status.Status.{Status}
+use Rattle.sn_device.specs.Status.{has_ended}
+use Rattle.sn_block.proofs.CountLemmas.{later-read}
+use Rattle.sn_block.specs.Counts.{CountsRead, IsLater}
+use Rattle.sn_block.specs.declared.fault.ReadFault.{ReadFault}
+use Rattle.sn_block.specs.declared.fault.ReadFault.TheVariants as read
+use Rattle.sn_limits.specs.Versions.{version_1}
+use Rattle.sn_model.specs.declared.change.Change.{Change as TheChange}
+use Rattle.sn_model.specs.Chains.{◌>>=◌}
+use Rattle.sn_model.specs.Changes.{apply, apply_all}
+use Rattle.sn_model.specs.Tree.{Tree}
+use Rattle.sn_model.proofs.ListLemmas.{lists_join}
+use Rattle.sn_log.specs.Places.{LogPosition, IsBehind, base_at, behind, first_of}
+use Rattle.sn_log.specs.Replaying.{Finds}
+use Rattle.sn_log.specs.declared.replay.Found.TheVariants.{Change, Misspelt}
+use Rattle.sn_opening.proofs.CoveringLemmas.{applied_one}
+use Rattle.sn_opening.proofs.SpelledLemmas.{spelled_more}
+use Rattle.sn_sound.specs.Logs.{BreaksAt}
+use Rattle.sn_mount.specs.Failing.{HasFailed, IsSoOf, WritesNothing, read_fault}
+use Rattle.sn_mount.specs.Replaying.{HasReplayed}
+
+-- at the first place of an epoch nothing is replayed yet
+pub starts : (c : Contents) (from : Tree) (n epoch : ℕ) → HasReplayed c from (first_of n epoch) from
+unfolding apply_all
+starts c from n epoch = record { changes = []; spelled = tt; behind = record { count = refl; leads = refl }; applied = refl }
+
+-- one more
+pub replayed_more : (c : Contents) (from : Tree) (at : LogPosition) (tree : Tree) (change : TheChange) (after : Tree) (done : HasReplayed c from at tree) → Finds c at (Change change) → apply version_1 change tree ≡ Some after
+    → IsBehind (behind at change) (done.changes ++ change ∷ []) c → HasReplayed c from (behind at change) after
+replayed_more c from at tree change after done finds e is = record {
+  changes = done.changes ++ change ∷ [];
+  spelled = spelled_more done.changes change done.spelled finds.1;
+  behind = is;
+  applied = lists_join version_1 done.changes (change ∷ []) from ∙ ap (λ x. x >>= apply_all version_1 (change ∷ [])) done.applied ∙ applied_one version_1 change tree after e;
+}
+
+-- a record that is misspelt
+pub misspelt_breaks : (c : Contents) (from : Tree) (at : LogPosition) (tree : Tree) (block : ℕ) → HasReplayed c from at tree → Finds c at (Misspelt block) → BreaksAt c version_1 from at.blocks at.epoch block
+misspelt_breaks c from at tree block done finds = record {
+  at = at;
+  blocks = refl;
+  of_epoch = refl;
+  changes = done.changes;
+  tree = tree;
+  spelled = done.spelled;
+  behind = done.behind;
+  applied = done.applied;
+  bad = inl finds;
+}
+
+-- a change that can't be made
+pub inapplicable_breaks : (c : Contents) (from : Tree) (at : LogPosition) (tree : Tree) (change : TheChange) (block : ℕ) → HasReplayed c from at tree → Finds c at (Change change) → apply version_1 change tree ≡ None
+    → block ≡ (base_at at + at.place) / 8 → BreaksAt c version_1 from at.blocks at.epoch block
+inapplicable_breaks c from at tree change block done finds none is = record {
+  at = at;
+  blocks = refl;
+  of_epoch = refl;
+  changes = done.changes;
+  tree = tree;
+  spelled = done.spelled;
+  behind = done.behind;
+  applied = done.applied;
+  bad = inr (change, finds, none, is);
+}
+
+-- ---- reads
+
+failed_read : (b : Bool) (old new : Status) → has_ended old ≡ b → MatchBool b (new ≡ old) (new ≡ record old { failures = old.failures + 1 }) → HasFailed old new
+failed_read true old new e same = inr (ap has_ended same ∙ e)
+failed_read false old new e more = inl (let rose : new.failures ≡ old.failures + 1 = ap (λ (s : Status). s.failures) more in omega (arith, rose))
+
+pub read_failed : {T : Type 0} (result : Result T ReadFault) (f : ReadFault) (old new : Status) → CountsRead result old new → result ≡ Err f → IsSoOf (read_fault f) old new
+read_failed result read.Device old new counts e = failed_read (has_ended old) old new refl (counts.device e)
+read_failed result read.Memory old new counts e = ap (λ (s : Status). s.failures) (counts.memory e)
+
+idle : (old new : Status) → IsLater old new → new ≡ old → WritesNothing old new
+idle old new later same = record { later = later; writes = ap (λ (s : Status). s.writes) same; syncs = ap (λ (s : Status). s.syncs) same }
+
+fails_reading : (b : Bool) (old new : Status) → IsLater old new → MatchBool b (new ≡ old) (new ≡ record old { failures = old.failures + 1 }) → WritesNothing old new
+fails_reading true old new later same = idle old new later same
+fails_reading false old new later more = record { later = later; writes = ap (λ (s : Status). s.writes) more; syncs = ap (λ (s : Status). s.syncs) more }
+
+-- a read writes nothing
+pub reads_only : {T : Type 0} (result : Result T ReadFault) (old new : Status) → CountsRead result old new → WritesNothing old new
+reads_only (Ok x) old new counts = idle old new (later-read (Ok x) old new counts) counts.done
+reads_only (Err read.Device) old new counts = fails_reading (has_ended old) old new (later-read (Err read.Device) old new counts) (counts.device refl)
+reads_only (Err read.Memory) old new counts = idle old new (later-read (Err read.Memory) old new counts) (counts.memory refl)

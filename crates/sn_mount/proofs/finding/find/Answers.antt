@@ -1,0 +1,28 @@
+use Rattle.std.proofs.Common.{◌≡◌, ℕ, Err, sym, ap, subst, ◌∙◌}
+use Rattle.sn_device.specs.Disk.{Disk, reads}
+use Rattle.sn_block.specs.Lending.{device_of}
+use Rattle.sn_core.specs.Plain.{world_of}
+use Rattle.sn_image.specs.Image.{image}
+use Rattle.sn_ondisk.specs.Trees.{store_of}
+use Rattle.sn_model.specs.Tree.{Tree}
+use Rattle.sn_mount.specs.Both.{ReplaysBoth}
+use Rattle.sn_mount.proofs.FindLemmas.{both_refuses, tree_refuses}
+use Rattle.sn_mount.proofs.finding.find.Goals as goal
+
+pub returns-in-Err-load_world-clause-refuses : goal.returns-in-Err-load_world-clause-refuses
+returns-in-Err-load_world-clause-refuses g c told =
+    let device = device_of c.args.blocks.now in
+    tree_refuses c.in-Err-load_world.fault (g.D.Device.status device).sectors (reads (g.D.Device.disk device)) c.in-Err-load_world.ensures.fault
+
+pub returns-in-Err-replay_both-clause-refuses : goal.returns-in-Err-replay_both-clause-refuses
+returns-in-Err-replay_both-clause-refuses g c told =
+    let device = device_of c.args.blocks.now in
+    let found = c.in-Ok.found in
+    let has = c.in-Ok.ensures.found told in
+    let f = c.in-Err-replay_both.fault in
+    let tree = (world_of c.replay_both.new.world).live in
+    let same = c.in-Ok-load_world.ensures.same told ∙ c.in-Ok.ensures.same told in
+    let is = subst (λ (d : Disk). ReplaysBoth (Err f) (reads d) (world_of c.in-Ok-load_world.world).live found.places found.root.epoch tree) same (c.in-Err-replay_both.ensures.replayed told) in
+    let live = c.in-Ok-load_world.ensures.live told ∙ ap (λ (d : Disk). image (store_of (reads d)) found.root.inode_file) (c.in-Ok.ensures.same told) in
+    both_refuses (g.D.Device.status device).sectors (reads (g.D.Device.disk device)) found.places found.slot found.root (g.met.D.Device.count device told) f tree has.formatted has.newest
+    (subst (λ (t : Tree). ReplaysBoth (Err f) (reads (g.D.Device.disk device)) t found.places found.root.epoch tree) live is)

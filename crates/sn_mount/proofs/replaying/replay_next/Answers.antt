@@ -1,0 +1,48 @@
+use Rattle.std.proofs.Common.{◌≡◌, ◌+◌, ◌/◌, ◌++◌, ◌∷◌, [], Some, refl, sym, ap, subst, ◌∙◌}
+use Rattle.sn_device.specs.Disk.{reads}
+use Rattle.sn_limits.specs.Versions.{version_1}
+use Rattle.sn_model.specs.World.{World}
+use Rattle.sn_model.proofs.TreeLemmas.{tree_kept}
+use Rattle.sn_block.specs.Lending.{device_of}
+use Rattle.sn_log.specs.Places.{LogPosition, IsBehind, base_at}
+use Rattle.sn_log.specs.Replaying.{Finds, changes_in, position_after}
+use Rattle.sn_log.specs.declared.replay.Found.{Found}
+use Rattle.sn_log.specs.declared.replay.Found.TheVariants.{Change, Misspelt}
+use Rattle.sn_core.specs.Plain.{world_of}
+use Rattle.sn_mount.specs.Replaying.{HasReplayed}
+use Rattle.sn_mount.proofs.ReplayLemmas.{inapplicable_breaks, misspelt_breaks, replayed_more}
+use Rattle.sn_mount.proofs.replaying.replay_next.Goals as goal
+
+pub returns-in-Ok-clause-replayed : goal.returns-in-Ok-clause-replayed
+returns-in-Ok-clause-replayed g c told from done =
+    let disk = reads (g.D.Device.disk (device_of c.args.blocks.now)) in
+    let at = c.args.replay.now in
+    let old = world_of c.args.world.now in
+    let new = world_of c.apply.new.self in
+    let made = c.in-Ok.ensures.made in
+    let finds = subst (λ (f : Found). Finds disk at f) c.in-Ok-Change.field-0-is (c.in-Ok-Change.ensures.found told) in
+    let moves = c.in-Ok-Change.ensures.moves ∙ ap (position_after at) c.in-Ok-Change.field-0-is in
+    let behind = subst (λ (f : Found). IsBehind c.next.new.self (done.changes ++ changes_in f) disk) c.in-Ok-Change.field-0-is (c.in-Ok-Change.ensures.behind told done.changes done.behind) in
+    let applied = made.1 ∙ ap (λ (w : World). Some w.live) (sym made.2) in
+    subst (λ (p : LogPosition). HasReplayed disk from p new.live) (sym moves)
+    (replayed_more disk from at old.live c.in-Ok-Change.change new.live done finds applied (subst (λ (p : LogPosition). IsBehind p (done.changes ++ c.in-Ok-Change.change ∷ []) disk) moves behind))
+
+pub returns-in-Ok-clause-whole : goal.returns-in-Ok-clause-whole
+returns-in-Ok-clause-whole g c =
+    let made = c.in-Ok.ensures.made in
+    tree_kept version_1 c.in-Ok-Change.change (world_of c.args.world.now).live (world_of c.apply.new.self).live c.requires.whole (made.1 ∙ ap (λ (w : World). Some w.live) (sym made.2))
+
+pub returns-in-Err-CannotApply-clause-replayed : goal.returns-in-Err-CannotApply-clause-replayed
+returns-in-Err-CannotApply-clause-replayed g c told from done =
+    let disk = reads (g.D.Device.disk (device_of c.args.blocks.now)) in
+    let at = c.args.replay.now in
+    let finds = subst (λ (f : Found). Finds disk at f) c.in-Ok-Change.field-0-is (c.in-Ok-Change.ensures.found told) in
+    let none = rw c.in-Err-CannotApply.field-0-is at c.in-Err-CannotApply.ensures.made in
+    (refl, inapplicable_breaks disk from at (world_of c.args.world.now).live c.in-Ok-Change.change c.block.result done finds none.0 (c.block.ensures ∙ ap (λ (p : LogPosition). (base_at p + p.place) / 8) c.position-at.ensures))
+
+pub returns-in-Ok-Misspelt-clause-replayed : goal.returns-in-Ok-Misspelt-clause-replayed
+returns-in-Ok-Misspelt-clause-replayed g c told from done =
+    let disk = reads (g.D.Device.disk (device_of c.args.blocks.now)) in
+    let at = c.args.replay.now in
+    let finds = subst (λ (f : Found). Finds disk at f) c.in-Ok-Misspelt.field-0-is (c.in-Ok-Misspelt.ensures.found told) in
+    (refl, misspelt_breaks disk from at (world_of c.args.world.now).live c.in-Ok-Misspelt.block done finds)

@@ -1,0 +1,40 @@
+-- What a mount reads of a disk.
+use Rattle.std.specs.Prelude.{◌≡◌, ℕ, ◌+◌}
+use Rattle.sn_device.specs.Sectors.{Contents}
+use Rattle.sn_layout.specs.declared.places.Slot.{Slot}
+use Rattle.sn_layout.specs.declared.root.RootBody.{RootBody}
+use Rattle.sn_model.specs.declared.mount.Damage.TheVariants.{Misspelt}
+use Rattle.sn_model.specs.declared.mount.MountFault.{MountFault}
+use Rattle.sn_model.specs.declared.mount.MountFault.TheVariants as fault
+use Rattle.sn_model.specs.Steps.{with_live}
+use Rattle.sn_model.specs.World.{World, new_world}
+use Rattle.sn_ondisk.specs.LogHalf.{HasNoLater, base_of}
+use Rattle.sn_ondisk.specs.Roots.{IsNewest}
+use Rattle.sn_ondisk.specs.Trees.{store_of}
+use Rattle.sn_log.specs.Places.{LogPosition}
+use Rattle.sn_image.specs.Image.{image}
+use Rattle.sn_sound.specs.Disks.{IsFormatted}
+use Rattle.sn_mount.specs.Both.{HasBoth}
+
+-- A disk of n blocks has this newest root, and at the first place of neither half of its log stands a record of an epoch later than the next.
+pub record HasRoot (sectors : ℕ) (c : Contents) (n : ℕ) (slot : Slot) (root : RootBody) : Type 0 where
+  pub formatted : IsFormatted sectors c n
+  pub newest : IsNewest c slot root
+  pub none_later : (epoch : ℕ) → HasNoLater c (base_of n epoch) (root.epoch + 1)
+
+-- A tree couldn't be read: it is misspelt, or memory was refused, or the device failed.
+abbrev pub IsOfTree : MountFault → Type 0
+IsOfTree (fault.Damaged damage block) = damage ≡ Misspelt
+IsOfTree fault.NotFormatted = ⊥
+IsOfTree fault.Version = ⊥
+IsOfTree fault.NoRoot = ⊥
+IsOfTree fault.Memory = Unit {0}
+IsOfTree fault.Device = Unit {0}
+
+-- The tree of the newest root, with the records of both epochs on top of it, is the live tree of a world without sessions, and the log goes on at this position.
+pub record HasFound (sectors : ℕ) (c : Contents) (at : LogPosition) (world : World) : Type 0 where
+  pub slot : Slot
+  pub root : RootBody
+  pub roots : HasRoot sectors c at.blocks slot root
+  pub both : HasBoth c (image (store_of c) root.inode_file) at.blocks root.epoch at world.live
+  pub is : world ≡ with_live new_world world.live

@@ -1,0 +1,7 @@
+pub mod Failing
+pub mod Examining
+pub mod Refusing
+pub mod Replaying
+pub mod Both
+pub mod Finding
+pub mod Recovering

@@ -1,0 +1,64 @@
+-- What a mount makes of a disk.
+use Rattle.std.specs.Prelude.{◌≡◌, ◌⊎◌, ℕ, Bool, Result, Ok, Err}
+use Rattle.std.specs.FinMap as map
+use Rattle.sn_device.specs.Sectors.{AreSectors, Single}
+use Rattle.sn_device.specs.Disk.{Disk, IsSynced, reads}
+use Rattle.sn_device.specs.Crash.{LeavesOnly, Touches}
+use Rattle.sn_device.specs.declared.status.Status.{Status}
+use Rattle.sn_block.specs.Effects.{Nowhere}
+use Rattle.sn_core.specs.Plain.{world_of}
+use Rattle.sn_model.specs.declared.mount.MountFault.{MountFault}
+use Rattle.sn_model.specs.declared.mount.MountFault.TheVariants as fault
+use Rattle.sn_model.specs.World.{World}
+use Rattle.sn_ondisk.specs.LogHalf.{InHalf, base_of}
+use Rattle.sn_log.specs.Places.{LogPosition}
+use Rattle.sn_sound.specs.Disks.{IsFormatted}
+use Rattle.sn_held.specs.Held.{Runs}
+use Rattle.sn_held.specs.Images.{IsImage}
+use Rattle.sn_mount.specs.Refusing.{Refuses}
+use Rattle.sn_mount.specs.declared.found.Recovered.{Recovered}
+
+-- Of all sectors one at most was written, in a half of the log of the formatted disk.
+pub record TouchesOneGate (sectors : ℕ) (old new : Disk) : Type 0 where
+  pub blocks : ℕ
+  pub formatted : IsFormatted sectors (reads old) blocks
+  pub epoch : ℕ
+  pub sector : ℕ
+  pub within : InHalf (base_of blocks epoch) sector
+  pub touched : Touches (Single sector) old new
+
+-- Up to a sync that succeeded nothing was written. From then on each content that a crash leaves is an image of the world that was there.
+pub record LeavesTheWorld (old new : Disk) (world : World) : Type 0 where
+  pub mid : Disk
+  pub first : Touches Nowhere old mid
+  pub same : reads mid ≡ reads old
+  pub synced : IsSynced mid
+  pub moments : LeavesOnly mid new (λ c. IsImage c world)
+
+-- The world that the disk was an image of runs, over a log that goes on at this position, and at no moment a crash would have left another.
+pub record IsRecovered (sectors : ℕ) (at : LogPosition) (found : World) (old new : Disk) (world : World) : Type 0 where
+  pub is : found ≡ world
+  pub runs : (kept : ℕ → Bool) (status : Status) → Runs (record { world = world; kept = kept; at = at; disk = new; status = status }) world
+  pub leaves : LeavesTheWorld old new world
+
+-- either nothing was written, or at no moment a crash would have left another world
+abbrev pub KeepsTheWorld : Disk → Disk → World → Type 0
+KeepsTheWorld old new world = Touches Nowhere old new ⊎ LeavesTheWorld old new world
+
+-- A mount that finds that it can't be one has written nothing; one that was refused memory, or whose device failed, may have cleared its place in the log.
+abbrev pub WritesAtFault : MountFault → ℕ → Disk → Disk → Type 0
+WritesAtFault (fault.Damaged damage block) sectors old new = Touches Nowhere old new
+WritesAtFault fault.NotFormatted sectors old new = Touches Nowhere old new
+WritesAtFault fault.Version sectors old new = Touches Nowhere old new
+WritesAtFault fault.NoRoot sectors old new = Touches Nowhere old new
+WritesAtFault fault.Memory sectors old new = Touches Nowhere old new ⊎ TouchesOneGate sectors old new
+WritesAtFault fault.Device sectors old new = Touches Nowhere old new ⊎ TouchesOneGate sectors old new
+
+-- of a disk that is an image of a world without frozen trees
+abbrev pub OfImage : Disk → (World → Type 0) → Type 0
+OfImage old P = (world : World) → IsImage (reads old) world → world.frozen ≡ map.empty → P world
+
+-- What was an image of a world runs. Otherwise there is a cause, and the world, if any, is still there.
+abbrev pub Recovers : Result Recovered MountFault → ℕ → Disk → Disk → Type 0
+Recovers (Ok r) sectors old new = TouchesOneGate sectors old new × OfImage old (IsRecovered sectors r.log (world_of r.world) old new)
+Recovers (Err f) sectors old new = Refuses f sectors (reads old) × WritesAtFault f sectors old new × OfImage old (KeepsTheWorld old new)

@@ -1,0 +1,52 @@
+-- Why a disk isn't mounted.
+use Rattle.std.specs.Prelude.{◌≡◌, ℕ, ◌+◌, Result, IfErr}
+use Rattle.sn_device.specs.Sectors.{Contents}
+use Rattle.sn_layout.specs.declared.places.Slot.{Slot}
+use Rattle.sn_layout.specs.declared.root.RootBody.{RootBody}
+use Rattle.sn_model.specs.declared.mount.Damage.{Damage}
+use Rattle.sn_model.specs.declared.mount.Damage.TheVariants.{Root, Pointer, ReachedTwice, MapWord, Misspelt, Links, Log}
+use Rattle.sn_model.specs.declared.mount.MountFault.{MountFault}
+use Rattle.sn_model.specs.declared.mount.MountFault.TheVariants as fault
+use Rattle.sn_model.specs.World.{World}
+use Rattle.sn_ondisk.specs.Roots.{IsNewest}
+use Rattle.sn_ondisk.specs.Trees.{store_of}
+use Rattle.sn_sound.specs.Disks.{IsFormatted}
+use Rattle.sn_sound.specs.Logs.{IsLogFault}
+use Rattle.sn_sound.specs.Maps.{free_blocks}
+use Rattle.sn_sound.specs.Verdicts.{HasNoVerdict, IsRootFault}
+use Rattle.sn_held.specs.Images.{IsImage}
+
+-- the contents are an image of no world
+abbrev pub IsNoImage : Contents → Type 0
+IsNoImage c = (world : World) → IsImage c world → ⊥
+
+-- The log has a fault at this block.
+pub record HasLogFault (sectors : ℕ) (c : Contents) (block : ℕ) : Type 0 where
+  pub blocks : ℕ
+  pub formatted : IsFormatted sectors c blocks
+  pub slot : Slot
+  pub root : RootBody
+  pub newest : IsNewest c slot root
+  pub is : IsLogFault blocks c root (free_blocks blocks (store_of c) root) block
+
+-- A damage of the roots or of the log stands at the block that it is told of, and the contents are an image of no world. Of a tree that can't be read this isn't said.
+abbrev pub StandsAt : Damage → ℕ → Contents → ℕ → Type 0
+StandsAt Root sectors c block = IsNoImage c × IsRootFault c Root block
+StandsAt Pointer sectors c block = ⊥
+StandsAt ReachedTwice sectors c block = ⊥
+StandsAt MapWord sectors c block = ⊥
+StandsAt Misspelt sectors c block = Unit {0}
+StandsAt Links sectors c block = ⊥
+StandsAt Log sectors c block = IsNoImage c × HasLogFault sectors c block
+
+-- Superblock, gates and versions come first, in this order. Want of memory and a failure of the device are told by the device's clauses.
+abbrev pub Refuses : MountFault → ℕ → Contents → Type 0
+Refuses (fault.Damaged damage block) sectors c = StandsAt damage sectors c block
+Refuses fault.NotFormatted sectors c = HasNoVerdict sectors c fault.NotFormatted
+Refuses fault.Version sectors c = HasNoVerdict sectors c fault.Version
+Refuses fault.NoRoot sectors c = HasNoVerdict sectors c fault.NoRoot
+Refuses fault.Memory sectors c = Unit {0}
+Refuses fault.Device sectors c = Unit {0}
+
+abbrev pub RefusesAs : {T : Type 0} → Result T MountFault → ℕ → Contents → Type 0
+RefusesAs result sectors c = IfErr result (λ f. Refuses f sectors c)

@@ -1,0 +1,96 @@
+//! Replay of the log.
+ghost use Rattle.std.specs.Prelude.{◌≡◌, ◌*◌, ◌≤◌, ◌<◌, true, IsTrue, IfOk, OnOk};
+ghost use Rattle.sn_device.specs.Disk.{reads};
+ghost use Rattle.sn_block.specs.Lending.{device_of};
+ghost use Rattle.sn_core.specs.Plain.{world_of};
+ghost use Rattle.sn_limits.specs.Versions.{version_1};
+ghost use Rattle.sn_model.specs.NameTree.{IsTree};
+ghost use Rattle.sn_model.specs.Steps.{with_live};
+ghost use Rattle.sn_model.specs.Tree.{Tree};
+ghost use Rattle.sn_mount.specs.Failing.{FailsAs, WritesNothing};
+ghost use Rattle.sn_mount.specs.Replaying.{HasReplayed, ReplaysAll, ReplaysOne};
+
+use crate::fault::fault_of;
+use sn_block::Blocks;
+use sn_core::PlainWorld;
+use sn_device::Device;
+use sn_layout::Places;
+use sn_log::{Buffer, Found, Position, Replay};
+use sn_model::{Damage, MountFault};
+use sn_plain::ApplyError;
+use std::alloc::Global;
+
+/// Replays the next record of an epoch, if there is one.
+pub(crate) fn replay_next<D: Device>(
+    alloc: Global,
+    blocks: &mut Blocks<D>,
+    buffer: &mut Buffer,
+    replay: &mut Replay,
+    world: &mut PlainWorld,
+) -> Result<bool, MountFault>
+    requires whole { IsTree version_1 (world_of world.old).live }
+    requires disk { 8 * replay.old.blocks ≤ (D.status (device_of blocks.old)).sectors }
+    ensures replayed { IsTrue D.tells_bytes → (from : Tree)
+        → HasReplayed (reads (D.disk (device_of blocks.old))) from replay.old (world_of world.old).live
+        → ReplaysOne result (reads (D.disk (device_of blocks.old))) from replay.old (world_of world.old).live replay.new (world_of world.new).live }
+    ensures rest { world_of world.new ≡ with_live (world_of world.old) (world_of world.new).live }
+    ensures whole { IsTree version_1 (world_of world.new).live }
+    ensures blocks { replay.new.blocks ≡ replay.old.blocks }
+    ensures epoch { replay.new.epoch ≡ replay.old.epoch }
+    ensures further { IfOk result (λ more. more ≡ true → replay.old.place < replay.new.place) }
+    ensures onward { OnOk result (replay.old.place ≤ replay.new.place) }
+    ensures within { replay.old.place ≤ 255 }
+    ensures same { IsTrue D.tells_bytes → D.disk (device_of blocks.new) ≡ D.disk (device_of blocks.old) }
+    ensures idle { OnOk result (D.status (device_of blocks.new) ≡ D.status (device_of blocks.old)) }
+    ensures reads { WritesNothing (D.status (device_of blocks.old)) (D.status (device_of blocks.new)) }
+    ensures failed { FailsAs result (D.status (device_of blocks.old)) (D.status (device_of blocks.new)) }
+{
+    let at = replay.position();
+    // It bounds the place.
+    let _place = at.place();
+    match replay.next(blocks, buffer) {
+        Ok(Found::Change(change)) => match world.apply(alloc, &change) {
+            Ok(()) => Ok(true),
+            Err(ApplyError::Memory) => Err(MountFault::Memory),
+            Err(ApplyError::CannotApply) => Err(MountFault::Damaged {
+                damage: Damage::Log,
+                block: at.block(),
+            }),
+        },
+        Ok(Found::End) => Ok(false),
+        Ok(Found::Misspelt { block }) => Err(MountFault::Damaged {
+            damage: Damage::Log,
+            block,
+        }),
+        Err(fault) => Err(fault_of(fault)),
+    }
+}
+
+/// Replays all records of an epoch, and answers where they end.
+pub(crate) fn replay_epoch<D: Device>(
+    alloc: Global,
+    blocks: &mut Blocks<D>,
+    buffer: &mut Buffer,
+    world: &mut PlainWorld,
+    places: Places,
+    epoch: u64,
+) -> Result<Position, MountFault>
+    requires whole { IsTree version_1 (world_of world.old).live }
+    requires disk { 8 * places ≤ (D.status (device_of blocks.old)).sectors }
+    ensures replayed { IsTrue D.tells_bytes → ReplaysAll result (reads (D.disk (device_of blocks.old))) (world_of world.old).live places epoch (world_of world.new).live }
+    ensures rest { world_of world.new ≡ with_live (world_of world.old) (world_of world.new).live }
+    ensures whole { IsTree version_1 (world_of world.new).live }
+    ensures blocks { IfOk result (λ at. at.blocks ≡ places) }
+    ensures epoch { IfOk result (λ at. at.epoch ≡ epoch) }
+    ensures same { IsTrue D.tells_bytes → D.disk (device_of blocks.new) ≡ D.disk (device_of blocks.old) }
+    ensures idle { OnOk result (D.status (device_of blocks.new) ≡ D.status (device_of blocks.old)) }
+    ensures reads { WritesNothing (D.status (device_of blocks.old)) (D.status (device_of blocks.new)) }
+    ensures failed { FailsAs result (D.status (device_of blocks.old)) (D.status (device_of blocks.new)) }
+{
+    let mut replay = Replay::new(places, epoch);
+    let mut more = true;
+    while more {
+        more = replay_next(alloc, blocks, buffer, &mut replay, world)?;
+    }
+    Ok(replay.position())
+}
