@@ -1,12 +1,11 @@
 -- What the disk of a mounted file system is an image of, call by call.
-use Rattle.std.proofs.Common.{◌≡◌, ◌⊎◌, inl, inr, ⊎_elim, ℕ, ◌+◌, ◌*◌, ◌≤◌, Bool, true, List, [], ◌∷◌, ◌++◌, None, Some, length, replicate, slice_index, refl, sym, ap, subst, ◌∙◌, append-nil, append_assoc, arith}
+use Rattle.std.proofs.Common.{◌≡◌, ◌⊎◌, inl, inr, ⊎_elim, ℕ, ◌+◌, ◌*◌, ◌≤◌, Bool, List, [], ◌∷◌, ◌++◌, None, Some, length, replicate, slice_index, refl, sym, ap, subst, ◌∙◌, append-nil, append_assoc}
 use Rattle.std.specs.FinMap as map
 use Rattle.sn_device.specs.Sectors.{Contents, AreSectors}
-use Rattle.sn_device.specs.Disk.{Always, CrashNow, Disk, reads}
+use Rattle.sn_device.specs.Disk.{Always, Disk, reads}
 use Rattle.sn_device.specs.Crash.{LeavesOnly, Touches}
 use Rattle.sn_device.proofs.CrashLemmas.{LeavesOnly-start, LeavesOnly-weaker, LeavesOnly-now, Always-reads}
 use Rattle.sn_layout.specs.declared.root.RootBody.{RootBody}
-use Rattle.sn_layout.specs.Superblock.{superblock_bytes}
 use Rattle.sn_limits.specs.declared.limits.Limits.{Limits}
 use Rattle.sn_limits.specs.Versions.{version_1}
 use Rattle.sn_model.specs.declared.change.Change.{Change}
@@ -19,15 +18,13 @@ use Rattle.sn_model.specs.Steps.{with_caller, with_live}
 use Rattle.sn_model.specs.Tree.{Tree}
 use Rattle.sn_model.specs.World.{World}
 use Rattle.sn_model.proofs.OtherCallLemmas.{caller_live}
-use Rattle.sn_ondisk.specs.Blocks.{block_at}
-use Rattle.sn_ondisk.specs.LogHalf.{HasNoLater, InHalf, base_of}
+use Rattle.sn_ondisk.specs.LogHalf.{InHalf}
 use Rattle.sn_ondisk.specs.Trees.{Store}
 use Rattle.sn_record.specs.Payload.{IsSpelled}
-use Rattle.sn_log.specs.Places.{LogPosition, IsReadyAt, base_at, behind}
+use Rattle.sn_log.specs.Places.{IsReadyAt, base_at, behind}
 use Rattle.sn_image.specs.Image.{image}
 use Rattle.sn_opening.specs.Covering.{MakesCover}
-use Rattle.sn_opening.specs.Opens.{IsDisk, Opens, Shows}
-use Rattle.sn_opening.specs.Spelled.{AreSpelled}
+use Rattle.sn_opening.specs.Opens.{IsDisk, Opens}
 use Rattle.sn_opening.specs.Worlds.{StandsFor, found, frozen_of}
 use Rattle.sn_opening.proofs.CoveringLemmas.{covers_stand, dropping_covers, one_more_covers}
 use Rattle.sn_opening.proofs.LogLemmas.{of_position}
@@ -37,7 +34,7 @@ use Rattle.sn_ondisk.proofs.PlaceLemmas.{halves_apart}
 use Rattle.sn_sound.specs.Disks.{IsFormatted}
 use Rattle.sn_sound.proofs.DiskLemmas.{one_size}
 use Rattle.sn_sound.proofs.StandingLemmas.{lies_in_data}
-use Rattle.sn_held.specs.Held.{GoesOn, Held, Means, Runs}
+use Rattle.sn_held.specs.Held.{Held, Means, Runs}
 use Rattle.sn_held.specs.Images.{IsImage}
 use Rattle.sn_held.specs.Moments.{LastsOver, ShowsState}
 use Rattle.sn_held.specs.Events.{IsOfTree, LeavesEither, LeavesMore}

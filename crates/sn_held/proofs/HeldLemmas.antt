@@ -1,24 +1,22 @@
 -- What a write to the log leaves of the image that a mounted file system keeps.
-use Rattle.std.proofs.Common.{◌≡◌, ◌⊎◌, inl, inr, ⊎_elim, ℕ, ◌+◌, ◌*◌, ◌^◌, ◌<◌, ◌≤◌, List, [], ◌∷◌, ◌++◌, slice_index, refl, sym, ap, subst, ◌∙◌, append-nil, append_assoc, arith}
+use Rattle.std.proofs.Common.{◌≡◌, ◌⊎◌, inl, inr, ⊎_elim, ℕ, ◌+◌, ◌*◌, ◌^◌, ◌<◌, ◌≤◌, List, [], ◌∷◌, ◌++◌, slice_index, refl, sym, subst, ◌∙◌, arith}
 use Rattle.sn_device.specs.Sectors.{Contents, AreSectors, AreDisjoint, DependsOn, Union}
-use Rattle.sn_device.specs.Disk.{Disk, Always, CrashNow, reads}
+use Rattle.sn_device.specs.Disk.{Disk, Always, reads}
 use Rattle.sn_device.specs.Crash.{LeavesOnly, Touches}
-use Rattle.sn_device.proofs.CrashLemmas.{LeavesOnly-now, LeavesOnly-touched}
+use Rattle.sn_device.proofs.CrashLemmas.{LeavesOnly-touched}
 use Rattle.sn_layout.specs.declared.places.Area.TheVariants.{Log}
 use Rattle.sn_layout.specs.declared.places.LogHalf.{LogHalf}
 use Rattle.sn_layout.specs.declared.places.LogHalf.TheVariants.{Zero, One}
 use Rattle.sn_layout.specs.declared.places.Slot.{Slot}
 use Rattle.sn_layout.specs.declared.root.RootBody.{RootBody}
 use Rattle.sn_layout.specs.Places.{half_of_epoch, start_of}
-use Rattle.sn_layout.specs.RootBody.{IsRootBody}
 use Rattle.sn_layout.specs.Superblock.{superblock_bytes}
 use Rattle.sn_model.specs.declared.change.Change.{Change}
 use Rattle.sn_model.specs.World.{World}
 use Rattle.sn_ondisk.specs.Blocks.{InBlock, InBlocks, block_at}
 use Rattle.sn_ondisk.specs.Gates.{IsClosed}
-use Rattle.sn_ondisk.specs.LogHalf.{HasNoLater, InHalf, IsReady, Leads, Replays, base_of}
+use Rattle.sn_ondisk.specs.LogHalf.{HasNoLater, InHalf, IsReady, Replays, base_of}
 use Rattle.sn_ondisk.specs.MapCopy.{HasMap, InMap}
-use Rattle.sn_ondisk.specs.OneAnswer.{IsOnDisk}
 use Rattle.sn_ondisk.specs.Roots.{IsNewest, InRoots}
 use Rattle.sn_ondisk.specs.TreeLaws.{SameIn}
 use Rattle.sn_ondisk.specs.Trees.{Store, store_of}
@@ -26,16 +24,16 @@ use Rattle.sn_ondisk.proofs.BlockLemmas.{bytes_at-same}
 use Rattle.sn_ondisk.proofs.LogLemmas.{ReplaysTo-same, no_later-same}
 use Rattle.sn_ondisk.proofs.MapLemmas.{HasMap-same}
 use Rattle.sn_ondisk.proofs.OneLemmas.{epoch_is}
-use Rattle.sn_ondisk.proofs.PlaceLemmas.{areas_apart, half_from, halves_apart, halves_of}
+use Rattle.sn_ondisk.proofs.PlaceLemmas.{areas_apart, half_from, halves_of}
 use Rattle.sn_ondisk.proofs.RootLemmas.{IsNewest-same}
-use Rattle.sn_log.specs.Places.{LogPosition, IsReadyAt, base_at, payloads_of}
+use Rattle.sn_log.specs.Places.{LogPosition, IsReadyAt, payloads_of}
 use Rattle.sn_opening.specs.Opens.{IsDisk, LieInData, Shows}
 use Rattle.sn_opening.specs.Spelled.{AreSpelled}
 use Rattle.sn_opening.specs.Worlds.{StandsFor, all_reach}
-use Rattle.sn_opening.proofs.LogLemmas.{log_and_data, of_position, replayed}
+use Rattle.sn_opening.proofs.LogLemmas.{log_and_data, replayed}
 use Rattle.sn_opening.proofs.OpeningLemmas.{half_lies, same_depends, standing_depends}
 use Rattle.sn_sound.specs.Maps.{IsSoundRoot}
-use Rattle.sn_sound.proofs.StandingLemmas.{lies_in_data, root_same}
+use Rattle.sn_sound.proofs.StandingLemmas.{root_same}
 use Rattle.sn_held.specs.Images.{IsImage}
 
 -- ---- all of an image but the records of one half

@@ -1,12 +1,10 @@
 -- What a mount leaves that clears the place where the log goes on.
-use Rattle.std.proofs.Common.{◌≡◌, ◌⊎◌, inl, inr, ⊎_elim, ℕ, ◌+◌, ◌*◌, ◌^◌, ◌<◌, ◌≤◌, ◌==◌, ◌||◌, Bool, true, false, if◌then◌else◌, nat_le, List, [], ◌∷◌, ◌++◌, length, Result, slice_index, refl, sym, ap, subst, ◌∙◌, leb-false, arith}
+use Rattle.std.proofs.Common.{◌≡◌, inl, inr, ℕ, ◌+◌, ◌^◌, ◌<◌, ◌≤◌, ◌==◌, ◌||◌, Bool, true, false, if◌then◌else◌, nat_le, List, [], ◌∷◌, ◌++◌, Result, slice_index, refl, sym, ap, subst, ◌∙◌, leb-false, arith}
 use Rattle.sn_device.specs.Sectors.{Contents, AreSectors, Single}
-use Rattle.sn_device.specs.Disk.{Disk, Always, CrashNow, IsSynced, reads}
+use Rattle.sn_device.specs.Disk.{Disk, Always, IsSynced, reads}
 use Rattle.sn_device.specs.Crash.{LeavesOnly, Touches}
 use Rattle.sn_device.specs.declared.status.Status.{Status}
 use Rattle.sn_device.proofs.CrashLemmas.{Always-reads, Always-synced, LeavesOnly-now, LeavesOnly-weaker, Touches-within}
-use Rattle.sn_layout.specs.declared.places.Slot.{Slot}
-use Rattle.sn_layout.specs.declared.root.RootBody.{RootBody}
 use Rattle.sn_limits.specs.declared.limits.Limits.{Limits}
 use Rattle.sn_layout.specs.Superblock.{superblock_bytes}
 use Rattle.sn_limits.specs.Versions.{version_1}
@@ -20,7 +18,7 @@ use Rattle.sn_ondisk.proofs.PlaceLemmas.{halves_apart}
 use Rattle.sn_ondisk.specs.Trees.{Store, store_of}
 use Rattle.sn_ondisk.proofs.OneLemmas.{epoch_is}
 use Rattle.sn_log.specs.Clearing.{Clears}
-use Rattle.sn_log.specs.Places.{LogPosition, IsReadyAt, base_at, payloads_of}
+use Rattle.sn_log.specs.Places.{LogPosition, base_at, payloads_of}
 use Rattle.sn_image.specs.Image.{image}
 use Rattle.sn_image.proofs.SoundNodeLemmas.{only_version}
 use Rattle.sn_opening.specs.Covering.{MakesCover}

@@ -1,14 +1,11 @@
 -- Replay of two epochs, one behind the other.
-use Rattle.std.proofs.Common.{◌≡◌, ◌⊎◌, inl, inr, ℕ, ◌+◌, Ok, Err, refl, sym, ap, subst, ◌∙◌}
+use Rattle.std.proofs.Common.{ℕ, ◌+◌, Err}
 use Rattle.sn_device.specs.Sectors.{Contents}
-use Rattle.sn_block.specs.Counts.{IsLater}
-use Rattle.sn_device.specs.declared.status.Status.{Status}
 use Rattle.sn_model.specs.declared.mount.MountFault.{MountFault}
 use Rattle.sn_model.specs.declared.mount.MountFault.TheVariants as fault
 use Rattle.sn_model.specs.Tree.{Tree}
 use Rattle.sn_log.specs.Places.{LogPosition}
-use Rattle.sn_mount.specs.Both.{HasBoth, Replays, ReplaysBoth, in_newer, in_older}
-use Rattle.sn_mount.specs.Failing.{WritesNothing}
+use Rattle.sn_mount.specs.Both.{Replays, ReplaysBoth, in_newer, in_older}
 use Rattle.sn_mount.specs.Replaying.{Breaks}
 
 -- a failure in the first, and in the second

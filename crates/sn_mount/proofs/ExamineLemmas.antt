@@ -1,17 +1,13 @@
 -- What the parts of a disk that are read first say of it.
-use Rattle.std.proofs.Common.{◌≡◌, ◌⊎◌, inl, inr, ℕ, ◌+◌, ◌*◌, ◌<◌, ◌≤◌, Result, Ok, Err, MatchBool, IsTrue, refl, sym, ap, subst, ◌∙◌, arith}
+use Rattle.std.proofs.Common.{ℕ, Err, refl}
 use Rattle.sn_device.specs.Sectors.{Contents}
-use Rattle.sn_device.specs.declared.status.Status.{Status}
-use Rattle.sn_layout.specs.declared.places.LogHalf.{LogHalf}
 use Rattle.sn_layout.specs.declared.places.LogHalf.TheVariants.{Zero, One}
-use Rattle.sn_block.proofs.CountLemmas.{later-read}
-use Rattle.sn_block.specs.Counts.{CountsRead, IsLater}
 use Rattle.sn_block.specs.declared.fault.ReadFault.TheVariants as read
 use Rattle.sn_model.specs.declared.mount.MountFault.{MountFault}
 use Rattle.sn_model.specs.declared.mount.MountFault.TheVariants as fault
 use Rattle.sn_ondisk.specs.LogHalf.{HasNoLater, base_of}
 use Rattle.sn_log.specs.Places.{half_base}
-use Rattle.sn_root.specs.Finding.{CountsFinding, Finds}
+use Rattle.sn_root.specs.Finding.{Finds}
 use Rattle.sn_root.specs.declared.fault.RootFault.{RootFault}
 use Rattle.sn_root.specs.declared.fault.RootFault.TheVariants as root
 use Rattle.sn_sound.specs.Verdicts.{IsSomeSize}

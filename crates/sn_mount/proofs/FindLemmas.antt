@@ -1,14 +1,12 @@
 -- What a mount finds on an image, and why it finds none elsewhere.
-use Rattle.std.proofs.Common.{◌≡◌, ◌⊎◌, inl, inr, ℕ, zero, ◌+◌, ◌*◌, ◌^◌, ◌<◌, ◌≤◌, List, [], ◌∷◌, ◌++◌, length, map as map_list, Contains, Option, Some, None, Result, Ok, Err, refl, sym, ap, subst, ◌∙◌, arith}
-use Rattle.std.specs.FinMap as map
+use Rattle.std.proofs.Common.{◌≡◌, ℕ, ◌+◌, ◌*◌, ◌≤◌, ◌++◌, length, Option, Some, None, Err, refl, sym, ap, subst, ◌∙◌}
 use Rattle.sn_device.specs.Sectors.{Contents}
 use Rattle.sn_limits.specs.declared.limits.Limits.{Limits}
 use Rattle.sn_limits.specs.Versions.{version_1}
 use Rattle.sn_layout.specs.declared.places.Slot.{Slot}
 use Rattle.sn_layout.specs.declared.root.RootBody.{RootBody}
-use Rattle.sn_model.specs.declared.change.Change.{Change}
 use Rattle.sn_model.specs.declared.mount.Damage.{Damage}
-use Rattle.sn_model.specs.declared.mount.Damage.TheVariants.{Log, Misspelt}
+use Rattle.sn_model.specs.declared.mount.Damage.TheVariants.{Log}
 use Rattle.sn_model.specs.declared.mount.MountFault.{MountFault}
 use Rattle.sn_model.specs.declared.mount.MountFault.TheVariants as fault
 use Rattle.sn_model.specs.Chains.{◌>>=◌}
@@ -16,11 +14,11 @@ use Rattle.sn_model.specs.Changes.{apply_all}
 use Rattle.sn_model.specs.Tree.{Tree}
 use Rattle.sn_model.specs.World.{World}
 use Rattle.sn_model.proofs.ListLemmas.{lists_join}
-use Rattle.sn_ondisk.specs.LogHalf.{HasNoLater, Replays as ReplaysPayloads, ReplaysTo, base_of}
+use Rattle.sn_ondisk.specs.LogHalf.{HasNoLater, Replays as ReplaysPayloads, base_of}
 use Rattle.sn_ondisk.specs.Roots.{IsNewest}
 use Rattle.sn_ondisk.specs.Trees.{store_of}
 use Rattle.sn_ondisk.proofs.OneRootLemmas.{newest_is_one}
-use Rattle.sn_log.specs.Places.{LogPosition, base_at, payloads_of}
+use Rattle.sn_log.specs.Places.{LogPosition, payloads_of}
 use Rattle.sn_image.specs.Image.{image}
 use Rattle.sn_image.proofs.SoundNodeLemmas.{only_version}
 use Rattle.sn_opening.proofs.OpeningLemmas.{half_lies}
@@ -29,7 +27,7 @@ use Rattle.sn_sound.specs.Logs.{AreReplayed, BreaksAt, IsLogFault, later, newer,
 use Rattle.sn_sound.specs.Maps.{free_blocks}
 use Rattle.sn_sound.proofs.DiskLemmas.{never_breaks, one_size, replayed_once}
 use Rattle.sn_held.specs.Images.{IsImage}
-use Rattle.sn_mount.specs.Both.{BreaksBoth, HasBoth, Replays, ReplaysBoth, in_newer, in_older}
+use Rattle.sn_mount.specs.Both.{BreaksBoth, Replays, ReplaysBoth, in_newer, in_older}
 use Rattle.sn_mount.specs.Examining.{SomeIsLater}
 use Rattle.sn_mount.specs.Finding.{IsOfTree}
 use Rattle.sn_mount.specs.Refusing.{HasLogFault, IsNoImage, Refuses}

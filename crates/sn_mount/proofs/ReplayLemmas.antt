@@ -1,6 +1,5 @@
 -- What replay has made of a tree, record by record.
-use Rattle.std.proofs.Common.{◌≡◌, ◌⊎◌, inl, inr, ℕ, ◌+◌, ◌/◌, ◌<◌, Bool, true, false, List, [], ◌∷◌, ◌++◌, Option, Some, None, Result, Ok, Err, MatchBool, refl, sym, ap, subst, ◌∙◌, arith}
-use Rattle.std.specs.Prelude.{IsTrue}
+use Rattle.std.proofs.Common.{◌≡◌, inl, inr, ℕ, ◌+◌, ◌/◌, Bool, true, false, [], ◌∷◌, ◌++◌, Some, None, Result, Ok, Err, MatchBool, refl, ap, ◌∙◌, arith}
 use Rattle.sn_device.specs.Sectors.{Contents}
 use Rattle.sn_device.specs.declared.status.Status.{Status}
 use Rattle.sn_device.specs.Status.{has_ended}

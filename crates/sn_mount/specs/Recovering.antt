@@ -1,7 +1,7 @@
 -- What a mount makes of a disk.
 use Rattle.std.specs.Prelude.{◌≡◌, ◌⊎◌, ℕ, Bool, Result, Ok, Err}
 use Rattle.std.specs.FinMap as map
-use Rattle.sn_device.specs.Sectors.{AreSectors, Single}
+use Rattle.sn_device.specs.Sectors.{Single}
 use Rattle.sn_device.specs.Disk.{Disk, IsSynced, reads}
 use Rattle.sn_device.specs.Crash.{LeavesOnly, Touches}
 use Rattle.sn_device.specs.declared.status.Status.{Status}

@@ -1,5 +1,5 @@
 -- Why a disk isn't mounted.
-use Rattle.std.specs.Prelude.{◌≡◌, ℕ, ◌+◌, Result, IfErr}
+use Rattle.std.specs.Prelude.{ℕ, Result, IfErr}
 use Rattle.sn_device.specs.Sectors.{Contents}
 use Rattle.sn_layout.specs.declared.places.Slot.{Slot}
 use Rattle.sn_layout.specs.declared.root.RootBody.{RootBody}

@@ -1,4 +1,4 @@
-use Rattle.std.proofs.Common.{◌≡◌, ◌*◌, ◌<◌, ◌≤◌, ℕ, sym, ap, ◌∙◌, arith}
+use Rattle.std.proofs.Common.{◌≡◌, sym, ap, ◌∙◌, arith}
 use Rattle.sn_layout.specs.declared.superblock.Superblock.{Superblock}
 use Rattle.sn_model.proofs.ChainLemmas.{some_same}
 use Rattle.sn_mount.proofs.examining.disk_size.Goals as goal

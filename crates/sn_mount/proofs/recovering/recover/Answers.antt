@@ -1,23 +1,19 @@
-use Rattle.std.proofs.Common.{◌≡◌, ◌*◌, ◌≤◌, ℕ, inl, inr, Err, length, refl, sym, ap, subst, ◌∙◌}
-use Rattle.sn_device.specs.Sectors.{Contents}
-use Rattle.sn_device.specs.Crash.{Touches}
+use Rattle.std.proofs.Common.{◌≡◌, ◌≤◌, ℕ, inr, length, sym, ap, subst, ◌∙◌}
 use Rattle.sn_device.specs.Disk.{Disk, reads}
-use Rattle.sn_device.specs.declared.status.Status.{Status}
-use Rattle.sn_block.specs.Effects.{Nowhere}
 use Rattle.sn_block.specs.Lending.{device_of}
 use Rattle.sn_core.specs.Plain.{world_of}
 use Rattle.sn_layout.specs.Places.{half_of_epoch}
 use Rattle.sn_limits.specs.Versions.{version_1}
 use Rattle.sn_model.specs.declared.mount.MountFault.{MountFault}
 use Rattle.sn_model.specs.Settling.{settle}
-use Rattle.sn_model.specs.World.{World, new_world}
+use Rattle.sn_model.specs.World.{new_world}
 use Rattle.sn_model.specs.Worlds.{IsWorld}
 use Rattle.sn_model.proofs.MachineLemmas.{settle_tree}
 use Rattle.sn_model.proofs.WorldLemmas.{new_is_world}
 use Rattle.sn_log.specs.Clearing.{Clears}
 use Rattle.sn_log.specs.Places.{base_at, half_base}
 use Rattle.sn_mount.specs.Finding.{HasFound}
-use Rattle.sn_mount.specs.Recovering.{OfImage, KeepsTheWorld, WritesAtFault}
+use Rattle.sn_mount.specs.Recovering.{WritesAtFault}
 use Rattle.sn_mount.specs.Refusing.{Refuses}
 use Rattle.sn_mount.proofs.RecoverLemmas.{leaves, one_gate, read_refuses, read_writes, recovered}
 use Rattle.sn_mount.proofs.recovering.recover.Goals as goal

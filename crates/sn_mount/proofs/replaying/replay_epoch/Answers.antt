@@ -1,7 +1,7 @@
-use Rattle.std.proofs.Common.{◌≡◌, ℕ, ◌+◌, ◌-◌, ◌<◌, ◌≤◌, Bool, true, false, if◌then◌else◌, refl, sym, ap, subst, ◌∙◌, arith}
+use Rattle.std.proofs.Common.{◌≡◌, ℕ, ◌+◌, ◌-◌, ◌<◌, ◌≤◌, Bool, true, false, if◌then◌else◌, refl, sym, ap, subst, arith}
 use Rattle.sn_device.specs.Disk.{reads}
 use Rattle.sn_block.specs.Lending.{device_of}
-use Rattle.sn_log.specs.Places.{LogPosition, first_of}
+use Rattle.sn_log.specs.Places.{LogPosition}
 use Rattle.sn_core.specs.Plain.{world_of}
 use Rattle.sn_mount.specs.Replaying.{HasReplayed}
 use Rattle.sn_mount.proofs.ReplayLemmas.{starts}

@@ -1,4 +1,4 @@
-use Rattle.std.proofs.Common.{◌≡◌, ◌+◌, ◌/◌, ◌++◌, ◌∷◌, [], Some, refl, sym, ap, subst, ◌∙◌}
+use Rattle.std.proofs.Common.{◌+◌, ◌/◌, ◌++◌, ◌∷◌, [], Some, refl, sym, ap, subst, ◌∙◌}
 use Rattle.sn_device.specs.Disk.{reads}
 use Rattle.sn_limits.specs.Versions.{version_1}
 use Rattle.sn_model.specs.World.{World}
@@ -7,7 +7,6 @@ use Rattle.sn_block.specs.Lending.{device_of}
 use Rattle.sn_log.specs.Places.{LogPosition, IsBehind, base_at}
 use Rattle.sn_log.specs.Replaying.{Finds, changes_in, position_after}
 use Rattle.sn_log.specs.declared.replay.Found.{Found}
-use Rattle.sn_log.specs.declared.replay.Found.TheVariants.{Change, Misspelt}
 use Rattle.sn_core.specs.Plain.{world_of}
 use Rattle.sn_mount.specs.Replaying.{HasReplayed}
 use Rattle.sn_mount.proofs.ReplayLemmas.{inapplicable_breaks, misspelt_breaks, replayed_more}
