@@ -1,0 +1,120 @@
+//! A consistency point in progress.
+ghost use Rattle.std.specs.Prelude.{◌≡◌, ◌*◌, ◌≤◌, ◌↔◌, IsTrue, OnErr, OnOk, length, map};
+ghost use Rattle.sn_device.specs.Disk.{Disk, Always};
+ghost use Rattle.sn_root.specs.Slots.{gate_in};
+ghost use Rattle.sn_block.specs.Counts.{CountsCalls};
+ghost use Rattle.sn_block.specs.Lending.{device_of};
+ghost use Rattle.sn_cp.specs.Points.{first_stage, stage_of, work_of, written_by};
+ghost use Rattle.sn_cp.specs.Steps.{IsWhole, IsWithin, StandsAtStage, StepsTo, next_stage, syncs_of, writes_of};
+ghost use Rattle.sn_cp.specs.declared.stage.Stage.TheVariants.{Done};
+
+use crate::stage::Stage;
+use sn_block::Blocks;
+use sn_device::{Device, Fault};
+use sn_layout::{Gate, Places, RootBody, Slot};
+use sn_map::Map;
+use sn_tree::NewBlock;
+
+/// A consistency point that was built: all that it writes is in memory, so that a step neither reads nor takes memory.
+#[derive(Drop)]
+pub struct Point {
+    pub(crate) places: Places,
+    pub(crate) blocks: Vec<NewBlock>,
+    pub(crate) map: Map,
+    pub(crate) next: RootBody,
+    /// The slot that is replaced, and its gate as it was found.
+    pub(crate) slot: Slot,
+    pub(crate) gate: Gate,
+    pub(crate) stage: Stage,
+}
+
+impl Point {
+    /// A point that writes these blocks, these words of the map and this root, into a slot whose gate is so.
+    pub fn new(
+        places: Places,
+        blocks: Vec<NewBlock>,
+        words: Map,
+        next: RootBody,
+        slot: Slot,
+        gate: Gate,
+    ) -> Point
+        ensures work { work_of result ≡ record { blocks = places; slot = slot; gate = gate; plan = record { blocks = map written_by blocks.items; words = words; next = next } } }
+        ensures stage { stage_of result ≡ first_stage (length blocks.items) }
+        ensures within { IsWithin (work_of result) (stage_of result) }
+        ensures stands { (d : Disk) → Always d (λ c. gate_in c slot ≡ gate) → StandsAtStage (work_of result) (stage_of result) d }
+    {
+        let stage = if blocks.is_empty() {
+            Stage::MapBlocks(0)
+        } else {
+            Stage::Blocks(0)
+        };
+        Point {
+            places,
+            blocks,
+            map: words,
+            next,
+            slot,
+            gate,
+            stage,
+        }
+    }
+
+    /// How far it is.
+    pub fn stage(&self) -> Stage
+        ensures { result ≡ stage_of self.now }
+    {
+        self.stage
+    }
+
+    /// The stage behind a step.
+    fn following(&self) -> Stage
+        requires { IsWithin (work_of self.now) (stage_of self.now) }
+        ensures { result ≡ next_stage (work_of self.now) (stage_of self.now) }
+    {
+        match self.stage {
+            Stage::Blocks(k) if k + 1 < self.blocks.len() => Stage::Blocks(k + 1),
+            Stage::Blocks(_) => Stage::MapBlocks(0),
+            Stage::MapBlocks(k) if u64::from(k) + 1 < u64::from(self.places.map_blocks()) => {
+                Stage::MapBlocks(k + 1)
+            }
+            Stage::MapBlocks(_) => match self.gate {
+                Gate::Open => Stage::Stored,
+                Gate::Closed => Stage::Shut,
+            },
+            Stage::Stored => Stage::Shut,
+            Stage::Shut => Stage::Bodied,
+            Stage::Bodied | Stage::Done => Stage::Done,
+        }
+    }
+
+    /// Whether its root counts.
+    pub fn is_done(&self) -> bool
+        ensures { IsTrue result ↔ (stage_of self.now ≡ Done) }
+    {
+        self.stage == Stage::Done
+    }
+
+    /// Makes the next step, of at most eight sector writes and at least one. It reads nothing and takes no memory. After a
+    /// fault nothing may be written before the next mount.
+    pub fn advance<D: Device>(&mut self, blocks: &mut Blocks<D>) -> Result<(), Fault>
+        requires room { 8 * (work_of self.old).blocks ≤ (D.status (device_of blocks.old)).sectors }
+        requires whole { IsWhole (work_of self.old) }
+        requires within { IsWithin (work_of self.old) (stage_of self.old) }
+        requires stands { IsTrue D.tells_bytes → StandsAtStage (work_of self.old) (stage_of self.old) (D.disk (device_of blocks.old)) }
+        ensures bytes { IsTrue D.tells_bytes → StepsTo (work_of self.old) (stage_of self.old) result
+            (D.disk (device_of blocks.old)) (D.disk (device_of blocks.new)) }
+        ensures counts { CountsCalls (writes_of (work_of self.old) (stage_of self.old)) (syncs_of (work_of self.old) (stage_of self.old)) result
+            (D.status (device_of blocks.old)) (D.status (device_of blocks.new)) }
+        ensures same { work_of self.new ≡ work_of self.old }
+        ensures onward { OnOk result (stage_of self.new ≡ next_stage (work_of self.old) (stage_of self.old)) }
+        ensures stays { OnErr result (stage_of self.new ≡ stage_of self.old) }
+    {
+        match self.step(blocks) {
+            Ok(()) => {
+                self.stage = self.following();
+                Ok(())
+            }
+            Err(fault) => Err(fault),
+        }
+    }
+}

@@ -1,0 +1,18 @@
+//! How far a point is.
+
+/// How far a consistency point is. What stands unsynced may be torn by a crash; from `Stored` on nothing of it is.
+#[derive(Clone, Copy, PartialEq, Eq)]
+pub enum Stage {
+    /// So many of the new blocks are written.
+    Blocks(usize),
+    /// All are, and so many blocks of the map copy.
+    MapBlocks(u32),
+    /// All of these are synced.
+    Stored,
+    /// The slot's gate is closed, synced.
+    Shut,
+    /// The next root stands behind it, synced.
+    Bodied,
+    /// The gate is open, synced: the next root counts.
+    Done,
+}
