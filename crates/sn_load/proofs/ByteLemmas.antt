@@ -129,10 +129,20 @@ module _ (c : Contents) (sectors : ℕ) (are : AreSectors c) (count : length c �
       small : (a b : ℕ) → b ≤ a → min a (b - 0) ≡ b
       small a b le = omega (arith, le)
 
+pub content_most : (limits : Limits) (content : Content) → limits_of limits.version ≡ Some limits → IsContent limits File content → size_of content ≤ limits.largest_file
+content_most limits (Inline bytes) version is = let largest : 67108864 ≡ limits.largest_file = ap (λ (l : Limits). l.largest_file) (only_version limits version) in omega (arith, largest, is)
+content_most limits (Tree tree) version is = leb-true tree.size limits.largest_file (and_last _ _ is.1)
+
 -- ---- parts, one behind the other
 
 pub part_begun : (i given size parts : ℕ) → given ≡ size → parts ≡ div_ceil given 65536 → i < parts → i * 65536 ≤ size
 part_begun i given size parts is many under =
+    let bounds = div_ceil_times given 65536 (omega arith) in
+    let least : suc i * 65536 ≤ (given / 65536 + min 1 (given % 65536)) * 65536 = omega (arith, many, under) in
+    omega (arith, least, bounds.1, is)
+
+pub part_short : (i given size parts : ℕ) → given ≡ size → parts ≡ div_ceil given 65536 → i < parts → i * 65536 < size
+part_short i given size parts is many under =
     let bounds = div_ceil_times given 65536 (omega arith) in
     let least : suc i * 65536 ≤ (given / 65536 + min 1 (given % 65536)) * 65536 = omega (arith, many, under) in
     omega (arith, least, bounds.1, is)

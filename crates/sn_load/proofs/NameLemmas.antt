@@ -1,5 +1,5 @@
 -- Names, directory by directory.
-use Rattle.std.proofs.Common.{◌≡◌, ◌≢◌, ℕ, zero, suc, Bool, true, false, cond, List, [], ◌∷◌, ◌++◌, length, Some, None, refl, sym, ap, subst, ◌∙◌, ◌⊎◌, inl, inr, arith, Contains}
+use Rattle.std.proofs.Common.{◌≡◌, ◌≢◌, ℕ, zero, suc, Bool, true, false, cond, List, [], ◌∷◌, ◌++◌, length, Option, Some, None, is_some, refl, sym, ap, subst, ◌∙◌, ◌⊎◌, inl, inr, arith, Contains}
 use Rattle.std.specs.Cmp.{nat_cmp_total}
 use Rattle.std.specs.FinMap as map
 use Rattle.std.specs.List.Sorted.{IsPermutation}
@@ -45,7 +45,7 @@ no_member y (k, within, is) = omega (arith, within)
 
 -- ---- names that are added
 
-one_of : {A : Type 0} (x y : A) → Contains (x ∷ []) y → y ≡ x
+pub one_of : {A : Type 0} (x y : A) → Contains (x ∷ []) y → y ≡ x
 one_of x y among = told (first_or x [] y among)
   where
     told : (y ≡ x) ⊎ Contains [] y → y ≡ x
@@ -230,3 +230,7 @@ loading_popped s file directory before after tree popped loading = record {
 pub empty_of : (ns : List ℕ) → length ns ≡ 0 → ns ≡ []
 empty_of [] e = refl
 empty_of (n ∷ ns) e = absurd (omega (arith, e))
+
+pub absent_of : {A : Type 0} (o : Option A) → is_some o ≡ false → o ≡ None
+absent_of None e = refl
+absent_of (Some x) e = absurd (true≢false e)

@@ -1,6 +1,6 @@
 -- The root directory, which is there first.
-use Rattle.std.proofs.Common.{◌≡◌, ◌≢◌, ℕ, ◌/◌, ◌<◌, ◌≤◌, ◌&&◌, Bool, true, false, nat_lt, [], ◌∷◌, Some, None, refl, sym, ap, subst, ◌∙◌, ◌⊎◌, inl, inr, arith, leb-true, cond}
-use Rattle.std.specs.Prelude.{nat_le}
+use Rattle.std.proofs.Common.{◌≡◌, ◌≢◌, ℕ, ◌/◌, ◌<◌, ◌≤◌, ◌&&◌, Bool, true, false, nat_lt, [], ◌∷◌, Option, Some, None, refl, sym, ap, subst, ◌∙◌, ◌⊎◌, inl, inr, arith, leb-true, cond}
+use Rattle.std.specs.Prelude.{IsSomeAnd, nat_le}
 use Rattle.std.specs.Cmp.{nat_cmp_total}
 use Rattle.std.specs.FinMap as map
 use Rattle.std.specs.Option.{option_map}
@@ -27,6 +27,7 @@ use Rattle.sn_image.specs.Inodes.{inode_at, inode_of, is_number, record_at}
 use Rattle.sn_image.proofs.SoundNodeLemmas.{only_version}
 use Rattle.sn_load.specs.Loading.{HasFiles}
 use Rattle.sn_load.specs.Steps.{Puts}
+use Rattle.sn_load.proofs.NameLemmas.{one_of}
 use Rattle.sn_load.proofs.StepLemmas.{directory_made, node_is, put_puts}
 
 -- the least number of a node is the root's
@@ -61,6 +62,8 @@ root_begun s file inode o after found kind owner puts = record {
   files = λ n x under e k. absurd (no_file n x under e k);
   noted = λ n x under e k. (0, omega arith, let least = number_least s file n x e in omega (arith, under, least));
   unnamed = λ l. ap (λ links. map.get links l) puts.links ∙ map.get-empty link_cmp l;
+  below = λ n x e. let q = is_root n x e (same_or_apart nat_cmp_total exact_unsigned n 2) in omega (arith, q);
+  directories = λ n among. subst (λ (m : ℕ). IsSomeAnd (node_at s file m) (λ x. x.kind ≡ Directory)) (sym (one_of 2 n among)) (subst (λ (v : Option Node). IsSomeAnd v (λ x. x.kind ≡ Directory)) (sym at) refl);
 }
   where
     node : Node

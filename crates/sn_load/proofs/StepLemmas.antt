@@ -1,11 +1,11 @@
 -- Files and noted directories, number by number.
 use Rattle.std.proofs.Common.{◌≡◌, ◌≢◌, ℕ, ◌+◌, ◌<◌, ◌≤◌, Bool, IsTrue, List, [], ◌∷◌, ◌++◌, Option, Some, None, Result, Ok, Err, refl, sym, ap, subst, ◌∙◌, ◌⊎◌, inl, inr, arith, Contains}
-use Rattle.std.specs.Prelude.{OnOk}
+use Rattle.std.specs.Prelude.{IsSomeAnd, OnOk}
 use Rattle.std.specs.Option.{option_map}
 use Rattle.std.specs.Cmp.{nat_cmp_total}
 use Rattle.std.specs.FinMap as map
 use Rattle.std.proofs.lemmas.Bool.{cases_lt}
-use Rattle.std.proofs.lemmas.List.Elements.{Contains-append_left, Contains-append_right}
+use Rattle.std.proofs.lemmas.List.Elements.{Contains-append_cases, Contains-append_left, Contains-append_right}
 use Rattle.std.proofs.lemmas.Map.Lookups.{exact_unsigned}
 use Rattle.sn_acl.specs.declared.entries.Entry.{Entry}
 use Rattle.sn_layout_acl.specs.AclBlock.{joined}
@@ -37,6 +37,7 @@ use Rattle.sn_tree_read.specs.Reads.{IsPart, IsOutside}
 use Rattle.sn_tree_read.specs.declared.fault.TreeFault.{TreeFault}
 use Rattle.sn_load.specs.Loading.{HasFiles}
 use Rattle.sn_load.specs.Steps.{LoadsKind, LoadsNumber, Puts, WritesPart, applied}
+use Rattle.sn_load.proofs.NameLemmas.{one_of}
 use Rattle.sn_load.proofs.ByteLemmas.{no_part, none_outside, outside_joined, parts_joined, written_behind}
 
 -- ---- the device
@@ -57,6 +58,12 @@ pub at_start : (tells : Bool) (old new : Status) (before now : Disk) → Stays t
 at_start tells old new before now stays P told h =
     subst (λ (s : Status). P s.sectors (store_of (reads before))) stays.status
     (subst (λ (d : Disk). P new.sectors (store_of (reads d))) (stays.same told) h)
+
+-- and what held at the start holds now
+pub at_now : (tells : Bool) (old new : Status) (before now : Disk) → Stays tells old new before now → (P : ℕ → Store → Type 0) → IsTrue tells → P old.sectors (store_of (reads before)) → P new.sectors (store_of (reads now))
+at_now tells old new before now stays P told h =
+    subst (λ (s : Status). P s.sectors (store_of (reads now))) (sym stays.status)
+    (subst (λ (d : Disk). P old.sectors (store_of (reads d))) (sym (stays.same told)) h)
 
 -- ---- nodes that are put
 
@@ -143,8 +150,9 @@ below_next number next under = told (cases_lt number next)
 
 module _ (s : Store) (file : BlockTree) (next : ℕ) (noted after : List ℕ) (old new : Tree) (two : 2 < next) (h : HasFiles s file next noted old) where
   -- nothing was put, and some are noted
-  files_same : new ≡ old → ((n : ℕ) → Contains noted n → Contains after n) → ((node : Node) → node_at s file next ≡ Some node → node.kind ≡ Directory) → ((node : Node) → node_at s file next ≡ Some node → Contains after next) → HasFiles s file (next + 1) after new
-  files_same same more kind here = subst (HasFiles s file (next + 1) after) (sym same) (record {
+  files_same : new ≡ old → ((n : ℕ) → Contains noted n → Contains after n) → ((node : Node) → node_at s file next ≡ Some node → node.kind ≡ Directory) → ((node : Node) → node_at s file next ≡ Some node → Contains after next)
+      → ((n : ℕ) → Contains after n → IsSomeAnd (node_at s file n) (λ node. node.kind ≡ Directory)) → HasFiles s file (next + 1) after new
+  files_same same more kind here all = subst (HasFiles s file (next + 1) after) (sym same) (record {
     nodes = h.nodes;
     root = h.root;
     is_directory = h.is_directory;
@@ -152,6 +160,8 @@ module _ (s : Store) (file : BlockTree) (next : ℕ) (noted after : List ℕ) (o
     files = λ n node under e is. by_file n node (below_next n next under) e is;
     noted = λ n node under e is. by_directory n node (below_next n next under) e is;
     unnamed = h.unnamed;
+    below = λ n node e. let under = h.below n node e in omega (arith, under);
+    directories = all;
   })
     where
       by_file : (n : ℕ) (node : Node) → (n < next) ⊎ (n ≡ next) → node_at s file n ≡ Some node → node.kind ≡ File → map.get old.nodes n ≡ Some node
@@ -172,6 +182,8 @@ module _ (s : Store) (file : BlockTree) (next : ℕ) (noted after : List ℕ) (o
     files = λ n x under e k. at_files n x under e k (same_or_apart nat_cmp_total exact_unsigned n next);
     noted = λ n x under e k. at_noted n x (below_next n next under) e k;
     unnamed = λ link. ap (λ links. map.get links link) puts.links ∙ h.unnamed link;
+    below = λ n x e. at_below n x e (same_or_apart nat_cmp_total exact_unsigned n next);
+    directories = h.directories;
   })
     where
       node_here : (n : ℕ) (x : Node) → map.get new.nodes n ≡ Some x → n ≡ next → x ≡ node
@@ -189,6 +201,10 @@ module _ (s : Store) (file : BlockTree) (next : ℕ) (noted after : List ℕ) (o
       at_files n x under e k (inl q) = ap (map.get new.nodes) q ∙ puts.there ∙ sym at ∙ ap (node_at s file) (sym q) ∙ e
       at_files n x under e k (inr apart) = puts.others n apart ∙ h.files n x (omega (arith, under, apart)) e k
 
+      at_below : (n : ℕ) (x : Node) → map.get new.nodes n ≡ Some x → (n ≡ next) ⊎ (n ≢ next) → n < next + 1
+      at_below n x e (inl q) = omega (arith, q)
+      at_below n x e (inr apart) = let under = h.below n x (sym (puts.others n apart) ∙ e) in omega (arith, under)
+
       at_noted : (n : ℕ) (x : Node) → (n < next) ⊎ (n ≡ next) → node_at s file n ≡ Some x → x.kind ≡ Directory → Contains noted n
       at_noted n x (inl low) e k = h.noted n x low e k
       at_noted n x (inr q) e k = let both : Some x ≡ Some node = sym e ∙ ap (node_at s file) q ∙ at in let one : x ≡ node = cc in let never : File ≡ Directory = sym is ∙ ap (λ (y : Node). y.kind) (sym one) ∙ k in absurd cc
@@ -199,9 +215,15 @@ module _ (s : Store) (file : BlockTree) (next : ℕ) (noted after : List ℕ) (o
       let here : Contains after next = subst (λ (ns : List ℕ). Contains ns next) (sym loads.1) (Contains-append_right noted (next ∷ []) next (0, omega arith, refl)) in
       files_same loads.0 (λ n among. subst (λ (ns : List ℕ). Contains ns n) (sym loads.1) (Contains-append_left noted (next ∷ []) n among))
       (λ x e. let both : Some x ≡ Some node = sym e ∙ at in let one : x ≡ node = cc in ap (λ (y : Node). y.kind) one ∙ is) (λ x e. here)
+      (λ n among. noted_or n (Contains-append_cases noted (next ∷ []) n (subst (λ (ns : List ℕ). Contains ns n) loads.1 among)))
+    where
+      noted_or : (n : ℕ) → Contains noted n ⊎ Contains (next ∷ []) n → IsSomeAnd (node_at s file n) (λ x. x.kind ≡ Directory)
+      noted_or n (inl before) = h.directories n before
+      noted_or n (inr last) = subst (λ (m : ℕ). IsSomeAnd (node_at s file m) (λ x. x.kind ≡ Directory)) (sym (one_of next n last)) (subst (λ (o : Option Node). IsSomeAnd o (λ x. x.kind ≡ Directory)) (sym at) is)
 
   by_node : (o : Option Node) → node_at s file next ≡ o → LoadsNumber o next old new noted after → HasFiles s file (next + 1) after new
   by_node None at loads = files_same loads.0 (λ n among. subst (λ (ns : List ℕ). Contains ns n) (sym loads.1) among) (λ x e. let never : None ≡ Some x = sym at ∙ e in absurd cc) (λ x e. let never : None ≡ Some x = sym at ∙ e in absurd cc)
+      (λ n among. h.directories n (subst (λ (ns : List ℕ). Contains ns n) loads.1 among))
   by_node (Some node) at loads = by_kind node node.kind refl at loads
 
   pub files_more : LoadsNumber (node_at s file next) next old new noted after → HasFiles s file (next + 1) after new

@@ -1,5 +1,5 @@
 -- How much of an image a tree in memory has while it is loaded.
-use Rattle.std.specs.Prelude.{◌≡◌, ◌⊎◌, ℕ, ◌<◌, List, None, Some, Contains}
+use Rattle.std.specs.Prelude.{◌≡◌, ◌⊎◌, ℕ, ◌<◌, List, None, Some, IsSomeAnd, Contains}
 use Rattle.std.specs.FinMap as map
 use Rattle.sn_layout.specs.declared.tree.BlockTree.{BlockTree}
 use Rattle.sn_layout_node.specs.Directory.{number_of}
@@ -31,6 +31,8 @@ pub record HasFiles (s : Store) (file : BlockTree) (next : ℕ) (listed : List �
   pub files : (number : ℕ) (node : Node) → number < next → node_at s file number ≡ Some node → node.kind ≡ File → map.get tree.nodes number ≡ Some node
   pub noted : (number : ℕ) (node : Node) → number < next → node_at s file number ≡ Some node → node.kind ≡ Directory → Contains listed number
   pub unnamed : (link : Link) → map.get tree.links link ≡ None
+  pub below : (number : ℕ) (node : Node) → map.get tree.nodes number ≡ Some node → number < next
+  pub directories : (number : ℕ) → Contains listed number → IsSomeAnd (node_at s file number) (λ node. node.kind ≡ Directory)
 
 -- All files are there, and each directory that is there has all its names, but for those that are pending yet.
 pub record IsPart (s : Store) (file : BlockTree) (pending : List ℕ) (tree : Tree) : Type 0 where

@@ -1,6 +1,7 @@
 -- What one call of a loader makes of a tree in memory.
 use Rattle.std.specs.Prelude.{◌≡◌, ◌≢◌, ◌⊎◌, ℕ, List, [], ◌∷◌, ◌++◌, Option, None, Some, Result, Ok, Err, Contains}
 use Rattle.std.specs.FinMap as map
+use Rattle.std.specs.Ordering.{nat_cmp}
 use Rattle.sn_block.specs.declared.fault.ReadFault.TheVariants as read
 use Rattle.sn_layout_node.specs.Directory.{Link as Name}
 use Rattle.sn_limits.specs.declared.kind.Kind.{Kind}
@@ -45,6 +46,17 @@ pub record AddsNames (directory : ℕ) (names : List Name) (old new : map.FinMap
   pub there : (name : Name) → Contains names name → map.get new (link_to directory name.name) ≡ Some name.number
   pub kept : (link : Link) (number : ℕ) → map.get old link ≡ Some number → map.get new link ≡ Some number
   pub only : (link : Link) (number : ℕ) → map.get new link ≡ Some number → (map.get old link ≡ Some number) ⊎ ((link.directory ≡ directory) × Contains names (record { number = number; name = link.name }))
+
+-- A directory is made under a number, and is pending.
+pub record MakesDirectory (number : ℕ) (old new : map.FinMap nat_cmp Node) (pending after : List ℕ) : Type 0 where
+  pub node : Node
+  pub kind : node.kind ≡ Directory
+  pub makes : new ≡ map.insert old number node
+  pub pends : after ≡ pending ++ number ∷ []
+
+-- No node is new and none more is pending, or it is a directory under this number, which none had.
+abbrev pub MakesAtMost : ℕ → (old new : map.FinMap nat_cmp Node) → (pending after : List ℕ) → Type 0
+MakesAtMost number old new pending after = ((new ≡ old) × (after ≡ pending)) ⊎ ((map.get old number ≡ None) × MakesDirectory number old new pending after)
 
 -- A part of a content is written over what a file has from an offset on: 65,536 bytes, or as many as there are, in blocks that lie on a device of so many sectors.
 pub record WritesPart (sectors : ℕ) (s : Store) (content : Content) (number offset : ℕ) (old new : Tree) : Type 0 where

@@ -1,5 +1,6 @@
 //! Directories, which get their names.
-ghost use Rattle.std.specs.Prelude.{[], ◌∷◌, ◌≡◌, ℕ, Some, map, IsTrue, IfOk, OnOk, length};
+ghost use Rattle.std.specs.Prelude.{[], ◌∷◌, ◌≡◌, ℕ, ◌+◌, ◌≤◌, ⊤, None, Some, Err, map, Contains, IsTrue, IfOk, OnOk, length};
+ghost use Rattle.std.specs.FinMap as fin;
 ghost use Rattle.std.specs.List.Sorted.{IsPermutation};
 ghost use Rattle.sn_device.specs.Disk.{reads};
 ghost use Rattle.sn_block.specs.Lending.{device_of};
@@ -8,11 +9,14 @@ ghost use Rattle.sn_layout_node.specs.declared.content.Content.TheVariants.{Tree
 ghost use Rattle.sn_model.specs.NameTree.{IsTree};
 ghost use Rattle.sn_model.specs.Tree.{link_to};
 ghost use Rattle.sn_plain.specs.Plain.{tree_of};
-ghost use Rattle.sn_image.specs.Names.{names_of};
+ghost use Rattle.sn_image.specs.Names.{names_at, names_of};
+ghost use Rattle.sn_dir.specs.Blocks.{IsDamaged};
 ghost use Rattle.sn_dir.specs.Listed.{link_of};
 ghost use Rattle.sn_tree_read.specs.Counts.{CountsTree};
 ghost use Rattle.sn_load.specs.Loading.{IsLoading, IsPart};
-ghost use Rattle.sn_load.specs.Steps.{AddsNames};
+ghost use Rattle.sn_tree_read.specs.declared.fault.TreeFault.TheVariants.{Damaged};
+ghost use Rattle.sn_load.specs.Sound.{HasNoNames, IsFilling, IsOpen, IsSoundOn};
+ghost use Rattle.sn_load.specs.Steps.{AddsNames, MakesAtMost, MakesDirectory};
 
 use crate::files::note;
 use crate::owners::{applied, directory_at, ownership};
@@ -44,6 +48,13 @@ fn make_directory<D: Device>(
     ensures names { OnOk result (AddsNames link.directory (record { number = number; name = link.name } ∷ [])
         (tree_of tree.old).links (tree_of tree.new).links) }
     ensures whole { OnOk result (IsTree limits.now (tree_of tree.old) → IsTree limits.now (tree_of tree.new)) }
+    ensures nodes { OnOk result (MakesDirectory number (tree_of tree.old).nodes (tree_of tree.new).nodes pending.old.items pending.new.items) }
+    ensures damaged { IsTrue D.tells_bytes → result ≡ Err Damaged → IsSoundOn limits.now (D.status (device_of blocks.old)).sectors
+        (store_of (reads (D.disk (device_of blocks.old)))) file.now
+        → (done : ℕ) → IsFilling limits.now (store_of (reads (D.disk (device_of blocks.old))))
+        file.now done link.directory pending.old.items (tree_of tree.old)
+        → Contains (names_at (store_of (reads (D.disk (device_of blocks.old)))) file.now link.directory) (record { number = number; name = link.name })
+        → fin.get (tree_of tree.old).links link ≡ None → fin.get (tree_of tree.old).nodes number ≡ None → ⊥ }
     ensures same { IsTrue D.tells_bytes → D.disk (device_of blocks.new) ≡ D.disk (device_of blocks.old) }
     ensures counts { CountsTree result (D.status (device_of blocks.old)) (D.status (device_of blocks.new)) }
 {
@@ -71,6 +82,13 @@ fn add_name<D: Device>(
     ensures names { OnOk result (AddsNames directory (link_of name.now ∷ [])
         (tree_of tree.old).links (tree_of tree.new).links) }
     ensures whole { OnOk result (IsTree limits.now (tree_of tree.old) → IsTree limits.now (tree_of tree.new)) }
+    ensures nodes { OnOk result (MakesAtMost name.now.number (tree_of tree.old).nodes (tree_of tree.new).nodes pending.old.items pending.new.items) }
+    ensures damaged { IsTrue D.tells_bytes → result ≡ Err Damaged → IsSoundOn limits.now (D.status (device_of blocks.old)).sectors
+        (store_of (reads (D.disk (device_of blocks.old)))) file.now
+        → (done : ℕ) → IsFilling limits.now (store_of (reads (D.disk (device_of blocks.old))))
+        file.now done directory pending.old.items (tree_of tree.old)
+        → Contains (names_at (store_of (reads (D.disk (device_of blocks.old)))) file.now directory) (link_of name.now)
+        → fin.get (tree_of tree.old).links (link_to directory name.now.name) ≡ None → ⊥ }
     ensures same { IsTrue D.tells_bytes → D.disk (device_of blocks.new) ≡ D.disk (device_of blocks.old) }
     ensures counts { CountsTree result (D.status (device_of blocks.old)) (D.status (device_of blocks.new)) }
 {
@@ -109,6 +127,17 @@ fn add_names<D: Device>(
     ensures names { OnOk result (AddsNames directory (map link_of names.now)
         (tree_of tree.old).links (tree_of tree.new).links) }
     ensures whole { OnOk result (IsTree limits.now (tree_of tree.old) → IsTree limits.now (tree_of tree.new)) }
+    ensures filling { IsTrue D.tells_bytes → OnOk result (IsSoundOn limits.now (D.status (device_of blocks.old)).sectors
+        (store_of (reads (D.disk (device_of blocks.old)))) file.now
+        → (done : ℕ) → IsFilling limits.now (store_of (reads (D.disk (device_of blocks.old))))
+        file.now done directory pending.old.items (tree_of tree.old)
+        → HasNoNames (tree_of tree.old) directory → IsPermutation (names_at (store_of (reads (D.disk (device_of blocks.old)))) file.now directory) (map link_of names.now)
+        → IsFilling limits.now (store_of (reads (D.disk (device_of blocks.old)))) file.now done directory pending.new.items (tree_of tree.new)) }
+    ensures damaged { IsTrue D.tells_bytes → result ≡ Err Damaged → IsSoundOn limits.now (D.status (device_of blocks.old)).sectors
+        (store_of (reads (D.disk (device_of blocks.old)))) file.now
+        → (done : ℕ) → IsFilling limits.now (store_of (reads (D.disk (device_of blocks.old))))
+        file.now done directory pending.old.items (tree_of tree.old)
+        → HasNoNames (tree_of tree.old) directory → IsPermutation (names_at (store_of (reads (D.disk (device_of blocks.old)))) file.now directory) (map link_of names.now) → ⊥ }
     ensures same { IsTrue D.tells_bytes → D.disk (device_of blocks.new) ≡ D.disk (device_of blocks.old) }
     ensures counts { CountsTree result (D.status (device_of blocks.old)) (D.status (device_of blocks.new)) }
 {
@@ -129,6 +158,9 @@ fn listed<D: Device>(
 ) -> Result<Vec<ListedName>, TreeFault>
     ensures names { IsTrue D.tells_bytes → IfOk result (λ names. IsPermutation
         (names_of (store_of (reads (D.disk (device_of blocks.old)))) (Tree tree.now)) (map link_of names.items)) }
+    ensures damaged { IsTrue D.tells_bytes → result ≡ Err Damaged → (IsDamaged (λ names. ⊤) (D.status (device_of blocks.old)).sectors
+        (store_of (reads (D.disk (device_of blocks.old)))) tree.now → ⊥)
+        → length (names_of (store_of (reads (D.disk (device_of blocks.old)))) (Tree tree.now)) ≤ limits.now.names → ⊥ }
     ensures same { IsTrue D.tells_bytes → D.disk (device_of blocks.new) ≡ D.disk (device_of blocks.old) }
     ensures counts { CountsTree result (D.status (device_of blocks.old)) (D.status (device_of blocks.new)) }
 {
@@ -152,6 +184,15 @@ pub(crate) fn load_directory<D: Device>(
         (store_of (reads (D.disk (device_of blocks.old)))) file.now (directory ∷ pending.old.items) (tree_of tree.old)
         → IsLoading (store_of (reads (D.disk (device_of blocks.old)))) file.now pending.new.items (tree_of tree.new)) }
     ensures whole { OnOk result (IsTree limits.now (tree_of tree.old) → IsTree limits.now (tree_of tree.new)) }
+    ensures opens { IsTrue D.tells_bytes → OnOk result (IsSoundOn limits.now (D.status (device_of blocks.old)).sectors
+        (store_of (reads (D.disk (device_of blocks.old)))) file.now
+        → (done : ℕ) → IsFilling limits.now (store_of (reads (D.disk (device_of blocks.old))))
+        file.now done directory pending.old.items (tree_of tree.old) → HasNoNames (tree_of tree.old) directory
+        → IsOpen limits.now (store_of (reads (D.disk (device_of blocks.old)))) file.now (done + 1) pending.new.items (tree_of tree.new)) }
+    ensures damaged { IsTrue D.tells_bytes → result ≡ Err Damaged → IsSoundOn limits.now (D.status (device_of blocks.old)).sectors
+        (store_of (reads (D.disk (device_of blocks.old)))) file.now
+        → (done : ℕ) → IsFilling limits.now (store_of (reads (D.disk (device_of blocks.old))))
+        file.now done directory pending.old.items (tree_of tree.old) → HasNoNames (tree_of tree.old) directory → ⊥ }
     ensures same { IsTrue D.tells_bytes → D.disk (device_of blocks.new) ≡ D.disk (device_of blocks.old) }
     ensures counts { CountsTree result (D.status (device_of blocks.old)) (D.status (device_of blocks.new)) }
 {

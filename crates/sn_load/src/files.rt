@@ -1,18 +1,23 @@
 //! Files, which are put under their numbers without a name.
-ghost use Rattle.std.specs.Prelude.{◌≡◌, ◌∷◌, ◌++◌, [], Some, IsTrue, OnOk};
+ghost use Rattle.std.specs.Prelude.{◌≡◌, ◌<◌, ◌≤◌, ◌∷◌, ◌++◌, [], ℕ, List, Some, Err, slice_index, IsTrue, OnOk};
 ghost use Rattle.std.specs.FinMap as map;
 ghost use Rattle.sn_device.specs.Disk.{reads};
 ghost use Rattle.sn_block.specs.Lending.{device_of};
 ghost use Rattle.sn_ondisk.specs.Trees.{store_of};
+ghost use Rattle.sn_layout.specs.declared.tree.BlockTree.{BlockTree as TheTree};
 ghost use Rattle.sn_limits.specs.Versions.{limits_of};
 ghost use Rattle.sn_limits.specs.declared.kind.Kind.TheVariants.{File};
-ghost use Rattle.sn_layout_node.specs.Inode.{IsContent, IsInode};
+ghost use Rattle.sn_layout_node.specs.Inode.{IsContent, IsInode, size_of};
 ghost use Rattle.sn_model.specs.NameTree.{IsTree};
 ghost use Rattle.sn_model.specs.Tree.{Node};
 ghost use Rattle.sn_plain.specs.Plain.{tree_of};
 ghost use Rattle.sn_image.specs.Contents.{bytes_of};
 ghost use Rattle.sn_image.specs.Image.{node_of, node_at};
+ghost use Rattle.sn_image.specs.Inodes.{inode_at};
 ghost use Rattle.sn_tree_read.specs.Counts.{CountsTree};
+ghost use Rattle.sn_tree_read.specs.declared.fault.TreeFault.TheVariants.{Damaged};
+ghost use Rattle.sn_load.specs.Loading.{HasFiles};
+ghost use Rattle.sn_load.specs.Sound.{IsInside, IsSoundOn};
 ghost use Rattle.sn_load.specs.Steps.{LoadsNumber, Puts, WritesPart};
 
 use crate::owners::{applied, ownership};
@@ -29,6 +34,11 @@ use std::alloc::{AllocError, Global};
 /// The bytes of a part that is read and written at once.
 const PART: usize = 65_536;
 
+// What the type says of bytes.
+fn byte_law(bytes: &[u8])
+    ensures { (i : ℕ) → slice_index bytes.now i < 256 }
+{}
+
 // Writes the part of a file's bytes that begins at an offset.
 fn write_part<D: Device>(
     alloc: Global,
@@ -43,11 +53,16 @@ fn write_part<D: Device>(
         (D.status (device_of blocks.old)).sectors (store_of (reads (D.disk (device_of blocks.old))))
         content.now number offset (tree_of tree.old) (tree_of tree.new)) }
     ensures whole { OnOk result (IsTree limits.now (tree_of tree.old) → IsTree limits.now (tree_of tree.new)) }
+    ensures damaged { IsTrue D.tells_bytes → result ≡ Err Damaged → IsInside (D.status (device_of blocks.old)).sectors
+        (store_of (reads (D.disk (device_of blocks.old)))) content.now → (node : Node) → map.get (tree_of tree.old).nodes number ≡ Some node → node.kind ≡ File
+        → offset < size_of content.now → size_of content.now ≤ limits.now.largest_file → ⊥ }
     ensures same { IsTrue D.tells_bytes → D.disk (device_of blocks.new) ≡ D.disk (device_of blocks.old) }
     ensures counts { CountsTree result (D.status (device_of blocks.old)) (D.status (device_of blocks.new)) }
 {
     let part = read(alloc, blocks, content, offset, PART)?;
-    applied(tree.write(alloc, limits, number, offset, part.as_slice()))
+    let bytes = part.as_slice();
+    byte_law(bytes);
+    applied(tree.write(alloc, limits, number, offset, bytes))
 }
 
 // Writes the bytes of a file that has none yet.
@@ -66,6 +81,9 @@ fn write_bytes<D: Device>(
         (record node { bytes = bytes_of (store_of (reads (D.disk (device_of blocks.old)))) content.now })
         (tree_of tree.old) (tree_of tree.new)) }
     ensures whole { OnOk result (IsTree limits.now (tree_of tree.old) → IsTree limits.now (tree_of tree.new)) }
+    ensures damaged { IsTrue D.tells_bytes → result ≡ Err Damaged → IsInside (D.status (device_of blocks.old)).sectors
+        (store_of (reads (D.disk (device_of blocks.old)))) content.now → (node : Node) → map.get (tree_of tree.old).nodes number ≡ Some node → node.kind ≡ File
+        → node.bytes ≡ [] → ⊥ }
     ensures same { IsTrue D.tells_bytes → D.disk (device_of blocks.new) ≡ D.disk (device_of blocks.old) }
     ensures counts { CountsTree result (D.status (device_of blocks.old)) (D.status (device_of blocks.new)) }
 {
@@ -100,6 +118,10 @@ fn load_file<D: Device>(
         (node_of (store_of (reads (D.disk (device_of blocks.old)))) inode.now)
         (tree_of tree.old) (tree_of tree.new)) }
     ensures whole { OnOk result (IsTree limits.now (tree_of tree.old) → IsTree limits.now (tree_of tree.new)) }
+    ensures damaged { IsTrue D.tells_bytes → result ≡ Err Damaged → (file : TheTree) → IsSoundOn limits.now (D.status (device_of blocks.old)).sectors
+        (store_of (reads (D.disk (device_of blocks.old)))) file → inode_at (store_of (reads (D.disk (device_of blocks.old)))) file number ≡ Some inode.now
+        → (noted : List ℕ) → HasFiles (store_of (reads (D.disk (device_of blocks.old)))) file number noted (tree_of tree.old)
+        → IsTree limits.now (tree_of tree.old) → ⊥ }
     ensures same { IsTrue D.tells_bytes → D.disk (device_of blocks.new) ≡ D.disk (device_of blocks.old) }
     ensures counts { CountsTree result (D.status (device_of blocks.old)) (D.status (device_of blocks.new)) }
 {
@@ -132,6 +154,10 @@ pub(crate) fn load_number<D: Device>(
         (node_at (store_of (reads (D.disk (device_of blocks.old)))) file.now number) number
         (tree_of tree.old) (tree_of tree.new) noted.old.items noted.new.items) }
     ensures whole { OnOk result (IsTree limits.now (tree_of tree.old) → IsTree limits.now (tree_of tree.new)) }
+    ensures damaged { IsTrue D.tells_bytes → result ≡ Err Damaged → IsSoundOn limits.now (D.status (device_of blocks.old)).sectors
+        (store_of (reads (D.disk (device_of blocks.old)))) file.now
+        → HasFiles (store_of (reads (D.disk (device_of blocks.old)))) file.now number noted.old.items (tree_of tree.old)
+        → IsTree limits.now (tree_of tree.old) → ⊥ }
     ensures same { IsTrue D.tells_bytes → D.disk (device_of blocks.new) ≡ D.disk (device_of blocks.old) }
     ensures counts { CountsTree result (D.status (device_of blocks.old)) (D.status (device_of blocks.new)) }
 {

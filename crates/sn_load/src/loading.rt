@@ -1,5 +1,5 @@
 //! The whole of a root.
-ghost use Rattle.std.specs.Prelude.{[], ◌∷◌, ◌≡◌, ℕ, ◌/◌, ◌<◌, Some, true, is_some, Contains, IsTrue, IfOk, OnOk};
+ghost use Rattle.std.specs.Prelude.{[], ◌∷◌, ◌≡◌, ◌↔◌, ℕ, ◌*◌, ◌/◌, ◌<◌, ◌≤◌, Some, Err, true, is_some, Contains, IsTrue, IfOk, OnOk};
 ghost use Rattle.std.specs.FinMap as map;
 ghost use Rattle.sn_device.specs.Disk.{reads};
 ghost use Rattle.sn_block.specs.Lending.{device_of};
@@ -8,22 +8,25 @@ ghost use Rattle.sn_limits.specs.Versions.{limits_of};
 ghost use Rattle.sn_model.specs.NameTree.{IsTree};
 ghost use Rattle.sn_plain.specs.Plain.{tree_of};
 ghost use Rattle.sn_image.specs.Image.{image};
-ghost use Rattle.sn_image.specs.Sound.{IsInodeFile};
+ghost use Rattle.sn_image.specs.Sound.{IsInodeFile, IsSound};
 ghost use Rattle.sn_tree_read.specs.Counts.{CountsTree};
+ghost use Rattle.sn_tree_read.specs.declared.fault.TreeFault.TheVariants.{Damaged};
 ghost use Rattle.sn_load.specs.Loading.{HasFiles, IsLoading};
+ghost use Rattle.sn_load.specs.Sound.{IsOpen, IsSoundOn};
 
 use crate::directories::load_directory;
 use crate::files::{load_number, note};
 use crate::owners::{applied, directory_at, ownership};
 use sn_block::Blocks;
 use sn_device::Device;
+use sn_dir::directory_laws;
 use sn_image::image_laws;
-use sn_inode::is_inode_file;
+use sn_inode::{inode_laws, is_inode_file};
 use sn_layout::BlockTree;
 use sn_layout_node::INODE_SIZE;
 use sn_limits::Limits;
 use sn_plain::PlainTree;
-use sn_tree_read::TreeFault;
+use sn_tree_read::{TreeFault, read_laws};
 use sn_walk::ROOT_NUMBER;
 use std::alloc::Global;
 
@@ -41,6 +44,8 @@ fn load_root<D: Device>(
     ensures files { IsTrue D.tells_bytes → IfOk result (λ tree. HasFiles
         (store_of (reads (D.disk (device_of blocks.old)))) file.now 3 (2 ∷ []) (tree_of tree)) }
     ensures whole { IfOk result (λ tree. IsTree limits.now (tree_of tree)) }
+    ensures damaged { IsTrue D.tells_bytes → result ≡ Err Damaged → IsSoundOn limits.now (D.status (device_of blocks.old)).sectors
+        (store_of (reads (D.disk (device_of blocks.old)))) file.now → ⊥ }
     ensures same { IsTrue D.tells_bytes → D.disk (device_of blocks.new) ≡ D.disk (device_of blocks.old) }
     ensures counts { CountsTree result (D.status (device_of blocks.old)) (D.status (device_of blocks.new)) }
 {
@@ -67,6 +72,10 @@ fn load_files<D: Device>(
         → HasFiles (store_of (reads (D.disk (device_of blocks.old)))) file.now
         (file.now.size / 128) noted.new.items (tree_of tree.new)) }
     ensures whole { OnOk result (IsTree limits.now (tree_of tree.old) → IsTree limits.now (tree_of tree.new)) }
+    ensures damaged { IsTrue D.tells_bytes → result ≡ Err Damaged → IsSoundOn limits.now (D.status (device_of blocks.old)).sectors
+        (store_of (reads (D.disk (device_of blocks.old)))) file.now
+        → HasFiles (store_of (reads (D.disk (device_of blocks.old)))) file.now 3 noted.old.items (tree_of tree.old)
+        → IsTree limits.now (tree_of tree.old) → ⊥ }
     ensures same { IsTrue D.tells_bytes → D.disk (device_of blocks.new) ≡ D.disk (device_of blocks.old) }
     ensures counts { CountsTree result (D.status (device_of blocks.old)) (D.status (device_of blocks.new)) }
 {
@@ -89,6 +98,9 @@ fn load_names<D: Device>(
         (store_of (reads (D.disk (device_of blocks.old)))) file.now pending.old.items (tree_of tree.old)
         → IsLoading (store_of (reads (D.disk (device_of blocks.old)))) file.now [] (tree_of tree.new)) }
     ensures whole { OnOk result (IsTree limits.now (tree_of tree.old) → IsTree limits.now (tree_of tree.new)) }
+    ensures damaged { IsTrue D.tells_bytes → result ≡ Err Damaged → IsSoundOn limits.now (D.status (device_of blocks.old)).sectors
+        (store_of (reads (D.disk (device_of blocks.old)))) file.now
+        → IsOpen limits.now (store_of (reads (D.disk (device_of blocks.old)))) file.now 0 pending.old.items (tree_of tree.old) → ⊥ }
     ensures same { IsTrue D.tells_bytes → D.disk (device_of blocks.new) ≡ D.disk (device_of blocks.old) }
     ensures counts { CountsTree result (D.status (device_of blocks.old)) (D.status (device_of blocks.new)) }
 {
@@ -103,7 +115,7 @@ fn load_names<D: Device>(
 
 // Whether all these numbers have nodes.
 fn are_there(tree: &PlainTree, numbers: &[u16]) -> bool
-    ensures { IsTrue result → (number : ℕ) → Contains numbers.now number → is_some (map.get (tree_of tree.now).nodes number) ≡ true }
+    ensures { IsTrue result ↔ ((number : ℕ) → Contains numbers.now number → is_some (map.get (tree_of tree.now).nodes number) ≡ true) }
 {
     numbers.iter().all(|number| tree.has_node(*number))
 }
@@ -122,6 +134,10 @@ fn fill<D: Device>(
         (store_of (reads (D.disk (device_of blocks.old)))) file.now 3 (2 ∷ []) (tree_of tree.old)
         → tree_of tree.new ≡ image (store_of (reads (D.disk (device_of blocks.old)))) file.now) }
     ensures whole { OnOk result (IsTree limits.now (tree_of tree.old) → IsTree limits.now (tree_of tree.new)) }
+    ensures damaged { IsTrue D.tells_bytes → result ≡ Err Damaged → IsSoundOn limits.now (D.status (device_of blocks.old)).sectors
+        (store_of (reads (D.disk (device_of blocks.old)))) file.now
+        → HasFiles (store_of (reads (D.disk (device_of blocks.old)))) file.now 3 (2 ∷ []) (tree_of tree.old)
+        → IsTree limits.now (tree_of tree.old) → ⊥ }
     ensures same { IsTrue D.tells_bytes → D.disk (device_of blocks.new) ≡ D.disk (device_of blocks.old) }
     ensures counts { CountsTree result (D.status (device_of blocks.old)) (D.status (device_of blocks.new)) }
 {
@@ -141,7 +157,7 @@ fn fill<D: Device>(
 /// Reads the tree that a root denotes into memory, whatever stands on the device. `file` is the root's
 /// inode file. `Damaged` comes where a block that is needed isn't on the device or spells nothing of its
 /// kind, or where what stands there is no name tree within the limits: a directory has too many names, or
-/// isn't reached from the root. Files without a name are loaded as they are. Memory is taken for the tree,
+/// isn't reached from the root. It never comes where the root is sound. Files without a name are loaded as they are. Memory is taken for the tree,
 /// and for blocks that aren't kept.
 pub fn load<D: Device>(
     alloc: Global,
@@ -153,9 +169,14 @@ pub fn load<D: Device>(
     ensures image { IsTrue D.tells_bytes → IfOk result (λ tree. tree_of tree
         ≡ image (store_of (reads (D.disk (device_of blocks.old)))) file.now) }
     ensures whole { IfOk result (λ tree. IsTree limits.now (tree_of tree)) }
+    ensures damaged { IsTrue D.tells_bytes → result ≡ Err Damaged → (n : ℕ) → 8 * n ≤ (D.status (device_of blocks.old)).sectors
+        → IsSound limits.now n (store_of (reads (D.disk (device_of blocks.old)))) file.now → ⊥ }
     ensures same { IsTrue D.tells_bytes → D.disk (device_of blocks.new) ≡ D.disk (device_of blocks.old) }
     ensures counts { CountsTree result (D.status (device_of blocks.old)) (D.status (device_of blocks.new)) }
 {
+    inode_laws();
+    directory_laws();
+    read_laws();
     if !is_inode_file(limits, file) {
         return Err(TreeFault::Damaged);
     }

@@ -1,5 +1,5 @@
 //! Directories, owners and ACLs of inodes, and what a tree in memory answers.
-ghost use Rattle.std.specs.Prelude.{◌≡◌, Some, IsTrue, IfOk};
+ghost use Rattle.std.specs.Prelude.{◌≡◌, Some, Err, IsSomeAnd, IsTrue, IfOk};
 ghost use Rattle.sn_device.specs.Disk.{reads};
 ghost use Rattle.sn_block.specs.Lending.{device_of};
 ghost use Rattle.sn_ondisk.specs.Trees.{store_of};
@@ -8,6 +8,9 @@ ghost use Rattle.sn_limits.specs.declared.kind.Kind.TheVariants.{Directory};
 ghost use Rattle.sn_image.specs.Image.{node_of};
 ghost use Rattle.sn_image.specs.Inodes.{inode_at};
 ghost use Rattle.sn_tree_read.specs.Counts.{CountsTree};
+ghost use Rattle.sn_inode.specs.Reads.{CanReadAcls};
+ghost use Rattle.sn_tree_read.specs.declared.fault.TreeFault.TheVariants.{Damaged};
+ghost use Rattle.sn_load.specs.Sound.{IsSoundOn};
 ghost use Rattle.sn_load.specs.Steps.{applied};
 
 use sn_block::{Blocks, ReadFault};
@@ -31,7 +34,7 @@ pub(crate) fn applied(answer: Result<(), ApplyError>) -> Result<(), TreeFault>
     }
 }
 
-/// The inode of a directory. `Damaged` comes where the number isn't one's.
+/// The inode of a directory. On a sound root `Damaged` comes only where the number isn't one's.
 pub(crate) fn directory_at<D: Device>(
     blocks: &mut Blocks<D>,
     limits: &Limits,
@@ -41,6 +44,9 @@ pub(crate) fn directory_at<D: Device>(
     ensures inode { IsTrue D.tells_bytes → IfOk result (λ inode. inode_at
         (store_of (reads (D.disk (device_of blocks.old)))) file.now number ≡ Some inode) }
     ensures kind { IfOk result (λ inode. inode.kind ≡ Directory) }
+    ensures damaged { IsTrue D.tells_bytes → result ≡ Err Damaged → IsSoundOn limits.now (D.status (device_of blocks.old)).sectors
+        (store_of (reads (D.disk (device_of blocks.old)))) file.now
+        → IsSomeAnd (inode_at (store_of (reads (D.disk (device_of blocks.old)))) file.now number) (λ inode. inode.kind ≡ Directory) → ⊥ }
     ensures same { IsTrue D.tells_bytes → D.disk (device_of blocks.new) ≡ D.disk (device_of blocks.old) }
     ensures counts { CountsTree result (D.status (device_of blocks.old)) (D.status (device_of blocks.new)) }
 {
@@ -53,13 +59,15 @@ pub(crate) fn directory_at<D: Device>(
     }
 }
 
-/// Owner, group, S bits and ACLs of an inode.
+/// Owner, group, S bits and ACLs of an inode. `Damaged` comes only where its ACLs can't be read.
 pub(crate) fn ownership<D: Device>(
     blocks: &mut Blocks<D>,
     inode: &Inode,
 ) -> Result<Ownership, TreeFault>
     ensures ownership { IsTrue D.tells_bytes → IfOk result (λ o. o
         ≡ ownership_of (node_of (store_of (reads (D.disk (device_of blocks.old)))) inode.now)) }
+    ensures damaged { IsTrue D.tells_bytes → result ≡ Err Damaged → CanReadAcls (D.status (device_of blocks.old)).sectors
+        (store_of (reads (D.disk (device_of blocks.old)))) inode.now → ⊥ }
     ensures same { IsTrue D.tells_bytes → D.disk (device_of blocks.new) ≡ D.disk (device_of blocks.old) }
     ensures counts { CountsTree result (D.status (device_of blocks.old)) (D.status (device_of blocks.new)) }
 {

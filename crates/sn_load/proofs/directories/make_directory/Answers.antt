@@ -1,4 +1,4 @@
-use Rattle.std.proofs.Common.{◌∷◌, [], List, ℕ, Some, refl, sym, subst, ap, ◌∙◌}
+use Rattle.std.proofs.Common.{◌∷◌, [], List, ℕ, Some, refl, sym, subst, ap, ◌∙◌, ◌≡◌, Err, None, Contains}
 use Rattle.sn_device.specs.Disk.{Disk, reads}
 use Rattle.sn_block.specs.Lending.{device_of}
 use Rattle.sn_ondisk.specs.Trees.{Store, store_of}
@@ -7,11 +7,18 @@ use Rattle.sn_model.specs.Changes.{made, node_with, ownership_of}
 use Rattle.sn_model.specs.Tree.{Node}
 use Rattle.sn_model.specs.declared.change.Change.TheVariants.{Make}
 use Rattle.sn_model.proofs.TreeLemmas.{tree_kept}
-use Rattle.sn_image.specs.Image.{node_of}
+use Rattle.sn_layout_node.specs.Directory.{Link as Name}
+use Rattle.sn_image.specs.Image.{node_of, image}
 use Rattle.sn_plain.specs.Plain.{tree_of}
 use Rattle.sn_load.specs.Loading.{IsPart}
 use Rattle.sn_load.proofs.NameLemmas.{made_adds, part_made}
-use Rattle.sn_load.proofs.StepLemmas.{directory_made, node_is, ok_applied}
+use Rattle.sn_load.proofs.StepLemmas.{directory_made, node_is, ok_applied, Stays, at_now, node_kind}
+use Rattle.std.proofs.lemmas.Result.{err_from_is_err_and}
+use Rattle.sn_tree_read.specs.declared.fault.TreeFault.TheVariants.{Damaged}
+use Rattle.sn_inode.specs.Reads.{CanReadAcls}
+use Rattle.sn_load.specs.Sound.{IsSoundOn}
+use Rattle.sn_load.proofs.FitLemmas.{made_fits, never_refused}
+use Rattle.sn_load.proofs.SoundLemmas.{directory_inode, image_name, image_node, named_directory, within_image}
 use Rattle.sn_load.proofs.directories.make_directory.Goals as goal
 
 pub returns-clause-part : goal.returns-clause-part
@@ -43,3 +50,52 @@ returns-clause-whole g c whole =
     let new = tree_of c.make.new.self in
     let asked = ok_applied c.make.result c.applied.result c.in_ok-applied.field-0 (made c.args.limits.now old c.args.link c.args.number Directory o) old new c.applied.ensures c.in_ok-applied.was c.make.ensures in
     tree_kept c.args.limits.now (Make c.args.link.directory c.args.link.name c.args.number Directory o) old new whole asked
+
+pub returns-clause-nodes : goal.returns-clause-nodes
+returns-clause-nodes g c  =
+    let o = c.in_ok-owner.owner in
+    let old = tree_of c.args.tree.now in
+    let new = tree_of c.make.new.self in
+    let asked = ok_applied c.make.result c.applied.result c.in_ok-applied.field-0 (made c.args.limits.now old c.args.link c.args.number Directory o) old new c.applied.ensures c.in_ok-applied.was c.make.ensures in
+    let adds = made_adds c.args.limits.now old new c.args.link.directory (record { number = c.args.number; name = c.args.link.name }) o asked in
+    record { node = node_with Directory o []; kind = refl; makes = adds.0; pends = c.in_ok-note.ensures }
+
+pub returns-in_err-inode-clause-damaged : goal.returns-in_err-inode-clause-damaged
+returns-in_err-inode-clause-damaged g c told is sound done filling among vacant absent =
+    let p = err_from_is_err_and c.from_residual.result c.from_residual.ensures.1 in
+    let fault : c.in_err-inode.field-0.0 ≡ Damaged = cc (p.1, p.2) in
+    let bad = ap (λ f. Err f) fault in
+    let s = store_of (reads (g.D.Device.disk (device_of c.args.blocks.now))) in
+    let name : Name = record { number = c.args.number; name = c.args.link.name } in
+    c.in_err-inode.ensures.damaged told bad sound (directory_inode c.args.limits.now _ s c.args.file.now sound c.args.number
+    (named_directory c.args.limits.now _ s c.args.file.now sound (tree_of c.args.tree.now) c.args.link.directory name filling.part.files among absent))
+
+pub returns-in_err-owner-clause-damaged : goal.returns-in_err-owner-clause-damaged
+returns-in_err-owner-clause-damaged g c told is sound done filling among vacant absent =
+    let p = err_from_is_err_and c.from_residual-in_err-owner.result c.from_residual-in_err-owner.ensures.1 in
+    let fault : c.in_err-owner.field-0.0 ≡ Damaged = cc (p.1, p.2) in
+    let bad = ap (λ f. Err f) fault in
+    let s = store_of (reads (g.D.Device.disk (device_of c.args.blocks.now))) in
+    let sectors = (g.D.Device.status (device_of c.args.blocks.now)).sectors in
+    let stays : Stays _ _ _ _ _ = record { status = c.in_ok-inode.ensures.counts.done; same = c.directory_at.ensures.same } in
+    let can = sound.acls c.args.number c.in_ok-inode.inode (c.in_ok-inode.ensures.inode told) in
+    c.in_err-owner.ensures.damaged told bad (at_now _ _ _ _ _ stays (λ k r. CanReadAcls k r c.in_ok-inode.inode) told can)
+
+pub returns-in_err-applied-clause-damaged : goal.returns-in_err-applied-clause-damaged
+returns-in_err-applied-clause-damaged g c told is sound done filling among vacant absent =
+    let p = err_from_is_err_and c.from_residual-in_err-applied.result c.from_residual-in_err-applied.ensures.1 in
+    let fault : c.in_err-applied.field-0.0 ≡ Damaged = cc (p.1, p.2) in
+    let bad = ap (λ f. Err f) fault in
+    let s = store_of (reads (g.D.Device.disk (device_of c.args.blocks.now))) in
+    let sectors = (g.D.Device.status (device_of c.args.blocks.now)).sectors in
+    let o = c.in_ok-owner.owner in
+    let inode = c.in_ok-inode.inode in
+    let old = tree_of c.args.tree.now in
+    let name : Name = record { number = c.args.number; name = c.args.link.name } in
+    let used = c.in_ok-inode.ensures.inode told in
+    let same = ap (λ (d : Disk). store_of (reads d)) (c.directory_at.ensures.same told) in
+    let owner = c.in_ok-owner.ensures.ownership told ∙ ap (λ (r : Store). ownership_of (node_of r inode)) same in
+    let fits = made_fits c.args.limits.now old (image s c.args.file.now) sound.version filling.whole sound.whole (within_image c.args.limits.now sectors s c.args.file.now sound old filling.part.nodes filling.names)
+    c.args.link c.args.number (image_name c.args.limits.now sectors s c.args.file.now sound c.args.link.directory name among) vacant filling.here (node_of s inode) o
+    (image_node c.args.limits.now sectors s c.args.file.now sound c.args.number inode used) (node_kind s inode ∙ c.in_ok-inode.ensures.kind) owner absent in
+    never_refused c.make.result c.applied.result (made c.args.limits.now old c.args.link c.args.number Directory o) old (tree_of c.make.new.self) _ c.applied.ensures c.make.ensures fits (c.in_err-applied.was ∙ bad)

@@ -1,11 +1,16 @@
-use Rattle.std.proofs.Common.{sym, subst, ap, ◌∙◌}
+use Rattle.std.proofs.Common.{sym, subst, ap, ◌∙◌, ◌≡◌, Err, Some}
 use Rattle.sn_device.specs.Disk.{Disk, reads}
 use Rattle.sn_block.specs.Lending.{device_of}
 use Rattle.sn_ondisk.specs.Trees.{Store, store_of}
 use Rattle.sn_image.specs.Image.{node_of}
 use Rattle.sn_plain.specs.Plain.{tree_of}
 use Rattle.sn_load.specs.Steps.{Puts}
-use Rattle.sn_load.proofs.StepLemmas.{loads_directory, loads_file, loads_none, ok_then}
+use Rattle.sn_load.proofs.StepLemmas.{loads_directory, loads_file, loads_none, ok_then, Stays, at_now}
+use Rattle.std.proofs.lemmas.Result.{err_from_is_err_and}
+use Rattle.sn_tree_read.specs.declared.fault.TreeFault.TheVariants.{Damaged}
+use Rattle.sn_image.specs.Inodes.{inode_at}
+use Rattle.sn_load.specs.Loading.{HasFiles}
+use Rattle.sn_load.specs.Sound.{IsSoundOn}
 use Rattle.sn_load.proofs.files.load_number.Goals as goal
 
 pub returns-in_default-clause-number : goal.returns-in_default-clause-number
@@ -22,3 +27,18 @@ returns-in-File-clause-number g c told =
 
 pub returns-in_ok-note-in-Directory-clause-number : goal.returns-in_ok-note-in-Directory-clause-number
 returns-in_ok-note-in-Directory-clause-number g c told = loads_directory (store_of (reads (g.D.Device.disk (device_of c.args.blocks.now)))) c.args.file.now c.args.number c.in-Some.inode (tree_of c.args.tree.now) c.args.noted.now.items c.note.new.numbers.items (sym (c.in_ok-inode.ensures.inode told) ∙ c.in-Some.is) c.in-Directory.is c.in_ok-note-in-Directory.ensures
+
+pub returns-in_err-inode-clause-damaged : goal.returns-in_err-inode-clause-damaged
+returns-in_err-inode-clause-damaged g c told is sound files whole =
+    let p = err_from_is_err_and c.from_residual.result c.from_residual.ensures.1 in
+    let fault : c.in_err-inode.field-0.0 ≡ Damaged = cc (p.1, p.2) in
+    let bad = ap (λ f. Err f) fault in
+    c.in_err-inode.ensures.damaged told bad (sound.records c.args.number)
+
+pub returns-in-File-clause-damaged : goal.returns-in-File-clause-damaged
+returns-in-File-clause-damaged g c told is sound files whole =
+    let used = sym (c.in_ok-inode.ensures.inode told) ∙ c.in-Some.is in
+    let stays : Stays _ _ _ _ _ = record { status = c.in_ok-inode.ensures.counts.done; same = c.get.ensures.same } in
+    c.load_file.ensures.damaged told is c.args.file.now (at_now _ _ _ _ _ stays (λ k r. IsSoundOn c.args.limits.now k r c.args.file.now) told sound)
+    (at_now _ _ _ _ _ stays (λ k r. inode_at r c.args.file.now c.args.number ≡ Some c.in-Some.inode) told used) c.args.noted.now.items
+    (at_now _ _ _ _ _ stays (λ k r. HasFiles r c.args.file.now c.args.number c.args.noted.now.items (tree_of c.args.tree.now)) told files) whole

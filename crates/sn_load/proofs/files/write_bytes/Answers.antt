@@ -1,12 +1,15 @@
-use Rattle.std.proofs.Common.{◌≡◌, ◌+◌, ◌*◌, ◌≤◌, ℕ, List, subst, arith}
+use Rattle.std.proofs.Common.{◌≡◌, ◌+◌, ◌*◌, ◌≤◌, ℕ, List, subst, arith, Err, ap}
 use Rattle.sn_device.specs.Disk.{reads}
 use Rattle.sn_block.specs.Lending.{device_of}
 use Rattle.sn_ondisk.specs.Trees.{Store, store_of}
 use Rattle.sn_layout_node.specs.Inode.{size_of}
 use Rattle.sn_plain.specs.Plain.{tree_of}
 use Rattle.sn_load.specs.Steps.{Puts, WritesPart}
-use Rattle.sn_load.proofs.ByteLemmas.{part_begun, parts_enough, whole_content}
-use Rattle.sn_load.proofs.StepLemmas.{HasBytes, at_start, bytes_begun, bytes_more, stays_begun, stays_more}
+use Rattle.sn_load.proofs.ByteLemmas.{part_begun, parts_enough, whole_content, content_most, part_short}
+use Rattle.sn_load.proofs.StepLemmas.{HasBytes, at_start, bytes_begun, bytes_more, stays_begun, stays_more, at_now}
+use Rattle.std.proofs.lemmas.Result.{err_from_is_err_and}
+use Rattle.sn_tree_read.specs.declared.fault.TreeFault.TheVariants.{Damaged}
+use Rattle.sn_load.specs.Sound.{IsInside}
 use Rattle.sn_load.proofs.files.write_bytes.Goals as goal
 
 pub loop-i-init : goal.loop-i-init
@@ -36,3 +39,14 @@ returns-clause-written g c told node there kind none =
     let enough : size_of c.args.content.now ≤ c.loop-i.i * 65536 = parts_enough c.loop-i.i c.size.result (size_of c.args.content.now) c.div_ceil-parts.result c.size.ensures c.div_ceil-parts.ensures c.loop-i-test.false in
     let all = whole_content (reads (g.D.Device.disk (device_of c.args.blocks.now))) _ (g.met.D.Device.whole (device_of c.args.blocks.now) told) (g.met.D.Device.count (device_of c.args.blocks.now) told) c.args.limits.now c.args.content.now (c.loop-i.i * 65536) has.bytes c.requires.version c.requires.content enough has.part has.on_device in
     subst (λ (bytes : List ℕ). Puts c.args.number (record node { bytes = bytes }) (tree_of c.args.tree.now) (tree_of c.loop-i.tree)) all has.puts
+
+pub returns-in_err-write_part-clause-damaged : goal.returns-in_err-write_part-clause-damaged
+returns-in_err-write_part-clause-damaged g c told is lies node there kind none =
+    let p = err_from_is_err_and c.from_residual.result c.from_residual.ensures.1 in
+    let fault : c.in_err-write_part.field-0.0 ≡ Damaged = cc (p.1, p.2) in
+    let bad = ap (λ f. Err f) fault in
+    let has = c.loop-i.invariant.bytes told node there kind none in
+    let begun = part_short c.loop-i.i c.size.result (size_of c.args.content.now) c.div_ceil-parts.result c.size.ensures c.div_ceil-parts.ensures c.loop-i-test.true in
+    let most = content_most c.args.limits.now c.args.content.now c.requires.version c.requires.content in
+    c.in_err-write_part.ensures.damaged told bad (at_now _ _ _ _ _ c.loop-i.invariant.stays (λ k r. IsInside k r c.args.content.now) told lies)
+    (record node { bytes = has.bytes }) has.puts.there kind begun most

@@ -2,7 +2,17 @@ use Rattle.sn_device.specs.Disk.{reads}
 use Rattle.sn_block.specs.Lending.{device_of}
 use Rattle.sn_ondisk.specs.Trees.{store_of}
 use Rattle.sn_load.proofs.StepLemmas.{owner_made}
+use Rattle.std.proofs.Common.{◌≡◌, Err, ap}
+use Rattle.std.proofs.lemmas.Result.{err_from_is_err_and}
+use Rattle.sn_tree_read.specs.declared.fault.TreeFault.TheVariants.{Damaged}
 use Rattle.sn_load.proofs.owners.ownership.Goals as goal
 
 pub returns-clause-ownership : goal.returns-clause-ownership
 returns-clause-ownership g c told = owner_made (store_of (reads (g.D.Device.disk (device_of c.args.blocks.now)))) c.args.inode.now c.in_ok-acls.acls c.join.result c.join.ensures (c.in_ok-acls.ensures.acls told)
+
+pub returns-in_err-acls-clause-damaged : goal.returns-in_err-acls-clause-damaged
+returns-in_err-acls-clause-damaged g c told is can =
+    let p = err_from_is_err_and c.from_residual.result c.from_residual.ensures.1 in
+    let fault : c.in_err-acls.field-0.0 ≡ Damaged = cc (p.1, p.2) in
+    let bad = ap (λ f. Err f) fault in
+    c.in_err-acls.ensures.damaged told bad can

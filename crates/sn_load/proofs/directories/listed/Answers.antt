@@ -1,0 +1,28 @@
+use Rattle.std.proofs.Common.{◌≡◌, ◌≤◌, Err, length, sym, ap, subst, ◌∙◌, arith}
+use Rattle.std.specs.Prelude.{⊤}
+use Rattle.std.proofs.lemmas.Result.{err_from_is_err_and}
+use Rattle.sn_tree_read.specs.declared.fault.TreeFault.TheVariants.{Damaged}
+use Rattle.sn_device.specs.Disk.{reads}
+use Rattle.sn_block.specs.Lending.{device_of}
+use Rattle.sn_ondisk.specs.Trees.{Store, store_of}
+use Rattle.sn_layout_node.specs.declared.content.Content.TheVariants.{Tree}
+use Rattle.sn_image.specs.Names.{names_of}
+use Rattle.sn_dir.specs.Blocks.{IsDamaged}
+use Rattle.sn_load.proofs.StepLemmas.{Stays, at_now, at_start}
+use Rattle.sn_load.proofs.directories.listed.Goals as goal
+
+pub returns-in_err-count-clause-damaged : goal.returns-in_err-count-clause-damaged
+returns-in_err-count-clause-damaged g c told is readable few =
+    let p = err_from_is_err_and c.from_residual.result c.from_residual.ensures.1 in
+    let fault : c.in_err-count.field-0.0 ≡ Damaged = cc (p.1, p.2) in
+    let bad = ap (λ f. Err f) fault in
+    readable (c.in_err-count.ensures.damaged told bad)
+
+pub returns-then-branch-from-clause-damaged : goal.returns-then-branch-from-clause-damaged
+returns-then-branch-from-clause-damaged g c told is readable few =
+    omega (arith, c.in_ok-count.ensures.count told, few)
+
+pub returns-clause-damaged : goal.returns-clause-damaged
+returns-clause-damaged g c told is readable few =
+    let stays : Stays _ _ _ _ _ = record { status = c.in_ok-count.ensures.counts.done; same = c.count.ensures.same } in
+    readable (at_start _ _ _ _ _ stays (λ k r. IsDamaged (λ names. ⊤) k r c.args.tree.now) told (c.names.ensures.damaged told is))

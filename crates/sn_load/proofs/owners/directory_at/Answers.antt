@@ -1,0 +1,26 @@
+use Rattle.std.proofs.Common.{◌≡◌, Err, Option, sym, ap, subst, ◌∙◌}
+use Rattle.std.specs.Prelude.{IsSomeAnd}
+use Rattle.std.proofs.lemmas.Result.{err_from_is_err_and}
+use Rattle.sn_device.specs.Disk.{reads}
+use Rattle.sn_block.specs.Lending.{device_of}
+use Rattle.sn_ondisk.specs.Trees.{store_of}
+use Rattle.sn_layout_node.specs.declared.inode.Inode.{Inode}
+use Rattle.sn_limits.specs.declared.kind.Kind.TheVariants.{File, Directory}
+use Rattle.sn_tree_read.specs.declared.fault.TreeFault.TheVariants.{Damaged}
+use Rattle.sn_load.proofs.owners.directory_at.Goals as goal
+
+pub returns-in_err-inode-clause-damaged : goal.returns-in_err-inode-clause-damaged
+returns-in_err-inode-clause-damaged g c told is sound used =
+    let p = err_from_is_err_and c.from_residual.result c.from_residual.ensures.1 in
+    let fault : c.in_err-inode.field-0.0 ≡ Damaged = cc (p.1, p.2) in
+    let bad = ap (λ f. Err f) fault in
+    c.in_err-inode.ensures.damaged told bad (sound.records c.args.number)
+
+pub returns-in_default-clause-damaged : goal.returns-in_default-clause-damaged
+returns-in_default-clause-damaged g c told is sound used =
+    subst (λ (o : Option Inode). IsSomeAnd o (λ inode. inode.kind ≡ Directory)) (sym (c.in_ok-inode.ensures.inode told) ∙ c.in_default.is) used
+
+pub returns-in-File-clause-damaged : goal.returns-in-File-clause-damaged
+returns-in-File-clause-damaged g c told is sound used =
+    let kind : c.in-Some.inode.kind ≡ Directory = subst (λ (o : Option Inode). IsSomeAnd o (λ inode. inode.kind ≡ Directory)) (sym (c.in_ok-inode.ensures.inode told) ∙ c.in-Some.is) used in
+    let never : File ≡ Directory = sym c.in-File.is ∙ kind in cc
