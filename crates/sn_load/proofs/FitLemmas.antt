@@ -1,5 +1,5 @@
 -- What a name tree has can be put into a name tree that is part of it.
-use Rattle.std.proofs.Common.{◌≡◌, ◌≢◌, ℕ, zero, suc, ◌+◌, ◌<◌, ◌≤◌, ◌^◌, ◌&&◌, ◌||◌, ◌==◌, Bool, true, false, not, cond, nat_lt, nat_le, List, [], length, get_or, Option, Some, None, is_some, is_none, Result, Ok, Err, refl, sym, ap, subst, ◌∙◌, ◌⊎◌, inl, inr, arith, codes, eqb-true, count_by}
+use Rattle.std.proofs.Common.{◌≡◌, ◌≢◌, ℕ, zero, suc, ◌+◌, ◌<◌, ◌≤◌, ◌^◌, ◌&&◌, ◌||◌, ◌==◌, Bool, true, false, not, cond, List, [], length, get_or, Option, Some, None, is_some, is_none, Result, Ok, Err, refl, sym, ap, subst, ◌∙◌, ◌⊎◌, inl, inr, arith, codes, eqb-true}
 use Rattle.std.specs.Prelude.{IfSome}
 use Rattle.std.specs.declared.cmp.Ordering.{Ordering}
 use Rattle.std.specs.Cmp.{IsTotalOrder, nat_cmp_total}
@@ -12,7 +12,6 @@ use Rattle.std.proofs.lemmas.Slice.Eq.{bytes_eq-Decides}
 use Rattle.sn_acl.specs.declared.entries.Entry.{Entry}
 use Rattle.sn_acl.specs.AccessList.{IsValid}
 use Rattle.sn_acl.proofs.Validity.{test-from_valid}
-use Rattle.sn_block.specs.declared.fault.ReadFault.TheVariants as read
 use Rattle.sn_limits.specs.declared.kind.Kind.{Kind}
 use Rattle.sn_limits.specs.declared.kind.Kind.TheVariants.{File, Directory}
 use Rattle.sn_limits.specs.declared.limits.Limits.{Limits}
@@ -20,9 +19,9 @@ use Rattle.sn_limits.specs.Versions.{limits_of}
 use Rattle.sn_walk.specs.Views.{is_directory, is_hidden_name}
 use Rattle.sn_model.specs.declared.change.Ownership.{Ownership}
 use Rattle.sn_model.specs.declared.link.Link.{Link}
-use Rattle.sn_model.specs.Changes.{file_at, is_default_acl, is_file, is_free_number, is_ownership, is_vacant, linked, made, node_with, overwritten, owned, ownership_of, put_link, put_node, with_bytes, written}
+use Rattle.sn_model.specs.Changes.{file_at, is_default_acl, is_file, is_ownership, is_vacant, linked, made, node_with, overwritten, owned, ownership_of, put_link, put_node, with_bytes, written}
 use Rattle.sn_model.specs.NameTree.{HasKind, IsNode, IsTree, Reaches, below, root}
-use Rattle.sn_model.specs.Tree.{Node, Tree, link_cmp, link_to, names_for, names_in}
+use Rattle.sn_model.specs.Tree.{Node, Tree, link_to, names_for, names_in}
 use Rattle.sn_model.specs.World.{new_root, new_tree}
 use Rattle.sn_model.proofs.ByteLemmas.{all_bytes}
 use Rattle.sn_model.proofs.ChainLemmas.{and_both, some_none, some_only}
@@ -38,7 +37,7 @@ use Rattle.sn_plain.specs.Plain.{Applies}
 use Rattle.sn_plain.specs.declared.error.ApplyError.{ApplyError}
 use Rattle.sn_plain.specs.declared.error.ApplyError.TheVariants.{CannotApply, Memory}
 use Rattle.sn_tree_read.specs.declared.fault.TreeFault.{TreeFault}
-use Rattle.sn_tree_read.specs.declared.fault.TreeFault.TheVariants.{Read, Damaged}
+use Rattle.sn_tree_read.specs.declared.fault.TreeFault.TheVariants.{Damaged}
 use Rattle.sn_load.specs.Steps.{applied}
 
 -- ---- counts

@@ -1,11 +1,10 @@
 -- Directories that are pending, while names come into the tree of a sound root.
-use Rattle.std.proofs.Common.{◌≡◌, ◌≢◌, ℕ, zero, suc, ◌+◌, ◌*◌, ◌/◌, ◌<◌, ◌≤◌, ◌==◌, Bool, true, false, cond, List, [], ◌∷◌, ◌++◌, length, map, take, drop, count_by, Option, Some, None, is_some, refl, sym, ap, subst, ◌∙◌, ◌⊎◌, inl, inr, arith, Contains, eq-eqb, eqb-true, length-append}
-use Rattle.std.specs.Prelude.{IsSomeAnd}
+use Rattle.std.proofs.Common.{◌≡◌, ◌≢◌, ℕ, suc, ◌+◌, ◌/◌, ◌≤◌, ◌==◌, Bool, true, false, cond, List, [], ◌∷◌, ◌++◌, length, map, take, drop, count_by, Option, Some, None, refl, sym, ap, subst, ◌∙◌, ◌⊎◌, inl, inr, arith, Contains, eq-eqb, eqb-true, length-append}
 use Rattle.std.specs.Cmp.{nat_cmp_total}
 use Rattle.std.specs.FinMap as fin
 use Rattle.std.specs.List.Sorted.{IsPermutation}
 use Rattle.std.specs.Str.{bytes_eq}
-use Rattle.std.proofs.lemmas.Bool.{true≢false, false_from_ne_true}
+use Rattle.std.proofs.lemmas.Bool.{false_from_ne_true}
 use Rattle.std.proofs.lemmas.List.{map-append, take-append-drop}
 use Rattle.std.proofs.lemmas.List.Elements.{Contains-append_cases, Contains-append_left, Contains-append_right}
 use Rattle.std.proofs.lemmas.List.Sorted.{Contains-permutation, IsPermutation-sym, sum_by-IsPermutation}
@@ -14,29 +13,27 @@ use Rattle.std.proofs.lemmas.Map.Lookups.{exact_unsigned}
 use Rattle.std.proofs.lemmas.Slice.Eq.{bytes_eq-Decides}
 use Rattle.sn_layout.specs.declared.tree.BlockTree.{BlockTree}
 use Rattle.sn_layout_node.specs.Directory.{Link as Name, number_of}
-use Rattle.sn_limits.specs.declared.kind.Kind.TheVariants.{File, Directory}
+use Rattle.sn_limits.specs.declared.kind.Kind.TheVariants.{Directory}
 use Rattle.sn_limits.specs.declared.limits.Limits.{Limits}
 use Rattle.sn_walk.specs.Views.{is_directory}
-use Rattle.sn_model.specs.declared.link.Link.{Link}
 use Rattle.sn_model.specs.NameTree.{HasKind, IsTree}
 use Rattle.sn_model.specs.Tree.{Node, Tree, link_to}
 use Rattle.sn_model.proofs.ChainLemmas.{some_none}
 use Rattle.sn_model.proofs.CountLemmas.{count_inserted, count_some}
-use Rattle.sn_model.proofs.MapLemmas.{same_or_apart, get_inserted, get_other}
-use Rattle.sn_model.proofs.MoveLemmas.{is_kind, kind_at, some_node}
+use Rattle.sn_model.proofs.MapLemmas.{get_inserted, get_other}
+use Rattle.sn_model.proofs.MoveLemmas.{kind_at, some_node}
 use Rattle.sn_ondisk.specs.Trees.{Store}
-use Rattle.sn_image.specs.Image.{image, node_at}
-use Rattle.sn_image.specs.Inodes.{inode_at}
+use Rattle.sn_image.specs.Image.{image}
 use Rattle.sn_image.specs.Names.{names_at}
 use Rattle.sn_image.proofs.ListLemmas.{count-append}
-use Rattle.sn_image.proofs.PieceLemmas.{cases, found_once, sum_one}
+use Rattle.sn_image.proofs.PieceLemmas.{found_once, sum_one}
 use Rattle.sn_image.proofs.SoundNodeLemmas.{only_version}
 use Rattle.sn_load.specs.Loading.{AreNames, HasFiles, IsLoading, IsPart}
 use Rattle.sn_load.specs.Sound.{ArePending, HasNoNames, IsFilling, IsOpen, IsSoundOn, directories}
 use Rattle.sn_load.specs.Steps.{AddsNames, MakesAtMost, MakesDirectory}
 use Rattle.sn_load.proofs.FitLemmas.{IsWithin, count_few}
 use Rattle.sn_load.proofs.EndLemmas.{names_begun}
-use Rattle.sn_load.proofs.NameLemmas.{loading_popped, no_member, one_of}
+use Rattle.sn_load.proofs.NameLemmas.{loading_popped, one_of}
 use Rattle.sn_load.proofs.SoundLemmas.{within_image}
 
 -- ---- files that are loaded

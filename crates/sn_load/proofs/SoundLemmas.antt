@@ -1,5 +1,5 @@
 -- What a sound root comes to for a loader.
-use Rattle.std.proofs.Common.{◌≡◌, ℕ, ◌+◌, ◌*◌, ◌/◌, ◌<◌, ◌≤◌, true, false, List, [], length, map, count_by, Option, Some, None, is_some, refl, sym, ap, subst, ◌∙◌, ◌⊎◌, inl, inr, arith, Contains}
+use Rattle.std.proofs.Common.{◌≡◌, ℕ, ◌+◌, ◌*◌, ◌/◌, ◌≤◌, true, List, [], length, Option, Some, None, is_some, refl, sym, ap, subst, ◌∙◌, ◌⊎◌, inl, inr, arith, Contains}
 use Rattle.std.specs.Prelude.{⊤, IsSomeAnd}
 use Rattle.std.specs.FinMap as fin
 use Rattle.std.proofs.lemmas.Bool.{true≢false}
@@ -37,7 +37,7 @@ use Rattle.sn_load.specs.Loading.{AreNames, AreNodes, HasAllNames, IsLoading}
 use Rattle.sn_load.specs.Sound.{CanReadContent, IsInside, IsSoundOn}
 use Rattle.sn_load.proofs.FitLemmas.{IsWithin}
 use Rattle.sn_load.proofs.NameLemmas.{no_member}
-use Rattle.sn_load.proofs.StepLemmas.{node_is, node_kind}
+use Rattle.sn_load.proofs.StepLemmas.{node_is}
 
 -- what stands in the blocks of a content can be read where they lie on the device
 content_read : ReachedBlocksLie → SoundDirectoriesAreRead → (sectors : ℕ) (s : Store) (kind : Kind) (content : Content) → HasContent s kind content → ((block : ℕ) → Contains (content_reach s content) block → 8 * block + 8 ≤ sectors) → CanReadContent sectors s kind content

@@ -1,4 +1,4 @@
-use Rattle.std.proofs.Common.{◌≡◌, ◌∷◌, [], List, ℕ, subst, ◌∙◌, Some, None, Err, is_some, Contains, inl, inr, refl, sym, ap}
+use Rattle.std.proofs.Common.{◌≡◌, ◌∷◌, [], List, ℕ, subst, ◌∙◌, Some, None, Contains, inl, inr, refl, sym}
 use Rattle.sn_device.specs.Disk.{reads}
 use Rattle.sn_block.specs.Lending.{device_of}
 use Rattle.sn_ondisk.specs.Trees.{store_of}
@@ -7,14 +7,13 @@ use Rattle.sn_model.specs.Tree.{link_to}
 use Rattle.sn_model.specs.declared.change.Change.TheVariants.{AddLink}
 use Rattle.sn_model.proofs.TreeLemmas.{tree_kept}
 use Rattle.sn_plain.specs.Plain.{tree_of}
-use Rattle.sn_load.specs.Steps.{AddsNames, MakesAtMost}
+use Rattle.sn_load.specs.Steps.{AddsNames}
 use Rattle.sn_load.proofs.NameLemmas.{linked_adds, part_linked, absent_of}
 use Rattle.sn_load.proofs.StepLemmas.{ok_then, on_applied}
 use Rattle.std.specs.FinMap.{get}
 use Rattle.sn_image.specs.Image.{image}
 use Rattle.sn_image.specs.Names.{names_at}
 use Rattle.sn_dir.specs.Listed.{link_of}
-use Rattle.sn_layout_node.specs.Directory.{Link as Name}
 use Rattle.sn_load.proofs.FitLemmas.{linked_fits, never_refused}
 use Rattle.sn_load.proofs.SoundLemmas.{image_name, within_image}
 use Rattle.sn_load.proofs.directories.add_name.Goals as goal
@@ -46,7 +45,7 @@ pub returns-clause-part : goal.returns-clause-part
 returns-clause-part g c told = ok_then c.make_directory.result (c.make_directory.ensures.part told) (λ made. made c.args.directory)
 
 pub returns-then-has_node-clause-nodes : goal.returns-then-has_node-clause-nodes
-returns-then-has_node-clause-nodes g c  =
+returns-then-has_node-clause-nodes g c =
     let old = tree_of c.args.tree.now in
     let new = tree_of c.add_link.new.self in
     on_applied c.add_link.result c.applied.result (linked c.args.limits.now old (link_to c.args.directory c.in_ok-new.field-0) c.args.name.now.number) old new c.applied.ensures c.add_link.ensures
@@ -66,7 +65,7 @@ returns-then-has_node-clause-damaged g c told is sound done filling among vacant
     never_refused c.add_link.result c.applied.result (linked c.args.limits.now old (link_to c.args.directory c.in_ok-new.field-0) number) old (tree_of c.add_link.new.self) _ c.applied.ensures c.add_link.ensures fits_so is
 
 pub returns-clause-nodes : goal.returns-clause-nodes
-returns-clause-nodes g c  =
+returns-clause-nodes g c =
     let absent = absent_of _ (sym c.has_node.ensures ∙ c.if-has_node.false) in
     ok_then c.make_directory.result c.make_directory.ensures.nodes (λ makes. inr (absent, makes))
 

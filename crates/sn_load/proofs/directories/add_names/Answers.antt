@@ -8,7 +8,6 @@ use Rattle.sn_load.specs.Loading.{IsPart}
 use Rattle.sn_load.specs.Steps.{AddsNames}
 use Rattle.sn_load.proofs.NameLemmas.{added_both, added_none}
 use Rattle.sn_load.proofs.StepLemmas.{at_start, stays_begun, stays_more, at_now}
-use Rattle.std.specs.Ordering.{nat_cmp}
 use Rattle.std.proofs.lemmas.Result.{err_from_is_err_and}
 use Rattle.sn_tree_read.specs.declared.fault.TreeFault.TheVariants.{Damaged}
 use Rattle.sn_device.specs.Disk.{reads}

@@ -1,14 +1,9 @@
-use Rattle.std.proofs.Common.{◌≡◌, ◌≤◌, Err, length, sym, ap, subst, ◌∙◌, arith}
+use Rattle.std.proofs.Common.{◌≡◌, Err, ap, arith}
 use Rattle.std.specs.Prelude.{⊤}
 use Rattle.std.proofs.lemmas.Result.{err_from_is_err_and}
 use Rattle.sn_tree_read.specs.declared.fault.TreeFault.TheVariants.{Damaged}
-use Rattle.sn_device.specs.Disk.{reads}
-use Rattle.sn_block.specs.Lending.{device_of}
-use Rattle.sn_ondisk.specs.Trees.{Store, store_of}
-use Rattle.sn_layout_node.specs.declared.content.Content.TheVariants.{Tree}
-use Rattle.sn_image.specs.Names.{names_of}
 use Rattle.sn_dir.specs.Blocks.{IsDamaged}
-use Rattle.sn_load.proofs.StepLemmas.{Stays, at_now, at_start}
+use Rattle.sn_load.proofs.StepLemmas.{Stays, at_start}
 use Rattle.sn_load.proofs.directories.listed.Goals as goal
 
 pub returns-in_err-count-clause-damaged : goal.returns-in_err-count-clause-damaged

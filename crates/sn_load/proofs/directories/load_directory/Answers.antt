@@ -72,7 +72,7 @@ returns-in_ok-names-in-Tree-clause-opens g c told =
     ok_both c.add_names.result (c.add_names.ensures.filling told) (returns-in_ok-names-in-Tree-clause-loading g c told)
     (λ fills loads sound done filling none.
     let full = at_start _ _ _ _ _ stays (λ k r. IsSoundOn c.args.limits.now k r c.args.file.now → (n : ℕ) → IsFilling c.args.limits.now r c.args.file.now n c.args.directory c.args.pending.now.items (tree_of c.args.tree.now) → HasNoNames (tree_of c.args.tree.now) c.args.directory
-        → IsPermutation (names_at r c.args.file.now c.args.directory) (map link_of c.as_slice.result.now) → IsFilling c.args.limits.now r c.args.file.now n c.args.directory c.add_names.new.pending.items (tree_of c.add_names.new.tree)) told fills sound done filling none all in
+    → IsPermutation (names_at r c.args.file.now c.args.directory) (map link_of c.as_slice.result.now) → IsFilling c.args.limits.now r c.args.file.now n c.args.directory c.add_names.new.pending.items (tree_of c.add_names.new.tree)) told fills sound done filling none all in
     filling_done c.args.limits.now s c.args.file.now done c.args.directory c.add_names.new.pending.items (tree_of c.add_names.new.tree) full (loads (record { part = filling.part; names = filling.names })))
 
 pub returns-in_ok-names-in-Tree-clause-damaged : goal.returns-in_ok-names-in-Tree-clause-damaged

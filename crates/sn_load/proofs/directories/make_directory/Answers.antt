@@ -1,4 +1,4 @@
-use Rattle.std.proofs.Common.{◌∷◌, [], List, ℕ, Some, refl, sym, subst, ap, ◌∙◌, ◌≡◌, Err, None, Contains}
+use Rattle.std.proofs.Common.{◌∷◌, [], List, ℕ, Some, refl, sym, subst, ap, ◌∙◌, ◌≡◌, Err}
 use Rattle.sn_device.specs.Disk.{Disk, reads}
 use Rattle.sn_block.specs.Lending.{device_of}
 use Rattle.sn_ondisk.specs.Trees.{Store, store_of}
@@ -16,7 +16,6 @@ use Rattle.sn_load.proofs.StepLemmas.{directory_made, node_is, ok_applied, Stays
 use Rattle.std.proofs.lemmas.Result.{err_from_is_err_and}
 use Rattle.sn_tree_read.specs.declared.fault.TreeFault.TheVariants.{Damaged}
 use Rattle.sn_inode.specs.Reads.{CanReadAcls}
-use Rattle.sn_load.specs.Sound.{IsSoundOn}
 use Rattle.sn_load.proofs.FitLemmas.{made_fits, never_refused}
 use Rattle.sn_load.proofs.SoundLemmas.{directory_inode, image_name, image_node, named_directory, within_image}
 use Rattle.sn_load.proofs.directories.make_directory.Goals as goal
@@ -52,7 +51,7 @@ returns-clause-whole g c whole =
     tree_kept c.args.limits.now (Make c.args.link.directory c.args.link.name c.args.number Directory o) old new whole asked
 
 pub returns-clause-nodes : goal.returns-clause-nodes
-returns-clause-nodes g c  =
+returns-clause-nodes g c =
     let o = c.in_ok-owner.owner in
     let old = tree_of c.args.tree.now in
     let new = tree_of c.make.new.self in

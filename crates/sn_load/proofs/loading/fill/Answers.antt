@@ -12,7 +12,7 @@ use Rattle.sn_tree_read.specs.declared.fault.TreeFault.TheVariants.{Damaged}
 use Rattle.sn_load.specs.Sound.{IsOpen, IsSoundOn}
 use Rattle.sn_load.proofs.OpenLemmas.{open_begun}
 use Rattle.sn_load.proofs.SoundLemmas.{directory_there}
-use Rattle.sn_load.proofs.StepLemmas.{Stays, at_now, at_start}
+use Rattle.sn_load.proofs.StepLemmas.{Stays, at_now}
 use Rattle.sn_load.proofs.loading.fill.Goals as goal
 
 pub returns-clause-image : goal.returns-clause-image

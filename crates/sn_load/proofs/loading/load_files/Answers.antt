@@ -1,4 +1,4 @@
-use Rattle.std.proofs.Common.{ℕ, arith, ◌≡◌, ◌+◌, ◌<◌, Err, ap}
+use Rattle.std.proofs.Common.{ℕ, arith, ◌≡◌, Err, ap}
 use Rattle.sn_ondisk.specs.Trees.{Store}
 use Rattle.sn_image.specs.Image.{node_at}
 use Rattle.sn_plain.specs.Plain.{tree_of}

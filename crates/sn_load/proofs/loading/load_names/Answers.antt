@@ -1,4 +1,4 @@
-use Rattle.std.proofs.Common.{◌≡◌, [], ◌∷◌, List, ℕ, subst, arith, ◌+◌, ◌≤◌, Err, ap}
+use Rattle.std.proofs.Common.{◌≡◌, [], ◌∷◌, List, ℕ, subst, arith, ◌+◌, Err, ap}
 use Rattle.sn_device.specs.Disk.{reads}
 use Rattle.sn_block.specs.Lending.{device_of}
 use Rattle.sn_ondisk.specs.Trees.{Store, store_of}
@@ -28,7 +28,7 @@ loop-turn-preserved g c =
           let s = store_of (reads (g.D.Device.disk (device_of c.args.blocks.now))) in
           let b = filling_begun c.args.limits.now s c.args.file.now c.loop-turn._turn c.in-Some.directory c.loop-turn.pending.items c.pop.new.self.items now c.in-Some.ensures.items (c.loop-turn.invariant.begun told sound begun) in
           at_start _ _ _ _ _ c.loop-turn.invariant.stays (λ (k : ℕ) (r : Store). IsSoundOn c.args.limits.now k r c.args.file.now → (done : ℕ) → IsFilling c.args.limits.now r c.args.file.now done c.in-Some.directory c.pop.new.self.items now → HasNoNames now c.in-Some.directory
-              → IsOpen c.args.limits.now r c.args.file.now (done + 1) c.load_directory.new.pending.items next) told (c.in_ok-load_directory.ensures.opens told) sound c.loop-turn._turn b.0 b.1;
+          → IsOpen c.args.limits.now r c.args.file.now (done + 1) c.load_directory.new.pending.items next) told (c.in_ok-load_directory.ensures.opens told) sound c.loop-turn._turn b.0 b.1;
     }
 
 pub returns-in_default-clause-loading : goal.returns-in_default-clause-loading

@@ -1,9 +1,6 @@
 use Rattle.std.proofs.Common.{◌≡◌, Err, Option, sym, ap, subst, ◌∙◌}
 use Rattle.std.specs.Prelude.{IsSomeAnd}
 use Rattle.std.proofs.lemmas.Result.{err_from_is_err_and}
-use Rattle.sn_device.specs.Disk.{reads}
-use Rattle.sn_block.specs.Lending.{device_of}
-use Rattle.sn_ondisk.specs.Trees.{store_of}
 use Rattle.sn_layout_node.specs.declared.inode.Inode.{Inode}
 use Rattle.sn_limits.specs.declared.kind.Kind.TheVariants.{File, Directory}
 use Rattle.sn_tree_read.specs.declared.fault.TreeFault.TheVariants.{Damaged}
