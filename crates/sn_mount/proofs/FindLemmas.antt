@@ -1,8 +1,10 @@
 -- What a mount finds on an image, and why it finds none elsewhere.
-use Rattle.std.proofs.Common.{◌≡◌, ℕ, ◌+◌, ◌*◌, ◌≤◌, ◌++◌, length, Option, Some, None, Err, refl, sym, ap, subst, ◌∙◌}
+use Rattle.std.proofs.Common.{◌≡◌, ℕ, ◌+◌, ◌*◌, ◌≤◌, ◌++◌, length, Option, Some, None, Err, refl, sym, ap, subst, ◌∙◌, arith}
 use Rattle.sn_device.specs.Sectors.{Contents}
 use Rattle.sn_limits.specs.declared.limits.Limits.{Limits}
 use Rattle.sn_limits.specs.Versions.{version_1}
+use Rattle.sn_layout.specs.Places.{start_of}
+use Rattle.sn_layout.specs.declared.places.Area.TheVariants.{RootBody as Body}
 use Rattle.sn_layout.specs.declared.places.Slot.{Slot}
 use Rattle.sn_layout.specs.declared.root.RootBody.{RootBody}
 use Rattle.sn_model.specs.declared.mount.Damage.{Damage}
@@ -20,6 +22,7 @@ use Rattle.sn_ondisk.specs.Trees.{store_of}
 use Rattle.sn_ondisk.proofs.OneRootLemmas.{newest_is_one}
 use Rattle.sn_log.specs.Places.{LogPosition, payloads_of}
 use Rattle.sn_image.specs.Image.{image}
+use Rattle.sn_image.specs.Sound.{IsSound}
 use Rattle.sn_image.proofs.SoundNodeLemmas.{only_version}
 use Rattle.sn_opening.proofs.OpeningLemmas.{half_lies}
 use Rattle.sn_sound.specs.Disks.{IsFormatted}
@@ -29,7 +32,7 @@ use Rattle.sn_sound.proofs.DiskLemmas.{never_breaks, one_size, replayed_once}
 use Rattle.sn_held.specs.Images.{IsImage}
 use Rattle.sn_mount.specs.Both.{BreaksBoth, Replays, ReplaysBoth, in_newer, in_older}
 use Rattle.sn_mount.specs.Examining.{SomeIsLater}
-use Rattle.sn_mount.specs.Finding.{IsOfTree}
+use Rattle.sn_mount.specs.Finding.{IsOfTree, IsUnsound}
 use Rattle.sn_mount.specs.Refusing.{HasLogFault, IsNoImage, Refuses}
 
 -- ---- the same root
@@ -101,16 +104,39 @@ module _ (c : Contents) (w : World) (im : IsImage c w) where
 
 -- ---- refusals
 
--- a tree that can't be read
-pub tree_refuses : (f : MountFault) (sectors : ℕ) (c : Contents) → IsOfTree f → Refuses f sectors c
-tree_refuses (fault.Damaged damage block) sectors c is = subst (λ (d : Damage). Refuses (fault.Damaged d block) sectors c) (sym is) tt
-tree_refuses fault.NotFormatted sectors c is = absurd is
-tree_refuses fault.Version sectors c is = absurd is
-tree_refuses fault.NoRoot sectors c is = absurd is
-tree_refuses fault.Memory sectors c is = tt
-tree_refuses fault.Device sectors c is = tt
-
 module _ (sectors : ℕ) (c : Contents) (n : ℕ) (slot : Slot) (root : RootBody) (count : length c ≡ sectors) where
+  -- the live tree of an image is sound
+  image_sound : IsFormatted sectors c n → IsNewest c slot root → (w : World) → IsImage c w → IsSound version_1 n (store_of c) root.inode_file
+  image_sound formatted newest w im =
+      let same = same_root sectors c n slot root w im count formatted newest in
+      let live = im.sound.roots (record { bit = 0; inodes = im.opens.root.inode_file }) (0, omega arith, refl) in
+      let sized = subst (λ (m : ℕ). IsSound im.opens.root.limits m (store_of c) im.opens.root.inode_file) same.blocks live in
+      let own = subst (λ (r : RootBody). IsSound r.limits n (store_of c) r.inode_file) same.roots sized in
+      subst (λ (l : Limits). IsSound l n (store_of c) root.inode_file) (sym (only_version root.limits newest.body.fits.version)) own
+
+  -- a tree that can't be read
+  pub tree_refuses : (f : MountFault) (body : ℕ) → body ≡ start_of n (Body slot) → IsFormatted sectors c n → IsNewest c slot root → IsOfTree body f → IsUnsound sectors c root.inode_file f → Refuses f sectors c
+  tree_refuses (fault.Damaged damage block) body at formatted newest is unsound =
+      let bad = unsound n formatted.room in
+      let limits_is = only_version root.limits newest.body.fits.version in
+      subst (λ (d : Damage). Refuses (fault.Damaged d block) sectors c) (sym is.0) (
+        λ w im. bad (image_sound formatted newest w im),
+        record {
+          blocks = n;
+          formatted = formatted;
+          slot = slot;
+          root = root;
+          newest = newest;
+          unsound = λ sound. bad (subst (λ (l : Limits). IsSound l n (store_of c) root.inode_file) (sym limits_is) sound);
+          is = is.1 ∙ at;
+        },
+      )
+  tree_refuses fault.NotFormatted body at formatted newest is unsound = absurd is
+  tree_refuses fault.Version body at formatted newest is unsound = absurd is
+  tree_refuses fault.NoRoot body at formatted newest is unsound = absurd is
+  tree_refuses fault.Memory body at formatted newest is unsound = tt
+  tree_refuses fault.Device body at formatted newest is unsound = tt
+
   -- a damage of the log
   log_refuses : (damage : Damage) (block : ℕ) → damage ≡ Log → IsNoImage c → HasLogFault sectors c block → Refuses (fault.Damaged damage block) sectors c
   log_refuses damage block is none has = subst (λ (d : Damage). Refuses (fault.Damaged d block) sectors c) (sym is) (none, has)

@@ -1,8 +1,10 @@
 -- What a mount reads of a disk.
-use Rattle.std.specs.Prelude.{◌≡◌, ℕ, ◌+◌}
+use Rattle.std.specs.Prelude.{◌≡◌, ℕ, ◌+◌, ◌*◌, ◌≤◌}
 use Rattle.sn_device.specs.Sectors.{Contents}
 use Rattle.sn_layout.specs.declared.places.Slot.{Slot}
 use Rattle.sn_layout.specs.declared.root.RootBody.{RootBody}
+use Rattle.sn_layout.specs.declared.tree.BlockTree.{BlockTree}
+use Rattle.sn_limits.specs.Versions.{version_1}
 use Rattle.sn_model.specs.declared.mount.Damage.TheVariants.{Misspelt}
 use Rattle.sn_model.specs.declared.mount.MountFault.{MountFault}
 use Rattle.sn_model.specs.declared.mount.MountFault.TheVariants as fault
@@ -13,6 +15,7 @@ use Rattle.sn_ondisk.specs.Roots.{IsNewest}
 use Rattle.sn_ondisk.specs.Trees.{store_of}
 use Rattle.sn_log.specs.Places.{LogPosition}
 use Rattle.sn_image.specs.Image.{image}
+use Rattle.sn_image.specs.Sound.{IsSound}
 use Rattle.sn_sound.specs.Disks.{IsFormatted}
 use Rattle.sn_mount.specs.Both.{HasBoth}
 
@@ -22,14 +25,23 @@ pub record HasRoot (sectors : ℕ) (c : Contents) (n : ℕ) (slot : Slot) (root 
   pub newest : IsNewest c slot root
   pub none_later : (epoch : ℕ) → HasNoLater c (base_of n epoch) (root.epoch + 1)
 
--- A tree couldn't be read: it is misspelt, or memory was refused, or the device failed.
-abbrev pub IsOfTree : MountFault → Type 0
-IsOfTree (fault.Damaged damage block) = damage ≡ Misspelt
-IsOfTree fault.NotFormatted = ⊥
-IsOfTree fault.Version = ⊥
-IsOfTree fault.NoRoot = ⊥
-IsOfTree fault.Memory = Unit {0}
-IsOfTree fault.Device = Unit {0}
+-- A tree couldn't be read: it is misspelt, which is told of this block, or memory was refused, or the device failed.
+abbrev pub IsOfTree : ℕ → MountFault → Type 0
+IsOfTree body (fault.Damaged damage block) = (damage ≡ Misspelt) × (block ≡ body)
+IsOfTree body fault.NotFormatted = ⊥
+IsOfTree body fault.Version = ⊥
+IsOfTree body fault.NoRoot = ⊥
+IsOfTree body fault.Memory = Unit {0}
+IsOfTree body fault.Device = Unit {0}
+
+-- It is misspelt only where it is sound on no disk that the device has room for.
+abbrev pub IsUnsound : ℕ → Contents → BlockTree → MountFault → Type 0
+IsUnsound sectors c file (fault.Damaged damage block) = (n : ℕ) → 8 * n ≤ sectors → IsSound version_1 n (store_of c) file → ⊥
+IsUnsound sectors c file fault.NotFormatted = Unit {0}
+IsUnsound sectors c file fault.Version = Unit {0}
+IsUnsound sectors c file fault.NoRoot = Unit {0}
+IsUnsound sectors c file fault.Memory = Unit {0}
+IsUnsound sectors c file fault.Device = Unit {0}
 
 -- The tree of the newest root, with the records of both epochs on top of it, is the live tree of a world without sessions, and the log goes on at this position.
 pub record HasFound (sectors : ℕ) (c : Contents) (at : LogPosition) (world : World) : Type 0 where

@@ -1,6 +1,8 @@
 -- Why a disk isn't mounted.
-use Rattle.std.specs.Prelude.{ℕ, Result, IfErr}
+use Rattle.std.specs.Prelude.{◌≡◌, ℕ, Result, IfErr}
 use Rattle.sn_device.specs.Sectors.{Contents}
+use Rattle.sn_layout.specs.Places.{start_of}
+use Rattle.sn_layout.specs.declared.places.Area.TheVariants.{RootBody as Body}
 use Rattle.sn_layout.specs.declared.places.Slot.{Slot}
 use Rattle.sn_layout.specs.declared.root.RootBody.{RootBody}
 use Rattle.sn_model.specs.declared.mount.Damage.{Damage}
@@ -10,6 +12,7 @@ use Rattle.sn_model.specs.declared.mount.MountFault.TheVariants as fault
 use Rattle.sn_model.specs.World.{World}
 use Rattle.sn_ondisk.specs.Roots.{IsNewest}
 use Rattle.sn_ondisk.specs.Trees.{store_of}
+use Rattle.sn_image.specs.Sound.{IsSound}
 use Rattle.sn_sound.specs.Disks.{IsFormatted}
 use Rattle.sn_sound.specs.Logs.{IsLogFault}
 use Rattle.sn_sound.specs.Maps.{free_blocks}
@@ -29,13 +32,23 @@ pub record HasLogFault (sectors : ℕ) (c : Contents) (block : ℕ) : Type 0 whe
   pub newest : IsNewest c slot root
   pub is : IsLogFault blocks c root (free_blocks blocks (store_of c) root) block
 
--- A damage of the roots or of the log stands at the block that it is told of, and the contents are an image of no world. Of a tree that can't be read this isn't said.
+-- The tree of the newest root is unsound, which is told of the block of the root's body.
+pub record HasUnsoundTree (sectors : ℕ) (c : Contents) (block : ℕ) : Type 0 where
+  pub blocks : ℕ
+  pub formatted : IsFormatted sectors c blocks
+  pub slot : Slot
+  pub root : RootBody
+  pub newest : IsNewest c slot root
+  pub unsound : IsSound root.limits blocks (store_of c) root.inode_file → ⊥
+  pub is : block ≡ start_of blocks (Body slot)
+
+-- A damage of the roots, of the live tree or of the log stands at the block that it is told of, and the contents are an image of no world.
 abbrev pub StandsAt : Damage → ℕ → Contents → ℕ → Type 0
 StandsAt Root sectors c block = IsNoImage c × IsRootFault c Root block
 StandsAt Pointer sectors c block = ⊥
 StandsAt ReachedTwice sectors c block = ⊥
 StandsAt MapWord sectors c block = ⊥
-StandsAt Misspelt sectors c block = Unit {0}
+StandsAt Misspelt sectors c block = IsNoImage c × HasUnsoundTree sectors c block
 StandsAt Links sectors c block = ⊥
 StandsAt Log sectors c block = IsNoImage c × HasLogFault sectors c block
 

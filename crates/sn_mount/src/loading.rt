@@ -11,7 +11,7 @@ ghost use Rattle.sn_model.specs.Steps.{with_live};
 ghost use Rattle.sn_model.specs.World.{new_world};
 ghost use Rattle.sn_ondisk.specs.Trees.{store_of};
 ghost use Rattle.sn_mount.specs.Failing.{FailsAs, WritesNothing};
-ghost use Rattle.sn_mount.specs.Finding.{IsOfTree};
+ghost use Rattle.sn_mount.specs.Finding.{IsOfTree, IsUnsound};
 
 use crate::fault::fault_of;
 use sn_block::Blocks;
@@ -25,7 +25,7 @@ use sn_tree_read::TreeFault;
 use std::alloc::Global;
 
 /// A world over the live tree of a root, in which nobody is logged in. What can't be read of it is told of the block of
-/// its body.
+/// its body, and only where the tree is unsound.
 pub(crate) fn load_world<D: Device>(
     alloc: Global,
     blocks: &mut Blocks<D>,
@@ -37,7 +37,8 @@ pub(crate) fn load_world<D: Device>(
     ensures world { IfOk result (λ w. world_of w ≡ with_live new_world (world_of w).live) }
     ensures whole { IfOk result (λ w. IsTree version_1 (world_of w).live) }
     ensures kept { IfOk result (λ w. (number : ℕ) → kept_of w number ≡ false) }
-    ensures fault { IfErr result IsOfTree }
+    ensures fault { IfErr result (IsOfTree body) }
+    ensures unsound { IsTrue D.tells_bytes → IfErr result (IsUnsound (D.status (device_of blocks.old)).sectors (reads (D.disk (device_of blocks.old))) root.now.inode_file) }
     ensures same { IsTrue D.tells_bytes → D.disk (device_of blocks.new) ≡ D.disk (device_of blocks.old) }
     ensures idle { OnOk result (D.status (device_of blocks.new) ≡ D.status (device_of blocks.old)) }
     ensures reads { WritesNothing (D.status (device_of blocks.old)) (D.status (device_of blocks.new)) }

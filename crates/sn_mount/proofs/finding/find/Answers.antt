@@ -5,6 +5,8 @@ use Rattle.sn_core.specs.Plain.{world_of}
 use Rattle.sn_image.specs.Image.{image}
 use Rattle.sn_ondisk.specs.Trees.{store_of}
 use Rattle.sn_model.specs.Tree.{Tree}
+use Rattle.sn_device.specs.declared.status.Status.{Status}
+use Rattle.sn_mount.specs.Finding.{IsUnsound}
 use Rattle.sn_mount.specs.Both.{ReplaysBoth}
 use Rattle.sn_mount.proofs.FindLemmas.{both_refuses, tree_refuses}
 use Rattle.sn_mount.proofs.finding.find.Goals as goal
@@ -12,7 +14,13 @@ use Rattle.sn_mount.proofs.finding.find.Goals as goal
 pub returns-in-Err-load_world-clause-refuses : goal.returns-in-Err-load_world-clause-refuses
 returns-in-Err-load_world-clause-refuses g c told =
     let device = device_of c.args.blocks.now in
-    tree_refuses c.in-Err-load_world.fault (g.D.Device.status device).sectors (reads (g.D.Device.disk device)) c.in-Err-load_world.ensures.fault
+    let found = c.in-Ok.found in
+    let has = c.in-Ok.ensures.found told in
+    let f = c.in-Err-load_world.fault in
+    let body = c.range-body.result.start in
+    let sized = subst (λ (s : Status). IsUnsound s.sectors (reads (g.D.Device.disk (device_of c.find_root.new.blocks))) found.root.inode_file f) c.in-Ok.ensures.idle (c.in-Err-load_world.ensures.unsound told) in
+    let unsound = subst (λ (d : Disk). IsUnsound (g.D.Device.status device).sectors (reads d) found.root.inode_file f) (c.in-Ok.ensures.same told) sized in
+    tree_refuses (g.D.Device.status device).sectors (reads (g.D.Device.disk device)) found.places found.slot found.root (g.met.D.Device.count device told) f body c.range-body.ensures.start has.formatted has.newest c.in-Err-load_world.ensures.fault unsound
 
 pub returns-in-Err-replay_both-clause-refuses : goal.returns-in-Err-replay_both-clause-refuses
 returns-in-Err-replay_both-clause-refuses g c told =
