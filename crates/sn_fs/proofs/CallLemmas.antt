@@ -1,5 +1,6 @@
 -- What a call answers, by how it ends.
 use Rattle.std.proofs.Common.{◌≡◌, ◌⊎◌, inl, inr, ◌||◌, ℕ, Bool, true, false, Option, Some, None, Result, Ok, refl, sym, ap, subst, ◌∙◌, arith}
+use Rattle.std.specs.FinMap as map
 use Rattle.std.proofs.lemmas.Bool.{true≢false}
 use Rattle.sn_limits.specs.Versions.{version_1}
 use Rattle.sn_model.specs.declared.call.Call.{Call}
@@ -32,14 +33,15 @@ use Rattle.sn_device.proofs.CrashLemmas.{LeavesOnly-start, Touches-start}
 use Rattle.sn_block.specs.Effects.{Nowhere}
 use Rattle.sn_ondisk.specs.LogHalf.{InHalf}
 use Rattle.sn_log.specs.Places.{base_at}
-use Rattle.sn_recovery.specs.Moments.{ShowsState}
+use Rattle.sn_held.specs.Events.{IsOfTree}
+use Rattle.sn_held.specs.Held.{Held, Means, Runs}
+use Rattle.sn_held.specs.Moments.{ShowsState}
+use Rattle.sn_held.proofs.EventLemmas.{dropped_runs, left_of_tree, live_show, runs_lasts, runs_on, stays_lasts, still_none, stops_between, stops_lasts}
 use Rattle.sn_fs.specs.Answers.{Answers, AnswersFrom, Costs, CostsRefused, IsChangeOf, MayMeet, NumbersIn, Writes, writes_of}
 use Rattle.sn_fs.specs.Changing.{FailsChange, IsLogged, errno_of, stops}
 use Rattle.sn_fs.specs.declared.fault.ChangeFault.{ChangeFault}
 use Rattle.sn_fs.specs.declared.fault.ChangeFault.TheVariants as fault
-use Rattle.sn_fs.specs.Held.{Held, Means, Runs, ground}
 use Rattle.sn_fs.proofs.DecisionLemmas.{CanBeMade, can_be_made, has_no_change, is_charged, refused_none}
-use Rattle.sn_fs.proofs.MeaningLemmas.{IsOfTree, left_keeps, left_of_tree, runs_lasts, runs_on, runs_show, stays_lasts, stops_between, stops_lasts}
 
 -- no node is new
 stays_numbers : (session : ℕ) (c : Call) (s : State) (kept : ℕ → Bool) → NumbersIn (event.Call session c) s kept s kept
@@ -82,11 +84,11 @@ stopped_answers h session c (Stopped before after) m = kept h true (Stopped befo
 -- ---- of one that runs, in the world that it holds
 
 abbrev OfWorld : Held → Bool → ℕ → Call → Reply → Held → Type 0
-OfWorld h has_stopped session c reply new = Runs h h.world → AnswersFrom (Running h.world) (event.Call session c) reply h new has_stopped
+OfWorld h has_stopped session c reply new = Runs h h.world → h.world.frozen ≡ map.empty → AnswersFrom (Running h.world) (event.Call session c) reply h new has_stopped
 
 in_world : (h new : Held) (has_stopped : Bool) (session : ℕ) (c : Call) (reply : Reply) → OfWorld h has_stopped session c reply new → Answers (event.Call session c) reply h false new has_stopped
 in_world h new has_stopped session c reply f (Running w) m =
-    subst (λ (x : World). AnswersFrom (Running x) (event.Call session c) reply h new has_stopped) m.1.is (f (subst (λ (x : World). Runs h x) (sym m.1.is) m.1))
+    subst (λ (x : World). AnswersFrom (Running x) (event.Call session c) reply h new has_stopped) m.1.is (f (subst (λ (x : World). Runs h x) (sym m.1.is) m.1) (ap (λ (x : World). x.frozen) m.1.is ∙ m.2))
 in_world h new has_stopped session c reply f (Stopped before after) m = absurd (true≢false (sym m.0))
 
 abbrev pub reply_of : CallError → Reply
@@ -95,12 +97,12 @@ reply_of lack.Memory = refused Enomem
 
 -- the call has no outcome
 pub undecided_answers : (h : Held) (session : ℕ) (c : Call) (e : CallError) → HasNone e h.world session c → Answers (event.Call session c) (reply_of e) h false h false
-undecided_answers h session c e none = in_world h h false session c (reply_of e) (λ r. told r e none)
+undecided_answers h session c e none = in_world h h false session c (reply_of e) (λ r bare. told r bare e none)
   where
-    told : Runs h h.world → (e : CallError) → HasNone e h.world session c → AnswersFrom (Running h.world) (event.Call session c) (reply_of e) h h false
-    told r (lack.Refused refusal) none = kept h false (Running h.world) session c None (answer.Refused refusal) (refl, r) refl (inl (refused_none h.world h.kept session c refusal none, refl))
+    told : Runs h h.world → h.world.frozen ≡ map.empty → (e : CallError) → HasNone e h.world session c → AnswersFrom (Running h.world) (event.Call session c) (reply_of e) h h false
+    told r bare (lack.Refused refusal) none = kept h false (Running h.world) session c None (answer.Refused refusal) (refl, r, bare) refl (inl (refused_none h.world h.kept session c refusal none, refl))
         (record { next = h.world; becomes = subst (λ (d : Result Outcome Refusal). Becomes version_1 h.world session d (answer.Refused refusal) h.world) (sym none) (refl, refl); runs = refl })
-    told r lack.Memory none = kept h false (Running h.world) session c (Some Memory) (refused Enomem) (refl, r) refl (costs_nothing h) (none, record { told = refl; same = refl })
+    told r bare lack.Memory none = kept h false (Running h.world) session c (Some Memory) (refused Enomem) (refl, r, bare) refl (costs_nothing h) (none, record { told = refl; same = refl })
 
 -- the call has an outcome, and a change was chosen
 module _ (old : Held) (session : ℕ) (c : Call) (o : Outcome) (picked : Chosen) (change : Change) (numbers : IsCall c) (whole : IsWorld version_1 old.world) (decided : decision version_1 old.world session c ≡ Ok o) (chosen : Chooses old.world.live old.kept o.change o.caller picked) (some : picked.change ≡ Some change) where
@@ -125,21 +127,21 @@ module _ (old : Held) (session : ℕ) (c : Call) (o : Outcome) (picked : Chosen)
 
   -- its record has no room, there is no memory for it, or the device fails
   pub unmade_answers : (new : Held) (f : ChangeFault) → FailsChange true f change old new → Answers (event.Call session c) (refused (errno_of f)) old false new (stops f)
-  unmade_answers new f fails = in_world old new (stops f) session c (refused (errno_of f)) (λ r. told f r fails)
+  unmade_answers new f fails = in_world old new (stops f) session c (refused (errno_of f)) (λ r bare. told f r bare fails)
     where
       same : (new : Held) (f : ChangeFault) → new ≡ old → AnswersFrom (Running old.world) (event.Call session c) (refused (errno_of f)) old old (stops f) → AnswersFrom (Running old.world) (event.Call session c) (refused (errno_of f)) old new (stops f)
       same new f e a = subst (λ (x : Held). AnswersFrom (Running old.world) (event.Call session c) (refused (errno_of f)) old x (stops f)) (sym e) a
 
-      told : (f : ChangeFault) → Runs old old.world → FailsChange true f change old new → AnswersFrom (Running old.world) (event.Call session c) (refused (errno_of f)) old new (stops f)
-      told fault.Space r fails = same new fault.Space fails.1 (kept old false (Running old.world) session c (Some Space) (refused (errno_of fault.Space)) (refl, r)
+      told : (f : ChangeFault) → Runs old old.world → old.world.frozen ≡ map.empty → FailsChange true f change old new → AnswersFrom (Running old.world) (event.Call session c) (refused (errno_of f)) old new (stops f)
+      told fault.Space r bare fails = same new fault.Space fails.1 (kept old false (Running old.world) session c (Some Space) (refused (errno_of fault.Space)) (refl, r, bare)
           (record { change = change; is = is_change; none = fails.0 }, refl) (costs_nothing old)
           ((o, decided, is_charged old.world old.kept session c o picked change decided chosen some), record { told = refl; same = refl }))
-      told fault.Memory r fails = same new fault.Memory fails.1 (kept old false (Running old.world) session c (Some Memory) (refused (errno_of fault.Memory)) (refl, r) refl (costs_nothing old)
+      told fault.Memory r bare fails = same new fault.Memory fails.1 (kept old false (Running old.world) session c (Some Memory) (refused (errno_of fault.Memory)) (refl, r, bare) refl (costs_nothing old)
           (change_takes old.world old.kept session c o picked change decided chosen some, record { told = refl; same = refl }))
-      told fault.Device r fails =
+      told fault.Device r bare fails =
           let tree = fails.made.tree in
           let next = next_with tree in
-          let between = stops_between old new old.world next change tree r can.spelled fails.made.applied (of_tree tree) (fails.moments refl) in
+          let between = stops_between old new old.world next change tree r can.spelled fails.made.applied (of_tree tree) (fails.touched refl) bare (fails.moments refl) in
           record {
             met = Some Write;
             mid = old;
@@ -155,7 +157,7 @@ module _ (old : Held) (session : ℕ) (c : Call) (o : Outcome) (picked : Chosen)
               stops = record { told = refl; left = refl };
             };
             means = (refl, between);
-            lasts = stops_lasts old new old.world next change tree r can.spelled fails.made.applied (of_tree tree) (fails.moments refl);
+            lasts = stops_lasts old new old.world next change tree r can.spelled fails.made.applied (of_tree tree) (fails.touched refl) bare (fails.moments refl);
             writes = fails.touched refl;
             begins = tt;
             numbers = tt;
@@ -181,12 +183,12 @@ module _ (old : Held) (session : ℕ) (c : Call) (o : Outcome) (picked : Chosen)
       served : IsServed old.world old.kept session c o.told (next_with tree) new.kept
       served = chosen_served old.world old.kept session c o picked tree numbers whole decided chosen (done tree logged.made.applied) mid.kept new.kept by_mid by_last
 
-      told : Runs old old.world → AnswersFrom (Running old.world) (event.Call session c) o.told old new false
-      told r =
+      told : Runs old old.world → old.world.frozen ≡ map.empty → AnswersFrom (Running old.world) (event.Call session c) o.told old new false
+      told r bare =
           let next = next_with tree in
           let after : Held = record mid { world = dropped (with_caller mid.world session picked.caller); kept = new.kept } in
           let made : after.world ≡ next = ap (λ (x : World). dropped (with_caller x session picked.caller)) logged.made.world in
-          let on : Runs after next = runs_on old after old.world next change tree r can.spelled logged.made.applied (of_tree tree) (logged.acknowledged refl) logged.at made in
+          let on : Runs after next = runs_on old after old.world next change tree r can.spelled logged.made.applied (of_tree tree) (logged.touched refl) (logged.acknowledged refl) (logged.sectors refl) logged.at made in
           subst (λ (x : Held). AnswersFrom (Running old.world) (event.Call session c) o.told old x false) (sym is) (record {
             met = None;
             mid = old;
@@ -194,8 +196,8 @@ module _ (old : Held) (session : ℕ) (c : Call) (o : Outcome) (picked : Chosen)
             may = ap (λ (s : Status). s.failures) logged.costs;
             next = Running next;
             step = record { next = next; becomes = served.0; runs = refl };
-            means = (refl, on);
-            lasts = runs_lasts old after old.world next change tree r can.spelled logged.made.applied (of_tree tree) (logged.moments refl) on;
+            means = (refl, on, still_none old after old.world next change tree r can.spelled logged.made.applied (of_tree tree) (logged.touched refl) bare);
+            lasts = runs_lasts old after old.world next change tree r can.spelled logged.made.applied (of_tree tree) (logged.touched refl) bare (logged.moments refl) on;
             writes = logged.touched refl;
             begins = tt;
             numbers = served.1;
@@ -210,19 +212,13 @@ pub told_answers : (old new : Held) (session : ℕ) (c : Call) (o : Outcome) (pi
     → Answers (event.Call session c) o.told old false new false
 told_answers old new session c o picked numbers whole decided chosen none is keeps = in_world old new false session c o.told told
   where
-    told : Runs old old.world → AnswersFrom (Running old.world) (event.Call session c) o.told old new false
-    told r =
+    told : Runs old old.world → old.world.frozen ≡ map.empty → AnswersFrom (Running old.world) (event.Call session c) o.told old new false
+    told r bare =
         let next = dropped (with_caller old.world session picked.caller) in
         let after : Held = record old { world = next; kept = new.kept } in
         let of = left_of_tree old.world session picked.caller old.world.live in
-        let on : Runs after next = record {
-          is = refl;
-          frozen = of.frozen ∙ r.frozen;
-          place = r.place;
-          changes = r.changes;
-          keeps = left_keeps old.disk old.at r.changes old.world.live next.live of.held of.live r.keeps;
-        } in
-        let shows = runs_show after next on in
+        let on : Runs after next = dropped_runs old old.world next new.kept r of in
+        let shows = live_show after next on (of.frozen ∙ bare) in
         let served = chosen_served old.world old.kept session c o picked old.world.live numbers whole decided chosen (subst (λ (x : Option Change). MadeBy x old.world.live old.world.live) (sym none) refl)
         old.kept new.kept (λ n. sym (ap (λ (x : Option Change). kept_by x old.kept n) none)) keeps in
         subst (λ (x : Held). AnswersFrom (Running old.world) (event.Call session c) o.told old x false) (sym is) (record {
@@ -232,8 +228,8 @@ told_answers old new session c o picked numbers whole decided chosen none is kee
           may = refl;
           next = Running next;
           step = record { next = next; becomes = served.0; runs = refl };
-          means = (refl, on);
-          lasts = record { moments = LeavesOnly-start old.disk (λ d. ShowsState ground (Running old.world) d ⊎ ShowsState ground (Running next) d) (λ d crash. inr (shows d crash)); answered = shows };
+          means = (refl, on, of.frozen ∙ bare);
+          lasts = record { moments = LeavesOnly-start old.disk (λ d. ShowsState (Running old.world) d ⊎ ShowsState (Running next) d) (λ d crash. inr (shows d crash)); answered = shows };
           writes = Touches-start (InHalf (base_at old.at)) old.disk;
           begins = tt;
           numbers = served.1;
@@ -244,7 +240,7 @@ told_answers old new session c o picked numbers whole decided chosen none is kee
 
 -- there is no memory for what is to be opened
 pub unprepared_answers : (h : Held) (session : ℕ) (c : Call) (o : Outcome) → decision version_1 h.world session c ≡ Ok o → is_opening o.caller ≡ true → Answers (event.Call session c) (refused Enomem) h false h false
-unprepared_answers h session c o decided opens = in_world h h false session c (refused Enomem) (λ r. kept h false (Running h.world) session c (Some Memory) (refused Enomem) (refl, r) refl (costs_nothing h) (opening_takes h.world session c o decided opens, record { told = refl; same = refl }))
+unprepared_answers h session c o decided opens = in_world h h false session c (refused Enomem) (λ r bare. kept h false (Running h.world) session c (Some Memory) (refused Enomem) (refl, r, bare) refl (costs_nothing h) (opening_takes h.world session c o decided opens, record { told = refl; same = refl }))
 
 -- where a change isn't made and the mount goes on, its world is the one from before
 pub still_whole : (told : Bool) (f : ChangeFault) (change : Change) (old new : Held) → FailsChange told f change old new → stops f ≡ false → IsWorld version_1 old.world → IsWorld version_1 new.world

@@ -21,7 +21,7 @@ use Rattle.sn_numbers.specs.Numbers.{next_number}
 use Rattle.sn_numbers.proofs.FreeLemmas.{next_is_number}
 use Rattle.sn_core.specs.declared.choosing.Chosen.{Chosen}
 use Rattle.sn_core.specs.Served.{Chooses}
-use Rattle.sn_recovery.proofs.SpelledLemmas.{applied_spelled, old_spelled}
+use Rattle.sn_opening.proofs.SpelledLemmas.{applied_spelled, old_spelled}
 use Rattle.sn_record.specs.Payload.{IsSpelled}
 use Rattle.sn_fs.specs.Answers.{HasNoChange}
 

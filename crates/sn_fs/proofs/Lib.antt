@@ -1,4 +1,3 @@
-pub mod MeaningLemmas
 pub mod DecisionLemmas
 pub mod CallLemmas
 pub mod MountLemmas

@@ -23,10 +23,11 @@ use Rattle.sn_log.specs.Places.{LogPosition, HasRoom, base_at}
 use Rattle.sn_core.specs.Numbering.{Numbers}
 use Rattle.sn_core.specs.declared.choosing.Chosen.{Chosen}
 use Rattle.sn_core.specs.Served.{Chooses}
-use Rattle.sn_recovery.specs.Moments.{LastsOver}
-use Rattle.sn_fs.specs.Costs.{CostsAtMost, HasFailed, HasNotFailed}
-use Rattle.sn_fs.specs.Held.{Held, Means, ground}
-use Rattle.sn_fs.specs.Mounting.{LeavesTheWorld, TouchesOneGate}
+use Rattle.sn_held.specs.Held.{Held, Means}
+use Rattle.sn_held.specs.Moments.{LastsOver}
+use Rattle.sn_mount.specs.Failing.{CostsAtMost, HasFailed, HasNotFailed}
+use Rattle.sn_mount.specs.Recovering.{LeavesTheWorld}
+use Rattle.sn_fs.specs.Mounting.{WritesToMount}
 
 -- What is held behind the whole point that an event makes first: no event makes one yet.
 abbrev pub IsBehindPoint : Held → Held → Type 0
@@ -127,10 +128,10 @@ Costs (Stopped before after) old mid event.Restart met new = CostsMount met old.
 abbrev pub Writes : State → Held → Event → Disk → Disk → Type 0
 Writes (Running w) h (event.Call session c) old new = Touches (InHalf (base_at h.at)) old new
 Writes (Running w) h event.Step old new = Touches Nowhere old new
-Writes (Running w) h event.Restart old new = TouchesOneGate old new
+Writes (Running w) h event.Restart old new = WritesToMount h.status.sectors old new
 Writes (Stopped before after) h (event.Call session c) old new = Touches Nowhere old new
 Writes (Stopped before after) h event.Step old new = Touches Nowhere old new
-Writes (Stopped before after) h event.Restart old new = TouchesOneGate old new
+Writes (Stopped before after) h event.Restart old new = WritesToMount h.status.sectors old new
 
 -- a step that says that there is more has written something
 abbrev pub Works : Event → Reply → Status → Status → Type 0
@@ -154,7 +155,7 @@ pub record AnswersFrom (s : State) (e : Event) (reply : Reply) (old new : Held) 
   pub next : State
   pub step : EventStep version_1 s e met reply next
   pub means : Means new has_stopped next
-  pub lasts : LastsOver ground s next old.disk new.disk
+  pub lasts : LastsOver s next old.disk new.disk
   pub writes : Writes s old e old.disk new.disk
   pub begins : Begins e next old.disk new.disk
   pub numbers : NumbersIn e s mid.kept next new.kept

@@ -1,7 +1,8 @@
 -- A change that is made in memory and then appended to the log.
-use Rattle.std.specs.Prelude.{◌≡◌, ◌⊎◌, ℕ, Bool, true, false, List, [], ◌∷◌, ◌++◌, Some, Result, Ok, Err, IsTrue}
-use Rattle.sn_device.specs.Disk.{Disk, Always}
-use Rattle.sn_device.specs.Crash.{LeavesOnly, Touches}
+use Rattle.std.specs.Prelude.{◌≡◌, ℕ, Bool, true, false, Some, Result, Ok, Err, IsTrue}
+use Rattle.sn_device.specs.Sectors.{AreSectors}
+use Rattle.sn_device.specs.Disk.{reads}
+use Rattle.sn_device.specs.Crash.{Touches}
 use Rattle.sn_limits.specs.Versions.{version_1}
 use Rattle.sn_model.specs.declared.change.Change.{Change}
 use Rattle.sn_model.specs.Changes.{apply}
@@ -12,11 +13,12 @@ use Rattle.sn_model.specs.declared.reply.Errno.{Errno}
 use Rattle.sn_model.specs.declared.reply.Errno.TheVariants.{Enospc, Enomem, Eio}
 use Rattle.sn_numbers.specs.Numbers.{kept_after}
 use Rattle.sn_ondisk.specs.LogHalf.{InHalf}
-use Rattle.sn_log.specs.Places.{LogPosition, HasRoom, IsReadyAt, base_at, behind}
+use Rattle.sn_log.specs.Places.{HasRoom, base_at, behind}
 use Rattle.sn_block.specs.Counts.{IsLater, called}
 use Rattle.sn_fs.specs.Answers.{writes_of}
-use Rattle.sn_fs.specs.Costs.{CostsAtMost, HasFailed}
-use Rattle.sn_fs.specs.Held.{Held}
+use Rattle.sn_held.specs.Events.{LeavesEither, LeavesMore}
+use Rattle.sn_held.specs.Held.{Held}
+use Rattle.sn_mount.specs.Failing.{CostsAtMost, HasFailed}
 use Rattle.sn_fs.specs.declared.fault.ChangeFault.{ChangeFault}
 use Rattle.sn_fs.specs.declared.fault.ChangeFault.TheVariants.{Space, Memory, Device}
 
@@ -25,16 +27,6 @@ pub record IsMade (change : Change) (old new : World) : Type 0 where
   pub tree : Tree
   pub applied : apply version_1 change old.live ≡ Some tree
   pub world : new ≡ with_live old tree
-
--- A crash in the course of the append leaves the records of before, or one more.
-abbrev pub LeavesEither : LogPosition → Change → Disk → Disk → Type 0
-LeavesEither at change old new = (changes : List Change) → Always old (IsReadyAt at changes)
-    → LeavesOnly old new (λ c. IsReadyAt at changes c ⊎ IsReadyAt (behind at change) (changes ++ change ∷ []) c)
-
--- After it each crash leaves one more.
-abbrev pub LeavesMore : LogPosition → Change → Disk → Disk → Type 0
-LeavesMore at change old new = (changes : List Change) → Always old (IsReadyAt at changes)
-    → Always new (IsReadyAt (behind at change) (changes ++ change ∷ []))
 
 -- it had room, is made, and its record stands in the log
 pub record IsLogged (told : Bool) (change : Change) (old new : Held) : Type 0 where
@@ -45,6 +37,7 @@ pub record IsLogged (told : Bool) (change : Change) (old new : Held) : Type 0 wh
   pub touched : IsTrue told → Touches (InHalf (base_at old.at)) old.disk new.disk
   pub moments : IsTrue told → LeavesEither old.at change old.disk new.disk
   pub acknowledged : IsTrue told → LeavesMore old.at change old.disk new.disk
+  pub sectors : IsTrue told → AreSectors (reads new.disk)
   pub costs : new.status ≡ called (writes_of change) 2 old.status
 
 -- the device failed while its record was appended

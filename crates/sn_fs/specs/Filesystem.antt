@@ -2,7 +2,7 @@
 use Rattle.std.specs.Prelude.{Bool}
 use Rattle.sn_device.specs.declared.device.Device.{Ghosts}
 use Rattle.sn_fs.specs.declared.fs.Fs.{Fs}
-use Rattle.sn_fs.specs.Held.{Held}
+use Rattle.sn_held.specs.Held.{Held}
 use Rattle.sn_fs.specs.Mounted.{IsMounted, holding}
 use Rattle.sn_block.specs.Lending.{device_of}
 

@@ -1,5 +1,5 @@
 -- What a mounted file system is made of.
-use Rattle.std.specs.Prelude.{◌≡◌, ◌≤◌, Bool, false}
+use Rattle.std.specs.Prelude.{◌≡◌, ◌*◌, ◌≤◌, Bool, false}
 use Rattle.sn_device.specs.declared.device.Device.{Ghosts}
 use Rattle.sn_device.specs.declared.status.Status.{Status}
 use Rattle.sn_limits.specs.Versions.{version_1}
@@ -9,12 +9,11 @@ use Rattle.sn_block.specs.declared.blocks.Blocks.{Blocks}
 use Rattle.sn_log.specs.Places.{LogPosition}
 use Rattle.sn_core.specs.declared.world.PlainWorld.{PlainWorld}
 use Rattle.sn_core.specs.Plain.{kept_of, world_of}
-use Rattle.sn_fs.specs.Held.{Held, IsOnGround}
+use Rattle.sn_held.specs.Held.{Held}
 
--- Its log is on a device that has all its sectors, and unless a failure has stopped it, its world is one.
+-- Its log is on a device that has all its blocks, and unless a failure has stopped it, its world is one.
 pub record IsMounted (status : Status) (at : LogPosition) (world : PlainWorld) (has_stopped : Bool) : Type 0 where
-  pub sectors : 2048 ≤ status.sectors
-  pub place : IsOnGround at
+  pub within : 8 * at.blocks ≤ status.sectors
   pub whole : has_stopped ≡ false → IsWorld version_1 (world_of world)
 
 -- what these parts hold

@@ -1,12 +1,11 @@
 //! A change in memory and in the log.
-ghost use Rattle.std.specs.Prelude.{◌≡◌, ◌≤◌};
+ghost use Rattle.std.specs.Prelude.{◌≡◌, ◌*◌, ◌≤◌};
 ghost use Rattle.sn_block.specs.Lending.{device_of};
 ghost use Rattle.sn_core.specs.Plain.{room_of, world_of};
 ghost use Rattle.sn_limits.specs.Versions.{version_1};
 ghost use Rattle.sn_model.specs.NameTree.{IsTree};
 ghost use Rattle.sn_record.specs.Payload.{IsSpelled};
 ghost use Rattle.sn_fs.specs.Changing.{Changes};
-ghost use Rattle.sn_fs.specs.Held.{IsOnGround};
 ghost use Rattle.sn_fs.specs.Mounted.{holding};
 
 use crate::fault::ChangeFault;
@@ -28,11 +27,10 @@ pub(crate) fn make_change<D: Device>(
 ) -> Result<(), ChangeFault>
     requires whole { IsTree version_1 (world_of world.old).live }
     requires spelled { IsSpelled change.now }
-    requires place { IsOnGround log.old }
-    requires sectors { 2048 ≤ (D.status (device_of blocks.old)).sectors }
+    requires within { 8 * log.old.blocks ≤ (D.status (device_of blocks.old)).sectors }
     ensures made { Changes D.tells_bytes result change.now (holding D.Device blocks.old log.old world.old) (holding D.Device blocks.new log.new world.new) }
     ensures room { room_of world.new ≡ room_of world.old }
-    ensures place { IsOnGround log.new }
+    ensures blocks { log.new.blocks ≡ log.old.blocks }
     ensures sectors { (D.status (device_of blocks.new)).sectors ≡ (D.status (device_of blocks.old)).sectors }
 {
     if !log.has_room(change) {

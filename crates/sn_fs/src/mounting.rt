@@ -1,42 +1,31 @@
 //! Mount and unmount.
 ghost use Rattle.std.specs.Prelude.{◌≡◌, IsTrue, IfOk, IfErr};
 ghost use Rattle.sn_block.specs.Counts.{IsLater, called};
-ghost use Rattle.sn_fs.specs.Costs.{CostsAtMost};
+ghost use Rattle.sn_mount.specs.Failing.{CostsAtMost, IsSoOf};
 ghost use Rattle.sn_fs.specs.Filesystem.{IsFs, has_stopped, held};
-ghost use Rattle.sn_fs.specs.Mounting.{IsSoOf};
-ghost use Rattle.sn_fs.specs.Recovering.{IsLeft, Mounts};
+ghost use Rattle.sn_fs.specs.Mounting.{IsLeft, Mounts};
 
 use crate::Fs;
-use crate::found::{Recovered, Unmounted};
-use crate::recovering::recover;
+use crate::found::Unmounted;
 use sn_block::Blocks;
 use sn_device::Device;
 use sn_model::MountFault;
+use sn_mount::{Recovered, recover};
 use std::alloc::Global;
 
-/// How many sectors the disk has.
-const SECTORS: u64 = 2_048;
-
-/// Mounts a device: syncs it, replays its log into an empty tree, drops the files that no name stands
-/// for, and clears the place where the log goes on. A device of zeros is an empty file system.
-/// `NotFormatted` comes where the device has fewer than 2,048 sectors, `Damaged` where a record of the
-/// log is misspelt or can't be applied, with the block of its gate.
+/// Mounts a device: syncs it, reads the newest root's tree, replays the log into it, drops the files that no name
+/// stands for, and clears the place where the log goes on. `NotFormatted`, `NoRoot`, `Version` and `Damaged` come in
+/// this order, each before anything is written.
 pub fn mount<D: Device>(alloc: Global, device: D) -> Result<Fs<D>, Unmounted<D>>
-    ensures mounted { IsTrue D.tells_bytes → IfOk result (λ fs. Mounts (D.disk device) (held fs) (has_stopped fs)) }
+    ensures mounted { IsTrue D.tells_bytes → IfOk result (λ fs. Mounts (D.status device).sectors (D.disk device) (held fs) (has_stopped fs)) }
     ensures sound { IfOk result IsFs }
-    ensures unmounted { IsTrue D.tells_bytes → IfErr result (λ u. IsLeft u.fault (D.disk device) (D.disk u.device) (D.status device).sectors) }
+    ensures unmounted { IsTrue D.tells_bytes → IfErr result (λ u. IsLeft u.fault (D.status device).sectors (D.disk device) (D.disk u.device)) }
     ensures failed { IfErr result (λ u. IsSoOf u.fault (D.status device) (D.status u.device)) }
     ensures sectors { IfErr result (λ u. (D.status u.device).sectors ≡ (D.status device).sectors) }
     ensures later { IfErr result (λ u. IsLater (D.status device) (D.status u.device)) }
     ensures costs { IfOk result (λ fs. (held fs).status ≡ called 1 2 (D.status device)) }
     ensures tries { IfErr result (λ u. CostsAtMost 1 2 (D.status device) (D.status u.device)) }
 {
-    if device.sectors() < SECTORS {
-        return Err(Unmounted {
-            fault: MountFault::NotFormatted,
-            device,
-        });
-    }
     let mut blocks = match Blocks::new(alloc, device) {
         Ok(blocks) => blocks,
         Err(refused) => {

@@ -35,7 +35,7 @@ use Rattle.sn_sound.specs.Disks.{IsFormatted}
 use Rattle.sn_sound.proofs.DiskLemmas.{one_size}
 use Rattle.sn_sound.proofs.StandingLemmas.{lies_in_data}
 use Rattle.sn_held.specs.Held.{Held, Means, Runs}
-use Rattle.sn_held.specs.Images.{IsImage}
+use Rattle.sn_held.specs.Images.{IsImage, IsLiveImage}
 use Rattle.sn_held.specs.Moments.{LastsOver, ShowsState}
 use Rattle.sn_held.specs.Events.{IsOfTree, LeavesEither, LeavesMore}
 use Rattle.sn_held.proofs.HeldLemmas.{Rests, image_newer, image_older, image_shown, newer_none, newer_shows, older_none, older_shows, rests_stay}
@@ -63,8 +63,12 @@ module _ (h : Held) (w : World) (r : Runs h w) where
       image_shown h.at.blocks r.store r.slot r.root r.words r.older r.newer (settle w) r.older_spelled r.newer_spelled r.stands.sound stands_for c
       (disk_always h.at.blocks h.disk r.stands.disk c crash) (r.formatted c crash) (r.stands.map c crash) (λ epoch. r.none_later epoch c crash) (r.stands.shows c crash)
 
+-- so it is of a world without frozen trees
+pub live_show : (h : Held) (w : World) → Runs h w → w.frozen ≡ map.empty → Always h.disk (λ c. IsLiveImage c (settle w))
+live_show h w r none c crash = record { image = runs_show h w r c crash; frozen = none }
+
 pub means_show : (h : Held) (has_stopped : Bool) (s : State) → Means h has_stopped s → Always h.disk (ShowsState s)
-means_show h has_stopped (Running w) m = runs_show h w m.1
+means_show h has_stopped (Running w) m = live_show h w m.1 m.2
 means_show h has_stopped (Stopped before after) m = m.1
 
 -- an event that leaves state and disk as they are
@@ -243,18 +247,27 @@ module _ (old new : Held) (w next : World) (change : Change) (tree : Tree) (r : 
             frozen = more_frozen;
           }
 
-  pub runs_lasts : LeavesEither old.at change old.disk new.disk → Runs new next → LastsOver (Running w) (Running next) old.disk new.disk
-  runs_lasts leaves runs = record { moments = leaves_either leaves; answered = runs_show new next runs }
+  module _ (none : w.frozen ≡ map.empty) where
+    pub still_none : next.frozen ≡ map.empty
+    still_none = of.frozen ∙ none
 
-  -- and where the device failed, the mount has stopped between the two
-  pub stops_between : LeavesEither old.at change old.disk new.disk → Always new.disk (ShowsState (Stopped (settle w) (settle next)))
-  stops_between leaves = LeavesOnly-now old.disk new.disk (λ c. IsImage c (settle w) ⊎ IsImage c (settle next)) (leaves_either leaves)
+    live_either : LeavesEither old.at change old.disk new.disk → LeavesOnly old.disk new.disk (λ c. IsLiveImage c (settle w) ⊎ IsLiveImage c (settle next))
+    live_either leaves =
+        LeavesOnly-weaker old.disk new.disk (λ c. IsImage c (settle w) ⊎ IsImage c (settle next)) (λ c. IsLiveImage c (settle w) ⊎ IsLiveImage c (settle next))
+        (λ c. ⊎_elim (λ h. inl (record { image = h; frozen = none })) (λ h. inr (record { image = h; frozen = still_none }))) (leaves_either leaves)
 
-  pub stops_lasts : LeavesEither old.at change old.disk new.disk → LastsOver (Running w) (Stopped (settle w) (settle next)) old.disk new.disk
-  stops_lasts leaves = record {
-    moments = LeavesOnly-weaker old.disk new.disk (λ c. IsImage c (settle w) ⊎ IsImage c (settle next)) (λ c. ShowsState (Running w) c ⊎ ShowsState (Stopped (settle w) (settle next)) c) (λ c h. inr h) (leaves_either leaves);
-    answered = stops_between leaves;
-  }
+    pub runs_lasts : LeavesEither old.at change old.disk new.disk → Runs new next → LastsOver (Running w) (Running next) old.disk new.disk
+    runs_lasts leaves runs = record { moments = live_either leaves; answered = live_show new next runs still_none }
+
+    -- and where the device failed, the mount has stopped between the two
+    pub stops_between : LeavesEither old.at change old.disk new.disk → Always new.disk (ShowsState (Stopped (settle w) (settle next)))
+    stops_between leaves = LeavesOnly-now old.disk new.disk (λ c. IsLiveImage c (settle w) ⊎ IsLiveImage c (settle next)) (live_either leaves)
+
+    pub stops_lasts : LeavesEither old.at change old.disk new.disk → LastsOver (Running w) (Stopped (settle w) (settle next)) old.disk new.disk
+    stops_lasts leaves = record {
+      moments = LeavesOnly-weaker old.disk new.disk (λ c. IsLiveImage c (settle w) ⊎ IsLiveImage c (settle next)) (λ c. ShowsState (Running w) c ⊎ ShowsState (Stopped (settle w) (settle next)) c) (λ c h. inr h) (live_either leaves);
+      answered = stops_between leaves;
+    }
 
 -- ---- one world
 

@@ -1,5 +1,6 @@
 -- What a mounted file system over a root holds, and what that means.
 use Rattle.std.specs.Prelude.{◌≡◌, ◌⊎◌, ℕ, ◌+◌, Bool, true, false, List, [], ◌++◌}
+use Rattle.std.specs.FinMap as map
 use Rattle.sn_device.specs.Disk.{Disk, Always}
 use Rattle.sn_device.specs.declared.status.Status.{Status}
 use Rattle.sn_layout.specs.declared.places.Slot.{Slot}
@@ -53,7 +54,7 @@ pub record Runs (h : Held) (world : World) : Type 0 where
   pub cover : MakesCover version_1 (older ++ newer) (image store root.inode_file) world.live
   pub frozen : world.frozen ≡ frozen_of store root.snapshots
 
--- One that a failure has stopped knows of its disk alone, that the next mount finds one of two worlds there.
+-- One that runs has no frozen trees in its world. One that a failure has stopped knows of its disk alone, that the next mount finds one of two worlds there.
 abbrev pub Means : Held → Bool → State → Type 0
-Means h has_stopped (Running world) = (has_stopped ≡ false) × Runs h world
+Means h has_stopped (Running world) = (has_stopped ≡ false) × Runs h world × (world.frozen ≡ map.empty)
 Means h has_stopped (Stopped before after) = (has_stopped ≡ true) × Always h.disk (ShowsState (Stopped before after))

@@ -1,5 +1,6 @@
 -- What a mount finds on a disk, and a mounted file system keeps there whatever a crash leaves.
 use Rattle.std.specs.Prelude.{◌≡◌, ◌⊎◌, ℕ, ◌+◌, List, [], length, slice_index}
+use Rattle.std.specs.FinMap as map
 use Rattle.sn_device.specs.Sectors.{Contents}
 use Rattle.sn_layout.specs.Superblock.{superblock_bytes}
 use Rattle.sn_model.specs.World.{World}
@@ -22,6 +23,11 @@ pub record IsImage (c : Contents) (world : World) : Type 0 where
   pub map : HasMap blocks c opens.slot words
   pub sound : IsSoundRoot blocks (store_of c) opens.root (slice_index words)
   pub none_later : (epoch : ℕ) → HasNoLater c (base_of blocks epoch) (opens.root.epoch + 1)
+
+-- They are one of a world without frozen trees: those of a root's snapshots aren't kept in memory yet.
+pub record IsLiveImage (c : Contents) (world : World) : Type 0 where
+  pub image : IsImage c world
+  pub frozen : world.frozen ≡ map.empty
 
 -- The log of an image ends at this position, behind the records of its root's epoch while the next one has none, else behind those of that.
 abbrev pub EndsAt : (c : Contents) (world : World) → IsImage c world → LogPosition → Type 0

@@ -1,5 +1,5 @@
 -- A fresh disk opens to the new world, and is sound.
-use Rattle.std.proofs.Common.{◌≡◌, ◌≢◌, inl, inr, ⊎_elim, ℕ, zero, suc, ◌+◌, ◌-◌, ◌<◌, ◌≤◌, ◌==◌, ◌||◌, Bool, true, false, not, cond, List, [], ◌∷◌, replicate, Some, Contains, count_by, refl, sym, ap, subst, ◌∙◌, arith}
+use Rattle.std.proofs.Common.{◌≡◌, ◌≢◌, inl, inr, ⊎_elim, ℕ, zero, suc, ◌+◌, ◌-◌, ◌*◌, ◌<◌, ◌≤◌, ◌==◌, ◌||◌, Bool, true, false, not, cond, List, [], ◌∷◌, replicate, length, Some, Contains, count_by, refl, sym, ap, subst, ◌∙◌, arith}
 use Rattle.std.specs.Prelude.{slice_index}
 use Rattle.std.specs.Cmp.{nat_cmp_total}
 use Rattle.std.specs.FinMap as fin
@@ -11,7 +11,7 @@ use Rattle.std.proofs.lemmas.Bool.{cases_eq, cases_lt, eq-eqb, ne_eqb}
 use Rattle.std.proofs.lemmas.List.{get_or-append_right, get_or_append_left, length-replicate, nil_from_length}
 use Rattle.std.proofs.lemmas.List.Sums.{sum_by-cons}
 use Rattle.std.proofs.lemmas.Nat.Bits.{bit_at-pow_other, bit_at-pow_same, bit_at-zero}
-use Rattle.sn_device.specs.Sectors.{Contents}
+use Rattle.sn_device.specs.Sectors.{AreSectors, Contents}
 use Rattle.sn_limits.specs.Versions.{version_1}
 use Rattle.sn_layout.specs.Places.{IsDiskSize, start_of}
 use Rattle.sn_layout.specs.declared.places.Area.TheVariants.{Data}
@@ -34,10 +34,11 @@ use Rattle.sn_opening.specs.Opens.{Opens}
 use Rattle.sn_opening.specs.Worlds.{StandsFor}
 use Rattle.sn_overlay.specs.Needs.{nameless_in}
 use Rattle.sn_sound.specs.Charges.{Fits, charges_from}
-use Rattle.sn_sound.specs.Disks.{IsFormatted, IsImageOf, IsSoundDisk}
+use Rattle.sn_sound.specs.Disks.{IsFormatted, IsSoundDisk}
 use Rattle.sn_sound.specs.Logs.{AreReplayed, HasSoundLog}
 use Rattle.sn_sound.specs.Maps.{IsSetOfRoots, IsSoundRoot, Rooted, free_blocks, is_reached, rooted_in}
 use Rattle.sn_sound.proofs.StandingLemmas.{first_among}
+use Rattle.sn_held.specs.Images.{IsLiveImage}
 use Rattle.sn_mkfs.specs.Faults.{HasRoom}
 use Rattle.sn_mkfs.specs.Fresh.{IsFresh, fresh_root, fresh_words, inode_file}
 use Rattle.sn_mkfs.proofs.InodeLemmas.{zero_at}
@@ -229,5 +230,22 @@ module _ (sectors n : ℕ) (c : Contents) (room : HasRoom sectors n) (fresh : Is
     stands = stands;
   }
 
-  pub is_image : IsImageOf new_world sectors c
-  is_image = record { image = record { blocks = n; slot = A; root = fresh_root n; sound = sound_disk }; opens = opens_new }
+  -- it is an image of the new world, as a mount takes it
+  pub is_image : AreSectors c → length c ≡ sectors → IsLiveImage c new_world
+  unfolding opens_new
+  is_image whole count = record {
+    image = record {
+      blocks = n;
+      disk = record { size = room.size; whole = whole; long = subst (λ (m : ℕ). 8 * n ≤ m) (sym count) room.room };
+      spelled = fresh.prepared.superblock;
+      opens = opens_new;
+      words = fresh_words n;
+      map = fresh.prepared.map;
+      sound = record {
+        roots = sound_root.roots;
+        map = λ block within. subst (IsSetOfRoots store (rooted_in (fresh_root n)) block) (map_word-spelled n c A (fresh_words n) fresh.prepared.map block) (sound_root.map block within);
+      };
+      none_later = λ epoch. inl (fresh.prepared.log epoch);
+    };
+    frozen = refl;
+  }

@@ -21,8 +21,11 @@ pub root_refuses : (f : RootFault) (sectors : ℕ) (c : Contents) → IsSomeSize
 root_refuses root.NoOpenRoot sectors c some finds = (some, finds)
 root_refuses root.UnknownVersion sectors c some finds = (some, finds)
 root_refuses (root.Damaged damage) sectors c some finds = (
-  λ w im. not_damaged c im.opens.slot im.opens.root damage im.opens.shown.newest finds.1,
-  record { kind = refl; which = damage; known = finds.0; damaged = finds.1; here = refl },
+  some,
+  (
+    λ w im. not_damaged c im.opens.slot im.opens.root damage im.opens.shown.newest finds.1,
+    record { kind = refl; which = damage; known = finds.0; damaged = finds.1; here = refl },
+  ),
 )
 root_refuses (root.Read read.Device) sectors c some finds = tt
 root_refuses (root.Read read.Memory) sectors c some finds = tt

@@ -120,16 +120,19 @@ module _ (sectors : ℕ) (c : Contents) (n : ℕ) (slot : Slot) (root : RootBody
       let bad = unsound n formatted.room in
       let limits_is = only_version root.limits newest.body.fits.version in
       subst (λ (d : Damage). Refuses (fault.Damaged d block) sectors c) (sym is.0) (
-        λ w im. bad (image_sound formatted newest w im),
-        record {
-          blocks = n;
-          formatted = formatted;
-          slot = slot;
-          root = root;
-          newest = newest;
-          unsound = λ sound. bad (subst (λ (l : Limits). IsSound l n (store_of c) root.inode_file) (sym limits_is) sound);
-          is = is.1 ∙ at;
-        },
+        (n, formatted),
+        (
+          λ w im. bad (image_sound formatted newest w im),
+          record {
+            blocks = n;
+            formatted = formatted;
+            slot = slot;
+            root = root;
+            newest = newest;
+            unsound = λ sound. bad (subst (λ (l : Limits). IsSound l n (store_of c) root.inode_file) (sym limits_is) sound);
+            is = is.1 ∙ at;
+          },
+        ),
       )
   tree_refuses fault.NotFormatted body at formatted newest is unsound = absurd is
   tree_refuses fault.Version body at formatted newest is unsound = absurd is
@@ -139,7 +142,7 @@ module _ (sectors : ℕ) (c : Contents) (n : ℕ) (slot : Slot) (root : RootBody
 
   -- a damage of the log
   log_refuses : (damage : Damage) (block : ℕ) → damage ≡ Log → IsNoImage c → HasLogFault sectors c block → Refuses (fault.Damaged damage block) sectors c
-  log_refuses damage block is none has = subst (λ (d : Damage). Refuses (fault.Damaged d block) sectors c) (sym is) (none, has)
+  log_refuses damage block is none has = subst (λ (d : Damage). Refuses (fault.Damaged d block) sectors c) (sym is) ((has.blocks, has.formatted), (none, has))
 
   pub later_refuses : (f : MountFault) → IsFormatted sectors c n → IsNewest c slot root → SomeIsLater f c n (root.epoch + 1) → Refuses f sectors c
   later_refuses (fault.Damaged damage block) formatted newest is =

@@ -5,7 +5,7 @@ use Rattle.std.proofs.lemmas.List.{nil_from_length}
 use Rattle.sn_device.specs.Sectors.{AreSectors, Contents, Single}
 use Rattle.sn_device.specs.Disk.{Always, Disk, IsSynced, reads}
 use Rattle.sn_device.specs.Crash.{LeavesOnly, Touches}
-use Rattle.sn_device.proofs.CrashLemmas.{Touches-join, Touches-within}
+use Rattle.sn_device.proofs.CrashLemmas.{LeavesOnly-weaker, Touches-join, Touches-within}
 use Rattle.sn_block.specs.Effects.{Nowhere}
 use Rattle.sn_block.specs.declared.fault.ReadFault.{ReadFault}
 use Rattle.sn_block.specs.declared.fault.ReadFault.TheVariants as read
@@ -22,6 +22,7 @@ use Rattle.sn_model.proofs.ListLemmas.{lists_join}
 use Rattle.sn_ondisk.specs.Gates.{IsClosed}
 use Rattle.sn_ondisk.specs.LogHalf.{ReplaysTo, cleared_sector}
 use Rattle.sn_ondisk.specs.MapCopy.{HasMap}
+use Rattle.sn_ondisk.specs.Roots.{IsNewest}
 use Rattle.sn_ondisk.specs.Trees.{Store, store_of}
 use Rattle.sn_log.specs.Clearing.{Clears}
 use Rattle.sn_log.specs.Places.{LogPosition, base_at, payloads_of}
@@ -32,7 +33,7 @@ use Rattle.sn_opening.specs.Worlds.{found, frozen_of}
 use Rattle.sn_sound.specs.Disks.{IsFormatted}
 use Rattle.sn_sound.specs.Maps.{IsSoundRoot}
 use Rattle.sn_held.specs.Held.{Runs}
-use Rattle.sn_held.specs.Images.{EndsAt, IsImage}
+use Rattle.sn_held.specs.Images.{EndsAt, IsImage, IsLiveImage}
 use Rattle.sn_held.proofs.EventLemmas.{images_one}
 use Rattle.sn_held.proofs.MountLemmas.{cleared_runs, cleared_within, clearing_keeps}
 use Rattle.sn_mount.specs.Both.{Replays}
@@ -141,6 +142,9 @@ module _ (sectors : ℕ) (old mid new : Disk) (at : LogPosition) (world : World)
       record {
         blocks = at.blocks;
         formatted = subst (λ (c : Contents). IsFormatted sectors c at.blocks) same f.roots.formatted;
+        slot = f.slot;
+        root = f.root;
+        newest = subst (λ (c : Contents). IsNewest c f.slot f.root) same f.roots.newest;
         epoch = at.epoch;
         sector = sector;
         within = cleared_within (reads mid) (base_at at) at.place within;
@@ -157,8 +161,8 @@ module _ (sectors : ℕ) (old mid new : Disk) (at : LogPosition) (world : World)
       first = first;
       same = same;
       synced = synced;
-      moments = subst (λ (x : World). LeavesOnly mid new (λ d. IsImage d x)) (standing_is sectors (reads mid) at world f count w im empty)
-          (clearing_keeps mid new (standing sectors (reads mid) at world f count w im empty) (image_found sectors (reads mid) at world f count w im empty) at within synced result clears (found_ends sectors (reads mid) at world f count w im empty));
+      moments = LeavesOnly-weaker mid new (λ d. IsImage d w) (λ d. IsLiveImage d w) (λ d h. record { image = h; frozen = empty }) (subst (λ (x : World). LeavesOnly mid new (λ d. IsImage d x)) (standing_is sectors (reads mid) at world f count w im empty)
+          (clearing_keeps mid new (standing sectors (reads mid) at world f count w im empty) (image_found sectors (reads mid) at world f count w im empty) at within synced result clears (found_ends sectors (reads mid) at world f count w im empty)));
     }
 
     pub recovered : (p : LogPosition) (x : World) → p ≡ at → x ≡ settle world → Always new (λ d. IsClosed d (base_at at + at.place)) → AreSectors (reads new) → IsRecovered sectors p x old new w

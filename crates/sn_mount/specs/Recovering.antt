@@ -1,27 +1,32 @@
 -- What a mount makes of a disk.
 use Rattle.std.specs.Prelude.{◌≡◌, ◌⊎◌, ℕ, Bool, Result, Ok, Err}
-use Rattle.std.specs.FinMap as map
 use Rattle.sn_device.specs.Sectors.{Single}
 use Rattle.sn_device.specs.Disk.{Disk, IsSynced, reads}
 use Rattle.sn_device.specs.Crash.{LeavesOnly, Touches}
 use Rattle.sn_device.specs.declared.status.Status.{Status}
+use Rattle.sn_layout.specs.declared.places.Slot.{Slot}
+use Rattle.sn_layout.specs.declared.root.RootBody.{RootBody}
 use Rattle.sn_block.specs.Effects.{Nowhere}
 use Rattle.sn_core.specs.Plain.{world_of}
 use Rattle.sn_model.specs.declared.mount.MountFault.{MountFault}
 use Rattle.sn_model.specs.declared.mount.MountFault.TheVariants as fault
 use Rattle.sn_model.specs.World.{World}
 use Rattle.sn_ondisk.specs.LogHalf.{InHalf, base_of}
+use Rattle.sn_ondisk.specs.Roots.{IsNewest}
 use Rattle.sn_log.specs.Places.{LogPosition}
 use Rattle.sn_sound.specs.Disks.{IsFormatted}
 use Rattle.sn_held.specs.Held.{Runs}
-use Rattle.sn_held.specs.Images.{IsImage}
+use Rattle.sn_held.specs.Images.{IsLiveImage}
 use Rattle.sn_mount.specs.Refusing.{Refuses}
 use Rattle.sn_mount.specs.declared.found.Recovered.{Recovered}
 
--- Of all sectors one at most was written, in a half of the log of the formatted disk.
+-- Of all sectors one at most was written, in a half of the log of the formatted disk, which has a newest root.
 pub record TouchesOneGate (sectors : ℕ) (old new : Disk) : Type 0 where
   pub blocks : ℕ
   pub formatted : IsFormatted sectors (reads old) blocks
+  pub slot : Slot
+  pub root : RootBody
+  pub newest : IsNewest (reads old) slot root
   pub epoch : ℕ
   pub sector : ℕ
   pub within : InHalf (base_of blocks epoch) sector
@@ -33,7 +38,7 @@ pub record LeavesTheWorld (old new : Disk) (world : World) : Type 0 where
   pub first : Touches Nowhere old mid
   pub same : reads mid ≡ reads old
   pub synced : IsSynced mid
-  pub moments : LeavesOnly mid new (λ c. IsImage c world)
+  pub moments : LeavesOnly mid new (λ c. IsLiveImage c world)
 
 -- The world that the disk was an image of runs, over a log that goes on at this position, and at no moment a crash would have left another.
 pub record IsRecovered (sectors : ℕ) (at : LogPosition) (found : World) (old new : Disk) (world : World) : Type 0 where
@@ -56,7 +61,7 @@ WritesAtFault fault.Device sectors old new = Touches Nowhere old new ⊎ Touches
 
 -- of a disk that is an image of a world without frozen trees
 abbrev pub OfImage : Disk → (World → Type 0) → Type 0
-OfImage old P = (world : World) → IsImage (reads old) world → world.frozen ≡ map.empty → P world
+OfImage old P = (world : World) → IsLiveImage (reads old) world → P world
 
 -- What was an image of a world runs. Otherwise there is a cause, and the world, if any, is still there.
 abbrev pub Recovers : Result Recovered MountFault → ℕ → Disk → Disk → Type 0

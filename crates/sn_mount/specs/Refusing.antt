@@ -16,7 +16,7 @@ use Rattle.sn_image.specs.Sound.{IsSound}
 use Rattle.sn_sound.specs.Disks.{IsFormatted}
 use Rattle.sn_sound.specs.Logs.{IsLogFault}
 use Rattle.sn_sound.specs.Maps.{free_blocks}
-use Rattle.sn_sound.specs.Verdicts.{HasNoVerdict, IsRootFault}
+use Rattle.sn_sound.specs.Verdicts.{HasNoVerdict, IsRootFault, IsSomeSize}
 use Rattle.sn_held.specs.Images.{IsImage}
 
 -- the contents are an image of no world
@@ -52,9 +52,9 @@ StandsAt Misspelt sectors c block = IsNoImage c × HasUnsoundTree sectors c bloc
 StandsAt Links sectors c block = ⊥
 StandsAt Log sectors c block = IsNoImage c × HasLogFault sectors c block
 
--- Superblock, gates and versions come first, in this order. Want of memory and a failure of the device are told by the device's clauses.
+-- Superblock, gates and versions come first, in this order, and a damage is one of a formatted disk. Want of memory and a failure of the device are told by the device's clauses.
 abbrev pub Refuses : MountFault → ℕ → Contents → Type 0
-Refuses (fault.Damaged damage block) sectors c = StandsAt damage sectors c block
+Refuses (fault.Damaged damage block) sectors c = IsSomeSize sectors c × StandsAt damage sectors c block
 Refuses fault.NotFormatted sectors c = HasNoVerdict sectors c fault.NotFormatted
 Refuses fault.Version sectors c = HasNoVerdict sectors c fault.Version
 Refuses fault.NoRoot sectors c = HasNoVerdict sectors c fault.NoRoot

@@ -12,7 +12,7 @@
 //!   was written, and none where the disk itself is why there is no mount.
 //! - The faults of superblock, gates and versions come in this order, and a damage of the roots or the log stands at
 //!   the block that it is told of (`Refuses`). What can't be read of a tree is told as misspelt, at the root body's
-//!   block; that the root is unsound then isn't proved.
+//!   block, and then the root is unsound.
 //! - A mount that succeeds costs one write and two syncs.
 //!
 //! The way through: `specs/Refusing.antt` says why there is no mount, `Finding.antt` and `Both.antt` what is read,

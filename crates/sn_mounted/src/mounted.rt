@@ -2,8 +2,9 @@
 
 use crate::asking::{line_of, login, mkdir, stat};
 use anyhow::{Context, Result, bail};
-use sn_device::MemDevice;
+use sn_device::{Fill, MemDevice};
 use sn_fs::{Fs, Unmounted, mount};
+use sn_mkfs::mkfs;
 use sn_model::{Call, Event, Reply};
 use sn_script::read_script;
 use std::alloc::Global;
@@ -11,6 +12,9 @@ use std::marker::Model;
 
 /// The sectors of the disk.
 const SECTORS: u64 = 2048;
+
+/// And its blocks.
+const BLOCKS: u32 = 256;
 
 /// A mounted file system.
 #[derive(Drop)]
@@ -89,9 +93,12 @@ impl Mounted {
     }
 }
 
-/// A disk of zeros.
+/// A formatted disk, whose counts begin anew.
 pub fn new_device(alloc: Global) -> Result<MemDevice> {
-    Ok(MemDevice::new(alloc, SECTORS)?)
+    match mkfs(alloc, MemDevice::new(alloc, SECTORS)?, BLOCKS) {
+        Ok(device) => Ok(device.crash(Fill::Old)),
+        Err(_) => bail!("no disk where there is no fault"),
+    }
 }
 
 /// Mounts a device that has no fault, and whose log is one.

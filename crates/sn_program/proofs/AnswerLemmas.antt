@@ -1,5 +1,5 @@
 -- From what the layers say to what the program's text is.
-use Rattle.std.proofs.Common.{◌≡◌, ◌≤◌, ◌<◌, ◌+◌, ◌-◌, ◌^◌, ◌||◌, ◌∙◌, ℕ, nat_le, true, IsTrue, List, [], Result, Ok, Err, take, replicate, inl, inr, refl, sym, ap, subst, lit≤, arith}
+use Rattle.std.proofs.Common.{◌≡◌, ◌≤◌, ◌<◌, ◌+◌, ◌-◌, ◌^◌, ◌||◌, ◌∙◌, ℕ, nat_le, true, IsTrue, List, [], length, Result, Ok, Err, take, inl, inr, refl, sym, ap, subst, arith}
 use Rattle.std.proofs.lemmas.Bool.{leb-true, or_cases}
 use Rattle.std.specs.Prelude.{◌⊎◌, OnOk, OnErr, IfErr, IsErrAnd}
 use Rattle.std.specs.declared.option.Option.{Option}
@@ -13,22 +13,21 @@ use Rattle.sn_model.specs.declared.mount.MountFault.{MountFault}
 use Rattle.sn_model.specs.declared.mount.MountFault.TheVariants as mount
 use Rattle.sn_model.specs.declared.reply.Reply.{Reply}
 use Rattle.sn_limits.specs.Versions.{version_1}
-use Rattle.sn_device.specs.Disk.{Disk, reads}
-use Rattle.sn_device.specs.Memory.{first}
+use Rattle.sn_device.specs.Sectors.{Contents}
+use Rattle.sn_device.specs.Disk.{reads}
 use Rattle.sn_device.specs.Status.{has_ended}
 use Rattle.sn_device.specs.declared.status.Status.{Status}
-use Rattle.sn_recovery.specs.Moments.{OpensOn}
-use Rattle.sn_fs.specs.Held.{ground}
-use Rattle.sn_fs.specs.Recovering.{Refuses}
+use Rattle.sn_held.specs.Images.{IsLiveImage}
+use Rattle.sn_mount.specs.Refusing.{Refuses}
 use Rattle.sn_run.specs.Causes.{FailsAtItsEnd}
-use Rattle.sn_run.specs.Runs.{IsImageOf, IsRunOf, RunsTo}
+use Rattle.sn_run.specs.Runs.{RunsTo}
 use Rattle.sn_run.proofs.CauseLemmas.{causes}
-use Rattle.sn_run.proofs.NewDiskLemmas.{new_disk_opens}
+use Rattle.sn_run.proofs.RestartLemmas.{found_root, no_damage}
 use Rattle.sn_model.specs.Machine.{State, Running, Holds, Anything, Run, WholeRun}
 use Rattle.sn_model.specs.World.{World, new_world}
 use Rattle.sn_replies.specs.Replies.{reply_line}
 use Rattle.sn_script.specs.Scripts.{IsScript}
-use Rattle.sn_program.specs.Answers.{AppendsFront, BeginsToAnswer, HasItsRun, IsAnswer, MountFails, RunsInMemory, new_disk, new_status}
+use Rattle.sn_program.specs.Answers.{AppendsFront, BeginsToAnswer, HasItsRun, IsAnswer, MountFails, RunsInMemory, new_status}
 use Rattle.sn_program.specs.ScriptDisks.{disk_under, status_under}
 use Rattle.sn_program.specs.declared.disk.ScriptDisk.{ScriptDisk}
 use Rattle.sn_program.proofs.OutputLemmas.{keeps_none}
@@ -45,7 +44,7 @@ clean_end Memory x h = absurd cc
 clean_end (Mount m) x h = absurd cc
 
 -- A disk that has counted few calls and no failure has ended since its record couldn't grow.
-spent_so : (s : Status) → s.failures ≡ 0 → s.writes ≤ 1 → s.syncs ≤ 2 → IsTrue (has_ended s) → IsTrue s.is_spent
+spent_so : (s : Status) → s.failures ≡ 0 → s.writes ≤ new_status.writes + 1 → s.syncs ≤ 6 → IsTrue (has_ended s) → IsTrue s.is_spent
 spent_so s unfailing writes syncs ended = from (or_cases (s.is_spent || nat_le (2 ^ 64 - 1) s.failures) (nat_le (2 ^ 64 - 1) (s.writes + s.syncs)) ended)
   where
     early : (s.is_spent ≡ true) ⊎ (nat_le (2 ^ 64 - 1) s.failures ≡ true) → s.is_spent ≡ true
@@ -56,41 +55,32 @@ spent_so s unfailing writes syncs ended = from (or_cases (s.is_spent || nat_le (
     from (inl is) = early (or_cases s.is_spent (nat_le (2 ^ 64 - 1) s.failures) is)
     from (inr is) = absurd (omega (arith, leb-true (2 ^ 64 - 1) (s.writes + s.syncs) is, writes, syncs))
 
-is_new : (d : Disk) → d ≡ first (replicate 2048 (replicate 512 0)) → d ≡ new_disk
-unfolding new_disk
-is_new d zeros = zeros
-
-opens_new : OpensOn ground (reads new_disk) new_world
-unfolding new_disk
-opens_new = new_disk_opens 2048 (lit≤ tt)
-
-never_less : 2048 < 2048 → ⊥
-never_less h = omega arith
-
--- a first mount of the new disk fails for memory, or at its end
-refuses : (m : MountFault) (s : Status) → Refuses m (reads new_disk) 2048 → FailsAtItsEnd m s → s.failures ≡ 0 → s.writes ≤ 1 → s.syncs ≤ 2 → MountFails m s
-refuses mount.NotFormatted s cause ended unfailing writes syncs = absurd (never_less cause)
-refuses mount.Version s cause ended unfailing writes syncs = cause
-refuses mount.NoRoot s cause ended unfailing writes syncs = cause
-refuses (mount.Damaged damage block) s cause ended unfailing writes syncs = absurd (cause.none new_world opens_new)
-refuses mount.Memory s cause ended unfailing writes syncs = tt
-refuses mount.Device s cause ended unfailing writes syncs = spent_so s unfailing writes syncs ended
+-- a first mount of an image fails for memory, or at its end
+refuses : (m : MountFault) (s : Status) (c : Contents) → IsLiveImage c new_world → length c ≡ 2048 → Refuses m 2048 c → FailsAtItsEnd m s → s.failures ≡ 0 → s.writes ≤ new_status.writes + 1 → s.syncs ≤ 6 → MountFails m s
+refuses mount.NotFormatted s c image size cause ended unfailing writes syncs = found_root mount.NotFormatted 2048 c new_world image.image size cause
+refuses mount.Version s c image size cause ended unfailing writes syncs = found_root mount.Version 2048 c new_world image.image size cause
+refuses mount.NoRoot s c image size cause ended unfailing writes syncs = found_root mount.NoRoot 2048 c new_world image.image size cause
+refuses (mount.Damaged damage block) s c image size cause ended unfailing writes syncs = no_damage damage 2048 c block new_world image.image cause.1
+refuses mount.Memory s c image size cause ended unfailing writes syncs = tt
+refuses mount.Device s c image size cause ended unfailing writes syncs = spent_so s unfailing writes syncs ended
 
 mount_fails : (m : MountFault) (events : List Event) (replies : List Reply) (h : RunsInMemory (Mount m) events replies) → MountFails m h.status
-mount_fails m events replies h = refuses m h.status h.runs.left.cause h.causes h.unfailing h.runs.costs.writes h.runs.costs.syncs
+mount_fails m events replies h = refuses m h.status (reads h.formatted) h.image h.size h.runs.left.cause h.causes h.unfailing h.runs.costs.writes h.runs.costs.syncs
 
--- a run on a new disk in memory
-pub runs_in_memory : (disk last : ScriptDisk) (events : List Event) (replies : List Reply) (end : End) → disk_under disk ≡ first (replicate 2048 (replicate 512 0)) → status_under disk ≡ new_status
+-- a run on a formatted disk in memory
+pub runs_in_memory : (disk last : ScriptDisk) (events : List Event) (replies : List Reply) (end : End) → IsLiveImage (reads (disk_under disk)) new_world → status_under disk ≡ new_status
     → RunsTo end events replies (disk_under disk) (status_under disk) (disk_under last) (status_under last) → RunsInMemory end events replies
-runs_in_memory disk last events replies end zeros status runs =
-    let of_disk : RunsTo end events replies new_disk (status_under disk) (disk_under last) (status_under last) = subst (λ (d : Disk). RunsTo end events replies d (status_under disk) (disk_under last) (status_under last)) (is_new (disk_under disk) zeros) runs in
-    let anew : RunsTo end events replies new_disk new_status (disk_under last) (status_under last) = subst (λ (s : Status). RunsTo end events replies new_disk s (disk_under last) (status_under last)) status of_disk in
+runs_in_memory disk last events replies end image status runs =
+    let counted : RunsTo end events replies (disk_under disk) new_status (disk_under last) (status_under last) = subst (λ (s : Status). RunsTo end events replies (disk_under disk) s (disk_under last) (status_under last)) status runs in
     record {
+      formatted = disk_under disk;
+      image = image;
+      size = disk.device.count ∙ ap (λ (s : Status). s.sectors) status;
       disk = disk_under last;
       status = status_under last;
-      runs = anew;
+      runs = counted;
       unfailing = last.unfailing;
-      causes = causes events replies new_disk (disk_under last) new_status (status_under last) last.unfailing end anew;
+      causes = causes events replies (disk_under disk) (disk_under last) new_status (status_under last) last.unfailing end counted;
     }
 
 -- ---- ends that differ
@@ -196,9 +186,3 @@ pub script_fault : (r : Result (Unit {0}) Fault) (why : ScriptFault) (n : ℕ) �
 script_fault (Ok x) why n p q = absurd p
 script_fault (Err e) why n p (inl q) = inl (p ∙ ap fault.Script q)
 script_fault (Err e) why n p (inr q) = inr (p ∙ ap fault.Script q)
-
--- a run on a new device in memory is one from a new world
-pub new_run : (device : ScriptDisk) (events : List Event) (replies : List Reply) (end : End) (last : Disk) → disk_under device ≡ first (replicate 2048 (replicate 512 0)) → status_under device ≡ new_status
-    → (IsImageOf new_world (status_under device).sectors (reads (disk_under device)) → IsRunOf new_world events replies end (disk_under device) last) → WholeRun Anything version_1 (Holds new_world) events replies end
-new_run device events replies end last zeros status runs =
-    (runs (record { sound = subst (λ (s : Status). 2048 ≤ s.sectors) (sym status) (lit≤ tt); opens = subst (λ (d : Disk). OpensOn ground (reads d) new_world) (sym zeros) (new_disk_opens 2048 (lit≤ tt)) })).run

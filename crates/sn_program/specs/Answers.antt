@@ -1,12 +1,12 @@
 -- What the program makes of a script.
-use Rattle.std.specs.Prelude.{◌≡◌, ◌⊎◌, ℕ, List, None, Some, IsTrue, replicate, take}
+use Rattle.std.specs.Prelude.{◌≡◌, ◌⊎◌, ℕ, List, None, Some, IsTrue, length, take}
 use Rattle.std.specs.declared.option.Option.{Option}
 use Rattle.std.specs.Io.KnownBytes.{Appends, Keeps}
 use Rattle.std.specs.List.{flat_map}
-use Rattle.sn_device.specs.Disk.{Disk}
-use Rattle.sn_device.specs.Memory.{first}
+use Rattle.sn_device.specs.Disk.{Disk, reads}
 use Rattle.sn_device.specs.Status.{uncalled}
 use Rattle.sn_device.specs.declared.status.Status.{Status}
+use Rattle.sn_block.specs.Counts.{called}
 use Rattle.sn_limits.specs.Versions.{version_1}
 use Rattle.sn_model.specs.declared.call.Event.{Event}
 use Rattle.sn_model.specs.declared.mount.End.{End}
@@ -16,6 +16,8 @@ use Rattle.sn_model.specs.declared.mount.MountFault.TheVariants as mount
 use Rattle.sn_model.specs.declared.reply.Reply.{Reply}
 use Rattle.sn_model.specs.Machine.{State, Running, Anything, Run}
 use Rattle.sn_model.specs.World.{World, new_world}
+use Rattle.sn_held.specs.Images.{IsLiveImage}
+use Rattle.sn_mkfs.specs.Writing.{format_writes}
 use Rattle.sn_replies.specs.Replies.{reply_line}
 use Rattle.sn_run.specs.Causes.{HasCauses}
 use Rattle.sn_run.specs.Runs.{RunsTo}
@@ -23,20 +25,20 @@ use Rattle.sn_script.specs.Scripts.{IsScript}
 use Rattle.sn_program.specs.declared.fault.Fault.{Fault}
 use Rattle.sn_program.specs.declared.fault.Fault.TheVariants as fault
 
--- the disk in memory that a script runs on, before its first call: 2,048 sectors of zeros
-unfoldable pub new_disk : Disk
-new_disk = first (replicate 2048 (replicate 512 0))
-
+-- the counts of a disk in memory of 2,048 sectors that was formatted for 256 blocks
 abbrev pub new_status : Status
-new_status = uncalled 2048
+new_status = called (format_writes 256) 4 (uncalled 2048)
 
--- Events were run on that disk, which has counted no failure: so all that failed was its end, where its record of the calls couldn't grow.
+-- Events were run on a formatted disk in memory, an image of the new world. It has counted no failure: so all that failed was its end, where its record of the calls couldn't grow.
 pub record RunsInMemory (end : End) (events : List Event) (replies : List Reply) : Type 0 where
+  pub formatted : Disk
+  pub image : IsLiveImage (reads formatted) new_world
+  pub size : length (reads formatted) ≡ 2048
   pub disk : Disk
   pub status : Status
-  pub runs : RunsTo end events replies new_disk new_status disk status
+  pub runs : RunsTo end events replies formatted new_status disk status
   pub unfailing : status.failures ≡ 0
-  pub causes : HasCauses end events replies new_disk new_status disk status runs
+  pub causes : HasCauses end events replies formatted new_status disk status runs
 
 -- the text is the lines of replies that the machine may give, from a new world on, to the events of the script, on the disk in memory
 pub record IsAnswer (end : End) (script text : List ℕ) : Type 0 where

@@ -3,14 +3,19 @@ ghost use Rattle.std.specs.Io.KnownBytes.{Keeps};
 ghost use Rattle.sn_script.specs.Scripts.{IsFirstBad};
 ghost use Rattle.sn_script.specs.declared.fault.ScriptFault.{ScriptFault};
 ghost use Rattle.sn_script.specs.declared.fault.ScriptFault.TheVariants as reading;
-ghost use Rattle.sn_program.specs.Answers.{Answers, BeginsToAnswer, HasAnswered, HasBegun, HasItsRun, HasItsRunOf};
+ghost use Rattle.sn_device.specs.Disk.{reads};
+ghost use Rattle.sn_held.specs.Images.{IsLiveImage};
+ghost use Rattle.sn_model.specs.World.{new_world};
+ghost use Rattle.sn_program.specs.Answers.{Answers, BeginsToAnswer, HasAnswered, HasBegun, HasItsRun, HasItsRunOf, new_status};
 ghost use Rattle.sn_program.specs.Fault.{IsOfFile};
+ghost use Rattle.sn_program.specs.ScriptDisks.{disk_under, status_under};
 ghost use Rattle.sn_program.specs.declared.fault.Fault.TheVariants as fault;
 
 use crate::disk::ScriptDisk;
 use crate::fault::{Fault, tell};
 use crate::output::write_replies;
 use sn_command::{Task, parse};
+use sn_mkfs::mkfs;
 use sn_run::{Ran, run};
 use sn_script::{SCRIPT_MAX, read_script};
 use std::alloc::Global;
@@ -21,6 +26,23 @@ use std::rt::Files;
 
 /// How many sectors the device in memory has that a script runs on.
 const SECTORS: u64 = 2_048;
+
+/// And how many blocks its disk.
+const BLOCKS: u32 = 256;
+
+/// A formatted disk in memory. Where it can't be formatted, memory was refused: to the disk itself or to its record of
+/// the calls.
+fn formatted_disk(alloc: Global) -> Result<ScriptDisk, Fault>
+    ensures image { IfOk result (λ d. IsLiveImage (reads (disk_under d)) new_world) }
+    ensures status { IfOk result (λ d. status_under d ≡ new_status) }
+    ensures memory { IfErr result (λ why. why ≡ fault.Memory) }
+{
+    let device = ScriptDisk::new(alloc, SECTORS)?;
+    match mkfs(alloc, device, BLOCKS) {
+        Ok(device) => Ok(device),
+        Err(_) => Err(Fault::Memory),
+    }
+}
 
 /// The bytes of a script, and no more than one byte past the most that a script may have.
 fn read_bytes<R: Read + Drop>(alloc: Global, reader: R) -> Result<Vec<u8>, Fault>
@@ -53,7 +75,7 @@ pub fn answer<W: Write>(alloc: Global, script: &[u8], out: &mut W) -> Result<(),
     ensures words { IfErr result (λ why. why ≢ fault.Usage) }
 {
     let events = read_script(alloc, script)?;
-    let device = ScriptDisk::new(alloc, SECTORS)?;
+    let device = formatted_disk(alloc)?;
     let Ran { replies, end, .. } = run(alloc, device, events.as_slice());
     let written = write_replies(alloc, replies.as_slice(), out);
     Fault::of_end(end)?;

@@ -23,6 +23,8 @@ pub enum Ending {
     Last,
     /// The body behind it is of another epoch.
     OtherEpoch,
+    /// It is the first, and the body behind it of an epoch after the next, which is a damage.
+    LaterEpoch,
     /// The body behind it is of the epoch, and no record.
     Misspelt(Misspelling),
 }
@@ -84,11 +86,20 @@ impl<'a> Records<'a> {
         let epoch = fields.read_u64();
         fields.finish()?;
         if epoch != self.epoch {
-            return Err(Ending::OtherEpoch);
+            return Err(self.ending_by(epoch));
         }
         let payload = self.payload_of(&mut fields);
         fields.finish()?;
         Ok(payload)
+    }
+
+    /// The end that a body of another epoch makes.
+    fn ending_by(&self, epoch: u64) -> Ending {
+        if self.place == 0 && epoch > self.epoch.saturating_add(1) {
+            Ending::LaterEpoch
+        } else {
+            Ending::OtherEpoch
+        }
     }
 
     /// The payload of a body, whose epoch was read.

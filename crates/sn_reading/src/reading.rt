@@ -22,7 +22,9 @@ impl Outcome {
     /// Whether the half is a tree, and not damaged.
     pub fn is_tree(&self) -> bool {
         match self {
-            Outcome::Ended(ending) => !matches!(ending, Ending::Misspelt(_)),
+            Outcome::Ended(ending) => {
+                !matches!(ending, Ending::LaterEpoch | Ending::Misspelt(_))
+            }
             Outcome::Obstructed(..) => false,
         }
     }

@@ -1,7 +1,7 @@
 -- What fails where no failure is counted.
 use Rattle.std.proofs.Common.{◌≡◌, ◌⊎◌, inl, inr, List, [], ◌∷◌, IsTrue, Option, None, Some, sym, ap, subst, ◌∙◌, arith}
 use Rattle.std.proofs.lemmas.List.Elements.{Contains-append_right}
-use Rattle.sn_device.specs.Disk.{Disk}
+use Rattle.sn_device.specs.Disk.{Disk, reads}
 use Rattle.sn_device.specs.Status.{has_ended}
 use Rattle.sn_device.specs.declared.status.Status.{Status}
 use Rattle.sn_block.proofs.CountLemmas.{later-ended}
@@ -16,12 +16,12 @@ use Rattle.sn_model.specs.declared.reply.Reply.{Reply}
 use Rattle.sn_model.specs.declared.reply.Reply.TheVariants as answer
 use Rattle.sn_model.specs.Machine.{State, Running, Stopped, Mishap, Memory, Read, Write, Space, Age, Ends, EventStep, IsUnmounted, RunBy}
 use Rattle.sn_model.specs.World.{World}
+use Rattle.sn_held.specs.Held.{Held}
+use Rattle.sn_held.specs.Images.{IsLiveImage}
+use Rattle.sn_mount.specs.Failing.{HasFailed, IsSoOf}
 use Rattle.sn_fs.specs.Answers.{MayMeet}
-use Rattle.sn_fs.specs.Costs.{HasFailed}
-use Rattle.sn_fs.specs.Held.{Held}
-use Rattle.sn_fs.specs.Mounting.{IsSoOf}
-use Rattle.sn_run.specs.Causes.{FailsAtItsEnd, GoesOrEnds, HasCauses, HasNoMemory, IsFailure}
-use Rattle.sn_run.specs.Runs.{Goes, RunsTo, Served, Standing}
+use Rattle.sn_run.specs.Causes.{FailsAtItsEnd, GoesOrEnds, HasCauses, HasNoMemory, IsFailure, ServedToItsEnd}
+use Rattle.sn_run.specs.Runs.{Goes, IsServed, RunsTo, Served, Standing, start}
 use Rattle.sn_run.proofs.FailureLemmas.{runs_later}
 
 -- ---- events
@@ -142,20 +142,22 @@ ends_stopped (Running w) h = absurd (h.ends.0 h.unmounts)
 ends_stopped (Stopped before after) h = tt
 
 module _ (events : List Event) (replies : List Reply) (disk last_disk : Disk) (status last_status : Status) (same : last_status.failures ≡ status.failures) where
-  served_ends : (end : End) (s : Served events replies end disk status last_disk last_status) → RunBy GoesOrEnds s.first events replies s.last
-  served_ends end s =
-      let began : s.first.held.status.failures ≡ status.failures = ap (λ (x : Status). x.failures) s.costs in
-      let ended : s.last.held.status.failures ≡ last_status.failures = ap (λ (x : Status). x.failures) s.counted in
-      run_ends s.first s.last events replies s.run (ended ∙ same ∙ sym began)
+  served_ends : (end : End) (s : Served events replies end disk status last_disk last_status) → ServedToItsEnd end events replies disk status last_disk last_status s
+  served_ends end s world image =
+      let it = s.served world image in
+      let began : s.mounted.status.failures ≡ status.failures = ap (λ (x : Status). x.failures) s.costs in
+      let ended : it.last.held.status.failures ≡ last_status.failures = ap (λ (x : Status). x.failures) it.counted in
+      run_ends (start world s.mounted) it.last events replies it.run (ended ∙ same ∙ sym began)
 
-  served_cause : (s : Served events replies ending.Stopped disk status last_disk last_status) → IsTrue (has_ended last_status) ⊎ HasNoMemory replies
-  served_cause s =
-      from (stop_cause ⊥ s.first s.last events replies (served_ends ending.Stopped s) (λ stopped. absurd (never_stops s.world s.first.state s.mounted stopped)) (ends_stopped s.last.state s.ends))
+  served_cause : (s : Served events replies ending.Stopped disk status last_disk last_status) (world : World) → IsLiveImage (reads disk) world → IsTrue (has_ended last_status) ⊎ HasNoMemory replies
+  served_cause s world image =
+      let it = s.served world image in
+      from it (stop_cause ⊥ (start world s.mounted) it.last events replies (served_ends ending.Stopped s world image) (λ stopped. absurd stopped) (ends_stopped it.last.state it.ends))
     where
-      from : IsTrue (has_ended s.last.held.status) ⊎ (⊥ ⊎ HasNoMemory replies) → IsTrue (has_ended last_status) ⊎ HasNoMemory replies
-      from (inl ended) = inl (subst (λ (x : Status). IsTrue (has_ended x)) s.counted ended)
-      from (inr (inl never)) = absurd never
-      from (inr (inr none)) = inr none
+      from : (it : IsServed world events replies ending.Stopped disk s.mounted last_disk last_status) → IsTrue (has_ended it.last.held.status) ⊎ (⊥ ⊎ HasNoMemory replies) → IsTrue (has_ended last_status) ⊎ HasNoMemory replies
+      from it (inl ended) = inl (subst (λ (x : Status). IsTrue (has_ended x)) it.counted ended)
+      from it (inr (inl never)) = absurd never
+      from it (inr (inr none)) = inr none
 
   mount_end : (fault : MountFault) → IsSoOf fault status last_status → FailsAtItsEnd fault last_status
   mount_end mount.Device failed = uncounted_end status last_status same failed

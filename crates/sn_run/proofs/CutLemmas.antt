@@ -20,10 +20,12 @@ use Rattle.sn_model.specs.Tree.{Tree}
 use Rattle.sn_model.specs.World.{World, new_world}
 use Rattle.sn_model.proofs.ListLemmas.{covers_itself}
 use Rattle.sn_model.proofs.SettlingLemmas.{dropping_kept, settle_alike}
-use Rattle.sn_recovery.specs.Moments.{OpensOn, ShowsState}
-use Rattle.sn_fs.specs.Held.{ground}
+use Rattle.sn_ondisk.specs.Trees.{store_of}
+use Rattle.sn_opening.specs.Worlds.{frozen_of}
+use Rattle.sn_held.specs.Images.{IsLiveImage}
+use Rattle.sn_held.specs.Moments.{ShowsState}
 use Rattle.sn_core.proofs.StepLemmas.{run_more}
-use Rattle.sn_run.specs.Runs.{Goes, LeavesFrom, OpensToCut, Standing}
+use Rattle.sn_run.specs.Runs.{Goes, LeavesFrom, ShowsCut, Standing}
 
 -- ---- settling twice
 
@@ -76,17 +78,17 @@ step_settled (Stopped before after) event.Restart (Some m) reply next here h = s
 
 -- ---- one event
 
--- the contents open to a world that a crash in an event leaves
-abbrev OpensToLeft : State → Event → Contents → Type 0
-OpensToLeft s e c = (w : World) × OpensOn ground c w × LeftIn version_1 s e w
+-- the contents are an image of a world that a crash in an event leaves
+abbrev ShowsLeft : State → Event → Contents → Type 0
+ShowsLeft s e c = (w : World) × IsLiveImage c w × LeftIn version_1 s e w
 
-abbrev OpensToNow : State → Contents → Type 0
-OpensToNow s c = (w : World) × OpensOn ground c w × Left s w
+abbrev ShowsNow : State → Contents → Type 0
+ShowsNow s c = (w : World) × IsLiveImage c w × Left s w
 
-opens_now : (s : State) (c : Contents) → ShowsState ground s c → OpensToNow s c
-opens_now (Running w) c h = (settle w, h, refl)
-opens_now (Stopped before after) c (inl h) = (before, h, inl refl)
-opens_now (Stopped before after) c (inr h) = (after, h, inr refl)
+shown_now : (s : State) (c : Contents) → ShowsState s c → ShowsNow s c
+shown_now (Running w) c h = (settle w, h, refl)
+shown_now (Stopped before after) c (inl h) = (before, h, inl refl)
+shown_now (Stopped before after) c (inr h) = (after, h, inr refl)
 
 left_in : (s : State) (e : Event) (w : World) → Left s w → LeftIn version_1 s e w
 left_in (Running old) (event.Call session c) w h = inl h
@@ -96,30 +98,30 @@ left_in (Stopped before after) (event.Call session c) w h = h
 left_in (Stopped before after) event.Step w h = h
 left_in (Stopped before after) event.Restart w h = h
 
-left_now : (s : State) (e : Event) (c : Contents) → OpensToNow s c → OpensToLeft s e c
+left_now : (s : State) (e : Event) (c : Contents) → ShowsNow s c → ShowsLeft s e c
 left_now s e c h = (h.0, h.1, left_in s e h.0 h.2)
 
 -- what a state shows that is one of the two
-shown_same : (s next : State) (e : Event) (c : Contents) → next ≡ s → ShowsState ground next c → OpensToLeft s e c
-shown_same s next e c same h = left_now s e c (opens_now s c (subst (λ (x : State). ShowsState ground x c) same h))
+shown_same : (s next : State) (e : Event) (c : Contents) → next ≡ s → ShowsState next c → ShowsLeft s e c
+shown_same s next e c same h = left_now s e c (shown_now s c (subst (λ (x : State). ShowsState x c) same h))
 
-shown_stopped : (old : World) (next : State) (e : Event) (c : Contents) → next ≡ Stopped (settle old) (settle old) → ShowsState ground next c → OpensToLeft (Running old) e c
-shown_stopped old next e c same h = told (subst (λ (x : State). ShowsState ground x c) same h)
+shown_stopped : (old : World) (next : State) (e : Event) (c : Contents) → next ≡ Stopped (settle old) (settle old) → ShowsState next c → ShowsLeft (Running old) e c
+shown_stopped old next e c same h = told (subst (λ (x : State). ShowsState x c) same h)
   where
-    told : OpensOn ground c (settle old) ⊎ OpensOn ground c (settle old) → OpensToLeft (Running old) e c
+    told : IsLiveImage c (settle old) ⊎ IsLiveImage c (settle old) → ShowsLeft (Running old) e c
     told (inl k) = left_now (Running old) e c (settle old, k, refl)
     told (inr k) = left_now (Running old) e c (settle old, k, refl)
 
 -- after a call that was answered
-after_answer : (old : World) (session : ℕ) (x : Call) (reply : Reply) (next : State) (c : Contents) → IsAnswered version_1 old session x reply next → ShowsState ground next c → OpensToLeft (Running old) (event.Call session x) c
+after_answer : (old : World) (session : ℕ) (x : Call) (reply : Reply) (next : State) (c : Contents) → IsAnswered version_1 old session x reply next → ShowsState next c → ShowsLeft (Running old) (event.Call session x) c
 after_answer old session x reply next c h shows =
-    (settle h.next, subst (λ (s : State). ShowsState ground s c) h.runs shows, inr (record { reply = reply; next = h.next; becomes = h.becomes; left = refl }))
+    (settle h.next, subst (λ (s : State). ShowsState s c) h.runs shows, inr (record { reply = reply; next = h.next; becomes = h.becomes; left = refl }))
 
 -- and one that was cut off
-after_cut : (old : World) (session : ℕ) (x : Call) (reply : Reply) (next : State) (c : Contents) → IsCutOff version_1 old session x reply next → ShowsState ground next c → OpensToLeft (Running old) (event.Call session x) c
-after_cut old session x reply next c h shows = told (subst (λ (s : State). ShowsState ground s c) h.stops.left shows)
+after_cut : (old : World) (session : ℕ) (x : Call) (reply : Reply) (next : State) (c : Contents) → IsCutOff version_1 old session x reply next → ShowsState next c → ShowsLeft (Running old) (event.Call session x) c
+after_cut old session x reply next c h shows = told (subst (λ (s : State). ShowsState s c) h.stops.left shows)
   where
-    told : OpensOn ground c (settle old) ⊎ OpensOn ground c (settle h.next) → OpensToLeft (Running old) (event.Call session x) c
+    told : IsLiveImage c (settle old) ⊎ IsLiveImage c (settle h.next) → ShowsLeft (Running old) (event.Call session x) c
     told (inl k) = left_now (Running old) (event.Call session x) c (settle old, k, refl)
     told (inr k) = (
       settle h.next,
@@ -132,7 +134,7 @@ after_cut old session x reply next c h shows = told (subst (λ (s : State). Show
       }),
     )
 
-after_call : (old : World) (session : ℕ) (x : Call) (met : Option Mishap) (reply : Reply) (next : State) (c : Contents) → CallStep version_1 old session x met reply next → ShowsState ground next c → OpensToLeft (Running old) (event.Call session x) c
+after_call : (old : World) (session : ℕ) (x : Call) (met : Option Mishap) (reply : Reply) (next : State) (c : Contents) → CallStep version_1 old session x met reply next → ShowsState next c → ShowsLeft (Running old) (event.Call session x) c
 after_call old session x None reply next c h shows = after_answer old session x reply next c h shows
 after_call old session x (Some machine.Write) reply next c h shows = after_cut old session x reply next c h shows
 after_call old session x (Some machine.Memory) reply next c h shows = shown_same (Running old) next (event.Call session x) c h.1.same shows
@@ -140,25 +142,25 @@ after_call old session x (Some machine.Read) reply next c h shows = shown_same (
 after_call old session x (Some machine.Space) reply next c h shows = shown_same (Running old) next (event.Call session x) c h.1.same shows
 after_call old session x (Some machine.Age) reply next c h shows = shown_same (Running old) next (event.Call session x) c h.1.same shows
 
-after_failing : (old : World) (e : Event) (m : Mishap) (reply : Reply) (next : State) (c : Contents) → PointFails old m reply next → ShowsState ground next c → OpensToLeft (Running old) e c
+after_failing : (old : World) (e : Event) (m : Mishap) (reply : Reply) (next : State) (c : Contents) → PointFails old m reply next → ShowsState next c → ShowsLeft (Running old) e c
 after_failing old e machine.Write reply next c h shows = shown_stopped old next e c h.left shows
 after_failing old e machine.Space reply next c h shows = absurd h
 after_failing old e machine.Memory reply next c h shows = shown_same (Running old) next e c h.same shows
 after_failing old e machine.Read reply next c h shows = shown_same (Running old) next e c h.same shows
 after_failing old e machine.Age reply next c h shows = shown_same (Running old) next e c h.same shows
 
-after_restart : (old : World) (met : Option Mishap) (reply : Reply) (next : State) (c : Contents) → RestartStep old met reply next → ShowsState ground next c → OpensToLeft (Running old) event.Restart c
+after_restart : (old : World) (met : Option Mishap) (reply : Reply) (next : State) (c : Contents) → RestartStep old met reply next → ShowsState next c → ShowsLeft (Running old) event.Restart c
 after_restart old None reply next c h shows =
-    (settle old, subst (OpensOn ground c) (settles_twice old) (subst (λ (s : State). ShowsState ground s c) h.1 shows), refl)
+    (settle old, subst (IsLiveImage c) (settles_twice old) (subst (λ (s : State). ShowsState s c) h.1 shows), refl)
 after_restart old (Some m) reply next c (inl h) shows = after_failing old event.Restart m reply next c h shows
 after_restart old (Some m) reply next c (inr h) shows = shown_stopped old next event.Restart c h.left shows
 
-after_mount : (before after : World) (met : Option Mishap) (reply : Reply) (next : State) (c : Contents) → AreSettled (Stopped before after) → MountStep before after met reply next → ShowsState ground next c → OpensToLeft (Stopped before after) event.Restart c
-after_mount before after None reply next c here (told, inl h) shows = (before, subst (OpensOn ground c) here.0 (subst (λ (s : State). ShowsState ground s c) h shows), inl refl)
-after_mount before after None reply next c here (told, inr h) shows = (after, subst (OpensOn ground c) here.1 (subst (λ (s : State). ShowsState ground s c) h shows), inr refl)
+after_mount : (before after : World) (met : Option Mishap) (reply : Reply) (next : State) (c : Contents) → AreSettled (Stopped before after) → MountStep before after met reply next → ShowsState next c → ShowsLeft (Stopped before after) event.Restart c
+after_mount before after None reply next c here (told, inl h) shows = (before, subst (IsLiveImage c) here.0 (subst (λ (s : State). ShowsState s c) h shows), inl refl)
+after_mount before after None reply next c here (told, inr h) shows = (after, subst (IsLiveImage c) here.1 (subst (λ (s : State). ShowsState s c) h shows), inr refl)
 after_mount before after (Some m) reply next c here h shows = shown_same (Stopped before after) next event.Restart c h.left shows
 
-after_event : (s : State) (e : Event) (met : Option Mishap) (reply : Reply) (next : State) (c : Contents) → AreSettled s → EventStep version_1 s e met reply next → ShowsState ground next c → OpensToLeft s e c
+after_event : (s : State) (e : Event) (met : Option Mishap) (reply : Reply) (next : State) (c : Contents) → AreSettled s → EventStep version_1 s e met reply next → ShowsState next c → ShowsLeft s e c
 after_event (Running old) (event.Call session x) met reply next c here h shows = after_call old session x met reply next c h shows
 after_event (Running old) event.Step None reply next c here h shows = shown_same (Running old) next event.Step c h.1 shows
 after_event (Running old) event.Step (Some m) reply next c here h shows = after_failing old event.Step m reply next c h shows
@@ -170,8 +172,8 @@ after_event (Stopped before after) event.Step (Some m) reply next c here h shows
 after_event (Stopped before after) event.Restart met reply next c here h shows = after_mount before after met reply next c here h shows
 
 -- a crash in its course
-in_event : (s : State) (e : Event) (met : Option Mishap) (reply : Reply) (next : State) (c : Contents) → AreSettled s → EventStep version_1 s e met reply next → ShowsState ground s c ⊎ ShowsState ground next c → OpensToLeft s e c
-in_event s e met reply next c here h (inl shows) = left_now s e c (opens_now s c shows)
+in_event : (s : State) (e : Event) (met : Option Mishap) (reply : Reply) (next : State) (c : Contents) → AreSettled s → EventStep version_1 s e met reply next → ShowsState s c ⊎ ShowsState next c → ShowsLeft s e c
+in_event s e met reply next c here h (inl shows) = left_now s e c (shown_now s c shows)
 in_event s e met reply next c here h (inr shows) = after_event s e met reply next c here h shows
 
 -- ---- events of a run
@@ -183,13 +185,13 @@ step_of old new e reply goes = (goes.answers.met, tt, subst (λ (s : State). Eve
 goes_settled : (old new : Standing) (e : Event) (reply : Reply) → AreSettled old.state → Goes old e reply new → AreSettled new.state
 goes_settled old new e reply here goes = let step = step_of old new e reply goes in step_settled old.state e step.0 reply new.state here step.2
 
-goes_shows : (old new : Standing) (e : Event) (reply : Reply) → Goes old e reply new → Always new.held.disk (λ c. ShowsState ground new.state c)
-goes_shows old new e reply goes = subst (λ (s : State). Always new.held.disk (λ c. ShowsState ground s c)) (sym goes.next) goes.answers.lasts.answered
+goes_shows : (old new : Standing) (e : Event) (reply : Reply) → Goes old e reply new → Always new.held.disk (λ c. ShowsState new.state c)
+goes_shows old new e reply goes = subst (λ (s : State). Always new.held.disk (λ c. ShowsState s c)) (sym goes.next) goes.answers.lasts.answered
 
-goes_leaves : (old new : Standing) (e : Event) (reply : Reply) → AreSettled old.state → Goes old e reply new → LeavesOnly old.held.disk new.held.disk (OpensToLeft old.state e)
+goes_leaves : (old new : Standing) (e : Event) (reply : Reply) → AreSettled old.state → Goes old e reply new → LeavesOnly old.held.disk new.held.disk (ShowsLeft old.state e)
 goes_leaves old new e reply here goes =
     let a = goes.answers in
-    LeavesOnly-weaker old.held.disk new.held.disk (λ c. ShowsState ground old.state c ⊎ ShowsState ground a.next c) (OpensToLeft old.state e)
+    LeavesOnly-weaker old.held.disk new.held.disk (λ c. ShowsState old.state c ⊎ ShowsState a.next c) (ShowsLeft old.state e)
     (λ c. in_event old.state e a.met reply a.next c here a.step) a.lasts.moments
 
 -- of the machine
@@ -201,14 +203,14 @@ machine_run first last (e ∷ events) (reply ∷ replies) run = (run.0.state, st
 
 -- a crash in the event behind these
 pub cut_in : (first mid next : Standing) (done todo : List Event) (e : Event) (said : List Reply) (reply : Reply) → AreSettled first.state → RunBy Goes first done said mid → Goes mid e reply next
-    → LeavesOnly mid.held.disk next.held.disk (OpensToCut first.state (done ++ e ∷ todo) said)
+    → LeavesOnly mid.held.disk next.held.disk (ShowsCut first.state (done ++ e ∷ todo) said)
 cut_in first mid next [] todo e [] reply here run goes =
-    LeavesOnly-weaker mid.held.disk next.held.disk (OpensToLeft mid.state e) (OpensToCut first.state (e ∷ todo) [])
-    (λ c h. subst (λ (x : Standing). OpensToLeft x.state e c) run h) (goes_leaves mid next e reply (subst (λ (x : Standing). AreSettled x.state) (sym run) here) goes)
+    LeavesOnly-weaker mid.held.disk next.held.disk (ShowsLeft mid.state e) (ShowsCut first.state (e ∷ todo) [])
+    (λ c h. subst (λ (x : Standing). ShowsLeft x.state e c) run h) (goes_leaves mid next e reply (subst (λ (x : Standing). AreSettled x.state) (sym run) here) goes)
 cut_in first mid next [] todo e (r ∷ said) reply here run goes = absurd run
 cut_in first mid next (d ∷ done) todo e [] reply here run goes = absurd run
 cut_in first mid next (d ∷ done) todo e (r ∷ said) reply here run goes =
-    LeavesOnly-weaker mid.held.disk next.held.disk (OpensToCut run.0.state (done ++ e ∷ todo) said) (OpensToCut first.state (d ∷ (done ++ e ∷ todo)) (r ∷ said))
+    LeavesOnly-weaker mid.held.disk next.held.disk (ShowsCut run.0.state (done ++ e ∷ todo) said) (ShowsCut first.state (d ∷ (done ++ e ∷ todo)) (r ∷ said))
     (λ c h. (h.0, h.1, (run.0.state, step_of first run.0 d r run.1, h.2)))
     (cut_in run.0 mid next done todo e said reply (goes_settled first run.0 d r here run.1) run.2 goes)
 
@@ -224,10 +226,10 @@ list_joined [] y ys = refl
 list_joined (x ∷ xs) y ys = ap (λ (zs : List Event). x ∷ zs) (list_joined xs y ys)
 
 -- a crash at any moment of what is left of a run, behind the events that were answered
-pub run_leaves : (first mid last : Standing) (done todo : List Event) (said replies : List Reply) → AreSettled first.state → Always mid.held.disk (λ c. ShowsState ground mid.state c) → RunBy Goes first done said mid → RunBy Goes mid todo replies last
+pub run_leaves : (first mid last : Standing) (done todo : List Event) (said replies : List Reply) → AreSettled first.state → Always mid.held.disk (λ c. ShowsState mid.state c) → RunBy Goes first done said mid → RunBy Goes mid todo replies last
     → LeavesFrom first.state (done ++ todo) said replies mid.held.disk last.held.disk
 run_leaves first mid last done [] said [] here shows before run =
-    (ap (λ (x : Standing). x.held.disk) run, λ c crash. let now = opens_now mid.state c (shows c crash) in (now.0, now.1, cut_behind first mid done said now.0 before now.2))
+    (ap (λ (x : Standing). x.held.disk) run, λ c crash. let now = shown_now mid.state c (shows c crash) in (now.0, now.1, cut_behind first mid done said now.0 before now.2))
 run_leaves first mid last done [] said (reply ∷ replies) here shows before run = absurd run
 run_leaves first mid last done (e ∷ todo) said [] here shows before run = absurd run
 run_leaves first mid last done (e ∷ todo) said (reply ∷ replies) here shows before run =
@@ -243,6 +245,8 @@ pub cut_now : (world : World) (events : List Event) → settle world ≡ world �
 cut_now world [] settled = sym settled
 cut_now world (e ∷ events) settled = left_in (Running world) e world (sym settled)
 
--- what contents open to is settled
-pub found_settled : (c : Contents) (world : World) → OpensOn ground c world → settle world ≡ world
-found_settled c world h = ap settle h.settled ∙ settles_twice (with_live new_world h.tree) ∙ sym h.settled
+-- what contents are an image of is settled
+pub found_settled : (c : Contents) (world : World) → IsLiveImage c world → settle world ≡ world
+found_settled c world h =
+    let stands = h.image.opens.stands in
+    ap settle stands.settles ∙ ap (λ (t : Tree). record { live = t; frozen = frozen_of (store_of c) h.image.opens.root.snapshots; sessions = replicate 64 None; descriptors = map.empty }) (settled_twice stands.tree) ∙ sym stands.settles

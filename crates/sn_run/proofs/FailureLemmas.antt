@@ -9,9 +9,9 @@ use Rattle.sn_limits.specs.Versions.{version_1}
 use Rattle.sn_model.specs.declared.call.Event.{Event}
 use Rattle.sn_model.specs.declared.reply.Reply.{Reply}
 use Rattle.sn_model.specs.Machine.{State, Mishap, Memory, Read, Write, Space, Age, EventStep, Run, RunBy}
+use Rattle.sn_held.specs.Held.{Held}
+use Rattle.sn_mount.specs.Failing.{HasFailed}
 use Rattle.sn_fs.specs.Answers.{MayMeet}
-use Rattle.sn_fs.specs.Costs.{HasFailed}
-use Rattle.sn_fs.specs.Held.{Held}
 use Rattle.sn_run.specs.Laws.{Unfailing}
 use Rattle.sn_run.specs.Runs.{Goes, Standing}
 

@@ -1,7 +1,6 @@
 pub mod CauseLemmas
 mod CutLemmas
 mod FailureLemmas
-pub mod NewDiskLemmas
-mod RestartLemmas
+pub mod RestartLemmas
 mod RunLemmas
-mod ServerLemmas
+mod UnfitLemmas

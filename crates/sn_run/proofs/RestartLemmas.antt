@@ -1,5 +1,5 @@
 -- What a mount answers to a restart, and steps.
-use Rattle.std.proofs.Common.{◌≡◌, ◌⊎◌, inl, inr, ℕ, ◌<◌, ◌≤◌, Bool, true, false, length, [], Some, None, refl, sym, ap, subst, ◌∙◌, arith}
+use Rattle.std.proofs.Common.{◌≡◌, ◌⊎◌, inl, inr, ℕ, ◌*◌, ◌<◌, ◌≤◌, Bool, true, false, length, [], Some, None, refl, sym, ap, subst, ◌∙◌, arith}
 use Rattle.std.proofs.lemmas.Bool.{true≢false}
 use Rattle.std.proofs.lemmas.List.{same_lists, get_or_default}
 use Rattle.sn_device.specs.Sectors.{AgreesOutside, AreSectors, Contents}
@@ -12,6 +12,8 @@ use Rattle.sn_block.proofs.CountLemmas.{later-is, later-same}
 use Rattle.sn_device.specs.declared.status.Status.{Status}
 use Rattle.sn_limits.specs.Versions.{version_1}
 use Rattle.sn_model.specs.declared.call.Event.TheVariants as event
+use Rattle.sn_model.specs.declared.mount.Damage.{Damage}
+use Rattle.sn_model.specs.declared.mount.Damage.TheVariants as damage
 use Rattle.sn_model.specs.declared.mount.MountFault.{MountFault}
 use Rattle.sn_model.specs.declared.mount.MountFault.TheVariants as fault
 use Rattle.sn_model.specs.declared.reply.Errno.TheVariants.{Estopped}
@@ -20,21 +22,20 @@ use Rattle.sn_model.specs.declared.reply.Reply.TheVariants as answer
 use Rattle.sn_model.specs.Machine.{State, Running, Stopped, Mishap, Memory, Read, mount_fault_of, refused}
 use Rattle.sn_model.specs.Settling.{settle}
 use Rattle.sn_model.specs.World.{World, new_world}
-use Rattle.sn_ondisk.specs.LogHalf.{base_of}
-use Rattle.sn_ondisk.specs.OneAnswer.{IsOnDisk}
-use Rattle.sn_log.specs.Places.{first_of}
 use Rattle.sn_core.proofs.NumberLemmas.{step_numbers}
 use Rattle.sn_core.proofs.RestartLemmas.{restart_numbers}
-use Rattle.sn_recovery.specs.Moments.{LastsOver, OpensOn, ShowsState}
-use Rattle.sn_recovery.proofs.RecoveryLemmas.{opens_to_one}
+use Rattle.sn_held.specs.Held.{Held}
+use Rattle.sn_held.specs.Images.{IsImage, IsLiveImage}
+use Rattle.sn_held.specs.Moments.{LastsOver, ShowsState}
+use Rattle.sn_held.proofs.EventLemmas.{images_one, live_show, stays_lasts}
+use Rattle.sn_mount.specs.Failing.{CostsAtMost, IsSoOf}
+use Rattle.sn_mount.specs.Recovering.{LeavesTheWorld, WritesAtFault}
+use Rattle.sn_mount.specs.Refusing.{Refuses, StandsAt}
 use Rattle.sn_fs.specs.Answers.{Answers, AnswersFrom, MayMeet}
-use Rattle.sn_fs.specs.Costs.{CostsAtMost}
-use Rattle.sn_fs.specs.Held.{Held, ground}
-use Rattle.sn_fs.specs.Mounting.{IsSoOf, LeavesTheWorld}
-use Rattle.sn_fs.specs.Recovering.{IsLeft, Mounts, Refuses}
-use Rattle.sn_fs.proofs.MeaningLemmas.{runs_show, stays_lasts}
-use Rattle.sn_fs.proofs.MountLemmas.{fault_gate, lies_on}
+use Rattle.sn_fs.specs.Mounting.{IsLeft, Mounts, MountsWorld, WritesToMount}
+use Rattle.sn_run.specs.Runs.{LacksRoot}
 use Rattle.sn_run.proofs.CutLemmas.{found_settled}
+use Rattle.sn_run.proofs.UnfitLemmas.{lacks_none}
 
 -- ---- steps
 
@@ -95,101 +96,121 @@ nowhere_leaves P old new whole here touches =
     LeavesOnly-torn Nowhere P P (λ c d whole_c whole_d agrees h. subst P (agrees_same c d agrees) h) old new whole here touches
 
 -- and where a world was left
-kept_leaves : (P : Contents → Type 0) (old new : Disk) (world : World) → AreSectors (reads old) → Always old P → ((c : Contents) → OpensOn ground c world → P c)
+kept_leaves : (P : Contents → Type 0) (old new : Disk) (world : World) → AreSectors (reads old) → Always old P → ((c : Contents) → IsLiveImage c world → P c)
     → Touches Nowhere old new ⊎ LeavesTheWorld old new world → LeavesOnly old new P
 kept_leaves P old new world whole here so (inl touches) = nowhere_leaves P old new whole here touches
 kept_leaves P old new world whole here so (inr leaves) =
     LeavesOnly-join old leaves.mid new P (nowhere_leaves P old leaves.mid whole here leaves.first)
-    (LeavesOnly-weaker leaves.mid new (λ c. OpensOn ground c world) P so leaves.moments)
+    (LeavesOnly-weaker leaves.mid new (λ c. IsLiveImage c world) P so leaves.moments)
 
-pub on_ground : (c : Contents) → AreSectors c → 2048 ≤ length c → IsOnDisk c (base_of 256 1)
-on_ground c whole count = lies_on c (first_of 256 1) (record { blocks = refl; epoch = refl }) whole count
-
-pub one_of : (c : Contents) (world other : World) → AreSectors c → 2048 ≤ length c → OpensOn ground c world → OpensOn ground c other → world ≡ other
-one_of c world other whole count h k = opens_to_one version_1 c (base_of 256 1) 1 new_world world other (on_ground c whole count) h k
-
-module _ (old new : Held) (had : Bool) (whole : AreSectors (reads old.disk)) (count : 2048 ≤ length (reads old.disk)) (costs : new.status ≡ called 1 2 old.status) where
-  -- the mount runs over the world that the disk opened to
-  mounted_lasts : (s : State) (world : World) → Always old.disk (λ c. ShowsState ground s c) → OpensOn ground (reads old.disk) world → LeavesTheWorld old.disk new.disk world → LastsOver ground s (Running world) old.disk new.disk
-  mounted_lasts s world shows opens leaves =
-      let settled = found_settled (reads old.disk) world opens in
-      let P = λ (c : Contents). ShowsState ground s c ⊎ ShowsState ground (Running world) c in
-      let later = LeavesOnly-weaker leaves.mid new.disk (λ c. OpensOn ground c world) (λ c. ShowsState ground (Running world) c) (λ c h. subst (OpensOn ground c) (sym settled) h) leaves.moments in
+module _ (old new : Held) (had : Bool) (whole : AreSectors (reads old.disk)) (costs : new.status ≡ called 1 2 old.status) where
+  -- the mount runs over the world that the disk was an image of
+  mounted_lasts : (s : State) (world : World) → Always old.disk (λ c. ShowsState s c) → IsLiveImage (reads old.disk) world → LeavesTheWorld old.disk new.disk world → LastsOver s (Running world) old.disk new.disk
+  mounted_lasts s world shows image leaves =
+      let settled = found_settled (reads old.disk) world image in
+      let P = λ (c : Contents). ShowsState s c ⊎ ShowsState (Running world) c in
+      let later = LeavesOnly-weaker leaves.mid new.disk (λ c. IsLiveImage c world) (λ c. ShowsState (Running world) c) (λ c h. subst (IsLiveImage c) (sym settled) h) leaves.moments in
       record {
         moments = LeavesOnly-join old.disk leaves.mid new.disk P
-            (LeavesOnly-weaker old.disk leaves.mid (λ c. ShowsState ground s c) P (λ c h. inl h) (nowhere_leaves (λ c. ShowsState ground s c) old.disk leaves.mid whole shows leaves.first))
-            (LeavesOnly-weaker leaves.mid new.disk (λ c. ShowsState ground (Running world) c) P (λ c h. inr h) later);
-        answered = LeavesOnly-now leaves.mid new.disk (λ c. ShowsState ground (Running world) c) later;
+            (LeavesOnly-weaker old.disk leaves.mid (λ c. ShowsState s c) P (λ c h. inl h) (nowhere_leaves (λ c. ShowsState s c) old.disk leaves.mid whole shows leaves.first))
+            (LeavesOnly-weaker leaves.mid new.disk (λ c. ShowsState (Running world) c) P (λ c h. inr h) later);
+        answered = LeavesOnly-now leaves.mid new.disk (λ c. ShowsState (Running world) c) later;
       }
 
-  pub mounted_answers : (has : Bool) → Mounts old.disk new has → Answers event.Restart answer.Done old had new has
+  pub mounted_answers : (has : Bool) → Mounts old.status.sectors old.disk new has → Answers event.Restart answer.Done old had new has
   mounted_answers has m (Running w) means =
-      let shows = runs_show old w means.1 in
-      let same = one_of (reads old.disk) m.world (settle w) whole count m.opens (Always-reads old.disk (λ c. OpensOn ground c (settle w)) whole shows) in
+      let shows = live_show old w means.1 means.2 in
+      let image = Always-reads old.disk (λ c. IsLiveImage c (settle w)) whole shows in
+      let it = m.runs (settle w) image in
       record {
         met = None;
         mid = old;
         point = refl;
         may = ap (λ (x : Status). x.failures) costs;
-        next = Running m.world;
-        step = (refl, ap (λ (x : World). Running x) same);
-        means = m.means;
-        lasts = mounted_lasts (Running w) m.world shows m.opens m.leaves;
-        writes = m.touched;
-        begins = m.leaves;
-        numbers = restart_numbers w m.world old.kept new.kept same m.none_kept;
+        next = Running (settle w);
+        step = (refl, refl);
+        means = it.means;
+        lasts = mounted_lasts (Running w) (settle w) shows image it.leaves;
+        writes = inr m.touched;
+        begins = it.leaves;
+        numbers = restart_numbers w (settle w) old.kept new.kept refl m.none_kept;
         later = later-is 1 2 old.status new.status costs;
         costs = costs;
         works = tt;
       }
-  mounted_answers has m (Stopped before after) means = told (Always-reads old.disk (λ c. ShowsState ground (Stopped before after) c) whole means.1)
+  mounted_answers has m (Stopped before after) means = told (Always-reads old.disk (λ c. ShowsState (Stopped before after) c) whole means.1)
     where
-      answers : (Running m.world ≡ Running before) ⊎ (Running m.world ≡ Running after) → AnswersFrom (Stopped before after) event.Restart answer.Done old new has
-      answers same = record {
-        met = None;
-        mid = old;
-        point = refl;
-        may = ap (λ (x : Status). x.failures) costs;
-        next = Running m.world;
-        step = (refl, same);
-        means = m.means;
-        lasts = mounted_lasts (Stopped before after) m.world means.1 m.opens m.leaves;
-        writes = m.touched;
-        begins = m.leaves;
-        numbers = m.none_kept;
-        later = later-is 1 2 old.status new.status costs;
-        costs = costs;
-        works = tt;
-      }
+      answers : (world : World) → (Running world ≡ Running before) ⊎ (Running world ≡ Running after) → IsLiveImage (reads old.disk) world → AnswersFrom (Stopped before after) event.Restart answer.Done old new has
+      answers world same image =
+          let it = m.runs world image in
+          record {
+            met = None;
+            mid = old;
+            point = refl;
+            may = ap (λ (x : Status). x.failures) costs;
+            next = Running world;
+            step = (refl, same);
+            means = it.means;
+            lasts = mounted_lasts (Stopped before after) world means.1 image it.leaves;
+            writes = inr m.touched;
+            begins = it.leaves;
+            numbers = m.none_kept;
+            later = later-is 1 2 old.status new.status costs;
+            costs = costs;
+            works = tt;
+          }
 
-      told : OpensOn ground (reads old.disk) before ⊎ OpensOn ground (reads old.disk) after → AnswersFrom (Stopped before after) event.Restart answer.Done old new has
-      told (inl h) = answers (inl (ap (λ (x : World). Running x) (one_of (reads old.disk) m.world before whole count m.opens h)))
-      told (inr h) = answers (inr (ap (λ (x : World). Running x) (one_of (reads old.disk) m.world after whole count m.opens h)))
+      told : IsLiveImage (reads old.disk) before ⊎ IsLiveImage (reads old.disk) after → AnswersFrom (Stopped before after) event.Restart answer.Done old new has
+      told (inl h) = answers before (inl refl) h
+      told (inr h) = answers after (inr refl) h
 
 -- ---- mounts that fail
 
--- the mishap of a fault, where the contents open to a world
-pub met_with : (f : MountFault) (c : Contents) (world : World) (sectors : ℕ) (old new : Held) → OpensOn ground c world → 2048 ≤ sectors → Refuses f c sectors → IsSoOf f old.status new.status
-    → (m : Mishap) × (mount_fault_of m ≡ Some f) × MayMeet old old event.Restart (Some m) new.status
-met_with (fault.Damaged damage block) c world sectors old new opens count cause failed = absurd (cause.none world opens)
-met_with fault.NotFormatted c world sectors old new opens count cause failed = absurd (omega arith)
-met_with fault.Version c world sectors old new opens count cause failed = absurd cause
-met_with fault.NoRoot c world sectors old new opens count cause failed = absurd cause
-met_with fault.Memory c world sectors old new opens count cause failed = (Memory, refl, failed)
-met_with fault.Device c world sectors old new opens count cause failed = (Read, refl, failed)
+-- an image has no damage
+pub no_damage : (damage : Damage) (sectors : ℕ) (c : Contents) (block : ℕ) (world : World) → IsImage c world → StandsAt damage sectors c block → ⊥
+no_damage damage.Root sectors c block world image h = h.0 world image
+no_damage damage.Pointer sectors c block world image h = h
+no_damage damage.ReachedTwice sectors c block world image h = h
+no_damage damage.MapWord sectors c block world image h = h
+no_damage damage.Misspelt sectors c block world image h = h.0 world image
+no_damage damage.Links sectors c block world image h = h
+no_damage damage.Log sectors c block world image h = h.0 world image
 
-module _ (old new : Held) (had : Bool) (f : MountFault) (sectors : ℕ) (whole : AreSectors (reads old.disk)) (enough : 2048 ≤ sectors) (left : IsLeft f old.disk new.disk sectors) (failed : IsSoOf f old.status new.status) (later : IsLater old.status new.status) (costs : CostsAtMost 1 2 old.status new.status) where
-  -- between two worlds, of which the disk opened to one
-  unmounted_from : (before after world : World) → Always old.disk (λ c. ShowsState ground (Stopped before after) c) → OpensOn ground (reads old.disk) world
-      → ((c : Contents) → OpensOn ground c world → ShowsState ground (Stopped before after) c) → LeavesOnly old.disk new.disk (λ c. ShowsState ground (Stopped before after) c)
+-- an image has a root
+pub found_root : (f : MountFault) (sectors : ℕ) (c : Contents) (world : World) → IsImage c world → length c ≡ sectors → LacksRoot sectors c f → ⊥
+found_root f sectors c world im count lacks =
+    lacks_none f sectors c im.blocks im.opens.slot im.opens.root (record { size = im.disk.size; spelled = im.spelled; room = subst (λ (m : ℕ). 8 * im.blocks ≤ m) count im.disk.long }) im.opens.shown.newest lacks
+
+-- the mishap of a fault, where the contents are an image of a world
+pub met_with : (f : MountFault) (c : Contents) (world : World) (sectors : ℕ) (old new : Held) → IsLiveImage c world → length c ≡ sectors → Refuses f sectors c → IsSoOf f old.status new.status
+    → (m : Mishap) × (mount_fault_of m ≡ Some f) × MayMeet old old event.Restart (Some m) new.status
+met_with (fault.Damaged damage block) c world sectors old new is count cause failed = absurd (no_damage damage sectors c block world is.image cause.1)
+met_with fault.NotFormatted c world sectors old new is count cause failed = absurd (found_root fault.NotFormatted sectors c world is.image count cause)
+met_with fault.Version c world sectors old new is count cause failed = absurd (found_root fault.Version sectors c world is.image count cause)
+met_with fault.NoRoot c world sectors old new is count cause failed = absurd (found_root fault.NoRoot sectors c world is.image count cause)
+met_with fault.Memory c world sectors old new is count cause failed = (Memory, refl, failed)
+met_with fault.Device c world sectors old new is count cause failed = (Read, refl, failed)
+
+writes_to_mount : (f : MountFault) (sectors : ℕ) (old new : Disk) → WritesAtFault f sectors old new → WritesToMount sectors old new
+writes_to_mount (fault.Damaged damage block) sectors old new touched = inl touched
+writes_to_mount fault.NotFormatted sectors old new touched = inl touched
+writes_to_mount fault.Version sectors old new touched = inl touched
+writes_to_mount fault.NoRoot sectors old new touched = inl touched
+writes_to_mount fault.Memory sectors old new touched = touched
+writes_to_mount fault.Device sectors old new touched = touched
+
+module _ (old new : Held) (had : Bool) (f : MountFault) (whole : AreSectors (reads old.disk)) (count : length (reads old.disk) ≡ old.status.sectors) (left : IsLeft f old.status.sectors old.disk new.disk) (failed : IsSoOf f old.status new.status) (later : IsLater old.status new.status) (costs : CostsAtMost 1 2 old.status new.status) where
+  -- between two worlds, of which the disk was an image of one
+  unmounted_from : (before after world : World) → Always old.disk (λ c. ShowsState (Stopped before after) c) → IsLiveImage (reads old.disk) world
+      → ((c : Contents) → IsLiveImage c world → ShowsState (Stopped before after) c) → LeavesOnly old.disk new.disk (λ c. ShowsState (Stopped before after) c)
   unmounted_from before after world shows opens so =
-      kept_leaves (λ c. ShowsState ground (Stopped before after) c) old.disk new.disk world whole shows so (left.keeps world opens)
+      kept_leaves (λ c. ShowsState (Stopped before after) c) old.disk new.disk world whole shows so (left.keeps world opens)
 
   pub unmounted_answers : Answers event.Restart (answer.Unmounted f) old had new true
   unmounted_answers (Running w) means =
-      let shows = runs_show old w means.1 in
-      let here = Always-reads old.disk (λ c. OpensOn ground c (settle w)) whole shows in
-      let met = met_with f (reads old.disk) (settle w) sectors old new here enough left.cause failed in
+      let shows = live_show old w means.1 means.2 in
+      let here = Always-reads old.disk (λ c. IsLiveImage c (settle w)) whole shows in
+      let met = met_with f (reads old.disk) (settle w) old.status.sectors old new here count left.cause failed in
       let all = unmounted_from (settle w) (settle w) (settle w) (λ c crash. inl (shows c crash)) here (λ c h. inl h) in
       let next = Stopped (settle w) (settle w) in
       record {
@@ -199,23 +220,23 @@ module _ (old new : Held) (had : Bool) (f : MountFault) (sectors : ℕ) (whole :
         may = met.2;
         next = next;
         step = inr (record { fault = f; is = met.1; told = refl; left = refl });
-        means = (refl, LeavesOnly-now old.disk new.disk (λ c. ShowsState ground next c) all);
+        means = (refl, LeavesOnly-now old.disk new.disk (λ c. ShowsState next c) all);
         lasts = record {
-          moments = LeavesOnly-weaker old.disk new.disk (λ c. ShowsState ground next c) (λ c. ShowsState ground (Running w) c ⊎ ShowsState ground next c) (λ c h. inr h) all;
-          answered = LeavesOnly-now old.disk new.disk (λ c. ShowsState ground next c) all;
+          moments = LeavesOnly-weaker old.disk new.disk (λ c. ShowsState next c) (λ c. ShowsState (Running w) c ⊎ ShowsState next c) (λ c h. inr h) all;
+          answered = LeavesOnly-now old.disk new.disk (λ c. ShowsState next c) all;
         };
-        writes = fault_gate f old.disk new.disk left.touched;
+        writes = writes_to_mount f old.status.sectors old.disk new.disk left.touched;
         begins = tt;
         numbers = tt;
         later = later;
         costs = costs;
         works = tt;
       }
-  unmounted_answers (Stopped before after) means = told (Always-reads old.disk (λ c. ShowsState ground (Stopped before after) c) whole means.1)
+  unmounted_answers (Stopped before after) means = told (Always-reads old.disk (λ c. ShowsState (Stopped before after) c) whole means.1)
     where
-      from : (world : World) → OpensOn ground (reads old.disk) world → ((c : Contents) → OpensOn ground c world → ShowsState ground (Stopped before after) c) → AnswersFrom (Stopped before after) event.Restart (answer.Unmounted f) old new true
+      from : (world : World) → IsLiveImage (reads old.disk) world → ((c : Contents) → IsLiveImage c world → ShowsState (Stopped before after) c) → AnswersFrom (Stopped before after) event.Restart (answer.Unmounted f) old new true
       from world here so =
-          let met = met_with f (reads old.disk) world sectors old new here enough left.cause failed in
+          let met = met_with f (reads old.disk) world old.status.sectors old new here count left.cause failed in
           let all = unmounted_from before after world means.1 here so in
           record {
             met = Some met.0;
@@ -224,12 +245,12 @@ module _ (old new : Held) (had : Bool) (f : MountFault) (sectors : ℕ) (whole :
             may = met.2;
             next = Stopped before after;
             step = record { fault = f; is = met.1; told = refl; left = refl };
-            means = (refl, LeavesOnly-now old.disk new.disk (λ c. ShowsState ground (Stopped before after) c) all);
+            means = (refl, LeavesOnly-now old.disk new.disk (λ c. ShowsState (Stopped before after) c) all);
             lasts = record {
-              moments = LeavesOnly-weaker old.disk new.disk (λ c. ShowsState ground (Stopped before after) c) (λ c. ShowsState ground (Stopped before after) c ⊎ ShowsState ground (Stopped before after) c) (λ c h. inr h) all;
-              answered = LeavesOnly-now old.disk new.disk (λ c. ShowsState ground (Stopped before after) c) all;
+              moments = LeavesOnly-weaker old.disk new.disk (λ c. ShowsState (Stopped before after) c) (λ c. ShowsState (Stopped before after) c ⊎ ShowsState (Stopped before after) c) (λ c h. inr h) all;
+              answered = LeavesOnly-now old.disk new.disk (λ c. ShowsState (Stopped before after) c) all;
             };
-            writes = fault_gate f old.disk new.disk left.touched;
+            writes = writes_to_mount f old.status.sectors old.disk new.disk left.touched;
             begins = tt;
             numbers = tt;
             later = later;
@@ -237,6 +258,6 @@ module _ (old new : Held) (had : Bool) (f : MountFault) (sectors : ℕ) (whole :
             works = tt;
           }
 
-      told : OpensOn ground (reads old.disk) before ⊎ OpensOn ground (reads old.disk) after → AnswersFrom (Stopped before after) event.Restart (answer.Unmounted f) old new true
+      told : IsLiveImage (reads old.disk) before ⊎ IsLiveImage (reads old.disk) after → AnswersFrom (Stopped before after) event.Restart (answer.Unmounted f) old new true
       told (inl h) = from before h (λ c k. inl k)
       told (inr h) = from after h (λ c k. inr k)

@@ -19,23 +19,24 @@ use Rattle.sn_model.specs.declared.reply.Reply.{Reply}
 use Rattle.sn_model.specs.declared.reply.Errno.{Errno}
 use Rattle.sn_model.specs.declared.reply.Errno.TheVariants.{Enomem, Estopped}
 use Rattle.sn_model.specs.declared.reply.Reply.TheVariants as answer
-use Rattle.sn_model.specs.Machine.{State, Running, Stopped, Anything, CutRun, Ends, Life, Run, refused}
+use Rattle.sn_model.specs.Machine.{State, Running, Stopped, Anything, CutRun, Ends, Lacks, Life, WholeRun, refused}
 use Rattle.sn_model.specs.Tests.{plain}
 use Rattle.sn_model.specs.World.{World, new_world}
-use Rattle.sn_ondisk.specs.LogHalf.{base_of}
 use Rattle.sn_log.specs.Places.{first_of}
 use Rattle.sn_core.proofs.StepLemmas.{run_more}
-use Rattle.sn_recovery.specs.Moments.{OpensOn}
-use Rattle.sn_recovery.proofs.RecoveryLemmas.{opens_to_one}
+use Rattle.sn_sound.specs.Disks.{IsFormatted}
+use Rattle.sn_held.specs.Held.{Held, Means}
+use Rattle.sn_held.specs.Images.{IsLiveImage}
+use Rattle.sn_held.proofs.EventLemmas.{images_one, means_show}
+use Rattle.sn_mount.specs.Failing.{IsSoOf}
+use Rattle.sn_mount.specs.Recovering.{LeavesTheWorld, TouchesOneGate}
 use Rattle.sn_fs.specs.Answers.{Answers}
-use Rattle.sn_fs.specs.Held.{Held, Means, ground}
-use Rattle.sn_fs.specs.Mounting.{LeavesTheWorld}
-use Rattle.sn_fs.specs.Recovering.{Mounts}
-use Rattle.sn_fs.proofs.MeaningLemmas.{means_show}
+use Rattle.sn_fs.specs.Mounting.{Mounts}
 use Rattle.sn_run.specs.Laws.{LivesOn}
-use Rattle.sn_run.specs.Runs.{AnswersAll, Goes, HoldsNone, IsImageOf, IsRunOf, IsUnfitRun, LeavesAll, LeavesFrom, LeavesItsRun, NotMounted, OpensToCut, RunsTo, Served}
-use Rattle.sn_run.proofs.CutLemmas.{AreSettled, cut_now, found_settled, machine_run, run_leaves}
-use Rattle.sn_run.proofs.RestartLemmas.{met_with, one_of}
+use Rattle.sn_run.specs.Runs.{AnswersAll, Goes, IsRunOf, IsServed, LacksRoot, LeavesAll, LeavesFrom, LeavesItsRun, NotMounted, RunsTo, Served, ShowsCut, start}
+use Rattle.sn_run.proofs.CutLemmas.{cut_now, found_settled, machine_run, run_leaves}
+use Rattle.sn_run.proofs.RestartLemmas.{met_with}
+use Rattle.sn_run.proofs.UnfitLemmas.{lacks_none, unfit_fault}
 
 -- ---- event by event
 
@@ -72,26 +73,26 @@ ends_stopped : (h : Held) (s : State) → Means h true s → Ends s None ending.
 ends_stopped h (Running w) means = absurd (true≢false means.0)
 ends_stopped h (Stopped before after) means = record { reply = refused Estopped; unmounts = refl; ends = (done_is_refused Estopped, stopped_is_memory) }
 
-module _ (events : List Event) (replies : List Reply) (disk last_disk : Disk) (status last_status : Status) (h new : Held) (had : Bool) (m : Mounts disk h had) (enough : 2048 ≤ status.sectors) (costs : h.status ≡ called 1 2 status) (same_disk : last_disk ≡ new.disk) (same_status : last_status ≡ new.status) where
+module _ (events : List Event) (replies : List Reply) (disk last_disk : Disk) (status last_status : Status) (h new : Held) (had : Bool) (m : Mounts status.sectors disk h had) (costs : h.status ≡ called 1 2 status) (same_disk : last_disk ≡ new.disk) (same_status : last_status ≡ new.status) where
   served : (has : Bool) (end : End) → AnswersAll events replies h had new has → ((s : State) → Means new has s → Ends s None end) → Served events replies end disk status last_disk last_status
-  served has end all ends =
-      let a = all (Running m.world) m.means in
-      record {
-        world = m.world;
-        image = record { sound = enough; opens = m.opens };
-        first = record { state = Running m.world; held = h; has_stopped = had };
-        mounted = refl;
-        means = m.means;
-        none_kept = m.none_kept;
-        touched = m.touched;
-        leaves = m.leaves;
-        costs = costs;
-        last = record { state = a.state; held = new; has_stopped = has };
-        run = a.run;
-        ends = ends a.state a.means;
-        left = sym same_disk;
-        counted = sym same_status;
-      }
+  served has end all ends = record {
+    mounted = h;
+    none_kept = m.none_kept;
+    touched = m.touched;
+    costs = costs;
+    served = λ world image.
+        let it = m.runs world image in
+        let a = subst (λ (b : Bool). AnswersAll events replies h b new has) m.running all (Running world) (subst (λ (b : Bool). Means h b (Running world)) m.running it.means) in
+        record {
+          means = subst (λ (b : Bool). Means h b (Running world)) m.running it.means;
+          leaves = it.leaves;
+          last = record { state = a.state; held = new; has_stopped = has };
+          run = a.run;
+          ends = ends a.state a.means;
+          left = sym same_disk;
+          counted = sym same_status;
+        };
+  }
 
   pub served_clean : AnswersAll events replies h had new false → Served events replies ending.Clean disk status last_disk last_status
   served_clean all = served false ending.Clean all (ends_clean new)
@@ -105,37 +106,34 @@ module _ (events : List Event) (replies : List Reply) (disk last_disk : Disk) (s
 abbrev bare : Disk → Status → Held
 bare disk status = record { world = new_world; kept = λ number. false; at = first_of 256 1; disk = disk; status = status }
 
-module _ (events : List Event) (replies : List Reply) (disk last_disk : Disk) (status last_status : Status) (world : World) (whole : AreSectors (reads disk)) (count : 2048 ≤ length (reads disk)) (image : IsImageOf world status.sectors (reads disk)) where
-  served_leaves : (end : End) (s : Served events replies end disk status last_disk last_status) → s.world ≡ world → LeavesItsRun world events replies disk last_disk
-  served_leaves end s same =
-      let starts : s.first.state ≡ Running world = s.mounted ∙ ap (λ (w : World). Running w) same in
-      let shows = means_show s.first.held s.first.has_stopped s.first.state s.means in
-      let rest = run_leaves s.first s.first s.last [] events [] replies (subst AreSettled (sym starts) tt) shows refl s.run in
+module _ (events : List Event) (replies : List Reply) (disk last_disk : Disk) (status last_status : Status) (world : World) (count : length (reads disk) ≡ status.sectors) (image : IsLiveImage (reads disk) world) where
+  served_leaves : (end : End) (mounted : Held) → IsServed world events replies end disk mounted last_disk last_status → LeavesItsRun world events replies disk last_disk
+  served_leaves end mounted s =
+      let shows = means_show mounted false (Running world) s.means in
+      let rest = run_leaves (start world mounted) (start world mounted) s.last [] events [] replies tt shows refl s.run in
       record {
-        mounted = s.first.held.disk;
-        mounts = subst (LeavesTheWorld disk s.first.held.disk) same s.leaves;
-        moments = subst (λ (d : Disk). LeavesFrom (Running world) events [] replies s.first.held.disk d) s.left
-            (subst (λ (x : State). LeavesFrom x events [] replies s.first.held.disk s.last.held.disk) starts rest);
+        mounted = mounted.disk;
+        mounts = s.leaves;
+        moments = subst (λ (d : Disk). LeavesFrom (Running world) events [] replies mounted.disk d) s.left rest;
       }
 
   served_run : (end : End) → Served events replies end disk status last_disk last_status → IsRunOf world events replies end disk last_disk
   served_run end s =
-      let same = one_of (reads disk) s.world world whole count s.image.opens image.opens in
-      let starts : s.first.state ≡ Running world = s.mounted ∙ ap (λ (w : World). Running w) same in
+      let it = s.served world image in
       record {
         run = inr (inr (record {
-          last = s.last.state;
-          run = subst (λ (x : State). Run Anything version_1 x events replies s.last.state) starts (machine_run s.first s.last events replies s.run);
+          last = it.last.state;
+          run = machine_run (start world s.mounted) it.last events replies it.run;
           met = None;
           may = tt;
-          ends = s.ends;
+          ends = it.ends;
         }));
-        crash = inr (served_leaves end s same);
+        crash = inr (served_leaves end s.mounted it);
       }
 
   -- what a mount that failed leaves, before any event
-  opens_to_cut : (c : Contents) → OpensOn ground c world → OpensToCut (Running world) events [] c
-  opens_to_cut c h = (world, h, cut_now world events (found_settled (reads disk) world image.opens))
+  shows_cut : (c : Contents) → IsLiveImage c world → ShowsCut (Running world) events [] c
+  shows_cut c h = (world, h, cut_now world events (found_settled (reads disk) world image))
 
   left_so : replies ≡ [] → Touches Nowhere disk last_disk ⊎ LeavesTheWorld disk last_disk world → LeavesAll replies disk last_disk ⊎ LeavesItsRun world events replies disk last_disk
   left_so none (inl touches) = inl (record { none = none; touches = touches })
@@ -143,15 +141,15 @@ module _ (events : List Event) (replies : List Reply) (disk last_disk : Disk) (s
     mounted = last_disk;
     mounts = leaves;
     moments = subst (λ (said : List Reply). LeavesFrom (Running world) events [] said last_disk last_disk) (sym none)
-        (refl, LeavesOnly-now leaves.mid last_disk (OpensToCut (Running world) events []) (LeavesOnly-weaker leaves.mid last_disk (λ c. OpensOn ground c world) (OpensToCut (Running world) events []) opens_to_cut leaves.moments));
+        (refl, LeavesOnly-now leaves.mid last_disk (ShowsCut (Running world) events []) (LeavesOnly-weaker leaves.mid last_disk (λ c. IsLiveImage c world) (ShowsCut (Running world) events []) shows_cut leaves.moments));
   })
 
   unserved_run : (f : MountFault) → NotMounted f replies disk status last_disk last_status → IsRunOf world events replies (ending.Mount f) disk last_disk
   unserved_run f n =
-      let met = met_with f (reads disk) world status.sectors (bare disk status) (bare last_disk last_status) image.opens image.sound n.left.cause n.failed in
+      let met = met_with f (reads disk) world status.sectors (bare disk status) (bare last_disk last_status) image count n.left.cause n.failed in
       record {
         run = inr (inl (record { met = met.0; may = tt; fault = f; is = met.1; none = n.none; ends = refl }));
-        crash = left_so n.none (n.left.keeps world image.opens);
+        crash = left_so n.none (n.left.keeps world image);
       }
 
   pub is_run : (end : End) → RunsTo end events replies disk status last_disk last_status → IsRunOf world events replies end disk last_disk
@@ -163,21 +161,25 @@ module _ (events : List Event) (replies : List Reply) (disk last_disk : Disk) (s
   }
   is_run (ending.Mount f) h = unserved_run f h
 
--- ---- a device that holds no world
+-- ---- a disk without a root
 
-module _ (events : List Event) (replies : List Reply) (disk last_disk : Disk) (status last_status : Status) (none : HoldsNone status.sectors (reads disk)) where
-  pub is_unfit : (end : End) → RunsTo end events replies disk status last_disk last_status → IsUnfitRun events replies end status.sectors (reads disk)
-  is_unfit ending.Clean h = absurd (none h.world h.image)
-  is_unfit ending.Stopped h = absurd (none h.world h.image)
-  is_unfit ending.Memory h = record { fault = Memory; run = inl (record { may = tt; none = h.none; ends = refl }); cause = λ e. tt }
-  is_unfit (ending.Mount f) h = record { fault = f; run = inr (inr (record { none = h.none; ends = refl })); cause = λ e. h.left.cause }
+module _ (events : List Event) (replies : List Reply) (disk last_disk : Disk) (status last_status : Status) (f : MountFault) (lacks : LacksRoot status.sectors (reads disk) f) where
+  never_served : (end : End) → Served events replies end disk status last_disk last_status → ⊥
+  never_served end s = let t = s.touched in lacks_none f status.sectors (reads disk) t.blocks t.slot t.root t.formatted t.newest lacks
+
+  -- the mount has told why, or has failed
+  pub is_unfit : (end : End) → RunsTo end events replies disk status last_disk last_status → WholeRun Anything version_1 (Lacks f) events replies end
+  is_unfit ending.Clean h = absurd (never_served ending.Clean h)
+  is_unfit ending.Stopped h = absurd (never_served ending.Stopped h)
+  is_unfit ending.Memory h = inl (record { may = tt; none = h.none; ends = refl })
+  is_unfit (ending.Mount g) h = inr (unfit_fault f g status.sectors (reads disk) events replies h.none lacks h.left.cause)
 
 -- ---- lives
 
-pub lives : (c last : Contents) (runs : List (List Event × List Reply)) (first : World) → OpensOn ground c first → LivesOn c runs last → (world : World) × OpensOn ground last world × Life Anything version_1 first runs world
-lives c last [] first opens life = (first, subst (λ (x : Contents). OpensOn ground x first) (sym life) opens, refl)
-lives c last (r ∷ rs) first opens life =
+pub lives : (c last : Contents) (runs : List (List Event × List Reply)) (first : World) → IsLiveImage c first → LivesOn c runs last → (world : World) × IsLiveImage last world × Life Anything version_1 first runs world
+lives c last [] first image life = (first, subst (λ (x : Contents). IsLiveImage x first) (sym life) image, refl)
+lives c last (r ∷ rs) first image life =
     let cut = life.1 in
-    let same = opens_to_one version_1 c (base_of 256 1) 1 new_world cut.world first cut.here cut.opens opens in
+    let same = images_one c cut.world first cut.image.image image.image in
     let rest = lives life.0 last rs cut.cut.0 cut.cut.1 life.2 in
     (rest.0, rest.1, (cut.cut.0, subst (λ (w : World). CutRun Anything version_1 (Running w) r.0 r.1 cut.cut.0) same cut.cut.2, rest.2))

@@ -1,6 +1,6 @@
 -- Why events are refused, mounts fail and runs stop over a device that counts no failure: only since it came to its end, or memory was refused.
 use Rattle.std.specs.Prelude.{◌≡◌, ◌⊎◌, List, Contains, IsTrue, Option, None, Some}
-use Rattle.sn_device.specs.Disk.{Disk}
+use Rattle.sn_device.specs.Disk.{Disk, reads}
 use Rattle.sn_device.specs.Status.{has_ended}
 use Rattle.sn_device.specs.declared.status.Status.{Status}
 use Rattle.sn_model.specs.declared.call.Event.{Event}
@@ -11,7 +11,10 @@ use Rattle.sn_model.specs.declared.mount.MountFault.TheVariants as mount
 use Rattle.sn_model.specs.declared.reply.Reply.{Reply}
 use Rattle.sn_model.specs.declared.reply.Reply.TheVariants as answer
 use Rattle.sn_model.specs.Machine.{Mishap, Memory, Read, Write, Space, Age, RunBy}
-use Rattle.sn_run.specs.Runs.{Goes, RunsTo, Standing}
+use Rattle.sn_model.specs.World.{World}
+use Rattle.sn_held.specs.Images.{IsLiveImage}
+use Rattle.sn_mount.specs.Recovering.{OfImage}
+use Rattle.sn_run.specs.Runs.{Goes, RunsTo, Served, Standing, start}
 
 -- a read, a write or a sync failed
 abbrev pub IsFailure : Option Mishap → Type 0
@@ -36,10 +39,14 @@ abbrev pub FailsAtItsEnd : MountFault → Status → Type 0
 FailsAtItsEnd mount.Device last_status = IsTrue (has_ended last_status)
 FailsAtItsEnd fault last_status = Unit {0}
 
+-- each failure in what was served was the device's end
+abbrev pub ServedToItsEnd : (end : End) (events : List Event) (replies : List Reply) (disk : Disk) (status : Status) (last_disk : Disk) (last_status : Status) → Served events replies end disk status last_disk last_status → Type 0
+ServedToItsEnd end events replies disk status last_disk last_status s = (world : World) (image : IsLiveImage (reads disk) world) → RunBy GoesOrEnds (start world s.mounted) events replies (s.served world image).last
+
 -- Each failure in a run was the device's end, and where the run stopped it was for one, or for memory at a restart.
 abbrev pub HasCauses : (end : End) (events : List Event) (replies : List Reply) (disk : Disk) (status : Status) (last_disk : Disk) (last_status : Status) → RunsTo end events replies disk status last_disk last_status → Type 0
-HasCauses ending.Clean events replies disk status last_disk last_status served = RunBy GoesOrEnds served.first events replies served.last
-HasCauses ending.Stopped events replies disk status last_disk last_status served = RunBy GoesOrEnds served.first events replies served.last × (IsTrue (has_ended last_status) ⊎ HasNoMemory replies)
+HasCauses ending.Clean events replies disk status last_disk last_status served = ServedToItsEnd ending.Clean events replies disk status last_disk last_status served
+HasCauses ending.Stopped events replies disk status last_disk last_status served = ServedToItsEnd ending.Stopped events replies disk status last_disk last_status served × OfImage disk (λ world. IsTrue (has_ended last_status) ⊎ HasNoMemory replies)
 HasCauses ending.Memory events replies disk status last_disk last_status nothing = Unit {0}
 HasCauses (ending.Mount fault) events replies disk status last_disk last_status unmounted = FailsAtItsEnd fault last_status
 

@@ -1,34 +1,30 @@
 -- What crashes leave of runs, life by life.
-use Rattle.std.specs.Prelude.{◌≡◌, ℕ, ◌≤◌, false, Option, None, Some, List, [], ◌∷◌, replicate}
+use Rattle.std.specs.Prelude.{◌≡◌, false, Option, None, Some, List, [], ◌∷◌}
 use Rattle.sn_device.specs.Sectors.{Contents}
 use Rattle.sn_device.specs.Status.{has_ended}
 use Rattle.sn_limits.specs.Versions.{version_1}
 use Rattle.sn_model.specs.declared.call.Event.{Event}
 use Rattle.sn_model.specs.declared.reply.Reply.{Reply}
 use Rattle.sn_model.specs.Machine.{Running, Anything, Life, Mishap, Memory, Read, Write, Space, Age, Run, RunBy}
-use Rattle.sn_model.specs.World.{World, new_world}
-use Rattle.sn_ondisk.specs.LogHalf.{base_of}
-use Rattle.sn_ondisk.specs.OneAnswer.{IsOnDisk}
-use Rattle.sn_recovery.specs.Moments.{OpensOn}
-use Rattle.sn_fs.specs.Held.{ground}
-use Rattle.sn_run.specs.Runs.{Goes, OpensToCut, Standing}
+use Rattle.sn_model.specs.World.{World}
+use Rattle.sn_held.specs.Images.{IsLiveImage}
+use Rattle.sn_run.specs.Runs.{Goes, ShowsCut, Standing}
 
--- a run from what the contents open to, of which a crash behind these replies left the others, as the contract of a run says
+-- a run from what the contents are an image of, of which a crash behind these replies left the others, as the contract of a run says
 pub record Cuts (c : Contents) (events : List Event) (said : List Reply) (left : Contents) : Type 0 where
   pub world : World
-  pub opens : OpensOn ground c world
-  pub cut : OpensToCut (Running world) events said left
-  pub here : IsOnDisk c (base_of 256 1)
+  pub image : IsLiveImage c world
+  pub cut : ShowsCut (Running world) events said left
 
 -- runs, each from what a crash in the run before has left
 abbrev pub LivesOn : Contents → List (List Event × List Reply) → Contents → Type 0
 LivesOn c [] last = last ≡ c
 LivesOn c (r ∷ rs) last = (next : Contents) × Cuts c r.0 r.1 next × LivesOn next rs last
 
--- They are a life of the machine, whose last world the last contents open to.
+-- They are a life of the machine, whose last world the last contents are an image of.
 abbrev pub LivesAreLives : Type 0
-LivesAreLives = (c last : Contents) (runs : List (List Event × List Reply)) (first : World) → OpensOn ground c first → LivesOn c runs last
-    → (world : World) × OpensOn ground last world × Life Anything version_1 first runs world
+LivesAreLives = (c last : Contents) (runs : List (List Event × List Reply)) (first : World) → IsLiveImage c first → LivesOn c runs last
+    → (world : World) × IsLiveImage last world × Life Anything version_1 first runs world
 
 -- no read, no write and no sync of a device failed
 abbrev pub Unfailing : Option Mishap → Type 0
@@ -44,7 +40,3 @@ abbrev pub NoFailureIsInvented : Type 0
 NoFailureIsInvented = (first last : Standing) (events : List Event) (replies : List Reply) → RunBy Goes first events replies last
     → last.held.status.failures ≡ first.held.status.failures → has_ended last.held.status ≡ false
     → Run Unfailing version_1 first.state events replies last.state
-
--- A disk of zeros is an empty file system.
-abbrev pub ZerosAreNew : Type 0
-ZerosAreNew = (n : ℕ) → 2048 ≤ n → OpensOn ground (replicate n (replicate 512 0)) new_world

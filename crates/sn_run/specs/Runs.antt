@@ -1,5 +1,5 @@
 -- Runs over a device, and what a crash leaves of them.
-use Rattle.std.specs.Prelude.{◌≡◌, ◌⊎◌, ℕ, ◌≤◌, Bool, false, List, [], ◌∷◌, ◌++◌, None}
+use Rattle.std.specs.Prelude.{◌≡◌, ◌⊎◌, ℕ, Bool, false, List, [], ◌∷◌, ◌++◌, None}
 use Rattle.sn_device.specs.Sectors.{Contents}
 use Rattle.sn_device.specs.Disk.{Disk, Always, reads}
 use Rattle.sn_device.specs.Crash.{LeavesOnly, Touches}
@@ -11,15 +11,17 @@ use Rattle.sn_model.specs.declared.call.Event.{Event}
 use Rattle.sn_model.specs.declared.mount.End.{End}
 use Rattle.sn_model.specs.declared.mount.End.TheVariants as ending
 use Rattle.sn_model.specs.declared.mount.MountFault.{MountFault}
+use Rattle.sn_model.specs.declared.mount.MountFault.TheVariants as fault
 use Rattle.sn_model.specs.declared.reply.Reply.{Reply}
-use Rattle.sn_model.specs.Machine.{State, Running, Anything, CutRun, Ends, Holds, Lacks, RunBy, WholeRun}
+use Rattle.sn_model.specs.Machine.{State, Running, Anything, CutRun, Ends, Holds, RunBy, WholeRun}
 use Rattle.sn_model.specs.World.{World}
-use Rattle.sn_recovery.specs.Moments.{OpensOn}
+use Rattle.sn_sound.specs.Verdicts.{HasNoVerdict}
+use Rattle.sn_held.specs.Held.{Held, Means}
+use Rattle.sn_held.specs.Images.{IsLiveImage}
+use Rattle.sn_mount.specs.Failing.{CostsAtMost, IsSoOf}
+use Rattle.sn_mount.specs.Recovering.{LeavesTheWorld, OfImage, TouchesOneGate}
 use Rattle.sn_fs.specs.Answers.{AnswersFrom}
-use Rattle.sn_fs.specs.Costs.{CostsAtMost}
-use Rattle.sn_fs.specs.Held.{Held, Means, ground}
-use Rattle.sn_fs.specs.Mounting.{IsSoOf, LeavesTheWorld, TouchesOneGate}
-use Rattle.sn_fs.specs.Recovering.{IsLeft, Refuses}
+use Rattle.sn_fs.specs.Mounting.{IsLeft}
 
 -- where a run stands between two events: the state of the machine, and what is held
 pub record Standing : Type 0 where
@@ -42,36 +44,32 @@ pub record IsAnswered (s : State) (events : List Event) (replies : List Reply) (
 abbrev pub AnswersAll : List Event → List Reply → Held → Bool → Held → Bool → Type 0
 AnswersAll events replies old had_stopped new has_stopped = (s : State) → Means old had_stopped s → IsAnswered s events replies old had_stopped new has_stopped
 
--- A sound disk has all its sectors: there is no root on it yet whose tree could be unsound.
-abbrev pub IsSound : ℕ → Contents → Type 0
-IsSound sectors c = 2048 ≤ sectors
+-- a mount that runs over a world
+abbrev pub start : World → Held → Standing
+start world h = record { state = Running world; held = h; has_stopped = false }
 
--- The device holds a world: its contents are those of a sound disk, and open to it.
-pub record IsImageOf (world : World) (sectors : ℕ) (c : Contents) : Type 0 where
-  pub sound : IsSound sectors c
-  pub opens : OpensOn ground c world
-
--- The world that the device opened to was mounted, with one write and two syncs and no number kept back, and the events were answered; the last unmount calls nothing.
-pub record Served (events : List Event) (replies : List Reply) (end : End) (disk : Disk) (status : Status) (last_disk : Disk) (last_status : Status) : Type 0 where
-  pub world : World
-  pub image : IsImageOf world status.sectors (reads disk)
-  pub first : Standing
-  pub mounted : first.state ≡ Running world
-  pub means : Means first.held first.has_stopped first.state
-  pub none_kept : (number : ℕ) → first.held.kept number ≡ false
-  pub touched : TouchesOneGate disk first.held.disk
-  pub leaves : LeavesTheWorld disk first.held.disk world
-  pub costs : first.held.status ≡ called 1 2 status
+-- The world that the disk was an image of was mounted, and at no moment a crash would have left another. The events were answered; the last unmount calls nothing.
+pub record IsServed (world : World) (events : List Event) (replies : List Reply) (end : End) (disk : Disk) (mounted : Held) (last_disk : Disk) (last_status : Status) : Type 0 where
+  pub means : Means mounted false (Running world)
+  pub leaves : LeavesTheWorld disk mounted.disk world
   pub last : Standing
-  pub run : RunBy Goes first events replies last
+  pub run : RunBy Goes (start world mounted) events replies last
   pub ends : Ends last.state None end
   pub left : last.held.disk ≡ last_disk
   pub counted : last.held.status ≡ last_status
 
--- There was no mount, for a cause, and the world that the device opens to, if any, is still there.
+-- The disk was mounted, with one write and two syncs and no number kept back, and what it was an image of was served.
+pub record Served (events : List Event) (replies : List Reply) (end : End) (disk : Disk) (status : Status) (last_disk : Disk) (last_status : Status) : Type 0 where
+  pub mounted : Held
+  pub none_kept : (number : ℕ) → mounted.kept number ≡ false
+  pub touched : TouchesOneGate status.sectors disk mounted.disk
+  pub costs : mounted.status ≡ called 1 2 status
+  pub served : OfImage disk (λ world. IsServed world events replies end disk mounted last_disk last_status)
+
+-- There was no mount, for a cause, and the world that the disk is an image of, if any, is still there.
 pub record NotMounted (fault : MountFault) (replies : List Reply) (disk : Disk) (status : Status) (last_disk : Disk) (last_status : Status) : Type 0 where
   pub none : replies ≡ []
-  pub left : IsLeft fault disk last_disk status.sectors
+  pub left : IsLeft fault status.sectors disk last_disk
   pub failed : IsSoOf fault status last_status
   pub later : IsLater status last_status
   pub costs : CostsAtMost 1 2 status last_status
@@ -89,14 +87,14 @@ RunsTo ending.Stopped events replies disk status last_disk last_status = Served 
 RunsTo ending.Memory events replies disk status last_disk last_status = NothingDone replies disk status last_disk last_status
 RunsTo (ending.Mount fault) events replies disk status last_disk last_status = NotMounted fault replies disk status last_disk last_status
 
--- the contents open to a world that the machine's run, cut short after these replies, leaves
-abbrev pub OpensToCut : State → List Event → List Reply → Contents → Type 0
-OpensToCut s events said c = (world : World) × OpensOn ground c world × CutRun Anything version_1 s events said world
+-- the contents are an image of a world that the machine's run, cut short after these replies, leaves
+abbrev pub ShowsCut : State → List Event → List Reply → Contents → Type 0
+ShowsCut s events said c = (world : World) × IsLiveImage c world × CutRun Anything version_1 s events said world
 
 -- From a disk on the events that are left get these replies, behind those that were given: in the course of each a crash leaves a run that was cut short in it or behind it, and once all are answered one that was cut short behind the last.
 abbrev pub LeavesFrom : State → List Event → List Reply → List Reply → Disk → Disk → Type 0
-LeavesFrom s events said [] old new = (new ≡ old) × Always old (OpensToCut s events said)
-LeavesFrom s events said (reply ∷ replies) old new = (mid : Disk) × LeavesOnly old mid (OpensToCut s events said) × LeavesFrom s events (said ++ reply ∷ []) replies mid new
+LeavesFrom s events said [] old new = (new ≡ old) × Always old (ShowsCut s events said)
+LeavesFrom s events said (reply ∷ replies) old new = (mid : Disk) × LeavesOnly old mid (ShowsCut s events said) × LeavesFrom s events (said ++ reply ∷ []) replies mid new
 
 -- Up to a first sync that succeeds nothing is written. From then on a crash leaves the world that was found, and once it is mounted, what the machine's run leaves, event by event.
 pub record LeavesItsRun (world : World) (events : List Event) (replies : List Reply) (old new : Disk) : Type 0 where
@@ -109,17 +107,16 @@ pub record LeavesAll (replies : List Reply) (old new : Disk) : Type 0 where
   pub none : replies ≡ []
   pub touches : Touches Nowhere old new
 
--- Where the device holds a world, this is a run of the machine from that world, and it is all that a crash leaves.
+-- Where the disk is an image of a world, this is a run of the machine from that world, and it is all that a crash leaves.
 pub record IsRunOf (world : World) (events : List Event) (replies : List Reply) (end : End) (old new : Disk) : Type 0 where
   pub run : WholeRun Anything version_1 (Holds world) events replies end
   pub crash : LeavesAll replies old new ⊎ LeavesItsRun world events replies old new
 
--- the device holds no world
-abbrev pub HoldsNone : ℕ → Contents → Type 0
-HoldsNone sectors c = (world : World) → IsImageOf world sectors c → ⊥
-
--- Where it holds none, this is a run of the machine that finds why: it tells no other fault, but for want of memory and a failure of the device.
-pub record IsUnfitRun (events : List Event) (replies : List Reply) (end : End) (sectors : ℕ) (c : Contents) : Type 0 where
-  pub fault : MountFault
-  pub run : WholeRun Anything version_1 (Lacks fault) events replies end
-  pub cause : end ≡ ending.Mount fault → Refuses fault c sectors
+-- There is no root that a mount could begin from: the disk isn't formatted, or neither slot is open, or a root is of a version that isn't known.
+abbrev pub LacksRoot : ℕ → Contents → MountFault → Type 0
+LacksRoot sectors c fault.NotFormatted = HasNoVerdict sectors c fault.NotFormatted
+LacksRoot sectors c fault.NoRoot = HasNoVerdict sectors c fault.NoRoot
+LacksRoot sectors c fault.Version = HasNoVerdict sectors c fault.Version
+LacksRoot sectors c (fault.Damaged damage block) = ⊥
+LacksRoot sectors c fault.Memory = ⊥
+LacksRoot sectors c fault.Device = ⊥

@@ -1,10 +1,10 @@
 -- What serves events, as what it holds.
-use Rattle.std.specs.Prelude.{◌≤◌, Bool, true, false}
+use Rattle.std.specs.Prelude.{Bool, true, false}
 use Rattle.sn_device.specs.declared.device.Device.{Ghosts}
 use Rattle.sn_model.specs.World.{new_world}
 use Rattle.sn_log.specs.Places.{first_of}
+use Rattle.sn_held.specs.Held.{Held}
 use Rattle.sn_fs.specs.Filesystem.{IsFs, has_stopped, held}
-use Rattle.sn_fs.specs.Held.{Held}
 use Rattle.sn_run.specs.declared.server.Server.{Server}
 use Rattle.sn_run.specs.declared.server.Server.TheVariants.{Mounted, Unmounted}
 
@@ -21,4 +21,4 @@ module _ {D : Type 0} {g : Ghosts D} where
   -- what holds of it before and after each event
   abbrev pub IsServer : Server D g → Type 0
   IsServer (Mounted fs) = IsFs fs
-  IsServer (Unmounted device) = 2048 ≤ (g.status device).sectors
+  IsServer (Unmounted device) = Unit {0}

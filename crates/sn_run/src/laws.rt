@@ -1,6 +1,6 @@
 //! The laws that the definitions of `specs/` keep.
 ghost use Rattle.sn_run.specs.Causes.{OnlyItsEndFails};
-ghost use Rattle.sn_run.specs.Laws.{LivesAreLives, NoFailureIsInvented, ZerosAreNew};
+ghost use Rattle.sn_run.specs.Laws.{LivesAreLives, NoFailureIsInvented};
 
 /// Runs, each from what a crash in the one before has left, are a life of the machine.
 pub fn crash_laws()
@@ -16,9 +16,4 @@ pub fn no_failure_is_invented()
 /// end. So did a first mount that failed for it, and a run that stopped, unless a restart lacked memory.
 pub fn only_its_end_fails()
     ensures { OnlyItsEndFails }
-{}
-
-/// What a disk of zeros, of 2,048 sectors and more, opens to.
-pub fn new_disk_law()
-    ensures opens { ZerosAreNew }
 {}

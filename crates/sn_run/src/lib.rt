@@ -8,9 +8,10 @@
 //! - [`Server::answer`]: the reply is that of a step of the machine. A crash at any moment of the event
 //!   leaves the settled world from before it or from after it, and once it is answered the one after alone.
 //!   No count of the device falls, and a failure is told only where the device failed.
-//! - [`run`]: the replies and the end are those of a whole run of the machine from the world that the device
-//!   opens to. A crash in the course of an event leaves what the machine's run leaves that is cut short in
-//!   that event or behind it, and behind the last event all that was answered (`LeavesItsRun`).
+//! - [`run`]: the replies and the end are those of a whole run of the machine from the world that the disk
+//!   is an image of. A crash in the course of an event leaves what the machine's run leaves that is cut short in
+//!   that event or behind it, and behind the last event all that was answered (`LeavesItsRun`). A disk without a
+//!   root is told by its fault.
 //! - [`no_failure_is_invented`]: where the device didn't fail, no event was refused for a failure.
 //! - [`only_its_end_fails`]: where the device's count of failures stayed, each failure was the device's end: a
 //!   device whose type keeps that count at 0 fails in no other way.
@@ -27,6 +28,6 @@ mod laws;
 mod running;
 mod server;
 
-pub use laws::{crash_laws, new_disk_law, no_failure_is_invented, only_its_end_fails};
+pub use laws::{crash_laws, no_failure_is_invented, only_its_end_fails};
 pub use running::{Ran, run};
 pub use server::Server;

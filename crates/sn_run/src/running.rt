@@ -1,8 +1,12 @@
 //! Whole runs.
 ghost use Rattle.std.specs.Prelude.{◌≡◌, ◌≤◌, [], IsTrue, IfOk, length, vec_capacity};
 ghost use Rattle.sn_device.specs.Disk.{reads};
+ghost use Rattle.sn_limits.specs.Versions.{version_1};
+ghost use Rattle.sn_model.specs.Machine.{Anything, Lacks, WholeRun};
 ghost use Rattle.sn_model.specs.World.{World};
-ghost use Rattle.sn_run.specs.Runs.{AnswersAll, HoldsNone, IsImageOf, IsRunOf, IsUnfitRun, RunsTo};
+ghost use Rattle.sn_model.specs.declared.mount.MountFault.{MountFault};
+ghost use Rattle.sn_held.specs.Images.{IsLiveImage};
+ghost use Rattle.sn_run.specs.Runs.{AnswersAll, IsRunOf, LacksRoot, RunsTo};
 ghost use Rattle.sn_run.specs.Servers.{IsServer, is_stopped, standing};
 
 use crate::Server;
@@ -50,8 +54,7 @@ fn answer_all<D: Device>(
     server
 }
 
-/// Mounts a device, answers events in their order, and unmounts. A device of zeros, of 2,048 sectors and
-/// more, is an empty file system.
+/// Mounts a device, answers events in their order, and unmounts.
 ///
 /// The room for the replies is looked for first: without it nothing is done, and the end is `Memory`.
 /// Where there is no mount the end has its cause, and no event is answered. It is `Stopped` where a
@@ -59,10 +62,10 @@ fn answer_all<D: Device>(
 pub fn run<D: Device>(alloc: Global, device: D, events: &[Event]) -> Ran<D>
     ensures runs { IsTrue D.tells_bytes → RunsTo result.end events.now result.replies.items
         (D.disk device) (D.status device) (D.disk result.device) (D.status result.device) }
-    ensures machine { IsTrue D.tells_bytes → (world : World) → IsImageOf world (D.status device).sectors (reads (D.disk device))
+    ensures machine { IsTrue D.tells_bytes → (world : World) → IsLiveImage (reads (D.disk device)) world
         → IsRunOf world events.now result.replies.items result.end (D.disk device) (D.disk result.device) }
-    ensures unfit { IsTrue D.tells_bytes → HoldsNone (D.status device).sectors (reads (D.disk device))
-        → IsUnfitRun events.now result.replies.items result.end (D.status device).sectors (reads (D.disk device)) }
+    ensures unfit { IsTrue D.tells_bytes → (fault : MountFault) → LacksRoot (D.status device).sectors (reads (D.disk device)) fault
+        → WholeRun Anything version_1 (Lacks fault) events.now result.replies.items result.end }
 {
     let Ok(mut replies) = room_for(alloc, events.len()) else {
         return Ran {

@@ -15,7 +15,7 @@ use Rattle.sn_root.specs.Finding.{AreEqual, IsDamaged}
 use Rattle.sn_root.specs.declared.fault.Damage.{Damage as RootDamage}
 use Rattle.sn_root.specs.declared.fault.Damage.TheVariants.{Misspelt, EqualGenerations}
 use Rattle.sn_root.proofs.SlotLemmas.{root_known}
-use Rattle.sn_sound.specs.Disks.{IsOfDevice}
+use Rattle.sn_sound.specs.Disks.{IsFormatted, IsOfDevice}
 use Rattle.sn_sound.specs.Verdicts.{HasNoVerdict, IsClean, IsFaulty, IsFirst, IsRootFault, Stands}
 use Rattle.sn_sound.proofs.DiskLemmas.{disk_clean, one_size}
 
@@ -66,12 +66,16 @@ never_both sectors c free damage block device clean faulty = by faulty.why
         (subst (λ (s : Slot). Stands faulty.blocks c s clean.root damage block) same.0
         (subst (λ (r : RootBody). Stands faulty.blocks c slot r damage block) same.1 first.stands)))
 
-pub clean_verdict : (sectors : ℕ) (c : Contents) (free : ℕ) (fault : MountFault) → IsClean sectors c free → HasNoVerdict sectors c fault → (fault ≡ mount.Memory) ⊎ (fault ≡ mount.Device)
-clean_verdict sectors c free mount.NotFormatted clean none = absurd (none (clean.blocks, clean.sound.formatted))
-clean_verdict sectors c free mount.NoRoot clean none = absurd (none.1 clean.slot clean.sound.newest.is_open)
-clean_verdict sectors c free mount.Version clean none =
-    let r = open_root c clean.slot none.1.0 clean.root clean.sound.newest none.1.1.is_open in
+-- a disk that has a newest root isn't one without
+pub rooted_verdict : (sectors : ℕ) (c : Contents) (n : ℕ) (slot : Slot) (root : RootBody) (fault : MountFault) → IsFormatted sectors c n → IsNewest c slot root → HasNoVerdict sectors c fault → (fault ≡ mount.Memory) ⊎ (fault ≡ mount.Device)
+rooted_verdict sectors c n slot root mount.NotFormatted formatted newest none = absurd (none (n, formatted))
+rooted_verdict sectors c n slot root mount.NoRoot formatted newest none = absurd (none.1 slot newest.is_open)
+rooted_verdict sectors c n slot root mount.Version formatted newest none =
+    let r = open_root c slot none.1.0 root newest none.1.1.is_open in
     absurd (root_known c none.1.0 r.0 r.1 none.1.1.version)
-clean_verdict sectors c free (mount.Damaged damage block) clean none = absurd none
-clean_verdict sectors c free mount.Memory clean none = inl refl
-clean_verdict sectors c free mount.Device clean none = inr refl
+rooted_verdict sectors c n slot root (mount.Damaged damage block) formatted newest none = absurd none
+rooted_verdict sectors c n slot root mount.Memory formatted newest none = inl refl
+rooted_verdict sectors c n slot root mount.Device formatted newest none = inr refl
+
+pub clean_verdict : (sectors : ℕ) (c : Contents) (free : ℕ) (fault : MountFault) → IsClean sectors c free → HasNoVerdict sectors c fault → (fault ≡ mount.Memory) ⊎ (fault ≡ mount.Device)
+clean_verdict sectors c free fault clean none = rooted_verdict sectors c clean.blocks clean.slot clean.root fault clean.sound.formatted clean.sound.newest none

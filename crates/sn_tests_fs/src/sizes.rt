@@ -1,10 +1,14 @@
 //! Devices of too few sectors, and a log that is full.
 use anyhow::Result;
 use sn_device::{Fill, MemDevice};
+use sn_mkfs::mkfs;
 use sn_model::MountFault;
 use sn_mounted::{Mounted, new_device, remounted};
 use sn_table::{Report, Tally};
 use std::alloc::Global;
+
+/// The blocks of the least disk.
+const BLOCKS: u32 = 256;
 
 /// The records of one sector that the half has room for: two sectors each, up to place 253.
 const ROOM: u32 = 127;
@@ -26,9 +30,12 @@ fn sizes(report: &Report<'_>) -> Result<Tally> {
     Ok(tally)
 }
 
-/// The fault of a mount of so many sectors.
+/// The fault of a mount of so many sectors, which are formatted where they are enough for a disk.
 fn fault_of(alloc: Global, sectors: u32) -> Result<Option<MountFault>> {
-    let device = MemDevice::new(alloc, u64::from(sectors))?;
+    let device = match mkfs(alloc, MemDevice::new(alloc, u64::from(sectors))?, BLOCKS) {
+        Ok(device) => device,
+        Err(unformatted) => unformatted.device,
+    };
     match Mounted::new(alloc, device) {
         Ok(_) => Ok(None),
         Err(unmounted) => Ok(Some(unmounted.fault)),

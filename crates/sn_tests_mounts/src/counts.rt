@@ -2,7 +2,7 @@
 
 use anyhow::{Context, Result, bail, ensure};
 use sn_reading::ChangeKind::{self, AddLink, Make, Remove, Rename, SetAttributes, SetSize, Write};
-use sn_reading::Ending::{Closed, Last, Misspelt, OtherEpoch};
+use sn_reading::Ending::{Closed, Last, LaterEpoch, Misspelt, OtherEpoch};
 use sn_reading::Misspelling::{
     BytesLeft, CutOff, Entry, Kind, LongPayload, ManyEntries, Name, NoBytes, NoMask, NoPayload,
     NoRoom, Objects, Order, Padding, Rights, Sequence, SpecialBits, UnknownChange,
@@ -18,10 +18,11 @@ use std::alloc::Global;
 
 /// The ends of a half: those that are a tree, what a record lacks that is misspelt, and what keeps one from being
 /// applied.
-const ENDS: [(Outcome, &str); 51] = [
+const ENDS: [(Outcome, &str); 52] = [
     (Ended(Closed), "ends at a closed gate"),
     (Ended(Last), "ends where the half has no more room"),
     (Ended(OtherEpoch), "ends at a record of another epoch"),
+    (Ended(LaterEpoch), "one of a later epoch"),
     (Ended(Misspelt(Sequence)), "another sequence"),
     (Ended(Misspelt(NoPayload)), "a payload of no bytes"),
     (Ended(Misspelt(LongPayload)), "a payload that is too long"),
@@ -128,6 +129,7 @@ fn line_of_kind(change: ChangeKind) -> Option<usize> {
 fn front_of(outcome: Outcome) -> &'static str {
     match outcome {
         Ended(Misspelt(_)) => "a misspelt record, ",
+        Ended(LaterEpoch) => "a first record, ",
         Ended(_) => "a tree that ",
         Obstructed(change, _) => obstructed_front(change),
     }

@@ -3,14 +3,12 @@
 use anyhow::{Context, Result, ensure};
 use sn_device::MemDevice;
 use sn_model::{End, Event, Reply};
+use sn_mounted::new_device;
 use sn_replies::print_replies;
 use sn_run::{Ran, run};
 use sn_script::read_script;
 use std::alloc::Global;
 use std::str;
-
-/// The sectors of the disk.
-pub const SECTORS: u64 = 2048;
 
 /// A restart, a step, or the call of a script's line.
 pub fn event_of(alloc: Global, line: &str) -> Result<Event> {
@@ -37,8 +35,7 @@ pub fn events_of(alloc: Global, text: &str) -> Result<Vec<Event>> {
 /// A line for each event of a run on a new disk, which has to end well.
 pub fn replies(alloc: Global, text: &str) -> Result<String> {
     let events = events_of(alloc, text)?;
-    let device = MemDevice::new(alloc, SECTORS)?;
-    let Ran { replies, end, .. } = run(alloc, device, events.as_slice());
+    let Ran { replies, end, .. } = run(alloc, new_device(alloc)?, events.as_slice());
     ensure!(end == End::Clean, "no memory for the run");
     lines_of(alloc, replies.as_slice())
 }

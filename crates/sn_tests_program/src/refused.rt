@@ -1,6 +1,6 @@
 //! A run with each call of the device refused in turn.
 
-use crate::events::{SECTORS, events_of};
+use crate::events::events_of;
 use anyhow::{Result, bail};
 use sn_device::MemDevice;
 use sn_model::{Call, End, Errno, Event, MountFault, Reply};
@@ -138,7 +138,7 @@ pub fn run(report: &mut Report<'_>) -> Result<()> {
     let events = events_of(alloc, EVENTS)?;
     let mut tally = Tally::new();
     for call in 1..MOST_CALLS {
-        let mut device = MemDevice::new(alloc, SECTORS)?;
+        let mut device = new_device(alloc)?;
         device.fail_at(call);
         let Ran { replies, end, .. } = sn_run::run(alloc, device, events.as_slice());
         match told_by(alloc, events.as_slice(), replies.as_slice(), end)? {

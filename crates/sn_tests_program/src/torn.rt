@@ -4,11 +4,11 @@
 //! second alone. Some records take several sectors, so that a crash may leave one of them without another, or a part
 //! of one.
 
-use crate::events::{SECTORS, events_of, found_on};
+use crate::events::{events_of, found_on};
 use anyhow::{Result, ensure};
 use sn_device::{Device, MemDevice};
 use sn_model::{End, Event};
-use sn_mounted::{FILLS, crashed};
+use sn_mounted::{FILLS, crashed, new_device};
 use sn_run::{Ran, run};
 use std::alloc::Global;
 
@@ -73,7 +73,7 @@ fn step_of(alloc: Global, before: &[Event], events: &[Event]) -> Result<Step> {
 }
 
 fn run_whole(alloc: Global, events: &[Event]) -> Result<Whole> {
-    let Ran { end, device, .. } = run(alloc, MemDevice::new(alloc, SECTORS)?, events);
+    let Ran { end, device, .. } = run(alloc, new_device(alloc)?, events);
     ensure!(end == End::Clean, "no memory for a run");
     let writes = device.status().writes;
     let found = found_on(alloc, device, ASKED)?;
@@ -142,7 +142,7 @@ fn is_left(alloc: Global, events: &[Event], step: &Step, stop: u64, number: u32)
 
 /// The device behind a run of which so many writes succeed, and no later call.
 fn cut_short(alloc: Global, events: &[Event], stop: u64) -> Result<MemDevice> {
-    let mut device = MemDevice::new(alloc, SECTORS)?;
+    let mut device = new_device(alloc)?;
     device.stop_at(stop);
     let Ran { device, .. } = run(alloc, device, events);
     Ok(device)

@@ -1,3 +1,4 @@
+use Rattle.sn_block.specs.Lending.{device_of}
 use Rattle.sn_block.proofs.CountLemmas.{later-calls}
 use Rattle.sn_fs.proofs.changing.make_change.Goals as goal
 
@@ -12,6 +13,7 @@ returns-in-Ok-append-clause-made g c =
       touched = λ told. (c.in-Ok-append.ensures.disk told).touched;
       moments = λ told. (c.in-Ok-append.ensures.disk told).any_moment;
       acknowledged = λ told. (c.in-Ok-append.ensures.disk told).acknowledged;
+      sectors = g.met.D.Device.whole (device_of c.append.new.blocks);
       costs = c.in-Ok-append.ensures.counts.done;
     }
 

@@ -39,7 +39,7 @@ returns-in-Ok-clear-clause-recovers g c told =
     let within = subst (λ (n : ℕ). n ≤ 255) c.place.ensures.value c.place.ensures.within in
     let closed = rw (base, c.place.ensures.value) at (c.in-Ok-clear.ensures.disk told).closed in (
       one_gate sectors old mid new at world f count sync.touched sync.same sync.synced within c.clear.result clears,
-      λ w is empty. recovered sectors old mid new at world f count sync.touched sync.same sync.synced within c.clear.result clears w is empty
+      λ w is. recovered sectors old mid new at world f count sync.touched sync.same sync.synced within c.clear.result clears w is.image is.frozen
           c.new-in-Ok-clear.result (world_of c.settle.new.self) c.new-in-Ok-clear.ensures c.settle.ensures.world closed (g.met.D.Device.whole (device_of c.clear.new.blocks) told),
     )
 
@@ -71,5 +71,5 @@ returns-in-Err-clear-clause-recovers g c told =
       subst (λ (x : MountFault). Refuses x sectors (reads old)) (sym c.fault_of.ensures) (read_refuses fault sectors (reads old)),
       subst (λ (x : MountFault). WritesAtFault x sectors old new) (sym c.fault_of.ensures)
           (read_writes fault sectors old new (one_gate sectors old mid new at world f count sync.touched sync.same sync.synced within c.clear.result clears)),
-      λ w is empty. inr (leaves sectors old mid new at world f count sync.touched sync.same sync.synced within c.clear.result clears w is empty),
+      λ w is. inr (leaves sectors old mid new at world f count sync.touched sync.same sync.synced within c.clear.result clears w is.image is.frozen),
     )

@@ -1,4 +1,4 @@
-use Rattle.std.proofs.Common.{◌≡◌, ◌||◌, ℕ, ◌≤◌, Bool, true, false, Option, Some, Ok, sym, ap, subst, ◌∙◌}
+use Rattle.std.proofs.Common.{◌≡◌, ◌||◌, ℕ, ◌*◌, ◌≤◌, Bool, true, false, Option, Some, Ok, sym, ap, subst, ◌∙◌}
 use Rattle.sn_limits.specs.Versions.{version_1}
 use Rattle.sn_model.specs.declared.call.Event.{Event}
 use Rattle.sn_model.specs.declared.call.Event.TheVariants.{Call}
@@ -31,12 +31,16 @@ use Rattle.sn_fs.specs.declared.fs.Fs.{Fs}
 use Rattle.sn_fs.specs.Answers.{Answers}
 use Rattle.sn_fs.specs.Changing.{Changes, FailsChange, IsLogged, IsMade, errno_of}
 use Rattle.sn_fs.specs.Filesystem.{held}
-use Rattle.sn_fs.specs.Held.{Held, IsOnGround}
+use Rattle.sn_held.specs.Held.{Held}
 use Rattle.sn_fs.specs.Mounted.{holding}
 use Rattle.sn_fs.proofs.CallLemmas.{made_answers, still_whole, stopped_answers, told_answers, undecided_answers, unmade_answers, unprepared_answers}
 use Rattle.sn_fs.proofs.DecisionLemmas.{can_be_made}
 use Rattle.sn_fs.proofs.fs.Fs.call.Goals as goal
 use Rattle.sn_fs.proofs.fs.Fs.call.Goals.{in-Some+in-Ok-make_change, in-None}
+
+-- the log is on the device still
+within_still : (blocks next sectors after : ℕ) → next ≡ blocks → after ≡ sectors → 8 * blocks ≤ sectors → 8 * next ≤ after
+within_still blocks next sectors after e f within = subst (λ (n : ℕ). 8 * n ≤ after) (sym e) (subst (λ (n : ℕ). 8 * blocks ≤ n) (sym f) within)
 
 -- a flag, or two, that stand for what they were tested for
 flagged : (e : Event) (reply : Reply) (old new : Held) (b d : Bool) → b ≡ d → Answers e reply old d new d → Answers e reply old b new b
@@ -103,8 +107,7 @@ returns-in-Err-make_change-clause-answered g c told =
 
 pub returns-in-Err-make_change-clause-sound : goal.returns-in-Err-make_change-clause-sound
 returns-in-Err-make_change-clause-sound g c = record {
-  sectors = subst (λ n. 2048 ≤ n) (sym c.in-Err-make_change.ensures.sectors) c.requires.sectors;
-  place = c.in-Err-make_change.ensures.place;
+  within = within_still c.args.self.now.log.blocks c.make_change.new.log.blocks _ _ c.in-Err-make_change.ensures.blocks c.in-Err-make_change.ensures.sectors c.requires.within;
   whole = λ running. still_whole g.D.Device.tells_bytes c.in-Err-make_change.fault c.in-Some.change _ _ c.in-Err-make_change.ensures.made (sym c.stops-self.ensures ∙ running) (subst (IsWorld version_1) (sym c.in_default.ensures.world) (c.requires.whole c.if-self.false));
 }
 
@@ -242,13 +245,13 @@ returns-clause-sound g c =
     let turn = λ (w : World). dropped (with_caller w c.args.session picked.caller) in
     let served = subst (λ (w : World). Becomes version_1 old c.args.session (decision version_1 old c.args.session c.args.call.now) o.told w) (sym (c.set_caller.ensures.world ∙ ap turn m.world)) (chosen_becomes old kept c.args.session c.args.call.now o picked m.tree c.in-Ok.ensures.numbers whole c.in-Ok.ensures.decided chosen m.done) in
     record {
-      sectors = elim c.match-change.branch [
-        | in-Some+in-Ok-make_change w ↦ subst (λ n. 2048 ≤ n) (sym (ap (λ (x : Fs g.row.D.Denot g.D.Device). (g.D.Device.status (device_of x.blocks)).sectors) w.self-is ∙ w.in-Ok-make_change.ensures.sectors)) c.requires.sectors
-        | in-None w ↦ subst (λ n. 2048 ≤ n) (sym (ap (λ (x : Fs g.row.D.Denot g.D.Device). (g.D.Device.status (device_of x.blocks)).sectors) w.self-is)) c.requires.sectors
-      ];
-      place = elim c.match-change.branch [
-        | in-Some+in-Ok-make_change w ↦ subst IsOnGround (sym (ap (λ (x : Fs g.row.D.Denot g.D.Device). x.log) w.self-is)) w.in-Ok-make_change.ensures.place
-        | in-None w ↦ subst IsOnGround (sym (ap (λ (x : Fs g.row.D.Denot g.D.Device). x.log) w.self-is)) c.requires.place
+      within = elim c.match-change.branch [
+        | in-Some+in-Ok-make_change w ↦
+            within_still c.args.self.now.log.blocks c.match-change.self.log.blocks _ _ (ap (λ (x : Fs g.row.D.Denot g.D.Device). x.log.blocks) w.self-is ∙ w.in-Ok-make_change.ensures.blocks)
+            (ap (λ (x : Fs g.row.D.Denot g.D.Device). (g.D.Device.status (device_of x.blocks)).sectors) w.self-is ∙ w.in-Ok-make_change.ensures.sectors) c.requires.within
+        | in-None w ↦
+            within_still c.args.self.now.log.blocks c.match-change.self.log.blocks _ _ (ap (λ (x : Fs g.row.D.Denot g.D.Device). x.log.blocks) w.self-is)
+            (ap (λ (x : Fs g.row.D.Denot g.D.Device). (g.D.Device.status (device_of x.blocks)).sectors) w.self-is) c.requires.within
       ];
       whole = λ _. served_whole old (world_of c.set_caller.new.self) c.args.session c.args.call.now o.told served c.in-Ok.ensures.numbers whole;
     }

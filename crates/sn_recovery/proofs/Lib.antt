@@ -1,2 +1,0 @@
-pub mod RecoveryLemmas
-pub use Rattle.sn_opening.proofs.SpelledLemmas
