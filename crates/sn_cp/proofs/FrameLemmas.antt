@@ -53,7 +53,7 @@ map_and_gate n k slot other i is same = let below = gate_below other in let star
 
 -- ---- what stands there stays
 
-holds_depend : (n : ℕ) (blocks : List Written) → AllByRecursion (λ (b : Written). IsIn n Data b.0) blocks → DependsOn FromMaps (λ c. HoldsAll (store_of c) blocks)
+pub holds_depend : (n : ℕ) (blocks : List Written) → AllByRecursion (λ (b : Written). IsIn n Data b.0) blocks → DependsOn FromMaps (λ c. HoldsAll (store_of c) blocks)
 holds_depend n [] lie c d whole_c whole_d agrees holds = tt
 holds_depend n (b ∷ bs) lie c d whole_c whole_d agrees holds =
     (bytes_at-same c d (8 * b.0) 8 (λ i from to. agrees.same i (omega (arith, from, lie.0.from))) ∙ holds.0, holds_depend n bs lie.1 c d whole_c whole_d agrees holds.1)

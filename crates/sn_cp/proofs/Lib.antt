@@ -1,2 +1,6 @@
+pub mod CountLemmas
+pub mod FinishLemmas
 pub mod FrameLemmas
+pub mod LogLemmas
+pub mod ShowLemmas
 pub mod StepLemmas

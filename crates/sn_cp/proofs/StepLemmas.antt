@@ -4,7 +4,7 @@ use Rattle.std.specs.List.{AllByRecursion, AllPairs, slice_index_or}
 use Rattle.std.proofs.lemmas.Bool.{ltb-false}
 use Rattle.std.proofs.lemmas.List.{length-drop, take_all, take_min}
 use Rattle.std.proofs.lemmas.List.Kept.{AllPairs-from_increasing}
-use Rattle.sn_device.specs.Sectors.{Contents, AreSectors}
+use Rattle.sn_device.specs.Sectors.{Contents, AreSectors, Single}
 use Rattle.sn_device.specs.Disk.{Disk, Always, IsSynced, reads}
 use Rattle.sn_device.specs.Crash.{Touches}
 use Rattle.sn_device.proofs.CrashLemmas.{Touches-join, Touches-within}
@@ -14,7 +14,7 @@ use Rattle.sn_layout.specs.declared.gate.Gate.{Gate}
 use Rattle.sn_layout.specs.declared.gate.Gate.TheVariants.{Open, Closed}
 use Rattle.sn_layout.specs.declared.places.Area.TheVariants.{Data, MapCopy}
 use Rattle.sn_layout.specs.MapCopy.{map_block_bytes}
-use Rattle.sn_layout.specs.Places.{IsIn, start_of, map_blocks}
+use Rattle.sn_layout.specs.Places.{IsIn, gate_sector, start_of, map_blocks}
 use Rattle.sn_ondisk.specs.Blocks.{InBlock}
 use Rattle.sn_ondisk.specs.MapLaws.{words_of_block}
 use Rattle.sn_ondisk.specs.Trees.{store_of}
@@ -28,7 +28,7 @@ use Rattle.sn_tree.specs.declared.new_block.NewBlock.{NewBlock}
 use Rattle.sn_cp.specs.Points.{Work, written_by}
 use Rattle.sn_cp.specs.Steps.{InNewBlock, IsWhole, StandsAtStage, StepsTo, with_map}
 use Rattle.sn_cp.specs.declared.stage.Stage.TheVariants.{Blocks, MapBlocks, Stored, Shut, Bodied}
-use Rattle.sn_cp.proofs.FrameLemmas.{block_and_gate, body_low, closing_low, gate_stays, is_closed_in, map_and_gate, stored_stays}
+use Rattle.sn_cp.proofs.FrameLemmas.{block_and_gate, body_low, closing_low, gate_low, gate_stays, is_closed_in, map_and_gate, stored_stays}
 
 -- ---- the blocks of a list
 
@@ -174,9 +174,11 @@ module _ (w : Work) (whole : IsWhole w) {T E : Type 0} (result : Result T E) (ol
         writes.body;
   }
 
-  pub open_steps : OpensSlot w.slot result old new → ChangesRoot w.slot w.plan.next result old new → StepsTo w Bodied result old new
-  open_steps opens changes = record {
+  pub open_steps : StandsAtStage w Bodied old → OpensSlot w.slot result old new → ChangesRoot w.slot w.plan.next result old new → StepsTo w Bodied result old new
+  open_steps stands opens changes = record {
     touched = opens.touched;
     root = changes;
-    next = OnOk-then result (λ synced. record { reached = synced; gate = tt }) opens.synced;
+    next = OnOk-then result
+        (λ synced. record { reached = (stored_stays (Single (gate_sector w.slot)) old new sectors opens.touched w.blocks w.slot w.plan (gate_low w.slot) whole.place stands.reached.0, synced); gate = tt })
+        opens.synced;
   }

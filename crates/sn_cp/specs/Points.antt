@@ -3,7 +3,7 @@ use Rattle.std.specs.Prelude.{ℕ, ◌==◌, if◌then◌else◌, map}
 use Rattle.sn_device.specs.Disk.{Disk, IsSynced}
 use Rattle.sn_layout.specs.declared.gate.Gate.{Gate}
 use Rattle.sn_layout.specs.declared.places.Slot.{Slot}
-use Rattle.sn_opening.specs.Points.{HasReached, Plan, Written}
+use Rattle.sn_opening.specs.Points.{HasReached, IsStored, Plan, Written}
 use Rattle.sn_opening.specs.Points as far
 use Rattle.sn_tree.specs.declared.new_block.NewBlock.{NewBlock}
 use Rattle.sn_cp.specs.declared.point.Point.{Point}
@@ -30,11 +30,11 @@ stage_of p = p.stage
 abbrev pub first_stage : ℕ → Stage
 first_stage count = if count == 0 then MapBlocks 0 else Blocks 0
 
--- The point has come so far: what `HasReached` says of each stage, and once it is done, nothing is unsynced.
+-- The point has come so far: what `HasReached` says of each stage, and once it is done, blocks and map stand behind the open gate, and nothing is unsynced.
 abbrev pub HasCome : Work → Stage → Disk → Type 0
 HasCome w (Blocks k) d = HasReached w.blocks d w.slot w.plan (far.Blocks k)
 HasCome w (MapBlocks k) d = HasReached w.blocks d w.slot w.plan (far.MapBlocks k)
 HasCome w Stored d = HasReached w.blocks d w.slot w.plan far.Stored
 HasCome w Shut d = HasReached w.blocks d w.slot w.plan far.Shut
 HasCome w Bodied d = HasReached w.blocks d w.slot w.plan far.Bodied
-HasCome w Done d = IsSynced d
+HasCome w Done d = IsStored w.blocks d w.slot w.plan × IsSynced d

@@ -27,9 +27,13 @@
 //! ```
 #![tactic(auto)]
 
+mod beginning;
+mod laws;
 mod point;
 mod stage;
 mod steps;
 
+pub use beginning::begin;
+pub use laws::{count_laws, shown_laws};
 pub use point::Point;
 pub use stage::Stage;

@@ -4,7 +4,9 @@ ghost use Rattle.sn_device.specs.Disk.{Disk, Always};
 ghost use Rattle.sn_root.specs.Slots.{gate_in};
 ghost use Rattle.sn_block.specs.Counts.{CountsCalls};
 ghost use Rattle.sn_block.specs.Lending.{device_of};
+ghost use Rattle.sn_cp.specs.Counting.{IsStageOf, root_steps, steps_left, syncs_left, writes_left};
 ghost use Rattle.sn_cp.specs.Points.{first_stage, stage_of, work_of, written_by};
+ghost use Rattle.sn_cp.specs.Showing.{Finishes};
 ghost use Rattle.sn_cp.specs.Steps.{IsWhole, IsWithin, StandsAtStage, StepsTo, next_stage, syncs_of, writes_of};
 ghost use Rattle.sn_cp.specs.declared.stage.Stage.TheVariants.{Done};
 
@@ -94,6 +96,33 @@ impl Point {
         self.stage == Stage::Done
     }
 
+    /// How many steps a root has, in a slot whose gate is so.
+    fn root_steps(&self) -> u64
+        ensures { result ≡ root_steps (work_of self.now).gate }
+    {
+        match self.gate {
+            Gate::Open => 3,
+            Gate::Closed => 2,
+        }
+    }
+
+    /// How many steps are left until its root counts.
+    pub fn steps_left(&self) -> u64
+        requires whole { IsWhole (work_of self.now) }
+        requires stage { IsStageOf (work_of self.now) (stage_of self.now) }
+        ensures { result ≡ steps_left (work_of self.now) (stage_of self.now) }
+    {
+        let map = u64::from(self.places.map_blocks());
+        match self.stage {
+            Stage::Blocks(k) => (self.blocks.len() - k) as u64 + map + self.root_steps(),
+            Stage::MapBlocks(k) => map - u64::from(k) + self.root_steps(),
+            Stage::Stored => 3,
+            Stage::Shut => 2,
+            Stage::Bodied => 1,
+            Stage::Done => 0,
+        }
+    }
+
     /// Makes the next step, of at most eight sector writes and at least one. It reads nothing and takes no memory. After a
     /// fault nothing may be written before the next mount.
     pub fn advance<D: Device>(&mut self, blocks: &mut Blocks<D>) -> Result<(), Fault>
@@ -116,5 +145,27 @@ impl Point {
             }
             Err(fault) => Err(fault),
         }
+    }
+
+    /// Makes all steps that are left. After a fault nothing may be written before the next mount.
+    pub fn finish<D: Device>(&mut self, blocks: &mut Blocks<D>) -> Result<(), Fault>
+        requires room { 8 * (work_of self.old).blocks ≤ (D.status (device_of blocks.old)).sectors }
+        requires whole { IsWhole (work_of self.old) }
+        requires within { IsWithin (work_of self.old) (stage_of self.old) }
+        requires stands { IsTrue D.tells_bytes → StandsAtStage (work_of self.old) (stage_of self.old) (D.disk (device_of blocks.old)) }
+        ensures bytes { IsTrue D.tells_bytes → Finishes (work_of self.old) result
+            (D.disk (device_of blocks.old)) (D.disk (device_of blocks.new)) }
+        ensures counts { CountsCalls (writes_left (work_of self.old) (stage_of self.old)) (syncs_left (work_of self.old) (stage_of self.old)) result
+            (D.status (device_of blocks.old)) (D.status (device_of blocks.new)) }
+        ensures same { work_of self.new ≡ work_of self.old }
+        ensures done { OnOk result (stage_of self.new ≡ Done) }
+    {
+        'steps: while !self.is_done() {
+            match self.advance(blocks) {
+                Ok(()) => {}
+                Err(fault) => return Err(fault),
+            }
+        }
+        Ok(())
     }
 }

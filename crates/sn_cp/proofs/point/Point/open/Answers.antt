@@ -8,5 +8,5 @@ open_slot-requires-clause-body g c told = ((work_of c.args.self.now).plan.next, 
 
 pub returns-clause-bytes : goal.returns-clause-bytes
 returns-clause-bytes g c told =
-    open_steps (work_of c.args.self.now) c.requires.whole c.open_slot.result _ _ (g.met.D.Device.whole (device_of c.args.blocks.now) told) (c.open_slot.ensures.bytes told)
+    open_steps (work_of c.args.self.now) c.requires.whole c.open_slot.result _ _ (g.met.D.Device.whole (device_of c.args.blocks.now) told) (c.requires.stands told) (c.open_slot.ensures.bytes told)
     (c.open_slot.ensures.root told (work_of c.args.self.now).plan.next (c.requires.stands told).reached.2)

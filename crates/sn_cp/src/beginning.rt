@@ -1,0 +1,38 @@
+//! How a point begins.
+ghost use Rattle.std.specs.Prelude.{◌≡◌, ◌+◌, ◌*◌, ◌^◌, ◌<◌, ◌≤◌, IsTrue, OnErr, OnOk};
+ghost use Rattle.sn_block.specs.Lending.{device_of};
+ghost use Rattle.sn_log.specs.Clearing.{CountsClearing};
+ghost use Rattle.sn_log.specs.Places.{first_of};
+ghost use Rattle.sn_cp.specs.Beginning.{Begins};
+
+use sn_block::{Blocks, ReadFault};
+use sn_device::Device;
+use sn_layout::{LogHalf, Places};
+use sn_log::{Log, close_half};
+
+/// Clears the first place of the half that the root's own epoch doesn't have, and turns the log to it: what is logged
+/// from then on, while the point runs, comes behind its root. It reads a gate, so memory may be refused, before its one
+/// write. Where it isn't done, the log goes on as it did.
+pub fn begin<D: Device>(
+    blocks: &mut Blocks<D>,
+    places: Places,
+    log: &mut Log,
+) -> Result<(), ReadFault>
+    requires room { 8 * places ≤ (D.status (device_of blocks.old)).sectors }
+    requires same { log.old.blocks ≡ places }
+    requires epoch { log.old.epoch + 1 < 2 ^ 64 }
+    ensures bytes { IsTrue D.tells_bytes → Begins log.old result
+        (D.disk (device_of blocks.old)) (D.disk (device_of blocks.new)) }
+    ensures counts { CountsClearing result
+        (D.status (device_of blocks.old)) (D.status (device_of blocks.new)) }
+    ensures turned { OnOk result (log.new ≡ first_of log.old.blocks (log.old.epoch + 1)) }
+    ensures stays { OnErr result (log.new ≡ log.old) }
+{
+    let epoch = log.position().epoch() + 1;
+    match close_half(blocks, places, LogHalf::of_epoch(epoch)) {
+        Ok(()) => {}
+        Err(fault) => return Err(fault),
+    }
+    log.turn(epoch);
+    Ok(())
+}

@@ -1,0 +1,18 @@
+//! The laws that the definitions of `specs/` keep.
+ghost use Rattle.sn_cp.specs.Counting.{CallsAreCounted, StepsAreCounted, StepsAreFew};
+ghost use Rattle.sn_cp.specs.Showing.{LogKeepsTheStage, OpeningShowsEither, OrdinaryPointsShow, StepsKeepWhatIsShown};
+
+/// What is left of a point, step by step.
+pub fn count_laws()
+    ensures fewer { StepsAreCounted }
+    ensures few { StepsAreFew }
+    ensures calls { CallsAreCounted }
+{}
+
+/// What the steps leave of what the disk shows, and what calls of the log between them leave of the point.
+pub fn shown_laws()
+    ensures ordinary { OrdinaryPointsShow }
+    ensures steps { StepsKeepWhatIsShown }
+    ensures opening { OpeningShowsEither }
+    ensures log { LogKeepsTheStage }
+{}
