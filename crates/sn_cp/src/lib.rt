@@ -11,19 +11,34 @@
 //! - At `Ok` the point stands at its next stage (`StandsAtStage`), which is what the step behind it asks for.
 //! - Each step has at least one write and at most eight, and exactly so many of them and syncs as its stage has.
 //!
+//! [`Point::finish`] makes all that are left and says so of them together: what was touched, exact counts, and that a
+//! crash at any moment leaves the root that was newest or the next one (`Finishes`). [`Point::steps_left`] tells how many
+//! they are. [`begin`] comes first where calls go on in the course of the point: it clears the half of the log that the
+//! next epoch has, and turns the log to it.
+//!
+//! What the disk shows is said by laws, on a disk of the point's own size and beside a root that is given:
+//! - [`shown_laws`]: until the gate is opened a crash at any moment of a step leaves that root with its records, in the
+//!   opening that or the next one (`ShowsNext`); and a call of the log between two steps leaves the point at its stage.
+//! - [`count_laws`]: each step leaves one less, and with its beginning a point of F new blocks and M blocks of the map
+//!   has at most F + M + 4.
+//!
 //! The order is that of Hitz, Lau and Malcolm 1994: new blocks first, then the map, synced behind its last block; then
 //! the three parts of the root, each synced. A gate that stands closed isn't closed again, since a torn write might open
 //! it over a body that never counted.
 //!
-//! The way through: `specs/Points.antt` has what a point is, `Steps.antt` its stages and what a step does; `point` has
-//! the type, `steps` each step.
+//! The way through: `specs/Points.antt` has what a point is, `Steps.antt` its stages and what a step does,
+//! `Counting.antt` what is left of it, `Showing.antt` what it leaves of what the disk shows, `Beginning.antt` how it
+//! begins; `point` has the type, `steps` each step, `beginning` what comes before them, `laws` the laws.
 //!
 //! What the sources leave open is decided in `docs/DECISIONS.md`, under "Steps of a consistency point".
 //!
 //! ```text
-//! while !point.is_done() {
+//! begin(&mut blocks, places, &mut log)?;
+//! while point.steps_left() > 1 {
 //!     point.advance(&mut blocks)?;
+//!     log.append(&mut blocks, &change)?;
 //! }
+//! point.finish(&mut blocks)?;
 //! ```
 #![tactic(auto)]
 
