@@ -1,5 +1,5 @@
 -- What a point leaves to a crash of what the disk shows, on a disk of the point's own size.
-use Rattle.std.specs.Prelude.{◌≡◌, ℕ, ◌+◌, ◌^◌, ◌<◌, List, [], Contains, Result, OnOk}
+use Rattle.std.specs.Prelude.{◌≡◌, ℕ, ◌+◌, ◌^◌, ◌<◌, List, [], ◌++◌, Contains, Result, OnOk, Some}
 use Rattle.sn_device.specs.Sectors.{Contents, AreSectors}
 use Rattle.sn_device.specs.Disk.{Disk, Always, reads}
 use Rattle.sn_device.specs.Crash.{LeavesOnly, Touches}
@@ -8,15 +8,19 @@ use Rattle.sn_layout.specs.declared.places.Slot.{Slot}
 use Rattle.sn_layout.specs.declared.root.RootBody.{RootBody}
 use Rattle.sn_layout.specs.Places.{other_slot}
 use Rattle.sn_model.specs.declared.change.Change.{Change}
+use Rattle.sn_model.specs.Changes.{apply_all}
+use Rattle.sn_model.specs.Tree.{Tree}
 use Rattle.sn_ondisk.specs.LogHalf.{HasNoLater, InHalf, Replays, base_of}
 use Rattle.sn_ondisk.specs.Shown.{Shown}
 use Rattle.sn_ondisk.specs.TreeLaws.{SameIn}
 use Rattle.sn_ondisk.specs.Trees.{Store, store_of}
 use Rattle.sn_log.specs.Places.{payloads_of}
 use Rattle.sn_root.specs.Replacing.{LeavesEither}
-use Rattle.sn_opening.specs.Opens.{LieInData, Shows}
-use Rattle.sn_opening.specs.Points.{HoldsAll, Written}
-use Rattle.sn_opening.specs.Worlds.{all_reach}
+use Rattle.sn_opening.specs.Opens.{LieInData, Opens, Shows}
+use Rattle.sn_opening.specs.PointLaws.{NextStands}
+use Rattle.sn_opening.specs.Points.{HoldsAll, IsBuilt, Written}
+use Rattle.sn_opening.specs.Spelled.{AreSpelled}
+use Rattle.sn_opening.specs.Worlds.{all_reach, found, frozen_of}
 use Rattle.sn_cp.specs.Points.{Work}
 use Rattle.sn_cp.specs.Steps.{IsWhole, IsWithin, InStep, StandsAtStage, StepsTo}
 use Rattle.sn_cp.specs.declared.stage.Stage.{Stage}
@@ -81,6 +85,21 @@ abbrev pub LogKeepsTheStage : Type 0
 LogKeepsTheStage = (w : Work) (stage : Stage) (epoch : ℕ) (old new : Disk) → AreSectors (reads old) → IsWhole w → IsWithin w stage
     → Touches (InHalf (base_of w.blocks epoch)) old new
     → StandsAtStage w stage old → StandsAtStage w stage new
+
+-- ---- behind the gate
+
+-- What was built denotes the tree that was frozen, and with the records of its two epochs the next root stands for a world: contents that show it open to that.
+abbrev pub NextRootsOpen : Type 0
+NextRootsOpen = (w : Work) (s : Store) (root : RootBody) (frozen tree : Tree) (third fourth : List Change) (c : Contents)
+    → IsBuilt w.blocks s root frozen w.plan → AreSpelled third → AreSpelled fourth
+    → apply_all root.limits (third ++ fourth) frozen ≡ Some tree
+    → ShowsNext w s root third fourth c → Opens w.blocks c (found tree (frozen_of s root.snapshots))
+
+-- Once the point is done, the store in which the next root was made is what is read, and what was built is sound there.
+abbrev pub DonePointsStand : Type 0
+DonePointsStand = (w : Work) (s : Store) (root : RootBody) (frozen : Tree) (newer : List Change) (d : Disk) → AreSectors (reads d)
+    → IsBuilt w.blocks s root frozen w.plan → StandsAtStage w Done d → Always d (ShowsNext w s root newer [])
+    → NextStands w.blocks w.slot root.limits w.plan.next newer frozen d
 
 -- ---- all steps in a row
 

@@ -1,6 +1,6 @@
 //! The laws that the definitions of `specs/` keep.
 ghost use Rattle.sn_cp.specs.Counting.{CallsAreCounted, StepsAreCounted, StepsAreFew};
-ghost use Rattle.sn_cp.specs.Showing.{LogKeepsTheStage, OpeningShowsEither, OrdinaryPointsShow, StepsKeepWhatIsShown};
+ghost use Rattle.sn_cp.specs.Showing.{DonePointsStand, LogKeepsTheStage, NextRootsOpen, OpeningShowsEither, OrdinaryPointsShow, StepsKeepWhatIsShown};
 
 /// What is left of a point, step by step.
 pub fn count_laws()
@@ -15,4 +15,10 @@ pub fn shown_laws()
     ensures steps { StepsKeepWhatIsShown }
     ensures opening { OpeningShowsEither }
     ensures log { LogKeepsTheStage }
+{}
+
+/// What the next root means, once it is shown.
+pub fn next_laws()
+    ensures opens { NextRootsOpen }
+    ensures done { DonePointsStand }
 {}
