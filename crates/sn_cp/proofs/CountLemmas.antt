@@ -1,5 +1,5 @@
 -- What is left of a point, step by step.
-use Rattle.std.proofs.Common.{◌≡◌, ◌⊎◌, inl, inr, ⊎_elim, ℕ, zero, suc, ◌+◌, ◌-◌, ◌*◌, ◌<◌, ◌≤◌, Bool, true, false, cond, List, [], ◌∷◌, length, nat_lt, IsTrue, Result, Ok, Err, refl, sym, ap, subst, ◌∙◌, arith}
+use Rattle.std.proofs.Common.{◌≡◌, ℕ, zero, suc, ◌+◌, ◌<◌, ◌≤◌, Bool, true, false, cond, List, [], ◌∷◌, length, nat_lt, refl, sym, ap, arith}
 use Rattle.std.specs.List.{AllByRecursion, AllPairs, slice_index_or}
 use Rattle.std.proofs.lemmas.Bool.{ltb-false, ltb-true}
 use Rattle.std.proofs.lemmas.List.Kept.{AllPairs-from_increasing}
@@ -10,7 +10,7 @@ use Rattle.sn_layout.specs.Places.{IsIn, map_blocks}
 use Rattle.sn_root.specs.Replacing.{closing_writes}
 use Rattle.sn_opening.specs.Points.{Written, numbers_written}
 use Rattle.sn_cp.specs.Points.{Work}
-use Rattle.sn_cp.specs.Steps.{IsWhole, IsWithin, after_block, after_map, next_stage, syncs_of, with_map, writes_of}
+use Rattle.sn_cp.specs.Steps.{IsWhole, IsWithin, next_stage, syncs_of, with_map, writes_of}
 use Rattle.sn_cp.specs.Counting.{IsStageOf, root_steps, steps_left, syncs_left, writes_left}
 use Rattle.sn_cp.specs.Showing.{IsBeforeOpening}
 use Rattle.sn_cp.specs.declared.stage.Stage.{Stage}

@@ -1,6 +1,6 @@
 -- All steps of a point in a row.
-use Rattle.std.proofs.Common.{◌≡◌, ◌⊎◌, inl, inr, ℕ, ◌+◌, ◌<◌, ◌≤◌, List, Result, Ok, Err, IsTrue, sym, ap, subst, ◌∙◌, arith}
-use Rattle.sn_device.specs.Sectors.{Contents, AreSectors}
+use Rattle.std.proofs.Common.{◌≡◌, ◌⊎◌, inl, ℕ, ◌+◌, ◌<◌, List, Result, Ok, Err, IsTrue, sym, ap, subst, ◌∙◌, arith}
+use Rattle.sn_device.specs.Sectors.{AreSectors}
 use Rattle.sn_device.specs.Disk.{Disk, Always, reads}
 use Rattle.sn_device.specs.Crash.{LeavesOnly, Touches}
 use Rattle.sn_device.specs.Status.{has_ended}
@@ -16,7 +16,7 @@ use Rattle.sn_root.specs.Replacing.{LeavesEither}
 use Rattle.sn_opening.specs.Opens.{Shows}
 use Rattle.sn_cp.specs.Points.{Work}
 use Rattle.sn_cp.specs.Steps.{InStep, IsWhole, IsWithin, StandsAtStage, StepsTo, next_stage, syncs_of, writes_of}
-use Rattle.sn_cp.specs.Counting.{IsStageOf, syncs_left, writes_left}
+use Rattle.sn_cp.specs.Counting.{syncs_left, writes_left}
 use Rattle.sn_cp.specs.Showing.{Finishes, InPoint, IsBeforeOpening, ShowsBeside, ShowsNext}
 use Rattle.sn_cp.specs.declared.stage.Stage.{Stage}
 use Rattle.sn_cp.specs.declared.stage.Stage.TheVariants.{Blocks, MapBlocks, Stored, Shut, Bodied, Done}

@@ -1,5 +1,5 @@
 -- What a call of the log leaves of a point, and how one begins.
-use Rattle.std.proofs.Common.{◌≡◌, ℕ, ◌+◌, ◌==◌, ◌||◌, nat_le, if◌then◌else◌, Bool, true, false, List, [], Result, OnOk, refl, sym, ap, subst, ◌∙◌, arith}
+use Rattle.std.proofs.Common.{◌≡◌, ℕ, ◌+◌, ◌==◌, ◌||◌, nat_le, if◌then◌else◌, Bool, true, false, List, [], Result, refl, sym, ap, subst, ◌∙◌, arith}
 use Rattle.sn_device.specs.Sectors.{Contents, AreSectors, Single}
 use Rattle.sn_device.specs.Disk.{Disk, Always, IsSynced, reads}
 use Rattle.sn_device.specs.Crash.{LeavesOnly, Touches}

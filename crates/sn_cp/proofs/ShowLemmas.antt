@@ -1,12 +1,10 @@
 -- What a point leaves to a crash of what the disk shows.
-use Rattle.std.proofs.Common.{◌≡◌, ◌⊎◌, inl, inr, ⊎_elim, ℕ, zero, suc, ◌+◌, ◌*◌, ◌/◌, ◌^◌, ◌<◌, ◌≤◌, Bool, true, false, cond, List, [], ◌∷◌, length, nat_lt, Contains, Result, Ok, Err, OnOk, refl, sym, ap, subst, ◌∙◌, arith}
-use Rattle.sn_device.specs.Sectors.{Contents, AreSectors, AreDisjoint, DependsOn, Union}
-use Rattle.sn_device.specs.Disk.{Disk, Always, IsSynced, reads}
+use Rattle.std.proofs.Common.{◌≡◌, inl, inr, ⊎_elim, ℕ, zero, suc, ◌+◌, ◌/◌, ◌^◌, ◌<◌, ◌≤◌, List, [], ◌∷◌, length, Contains, Result, sym, subst, arith}
+use Rattle.sn_device.specs.Sectors.{AreSectors, AreDisjoint, DependsOn}
+use Rattle.sn_device.specs.Disk.{Disk, Always, reads}
 use Rattle.sn_device.specs.Crash.{LeavesOnly, Touches}
-use Rattle.sn_device.proofs.CrashLemmas.{Always-kept, LeavesOnly-join, LeavesOnly-now, LeavesOnly-start, LeavesOnly-touched, LeavesOnly-weaker, Touches-join, Touches-start, Touches-within}
+use Rattle.sn_device.proofs.CrashLemmas.{Always-kept, LeavesOnly-now, LeavesOnly-touched}
 use Rattle.sn_block.proofs.EffectLemmas.{OnOk-then}
-use Rattle.sn_layout.specs.declared.gate.Gate.{Gate}
-use Rattle.sn_layout.specs.declared.gate.Gate.TheVariants.{Open, Closed}
 use Rattle.sn_layout.specs.declared.places.Area.TheVariants.{Data, Log, MapCopy}
 use Rattle.sn_layout.specs.declared.places.LogHalf.{LogHalf}
 use Rattle.sn_layout.specs.declared.places.LogHalf.TheVariants.{Zero, One}
@@ -16,16 +14,15 @@ use Rattle.sn_layout.specs.declared.root.RootBody.{RootBody}
 use Rattle.sn_layout.specs.Places.{IsIn, half_of_epoch, map_blocks, start_of}
 use Rattle.sn_model.specs.declared.change.Change.{Change}
 use Rattle.sn_ondisk.specs.Blocks.{InBlock, InBlocks}
-use Rattle.sn_ondisk.specs.LogHalf.{HasNoLater, InHalf, Replays, base_of}
+use Rattle.sn_ondisk.specs.LogHalf.{HasNoLater, InHalf, base_of}
 use Rattle.sn_ondisk.specs.MapCopy.{InMap}
-use Rattle.sn_ondisk.specs.Roots.{InRoots, body_block}
-use Rattle.sn_ondisk.specs.Shown.{InShown, Shown}
+use Rattle.sn_ondisk.specs.Shown.{Shown}
 use Rattle.sn_ondisk.specs.TreeLaws.{SameIn}
 use Rattle.sn_ondisk.specs.Trees.{Store, store_of}
 use Rattle.sn_ondisk.proofs.LogLemmas.{ReplaysTo-same}
 use Rattle.sn_ondisk.proofs.PlaceLemmas.{areas_apart, halves_are}
 use Rattle.sn_log.specs.Places.{payloads_of}
-use Rattle.sn_root.specs.Replacing.{InClosing, LeavesEither}
+use Rattle.sn_root.specs.Replacing.{LeavesEither}
 use Rattle.sn_opening.specs.Opens.{InShows, LieInData, Shows}
 use Rattle.sn_opening.specs.Points.{HoldsAll, StandsAt, Written}
 use Rattle.sn_opening.specs.Worlds.{all_reach}

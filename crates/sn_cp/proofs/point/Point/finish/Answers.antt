@@ -1,4 +1,4 @@
-use Rattle.std.proofs.Common.{◌≡◌, Bool, true, false, IsTrue, Ok, Err, refl, sym, ap, subst, ◌∙◌, rules}
+use Rattle.std.proofs.Common.{◌≡◌, Bool, false, IsTrue, Ok, Err, refl, sym, ap, subst, ◌∙◌, rules}
 use Rattle.sn_block.specs.Counts.{CountsCalls, called}
 use Rattle.sn_block.specs.Lending.{device_of}
 use Rattle.sn_device.specs.declared.device.Fault.{Fault}
@@ -6,7 +6,6 @@ use Rattle.sn_cp.specs.Counting.{IsStageOf}
 use Rattle.sn_cp.specs.Points.{Work, stage_of, work_of}
 use Rattle.sn_cp.specs.Steps.{StepsTo, next_stage, syncs_of, writes_of}
 use Rattle.sn_cp.specs.declared.stage.Stage.{Stage}
-use Rattle.sn_cp.specs.declared.stage.Stage.TheVariants.{Done}
 use Rattle.sn_cp.proofs.CountLemmas.{stage_goes_on, stage_next, stage_within}
 use Rattle.sn_cp.proofs.FinishLemmas.{CountsSoFar, SoFar, counts_done, counts_fail, counts_next, counts_start, finish_done, finish_fails, so_far_next, so_far_start}
 use Rattle.sn_cp.proofs.point.Point.finish.Goals as goal
