@@ -21,8 +21,9 @@ use Rattle.sn_model.proofs.MapLemmas.{same_or_apart, get_inserted, get_other}
 use Rattle.sn_model.proofs.MoveLemmas.{is_kind, some_node}
 use Rattle.sn_model.proofs.NameLemmas.{no_names_for}
 use Rattle.sn_plain.specs.Added.{file_added, is_unused}
-use Rattle.sn_plain.specs.Stored.{IsCounted, IsFresh, node_of}
-use Rattle.sn_plain.specs.declared.nodes.StoredNode.{StoredNode}
+use Rattle.sn_nodes.specs.Stored.{IsFresh, node_of}
+use Rattle.sn_plain.specs.Stored.{IsCounted}
+use Rattle.sn_nodes.specs.declared.nodes.StoredNode.{StoredNode}
 use Rattle.sn_plain.proofs.CountedLemmas.{Stored, after_use, counted_node, counted_use}
 
 absent_is : (x : Option Node) → not (is_some x) ≡ true → x ≡ None

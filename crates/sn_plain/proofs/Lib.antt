@@ -1,11 +1,7 @@
-pub mod MapLemmas
-pub mod RecountLemmas
 pub mod CountedLemmas
 pub mod NumberLemmas
 pub mod OwnershipLemmas
 pub mod MakingLemmas
-pub mod NamesLemmas
-pub mod ListingLemmas
 pub mod SettledLemmas
 pub mod RenamingLemmas
 pub mod WayLemmas

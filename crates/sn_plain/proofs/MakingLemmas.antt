@@ -24,8 +24,9 @@ use Rattle.sn_model.proofs.PartLemmas.{file_is, is_file_at, directory_is, Made, 
 use Rattle.sn_model.proofs.MoveLemmas.{is_kind}
 use Rattle.sn_model.proofs.SettlingLemmas.{nameless_is}
 use Rattle.sn_model.specs.Settling.{is_nameless}
-use Rattle.sn_plain.specs.declared.nodes.StoredNode.{StoredNode}
-use Rattle.sn_plain.specs.Stored.{node_of, counts_of, IsCounted, IsFresh, Recounts, recount, more_at}
+use Rattle.sn_nodes.specs.declared.nodes.StoredNode.{StoredNode}
+use Rattle.sn_nodes.specs.Stored.{node_of, counts_of, IsFresh, Recounts, recount, more_at}
+use Rattle.sn_plain.specs.Stored.{IsCounted}
 use Rattle.sn_plain.proofs.CountedLemmas.{Stored, nothing, after_use, counted_link, counted_node, counted_use}
 
 pub some_of : {A : Type 0} (o : Option A) → is_some o ≡ true → (x : A) × (o ≡ Some x)

@@ -1,27 +1,9 @@
 -- The search for an unused number.
-use Rattle.std.proofs.Common.{◌≡◌, ℕ, zero, suc, ◌+◌, ◌-◌, ◌<◌, ◌≤◌, true, Option, Some, None, is_some, refl, sym, ap, ◌∙◌, arith, add-zero, Bor}
-use Rattle.std.specs.Option.{option_map, option_copied}
+use Rattle.std.proofs.Common.{◌≡◌, ℕ, zero, suc, ◌+◌, ◌-◌, ◌<◌, ◌≤◌, true, Some, None, is_some, refl, sym, ap, ◌∙◌, arith, add-zero}
 use Rattle.std.specs.Ordering.{nat_cmp}
-use Rattle.std.specs.Cmp.{nat_cmp_total}
 use Rattle.std.specs.FinMap as map
 use Rattle.sn_limits.specs.declared.limits.Limits.{Limits}
 use Rattle.sn_model.specs.Tree.{Node, Tree, least_unused, unused_from}
-use Rattle.sn_plain.specs.declared.nodes.StoredNode.{StoredNode}
-use Rattle.sn_plain.specs.declared.nodes.Nodes.{Nodes}
-use Rattle.sn_plain.specs.Stored.{node_of, nodes_of, stored_of}
-use Rattle.sn_plain.proofs.MapLemmas.{get-seen_by, get-seen_plain}
-
--- the nodes as the model has them are those that are stored
-pub seen : (n : Nodes) (k : ℕ) → map.get (nodes_of n) k ≡ option_map node_of (map.get (stored_of n) k)
-unfolding nodes_of stored_of
-seen n k = get-seen_by nat_cmp node_of nat_cmp_total n.map.entries k ∙ ap (option_map node_of) (sym (get-seen_plain nat_cmp nat_cmp_total n.map.entries k))
-
-some_seen : (o : Option StoredNode) → is_some o ≡ true → is_some (option_map node_of o) ≡ true
-some_seen None e = e
-some_seen (Some s) e = refl
-
-pub used_seen : (n : Nodes) (k : ℕ) → is_some (map.get (stored_of n) k) ≡ true → is_some (map.get (nodes_of n) k) ≡ true
-used_seen n k e = ap is_some (seen n k) ∙ some_seen (map.get (stored_of n) k) e
 
 -- the search ends at the first number that isn't used
 unused_from_next : (nodes : map.FinMap nat_cmp Node) (first n more : ℕ) → ((k : ℕ) → first ≤ k → k < first + n → is_some (map.get nodes k) ≡ true) → map.get nodes (first + n) ≡ None → n < more → unused_from nodes first more ≡ Some (first + n)
@@ -51,8 +33,3 @@ least_is limits tree number used unused low high =
 pub none_is : (limits : Limits) (tree : Tree) (end : ℕ) → ((k : ℕ) → 2 ≤ k → k < end → is_some (map.get tree.nodes k) ≡ true) → limits.largest_number < end → least_unused limits tree ≡ None
 unfolding least_unused
 none_is limits tree end used all = none_unused tree.nodes 2 (limits.largest_number - 1) (λ k low high. used k low (omega (arith, all)))
-
--- a reference to a value is one where the value is
-pub copied_is : {X : Type 0} (o : Option (Bor X)) → is_some (option_copied o) ≡ is_some o
-copied_is None = refl
-copied_is (Some x) = refl

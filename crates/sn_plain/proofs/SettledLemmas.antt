@@ -12,9 +12,10 @@ use Rattle.sn_walk.specs.Views.{is_directory}
 use Rattle.sn_model.specs.Tree.{Node, Tree, names_in, names_for}
 use Rattle.sn_model.specs.Settling.{is_nameless, settled}
 use Rattle.sn_model.proofs.SettlingLemmas.{get_without}
-use Rattle.sn_plain.specs.Maps.{filtered}
-use Rattle.sn_plain.specs.declared.nodes.StoredNode.{StoredNode}
-use Rattle.sn_plain.specs.Stored.{node_of, is_kept, IsCounted}
+use Rattle.sn_nodes.specs.Maps.{filtered}
+use Rattle.sn_nodes.specs.declared.nodes.StoredNode.{StoredNode}
+use Rattle.sn_nodes.specs.Stored.{node_of, is_kept}
+use Rattle.sn_plain.specs.Stored.{IsCounted}
 use Rattle.sn_plain.proofs.CountedLemmas.{Stored}
 
 filtered_some : {X : Type 0} (p : X → Bool) (o : Option X) (x : X) → filtered p o ≡ Some x → o ≡ Some x

@@ -17,8 +17,9 @@ use Rattle.sn_model.proofs.KeepLemmas.{directory_kind}
 use Rattle.sn_model.proofs.LinkLemmas.{exact_links, links_total}
 use Rattle.sn_model.proofs.MoveLemmas.{some_node}
 use Rattle.sn_model.proofs.NameLemmas.{is_unnamed, no_names_for}
-use Rattle.sn_plain.specs.declared.nodes.StoredNode.{StoredNode}
-use Rattle.sn_plain.specs.Stored.{counts_of, node_of, IsCounted}
+use Rattle.sn_nodes.specs.declared.nodes.StoredNode.{StoredNode}
+use Rattle.sn_nodes.specs.Stored.{counts_of, node_of}
+use Rattle.sn_plain.specs.Stored.{IsCounted}
 use Rattle.sn_plain.proofs.CountedLemmas.{Stored}
 use Rattle.sn_plain.proofs.MakingLemmas.{links_kept, stored_there}
 

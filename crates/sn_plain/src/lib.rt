@@ -5,9 +5,8 @@
 //! new tree is what it gives; at an [`ApplyError`] the tree is as it was, and `CannotApply` says that
 //! the change can't be applied to it.
 //!
-//! `nodes` and `links` are the two maps, and `names` is what `links` has of a directory, where a name
-//! that is lent is looked up as it is. Beside each node stands how many names it has and how many
-//! stand for it, and the directory that it is in (`IsCounted` in `specs/Stored`), so that no call
+//! The nodes and the names are the maps of `sn_nodes`. Beside each node stands how many names it has and
+//! how many stand for it, and the directory that it is in (`IsCounted` in `specs/Stored`), so that no call
 //! counts over the whole tree. `tests` has the tests that changes share; `making`, `linking`,
 //! `renaming` and `writing` have the changes, each with its test first, then all that takes memory,
 //! then the rest (`moving` has that of a rename, over the nodes). `applying` makes any change, as the
@@ -21,11 +20,8 @@ mod adding;
 mod applying;
 mod error;
 mod linking;
-mod links;
 mod making;
 mod moving;
-mod names;
-mod nodes;
 mod reading;
 mod renaming;
 mod settling;

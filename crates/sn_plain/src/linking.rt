@@ -7,10 +7,10 @@ ghost use Rattle.sn_model.specs.Settling.{is_nameless};
 ghost use Rattle.sn_model.specs.Tree.{names_in, names_for};
 
 use crate::error::ApplyError;
-use crate::tests::is_directory;
 use crate::tree::PlainTree;
 use sn_limits::Limits;
 use sn_model::Link;
+use sn_nodes::is_directory;
 
 /// The first number that may be unused, once a number is unused.
 pub(crate) fn after_loss(first: u32, number: u16) -> u32

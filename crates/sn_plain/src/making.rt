@@ -1,15 +1,15 @@
 ghost use Rattle.std.specs.Prelude.{◌≡◌, ◌==◌, ◌+◌, ◌<◌, ◌^◌, [], is_some, IsTrue, IfOk, if◌then◌else◌};
 ghost use Rattle.sn_model.specs.Changes.{made, node_with, owned};
 ghost use Rattle.sn_model.specs.Tree.{names_in, names_for};
-ghost use Rattle.sn_plain.specs.Stored.{node_of, owned_by, IsFresh};
+ghost use Rattle.sn_nodes.specs.Stored.{node_of, owned_by, IsFresh};
 
 use crate::error::ApplyError;
-use crate::nodes::{Counts, StoredNode, StoredOwnership};
 use crate::tests::is_ownership;
 use crate::tree::PlainTree;
 use sn_file_bytes::FileBytes;
 use sn_limits::{Kind, Limits};
 use sn_model::{Link, Ownership, StoredAcl};
+use sn_nodes::{Counts, StoredNode, StoredOwnership};
 use std::alloc::{AllocError, Global};
 
 fn stored(alloc: Global, ownership: &Ownership) -> Result<StoredOwnership, AllocError>

@@ -8,10 +8,12 @@ ghost use Rattle.sn_model.specs.Seen.{is_below};
 ghost use Rattle.sn_model.specs.Tree.{Node, names_in, names_for};
 
 use crate::error::ApplyError;
-use crate::tests::{is_directory, is_hidden_name};
+use crate::moving::{clear, move_link};
+use crate::tests::is_hidden_name;
 use crate::tree::PlainTree;
 use sn_limits::{Kind, Limits, is_name};
 use sn_model::Link;
+use sn_nodes::is_directory;
 
 impl PlainTree {
     ghost use Rattle.sn_plain.specs.Plain.{tree_of, Applies};
@@ -147,8 +149,8 @@ impl PlainTree {
         let directory = new.directory;
         self.links.insert(new, number)?;
         self.links.remove(old);
-        self.first = self.nodes.clear(self.first, directory, target);
-        self.nodes.move_link(old.directory, directory, number);
+        self.first = clear(&mut self.nodes, self.first, directory, target);
+        move_link(&mut self.nodes, old.directory, directory, number);
         Ok(())
     }
 }

@@ -1,11 +1,12 @@
 ghost use Rattle.std.specs.Prelude.{◌≡◌, ◌+◌, ◌<◌, ◌^◌, is_some, IsTrue};
-ghost use Rattle.sn_walk.specs.Views.{is_directory, is_hidden_name};
+ghost use Rattle.sn_walk.specs.Views.{is_hidden_name};
 ghost use Rattle.sn_model.specs.Changes.{is_free_number, is_vacant, has_room_for, is_ownership};
 ghost use Rattle.sn_model.specs.Tree.{names_in, names_for};
 
 use crate::tree::PlainTree;
 use sn_limits::{Kind, Limits, is_name};
 use sn_model::{Link, Ownership};
+use sn_nodes::is_directory;
 use sn_walk::ROOT_NUMBER;
 
 /// The name under which the root has the directory of snapshots.
@@ -13,15 +14,6 @@ pub(crate) fn is_hidden_name(directory: u16, name: &[u8]) -> bool
     ensures { result ≡ is_hidden_name directory name.now }
 {
     directory == ROOT_NUMBER && name == b".snapshot".as_slice()
-}
-
-pub(crate) fn is_directory(kind: Kind) -> bool
-    ensures { result ≡ is_directory kind }
-{
-    match kind {
-        Kind::File => false,
-        Kind::Directory => true,
-    }
 }
 
 /// Whether a node of a kind can have this owner and these ACLs: a file has no default ACL.

@@ -4,14 +4,14 @@ ghost use Rattle.sn_model.specs.Seen.{has_room_for_name};
 ghost use Rattle.sn_model.specs.Tests.{has_room};
 ghost use Rattle.sn_model.specs.Tree.{viewed, least_unused, names_in, names_for};
 ghost use Rattle.sn_model.specs.World.{new_root, new_tree};
-ghost use Rattle.sn_plain.specs.Stored.{IsCountedIn, node_of, IsFresh};
+ghost use Rattle.sn_nodes.specs.Stored.{node_of, IsFresh};
+ghost use Rattle.sn_plain.specs.Stored.{IsCountedIn};
 
-use crate::links::Links;
-use crate::nodes::{Counts, Nodes, StoredNode, StoredOwnership};
 use sn_acl::{Acl, Mode, Permissions};
 use sn_file_bytes::FileBytes;
 use sn_limits::{Kind, Limits};
 use sn_model::{Errno, Refusal, StoredAcl};
+use sn_nodes::{Counts, Links, Nodes, StoredNode, StoredOwnership};
 use sn_walk::{Attributes, ROOT_NUMBER};
 use std::alloc::{AllocError, Global};
 

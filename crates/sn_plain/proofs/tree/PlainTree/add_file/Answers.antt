@@ -2,11 +2,12 @@ use Rattle.std.proofs.Common.{◌∙◌, ap, sym, subst, refl, Some}
 use Rattle.std.specs.FinMap as map
 use Rattle.sn_model.specs.Tree.{Tree}
 use Rattle.sn_plain.specs.Plain.{tree_of}
-use Rattle.sn_plain.specs.Stored.{IsCounted, nodes_of, stored_of, tree_with}
+use Rattle.sn_nodes.specs.Stored.{nodes_of, stored_of}
+use Rattle.sn_plain.specs.Stored.{IsCounted, tree_with}
 use Rattle.sn_plain.proofs.AddedLemmas.{added_is, added_counted}
 use Rattle.sn_plain.proofs.CountedLemmas.{Stored, after_use, counted_tree}
 use Rattle.sn_plain.proofs.MakingLemmas.{some_of}
-use Rattle.sn_plain.proofs.NumberLemmas.{seen}
+use Rattle.sn_nodes.proofs.SeenLemmas.{seen}
 use Rattle.sn_plain.proofs.tree.PlainTree.add_file.Goals as goal
 
 pub invariant_of-self-2 : goal.invariant_of-self-2

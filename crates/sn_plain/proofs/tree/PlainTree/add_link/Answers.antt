@@ -3,10 +3,11 @@ use Rattle.sn_model.specs.Tree.{Tree}
 use Rattle.sn_model.specs.Changes.{put_link}
 use Rattle.sn_model.proofs.PartLemmas.{linked_is}
 use Rattle.sn_plain.specs.Plain.{tree_of}
-use Rattle.sn_plain.specs.Stored.{stored_of, tree_with}
+use Rattle.sn_nodes.specs.Stored.{stored_of}
+use Rattle.sn_plain.specs.Stored.{tree_with}
 use Rattle.sn_plain.proofs.CountedLemmas.{counted_tree}
 use Rattle.sn_plain.proofs.MakingLemmas.{some_of, names_kept, links_kept, counted_linked}
-use Rattle.sn_plain.proofs.NumberLemmas.{seen}
+use Rattle.sn_nodes.proofs.SeenLemmas.{seen}
 use Rattle.sn_plain.proofs.tree.PlainTree.add_link.Goals as goal
 
 pub count_link-requires-clause-names : goal.count_link-requires-clause-names

@@ -1,7 +1,7 @@
 use Rattle.sn_plain.specs.Plain.{tree_of}
-use Rattle.sn_plain.specs.Stored.{stored_of}
+use Rattle.sn_nodes.specs.Stored.{stored_of}
 use Rattle.sn_plain.proofs.MakingLemmas.{nameless_names, nameless_links}
-use Rattle.sn_plain.proofs.NumberLemmas.{seen}
+use Rattle.sn_nodes.proofs.SeenLemmas.{seen}
 use Rattle.sn_plain.proofs.tree.PlainTree.drop_file.Goals as goal
 
 pub take_node-requires-clause-names : goal.take_node-requires-clause-names

@@ -6,11 +6,11 @@ use Rattle.sn_limits.specs.declared.kind.Kind.TheVariants.{Directory}
 use Rattle.sn_model.specs.Changes.{is_at_or_below}
 use Rattle.sn_model.specs.NameTree.{HasKind}
 use Rattle.sn_model.specs.Tree.{names_for}
-use Rattle.sn_plain.specs.declared.nodes.Counts.{Counts}
+use Rattle.sn_nodes.specs.declared.nodes.Counts.{Counts}
 use Rattle.sn_plain.specs.Plain.{tree_of}
-use Rattle.sn_plain.specs.Stored.{counts_of, stored_of}
+use Rattle.sn_nodes.specs.Stored.{counts_of, stored_of}
 use Rattle.sn_plain.proofs.MakingLemmas.{links_kept}
-use Rattle.sn_plain.proofs.NumberLemmas.{seen}
+use Rattle.sn_nodes.proofs.SeenLemmas.{seen}
 use Rattle.sn_plain.proofs.WayLemmas.{below_itself, below_none, below_parent, by_test, fewer_steps, parent_is, passes_test, steps_up}
 use Rattle.sn_plain.proofs.tree.PlainTree.is_at_or_below.Goals as goal
 

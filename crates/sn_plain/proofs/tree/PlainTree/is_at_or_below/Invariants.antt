@@ -4,7 +4,7 @@ use Rattle.sn_limits.specs.declared.kind.Kind.TheVariants.{Directory}
 use Rattle.sn_model.specs.Changes.{is_at_or_below}
 use Rattle.sn_model.specs.NameTree.{HasKind}
 use Rattle.sn_plain.specs.Plain.{tree_of}
-use Rattle.sn_plain.specs.Stored.{stored_of}
+use Rattle.sn_nodes.specs.Stored.{stored_of}
 use Rattle.sn_plain.proofs.WayLemmas.{steps_up}
 use Rattle.sn_plain.proofs.tree.PlainTree.is_at_or_below.Given as goal
 

@@ -1,4 +1,4 @@
-use Rattle.sn_plain.specs.Stored.{links_of}
+use Rattle.sn_nodes.specs.Stored.{links_of}
 use Rattle.sn_plain.proofs.tree.PlainTree.is_file.Goals as goal
 
 pub returns : goal.returns

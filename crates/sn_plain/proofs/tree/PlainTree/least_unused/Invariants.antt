@@ -1,6 +1,6 @@
 use Rattle.std.proofs.Common.{◌≡◌, ◌≤◌, ◌<◌, ℕ, true, is_some}
 use Rattle.std.specs.FinMap as map
-use Rattle.sn_plain.specs.Stored.{stored_of}
+use Rattle.sn_nodes.specs.Stored.{stored_of}
 use Rattle.sn_plain.proofs.tree.PlainTree.least_unused.Given as goal
 
 -- every number so far has a node

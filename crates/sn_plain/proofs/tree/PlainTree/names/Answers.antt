@@ -1,6 +1,6 @@
 use Rattle.std.proofs.Common.{sym, ◌∙◌}
-use Rattle.sn_plain.specs.Stored.{directories_of, links_of}
-use Rattle.sn_plain.proofs.ListingLemmas.{names-all_links}
+use Rattle.sn_nodes.specs.Stored.{directories_of, links_of}
+use Rattle.sn_nodes.proofs.ListingLemmas.{names-all_links}
 use Rattle.sn_plain.proofs.tree.PlainTree.names.Goals as goal
 
 pub returns : goal.returns

@@ -4,7 +4,8 @@ use Rattle.std.specs.Cmp.{nat_cmp_total}
 use Rattle.std.specs.FinMap as map
 use Rattle.sn_model.specs.Tree.{Tree}
 use Rattle.sn_model.proofs.MapLemmas.{get_inserted}
-use Rattle.sn_plain.specs.Stored.{IsCounted, stored_of, tree_with}
+use Rattle.sn_nodes.specs.Stored.{stored_of}
+use Rattle.sn_plain.specs.Stored.{IsCounted, tree_with}
 use Rattle.sn_plain.proofs.CountedLemmas.{Stored, counted_none, counted_node, counted_use}
 use Rattle.sn_plain.proofs.tree.PlainTree.new.Goals as goal
 

@@ -2,10 +2,11 @@ use Rattle.std.proofs.Common.{◌∙◌, ap, sym, subst, refl, Some}
 use Rattle.std.specs.FinMap as map
 use Rattle.sn_model.specs.Tree.{Tree}
 use Rattle.sn_model.proofs.PartLemmas.{owned_is}
-use Rattle.sn_plain.specs.declared.nodes.StoredOwnership.{StoredOwnership}
-use Rattle.sn_plain.specs.Maps.{updated, updated_at}
+use Rattle.sn_nodes.specs.declared.nodes.StoredOwnership.{StoredOwnership}
+use Rattle.sn_nodes.specs.Maps.{updated, updated_at}
 use Rattle.sn_plain.specs.Plain.{tree_of}
-use Rattle.sn_plain.specs.Stored.{IsCounted, nodes_of, stored_of, tree_with, owned_by, with_ownership}
+use Rattle.sn_nodes.specs.Stored.{nodes_of, stored_of, owned_by, with_ownership}
+use Rattle.sn_plain.specs.Stored.{IsCounted, tree_with}
 use Rattle.sn_plain.proofs.CountedLemmas.{Stored, counted_tree, counted_alike}
 use Rattle.sn_plain.proofs.MakingLemmas.{some_of}
 use Rattle.sn_plain.proofs.tree.PlainTree.set_attributes.Goals as goal

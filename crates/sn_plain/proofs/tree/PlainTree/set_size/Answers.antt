@@ -2,9 +2,10 @@ use Rattle.std.proofs.Common.{List, ℕ, ap, sym, refl, ◌∙◌, Some}
 use Rattle.sn_model.specs.Changes.{resized}
 use Rattle.sn_model.specs.Tree.{Tree}
 use Rattle.sn_model.proofs.PartLemmas.{cut_is, file_is}
-use Rattle.sn_plain.specs.Maps.{updated_at}
+use Rattle.sn_nodes.specs.Maps.{updated_at}
 use Rattle.sn_plain.specs.Plain.{tree_of}
-use Rattle.sn_plain.specs.Stored.{nodes_of, stored_of, tree_with, node_bytes_by}
+use Rattle.sn_nodes.specs.Stored.{nodes_of, stored_of, node_bytes_by}
+use Rattle.sn_plain.specs.Stored.{tree_with}
 use Rattle.sn_plain.proofs.MakingLemmas.{some_of}
 use Rattle.sn_plain.proofs.WritingLemmas.{counted_bytes}
 use Rattle.sn_plain.proofs.tree.PlainTree.set_size.Goals as goal

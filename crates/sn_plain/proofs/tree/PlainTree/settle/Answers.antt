@@ -1,8 +1,9 @@
 use Rattle.std.proofs.Common.{refl}
 use Rattle.sn_plain.specs.Plain.{tree_of}
-use Rattle.sn_plain.specs.Stored.{nodes_of, stored_of, tree_with}
+use Rattle.sn_nodes.specs.Stored.{nodes_of, stored_of}
+use Rattle.sn_plain.specs.Stored.{tree_with}
 use Rattle.sn_plain.proofs.CountedLemmas.{counted_tree}
-use Rattle.sn_plain.proofs.NumberLemmas.{seen}
+use Rattle.sn_nodes.proofs.SeenLemmas.{seen}
 use Rattle.sn_plain.proofs.SettledLemmas.{counted_settled, counted_first, settled_nodes}
 use Rattle.sn_plain.proofs.tree.PlainTree.settle.Goals as goal
 

@@ -1,6 +1,7 @@
 use Rattle.sn_model.specs.Changes.{take_link}
 use Rattle.sn_plain.specs.Plain.{tree_of}
-use Rattle.sn_plain.specs.Stored.{stored_of, tree_with}
+use Rattle.sn_nodes.specs.Stored.{stored_of}
+use Rattle.sn_plain.specs.Stored.{tree_with}
 use Rattle.sn_plain.proofs.CountedLemmas.{counted_tree, counted_unlink}
 use Rattle.sn_plain.proofs.tree.PlainTree.take_name.Goals as goal
 

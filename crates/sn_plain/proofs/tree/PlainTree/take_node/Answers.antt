@@ -1,7 +1,8 @@
 use Rattle.std.proofs.Common.{sym, subst, refl}
 use Rattle.std.specs.FinMap as map
 use Rattle.sn_plain.specs.Plain.{tree_of}
-use Rattle.sn_plain.specs.Stored.{IsCounted, stored_of, tree_with}
+use Rattle.sn_nodes.specs.Stored.{stored_of}
+use Rattle.sn_plain.specs.Stored.{IsCounted, tree_with}
 use Rattle.sn_plain.proofs.CountedLemmas.{Stored, after_loss, counted_tree, counted_loss}
 use Rattle.sn_plain.proofs.tree.PlainTree.take_node.Goals as goal
 
