@@ -1,3 +1,4 @@
 pub mod Maps
 pub mod Names
 pub mod Stored
+pub mod Tally

@@ -1,11 +1,10 @@
 -- What the maps in memory stand for, and what is kept beside a node.
-use Rattle.std.specs.Prelude.{◌≡◌, ℕ, ◌+◌, ◌-◌, ◌==◌, Bool, not, ◌||◌, List, Option, Some, None, if◌then◌else◌}
+use Rattle.std.specs.Prelude.{◌≡◌, ℕ, ◌+◌, ◌-◌, ◌==◌, List, Option, Some, None, if◌then◌else◌}
 use Rattle.std.specs.Option.{option_map}
 use Rattle.std.specs.Ordering.{nat_cmp}
 use Rattle.std.specs.Cmp.Lexicographic.{slice_cmp}
 use Rattle.std.specs.Vec.{vec_items}
 use Rattle.std.specs.FinMap as map
-use Rattle.sn_walk.specs.Views.{is_directory}
 use Rattle.sn_model.specs.Tree.{Node, link_cmp}
 use Rattle.sn_nodes.specs.Maps.{seen_as, seen_by}
 use Rattle.sn_nodes.specs.Names.{Named, all_links}
@@ -84,10 +83,6 @@ counts_of (Some s) = s.counts
 -- nothing is counted yet
 abbrev pub IsFresh : StoredNode → Type 0
 IsFresh s = (s.counts.names ≡ 0) × (s.counts.links ≡ 0)
-
--- what a settling keeps: directories, and files with a name
-abbrev pub is_kept : StoredNode → Bool
-is_kept s = is_directory s.kind || not (s.counts.links == 0)
 
 -- a node in another directory
 abbrev pub under : ℕ → StoredNode → StoredNode

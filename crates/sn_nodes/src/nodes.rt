@@ -4,6 +4,7 @@ ghost use Rattle.sn_model.specs.Tree.{link_cmp};
 ghost use Rattle.sn_walk.specs.Views.{is_directory};
 ghost use Rattle.std.specs.Option.{option_map, option_copied};
 ghost use Rattle.std.specs.FinMap as map;
+ghost use Rattle.sn_nodes.specs.Tally.{IsTalliedIn, bare_at};
 
 use sn_file_bytes::FileBytes;
 use sn_limits::Kind;
@@ -65,6 +66,7 @@ pub struct StoredNode {
 impl StoredNode {
     ghost use Rattle.sn_nodes.specs.Stored.{node_of};
     ghost use Rattle.sn_model.specs.Tree.{Tree, attributes_of, names_for};
+    ghost use Rattle.sn_nodes.specs.Tally.{bare_once};
 
     /// What `stat` answers of the node. A directory has one link and no bytes.
     pub fn attributes(&self) -> Attributes
@@ -85,17 +87,42 @@ impl StoredNode {
             size,
         }
     }
+
+    /// 1 for a file that no name is counted for, else 0.
+    fn nameless(&self) -> u32
+        ensures { result ≡ bare_once self.now }
+    {
+        if is_directory(self.kind) || self.counts.links != 0 {
+            0
+        } else {
+            1
+        }
+    }
+}
+
+/// 1 where there is a file that no name is counted for, else 0.
+fn nameless_at(node: &Option<StoredNode>) -> u32
+    ensures { result ≡ bare_at node.now }
+{
+    match node {
+        Some(node) => node.nameless(),
+        None => 0,
+    }
 }
 
 /// The nodes by number.
 #[derive(Drop)]
 pub struct Nodes {
     map: BTreeMap<u16, StoredNode>,
+    /// How many of them are files that no name is counted for.
+    nameless: u32,
+    ghost tallied: { IsTalliedIn map.entries nameless },
 }
 
 impl Nodes {
     ghost use Rattle.sn_nodes.specs.Maps.{filtered, restored, updated};
-    ghost use Rattle.sn_nodes.specs.Stored.{node_of, nodes_of, stored_of, with_counts, with_ownership, owned_by, bytes_by, node_bytes_by, counts_of, Recounts, more_at, fewer_at, is_kept, under};
+    ghost use Rattle.sn_nodes.specs.Stored.{node_of, nodes_of, stored_of, with_counts, with_ownership, owned_by, bytes_by, node_bytes_by, counts_of, Recounts, more_at, fewer_at, under};
+    ghost use Rattle.sn_nodes.specs.Tally.{bare_in, is_kept};
 
     /// No node. It takes no memory.
     pub fn new(alloc: Global) -> Nodes
@@ -104,6 +131,7 @@ impl Nodes {
     {
         Nodes {
             map: BTreeMap::new(alloc),
+            nameless: 0,
         }
     }
 
@@ -149,7 +177,10 @@ impl Nodes {
         ensures same_stored { OnErr result (stored_of self.new ≡ stored_of self.old) }
         ensures absent { OnErr result (map.get (stored_of self.old) number ≡ None) }
     {
-        Ok(self.map.insert(number, node)?)
+        let added = node.nameless();
+        let old = self.map.insert(number, node)?;
+        self.nameless = self.nameless + added - nameless_at(&old);
+        Ok(old)
     }
 
     /// Takes a node out, if it is there.
@@ -157,7 +188,8 @@ impl Nodes {
         ensures nodes { nodes_of self.new ≡ map.remove (nodes_of self.old) number }
         ensures stored { stored_of self.new ≡ map.remove (stored_of self.old) number }
     {
-        self.map.remove(&number);
+        let old = self.map.remove(&number);
+        self.nameless -= nameless_at(&old);
     }
 
     /// Takes back an `insert`, by what it handed back.
@@ -177,7 +209,10 @@ impl Nodes {
         ensures stored { stored_of self.new ≡ updated (stored_of self.old) number (λ _. node) }
     {
         if let Some(place) = self.map.get_mut(&number) {
+            let was = place.nameless();
+            let is = node.nameless();
             *place = node;
+            self.nameless = self.nameless + is - was;
         }
     }
 
@@ -187,7 +222,10 @@ impl Nodes {
         ensures stored { stored_of self.new ≡ updated (stored_of self.old) number (with_counts counts) }
     {
         if let Some(node) = self.map.get_mut(&number) {
+            let gone = node.nameless();
             node.counts = counts;
+            let added = node.nameless();
+            self.nameless = self.nameless + added - gone;
         }
     }
 
@@ -299,6 +337,14 @@ impl Nodes {
         ensures { (number : ℕ) → map.get (stored_of self.new) number ≡ filtered is_kept (map.get (stored_of self.old) number) }
     {
         self.map.retain(|_, node| is_directory(node.kind) || node.counts.links != 0);
+        self.nameless = 0;
+    }
+
+    /// How many files no name is counted for.
+    pub fn nameless(&self) -> u32
+        ensures { result ≡ bare_in (stored_of self.now) }
+    {
+        self.nameless
     }
 
     /// The first number from one on that no node has, or 65,536.

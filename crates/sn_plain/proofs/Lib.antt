@@ -7,3 +7,4 @@ pub mod RenamingLemmas
 pub mod WayLemmas
 pub mod WritingLemmas
 pub mod AddedLemmas
+pub mod NamelessLemmas

@@ -14,7 +14,8 @@ use Rattle.sn_model.specs.Settling.{is_nameless, settled}
 use Rattle.sn_model.proofs.SettlingLemmas.{get_without}
 use Rattle.sn_nodes.specs.Maps.{filtered}
 use Rattle.sn_nodes.specs.declared.nodes.StoredNode.{StoredNode}
-use Rattle.sn_nodes.specs.Stored.{node_of, is_kept}
+use Rattle.sn_nodes.specs.Stored.{node_of}
+use Rattle.sn_nodes.specs.Tally.{is_kept}
 use Rattle.sn_plain.specs.Stored.{IsCounted}
 use Rattle.sn_plain.proofs.CountedLemmas.{Stored}
 

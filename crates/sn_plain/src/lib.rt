@@ -11,13 +11,15 @@
 //! `renaming` and `writing` have the changes, each with its test first, then all that takes memory,
 //! then the rest (`moving` has that of a rename, over the nodes). `applying` makes any change, as the
 //! model's `apply` does. `adding` makes a file without a name (`file_added` in `specs/Added`), as whoever
-//! fills a tree with what stands on a disk does. `reading` hands out the bytes of a file.
+//! fills a tree with what stands on a disk does. `reading` hands out the bytes of a file,
+//! and `charging` tells what a change is charged.
 //!
 //! What the sources leave open is decided in `docs/DECISIONS.md`, under "The tree in memory".
 #![tactic(auto)]
 
 mod adding;
 mod applying;
+mod charging;
 mod error;
 mod linking;
 mod making;

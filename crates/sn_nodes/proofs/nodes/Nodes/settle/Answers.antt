@@ -8,8 +8,10 @@ use Rattle.std.proofs.lemmas.Map.Keys.{IsDistinct-from_sorted}
 use Rattle.std.proofs.lemmas.Map.Made.{filter_same_pairs}
 use Rattle.sn_nodes.specs.declared.nodes.StoredNode.{StoredNode}
 use Rattle.sn_nodes.specs.Maps.{filtered}
-use Rattle.sn_nodes.specs.Stored.{stored_of, is_kept}
+use Rattle.sn_nodes.specs.Stored.{stored_of}
+use Rattle.sn_nodes.specs.Tally.{is_kept}
 use Rattle.sn_nodes.proofs.MapLemmas.{get-seen_plain}
+use Rattle.sn_nodes.proofs.TallyLemmas.{tallied_settled}
 use Rattle.sn_nodes.proofs.nodes.Nodes.settle.Goals as goal
 
 same_filter : {X : Type 0} (p : X → Bool) (o : Option X) → option_filter p o ≡ filtered p o
@@ -22,3 +24,11 @@ returns c = λ k.
     let es = c.args.self.now.map.entries in
     let left = filter_same_pairs _ (λ (e : ℕ × StoredNode). is_kept e.1) _ (λ k v b w f t. search rules) es c.retain.new.self.entries c.retain.ensures.filtered in
     get-seen_plain nat_cmp nat_cmp_total c.retain.new.self.entries k ∙ ap (lookup (is_at (nat_cmp k))) left ∙ lookup-filter-values (eq_by_cmp_equiv nat_cmp_total) is_kept k es (IsDistinct-from_sorted nat_cmp _ c.retain.ensures.was_ordered) ∙ same_filter is_kept (lookup (is_at (nat_cmp k)) es) ∙ ap (filtered is_kept) (sym (get-seen_plain nat_cmp nat_cmp_total es k))
+
+pub invariant_of-self : goal.invariant_of-self
+invariant_of-self c = record {
+  tallied = tallied_settled _ _ c.args.self.now.nameless (λ k.
+      let es = c.args.self.now.map.entries in
+      let left = filter_same_pairs _ (λ (e : ℕ × StoredNode). is_kept e.1) _ (λ k v b w f t. search rules) es c.retain.new.self.entries c.retain.ensures.filtered in
+      get-seen_plain nat_cmp nat_cmp_total c.retain.new.self.entries k ∙ ap (lookup (is_at (nat_cmp k))) left ∙ lookup-filter-values (eq_by_cmp_equiv nat_cmp_total) is_kept k es (IsDistinct-from_sorted nat_cmp _ c.retain.ensures.was_ordered) ∙ same_filter is_kept (lookup (is_at (nat_cmp k)) es) ∙ ap (filtered is_kept) (sym (get-seen_plain nat_cmp nat_cmp_total es k))) c.args.self.now.tallied;
+}
