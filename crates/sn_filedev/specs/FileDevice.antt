@@ -22,6 +22,10 @@ gathered_of d = d.gathered
 abbrev pub is_lost : {F : Type 0} → FileDevice F → Bool
 is_lost d = d.is_lost
 
+-- it is there to be read alone
+abbrev pub is_read_only : {F : Type 0} → FileDevice F → Bool
+is_read_only d = d.is_read_only
+
 -- in the place of what is on a device that doesn't tell its bytes
 abbrev pub untold : Disk
 untold = record { present = record { sectors = []; unsynced = [] }; past = [] }

@@ -1,5 +1,5 @@
 //! A device over a file.
-ghost use Rattle.std.specs.Prelude.{◌≡◌, ◌≢◌, ◌⊎◌, ◌*◌, ◌+◌, ◌/◌, ◌<◌, ◌^◌, [], false, Some, length, IsTrue, IsErr, IfOk, OnOk, OnErr};
+ghost use Rattle.std.specs.Prelude.{◌≡◌, ◌≢◌, ◌⊎◌, ◌*◌, ◌+◌, ◌/◌, ◌<◌, ◌^◌, [], true, false, Some, length, IsTrue, IsErr, IfOk, OnOk, OnErr};
 ghost use Rattle.std.specs.Option.{ForSome};
 ghost use Rattle.sn_device.specs.Status.{uncalled, one_write, one_sync, Counts, CountsOrEnds};
 ghost use Rattle.sn_filedev.specs.Runs.{IsApart};
@@ -11,10 +11,9 @@ use crate::block::{BLOCK_SECTORS, Block};
 use crate::gathered::Gathered;
 use sn_device::{Device, Fault, SECTOR_SIZE, Sector, Status};
 use std::alloc::Global;
-use std::fs::{Files, OpenFile, OpenOptions};
+use std::fs::OpenFile;
 use std::io;
 use std::os::unix::fs::FileExt;
-use std::path::AsPath;
 
 /// A device over a file. What is written may wait in memory until a sync, so what wasn't synced
 /// when the device is dropped may be lost.
@@ -27,60 +26,51 @@ pub struct FileDevice<F: FileExt + OpenFile> {
     // The file's own sync failed. The system may have dropped what it couldn't write, and a later
     // sync of the file wouldn't tell.
     is_lost: bool,
+    // It is there to be read alone, and each write faults.
+    is_read_only: bool,
     ghost within: { status.sectors * 512 < 2 ^ 64 },
     // No sector of the block is gathered, so what is read of it was written last.
     ghost apart: { ForSome block.number (IsApart gathered.first (length gathered.bytes.items / 512)) },
+    // Nothing is handed to a file that is there to be read alone.
+    ghost unwritten: { IsTrue is_read_only → gathered.bytes.items ≡ [] },
+}
+
+// How many whole sectors a file has.
+fn whole_sectors<F: OpenFile>(file: &F) -> io::Result<u64>
+    ensures { IfOk result (λ n. n * 512 < 2 ^ 64) }
+{
+    Ok(file.metadata()?.len() / SECTOR_SIZE as u64)
 }
 
 impl<F: FileExt + OpenFile + Drop> FileDevice<F> {
-    ghost use Rattle.sn_filedev.specs.FileDevice.{status_of};
+    ghost use Rattle.sn_filedev.specs.FileDevice.{status_of, is_lost, is_read_only};
 
     /// A device over a file that is open for reading and writing, of its whole sectors. An error is
-    /// want of memory or the file's, and changes nothing in the file.
+    /// want of memory or the file's, and changes nothing in the file. No lock is asked of the file.
     pub fn new(alloc: Global, file: F) -> io::Result<Self>
         ensures uncalled { IfOk result (λ d. status_of d ≡ uncalled (status_of d).sectors) }
+        ensures writing { IfOk result (λ d. is_read_only d ≡ false) }
     {
         let gathered = Gathered::new(alloc)?;
-        let sectors = file.metadata()?.len() / SECTOR_SIZE as u64;
-        Ok(FileDevice::over(file, gathered, sectors))
+        let sectors = whole_sectors(&file)?;
+        Ok(FileDevice::over(file, gathered, sectors, false))
     }
 
-    /// A device over the file at a path, which has to be there. An error is want of memory or the
-    /// file's, and changes nothing in the file.
-    pub fn open<R: Files<File = F>, P: AsPath>(
-        alloc: Global,
-        files: &R,
-        path: P,
-    ) -> io::Result<Self>
+    /// The same over a file that is open for reading, whose writes fault.
+    pub(crate) fn for_reading(alloc: Global, file: F) -> io::Result<Self>
         ensures uncalled { IfOk result (λ d. status_of d ≡ uncalled (status_of d).sectors) }
-    {
-        let mut how = OpenOptions::new();
-        let file = how.read(true).write(true).open(files, path)?;
-        FileDevice::new(alloc, file)
-    }
-
-    /// A device over a new file of so many blocks of 4,096 bytes, all of them zeros, in the place
-    /// of one that is there. Want of memory leaves that one; an error of the file may leave it empty.
-    pub fn create<R: Files<File = F>, P: AsPath>(
-        alloc: Global,
-        files: &R,
-        path: P,
-        blocks: u32,
-    ) -> io::Result<Self>
-        ensures uncalled { IfOk result (λ d. status_of d ≡ uncalled (8 * blocks)) }
+        ensures reading { IfOk result (λ d. is_read_only d ≡ true) }
     {
         let gathered = Gathered::new(alloc)?;
-        let mut how = OpenOptions::new();
-        let how = how.read(true).write(true).create(true).truncate(true);
-        let file = how.open(files, path)?;
-        let sectors = BLOCK_SECTORS * u64::from(blocks);
-        file.set_len(sectors * SECTOR_SIZE as u64)?;
-        Ok(FileDevice::over(file, gathered, sectors))
+        let sectors = whole_sectors(&file)?;
+        Ok(FileDevice::over(file, gathered, sectors, true))
     }
 
-    fn over(file: F, gathered: Gathered, sectors: u64) -> Self
-        requires { sectors * 512 < 2 ^ 64 }
-        ensures { status_of result ≡ uncalled sectors }
+    pub(crate) fn over(file: F, gathered: Gathered, sectors: u64, reads_alone: bool) -> Self
+        requires within { sectors * 512 < 2 ^ 64 }
+        requires empty { gathered.bytes.items ≡ [] }
+        ensures uncalled { status_of result ≡ uncalled sectors }
+        ensures access { is_read_only result ≡ reads_alone }
     {
         FileDevice {
             file,
@@ -88,7 +78,25 @@ impl<F: FileExt + OpenFile + Drop> FileDevice<F> {
             gathered,
             block: Block::new(),
             is_lost: false,
+            is_read_only: reads_alone,
         }
+    }
+
+    pub(crate) fn file(&self) -> &F {
+        &self.file
+    }
+
+    /// The bytes of all its sectors, which no count tells. An error is want of memory or the file's.
+    pub fn read_all(&mut self, alloc: Global) -> io::Result<Vec<u8>>
+        ensures length { IfOk result (λ bytes. length bytes.items ≡ 512 * (status_of self.old).sectors) }
+        ensures status { status_of self.new ≡ status_of self.old }
+        ensures lost { is_lost self.new ≡ is_lost self.old }
+        ensures access { is_read_only self.new ≡ is_read_only self.old }
+    {
+        self.flush()?;
+        let mut bytes = vec![in alloc; 0; self.status.sectors as usize * SECTOR_SIZE]?;
+        self.file.read_exact_at(&mut bytes, 0)?;
+        Ok(bytes)
     }
 
     // Hands what was gathered to the file. Where that fails it stays gathered.
@@ -96,6 +104,7 @@ impl<F: FileExt + OpenFile + Drop> FileDevice<F> {
         ensures status { self.new.status ≡ self.old.status }
         ensures block { self.new.block ≡ self.old.block }
         ensures lost { self.new.is_lost ≡ self.old.is_lost }
+        ensures access { self.new.is_read_only ≡ self.old.is_read_only }
         ensures empty { OnOk result (self.new.gathered.bytes.items ≡ []) }
         ensures failed { OnErr result (self.new.gathered.bytes.items ≢ []) }
         ensures first { OnErr result (self.new.gathered.first ≡ self.old.gathered.first) }
@@ -115,6 +124,7 @@ impl<F: FileExt + OpenFile + Drop> FileDevice<F> {
         requires { at < self.old.status.sectors }
         ensures status { self.new.status ≡ self.old.status }
         ensures lost { self.new.is_lost ≡ self.old.is_lost }
+        ensures access { self.new.is_read_only ≡ self.old.is_read_only }
         ensures here { OnOk result (self.new.block.number ≡ Some (at / 8)) }
     {
         let number = at / BLOCK_SECTORS;
@@ -133,8 +143,13 @@ impl<F: FileExt + OpenFile + Drop> FileDevice<F> {
         requires { at < self.old.status.sectors }
         ensures status { self.new.status ≡ self.old.status }
         ensures lost { self.new.is_lost ≡ self.old.is_lost }
+        ensures access { self.new.is_read_only ≡ self.old.is_read_only }
         ensures gathered { OnOk result (Gathers at sector.now self.old.gathered self.new.gathered) }
+        ensures reading { IsTrue self.old.is_read_only → IsErr result }
     {
+        if self.is_read_only {
+            return Err(io::ErrorKind::PermissionDenied.into());
+        }
         if self.block.is(at / BLOCK_SECTORS) {
             self.block.forget();
         }
@@ -154,6 +169,7 @@ impl<F: FileExt + OpenFile + Drop> FileDevice<F> {
         ensures failed { OnErr result
             ((self.new.gathered.bytes.items ≢ []) ⊎ IsTrue self.new.is_lost) }
         ensures lost { IsTrue self.old.is_lost → IsErr result × IsTrue self.new.is_lost }
+        ensures access { self.new.is_read_only ≡ self.old.is_read_only }
     {
         self.flush()?;
         if self.is_lost {
@@ -166,7 +182,7 @@ impl<F: FileExt + OpenFile + Drop> FileDevice<F> {
 }
 
 impl<F: FileExt + OpenFile + Drop> Device for FileDevice<F> {
-    ghost use Rattle.sn_filedev.specs.FileDevice.{untold, status_of, block_of, gathered_of, is_lost};
+    ghost use Rattle.sn_filedev.specs.FileDevice.{untold, status_of, block_of, gathered_of, is_lost, is_read_only};
 
     ghost tells_bytes = { false };
 
@@ -190,6 +206,7 @@ impl<F: FileExt + OpenFile + Drop> Device for FileDevice<F> {
         ensures sectors { (status_of self.new).sectors ≡ (status_of self.old).sectors }
         ensures unread { OnErr result (sector.new ≡ sector.old) }
         ensures lost { is_lost self.new ≡ is_lost self.old }
+        ensures access { is_read_only self.new ≡ is_read_only self.old }
 
         // It gives what the block of the sector had when it was read.
         ensures shown { OnOk result (Shows (block_of self.new) at sector.new) }
@@ -210,10 +227,13 @@ impl<F: FileExt + OpenFile + Drop> Device for FileDevice<F> {
         ensures counts { CountsOrEnds one_write result (status_of self.old) (status_of self.new) }
         ensures sectors { (status_of self.new).sectors ≡ (status_of self.old).sectors }
         ensures lost { is_lost self.new ≡ is_lost self.old }
+        ensures access { is_read_only self.new ≡ is_read_only self.old }
 
-        // Where it succeeds, its bytes wait to be handed to the file.
+        // Where it succeeds, its bytes wait to be handed to the file. Over a file that is there to be
+        // read alone it doesn't.
         ensures waits { OnOk result
             (Gathers at sector.now (gathered_of self.old) (gathered_of self.new)) }
+        ensures reading { IsTrue (is_read_only self.old) → IsErr result }
     {
         if self.status.has_ended() {
             return Err(Fault);
@@ -233,6 +253,7 @@ impl<F: FileExt + OpenFile + Drop> Device for FileDevice<F> {
         // Where it succeeds, no write waits any more. After a sync that the file failed none succeeds.
         ensures none_waits { OnOk result ((gathered_of self.new).bytes.items ≡ []) }
         ensures lost { IsTrue (is_lost self.old) → IsErr result × IsTrue (is_lost self.new) }
+        ensures access { is_read_only self.new ≡ is_read_only self.old }
     {
         if self.status.has_ended() {
             return Err(Fault);

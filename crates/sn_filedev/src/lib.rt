@@ -9,6 +9,12 @@
 //! written before it. A read fetches the block of eight sectors around it once. After a failed sync
 //! of the file no later one succeeds, since the system may have dropped what it couldn't store.
 //!
+//! A file that is opened by its path is locked for as long as its device lives: against all others,
+//! or with those that read it alone too. One in use is refused, and `create` cuts a file only once it
+//! has the lock. A new file is its owner's alone, and its folder is stored with it. What is opened to
+//! be read alone takes no write. Locks are those of the system, which hold against whoever asks for
+//! one: every device that is opened so does.
+//!
 //! Of this it is proved that a write which succeeds is gathered, that after a sync which succeeds
 //! none is left, and that a read gives its sector as the block around it had it when it was read, of
 //! which no sector is gathered. That nothing is let go before the file took it is tested.
@@ -25,5 +31,8 @@
 mod block;
 mod file;
 mod gathered;
+mod lock;
+mod open;
 
 pub use file::FileDevice;
+pub use lock::LockFile;

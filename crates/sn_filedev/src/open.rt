@@ -1,0 +1,131 @@
+//! Files of images by their paths: each is locked for as long as its device lives, and one that is in
+//! use is refused and untouched.
+ghost use Rattle.std.specs.Prelude.{◌≡◌, ◌*◌, true, false, IfOk};
+ghost use Rattle.sn_device.specs.Status.{uncalled};
+
+use crate::block::BLOCK_SECTORS;
+use crate::file::FileDevice;
+use crate::gathered::Gathered;
+use crate::lock::{LockFile, locked};
+use sn_device::SECTOR_SIZE;
+use std::alloc::Global;
+use std::fs::{Files, Metadata, OpenFile, OpenOptions};
+use std::os::unix::fs::{FileExt, MetadataExt, OpenOptionsExt};
+use std::path::AsPath;
+use std::{fs, io};
+
+/// Who may read and write a new file: its owner.
+const NEW_MODE: u32 = 0o600;
+
+impl<F: FileExt + OpenFile + LockFile + Drop> FileDevice<F> {
+    ghost use Rattle.sn_filedev.specs.FileDevice.{status_of, is_read_only};
+
+    /// A device over the file at a path, which has to be there, and which nobody else has open as a
+    /// device. An error is want of memory or the file's, and changes nothing in the file.
+    pub fn open<R: Files<File = F>, P: AsPath>(
+        alloc: Global,
+        files: &R,
+        path: P,
+    ) -> io::Result<Self>
+        ensures uncalled { IfOk result (λ d. status_of d ≡ uncalled (status_of d).sectors) }
+        ensures writing { IfOk result (λ d. is_read_only d ≡ false) }
+    {
+        require_file(&fs::metadata(files, &path)?)?;
+        let mut how = OpenOptions::new();
+        let file = how.read(true).write(true).open(files, path)?;
+        locked(file.try_lock())?;
+        FileDevice::new(alloc, file)
+    }
+
+    /// The same, to be read alone: others may read it too, and its writes fault.
+    pub fn open_to_read<R: Files<File = F>, P: AsPath>(
+        alloc: Global,
+        files: &R,
+        path: P,
+    ) -> io::Result<Self>
+        ensures uncalled { IfOk result (λ d. status_of d ≡ uncalled (status_of d).sectors) }
+        ensures reading { IfOk result (λ d. is_read_only d ≡ true) }
+    {
+        require_file(&fs::metadata(files, &path)?)?;
+        let file = fs::open(files, path)?;
+        locked(file.try_lock_shared())?;
+        FileDevice::for_reading(alloc, file)
+    }
+
+    /// A device over a file of so many blocks of 4,096 bytes, all of them zeros: a new one, or one that
+    /// is there and not in use, whose bytes go. Want of memory leaves them. An error of the file may
+    /// leave it empty, or with another length. The folder is stored before this answers.
+    pub fn create<R: Files<File = F>, P: AsPath>(
+        alloc: Global,
+        files: &R,
+        path: P,
+        blocks: u32,
+    ) -> io::Result<Self>
+        ensures uncalled { IfOk result (λ d. status_of d ≡ uncalled (8 * blocks)) }
+        ensures writing { IfOk result (λ d. is_read_only d ≡ false) }
+    {
+        let gathered = Gathered::new(alloc)?;
+        let file = open_uncut(files, &path)?;
+        locked(file.try_lock())?;
+        let folder = open_folder(alloc, files, path)?;
+        let sectors = BLOCK_SECTORS * u64::from(blocks);
+        file.set_len(0)?;
+        file.set_len(sectors * SECTOR_SIZE as u64)?;
+        folder.sync_all()?;
+        Ok(FileDevice::over(file, gathered, sectors, false))
+    }
+
+    /// Stores bytes in another file, in the place of what it has: a new one, or one that is there and
+    /// not in use. The device's own file is refused, by whichever path.
+    pub fn save_elsewhere<R: Files<File = F>, P: AsPath>(
+        &self,
+        alloc: Global,
+        files: &R,
+        path: P,
+        bytes: &[u8],
+    ) -> io::Result<()> {
+        let file = open_uncut(files, &path)?;
+        if is_one_file(&self.file().metadata()?, &file.metadata()?) {
+            return Err(io::Error::new(io::ErrorKind::InvalidInput, "it is the image itself"));
+        }
+        locked(file.try_lock())?;
+        let folder = open_folder(alloc, files, path)?;
+        file.set_len(0)?;
+        file.write_all_at(bytes, 0)?;
+        file.sync_all()?;
+        folder.sync_all()
+    }
+}
+
+/// A folder can't be a device. A disk tells no length, and an open pipe may wait for its other end.
+fn require_file(metadata: &Metadata) -> io::Result<()> {
+    if metadata.is_file() {
+        Ok(())
+    } else {
+        Err(io::Error::new(io::ErrorKind::InvalidInput, "it is no regular file"))
+    }
+}
+
+/// The file at a path, made where there is none. What it has stays until it is known to be free.
+fn open_uncut<R: Files, P: AsPath>(files: &R, path: P) -> io::Result<R::File> {
+    if fs::exists(files, &path)? {
+        require_file(&fs::metadata(files, &path)?)?;
+    }
+    let mut how = OpenOptions::new();
+    let how = how.read(true).write(true).create(true).mode(NEW_MODE);
+    how.open(files, path)
+}
+
+/// The folder of the file at a path, behind any links.
+fn open_folder<R: Files, P: AsPath>(alloc: Global, files: &R, path: P) -> io::Result<R::File> {
+    let whole = files.canonicalize(alloc, path.path_text())?;
+    match whole.parent() {
+        Some(folder) => fs::open(files, folder),
+        None => Err(io::ErrorKind::NotFound.into()),
+    }
+}
+
+/// Whether two open files are one. Where the system tells no numbers of files, locks alone tell it.
+fn is_one_file(one: &Metadata, other: &Metadata) -> bool {
+    one.ino() != 0 && one.ino() == other.ino() && one.dev() == other.dev()
+}
