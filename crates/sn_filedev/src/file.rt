@@ -1,5 +1,5 @@
 //! A device over a file.
-ghost use Rattle.std.specs.Prelude.{◌≡◌, ◌≢◌, ◌⊎◌, ◌*◌, ◌+◌, ◌/◌, ◌<◌, ◌^◌, [], true, false, Some, length, IsTrue, IsErr, IfOk, OnOk, OnErr};
+ghost use Rattle.std.specs.Prelude.{◌≡◌, ◌≢◌, ◌⊎◌, ◌*◌, ◌+◌, ◌/◌, ◌<◌, ◌≤◌, ◌^◌, [], true, false, Some, length, IsTrue, IsErr, IfOk, OnOk, OnErr};
 ghost use Rattle.std.specs.Option.{ForSome};
 ghost use Rattle.sn_device.specs.Status.{uncalled, one_write, one_sync, Counts, CountsOrEnds};
 ghost use Rattle.sn_filedev.specs.Runs.{IsApart};
@@ -97,6 +97,16 @@ impl<F: FileExt + OpenFile + Drop> FileDevice<F> {
         let mut bytes = vec![in alloc; 0; self.status.sectors as usize * SECTOR_SIZE]?;
         self.file.read_exact_at(&mut bytes, 0)?;
         Ok(bytes)
+    }
+
+    /// Stores these as its first sectors.
+    pub(crate) fn store(&mut self, sectors: &[Sector]) -> io::Result<()>
+        requires { length sectors.now ≤ (status_of self.old).sectors }
+    {
+        for (at, sector) in sectors.iter().enumerate() {
+            self.gather(at as u64, sector)?;
+        }
+        self.settle()
     }
 
     // Hands what was gathered to the file. Where that fails it stays gathered.

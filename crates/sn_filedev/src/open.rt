@@ -7,7 +7,7 @@ use crate::block::BLOCK_SECTORS;
 use crate::file::FileDevice;
 use crate::gathered::Gathered;
 use crate::lock::{LockFile, locked};
-use sn_device::SECTOR_SIZE;
+use sn_device::{SECTOR_SIZE, Sector};
 use std::alloc::Global;
 use std::fs::{Files, Metadata, OpenFile, OpenOptions};
 use std::os::unix::fs::{FileExt, MetadataExt, OpenOptionsExt};
@@ -66,35 +66,44 @@ impl<F: FileExt + OpenFile + LockFile + Drop> FileDevice<F> {
     {
         let gathered = Gathered::new(alloc)?;
         let file = open_uncut(files, &path)?;
-        locked(file.try_lock())?;
-        let folder = open_folder(alloc, files, path)?;
         let sectors = BLOCK_SECTORS * u64::from(blocks);
-        file.set_len(0)?;
-        file.set_len(sectors * SECTOR_SIZE as u64)?;
-        folder.sync_all()?;
+        empty_to(alloc, files, path, &file, sectors * SECTOR_SIZE as u64)?;
         Ok(FileDevice::over(file, gathered, sectors, false))
     }
 
-    /// Stores bytes in another file, in the place of what it has: a new one, or one that is there and
+    /// Stores sectors in another file, in the place of what it has: a new one, or one that is there and
     /// not in use. The device's own file is refused, by whichever path.
     pub fn save_elsewhere<R: Files<File = F>, P: AsPath>(
         &self,
         alloc: Global,
         files: &R,
         path: P,
-        bytes: &[u8],
+        sectors: &[Sector],
     ) -> io::Result<()> {
+        let gathered = Gathered::new(alloc)?;
         let file = open_uncut(files, &path)?;
         if is_one_file(&self.file().metadata()?, &file.metadata()?) {
             return Err(io::Error::new(io::ErrorKind::InvalidInput, "it is the image itself"));
         }
-        locked(file.try_lock())?;
-        let folder = open_folder(alloc, files, path)?;
-        file.set_len(0)?;
-        file.write_all_at(bytes, 0)?;
-        file.sync_all()?;
-        folder.sync_all()
+        let count = sectors.len() as u64;
+        empty_to(alloc, files, path, &file, count * SECTOR_SIZE as u64)?;
+        FileDevice::over(file, gathered, count, false).store(sectors)
     }
+}
+
+/// Locks a file, and makes zeros of it, of this length. Its folder is stored.
+fn empty_to<R: Files, F: OpenFile + LockFile, P: AsPath>(
+    alloc: Global,
+    files: &R,
+    path: P,
+    file: &F,
+    length: u64,
+) -> io::Result<()> {
+    locked(file.try_lock())?;
+    let folder = open_folder(alloc, files, path)?;
+    file.set_len(0)?;
+    file.set_len(length)?;
+    folder.sync_all()
 }
 
 /// A folder can't be a device. A disk tells no length, and an open pipe may wait for its other end.
