@@ -1,18 +1,39 @@
-ghost use Rattle.std.specs.Prelude.{◌≡◌, true, Err};
+ghost use Rattle.std.specs.Prelude.{◌≡◌, true, map, Err, IfOk, IfErr};
 ghost use Rattle.std.specs.List.{list_any};
+ghost use Rattle.sn_command.specs.Tasks.{AsksFor};
 ghost use Rattle.sn_command.specs.Words.{is_misfit};
+ghost use Rattle.sn_command.specs.declared.command.Task.{Task as Asked};
 ghost use Rattle.sn_command.specs.declared.fault.WordsFault.TheVariants as fault;
 
+use crate::commands::commands;
 use crate::fault::WordsFault;
-use clap::{Arg, Command};
+use crate::task::task_of;
+use sn_device::Fill;
 use std::alloc::Global;
 use std::convert::AsStr;
 
 /// What the command line asks for.
 #[derive(Clone, Copy, PartialEq, Eq)]
 pub enum Task<'a> {
-    /// Runs a script. Each run begins with a new world, and the image isn't opened.
-    Run { image: &'a str, script: &'a str },
+    /// Makes an image of so many blocks, in the place of what the file has.
+    Mkfs {
+        image: &'a str,
+        blocks: u32,
+    },
+    /// Runs a script on an image.
+    Run {
+        image: &'a str,
+        script: &'a str,
+    },
+    /// Runs a script on a copy of an image that takes so many writes and then crashes. What is left
+    /// goes to another file.
+    StopAt {
+        cut: u32,
+        fill: Fill,
+        image: &'a str,
+        script: &'a str,
+        out: &'a str,
+    },
 }
 
 /// An empty word, or one that begins with a dash: there are no options.
@@ -28,32 +49,20 @@ fn has_misfit<S: AsStr>(words: &[S]) -> bool
     words.iter().any(|word| is_misfit(word.as_str()))
 }
 
-/// The commands that there are.
-fn commands<'a>(alloc: Global) -> Result<Command<'a>, WordsFault> {
-    let run = Command::new(alloc, "run")
-        .arg(Arg::new(alloc, "IMAGE").required(true))?
-        .arg(Arg::new(alloc, "SCRIPT").required(true))?;
-    let command = Command::new(alloc, "snapfs")
-        .no_binary_name(true)
-        .subcommand_required(true)
-        .subcommand(run)?;
-    Ok(command)
-}
-
-/// What the words ask for. `Usage` where they fit no command, which is `clap`'s to say but for words that are empty
-/// or begin with a dash.
+/// What the words ask for, which are `clap`'s to read. `Usage` where they ask for nothing.
 pub fn parse<'a, S: AsStr>(alloc: Global, words: &'a [S]) -> Result<Task<'a>, WordsFault>
     ensures misfits { list_any (λ word. is_misfit (S.text word)) words.now ≡ true → result ≡ Err fault.Usage }
+
+    // A task comes only of its own words, and what words ask for is refused only for want of memory.
+    ensures asked { IfOk result (AsksFor (map S.text words.now)) }
+    ensures known { (task : Asked) → AsksFor (map S.text words.now) task → IfErr result (λ why. why ≡ fault.Memory) }
 {
     if has_misfit(words) {
         return Err(WordsFault::Usage);
     }
     let matches = commands(alloc)?.try_get_matches_from(words)?;
-    let Some((_, run)) = matches.subcommand() else {
-        return Err(WordsFault::Usage);
-    };
-    match (run.get_str("IMAGE"), run.get_str("SCRIPT")) {
-        (Some(image), Some(script)) => Ok(Task::Run { image, script }),
-        _ => Err(WordsFault::Usage),
+    match matches.subcommand() {
+        Some((name, found)) => task_of(name, found),
+        None => Err(WordsFault::Usage),
     }
 }

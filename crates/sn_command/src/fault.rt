@@ -1,9 +1,11 @@
 ghost use Rattle.std.specs.Prelude.{◌≡◌, ◌↔◌};
 ghost use Rattle.clap.specs.Values.{kind_of};
 ghost use Rattle.clap.specs.declared.error.ErrorKind.TheVariants as kind;
+ghost use Rattle.sn_words.specs.declared.fault.ReadFault.TheVariants as reading;
 ghost use Rattle.sn_command.specs.declared.fault.WordsFault.TheVariants as fault;
 
 use clap::error::ErrorKind;
+use sn_words::ReadFault;
 use std::alloc::AllocError;
 use thiserror::Error;
 
@@ -33,5 +35,16 @@ impl From<AllocError> for WordsFault {
 
     fn from(_error: AllocError) -> WordsFault {
         WordsFault::Memory
+    }
+}
+
+impl From<ReadFault> for WordsFault {
+    ghost from_gives = { λ read given. (given ≡ fault.Memory) ↔ (read ≡ reading.Memory) };
+
+    fn from(fault: ReadFault) -> WordsFault {
+        match fault {
+            ReadFault::Bad => WordsFault::Usage,
+            ReadFault::Memory => WordsFault::Memory,
+        }
     }
 }

@@ -10,7 +10,9 @@
 #![tactic(auto)]
 
 mod command;
+mod commands;
 mod fault;
+mod task;
 
 pub use command::{Task, parse};
 pub use fault::WordsFault;

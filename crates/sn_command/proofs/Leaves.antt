@@ -1,0 +1,162 @@
+-- Each command of ours, as `clap` builds it, takes as many words as it has names, and reads each of them under its name.
+use Rattle.std.proofs.Common.{◌≡◌, ◌∙◌, ℕ, false, refl, sym, ap, codes, List, [], ◌∷◌, Some, None, true≢false}
+use Rattle.std.specs.List.{list_any}
+use Rattle.clap.specs.Faults.{walk_fault}
+use Rattle.clap.specs.Simple.{App, Shape, built_leaf, inherited}
+use Rattle.clap.specs.Walk.{Held, Text, idle, rows_after}
+use Rattle.clap.specs.Words.{first_of}
+use Rattle.clap.proofs.OnLiterals.{clap_on_literals}
+use Rattle.sn_command.specs.Commands.{mkfs, run, stop_at, top}
+use Rattle.sn_command.specs.Words.{is_misfit}
+use Rattle.sn_command.proofs.LeafLemmas.{is_none, leaf_fault, leaf_is, or_else_some, rows_are, start}
+use Rattle.sn_command.proofs.WalkLemmas.{IsOpen, OpenAlong, faults_along, front_fits}
+
+abbrev pub leaf : App → Shape
+leaf a = built_leaf (inherited top.top a.top)
+
+opened : (h : Held) (position : ℕ) → IsOpen (record { held = h; waiting = idle; position = position; is_trailing = false; stopped = None })
+opened h position = record { stopped = refl; waiting = refl; trailing = refl }
+
+-- ---- mkfs
+
+mkfs_open : (a b : Text) → OpenAlong (leaf mkfs).rules start (a ∷ b ∷ [])
+mkfs_open a b = (opened _ _, (opened _ _, tt))
+
+pub mkfs_fits : (a b : Text) → list_any is_misfit (a ∷ b ∷ []) ≡ false → leaf_fault (leaf mkfs) (a ∷ b ∷ []) ≡ []
+unfolding clap_on_literals
+mkfs_fits a b fit = leaf_is (leaf mkfs) (a ∷ b ∷ []) fit (mkfs_open a b) ∙ refl
+
+pub mkfs_image : (a b : Text) → list_any is_misfit (a ∷ b ∷ []) ≡ false → first_of (codes "IMAGE") (rows_after (leaf mkfs).rules [] (a ∷ b ∷ [])) ≡ Some a
+unfolding clap_on_literals
+mkfs_image a b fit = ap (first_of (codes "IMAGE")) (rows_are (leaf mkfs) (a ∷ b ∷ []) fit (mkfs_open a b)) ∙ refl
+
+pub mkfs_blocks : (a b : Text) → list_any is_misfit (a ∷ b ∷ []) ≡ false → first_of (codes "BLOCKS") (rows_after (leaf mkfs).rules [] (a ∷ b ∷ [])) ≡ Some b
+unfolding clap_on_literals
+mkfs_blocks a b fit = ap (first_of (codes "BLOCKS")) (rows_are (leaf mkfs) (a ∷ b ∷ []) fit (mkfs_open a b)) ∙ refl
+
+mkfs_0 : is_none (leaf_fault (leaf mkfs) []) ≡ false
+unfolding clap_on_literals
+mkfs_0 = refl
+
+mkfs_1 : (a : Text) → list_any is_misfit (a ∷ []) ≡ false → is_none (leaf_fault (leaf mkfs) (a ∷ [])) ≡ false
+unfolding clap_on_literals
+mkfs_1 a fit = ap is_none (leaf_is (leaf mkfs) (a ∷ []) fit (opened _ _, tt)) ∙ refl
+
+mkfs_more : (a b d : Text) (more : List Text) → list_any is_misfit (a ∷ b ∷ d ∷ more) ≡ false → is_none (leaf_fault (leaf mkfs) (a ∷ b ∷ d ∷ more)) ≡ false
+unfolding clap_on_literals
+mkfs_more a b d more fit =
+    let front : list_any is_misfit (a ∷ b ∷ d ∷ []) ≡ false = front_fits (a ∷ b ∷ d ∷ []) more fit in
+    let opens : OpenAlong (leaf mkfs).rules start (a ∷ b ∷ d ∷ []) = (opened _ _, (opened _ _, (opened _ _, tt))) in
+    or_else_some (walk_fault (leaf mkfs) [] start (a ∷ b ∷ d ∷ more)) _ (ap is_none (faults_along (leaf mkfs) start (a ∷ b ∷ d ∷ []) more front opens) ∙ refl)
+
+-- it takes 2 words
+pub mkfs_words : (words : List Text) → list_any is_misfit words ≡ false → leaf_fault (leaf mkfs) words ≡ [] → (a : Text) × (b : Text) × (words ≡ a ∷ b ∷ [])
+mkfs_words [] fit e = absurd (true≢false (sym (ap is_none e) ∙ mkfs_0))
+mkfs_words (a ∷ []) fit e = absurd (true≢false (sym (ap is_none e) ∙ mkfs_1 a fit))
+mkfs_words (a ∷ b ∷ []) fit e = (a, b, refl)
+mkfs_words (a ∷ b ∷ d ∷ more) fit e = absurd (true≢false (sym (ap is_none e) ∙ mkfs_more a b d more fit))
+
+-- ---- run
+
+run_open : (a b : Text) → OpenAlong (leaf run).rules start (a ∷ b ∷ [])
+run_open a b = (opened _ _, (opened _ _, tt))
+
+pub run_fits : (a b : Text) → list_any is_misfit (a ∷ b ∷ []) ≡ false → leaf_fault (leaf run) (a ∷ b ∷ []) ≡ []
+unfolding clap_on_literals
+run_fits a b fit = leaf_is (leaf run) (a ∷ b ∷ []) fit (run_open a b) ∙ refl
+
+pub run_image : (a b : Text) → list_any is_misfit (a ∷ b ∷ []) ≡ false → first_of (codes "IMAGE") (rows_after (leaf run).rules [] (a ∷ b ∷ [])) ≡ Some a
+unfolding clap_on_literals
+run_image a b fit = ap (first_of (codes "IMAGE")) (rows_are (leaf run) (a ∷ b ∷ []) fit (run_open a b)) ∙ refl
+
+pub run_script : (a b : Text) → list_any is_misfit (a ∷ b ∷ []) ≡ false → first_of (codes "SCRIPT") (rows_after (leaf run).rules [] (a ∷ b ∷ [])) ≡ Some b
+unfolding clap_on_literals
+run_script a b fit = ap (first_of (codes "SCRIPT")) (rows_are (leaf run) (a ∷ b ∷ []) fit (run_open a b)) ∙ refl
+
+run_0 : is_none (leaf_fault (leaf run) []) ≡ false
+unfolding clap_on_literals
+run_0 = refl
+
+run_1 : (a : Text) → list_any is_misfit (a ∷ []) ≡ false → is_none (leaf_fault (leaf run) (a ∷ [])) ≡ false
+unfolding clap_on_literals
+run_1 a fit = ap is_none (leaf_is (leaf run) (a ∷ []) fit (opened _ _, tt)) ∙ refl
+
+run_more : (a b d : Text) (more : List Text) → list_any is_misfit (a ∷ b ∷ d ∷ more) ≡ false → is_none (leaf_fault (leaf run) (a ∷ b ∷ d ∷ more)) ≡ false
+unfolding clap_on_literals
+run_more a b d more fit =
+    let front : list_any is_misfit (a ∷ b ∷ d ∷ []) ≡ false = front_fits (a ∷ b ∷ d ∷ []) more fit in
+    let opens : OpenAlong (leaf run).rules start (a ∷ b ∷ d ∷ []) = (opened _ _, (opened _ _, (opened _ _, tt))) in
+    or_else_some (walk_fault (leaf run) [] start (a ∷ b ∷ d ∷ more)) _ (ap is_none (faults_along (leaf run) start (a ∷ b ∷ d ∷ []) more front opens) ∙ refl)
+
+-- it takes 2 words
+pub run_words : (words : List Text) → list_any is_misfit words ≡ false → leaf_fault (leaf run) words ≡ [] → (a : Text) × (b : Text) × (words ≡ a ∷ b ∷ [])
+run_words [] fit e = absurd (true≢false (sym (ap is_none e) ∙ run_0))
+run_words (a ∷ []) fit e = absurd (true≢false (sym (ap is_none e) ∙ run_1 a fit))
+run_words (a ∷ b ∷ []) fit e = (a, b, refl)
+run_words (a ∷ b ∷ d ∷ more) fit e = absurd (true≢false (sym (ap is_none e) ∙ run_more a b d more fit))
+
+-- ---- stop-at
+
+stop_at_open : (a b c d f : Text) → OpenAlong (leaf stop_at).rules start (a ∷ b ∷ c ∷ d ∷ f ∷ [])
+stop_at_open a b c d f = (opened _ _, (opened _ _, (opened _ _, (opened _ _, (opened _ _, tt)))))
+
+pub stop_at_fits : (a b c d f : Text) → list_any is_misfit (a ∷ b ∷ c ∷ d ∷ f ∷ []) ≡ false → leaf_fault (leaf stop_at) (a ∷ b ∷ c ∷ d ∷ f ∷ []) ≡ []
+unfolding clap_on_literals
+stop_at_fits a b c d f fit = leaf_is (leaf stop_at) (a ∷ b ∷ c ∷ d ∷ f ∷ []) fit (stop_at_open a b c d f) ∙ refl
+
+pub stop_at_k : (a b c d f : Text) → list_any is_misfit (a ∷ b ∷ c ∷ d ∷ f ∷ []) ≡ false → first_of (codes "K") (rows_after (leaf stop_at).rules [] (a ∷ b ∷ c ∷ d ∷ f ∷ [])) ≡ Some a
+unfolding clap_on_literals
+stop_at_k a b c d f fit = ap (first_of (codes "K")) (rows_are (leaf stop_at) (a ∷ b ∷ c ∷ d ∷ f ∷ []) fit (stop_at_open a b c d f)) ∙ refl
+
+pub stop_at_fill : (a b c d f : Text) → list_any is_misfit (a ∷ b ∷ c ∷ d ∷ f ∷ []) ≡ false → first_of (codes "FILL") (rows_after (leaf stop_at).rules [] (a ∷ b ∷ c ∷ d ∷ f ∷ [])) ≡ Some b
+unfolding clap_on_literals
+stop_at_fill a b c d f fit = ap (first_of (codes "FILL")) (rows_are (leaf stop_at) (a ∷ b ∷ c ∷ d ∷ f ∷ []) fit (stop_at_open a b c d f)) ∙ refl
+
+pub stop_at_image : (a b c d f : Text) → list_any is_misfit (a ∷ b ∷ c ∷ d ∷ f ∷ []) ≡ false → first_of (codes "IMAGE") (rows_after (leaf stop_at).rules [] (a ∷ b ∷ c ∷ d ∷ f ∷ [])) ≡ Some c
+unfolding clap_on_literals
+stop_at_image a b c d f fit = ap (first_of (codes "IMAGE")) (rows_are (leaf stop_at) (a ∷ b ∷ c ∷ d ∷ f ∷ []) fit (stop_at_open a b c d f)) ∙ refl
+
+pub stop_at_script : (a b c d f : Text) → list_any is_misfit (a ∷ b ∷ c ∷ d ∷ f ∷ []) ≡ false → first_of (codes "SCRIPT") (rows_after (leaf stop_at).rules [] (a ∷ b ∷ c ∷ d ∷ f ∷ [])) ≡ Some d
+unfolding clap_on_literals
+stop_at_script a b c d f fit = ap (first_of (codes "SCRIPT")) (rows_are (leaf stop_at) (a ∷ b ∷ c ∷ d ∷ f ∷ []) fit (stop_at_open a b c d f)) ∙ refl
+
+pub stop_at_out : (a b c d f : Text) → list_any is_misfit (a ∷ b ∷ c ∷ d ∷ f ∷ []) ≡ false → first_of (codes "OUT") (rows_after (leaf stop_at).rules [] (a ∷ b ∷ c ∷ d ∷ f ∷ [])) ≡ Some f
+unfolding clap_on_literals
+stop_at_out a b c d f fit = ap (first_of (codes "OUT")) (rows_are (leaf stop_at) (a ∷ b ∷ c ∷ d ∷ f ∷ []) fit (stop_at_open a b c d f)) ∙ refl
+
+stop_at_0 : is_none (leaf_fault (leaf stop_at) []) ≡ false
+unfolding clap_on_literals
+stop_at_0 = refl
+
+stop_at_1 : (a : Text) → list_any is_misfit (a ∷ []) ≡ false → is_none (leaf_fault (leaf stop_at) (a ∷ [])) ≡ false
+unfolding clap_on_literals
+stop_at_1 a fit = ap is_none (leaf_is (leaf stop_at) (a ∷ []) fit (opened _ _, tt)) ∙ refl
+
+stop_at_2 : (a b : Text) → list_any is_misfit (a ∷ b ∷ []) ≡ false → is_none (leaf_fault (leaf stop_at) (a ∷ b ∷ [])) ≡ false
+unfolding clap_on_literals
+stop_at_2 a b fit = ap is_none (leaf_is (leaf stop_at) (a ∷ b ∷ []) fit (opened _ _, (opened _ _, tt))) ∙ refl
+
+stop_at_3 : (a b c : Text) → list_any is_misfit (a ∷ b ∷ c ∷ []) ≡ false → is_none (leaf_fault (leaf stop_at) (a ∷ b ∷ c ∷ [])) ≡ false
+unfolding clap_on_literals
+stop_at_3 a b c fit = ap is_none (leaf_is (leaf stop_at) (a ∷ b ∷ c ∷ []) fit (opened _ _, (opened _ _, (opened _ _, tt)))) ∙ refl
+
+stop_at_4 : (a b c d : Text) → list_any is_misfit (a ∷ b ∷ c ∷ d ∷ []) ≡ false → is_none (leaf_fault (leaf stop_at) (a ∷ b ∷ c ∷ d ∷ [])) ≡ false
+unfolding clap_on_literals
+stop_at_4 a b c d fit = ap is_none (leaf_is (leaf stop_at) (a ∷ b ∷ c ∷ d ∷ []) fit (opened _ _, (opened _ _, (opened _ _, (opened _ _, tt))))) ∙ refl
+
+stop_at_more : (a b c d f g : Text) (more : List Text) → list_any is_misfit (a ∷ b ∷ c ∷ d ∷ f ∷ g ∷ more) ≡ false → is_none (leaf_fault (leaf stop_at) (a ∷ b ∷ c ∷ d ∷ f ∷ g ∷ more)) ≡ false
+unfolding clap_on_literals
+stop_at_more a b c d f g more fit =
+    let front : list_any is_misfit (a ∷ b ∷ c ∷ d ∷ f ∷ g ∷ []) ≡ false = front_fits (a ∷ b ∷ c ∷ d ∷ f ∷ g ∷ []) more fit in
+    let opens : OpenAlong (leaf stop_at).rules start (a ∷ b ∷ c ∷ d ∷ f ∷ g ∷ []) = (opened _ _, (opened _ _, (opened _ _, (opened _ _, (opened _ _, (opened _ _, tt)))))) in
+    or_else_some (walk_fault (leaf stop_at) [] start (a ∷ b ∷ c ∷ d ∷ f ∷ g ∷ more)) _ (ap is_none (faults_along (leaf stop_at) start (a ∷ b ∷ c ∷ d ∷ f ∷ g ∷ []) more front opens) ∙ refl)
+
+-- it takes 5 words
+pub stop_at_words : (words : List Text) → list_any is_misfit words ≡ false → leaf_fault (leaf stop_at) words ≡ [] → (a : Text) × (b : Text) × (c : Text) × (d : Text) × (f : Text) × (words ≡ a ∷ b ∷ c ∷ d ∷ f ∷ [])
+stop_at_words [] fit e = absurd (true≢false (sym (ap is_none e) ∙ stop_at_0))
+stop_at_words (a ∷ []) fit e = absurd (true≢false (sym (ap is_none e) ∙ stop_at_1 a fit))
+stop_at_words (a ∷ b ∷ []) fit e = absurd (true≢false (sym (ap is_none e) ∙ stop_at_2 a b fit))
+stop_at_words (a ∷ b ∷ c ∷ []) fit e = absurd (true≢false (sym (ap is_none e) ∙ stop_at_3 a b c fit))
+stop_at_words (a ∷ b ∷ c ∷ d ∷ []) fit e = absurd (true≢false (sym (ap is_none e) ∙ stop_at_4 a b c d fit))
+stop_at_words (a ∷ b ∷ c ∷ d ∷ f ∷ []) fit e = (a, b, c, d, f, refl)
+stop_at_words (a ∷ b ∷ c ∷ d ∷ f ∷ g ∷ more) fit e = absurd (true≢false (sym (ap is_none e) ∙ stop_at_more a b c d f g more fit))

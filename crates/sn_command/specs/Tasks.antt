@@ -1,0 +1,37 @@
+-- What a command line asks for.
+use Rattle.std.specs.Prelude.{◌≡◌, ℕ, ◌<◌, ◌^◌, false, List, [], ◌∷◌, Option, Some, None, codes, decimal}
+use Rattle.std.specs.List.{list_any}
+use Rattle.sn_device.specs.declared.fill.Fill.{Fill}
+use Rattle.sn_device.specs.declared.fill.Fill.TheVariants as fill
+use Rattle.sn_command.specs.Words.{is_misfit}
+use Rattle.sn_command.specs.declared.command.Task.{Task}
+use Rattle.sn_command.specs.declared.command.Task.TheVariants as task
+
+-- the word for how a crash leaves what wasn't synced, where there is one
+abbrev pub fill_word : Fill → Option (List ℕ)
+fill_word fill.Old = Some (codes "old")
+fill_word fill.New = Some (codes "new")
+fill_word fill.Zero = Some (codes "zero")
+fill_word fill.One = Some (codes "one")
+fill_word fill.Junk = Some (codes "junk")
+fill_word (fill.Seeded seed) = None
+
+-- the words of the command that asks for a task: numbers of 32 bits are decimal, without leading zeros
+abbrev pub Spells : List (List ℕ) → Task → Type 0
+Spells words (task.Mkfs image blocks) = (words ≡ codes "mkfs" ∷ image.now ∷ decimal blocks ∷ []) × (blocks < 2 ^ 32)
+Spells words (task.Run image script) = words ≡ codes "run" ∷ image.now ∷ script.now ∷ []
+Spells words (task.StopAt cut how image script out) = (word : List ℕ) × (fill_word how ≡ Some word)
+    × (words ≡ codes "stop-at" ∷ decimal cut ∷ word ∷ image.now ∷ script.now ∷ out.now ∷ []) × (cut < 2 ^ 32)
+
+-- and none of them is empty or begins with a dash
+abbrev pub AsksFor : List (List ℕ) → Task → Type 0
+AsksFor words asked = (list_any is_misfit words ≡ false) × Spells words asked
+
+-- the task of the command with a name, whose words are read by theirs
+abbrev pub IsRead : List ℕ → (List ℕ → Option (List ℕ)) → Task → Type 0
+IsRead name read (task.Mkfs image blocks) = (name ≡ codes "mkfs") × (read (codes "IMAGE") ≡ Some image.now)
+    × (read (codes "BLOCKS") ≡ Some (decimal blocks)) × (blocks < 2 ^ 32)
+IsRead name read (task.Run image script) = (name ≡ codes "run") × (read (codes "IMAGE") ≡ Some image.now) × (read (codes "SCRIPT") ≡ Some script.now)
+IsRead name read (task.StopAt cut how image script out) = (name ≡ codes "stop-at") × (read (codes "K") ≡ Some (decimal cut)) × (cut < 2 ^ 32)
+    × ((word : List ℕ) × (fill_word how ≡ Some word) × (read (codes "FILL") ≡ Some word))
+    × (read (codes "IMAGE") ≡ Some image.now) × (read (codes "SCRIPT") ≡ Some script.now) × (read (codes "OUT") ≡ Some out.now)
