@@ -1,11 +1,15 @@
 //! The command line of snapfs: which words ask for what.
 //!
 //! [`parse`] takes the words without the program's own name and answers a [`Task`], which borrows them, or a
-//! [`WordsFault`]. The words are `clap`'s to read, but that no word is empty or begins with a dash, which
-//! `specs/Words` says.
+//! [`WordsFault`]. The words are `clap`'s to read, and `specs/Tasks` says which of them ask for which task: a task comes
+//! only of those, and those are refused only where memory is. No word is empty or begins with a dash.
+//!
+//! `commands` has the commands as `clap` knows them, which `specs/Commands` writes out, and `task` makes a task of the
+//! words that were found under their names.
 //!
 //! ```text
-//! let Task::Run { image, script } = parse(alloc, &["run", "disk.img", "first.snap"])?;
+//! match parse(alloc, &["mkfs", "disk.img", "256"])? {
+//!     Task::Mkfs { image, blocks } => ..
 //! ```
 #![tactic(auto)]
 
