@@ -107,8 +107,11 @@ fn execute<R: Files + AllocGlobal, W: Write, S: AsStr>(
     ensures front { OnErr result (HasBegun None (W.contents out.old) (W.contents out.new)) }
     ensures words { IsErrOf result fault.Usage → out.new ≡ out.old }
 {
-    let Task::Run { script, .. } = parse(rt.alloc(), words)?;
-    answer_from(rt.alloc(), fs::open(rt, script)?, out)
+    match parse(rt.alloc(), words)? {
+        Task::Run { script, .. } => answer_from(rt.alloc(), fs::open(rt, script)?, out),
+        // These take the image of a file, on which nothing is run yet.
+        Task::Mkfs { .. } | Task::StopAt { .. } => Err(Fault::Usage),
+    }
 }
 
 /// Does what the words ask for, and gives the exit status: 0 where it was done, 2 for words that are no
