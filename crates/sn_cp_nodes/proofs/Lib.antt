@@ -1,0 +1,4 @@
+pub mod ByteLemmas
+pub mod WantedLemmas
+pub mod OldLemmas
+pub mod FileLemmas

@@ -1,0 +1,4 @@
+pub mod Parts
+pub mod Inodes
+pub mod Made
+pub mod Built

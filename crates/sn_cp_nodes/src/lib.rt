@@ -1,0 +1,15 @@
+//! Building nodes: what a consistency point writes of the files and directories that changed since its root.
+//!
+//! The model is that of `sn_overlay`, a layer of what changed, and of `sn_image`, the tree that an inode file
+//! denotes. A build only reads: what it says holds in every store that has the new blocks and agrees with the
+//! old one in what the number reached (`specs/Built`).
+//!
+//! The way through: `files` plans the content of a file with the size and the blocks of the layer, `directories`
+//! has the tree in which a directory's names change and those names, and `inodes` makes the inode, whose ACLs
+//! are kept where the layer says that they are those below. `specs/Parts` says what a layer has of one number,
+//! `specs/Made` what each step comes to, and `specs/Built` what all of them are for.
+#![tactic(auto)]
+
+mod directories;
+mod files;
+mod inodes;
