@@ -8,12 +8,15 @@ use Rattle.std.proofs.lemmas.Grind.{div_ceil_times}
 use Rattle.sn_image.specs.Contents.{bytes_of, content_reach}
 use Rattle.sn_image.specs.Image.{image}
 use Rattle.sn_image.specs.Inodes.{inode_at}
+use Rattle.sn_image.specs.Reach.{reach_at}
+use Rattle.sn_image.specs.Sound.{ContentEnds}
 use Rattle.sn_layout.specs.declared.tree.BlockTree.{BlockTree}
-use Rattle.sn_layout_node.specs.Inode.{size_of}
+use Rattle.sn_layout_node.specs.Inode.{IsContent, size_of}
 use Rattle.sn_layout_node.specs.declared.content.Content.{Content}
 use Rattle.sn_layout_node.specs.declared.inode.Inode.{Inode}
 use Rattle.sn_limits.specs.declared.kind.Kind.TheVariants.{File}
 use Rattle.sn_limits.specs.declared.limits.Limits.{Limits}
+use Rattle.sn_ondisk.specs.TreeLaws.{SameIn}
 use Rattle.sn_ondisk.specs.Trees.{Store}
 use Rattle.sn_overlay.specs.Keys.{file_block_at}
 use Rattle.sn_overlay.specs.Layers.{Layer, block_seen, hides_block}
@@ -24,14 +27,16 @@ use Rattle.sn_overlay.specs.Sorted.{bytes_by_file_block}
 use Rattle.sn_overlay.specs.declared.node.NodeChange.TheVariants.{Changed}
 use Rattle.sn_overlay.specs.declared.node.NodeState.{NodeState}
 use Rattle.sn_overlay.proofs.PieceLemmas.{joined_alike, length-piece, length-zeros}
-use Rattle.sn_tree.specs.Contents.{HasDataBlocks, content_block}
+use Rattle.sn_tree.specs.Contents.{HasDataBlocks, IsContentReplanned, content_block}
 use Rattle.sn_tree.specs.Dirty.{block_after}
 use Rattle.sn_tree.specs.Orders.{AreInOrder}
+use Rattle.sn_tree.specs.Plans.{Holds}
 use Rattle.sn_tree.specs.Replanned.{EndsAt}
+use Rattle.sn_tree.specs.declared.new_block.NewBlock.{NewBlock}
 use Rattle.sn_cp_nodes.specs.Built.{IsGround}
 use Rattle.sn_cp_nodes.specs.Parts.{Blocks, content_of, dirty_of, keep_of}
 use Rattle.sn_cp_nodes.proofs.ByteLemmas.{IsRoomy, content_joined, old_piece}
-use Rattle.sn_cp_nodes.proofs.OldLemmas.{old_bytes, old_ends, old_of, old_roomy, old_whole}
+use Rattle.sn_cp_nodes.proofs.OldLemmas.{old_bytes, old_ends, old_of, old_roomy, old_whole, roomy_file, same_content}
 use Rattle.sn_cp_nodes.proofs.WantedLemmas.{wanted_seen}
 
 module _ (limits : Limits) (n : ℕ) (s : Store) (file : BlockTree) (layer : Layer) (number : ℕ) (ground : IsGround limits n s file layer)
@@ -92,3 +97,16 @@ module _ (limits : Limits) (n : ℕ) (s : Store) (file : BlockTree) (layer : Lay
       content_joined r content wanted roomy has (λ i. ap (λ (bytes : List ℕ). length bytes) (wanted_is i) ∙ long_seen i)
       ∙ ap (λ (count : ℕ). joined 4096 count wanted) size
       ∙ joined_alike 4096 state.size wanted seen wanted_is
+
+pub files_seen : (limits : Limits) (n : ℕ) (s r : Store) (file : BlockTree) (layer : Layer) (number : ℕ) (state : NodeState) (written : Blocks) (content : Content) (added : List NewBlock) (released : List ℕ)
+    → IsGround limits n s file layer → fin.get layer.nodes number ≡ Some (Changed state) → state.kind ≡ File → bytes_by_file_block written ≡ written_blocks layer number
+    → IsContent limits File content → size_of content ≡ state.size → AreInOrder state.size (dirty_of written)
+    → IsContentReplanned s (content_of (inode_at s file number)) content (keep_of state) (dirty_of written) added released → SameIn (reach_at s file number) s r → Holds r added
+    → (bytes_of r content ≡ joined 4096 state.size (block_seen layer number state (layers.bytes_of (fin.get (image s file).nodes number)))) × ContentEnds r content
+files_seen limits n s r file layer number state written content added released ground node is are fits size order plans same holds =
+    let same_old = same_content s r file number same in
+    let ends_at = file_ends_at limits n s file layer number ground state node is written are order in
+    (
+      file_bytes_are limits n s file layer number ground state node is written are r content (roomy_file limits content ground.version fits) size (plans.blocks r same_old holds),
+      plans.ends r same_old holds (subst (λ (bytes : ℕ). EndsAt (content_block s (content_of (inode_at s file number))) bytes (keep_of state) (dirty_of written)) (sym size) ends_at),
+    )

@@ -8,8 +8,12 @@
 //! has the tree in which a directory's names change and those names, and `inodes` makes the inode, whose ACLs
 //! are kept where the layer says that they are those below. `specs/Parts` says what a layer has of one number,
 //! `specs/Made` what each step comes to, and `specs/Built` what all of them are for.
+//! `content_laws` says that what is planned so is what is seen through the layer.
 #![tactic(auto)]
 
 mod directories;
 mod files;
 mod inodes;
+mod laws;
+
+pub use laws::content_laws;
