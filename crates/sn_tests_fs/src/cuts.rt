@@ -18,7 +18,7 @@ use std::alloc::Global;
 const WRITES: u32 = 1 + 4 * ALL as u32;
 
 /// More reads, writes and syncs than a mount and the list make.
-const FAILURES: u32 = 56;
+const FAILURES: u32 = 120;
 
 /// The writes of a mount and of two directories of the list.
 const FIRST_WRITES: u32 = 9;
@@ -30,7 +30,7 @@ const SECOND: u32 = 20;
 const MOUNT_STOPS: u32 = 3;
 
 /// More reads, writes and syncs than a mount of a short log makes.
-const MOUNT_FAILURES: u32 = 24;
+const MOUNT_FAILURES: u32 = 90;
 
 /// Where the device fails.
 #[derive(Clone, Copy)]
@@ -59,13 +59,13 @@ fn set(device: &mut MemDevice, cut: Cut) {
 pub fn run(report: &mut Report<'_>) -> Result<()> {
     let tally = whole(report)?;
     report.add("writes of calls that aren't cut short", tally)?;
-    let tally = lists(report, 0, 20)?;
+    let tally = lists(report, 0, 12)?;
     report.add("calls cut short", tally)?;
-    let tally = lists(report, FILLS, FILLS + 20)?;
+    let tally = lists(report, FILLS, FILLS + 12)?;
     report.add("calls cut short that tear sectors", tally)?;
-    let tally = mounts(report, 0, 12)?;
+    let tally = mounts(report, 0, 6)?;
     report.add("mounts cut short", tally)?;
-    let tally = mounts(report, FILLS, FILLS + 12)?;
+    let tally = mounts(report, FILLS, FILLS + 6)?;
     report.add("mounts cut short that tear sectors", tally)
 }
 
