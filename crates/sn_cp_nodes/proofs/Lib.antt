@@ -5,3 +5,5 @@ pub mod FileLemmas
 pub mod NameLemmas
 pub mod DirectoryLemmas
 pub mod AclLemmas
+pub mod StandLemmas
+pub mod BuildLemmas

@@ -1,14 +1,18 @@
 //! The contents of directories that changed.
-ghost use Rattle.std.specs.Prelude.{◌≡◌, ◌≢◌, ◌⊎◌, ◌*◌, ◌%◌, ◌≤◌, ◌↔◌, false, Err, IsTrue, IfOk};
+ghost use Rattle.std.specs.Prelude.{◌≡◌, ◌≢◌, ◌⊎◌, ◌*◌, ◌%◌, ◌≤◌, ◌↔◌, List, false, Err, IsTrue, IfOk};
 ghost use Rattle.sn_device.specs.Disk.{reads};
 ghost use Rattle.sn_block.specs.Lending.{device_of};
+ghost use Rattle.sn_block.specs.declared.fault.ReadFault.TheVariants.{Device};
+ghost use Rattle.sn_dir_change.specs.Changes.{AreChanges};
+ghost use Rattle.sn_dir_change.specs.Planned.{IsDirectoryPlanned, IsTooFullFor, CannotRead};
+ghost use Rattle.sn_dir_change.specs.declared.name_change.NameChange.{NameChange as TheChange};
 ghost use Rattle.sn_image.specs.Contents.{content_reach};
 ghost use Rattle.sn_layout.specs.declared.tree.BlockTree.{BlockTree as TheTree};
 ghost use Rattle.sn_layout_node.specs.declared.content.Content.TheVariants.{Tree as OfTree};
 ghost use Rattle.sn_ondisk.specs.Trees.{store_of};
 ghost use Rattle.sn_tree.specs.Steps.{LeadsOutside, CountsPlan};
 ghost use Rattle.sn_tree.specs.declared.fault.PlanFault.TheVariants.{Tree, Full};
-ghost use Rattle.sn_tree_read.specs.declared.fault.TreeFault.TheVariants.{Damaged};
+ghost use Rattle.sn_tree_read.specs.declared.fault.TreeFault.TheVariants.{Damaged, Read};
 ghost use Rattle.sn_cp_nodes.specs.Parts.{empty_tree};
 ghost use Rattle.sn_cp_nodes.specs.Made.{ChangeThem, IsBegun, IsDirectoryMade, IsTooSmall, CanMakeDirectory};
 
@@ -84,4 +88,52 @@ fn is_roomy(tree: &BlockTree) -> bool
     ensures { IsTrue result ↔ ((tree.now.size % 4096 ≡ 0) × (tree.now.size ≤ 35184372088832)) }
 {
     tree.size.is_multiple_of(BLOCK_SIZE as u64) && tree.size <= ROOMY
+}
+
+// The names of a list as changes, which a directory can have.
+fn checked_changes<'a>(
+    alloc: Global,
+    names: &'a [(Link, Option<u16>)],
+) -> Result<Vec<NameChange<'a>>, PlanFault>
+    ensures them { IfOk result (λ changes. ChangeThem names.now changes.items) }
+    ensures can { IfOk result (λ changes. AreChanges changes.items) }
+    ensures full { result ≢ Err Full }
+    ensures damaged { result ≡ Err (Tree Damaged)
+        → ((changes : List TheChange) → ChangeThem names.now changes → AreChanges changes) → ⊥ }
+    ensures device { result ≢ Err (Tree (Read Device)) }
+{
+    let changes = name_changes(alloc, names)?;
+    if !are_changes(changes.as_slice()) {
+        return Err(PlanFault::Tree(TreeFault::Damaged));
+    }
+    Ok(changes)
+}
+
+// Plans a directory with other names in place of a tree that has room for them.
+fn with_names<D: Device>(
+    alloc: Global,
+    build: &mut Build,
+    blocks: &mut Blocks<D>,
+    tree: &BlockTree,
+    changes: &[NameChange<'_>],
+) -> Result<BlockTree, PlanFault>
+    requires changes { AreChanges changes.now }
+    requires whole { tree.now.size % 4096 ≡ 0 }
+    requires most { tree.now.size ≤ 35184372088832 }
+    ensures planned { IfOk result (λ new. IsDirectoryPlanned (IsTrue D.tells_bytes)
+        (store_of (reads (D.disk (device_of blocks.old)))) tree.now new changes.now build.old build.new) }
+    ensures full { IsTooFullFor (IsTrue D.tells_bytes)
+        (store_of (reads (D.disk (device_of blocks.old)))) tree.now changes.now result build.old }
+    ensures damaged { IsTrue D.tells_bytes → result ≡ Err (Tree Damaged)
+        → CannotRead (D.status (device_of blocks.old)).sectors
+        (store_of (reads (D.disk (device_of blocks.old)))) tree.now }
+    ensures same { IsTrue D.tells_bytes → D.disk (device_of blocks.new) ≡ D.disk (device_of blocks.old) }
+    ensures counts { CountsPlan result (D.status (device_of blocks.old)) (D.status (device_of blocks.new)) }
+{
+    // There are fewer blocks than that, so none of them would be enough.
+    build.left();
+    if changes.len() > u32::MAX as usize {
+        return Err(PlanFault::Full);
+    }
+    change(alloc, build, blocks, tree, changes)
 }
