@@ -7,3 +7,4 @@ pub mod DirectoryLemmas
 pub mod AclLemmas
 pub mod StandLemmas
 pub mod BuildLemmas
+pub mod MadeLemmas

@@ -137,3 +137,44 @@ fn with_names<D: Device>(
     }
     change(alloc, build, blocks, tree, changes)
 }
+
+// The tree in which the names are to change, of whole blocks and with room for as many more as there are numbers of blocks.
+fn roomy_tree<D: Device>(
+    build: &mut Build,
+    blocks: &mut Blocks<D>,
+    old: &Content,
+    fresh: bool,
+) -> Result<BlockTree, PlanFault>
+    ensures begun { IfOk result (λ tree. IsBegun (IsTrue D.tells_bytes)
+        (store_of (reads (D.disk (device_of blocks.old)))) old.now fresh tree build.old build.new) }
+    ensures whole { IfOk result (λ tree. tree.size % 4096 ≡ 0) }
+    ensures most { IfOk result (λ tree. tree.size ≤ 35184372088832) }
+    ensures full { result ≢ Err Full }
+    ensures same { IsTrue D.tells_bytes → D.disk (device_of blocks.new) ≡ D.disk (device_of blocks.old) }
+    ensures counts { CountsPlan result (D.status (device_of blocks.old)) (D.status (device_of blocks.new)) }
+{
+    let tree = begun(build, blocks, old, fresh)?;
+    if !is_roomy(&tree) {
+        return Err(PlanFault::Tree(TreeFault::Damaged));
+    }
+    Ok(tree)
+}
+
+/// Plans the content of a directory that changed, in place of what its number had.
+pub(crate) fn directory_content<D: Device>(
+    alloc: Global,
+    build: &mut Build,
+    blocks: &mut Blocks<D>,
+    old: &Content,
+    fresh: bool,
+    names: &[(Link, Option<u16>)],
+) -> Result<BlockTree, PlanFault>
+    ensures made { IfOk result (λ new. IsDirectoryMade (IsTrue D.tells_bytes)
+        (store_of (reads (D.disk (device_of blocks.old)))) old.now fresh names.now new build.old build.new) }
+    ensures same { IsTrue D.tells_bytes → D.disk (device_of blocks.new) ≡ D.disk (device_of blocks.old) }
+    ensures counts { CountsPlan result (D.status (device_of blocks.old)) (D.status (device_of blocks.new)) }
+{
+    let changes = checked_changes(alloc, names)?;
+    let tree = roomy_tree(build, blocks, old, fresh)?;
+    with_names(alloc, build, blocks, &tree, changes.as_slice())
+}
