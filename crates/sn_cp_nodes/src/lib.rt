@@ -15,5 +15,6 @@ mod directories;
 mod files;
 mod inodes;
 mod laws;
+mod node;
 
 pub use laws::content_laws;
