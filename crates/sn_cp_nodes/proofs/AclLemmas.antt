@@ -1,9 +1,9 @@
 -- The ACLs of an inode that changed are those that are seen of its node.
-use Rattle.std.proofs.Common.{◌≡◌, ◌≢◌, ℕ, ◌==◌, Bool, true, false, if◌then◌else◌, List, [], ◌∷◌, ◌++◌, Option, None, Some, Contains, refl, sym, ap, subst, ◌∙◌, arith}
+use Rattle.std.proofs.Common.{◌≡◌, ◌≢◌, ℕ, ◌==◌, Bool, true, false, if◌then◌else◌, List, [], ◌∷◌, Option, None, Some, Contains, refl, sym, ap, subst, ◌∙◌}
 use Rattle.std.specs.Prelude.{IsSomeAnd}
 use Rattle.std.specs.FinMap as fin
 use Rattle.std.specs.Option.{option_map}
-use Rattle.std.proofs.lemmas.Bool.{eqb-true, eqb-false, ne_eqb}
+use Rattle.std.proofs.lemmas.Bool.{eqb-false, ne_eqb}
 use Rattle.std.proofs.lemmas.List.Elements.{Contains-append_left}
 use Rattle.sn_device.proofs.SectorLemmas.{Contains-first}
 use Rattle.sn_acl.specs.declared.entries.Entry.{Entry}
@@ -25,7 +25,6 @@ use Rattle.sn_layout_node.specs.declared.inode.Inode.{Inode}
 use Rattle.sn_limits.specs.declared.kind.Kind.{Kind}
 use Rattle.sn_limits.specs.declared.kind.Kind.TheVariants.{File, Directory}
 use Rattle.sn_limits.specs.declared.limits.Limits.{Limits}
-use Rattle.sn_model.specs.Tree.{Node}
 use Rattle.sn_ondisk.specs.TreeLaws.{SameIn}
 use Rattle.sn_ondisk.specs.Trees.{Store}
 use Rattle.sn_overlay.specs.Layers.{Layer, acls_of}
@@ -94,8 +93,8 @@ module _ (limits : Limits) (n : ℕ) (s : Store) (file : BlockTree) (layer : Lay
         access = ap (λ (o : Mode). joined o (acls_at r pointer).access) bits ∙ ap (λ (a : AclBlock). joined inode.objects a.access) acls ∙ ap (λ p. p.0) are;
         default = ap (λ (a : AclBlock). a.default) acls ∙ ap (λ p. p.1) are;
         spelled = λ some.
-        let other : inode.acl_block ≢ 0 = λ none. some (there ∙ none) in
-        subst SpellsAcls (sym (ap r there ∙ alike other)) ((ground.sound.used.acls number inode used).spelled other);
+            let other : inode.acl_block ≢ 0 = λ none. some (there ∙ none) in
+            subst SpellsAcls (sym (ap r there ∙ alike other)) ((ground.sound.used.acls number inode used).spelled other);
       }
 
   pub changed_acls : (objects : Mode) (kind : Kind) (pointer : ℕ) (acls : AclChange) → kind ≡ state.kind → AreAclsFor (inode_at s file number) state objects acls → HasAclsOf r (inode_at s file number) kind acls pointer

@@ -1,12 +1,10 @@
 -- One node is built, by what was made of its content and its inode.
-use Rattle.std.proofs.Common.{◌≡◌, ◌≢◌, ℕ, ◌+◌, ◌*◌, ◌≤◌, ◌<◌, ◌&&◌, Bool, true, false, List, [], ◌∷◌, ◌++◌, ⊎_elim, zero, suc, length, map, Option, None, Some, Contains, refl, sym, ap, subst, ◌∙◌, arith}
+use Rattle.std.proofs.Common.{◌≡◌, ◌≢◌, ℕ, ◌+◌, ◌*◌, ◌≤◌, ◌<◌, ◌&&◌, Bool, true, false, List, [], ◌++◌, ⊎_elim, zero, suc, length, Option, None, Some, Contains, refl, sym, ap, subst, ◌∙◌, arith}
 use Rattle.std.specs.Global.{Global}
 use Rattle.std.specs.Prelude.{nat_le, nat_lt}
 use Rattle.std.specs.declared.boxed.Box.{Box}
 use Rattle.std.proofs.lemmas.Bool.{leb-true, cases_lt}
 use Rattle.std.proofs.lemmas.List.{length-map}
-use Rattle.sn_dir_change.specs.Planned.{IsDirectoryPlanned}
-use Rattle.sn_dir_change.specs.declared.name_change.NameChange.{NameChange}
 use Rattle.sn_image.specs.Contents.{content_reach}
 use Rattle.sn_image.specs.Image.{image}
 use Rattle.sn_image.specs.Inodes.{inode_at}
@@ -35,18 +33,16 @@ use Rattle.sn_ondisk.proofs.TreeLemmas.{levels_least, reach_has_none}
 use Rattle.sn_overlay.specs.Layers.{Layer, through}
 use Rattle.sn_overlay.specs.Lists.{changed_names, written_blocks}
 use Rattle.sn_overlay.specs.Needs.{levels}
-use Rattle.sn_overlay.specs.Sorted.{bytes_by_file_block}
 use Rattle.sn_overlay.specs.declared.file_block.FileBlock.{FileBlock}
 use Rattle.sn_overlay.specs.declared.node.NodeChange.TheVariants.{Changed, Gone}
 use Rattle.sn_overlay.specs.declared.node.NodeState.{NodeState}
 use Rattle.sn_tree.specs.Contents.{IsContentReplanned, IsReleased}
-use Rattle.sn_tree.specs.Drafts.{Draft, grown, numbers_of}
-use Rattle.sn_tree.specs.Plans.{Holds}
+use Rattle.sn_tree.specs.Drafts.{Draft, grown}
 use Rattle.sn_tree.proofs.StepLemmas.{grown-grown, grown-none}
 use Rattle.sn_cp_nodes.specs.Built.{BuildsNode, StandsFor}
 use Rattle.sn_cp_nodes.specs.Inodes.{IsInodeFor, content_in}
-use Rattle.sn_cp_nodes.specs.Made.{ChangeThem, IsBegun, IsContentMade, IsDirectoryMade, IsFileMade, IsGone, IsInodeMade, IsMadeAs, IsTreeMade, Pair}
-use Rattle.sn_cp_nodes.specs.Parts.{Blocks, IsPartOf, Names, content_of, dirty_of, empty_tree, keep_of}
+use Rattle.sn_cp_nodes.specs.Made.{IsBegun, IsContentMade, IsDirectoryMade, IsFileMade, IsGone, IsMadeAs, IsTreeMade, Pair}
+use Rattle.sn_cp_nodes.specs.Parts.{Blocks, IsPartOf, Names, content_of, dirty_of, keep_of}
 use Rattle.sn_cp_nodes.proofs.DirectoryLemmas.{empty_reach}
 use Rattle.sn_cp_nodes.proofs.OldLemmas.{same_content}
 use Rattle.sn_cp_nodes.proofs.StandLemmas.{directory_stands, file_stands, gone_stands}
@@ -133,7 +129,7 @@ module _ (Told : Type 0) (limits : Limits) (s : Store) (file : BlockTree) (layer
           none = λ told none. absurd (never none);
           reach = λ told r same holds block some. reach_as r inode.content block _ _ new_content ((plans told).reach r (same_content s r file number same) holds block some);
           stands = λ told n ground r same holds new becoming.
-          file_stands limits n s file layer number ground state part.node names written part r same inode acls plan.added plan.released is can (made_there told) m.size m.order (plans told) holds new (becomes r new becoming);
+              file_stands limits n s file layer number ground state part.node names written part r same inode acls plan.added plan.released is can (made_there told) m.size m.order (plans told) holds new (becomes r new becoming);
         }
 
     -- what the tree reached with which a directory begins, and what was released for it
@@ -166,11 +162,11 @@ module _ (Told : Type 0) (limits : Limits) (s : Store) (file : BlockTree) (layer
           few = few_added limits inode.kind (Tree tree) (length plan.added) (length plan.dirty) (length (changed_names layer number) + length (written_blocks layer number)) version fits plan.few (omega (arith, plan.one_each, long, long_names));
           none = λ told none. absurd (never none);
           reach = λ told r same holds block some.
-          reach_as r (Tree tree) block _ _ (new_content ∙ of)
-          (omega (arith, (plan.plans told).reach r (same_tree r told same) holds block some, begun_reach told block some m.tree old_draft m.between begun, times-append block begun.released plan.released));
+              reach_as r (Tree tree) block _ _ (new_content ∙ of)
+              (omega (arith, (plan.plans told).reach r (same_tree r told same) holds block some, begun_reach told block some m.tree old_draft m.between begun, times-append block begun.released plan.released));
           stands = λ told n ground r same holds new becoming.
-          directory_stands limits n s file layer number ground state part.node names written part r same inode acls m.tree tree m.changes is of (made_there told)
-          begun.empty (λ stale. sym (there told) ∙ (begun.kept stale).0) m.are (λ once same. plan.changed told once r same holds) new (becomes r new becoming);
+              directory_stands limits n s file layer number ground state part.node names written part r same inode acls m.tree tree m.changes is of (made_there told)
+              begun.empty (λ stale. sym (there told) ∙ (begun.kept stale).0) m.are (λ once same. plan.changed told once r same holds) new (becomes r new becoming);
         }
       where
         same_begun : (r : Store) → Told → SameIn (reach_at s file number) s r → (block : ℕ) → Contains (tree_reach s m.tree) block → r block ≡ s block
@@ -219,8 +215,8 @@ module _ (Told : Type 0) (limits : Limits) (s : Store) (file : BlockTree) (layer
         few = gone_few (length (changed_names layer number) + length (written_blocks layer number));
         none = λ told none. let never : Some (record { number = number; «record» = Unused }) ≡ None = none in absurd cc;
         reach = λ told r _ _ block some.
-        let all : times block released.released ≡ times block (content_reach s old) = released.all told block some ∙ ap (λ (o : Option Inode). times block (content_reach s (content_of o))) (sym had ∙ read told) in
-        omega (arith, all);
+            let all : times block released.released ≡ times block (content_reach s old) = released.all told block some ∙ ap (λ (o : Option Inode). times block (content_reach s (content_of o))) (sym had ∙ read told) in
+            omega (arith, all);
         stands = λ told n ground r _ _ new becomes. subst (StandsFor (through layer (image s file)) number r) (sym becomes) (gone_stands limits n s file layer number ground by_close part.node r);
       })
 

@@ -1,13 +1,13 @@
 -- The bytes of a content whose data blocks are known, and the data blocks of one whose bytes are.
-use Rattle.std.proofs.Common.{◌≡◌, ◌≢◌, ⊎_elim, ℕ, zero, suc, ◌+◌, ◌-◌, ◌*◌, ◌/◌, ◌%◌, ◌<◌, ◌≤◌, ◌==◌, Bool, true, false, if◌then◌else◌, List, [], ◌∷◌, ◌++◌, flat_map, length, replicate, take, Contains, get_or, refl, sym, ap, subst, ◌∙◌, arith, length-append}
+use Rattle.std.proofs.Common.{◌≡◌, ◌≢◌, ⊎_elim, ℕ, zero, suc, ◌+◌, ◌-◌, ◌*◌, ◌/◌, ◌%◌, ◌<◌, ◌≤◌, ◌==◌, Bool, true, false, if◌then◌else◌, List, [], ◌∷◌, ◌++◌, flat_map, length, replicate, Contains, get_or, refl, sym, ap, subst, ◌∙◌, arith, length-append}
 use Rattle.std.specs.Prelude.{◌^◌}
 use Rattle.std.proofs.Math.Nat.{min-eq_left}
-use Rattle.std.proofs.lemmas.Bool.{cases_lt, eqb-true, eqb-false, ne_eqb, eq-eqb}
+use Rattle.std.proofs.lemmas.Bool.{cases_lt, eqb-false, ne_eqb}
 use Rattle.std.proofs.lemmas.List.{length-take, length-replicate, get_or-replicate, get_or-take, get_or_append_left, get_or-append_right, get_or-append-add, get_or_past, ext_get_or}
 use Rattle.std.proofs.lemmas.List.Elements.{Contains-get_or}
 use Rattle.sn_device.proofs.SectorLemmas.{Contains-first, Contains-more, Contains-cases}
 use Rattle.sn_image.specs.Contents.{bytes_of, content_reach}
-use Rattle.sn_image.specs.Sound.{ContentEnds, EndsAtSize}
+use Rattle.sn_image.specs.Sound.{ContentEnds}
 use Rattle.sn_image.proofs.ByteLemmas.{tree_long}
 use Rattle.sn_layout.specs.Bytes.{zeros}
 use Rattle.sn_layout.specs.Pointers.{levels_of}
@@ -20,7 +20,7 @@ use Rattle.sn_ondisk.proofs.TreeLemmas.{bytes_of_block, entry-level, levels_room
 use Rattle.sn_ondisk.specs.Trees.{Store, data_block, entry, named_by, pointers_at, tree_bytes, tree_reach}
 use Rattle.sn_overlay.specs.Pieces.{joined, piece}
 use Rattle.sn_overlay.proofs.PieceLemmas.{get_or-joined, get_or-piece, length-joined, length-piece}
-use Rattle.sn_tree.specs.Contents.{HasDataBlocks, HasItsForm, content_block, inline_block}
+use Rattle.sn_tree.specs.Contents.{HasDataBlocks, content_block, inline_block}
 
 -- ---- lists of one length, one after the other
 

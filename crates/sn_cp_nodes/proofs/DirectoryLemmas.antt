@@ -1,6 +1,5 @@
 -- A directory that was planned is the one that is seen through a layer.
-use Rattle.std.proofs.Common.{◌≡◌, ◌≢◌, ℕ, zero, suc, ◌+◌, ◌*◌, ◌/◌, ◌%◌, ◌<◌, ◌≤◌, ◌==◌, Bool, true, false, if◌then◌else◌, List, [], ◌∷◌, ◌++◌, length, get_or, replicate, Option, None, Some, Contains, refl, sym, ap, subst, ◌∙◌, arith, length-append}
-use Rattle.std.specs.Prelude.{slice_index, count_by}
+use Rattle.std.proofs.Common.{◌≡◌, ℕ, ◌<◌, ◌≤◌, Bool, true, false, if◌then◌else◌, List, [], get_or, replicate, Option, None, Some, Contains, refl, sym, ap, subst, ◌∙◌, arith}
 use Rattle.std.specs.FinMap as fin
 use Rattle.std.proofs.lemmas.Bool.{cases_lt}
 use Rattle.std.proofs.lemmas.List.{get_or-replicate, get_or_past, length-replicate}
@@ -18,7 +17,7 @@ use Rattle.sn_image.specs.Reach.{reach_at}
 use Rattle.sn_layout.specs.Bytes.{zeros}
 use Rattle.sn_layout.specs.Pointers.{levels_of}
 use Rattle.sn_layout.specs.declared.tree.BlockTree.{BlockTree}
-use Rattle.sn_layout_node.specs.Directory.{Link as Name, number_of}
+use Rattle.sn_layout_node.specs.Directory.{number_of}
 use Rattle.sn_layout_node.specs.declared.content.Content.{Content}
 use Rattle.sn_layout_node.specs.declared.content.Content.TheVariants.{Inline, Tree}
 use Rattle.sn_layout_node.specs.declared.inode.Inode.{Inode}
@@ -26,19 +25,12 @@ use Rattle.sn_limits.specs.declared.kind.Kind.{Kind}
 use Rattle.sn_limits.specs.declared.kind.Kind.TheVariants.{File, Directory}
 use Rattle.sn_limits.specs.declared.limits.Limits.{Limits}
 use Rattle.sn_model.specs.Tree.{link_to}
-use Rattle.sn_ondisk.specs.Counts.{times}
 use Rattle.sn_ondisk.specs.TreeLaws.{SameIn}
 use Rattle.sn_ondisk.specs.Trees.{Store, all_pointers, data_block, entry, named_by, tree_reach}
-use Rattle.sn_ondisk.proofs.TreeLemmas.{entry-level}
-use Rattle.sn_ondisk.proofs.CountLemmas.{times-append}
-use Rattle.sn_overlay.specs.Layers.{Layer, hides_names, through}
+use Rattle.sn_overlay.specs.Layers.{Layer, hides_names}
 use Rattle.sn_overlay.specs.Lists.{changed_names}
-use Rattle.sn_overlay.specs.declared.node.NodeChange.{NodeChange}
 use Rattle.sn_overlay.specs.declared.node.NodeChange.TheVariants.{Changed}
 use Rattle.sn_overlay.specs.declared.node.NodeState.{NodeState}
-use Rattle.sn_tree.specs.Drafts.{Draft, grown, numbers_of}
-use Rattle.sn_tree.specs.Plans.{Holds}
-use Rattle.sn_tree.specs.declared.new_block.NewBlock.{NewBlock}
 use Rattle.sn_cp_nodes.specs.Built.{IsGround}
 use Rattle.sn_cp_nodes.specs.Laws.{IsSeen}
 use Rattle.sn_cp_nodes.specs.Made.{ChangeThem}

@@ -1,6 +1,5 @@
 -- A file that was planned has the bytes that are seen of it through a layer.
-use Rattle.std.proofs.Common.{◌≡◌, ◌≢◌, ⊎_elim, ℕ, ◌+◌, ◌*◌, ◌/◌, ◌%◌, ◌<◌, ◌≤◌, Bool, true, false, if◌then◌else◌, List, length, get_or, Option, None, Some, Contains, refl, sym, ap, subst, ◌∙◌, arith}
-use Rattle.std.specs.Prelude.{min}
+use Rattle.std.proofs.Common.{◌≡◌, ℕ, ◌+◌, ◌*◌, ◌<◌, ◌≤◌, Bool, true, false, if◌then◌else◌, List, length, get_or, Option, None, Some, Contains, refl, sym, ap, subst, ◌∙◌, arith}
 use Rattle.std.specs.FinMap as fin
 use Rattle.std.specs.Int.{div_ceil}
 use Rattle.std.specs.Option.{unwrap_or}
@@ -13,7 +12,6 @@ use Rattle.sn_image.specs.Sound.{ContentEnds}
 use Rattle.sn_layout.specs.declared.tree.BlockTree.{BlockTree}
 use Rattle.sn_layout_node.specs.Inode.{IsContent, size_of}
 use Rattle.sn_layout_node.specs.declared.content.Content.{Content}
-use Rattle.sn_layout_node.specs.declared.inode.Inode.{Inode}
 use Rattle.sn_limits.specs.declared.kind.Kind.TheVariants.{File}
 use Rattle.sn_limits.specs.declared.limits.Limits.{Limits}
 use Rattle.sn_ondisk.specs.TreeLaws.{SameIn}
@@ -105,8 +103,7 @@ pub files_seen : (limits : Limits) (n : ℕ) (s r : Store) (file : BlockTree) (l
     → (bytes_of r content ≡ joined 4096 state.size (block_seen layer number state (layers.bytes_of (fin.get (image s file).nodes number)))) × ContentEnds r content
 files_seen limits n s r file layer number state written content added released ground node is are fits size order plans same holds =
     let same_old = same_content s r file number same in
-    let ends_at = file_ends_at limits n s file layer number ground state node is written are order in
-    (
+    let ends_at = file_ends_at limits n s file layer number ground state node is written are order in (
       file_bytes_are limits n s file layer number ground state node is written are r content (roomy_file limits content ground.version fits) size (plans.blocks r same_old holds),
       plans.ends r same_old holds (subst (λ (bytes : ℕ). EndsAt (content_block s (content_of (inode_at s file number))) bytes (keep_of state) (dirty_of written)) (sym size) ends_at),
     )

@@ -1,7 +1,7 @@
 -- A directory is made of the tree with which it begins and of its changes.
-use Rattle.std.proofs.Common.{◌≡◌, ℕ, ◌-◌, ◌*◌, ◌/◌, ◌<◌, ◌≤◌, Bool, List, length, Result, Ok, Err, IfOk, subst}
+use Rattle.std.proofs.Common.{◌≡◌, ◌-◌, ◌*◌, ◌/◌, ◌<◌, ◌≤◌, Bool, List, length, Result, Ok, Err, IfOk, subst}
 use Rattle.sn_dir_change.specs.Changes.{AreChanges, IsChanged, needed_changes}
-use Rattle.sn_dir_change.specs.Planned.{AreSpelled, HasChanged, IsDirectoryPlanned, IsSizeWith}
+use Rattle.sn_dir_change.specs.Planned.{AreSpelled, HasChanged, IsDirectoryPlanned}
 use Rattle.sn_dir_change.specs.declared.name_change.NameChange.{NameChange}
 use Rattle.sn_image.specs.Names.{names_of}
 use Rattle.sn_image.specs.Sound.{AreOnce}

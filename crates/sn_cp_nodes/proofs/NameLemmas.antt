@@ -1,5 +1,5 @@
 -- A directory whose names were changed has those that are seen of it through a layer.
-use Rattle.std.proofs.Common.{◌≡◌, ◌≢◌, ℕ, zero, suc, ◌+◌, ◌<◌, ◌==◌, Bool, true, false, cond, if◌then◌else◌, List, [], ◌∷◌, length, map, Option, None, Some, Contains, refl, sym, ap, subst, ◌∙◌, arith}
+use Rattle.std.proofs.Common.{◌≡◌, ◌≢◌, ℕ, suc, ◌==◌, Bool, true, false, cond, if◌then◌else◌, List, [], ◌∷◌, map, Option, None, Some, Contains, refl, sym, ap, subst, ◌∙◌, arith}
 use Rattle.std.specs.Prelude.{All}
 use Rattle.std.specs.FinMap as fin
 use Rattle.std.specs.FinMap.Entries.{find, where_key}
@@ -11,7 +11,6 @@ use Rattle.std.proofs.lemmas.List.Elements.{All-nil, All-cons, All-head, All-tai
 use Rattle.std.proofs.lemmas.Map.Views.{tells_apart}
 use Rattle.sn_dir_change.specs.Changes.{IsChanged}
 use Rattle.sn_dir_change.specs.declared.name_change.NameChange.{NameChange}
-use Rattle.sn_device.proofs.SectorLemmas.{Contains-more}
 use Rattle.sn_layout_node.specs.Directory.{Link as Name, number_of}
 use Rattle.sn_model.specs.Tree.{Tree, link_cmp, link_to}
 use Rattle.sn_model.specs.declared.link.Link.{Link}

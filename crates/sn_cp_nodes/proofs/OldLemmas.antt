@@ -1,5 +1,5 @@
 -- What a ground says of the inode that a number had.
-use Rattle.std.proofs.Common.{◌≡◌, ◌≢◌, ℕ, ◌≤◌, ◌<◌, ◌&&◌, Bool, true, false, List, length, Contains, Option, None, Some, refl, sym, ap, subst, ◌∙◌, arith}
+use Rattle.std.proofs.Common.{◌≡◌, ℕ, ◌≤◌, ◌&&◌, Bool, true, false, length, Contains, Option, None, Some, refl, ap, ◌∙◌, arith}
 use Rattle.std.specs.Prelude.{IsSomeAnd, nat_le, nat_lt}
 use Rattle.std.specs.FinMap as fin
 use Rattle.std.specs.Option.{option_map}
@@ -8,7 +8,7 @@ use Rattle.std.proofs.lemmas.List.Elements.{Contains-append_right}
 use Rattle.sn_image.specs.Contents.{bytes_of, content_reach}
 use Rattle.sn_image.specs.Image.{file_bytes, image, node_at, node_of}
 use Rattle.sn_image.specs.Inodes.{inode_at}
-use Rattle.sn_image.specs.Reach.{block_reach, inode_reach, reach, reach_at}
+use Rattle.sn_image.specs.Reach.{block_reach, inode_reach, reach_at}
 use Rattle.sn_image.specs.Sound.{ContentEnds, HasContent}
 use Rattle.sn_image.proofs.ListLemmas.{none_in}
 use Rattle.sn_image.proofs.PointLemmas.{node_found}

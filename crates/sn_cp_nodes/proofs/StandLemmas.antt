@@ -1,31 +1,27 @@
 -- What was built of a node stands for what is seen of it.
-use Rattle.std.proofs.Common.{◌≡◌, ◌≢◌, ℕ, ◌+◌, ◌*◌, ◌≤◌, Bool, true, false, if◌then◌else◌, List, [], ◌∷◌, ◌++◌, length, Option, None, Some, IfSome, Contains, refl, sym, ap, subst, ◌∙◌, arith}
+use Rattle.std.proofs.Common.{◌≡◌, ℕ, Bool, true, false, List, Option, None, Some, refl, sym, ap, subst, ◌∙◌, arith}
 use Rattle.std.specs.Prelude.{IsSomeAnd}
 use Rattle.std.specs.FinMap as fin
-use Rattle.std.specs.Option.{option_map}
-use Rattle.sn_image.specs.Acls.{acls_at}
-use Rattle.sn_image.specs.Contents.{bytes_of, content_reach}
 use Rattle.sn_image.specs.Image.{file_bytes, image, node_of}
 use Rattle.sn_image.specs.Inodes.{inode_at}
-use Rattle.sn_image.specs.Names.{names_by, names_of, names_under}
+use Rattle.sn_image.specs.Names.{names_by, names_of}
 use Rattle.sn_image.specs.Reach.{reach_at}
 use Rattle.sn_image.specs.Sound.{AreOnce, ContentEnds, HasContent}
 use Rattle.sn_dir_change.specs.Planned.{HasChanged}
 use Rattle.sn_dir_change.specs.declared.name_change.NameChange.{NameChange}
 use Rattle.sn_inode.specs.Changes.{HasAclsOf, IsChanged}
 use Rattle.sn_inode.specs.declared.changes.AclChange.{AclChange}
-use Rattle.sn_inode.specs.declared.changes.RecordChange.TheVariants.{Unused, Used}
+use Rattle.sn_inode.specs.declared.changes.RecordChange.TheVariants.{Used}
 use Rattle.sn_layout.specs.declared.tree.BlockTree.{BlockTree}
-use Rattle.sn_layout_node.specs.Directory.{Link as Name, number_of}
+use Rattle.sn_layout_node.specs.Directory.{number_of}
 use Rattle.sn_layout_node.specs.Inode.{IsContent, IsInode, size_of}
 use Rattle.sn_layout_node.specs.declared.content.Content.{Content}
-use Rattle.sn_layout_node.specs.declared.content.Content.TheVariants.{Inline, Tree}
+use Rattle.sn_layout_node.specs.declared.content.Content.TheVariants.{Tree}
 use Rattle.sn_layout_node.specs.declared.inode.Inode.{Inode}
 use Rattle.sn_limits.specs.declared.kind.Kind.{Kind}
 use Rattle.sn_limits.specs.declared.kind.Kind.TheVariants.{File, Directory}
 use Rattle.sn_limits.specs.declared.limits.Limits.{Limits}
 use Rattle.sn_model.specs.Changes.{node_with}
-use Rattle.sn_model.specs.NameTree.{HasKind}
 use Rattle.sn_model.specs.Tree.{Node, Tree as NameTree, link_count, link_to, names_for}
 use Rattle.sn_ondisk.specs.TreeLaws.{SameIn}
 use Rattle.sn_ondisk.specs.Trees.{Store, tree_reach}

@@ -1,5 +1,5 @@
 -- What a layer has of one node, and what the inode file has of it.
-use Rattle.std.specs.Prelude.{◌≡◌, ℕ, ◌*◌, ◌/◌, ◌+◌, if◌then◌else◌, List, [], map, replicate, Option, None, Some}
+use Rattle.std.specs.Prelude.{◌≡◌, ℕ, if◌then◌else◌, List, [], map, replicate, Option, None, Some}
 use Rattle.std.specs.Int.{div_ceil}
 use Rattle.std.specs.FinMap as fin
 use Rattle.std.specs.Global.{Global}

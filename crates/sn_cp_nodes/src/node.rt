@@ -14,7 +14,7 @@ use crate::inodes::inode_for;
 use sn_block::Blocks;
 use sn_device::Device;
 use sn_inode::{InodeChange, RecordChange, is_change};
-use sn_layout_node::{Content, Inode, InlineBytes};
+use sn_layout_node::{Content, InlineBytes, Inode};
 use sn_limits::{Kind, Limits};
 use sn_model::Link;
 use sn_overlay::{Block, FileBlock, NodeState};

@@ -1,5 +1,5 @@
-use Rattle.std.proofs.Common.{◌≡◌, IsTrue, refl, sym, ap, subst, ◌∙◌}
-use Rattle.sn_device.specs.Disk.{Disk, reads}
+use Rattle.std.proofs.Common.{IsTrue, refl, sym, subst}
+use Rattle.sn_device.specs.Disk.{reads}
 use Rattle.sn_block.specs.Lending.{device_of}
 use Rattle.sn_layout_node.specs.declared.content.Content.{Content}
 use Rattle.sn_ondisk.specs.Trees.{store_of}
