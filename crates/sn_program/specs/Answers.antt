@@ -18,6 +18,9 @@ use Rattle.sn_model.specs.Machine.{State, Running, Anything, Run}
 use Rattle.sn_model.specs.World.{World, new_world}
 use Rattle.sn_held.specs.Images.{IsLiveImage}
 use Rattle.sn_mkfs.specs.Writing.{format_writes}
+use Rattle.sn_command.specs.Tasks.{AsksFor}
+use Rattle.sn_command.specs.declared.command.Task.{Task}
+use Rattle.sn_command.specs.declared.command.Task.TheVariants as task
 use Rattle.sn_replies.specs.Replies.{reply_line}
 use Rattle.sn_run.specs.Causes.{HasCauses}
 use Rattle.sn_run.specs.Runs.{RunsTo}
@@ -102,3 +105,13 @@ HasBegun known old new = Keeps old new ⊎ ((script : List ℕ) × IsOf known sc
 -- a fault of the run has its cause in that of what a reader had left
 abbrev pub HasItsRunOf : Option (List ℕ) → Fault → Option (List ℕ) → Option (List ℕ) → Type 0
 HasItsRunOf known why old new = (script : List ℕ) × IsOf known script × HasItsRun why script old new
+
+-- What a task leaves on the output: a run the answer to a script, and the making of an image nothing.
+abbrev pub Leaves : Task → Option (List ℕ) → Option (List ℕ) → Type 0
+Leaves (task.Run image script) old new = HasAnswered None old new
+Leaves (task.Mkfs image blocks) old new = Keeps old new
+Leaves (task.StopAt cut how image script out) old new = ⊥
+
+-- what the words ask for was done
+abbrev pub IsDone : List (List ℕ) → Option (List ℕ) → Option (List ℕ) → Type 0
+IsDone words old new = (asked : Task) × AsksFor words asked × Leaves asked old new

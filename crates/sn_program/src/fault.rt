@@ -3,6 +3,7 @@ ghost use Rattle.sn_program.specs.Fault.{status_of, fault_of, fault_of_words, Is
 ghost use Rattle.sn_program.specs.declared.fault.Fault.TheVariants as fault;
 
 use sn_command::WordsFault;
+use sn_mkfs::MkfsFault;
 use sn_model::{End, MountFault};
 use sn_script::ScriptFault;
 use std::alloc::AllocError;
@@ -26,6 +27,9 @@ pub enum Fault {
     /// There was no mount.
     #[error("{0}")]
     Mount(MountFault),
+    /// The image wasn't formatted.
+    #[error("{0}")]
+    Format(MkfsFault),
     /// The mount has stopped, or its end was refused.
     #[error("stopped")]
     Stopped,

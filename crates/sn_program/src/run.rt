@@ -12,17 +12,13 @@ ghost use Rattle.sn_program.specs.ScriptDisks.{disk_under, status_under};
 ghost use Rattle.sn_program.specs.declared.fault.Fault.TheVariants as fault;
 
 use crate::disk::ScriptDisk;
-use crate::fault::{Fault, tell};
+use crate::fault::Fault;
 use crate::output::write_replies;
-use sn_command::{Task, parse};
 use sn_mkfs::mkfs;
 use sn_run::{Ran, run};
 use sn_script::{SCRIPT_MAX, read_script};
 use std::alloc::Global;
-use std::convert::AsStr;
-use std::fs;
 use std::io::{Read, Write};
-use std::rt::Files;
 
 /// How many sectors the device in memory has that a script runs on.
 const SECTORS: u64 = 2_048;
@@ -96,41 +92,4 @@ pub fn answer_from<R: Read + Drop, W: Write>(
 {
     let bytes = read_bytes(alloc, reader)?;
     answer(alloc, bytes.as_slice(), out)
-}
-
-fn execute<R: Files + AllocGlobal, W: Write, S: AsStr>(
-    rt: &R,
-    words: &[S],
-    out: &mut W,
-) -> Result<(), Fault>
-    ensures answered { OnOk result (HasAnswered None (W.contents out.old) (W.contents out.new)) }
-    ensures front { OnErr result (HasBegun None (W.contents out.old) (W.contents out.new)) }
-    ensures words { IsErrOf result fault.Usage → out.new ≡ out.old }
-{
-    match parse(rt.alloc(), words)? {
-        Task::Run { script, .. } => answer_from(rt.alloc(), fs::open(rt, script)?, out),
-        // These take the image of a file, on which nothing is run yet.
-        Task::Mkfs { .. } | Task::StopAt { .. } => Err(Fault::Usage),
-    }
-}
-
-/// Does what the words ask for, and gives the exit status: 0 where it was done, 2 for words that are no
-/// command, else 1. A fault is told by a line on standard error.
-pub fn program<R: Files + AllocGlobal, W: Write, E: Write, S: AsStr>(
-    rt: &R,
-    words: &[S],
-    out: &mut W,
-    err: &mut E,
-) -> u8
-    // What was written is an answer to some script, or the front of one: which bytes the file gave can't be said here.
-    ensures answered { result ≡ 0 → HasAnswered None (W.contents out.old) (W.contents out.new) }
-    ensures front { result ≢ 0 → HasBegun None (W.contents out.old) (W.contents out.new) }
-    ensures words { result ≡ 2 → out.new ≡ out.old }
-    ensures quiet { result ≡ 0 → err.new ≡ err.old }
-    ensures status { result ≤ 2 }
-{
-    match execute(rt, words, out) {
-        Ok(()) => 0,
-        Err(fault) => tell(fault, err),
-    }
 }

@@ -1,12 +1,13 @@
 //! How faults are told: the line of each, and outputs that take nothing.
 
+use sn_mkfs::MkfsFault;
 use sn_model::{Damage, MountFault};
 use sn_program::{Fault, program, tell};
 use sn_script::ScriptFault;
 use std::io::{ErrorKind, Write};
 use std::{fs, io};
 
-const FAULTS: [(Fault, &str, u8); 8] = [
+const FAULTS: [(Fault, &str, u8); 9] = [
     (Fault::Usage, "snapfs: usage\n", 2),
     (
         Fault::Script(ScriptFault::Line(7)),
@@ -25,6 +26,7 @@ const FAULTS: [(Fault, &str, u8); 8] = [
         "snapfs: M4 C2 6\n",
         1,
     ),
+    (Fault::Format(MkfsFault::Device), "snapfs: K3\n", 1),
     (Fault::Stopped, "snapfs: stopped\n", 1),
 ];
 

@@ -1,6 +1,6 @@
 //! The tests of the program and of runs: `sn_program::program` on the examples of the repository, on rows of calls with
-//! their replies, on words of the command line, and on outputs that take nothing; and `sn_run::run` on lists of events
-//! with restarts among them.
+//! their replies, on words of the command line, on outputs that take nothing, and on images that it makes; and
+//! `sn_run::run` on lists of events with restarts among them.
 //!
 //! It runs in the folder `data/`, where `examples` is a copy of the repository's folder of that name. Each part prints
 //! what isn't as the files there say, and how many cases it had; the status is 1 where one was wrong. `runs.txt` is one
@@ -14,6 +14,7 @@ mod events;
 mod examples;
 mod faults;
 mod files;
+mod images;
 mod refused;
 mod rows;
 mod torn;
@@ -39,6 +40,7 @@ fn wrong_in_program(rt: &HostRuntime) -> std::io::Result<u64> {
 fn main(rt: HostRuntime) -> Result<()> {
     let wrong = wrong_in_program(&rt)?;
     let mut report = Report::new(&rt)?;
+    images::run(&mut report)?;
     report.script("runs.txt", events::replies)?;
     refused::run(&mut report)?;
     report.script("torn.txt", torn::torn)?;
