@@ -16,11 +16,11 @@ use sn_mkfs::{MkfsFault, mkfs};
 use std::convert::AsStr;
 use std::fs;
 use std::fs::{Files, OpenFile};
-use std::io::Write;
+use std::io::{Read, Write};
 use std::os::unix::fs::FileExt;
 
 /// Makes an image of so many blocks, in the place of what the file at this path has. K1 comes before the file is made.
-fn make_image<F: FileExt + OpenFile + LockFile + Drop, R: Files<File = F> + AllocGlobal>(
+fn make_image<F: FileExt + OpenFile + LockFile + Read + Drop, R: Files<File = F> + AllocGlobal>(
     rt: &R,
     image: &str,
     blocks: u32,
@@ -39,7 +39,7 @@ fn make_image<F: FileExt + OpenFile + LockFile + Drop, R: Files<File = F> + Allo
 }
 
 fn execute<
-    F: FileExt + OpenFile + LockFile + Drop,
+    F: FileExt + OpenFile + LockFile + Read + Drop,
     R: Files<File = F> + AllocGlobal,
     W: Write,
     S: AsStr,
@@ -63,7 +63,7 @@ fn execute<
 /// Does what the words ask for, and gives the exit status: 0 where it was done, 2 for words that are no
 /// command, else 1. A fault is told by a line on standard error.
 pub fn program<
-    F: FileExt + OpenFile + LockFile + Drop,
+    F: FileExt + OpenFile + LockFile + Read + Drop,
     R: Files<File = F> + AllocGlobal,
     W: Write,
     E: Write,
