@@ -43,11 +43,7 @@ fn execute<
     R: Files<File = F> + AllocGlobal,
     W: Write,
     S: AsStr,
->(
-    rt: &R,
-    words: &[S],
-    out: &mut W,
-) -> Result<(), Fault>
+>(rt: &R, words: &[S], out: &mut W) -> Result<(), Fault>
     ensures done { OnOk result (IsDone (map S.text words.now) (W.contents out.old) (W.contents out.new)) }
     ensures front { OnErr result (HasBegun None (W.contents out.old) (W.contents out.new)) }
     ensures words { IsErrOf result fault.Usage → out.new ≡ out.old }
@@ -68,12 +64,7 @@ pub fn program<
     W: Write,
     E: Write,
     S: AsStr,
->(
-    rt: &R,
-    words: &[S],
-    out: &mut W,
-    err: &mut E,
-) -> u8
+>(rt: &R, words: &[S], out: &mut W, err: &mut E) -> u8
     // Of a run, what was written is an answer to some script, or the front of one: which bytes the file gave can't be
     // said here. Where an image was made, nothing was written: nor can be said what its file holds.
     ensures done { result ≡ 0 → IsDone (map S.text words.now) (W.contents out.old) (W.contents out.new) }

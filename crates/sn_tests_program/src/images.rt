@@ -22,7 +22,12 @@ fn is_file_of(rt: &HostRuntime, device: &MemDevice) -> Result<bool> {
     let sectors = device.contents();
     let parts = bytes.as_slice().chunks_exact(SECTOR_SIZE);
     let is_long = bytes.len() == SECTOR_SIZE.saturating_mul(sectors.len());
-    Ok(is_long && parts.zip(sectors.iter()).all(|(part, sector)| part == sector.as_slice()))
+    Ok(
+        is_long
+            && parts
+                .zip(sectors.iter())
+                .all(|(part, sector)| part == sector.as_slice()),
+    )
 }
 
 /// Whether it is refused while another has it, and what it has stays.

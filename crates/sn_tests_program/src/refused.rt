@@ -2,8 +2,8 @@
 
 use crate::events::events_of;
 use anyhow::{Result, bail};
-use sn_device::MemDevice;
 use sn_model::{Call, End, Errno, Event, MountFault, Reply};
+use sn_mounted::new_device;
 use sn_run::Ran;
 use sn_table::{Report, Tally};
 use std::alloc::Global;

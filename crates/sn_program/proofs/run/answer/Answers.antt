@@ -60,7 +60,7 @@ pub returns-in_err-events-clause-cause : goal.returns-in_err-events-clause-cause
 returns-in_err-events-clause-cause g c = run_cause c.from_residual.result (fault.Script c.in_err-events.field-0.0) c.args.script.now (g.W.Write.contents c.args.out.now) (g.W.Write.contents c.args.out.now) c.from_residual.ensures.1 tt
 
 pub returns-in_err-device-clause-cause : goal.returns-in_err-device-clause-cause
-returns-in_err-device-clause-cause g c = 
+returns-in_err-device-clause-cause g c =
     run_cause c.from_residual-in_err-device.result c.in_err-device.field-0.0 c.args.script.now (g.W.Write.contents c.args.out.now) (g.W.Write.contents c.args.out.now) c.from_residual-in_err-device.ensures.1
     (subst (λ (f : Fault). HasItsRun f c.args.script.now (g.W.Write.contents c.args.out.now) (g.W.Write.contents c.args.out.now)) (sym c.in_err-device.ensures.memory) tt)
 
