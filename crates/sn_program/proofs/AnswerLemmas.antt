@@ -1,5 +1,5 @@
 -- From what the layers say to what the program's text is.
-use Rattle.std.proofs.Common.{◌≡◌, ◌≤◌, ◌<◌, ◌+◌, ◌-◌, ◌^◌, ◌||◌, ◌∙◌, ℕ, nat_le, true, IsTrue, List, [], length, Result, Ok, Err, take, inl, inr, refl, sym, ap, subst, arith}
+use Rattle.std.proofs.Common.{◌≡◌, ◌≤◌, ◌+◌, ◌-◌, ◌^◌, ◌||◌, ◌∙◌, ℕ, nat_le, true, IsTrue, List, [], length, Result, Ok, Err, take, inl, inr, refl, sym, ap, subst, arith}
 use Rattle.std.proofs.lemmas.Bool.{leb-true, or_cases}
 use Rattle.std.specs.Prelude.{◌⊎◌, OnOk, OnErr, IfErr, IsErrAnd}
 use Rattle.std.specs.declared.option.Option.{Option}
@@ -24,7 +24,7 @@ use Rattle.sn_run.specs.Runs.{RunsTo}
 use Rattle.sn_run.proofs.CauseLemmas.{causes}
 use Rattle.sn_run.proofs.RestartLemmas.{found_root, no_damage}
 use Rattle.sn_model.specs.Machine.{State, Running, Holds, Anything, Run, WholeRun}
-use Rattle.sn_model.specs.World.{World, new_world}
+use Rattle.sn_model.specs.World.{new_world}
 use Rattle.sn_replies.specs.Replies.{reply_line}
 use Rattle.sn_script.specs.Scripts.{IsScript}
 use Rattle.sn_program.specs.Answers.{AppendsFront, BeginsToAnswer, HasItsRun, IsAnswer, MountFails, RunsInMemory, new_status}

@@ -15,7 +15,7 @@ use Rattle.sn_model.specs.declared.mount.MountFault.{MountFault}
 use Rattle.sn_model.specs.declared.mount.MountFault.TheVariants as mount
 use Rattle.sn_model.specs.declared.reply.Reply.{Reply}
 use Rattle.sn_model.specs.Machine.{State, Running, Anything, Run}
-use Rattle.sn_model.specs.World.{World, new_world}
+use Rattle.sn_model.specs.World.{new_world}
 use Rattle.sn_held.specs.Images.{IsLiveImage}
 use Rattle.sn_mkfs.specs.Writing.{format_writes}
 use Rattle.sn_command.specs.Tasks.{AsksFor}

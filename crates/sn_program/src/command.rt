@@ -1,11 +1,9 @@
 //! What the words of the command line ask for, done.
-ghost use Rattle.std.specs.Prelude.{◌≡◌, ◌≢◌, ◌≤◌, ◌↔◌, map, OnOk, OnErr, IfErr, IsErrOf};
+ghost use Rattle.std.specs.Prelude.{◌≡◌, ◌≢◌, ◌≤◌, ◌↔◌, None, map, OnOk, OnErr, IfErr, IsErrOf};
 ghost use Rattle.sn_layout.specs.Places.{IsDiskSize};
-ghost use Rattle.sn_command.specs.Tasks.{AsksFor};
 ghost use Rattle.sn_mkfs.specs.declared.fault.MkfsFault.TheVariants as mkfs_fault;
 ghost use Rattle.sn_program.specs.Answers.{HasBegun, IsDone};
 ghost use Rattle.sn_program.specs.declared.fault.Fault.TheVariants as fault;
-ghost use Rattle.std.specs.Prelude.{None};
 
 use crate::fault::{Fault, tell};
 use crate::run::answer_from;

@@ -13,11 +13,11 @@ use Rattle.sn_model.specs.declared.outcome.Outcome.{Outcome}
 use Rattle.sn_model.specs.declared.reply.Refusal.{Refusal}
 use Rattle.sn_model.specs.declared.reply.Reply.{Reply}
 use Rattle.sn_model.specs.Machine as machine
-use Rattle.sn_model.specs.Machine.{State, Running, Stopped, Mishap, Anything, CallStep, CutRun, EventStep, IsAnswered, IsCutOff, IsRefused, IsStopped, IsUnmounted, Left, LeftAfter, LeftIn, MountStep, PointFails, PointStep, RestartStep, Run, RunBy, StepOf, StoppedStep}
+use Rattle.sn_model.specs.Machine.{State, Running, Stopped, Mishap, Anything, CallStep, CutRun, EventStep, IsAnswered, IsCutOff, IsRefused, IsStopped, Left, LeftIn, MountStep, PointFails, RestartStep, Run, RunBy, StepOf}
 use Rattle.sn_model.specs.Settling.{settle, settled}
-use Rattle.sn_model.specs.Steps.{Becomes, with_live}
+use Rattle.sn_model.specs.Steps.{Becomes}
 use Rattle.sn_model.specs.Tree.{Tree}
-use Rattle.sn_model.specs.World.{World, new_world}
+use Rattle.sn_model.specs.World.{World}
 use Rattle.sn_model.proofs.ListLemmas.{covers_itself}
 use Rattle.sn_model.proofs.SettlingLemmas.{dropping_kept, settle_alike}
 use Rattle.sn_ondisk.specs.Trees.{store_of}

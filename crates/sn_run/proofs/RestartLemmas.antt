@@ -10,7 +10,6 @@ use Rattle.sn_block.specs.Counts.{IsLater, called}
 use Rattle.sn_block.specs.Effects.{Nowhere}
 use Rattle.sn_block.proofs.CountLemmas.{later-is, later-same}
 use Rattle.sn_device.specs.declared.status.Status.{Status}
-use Rattle.sn_limits.specs.Versions.{version_1}
 use Rattle.sn_model.specs.declared.call.Event.TheVariants as event
 use Rattle.sn_model.specs.declared.mount.Damage.{Damage}
 use Rattle.sn_model.specs.declared.mount.Damage.TheVariants as damage
@@ -21,18 +20,18 @@ use Rattle.sn_model.specs.declared.reply.Progress.TheVariants as progress
 use Rattle.sn_model.specs.declared.reply.Reply.TheVariants as answer
 use Rattle.sn_model.specs.Machine.{State, Running, Stopped, Mishap, Memory, Read, mount_fault_of, refused}
 use Rattle.sn_model.specs.Settling.{settle}
-use Rattle.sn_model.specs.World.{World, new_world}
+use Rattle.sn_model.specs.World.{World}
 use Rattle.sn_core.proofs.NumberLemmas.{step_numbers}
 use Rattle.sn_core.proofs.RestartLemmas.{restart_numbers}
 use Rattle.sn_held.specs.Held.{Held}
 use Rattle.sn_held.specs.Images.{IsImage, IsLiveImage}
 use Rattle.sn_held.specs.Moments.{LastsOver, ShowsState}
-use Rattle.sn_held.proofs.EventLemmas.{images_one, live_show, stays_lasts}
+use Rattle.sn_held.proofs.EventLemmas.{live_show, stays_lasts}
 use Rattle.sn_mount.specs.Failing.{CostsAtMost, IsSoOf}
 use Rattle.sn_mount.specs.Recovering.{LeavesTheWorld, WritesAtFault}
 use Rattle.sn_mount.specs.Refusing.{Refuses, StandsAt}
 use Rattle.sn_fs.specs.Answers.{Answers, AnswersFrom, MayMeet}
-use Rattle.sn_fs.specs.Mounting.{IsLeft, Mounts, MountsWorld, WritesToMount}
+use Rattle.sn_fs.specs.Mounting.{IsLeft, Mounts, WritesToMount}
 use Rattle.sn_run.specs.Runs.{LacksRoot}
 use Rattle.sn_run.proofs.CutLemmas.{found_settled}
 use Rattle.sn_run.proofs.UnfitLemmas.{lacks_none}

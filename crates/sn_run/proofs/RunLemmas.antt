@@ -1,7 +1,7 @@
 -- Whole runs.
-use Rattle.std.proofs.Common.{◌≡◌, ◌⊎◌, inl, inr, ◌≤◌, Bool, true, false, length, List, [], ◌∷◌, ◌++◌, None, refl, sym, ap, subst, ◌∙◌}
+use Rattle.std.proofs.Common.{◌≡◌, ◌⊎◌, inl, inr, Bool, true, false, length, List, [], ◌∷◌, ◌++◌, None, refl, sym, ap, subst}
 use Rattle.std.proofs.lemmas.Bool.{true≢false}
-use Rattle.sn_device.specs.Sectors.{AreSectors, Contents}
+use Rattle.sn_device.specs.Sectors.{Contents}
 use Rattle.sn_device.specs.Disk.{Disk, reads}
 use Rattle.sn_device.specs.Crash.{Touches}
 use Rattle.sn_device.specs.declared.status.Status.{Status}
@@ -24,12 +24,10 @@ use Rattle.sn_model.specs.Tests.{plain}
 use Rattle.sn_model.specs.World.{World, new_world}
 use Rattle.sn_log.specs.Places.{first_of}
 use Rattle.sn_core.proofs.StepLemmas.{run_more}
-use Rattle.sn_sound.specs.Disks.{IsFormatted}
 use Rattle.sn_held.specs.Held.{Held, Means}
 use Rattle.sn_held.specs.Images.{IsLiveImage}
 use Rattle.sn_held.proofs.EventLemmas.{images_one, means_show}
-use Rattle.sn_mount.specs.Failing.{IsSoOf}
-use Rattle.sn_mount.specs.Recovering.{LeavesTheWorld, TouchesOneGate}
+use Rattle.sn_mount.specs.Recovering.{LeavesTheWorld}
 use Rattle.sn_fs.specs.Answers.{Answers}
 use Rattle.sn_fs.specs.Mounting.{Mounts}
 use Rattle.sn_run.specs.Laws.{LivesOn}

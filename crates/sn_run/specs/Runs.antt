@@ -1,7 +1,7 @@
 -- Runs over a device, and what a crash leaves of them.
 use Rattle.std.specs.Prelude.{◌≡◌, ◌⊎◌, ℕ, Bool, false, List, [], ◌∷◌, ◌++◌, None}
 use Rattle.sn_device.specs.Sectors.{Contents}
-use Rattle.sn_device.specs.Disk.{Disk, Always, reads}
+use Rattle.sn_device.specs.Disk.{Disk, Always}
 use Rattle.sn_device.specs.Crash.{LeavesOnly, Touches}
 use Rattle.sn_device.specs.declared.status.Status.{Status}
 use Rattle.sn_block.specs.Counts.{IsLater, called}

@@ -1,4 +1,4 @@
-use Rattle.std.proofs.Common.{Bool, ap, sym, subst, ◌∙◌}
+use Rattle.std.proofs.Common.{Bool, sym, subst, ◌∙◌}
 use Rattle.sn_model.specs.declared.mount.End.{End}
 use Rattle.sn_model.specs.declared.mount.End.TheVariants.{Mount}
 use Rattle.sn_fs.specs.Filesystem.{has_stopped, held}
