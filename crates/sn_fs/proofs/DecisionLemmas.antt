@@ -11,6 +11,7 @@ use Rattle.sn_model.specs.declared.outcome.Pending.{Pending}
 use Rattle.sn_model.specs.declared.outcome.Pending.TheVariants.{Nothing, Makes, Does}
 use Rattle.sn_model.specs.declared.reply.Refusal.{Refusal}
 use Rattle.sn_model.specs.Changes.{apply}
+use Rattle.sn_model.specs.Charges.{charge_for, charge_of}
 use Rattle.sn_model.specs.Steps.{IsNumberFor, changed, decision}
 use Rattle.sn_model.specs.Tree.{Tree}
 use Rattle.sn_model.specs.World.{World}
@@ -49,6 +50,18 @@ module _ (w : World) (kept : ℕ → Bool) (session : ℕ) (c : Call) (o : Outco
   -- It is charged for.
   pub is_charged : 0 < o.charge
   is_charged = when_picked w.live kept o.change change (picked_is w.live kept o.change o.caller picked change chosen is) ((decided_is version_1 w session c o decided).charged (lit< tt))
+
+-- a change that is pending is charged alike, whatever number a new node gets
+picked_charge : (tree : Tree) (kept : ℕ → Bool) (pending : Pending) (change : Change) → IsPicked tree kept pending change → charge_of version_1 tree pending ≡ charge_for version_1 tree change
+picked_charge tree kept Nothing change is = absurd is
+picked_charge tree kept (Makes directory name kind o) change is = sym (ap (charge_for version_1 tree) is.2)
+picked_charge tree kept (Does c) change is = sym (ap (charge_for version_1 tree) is)
+
+-- The charge of a call is that of the change that it comes to.
+pub charge_of_change : (w : World) (kept : ℕ → Bool) (session : ℕ) (c : Call) (o : Outcome) (picked : Chosen) (change : Change) → decision version_1 w session c ≡ Ok o → Chooses w.live kept o.change o.caller picked → picked.change ≡ Some change
+    → o.charge ≡ charge_for version_1 w.live change
+charge_of_change w kept session c o picked change decided chosen is =
+    (decided_is version_1 w session c o decided).pays ∙ picked_charge w.live kept o.change change (picked_is w.live kept o.change o.caller picked change chosen is)
 
 -- ---- calls that come to no change
 

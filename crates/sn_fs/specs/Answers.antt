@@ -1,7 +1,7 @@
 -- What an event leads a mounted file system to, on its disk too.
-use Rattle.std.specs.Prelude.{◌≡◌, ◌⊎◌, ℕ, ◌+◌, ◌<◌, Bool, false, Option, None, Some, Ok}
+use Rattle.std.specs.Prelude.{◌≡◌, ◌⊎◌, ℕ, ◌+◌, ◌-◌, ◌<◌, Bool, false, true, Option, None, Some, Ok}
 use Rattle.sn_device.specs.Crash.{Touches}
-use Rattle.sn_device.specs.Disk.{Disk}
+use Rattle.sn_device.specs.Disk.{Disk, reads}
 use Rattle.sn_device.specs.declared.status.Status.{Status}
 use Rattle.sn_limits.specs.Versions.{version_1}
 use Rattle.sn_model.specs.declared.call.Call.{Call}
@@ -25,6 +25,9 @@ use Rattle.sn_core.specs.declared.choosing.Chosen.{Chosen}
 use Rattle.sn_core.specs.Served.{Chooses}
 use Rattle.sn_held.specs.Held.{Held, Means}
 use Rattle.sn_held.specs.Moments.{LastsOver}
+use Rattle.sn_held.specs.Room.{HasRoomOf}
+use Rattle.sn_overlay.specs.Needs.{nameless_in}
+use Rattle.sn_room.specs.Rooms.{RoomCounts, dropping, fits, logged}
 use Rattle.sn_mount.specs.Failing.{CostsAtMost, HasFailed, HasNotFailed}
 use Rattle.sn_mount.specs.Recovering.{LeavesTheWorld}
 use Rattle.sn_fs.specs.Mounting.{WritesToMount}
@@ -54,12 +57,22 @@ pub record HasNoRoom (at : LogPosition) (world : World) (kept : ℕ → Bool) (s
   pub is : IsChangeOf world kept session c change
   pub none : HasRoom at change → ⊥
 
+-- whether a call fits that comes to this, on top of what was logged
+abbrev pub is_fitting : Held → Outcome → Bool
+is_fitting h o = fits version_1 h.room (nameless_in h.world.live) o
+
+-- the charge of a call's change, with those from before it, is more than is free
+pub record DoesNotFit (h : Held) (session : ℕ) (c : Call) : Type 0 where
+  pub change : Change
+  pub is : IsChangeOf h.world h.kept session c change
+  pub over : is_fitting h is.outcome ≡ false
+
 abbrev pub LacksRoom : Held → Event → Type 0
-LacksRoom h (event.Call session c) = HasNoRoom h.at h.world h.kept session c
+LacksRoom h (event.Call session c) = HasNoRoom h.at h.world h.kept session c ⊎ DoesNotFit h session c
 LacksRoom h event.Step = ⊥
 LacksRoom h event.Restart = ⊥
 
--- what an event may meet with: EIO only where the device failed, ENOSPC only where the record has no room behind the event's point, and nothing but EIO where the device failed
+-- what an event may meet with: EIO only where the device failed, ENOSPC only where the record has no room behind the event's point or its charge isn't free, and nothing but EIO where the device failed
 abbrev pub MayMeet : Held → Held → Event → Option Mishap → Status → Type 0
 MayMeet old mid e None new = HasNotFailed old.status new
 MayMeet old mid e (Some Memory) new = HasNotFailed old.status new
@@ -83,11 +96,12 @@ writes_of change = body_sectors (payload_bytes change) + 2
 abbrev pub HasNoChange : World → (ℕ → Bool) → ℕ → Call → Type 0
 HasNoChange world kept session c = (change : Change) → IsChangeOf world kept session c change → ⊥
 
--- The change that a call comes to was appended to the log, where it had room: with the writes and the two syncs of its record.
+-- The change that a call comes to was appended to the log, where it had room and fits: with the writes and the two syncs of its record.
 pub record IsRecorded (h : Held) (session : ℕ) (c : Call) (new : Status) : Type 0 where
   pub change : Change
   pub is : IsChangeOf h.world h.kept session c change
   pub room : HasRoom h.at change
+  pub fits : is_fitting h is.outcome ≡ true
   pub costs : new ≡ called (writes_of change) 2 h.status
 
 -- its append was cut off
@@ -95,6 +109,7 @@ pub record IsTried (h : Held) (session : ℕ) (c : Call) (new : Status) : Type 0
   pub change : Change
   pub is : IsChangeOf h.world h.kept session c change
   pub room : HasRoom h.at change
+  pub fits : is_fitting h is.outcome ≡ true
   pub costs : CostsAtMost (writes_of change) 2 h.status new
 
 -- a call that is refused has made a point at most
@@ -133,6 +148,26 @@ Writes (Stopped before after) h (event.Call session c) old new = Touches Nowhere
 Writes (Stopped before after) h event.Step old new = Touches Nowhere old new
 Writes (Stopped before after) h event.Restart old new = WritesToMount h.status.sectors old new
 
+-- a call that comes to a change is charged for it
+pub record IsChargedFor (h : Held) (session : ℕ) (c : Call) (room : RoomCounts) : Type 0 where
+  pub change : Change
+  pub is : IsChangeOf h.world h.kept session c change
+  pub charged : room ≡ logged is.outcome.charge h.room
+
+-- One that comes to none charges nothing, and the files without names that it drops are counted. One that is refused leaves the room as it is.
+abbrev pub RoomOfCall : Held → ℕ → Call → Option Mishap → World → RoomCounts → Type 0
+RoomOfCall h session c None next room = (HasNoChange h.world h.kept session c × (room ≡ dropping (nameless_in h.world.live - nameless_in next.live) h.room)) ⊎ IsChargedFor h session c room
+RoomOfCall h session c (Some m) next room = room ≡ h.room
+
+-- What an event leaves of the room: a mount keeps that of the image that it finds.
+abbrev pub RoomIn : Event → Held → Disk → Option Mishap → State → RoomCounts → Type 0
+RoomIn (event.Call session c) mid old met (Running next) room = RoomOfCall mid session c met next room
+RoomIn (event.Call session c) mid old met (Stopped before after) room = Unit {0}
+RoomIn event.Step mid old met (Running next) room = room ≡ mid.room
+RoomIn event.Step mid old met (Stopped before after) room = Unit {0}
+RoomIn event.Restart mid old met (Running next) room = HasRoomOf (reads old) next room
+RoomIn event.Restart mid old met (Stopped before after) room = Unit {0}
+
 -- a step that says that there is more has written something
 abbrev pub Works : Event → Reply → Status → Status → Type 0
 Works event.Step reply old new = reply ≡ answer.Progress progress.More → old.writes < new.writes
@@ -146,7 +181,7 @@ Begins event.Restart (Stopped before after) old new = Unit {0}
 Begins (event.Call session c) next old new = Unit {0}
 Begins event.Step next old new = Unit {0}
 
--- The event is a step of the machine, from this state to the next: a crash at any moment of its course leaves one of the two, and once it is answered the next alone. The number of a new node, room and costs are those behind the point that the event makes first, where it makes one.
+-- The event is a step of the machine, from this state to the next: a crash at any moment of its course leaves one of the two, and once it is answered the next alone. The number of a new node, room, charges and costs are those behind the point that the event makes first, where it makes one.
 pub record AnswersFrom (s : State) (e : Event) (reply : Reply) (old new : Held) (has_stopped : Bool) : Type 0 where
   pub met : Option Mishap
   pub mid : Held
@@ -159,6 +194,7 @@ pub record AnswersFrom (s : State) (e : Event) (reply : Reply) (old new : Held) 
   pub writes : Writes s old e old.disk new.disk
   pub begins : Begins e next old.disk new.disk
   pub numbers : NumbersIn e s mid.kept next new.kept
+  pub room : RoomIn e mid old.disk met next new.room
   pub later : IsLater old.status new.status
   pub costs : Costs s old mid e met new.status
   pub works : Works e reply old.status new.status

@@ -7,11 +7,13 @@ use Rattle.sn_model.specs.declared.mount.MountFault.{MountFault}
 use Rattle.sn_model.specs.Machine.{Running}
 use Rattle.sn_model.specs.World.{World}
 use Rattle.sn_held.specs.Held.{Held, Means}
+use Rattle.sn_held.specs.Room.{HasRoomOf}
 use Rattle.sn_mount.specs.Recovering.{KeepsTheWorld, LeavesTheWorld, OfImage, TouchesOneGate, WritesAtFault}
 use Rattle.sn_mount.specs.Refusing.{Refuses}
 
--- the world that the disk was an image of runs, and at no moment a crash would have left another
+-- the world that the disk was an image of runs, with the room that the image has, and at no moment a crash would have left another
 pub record MountsWorld (old : Disk) (h : Held) (has_stopped : Bool) (world : World) : Type 0 where
+  pub room : HasRoomOf (reads old) world h.room
   pub means : Means h has_stopped (Running world)
   pub leaves : LeavesTheWorld old h.disk world
 

@@ -13,8 +13,8 @@ use sn_model::MountFault;
 use sn_mount::{Recovered, recover};
 use std::alloc::Global;
 
-/// Mounts a device: syncs it, reads the newest root's tree, replays the log into it, drops the files that no name
-/// stands for, and clears the place where the log goes on. `NotFormatted`, `NoRoot`, `Version` and `Damaged` come in
+/// Mounts a device: syncs it, reads the newest root's tree, replays the log into it, looks whether what that is charged
+/// is free, drops the files that no name stands for, and clears the place where the log goes on. `NotFormatted`, `NoRoot`, `Version` and `Damaged` come in
 /// this order, each before anything is written.
 pub fn mount<D: Device>(alloc: Global, device: D) -> Result<Fs<D>, Unmounted<D>>
     ensures mounted { IsTrue D.tells_bytes → IfOk result (λ fs. Mounts (D.status device).sectors (D.disk device) (held fs) (has_stopped fs)) }
@@ -36,11 +36,12 @@ pub fn mount<D: Device>(alloc: Global, device: D) -> Result<Fs<D>, Unmounted<D>>
         }
     };
     match recover(alloc, &mut blocks) {
-        Ok(Recovered { log, world }) => Ok(Fs {
+        Ok(Recovered { log, world, room }) => Ok(Fs {
             alloc,
             blocks,
             log,
             world,
+            room,
             has_stopped: false,
         }),
         Err(fault) => Err(Unmounted {

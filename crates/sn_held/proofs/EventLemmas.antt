@@ -1,5 +1,5 @@
 -- What the disk of a mounted file system is an image of, call by call.
-use Rattle.std.proofs.Common.{◌≡◌, ◌⊎◌, inl, inr, ⊎_elim, ℕ, ◌+◌, ◌*◌, ◌≤◌, Bool, List, [], ◌∷◌, ◌++◌, None, Some, length, replicate, slice_index, refl, sym, ap, subst, ◌∙◌, append-nil, append_assoc}
+use Rattle.std.proofs.Common.{◌≡◌, ◌⊎◌, inl, inr, ⊎_elim, ℕ, ◌+◌, ◌*◌, ◌≤◌, Bool, List, [], ◌∷◌, ◌++◌, None, Some, length, replicate, slice_index, refl, sym, ap, subst, ◌∙◌, append-nil, append_assoc, arith}
 use Rattle.std.specs.FinMap as map
 use Rattle.sn_device.specs.Sectors.{Contents, AreSectors}
 use Rattle.sn_device.specs.Disk.{Always, Disk, reads}
@@ -12,6 +12,8 @@ use Rattle.sn_model.specs.declared.change.Change.{Change}
 use Rattle.sn_model.specs.declared.outcome.Caller.{Caller}
 use Rattle.sn_model.specs.declared.outcome.Caller.TheVariants.{Stays, LogsIn, SetsUmask, LogsOut, Opens as OpensFile, OpensNew, Closes, Moves}
 use Rattle.sn_model.specs.Changes.{apply}
+use Rattle.sn_model.specs.Charges.{charge_for}
+use Rattle.sn_model.specs.NameTree.{IsHierarchy}
 use Rattle.sn_model.specs.Machine.{State, Running, Stopped}
 use Rattle.sn_model.specs.Settling.{dropped, is_held, settle, settled, without_nameless}
 use Rattle.sn_model.specs.Steps.{with_caller, with_live}
@@ -31,13 +33,18 @@ use Rattle.sn_opening.proofs.LogLemmas.{of_position}
 use Rattle.sn_opening.proofs.OpeningLemmas.{opens_to_one}
 use Rattle.sn_opening.proofs.SpelledLemmas.{spelled_more}
 use Rattle.sn_ondisk.proofs.PlaceLemmas.{halves_apart}
+use Rattle.sn_room.specs.Rooms.{dropping, logged}
+use Rattle.sn_sound.specs.Charges.{Fits}
 use Rattle.sn_sound.specs.Disks.{IsFormatted}
+use Rattle.sn_sound.specs.Maps.{free_blocks}
 use Rattle.sn_sound.proofs.DiskLemmas.{one_size}
 use Rattle.sn_sound.proofs.StandingLemmas.{lies_in_data}
 use Rattle.sn_held.specs.Held.{Held, Means, Runs}
 use Rattle.sn_held.specs.Images.{IsImage, IsLiveImage}
 use Rattle.sn_held.specs.Moments.{LastsOver, ShowsState}
+use Rattle.sn_held.specs.Room.{HasRoomFor, IsCharged}
 use Rattle.sn_held.specs.Events.{IsOfTree, LeavesEither, LeavesMore}
+use Rattle.sn_held.proofs.RoomLemmas.{one_more_charged, one_more_fits}
 use Rattle.sn_held.proofs.HeldLemmas.{Rests, image_newer, image_older, image_shown, newer_none, newer_shows, older_none, older_shows, rests_stay}
 
 -- ---- what a crash leaves of a mount that runs
@@ -54,13 +61,19 @@ stands_of s root changes w limits cover frozen =
     subst (StandsFor s root changes) settles
     (covers_stand s root changes w.live (subst (λ (l : Limits). MakesCover l changes (image s root.inode_file) w.live) (sym limits) cover))
 
+-- what is charged of a mount that runs fits in what its root leaves free
+fits_now : (h : Held) (w : World) (r : Runs h w) → Fits r.root.limits (r.older ++ r.newer) (image r.store r.root.inode_file) (free_blocks h.at.blocks r.store r.root)
+fits_now h w r =
+    subst (λ (l : Limits). Fits l (r.older ++ r.newer) (image r.store r.root.inode_file) (free_blocks h.at.blocks r.store r.root)) (sym r.limits)
+    (subst (Fits version_1 (r.older ++ r.newer) (image r.store r.root.inode_file)) r.charged.free r.charged.fits)
+
 module _ (h : Held) (w : World) (r : Runs h w) where
   pub stands_for : StandsFor r.store r.root (r.older ++ r.newer) (settle w)
   stands_for = stands_of r.store r.root (r.older ++ r.newer) w r.limits r.cover r.frozen
 
   pub runs_show : Always h.disk (λ c. IsImage c (settle w))
   runs_show c crash =
-      image_shown h.at.blocks r.store r.slot r.root r.words r.older r.newer (settle w) r.older_spelled r.newer_spelled r.stands.sound stands_for c
+      image_shown h.at.blocks r.store r.slot r.root r.words r.older r.newer (settle w) r.older_spelled r.newer_spelled r.stands.sound stands_for (fits_now h w r) r.age c
       (disk_always h.at.blocks h.disk r.stands.disk c crash) (r.formatted c crash) (r.stands.map c crash) (λ epoch. r.none_later epoch c crash) (r.stands.shows c crash)
 
 -- so it is of a world without frozen trees
@@ -100,8 +113,8 @@ left_covers : (changes : List Change) (from tree live : Tree) (held : ℕ → Bo
 left_covers changes from tree live held e m = subst (MakesCover version_1 changes from) (sym e) (dropping_covers version_1 changes from tree held m)
 
 -- files without names that go change nothing of the disk
-pub dropped_runs : (h : Held) (w next : World) (kept : ℕ → Bool) → Runs h w → IsOfTree w w.live next → Runs (record h { world = next; kept = kept }) next
-dropped_runs h w next kept r of = record {
+pub dropped_runs : (h : Held) (w next : World) (kept : ℕ → Bool) (count : ℕ) → Runs h w → IsOfTree w w.live next → Runs (record h { world = next; kept = kept; room = dropping count h.room }) next
+dropped_runs h w next kept count r of = record {
   is = refl;
   store = r.store;
   slot = r.slot;
@@ -118,6 +131,8 @@ dropped_runs h w next kept r of = record {
   log = r.log;
   cover = left_covers (r.older ++ r.newer) (image r.store r.root.inode_file) w.live next.live of.held of.live r.cover;
   frozen = of.frozen ∙ r.frozen;
+  charged = record { free = r.charged.free; charged = r.charged.charged; dropped = omega (arith, r.charged.dropped); fits = r.charged.fits };
+  age = r.age;
 }
 
 -- ---- a change of the live tree that is appended
@@ -129,7 +144,7 @@ behind_older older newer change none =
     (ap (λ (cs : List Change). cs ++ change ∷ []) (append-nil older) ∙ sym (append-nil (older ++ change ∷ [])))
 
 module _ (old new : Held) (w next : World) (change : Change) (tree : Tree) (r : Runs old w) (spelled : IsSpelled change) (applied : apply version_1 change w.live ≡ Some tree) (of : IsOfTree w tree next)
-    (touched : Touches (InHalf (base_at old.at)) old.disk new.disk) where
+    (hierarchy : IsHierarchy w.live) (has_room : HasRoomFor old.room w.live change) (touched : Touches (InHalf (base_at old.at)) old.disk new.disk) where
   abbrev pub n : ℕ
   n = old.at.blocks
 
@@ -140,6 +155,20 @@ module _ (old new : Held) (w next : World) (change : Change) (tree : Tree) (r : 
 
   more_frozen : next.frozen ≡ frozen_of r.store r.root.snapshots
   more_frozen = of.frozen ∙ r.frozen
+
+  -- what is charged behind it
+  more_charged : (changes : List Change) → changes ≡ (r.older ++ r.newer) ++ change ∷ [] → IsCharged (logged (charge_for version_1 w.live change) old.room) n r.store r.root changes
+  more_charged changes is = subst (IsCharged (logged (charge_for version_1 w.live change) old.room) n r.store r.root) (sym is) (record {
+    free = r.charged.free;
+    charged = sym (one_more_charged (r.older ++ r.newer) change (image r.store r.root.inode_file) w.live r.cover hierarchy ∙ ap (λ (k : ℕ). k + charge_for version_1 w.live change) (sym r.charged.charged));
+    dropped = r.charged.dropped;
+    fits = one_more_fits old.room n r.store r.root (r.older ++ r.newer) change w.live r.charged r.cover hierarchy has_room;
+  })
+
+  more_fits : (changes : List Change) → changes ≡ (r.older ++ r.newer) ++ change ∷ [] → Fits r.root.limits changes (image r.store r.root.inode_file) (free_blocks n r.store r.root)
+  more_fits changes is =
+      subst (λ (l : Limits). Fits l changes (image r.store r.root.inode_file) (free_blocks n r.store r.root)) (sym r.limits)
+      (subst (Fits version_1 changes (image r.store r.root.inode_file)) r.charged.free (more_charged changes is).fits)
 
   -- what stays where the half of the one epoch is written, and where that of the other is
   older_rest : old.at.epoch ≡ r.root.epoch → LeavesOnly old.disk new.disk (Rests n r.store r.slot r.root r.words (r.root.epoch + 1) r.newer)
@@ -166,8 +195,9 @@ module _ (old new : Held) (w next : World) (change : Change) (tree : Tree) (r : 
           record {
             follows = either.follows;
             each = λ c since. ⊎_elim
-                (λ ready. inl (image_older n r.store r.slot r.root r.words r.older r.newer (settle w) r.older_spelled r.newer_spelled r.stands.sound (stands_for old w r) c old.at (rest.each c since) refl epoch ready))
-                (λ ready. inr (image_older n r.store r.slot r.root r.words (r.older ++ change ∷ []) r.newer (settle next) (spelled_more r.older change r.older_spelled spelled) r.newer_spelled r.stands.sound stands c (behind old.at change) (rest.each c since) refl epoch ready))
+                (λ ready. inl (image_older n r.store r.slot r.root r.words r.older r.newer (settle w) r.older_spelled r.newer_spelled r.stands.sound (stands_for old w r) (fits_now old w r) r.age c old.at (rest.each c since) refl epoch ready))
+                (λ ready. inr (image_older n r.store r.slot r.root r.words (r.older ++ change ∷ []) r.newer (settle next) (spelled_more r.older change r.older_spelled spelled) r.newer_spelled r.stands.sound stands
+                (more_fits ((r.older ++ change ∷ []) ++ r.newer) (sym (behind_older r.older r.newer change none))) r.age c (behind old.at change) (rest.each c since) refl epoch ready))
                 (either.each c since);
           }
 
@@ -179,17 +209,18 @@ module _ (old new : Held) (w next : World) (change : Change) (tree : Tree) (r : 
           record {
             follows = either.follows;
             each = λ c since. ⊎_elim
-                (λ ready. inl (image_newer n r.store r.slot r.root r.words r.older r.newer (settle w) r.older_spelled r.newer_spelled r.stands.sound (stands_for old w r) c old.at (rest.each c since) refl epoch ready))
-                (λ ready. inr (image_newer n r.store r.slot r.root r.words r.older (r.newer ++ change ∷ []) (settle next) r.older_spelled (spelled_more r.newer change r.newer_spelled spelled) r.stands.sound stands c (behind old.at change) (rest.each c since) refl epoch ready))
+                (λ ready. inl (image_newer n r.store r.slot r.root r.words r.older r.newer (settle w) r.older_spelled r.newer_spelled r.stands.sound (stands_for old w r) (fits_now old w r) r.age c old.at (rest.each c since) refl epoch ready))
+                (λ ready. inr (image_newer n r.store r.slot r.root r.words r.older (r.newer ++ change ∷ []) (settle next) r.older_spelled (spelled_more r.newer change r.newer_spelled spelled) r.stands.sound stands
+                (more_fits (r.older ++ (r.newer ++ change ∷ [])) (sym (append_assoc r.older r.newer (change ∷ [])))) r.age c (behind old.at change) (rest.each c since) refl epoch ready))
                 (either.each c since);
           }
 
   -- after the append the new world runs
-  pub runs_on : LeavesMore old.at change old.disk new.disk → AreSectors (reads new.disk) → new.at ≡ behind old.at change → new.world ≡ next → Runs new next
-  runs_on leaves whole at is = subst (λ (h : Held). Runs h next) (λ i. record new { at = sym at i; world = sym is i }) (⊎_elim in_older in_newer r.log)
+  pub runs_on : LeavesMore old.at change old.disk new.disk → AreSectors (reads new.disk) → new.at ≡ behind old.at change → new.room ≡ logged (charge_for version_1 w.live change) old.room → new.world ≡ next → Runs new next
+  runs_on leaves whole at charged is = subst (λ (h : Held). Runs h next) (λ i. record new { at = sym at i; room = sym charged i; world = sym is i }) (⊎_elim in_older in_newer r.log)
     where
       after : Held
-      after = record new { at = behind old.at change; world = next }
+      after = record new { at = behind old.at change; room = logged (charge_for version_1 w.live change) old.room; world = next }
 
       in_older : (r.newer ≡ []) × (old.at.epoch ≡ r.root.epoch) × Always old.disk (IsReadyAt old.at r.older) → Runs after next
       in_older (none, epoch, is_ready) =
@@ -216,6 +247,8 @@ module _ (old new : Held) (w next : World) (change : Change) (tree : Tree) (r : 
             none_later = λ e c crash. older_none n r.store r.slot r.root r.words (r.older ++ change ∷ []) r.newer c (behind old.at change) (rests c crash) refl epoch (more c crash) e;
             log = inl (none, epoch, more);
             cover = subst (λ (cs : List Change). MakesCover version_1 cs (image r.store r.root.inode_file) next.live) (behind_older r.older r.newer change none) more_covers;
+            charged = more_charged ((r.older ++ change ∷ []) ++ r.newer) (sym (behind_older r.older r.newer change none));
+            age = r.age;
             frozen = more_frozen;
           }
 
@@ -244,6 +277,8 @@ module _ (old new : Held) (w next : World) (change : Change) (tree : Tree) (r : 
             none_later = λ e c crash. newer_none n r.store r.slot r.root r.words r.older (r.newer ++ change ∷ []) c (behind old.at change) (rests c crash) refl epoch (more c crash) e;
             log = inr (epoch, more);
             cover = subst (λ (cs : List Change). MakesCover version_1 cs (image r.store r.root.inode_file) next.live) (append_assoc r.older r.newer (change ∷ [])) more_covers;
+            charged = more_charged (r.older ++ (r.newer ++ change ∷ [])) (sym (append_assoc r.older r.newer (change ∷ [])));
+            age = r.age;
             frozen = more_frozen;
           }
 

@@ -1,3 +1,4 @@
+pub mod RoomLemmas
 pub mod HeldLemmas
 pub mod EventLemmas
 pub mod MountLemmas

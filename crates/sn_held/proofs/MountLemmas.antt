@@ -26,9 +26,12 @@ use Rattle.sn_opening.specs.Opens.{IsDisk, Opens, Shows}
 use Rattle.sn_opening.proofs.CoveringLemmas.{replay_covers}
 use Rattle.sn_opening.proofs.LogLemmas.{of_position}
 use Rattle.sn_opening.proofs.OpeningLemmas.{half_lies}
+use Rattle.sn_sound.specs.Charges.{Fits, charges_from}
+use Rattle.sn_sound.specs.Maps.{free_blocks}
 use Rattle.sn_sound.proofs.StandingLemmas.{lies_in_data}
 use Rattle.sn_held.specs.Held.{GoesOn, Runs}
 use Rattle.sn_held.specs.Images.{EndsAt, IsImage}
+use Rattle.sn_held.specs.Room.{room_of_image}
 use Rattle.sn_held.proofs.HeldLemmas.{Rests, each_half, image_shown, rests_stay}
 
 -- the sector that clears a place lies in the half
@@ -169,7 +172,7 @@ module _ (mid new : Disk) (w : World) (im : IsImage (reads mid) w) (at : LogPosi
   pub clearing_keeps : EndsAt c w im at → LeavesOnly mid new (λ d. IsImage d w)
   clearing_keeps ends =
       LeavesOnly-weaker mid new IsKept (λ d. IsImage d w)
-      (λ d k. image_shown n s o.slot o.root words o.older o.newer w o.older_spelled o.newer_spelled im.sound o.stands d k.0 k.1 k.2 k.3 k.4)
+      (λ d k. image_shown n s o.slot o.root words o.older o.newer w o.older_spelled o.newer_spelled im.sound o.stands im.fits im.age d k.0 k.1 k.2 k.3 k.4)
       (kept ends)
 
   goes_on : EndsAt c w im at → Always new (λ d. IsClosed d (base_at at + at.place)) → GoesOn at o.root o.older o.newer new
@@ -182,11 +185,11 @@ module _ (mid new : Disk) (w : World) (im : IsImage (reads mid) w) (at : LogPosi
 
   -- once it is closed, the mount runs over the world
   pub cleared_runs : EndsAt c w im at → Always new (λ d. IsClosed d (base_at at + at.place)) → AreSectors (reads new) → (keeps_back : ℕ → Bool) (status : Status)
-      → Runs (record { world = w; kept = keeps_back; at = at; disk = new; status = status }) w
+      → Runs (record { world = w; kept = keeps_back; room = room_of_image c w im; at = at; disk = new; status = status }) w
   cleared_runs ends closed whole keeps_back status =
       let now = LeavesOnly-now mid new IsKept (kept ends) in
       let same : record at { blocks = n } ≡ at = λ i. record at { blocks = sym ends.0 i } in
-      subst (λ (p : LogPosition). Runs (record { world = w; kept = keeps_back; at = p; disk = new; status = status }) w) same (record {
+      subst (λ (p : LogPosition). Runs (record { world = w; kept = keeps_back; room = room_of_image c w im; at = p; disk = new; status = status }) w) same (record {
         is = refl;
         store = s;
         slot = o.slot;
@@ -207,6 +210,13 @@ module _ (mid new : Disk) (w : World) (im : IsImage (reads mid) w) (at : LogPosi
         none_later = λ epoch d crash. (now d crash).3 epoch;
         log = subst (λ (p : LogPosition). GoesOn p o.root o.older o.newer new) (sym same) (goes_on ends closed);
         cover = covers;
+        charged = record {
+          free = refl;
+          charged = ap (λ (l : Limits). charges_from l (o.older ++ o.newer) (image s o.root.inode_file)) (sym (only_version o.root.limits o.shown.newest.body.fits.version));
+          dropped = omega arith;
+          fits = subst (λ (l : Limits). Fits l (o.older ++ o.newer) (image s o.root.inode_file) (free_blocks n s o.root)) (sym (only_version o.root.limits o.shown.newest.body.fits.version)) im.fits;
+        };
+        age = im.age;
         frozen = ap (λ (x : World). x.frozen) o.stands.settles;
       })
     where

@@ -18,13 +18,17 @@ use Rattle.sn_image.specs.Image.{image}
 use Rattle.sn_opening.specs.Covering.{MakesCover}
 use Rattle.sn_opening.specs.Spelled.{AreSpelled}
 use Rattle.sn_opening.specs.Worlds.{frozen_of}
+use Rattle.sn_room.specs.Rooms.{RoomCounts}
+use Rattle.sn_sound.specs.Logs.{HasAgeLeft}
 use Rattle.sn_sound.specs.Standing.{RootStands}
 use Rattle.sn_held.specs.Moments.{ShowsState}
+use Rattle.sn_held.specs.Room.{IsCharged}
 
--- the world in memory and the numbers that are kept back in it, where its log goes on, and the device
+-- the world in memory, the numbers that are kept back in it and the room that is left for it, where its log goes on, and the device
 pub record Held : Type 0 where
   pub world : World
   pub kept : ℕ → Bool
+  pub room : RoomCounts
   pub at : LogPosition
   pub disk : Disk
   pub status : Status
@@ -52,6 +56,8 @@ pub record Runs (h : Held) (world : World) : Type 0 where
   pub none_later : (epoch : ℕ) → Always h.disk (λ c. HasNoLater c (base_of h.at.blocks epoch) (root.epoch + 1))
   pub log : GoesOn h.at root older newer h.disk
   pub cover : MakesCover version_1 (older ++ newer) (image store root.inode_file) world.live
+  pub charged : IsCharged h.room h.at.blocks store root (older ++ newer)
+  pub age : HasAgeLeft root
   pub frozen : world.frozen ≡ frozen_of store root.snapshots
 
 -- One that runs has no frozen trees in its world. One that a failure has stopped knows of its disk alone, that the next mount finds one of two worlds there.

@@ -1,5 +1,5 @@
 //! The laws that the definitions of `specs/` keep.
-ghost use Rattle.sn_held.specs.Laws.{AppendsLeaveEither, AppendsRun, DropsRun, ImagesAreOne, RunsShow};
+ghost use Rattle.sn_held.specs.Laws.{AppendsLeaveEither, AppendsRun, DropsLeaveFewer, DropsRun, ImagesAreOne, RunsShow};
 
 /// What a disk is an image of.
 pub fn image_laws()
@@ -12,4 +12,5 @@ pub fn call_laws()
     ensures drops { DropsRun }
     ensures either { AppendsLeaveEither }
     ensures runs { AppendsRun }
+    ensures fewer { DropsLeaveFewer }
 {}

@@ -4,8 +4,9 @@
 //! The model. `sn_opening` says what contents open to, and `sn_sound` when a root is sound. Here they come
 //! together in what a mounted file system keeps from call to call:
 //! - `Images`: contents are an image of a world where they are those of a formatted disk whose newest root is
-//!   sound with its map, and that opens to the world. `IsImage` is what a mount asks of a disk, and what is
-//!   left of it by whatever a crash leaves.
+//!   sound with its map, whose log is charged no more than is free, and that opens to the world. `IsImage` is
+//!   what a mount asks of a disk, and what is left of it by whatever a crash leaves.
+//! - `Room`: what is charged on top of a root, as a mounted file system keeps it, and what a mount keeps of an image.
 //! - `Held`: the world in memory, the numbers that are kept back, where the log goes on, and the device. `Runs`
 //!   says that the disk shows a root with records that make of its tree one that covers the live one; `Means`,
 //!   which state of the machine that is.

@@ -246,6 +246,8 @@ module _ (sectors n : ℕ) (c : Contents) (room : HasRoom sectors n) (fresh : Is
         map = λ block within. subst (IsSetOfRoots store (rooted_in (fresh_root n)) block) (map_word-spelled n c A (fresh_words n) fresh.prepared.map block) (sound_root.map block within);
       };
       none_later = λ epoch. inl (fresh.prepared.log epoch);
+      fits = fits;
+      age = record { generation = omega arith; epoch = omega arith };
     };
     frozen = refl;
   }

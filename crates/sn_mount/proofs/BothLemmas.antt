@@ -17,10 +17,10 @@ older_fails fault.NoRoot c from n epoch tree b = b
 older_fails fault.Memory c from n epoch tree b = tt
 older_fails fault.Device c from n epoch tree b = tt
 
-pub newer_fails : (f : MountFault) (c : Contents) (from : Tree) (n epoch : ℕ) (at : LogPosition) (middle tree : Tree) → Replays c from n epoch at middle → Breaks f c middle n (epoch + 1) → ReplaysBoth (Err f) c from n epoch tree
-newer_fails (fault.Damaged damage block) c from n epoch at middle tree first b = (b.0, in_newer at middle first b.1)
-newer_fails fault.NotFormatted c from n epoch at middle tree first b = b
-newer_fails fault.Version c from n epoch at middle tree first b = b
-newer_fails fault.NoRoot c from n epoch at middle tree first b = b
-newer_fails fault.Memory c from n epoch at middle tree first b = tt
-newer_fails fault.Device c from n epoch at middle tree first b = tt
+pub newer_fails : (f : MountFault) (c : Contents) (from : Tree) (n epoch : ℕ) (at : LogPosition) (middle tree : Tree) (charges : ℕ) → Replays c from n epoch at middle charges → Breaks f c middle n (epoch + 1) → ReplaysBoth (Err f) c from n epoch tree
+newer_fails (fault.Damaged damage block) c from n epoch at middle tree charges first b = (b.0, in_newer at middle charges first b.1)
+newer_fails fault.NotFormatted c from n epoch at middle tree charges first b = b
+newer_fails fault.Version c from n epoch at middle tree charges first b = b
+newer_fails fault.NoRoot c from n epoch at middle tree charges first b = b
+newer_fails fault.Memory c from n epoch at middle tree charges first b = tt
+newer_fails fault.Device c from n epoch at middle tree charges first b = tt

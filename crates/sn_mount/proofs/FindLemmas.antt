@@ -1,5 +1,5 @@
 -- What a mount finds on an image, and why it finds none elsewhere.
-use Rattle.std.proofs.Common.{◌≡◌, ℕ, ◌+◌, ◌*◌, ◌≤◌, ◌++◌, length, Option, Some, None, Err, refl, sym, ap, subst, ◌∙◌, arith}
+use Rattle.std.proofs.Common.{◌≡◌, ℕ, ◌+◌, ◌*◌, ◌<◌, ◌≤◌, false, List, ◌++◌, length, slice_index, Option, Some, None, Err, refl, sym, ap, subst, ◌∙◌, arith, leb-false}
 use Rattle.sn_device.specs.Sectors.{Contents}
 use Rattle.sn_limits.specs.declared.limits.Limits.{Limits}
 use Rattle.sn_limits.specs.Versions.{version_1}
@@ -26,14 +26,20 @@ use Rattle.sn_image.specs.Sound.{IsSound}
 use Rattle.sn_image.proofs.SoundNodeLemmas.{only_version}
 use Rattle.sn_opening.proofs.OpeningLemmas.{half_lies}
 use Rattle.sn_sound.specs.Disks.{IsFormatted}
-use Rattle.sn_sound.specs.Logs.{AreReplayed, BreaksAt, IsLogFault, later, newer, older}
-use Rattle.sn_sound.specs.Maps.{free_blocks}
+use Rattle.sn_sound.specs.Logs.{AreReplayed, BreaksAt, IsLogFault, half_block, charges as overcharged, later, newer, older}
+use Rattle.sn_ondisk.specs.MapCopy.{HasMap}
+use Rattle.sn_sound.specs.Maps.{IsSoundRoot, free_blocks}
 use Rattle.sn_sound.proofs.DiskLemmas.{never_breaks, one_size, replayed_once}
 use Rattle.sn_held.specs.Images.{IsImage}
-use Rattle.sn_mount.specs.Both.{BreaksBoth, Replays, ReplaysBoth, in_newer, in_older}
+use Rattle.sn_overlay.specs.Needs.{nameless_in}
+use Rattle.sn_room.specs.Rooms.{is_covered, mounted}
+use Rattle.sn_sound.specs.Charges.{Fits, charges_from}
+use Rattle.sn_held.proofs.RoomLemmas.{charges_join}
+use Rattle.sn_mount.specs.Rooms.{IsUncovered}
+use Rattle.sn_mount.specs.Both.{BreaksBoth, HasBoth, Replays, ReplaysBoth, in_newer, in_older}
 use Rattle.sn_mount.specs.Examining.{SomeIsLater}
 use Rattle.sn_mount.specs.Finding.{IsOfTree, IsUnsound}
-use Rattle.sn_mount.specs.Refusing.{HasLogFault, IsNoImage, Refuses}
+use Rattle.sn_mount.specs.Refusing.{HasLogFault, IsNoImage, Refuses, TellsFree}
 
 -- ---- the same root
 
@@ -55,8 +61,8 @@ same_root sectors c n slot root w im count formatted newest =
 -- ---- records that are made
 
 -- the records of an epoch up to a position, as those that a log has
-pub are_replayed : (c : Contents) (from : Tree) (n epoch : ℕ) (at : LogPosition) (tree : Tree) (r : Replays c from n epoch at tree) → AreReplayed c version_1 from n epoch r.all.replayed.changes tree
-are_replayed c from n epoch at tree r = record {
+pub are_replayed : (c : Contents) (from : Tree) (n epoch : ℕ) (at : LogPosition) (tree : Tree) (charges : ℕ) (r : Replays c from n epoch at tree charges) → AreReplayed c version_1 from n epoch r.all.replayed.changes tree
+are_replayed c from n epoch at tree charges r = record {
   spelled = r.all.replayed.spelled;
   records =
       subst (λ (e : ℕ). ReplaysPayloads c (base_of n e) e (payloads_of r.all.replayed.changes)) r.of_epoch
@@ -96,13 +102,44 @@ module _ (c : Contents) (w : World) (im : IsImage c w) where
   pub image_breaks : (block : ℕ) → BreaksBoth c from im.blocks im.opens.root.epoch block → ⊥
   image_breaks block (in_older b) =
       never_breaks c version_1 from im.blocks im.opens.root.epoch block im.opens.older halves.0 (half_lies im.blocks im.opens.root.epoch c im.disk) image_older b
-  image_breaks block (in_newer at middle first b) =
+  image_breaks block (in_newer at middle charges first b) =
       let one = replayed_once c version_1 from im.blocks im.opens.root.epoch first.all.replayed.changes im.opens.older middle halves.0 (half_lies im.blocks im.opens.root.epoch c im.disk)
-      (are_replayed c from im.blocks im.opens.root.epoch at middle first) image_older in
+      (are_replayed c from im.blocks im.opens.root.epoch at middle charges first) image_older in
       never_breaks c version_1 halves.0 im.blocks (im.opens.root.epoch + 1) block im.opens.newer im.opens.stands.tree (half_lies im.blocks (im.opens.root.epoch + 1) c im.disk) image_newer
       (subst (λ (t : Tree). BreaksAt c version_1 t im.blocks (im.opens.root.epoch + 1) block) one.trees b)
 
+-- what all records that were replayed are charged
+pub charges_are : (c : Contents) (from : Tree) (n epoch : ℕ) (at : LogPosition) (tree : Tree) (charges : ℕ) (both : HasBoth c from n epoch at tree charges)
+    → charges ≡ charges_from version_1 (both.has_older.all.replayed.changes ++ both.has_newer.all.replayed.changes) from
+charges_are c from n epoch at tree charges both =
+    omega (
+      arith,
+      both.charged,
+      both.has_older.all.replayed.charged,
+      both.has_newer.all.replayed.charged,
+      charges_join version_1 both.has_older.all.replayed.changes both.has_newer.all.replayed.changes from both.middle both.has_older.all.replayed.applied,
+    )
+
+module _ (c : Contents) (w : World) (im : IsImage c w) where
+  -- and they are those of the image
+  pub image_charges : (at : LogPosition) (tree : Tree) (charges : ℕ) → HasBoth c (image (store_of c) im.opens.root.inode_file) im.blocks im.opens.root.epoch at tree charges
+      → charges ≡ charges_from version_1 (im.opens.older ++ im.opens.newer) (image (store_of c) im.opens.root.inode_file)
+  image_charges at tree charges both =
+      let img = image (store_of c) im.opens.root.inode_file in
+      let epoch = im.opens.root.epoch in
+      let first = both.has_older.all.replayed.changes in
+      let second = both.has_newer.all.replayed.changes in
+      let one = replayed_once c version_1 img im.blocks epoch first im.opens.older both.middle (halves c w im).0 (half_lies im.blocks epoch c im.disk)
+      (are_replayed c img im.blocks epoch both.older both.middle both.first both.has_older) (image_older c w im) in
+      let two = replayed_once c version_1 (halves c w im).0 im.blocks (epoch + 1) second im.opens.newer tree im.opens.stands.tree (half_lies im.blocks (epoch + 1) c im.disk)
+      (subst (λ (t : Tree). AreReplayed c version_1 t im.blocks (epoch + 1) second tree) one.trees (are_replayed c both.middle im.blocks (epoch + 1) both.newer tree both.second both.has_newer)) (image_newer c w im) in
+      charges_are c img im.blocks epoch at tree charges both ∙ (λ i. charges_from version_1 (one.lists i ++ two.lists i) img)
+
 -- ---- refusals
+
+-- charges that aren't covered are more than is free
+uncovered_is : (free charges dropped : ℕ) → is_covered version_1 (mounted free charges dropped) ≡ false → free < charges + version_1.inode_charge * dropped
+uncovered_is free charges dropped is = leb-false (charges + version_1.inode_charge * dropped) free is
 
 module _ (sectors : ℕ) (c : Contents) (n : ℕ) (slot : Slot) (root : RootBody) (count : length c ≡ sectors) where
   -- the live tree of an image is sound
@@ -150,7 +187,7 @@ module _ (sectors : ℕ) (c : Contents) (n : ℕ) (slot : Slot) (root : RootBody
       (λ w im.
       let same = same_root sectors c n slot root w im count formatted newest in
       is.1.1 (subst (λ (r : RootBody). HasNoLater c (base_of n is.1.0) (r.epoch + 1)) same.roots (subst (λ (m : ℕ). HasNoLater c (base_of m is.1.0) (im.opens.root.epoch + 1)) same.blocks (im.none_later is.1.0))))
-      (record { blocks = n; formatted = formatted; slot = slot; root = root; newest = newest; is = subst (IsLogFault n c root (free_blocks n (store_of c) root)) (sym is.1.2) (later is.1.0 is.1.1) })
+      (record { blocks = n; formatted = formatted; slot = slot; root = root; newest = newest; free = free_blocks n (store_of c) root; told = λ words has sound. refl; is = subst (IsLogFault n c root (free_blocks n (store_of c) root)) (sym is.1.2) (later is.1.0 is.1.1) })
   later_refuses fault.NotFormatted formatted newest is = absurd is
   later_refuses fault.Version formatted newest is = absurd is
   later_refuses fault.NoRoot formatted newest is = absurd is
@@ -166,9 +203,9 @@ module _ (sectors : ℕ) (c : Contents) (n : ℕ) (slot : Slot) (root : RootBody
 
       told : BreaksBoth c (image (store_of c) root.inode_file) n root.epoch block → IsLogFault n c root (free_blocks n (store_of c) root) block
       told (in_older b) = older block (subst (λ (l : Limits). BreaksAt c l (image (store_of c) root.inode_file) n root.epoch block) limits_is b)
-      told (in_newer at middle first b) =
+      told (in_newer at middle charges first b) =
           newer block first.all.replayed.changes middle
-          (subst (λ (l : Limits). AreReplayed c l (image (store_of c) root.inode_file) n root.epoch first.all.replayed.changes middle) limits_is (are_replayed c (image (store_of c) root.inode_file) n root.epoch at middle first))
+          (subst (λ (l : Limits). AreReplayed c l (image (store_of c) root.inode_file) n root.epoch first.all.replayed.changes middle) limits_is (are_replayed c (image (store_of c) root.inode_file) n root.epoch at middle charges first))
           (subst (λ (l : Limits). BreaksAt c l middle n (root.epoch + 1) block) limits_is b)
 
   pub both_refuses : (f : MountFault) (tree : Tree) → IsFormatted sectors c n → IsNewest c slot root → ReplaysBoth (Err f) c (image (store_of c) root.inode_file) n root.epoch tree → Refuses f sectors c
@@ -179,9 +216,51 @@ module _ (sectors : ℕ) (c : Contents) (n : ℕ) (slot : Slot) (root : RootBody
       image_breaks c w im block
       (subst (λ (m : ℕ). BreaksBoth c (image (store_of c) im.opens.root.inode_file) m im.opens.root.epoch block) (sym same.blocks)
       (subst (λ (r : RootBody). BreaksBoth c (image (store_of c) r.inode_file) n r.epoch block) (sym same.roots) is.1)))
-      (record { blocks = n; formatted = formatted; slot = slot; root = root; newest = newest; is = log_fault block newest is.1 })
+      (record { blocks = n; formatted = formatted; slot = slot; root = root; newest = newest; free = free_blocks n (store_of c) root; told = λ words has sound. refl; is = log_fault block newest is.1 })
   both_refuses fault.NotFormatted tree formatted newest is = absurd is
   both_refuses fault.Version tree formatted newest is = absurd is
   both_refuses fault.NoRoot tree formatted newest is = absurd is
   both_refuses fault.Memory tree formatted newest is = tt
   both_refuses fault.Device tree formatted newest is = tt
+
+  -- charges that aren't covered by what is free
+  uncovered_never : (at : LogPosition) (tree : Tree) (charges free : ℕ) → IsFormatted sectors c n → IsNewest c slot root → HasBoth c (image (store_of c) root.inode_file) n root.epoch at tree charges → TellsFree n c slot root free
+      → is_covered version_1 (mounted free charges (nameless_in (image (store_of c) root.inode_file))) ≡ false → IsNoImage c
+  uncovered_never at tree charges free formatted newest both told uncovered w im =
+      let same = same_root sectors c n slot root w im count formatted newest in
+      let img = image (store_of c) im.opens.root.inode_file in
+      let here = subst (λ (m : ℕ). HasBoth c img m im.opens.root.epoch at tree charges) (sym same.blocks) (subst (λ (r : RootBody). HasBoth c (image (store_of c) r.inode_file) n r.epoch at tree charges) (sym same.roots) both) in
+      let charged = image_charges c w im at tree charges here in
+      let fits = subst (λ (l : Limits). Fits l (im.opens.older ++ im.opens.newer) img (free_blocks im.blocks (store_of c) im.opens.root)) (sym (only_version im.opens.root.limits im.opens.shown.newest.body.fits.version)) im.fits in
+      let map = subst (λ (r : Slot). HasMap n c r im.words) same.slots (subst (λ (m : ℕ). HasMap m c im.opens.slot im.words) same.blocks im.map) in
+      let sound = subst (λ (r : RootBody). IsSoundRoot n (store_of c) r (slice_index im.words)) same.roots (subst (λ (m : ℕ). IsSoundRoot m (store_of c) im.opens.root (slice_index im.words)) same.blocks im.sound) in
+      let is_free = told im.words map sound in
+      let free_is : free_blocks im.blocks (store_of c) im.opens.root ≡ free_blocks n (store_of c) root = λ i. free_blocks (same.blocks i) (store_of c) (same.roots i) in
+      let nameless_is = ap (λ (r : RootBody). nameless_in (image (store_of c) r.inode_file)) same.roots in
+      absurd (omega (arith, uncovered_is free charges (nameless_in (image (store_of c) root.inode_file)) uncovered, charged, fits, is_free, free_is, nameless_is))
+
+  uncovered_fault : (at : LogPosition) (tree : Tree) (charges free block : ℕ) → IsNewest c slot root → HasBoth c (image (store_of c) root.inode_file) n root.epoch at tree charges
+      → is_covered version_1 (mounted free charges (nameless_in (image (store_of c) root.inode_file))) ≡ false → block ≡ half_block n root.epoch → IsLogFault n c root free block
+  uncovered_fault at tree charges free block newest both uncovered is =
+      let img = image (store_of c) root.inode_file in
+      let limits_is = only_version root.limits newest.body.fits.version in
+      let first = both.has_older.all.replayed.changes in
+      let second = both.has_newer.all.replayed.changes in
+      subst (IsLogFault n c root free) (sym is)
+      (overcharged first second both.middle tree
+      (subst (λ (l : Limits). AreReplayed c l img n root.epoch first both.middle) limits_is (are_replayed c img n root.epoch both.older both.middle both.first both.has_older))
+      (subst (λ (l : Limits). AreReplayed c l both.middle n (root.epoch + 1) second tree) limits_is (are_replayed c both.middle n (root.epoch + 1) both.newer tree both.second both.has_newer))
+      (λ fits.
+      let fits_one = subst (λ (l : Limits). Fits l (first ++ second) img free) (sym limits_is) fits in
+      absurd (omega (arith, uncovered_is free charges (nameless_in img) uncovered, charges_are c img n root.epoch at tree charges both, fits_one))))
+
+  pub uncovered_refuses : (f : MountFault) (at : LogPosition) (tree : Tree) (charges : ℕ) → IsFormatted sectors c n → IsNewest c slot root → HasBoth c (image (store_of c) root.inode_file) n root.epoch at tree charges
+      → IsUncovered f n c slot root charges (nameless_in (image (store_of c) root.inode_file)) → Refuses f sectors c
+  uncovered_refuses (fault.Damaged damage block) at tree charges formatted newest both is =
+      log_refuses damage block is.0 (uncovered_never at tree charges is.1.free formatted newest both is.1.told is.1.uncovered)
+      (record { blocks = n; formatted = formatted; slot = slot; root = root; newest = newest; free = is.1.free; told = is.1.told; is = uncovered_fault at tree charges is.1.free block newest both is.1.uncovered is.1.is })
+  uncovered_refuses fault.NotFormatted at tree charges formatted newest both is = absurd is
+  uncovered_refuses fault.Version at tree charges formatted newest both is = absurd is
+  uncovered_refuses fault.NoRoot at tree charges formatted newest both is = absurd is
+  uncovered_refuses fault.Memory at tree charges formatted newest both is = tt
+  uncovered_refuses fault.Device at tree charges formatted newest both is = tt

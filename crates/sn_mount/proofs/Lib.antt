@@ -3,3 +3,4 @@ pub mod ExamineLemmas
 pub mod BothLemmas
 pub mod FindLemmas
 pub mod RecoverLemmas
+pub mod RoomLemmas

@@ -1,5 +1,5 @@
 -- What a mount leaves that has found all it needs, and clears the place where the log goes on.
-use Rattle.std.proofs.Common.{◌≡◌, inl, inr, ⊎_elim, ℕ, ◌+◌, ◌≤◌, List, ◌++◌, length, replicate, slice_index, Option, Some, None, Result, refl, sym, ap, subst, ◌∙◌}
+use Rattle.std.proofs.Common.{◌≡◌, inl, inr, ⊎_elim, ℕ, ◌+◌, ◌*◌, ◌≤◌, List, ◌++◌, length, replicate, slice_index, Option, Some, None, Result, refl, sym, ap, subst, ◌∙◌, arith, leb-true}
 use Rattle.std.specs.FinMap as map
 use Rattle.std.proofs.lemmas.List.{nil_from_length}
 use Rattle.sn_device.specs.Sectors.{AreSectors, Contents, Single}
@@ -31,9 +31,15 @@ use Rattle.sn_image.proofs.SoundNodeLemmas.{only_version}
 use Rattle.sn_opening.specs.Opens.{IsDisk, Opens}
 use Rattle.sn_opening.specs.Worlds.{found, frozen_of}
 use Rattle.sn_sound.specs.Disks.{IsFormatted}
-use Rattle.sn_sound.specs.Maps.{IsSoundRoot}
+use Rattle.sn_overlay.specs.Needs.{nameless_in}
+use Rattle.sn_room.specs.Rooms.{RoomCounts, mounted}
+use Rattle.sn_layout.specs.declared.places.Slot.{Slot}
+use Rattle.sn_sound.specs.Charges.{Fits, charges_from}
+use Rattle.sn_sound.specs.Logs.{HasAgeLeft}
+use Rattle.sn_sound.specs.Maps.{IsSoundRoot, free_blocks}
 use Rattle.sn_held.specs.Held.{Runs}
 use Rattle.sn_held.specs.Images.{EndsAt, IsImage, IsLiveImage}
+use Rattle.sn_held.specs.Room.{HasRoomOf, room_of_image}
 use Rattle.sn_held.proofs.EventLemmas.{images_one}
 use Rattle.sn_held.proofs.MountLemmas.{cleared_runs, cleared_within, clearing_keeps}
 use Rattle.sn_mount.specs.Both.{Replays}
@@ -41,11 +47,11 @@ use Rattle.sn_mount.specs.Finding.{HasFound}
 use Rattle.sn_mount.specs.Recovering.{IsRecovered, LeavesTheWorld, TouchesOneGate, WritesAtFault}
 use Rattle.sn_mount.specs.Failing.{read_fault}
 use Rattle.sn_mount.specs.Refusing.{Refuses}
-use Rattle.sn_mount.proofs.FindLemmas.{are_replayed, same_root}
+use Rattle.sn_mount.proofs.FindLemmas.{IsSameRoot, are_replayed, charges_are, same_root}
 
 -- ---- what is found on an image is its world
 
-module _ (sectors : ℕ) (c : Contents) (at : LogPosition) (world : World) (f : HasFound sectors c at world) (count : length c ≡ sectors) (w : World) (im : IsImage c w) (empty : w.frozen ≡ map.empty) where
+module _ (sectors : ℕ) (c : Contents) (at : LogPosition) (world : World) (room : RoomCounts) (f : HasFound sectors c at world room) (count : length c ≡ sectors) (w : World) (im : IsImage c w) (empty : w.frozen ≡ map.empty) where
   abbrev pub n : ℕ
   n = at.blocks
 
@@ -77,25 +83,53 @@ module _ (sectors : ℕ) (c : Contents) (at : LogPosition) (world : World) (f : 
     newer_spelled = f.both.has_newer.all.replayed.spelled;
     shown = record {
       newest = f.roots.newest;
-      has_older = (are_replayed c (image s f.root.inode_file) n f.root.epoch f.both.older f.both.middle f.both.has_older).records;
-      has_newer = (are_replayed c f.both.middle n (f.root.epoch + 1) f.both.newer world.live f.both.has_newer).records;
+      has_older = (are_replayed c (image s f.root.inode_file) n f.root.epoch f.both.older f.both.middle f.both.first f.both.has_older).records;
+      has_newer = (are_replayed c f.both.middle n (f.root.epoch + 1) f.both.newer world.live f.both.second f.both.has_newer).records;
     };
     stands = record { tree = world.live; applied = made; settles = refl };
   }
 
+  abbrev pub same : IsSameRoot c n f.slot f.root w im
+  same = same_root sectors c n f.slot f.root w im count f.roots.formatted f.roots.newest
+
+  pub map_is : HasMap n c f.slot im.words
+  map_is = subst (λ (r : Slot). HasMap n c r im.words) same.slots (subst (λ (m : ℕ). HasMap m c im.opens.slot im.words) same.blocks im.map)
+
+  pub root_sound : IsSoundRoot n s f.root (slice_index im.words)
+  root_sound = subst (λ (r : RootBody). IsSoundRoot n s r (slice_index im.words)) same.roots (subst (λ (m : ℕ). IsSoundRoot m s im.opens.root (slice_index im.words)) same.blocks im.sound)
+
+  pub is_free : f.finds.free ≡ free_blocks n s f.root
+  is_free = f.finds.told im.words map_is root_sound
+
+  pub limits_one : version_1 ≡ f.root.limits
+  limits_one = only_version f.root.limits f.roots.newest.body.fits.version
+
+  pub charged_one : f.charges ≡ charges_from version_1 (older ++ newer) (image s f.root.inode_file)
+  charged_one = charges_are c (image s f.root.inode_file) n f.root.epoch at world.live f.charges f.both
+
+  pub covers : Fits version_1 (older ++ newer) (image s f.root.inode_file) (free_blocks n s f.root)
+  covers = omega (arith, leb-true (f.charges + version_1.inode_charge * nameless_in (image s f.root.inode_file)) f.finds.free f.finds.covered, charged_one, is_free)
+
   abbrev pub image_found : IsImage c standing
   image_found =
-      let same = same_root sectors c n f.slot f.root w im count f.roots.formatted f.roots.newest in
       record {
         blocks = n;
         disk = subst (λ (m : ℕ). IsDisk m c) same.blocks im.disk;
         spelled = f.roots.formatted.spelled;
         opens = opens_it;
         words = im.words;
-        map = subst (λ (r : _). HasMap n c r im.words) same.slots (subst (λ (m : ℕ). HasMap m c im.opens.slot im.words) same.blocks im.map);
-        sound = subst (λ (r : RootBody). IsSoundRoot n s r (slice_index im.words)) same.roots (subst (λ (m : ℕ). IsSoundRoot m s im.opens.root (slice_index im.words)) same.blocks im.sound);
+        map = map_is;
+        sound = root_sound;
         none_later = f.roots.none_later;
+        fits = subst (λ (l : Limits). Fits l (older ++ newer) (image s f.root.inode_file) (free_blocks n s f.root)) limits_one covers;
+        age = subst HasAgeLeft same.roots im.age;
       }
+
+  -- the room is the image's
+  pub room_found : room ≡ room_of_image c standing image_found
+  room_found =
+      let charged = charged_one ∙ ap (λ (l : Limits). charges_from l (older ++ newer) (image s f.root.inode_file)) limits_one in
+      f.finds.is ∙ (λ i. mounted (is_free i) (charged i) (nameless_in (image s f.root.inode_file)))
 
   pub standing_is : standing ≡ w
   standing_is = images_one c standing w image_found im
@@ -107,8 +141,8 @@ module _ (sectors : ℕ) (c : Contents) (at : LogPosition) (world : World) (f : 
       let same : settle world ≡ standing = λ i. record { live = settled world.live; frozen = frozen i; sessions = replicate 64 None; descriptors = map.empty } in
       same ∙ standing_is
 
-  replays_to : (p : LogPosition) (from tree : Tree) (epoch : ℕ) (r : Replays c from n epoch p tree) → at ≡ p → ReplaysTo c (base_at at) at.epoch (payloads_of r.all.replayed.changes) at.place
-  replays_to p from tree epoch r is =
+  replays_to : (p : LogPosition) (from tree : Tree) (epoch charges : ℕ) (r : Replays c from n epoch p tree charges) → at ≡ p → ReplaysTo c (base_at at) at.epoch (payloads_of r.all.replayed.changes) at.place
+  replays_to p from tree epoch charges r is =
       subst (λ (q : LogPosition). ReplaysTo c (base_at q) q.epoch (payloads_of r.all.replayed.changes) q.place) (sym is) (record { leads = r.all.replayed.behind.leads; stops = r.all.stops })
 
   pub found_ends : EndsAt c standing image_found at
@@ -120,20 +154,20 @@ module _ (sectors : ℕ) (c : Contents) (at : LogPosition) (world : World) (f : 
           nil_from_length newer (sym f.both.has_newer.all.replayed.behind.count ∙ i.0),
           ap (λ (p : LogPosition). p.epoch) i.1 ∙ f.both.has_older.of_epoch,
           ap (λ (p : LogPosition). p.count) i.1 ∙ f.both.has_older.all.replayed.behind.count,
-          replays_to f.both.older (image s f.root.inode_file) f.both.middle f.root.epoch f.both.has_older i.1,
+          replays_to f.both.older (image s f.root.inode_file) f.both.middle f.root.epoch f.both.first f.both.has_older i.1,
         ))
         (λ (i : at ≡ f.both.newer).
         inr (
           ap (λ (p : LogPosition). p.epoch) i ∙ f.both.has_newer.of_epoch,
           ap (λ (p : LogPosition). p.count) i ∙ f.both.has_newer.all.replayed.behind.count,
-          replays_to f.both.newer f.both.middle world.live (f.root.epoch + 1) f.both.has_newer i,
+          replays_to f.both.newer f.both.middle world.live (f.root.epoch + 1) f.both.second f.both.has_newer i,
         ))
         f.both.is,
   )
 
 -- ---- the place is cleared
 
-module _ (sectors : ℕ) (old mid new : Disk) (at : LogPosition) (world : World) (f : HasFound sectors (reads mid) at world) (count : length (reads mid) ≡ sectors) (first : Touches Nowhere old mid) (same : reads mid ≡ reads old) (synced : IsSynced mid)
+module _ (sectors : ℕ) (old mid new : Disk) (at : LogPosition) (world : World) (room : RoomCounts) (f : HasFound sectors (reads mid) at world room) (count : length (reads mid) ≡ sectors) (first : Touches Nowhere old mid) (same : reads mid ≡ reads old) (synced : IsSynced mid)
     (within : at.place ≤ 255) {T E : Type 0} (result : Result T E) (clears : Clears (base_at at) at.place result mid new) where
   -- one gate was written at most
   pub one_gate : TouchesOneGate sectors old new
@@ -161,17 +195,23 @@ module _ (sectors : ℕ) (old mid new : Disk) (at : LogPosition) (world : World)
       first = first;
       same = same;
       synced = synced;
-      moments = LeavesOnly-weaker mid new (λ d. IsImage d w) (λ d. IsLiveImage d w) (λ d h. record { image = h; frozen = empty }) (subst (λ (x : World). LeavesOnly mid new (λ d. IsImage d x)) (standing_is sectors (reads mid) at world f count w im empty)
-          (clearing_keeps mid new (standing sectors (reads mid) at world f count w im empty) (image_found sectors (reads mid) at world f count w im empty) at within synced result clears (found_ends sectors (reads mid) at world f count w im empty)));
+      moments = LeavesOnly-weaker mid new (λ d. IsImage d w) (λ d. IsLiveImage d w) (λ d h. record { image = h; frozen = empty }) (subst (λ (x : World). LeavesOnly mid new (λ d. IsImage d x)) (standing_is sectors (reads mid) at world room f count w im empty)
+          (clearing_keeps mid new (standing sectors (reads mid) at world room f count w im empty) (image_found sectors (reads mid) at world room f count w im empty) at within synced result clears (found_ends sectors (reads mid) at world room f count w im empty)));
     }
 
-    pub recovered : (p : LogPosition) (x : World) → p ≡ at → x ≡ settle world → Always new (λ d. IsClosed d (base_at at + at.place)) → AreSectors (reads new) → IsRecovered sectors p x old new w
-    recovered p x on of closed whole = record {
-      is = of ∙ settled_is sectors (reads mid) at world f count w im empty;
+    pub recovered : (p : LogPosition) (x : World) (r : RoomCounts) → p ≡ at → x ≡ settle world → r ≡ room → Always new (λ d. IsClosed d (base_at at + at.place)) → AreSectors (reads new) → IsRecovered sectors p x r old new w
+    recovered p x r on of left closed whole = record {
+      is = of ∙ settled_is sectors (reads mid) at world room f count w im empty;
+      room_is =
+          subst (λ (c : Contents). HasRoomOf c w r) same
+          (subst (λ (y : World). HasRoomOf (reads mid) y r) (standing_is sectors (reads mid) at world room f count w im empty)
+          (image_found sectors (reads mid) at world room f count w im empty, left ∙ room_found sectors (reads mid) at world room f count w im empty));
       runs = λ kept status.
-          subst (λ (q : LogPosition). Runs (record { world = w; kept = kept; at = q; disk = new; status = status }) w) (sym on)
-          (subst (λ (y : World). Runs (record { world = y; kept = kept; at = at; disk = new; status = status }) y) (standing_is sectors (reads mid) at world f count w im empty)
-          (cleared_runs mid new (standing sectors (reads mid) at world f count w im empty) (image_found sectors (reads mid) at world f count w im empty) at within synced result clears (found_ends sectors (reads mid) at world f count w im empty) closed whole kept status));
+          subst (λ (q : LogPosition). Runs (record { world = w; kept = kept; room = r; at = q; disk = new; status = status }) w) (sym on)
+          (subst (λ (y : World). Runs (record { world = y; kept = kept; room = r; at = at; disk = new; status = status }) y) (standing_is sectors (reads mid) at world room f count w im empty)
+          (subst (λ (k : RoomCounts). Runs (record { world = standing sectors (reads mid) at world room f count w im empty; kept = kept; room = k; at = at; disk = new; status = status }) (standing sectors (reads mid) at world room f count w im empty))
+          (sym (left ∙ room_found sectors (reads mid) at world room f count w im empty))
+          (cleared_runs mid new (standing sectors (reads mid) at world room f count w im empty) (image_found sectors (reads mid) at world room f count w im empty) at within synced result clears (found_ends sectors (reads mid) at world room f count w im empty) closed whole kept status)));
       leaves = leaves;
     }
 

@@ -1,5 +1,5 @@
 -- What replay has made of a tree, record by record.
-use Rattle.std.proofs.Common.{◌≡◌, inl, inr, ℕ, ◌+◌, ◌/◌, Bool, true, false, [], ◌∷◌, ◌++◌, Some, None, Result, Ok, Err, MatchBool, refl, ap, ◌∙◌, arith}
+use Rattle.std.proofs.Common.{◌≡◌, inl, inr, ℕ, ◌+◌, ◌/◌, Bool, true, false, [], ◌∷◌, ◌++◌, Some, None, Result, Ok, Err, MatchBool, refl, sym, ap, ◌∙◌, arith}
 use Rattle.sn_device.specs.Sectors.{Contents}
 use Rattle.sn_device.specs.declared.status.Status.{Status}
 use Rattle.sn_device.specs.Status.{has_ended}
@@ -18,28 +18,34 @@ use Rattle.sn_log.specs.Replaying.{Finds}
 use Rattle.sn_log.specs.declared.replay.Found.TheVariants.{Change, Misspelt}
 use Rattle.sn_opening.proofs.CoveringLemmas.{applied_one}
 use Rattle.sn_opening.proofs.SpelledLemmas.{spelled_more}
+use Rattle.sn_sound.specs.Charges.{charges_from}
 use Rattle.sn_sound.specs.Logs.{BreaksAt}
+use Rattle.sn_model.specs.Charges.{charge_for}
+use Rattle.sn_held.proofs.RoomLemmas.{charges_join, one_charge}
 use Rattle.sn_mount.specs.Failing.{HasFailed, IsSoOf, WritesNothing, read_fault}
 use Rattle.sn_mount.specs.Replaying.{HasReplayed}
 
 -- at the first place of an epoch nothing is replayed yet
-pub starts : (c : Contents) (from : Tree) (n epoch : ℕ) → HasReplayed c from (first_of n epoch) from
-unfolding apply_all
-starts c from n epoch = record { changes = []; spelled = tt; behind = record { count = refl; leads = refl }; applied = refl }
+pub starts : (c : Contents) (from : Tree) (n epoch : ℕ) → HasReplayed c from (first_of n epoch) from 0
+unfolding apply_all charges_from
+starts c from n epoch = record { changes = []; spelled = tt; behind = record { count = refl; leads = refl }; applied = refl; charged = refl }
 
 -- one more
-pub replayed_more : (c : Contents) (from : Tree) (at : LogPosition) (tree : Tree) (change : TheChange) (after : Tree) (done : HasReplayed c from at tree) → Finds c at (Change change) → apply version_1 change tree ≡ Some after
-    → IsBehind (behind at change) (done.changes ++ change ∷ []) c → HasReplayed c from (behind at change) after
-replayed_more c from at tree change after done finds e is = record {
+pub replayed_more : (c : Contents) (from : Tree) (at : LogPosition) (tree : Tree) (charges : ℕ) (change : TheChange) (after : Tree) (done : HasReplayed c from at tree charges) → Finds c at (Change change) → apply version_1 change tree ≡ Some after
+    → IsBehind (behind at change) (done.changes ++ change ∷ []) c → HasReplayed c from (behind at change) after (charges + charge_for version_1 tree change)
+replayed_more c from at tree charges change after done finds e is = record {
   changes = done.changes ++ change ∷ [];
   spelled = spelled_more done.changes change done.spelled finds.1;
   behind = is;
   applied = lists_join version_1 done.changes (change ∷ []) from ∙ ap (λ x. x >>= apply_all version_1 (change ∷ [])) done.applied ∙ applied_one version_1 change tree after e;
+  charged =
+      ap (λ (k : ℕ). k + charge_for version_1 tree change) done.charged
+      ∙ sym (charges_join version_1 done.changes (change ∷ []) from tree done.applied ∙ ap (λ (k : ℕ). charges_from version_1 done.changes from + k) (one_charge version_1 tree change));
 }
 
 -- a record that is misspelt
-pub misspelt_breaks : (c : Contents) (from : Tree) (at : LogPosition) (tree : Tree) (block : ℕ) → HasReplayed c from at tree → Finds c at (Misspelt block) → BreaksAt c version_1 from at.blocks at.epoch block
-misspelt_breaks c from at tree block done finds = record {
+pub misspelt_breaks : (c : Contents) (from : Tree) (at : LogPosition) (tree : Tree) (charges block : ℕ) → HasReplayed c from at tree charges → Finds c at (Misspelt block) → BreaksAt c version_1 from at.blocks at.epoch block
+misspelt_breaks c from at tree charges block done finds = record {
   at = at;
   blocks = refl;
   of_epoch = refl;
@@ -52,9 +58,9 @@ misspelt_breaks c from at tree block done finds = record {
 }
 
 -- a change that can't be made
-pub inapplicable_breaks : (c : Contents) (from : Tree) (at : LogPosition) (tree : Tree) (change : TheChange) (block : ℕ) → HasReplayed c from at tree → Finds c at (Change change) → apply version_1 change tree ≡ None
+pub inapplicable_breaks : (c : Contents) (from : Tree) (at : LogPosition) (tree : Tree) (charges : ℕ) (change : TheChange) (block : ℕ) → HasReplayed c from at tree charges → Finds c at (Change change) → apply version_1 change tree ≡ None
     → block ≡ (base_at at + at.place) / 8 → BreaksAt c version_1 from at.blocks at.epoch block
-inapplicable_breaks c from at tree change block done finds none is = record {
+inapplicable_breaks c from at tree charges change block done finds none is = record {
   at = at;
   blocks = refl;
   of_epoch = refl;

@@ -17,7 +17,10 @@ use Rattle.sn_log.specs.Places.{LogPosition}
 use Rattle.sn_image.specs.Image.{image}
 use Rattle.sn_image.specs.Sound.{IsSound}
 use Rattle.sn_sound.specs.Disks.{IsFormatted}
+use Rattle.sn_overlay.specs.Needs.{nameless_in}
+use Rattle.sn_room.specs.Rooms.{RoomCounts}
 use Rattle.sn_mount.specs.Both.{HasBoth}
+use Rattle.sn_mount.specs.Rooms.{FindsRoom}
 
 -- A disk of n blocks has this newest root, and at the first place of neither half of its log stands a record of an epoch later than the next.
 pub record HasRoot (sectors : ℕ) (c : Contents) (n : ℕ) (slot : Slot) (root : RootBody) : Type 0 where
@@ -43,10 +46,12 @@ IsUnsound sectors c file fault.NoRoot = Unit {0}
 IsUnsound sectors c file fault.Memory = Unit {0}
 IsUnsound sectors c file fault.Device = Unit {0}
 
--- The tree of the newest root, with the records of both epochs on top of it, is the live tree of a world without sessions, and the log goes on at this position.
-pub record HasFound (sectors : ℕ) (c : Contents) (at : LogPosition) (world : World) : Type 0 where
+-- The tree of the newest root, with the records of both epochs on top of it, is the live tree of a world without sessions, the log goes on at this position, and what is charged for the records is no more than is free.
+pub record HasFound (sectors : ℕ) (c : Contents) (at : LogPosition) (world : World) (room : RoomCounts) : Type 0 where
   pub slot : Slot
   pub root : RootBody
   pub roots : HasRoot sectors c at.blocks slot root
-  pub both : HasBoth c (image (store_of c) root.inode_file) at.blocks root.epoch at world.live
+  pub charges : ℕ
+  pub both : HasBoth c (image (store_of c) root.inode_file) at.blocks root.epoch at world.live charges
+  pub finds : FindsRoom at.blocks c slot root charges (nameless_in (image (store_of c) root.inode_file)) room
   pub is : world ≡ with_live new_world world.live

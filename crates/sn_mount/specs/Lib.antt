@@ -3,5 +3,6 @@ pub mod Examining
 pub mod Refusing
 pub mod Replaying
 pub mod Both
+pub mod Rooms
 pub mod Finding
 pub mod Recovering

@@ -17,6 +17,8 @@ use Rattle.sn_log.specs.Places.{LogPosition}
 use Rattle.sn_sound.specs.Disks.{IsFormatted}
 use Rattle.sn_held.specs.Held.{Runs}
 use Rattle.sn_held.specs.Images.{IsLiveImage}
+use Rattle.sn_held.specs.Room.{HasRoomOf}
+use Rattle.sn_room.specs.Rooms.{RoomCounts}
 use Rattle.sn_mount.specs.Refusing.{Refuses}
 use Rattle.sn_mount.specs.declared.found.Recovered.{Recovered}
 
@@ -40,10 +42,11 @@ pub record LeavesTheWorld (old new : Disk) (world : World) : Type 0 where
   pub synced : IsSynced mid
   pub moments : LeavesOnly mid new (λ c. IsLiveImage c world)
 
--- The world that the disk was an image of runs, over a log that goes on at this position, and at no moment a crash would have left another.
-pub record IsRecovered (sectors : ℕ) (at : LogPosition) (found : World) (old new : Disk) (world : World) : Type 0 where
+-- The world that the disk was an image of runs, over a log that goes on at this position and with the room that the image has, and at no moment a crash would have left another.
+pub record IsRecovered (sectors : ℕ) (at : LogPosition) (found : World) (room : RoomCounts) (old new : Disk) (world : World) : Type 0 where
   pub is : found ≡ world
-  pub runs : (kept : ℕ → Bool) (status : Status) → Runs (record { world = world; kept = kept; at = at; disk = new; status = status }) world
+  pub room_is : HasRoomOf (reads old) world room
+  pub runs : (kept : ℕ → Bool) (status : Status) → Runs (record { world = world; kept = kept; room = room; at = at; disk = new; status = status }) world
   pub leaves : LeavesTheWorld old new world
 
 -- either nothing was written, or at no moment a crash would have left another world
@@ -65,5 +68,5 @@ OfImage old P = (world : World) → IsLiveImage (reads old) world → P world
 
 -- What was an image of a world runs. Otherwise there is a cause, and the world, if any, is still there.
 abbrev pub Recovers : Result Recovered MountFault → ℕ → Disk → Disk → Type 0
-Recovers (Ok r) sectors old new = TouchesOneGate sectors old new × OfImage old (IsRecovered sectors r.log (world_of r.world) old new)
+Recovers (Ok r) sectors old new = TouchesOneGate sectors old new × OfImage old (IsRecovered sectors r.log (world_of r.world) r.room old new)
 Recovers (Err f) sectors old new = Refuses f sectors (reads old) × WritesAtFault f sectors old new × OfImage old (KeepsTheWorld old new)

@@ -1,5 +1,5 @@
 -- Why a disk isn't mounted.
-use Rattle.std.specs.Prelude.{◌≡◌, ℕ, Result, IfErr}
+use Rattle.std.specs.Prelude.{◌≡◌, ℕ, List, Result, IfErr, slice_index}
 use Rattle.sn_device.specs.Sectors.{Contents}
 use Rattle.sn_layout.specs.Places.{start_of}
 use Rattle.sn_layout.specs.declared.places.Area.TheVariants.{RootBody as Body}
@@ -10,12 +10,13 @@ use Rattle.sn_model.specs.declared.mount.Damage.TheVariants.{Root, Pointer, Reac
 use Rattle.sn_model.specs.declared.mount.MountFault.{MountFault}
 use Rattle.sn_model.specs.declared.mount.MountFault.TheVariants as fault
 use Rattle.sn_model.specs.World.{World}
+use Rattle.sn_ondisk.specs.MapCopy.{HasMap}
 use Rattle.sn_ondisk.specs.Roots.{IsNewest}
 use Rattle.sn_ondisk.specs.Trees.{store_of}
 use Rattle.sn_image.specs.Sound.{IsSound}
 use Rattle.sn_sound.specs.Disks.{IsFormatted}
 use Rattle.sn_sound.specs.Logs.{IsLogFault}
-use Rattle.sn_sound.specs.Maps.{free_blocks}
+use Rattle.sn_sound.specs.Maps.{IsSoundRoot, free_blocks}
 use Rattle.sn_sound.specs.Verdicts.{HasNoVerdict, IsRootFault, IsSomeSize}
 use Rattle.sn_held.specs.Images.{IsImage}
 
@@ -23,14 +24,20 @@ use Rattle.sn_held.specs.Images.{IsImage}
 abbrev pub IsNoImage : Contents → Type 0
 IsNoImage c = (world : World) → IsImage c world → ⊥
 
--- The log has a fault at this block.
+-- A number of free blocks that is the root's where the map is right.
+abbrev pub TellsFree : ℕ → Contents → Slot → RootBody → ℕ → Type 0
+TellsFree n c slot root free = (words : List ℕ) → HasMap n c slot words → IsSoundRoot n (store_of c) root (slice_index words) → free ≡ free_blocks n (store_of c) root
+
+-- The log has a fault at this block. How much is free was told by the map.
 pub record HasLogFault (sectors : ℕ) (c : Contents) (block : ℕ) : Type 0 where
   pub blocks : ℕ
   pub formatted : IsFormatted sectors c blocks
   pub slot : Slot
   pub root : RootBody
   pub newest : IsNewest c slot root
-  pub is : IsLogFault blocks c root (free_blocks blocks (store_of c) root) block
+  pub free : ℕ
+  pub told : TellsFree blocks c slot root free
+  pub is : IsLogFault blocks c root free block
 
 -- The tree of the newest root is unsound, which is told of the block of the root's body.
 pub record HasUnsoundTree (sectors : ℕ) (c : Contents) (block : ℕ) : Type 0 where

@@ -9,17 +9,17 @@ ghost use Rattle.sn_model.specs.Steps.{with_live};
 ghost use Rattle.sn_mount.specs.Both.{ReplaysBoth};
 ghost use Rattle.sn_mount.specs.Failing.{FailsAs, WritesNothing};
 
-use crate::replaying::replay_epoch;
+use crate::replaying::{Replayed, replay_epoch};
 use sn_block::Blocks;
 use sn_core::PlainWorld;
 use sn_device::Device;
 use sn_layout::Places;
-use sn_log::{Buffer, Position};
+use sn_log::Buffer;
 use sn_model::MountFault;
 use std::alloc::Global;
 
-/// Replays the records of the root's epoch and then those of the next one, and answers where the log goes on: behind
-/// the last of them.
+/// Replays the records of the root's epoch and then those of the next one, and answers where the log goes on,
+/// behind the last of them, and what they are charged together.
 pub(crate) fn replay_both<D: Device>(
     alloc: Global,
     blocks: &mut Blocks<D>,
@@ -27,29 +27,36 @@ pub(crate) fn replay_both<D: Device>(
     world: &mut PlainWorld,
     places: Places,
     epoch: u64,
-) -> Result<Position, MountFault>
+) -> Result<Replayed, MountFault>
     requires whole { IsTree version_1 (world_of world.old).live }
     requires disk { 8 * places ≤ (D.status (device_of blocks.old)).sectors }
     requires epoch { epoch ≤ 2 ^ 62 }
     ensures replayed { IsTrue D.tells_bytes → ReplaysBoth result (reads (D.disk (device_of blocks.old))) (world_of world.old).live places epoch (world_of world.new).live }
     ensures rest { world_of world.new ≡ with_live (world_of world.old) (world_of world.new).live }
     ensures whole { IsTree version_1 (world_of world.new).live }
-    ensures blocks { IfOk result (λ at. at.blocks ≡ places) }
+    ensures blocks { IfOk result (λ r. r.at.blocks ≡ places) }
     ensures same { IsTrue D.tells_bytes → D.disk (device_of blocks.new) ≡ D.disk (device_of blocks.old) }
     ensures idle { OnOk result (D.status (device_of blocks.new) ≡ D.status (device_of blocks.old)) }
     ensures reads { WritesNothing (D.status (device_of blocks.old)) (D.status (device_of blocks.new)) }
     ensures failed { FailsAs result (D.status (device_of blocks.old)) (D.status (device_of blocks.new)) }
 {
     let older = match replay_epoch(alloc, blocks, buffer, world, places, epoch) {
-        Ok(at) => at,
+        Ok(replayed) => replayed,
         Err(fault) => return Err(fault),
     };
     let newer = match replay_epoch(alloc, blocks, buffer, world, places, epoch + 1) {
-        Ok(at) => at,
+        Ok(replayed) => replayed,
         Err(fault) => return Err(fault),
     };
-    if newer.count() == 0 {
-        return Ok(older);
+    let charges = older.charges + newer.charges;
+    if newer.at.count() == 0 {
+        return Ok(Replayed {
+            at: older.at,
+            charges,
+        });
     }
-    Ok(newer)
+    Ok(Replayed {
+        at: newer.at,
+        charges,
+    })
 }

@@ -1,5 +1,5 @@
 //! All that a mount reads.
-ghost use Rattle.std.specs.Prelude.{◌≡◌, ◌*◌, ◌≤◌, IsTrue, IfOk, OnOk};
+ghost use Rattle.std.specs.Prelude.{◌≡◌, ◌*◌, ◌≤◌, ◌^◌, IsTrue, IfOk, OnOk};
 ghost use Rattle.sn_device.specs.Disk.{reads};
 ghost use Rattle.sn_block.specs.Lending.{device_of};
 ghost use Rattle.sn_core.specs.Plain.{world_of};
@@ -15,12 +15,15 @@ ghost use Rattle.sn_mount.specs.Refusing.{RefusesAs};
 use crate::both::replay_both;
 use crate::examining::{disk_size, newest_root, none_later};
 use crate::loading::load_world;
+use crate::replaying::Replayed;
+use crate::room::find_room;
 use sn_block::Blocks;
 use sn_core::PlainWorld;
 use sn_device::Device;
 use sn_layout::{Area, Places, RootBody, Slot};
 use sn_log::{Buffer, Position};
 use sn_model::MountFault;
+use sn_room::Room;
 use std::alloc::Global;
 
 /// The newest root, and how large its disk is.
@@ -31,12 +34,13 @@ pub(crate) struct DiskRoot {
     pub root: RootBody,
 }
 
-/// What a mount has read: the live tree with the log on top of it, and where the log goes on.
+/// What a mount has read: the live tree with the log on top of it, where the log goes on, and the room that is left.
 #[derive(Drop)]
 pub(crate) struct Found {
     pub places: Places,
     pub at: Position,
     pub world: PlainWorld,
+    pub room: Room,
 }
 
 /// Reads superblock and roots, and looks for records of later epochs.
@@ -68,13 +72,14 @@ pub(crate) fn find_root<D: Device>(blocks: &mut Blocks<D>) -> Result<DiskRoot, M
     }
 }
 
-/// Reads the root's tree into memory, and replays the log into it.
+/// Reads the root's tree into memory, replays the log into it, and looks whether what that is charged is free.
 pub(crate) fn find<D: Device>(
     alloc: Global,
     blocks: &mut Blocks<D>,
     buffer: &mut Buffer,
 ) -> Result<Found, MountFault>
-    ensures found { IsTrue D.tells_bytes → IfOk result (λ f. HasFound (D.status (device_of blocks.old)).sectors (reads (D.disk (device_of blocks.old))) f.at (world_of f.world)) }
+    ensures found { IsTrue D.tells_bytes → IfOk result (λ f. HasFound (D.status (device_of blocks.old)).sectors (reads (D.disk (device_of blocks.old))) f.at (world_of f.world) f.room) }
+    ensures few { IfOk result (λ f. f.room.dropped ≤ 2 ^ 32) }
     ensures rest { IfOk result (λ f. world_of f.world ≡ with_live new_world (world_of f.world).live) }
     ensures whole { IfOk result (λ f. IsTree version_1 (world_of f.world).live) }
     ensures blocks { IfOk result (λ f. f.at.blocks ≡ f.places) }
@@ -94,8 +99,18 @@ pub(crate) fn find<D: Device>(
         Ok(world) => world,
         Err(fault) => return Err(fault),
     };
-    match replay_both(alloc, blocks, buffer, &mut world, places, root.epoch) {
-        Ok(at) => Ok(Found { places, at, world }),
+    let dropped = world.nameless();
+    let Replayed { at, charges } = match replay_both(alloc, blocks, buffer, &mut world, places, root.epoch) {
+        Ok(replayed) => replayed,
+        Err(fault) => return Err(fault),
+    };
+    match find_room(alloc, blocks, places, slot, &root, charges, dropped) {
+        Ok(room) => Ok(Found {
+            places,
+            at,
+            world,
+            room,
+        }),
         Err(fault) => Err(fault),
     }
 }

@@ -3,7 +3,7 @@
 //! The model. `sn_held` says when contents are an image of a world (`IsImage`), and what a mounted file system over a
 //! root holds (`Runs`). [`recover`] leads from the one to the other: it syncs, reads superblock and roots, looks at
 //! the first places of both halves of the log, loads the newest root's tree by `sn_load`, replays the records of its
-//! epoch and then those of the next one, drops the files that no name stands for, and clears the place behind the last
+//! epoch and then those of the next one, looks whether what they are charged is free, drops the files that no name stands for, and clears the place behind the last
 //! record.
 //!
 //! What the clauses say, those on bytes of each device that tells them:
@@ -17,13 +17,13 @@
 //!
 //! The way through: `specs/Refusing.antt` says why there is no mount, `Finding.antt` and `Both.antt` what is read,
 //! `Recovering.antt` what a mount makes of a disk. `examining` reads what stands first, `loading` the tree,
-//! `replaying` and `both` the log; `finding` puts them together, and `recovering` has the two writes and syncs.
+//! `replaying` and `both` the log, `room` the map; `finding` puts them together, and `recovering` has the two writes and syncs.
 //!
 //! What the sources leave open is decided in `docs/DECISIONS.md`, under "Mount of a root".
 //!
 //! ```text
 //! let mut blocks = Blocks::new(alloc, device)?;
-//! let Recovered { log, world } = recover(alloc, &mut blocks)?;
+//! let Recovered { log, world, room } = recover(alloc, &mut blocks)?;
 //! ```
 #![tactic(auto)]
 
@@ -35,6 +35,7 @@ mod found;
 mod loading;
 mod recovering;
 mod replaying;
+mod room;
 
 pub use found::Recovered;
 pub use recovering::recover;

@@ -1,5 +1,5 @@
 //! Replay of the log.
-ghost use Rattle.std.specs.Prelude.{◌≡◌, ◌*◌, ◌≤◌, ◌<◌, true, IsTrue, IfOk, OnOk};
+ghost use Rattle.std.specs.Prelude.{◌≡◌, ◌*◌, ◌≤◌, ◌<◌, ◌^◌, true, IsTrue, IfOk, OnOk};
 ghost use Rattle.sn_device.specs.Disk.{reads};
 ghost use Rattle.sn_block.specs.Lending.{device_of};
 ghost use Rattle.sn_core.specs.Plain.{world_of};
@@ -20,19 +20,29 @@ use sn_model::{Damage, MountFault};
 use sn_plain::ApplyError;
 use std::alloc::Global;
 
-/// Replays the next record of an epoch, if there is one.
+/// What was replayed of an epoch: where its records end, and what they are charged.
+#[derive(Drop)]
+pub(crate) struct Replayed {
+    pub at: Position,
+    pub charges: u128,
+}
+
+/// Replays the next record of an epoch, if there is one, and charges it.
 pub(crate) fn replay_next<D: Device>(
     alloc: Global,
     blocks: &mut Blocks<D>,
     buffer: &mut Buffer,
     replay: &mut Replay,
+    charges: &mut u128,
     world: &mut PlainWorld,
 ) -> Result<bool, MountFault>
+    requires few { charges.old ≤ 2 ^ 64 * replay.old.place }
     requires whole { IsTree version_1 (world_of world.old).live }
     requires disk { 8 * replay.old.blocks ≤ (D.status (device_of blocks.old)).sectors }
     ensures replayed { IsTrue D.tells_bytes → (from : Tree)
-        → HasReplayed (reads (D.disk (device_of blocks.old))) from replay.old (world_of world.old).live
-        → ReplaysOne result (reads (D.disk (device_of blocks.old))) from replay.old (world_of world.old).live replay.new (world_of world.new).live }
+        → HasReplayed (reads (D.disk (device_of blocks.old))) from replay.old (world_of world.old).live charges.old
+        → ReplaysOne result (reads (D.disk (device_of blocks.old))) from replay.old (world_of world.old).live charges.old replay.new (world_of world.new).live charges.new }
+    ensures few { OnOk result (charges.new ≤ 2 ^ 64 * replay.new.place) }
     ensures rest { world_of world.new ≡ with_live (world_of world.old) (world_of world.new).live }
     ensures whole { IsTree version_1 (world_of world.new).live }
     ensures blocks { replay.new.blocks ≡ replay.old.blocks }
@@ -49,14 +59,20 @@ pub(crate) fn replay_next<D: Device>(
     // It bounds the place.
     let _place = at.place();
     match replay.next(blocks, buffer) {
-        Ok(Found::Change(change)) => match world.apply(alloc, &change) {
-            Ok(()) => Ok(true),
-            Err(ApplyError::Memory) => Err(MountFault::Memory),
-            Err(ApplyError::CannotApply) => Err(MountFault::Damaged {
-                damage: Damage::Log,
-                block: at.block(),
-            }),
-        },
+        Ok(Found::Change(change)) => {
+            let charge = world.charge(&change);
+            match world.apply(alloc, &change) {
+                Ok(()) => {
+                    *charges += u128::from(charge);
+                    Ok(true)
+                }
+                Err(ApplyError::Memory) => Err(MountFault::Memory),
+                Err(ApplyError::CannotApply) => Err(MountFault::Damaged {
+                    damage: Damage::Log,
+                    block: at.block(),
+                }),
+            }
+        }
         Ok(Found::End) => Ok(false),
         Ok(Found::Misspelt { block }) => Err(MountFault::Damaged {
             damage: Damage::Log,
@@ -66,7 +82,7 @@ pub(crate) fn replay_next<D: Device>(
     }
 }
 
-/// Replays all records of an epoch, and answers where they end.
+/// Replays all records of an epoch, and answers where they end and what they are charged.
 pub(crate) fn replay_epoch<D: Device>(
     alloc: Global,
     blocks: &mut Blocks<D>,
@@ -74,23 +90,28 @@ pub(crate) fn replay_epoch<D: Device>(
     world: &mut PlainWorld,
     places: Places,
     epoch: u64,
-) -> Result<Position, MountFault>
+) -> Result<Replayed, MountFault>
     requires whole { IsTree version_1 (world_of world.old).live }
     requires disk { 8 * places ≤ (D.status (device_of blocks.old)).sectors }
     ensures replayed { IsTrue D.tells_bytes → ReplaysAll result (reads (D.disk (device_of blocks.old))) (world_of world.old).live places epoch (world_of world.new).live }
     ensures rest { world_of world.new ≡ with_live (world_of world.old) (world_of world.new).live }
     ensures whole { IsTree version_1 (world_of world.new).live }
-    ensures blocks { IfOk result (λ at. at.blocks ≡ places) }
-    ensures epoch { IfOk result (λ at. at.epoch ≡ epoch) }
+    ensures few { IfOk result (λ r. r.charges ≤ 2 ^ 72) }
+    ensures blocks { IfOk result (λ r. r.at.blocks ≡ places) }
+    ensures epoch { IfOk result (λ r. r.at.epoch ≡ epoch) }
     ensures same { IsTrue D.tells_bytes → D.disk (device_of blocks.new) ≡ D.disk (device_of blocks.old) }
     ensures idle { OnOk result (D.status (device_of blocks.new) ≡ D.status (device_of blocks.old)) }
     ensures reads { WritesNothing (D.status (device_of blocks.old)) (D.status (device_of blocks.new)) }
     ensures failed { FailsAs result (D.status (device_of blocks.old)) (D.status (device_of blocks.new)) }
 {
     let mut replay = Replay::new(places, epoch);
+    let mut charges = 0;
     let mut more = true;
     while more {
-        more = replay_next(alloc, blocks, buffer, &mut replay, world)?;
+        more = replay_next(alloc, blocks, buffer, &mut replay, &mut charges, world)?;
     }
-    Ok(replay.position())
+    let at = replay.position();
+    // It bounds the charges.
+    let _place = at.place();
+    Ok(Replayed { at, charges })
 }

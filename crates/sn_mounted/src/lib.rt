@@ -16,5 +16,5 @@ mod mounted;
 mod tears;
 
 pub use asking::{line_of, login, mkdir, number_of, stat};
-pub use mounted::{Mounted, new_device, remounted};
+pub use mounted::{Mounted, least_device, new_device, remounted};
 pub use tears::{FILLS, crashed};

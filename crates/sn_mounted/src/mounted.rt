@@ -10,11 +10,11 @@ use sn_script::read_script;
 use std::alloc::Global;
 use std::marker::Model;
 
-/// The sectors of the disk.
-const SECTORS: u64 = 2048;
+/// The blocks of a disk whose log is full before its blocks are.
+const BLOCKS: u32 = 4_096;
 
-/// And its blocks.
-const BLOCKS: u32 = 256;
+/// And of the least one.
+const LEAST_BLOCKS: u32 = 256;
 
 /// A mounted file system.
 #[derive(Drop)]
@@ -93,12 +93,22 @@ impl Mounted {
     }
 }
 
-/// A formatted disk, whose counts begin anew.
-pub fn new_device(alloc: Global) -> Result<MemDevice> {
-    match mkfs(alloc, MemDevice::new(alloc, SECTORS)?, BLOCKS) {
+/// A formatted disk of so many blocks, whose counts begin anew.
+fn formatted(alloc: Global, blocks: u32) -> Result<MemDevice> {
+    match mkfs(alloc, MemDevice::new(alloc, 8 * u64::from(blocks))?, blocks) {
         Ok(device) => Ok(device.crash(Fill::Old)),
         Err(_) => bail!("no disk where there is no fault"),
     }
+}
+
+/// A formatted disk on which short changes fill the log before they fill the blocks.
+pub fn new_device(alloc: Global) -> Result<MemDevice> {
+    formatted(alloc, BLOCKS)
+}
+
+/// The least disk, formatted.
+pub fn least_device(alloc: Global) -> Result<MemDevice> {
+    formatted(alloc, LEAST_BLOCKS)
 }
 
 /// Mounts a device that has no fault, and whose log is one.

@@ -49,13 +49,17 @@ charged_behind limits room nameless o = room.charged + o.charge + limits.inode_c
 abbrev pub fits : Limits → RoomCounts → ℕ → Outcome → Bool
 fits limits room nameless o = nat_le (charged_behind limits room nameless o + (if gives_back o.change then 0 else limits.reserve)) room.free
 
+-- what was charged, with an inode's charge for each file that was dropped, is no more than is free
+abbrev pub is_covered : Limits → RoomCounts → Bool
+is_covered limits room = nat_le (room.charged + limits.inode_charge * room.dropped) room.free
+
 -- ---- how it changes
 
 abbrev pub logged : ℕ → RoomCounts → RoomCounts
 logged charge room = record room { charged = room.charged + charge; charged_since = room.charged_since + charge }
 
-abbrev pub dropping : RoomCounts → RoomCounts
-dropping room = record room { dropped = room.dropped + 1; dropped_since = room.dropped_since + 1 }
+abbrev pub dropping : ℕ → RoomCounts → RoomCounts
+dropping count room = record room { dropped = room.dropped + count; dropped_since = room.dropped_since + count }
 
 -- a point begins
 abbrev pub begun : RoomCounts → RoomCounts
@@ -68,3 +72,7 @@ done free room = record room { free = free; charged = room.charged_since; droppe
 -- nothing is charged against so many blocks
 abbrev pub fresh : ℕ → RoomCounts
 fresh free = record { free = free; charged = 0; charged_since = 0; dropped = 0; dropped_since = 0 }
+
+-- Behind a mount, which makes no point: all that was charged, and was dropped, came since the root's moment.
+abbrev pub mounted : ℕ → ℕ → ℕ → RoomCounts
+mounted free charged dropped = record { free = free; charged = charged; charged_since = charged; dropped = dropped; dropped_since = dropped }

@@ -1,6 +1,6 @@
 //! What is kept of room.
-ghost use Rattle.std.specs.Prelude.{◌≡◌, ◌+◌, ◌<◌, ◌≤◌, ◌^◌};
-ghost use Rattle.sn_room.specs.Rooms.{begun, done, dropping, fits, fresh, gives_back, logged};
+ghost use Rattle.std.specs.Prelude.{◌≡◌, ◌+◌, ◌<◌, ◌≤◌, ◌^◌, IfNone, IfSome, IsTrue, false, true};
+ghost use Rattle.sn_room.specs.Rooms.{begun, charged_behind, done, dropping, fits, fresh, gives_back, is_covered, logged, mounted};
 
 use sn_limits::Limits;
 use sn_model::{Change, Outcome, Pending};
@@ -52,6 +52,26 @@ impl Room {
         }
     }
 
+    /// Behind a mount, where so many data blocks are free, what was replayed was charged so much, and so many files were
+    /// dropped that the root's tree has without names. None where these charges are more than is free.
+    pub fn mounted(limits: &Limits, free: u32, charged: u128, dropped: u32) -> Option<Room>
+        ensures covered { IfSome result (λ room. (room ≡ mounted free charged dropped) × (is_covered limits.now (mounted free charged dropped) ≡ true)) }
+        ensures uncovered { IfNone result (is_covered limits.now (mounted free charged dropped) ≡ false) }
+    {
+        let parked = u128::from(limits.inode_charge) * u128::from(dropped);
+        let within = u128::from(free);
+        if charged > within || charged + parked > within {
+            return None;
+        }
+        Some(Room {
+            free,
+            charged: charged as u64,
+            charged_since: charged as u64,
+            dropped: u64::from(dropped),
+            dropped_since: u64::from(dropped),
+        })
+    }
+
     /// The data blocks that no durable root reaches.
     pub fn free(&self) -> u32
         ensures { result ≡ self.now.free }
@@ -61,7 +81,8 @@ impl Room {
 
     /// Whether a call fits that comes to this, where so many live files have no name.
     pub fn fits(&self, limits: &Limits, nameless: u32, outcome: &Outcome<'_>) -> bool
-        ensures { result ≡ fits limits.now self.now nameless outcome.now }
+        ensures exact { result ≡ fits limits.now self.now nameless outcome.now }
+        ensures within { IsTrue result → charged_behind limits.now self.now nameless outcome.now < 2 ^ 32 }
     {
         let parked = u128::from(nameless) + u128::from(self.dropped);
         let reserve = if gives_back(&outcome.change) {
@@ -83,13 +104,13 @@ impl Room {
         self.charged_since += charge;
     }
 
-    /// A close or a logout dropped a file that no name stood for.
-    pub fn drop_file(&mut self)
-        requires { self.old.dropped + 1 < 2 ^ 64 }
-        ensures { self.new ≡ dropping self.old }
+    /// A close or a logout dropped so many files that no name stood for.
+    pub fn drop_files(&mut self, count: u32)
+        requires { self.old.dropped + count < 2 ^ 64 }
+        ensures { self.new ≡ dropping count self.old }
     {
-        self.dropped += 1;
-        self.dropped_since += 1;
+        self.dropped += u64::from(count);
+        self.dropped_since += u64::from(count);
     }
 
     /// A consistency point begins.

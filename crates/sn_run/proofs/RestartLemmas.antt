@@ -57,6 +57,7 @@ runs_step h (Running w) m = record {
   writes = Touches-start Nowhere h.disk;
   begins = tt;
   numbers = step_numbers w h.kept;
+  room = refl;
   later = later-same h.status h.status refl;
   costs = refl;
   works = λ e. done_is_more e;
@@ -77,6 +78,7 @@ stopped_step h (Stopped before after) m = record {
   writes = Touches-start Nowhere h.disk;
   begins = tt;
   numbers = tt;
+  room = tt;
   later = later-same h.status h.status refl;
   costs = refl;
   works = λ e. refused_is_more e;
@@ -133,6 +135,7 @@ module _ (old new : Held) (had : Bool) (whole : AreSectors (reads old.disk)) (co
         writes = inr m.touched;
         begins = it.leaves;
         numbers = restart_numbers w (settle w) old.kept new.kept refl m.none_kept;
+        room = it.room;
         later = later-is 1 2 old.status new.status costs;
         costs = costs;
         works = tt;
@@ -154,6 +157,7 @@ module _ (old new : Held) (had : Bool) (whole : AreSectors (reads old.disk)) (co
             writes = inr m.touched;
             begins = it.leaves;
             numbers = m.none_kept;
+            room = it.room;
             later = later-is 1 2 old.status new.status costs;
             costs = costs;
             works = tt;
@@ -227,6 +231,7 @@ module _ (old new : Held) (had : Bool) (f : MountFault) (whole : AreSectors (rea
         writes = writes_to_mount f old.status.sectors old.disk new.disk left.touched;
         begins = tt;
         numbers = tt;
+        room = tt;
         later = later;
         costs = costs;
         works = tt;
@@ -252,6 +257,7 @@ module _ (old new : Held) (had : Bool) (f : MountFault) (whole : AreSectors (rea
             writes = writes_to_mount f old.status.sectors old.disk new.disk left.touched;
             begins = tt;
             numbers = tt;
+            room = tt;
             later = later;
             costs = costs;
             works = tt;

@@ -24,6 +24,7 @@ use Rattle.sn_model.specs.Tests.{plain}
 use Rattle.sn_model.specs.World.{World, new_world}
 use Rattle.sn_log.specs.Places.{first_of}
 use Rattle.sn_core.proofs.StepLemmas.{run_more}
+use Rattle.sn_room.specs.Rooms.{fresh}
 use Rattle.sn_held.specs.Held.{Held, Means}
 use Rattle.sn_held.specs.Images.{IsLiveImage}
 use Rattle.sn_held.proofs.EventLemmas.{images_one, means_show}
@@ -83,6 +84,7 @@ module _ (events : List Event) (replies : List Reply) (disk last_disk : Disk) (s
         let a = subst (λ (b : Bool). AnswersAll events replies h b new has) m.running all (Running world) (subst (λ (b : Bool). Means h b (Running world)) m.running it.means) in
         record {
           means = subst (λ (b : Bool). Means h b (Running world)) m.running it.means;
+          room = it.room;
           leaves = it.leaves;
           last = record { state = a.state; held = new; has_stopped = has };
           run = a.run;
@@ -102,7 +104,7 @@ module _ (events : List Event) (replies : List Reply) (disk last_disk : Disk) (s
 
 -- a device alone
 abbrev bare : Disk → Status → Held
-bare disk status = record { world = new_world; kept = λ number. false; at = first_of 256 1; disk = disk; status = status }
+bare disk status = record { world = new_world; kept = λ number. false; room = fresh 0; at = first_of 256 1; disk = disk; status = status }
 
 module _ (events : List Event) (replies : List Reply) (disk last_disk : Disk) (status last_status : Status) (world : World) (count : length (reads disk) ≡ status.sectors) (image : IsLiveImage (reads disk) world) where
   served_leaves : (end : End) (mounted : Held) → IsServed world events replies end disk mounted last_disk last_status → LeavesItsRun world events replies disk last_disk

@@ -1,7 +1,7 @@
 -- Runs over a device, and what a crash leaves of them.
 use Rattle.std.specs.Prelude.{◌≡◌, ◌⊎◌, ℕ, Bool, false, List, [], ◌∷◌, ◌++◌, None}
 use Rattle.sn_device.specs.Sectors.{Contents}
-use Rattle.sn_device.specs.Disk.{Disk, Always}
+use Rattle.sn_device.specs.Disk.{Disk, Always, reads}
 use Rattle.sn_device.specs.Crash.{LeavesOnly, Touches}
 use Rattle.sn_device.specs.declared.status.Status.{Status}
 use Rattle.sn_block.specs.Counts.{IsLater, called}
@@ -18,6 +18,7 @@ use Rattle.sn_model.specs.World.{World}
 use Rattle.sn_sound.specs.Verdicts.{HasNoVerdict}
 use Rattle.sn_held.specs.Held.{Held, Means}
 use Rattle.sn_held.specs.Images.{IsLiveImage}
+use Rattle.sn_held.specs.Room.{HasRoomOf}
 use Rattle.sn_mount.specs.Failing.{CostsAtMost, IsSoOf}
 use Rattle.sn_mount.specs.Recovering.{LeavesTheWorld, OfImage, TouchesOneGate}
 use Rattle.sn_fs.specs.Answers.{AnswersFrom}
@@ -48,9 +49,10 @@ AnswersAll events replies old had_stopped new has_stopped = (s : State) → Mean
 abbrev pub start : World → Held → Standing
 start world h = record { state = Running world; held = h; has_stopped = false }
 
--- The world that the disk was an image of was mounted, and at no moment a crash would have left another. The events were answered; the last unmount calls nothing.
+-- The world that the disk was an image of was mounted, with the room that the image has, and at no moment a crash would have left another. The events were answered; the last unmount calls nothing.
 pub record IsServed (world : World) (events : List Event) (replies : List Reply) (end : End) (disk : Disk) (mounted : Held) (last_disk : Disk) (last_status : Status) : Type 0 where
   pub means : Means mounted false (Running world)
+  pub room : HasRoomOf (reads disk) world mounted.room
   pub leaves : LeavesTheWorld disk mounted.disk world
   pub last : Standing
   pub run : RunBy Goes (start world mounted) events replies last

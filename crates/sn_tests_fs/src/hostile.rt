@@ -14,7 +14,7 @@ use std::alloc::Global;
 const HALVES: u32 = 3_000;
 
 /// The first sector of the half.
-const FIRST: u64 = 304;
+const FIRST: u64 = 352;
 
 /// The directories that may be there: four, and four in each of them.
 const PATHS: [&str; 20] = [

@@ -5,7 +5,7 @@
 
 use anyhow::{Result, ensure};
 use sn_device::{Device, Fill, MemDevice, SECTOR_SIZE, Sector};
-use sn_mounted::new_device;
+use sn_mounted::least_device;
 use std::alloc::Global;
 
 /// The first place of the log of epoch 1.
@@ -62,7 +62,7 @@ fn put(device: &mut MemDevice, at: u64, sector: &Sector) -> Result<()> {
 }
 
 pub fn inheriting_device(alloc: Global) -> Result<MemDevice> {
-    let mut device = new_device(alloc)?;
+    let mut device = least_device(alloc)?;
     put(&mut device, GATE, &gate())?;
     put(&mut device, GATE + 1, &body())?;
     Ok(device.crash(Fill::New))

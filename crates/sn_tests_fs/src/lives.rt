@@ -3,12 +3,13 @@
 use anyhow::{Context, Result, bail};
 use sn_device::{Fill, MemDevice};
 use sn_model::{Call, Reply};
-use sn_mounted::{Mounted, line_of, login, mkdir, new_device, remounted, stat};
+use sn_mounted::{Mounted, least_device, line_of, login, mkdir, new_device, remounted, stat};
 use sn_table::{Case, Report};
 use std::alloc::Global;
 
 pub fn run(report: &mut Report<'_>) -> Result<()> {
     report.script("calls.txt", replies)?;
+    report.script("room.txt", replies_in_little_room)?;
     report.table("stops.txt", stops)
 }
 
@@ -25,17 +26,21 @@ fn fill_of(word: &str) -> Result<Fill> {
 
 /// A line for each line of a script, in which `crash` and a fill stand for a crash and a mount.
 fn replies(alloc: Global, script: &str) -> Result<String> {
-    let mut text = String::new(alloc);
-    push_replies(alloc, script, &mut text)?;
-    Ok(text)
+    replies_on(alloc, new_device(alloc)?, script)
 }
 
-fn push_replies(alloc: Global, script: &str, text: &mut String) -> Result<()> {
-    let mut mounted = remounted(alloc, new_device(alloc)?)?;
+/// The same on the least disk, whose blocks are full before its log is.
+fn replies_in_little_room(alloc: Global, script: &str) -> Result<String> {
+    replies_on(alloc, least_device(alloc)?, script)
+}
+
+fn replies_on(alloc: Global, device: MemDevice, script: &str) -> Result<String> {
+    let mut text = String::new(alloc);
+    let mut mounted = remounted(alloc, device)?;
     for line in script.lines() {
-        mounted = answered(alloc, mounted, line, text)?;
+        mounted = answered(alloc, mounted, line, &mut text)?;
     }
-    Ok(())
+    Ok(text)
 }
 
 /// The file system behind a line.
@@ -99,7 +104,7 @@ fn push_lives(alloc: Global, lives: &str, text: &mut String) -> Result<()> {
 }
 
 fn first_life(alloc: Global, life: Life, text: &mut String) -> Result<MemDevice> {
-    let mut device = new_device(alloc)?;
+    let mut device = least_device(alloc)?;
     device.stop_at(life.stop);
     let device = push_first(alloc, device, text)?;
     Ok(device.crash(life.fill))

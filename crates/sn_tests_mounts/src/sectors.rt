@@ -11,10 +11,10 @@ use std::alloc::Global;
 pub const EPOCH: u64 = 1;
 
 /// The first block of the half.
-pub const FIRST_BLOCK: u32 = 38;
+pub const FIRST_BLOCK: u32 = 44;
 
 /// The first sector of the half.
-const FIRST: u64 = 304;
+const FIRST: u64 = 352;
 
 /// The sectors of a half.
 pub const PLACES: u64 = 256;

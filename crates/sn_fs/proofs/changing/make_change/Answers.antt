@@ -6,9 +6,11 @@ pub returns-in-Ok-append-clause-made : goal.returns-in-Ok-append-clause-made
 returns-in-Ok-append-clause-made g c =
     let made = c.in-Ok.ensures.made in
     record {
+      fits = c.if-not-fits.false;
       room = c.has_room.ensures.0 c.if-not-has_room.false;
       made = record { tree = made.0; applied = made.1; world = made.2 };
       kept = c.in-Ok.ensures.kept;
+      charged = c.log.ensures;
       at = c.in-Ok-append.ensures.moves;
       touched = λ told. (c.in-Ok-append.ensures.disk told).touched;
       moments = λ told. (c.in-Ok-append.ensures.disk told).any_moment;
@@ -21,6 +23,7 @@ pub returns-in-Err-append-clause-made : goal.returns-in-Err-append-clause-made
 returns-in-Err-append-clause-made g c =
     let made = c.in-Ok.ensures.made in
     record {
+      fits = c.if-not-fits.false;
       room = c.has_room.ensures.0 c.if-not-has_room.false;
       made = record { tree = made.0; applied = made.1; world = made.2 };
       touched = λ told. (c.in-Err-append.ensures.disk told).touched;

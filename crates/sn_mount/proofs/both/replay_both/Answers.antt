@@ -12,22 +12,25 @@ returns-in-Err-replay_epoch-clause-replayed g c told =
     let middle = (world_of c.replay_epoch.new.world).live in
     let f = c.in-Err-replay_epoch.fault in
     let breaks = subst (λ (d : Disk). Breaks f (reads d) middle c.args.places (c.args.epoch + 1)) (c.in-Ok.ensures.same told) (c.in-Err-replay_epoch.ensures.replayed told) in
-    newer_fails f (reads disk) (world_of c.args.world.now).live c.args.places c.args.epoch c.in-Ok.at middle (world_of c.replay_epoch-2.new.world).live
+    newer_fails f (reads disk) (world_of c.args.world.now).live c.args.places c.args.epoch c.in-Ok.replayed.at middle (world_of c.replay_epoch-2.new.world).live c.in-Ok.replayed.charges
     (record { blocks = c.in-Ok.ensures.blocks; of_epoch = c.in-Ok.ensures.epoch; all = c.in-Ok.ensures.replayed told }) breaks
 
 pub returns-then-count-eq0-clause-replayed : goal.returns-then-count-eq0-clause-replayed
 returns-then-count-eq0-clause-replayed g c told =
     let second = c.in-Ok-replay_epoch in
     record {
-      older = c.in-Ok.at;
-      newer = second.at;
+      older = c.in-Ok.replayed.at;
+      newer = second.replayed.at;
       middle = (world_of c.replay_epoch.new.world).live;
+      first = c.in-Ok.replayed.charges;
+      second = second.replayed.charges;
       has_older = record { blocks = c.in-Ok.ensures.blocks; of_epoch = c.in-Ok.ensures.epoch; all = c.in-Ok.ensures.replayed told };
       has_newer = record {
         blocks = second.ensures.blocks;
         of_epoch = second.ensures.epoch;
-        all = subst (λ (d : Disk). HasAll (reads d) (world_of c.replay_epoch.new.world).live second.at (world_of c.replay_epoch-2.new.world).live) (c.in-Ok.ensures.same told) (second.ensures.replayed told);
+        all = subst (λ (d : Disk). HasAll (reads d) (world_of c.replay_epoch.new.world).live second.replayed.at (world_of c.replay_epoch-2.new.world).live second.replayed.charges) (c.in-Ok.ensures.same told) (second.ensures.replayed told);
       };
+      charged = refl;
       is = inl (sym c.count.ensures ∙ c.if-count-eq0.true, refl);
     }
 
@@ -35,14 +38,17 @@ pub returns-clause-replayed : goal.returns-clause-replayed
 returns-clause-replayed g c told =
     let second = c.in-Ok-replay_epoch in
     record {
-      older = c.in-Ok.at;
-      newer = second.at;
+      older = c.in-Ok.replayed.at;
+      newer = second.replayed.at;
       middle = (world_of c.replay_epoch.new.world).live;
+      first = c.in-Ok.replayed.charges;
+      second = second.replayed.charges;
       has_older = record { blocks = c.in-Ok.ensures.blocks; of_epoch = c.in-Ok.ensures.epoch; all = c.in-Ok.ensures.replayed told };
       has_newer = record {
         blocks = second.ensures.blocks;
         of_epoch = second.ensures.epoch;
-        all = subst (λ (d : Disk). HasAll (reads d) (world_of c.replay_epoch.new.world).live second.at (world_of c.replay_epoch-2.new.world).live) (c.in-Ok.ensures.same told) (second.ensures.replayed told);
+        all = subst (λ (d : Disk). HasAll (reads d) (world_of c.replay_epoch.new.world).live second.replayed.at (world_of c.replay_epoch-2.new.world).live second.replayed.charges) (c.in-Ok.ensures.same told) (second.ensures.replayed told);
       };
+      charged = refl;
       is = inr refl;
     }

@@ -1,4 +1,4 @@
-use Rattle.std.proofs.Common.{Err, ap, subst, ◌∙◌}
+use Rattle.std.proofs.Common.{ℕ, Err, ap, subst, ◌∙◌}
 use Rattle.sn_device.specs.Disk.{Disk, reads}
 use Rattle.sn_block.specs.Lending.{device_of}
 use Rattle.sn_core.specs.Plain.{world_of}
@@ -7,8 +7,10 @@ use Rattle.sn_ondisk.specs.Trees.{store_of}
 use Rattle.sn_model.specs.Tree.{Tree}
 use Rattle.sn_device.specs.declared.status.Status.{Status}
 use Rattle.sn_mount.specs.Finding.{IsUnsound}
-use Rattle.sn_mount.specs.Both.{ReplaysBoth}
-use Rattle.sn_mount.proofs.FindLemmas.{both_refuses, tree_refuses}
+use Rattle.sn_overlay.specs.Needs.{nameless_in}
+use Rattle.sn_mount.specs.Both.{HasBoth, ReplaysBoth}
+use Rattle.sn_mount.specs.Rooms.{IsUncovered}
+use Rattle.sn_mount.proofs.FindLemmas.{both_refuses, tree_refuses, uncovered_refuses}
 use Rattle.sn_mount.proofs.finding.find.Goals as goal
 
 pub returns-in-Err-load_world-clause-refuses : goal.returns-in-Err-load_world-clause-refuses
@@ -34,3 +36,20 @@ returns-in-Err-replay_both-clause-refuses g c told =
     let live = c.in-Ok-load_world.ensures.live told ∙ ap (λ (d : Disk). image (store_of (reads d)) found.root.inode_file) (c.in-Ok.ensures.same told) in
     both_refuses (g.D.Device.status device).sectors (reads (g.D.Device.disk device)) found.places found.slot found.root (g.met.D.Device.count device told) f tree has.formatted has.newest
     (subst (λ (t : Tree). ReplaysBoth (Err f) (reads (g.D.Device.disk device)) t found.places found.root.epoch tree) live is)
+
+pub returns-in-Err-find_room-clause-refuses : goal.returns-in-Err-find_room-clause-refuses
+returns-in-Err-find_room-clause-refuses g c told =
+    let device = device_of c.args.blocks.now in
+    let found = c.in-Ok.found in
+    let has = c.in-Ok.ensures.found told in
+    let f = c.in-Err-find_room.fault in
+    let r = c.in-Ok-replay_both.replayed in
+    let tree = (world_of c.replay_both.new.world).live in
+    let disk = reads (g.D.Device.disk device) in
+    let same = c.in-Ok-load_world.ensures.same told ∙ c.in-Ok.ensures.same told in
+    let is = subst (λ (d : Disk). HasBoth (reads d) (world_of c.in-Ok-load_world.world).live found.places found.root.epoch r.at tree r.charges) same (c.in-Ok-replay_both.ensures.replayed told) in
+    let live = c.in-Ok-load_world.ensures.live told ∙ ap (λ (d : Disk). image (store_of (reads d)) found.root.inode_file) (c.in-Ok.ensures.same told) in
+    let both = subst (λ (t : Tree). HasBoth disk t found.places found.root.epoch r.at tree r.charges) live is in
+    let over = subst (λ (d : Disk). IsUncovered f found.places (reads d) found.slot found.root r.charges c.nameless-dropped.result) (c.in-Ok-replay_both.ensures.same told ∙ same) (c.in-Err-find_room.ensures.uncovered told) in
+    uncovered_refuses (g.D.Device.status device).sectors disk found.places found.slot found.root (g.met.D.Device.count device told) f r.at tree r.charges has.formatted has.newest both
+    (subst (λ (n : ℕ). IsUncovered f found.places disk found.slot found.root r.charges n) (c.nameless-dropped.ensures ∙ ap nameless_in live) over)

@@ -1,4 +1,4 @@
-use Rattle.std.proofs.Common.{◌≡◌, ◌≤◌, ℕ, inr, length, sym, ap, subst, ◌∙◌}
+use Rattle.std.proofs.Common.{◌≡◌, ◌≤◌, ℕ, inr, length, refl, sym, ap, subst, ◌∙◌}
 use Rattle.sn_device.specs.Disk.{Disk, reads}
 use Rattle.sn_block.specs.Lending.{device_of}
 use Rattle.sn_core.specs.Plain.{world_of}
@@ -27,10 +27,11 @@ returns-in-Ok-clear-clause-recovers g c told =
     let new = g.D.Device.disk (device_of c.clear.new.blocks) in
     let at = c.in-Ok-find.found.at in
     let world = world_of c.in-Ok-find.found.world in
+    let room = c.in-Ok-find.found.room in
     let sync = c.in-Ok-sync.ensures.disk told in
     let same = c.in-Ok-sync.ensures.counts.sectors in
     let count : length (reads mid) ≡ sectors = g.met.D.Device.count device told ∙ same in
-    let f = subst (λ (n : ℕ). HasFound n (reads mid) at world) same (c.in-Ok-find.ensures.found told) in
+    let f = subst (λ (n : ℕ). HasFound n (reads mid) at world room) same (c.in-Ok-find.ensures.found told) in
     let half = c.of_epoch.result in
     let base : half_base c.in-Ok-find.found.places half ≡ base_at at = ap (λ (p : ℕ). half_base p half) (sym c.in-Ok-find.ensures.blocks) ∙ ap (half_base at.blocks) (c.of_epoch.ensures ∙ ap half_of_epoch c.epoch.ensures) in
     let cleared = subst (λ (d : Disk). Clears (half_base c.in-Ok-find.found.places half) c.place.result c.clear.result d new) (c.in-Ok-find.ensures.same told) (c.clear.ensures.disk told) in
@@ -38,9 +39,9 @@ returns-in-Ok-clear-clause-recovers g c told =
     let clears = subst (λ (p : ℕ). Clears (base_at at) p c.clear.result mid new) c.place.ensures.value here in
     let within = subst (λ (n : ℕ). n ≤ 255) c.place.ensures.value c.place.ensures.within in
     let closed = rw (base, c.place.ensures.value) at (c.in-Ok-clear.ensures.disk told).closed in (
-      one_gate sectors old mid new at world f count sync.touched sync.same sync.synced within c.clear.result clears,
-      λ w is. recovered sectors old mid new at world f count sync.touched sync.same sync.synced within c.clear.result clears w is.image is.frozen
-          c.new-in-Ok-clear.result (world_of c.settle.new.self) c.new-in-Ok-clear.ensures c.settle.ensures.world closed (g.met.D.Device.whole (device_of c.clear.new.blocks) told),
+      one_gate sectors old mid new at world room f count sync.touched sync.same sync.synced within c.clear.result clears,
+      λ w is. recovered sectors old mid new at world room f count sync.touched sync.same sync.synced within c.clear.result clears w is.image is.frozen
+          c.new-in-Ok-clear.result (world_of c.settle.new.self) room c.new-in-Ok-clear.ensures c.settle.ensures.world refl closed (g.met.D.Device.whole (device_of c.clear.new.blocks) told),
     )
 
 pub returns-in-Ok-clear-clause-whole : goal.returns-in-Ok-clear-clause-whole
@@ -57,10 +58,11 @@ returns-in-Err-clear-clause-recovers g c told =
     let new = g.D.Device.disk (device_of c.clear.new.blocks) in
     let at = c.in-Ok-find.found.at in
     let world = world_of c.in-Ok-find.found.world in
+    let room = c.in-Ok-find.found.room in
     let sync = c.in-Ok-sync.ensures.disk told in
     let same = c.in-Ok-sync.ensures.counts.sectors in
     let count : length (reads mid) ≡ sectors = g.met.D.Device.count device told ∙ same in
-    let f = subst (λ (n : ℕ). HasFound n (reads mid) at world) same (c.in-Ok-find.ensures.found told) in
+    let f = subst (λ (n : ℕ). HasFound n (reads mid) at world room) same (c.in-Ok-find.ensures.found told) in
     let half = c.of_epoch.result in
     let base : half_base c.in-Ok-find.found.places half ≡ base_at at = ap (λ (p : ℕ). half_base p half) (sym c.in-Ok-find.ensures.blocks) ∙ ap (half_base at.blocks) (c.of_epoch.ensures ∙ ap half_of_epoch c.epoch.ensures) in
     let cleared = subst (λ (d : Disk). Clears (half_base c.in-Ok-find.found.places half) c.place.result c.clear.result d new) (c.in-Ok-find.ensures.same told) (c.clear.ensures.disk told) in
@@ -70,6 +72,6 @@ returns-in-Err-clear-clause-recovers g c told =
     let fault = c.in-Err-clear.fault in (
       subst (λ (x : MountFault). Refuses x sectors (reads old)) (sym c.fault_of.ensures) (read_refuses fault sectors (reads old)),
       subst (λ (x : MountFault). WritesAtFault x sectors old new) (sym c.fault_of.ensures)
-          (read_writes fault sectors old new (one_gate sectors old mid new at world f count sync.touched sync.same sync.synced within c.clear.result clears)),
-      λ w is. inr (leaves sectors old mid new at world f count sync.touched sync.same sync.synced within c.clear.result clears w is.image is.frozen),
+          (read_writes fault sectors old new (one_gate sectors old mid new at world room f count sync.touched sync.same sync.synced within c.clear.result clears)),
+      λ w is. inr (leaves sectors old mid new at world room f count sync.touched sync.same sync.synced within c.clear.result clears w is.image is.frozen),
     )

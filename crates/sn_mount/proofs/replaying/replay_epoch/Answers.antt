@@ -12,7 +12,8 @@ loop-more-init g c =
     let first = c.new-replay.ensures in
     let from = (world_of c.args.world.now).live in
     record {
-      replayed = λ told. subst (λ (p : LogPosition). HasReplayed (reads (g.D.Device.disk (device_of c.args.blocks.now))) from p from) (sym first) (starts (reads (g.D.Device.disk (device_of c.args.blocks.now))) from c.args.places c.args.epoch);
+      replayed = λ told. subst (λ (p : LogPosition). HasReplayed (reads (g.D.Device.disk (device_of c.args.blocks.now))) from p from 0) (sym first) (starts (reads (g.D.Device.disk (device_of c.args.blocks.now))) from c.args.places c.args.epoch);
+      few = omega arith;
       rest = refl;
       whole = c.requires.whole;
       blocks = ap (λ (p : LogPosition). p.blocks) first;

@@ -1,4 +1,4 @@
-use Rattle.std.proofs.Common.{◌≡◌, ◌+◌, ◌-◌, if◌then◌else◌}
+use Rattle.std.proofs.Common.{◌≡◌, ◌+◌, ◌-◌, ◌*◌, ◌^◌, ◌≤◌, if◌then◌else◌}
 use Rattle.std.specs.Prelude.{IsTrue}
 use Rattle.sn_device.specs.Disk.{reads}
 use Rattle.sn_limits.specs.Versions.{version_1}
@@ -12,7 +12,8 @@ use Rattle.sn_mount.proofs.replaying.replay_epoch.Given as goal
 -- the records so far were replayed, and where no more stands, all
 abbrev pub invariant-loop-more : goal.invariant-loop-more
 invariant-loop-more g l = record {
-  replayed : IsTrue g.D.Device.tells_bytes → ReplaysSo l.more (reads (g.D.Device.disk (device_of l.fn.blocks))) (world_of l.fn.world).live l.replay (world_of l.world).live;
+  replayed : IsTrue g.D.Device.tells_bytes → ReplaysSo l.more (reads (g.D.Device.disk (device_of l.fn.blocks))) (world_of l.fn.world).live l.replay (world_of l.world).live l.charges;
+  few : l.charges ≤ 2 ^ 64 * l.replay.place;
   rest : world_of l.world ≡ with_live (world_of l.fn.world) (world_of l.world).live;
   whole : IsTree version_1 (world_of l.world).live;
   blocks : l.replay.blocks ≡ l.fn.places;

@@ -1,4 +1,4 @@
-use Rattle.std.proofs.Common.{◌≡◌, ◌||◌, ℕ, ◌*◌, ◌≤◌, Bool, true, false, Option, Some, Ok, sym, ap, subst, ◌∙◌}
+use Rattle.std.proofs.Common.{◌≡◌, ◌||◌, ℕ, ◌+◌, ◌-◌, ◌*◌, ◌^◌, ◌≤◌, Bool, true, false, Option, Some, Ok, sym, ap, subst, ◌∙◌, arith}
 use Rattle.sn_limits.specs.Versions.{version_1}
 use Rattle.sn_model.specs.declared.call.Event.{Event}
 use Rattle.sn_model.specs.declared.call.Event.TheVariants.{Call}
@@ -28,12 +28,14 @@ use Rattle.sn_core.specs.Served.{HasNumber}
 use Rattle.sn_core.proofs.StepLemmas.{MadeBy, choosing, chosen_becomes, chosen_lost, chosen_turns, chosen_whole, has_number, none_made, served_whole}
 use Rattle.sn_core.proofs.StepLemmas as core
 use Rattle.sn_fs.specs.declared.fs.Fs.{Fs}
-use Rattle.sn_fs.specs.Answers.{Answers}
+use Rattle.sn_overlay.specs.Needs.{nameless_in}
+use Rattle.sn_room.specs.Rooms.{RoomCounts, dropping, fits}
+use Rattle.sn_fs.specs.Answers.{Answers, is_fitting}
 use Rattle.sn_fs.specs.Changing.{Changes, FailsChange, IsLogged, IsMade, errno_of}
 use Rattle.sn_fs.specs.Filesystem.{held}
 use Rattle.sn_held.specs.Held.{Held}
 use Rattle.sn_fs.specs.Mounted.{holding}
-use Rattle.sn_fs.proofs.CallLemmas.{made_answers, still_whole, stopped_answers, told_answers, undecided_answers, unmade_answers, unprepared_answers}
+use Rattle.sn_fs.proofs.CallLemmas.{fewer_left, made_answers, none_dropped, still_same, stopped_answers, told_answers, undecided_answers, unmade_answers, unprepared_answers}
 use Rattle.sn_fs.proofs.DecisionLemmas.{can_be_made}
 use Rattle.sn_fs.proofs.fs.Fs.call.Goals as goal
 use Rattle.sn_fs.proofs.fs.Fs.call.Goals.{in-Some+in-Ok-make_change, in-None}
@@ -95,11 +97,12 @@ returns-in-Err-make_change-clause-answered g c told =
     let h = held c.args.self.now in
     let o = c.in-Ok.outcome in
     let fault = c.in-Err-make_change.fault in
-    let after = holding g.D.Device c.make_change.new.blocks c.make_change.new.log c.make_change.new.world in
+    let after = holding g.D.Device c.make_change.new.blocks c.make_change.new.log c.make_change.new.world c.make_change.new.room in
     let chosen = choosing (world_of c.prepare.new.self) (world_of c.args.self.now.world) (kept_of c.prepare.new.self) (kept_of c.args.self.now.world) o c.choose-change.result c.in_default.ensures.world c.in_default.ensures.kept c.choose-change.ensures in
     let begun : (record h { world = world_of c.prepare.new.self; kept = kept_of c.prepare.new.self }) ≡ h = λ i. record h { world = c.in_default.ensures.world i; kept = c.in_default.ensures.kept i } in
-    let made = subst (λ (x : Held). FailsChange g.D.Device.tells_bytes fault c.in-Some.change x after) begun c.in-Err-make_change.ensures.made in
-    let fails = subst (λ (b : Bool). FailsChange b fault c.in-Some.change h after) told made in
+    let made = subst (λ (x : Held). FailsChange g.D.Device.tells_bytes fault c.in-Some.change c.fits-fits.result x after) begun c.in-Err-make_change.ensures.made in
+    let fits = c.fits-fits.ensures.exact ∙ ap (λ (n : ℕ). fits version_1 h.room n o) c.nameless.ensures in
+    let fails = subst (λ (b : Bool). FailsChange b fault c.in-Some.change (is_fitting h o) h after) told (subst (λ (b : Bool). FailsChange g.D.Device.tells_bytes fault c.in-Some.change b h after) fits made) in
     let a = unmade_answers h c.args.session c.args.call.now o c.choose-change.result c.in-Some.change c.in-Ok.ensures.numbers (c.requires.whole c.if-self.false) c.in-Ok.ensures.decided chosen c.in-Some.is after fault fails in
     let flags = subst (λ (b : Bool). Answers e (refused (errno_of fault)) h false after b) (sym c.stops-self.ensures) a in
     let from_here = subst (λ (b : Bool). Answers e (refused (errno_of fault)) h b after c.stops-self.result) (sym c.if-self.false) flags in
@@ -108,7 +111,13 @@ returns-in-Err-make_change-clause-answered g c told =
 pub returns-in-Err-make_change-clause-sound : goal.returns-in-Err-make_change-clause-sound
 returns-in-Err-make_change-clause-sound g c = record {
   within = within_still c.args.self.now.log.blocks c.make_change.new.log.blocks _ _ c.in-Err-make_change.ensures.blocks c.in-Err-make_change.ensures.sectors c.requires.within;
-  whole = λ running. still_whole g.D.Device.tells_bytes c.in-Err-make_change.fault c.in-Some.change _ _ c.in-Err-make_change.ensures.made (sym c.stops-self.ensures ∙ running) (subst (IsWorld version_1) (sym c.in_default.ensures.world) (c.requires.whole c.if-self.false));
+  whole = λ running.
+      let same = still_same g.D.Device.tells_bytes c.in-Err-make_change.fault c.in-Some.change c.fits-fits.result _ _ c.in-Err-make_change.ensures.made (sym c.stops-self.ensures ∙ running) in
+      subst (λ (h : Held). IsWorld version_1 h.world) (sym same) (subst (IsWorld version_1) (sym c.in_default.ensures.world) (c.requires.whole c.if-self.false));
+  parked = λ running.
+      let same = still_same g.D.Device.tells_bytes c.in-Err-make_change.fault c.in-Some.change c.fits-fits.result _ _ c.in-Err-make_change.ensures.made (sym c.stops-self.ensures ∙ running) in
+      subst (λ (h : Held). h.room.dropped + nameless_in h.world.live ≤ 2 ^ 33) (sym same)
+      (subst (λ (w : World). c.args.self.now.room.dropped + nameless_in w.live ≤ 2 ^ 33) (sym c.in_default.ensures.world) (c.requires.parked c.if-self.false));
 }
 
 -- a change that is made over a world is made over one that is equal
@@ -191,7 +200,7 @@ returns-clause-answered g c told =
     let whole = c.requires.whole c.if-self.false in
     let chosen = choosing (world_of c.prepare.new.self) old (kept_of c.prepare.new.self) kept o picked c.in_default.ensures.world c.in_default.ensures.kept c.choose-change.ensures in
     let turn = λ (w : World). dropped (with_caller w c.args.session picked.caller) in
-    let new = holding g.D.Device c.match-change.self.blocks c.match-change.self.log c.set_caller.new.self in
+    let new = holding g.D.Device c.match-change.self.blocks c.match-change.self.log c.set_caller.new.self c.drop_files.new.self in
     let mid_world = world_of c.match-change.self.world in
     let keeps : (n : ℕ) → kept_of c.set_caller.new.self n ≡ (has_closed mid_world (turn mid_world) n || kept_of c.match-change.self.world n) =
     (λ n. c.set_caller.ensures.kept n ∙ ap (λ (w : World). has_closed mid_world w n || kept_of c.match-change.self.world n) c.set_caller.ensures.world) in
@@ -199,11 +208,15 @@ returns-clause-answered g c told =
     subst (λ (b : Bool). Answers e o.told h c.args.self.now.has_stopped new b) (sym same) (flagged e o.told h new c.args.self.now.has_stopped false c.if-self.false a) in
     elim c.match-change.branch [
       | in-Some+in-Ok-make_change w ↦
-          let mid = holding g.D.Device w.make_change.new.blocks w.make_change.new.log w.make_change.new.world in
+          let mid = holding g.D.Device w.make_change.new.blocks w.make_change.new.log w.make_change.new.world w.make_change.new.room in
           let begun : (record h { world = world_of c.prepare.new.self; kept = kept_of c.prepare.new.self }) ≡ h = λ i. record h { world = c.in_default.ensures.world i; kept = c.in_default.ensures.kept i } in
-          let made = subst (λ (x : Held). Changes g.D.Device.tells_bytes (Ok tt) w.in-Some.change x mid) begun w.in-Ok-make_change.ensures.made in
-          let logged = subst (λ (b : Bool). IsLogged b w.in-Some.change h mid) told made in
+          let made = subst (λ (x : Held). Changes g.D.Device.tells_bytes (Ok tt) w.in-Some.change o.charge c.fits-fits.result x mid) begun w.in-Ok-make_change.ensures.made in
+          let fitting = c.fits-fits.ensures.exact ∙ ap (λ (n : ℕ). fits version_1 h.room n o) c.nameless.ensures in
+          let logged = subst (λ (b : Bool). IsLogged b w.in-Some.change o.charge (is_fitting h o) h mid) told (subst (λ (b : Bool). IsLogged g.D.Device.tells_bytes w.in-Some.change o.charge b h mid) fitting made) in
+          let none : c.saturating_sub.result ≡ 0 = omega (arith, c.saturating_sub.ensures, w.parked-is) in
+          let room_is : new.room ≡ mid.room = c.drop_files.ensures ∙ none_dropped c.saturating_sub.result c.match-change.self.room none ∙ ap (λ (x : Fs g.row.D.Denot g.D.Device). x.room) w.self-is in
           let is : new ≡ record mid { world = turn mid.world; kept = new.kept } = λ i. record {
+            room = room_is i;
             world = (c.set_caller.ensures.world ∙ ap (λ (x : Fs g.row.D.Denot g.D.Device). turn (world_of x.world)) w.self-is) i;
             kept = new.kept;
             at = ap (λ (x : Fs g.row.D.Denot g.D.Device). x.log) w.self-is i;
@@ -213,7 +226,14 @@ returns-clause-answered g c told =
           ends c.match-change.self.has_stopped (ap (λ (x : Fs g.row.D.Denot g.D.Device). x.has_stopped) w.self-is)
           (made_answers h c.args.session c.args.call.now o picked w.in-Some.change c.in-Ok.ensures.numbers whole c.in-Ok.ensures.decided chosen w.in-Some.is mid new logged is (λ n. keeps n ∙ ap (λ (x : Fs g.row.D.Denot g.D.Device). has_closed (world_of x.world) (turn (world_of x.world)) n || kept_of x.world n) w.self-is))
       | in-None w ↦
-          let is : new ≡ record h { world = turn h.world; kept = new.kept } = λ i. record {
+          let parked = nameless_in h.world.live - nameless_in (turn h.world).live in
+          let world_is = c.set_caller.ensures.world ∙ ap (λ (x : Fs g.row.D.Denot g.D.Device). turn (world_of x.world)) w.self-is ∙ ap turn c.in_default.ensures.world in
+          let was : c.match-change.parked ≡ nameless_in h.world.live = w.parked-is ∙ w.nameless-parked.ensures ∙ ap (λ (x : World). nameless_in x.live) c.in_default.ensures.world in
+          let left : c.nameless-2.result ≡ nameless_in (turn h.world).live = c.nameless-2.ensures ∙ ap (λ (x : World). nameless_in x.live) world_is in
+          let count : c.saturating_sub.result ≡ parked = c.saturating_sub.ensures ∙ (λ i. was i - left i) in
+          let room_is : new.room ≡ dropping parked h.room = c.drop_files.ensures ∙ (λ i. dropping (count i) (w.self-is i).room) in
+          let is : new ≡ record h { world = turn h.world; kept = new.kept; room = dropping parked h.room } = λ i. record {
+            room = room_is i;
             world = (c.set_caller.ensures.world ∙ ap (λ (x : Fs g.row.D.Denot g.D.Device). turn (world_of x.world)) w.self-is ∙ ap turn c.in_default.ensures.world) i;
             kept = new.kept;
             at = ap (λ (x : Fs g.row.D.Denot g.D.Device). x.log) w.self-is i;
@@ -252,6 +272,34 @@ returns-clause-sound g c =
         | in-None w ↦
             within_still c.args.self.now.log.blocks c.match-change.self.log.blocks _ _ (ap (λ (x : Fs g.row.D.Denot g.D.Device). x.log.blocks) w.self-is)
             (ap (λ (x : Fs g.row.D.Denot g.D.Device). (g.D.Device.status (device_of x.blocks)).sectors) w.self-is) c.requires.within
+      ];
+      parked = λ _. elim c.match-change.branch [
+        | in-Some+in-Ok-make_change w ↦
+            let none : c.saturating_sub.result ≡ 0 = omega (arith, c.saturating_sub.ensures, w.parked-is) in
+            let room_is : c.drop_files.new.self ≡ w.make_change.new.room = c.drop_files.ensures ∙ none_dropped c.saturating_sub.result c.match-change.self.room none ∙ ap (λ (x : Fs g.row.D.Denot g.D.Device). x.room) w.self-is in
+            omega (
+              arith,
+              ap (λ (r : RoomCounts). r.dropped) room_is,
+              ap (λ (r : RoomCounts). r.dropped) w.in-Ok-make_change.ensures.made.charged,
+              c.fits-fits.ensures.within w.in-Ok-make_change.ensures.made.fits,
+              c.nameless-2.type_inv,
+              c.nameless-2.ensures,
+            )
+        | in-None w ↦
+            let world_is = c.set_caller.ensures.world ∙ ap (λ (x : Fs g.row.D.Denot g.D.Device). turn (world_of x.world)) w.self-is ∙ ap turn c.in_default.ensures.world in
+            let was : c.match-change.parked ≡ nameless_in old.live = w.parked-is ∙ w.nameless-parked.ensures ∙ ap (λ (x : World). nameless_in x.live) c.in_default.ensures.world in
+            let left : c.nameless-2.result ≡ nameless_in (turn old).live = c.nameless-2.ensures ∙ ap (λ (x : World). nameless_in x.live) world_is in
+            let room_is = c.drop_files.ensures ∙ (λ i. dropping c.saturating_sub.result (w.self-is i).room) in
+            omega (
+              arith,
+              ap (λ (r : RoomCounts). r.dropped) room_is,
+              c.saturating_sub.ensures,
+              was,
+              left,
+              c.nameless-2.ensures,
+              fewer_left old c.args.session picked.caller,
+              c.requires.parked c.if-self.false,
+            )
       ];
       whole = λ _. served_whole old (world_of c.set_caller.new.self) c.args.session c.args.call.now o.told served c.in-Ok.ensures.numbers whole;
     }

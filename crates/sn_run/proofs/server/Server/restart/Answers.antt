@@ -5,6 +5,7 @@ use Rattle.sn_device.specs.declared.status.Status.{Status}
 use Rattle.sn_model.specs.World.{new_world}
 use Rattle.sn_log.specs.Places.{first_of}
 use Rattle.sn_block.specs.Counts.{IsLater, called}
+use Rattle.sn_room.specs.Rooms.{fresh}
 use Rattle.sn_held.specs.Held.{Held}
 use Rattle.sn_mount.specs.Failing.{CostsAtMost, IsSoOf}
 use Rattle.sn_fs.specs.Filesystem.{has_stopped, held}
@@ -31,7 +32,7 @@ returns-in-Err-clause-answered g c told =
     let old = standing c.args.self in
     let device = c.into_device.result in
     let u = c.in-Err.field-0 in
-    let new : Held = record { world = new_world; kept = λ number. false; at = first_of 256 1; disk = g.D.Device.disk u.device; status = g.D.Device.status u.device } in
+    let new : Held = record { world = new_world; kept = λ number. false; room = fresh 0; at = first_of 256 1; disk = g.D.Device.disk u.device; status = g.D.Device.status u.device } in
     let disk = c.into_device.ensures.disk in
     let status = c.into_device.ensures.status in
     let whole = subst (λ (d : Disk). AreSectors (reads d)) disk (g.met.D.Device.whole device told) in

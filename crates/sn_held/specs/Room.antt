@@ -1,0 +1,36 @@
+-- What is charged on top of a root, and what is left of its free blocks.
+use Rattle.std.specs.Prelude.{◌≡◌, ℕ, ◌+◌, ◌*◌, ◌≤◌, List, ◌++◌}
+use Rattle.sn_device.specs.Sectors.{Contents}
+use Rattle.sn_layout.specs.declared.root.RootBody.{RootBody}
+use Rattle.sn_limits.specs.Versions.{version_1}
+use Rattle.sn_model.specs.declared.change.Change.{Change}
+use Rattle.sn_model.specs.Charges.{charge_for}
+use Rattle.sn_model.specs.Tree.{Tree}
+use Rattle.sn_model.specs.World.{World}
+use Rattle.sn_ondisk.specs.Trees.{Store, store_of}
+use Rattle.sn_overlay.specs.Needs.{nameless_in}
+use Rattle.sn_room.specs.Rooms.{RoomCounts, mounted}
+use Rattle.sn_image.specs.Image.{image}
+use Rattle.sn_sound.specs.Charges.{Fits, charges_from}
+use Rattle.sn_sound.specs.Maps.{free_blocks}
+use Rattle.sn_held.specs.Images.{IsImage}
+
+-- The room that is kept is that of a root with these changes logged on top of it: they are charged, no more than the root leaves free, and the files that were dropped are at least those that its tree has without names.
+pub record IsCharged (room : RoomCounts) (n : ℕ) (s : Store) (root : RootBody) (changes : List Change) : Type 0 where
+  pub free : room.free ≡ free_blocks n s root
+  pub charged : room.charged ≡ charges_from version_1 changes (image s root.inode_file)
+  pub dropped : nameless_in (image s root.inode_file) ≤ room.dropped
+  pub fits : Fits version_1 changes (image s root.inode_file) room.free
+
+-- Behind a change of this tree all that is charged is still no more than is free.
+abbrev pub HasRoomFor : RoomCounts → Tree → Change → Type 0
+HasRoomFor room tree change = room.charged + charge_for version_1 tree change + version_1.inode_charge * room.dropped ≤ room.free
+
+-- What a mount keeps of an image: its records are charged, and the files that its root's tree has without names are dropped.
+abbrev pub room_of_image : (c : Contents) (world : World) → IsImage c world → RoomCounts
+room_of_image c world im = mounted (free_blocks im.blocks (store_of c) im.opens.root)
+    (charges_from im.opens.root.limits (im.opens.older ++ im.opens.newer) (image (store_of c) im.opens.root.inode_file))
+    (nameless_in (image (store_of c) im.opens.root.inode_file))
+
+abbrev pub HasRoomOf : Contents → World → RoomCounts → Type 0
+HasRoomOf c world room = (im : IsImage c world) × (room ≡ room_of_image c world im)
