@@ -4,7 +4,9 @@ use Rattle.std.proofs.Math.Nat.{pow-succ'}
 use Rattle.std.proofs.lemmas.Result.{err_from_is_err_and}
 use Rattle.sn_alloc.specs.Taking.{free_data}
 use Rattle.sn_tree.specs.Dirty.{IsFrom}
-use Rattle.sn_tree.specs.Fronts.{AreHolesFrom, front_most, PlannedFront}
+use Rattle.sn_tree.specs.Drafts.{Draft}
+use Rattle.sn_tree.specs.Fronts.{Aim, AreHolesFrom, front_most, PlannedFront}
+use Rattle.sn_tree.specs.Steps.{IsReplaced}
 use Rattle.sn_tree.specs.declared.fault.PlanFault.TheVariants.{Full}
 use Rattle.sn_tree.specs.declared.new_block.DirtyBlock.{DirtyBlock}
 use Rattle.sn_tree.proofs.FrontLemmas.{front_up, front_full_above, front_most-raised, front_most-later}
@@ -21,6 +23,15 @@ all_beside span depth n is many =
     let wide : 1024 ^ (depth + 1) ≡ 1024 * 1024 ^ depth = ap (λ (d : ℕ). 1024 ^ d) up ∙ pow-succ' 1024 depth in
     let all : n * 1024 ^ (depth + 1) ≡ 15 * 1024 ^ (depth + 1) = ap (λ k. k * 1024 ^ (depth + 1)) many in
     omega (arith, all, is, wide)
+
+-- the pointers of one indirect block, under the pointer to it
+raised_front : (Told : Type 0) (aim : Aim) (depth end later : ℕ) (left : List DirtyBlock) (planned below : List ℕ) (between behind : Draft) (first : ℕ) → end ≡ later → below ≡ planned → PlannedFront Told aim depth end left planned between → IsReplaced between behind 0 below first
+    → PlannedFront Told aim (depth + 1) later left (first ∷ []) behind
+raised_front Told aim depth end later left planned below between behind first ends joined front replaced =
+    let up : suc depth ≡ depth + 1 = omega arith in
+    subst (λ (d : ℕ). PlannedFront Told aim d later left (first ∷ []) behind) up
+    (subst (λ (n : ℕ). PlannedFront Told aim (suc depth) n left (first ∷ []) behind) ends
+    (front_up Told aim depth end left below between behind first (subst (λ (ps : List ℕ). PlannedFront Told aim depth end left ps between) (sym joined) front) replaced))
 
 pub plan_behind-requires-clause-room : goal.plan_behind-requires-clause-room
 plan_behind-requires-clause-room g c =
@@ -57,18 +68,14 @@ returns-clause-planned g c = λ aim bare front.
     let e1 = 16 * span + length c.no_behind-behind.result * 1024 ^ depth in
     let ends = all_behind span (1024 ^ depth) (length c.no_behind-behind.result) is c.no_behind-behind.ensures.count in
     let last = all_beside span depth (length c.no_beside-beside.result) is c.no_beside-beside.ensures.count in
-    let up : suc depth ≡ depth + 1 = omega arith in
     let bare1 : AreHolesFrom (16 * span) aim.old = (λ hole i past. bare hole i (omega (arith, past, is))) in
     let bare2 : AreHolesFrom (1024 * span) aim.old = (λ hole i past. bare hole i (omega (arith, past, is))) in
     let front0 = subst (λ (n : ℕ). PlannedFront Told aim depth n c.args.dirty.now.items c.args.pointers.now c.args.build.now) (ap (λ (w : ℕ). 16 * w) (sym is)) front in
     let front1 = c.in_ok-plan_behind.ensures.planned aim c.args.pointers.now bare1 front0 in
-    let joined = subst (λ (ps : List ℕ). PlannedFront Told aim depth e1 c.plan_behind.new.dirty.items ps c.plan_behind.new.build) (sym c.joined-below.ensures) front1 in
-    let front2 = front_up Told aim depth e1 c.plan_behind.new.dirty.items c.joined-below.result c.plan_behind.new.build c.replace_pointers.new.build first joined c.in_ok-first.ensures.replaced in
-    let front3 = subst (λ (d : ℕ). PlannedFront Told aim d (1024 * span) c.plan_behind.new.dirty.items (first ∷ []) c.replace_pointers.new.build) up
-    (subst (λ (n : ℕ). PlannedFront Told aim (suc depth) n c.plan_behind.new.dirty.items (first ∷ []) c.replace_pointers.new.build) ends front2) in
-    let front4 = c.in_ok-plan_behind-2.ensures.planned aim (first ∷ []) bare2 front3 in
+    let front2 = raised_front Told aim depth e1 (1024 * span) c.plan_behind.new.dirty.items (c.args.pointers.now ++ c.plan_behind.new.pointers) c.joined-below.result c.plan_behind.new.build c.replace_pointers.new.build first ends c.joined-below.ensures front1 c.in_ok-first.ensures.replaced in
+    let front3 = c.in_ok-plan_behind-2.ensures.planned aim (first ∷ []) bare2 front2 in
     subst (λ (ps : List ℕ). PlannedFront Told aim (depth + 1) (16 * 1024 ^ (depth + 1)) c.plan_behind-2.new.dirty.items ps c.plan_behind-2.new.build) (sym c.led_by.ensures)
-    (subst (λ (n : ℕ). PlannedFront Told aim (depth + 1) n c.plan_behind-2.new.dirty.items (first ∷ c.plan_behind-2.new.pointers) c.plan_behind-2.new.build) last front4)
+    (subst (λ (n : ℕ). PlannedFront Told aim (depth + 1) n c.plan_behind-2.new.dirty.items (first ∷ c.plan_behind-2.new.pointers) c.plan_behind-2.new.build) last front3)
 
 pub returns-in_err-plan_behind-clause-full : goal.returns-in_err-plan_behind-clause-full
 returns-in_err-plan_behind-clause-full g c = λ aim bare front is.
@@ -119,15 +126,11 @@ returns-in_err-plan_behind-2-clause-full g c = λ aim bare front is.
     let e1 = 16 * span + length c.no_behind-behind.result * 1024 ^ depth in
     let ends = all_behind span (1024 ^ depth) (length c.no_behind-behind.result) of_span c.no_behind-behind.ensures.count in
     let last = all_beside span depth (length c.no_beside-beside.result) of_span c.no_beside-beside.ensures.count in
-    let up : suc depth ≡ depth + 1 = omega arith in
     let bare1 : AreHolesFrom (16 * span) aim.old = (λ hole i past. bare hole i (omega (arith, past, of_span))) in
     let front0 = subst (λ (n : ℕ). PlannedFront Told aim depth n c.args.dirty.now.items c.args.pointers.now c.args.build.now) (ap (λ (w : ℕ). 16 * w) (sym of_span)) front in
     let front1 = c.in_ok-plan_behind.ensures.planned aim c.args.pointers.now bare1 front0 in
-    let joined = subst (λ (ps : List ℕ). PlannedFront Told aim depth e1 c.plan_behind.new.dirty.items ps c.plan_behind.new.build) (sym c.joined-below.ensures) front1 in
-    let front2 = front_up Told aim depth e1 c.plan_behind.new.dirty.items c.joined-below.result c.plan_behind.new.build c.replace_pointers.new.build first joined c.in_ok-first.ensures.replaced in
-    let front3 = subst (λ (d : ℕ). PlannedFront Told aim d (1024 * span) c.plan_behind.new.dirty.items (first ∷ []) c.replace_pointers.new.build) up
-    (subst (λ (n : ℕ). PlannedFront Told aim (suc depth) n c.plan_behind.new.dirty.items (first ∷ []) c.replace_pointers.new.build) ends front2) in
+    let front2 = raised_front Told aim depth e1 (1024 * span) c.plan_behind.new.dirty.items (c.args.pointers.now ++ c.plan_behind.new.pointers) c.joined-below.result c.plan_behind.new.build c.replace_pointers.new.build first ends c.joined-below.ensures front1 c.in_ok-first.ensures.replaced in
     let p = err_from_is_err_and c.from_residual-in_err-plan_behind-2.result c.from_residual-in_err-plan_behind-2.ensures.1 in
     let fault : c.in_err-plan_behind-2.field-0.0 ≡ Full = cc (p.1, p.2) in
     subst (λ (n : ℕ). free_data aim.draft.words aim.draft.first < length aim.draft.added + front_most (depth + 1) n aim.dirty) last
-    (c.in_err-plan_behind-2.ensures.full aim (first ∷ []) front3 (ap (λ fault. Err fault) fault))
+    (c.in_err-plan_behind-2.ensures.full aim (first ∷ []) front2 (ap (λ fault. Err fault) fault))

@@ -8,8 +8,10 @@ use Rattle.sn_layout.specs.declared.tree.BlockTree.{BlockTree}
 use Rattle.sn_ondisk.specs.Trees.{Store, store_of, all_pointers}
 use Rattle.sn_tree_read.specs.declared.fault.TreeFault.TheVariants.{Damaged}
 use Rattle.sn_tree.specs.Dirty.{IsFrom}
-use Rattle.sn_tree.specs.Fronts.{data_or, AreHolesFrom, PlannedFront}
-use Rattle.sn_tree.specs.Steps.{LeadsOutside}
+use Rattle.sn_tree.specs.Drafts.{Draft}
+use Rattle.sn_tree.specs.Fronts.{data_or, AreHolesFrom, IsFirstOf, PlannedFront}
+use Rattle.sn_tree.specs.Plans.{contents}
+use Rattle.sn_tree.specs.Steps.{LeadsOutside, Planned}
 use Rattle.sn_tree.specs.declared.fault.PlanFault.TheVariants.{Tree, Full}
 use Rattle.sn_tree.specs.declared.new_block.DirtyBlock.{DirtyBlock}
 use Rattle.sn_tree.proofs.SpanLemmas.{span_most}
@@ -23,6 +25,16 @@ use Rattle.sn_tree.proofs.tree.plan_tree.Goals as goal
 -- sixteen pointers at a height
 ends_at : (n width : ℕ) → n ≡ 16 → 0 + n * width ≡ 16 * width
 ends_at n width is = let all : n * width ≡ 16 * width = ap (λ k. k * width) is in omega (arith, all)
+
+-- the first sixteen pointers, as they were planned
+first_planned : (Told : Type 0) (s t : Store) (tree : BlockTree) (keep : ℕ) (items : List DirtyBlock) (draft : Draft) (least : ℕ) (pointers news : List ℕ) (left : List DirtyBlock) (between behind : Draft) → length pointers ≡ 16 → (Told → t ≡ s) → IsFirstOf Told s tree least pointers draft between
+    → Planned Told t (all_pointers t least pointers) (contents t least pointers) least 0 (0 + length pointers * 1024 ^ least) keep items left news between behind → PlannedFront Told (aim s tree keep items draft) least (16 * 1024 ^ least) left news behind
+first_planned Told s t tree keep items draft least pointers news left between behind count same first step =
+    let end = 0 + length pointers * 1024 ^ least in
+    let ends = ends_at (length pointers) (1024 ^ least) count in
+    subst (λ (n : ℕ). PlannedFront Told (aim s tree keep items draft) least n left news behind) ends
+    (front_begun s tree keep items draft Told least end pointers news left between behind count ends first
+    (planned_still Told s t keep least 0 end pointers news items left between behind same step))
 
 -- a tree that gets more levels has no data blocks past its own
 holes_past : (s : Store) (tree : BlockTree) (least levels : ℕ) → length tree.pointers ≡ 16 → (least < levels → least ≡ levels_of tree.size) → least < levels → AreHolesFrom (16 * 1024 ^ least) (λ hole i. data_or hole s tree i)
@@ -95,13 +107,9 @@ returns-in_err-tops-clause-full g c = λ is.
     let pointers = c.in_ok-pointers.pointers in
     let news = c.plan_pointers.new.pointers in
     let left = c.plan_pointers.new.dirty.items in
-    let end = 0 + length pointers * 1024 ^ least in
-    let ends = ends_at (length pointers) (1024 ^ least) c.in_ok-pointers.ensures.count in
     let same : Told → t ≡ s = (λ told. ap (λ (d : Disk). store_of (reads d)) (c.lowered.ensures.same told)) in
     let lowest : least < levels → least ≡ levels_of tree.size = (λ more. omega (arith, more, c.min-least.ensures, c.levels_of.ensures.value)) in
-    let step = planned_still Told s t keep least 0 end pointers news items left c.lowered.new.build c.plan_pointers.new.build same c.in_ok-plan_pointers.ensures.planned in
-    let front = front_begun s tree keep items c.args.build.now Told least end pointers news left c.lowered.new.build c.plan_pointers.new.build c.in_ok-pointers.ensures.count ends c.in_ok-pointers.ensures.lowered step in
-    let whole = subst (λ (n : ℕ). PlannedFront Told (aim s tree keep items c.args.build.now) least n left news c.plan_pointers.new.build) ends front in
+    let whole = first_planned Told s t tree keep items c.args.build.now least pointers news left c.lowered.new.build c.plan_pointers.new.build c.in_ok-pointers.ensures.count same c.in_ok-pointers.ensures.lowered c.in_ok-plan_pointers.ensures.planned in
     let f = err_from_is_err_and c.from_residual-in_err-tops.result c.from_residual-in_err-tops.ensures.1 in
     let fault : c.in_err-tops.field-0.0 ≡ Full = cc (f.1, f.2) in
     let few = c.in_err-tops.ensures.full (aim s tree keep items c.args.build.now) (holes_past s tree least levels c.lowered.ensures.sixteen lowest) whole (ap (λ fault. Err fault) fault) in
@@ -121,13 +129,9 @@ returns-clause-planned g c =
     let pointers = c.in_ok-pointers.pointers in
     let news = c.plan_pointers.new.pointers in
     let left = c.plan_pointers.new.dirty.items in
-    let end = 0 + length pointers * 1024 ^ least in
-    let ends = ends_at (length pointers) (1024 ^ least) c.in_ok-pointers.ensures.count in
     let same : Told → t ≡ s = (λ told. ap (λ (d : Disk). store_of (reads d)) (c.lowered.ensures.same told)) in
     let lowest : least < levels → least ≡ levels_of tree.size = (λ more. omega (arith, more, c.min-least.ensures, c.levels_of.ensures.value)) in
-    let step = planned_still Told s t keep least 0 end pointers news items left c.lowered.new.build c.plan_pointers.new.build same c.in_ok-plan_pointers.ensures.planned in
-    let front = front_begun s tree keep items c.args.build.now Told least end pointers news left c.lowered.new.build c.plan_pointers.new.build c.in_ok-pointers.ensures.count ends c.in_ok-pointers.ensures.lowered step in
-    let whole = subst (λ (n : ℕ). PlannedFront Told (aim s tree keep items c.args.build.now) least n left news c.plan_pointers.new.build) ends front in
+    let whole = first_planned Told s t tree keep items c.args.build.now least pointers news left c.lowered.new.build c.plan_pointers.new.build c.in_ok-pointers.ensures.count same c.in_ok-pointers.ensures.lowered c.in_ok-plan_pointers.ensures.planned in
     let top = c.in_ok-tops.ensures.planned (aim s tree keep items c.args.build.now) (holes_past s tree least levels c.lowered.ensures.sixteen lowest) whole in
     let new : BlockTree = record { size = c.args.dirty.size; pointers = c.new.result } in
     let behind = c.raised.new.build in
