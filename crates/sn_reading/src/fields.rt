@@ -11,10 +11,12 @@ pub(crate) struct Fields<'a> {
 }
 
 impl<'a> Fields<'a> {
+    /// All of these bytes, of which nothing is lacking yet.
     pub fn new(rest: &'a [u8]) -> Self {
         Fields { rest, lacked: None }
     }
 
+    /// The bytes behind what was read.
     pub fn rest(&self) -> &'a [u8] {
         self.rest
     }
@@ -34,6 +36,7 @@ impl<'a> Fields<'a> {
         }
     }
 
+    /// The next bytes, as many as are asked for. Where fewer are left, none is read and `CutOff` is noted.
     pub fn bytes(&mut self, count: usize) -> &'a [u8] {
         match self.rest.split_at_checked(count) {
             Some((front, rest)) => {
@@ -60,19 +63,23 @@ impl<'a> Fields<'a> {
         }
     }
 
+    /// The next byte, or 0 where there is none, which is noted.
     pub fn read_u8(&mut self) -> u8 {
         let [byte] = self.array::<1>();
         byte
     }
 
+    /// The next number of two bytes, the least one first, or 0 where fewer are left, which is noted.
     pub fn read_u16(&mut self) -> u16 {
         u16::from_le_bytes(self.array::<2>())
     }
 
+    /// The same of four bytes.
     pub fn read_u32(&mut self) -> u32 {
         u32::from_le_bytes(self.array::<4>())
     }
 
+    /// The same of eight bytes.
     pub fn read_u64(&mut self) -> u64 {
         u64::from_le_bytes(self.array::<8>())
     }

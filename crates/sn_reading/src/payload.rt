@@ -209,6 +209,7 @@ impl<'a> Change<'a> {
         }
     }
 
+    /// Which of the seven changes it is.
     pub fn kind(&self) -> ChangeKind {
         match self {
             Change::Make { .. } => ChangeKind::Make,

@@ -71,14 +71,17 @@ impl<'a> Tree<'a> {
         })
     }
 
+    /// All nodes, the root directory among them.
     pub fn nodes(&self) -> &[Node<'a>] {
         self.nodes.as_slice()
     }
 
+    /// All names of all directories.
     pub fn names(&self) -> &[Name<'a>] {
         self.names.as_slice()
     }
 
+    /// The node with this number, if there is one.
     pub fn node(&self, number: u16) -> Option<Node<'a>> {
         self.nodes
             .iter()
