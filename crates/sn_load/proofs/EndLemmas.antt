@@ -1,5 +1,5 @@
 -- All that is loaded is the image.
-use Rattle.std.proofs.Common.{◌≡◌, ℕ, ◌/◌, ◌<◌, ◌&&◌, Bool, true, false, nat_lt, List, [], ◌∷◌, Option, Some, None, is_some, refl, sym, ap, ◌∙◌, ◌⊎◌, inl, inr, arith, Contains, ltb-true, cond}
+use Rattle.std.proofs.Common.{◌≡◌, ℕ, ◌/◌, ◌<◌, ◌&&◌, Bool, true, false, nat_lt, List, [], ◌∷◌, Option, Some, None, is_some, refl, sym, ap, subst, ◌∙◌, ◌⊎◌, inl, inr, arith, Contains, ltb-true, cond}
 use Rattle.std.specs.Prelude.{nat_le}
 use Rattle.std.specs.Cmp.{nat_cmp_total}
 use Rattle.std.specs.FinMap as map
@@ -58,6 +58,12 @@ names_begun s file noted tree h = record {
   };
   names = λ l n e. let never : None ≡ Some n = sym (h.unnamed l) ∙ e in absurd cc;
 }
+
+-- all names are there, once those of the root were pending
+pub names_loaded : (s later : Store) (file : BlockTree) (noted pending : List ℕ) (first tree : Tree) → later ≡ s → pending ≡ 2 ∷ [] → HasFiles s file (file.size / 128) noted first → (IsLoading later file pending first → IsLoading later file [] tree) → IsLoading s file [] tree
+names_loaded s later file noted pending first tree same root files load =
+    subst (λ (r : Store). IsLoading r file pending first → IsLoading r file [] tree) same load
+    (subst (λ (ns : List ℕ). IsLoading s file ns first) (sym root) (names_begun s file noted first files))
 
 module _ (s : Store) (file : BlockTree) (noted : List ℕ) (first tree : Tree) (h : HasFiles s file (file.size / 128) noted first) (loading : IsLoading s file [] tree) (there : (n : ℕ) → Contains noted n → is_some (map.get tree.nodes n) ≡ true) where
   -- a directory of the image is in the tree

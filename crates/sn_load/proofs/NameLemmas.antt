@@ -1,5 +1,5 @@
 -- Names, directory by directory.
-use Rattle.std.proofs.Common.{◌≡◌, ◌≢◌, ℕ, zero, suc, Bool, true, false, cond, List, [], ◌∷◌, ◌++◌, length, Option, Some, None, is_some, refl, sym, ap, subst, ◌∙◌, ◌⊎◌, inl, inr, arith, Contains}
+use Rattle.std.proofs.Common.{◌≡◌, ◌≢◌, ℕ, zero, suc, Bool, true, false, cond, List, [], ◌∷◌, ◌++◌, length, Option, Some, None, is_some, refl, sym, ap, subst, ◌∙◌, ◌⊎◌, inl, inr, arith, Contains, map as map_list}
 use Rattle.std.specs.Cmp.{nat_cmp_total}
 use Rattle.std.specs.FinMap as map
 use Rattle.std.specs.List.Sorted.{IsPermutation}
@@ -11,6 +11,7 @@ use Rattle.std.proofs.lemmas.Map.Lookups.{exact_unsigned}
 use Rattle.std.proofs.lemmas.Slice.Eq.{bytes_eq-Decides}
 use Rattle.sn_layout.specs.declared.tree.BlockTree.{BlockTree}
 use Rattle.sn_layout_node.specs.Directory.{Link as Name, number_of}
+use Rattle.sn_layout_node.specs.declared.content.Content.TheVariants.{Tree as Names}
 use Rattle.sn_layout_node.specs.declared.inode.Inode.{Inode}
 use Rattle.sn_limits.specs.declared.kind.Kind.{Kind}
 use Rattle.sn_limits.specs.declared.kind.Kind.TheVariants.{File, Directory}
@@ -28,6 +29,8 @@ use Rattle.sn_image.specs.Image.{node_at}
 use Rattle.sn_image.specs.Inodes.{inode_at}
 use Rattle.sn_image.specs.Names.{names_at, names_by, names_of, names_under}
 use Rattle.sn_image.proofs.PointLemmas.{number_among}
+use Rattle.sn_dir.specs.Listed.{link_of}
+use Rattle.sn_dir.specs.declared.listings.ListedName.{ListedName}
 use Rattle.sn_load.specs.Loading.{HasAllNames, IsLoading, IsPart}
 use Rattle.sn_load.specs.Steps.{AddsNames}
 
@@ -207,6 +210,15 @@ directory_done s file directory pending after names old new same adds loading pa
 pub directory_names : (s : Store) (file : BlockTree) (number : ℕ) (inode : Inode) → inode_at s file number ≡ Some inode → inode.kind ≡ Directory → names_at s file number ≡ names_of s inode.content
 unfolding names_at
 directory_names s file number inode e kind = ap (names_under s) e ∙ ap (λ (k : Kind). names_by s k inode.content) kind
+
+-- and so those that were listed
+pub names_listed : (s later : Store) (file : BlockTree) (number : ℕ) (inode : Inode) (tree : BlockTree) (listed shown : List ListedName) → later ≡ s → inode_at s file number ≡ Some inode → inode.kind ≡ Directory → inode.content ≡ Names tree → shown ≡ listed
+    → IsPermutation (names_of later (Names tree)) (map_list link_of listed) → IsPermutation (names_at s file number) (map_list link_of shown)
+names_listed s later file number inode tree listed shown same at kind content showing all =
+    let names = directory_names s file number inode at kind ∙ ap (names_of s) content in
+    subst (λ xs. IsPermutation (names_at s file number) (map_list link_of xs)) (sym showing)
+    (subst (λ xs. IsPermutation xs (map_list link_of listed)) (sym names)
+    (subst (λ (r : Store). IsPermutation (names_of r (Names tree)) (map_list link_of listed)) same all))
 
 -- the last of the open directories is the first that gets names
 pub loading_popped : (s : Store) (file : BlockTree) (directory : ℕ) (before after : List ℕ) (tree : Tree) → before ≡ after ++ directory ∷ [] → IsLoading s file before tree → IsLoading s file (directory ∷ after) tree

@@ -1,25 +1,27 @@
 -- Files and noted directories, number by number.
 use Rattle.std.proofs.Common.{◌≡◌, ◌≢◌, ℕ, ◌+◌, ◌<◌, ◌≤◌, Bool, IsTrue, List, [], ◌∷◌, ◌++◌, Option, Some, None, Result, Ok, Err, refl, sym, ap, subst, ◌∙◌, ◌⊎◌, inl, inr, arith, Contains}
-use Rattle.std.specs.Prelude.{IsSomeAnd, OnOk}
+use Rattle.std.specs.Prelude.{IsSomeAnd, IsErrAnd, OnOk}
 use Rattle.std.specs.Option.{option_map}
 use Rattle.std.specs.Cmp.{nat_cmp_total}
 use Rattle.std.specs.FinMap as map
 use Rattle.std.proofs.lemmas.Bool.{cases_lt}
 use Rattle.std.proofs.lemmas.List.Elements.{Contains-append_cases, Contains-append_left, Contains-append_right}
 use Rattle.std.proofs.lemmas.Map.Lookups.{exact_unsigned}
+use Rattle.std.proofs.lemmas.Result.{err_from_is_err_and}
 use Rattle.sn_acl.specs.declared.entries.Entry.{Entry}
 use Rattle.sn_layout_acl.specs.AclBlock.{joined}
 use Rattle.sn_layout_acl.specs.declared.acl_block.AclBlock.{AclBlock}
 use Rattle.sn_layout.specs.declared.tree.BlockTree.{BlockTree}
 use Rattle.sn_layout_node.specs.Inode.{size_of}
+use Rattle.sn_layout_node.specs.Directory.{Link as Name}
 use Rattle.sn_layout_node.specs.declared.content.Content.{Content}
 use Rattle.sn_layout_node.specs.declared.inode.Inode.{Inode}
 use Rattle.sn_limits.specs.declared.kind.Kind.{Kind}
 use Rattle.sn_limits.specs.declared.kind.Kind.TheVariants.{File, Directory}
 use Rattle.sn_limits.specs.declared.limits.Limits.{Limits}
 use Rattle.sn_model.specs.declared.change.Ownership.{Ownership}
-use Rattle.sn_model.specs.Changes.{node_with, overwritten, ownership_of, put_node, written}
-use Rattle.sn_model.specs.Tree.{Node, Tree}
+use Rattle.sn_model.specs.Changes.{made, node_with, overwritten, ownership_of, put_node, written}
+use Rattle.sn_model.specs.Tree.{Node, Tree, link_to}
 use Rattle.sn_model.proofs.MapLemmas.{same_or_apart, get_inserted, get_other}
 use Rattle.sn_model.proofs.PartLemmas.{file_is, written_is}
 use Rattle.sn_device.specs.Disk.{Disk, reads}
@@ -35,9 +37,10 @@ use Rattle.sn_plain.specs.declared.error.ApplyError.{ApplyError}
 use Rattle.sn_plain.proofs.AddedLemmas.{added_is}
 use Rattle.sn_tree_read.specs.Reads.{IsPart, IsOutside}
 use Rattle.sn_tree_read.specs.declared.fault.TreeFault.{TreeFault}
+use Rattle.sn_tree_read.specs.declared.fault.TreeFault.TheVariants.{Damaged}
 use Rattle.sn_load.specs.Loading.{HasFiles}
-use Rattle.sn_load.specs.Steps.{LoadsKind, LoadsNumber, Puts, WritesPart, applied}
-use Rattle.sn_load.proofs.NameLemmas.{one_of}
+use Rattle.sn_load.specs.Steps.{AddsNames, LoadsKind, LoadsNumber, Puts, WritesPart, applied}
+use Rattle.sn_load.proofs.NameLemmas.{made_adds, one_of}
 use Rattle.sn_load.proofs.ByteLemmas.{no_part, none_outside, outside_joined, parts_joined, written_behind}
 
 -- ---- the device
@@ -244,6 +247,15 @@ ok_applied answer result u asked old new is ok applies = told answer (sym is ∙
     told : (a : Result (Unit {0}) ApplyError) → applied a ≡ Ok u → Applies a asked old new → asked ≡ Some new
     told (Ok v) e f = f
     told (Err error) e f = absurd cc
+
+-- the directory that was made, and its name
+pub directory_adds : (limits : Limits) (old new : Tree) (directory : ℕ) (name : Name) (o : Ownership) (answer : Result (Unit {0}) ApplyError) (result : Result (Unit {0}) TreeFault) (u : Unit {0}) → result ≡ applied answer → result ≡ Ok u
+    → Applies answer (made limits old (link_to directory name.name) name.number Directory o) old new → (new.nodes ≡ map.insert old.nodes name.number (node_with Directory o [])) × AddsNames directory (name ∷ []) old.links new.links
+directory_adds limits old new directory name o answer result u is ok applies = made_adds limits old new directory name o (ok_applied answer result u _ old new is ok applies)
+
+-- the fault with which a call failed, where that is what is answered
+pub was_damaged : {T : Type 0} (result : Result T TreeFault) (fault : TreeFault) → IsErrAnd result (λ answered. answered ≡ fault) → result ≡ Err Damaged → fault ≡ Damaged
+was_damaged result fault answered is = let e = err_from_is_err_and result answered in cc (e.1, e.2, is)
 
 pub ok_then : {T P Q : Type 0} (r : Result T TreeFault) → OnOk r P → (P → Q) → OnOk r Q
 ok_then (Ok x) p give = give p

@@ -28,7 +28,7 @@ use sn_limits::Limits;
 use sn_plain::PlainTree;
 use sn_tree_read::{TreeFault, read_laws};
 use sn_walk::ROOT_NUMBER;
-use std::alloc::Global;
+use std::alloc::{AllocError, Global};
 
 /// So many numbers there are, and so no more directories.
 const NUMBERS: u32 = 65_536;
@@ -120,6 +120,15 @@ fn are_there(tree: &PlainTree, numbers: &[u16]) -> bool
     numbers.iter().all(|number| tree.has_node(*number))
 }
 
+// The number of the root directory, as the only one of a list.
+fn root_alone(alloc: Global) -> Result<Vec<u16>, AllocError>
+    ensures { IfOk result (λ numbers. numbers.items ≡ 2 ∷ []) }
+{
+    let mut numbers = Vec::new(alloc);
+    note(&mut numbers, ROOT_NUMBER)?;
+    Ok(numbers)
+}
+
 // Loads all but the root.
 fn fill<D: Device>(
     alloc: Global,
@@ -142,11 +151,9 @@ fn fill<D: Device>(
     ensures counts { CountsTree result (D.status (device_of blocks.old)) (D.status (device_of blocks.new)) }
 {
     image_laws();
-    let mut noted = Vec::new(alloc);
-    note(&mut noted, ROOT_NUMBER)?;
+    let mut noted = root_alone(alloc)?;
     load_files(alloc, blocks, limits, file, tree, &mut noted)?;
-    let mut pending = Vec::new(alloc);
-    note(&mut pending, ROOT_NUMBER)?;
+    let mut pending = root_alone(alloc)?;
     load_names(alloc, blocks, limits, file, tree, &mut pending)?;
     if !are_there(tree, noted.as_slice()) {
         return Err(TreeFault::Damaged);

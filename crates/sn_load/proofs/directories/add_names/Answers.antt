@@ -7,9 +7,7 @@ use Rattle.sn_plain.specs.Plain.{tree_of}
 use Rattle.sn_load.specs.Loading.{IsPart}
 use Rattle.sn_load.specs.Steps.{AddsNames}
 use Rattle.sn_load.proofs.NameLemmas.{added_both, added_none}
-use Rattle.sn_load.proofs.StepLemmas.{at_start, stays_begun, stays_more, at_now}
-use Rattle.std.proofs.lemmas.Result.{err_from_is_err_and}
-use Rattle.sn_tree_read.specs.declared.fault.TreeFault.TheVariants.{Damaged}
+use Rattle.sn_load.proofs.StepLemmas.{at_start, stays_begun, stays_more, at_now, was_damaged}
 use Rattle.sn_device.specs.Disk.{reads}
 use Rattle.sn_block.specs.Lending.{device_of}
 use Rattle.sn_image.specs.Names.{names_at}
@@ -45,9 +43,7 @@ returns-clause-names g c = subst (λ names. AddsNames c.args.directory names (tr
 
 pub returns-in_err-add_name-clause-damaged : goal.returns-in_err-add_name-clause-damaged
 returns-in_err-add_name-clause-damaged g c told is sound done begun none same =
-    let p = err_from_is_err_and c.from_residual.result c.from_residual.ensures.1 in
-    let fault : c.in_err-add_name.field-0.0 ≡ Damaged = cc (p.1, p.2) in
-    let bad = ap (λ f. Err f) fault in
+    let bad = ap (λ f. Err f) (was_damaged _ _ c.from_residual.ensures.1 is) in
     let s = store_of (reads (g.D.Device.disk (device_of c.args.blocks.now))) in
     let x = link_of c.index-names-i.result in
     let shown : get_or c.args.names.now c.loop-i.i c.index-names-i.result ≡ c.index-names-i.result = sym c.index-names-i.is in

@@ -1,16 +1,12 @@
-use Rattle.std.proofs.Common.{◌≡◌, Err, ap, arith}
+use Rattle.std.proofs.Common.{Err, ap, arith}
 use Rattle.std.specs.Prelude.{⊤}
-use Rattle.std.proofs.lemmas.Result.{err_from_is_err_and}
-use Rattle.sn_tree_read.specs.declared.fault.TreeFault.TheVariants.{Damaged}
 use Rattle.sn_dir.specs.Blocks.{IsDamaged}
-use Rattle.sn_load.proofs.StepLemmas.{Stays, at_start}
+use Rattle.sn_load.proofs.StepLemmas.{Stays, at_start, was_damaged}
 use Rattle.sn_load.proofs.directories.listed.Goals as goal
 
 pub returns-in_err-count-clause-damaged : goal.returns-in_err-count-clause-damaged
 returns-in_err-count-clause-damaged g c told is readable few =
-    let p = err_from_is_err_and c.from_residual.result c.from_residual.ensures.1 in
-    let fault : c.in_err-count.field-0.0 ≡ Damaged = cc (p.1, p.2) in
-    let bad = ap (λ f. Err f) fault in
+    let bad = ap (λ f. Err f) (was_damaged _ _ c.from_residual.ensures.1 is) in
     readable (c.in_err-count.ensures.damaged told bad)
 
 pub returns-then-branch-from-clause-damaged : goal.returns-then-branch-from-clause-damaged

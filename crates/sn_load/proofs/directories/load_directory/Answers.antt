@@ -1,4 +1,4 @@
-use Rattle.std.proofs.Common.{◌∷◌, ℕ, map, sym, subst, ap, ◌∙◌, ◌≡◌, ◌≤◌, Err, length}
+use Rattle.std.proofs.Common.{◌∷◌, ℕ, map, subst, ap, ◌∙◌, ◌≤◌, Err, length}
 use Rattle.std.specs.List.Sorted.{IsPermutation}
 use Rattle.sn_device.specs.Disk.{Disk, reads}
 use Rattle.sn_block.specs.Lending.{device_of}
@@ -8,11 +8,9 @@ use Rattle.sn_layout_node.specs.declared.content.Content.TheVariants.{Tree}
 use Rattle.sn_image.specs.Names.{names_of, names_at}
 use Rattle.sn_plain.specs.Plain.{tree_of}
 use Rattle.sn_load.specs.Loading.{IsPart}
-use Rattle.sn_load.proofs.NameLemmas.{directory_done, directory_names}
-use Rattle.sn_load.proofs.StepLemmas.{ok_both, Stays, at_now, at_start}
+use Rattle.sn_load.proofs.NameLemmas.{directory_done, directory_names, names_listed}
+use Rattle.sn_load.proofs.StepLemmas.{ok_both, Stays, at_now, at_start, was_damaged}
 use Rattle.std.specs.Prelude.{⊤}
-use Rattle.std.proofs.lemmas.Result.{err_from_is_err_and}
-use Rattle.sn_tree_read.specs.declared.fault.TreeFault.TheVariants.{Damaged}
 use Rattle.sn_dir.specs.Blocks.{IsDamaged}
 use Rattle.sn_load.specs.Sound.{HasNoNames, IsFilling, IsSoundOn}
 use Rattle.sn_load.proofs.OpenLemmas.{filling_done}
@@ -26,19 +24,14 @@ returns-in_ok-names-in-Tree-clause-loading g c told =
     let new = tree_of c.add_names.new.tree in
     let first = c.directory_at.ensures.same told in
     let same = ap (λ (d : Disk). store_of (reads d)) (c.listed.ensures.same told ∙ first) in
-    let names = directory_names s c.args.file.now c.args.directory c.in_ok-inode.inode (c.in_ok-inode.ensures.inode told) c.in_ok-inode.ensures.kind ∙ ap (names_of s) c.in-Tree.is in
-    let listed = subst (λ (r : Store). IsPermutation (names_of r (Tree c.in-Tree.names)) (map link_of c.in_ok-names-in-Tree.names.items)) (ap (λ (d : Disk). store_of (reads d)) first) (c.in_ok-names-in-Tree.ensures.names told) in
-    let permuted = subst (λ xs. IsPermutation xs (map link_of c.in_ok-names-in-Tree.names.items)) (sym names) listed in
-    let all = subst (λ xs. IsPermutation (names_at s c.args.file.now c.args.directory) (map link_of xs)) (sym c.as_slice.ensures.value) permuted in
+    let all = names_listed s _ c.args.file.now c.args.directory c.in_ok-inode.inode c.in-Tree.names c.in_ok-names-in-Tree.names.items c.as_slice.result.now (ap (λ (d : Disk). store_of (reads d)) first) (c.in_ok-inode.ensures.inode told) c.in_ok-inode.ensures.kind c.in-Tree.is c.as_slice.ensures.value (c.in_ok-names-in-Tree.ensures.names told) in
     ok_both c.add_names.result (c.add_names.ensures.part told) c.add_names.ensures.names
     (λ part adds loading. directory_done s c.args.file.now c.args.directory (c.args.directory ∷ c.args.pending.now.items) c.add_names.new.pending.items (map link_of c.as_slice.result.now) old new all adds loading
     (subst (λ (r : Store). IsPart r c.args.file.now (c.args.directory ∷ c.args.pending.now.items) old → IsPart r c.args.file.now (c.args.directory ∷ c.add_names.new.pending.items) new) same part loading.part))
 
 pub returns-in_err-inode-clause-damaged : goal.returns-in_err-inode-clause-damaged
 returns-in_err-inode-clause-damaged g c told is sound done filling none =
-    let p = err_from_is_err_and c.from_residual.result c.from_residual.ensures.1 in
-    let fault : c.in_err-inode.field-0.0 ≡ Damaged = cc (p.1, p.2) in
-    let bad = ap (λ f. Err f) fault in
+    let bad = ap (λ f. Err f) (was_damaged _ _ c.from_residual.ensures.1 is) in
     let s = store_of (reads (g.D.Device.disk (device_of c.args.blocks.now))) in
     c.in_err-inode.ensures.damaged told bad sound (directory_inode c.args.limits.now _ s c.args.file.now sound c.args.directory (image_directory c.args.limits.now _ s c.args.file.now sound (tree_of c.args.tree.now) filling.part.nodes c.args.directory filling.here))
 
@@ -48,9 +41,7 @@ returns-in-Inline-clause-damaged g c told is sound done filling none =
 
 pub returns-in_err-names-in-Tree-clause-damaged : goal.returns-in_err-names-in-Tree-clause-damaged
 returns-in_err-names-in-Tree-clause-damaged g c told is sound done filling none =
-    let p = err_from_is_err_and c.from_residual-in_err-names-in-Tree.result c.from_residual-in_err-names-in-Tree.ensures.1 in
-    let fault : c.in_err-names-in-Tree.field-0.0 ≡ Damaged = cc (p.1, p.2) in
-    let bad = ap (λ f. Err f) fault in
+    let bad = ap (λ f. Err f) (was_damaged _ _ c.from_residual-in_err-names-in-Tree.ensures.1 is) in
     let s = store_of (reads (g.D.Device.disk (device_of c.args.blocks.now))) in
     let sectors = (g.D.Device.status (device_of c.args.blocks.now)).sectors in
     let stays : Stays _ _ _ _ _ = record { status = c.in_ok-inode.ensures.counts.done; same = c.directory_at.ensures.same } in
@@ -64,10 +55,7 @@ pub returns-in_ok-names-in-Tree-clause-opens : goal.returns-in_ok-names-in-Tree-
 returns-in_ok-names-in-Tree-clause-opens g c told =
     let s = store_of (reads (g.D.Device.disk (device_of c.args.blocks.now))) in
     let first = c.directory_at.ensures.same told in
-    let names = directory_names s c.args.file.now c.args.directory c.in_ok-inode.inode (c.in_ok-inode.ensures.inode told) c.in_ok-inode.ensures.kind ∙ ap (names_of s) c.in-Tree.is in
-    let listed = subst (λ (r : Store). IsPermutation (names_of r (Tree c.in-Tree.names)) (map link_of c.in_ok-names-in-Tree.names.items)) (ap (λ (d : Disk). store_of (reads d)) first) (c.in_ok-names-in-Tree.ensures.names told) in
-    let permuted = subst (λ xs. IsPermutation xs (map link_of c.in_ok-names-in-Tree.names.items)) (sym names) listed in
-    let all = subst (λ xs. IsPermutation (names_at s c.args.file.now c.args.directory) (map link_of xs)) (sym c.as_slice.ensures.value) permuted in
+    let all = names_listed s _ c.args.file.now c.args.directory c.in_ok-inode.inode c.in-Tree.names c.in_ok-names-in-Tree.names.items c.as_slice.result.now (ap (λ (d : Disk). store_of (reads d)) first) (c.in_ok-inode.ensures.inode told) c.in_ok-inode.ensures.kind c.in-Tree.is c.as_slice.ensures.value (c.in_ok-names-in-Tree.ensures.names told) in
     let stays : Stays _ _ _ _ _ = record { status = c.in_ok-names-in-Tree.ensures.counts.done ∙ c.in_ok-inode.ensures.counts.done; same = λ t. c.listed.ensures.same t ∙ c.directory_at.ensures.same t } in
     ok_both c.add_names.result (c.add_names.ensures.filling told) (returns-in_ok-names-in-Tree-clause-loading g c told)
     (λ fills loads sound done filling none.
@@ -79,10 +67,7 @@ pub returns-in_ok-names-in-Tree-clause-damaged : goal.returns-in_ok-names-in-Tre
 returns-in_ok-names-in-Tree-clause-damaged g c told is sound done filling none =
     let s = store_of (reads (g.D.Device.disk (device_of c.args.blocks.now))) in
     let first = c.directory_at.ensures.same told in
-    let names = directory_names s c.args.file.now c.args.directory c.in_ok-inode.inode (c.in_ok-inode.ensures.inode told) c.in_ok-inode.ensures.kind ∙ ap (names_of s) c.in-Tree.is in
-    let listed = subst (λ (r : Store). IsPermutation (names_of r (Tree c.in-Tree.names)) (map link_of c.in_ok-names-in-Tree.names.items)) (ap (λ (d : Disk). store_of (reads d)) first) (c.in_ok-names-in-Tree.ensures.names told) in
-    let permuted = subst (λ xs. IsPermutation xs (map link_of c.in_ok-names-in-Tree.names.items)) (sym names) listed in
-    let all = subst (λ xs. IsPermutation (names_at s c.args.file.now c.args.directory) (map link_of xs)) (sym c.as_slice.ensures.value) permuted in
+    let all = names_listed s _ c.args.file.now c.args.directory c.in_ok-inode.inode c.in-Tree.names c.in_ok-names-in-Tree.names.items c.as_slice.result.now (ap (λ (d : Disk). store_of (reads d)) first) (c.in_ok-inode.ensures.inode told) c.in_ok-inode.ensures.kind c.in-Tree.is c.as_slice.ensures.value (c.in_ok-names-in-Tree.ensures.names told) in
     let stays : Stays _ _ _ _ _ = record { status = c.in_ok-names-in-Tree.ensures.counts.done ∙ c.in_ok-inode.ensures.counts.done; same = λ t. c.listed.ensures.same t ∙ c.directory_at.ensures.same t } in
     c.add_names.ensures.damaged told is (at_now _ _ _ _ _ stays (λ k r. IsSoundOn c.args.limits.now k r c.args.file.now) told sound) done
     (at_now _ _ _ _ _ stays (λ k r. IsFilling c.args.limits.now r c.args.file.now done c.args.directory c.args.pending.now.items (tree_of c.args.tree.now)) told filling) none

@@ -1,4 +1,4 @@
-use Rattle.std.proofs.Common.{◌∷◌, [], List, ℕ, Some, refl, sym, subst, ap, ◌∙◌, ◌≡◌, Err}
+use Rattle.std.proofs.Common.{◌∷◌, [], List, ℕ, Some, refl, sym, subst, ap, ◌∙◌, Err}
 use Rattle.sn_device.specs.Disk.{Disk, reads}
 use Rattle.sn_block.specs.Lending.{device_of}
 use Rattle.sn_ondisk.specs.Trees.{Store, store_of}
@@ -11,10 +11,8 @@ use Rattle.sn_layout_node.specs.Directory.{Link as Name}
 use Rattle.sn_image.specs.Image.{node_of, image}
 use Rattle.sn_plain.specs.Plain.{tree_of}
 use Rattle.sn_load.specs.Loading.{IsPart}
-use Rattle.sn_load.proofs.NameLemmas.{made_adds, part_made}
-use Rattle.sn_load.proofs.StepLemmas.{directory_made, node_is, ok_applied, Stays, at_now, node_kind}
-use Rattle.std.proofs.lemmas.Result.{err_from_is_err_and}
-use Rattle.sn_tree_read.specs.declared.fault.TreeFault.TheVariants.{Damaged}
+use Rattle.sn_load.proofs.NameLemmas.{part_made}
+use Rattle.sn_load.proofs.StepLemmas.{directory_adds, directory_made, node_is, ok_applied, Stays, at_now, node_kind, was_damaged}
 use Rattle.sn_inode.specs.Reads.{CanReadAcls}
 use Rattle.sn_load.proofs.FitLemmas.{made_fits, never_refused}
 use Rattle.sn_load.proofs.SoundLemmas.{directory_inode, image_name, image_node, named_directory, within_image}
@@ -26,8 +24,7 @@ returns-clause-part g c told directory part =
     let o = c.in_ok-owner.owner in
     let old = tree_of c.args.tree.now in
     let new = tree_of c.make.new.self in
-    let asked = ok_applied c.make.result c.applied.result c.in_ok-applied.field-0 (made c.args.limits.now old c.args.link c.args.number Directory o) old new c.applied.ensures c.in_ok-applied.was c.make.ensures in
-    let adds = made_adds c.args.limits.now old new c.args.link.directory (record { number = c.args.number; name = c.args.link.name }) o asked in
+    let adds = directory_adds c.args.limits.now old new c.args.link.directory (record { number = c.args.number; name = c.args.link.name }) o c.make.result c.applied.result c.in_ok-applied.field-0 c.applied.ensures c.in_ok-applied.was c.make.ensures in
     let same = ap (λ (d : Disk). store_of (reads d)) (c.directory_at.ensures.same told) in
     let owner = c.in_ok-owner.ensures.ownership told ∙ ap (λ (r : Store). ownership_of (node_of r c.in_ok-inode.inode)) same in
     let at = node_is s c.args.file.now c.args.number c.in_ok-inode.inode (c.in_ok-inode.ensures.inode told) ∙ ap (λ (x : Node). Some x) (sym (directory_made s c.in_ok-inode.inode o c.in_ok-inode.ensures.kind owner)) in
@@ -39,8 +36,8 @@ returns-clause-names g c =
     let o = c.in_ok-owner.owner in
     let old = tree_of c.args.tree.now in
     let new = tree_of c.make.new.self in
-    let asked = ok_applied c.make.result c.applied.result c.in_ok-applied.field-0 (made c.args.limits.now old c.args.link c.args.number Directory o) old new c.applied.ensures c.in_ok-applied.was c.make.ensures in
-    (made_adds c.args.limits.now old new c.args.link.directory (record { number = c.args.number; name = c.args.link.name }) o asked).1
+    let adds = directory_adds c.args.limits.now old new c.args.link.directory (record { number = c.args.number; name = c.args.link.name }) o c.make.result c.applied.result c.in_ok-applied.field-0 c.applied.ensures c.in_ok-applied.was c.make.ensures in
+    adds.1
 
 pub returns-clause-whole : goal.returns-clause-whole
 returns-clause-whole g c whole =
@@ -55,15 +52,12 @@ returns-clause-nodes g c =
     let o = c.in_ok-owner.owner in
     let old = tree_of c.args.tree.now in
     let new = tree_of c.make.new.self in
-    let asked = ok_applied c.make.result c.applied.result c.in_ok-applied.field-0 (made c.args.limits.now old c.args.link c.args.number Directory o) old new c.applied.ensures c.in_ok-applied.was c.make.ensures in
-    let adds = made_adds c.args.limits.now old new c.args.link.directory (record { number = c.args.number; name = c.args.link.name }) o asked in
+    let adds = directory_adds c.args.limits.now old new c.args.link.directory (record { number = c.args.number; name = c.args.link.name }) o c.make.result c.applied.result c.in_ok-applied.field-0 c.applied.ensures c.in_ok-applied.was c.make.ensures in
     record { node = node_with Directory o []; kind = refl; makes = adds.0; pends = c.in_ok-note.ensures }
 
 pub returns-in_err-inode-clause-damaged : goal.returns-in_err-inode-clause-damaged
 returns-in_err-inode-clause-damaged g c told is sound done filling among vacant absent =
-    let p = err_from_is_err_and c.from_residual.result c.from_residual.ensures.1 in
-    let fault : c.in_err-inode.field-0.0 ≡ Damaged = cc (p.1, p.2) in
-    let bad = ap (λ f. Err f) fault in
+    let bad = ap (λ f. Err f) (was_damaged _ _ c.from_residual.ensures.1 is) in
     let s = store_of (reads (g.D.Device.disk (device_of c.args.blocks.now))) in
     let name : Name = record { number = c.args.number; name = c.args.link.name } in
     c.in_err-inode.ensures.damaged told bad sound (directory_inode c.args.limits.now _ s c.args.file.now sound c.args.number
@@ -71,9 +65,7 @@ returns-in_err-inode-clause-damaged g c told is sound done filling among vacant 
 
 pub returns-in_err-owner-clause-damaged : goal.returns-in_err-owner-clause-damaged
 returns-in_err-owner-clause-damaged g c told is sound done filling among vacant absent =
-    let p = err_from_is_err_and c.from_residual-in_err-owner.result c.from_residual-in_err-owner.ensures.1 in
-    let fault : c.in_err-owner.field-0.0 ≡ Damaged = cc (p.1, p.2) in
-    let bad = ap (λ f. Err f) fault in
+    let bad = ap (λ f. Err f) (was_damaged _ _ c.from_residual-in_err-owner.ensures.1 is) in
     let s = store_of (reads (g.D.Device.disk (device_of c.args.blocks.now))) in
     let sectors = (g.D.Device.status (device_of c.args.blocks.now)).sectors in
     let stays : Stays _ _ _ _ _ = record { status = c.in_ok-inode.ensures.counts.done; same = c.directory_at.ensures.same } in
@@ -82,9 +74,7 @@ returns-in_err-owner-clause-damaged g c told is sound done filling among vacant 
 
 pub returns-in_err-applied-clause-damaged : goal.returns-in_err-applied-clause-damaged
 returns-in_err-applied-clause-damaged g c told is sound done filling among vacant absent =
-    let p = err_from_is_err_and c.from_residual-in_err-applied.result c.from_residual-in_err-applied.ensures.1 in
-    let fault : c.in_err-applied.field-0.0 ≡ Damaged = cc (p.1, p.2) in
-    let bad = ap (λ f. Err f) fault in
+    let bad = ap (λ f. Err f) (was_damaged _ _ c.from_residual-in_err-applied.ensures.1 is) in
     let s = store_of (reads (g.D.Device.disk (device_of c.args.blocks.now))) in
     let sectors = (g.D.Device.status (device_of c.args.blocks.now)).sectors in
     let o = c.in_ok-owner.owner in

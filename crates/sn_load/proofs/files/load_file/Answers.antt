@@ -1,4 +1,4 @@
-use Rattle.std.proofs.Common.{[], refl, subst, ap, ◌∙◌, ◌≡◌, Err}
+use Rattle.std.proofs.Common.{[], refl, subst, ap, ◌∙◌, Err}
 use Rattle.sn_device.specs.Disk.{Disk, reads}
 use Rattle.sn_block.specs.Lending.{device_of}
 use Rattle.sn_ondisk.specs.Trees.{Store, store_of}
@@ -11,9 +11,7 @@ use Rattle.sn_plain.specs.Added.{file_added}
 use Rattle.sn_plain.specs.Plain.{tree_of}
 use Rattle.sn_plain.proofs.AddedLemmas.{added_keeps}
 use Rattle.sn_load.specs.Steps.{Puts}
-use Rattle.sn_load.proofs.StepLemmas.{added_puts, file_made, ok_applied, ok_then, puts_both, Stays, at_now, node_kind}
-use Rattle.std.proofs.lemmas.Result.{err_from_is_err_and}
-use Rattle.sn_tree_read.specs.declared.fault.TreeFault.TheVariants.{Damaged}
+use Rattle.sn_load.proofs.StepLemmas.{added_puts, file_made, ok_applied, ok_then, puts_both, Stays, at_now, node_kind, was_damaged}
 use Rattle.sn_image.specs.Image.{image, node_of}
 use Rattle.sn_load.specs.Sound.{IsInside}
 use Rattle.sn_load.proofs.FitLemmas.{added_fits, never_refused}
@@ -49,16 +47,12 @@ returns-clause-whole g c =
 
 pub returns-in_err-owner-clause-damaged : goal.returns-in_err-owner-clause-damaged
 returns-in_err-owner-clause-damaged g c told is file sound used noted files whole =
-    let p = err_from_is_err_and c.from_residual.result c.from_residual.ensures.1 in
-    let fault : c.in_err-owner.field-0.0 ≡ Damaged = cc (p.1, p.2) in
-    let bad = ap (λ f. Err f) fault in
+    let bad = ap (λ f. Err f) (was_damaged _ _ c.from_residual.ensures.1 is) in
     c.in_err-owner.ensures.damaged told bad (sound.acls c.args.number c.args.inode.now used)
 
 pub returns-in_err-applied-clause-damaged : goal.returns-in_err-applied-clause-damaged
 returns-in_err-applied-clause-damaged g c told is file sound used noted files whole =
-    let p = err_from_is_err_and c.from_residual-in_err-applied.result c.from_residual-in_err-applied.ensures.1 in
-    let fault : c.in_err-applied.field-0.0 ≡ Damaged = cc (p.1, p.2) in
-    let bad = ap (λ f. Err f) fault in
+    let bad = ap (λ f. Err f) (was_damaged _ _ c.from_residual-in_err-applied.ensures.1 is) in
     let s = store_of (reads (g.D.Device.disk (device_of c.args.blocks.now))) in
     let o = c.in_ok-owner.owner in
     let old = tree_of c.args.tree.now in

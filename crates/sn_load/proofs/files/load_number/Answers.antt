@@ -5,9 +5,7 @@ use Rattle.sn_ondisk.specs.Trees.{Store, store_of}
 use Rattle.sn_image.specs.Image.{node_of}
 use Rattle.sn_plain.specs.Plain.{tree_of}
 use Rattle.sn_load.specs.Steps.{Puts}
-use Rattle.sn_load.proofs.StepLemmas.{loads_directory, loads_file, loads_none, ok_then, Stays, at_now}
-use Rattle.std.proofs.lemmas.Result.{err_from_is_err_and}
-use Rattle.sn_tree_read.specs.declared.fault.TreeFault.TheVariants.{Damaged}
+use Rattle.sn_load.proofs.StepLemmas.{loads_directory, loads_file, loads_none, ok_then, Stays, at_now, was_damaged}
 use Rattle.sn_image.specs.Inodes.{inode_at}
 use Rattle.sn_load.specs.Loading.{HasFiles}
 use Rattle.sn_load.specs.Sound.{IsSoundOn}
@@ -30,9 +28,7 @@ returns-in_ok-note-in-Directory-clause-number g c told = loads_directory (store_
 
 pub returns-in_err-inode-clause-damaged : goal.returns-in_err-inode-clause-damaged
 returns-in_err-inode-clause-damaged g c told is sound files whole =
-    let p = err_from_is_err_and c.from_residual.result c.from_residual.ensures.1 in
-    let fault : c.in_err-inode.field-0.0 ≡ Damaged = cc (p.1, p.2) in
-    let bad = ap (λ f. Err f) fault in
+    let bad = ap (λ f. Err f) (was_damaged _ _ c.from_residual.ensures.1 is) in
     c.in_err-inode.ensures.damaged told bad (sound.records c.args.number)
 
 pub returns-in-File-clause-damaged : goal.returns-in-File-clause-damaged

@@ -6,9 +6,7 @@ use Rattle.sn_layout_node.specs.Inode.{size_of}
 use Rattle.sn_plain.specs.Plain.{tree_of}
 use Rattle.sn_load.specs.Steps.{Puts, WritesPart}
 use Rattle.sn_load.proofs.ByteLemmas.{part_begun, parts_enough, whole_content, content_most, part_short}
-use Rattle.sn_load.proofs.StepLemmas.{HasBytes, at_start, bytes_begun, bytes_more, stays_begun, stays_more, at_now}
-use Rattle.std.proofs.lemmas.Result.{err_from_is_err_and}
-use Rattle.sn_tree_read.specs.declared.fault.TreeFault.TheVariants.{Damaged}
+use Rattle.sn_load.proofs.StepLemmas.{HasBytes, at_start, bytes_begun, bytes_more, stays_begun, stays_more, at_now, was_damaged}
 use Rattle.sn_load.specs.Sound.{IsInside}
 use Rattle.sn_load.proofs.files.write_bytes.Goals as goal
 
@@ -42,9 +40,7 @@ returns-clause-written g c told node there kind none =
 
 pub returns-in_err-write_part-clause-damaged : goal.returns-in_err-write_part-clause-damaged
 returns-in_err-write_part-clause-damaged g c told is lies node there kind none =
-    let p = err_from_is_err_and c.from_residual.result c.from_residual.ensures.1 in
-    let fault : c.in_err-write_part.field-0.0 ≡ Damaged = cc (p.1, p.2) in
-    let bad = ap (λ f. Err f) fault in
+    let bad = ap (λ f. Err f) (was_damaged _ _ c.from_residual.ensures.1 is) in
     let has = c.loop-i.invariant.bytes told node there kind none in
     let begun = part_short c.loop-i.i c.size.result (size_of c.args.content.now) c.div_ceil-parts.result c.size.ensures c.div_ceil-parts.ensures c.loop-i-test.true in
     let most = content_most c.args.limits.now c.args.content.now c.requires.version c.requires.content in

@@ -7,9 +7,7 @@ use Rattle.sn_model.specs.declared.change.Change.TheVariants.{Write}
 use Rattle.sn_model.proofs.TreeLemmas.{tree_kept}
 use Rattle.sn_plain.specs.Plain.{tree_of}
 use Rattle.sn_tree_read.specs.Reads.{IsPart}
-use Rattle.sn_load.proofs.StepLemmas.{on_applied, writes_part}
-use Rattle.std.proofs.lemmas.Result.{err_from_is_err_and}
-use Rattle.sn_tree_read.specs.declared.fault.TreeFault.TheVariants.{Damaged}
+use Rattle.sn_load.proofs.StepLemmas.{on_applied, writes_part, was_damaged}
 use Rattle.sn_layout_node.specs.Inode.{size_of}
 use Rattle.sn_load.proofs.FitLemmas.{never_refused, written_fits}
 use Rattle.sn_load.proofs.files.write_part.Goals as goal
@@ -34,9 +32,7 @@ returns-clause-whole g c =
 
 pub returns-in_err-part-clause-damaged : goal.returns-in_err-part-clause-damaged
 returns-in_err-part-clause-damaged g c told is lies node there kind begun most =
-    let p = err_from_is_err_and c.from_residual.result c.from_residual.ensures.1 in
-    let fault : c.in_err-part.field-0.0 ≡ Damaged = cc (p.1, p.2) in
-    let bad = ap (λ f. Err f) fault in
+    let bad = ap (λ f. Err f) (was_damaged _ _ c.from_residual.ensures.1 is) in
     lies c.args.offset 65536 (c.in_err-part.ensures.damaged told bad)
 
 pub returns-clause-damaged : goal.returns-clause-damaged

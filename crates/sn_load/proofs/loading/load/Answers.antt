@@ -1,14 +1,12 @@
-use Rattle.std.proofs.Common.{◌≡◌, ◌∷◌, [], Err, sym, ap, ◌∙◌}
+use Rattle.std.proofs.Common.{◌∷◌, [], Err, sym, ap, ◌∙◌}
 use Rattle.std.proofs.lemmas.Bool.{true≢false}
-use Rattle.std.proofs.lemmas.Result.{err_from_is_err_and}
-use Rattle.sn_tree_read.specs.declared.fault.TreeFault.TheVariants.{Damaged}
 use Rattle.sn_device.specs.Disk.{reads}
 use Rattle.sn_block.specs.Lending.{device_of}
 use Rattle.sn_plain.specs.Plain.{tree_of}
 use Rattle.sn_load.specs.Loading.{HasFiles}
 use Rattle.sn_load.specs.Sound.{IsSoundOn}
 use Rattle.sn_load.proofs.SoundLemmas.{sound_on}
-use Rattle.sn_load.proofs.StepLemmas.{Stays, at_now}
+use Rattle.sn_load.proofs.StepLemmas.{Stays, at_now, was_damaged}
 use Rattle.sn_load.proofs.loading.load.Goals as goal
 
 pub returns-then-not-is_inode_file-clause-damaged : goal.returns-then-not-is_inode_file-clause-damaged
@@ -17,16 +15,12 @@ returns-then-not-is_inode_file-clause-damaged g c told is n fits sound =
 
 pub returns-in_err-tree-clause-damaged : goal.returns-in_err-tree-clause-damaged
 returns-in_err-tree-clause-damaged g c told is n fits sound =
-    let p = err_from_is_err_and c.from_residual.result c.from_residual.ensures.1 in
-    let fault : c.in_err-tree.field-0.0 ≡ Damaged = cc (p.1, p.2) in
-    let bad = ap (λ f. Err f) fault in
+    let bad = ap (λ f. Err f) (was_damaged _ _ c.from_residual.ensures.1 is) in
     c.in_err-tree.ensures.damaged told bad (sound_on c.args.limits.now n _ (reads (g.D.Device.disk (device_of c.args.blocks.now))) c.args.file.now fits sound c.read_laws.ensures.blocks c.inode_laws.ensures.inodes c.inode_laws.ensures.acls c.directory_laws.ensures c.requires.version (g.met.D.Device.whole (device_of c.args.blocks.now) told) (g.met.D.Device.count (device_of c.args.blocks.now) told))
 
 pub returns-in_err-fill-clause-damaged : goal.returns-in_err-fill-clause-damaged
 returns-in_err-fill-clause-damaged g c told is n fits sound =
-    let p = err_from_is_err_and c.from_residual-in_err-fill.result c.from_residual-in_err-fill.ensures.1 in
-    let fault : c.in_err-fill.field-0.0 ≡ Damaged = cc (p.1, p.2) in
-    let bad = ap (λ f. Err f) fault in
+    let bad = ap (λ f. Err f) (was_damaged _ _ c.from_residual-in_err-fill.ensures.1 is) in
     let on = sound_on c.args.limits.now n _ (reads (g.D.Device.disk (device_of c.args.blocks.now))) c.args.file.now fits sound c.read_laws.ensures.blocks c.inode_laws.ensures.inodes c.inode_laws.ensures.acls c.directory_laws.ensures c.requires.version (g.met.D.Device.whole (device_of c.args.blocks.now) told) (g.met.D.Device.count (device_of c.args.blocks.now) told) in
     let stays : Stays _ _ _ _ _ = record { status = c.in_ok-tree.ensures.counts.done; same = c.load_root.ensures.same } in
     c.in_err-fill.ensures.damaged told bad (at_now _ _ _ _ _ stays (λ k r. IsSoundOn c.args.limits.now k r c.args.file.now) told on)

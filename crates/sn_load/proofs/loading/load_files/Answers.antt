@@ -1,11 +1,9 @@
-use Rattle.std.proofs.Common.{ℕ, arith, ◌≡◌, Err, ap}
+use Rattle.std.proofs.Common.{ℕ, arith, Err, ap}
 use Rattle.sn_ondisk.specs.Trees.{Store}
 use Rattle.sn_image.specs.Image.{node_at}
 use Rattle.sn_plain.specs.Plain.{tree_of}
 use Rattle.sn_load.specs.Steps.{LoadsNumber}
-use Rattle.sn_load.proofs.StepLemmas.{at_start, files_more, stays_begun, stays_more, at_now}
-use Rattle.std.proofs.lemmas.Result.{err_from_is_err_and}
-use Rattle.sn_tree_read.specs.declared.fault.TreeFault.TheVariants.{Damaged}
+use Rattle.sn_load.proofs.StepLemmas.{at_start, files_more, stays_begun, stays_more, at_now, was_damaged}
 use Rattle.sn_load.specs.Loading.{HasFiles}
 use Rattle.sn_load.specs.Sound.{IsSoundOn}
 use Rattle.sn_load.proofs.loading.load_files.Goals as goal
@@ -27,9 +25,7 @@ loop-number-preserved g c =
 
 pub returns-in_err-load_number-clause-damaged : goal.returns-in_err-load_number-clause-damaged
 returns-in_err-load_number-clause-damaged g c told is sound files whole =
-    let p = err_from_is_err_and c.from_residual.result c.from_residual.ensures.1 in
-    let fault : c.in_err-load_number.field-0.0 ≡ Damaged = cc (p.1, p.2) in
-    let bad = ap (λ f. Err f) fault in
+    let bad = ap (λ f. Err f) (was_damaged _ _ c.from_residual.ensures.1 is) in
     let stays = c.loop-number.invariant.stays in
     c.in_err-load_number.ensures.damaged told bad (at_now _ _ _ _ _ stays (λ k r. IsSoundOn c.args.limits.now k r c.args.file.now) told sound)
     (at_now _ _ _ _ _ stays (λ k r. HasFiles r c.args.file.now c.loop-number.number c.loop-number.noted.items (tree_of c.loop-number.tree)) told (c.loop-number.invariant.files told files)) (c.loop-number.invariant.whole whole)

@@ -5,9 +5,7 @@ use Rattle.sn_ondisk.specs.Trees.{Store, store_of}
 use Rattle.sn_plain.specs.Plain.{tree_of}
 use Rattle.sn_load.specs.Loading.{IsLoading}
 use Rattle.sn_load.proofs.NameLemmas.{empty_of, loading_popped}
-use Rattle.sn_load.proofs.StepLemmas.{at_start, stays_begun, stays_more, at_now}
-use Rattle.std.proofs.lemmas.Result.{err_from_is_err_and}
-use Rattle.sn_tree_read.specs.declared.fault.TreeFault.TheVariants.{Damaged}
+use Rattle.sn_load.proofs.StepLemmas.{at_start, stays_begun, stays_more, at_now, was_damaged}
 use Rattle.sn_load.specs.Sound.{HasNoNames, IsFilling, IsOpen, IsSoundOn}
 use Rattle.sn_load.proofs.OpenLemmas.{filling_begun, never_so_many}
 use Rattle.sn_load.proofs.loading.load_names.Goals as goal
@@ -38,9 +36,7 @@ returns-in_default-clause-loading g c told loading =
 
 pub returns-in_err-load_directory-clause-damaged : goal.returns-in_err-load_directory-clause-damaged
 returns-in_err-load_directory-clause-damaged g c told is sound begun =
-    let p = err_from_is_err_and c.from_residual.result c.from_residual.ensures.1 in
-    let fault : c.in_err-load_directory.field-0.0 ≡ Damaged = cc (p.1, p.2) in
-    let bad = ap (λ f. Err f) fault in
+    let bad = ap (λ f. Err f) (was_damaged _ _ c.from_residual.ensures.1 is) in
     let s = store_of (reads (g.D.Device.disk (device_of c.args.blocks.now))) in
     let stays = c.loop-turn.invariant.stays in
     let b = filling_begun c.args.limits.now s c.args.file.now c.loop-turn._turn c.in-Some.directory c.loop-turn.pending.items c.pop.new.self.items (tree_of c.loop-turn.tree) c.in-Some.ensures.items (c.loop-turn.invariant.begun told sound begun) in

@@ -1,4 +1,4 @@
-use Rattle.std.proofs.Common.{ap, ◌∙◌, ◌≡◌, Err}
+use Rattle.std.proofs.Common.{ap, ◌∙◌, Err}
 use Rattle.sn_device.specs.Disk.{Disk, reads}
 use Rattle.sn_block.specs.Lending.{device_of}
 use Rattle.sn_ondisk.specs.Trees.{Store, store_of}
@@ -6,9 +6,7 @@ use Rattle.sn_model.specs.Changes.{owned, ownership_of}
 use Rattle.sn_image.specs.Image.{node_of}
 use Rattle.sn_plain.specs.Plain.{tree_of}
 use Rattle.sn_load.proofs.RootLemmas.{root_begun, root_puts, root_whole}
-use Rattle.sn_load.proofs.StepLemmas.{ok_applied, Stays, at_now, node_kind}
-use Rattle.std.proofs.lemmas.Result.{err_from_is_err_and}
-use Rattle.sn_tree_read.specs.declared.fault.TreeFault.TheVariants.{Damaged}
+use Rattle.sn_load.proofs.StepLemmas.{ok_applied, Stays, at_now, node_kind, was_damaged}
 use Rattle.sn_inode.specs.Reads.{CanReadAcls}
 use Rattle.sn_load.proofs.FitLemmas.{never_refused, owned_fits}
 use Rattle.sn_load.proofs.SoundLemmas.{node_fits_in}
@@ -35,16 +33,12 @@ returns-clause-whole g c =
 
 pub returns-in_err-inode-clause-damaged : goal.returns-in_err-inode-clause-damaged
 returns-in_err-inode-clause-damaged g c told is sound =
-    let p = err_from_is_err_and c.from_residual.result c.from_residual.ensures.1 in
-    let fault : c.in_err-inode.field-0.0 ≡ Damaged = cc (p.1, p.2) in
-    let bad = ap (λ f. Err f) fault in
+    let bad = ap (λ f. Err f) (was_damaged _ _ c.from_residual.ensures.1 is) in
     c.in_err-inode.ensures.damaged told bad sound sound.root
 
 pub returns-in_err-owner-clause-damaged : goal.returns-in_err-owner-clause-damaged
 returns-in_err-owner-clause-damaged g c told is sound =
-    let p = err_from_is_err_and c.from_residual-in_err-owner.result c.from_residual-in_err-owner.ensures.1 in
-    let fault : c.in_err-owner.field-0.0 ≡ Damaged = cc (p.1, p.2) in
-    let bad = ap (λ f. Err f) fault in
+    let bad = ap (λ f. Err f) (was_damaged _ _ c.from_residual-in_err-owner.ensures.1 is) in
     let s = store_of (reads (g.D.Device.disk (device_of c.args.blocks.now))) in
     let sectors = (g.D.Device.status (device_of c.args.blocks.now)).sectors in
     let stays : Stays _ _ _ _ _ = record { status = c.in_ok-inode.ensures.counts.done; same = c.directory_at.ensures.same } in
@@ -53,9 +47,7 @@ returns-in_err-owner-clause-damaged g c told is sound =
 
 pub returns-in_err-applied-clause-damaged : goal.returns-in_err-applied-clause-damaged
 returns-in_err-applied-clause-damaged g c told is sound =
-    let p = err_from_is_err_and c.from_residual-in_err-applied.result c.from_residual-in_err-applied.ensures.1 in
-    let fault : c.in_err-applied.field-0.0 ≡ Damaged = cc (p.1, p.2) in
-    let bad = ap (λ f. Err f) fault in
+    let bad = ap (λ f. Err f) (was_damaged _ _ c.from_residual-in_err-applied.ensures.1 is) in
     let s = store_of (reads (g.D.Device.disk (device_of c.args.blocks.now))) in
     let o = c.in_ok-owner.owner in
     let inode = c.in_ok-inode.inode in

@@ -1,16 +1,13 @@
 use Rattle.std.proofs.Common.{◌≡◌, Err, Option, sym, ap, subst, ◌∙◌}
 use Rattle.std.specs.Prelude.{IsSomeAnd}
-use Rattle.std.proofs.lemmas.Result.{err_from_is_err_and}
 use Rattle.sn_layout_node.specs.declared.inode.Inode.{Inode}
 use Rattle.sn_limits.specs.declared.kind.Kind.TheVariants.{File, Directory}
-use Rattle.sn_tree_read.specs.declared.fault.TreeFault.TheVariants.{Damaged}
+use Rattle.sn_load.proofs.StepLemmas.{was_damaged}
 use Rattle.sn_load.proofs.owners.directory_at.Goals as goal
 
 pub returns-in_err-inode-clause-damaged : goal.returns-in_err-inode-clause-damaged
 returns-in_err-inode-clause-damaged g c told is sound used =
-    let p = err_from_is_err_and c.from_residual.result c.from_residual.ensures.1 in
-    let fault : c.in_err-inode.field-0.0 ≡ Damaged = cc (p.1, p.2) in
-    let bad = ap (λ f. Err f) fault in
+    let bad = ap (λ f. Err f) (was_damaged _ _ c.from_residual.ensures.1 is) in
     c.in_err-inode.ensures.damaged told bad (sound.records c.args.number)
 
 pub returns-in_default-clause-damaged : goal.returns-in_default-clause-damaged

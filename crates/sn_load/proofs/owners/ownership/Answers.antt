@@ -1,10 +1,8 @@
 use Rattle.sn_device.specs.Disk.{reads}
 use Rattle.sn_block.specs.Lending.{device_of}
 use Rattle.sn_ondisk.specs.Trees.{store_of}
-use Rattle.sn_load.proofs.StepLemmas.{owner_made}
-use Rattle.std.proofs.Common.{◌≡◌, Err, ap}
-use Rattle.std.proofs.lemmas.Result.{err_from_is_err_and}
-use Rattle.sn_tree_read.specs.declared.fault.TreeFault.TheVariants.{Damaged}
+use Rattle.sn_load.proofs.StepLemmas.{owner_made, was_damaged}
+use Rattle.std.proofs.Common.{Err, ap}
 use Rattle.sn_load.proofs.owners.ownership.Goals as goal
 
 pub returns-clause-ownership : goal.returns-clause-ownership
@@ -12,7 +10,5 @@ returns-clause-ownership g c told = owner_made (store_of (reads (g.D.Device.disk
 
 pub returns-in_err-acls-clause-damaged : goal.returns-in_err-acls-clause-damaged
 returns-in_err-acls-clause-damaged g c told is can =
-    let p = err_from_is_err_and c.from_residual.result c.from_residual.ensures.1 in
-    let fault : c.in_err-acls.field-0.0 ≡ Damaged = cc (p.1, p.2) in
-    let bad = ap (λ f. Err f) fault in
+    let bad = ap (λ f. Err f) (was_damaged _ _ c.from_residual.ensures.1 is) in
     c.in_err-acls.ensures.damaged told bad can
