@@ -1,5 +1,6 @@
 //! The words of a case.
 
+use crate::number_of;
 use anyhow::{Context, Result};
 use percent_encoding::percent_decode;
 use std::alloc::Global;
@@ -60,8 +61,4 @@ impl<'a> Case<'a> {
         percent_decode(self.text.as_bytes()).append_to(&mut bytes)?;
         Ok(bytes)
     }
-}
-
-fn number_of(word: &str) -> Result<u32> {
-    word.parse().context(format_args!("no number: {word}"))
 }

@@ -1,11 +1,10 @@
 //! The table over files in the current folder.
 
 use crate::host::{Host, Opened};
-use crate::words::{number_of, pair_of, push_error, push_number, push_word};
 use anyhow::{Context, Result, bail, ensure};
 use sn_device::{Device, Fault, SECTOR_SIZE};
 use sn_filedev::FileDevice;
-use sn_table::{Case, Report};
+use sn_table::{Case, Report, number_of, pair_of, push_number, push_word};
 use std::alloc::Global;
 use std::os::unix::fs::MetadataExt;
 use std::{fs, io};
@@ -171,4 +170,15 @@ fn call(devices: &mut FileDevices, step: &str, text: &mut String) -> Result<()> 
 
 fn word_of(answer: Result<(), Fault>) -> &'static str {
     if answer.is_ok() { "ok" } else { "fault" }
+}
+
+/// Why something wasn't done with a file.
+fn push_error(text: &mut String, error: io::Error) -> Result<()> {
+    match error.kind() {
+        io::ErrorKind::OutOfMemory => Err(error.into()),
+        io::ErrorKind::NotFound => push_word(text, "missing"),
+        io::ErrorKind::WouldBlock => push_word(text, "in-use"),
+        io::ErrorKind::InvalidInput => push_word(text, "refused"),
+        _ => push_word(text, "failed"),
+    }
 }

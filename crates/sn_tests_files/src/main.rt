@@ -11,7 +11,6 @@
 
 mod files;
 mod host;
-mod words;
 
 use anyhow::Result;
 use sn_table::Report;
