@@ -20,7 +20,7 @@
 //!   closed after each crash.
 //! - [`has_no_later`]: whether a record of a later epoch stands at the first place of a half, exactly over any
 //!   bytes. A mount asks it of both halves, since such a record would count once its epoch begins.
-//! - [`Log::turn`] and [`Log::turn_back`] go to another epoch and back in memory alone.
+//! - [`Log::turn`] goes to another epoch in memory alone.
 //!
 //! The way through: `specs/Places.antt`, `Appending.antt`, `Replaying.antt` and `Clearing.antt` have
 //! the words of the clauses, `Laws.antt` the law. `log` and `replay` have the two types, `appending` the writes of an append

@@ -77,21 +77,10 @@ impl Log {
         Ok(())
     }
 
-    /// Goes on at the first place of an epoch, and answers the mark that leads back. It touches no
-    /// device.
-    pub fn turn(&mut self, epoch: u64) -> Position
-        ensures mark { result ≡ self.old }
-        ensures first { self.new ≡ first_of self.old.blocks epoch }
+    /// Goes on at the first place of an epoch. It touches no device.
+    pub fn turn(&mut self, epoch: u64)
+        ensures { self.new ≡ first_of self.old.blocks epoch }
     {
-        let mark = self.position;
-        self.position = mark.turned(epoch);
-        mark
-    }
-
-    /// Goes on where a turn left off. It touches no device.
-    pub fn turn_back(&mut self, mark: Position)
-        ensures { self.new ≡ mark }
-    {
-        self.position = mark;
+        self.position = self.position.turned(epoch);
     }
 }

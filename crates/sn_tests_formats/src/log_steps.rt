@@ -48,14 +48,12 @@ fn take_steps(alloc: Global, case: Case<'_>, text: &mut String) -> Result<()> {
 }
 
 fn take_all(alloc: Global, case: Case<'_>, log: &mut Log, text: &mut String) -> Result<()> {
-    let mut mark = log.position();
     let mut blocks = new_blocks(alloc)?;
     for word in case.text().split_ascii_whitespace() {
         let (step, value) = word.split_once('=').unwrap_or((word, ""));
         match step {
             "fail" | "stop" | "crash" => blocks = over_device(alloc, blocks, step, value)?,
-            "turn" => mark = log.turn(number_of(value)?),
-            "back" => log.turn_back(mark),
+            "turn" => log.turn(number_of(value)?),
             _ => take_step(alloc, &mut blocks, log, (step, value), text)?,
         }
         ensure!(!blocks.status().is_spent, "no memory for a call");
