@@ -53,7 +53,7 @@ both : (a b : Bool) → (a && b) ≡ true → (a ≡ true) × (b ≡ true)
 both true b e = (refl, e)
 both false b e = absurd cc
 
-size_within : (limits : Limits) (kind : Kind) (content : Content) → limits_of limits.version ≡ Some limits → IsContent limits kind content → size_of content ≤ 67108864
+pub size_within : (limits : Limits) (kind : Kind) (content : Content) → limits_of limits.version ≡ Some limits → IsContent limits kind content → size_of content ≤ 67108864
 size_within limits File (Inline bytes) version fits = omega (arith, fits)
 size_within limits Directory (Inline bytes) version fits = absurd fits
 size_within limits File (Tree tree) version fits =
@@ -63,10 +63,10 @@ size_within limits Directory (Tree tree) version fits =
     let large : limits.largest_file ≡ 67108864 = ap (λ (l : Limits). l.largest_file) (sym (only_version limits version)) in
     omega (arith, leb-true tree.size limits.largest_file (both _ (nat_le tree.size limits.largest_file) fits.1).1, large)
 
-few_levels : (size : ℕ) → size ≤ 67108864 → levels_of size ≤ 1
+pub few_levels : (size : ℕ) → size ≤ 67108864 → levels_of size ≤ 1
 few_levels size most = ⊎_elim (λ (more : 1 < levels_of size). absurd (omega (arith, most, levels_least size 1 more))) (λ (few : levels_of size ≤ 1). few) (cases_lt 1 (levels_of size))
 
-one_or_two : (count dirty : ℕ) → count ≤ 1 → (count + 1) * (dirty + 1) ≤ 2 * (dirty + 1)
+pub one_or_two : (count dirty : ℕ) → count ≤ 1 → (count + 1) * (dirty + 1) ≤ 2 * (dirty + 1)
 one_or_two zero dirty few = omega arith
 one_or_two (suc zero) dirty few = omega arith
 one_or_two (suc (suc count)) dirty few = absurd (omega (arith, few))

@@ -7,4 +7,9 @@ pub mod DirectoryLemmas
 pub mod AclLemmas
 pub mod StandLemmas
 pub mod BuildLemmas
+pub mod ElementLemmas
+pub mod ListedLemmas
+pub mod RoomLemmas
+pub mod FaultLemmas
+pub mod NodeLemmas
 pub mod MadeLemmas

@@ -84,7 +84,7 @@ module _ (directory : ℕ) (name : List ℕ) where
           (later found)
 
 -- what is so of pairs is so of the changes
-from_pairs : (P : Pair → Type 0) (changes : List NameChange) → All P (map pair_of changes) → All (λ (change : NameChange). P (pair_of change)) changes
+pub from_pairs : (P : Pair → Type 0) (changes : List NameChange) → All P (map pair_of changes) → All (λ (change : NameChange). P (pair_of change)) changes
 from_pairs P [] all = All-nil (λ (change : NameChange). P (pair_of change))
 from_pairs P (c ∷ cs) all =
     All-cons (λ (change : NameChange). P (pair_of change)) c cs (All-head P (pair_of c) (map pair_of cs) all) (from_pairs P cs (All-tail P (pair_of c) (map pair_of cs) all))

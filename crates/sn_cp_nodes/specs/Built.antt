@@ -9,6 +9,7 @@ use Rattle.sn_image.specs.Inodes.{inode_at}
 use Rattle.sn_image.specs.Names.{names_under}
 use Rattle.sn_image.specs.Reach.{reach, reach_at}
 use Rattle.sn_image.specs.Sound.{AreOnce, HasContent, IsBlock, IsSound, SpellsAcls}
+use Rattle.sn_inode.specs.Reads.{CanReadRecord}
 use Rattle.sn_inode.specs.declared.changes.InodeChange.{InodeChange}
 use Rattle.sn_layout.specs.declared.tree.BlockTree.{BlockTree}
 use Rattle.sn_layout_node.specs.Directory.{number_of}
@@ -25,11 +26,13 @@ use Rattle.sn_overlay.specs.Layers.{Layer, through}
 use Rattle.sn_overlay.specs.Lists.{changed_names, written_blocks}
 use Rattle.sn_overlay.specs.Needs.{levels}
 use Rattle.sn_overlay.specs.Seen.{LiesOver}
+use Rattle.sn_overlay.specs.declared.node.NodeChange.{NodeChange}
 use Rattle.sn_tree.specs.Drafts.{Draft, numbers_of, grown}
 use Rattle.sn_tree.specs.Plans.{Holds}
 use Rattle.sn_tree.specs.declared.new_block.NewBlock.{NewBlock}
 use Rattle.sn_cp_nodes.specs.Inodes.{Becomes, content_for}
-use Rattle.sn_cp_nodes.specs.Parts.{content_of}
+use Rattle.sn_cp_nodes.specs.Made.{CanPlan, IsTooSmallFor}
+use Rattle.sn_cp_nodes.specs.Parts.{Blocks, Names, content_of}
 
 -- What a build stands on: an inode file that is sound, whose blocks are whole, and a layer that lies over its tree and shows a name tree.
 pub record IsGround (limits : Limits) (n : ℕ) (s : Store) (file : BlockTree) (layer : Layer) : Type 0 where
@@ -63,3 +66,12 @@ pub record BuildsNode (Told : Type 0) (limits : Limits) (s : Store) (file : Bloc
       → times block (content_reach r (content_for change)) + times block released ≡ times block (content_reach s (content_of (inode_at s file number))) + times block (numbers_of added)
   pub stands : Told → (n : ℕ) → IsGround limits n s file layer → (r : Store) → SameIn (reach_at s file number) s r → Holds r added
       → (new : Option Inode) → Becomes r (inode_at s file number) change new → StandsFor (through layer (image s file)) number r new
+
+-- Fewer blocks are left than what becomes of the number takes.
+abbrev pub IsTooSmallAt : Type 0 → Store → BlockTree → ℕ → NodeChange → Names → Blocks → Draft → Type 0
+IsTooSmallAt Told s file number change names written draft = IsTooSmallFor Told s (inode_at s file number) change names written draft
+
+-- The number's record can be read, and what becomes of it can be planned.
+pub record CanBuildNode (Told : Type 0) (limits : Limits) (sectors : ℕ) (s : Store) (file : BlockTree) (number : ℕ) (change : NodeChange) (names : Names) (written : Blocks) (draft : Draft) : Type 0 where
+  pub read : CanReadRecord limits sectors s file number
+  pub plan : CanPlan Told limits sectors s (inode_at s file number) number change names written draft

@@ -1,6 +1,7 @@
 -- What was planned of a node has what is seen of it through a layer.
-use Rattle.std.specs.Prelude.{◌≡◌, ℕ, true, false, List, Some}
+use Rattle.std.specs.Prelude.{◌≡◌, ℕ, ◌+◌, ◌*◌, ◌<◌, Bool, true, false, List, length, Some, IsTrue}
 use Rattle.std.specs.FinMap as fin
+use Rattle.sn_alloc.specs.Taking.{free_data}
 use Rattle.sn_dir_change.specs.Planned.{HasChanged}
 use Rattle.sn_dir_change.specs.declared.name_change.NameChange.{NameChange}
 use Rattle.sn_image.specs.Contents.{bytes_of}
@@ -22,17 +23,20 @@ use Rattle.sn_ondisk.specs.Trees.{Store, tree_reach}
 use Rattle.sn_overlay.specs.Layers.{Layer, block_seen, through}
 use Rattle.sn_overlay.specs.Layers as layers
 use Rattle.sn_overlay.specs.Lists.{changed_names, written_blocks}
+use Rattle.sn_overlay.specs.Needs.{levels}
 use Rattle.sn_overlay.specs.Pieces.{joined}
 use Rattle.sn_overlay.specs.Sorted.{bytes_by_file_block}
+use Rattle.sn_overlay.specs.declared.node.NodeChange.{NodeChange}
 use Rattle.sn_overlay.specs.declared.node.NodeChange.TheVariants.{Changed}
 use Rattle.sn_overlay.specs.declared.node.NodeState.{NodeState}
 use Rattle.sn_tree.specs.Contents.{IsContentReplanned}
+use Rattle.sn_tree.specs.Drafts.{Draft}
 use Rattle.sn_tree.specs.Orders.{AreInOrder}
 use Rattle.sn_tree.specs.Plans.{Holds}
 use Rattle.sn_tree.specs.declared.new_block.NewBlock.{NewBlock}
-use Rattle.sn_cp_nodes.specs.Built.{IsGround}
+use Rattle.sn_cp_nodes.specs.Built.{IsGround, IsTooSmallAt}
 use Rattle.sn_cp_nodes.specs.Made.{ChangeThem}
-use Rattle.sn_cp_nodes.specs.Parts.{Blocks, Names, content_of, dirty_of, empty_tree, keep_of}
+use Rattle.sn_cp_nodes.specs.Parts.{Blocks, IsPartOf, Names, content_of, dirty_of, empty_tree, keep_of}
 
 -- A file that was planned with the size and the blocks of a layer has the bytes that are seen of it, and ends at its size.
 abbrev pub FilesAreSeen : Type 0
@@ -56,3 +60,11 @@ DirectoriesAreSeen = (limits : Limits) (n : ℕ) (s r : Store) (file : BlockTree
     → (state.fresh ≡ true → tree ≡ empty_tree) → (state.fresh ≡ false → content_of (inode_at s file number) ≡ Tree tree)
     → (AreOnce (names_of s (Tree tree)) → SameIn (tree_reach s tree) s r → HasChanged s r tree new changes) → SameIn (reach_at s file number) s r
     → IsSeen layer s file number r new
+
+-- ---- what a ground has
+
+-- Where too few blocks are left for a number, fewer are than a path for each name and each block that changed of it and one more.
+abbrev pub GroundsHaveRoom : Type 0
+GroundsHaveRoom = (told : Bool) (limits : Limits) (n : ℕ) (s : Store) (file : BlockTree) (layer : Layer) (number : ℕ) (change : NodeChange) (names : Names) (written : Blocks) (draft : Draft)
+    → IsTrue told → IsGround limits n s file layer → IsPartOf layer number change names written → IsTooSmallAt (IsTrue told) s file number change names written draft
+    → free_data draft.words draft.first < length draft.added + levels limits * (length (changed_names layer number) + length (written_blocks layer number) + 1)

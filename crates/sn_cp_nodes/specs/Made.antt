@@ -1,10 +1,12 @@
 -- What becomes of the content of one node, as its parts are planned.
-use Rattle.std.specs.Prelude.{◌≡◌, ◌≢◌, ℕ, ◌+◌, ◌*◌, ◌%◌, ◌<◌, ◌≤◌, Bool, true, false, List, [], length, map, Option, None, Some}
-use Rattle.sn_alloc.specs.Taking.{free_data}
+use Rattle.std.specs.Prelude.{◌≡◌, ◌≢◌, ℕ, ◌+◌, ◌*◌, ◌%◌, ◌<◌, ◌≤◌, Bool, true, false, List, [], length, map, Option, None, Some, All, IfSome}
+use Rattle.std.specs.List.Sorted.{IsStrictlyIncreasing}
+use Rattle.sn_alloc.specs.Taking.{IsFreeData, free_data}
 use Rattle.sn_dir_change.specs.Changes.{AreChanges}
 use Rattle.sn_dir_change.specs.Planned.{IsDirectoryPlanned, IsSizeWith, CannotRead}
 use Rattle.sn_dir_change.specs.declared.name_change.NameChange.{NameChange}
 use Rattle.sn_image.specs.Contents.{content_reach}
+use Rattle.sn_inode.specs.Changes.{IsChange}
 use Rattle.sn_inode.specs.declared.changes.AclChange.{AclChange}
 use Rattle.sn_inode.specs.declared.changes.InodeChange.{InodeChange}
 use Rattle.sn_inode.specs.declared.changes.RecordChange.{RecordChange}
@@ -15,14 +17,17 @@ use Rattle.sn_layout_node.specs.Inode.{size_of}
 use Rattle.sn_layout_node.specs.declared.content.Content.{Content}
 use Rattle.sn_layout_node.specs.declared.content.Content.TheVariants.{Inline, Tree}
 use Rattle.sn_layout_node.specs.declared.inode.Inode.{Inode}
+use Rattle.sn_limits.specs.declared.limits.Limits.{Limits}
 use Rattle.sn_limits.specs.declared.kind.Kind.{Kind}
 use Rattle.sn_model.specs.declared.link.Link.{Link}
 use Rattle.sn_limits.specs.declared.kind.Kind.TheVariants.{File, Directory}
+use Rattle.sn_overlay.specs.declared.node.NodeChange.{NodeChange}
+use Rattle.sn_overlay.specs.declared.node.NodeChange.TheVariants.{Changed, Gone}
 use Rattle.sn_overlay.specs.declared.node.NodeState.{NodeState}
 use Rattle.sn_tree.specs.Contents.{IsContentPlanned, IsReleased}
 use Rattle.sn_ondisk.specs.Counts.{times}
 use Rattle.sn_ondisk.specs.Trees.{Store}
-use Rattle.sn_tree.specs.Drafts.{Draft, grown}
+use Rattle.sn_tree.specs.Drafts.{Draft, grown, numbers_of}
 use Rattle.sn_tree.specs.Orders.{AreInOrder}
 use Rattle.sn_tree.specs.Steps.{LeadsOutside}
 use Rattle.sn_cp_nodes.specs.Inodes.{IsInodeFor}
@@ -125,3 +130,56 @@ pub record IsInodeMade (Told : Type 0) (s : Store) (was : Option Inode) (state :
 abbrev pub IsGone : Type 0 → Store → Option Inode → ℕ → Option InodeChange → Draft → Draft → Type 0
 IsGone Told s None number change old_draft new_draft = (change ≡ None) × (new_draft ≡ old_draft)
 IsGone Told s (Some inode) number change old_draft new_draft = (change ≡ Some (record { number = number; «record» = Unused })) × IsReleased Told s inode.content old_draft new_draft
+
+-- The inode of a number is to change as it was made.
+pub record IsChangeMade (Told : Type 0) (s : Store) (was : Option Inode) (state : NodeState) (names : Names) (written : Blocks) (new : Option InodeChange) (old_draft new_draft : Draft) : Type 0 where
+  pub change : InodeChange
+  pub is : new ≡ Some change
+  pub made : IsInodeMade Told s was state names written change.«record» old_draft new_draft
+
+-- What became of a number was planned: it is gone, or has the inode that was made.
+abbrev pub IsNodeMade : Type 0 → Store → Option Inode → ℕ → NodeChange → Names → Blocks → Option InodeChange → Draft → Draft → Type 0
+IsNodeMade Told s was number (Gone by_close) names written new old_draft new_draft = IsGone Told s was number new old_draft new_draft
+IsNodeMade Told s was number (Changed state) names written new old_draft new_draft = IsChangeMade Told s was state names written new old_draft new_draft
+
+-- ---- where there is too little room
+
+-- Fewer blocks are left than a path for each block that was written and one more take, in a file of this size, or than the names of a directory take.
+abbrev pub IsTooSmallAs : Kind → Type 0 → Store → Content → NodeState → Names → Blocks → Draft → Type 0
+IsTooSmallAs File Told s old state names written draft = free_data draft.words draft.first < length draft.added + (levels_of state.size + 1) * (length written + 1)
+IsTooSmallAs Directory Told s old state names written draft = IsTooSmall Told s old state.fresh names draft
+
+-- than what a node takes; one that is gone takes none
+abbrev pub IsTooSmallFor : Type 0 → Store → Option Inode → NodeChange → Names → Blocks → Draft → Type 0
+IsTooSmallFor Told s was (Gone by_close) names written draft = ⊥
+IsTooSmallFor Told s was (Changed state) names written draft = IsTooSmallAs state.kind Told s (content_of was) state names written draft
+
+-- ---- what of a node isn't damaged
+
+abbrev pub CanMakeAs : Kind → ℕ → Store → Content → NodeState → Names → Blocks → Type 0
+CanMakeAs File sectors s old state names written = CanMakeFile sectors s old state.size written
+CanMakeAs Directory sectors s old state names written = CanMakeDirectory sectors s old state.fresh names
+
+-- its content can be made
+abbrev pub CanMakeContent : ℕ → Store → Content → NodeState → Names → Blocks → Type 0
+CanMakeContent sectors s old state names written = CanMakeAs state.kind sectors s old state names written
+
+-- The blocks that were added are free in the map, and none was added twice.
+pub record HasTaken (draft : Draft) : Type 0 where
+  pub free : All (IsFreeData draft.words draft.first) (numbers_of draft.added)
+  pub rise : IsStrictlyIncreasing (numbers_of draft.added)
+
+-- Its content can be made, and an inode that is made so is one that the number can have.
+pub record CanMakeInode (Told : Type 0) (limits : Limits) (sectors : ℕ) (s : Store) (was : Option Inode) (number : ℕ) (state : NodeState) (names : Names) (written : Blocks) (draft : Draft) : Type 0 where
+  pub content : CanMakeContent sectors s (content_of was) state names written
+  pub fits : (record_change : RecordChange) (behind : Draft) → HasTaken behind → IsInodeMade Told s was state names written record_change draft behind
+      → IsChange limits (record { number = number; «record» = record_change })
+
+-- Each block that an inode reached lies on the device, and the number is one that a node can have.
+pub record CanRelease (limits : Limits) (sectors : ℕ) (s : Store) (number : ℕ) (inode : Inode) : Type 0 where
+  pub fits : IsChange limits (record { number = number; «record» = Unused })
+  pub lies : LeadsOutside sectors (content_reach s inode.content) → ⊥
+
+abbrev pub CanPlan : Type 0 → Limits → ℕ → Store → Option Inode → ℕ → NodeChange → Names → Blocks → Draft → Type 0
+CanPlan Told limits sectors s was number (Gone by_close) names written draft = IfSome was (CanRelease limits sectors s number)
+CanPlan Told limits sectors s was number (Changed state) names written draft = CanMakeInode Told limits sectors s was number state names written draft

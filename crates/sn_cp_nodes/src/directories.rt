@@ -14,7 +14,7 @@ ghost use Rattle.sn_tree.specs.Steps.{LeadsOutside, CountsPlan};
 ghost use Rattle.sn_tree.specs.declared.fault.PlanFault.TheVariants.{Tree, Full};
 ghost use Rattle.sn_tree_read.specs.declared.fault.TreeFault.TheVariants.{Damaged, Read};
 ghost use Rattle.sn_cp_nodes.specs.Parts.{empty_tree};
-ghost use Rattle.sn_cp_nodes.specs.Made.{ChangeThem, IsBegun, IsDirectoryMade, IsTooSmall, CanMakeDirectory};
+ghost use Rattle.sn_cp_nodes.specs.Made.{ChangeThem, IsBegun, IsDirectoryMade, IsTooSmall, CanBegin, CanMakeDirectory};
 
 use sn_block::Blocks;
 use sn_device::Device;
@@ -150,6 +150,11 @@ fn roomy_tree<D: Device>(
     ensures whole { IfOk result (λ tree. tree.size % 4096 ≡ 0) }
     ensures most { IfOk result (λ tree. tree.size ≤ 35184372088832) }
     ensures full { result ≢ Err Full }
+    ensures damaged { IsTrue D.tells_bytes → result ≡ Err (Tree Damaged)
+        → (fresh ≡ false → CanBegin (D.status (device_of blocks.old)).sectors
+        (store_of (reads (D.disk (device_of blocks.old)))) old.now)
+        → LeadsOutside (D.status (device_of blocks.old)).sectors
+        (content_reach (store_of (reads (D.disk (device_of blocks.old)))) old.now) }
     ensures same { IsTrue D.tells_bytes → D.disk (device_of blocks.new) ≡ D.disk (device_of blocks.old) }
     ensures counts { CountsPlan result (D.status (device_of blocks.old)) (D.status (device_of blocks.new)) }
 {
@@ -160,7 +165,9 @@ fn roomy_tree<D: Device>(
     Ok(tree)
 }
 
-/// Plans the content of a directory that changed, in place of what its number had.
+/// Plans the content of a directory that changed, in place of what its number had. `Damaged` comes where it can't have
+/// the names, where there was no directory, or one that is too large or can't be read, though it wasn't made anew, or
+/// where a block that the old content reaches isn't on the device.
 pub(crate) fn directory_content<D: Device>(
     alloc: Global,
     build: &mut Build,
@@ -171,6 +178,11 @@ pub(crate) fn directory_content<D: Device>(
 ) -> Result<BlockTree, PlanFault>
     ensures made { IfOk result (λ new. IsDirectoryMade (IsTrue D.tells_bytes)
         (store_of (reads (D.disk (device_of blocks.old)))) old.now fresh names.now new build.old build.new) }
+    ensures full { IsTrue D.tells_bytes → result ≡ Err Full → IsTooSmall (IsTrue D.tells_bytes)
+        (store_of (reads (D.disk (device_of blocks.old)))) old.now fresh names.now build.old }
+    ensures damaged { IsTrue D.tells_bytes → result ≡ Err (Tree Damaged)
+        → CanMakeDirectory (D.status (device_of blocks.old)).sectors
+        (store_of (reads (D.disk (device_of blocks.old)))) old.now fresh names.now → ⊥ }
     ensures same { IsTrue D.tells_bytes → D.disk (device_of blocks.new) ≡ D.disk (device_of blocks.old) }
     ensures counts { CountsPlan result (D.status (device_of blocks.old)) (D.status (device_of blocks.new)) }
 {

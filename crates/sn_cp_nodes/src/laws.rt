@@ -1,5 +1,7 @@
 //! What was planned of a node is what is seen of it.
-ghost use Rattle.sn_cp_nodes.specs.Laws.{FilesAreSeen, DirectoriesAreSeen};
+ghost use Rattle.sn_cp_nodes.specs.Laws.{FilesAreSeen, DirectoriesAreSeen, GroundsHaveRoom};
+
+use sn_dir_change::size_laws;
 
 /// A file that was planned with the size and the blocks of a layer has the bytes that are seen of it, and a directory
 /// whose names were changed as the layer says has the names.
@@ -7,3 +9,11 @@ pub fn content_laws()
     ensures files { FilesAreSeen }
     ensures directories { DirectoriesAreSeen }
 {}
+
+/// Over a sound root and a layer that shows a name tree, a node takes a path for each name and each block that changed
+/// and one more at most: `Full` comes only where fewer blocks are left.
+pub fn room_laws()
+    ensures { GroundsHaveRoom }
+{
+    size_laws();
+}

@@ -4,11 +4,19 @@
 //! denotes. A build only reads: what it says holds in every store that has the new blocks and agrees with the
 //! old one in what the number reached (`specs/Built`).
 //!
-//! The way through: `files` plans the content of a file with the size and the blocks of the layer, `directories`
-//! has the tree in which a directory's names change and those names, and `inodes` makes the inode, whose ACLs
-//! are kept where the layer says that they are those below. `specs/Parts` says what a layer has of one number,
-//! `specs/Made` what each step comes to, and `specs/Built` what all of them are for.
-//! `content_laws` says that what is planned so is what is seen through the layer.
+//! The way through: `node` has [`build_node`], which builds one node of a layer. `files` plans the content of a file
+//! with the size and the blocks of the layer, `directories` has the tree in which a directory's names change and those
+//! names, and `inodes` makes the inode, whose ACLs are kept where the layer says that they are those below.
+//! `specs/Parts` says what a layer has of one number, `specs/Made` what each step comes to and why one fails, and
+//! `specs/Built` what all of them are for. [`content_laws`] says that what is planned so is what is seen through the
+//! layer, and [`room_laws`] how many blocks a node takes at most.
+//!
+//! ```text
+//! let written = changes.take_blocks(alloc, number)?;
+//! let (_, change) = &changes.nodes()[index];
+//! let names = changes.names_of(number);
+//! let inode = build_node(alloc, build, blocks, &limits, &file, number, change, names, written)?;
+//! ```
 #![tactic(auto)]
 
 mod directories;
@@ -17,4 +25,5 @@ mod inodes;
 mod laws;
 mod node;
 
-pub use laws::content_laws;
+pub use laws::{content_laws, room_laws};
+pub use node::build_node;

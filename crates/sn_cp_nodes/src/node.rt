@@ -1,23 +1,29 @@
 //! One node of an overlay.
-ghost use Rattle.std.specs.Prelude.{◌≡◌, IsTrue, IfOk};
+ghost use Rattle.std.specs.Prelude.{◌≡◌, ◌≢◌, Some, Err, IsTrue, IfOk, IfSome};
 ghost use Rattle.sn_device.specs.Disk.{reads};
 ghost use Rattle.sn_block.specs.Lending.{device_of};
 ghost use Rattle.sn_inode.specs.Changes.{IsChange};
+ghost use Rattle.sn_limits.specs.Versions.{limits_of};
 ghost use Rattle.sn_ondisk.specs.Trees.{store_of};
 ghost use Rattle.sn_tree.specs.Steps.{CountsPlan};
-ghost use Rattle.sn_cp_nodes.specs.Parts.{content_of};
-ghost use Rattle.sn_cp_nodes.specs.Made.{IsContentMade, IsInodeMade, IsGone};
+ghost use Rattle.sn_tree.specs.declared.fault.PlanFault.TheVariants.{Tree, Full};
+ghost use Rattle.sn_tree_read.specs.declared.fault.TreeFault.TheVariants.{Damaged};
+ghost use Rattle.sn_overlay.specs.Layers.{Layer};
+ghost use Rattle.sn_cp_nodes.specs.Parts.{content_of, IsPartOf};
+ghost use Rattle.sn_cp_nodes.specs.Made.{IsContentMade, IsInodeMade, IsGone, IsNodeMade, IsTooSmallAs, IsTooSmallFor, CanMakeContent, CanMakeInode, CanRelease, CanPlan};
+ghost use Rattle.sn_cp_nodes.specs.Built.{BuildsNode, IsTooSmallAt, CanBuildNode};
 
 use crate::directories::directory_content;
 use crate::files::file_content;
 use crate::inodes::inode_for;
 use sn_block::Blocks;
 use sn_device::Device;
-use sn_inode::{InodeChange, RecordChange, is_change};
+use sn_inode::{InodeChange, RecordChange, get, is_change};
+use sn_layout::BlockTree;
 use sn_layout_node::{Content, InlineBytes, Inode};
 use sn_limits::{Kind, Limits};
 use sn_model::Link;
-use sn_overlay::{Block, FileBlock, NodeState};
+use sn_overlay::{Block, FileBlock, NodeChange, NodeState};
 use sn_tree::{Build, PlanFault, release_all};
 use sn_tree_read::TreeFault;
 use std::alloc::Global;
@@ -44,6 +50,11 @@ fn content_for<D: Device>(
 ) -> Result<Content, PlanFault>
     ensures made { IfOk result (λ new. IsContentMade (IsTrue D.tells_bytes)
         (store_of (reads (D.disk (device_of blocks.old)))) old.now state.now names.now written.items new build.old build.new) }
+    ensures full { IsTrue D.tells_bytes → result ≡ Err Full → IsTooSmallAs state.now.kind (IsTrue D.tells_bytes)
+        (store_of (reads (D.disk (device_of blocks.old)))) old.now state.now names.now written.items build.old }
+    ensures damaged { IsTrue D.tells_bytes → result ≡ Err (Tree Damaged)
+        → CanMakeContent (D.status (device_of blocks.old)).sectors
+        (store_of (reads (D.disk (device_of blocks.old)))) old.now state.now names.now written.items → ⊥ }
     ensures same { IsTrue D.tells_bytes → D.disk (device_of blocks.new) ≡ D.disk (device_of blocks.old) }
     ensures counts { CountsPlan result (D.status (device_of blocks.old)) (D.status (device_of blocks.new)) }
 {
@@ -72,11 +83,18 @@ fn changed<D: Device>(
     ensures can { IfOk result (IsChange limits.now) }
     ensures made { IfOk result (λ change. IsInodeMade (IsTrue D.tells_bytes)
         (store_of (reads (D.disk (device_of blocks.old)))) was.now state.now names.now written.items change.record build.old build.new) }
+    ensures full { IsTrue D.tells_bytes → result ≡ Err Full → IsTooSmallAs state.now.kind (IsTrue D.tells_bytes)
+        (store_of (reads (D.disk (device_of blocks.old)))) (content_of was.now) state.now names.now written.items build.old }
+    ensures damaged { IsTrue D.tells_bytes → result ≡ Err (Tree Damaged)
+        → CanMakeInode (IsTrue D.tells_bytes) limits.now (D.status (device_of blocks.old)).sectors
+        (store_of (reads (D.disk (device_of blocks.old)))) was.now number state.now names.now written.items build.old → ⊥ }
     ensures same { IsTrue D.tells_bytes → D.disk (device_of blocks.new) ≡ D.disk (device_of blocks.old) }
     ensures counts { CountsPlan result (D.status (device_of blocks.old)) (D.status (device_of blocks.new)) }
 {
     let old = content_of(was);
     let content = content_for(alloc, build, blocks, &old, state, names, written)?;
+    // Each block that was added was free, and none was added twice.
+    build.added();
     let (inode, acls) = inode_for(was, state, content);
     let record = RecordChange::Used(inode, acls);
     let change = InodeChange { number, record };
@@ -90,20 +108,99 @@ fn changed<D: Device>(
 fn gone<D: Device>(
     build: &mut Build,
     blocks: &mut Blocks<D>,
+    limits: &Limits,
     was: &Option<Inode>,
     number: u16,
 ) -> Result<Option<InodeChange>, PlanFault>
+    ensures number { IfOk result (λ change. IfSome change (λ some. some.number ≡ number)) }
+    ensures can { IfOk result (λ change. IfSome change (IsChange limits.now)) }
     ensures gone { IfOk result (λ change. IsGone (IsTrue D.tells_bytes)
         (store_of (reads (D.disk (device_of blocks.old)))) was.now number change build.old build.new) }
+    ensures full { result ≢ Err Full }
+    ensures damaged { IsTrue D.tells_bytes → result ≡ Err (Tree Damaged) → IfSome was.now
+        (CanRelease limits.now (D.status (device_of blocks.old)).sectors
+        (store_of (reads (D.disk (device_of blocks.old)))) number) → ⊥ }
     ensures same { IsTrue D.tells_bytes → D.disk (device_of blocks.new) ≡ D.disk (device_of blocks.old) }
     ensures counts { CountsPlan result (D.status (device_of blocks.old)) (D.status (device_of blocks.new)) }
 {
-    match was {
-        None => Ok(None),
-        Some(inode) => {
-            release_all(build, blocks, &inode.content)?;
-            let record = RecordChange::Unused;
-            Ok(Some(InodeChange { number, record }))
+    let Some(inode) = was else {
+        return Ok(None);
+    };
+    let record = RecordChange::Unused;
+    let change = InodeChange { number, record };
+    if !is_change(limits, &change) {
+        return Err(PlanFault::Tree(TreeFault::Damaged));
+    }
+    release_all(build, blocks, &inode.content)?;
+    Ok(Some(change))
+}
+
+// Plans what becomes of a number that had this inode.
+fn planned<D: Device>(
+    alloc: Global,
+    build: &mut Build,
+    blocks: &mut Blocks<D>,
+    limits: &Limits,
+    was: &Option<Inode>,
+    number: u16,
+    change: &NodeChange,
+    names: &[(Link, Option<u16>)],
+    written: Vec<(FileBlock, Box<Block>)>,
+) -> Result<Option<InodeChange>, PlanFault>
+    ensures number { IfOk result (λ new. IfSome new (λ some. some.number ≡ number)) }
+    ensures can { IfOk result (λ new. IfSome new (IsChange limits.now)) }
+    ensures made { IfOk result (λ new. IsNodeMade (IsTrue D.tells_bytes)
+        (store_of (reads (D.disk (device_of blocks.old)))) was.now number change.now names.now written.items new build.old build.new) }
+    ensures full { IsTrue D.tells_bytes → result ≡ Err Full → IsTooSmallFor (IsTrue D.tells_bytes)
+        (store_of (reads (D.disk (device_of blocks.old)))) was.now change.now names.now written.items build.old }
+    ensures damaged { IsTrue D.tells_bytes → result ≡ Err (Tree Damaged)
+        → CanPlan (IsTrue D.tells_bytes) limits.now (D.status (device_of blocks.old)).sectors
+        (store_of (reads (D.disk (device_of blocks.old)))) was.now number change.now names.now written.items build.old → ⊥ }
+    ensures same { IsTrue D.tells_bytes → D.disk (device_of blocks.new) ≡ D.disk (device_of blocks.old) }
+    ensures counts { CountsPlan result (D.status (device_of blocks.old)) (D.status (device_of blocks.new)) }
+{
+    match change {
+        NodeChange::Gone { .. } => gone(build, blocks, limits, was, number),
+        NodeChange::Changed(state) => {
+            let new = changed(
+                alloc, build, blocks, limits, was, number, state, names, written,
+            )?;
+            Ok(Some(new))
         }
     }
+}
+
+/// Plans what becomes of a number that a layer has, with the names and the blocks that the layer has of it, and answers
+/// how its inode is to change: not at all, where it is gone and had none. Nothing is written. `Full` comes only where
+/// fewer blocks are left than a path for each of those names and blocks and one more take, and `Damaged` only where the
+/// number's record can't be read or the node can't be made. After an error the build can only be given up.
+pub fn build_node<D: Device>(
+    alloc: Global,
+    build: &mut Build,
+    blocks: &mut Blocks<D>,
+    limits: &Limits,
+    file: &BlockTree,
+    number: u16,
+    change: &NodeChange,
+    names: &[(Link, Option<u16>)],
+    written: Vec<(FileBlock, Box<Block>)>,
+) -> Result<Option<InodeChange>, PlanFault>
+    requires version { limits_of limits.now.version ≡ Some limits.now }
+    ensures number { IfOk result (λ new. IfSome new (λ some. some.number ≡ number)) }
+    ensures can { IfOk result (λ new. IfSome new (IsChange limits.now)) }
+    ensures builds { (layer : Layer) → IsPartOf layer number change.now names.now written.items
+        → IfOk result (λ new. BuildsNode (IsTrue D.tells_bytes) limits.now
+        (store_of (reads (D.disk (device_of blocks.old)))) file.now layer number new build.old build.new) }
+    ensures full { IsTrue D.tells_bytes → result ≡ Err Full → IsTooSmallAt (IsTrue D.tells_bytes)
+        (store_of (reads (D.disk (device_of blocks.old)))) file.now number change.now names.now written.items build.old }
+    ensures damaged { IsTrue D.tells_bytes → result ≡ Err (Tree Damaged)
+        → CanBuildNode (IsTrue D.tells_bytes) limits.now (D.status (device_of blocks.old)).sectors
+        (store_of (reads (D.disk (device_of blocks.old)))) file.now number change.now names.now written.items build.old → ⊥ }
+    ensures same { IsTrue D.tells_bytes → D.disk (device_of blocks.new) ≡ D.disk (device_of blocks.old) }
+    ensures counts { CountsPlan result (D.status (device_of blocks.old)) (D.status (device_of blocks.new)) }
+{
+    let was = get(blocks, limits, file, number)?;
+    planned(
+        alloc, build, blocks, limits, &was, number, change, names, written,
+    )
 }

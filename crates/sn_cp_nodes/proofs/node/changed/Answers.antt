@@ -1,21 +1,31 @@
-use Rattle.std.proofs.Common.{IsTrue, refl, sym, subst}
+use Rattle.std.proofs.Common.{List, IsTrue, sym, subst, ◌∙◌}
+use Rattle.std.specs.Prelude.{All}
+use Rattle.std.specs.List.Sorted.{IsStrictlyIncreasing}
+use Rattle.std.proofs.lemmas.Bool.{true≢false}
+use Rattle.sn_alloc.specs.Taking.{IsFreeData}
 use Rattle.sn_device.specs.Disk.{reads}
 use Rattle.sn_block.specs.Lending.{device_of}
-use Rattle.sn_layout_node.specs.declared.content.Content.{Content}
+use Rattle.sn_inode.specs.declared.changes.RecordChange.TheVariants.{Used}
 use Rattle.sn_ondisk.specs.Trees.{store_of}
-use Rattle.sn_cp_nodes.specs.Inodes.{IsInodeFor}
-use Rattle.sn_cp_nodes.specs.Made.{IsContentMade}
-use Rattle.sn_cp_nodes.specs.Parts.{content_of}
+use Rattle.sn_tree.specs.Drafts.{numbers_of}
+use Rattle.sn_tree.specs.declared.new_block.NewBlock.{NewBlock}
+use Rattle.sn_cp_nodes.specs.Made.{HasTaken}
+use Rattle.sn_cp_nodes.proofs.FaultLemmas.{inode_made}
 use Rattle.sn_cp_nodes.proofs.node.changed.Goals as goal
 
 pub returns-clause-made : goal.returns-clause-made
 returns-clause-made g c =
-    let made = c.inode_for-inode.ensures in
-    record {
-      inode = c.inode_for-inode.result.0;
-      acls = c.inode_for-inode.result.1;
-      used = refl;
-      made = subst (λ (x : Content). IsInodeFor c.args.was.now c.args.state.now x c.inode_for-inode.result.0 c.inode_for-inode.result.1) (sym made.has) made;
-      content = subst (λ (x : Content). IsContentMade (IsTrue g.D.Device.tells_bytes) (store_of (reads (g.D.Device.disk (device_of c.args.blocks.now)))) (content_of c.args.was.now) c.args.state.now c.args.names.now c.args.written.items x c.args.build.now c.content_for.new.build) (sym made.has)
-          (subst (λ (x : Content). IsContentMade (IsTrue g.D.Device.tells_bytes) (store_of (reads (g.D.Device.disk (device_of c.args.blocks.now)))) x c.args.state.now c.args.names.now c.args.written.items c.in_ok-content.content c.args.build.now c.content_for.new.build) c.content_of-old.ensures c.in_ok-content.ensures.made);
-    }
+    inode_made (IsTrue g.D.Device.tells_bytes) (store_of (reads (g.D.Device.disk (device_of c.args.blocks.now)))) c.args.was.now c.args.state.now c.args.names.now c.args.written.items
+    c.content_of-old.result c.in_ok-content.content c.inode_for-inode.result.0 c.inode_for-inode.result.1 c.args.build.now c.content_for.new.build c.content_of-old.ensures c.inode_for-inode.ensures c.in_ok-content.ensures.made
+
+pub returns-then-not-is_change-clause-damaged : goal.returns-then-not-is_change-clause-damaged
+returns-then-not-is_change-clause-damaged g c = λ told damaged can.
+    let behind = c.content_for.new.build in
+    let taken : HasTaken behind = record {
+      free = subst (λ (added : List NewBlock). All (IsFreeData behind.words behind.first) (numbers_of added)) c.added.ensures.value c.added.ensures.free;
+      rise = subst (λ (added : List NewBlock). IsStrictlyIncreasing (numbers_of added)) c.added.ensures.value c.added.ensures.ascending;
+    } in
+    let made =
+    inode_made (IsTrue g.D.Device.tells_bytes) (store_of (reads (g.D.Device.disk (device_of c.args.blocks.now)))) c.args.was.now c.args.state.now c.args.names.now c.args.written.items
+    c.content_of-old.result c.in_ok-content.content c.inode_for-inode.result.0 c.inode_for-inode.result.1 c.args.build.now behind c.content_of-old.ensures c.inode_for-inode.ensures c.in_ok-content.ensures.made in
+    true≢false (sym (c.is_change.ensures.1 (can.fits (Used c.inode_for-inode.result.0 c.inode_for-inode.result.1) behind taken made)) ∙ c.if-not-is_change.true)

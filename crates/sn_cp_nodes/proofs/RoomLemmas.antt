@@ -1,0 +1,190 @@
+-- Where too few blocks are left for a node, fewer are than its names and its blocks need.
+use Rattle.std.proofs.Common.{◌≡◌, ◌≢◌, ⊎_elim, ℕ, ◌+◌, ◌*◌, ◌<◌, ◌≤◌, ◌==◌, Bool, true, false, cond, if◌then◌else◌, T, List, [], ◌∷◌, length, map, Option, None, Some, Contains, refl, sym, ap, subst, ◌∙◌, arith}
+use Rattle.std.specs.Prelude.{All, IsTrue}
+use Rattle.std.specs.FinMap as fin
+use Rattle.std.specs.FinMap.Entries.{below_all, find, is_sorted}
+use Rattle.std.specs.Ordering.{eq_by_cmp}
+use Rattle.std.specs.Cmp.{eq_by_cmp_equiv}
+use Rattle.std.specs.Global.{Global}
+use Rattle.std.specs.declared.boxed.Box.{Box}
+use Rattle.std.proofs.lemmas.List.{length-map}
+use Rattle.std.proofs.lemmas.List.Elements.{All-nil, All-cons, All-contains, All-map, All-same}
+use Rattle.std.proofs.lemmas.Map.Views.{tells_apart}
+use Rattle.sn_alloc.specs.Taking.{free_data}
+use Rattle.sn_dir_change.specs.Changes.{IsChanged}
+use Rattle.sn_dir_change.specs.declared.name_change.NameChange.{NameChange}
+use Rattle.sn_dir_change.specs.Laws.{GrownDirectoriesFit}
+use Rattle.sn_image.specs.Image.{image}
+use Rattle.sn_image.specs.Inodes.{inode_at}
+use Rattle.sn_image.specs.Names.{names_of}
+use Rattle.sn_image.proofs.SoundNodeLemmas.{only_version}
+use Rattle.sn_layout.specs.Pointers.{levels_of}
+use Rattle.sn_layout.specs.declared.tree.BlockTree.{BlockTree}
+use Rattle.sn_layout_node.specs.Directory.{Link as Name, number_of}
+use Rattle.sn_layout_node.specs.Inode.{IsContent}
+use Rattle.sn_layout_node.specs.declared.content.Content.TheVariants.{Tree}
+use Rattle.sn_limits.specs.declared.kind.Kind.{Kind}
+use Rattle.sn_limits.specs.declared.kind.Kind.TheVariants.{File, Directory}
+use Rattle.sn_limits.specs.declared.limits.Limits.{Limits}
+use Rattle.sn_model.specs.Changes.{node_with}
+use Rattle.sn_model.specs.Tree.{Tree as NameTree, link_cmp, link_to}
+use Rattle.sn_model.specs.declared.link.Link.{Link}
+use Rattle.sn_model.proofs.LinkLemmas.{exact_links, links_total}
+use Rattle.sn_ondisk.specs.Trees.{Store}
+use Rattle.sn_overlay.specs.Layers.{Layer, block_seen, bytes_of, hides_names, name_seen, node_seen, through}
+use Rattle.sn_overlay.specs.Lists.{changed_names, written_blocks}
+use Rattle.sn_overlay.specs.Needs.{levels}
+use Rattle.sn_overlay.specs.Pieces.{joined}
+use Rattle.sn_overlay.specs.declared.file_block.FileBlock.{FileBlock}
+use Rattle.sn_overlay.specs.declared.node.NodeChange.{NodeChange}
+use Rattle.sn_overlay.specs.declared.node.NodeChange.TheVariants.{Changed, Gone}
+use Rattle.sn_overlay.specs.declared.node.NodeState.{NodeState}
+use Rattle.sn_overlay.proofs.LayerLemmas.{get-through_links, get-through_nodes}
+use Rattle.sn_overlay.proofs.PieceLemmas.{length-joined}
+use Rattle.sn_tree.specs.Drafts.{Draft}
+use Rattle.sn_cp_nodes.specs.Built.{IsGround, IsTooSmallAt}
+use Rattle.sn_cp_nodes.specs.Made.{ChangeThem, IsTooSmall, IsTooSmallAs, Pair, pair_in, pair_of}
+use Rattle.sn_cp_nodes.specs.Parts.{Blocks, IsPartOf, Names, content_of}
+use Rattle.sn_cp_nodes.proofs.BuildLemmas.{few_levels, one_or_two, size_within}
+use Rattle.sn_cp_nodes.proofs.DirectoryLemmas.{begun_base}
+use Rattle.sn_cp_nodes.proofs.ElementLemmas.{cases_there, first_there, more_there}
+use Rattle.sn_cp_nodes.proofs.ListedLemmas.{count_in, find_below, listed_of, number_in, once_in, sorted_parts}
+use Rattle.sn_cp_nodes.proofs.NameLemmas.{AreIn, changed_at, found_pair, from_pairs, names_in_it, pairs_of}
+use Rattle.sn_cp_nodes.proofs.OldLemmas.{old_of, old_valid}
+
+-- ---- entries are found at their keys
+
+never : {A : Type 0} {x : A} → None ≡ Some x → ⊥
+never e = absurd cc
+
+found_each : (es : Names) → T (is_sorted link_cmp es) → (e : Link × Option ℕ) → Contains es e → find link_cmp e.0 es ≡ Some e.1
+found_each [] h e among = absurd (omega (arith, among.1))
+found_each (x ∷ es) h e among = ⊎_elim
+    (λ (same : e ≡ x). subst (λ (y : Link × Option ℕ). find link_cmp y.0 (x ∷ es) ≡ Some y.1) (sym same)
+    (ap (λ (c : Bool). cond c (Some x.1) (find link_cmp x.0 es)) ((eq_by_cmp_equiv links_total).refl x.0)))
+    (λ (more : Contains es e). behind (eq_by_cmp link_cmp e.0 x.0) refl (found_each es parts.1 e more))
+    (cases_there x es e among)
+  where
+    parts : T (below_all link_cmp x.0 es) × T (is_sorted link_cmp es)
+    parts = sorted_parts (below_all link_cmp x.0 es) (is_sorted link_cmp es) h
+
+    behind : (b : Bool) → eq_by_cmp link_cmp e.0 x.0 ≡ b → find link_cmp e.0 es ≡ Some e.1 → cond b (Some x.1) (find link_cmp e.0 es) ≡ Some e.1
+    behind true is found = absurd (never (sym (ap (λ (l : Link). find link_cmp l es) (tells_apart exact_links e.0 x.0 is) ∙ find_below x.0 es parts.0) ∙ found))
+    behind false is found = found
+
+-- ---- the names that a directory has then
+
+module _ (layer : Layer) (tree : NameTree) (d : ℕ) where
+  abbrev seen : List Name
+  seen = listed_of (through layer tree) d
+
+  abbrev IsSeenAs : Pair → Type 0
+  IsSeenAs p = number_of p.0 seen ≡ p.1
+
+  shows : (name : List ℕ) (value : Option (Option ℕ)) → fin.get layer.names (link_to d name) ≡ value → number_of name seen ≡ name_seen layer (link_to d name) value (fin.get tree.links (link_to d name))
+  shows name value e =
+      number_in (through layer tree) d name ∙ get-through_links layer tree (link_to d name)
+      ∙ ap (λ (v : Option (Option ℕ)). name_seen layer (link_to d name) v (fin.get tree.links (link_to d name))) e
+
+  changed_sorted : T (is_sorted link_cmp (changed_names layer d))
+  unfolding changed_names
+  changed_sorted = fin.entries_sorted (fin.retain_keys layer.names (λ link. link.directory == d))
+
+  entry_seen : (e : Link × Option ℕ) → Contains (changed_names layer d) e → e.0.directory ≡ d → IsSeenAs (pair_in e)
+  entry_seen e among directory =
+      let one : link_to d e.0.name ≡ e.0 = λ i. record { directory = sym directory i; name = e.0.name } in
+      shows e.0.name (Some e.1) (sym (changed_at layer d e.0.name) ∙ ap (λ (l : Link). find link_cmp l (changed_names layer d)) one ∙ found_each (changed_names layer d) changed_sorted e among)
+
+  entries_seen : (es : Names) → AreIn d es → ((e : Link × Option ℕ) → Contains es e → Contains (changed_names layer d) e) → All IsSeenAs (pairs_of es)
+  entries_seen [] are within = All-nil IsSeenAs
+  entries_seen (e ∷ es) are within =
+      All-cons IsSeenAs (pair_in e) (pairs_of es) (entry_seen e (within e (first_there e es)) are.0) (entries_seen es are.1 (λ x more. within x (more_there e es x more)))
+
+  module _ (names : Names) (changes : List NameChange) (old : List Name) (are : names ≡ changed_names layer d) (them : ChangeThem names changes)
+      (was : (name : List ℕ) → number_of name old ≡ (if hides_names (fin.get layer.nodes d) then None else fin.get tree.links (link_to d name))) where
+    made_seen : All IsSeenAs (map pair_of changes)
+    made_seen = All-same IsSeenAs (map pair_of changes) (pairs_of (changed_names layer d)) (them ∙ ap (λ (es : Names). pairs_of es) are)
+        (entries_seen (changed_names layer d) (names_in_it layer d) (λ e among. among))
+
+    others_seen : (name : List ℕ) → All (λ (c : NameChange). c.name.now ≢ name) changes → number_of name seen ≡ number_of name old
+    others_seen name none = told (fin.get layer.names (link_to d name)) refl
+      where
+        told : (value : Option (Option ℕ)) → fin.get layer.names (link_to d name) ≡ value → number_of name seen ≡ number_of name old
+        told (Some number) e =
+            let here : find link_cmp (link_to d name) names ≡ Some number = ap (λ (es : Names). find link_cmp (link_to d name) es) are ∙ changed_at layer d name ∙ e in
+            let all : All (λ (p : Pair). p.0 ≢ name) (pairs_of names) =
+            All-same (λ (p : Pair). p.0 ≢ name) (pairs_of names) (map pair_of changes) (sym them) (All-map (λ (p : Pair). p.0 ≢ name) pair_of changes none) in
+            absurd (All-contains (λ (p : Pair). p.0 ≢ name) (pairs_of names) (name, number) all (found_pair d name names number here) refl)
+        told None e = shows name None e ∙ sym (was name)
+
+    pub changed_list : IsChanged changes old seen
+    changed_list = record {
+      made = from_pairs IsSeenAs changes made_seen;
+      others = others_seen;
+      once = once_in (through layer tree) d;
+    }
+
+-- ---- a node
+
+module _ (tells : Bool) (told : IsTrue tells) (fit : GrownDirectoriesFit) (limits : Limits) (n : ℕ) (s : Store) (file : BlockTree) (layer : Layer) (number : ℕ) (ground : IsGround limits n s file layer) (names : Names) (written : Blocks) (draft : Draft) where
+  abbrev needed : ℕ
+  needed = levels limits * (length (changed_names layer number) + length (written_blocks layer number) + 1)
+
+  largest : limits.largest_file ≡ 67108864
+  largest = ap (λ (l : Limits). l.largest_file) (sym (only_version limits ground.version))
+
+  -- a path for each of some parts and one more, in a file that a version allows
+  less_needed : (size parts : ℕ) → size ≤ 67108864 → parts ≤ length (changed_names layer number) + length (written_blocks layer number)
+      → free_data draft.words draft.first < length draft.added + (levels_of size + 1) * (parts + 1) → free_data draft.words draft.first < length draft.added + needed
+  less_needed size parts small few less =
+      let two : levels limits ≡ 2 = ap (λ (l : Limits). levels l) (sym (only_version limits ground.version)) in
+      let all : free_data draft.words draft.first < length draft.added + 2 * (length (changed_names layer number) + length (written_blocks layer number) + 1) = omega (arith, less, few, one_or_two (levels_of size) parts (few_levels size small)) in
+      subst (λ (count : ℕ). free_data draft.words draft.first < length draft.added + count * (length (changed_names layer number) + length (written_blocks layer number) + 1)) (sym two) all
+
+  module _ (state : NodeState) (part : IsPartOf layer number (Changed state) names written) where
+    abbrev bytes : List ℕ
+    bytes = joined 4096 state.size (block_seen layer number state (bytes_of (fin.get (image s file).nodes number)))
+
+    small_file : state.size ≤ 67108864
+    small_file =
+        let is = get-through_nodes layer (image s file) number ∙ ap (λ (c : Option NodeChange). node_seen layer number c (fin.get (image s file).nodes number)) part.node in
+        omega (arith, (ground.tree.nodes.nodes number (node_with state.kind state.ownership bytes) is).size, length-joined 4096 state.size (block_seen layer number state (bytes_of (fin.get (image s file).nodes number))), largest)
+
+    long_written : length written ≡ length (written_blocks layer number)
+    long_written = sym (length-map written (λ (e : FileBlock × Box (List ℕ) Global). (e.0, e.1.value))) ∙ ap (λ (es : List (FileBlock × List ℕ)). length es) part.its_blocks
+
+    long_names : length names ≡ length (changed_names layer number)
+    long_names = ap (λ (es : Names). length es) part.its_names
+
+    -- a directory that was there is small
+    small_tree : state.kind ≡ Directory → (tree : BlockTree) → (state.fresh ≡ true → tree.size ≡ 0) → (state.fresh ≡ false → content_of (inode_at s file number) ≡ Tree tree) → tree.size ≤ 67108864
+    small_tree is tree empty kept = by_fresh state.fresh refl
+      where
+        by_fresh : (fresh : Bool) → state.fresh ≡ fresh → tree.size ≤ 67108864
+        by_fresh true fresh = omega (arith, empty fresh)
+        by_fresh false stale =
+            let (inode, used, kind) = old_of limits n s file layer number ground state part.node stale in
+            let content : inode.content ≡ Tree tree = sym (ap content_of used) ∙ kept stale in
+            let valid = old_valid limits n s file layer number ground inode used in
+            size_within limits inode.kind (Tree tree) ground.version (subst (IsContent limits inode.kind) content valid.content)
+
+    less_directory : state.kind ≡ Directory → IsTooSmall (IsTrue tells) s (content_of (inode_at s file number)) state.fresh names draft → free_data draft.words draft.first < length draft.added + needed
+    less_directory is small =
+        let base = begun_base limits n s file layer number ground state part.node is s (λ block among. refl) small.tree small.empty small.kept in
+        let changed = changed_list layer (image s file) number names small.changes (names_of s (Tree small.tree)) part.its_names small.are base.names in
+        let tree_small : small.tree.size ≤ 67108864 = small_tree is small.tree (λ fresh. ap (λ (t : BlockTree). t.size) (small.empty fresh)) small.kept in
+        let few : length (listed_of (through layer (image s file)) number) ≤ limits.names = omega (arith, count_in (through layer (image s file)) number, ground.tree.few.names number) in
+        let fits : small.size ≤ limits.largest_file =
+        fit tells s small.tree small.changes small.size limits.version limits (listed_of (through layer (image s file)) number) ground.version small.sized told base.once base.spelled (omega (arith, tree_small, largest)) changed few in
+        less_needed small.size (length names) (omega (arith, fits, largest)) (omega (arith, long_names)) small.less
+
+    less_changed : IsTooSmallAs state.kind (IsTrue tells) s (content_of (inode_at s file number)) state names written draft → free_data draft.words draft.first < length draft.added + needed
+    less_changed small = by_kind state.kind refl small
+      where
+        by_kind : (kind : Kind) → state.kind ≡ kind → IsTooSmallAs kind (IsTrue tells) s (content_of (inode_at s file number)) state names written draft → free_data draft.words draft.first < length draft.added + needed
+        by_kind File is less = less_needed state.size (length written) small_file (omega (arith, long_written)) less
+        by_kind Directory is small = less_directory is small
+
+  pub less_left : (change : NodeChange) → IsPartOf layer number change names written → IsTooSmallAt (IsTrue tells) s file number change names written draft → free_data draft.words draft.first < length draft.added + needed
+  less_left (Gone by_close) part small = absurd small
+  less_left (Changed state) part small = less_changed state part small
