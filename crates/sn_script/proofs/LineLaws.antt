@@ -1,9 +1,11 @@
 -- An event that is read from a line is the line's, and the event of a line is read from it.
-use Rattle.std.proofs.Common.{◌≡◌, ℕ, ◌^◌, ◌<◌, inl, Bool, true, false, eqb, leb, All, List, [], ◌∷◌, ◌++◌, length, map, Option, Some, None, refl, sym, ap, subst, ◌∙◌, append_assoc, lit≤, lit<, arith}
+use Rattle.std.proofs.Common.{◌≡◌, ℕ, ◌^◌, ◌<◌, inl, Bool, true, false, cond, eqb, leb, All, List, [], ◌∷◌, ◌++◌, length, map, Option, Some, None, refl, sym, ap, subst, ◌∙◌, append_assoc, lit≤, lit<, arith}
 use Rattle.std.specs.Prelude.{◌==◌, not, Err, IfSome, decimal, codes}
 use Rattle.std.specs.List.{AllByRecursion, join_with_byte, list_all}
 use Rattle.std.specs.Char.{is_ascii_graphic}
+use Rattle.std.specs.Str.{bytes_eq}
 use Rattle.std.proofs.lemmas.Bool.{eq-eqb}
+use Rattle.std.proofs.lemmas.Slice.Eq.{bytes_eq-Decides}
 use Rattle.std.proofs.lemmas.List.Elements.{recursion_from_All}
 use Rattle.std.proofs.lemmas.List.Splits.{join_with_byte-slice_split}
 use Rattle.sn_model.specs.declared.call.Call.{Call}
@@ -19,7 +21,7 @@ use Rattle.sn_script.specs.Scripts.{BeginsBadly}
 use Rattle.sn_words.specs.declared.fault.ReadFault.{ReadFault}
 use Rattle.sn_words.specs.declared.fault.ReadFault.TheVariants.{Bad, Memory}
 use Rattle.sn_words.specs.Reading.{IsRead, number_below}
-use Rattle.sn_script.specs.Reading.{call_of, event_of, line_event}
+use Rattle.sn_script.specs.Reading.{call_of, event_of, line_event, lone_event_of}
 use Rattle.sn_words.proofs.Options.{passed, both_true}
 use Rattle.sn_words.proofs.Numbers.{number_again, number_takes}
 use Rattle.sn_words.proofs.Bytes.{Within, Within-wider, Within-join, decimal_within, graphic_within, Lacks, Lacks-append, lacks_outside, parts_join}
@@ -27,10 +29,24 @@ use Rattle.sn_words.proofs.FieldLaws.{want_graphic, kind_graphic}
 use Rattle.sn_words.proofs.FlagLaws.{flags_graphic, content_graphic}
 use Rattle.sn_script.proofs.CallLaws.{call_takes, call_again}
 
+-- a restart stands alone
+lone_takes : (name : List ℕ) (e : Event) → lone_event_of name ≡ Some e → (name ∷ [] ≡ words_of e) × IsEvent e
+unfolding lone_event_of
+lone_takes name e read = of (bytes_eq name (codes "restart")) refl read
+  where
+    alone : (a b : List ℕ) → a ≡ b → a ∷ [] ≡ b ∷ []
+    alone a b p = cc
+
+    of : (b : Bool) → bytes_eq name (codes "restart") ≡ b → cond b (Some event.Restart) None ≡ Some e → (name ∷ [] ≡ words_of e) × IsEvent e
+    of true same r =
+        subst (λ (y : Event). (name ∷ [] ≡ words_of y) × IsEvent y) (some_same event.Restart e r)
+        (alone name (codes "restart") ((bytes_eq-Decides name (codes "restart")).0 same), tt)
+    of false other r = absurd cc
+
 event_takes : (words : List (List ℕ)) (e : Event) → event_of words ≡ Some e → (words ≡ words_of e) × IsEvent e
 unfolding event_of
 event_takes [] x e = absurd cc
-event_takes (session ∷ []) x e = absurd cc
+event_takes (name ∷ []) x e = lone_takes name x e
 event_takes (session ∷ name ∷ arguments) x e =
     let s = bind_some (number_below (2 ^ 32) session) (λ s. call_of name arguments >>= (λ c. Some (event.Call s c))) x e in
     let c = bind_some (call_of name arguments) (λ c. Some (event.Call s.0 c)) x s.2 in
@@ -42,11 +58,15 @@ event_takes (session ∷ name ∷ arguments) x e =
     all_three : (a x b y : List ℕ) (cs zs : List (List ℕ)) → a ≡ x → b ≡ y → cs ≡ zs → a ∷ b ∷ cs ≡ x ∷ y ∷ zs
     all_three a x b y cs zs p q r = cc
 
+lone_again : lone_event_of (codes "restart") ≡ Some event.Restart
+unfolding lone_event_of
+lone_again = refl
+
 event_again : (e : Event) → IsEvent e → event_of (words_of e) ≡ Some e
 unfolding event_of
 event_again (event.Call session c) h = rw (number_again (2 ^ 32) session (lit≤ tt) h.0, call_again c h.1) refl
 event_again event.Step h = absurd h
-event_again event.Restart h = absurd h
+event_again event.Restart h = lone_again
 
 -- ---- lines
 
@@ -110,7 +130,7 @@ call_graphic (call.Ftruncate fd size) h = (graphic_within (codes "ftruncate") re
 words_graphic : (e : Event) → IsEvent e → AllByRecursion IsGraphic (words_of e)
 words_graphic (event.Call session c) h = (number_graphic session h.0, call_graphic c h.1)
 words_graphic event.Step h = absurd h
-words_graphic event.Restart h = absurd h
+words_graphic event.Restart h = (graphic_within (codes "restart") refl, tt)
 
 all_lack : (c : ℕ) (ws : List (List ℕ)) → c < 33 → AllByRecursion IsGraphic ws → AllByRecursion (Lacks c) ws
 all_lack c [] lt h = tt
@@ -158,7 +178,7 @@ few_words event.Restart = refl
 text_cut : (e : Event) → IsEvent e → parts 32 (text_of e) ≡ words_of e
 text_cut (event.Call session c) h = parts_join 32 (decimal session) (name_of c ∷ arguments_of c) (all_lack 32 (words_of (event.Call session c)) (lit< tt) (words_graphic (event.Call session c) h))
 text_cut event.Step h = absurd h
-text_cut event.Restart h = absurd h
+text_cut event.Restart h = parts_join 32 (codes "restart") [] (all_lack 32 (words_of event.Restart) (lit< tt) (words_graphic event.Restart h))
 
 pub line_again : (e : Event) → IsEvent e → line_event (text_of e) ≡ Some e
 unfolding line_event

@@ -88,8 +88,8 @@ IsCall (call.Write fd bytes) = (fd < 2 ^ 32) × IsBytes bytes
 IsCall (call.Seek fd offset) = (fd < 2 ^ 32) × (offset < 2 ^ 64)
 IsCall (call.Ftruncate fd size) = (fd < 2 ^ 32) × (size < 2 ^ 64)
 
--- Lines of steps and restarts aren't read yet.
+-- Lines of steps aren't read yet.
 abbrev pub IsEvent : Event → Type 0
 IsEvent (event.Call session c) = (session < 2 ^ 32) × IsCall c
 IsEvent event.Step = ⊥
-IsEvent event.Restart = ⊥
+IsEvent event.Restart = Unit {0}

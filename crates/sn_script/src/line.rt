@@ -1,6 +1,6 @@
 ghost use Rattle.std.specs.Prelude.{map};
 ghost use Rattle.sn_words.specs.Reading.{IsRead};
-ghost use Rattle.sn_script.specs.Reading.{login_of, logout_of, umask_of, chown_of, access_of, getacl_of, setacl_of, open_of, write_of, file_call_of, access_call_of, path_call_of, name_call_of, call_of, event_of, line_event};
+ghost use Rattle.sn_script.specs.Reading.{login_of, logout_of, umask_of, chown_of, access_of, getacl_of, setacl_of, open_of, write_of, file_call_of, access_call_of, path_call_of, name_call_of, call_of, event_of, line_event, lone_event_of};
 
 use crate::arguments::{descriptor, descriptor_and_number, path, path_and_mode, paths};
 use sn_model::{Call, Event};
@@ -54,6 +54,8 @@ const WRITE: &[u8] = b"write";
 const SEEK: &[u8] = b"seek";
 
 const FTRUNCATE: &[u8] = b"ftruncate";
+
+const RESTART: &[u8] = b"restart";
 
 #[tactic(auto, unfolding(crate::specs::Reading::login_of))]
 fn login(alloc: Global, arguments: &[&[u8]]) -> Result<Call, ReadFault>
@@ -279,10 +281,25 @@ fn call(alloc: Global, name: &[u8], arguments: &[&[u8]]) -> Result<Call, ReadFau
     name_call(alloc, name, arguments)
 }
 
+/// The event that is no call of a session.
+#[tactic(auto, unfolding(crate::specs::Reading::lone_event_of))]
+fn lone_event(name: &[u8]) -> Result<Event, ReadFault>
+    ensures { IsRead (λ e. e) result (lone_event_of name.now) }
+{
+    if name == RESTART {
+        Ok(Event::Restart)
+    } else {
+        Err(ReadFault::Bad)
+    }
+}
+
 #[tactic(auto, unfolding(crate::specs::Reading::event_of))]
 fn event_of_words(alloc: Global, words: &[&[u8]]) -> Result<Event, ReadFault>
     ensures { IsRead (λ e. e) result (event_of (map (λ w. w.now) words.now)) }
 {
+    if let &[name] = words {
+        return lone_event(name);
+    }
     let &[session, name, ref arguments @ ..] = words else {
         return Err(ReadFault::Bad);
     };

@@ -13,11 +13,14 @@ pub fn told(alloc: Global, event: &Event) -> Result<String> {
 }
 
 fn push_event(text: &mut String, event: &Event) -> Result<()> {
-    let Event::Call { session, call } = event else {
-        bail!("no call");
-    };
-    write!(text, "session {session}: ")?;
-    push_call(text, call)
+    match event {
+        Event::Call { session, call } => {
+            write!(text, "session {session}: ")?;
+            push_call(text, call)
+        }
+        Event::Restart => push(text, "restart"),
+        Event::Step => bail!("no line of a script is a step"),
+    }
 }
 
 fn push_call(text: &mut String, call: &Call) -> Result<()> {

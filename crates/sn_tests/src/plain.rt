@@ -27,11 +27,10 @@ fn is_no_memory(reply: &Reply) -> bool {
     }
 }
 
-/// The event of a line. Steps and restarts have no line of a script yet.
+/// The event of a line. A step has no line of a script yet.
 fn event_of(alloc: Global, line: &str) -> Result<Event> {
     match line {
         "step" => Ok(Event::Step),
-        "restart" => Ok(Event::Restart),
         _ => call_of(alloc, line),
     }
 }
