@@ -10,8 +10,7 @@ top=$(cd "$(dirname "$0")/.." && pwd)
 program=$top/crates/sn_bin/out/sn_bin
 work=$(mktemp -d)
 trap 'rm -rf "$work"' EXIT
-: > "$work/nothing"
-"$top/snapfs" run image "$work/nothing"
+"$top/snapfs" mkfs "$work/image" 4096 > /dev/null
 
 small='u::rwx,g::---,o::rwx'
 large=$(awk 'BEGIN { printf "u::rwx,g::---"; for (i = 1; i <= 32; i++) printf ",g:%d:rwx", 1000 + i; print ",m::rwx,o::---" }')
@@ -23,12 +22,13 @@ script() {
     yes "$2" | head -n "$3" || true
 }
 
-# The least time of five runs, in microseconds.
+# The least time of five runs, each on an image of its own, in microseconds.
 least() {
     local best=0 begun taken
     for _ in 1 2 3 4 5; do
+        "$program" mkfs "$work/image" 4096 > /dev/null
         begun=${EPOCHREALTIME/./}
-        "$program" run image "$1" > /dev/null
+        "$program" run "$work/image" "$1" > /dev/null
         taken=$((${EPOCHREALTIME/./} - begun))
         if [ "$best" -eq 0 ] || [ "$taken" -lt "$best" ]; then best=$taken; fi
     done

@@ -547,7 +547,10 @@ def by_program(lines):
     with tempfile.NamedTemporaryFile("w") as script:
         script.write("".join(f"{line}\n" for line in lines))
         script.flush()
-        ran = subprocess.run([PROGRAM, "run", "image", script.name], capture_output=True, text=True, check=True)
+        image = f"{script.name}.img"
+        subprocess.run([PROGRAM, "mkfs", image, "4096"], stdout=subprocess.DEVNULL, check=True)
+        ran = subprocess.run([PROGRAM, "run", image, script.name], capture_output=True, text=True, check=True)
+        os.remove(image)
     return [" ".join(it.split(" ")[:2]) if it.startswith("err ") else it for it in ran.stdout.splitlines()]
 
 
@@ -676,8 +679,14 @@ def compare(name, lines):
     return differ
 
 
+def build():
+    """Builds the program where it isn't up to date: the wrapper does, whatever the words are."""
+    with tempfile.TemporaryDirectory() as folder:
+        subprocess.run([TOP / "snapfs", "mkfs", f"{folder}/image", "256"], stdout=subprocess.DEVNULL, check=True)
+
+
 def main(words):
-    subprocess.run([TOP / "snapfs", "run", "image", "/dev/null"], check=True)
+    build()
     if words[:1] == ["--drawn"]:
         first = int(words[2]) if len(words) > 2 else 0
         scripts = [(f"seed {seed}", Drawn(seed).script()) for seed in range(first, first + int(words[1]))]

@@ -3,11 +3,11 @@
 # at what they answer. Run by hand: it wants gcc, since the refusals come from a small library that stands before
 # the C library's malloc.
 #
-# A run of the program with one refusal may end with status 1, `snapfs: memory`, `snapfs: M5` or, where it is the disk
-# in memory that can't grow, `snapfs: M6`, and the first replies of the run without it. Else one reply at the most is
-# `err ENOMEM`; a directory that wasn't made by that call is made by the next one, which is the same; and all other
-# replies stay. Or one is `err EIO`, since the disk in memory can't grow: then all after it are `err ESTOPPED`, and the
-# run ends with `snapfs: stopped`.
+# A run of the program with one refusal, on an image that was made before, may end with status 1, `snapfs: memory`,
+# `snapfs: M5`, or `snapfs: file` where the system's call finds none, and the first replies of the run without it. Else
+# one reply at the most is `err ENOMEM`; a directory that wasn't made by that call is made by the next one, which is the
+# same; and all other replies stay. A run that is cut short runs in memory: there one may be `err EIO`, since the copy's
+# record can't grow; then all after it are `err ESTOPPED`, and `snapfs: stopped` is told; or `snapfs: M6`.
 #
 # A test program with one refusal may say that it found no memory, or that the device in memory has come to its end for
 # want of it. Each case that it finds wrong has to be so for
@@ -16,7 +16,7 @@ set -eu
 top=$(cd "$(dirname "$0")/.." && pwd)
 work=$(mktemp -d)
 trap 'rm -rf "$work"' EXIT
-"$top/snapfs" run none /dev/null
+"$top/snapfs" mkfs "$work/fresh" 256 > /dev/null
 program=$top/crates/sn_bin/out/sn_bin
 
 cat > "$work/refuse.c" <<'C'
@@ -76,7 +76,9 @@ cat > "$work/script" <<'S'
 0 mkdir /a/a-name-that-is-longer-than-most-names-are 0755
 0 stat /a/a-name-that-is-longer-than-most-names-are
 S
-"$program" run none "$work/script" > "$work/whole"
+fresh() { cp "$work/fresh" "$work/image"; }
+fresh
+"$program" run "$work/image" "$work/script" > "$work/whole"
 
 # honest STATUS: whether the run's outputs are such as they may be
 honest() {
@@ -94,9 +96,9 @@ honest() {
             } else if ($0 != whole[FNR]) bad = 1
         }
         END {
-            if (stopped) exit bad || seen != lines || status != 1 || err != "snapfs: stopped"
-            if (status == 0) exit bad || seen != lines || err != ""
-            exit bad || status != 1 || (err != "snapfs: memory" && err != "snapfs: M5" && err != "snapfs: M6")
+            if (stopped) exit bad || seen != lines || err != "snapfs: stopped"
+            if (status == 0 && err == "") exit bad || seen != lines
+            exit bad || (err != "snapfs: memory" && err != "snapfs: M5" && err != "snapfs: M6" && err != "snapfs: file")
         }' "$work/whole" "$work/out"
 }
 
@@ -106,6 +108,7 @@ each_refused() {
     local at=1 answered=0 ended=0 status
     while :; do
         status=0
+        "$before"
         REFUSED=$at REFUSED_MARK=$work/mark LD_PRELOAD=$work/refuse.so "$@" > "$work/out" 2> "$work/err" || status=$?
         [ -e "$work/mark" ] || break
         rm "$work/mark"
@@ -132,10 +135,11 @@ tested() {
     sed -E 's/, [0-9]+ wrong$//' "$work/whole" | head -c "$(wc -c < "$work/front")" | cmp -s - "$work/front"
 }
 
-judge=honest
-each_refused "$program" run none "$work/script"
+judge=honest before=fresh
+each_refused "$program" run "$work/image" "$work/script"
+each_refused "$program" stop-at 1000 new "$work/image" "$work/script" "$work/left"
 
-judge=tested
+judge=tested before=:
 for crate in sn_tests sn_tests_disk sn_tests_block sn_tests_formats sn_tests_memory sn_tests_trees; do
     # Some have tens of thousands of allocations, nearly all of them in devices and contents that are made anew.
     case $crate in

@@ -100,7 +100,9 @@ pub(crate) fn find<D: Device>(
         Err(fault) => return Err(fault),
     };
     let dropped = world.nameless();
-    let Replayed { at, charges } = match replay_both(alloc, blocks, buffer, &mut world, places, root.epoch) {
+    let Replayed { at, charges } = match replay_both(
+        alloc, blocks, buffer, &mut world, places, root.epoch,
+    ) {
         Ok(replayed) => replayed,
         Err(fault) => return Err(fault),
     };

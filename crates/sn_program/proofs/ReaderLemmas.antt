@@ -1,19 +1,19 @@
 -- A script that was read from a reader is all that the reader had, unless it is too long.
-use Rattle.std.proofs.Common.{◌≡◌, ◌∙◌, ℕ, ◌<◌, ◌≤◌, Bool, true, false, ltb, List, [], ◌++◌, Some, None, Result, Ok, Err, take, length, inl, inr, refl, sym, ap, subst, arith, ltb-true}
-use Rattle.std.specs.Prelude.{◌⊎◌, ◌↔◌, OnOk, OnErr, IfErr, IfSome, IsErrAnd, IsErrOf}
+use Rattle.std.proofs.Common.{◌≡◌, ◌∙◌, ℕ, ◌+◌, ◌<◌, ◌≤◌, List, [], ◌++◌, Some, None, Result, Ok, Err, take, length, inl, inr, refl, sym, ap, subst, arith, Bool, true, false, nat_le, leb-true, leb-false}
+use Rattle.std.specs.Prelude.{◌⊎◌, IfErr, IfSome, IsErrAnd, IsErrOf}
 use Rattle.std.specs.declared.option.Option.{Option}
 use Rattle.std.specs.declared.io.traits.Take.{Take}
 use Rattle.std.specs.Option.{option_map}
-use Rattle.std.specs.Io.KnownBytes.{Keeps}
 use Rattle.std.specs.Io.Take.{take_limit, take_inner, take_remaining}
-use Rattle.std.proofs.lemmas.Bool.{ltb-false}
 use Rattle.std.proofs.lemmas.List.{length-take, take_all}
+use Rattle.sn_model.specs.declared.call.Event.{Event}
+use Rattle.sn_script.specs.Scripts.{IsFirstBad, IsScript}
+use Rattle.sn_script.specs.declared.fault.ScriptFault.{ScriptFault}
 use Rattle.sn_script.specs.declared.fault.ScriptFault.TheVariants as reading
 use Rattle.sn_program.specs.declared.fault.Fault.{Fault}
 use Rattle.sn_program.specs.declared.fault.Fault.TheVariants as fault
-use Rattle.sn_program.specs.Answers.{Answers, BeginsToAnswer, HasAnswered, HasBegun, HasItsRun, HasItsRunOf, IsOf}
-use Rattle.sn_program.specs.Fault.{IsOfFile}
-use Rattle.sn_program.proofs.OutputLemmas.{keeps_same}
+use Rattle.sn_program.specs.Answers.{AreEventsOf, IsOf}
+use Rattle.sn_program.specs.Fault.{IsOfFile, IsOfScript, IsUnread}
 
 -- the front of what a reader had, up to one byte past the most that a script may have
 abbrev pub IsRead : Option (List ℕ) → List ℕ → Type 0
@@ -26,61 +26,51 @@ limited {R} remaining t reader old bytes limit inner none h = subst (λ (r : R).
     of None n e k = tt
     of (Some all) n e k = k ∙ ap (λ (s : List ℕ). s ++ take n all) none ∙ ap (λ (m : ℕ). take m all) e
 
-read_all : (known : Option (List ℕ)) (script : List ℕ) → IsRead known script → length script ≤ 16777216 → IsOf known script
-read_all None script h short = tt
-read_all (Some all) script h short = h ∙ take_all 16777217 all (omega (arith, ap length h, length-take {A = ℕ} 16777217 all))
+short_all : (known : Option (List ℕ)) (script : List ℕ) → IsRead known script → length script ≤ 16777216 → IsOf known script
+short_all None script h short = tt
+short_all (Some all) script h short = h ∙ take_all 16777217 all (omega (arith, ap length h, length-take {A = ℕ} 16777217 all))
 
-abbrev IsTooLong : Result (Unit {0}) Fault → Type 0
-IsTooLong r = IsErrOf r (fault.Script (reading.Line 0))
+pub found_all : (known : Option (List ℕ)) (script : List ℕ) (events : List Event) → IsRead known script → IsScript events script → length script ≤ 16777216 → AreEventsOf known events
+found_all known script events read is short = (script, short_all known script read short, is, short)
 
-abbrev TellsLong : Result (Unit {0}) Fault → List ℕ → Type 0
-TellsLong r script = IsTooLong r ↔ (16777216 < length script)
+-- what is told of the bytes that were read holds of all that the reader had
+pub long_all : (known : Option (List ℕ)) (script : List ℕ) (Told : Type 0) → IsRead known script → (Told → 16777216 < length script) → IfSome known (λ all. Told → 16777216 < length all)
+long_all None script Told read long = tt
+long_all (Some all) script Told read long = λ e. omega (arith, long e, ap length read, length-take {A = ℕ} 16777217 all)
 
-never_long : (x : Unit {0}) → IsTooLong (Ok x) → ⊥
-never_long x h = cc
+pub bad_all : (known : Option (List ℕ)) (script : List ℕ) (Told : ℕ → Type 0) → IsRead known script → ((n : ℕ) → Told n → IsFirstBad script (n + 1) × (length script ≤ 16777216))
+    → IfSome known (λ all. (n : ℕ) → Told n → IsFirstBad all (n + 1))
+bad_all None script Told read bad = tt
+bad_all (Some all) script Told read bad = λ n e. subst (λ (s : List ℕ). IsFirstBad s (n + 1)) (short_all (Some all) script read (bad n e).1) (bad n e).0
 
-not_long : (n : ℕ) → (16777216 < n → ⊥) → n ≤ 16777216
-not_long n h = omega arith
+-- the fault of a script, as the program tells it
+pub told_of_script : {T : Type 0} (r : Result T Fault) (why : ScriptFault) → IsErrAnd r (λ given. given ≡ fault.Script why) → IfErr r (λ given. IsUnread given ⊎ IsOfScript given)
+told_of_script (Ok x) why is = absurd is
+told_of_script (Err given) (reading.Line n) is = inr (n, is)
+told_of_script (Err given) reading.Memory is = inl (inr is)
 
-pub answered_all : (r : Result (Unit {0}) Fault) (known : Option (List ℕ)) (script : List ℕ) (old new : Option (List ℕ)) → IsRead known script → TellsLong r script → OnOk r (Answers script old new) → OnOk r (HasAnswered known old new)
-answered_all (Ok x) known script old new read long h = (script, read_all known script read (not_long (length script) (λ k. never_long x (long.1 k))), h)
-answered_all (Err e) known script old new read long h = tt
+pub told_of_file : {T : Type 0} (r : Result T Fault) (given : Fault) → IsErrAnd r (λ why. why ≡ given) → IsOfFile given → IfErr r (λ why. IsUnread why ⊎ IsOfScript why)
+told_of_file (Ok x) given is file = absurd is
+told_of_file (Err why) given is file = inl (inl (subst IsOfFile (sym is) file))
 
-pub begun_all : (r : Result (Unit {0}) Fault) (known : Option (List ℕ)) (script : List ℕ) (old new : Option (List ℕ)) → IsRead known script → TellsLong r script → (IsTooLong r → new ≡ old) → OnErr r (Keeps old new ⊎ BeginsToAnswer script old new) → OnErr r (HasBegun known old new)
-begun_all (Ok x) known script old new read long same h = tt
-begun_all (Err e) known script old new read long same (inl h) = inl h
-begun_all (Err e) known script old new read long same (inr h) = told (ltb 16777216 (length script)) refl
+-- which fault of a script was told
+pub script_told : {T : Type 0} (r : Result T Fault) (why of : ScriptFault) → IsErrAnd r (λ given. given ≡ fault.Script why) → IsErrOf r (fault.Script of) → why ≡ of
+script_told {T} (Ok x) why of is told = absurd is
+script_told {T} (Err given) why of is told = same given why of is told
   where
-    told : (b : Bool) → ltb 16777216 (length script) ≡ b → HasBegun known old new
-    told true t = inl (keeps_same old new (same (long.1 (ltb-true 16777216 (length script) t))))
-    told false t = inr (script, read_all known script read (ltb-false 16777216 (length script) t), h)
+    same : (given : Fault) (why of : ScriptFault) → given ≡ fault.Script why → IsErrOf {T = T} (Err given) (fault.Script of) → why ≡ of
+    same given why of p q = cc
 
-pub long_all : (r : Result (Unit {0}) Fault) (known : Option (List ℕ)) (script : List ℕ) → IsRead known script → TellsLong r script → IfSome known (λ all. IsTooLong r → 16777216 < length all)
-long_all r None script read long = tt
-long_all r (Some all) script read long = λ e. omega (arith, long.0 e, ap length read, length-take {A = ℕ} 16777217 all)
+same_fault : {T : Type 0} (a b : ScriptFault) → ◌≡◌ {A = Result T ScriptFault} (Err a) (Err b) → a ≡ b
+same_fault a b e = cc
 
-some_script : (known : Option (List ℕ)) → (script : List ℕ) × IsOf known script
-some_script None = ([], tt)
-some_script (Some all) = (all, refl)
+no_line : (n : ℕ) → reading.Line 0 ≡ reading.Line (n + 1) → ⊥
+no_line n e = let number : 0 ≡ n + 1 = cc in omega (arith, number)
 
--- a fault that is none of a run needs no script
-no_run : (known old new : Option (List ℕ)) (why other : Fault) → why ≡ other → ((script : List ℕ) → HasItsRun other script old new) → HasItsRunOf known why old new
-no_run known old new why other is h =
-    let some = some_script known in
-    (some.0, some.1, subst (λ (f : Fault). HasItsRun f some.0 old new) (sym is) (h some.0))
-
-pub cause_unread : (r : Result (Unit {0}) Fault) (given : Fault) (known old new : Option (List ℕ)) → IsErrAnd r (λ why. why ≡ given) → IsOfFile given → IfErr r (λ why. HasItsRunOf known why old new)
-cause_unread (Ok x) given known old new is h = absurd is
-cause_unread (Err why) given known old new is (inl file) = no_run known old new why fault.File (is ∙ file) (λ script. tt)
-cause_unread (Err why) given known old new is (inr memory) = no_run known old new why fault.Memory (is ∙ memory) (λ script. tt)
-
-too_long : (why : Fault) → IsTooLong (Err why) → why ≡ fault.Script (reading.Line 0)
-too_long why h = cc
-
-pub cause_all : (r : Result (Unit {0}) Fault) (known : Option (List ℕ)) (script : List ℕ) (old new : Option (List ℕ)) → IsRead known script → TellsLong r script → IfErr r (λ why. HasItsRun why script old new) → IfErr r (λ why. HasItsRunOf known why old new)
-cause_all (Ok x) known script old new read long h = tt
-cause_all (Err why) known script old new read long h = told (ltb 16777216 (length script)) refl
+-- a script whose bad line is told isn't too long
+pub not_long : {T : Type 0} (r : Result T ScriptFault) (n size : ℕ) → (16777216 < size → IsErrOf r (reading.Line 0)) → IsErrOf r (reading.Line (n + 1)) → size ≤ 16777216
+not_long {T} r n size long bad = told (nat_le size 16777216) refl
   where
-    told : (b : Bool) → ltb 16777216 (length script) ≡ b → HasItsRunOf known why old new
-    told true t = no_run known old new why (fault.Script (reading.Line 0)) (too_long why (long.1 (ltb-true 16777216 (length script) t))) (λ s. tt)
-    told false t = (script, read_all known script read (ltb-false 16777216 (length script) t), h)
+    told : (b : Bool) → nat_le size 16777216 ≡ b → size ≤ 16777216
+    told true e = leb-true size 16777216 e
+    told false e = absurd (no_line n (same_fault (reading.Line 0) (reading.Line (n + 1)) (sym (long (leb-false size 16777216 e)) ∙ bad)))

@@ -1,7 +1,8 @@
 -- What a fault says to the shell, and the fault that a run ends with.
-use Rattle.std.specs.Prelude.{ℕ, ◌≡◌, ◌⊎◌, Result, Ok, Err}
+use Rattle.std.specs.Prelude.{ℕ, ◌≡◌, ◌⊎◌, Option, None, Some, Result, Ok, Err}
 use Rattle.sn_model.specs.declared.mount.End.{End}
 use Rattle.sn_model.specs.declared.mount.End.TheVariants as end
+use Rattle.sn_script.specs.declared.fault.ScriptFault.TheVariants as reading
 use Rattle.sn_command.specs.declared.fault.WordsFault.{WordsFault}
 use Rattle.sn_command.specs.declared.fault.WordsFault.TheVariants as words
 use Rattle.sn_program.specs.declared.fault.Fault.{Fault}
@@ -18,9 +19,29 @@ fault_of end.Stopped = Err fault.Stopped
 fault_of end.Memory = Err fault.Memory
 fault_of (end.Mount m) = Err (fault.Mount m)
 
+-- the fault of a run goes before that of writing its replies
+abbrev pub outcome_of : End → Result (Unit {0}) Fault → Result (Unit {0}) Fault
+outcome_of end.Clean written = written
+outcome_of end.Stopped written = Err fault.Stopped
+outcome_of end.Memory written = Err fault.Memory
+outcome_of (end.Mount m) written = Err (fault.Mount m)
+
+-- the fault of an outcome
+abbrev pub fault_in : Result (Unit {0}) Fault → Option Fault
+fault_in (Ok x) = None
+fault_in (Err why) = Some why
+
 -- a file or an output failed, or memory did on the way
 abbrev pub IsOfFile : Fault → Type 0
 IsOfFile given = (given ≡ fault.File) ⊎ (given ≡ fault.Memory)
+
+-- a script's file failed, or memory did, also in the reading of its lines
+abbrev pub IsUnread : Fault → Type 0
+IsUnread given = IsOfFile given ⊎ (given ≡ fault.Script reading.Memory)
+
+-- a line of a script is bad, or there are too many bytes
+abbrev pub IsOfScript : Fault → Type 0
+IsOfScript given = (n : ℕ) × (given ≡ fault.Script (reading.Line n))
 
 -- the words are no command, or there was no memory to read them
 abbrev pub fault_of_words : WordsFault → Fault

@@ -1,21 +1,34 @@
 //! What the words of the command line ask for, done.
-ghost use Rattle.std.specs.Prelude.{◌≡◌, ◌≢◌, ◌≤◌, ◌↔◌, None, map, OnOk, OnErr, IfErr, IsErrOf};
+ghost use Rattle.std.specs.Prelude.{◌≡◌, ◌≢◌, ◌≤◌, ◌↔◌, ◌⊎◌, [], ◌∷◌, None, map, length, Err, IfOk, OnOk, OnErr, IfErr, IsErrOf, IsOk};
+ghost use Rattle.std.specs.declared.option.Option.{Option};
+ghost use Rattle.sn_device.specs.Memory.{contents_of, disk_of, first, status_of};
+ghost use Rattle.sn_device.specs.Status.{uncalled};
 ghost use Rattle.sn_layout.specs.Places.{IsDiskSize};
 ghost use Rattle.sn_mkfs.specs.declared.fault.MkfsFault.TheVariants as mkfs_fault;
-ghost use Rattle.sn_program.specs.Answers.{HasBegun, IsDone};
+ghost use Rattle.sn_model.specs.declared.reply.Reply.TheVariants as answer_of;
+ghost use Rattle.sn_program.specs.Answers.{AreEventsOf};
+ghost use Rattle.sn_program.specs.Fault.{IsOfFile, fault_in, outcome_of};
+ghost use Rattle.sn_program.specs.Tasks.{AsksToStop, BeginsOfCopy, BeginsToSay, BeginsToSaySome, HasBegun, IsDone, LeavesOfCopy, Says, SaysSome};
+ghost use Rattle.sn_program.specs.declared.fault.Fault.{Fault as Why};
 ghost use Rattle.sn_program.specs.declared.fault.Fault.TheVariants as fault;
 
+use crate::copy::{CutShort, answer_cut};
 use crate::fault::{Fault, tell};
-use crate::run::answer_from;
+use crate::output::write_replies;
+use crate::run::{Answered, answer, outcome};
+use crate::script::read_events;
 use sn_command::{Task, parse};
+use sn_device::{Fill, MemDevice};
 use sn_filedev::{FileDevice, LockFile};
 use sn_layout::Places;
 use sn_mkfs::{MkfsFault, mkfs};
+use sn_model::{End, Event, Reply};
+use std::alloc::Global;
 use std::convert::AsStr;
-use std::fs;
 use std::fs::{Files, OpenFile};
 use std::io::{Read, Write};
 use std::os::unix::fs::FileExt;
+use std::{fs, io};
 
 /// Makes an image of so many blocks, in the place of what the file at this path has. K1 comes before the file is made.
 fn make_image<F: FileExt + OpenFile + LockFile + Read + Drop, R: Files<File = F> + AllocGlobal>(
@@ -36,26 +49,173 @@ fn make_image<F: FileExt + OpenFile + LockFile + Read + Drop, R: Files<File = F>
     }
 }
 
+/// Makes an image, and says so.
+fn format<
+    F: FileExt + OpenFile + LockFile + Read + Drop,
+    R: Files<File = F> + AllocGlobal,
+    W: Write,
+>(rt: &R, image: &str, blocks: u32, out: &mut W) -> Result<(), Fault>
+    ensures done { OnOk result (Says (answer_of.Done ∷ []) (W.contents out.old) (W.contents out.new)) }
+    ensures front { OnErr result (BeginsToSay (answer_of.Done ∷ []) (W.contents out.old) (W.contents out.new)) }
+    ensures words { IfErr result (λ why. why ≢ fault.Usage) }
+{
+    make_image(rt, image, blocks)?;
+    write_replies(rt.alloc(), &[Reply::Done], out)
+}
+
+/// Runs the script at a path on the image at another, which is locked as long as the run has it.
+fn run_on<
+    F: FileExt + OpenFile + LockFile + Read + Drop,
+    R: Files<File = F> + AllocGlobal,
+    W: Write,
+>(rt: &R, image: &str, script: &str, out: &mut W) -> Result<(), Fault>
+    ensures done { OnOk result (SaysSome (W.contents out.old) (W.contents out.new)) }
+    ensures front { OnErr result (BeginsToSaySome (W.contents out.old) (W.contents out.new)) }
+    ensures words { IfErr result (λ why. why ≢ fault.Usage) }
+{
+    let events = read_events(rt.alloc(), fs::open(rt, script)?)?;
+    let device = FileDevice::open(rt.alloc(), rt, image)?;
+    let Answered { ran, written } = answer(rt.alloc(), device, events.as_slice(), out);
+    outcome(ran.end, written)
+}
+
+/// A copy in memory of what an image has.
+fn copy_of<F: FileExt + OpenFile + Drop>(
+    alloc: Global,
+    image: &mut FileDevice<F>,
+) -> Result<MemDevice, Fault>
+    ensures whole { IfOk result (λ d. disk_of d ≡ first (contents_of d)) }
+    ensures status { IfOk result (λ d. status_of d ≡ uncalled (length (contents_of d))) }
+    ensures faults { IfErr result IsOfFile }
+{
+    let bytes = image.read_all(alloc)?;
+    let copy = MemDevice::from_bytes(alloc, bytes.as_slice())?;
+    Ok(copy)
+}
+
+/// What a run that is cut short begins from.
+#[derive(Drop)]
+struct Copied<F: FileExt + OpenFile + Drop> {
+    events: Vec<Event>,
+    image: FileDevice<F>,
+    copy: MemDevice,
+}
+
+/// Reads the script at a path, and copies the image at another, which is locked for other readers as long as it is open.
+fn copy_and_read<F: FileExt + OpenFile + LockFile + Read + Drop, R: Files<File = F> + AllocGlobal>(
+    rt: &R,
+    image: &str,
+    script: &str,
+) -> Result<Copied<F>, Fault>
+    ensures read { IfOk result (λ c. AreEventsOf None c.events.items) }
+    ensures whole { IfOk result (λ c. disk_of c.copy ≡ first (contents_of c.copy)) }
+    ensures status { IfOk result (λ c. status_of c.copy ≡ uncalled (length (contents_of c.copy))) }
+    ensures words { IfErr result (λ why. why ≢ fault.Usage) }
+{
+    let events = read_events(rt.alloc(), fs::open(rt, script)?)?;
+    let mut image = FileDevice::open_to_read(rt.alloc(), rt, image)?;
+    let copy = copy_of(rt.alloc(), &mut image)?;
+    Ok(Copied {
+        events,
+        image,
+        copy,
+    })
+}
+
+/// The fault where what is left can't be saved: that of the run goes before it.
+fn unsaved(end: End, error: io::Error) -> Fault
+    ensures { result ≢ fault.Usage }
+{
+    match Fault::of_end(end) {
+        Ok(()) => Fault::from(error),
+        Err(fault) => fault,
+    }
+}
+
+/// The fault that is told of a run whose remains were saved.
+fn told_of(end: End, written: Result<(), Fault>) -> Option<Fault>
+    ensures { result ≡ fault_in (outcome_of end written) }
+{
+    match outcome(end, written) {
+        Ok(()) => None,
+        Err(fault) => Some(fault),
+    }
+}
+
+/// Runs the script at a path on a copy of the image at another, up to so many writes and a crash, and saves what is left
+/// at a third path, which can't be the image. The fault of a run that was saved is given back to be told.
+fn cut_short<
+    F: FileExt + OpenFile + LockFile + Read + Drop,
+    R: Files<File = F> + AllocGlobal,
+    W: Write,
+>(
+    rt: &R,
+    cut: u32,
+    fill: Fill,
+    image: &str,
+    script: &str,
+    saved: &str,
+    out: &mut W,
+) -> Result<Option<Fault>, Fault>
+    ensures done { IfOk result (λ told. LeavesOfCopy fill told (W.contents out.old) (W.contents out.new)) }
+    ensures front { OnErr result (BeginsOfCopy fill (W.contents out.old) (W.contents out.new)) }
+    ensures words { IfErr result (λ why. why ≢ fault.Usage) }
+{
+    let Copied {
+        events,
+        image,
+        copy,
+    } = copy_and_read(rt, image, script)?;
+    let CutShort {
+        end,
+        written,
+        left,
+        ..
+    } = answer_cut(rt.alloc(), copy, cut, fill, events.as_slice(), out);
+    match image.save_elsewhere(rt.alloc(), rt, saved, left.contents()) {
+        Ok(()) => Ok(told_of(end, written)),
+        Err(error) => Err(unsaved(end, error)),
+    }
+}
+
+/// Of what was done nothing is told.
+fn quietly(done: Result<(), Fault>) -> Result<Option<Fault>, Fault>
+    ensures done { IfOk result (λ told. (told ≡ None) × IsOk done) }
+    ensures failed { IfErr result (λ why. done ≡ Err why) }
+{
+    match done {
+        Ok(()) => Ok(None),
+        Err(fault) => Err(fault),
+    }
+}
+
+/// Does what the words ask for. A fault that comes with what was done is one of a run that was cut short.
 fn execute<
     F: FileExt + OpenFile + LockFile + Read + Drop,
     R: Files<File = F> + AllocGlobal,
     W: Write,
     S: AsStr,
->(rt: &R, words: &[S], out: &mut W) -> Result<(), Fault>
-    ensures done { OnOk result (IsDone (map S.text words.now) (W.contents out.old) (W.contents out.new)) }
-    ensures front { OnErr result (HasBegun None (W.contents out.old) (W.contents out.new)) }
+>(rt: &R, words: &[S], out: &mut W) -> Result<Option<Fault>, Fault>
+    ensures done { IfOk result (λ told. IsDone (map S.text words.now) told (W.contents out.old) (W.contents out.new)) }
+    ensures front { OnErr result (HasBegun (map S.text words.now) (W.contents out.old) (W.contents out.new)) }
     ensures words { IsErrOf result fault.Usage → out.new ≡ out.old }
 {
     match parse(rt.alloc(), words)? {
-        Task::Run { script, .. } => answer_from(rt.alloc(), fs::open(rt, script)?, out),
-        Task::Mkfs { image, blocks } => make_image(rt, image, blocks),
-        // A run on a copy of an image comes with the run on one.
-        Task::StopAt { .. } => Err(Fault::Usage),
+        Task::Run { image, script } => quietly(run_on(rt, image, script, out)),
+        Task::Mkfs { image, blocks } => quietly(format(rt, image, blocks, out)),
+        Task::StopAt {
+            cut,
+            fill,
+            image,
+            script,
+            out: saved,
+        } => cut_short(rt, cut, fill, image, script, saved, out),
     }
 }
 
 /// Does what the words ask for, and gives the exit status: 0 where it was done, 2 for words that are no
-/// command, else 1. A fault is told by a line on standard error.
+/// command, else 1. A fault is told by a line on standard error, also that of a run which was cut short and whose
+/// remains were saved, where the status is 0.
 pub fn program<
     F: FileExt + OpenFile + LockFile + Read + Drop,
     R: Files<File = F> + AllocGlobal,
@@ -63,16 +223,20 @@ pub fn program<
     E: Write,
     S: AsStr,
 >(rt: &R, words: &[S], out: &mut W, err: &mut E) -> u8
-    // Of a run, what was written is an answer to some script, or the front of one: which bytes the file gave can't be
-    // said here. Where an image was made, nothing was written: nor can be said what its file holds.
-    ensures done { result ≡ 0 → IsDone (map S.text words.now) (W.contents out.old) (W.contents out.new) }
-    ensures front { result ≢ 0 → HasBegun None (W.contents out.old) (W.contents out.new) }
+    // What was written are the lines of replies, or the front of them. Which bytes a file gave, and what one holds now,
+    // can't be said: so nor can the replies of a run on one. Those of a run on a copy are of one from some image on.
+    ensures done { result ≡ 0 → (told : Option Why) × IsDone (map S.text words.now) told (W.contents out.old) (W.contents out.new) }
+    ensures front { result ≢ 0 → HasBegun (map S.text words.now) (W.contents out.old) (W.contents out.new) }
     ensures words { result ≡ 2 → out.new ≡ out.old }
-    ensures quiet { result ≡ 0 → err.new ≡ err.old }
+    ensures quiet { result ≡ 0 → AsksToStop (map S.text words.now) ⊎ (err.new ≡ err.old) }
     ensures status { result ≤ 2 }
 {
     match execute(rt, words, out) {
-        Ok(()) => 0,
+        Ok(None) => 0,
+        Ok(Some(fault)) => {
+            tell(fault, err);
+            0
+        }
         Err(fault) => tell(fault, err),
     }
 }

@@ -1,5 +1,5 @@
 pub mod CauseLemmas
-mod CutLemmas
+pub mod CutLemmas
 mod FailureLemmas
 pub mod RestartLemmas
 mod RunLemmas

@@ -18,6 +18,17 @@ impl Ended {
         Ended { status, out, err }
     }
 
+    /// A run of a script on an image that is made for it: a log record takes two sectors at least, so that the free blocks
+    /// of this many are never what a change lacks.
+    pub fn of_script(rt: &HostRuntime, image: &str, script: &str) -> Ended {
+        let made = Ended::of_words(rt, &["mkfs", image, "4096"]);
+        if made.is(0, b"ok\n", b"") {
+            Ended::of_words(rt, &["run", image, script])
+        } else {
+            made
+        }
+    }
+
     pub fn is(&self, status: u8, out: &[u8], err: &[u8]) -> bool {
         self.status == status && self.out.as_slice() == out && self.err.as_slice() == err
     }

@@ -10,10 +10,9 @@ use sn_script::read_script;
 use std::alloc::Global;
 use std::str;
 
-/// A restart, a step, or the call of a script's line.
+/// A step, or the event of a script's line.
 pub fn event_of(alloc: Global, line: &str) -> Result<Event> {
     match line {
-        "restart" => Ok(Event::Restart),
         "step" => Ok(Event::Step),
         _ => {
             let script = format!(in alloc; "{line}\n")?;

@@ -10,7 +10,7 @@ fn run(rt: &HostRuntime, name: &str) -> io::Result<bool> {
         rt,
         format!(in rt.alloc(); "examples/{name}.replies")?.as_str(),
     )?;
-    let ended = Ended::of_words(rt, &["run", "image", script.as_str()]);
+    let ended = Ended::of_script(rt, "example.img", script.as_str());
     let is_right = ended.is(0, replies.as_slice(), b"");
     if !is_right {
         ended.tell(rt, name)?;

@@ -73,33 +73,48 @@ fn is_told(rt: &HostRuntime, fault: Fault, line: &str, status: u8) -> bool {
     tell(fault, &mut err) == status && err.as_slice() == line.as_bytes()
 }
 
+/// A script whose replies are the same in each run, its image, and the replies.
+const ASKED: &[u8] = b"0 login 0 0 -\n0 stat /\n0 readdir /\n";
+
+const SCRIPT: [&str; 3] = ["run", "asked.img", "asked.snap"];
+
+const REPLIES: &[u8] = b"ok\nok d 0755 1 0 0 0\nok\n";
+
 /// A reply that can't be written is a fault of a file; the status holds where the fault can't be told either.
 fn holds_where_closed(rt: &HostRuntime) -> bool {
     let mut err = Vec::new(rt.alloc());
-    let script = ["run", "image", "examples/first.snap"];
-    let unwritten = program(rt, &script, &mut Closed, &mut err);
+    let unwritten = program(rt, &SCRIPT, &mut Closed, &mut err);
     let untold = program(rt, &["run"], &mut Closed, &mut Closed);
     unwritten == 1 && err.as_slice() == b"snapfs: file\n".as_slice() && untold == 2
 }
 
 /// Whatever room an output has, it holds the front of the replies, and status 0 says that it holds all.
 fn holds_the_front(rt: &HostRuntime) -> io::Result<bool> {
-    let replies = fs::read(rt, "examples/first.replies")?;
-    let script = ["run", "image", "examples/first.snap"];
-    for room in 0..replies.len() + 2 {
+    for room in 0..REPLIES.len() + 2 {
         let mut err = Vec::new(rt.alloc());
         let mut out = Narrow {
             taken: Vec::new(rt.alloc()),
             room,
         };
-        let status = program(rt, &script, &mut out, &mut err);
-        let whole = out.taken.as_slice() == replies.as_slice();
-        let front = replies.as_slice().starts_with(out.taken.as_slice());
+        let status = program(rt, &SCRIPT, &mut out, &mut err);
+        let whole = out.taken.as_slice() == REPLIES;
+        let front = REPLIES.starts_with(out.taken.as_slice());
         if !front || (status == 0) != whole {
             return Ok(false);
         }
     }
     Ok(true)
+}
+
+/// A run that was cut short is told and has status 0 where what is left was saved, also where its replies can't be
+/// written. An image that is made and can't be answered isn't done.
+fn holds_where_cut_short(rt: &HostRuntime) -> bool {
+    let (mut err, mut made) = (Vec::new(rt.alloc()), Vec::new(rt.alloc()));
+    let cut = ["stop-at", "9", "old", SCRIPT[1], SCRIPT[2], "left.img"];
+    let saved = program(rt, &cut, &mut Closed, &mut err);
+    let unsaid = program(rt, &["mkfs", "other.img", "256"], &mut Closed, &mut made);
+    let line = b"snapfs: file\n".as_slice();
+    saved == 0 && err.as_slice() == line && unsaid == 1 && made.as_slice() == line
 }
 
 /// Prints how many cases there are, and gives how many were wrong.
@@ -111,6 +126,17 @@ pub fn run_all(rt: &HostRuntime) -> io::Result<u64> {
             wrong = wrong.saturating_add(1);
         }
     }
+    fs::write(rt, SCRIPT[2], ASKED)?;
+    program(
+        rt,
+        &["mkfs", SCRIPT[1], "256"],
+        &mut Vec::new(rt.alloc()),
+        &mut Vec::new(rt.alloc()),
+    );
+    if !holds_where_cut_short(rt) {
+        println!(rt; "wrong: a run that was cut short")?;
+        wrong = wrong.saturating_add(1);
+    }
     if !holds_where_closed(rt) {
         println!(rt; "wrong: closed outputs")?;
         wrong = wrong.saturating_add(1);
@@ -119,6 +145,6 @@ pub fn run_all(rt: &HostRuntime) -> io::Result<u64> {
         println!(rt; "wrong: outputs with little room")?;
         wrong = wrong.saturating_add(1);
     }
-    println!(rt; "faults: {}, wrong: {wrong}", FAULTS.len() + 2)?;
+    println!(rt; "faults: {}, wrong: {wrong}", FAULTS.len() + 3)?;
     Ok(wrong)
 }

@@ -1,6 +1,6 @@
 //! The tests of the program and of runs: `sn_program::program` on the examples of the repository, on rows of calls with
-//! their replies, on words of the command line, on outputs that take nothing, and on images that it makes; and
-//! `sn_run::run` on lists of events with restarts among them.
+//! their replies, on words of the command line, on outputs that take nothing, and on images that it makes, keeps and cuts
+//! short (`commands.txt`); and `sn_run::run` on lists of events with restarts among them.
 //!
 //! It runs in the folder `data/`, where `examples` is a copy of the repository's folder of that name. Each part prints
 //! what isn't as the files there say, and how many cases it had; the status is 1 where one was wrong. `runs.txt` is one
@@ -9,6 +9,7 @@
 //! kinds, and looks at what they leave (`torn.txt`).
 #![tactic(auto)]
 
+mod commands;
 mod ended;
 mod events;
 mod examples;
@@ -41,6 +42,7 @@ fn main(rt: HostRuntime) -> Result<()> {
     let wrong = wrong_in_program(&rt)?;
     let mut report = Report::new(&rt)?;
     images::run(&mut report)?;
+    commands::run(&mut report)?;
     report.script("runs.txt", events::replies)?;
     refused::run(&mut report)?;
     report.script("torn.txt", torn::torn)?;

@@ -26,7 +26,7 @@ fn run(rt: &HostRuntime, name: &str) -> io::Result<bool> {
     let text = fs::read_to_string(rt, format!(in rt.alloc(); "rows/{name}.row")?.as_str())?;
     let (script, replies) = parts_of(rt, text.as_str())?;
     fs::write(rt, SCRIPT, script.as_str())?;
-    let ended = Ended::of_words(rt, &["run", "image", SCRIPT]);
+    let ended = Ended::of_script(rt, "row.img", SCRIPT);
     let is_right = ended.is(0, replies.as_str().as_bytes(), b"");
     if !is_right {
         ended.tell(rt, name)?;

@@ -13,9 +13,12 @@ returns-in-Some-clause-room g c told = record {
 }
 
 pub returns-in-None-clause-uncovered : goal.returns-in-None-clause-uncovered
-returns-in-None-clause-uncovered g c told = (refl, record {
-  free = c.in-Ok.free;
-  told = c.in-Ok.ensures.free told c.args.root.now;
-  uncovered = c.in-None.ensures.uncovered;
-  is = c.range.ensures.start ∙ ap (λ (half : LogHalf). start_of c.args.places (Log half)) c.of_epoch.ensures;
-})
+returns-in-None-clause-uncovered g c told = (
+  refl,
+  record {
+    free = c.in-Ok.free;
+    told = c.in-Ok.ensures.free told c.args.root.now;
+    uncovered = c.in-None.ensures.uncovered;
+    is = c.range.ensures.start ∙ ap (λ (half : LogHalf). start_of c.args.places (Log half)) c.of_epoch.ensures;
+  },
+)

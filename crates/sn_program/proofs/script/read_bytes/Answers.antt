@@ -1,5 +1,5 @@
 use Rattle.sn_program.proofs.ReaderLemmas.{limited}
-use Rattle.sn_program.proofs.run.read_bytes.Goals as goal
+use Rattle.sn_program.proofs.script.read_bytes.Goals as goal
 
 pub returns-clause-read : goal.returns-clause-read
 returns-clause-read g c =

@@ -1,0 +1,67 @@
+-- What a crash behind a run leaves of the disk that it ran on.
+use Rattle.std.proofs.Common.{◌≡◌, ◌⊎◌, inl, inr, ℕ, ◌<◌, List, [], ◌∷◌, ◌++◌, length, sym, subst, ◌∙◌, append_assoc, arith}
+use Rattle.std.proofs.lemmas.List.{append-nil, same_lists, get_or_default}
+use Rattle.std.specs.Prelude.{Contains, EachIndex}
+use Rattle.sn_device.specs.Sectors.{AgreesOutside, AreSectors, Contents, sector_at}
+use Rattle.sn_device.specs.Fill.{filling, last_synced}
+use Rattle.sn_device.specs.declared.fill.Fill.{Fill}
+use Rattle.sn_device.specs.declared.status.Status.{Status}
+use Rattle.sn_device.specs.Disk.{Always, CrashNow, Disk, IsSynced, reads}
+use Rattle.sn_device.specs.Crash.{Touches}
+use Rattle.sn_device.proofs.CrashLemmas.{Always-synced, LeavesOnly-now, LeavesOnly-torn}
+use Rattle.sn_block.specs.Effects.{Nowhere}
+use Rattle.sn_limits.specs.Versions.{version_1}
+use Rattle.sn_model.specs.declared.call.Event.{Event}
+use Rattle.sn_model.specs.declared.mount.End.{End}
+use Rattle.sn_model.specs.declared.reply.Reply.{Reply}
+use Rattle.sn_model.specs.Machine.{State, Running, Anything, CutRun}
+use Rattle.sn_model.specs.World.{World}
+use Rattle.sn_held.specs.Images.{IsLiveImage}
+use Rattle.sn_run.specs.Runs.{IsRunOf, LeavesAll, LeavesFrom, LeavesItsRun, ShowsCut}
+use Rattle.sn_run.proofs.CutLemmas.{cut_now, found_settled}
+use Rattle.sn_program.specs.Answers.{IsRun}
+use Rattle.sn_program.specs.Copies.{IsCutShort}
+
+-- behind the last reply
+at_last : (s : State) (events : List Event) (said replies : List Reply) (old new : Disk) → LeavesFrom s events said replies old new → Always new (ShowsCut s events (said ++ replies))
+at_last s events said [] old new h =
+    subst (λ (r : List Reply). Always new (ShowsCut s events r)) (sym (append-nil said)) (subst (λ (d : Disk). Always d (ShowsCut s events said)) (sym h.0) h.1)
+at_last s events said (reply ∷ replies) old new h =
+    subst (λ (r : List Reply). Always new (ShowsCut s events r)) (append_assoc said (reply ∷ []) replies) (at_last s events (said ++ reply ∷ []) replies h.0 new h.2)
+
+agrees_same : (c d : Contents) → AgreesOutside Nowhere c d → c ≡ d
+agrees_same c d agrees = sym (same_lists d c agrees.count (λ k x within.
+    let inside : k < length c = omega (arith, agrees.count, within) in
+    get_or_default d k x [] within ∙ agrees.same k (λ none. none) ∙ sym (get_or_default c k x [] inside)))
+
+-- where nothing was written, what was there
+untouched : (P : Contents → Type 0) (old new : Disk) → AreSectors (reads old) → IsSynced old → P (reads old) → Touches Nowhere old new → Always new P
+untouched P old new whole synced here touches =
+    LeavesOnly-now old new P (LeavesOnly-torn Nowhere P P (λ c d whole_c whole_d agrees h. subst P (agrees_same c d agrees) h) old new whole (Always-synced old P synced here) touches)
+
+-- an image of a world that the run leaves, cut short behind its last reply
+pub kept : (copy last : Disk) (world : World) (events : List Event) (replies : List Reply) (end : End) (left : Contents) → AreSectors (reads copy) → IsSynced copy → IsLiveImage (reads copy) world
+    → IsRunOf world events replies end copy last → CrashNow last left → ShowsCut (Running world) events replies left
+kept copy last world events replies end left whole synced image run crash = of run.crash
+  where
+    of : LeavesAll replies copy last ⊎ LeavesItsRun world events replies copy last → ShowsCut (Running world) events replies left
+    of (inl h) =
+        let here = untouched (λ c. IsLiveImage c world) copy last whole synced image h.touches left crash in
+        let cut : CutRun Anything version_1 (Running world) events replies world = subst (λ (r : List Reply). CutRun Anything version_1 (Running world) events r world) (sym h.none) (cut_now world events (found_settled (reads copy) world image)) in
+        (world, here, cut)
+    of (inr h) = at_last (Running world) events [] replies h.mounted last h.moments left crash
+
+pub cut_short : (copy stopped last : Disk) (status stopped_status last_status : Status) (how : Fill) (end : End) (events : List Event) (replies : List Reply) (left : Contents) → stopped ≡ copy → stopped_status ≡ status → AreSectors (reads copy)
+    → IsRun end events replies stopped stopped_status last last_status → CrashNow last left
+    → EachIndex (reads last) (λ i. Contains last.present.unsynced i → sector_at left i ≡ filling how i (sector_at (last_synced last) i) (sector_at (reads last) i)) → IsCutShort copy status how end events replies left
+cut_short copy stopped last status stopped_status last_status how end events replies left same_disk same_status whole run crash filled =
+    let counted : IsRun end events replies stopped status last last_status = subst (λ (s : Status). IsRun end events replies stopped s last last_status) same_status run in
+    let ran : IsRun end events replies copy status last last_status = subst (λ (d : Disk). IsRun end events replies d status last last_status) same_disk counted in
+    record {
+      last = last;
+      last_status = last_status;
+      run = ran;
+      crash = crash;
+      filled = filled;
+      kept = λ synced world image. kept copy last world events replies end left whole synced image (ran.machine world image) crash;
+    }

@@ -1,0 +1,93 @@
+-- What the program leaves of what its words ask for.
+use Rattle.std.specs.Prelude.{◌≡◌, ◌⊎◌, ℕ, List, [], ◌∷◌, length, None, Some, Ok, Err}
+use Rattle.std.specs.declared.option.Option.{Option}
+use Rattle.std.specs.Io.KnownBytes.{Appends, Keeps}
+use Rattle.std.specs.List.{flat_map}
+use Rattle.sn_device.specs.Sectors.{Contents}
+use Rattle.sn_device.specs.Memory.{first}
+use Rattle.sn_device.specs.Status.{uncalled}
+use Rattle.sn_device.specs.declared.fill.Fill.{Fill}
+use Rattle.sn_model.specs.declared.call.Event.{Event}
+use Rattle.sn_model.specs.declared.mount.End.{End}
+use Rattle.sn_model.specs.declared.mount.End.TheVariants as ending
+use Rattle.sn_model.specs.declared.reply.Reply.{Reply}
+use Rattle.sn_model.specs.declared.reply.Reply.TheVariants as answer
+use Rattle.sn_command.specs.Tasks.{AsksFor}
+use Rattle.sn_command.specs.declared.command.Task.{Task}
+use Rattle.sn_command.specs.declared.command.Task.TheVariants as task
+use Rattle.sn_replies.specs.Replies.{reply_line}
+use Rattle.sn_program.specs.Answers.{AppendsFront, AreEventsOf}
+use Rattle.sn_program.specs.Copies.{IsCutShort}
+use Rattle.sn_program.specs.Fault.{IsOfFile, fault_of}
+use Rattle.sn_program.specs.declared.fault.Fault.{Fault}
+
+abbrev pub lines_of : List Reply → List ℕ
+lines_of replies = flat_map reply_line replies
+
+-- what an output had, and then the lines of replies, or the front of them
+abbrev pub Says : List Reply → Option (List ℕ) → Option (List ℕ) → Type 0
+Says replies old new = Appends old new (lines_of replies)
+
+abbrev pub BeginsToSay : List Reply → Option (List ℕ) → Option (List ℕ) → Type 0
+BeginsToSay replies old new = AppendsFront old new (lines_of replies)
+
+-- those of some replies
+abbrev pub SaysSome : Option (List ℕ) → Option (List ℕ) → Type 0
+SaysSome old new = (replies : List Reply) × Says replies old new
+
+abbrev pub BeginsToSaySome : Option (List ℕ) → Option (List ℕ) → Type 0
+BeginsToSaySome old new = (replies : List Reply) × BeginsToSay replies old new
+
+-- These are the replies of some script's events on a copy of some image, and a crash left something of that.
+pub record IsOfCopy (how : Fill) (end : End) (replies : List Reply) : Type 0 where
+  pub events : List Event
+  pub read : AreEventsOf None events
+  pub copy : Contents
+  pub left : Contents
+  pub cut : IsCutShort (first copy) (uncalled (length copy)) how end events replies left
+
+-- the fault that is told of a run that ended so, whose replies were written or not
+abbrev pub IsToldOf : End → Option Fault → Type 0 → Type 0
+IsToldOf end None written = (end ≡ ending.Clean) × written
+IsToldOf end (Some why) written = (fault_of end ≡ Err why) ⊎ ((end ≡ ending.Clean) × IsOfFile why)
+
+-- the replies of such a run were written, all of them where no fault is told
+pub record LeavesOfCopy (how : Fill) (told : Option Fault) (old new : Option (List ℕ)) : Type 0 where
+  pub end : End
+  pub replies : List Reply
+  pub cut : IsOfCopy how end replies
+  pub front : BeginsToSay replies old new
+  pub tells : IsToldOf end told (Says replies old new)
+
+-- nothing of such a run was written, or the front of its replies
+abbrev pub BeginsOfCopy : Fill → Option (List ℕ) → Option (List ℕ) → Type 0
+BeginsOfCopy how old new = Keeps old new ⊎ ((end : End) × (replies : List Reply) × IsOfCopy how end replies × BeginsToSay replies old new)
+
+-- What a task leaves on the output. Of which bytes a file had, and so of the replies of a run on one, nothing can be said; an image is answered by `ok`. A fault is told of what was done only where that was to cut a run short.
+abbrev pub Leaves : Task → Option Fault → Option (List ℕ) → Option (List ℕ) → Type 0
+Leaves (task.Run image script) told old new = (told ≡ None) × SaysSome old new
+Leaves (task.Mkfs image blocks) told old new = (told ≡ None) × Says (answer.Done ∷ []) old new
+Leaves (task.StopAt cut how image script out) told old new = LeavesOfCopy how told old new
+
+-- what the words ask for was done
+abbrev pub IsDone : List (List ℕ) → Option Fault → Option (List ℕ) → Option (List ℕ) → Type 0
+IsDone words told old new = (asked : Task) × AsksFor words asked × Leaves asked told old new
+
+-- the front of that
+abbrev pub Begins : Task → Option (List ℕ) → Option (List ℕ) → Type 0
+Begins (task.Run image script) old new = BeginsToSaySome old new
+Begins (task.Mkfs image blocks) old new = BeginsToSay (answer.Done ∷ []) old new
+Begins (task.StopAt cut how image script out) old new = BeginsOfCopy how old new
+
+-- nothing, or the front of what may be said to the words
+abbrev pub HasBegun : List (List ℕ) → Option (List ℕ) → Option (List ℕ) → Type 0
+HasBegun words old new = Keeps old new ⊎ ((asked : Task) × AsksFor words asked × Begins asked old new)
+
+abbrev pub IsStop : Task → Type 0
+IsStop (task.Run image script) = ⊥
+IsStop (task.Mkfs image blocks) = ⊥
+IsStop (task.StopAt cut how image script out) = Unit {0}
+
+-- the words ask for a run that is cut short
+abbrev pub AsksToStop : List (List ℕ) → Type 0
+AsksToStop words = (asked : Task) × AsksFor words asked × IsStop asked

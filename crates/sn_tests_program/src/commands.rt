@@ -1,0 +1,91 @@
+//! Commands on files, one after the other.
+//!
+//! A line of `commands.txt` is `WORDS => STATUS, LINE, LINE..`: the status that the words end with, and the lines that they
+//! write, those of standard output before those of standard error. Or it makes a file: `NAME << LINE|LINE..` a script of
+//! these lines, `NAME from OTHER LENGTH` the front of another file, `NAME set OFFSET BYTE` one byte of it anew.
+
+use crate::ended::Ended;
+use anyhow::{Context, Result, bail};
+use sn_table::{Report, Tally};
+use std::{fs, str};
+
+const COMMANDS: &str = "commands.txt";
+
+/// The status of an end and its lines, behind commas.
+fn told(rt: &HostRuntime, ended: &Ended) -> Result<String> {
+    let mut text = format!(in rt.alloc(); "{}", ended.status)?;
+    for written in [ended.out.as_slice(), ended.err.as_slice()] {
+        for line in str::from_utf8(written)?.lines() {
+            write!(text, ", {line}")?;
+        }
+    }
+    Ok(text)
+}
+
+/// Whether the words end so.
+fn ends(rt: &HostRuntime, words: &str, wanted: &str) -> Result<bool> {
+    let split: Vec<&str> = words.split(' ').collect(rt.alloc())?;
+    let ended = Ended::of_words(rt, split.as_slice());
+    let is_right = told(rt, &ended)?.as_str() == wanted;
+    if !is_right {
+        ended.tell(rt, words)?;
+    }
+    Ok(is_right)
+}
+
+/// Writes a script.
+fn write_script(rt: &HostRuntime, name: &str, lines: &str) -> Result<()> {
+    let mut script = String::new(rt.alloc());
+    for line in lines.split('|') {
+        if !line.is_empty() {
+            writeln!(script, "{line}")?;
+        }
+    }
+    Ok(fs::write(rt, name, script.as_str())?)
+}
+
+/// The front of another file.
+fn take_front(rt: &HostRuntime, name: &str, other: &str, length: usize) -> Result<()> {
+    let bytes = fs::read(rt, other)?;
+    let front = bytes.as_slice().get(..length).context("it is shorter")?;
+    Ok(fs::write(rt, name, front)?)
+}
+
+fn set_byte(rt: &HostRuntime, name: &str, offset: &str, byte: u8) -> Result<()> {
+    let mut bytes = fs::read(rt, name)?;
+    let offset: usize = offset.parse()?;
+    *bytes.get_mut(offset).context("it is shorter")? = byte;
+    Ok(fs::write(rt, name, bytes.as_slice())?)
+}
+
+/// Takes the front of a file for another one, or changes a byte.
+fn make_file(rt: &HostRuntime, line: &str) -> Result<()> {
+    let words: Vec<&str> = line.split(' ').collect(rt.alloc())?;
+    let &[name, verb, first, second] = words.as_slice() else {
+        bail!("no command: {line}");
+    };
+    match verb {
+        "from" => take_front(rt, name, first, second.parse()?),
+        "set" => set_byte(rt, name, first, second.parse()?),
+        _ => bail!("no command: {line}"),
+    }
+}
+
+pub fn run(report: &mut Report<'_>) -> Result<()> {
+    let rt = report.runtime();
+    let text = fs::read_to_string(rt, COMMANDS)?;
+    let mut tally = Tally::new();
+    for line in text.lines() {
+        if line.starts_with('#') || line.is_empty() {
+            continue;
+        }
+        if let Some((words, wanted)) = line.split_once(" => ") {
+            tally.count(ends(rt, words, wanted)?);
+        } else if let Some((name, lines)) = line.split_once(" << ") {
+            write_script(rt, name, lines)?;
+        } else {
+            make_file(rt, line)?;
+        }
+    }
+    report.add(COMMANDS, tally)
+}
