@@ -5,7 +5,7 @@
 
 FILE is a source file below crates/, as sn_run/src/running.rt, and FUNCTION a function of it. A definition is counted where
 the contract names it, or one that is counted does. Lines of imports and comments and blank lines aren't counted, nor are
-types that the code declares, and what the toolchain defines. With no words the four contracts are taken that a user of the
+types that the code declares, and what the toolchain defines. With no words the five contracts are taken that a user of the
 program rests on. The last line has the sums.
 """
 
@@ -17,6 +17,7 @@ TOP = Path(__file__).resolve().parent.parent
 CRATES = TOP / "crates"
 SHOWN = [
     ("sn_program/src/run.rt", "answer"),
+    ("sn_program/src/copy.rt", "answer_cut"),
     ("sn_run/src/running.rt", "run"),
     ("sn_fs/src/mounting.rt", "mount"),
     ("sn_fs/src/calling.rt", "call"),
