@@ -5,7 +5,7 @@ use crate::ended::Ended;
 use anyhow::Result;
 use sn_device::{MemDevice, SECTOR_SIZE};
 use sn_filedev::FileDevice;
-use sn_mounted::new_device;
+use sn_mounted::least_device;
 use sn_table::{Report, Tally};
 use std::fs;
 
@@ -73,7 +73,7 @@ fn is_out_kept_in_use(rt: &HostRuntime) -> Result<bool> {
 
 pub fn run(report: &mut Report<'_>) -> Result<()> {
     let rt = report.runtime();
-    let device = new_device(report.alloc())?;
+    let device = least_device(report.alloc())?;
     let mut tally = Tally::new();
     fs::write(rt, SCRIPT, b"0 stat /\n")?;
     fs::write(rt, IMAGE, b"what was there")?;
