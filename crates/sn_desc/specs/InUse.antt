@@ -1,12 +1,10 @@
--- Who is logged in, what is open, and which files were dropped.
+-- Who is logged in, and what is open.
 use Rattle.std.specs.Prelude.{◌≡◌, ℕ, ◌+◌, ◌*◌, ◌/◌, ◌%◌, ◌&&◌, nat_lt, List, [], ◌∷◌, Option, None, Some, IsSomeAnd, replicate, if◌then◌else◌}
 use Rattle.std.specs.FinMap as map
 use Rattle.sn_model.specs.declared.session.Session.{Session}
 use Rattle.sn_model.specs.Descriptors.{Descriptors}
 use Rattle.sn_model.specs.World.{Descriptor, World}
 use Rattle.sn_walk.specs.declared.object.Home.{Home}
-use Rattle.sn_desc.specs.declared.dropped.Dropped.{Dropped}
-use Rattle.sn_desc.specs.declared.dropped.Dropped.TheVariants.{Never}
 use Rattle.sn_desc.specs.declared.open_file.OpenFile.{OpenFile}
 
 abbrev pub descriptor_of : OpenFile → Descriptor
@@ -29,13 +27,11 @@ pub record InUse : Type 0 where
   -- None where nobody is logged in
   pub sessions : List (Option Session)
   pub descriptors : Descriptors
-  -- by number, whether the file that had it was dropped
-  pub dropped : List Dropped
   -- so many more files can be opened without memory
   pub room : ℕ
 
 abbrev pub nothing_in_use : ℕ → InUse
-nothing_in_use room = record { sessions = replicate 64 None; descriptors = map.empty; dropped = replicate 65536 Never; room = room }
+nothing_in_use room = record { sessions = replicate 64 None; descriptors = map.empty; room = room }
 
 -- a world with these sessions and descriptors
 abbrev pub in_world : InUse → World → World

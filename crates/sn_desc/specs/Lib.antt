@@ -2,7 +2,6 @@ pub mod Places
 pub mod Files
 pub mod Holders
 pub mod OpenFiles
-pub mod Drops
 pub mod InUse
 pub mod Closing
 pub mod Seeking

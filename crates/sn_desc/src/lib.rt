@@ -1,11 +1,9 @@
 //! Who is logged in, and what each session has open.
 //!
 //! [`Sessions`] stands for the maps of the model (`in_use_of` in `specs/Sessions`): who is logged in, by
-//! the number of the session, and the descriptors, by session and number. Beside them it keeps which
-//! files a close or a logout dropped, for those whose numbers wait for a consistency point. Each call
-//! is exact over these maps.
+//! the number of the session, and the descriptors, by session and number. Each call is exact over these maps.
 //!
-//! All memory for sessions, descriptors and drops is taken when [`Sessions`] is made, and the room for
+//! All memory for sessions and descriptors is taken when [`Sessions`] is made, and the room for
 //! an open file by `reserve`, before its `open`. So `login`, `logout`, `set_umask`, `open`, `close` and
 //! `seek` take none.
 //!
@@ -24,13 +22,11 @@
 //! ```
 #![tactic(auto)]
 
-mod dropped;
 mod holders;
 mod open_file;
 mod open_files;
 mod places;
 mod sessions;
 
-pub use dropped::Dropped;
 pub use open_file::OpenFile;
 pub use sessions::{DESCRIPTORS, Released, SESSIONS, Sessions};

@@ -13,7 +13,7 @@ use std::alloc::{AllocError, Global};
 pub(crate) const PLACES: usize = 4096;
 
 /// How many numbers a file can have.
-pub(crate) const NUMBERS: usize = 65_536;
+const NUMBERS: usize = 65_536;
 
 /// Open files by their places, with how many there are of each live file.
 #[derive(Drop)]

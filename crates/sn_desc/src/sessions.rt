@@ -1,4 +1,4 @@
-ghost use Rattle.std.specs.Prelude.{◌≡◌, ◌+◌, ◌↔◌, IsTrue, length, ◌-◌, ◌*◌, ◌<◌, ◌≤◌, map, replicate, slice_get, slice_index_or, slice_set, vec_len, option_copied, None, Some, IsOk, IfOk, OnOk, OnErr};
+ghost use Rattle.std.specs.Prelude.{◌≡◌, ◌+◌, ◌↔◌, IsTrue, ◌-◌, ◌*◌, ◌<◌, ◌≤◌, replicate, slice_get, slice_set, vec_len, option_copied, None, Some, IsOk, IfOk, OnOk, OnErr};
 ghost use Rattle.std.specs.Option.{option_map};
 ghost use Rattle.std.specs.FinMap as finite;
 ghost use Rattle.sn_model.specs.Descriptors.{at_offset, closed, descriptor_at, is_held_in, moved_to, next_descriptor, opened, readable_at, sought, without_session, writable_at};
@@ -8,14 +8,11 @@ ghost use Rattle.sn_model.specs.World.{World};
 ghost use Rattle.sn_walk.specs.Gives.{Answers};
 ghost use Rattle.arrayvec.specs.ArrayVec.{array_vec_len};
 ghost use Rattle.sn_desc.specs.Closing.{AreReleased, closing, pushed, released_if};
-ghost use Rattle.sn_desc.specs.Drops.{aged, forgotten, is_dropped};
 ghost use Rattle.sn_desc.specs.Seeking.{Seeks};
 ghost use Rattle.sn_desc.specs.InUse.{HasOpen, descriptor_of, in_world, nothing_in_use, place_of};
-ghost use Rattle.sn_desc.specs.declared.dropped.Dropped.TheVariants as drop;
 
-use crate::dropped::{self, Dropped};
 use crate::open_file::OpenFile;
-use crate::open_files::{NUMBERS, OpenFiles};
+use crate::open_files::OpenFiles;
 use arrayvec::ArrayVec;
 use sn_acl::Mode;
 use sn_limits::Limits;
@@ -37,9 +34,7 @@ pub type Released = ArrayVec<u16, 64>;
 pub struct Sessions {
     sessions: Vec<Option<Session>>,
     files: OpenFiles,
-    dropped: Vec<Dropped>,
     ghost sessions_are_64: { vec_len sessions ≡ 64 },
-    ghost each_number: { vec_len dropped ≡ 65536 },
 }
 
 /// Nobody is logged in.
@@ -93,7 +88,6 @@ impl Sessions {
         Ok(Sessions {
             sessions: free_sessions(alloc)?,
             files: OpenFiles::new(alloc)?,
-            dropped: vec![in alloc; Dropped::Never; NUMBERS]?,
         })
     }
 
@@ -302,8 +296,7 @@ impl Sessions {
         released
     }
 
-    /// Logs everybody out, closes everything and forgets what was dropped, as when the sessions were
-    /// made.
+    /// Logs everybody out and closes everything, as when the sessions were made.
     pub fn clear(&mut self)
         ensures in_use { in_use_of self.new ≡ nothing_in_use (in_use_of self.new).room }
         ensures room { (in_use_of self.old).room ≤ (in_use_of self.new).room }
@@ -311,14 +304,6 @@ impl Sessions {
         for session in 0..SESSIONS {
             self.logout(session);
         }
-        self.forget_drops();
-    }
-
-    /// Forgets what was dropped.
-    fn forget_drops(&mut self)
-        ensures { in_use_of self.new ≡ record (in_use_of self.old) { dropped = replicate (length (in_use_of self.old).dropped) drop.Never } }
-    {
-        dropped::clear(self.dropped.as_mut_slice());
     }
 
     /// Whether a descriptor has the live file with this number.
@@ -333,33 +318,5 @@ impl Sessions {
         ensures { IsTrue result ↔ HasOpen (in_use_of self.now).descriptors home.now }
     {
         self.files.has_open(home)
-    }
-
-    /// Notes that the file with this number was dropped, because its last descriptor was closed.
-    pub fn mark_dropped(&mut self, number: u16)
-        ensures { in_use_of self.new ≡ record (in_use_of self.old) { dropped = slice_set (in_use_of self.old).dropped number drop.SincePoint } }
-    {
-        self.dropped[number as usize] = Dropped::SincePoint;
-    }
-
-    /// Whether a file with this number was dropped since the durable root's point began.
-    pub fn was_dropped(&self, number: u16) -> bool
-        ensures { result ≡ is_dropped (slice_index_or (in_use_of self.now).dropped number drop.Never) }
-    {
-        self.dropped[number as usize] != Dropped::Never
-    }
-
-    /// A consistency point begins: what was dropped so far was dropped before it.
-    pub fn begin_point(&mut self)
-        ensures { in_use_of self.new ≡ record (in_use_of self.old) { dropped = map aged (in_use_of self.old).dropped } }
-    {
-        dropped::begin_point(self.dropped.as_mut_slice());
-    }
-
-    /// The root of the consistency point is durable: what was dropped before it began is forgotten.
-    pub fn end_point(&mut self)
-        ensures { in_use_of self.new ≡ record (in_use_of self.old) { dropped = map forgotten (in_use_of self.old).dropped } }
-    {
-        dropped::end_point(self.dropped.as_mut_slice());
     }
 }

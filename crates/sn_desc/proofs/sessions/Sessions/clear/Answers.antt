@@ -4,7 +4,6 @@ use Rattle.std.proofs.lemmas.Bool.{cases_eq, ltb-true, ltb-false}
 use Rattle.std.proofs.lemmas.List.{ext_get_or, get_or-replicate, get_or-set_other, get_or-set_same, length-replicate}
 use Rattle.sn_model.specs.Descriptors.{without_session}
 use Rattle.sn_model.specs.declared.session.Session.{Session}
-use Rattle.sn_desc.specs.declared.dropped.Dropped.TheVariants.{Never}
 use Rattle.sn_desc.specs.InUse.{InUse}
 use Rattle.sn_desc.specs.OpenFiles.{files_of}
 use Rattle.sn_desc.specs.Sessions.{in_use_of}
@@ -21,7 +20,6 @@ loop-session-preserved c =
     record {
       out = λ s low. ap (λ (u : InUse). get_or u.sessions s None) is ∙ out s low (cases_eq s n);
       closed = λ s fd low. ap (λ (u : InUse). map.get u.descriptors (s, fd)) is ∙ shut s fd low (cases_eq s n);
-      dropped = ap (λ (u : InUse). u.dropped) is ∙ i.dropped;
       room = omega (arith, i.room, c.logout.ensures.room);
     }
   where
@@ -44,10 +42,7 @@ returns-clause-in_use c =
     ext_get_or None u.sessions (replicate 64 None) (count ∙ sym (length-replicate {A = Option Session} 64 None))
     (λ k low. i.out k (omega (arith, low, count, past)) ∙ sym (get_or-replicate {A = Option Session} 64 k None None (omega (arith, low, count)))) in
     let none = all_none u.descriptors (λ s fd. split s fd (nat_lt s 64) refl) in
-    let size : length u.dropped ≡ 65536 = omega (arith, last.each_number, last.dropped.ok.0) in
-    let cleared = ap (λ (n : ℕ). replicate n Never) size in
-    let room = sym (ap (λ (v : InUse). v.room) c.forget_drops.ensures) in
-    c.forget_drops.ensures ∙ (λ j. record { sessions = out j; descriptors = none j; dropped = cleared j; room = room j })
+    λ j. record { sessions = out j; descriptors = none j; room = u.room }
   where
     split : (s fd : ℕ) (b : Bool) → nat_lt s 64 ≡ b → map.get (in_use_of c.loop-session.self).descriptors (s, fd) ≡ None
     split s fd true e = let low = ltb-true s 64 e in c.loop-session.invariant.closed s fd (omega (arith, low))

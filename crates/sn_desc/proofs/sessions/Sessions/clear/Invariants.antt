@@ -8,6 +8,5 @@ abbrev pub invariant-loop-session : goal.invariant-loop-session
 invariant-loop-session l = record {
   out : (s : ℕ) → s < l.session → get_or (in_use_of l.self).sessions s None ≡ None;
   closed : (s fd : ℕ) → s < l.session → map.get (in_use_of l.self).descriptors (s, fd) ≡ None;
-  dropped : (in_use_of l.self).dropped ≡ (in_use_of l.fn.self).dropped;
   room : (in_use_of l.fn.self).room ≤ (in_use_of l.self).room;
 }

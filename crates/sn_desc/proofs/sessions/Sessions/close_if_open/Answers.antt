@@ -12,7 +12,7 @@ returns-in_err-place_of-clause-in_use c =
     let s = c.args.self.now in
     let none = absent (files_of s.files) c.args.session c.args.fd s.files.counted.places (sym c.in_err-place_of.ensures) in
     let same = closed_none (descriptors_in (files_of s.files)) c.args.session c.args.fd none in
-    λ i. record { sessions = s.sessions.items; descriptors = same i; dropped = s.dropped.items; room = room_of s.files }
+    λ i. record { sessions = s.sessions.items; descriptors = same i; room = room_of s.files }
 
 pub returns-in_err-place_of-clause-released : goal.returns-in_err-place_of-clause-released
 returns-in_err-place_of-clause-released c =
@@ -23,7 +23,7 @@ pub returns-clause-in_use : goal.returns-clause-in_use
 returns-clause-in_use c =
     let s = c.args.self.now in
     let same = ap descriptors_in c.close.ensures.files ∙ closes (files_of s.files) c.args.session c.args.fd s.files.counted.places _ (sym c.in_ok-place_of.ensures) in
-    λ i. record { sessions = s.sessions.items; descriptors = same i; dropped = s.dropped.items; room = room_of c.close.new.self }
+    λ i. record { sessions = s.sessions.items; descriptors = same i; room = room_of c.close.new.self }
 
 pub returns-clause-released : goal.returns-clause-released
 returns-clause-released c =

@@ -7,5 +7,4 @@ use Rattle.sn_desc.proofs.sessions.Sessions.new.Goals as goal
 pub returns : goal.returns
 returns c =
     let same = ap descriptors_in c.in_ok-new.ensures.files ∙ none_in in
-    let none = c.in_ok-vec.ensures.items_if_clones_equal (λ y h. search rules) in
-    λ i. record { sessions = c.in_ok-free_sessions.ensures i; descriptors = same i; dropped = none i; room = room_of c.in_ok-new.field-0 }
+    λ i. record { sessions = c.in_ok-free_sessions.ensures i; descriptors = same i; room = room_of c.in_ok-new.field-0 }

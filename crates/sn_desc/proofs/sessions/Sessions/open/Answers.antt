@@ -13,4 +13,4 @@ pub returns-in-Ok-clause-ok : goal.returns-in-Ok-clause-ok
 returns-in-Ok-clause-ok c =
     let s = c.args.self.now in
     let same = ap descriptors_in c.open.ensures.files ∙ opens (files_of s.files) c.args.session c.in-Ok.fd s.files.counted.places c.requires.session c.in-Ok.ensures.within c.args.file in
-    λ i. record { sessions = s.sessions.items; descriptors = same i; dropped = s.dropped.items; room = c.open.ensures.room i }
+    λ i. record { sessions = s.sessions.items; descriptors = same i; room = c.open.ensures.room i }
