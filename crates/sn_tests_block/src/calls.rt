@@ -1,11 +1,9 @@
 //! The calls of a table over any device.
 
-use crate::words::{
-    number_of, pair_of, push_answer, push_number, push_sector, push_word, sector_of,
-};
+use crate::words::{push_answer, push_sector, sector_of};
 use anyhow::{Result, bail, ensure};
 use sn_device::{Device, SECTOR_SIZE};
-use sn_table::Case;
+use sn_table::{Case, number_of, pair_of, push_number, push_word};
 
 /// What a sector has before it is read.
 const UNREAD: u8 = 0xee;

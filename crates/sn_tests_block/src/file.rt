@@ -1,11 +1,10 @@
 //! The table over a file.
 
 use crate::steps::take_step;
-use crate::words::{number_of, push_number};
 use anyhow::{Result, bail};
 use sn_block::Blocks;
 use sn_filedev::FileDevice;
-use sn_table::{Case, Report};
+use sn_table::{Case, Report, number_of, push_number};
 use std::alloc::{AllocError, Global};
 use std::fs;
 use std::fs::File;

@@ -1,10 +1,9 @@
 //! The table over files that are no images.
 
 use crate::calls::make_calls;
-use crate::words::number_of;
 use anyhow::{Result, bail};
 use sn_filedev::FileDevice;
-use sn_table::{Case, Report};
+use sn_table::{Case, Report, number_of};
 use std::alloc::Global;
 use std::fs::{File, Metadata, OpenFile, OpenOptions};
 use std::os::unix::fs::FileExt;

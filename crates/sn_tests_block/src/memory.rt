@@ -1,11 +1,11 @@
 //! The table over the device in memory.
 
 use crate::steps::take_step;
-use crate::words::{fill_of, number_of, push_number, push_sector, push_word};
+use crate::words::{fill_of, push_sector};
 use anyhow::{Result, bail, ensure};
 use sn_block::{Block, Blocks, ReadFault};
 use sn_device::{MemDevice, SECTOR_SIZE, Sector};
-use sn_table::{Case, Report};
+use sn_table::{Case, Report, number_of, push_number, push_word};
 use std::alloc::{AllocError, Global};
 
 pub fn run(report: &mut Report<'_>) -> Result<()> {

@@ -1,11 +1,10 @@
 //! The steps that a table takes over any device.
 
-use crate::words::{
-    number_of, pair_of, push_answer, push_block, push_number, push_sectors, push_word, sector_of,
-};
+use crate::words::{push_answer, push_block, push_sectors, sector_of};
 use anyhow::{Result, bail, ensure};
 use sn_block::{BLOCK_SIZE, Block, Blocks, ReadFault};
 use sn_device::{Device, SECTOR_SIZE};
+use sn_table::{number_of, pair_of, push_number, push_word};
 use std::alloc::Global;
 
 /// Takes a step, and appends its answer.

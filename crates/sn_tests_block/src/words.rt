@@ -3,18 +3,10 @@
 use anyhow::{Context, Result, bail};
 use sn_block::Block;
 use sn_device::{Fault, Fill, SECTOR_SIZE, Sector};
-
-pub fn number_of(word: &str) -> Result<u32> {
-    word.parse().context("no number")
-}
+use sn_table::{number_of, push_word};
 
 pub fn byte_of(word: &str) -> Result<u8> {
     u8::from_str_radix(word, 16).context("no byte")
-}
-
-/// The two words around a colon.
-pub fn pair_of(word: &str) -> Result<(&str, &str)> {
-    word.split_once(':').context("no pair")
 }
 
 /// A sector that is made of one byte.
@@ -46,20 +38,6 @@ fn seeded(word: &str) -> Result<Fill> {
         Some(("seed", seed)) => Ok(Fill::Seeded(u64::from(number_of(seed)?))),
         _ => bail!("no such fill"),
     }
-}
-
-pub fn push_word(text: &mut String, word: &str) -> Result<()> {
-    if !text.is_empty() {
-        text.push_str(" ")?;
-    }
-    text.push_str(word)?;
-    Ok(())
-}
-
-pub fn push_number(text: &mut String, number: u64) -> Result<()> {
-    push_word(text, "")?;
-    write!(text, "{number}")?;
-    Ok(())
 }
 
 pub fn push_answer(text: &mut String, answer: Result<(), Fault>) -> Result<()> {
