@@ -31,7 +31,7 @@ use Rattle.sn_opening.specs.Points.{HoldsAll, IsStored, Plan, Written}
 abbrev pub FromMaps : ℕ → Type 0
 FromMaps i = 32 ≤ i
 
-map_start : (n : ℕ) (slot : Slot) → 4 ≤ start_of n (MapCopy slot)
+pub map_start : (n : ℕ) (slot : Slot) → 4 ≤ start_of n (MapCopy slot)
 map_start n A = omega arith
 map_start n B = omega arith
 
@@ -58,7 +58,7 @@ holds_depend n [] lie c d whole_c whole_d agrees holds = tt
 holds_depend n (b ∷ bs) lie c d whole_c whole_d agrees holds =
     (bytes_at-same c d (8 * b.0) 8 (λ i from to. agrees.same i (omega (arith, from, lie.0.from))) ∙ holds.0, holds_depend n bs lie.1 c d whole_c whole_d agrees holds.1)
 
-map_depends : (n : ℕ) (slot : Slot) (words : List ℕ) → DependsOn FromMaps (λ c. HasMap n c slot words)
+pub map_depends : (n : ℕ) (slot : Slot) (words : List ℕ) → DependsOn FromMaps (λ c. HasMap n c slot words)
 map_depends n slot words c d whole_c whole_d agrees has = HasMap-same n c d slot words (λ i from to. agrees.same i (let start = map_start n slot in omega (arith, from, start))) has
 
 module _ (F : ℕ → Type 0) (old new : Disk) (whole : AreSectors (reads old)) (touched : Touches F old new) where

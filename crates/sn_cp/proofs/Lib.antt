@@ -1,3 +1,4 @@
+pub mod AroundLemmas
 pub mod CountLemmas
 pub mod FinishLemmas
 pub mod FrameLemmas

@@ -23,7 +23,7 @@ use Rattle.sn_cp.specs.Showing.{ShowsNext}
 use Rattle.sn_cp.specs.declared.stage.Stage.TheVariants.{Done}
 
 -- a root's frozen trees are of the blocks that it reaches
-frozen_stay : (s r : Store) (root : RootBody) → SameIn (all_reach s root) s r → frozen_of s root.snapshots ≡ frozen_of r root.snapshots
+pub frozen_stay : (s r : Store) (root : RootBody) → SameIn (all_reach s root) s r → frozen_of s root.snapshots ≡ frozen_of r root.snapshots
 unfolding apply_all
 frozen_stay s r root same =
     let tree = image s root.inode_file in

@@ -15,7 +15,7 @@ use Rattle.sn_layout.specs.Places.{IsIn, half_of_epoch, map_blocks, start_of}
 use Rattle.sn_model.specs.declared.change.Change.{Change}
 use Rattle.sn_ondisk.specs.Blocks.{InBlock, InBlocks}
 use Rattle.sn_ondisk.specs.LogHalf.{HasNoLater, InHalf, base_of}
-use Rattle.sn_ondisk.specs.MapCopy.{InMap}
+use Rattle.sn_ondisk.specs.MapCopy.{HasMap, InMap}
 use Rattle.sn_ondisk.specs.Shown.{Shown}
 use Rattle.sn_ondisk.specs.TreeLaws.{SameIn}
 use Rattle.sn_ondisk.specs.Trees.{Store, store_of}
@@ -33,7 +33,7 @@ use Rattle.sn_cp.specs.Steps.{InNewBlock, InStep, IsWhole, IsWithin, StandsAtSta
 use Rattle.sn_cp.specs.Showing.{HasRecords, IsBeforeOpening, IsBeside, ShowsBeside, ShowsNext}
 use Rattle.sn_cp.specs.declared.stage.Stage.{Stage}
 use Rattle.sn_cp.specs.declared.stage.Stage.TheVariants.{Blocks, MapBlocks, Stored, Shut, Bodied, Done}
-use Rattle.sn_cp.proofs.FrameLemmas.{FromMaps, body_low, closing_low, gate_low, holds_depend}
+use Rattle.sn_cp.proofs.FrameLemmas.{FromMaps, body_low, closing_low, gate_low, holds_depend, map_depends}
 use Rattle.sn_cp.proofs.StepLemmas.{lies_at}
 
 -- ---- where a step writes
@@ -52,10 +52,10 @@ data_and_half : (n epoch block i : ℕ) → IsIn n Data block → InBlock block 
 data_and_half n epoch block i lie is half = omega (arith, is.0, half.1, (halves_are n epoch).1, end_from n (half_of_epoch epoch), lie.from)
 
 -- a block of the slot's map copy
-in_map : (n k : ℕ) (slot : Slot) (i : ℕ) → k < map_blocks n → InBlock (start_of n (MapCopy slot) + k) i → InMap n slot i
+pub in_map : (n k : ℕ) (slot : Slot) (i : ℕ) → k < map_blocks n → InBlock (start_of n (MapCopy slot) + k) i → InMap n slot i
 in_map n k slot i within is = (omega (arith, is.0), omega (arith, is.1, within))
 
-map_ends : (n : ℕ) (slot : Slot) → start_of n (MapCopy slot) + map_blocks n ≤ start_of n Data
+pub map_ends : (n : ℕ) (slot : Slot) → start_of n (MapCopy slot) + map_blocks n ≤ start_of n Data
 map_ends n A = omega arith
 map_ends n B = omega arith
 
@@ -68,7 +68,7 @@ stands_among (x ∷ xs) zero b at = (0, omega arith, at)
 stands_among (x ∷ xs) (suc k) b at = let rest = stands_among xs k b at in (suc rest.0, omega (arith, rest.1), rest.2)
 
 module _ (w : Work) (whole : IsWhole w) where
-  step_and_half : (stage : Stage) → IsWithin w stage → (epoch : ℕ) → AreDisjoint (InStep w stage) (InHalf (base_of w.blocks epoch))
+  pub step_and_half : (stage : Stage) → IsWithin w stage → (epoch : ℕ) → AreDisjoint (InStep w stage) (InHalf (base_of w.blocks epoch))
   step_and_half (Blocks k) within epoch i is half = data_and_half w.blocks epoch is.block.0 i (lies_at w.blocks w.plan.blocks k is.block whole.place is.stands) is.within half
   step_and_half (MapBlocks k) within epoch i is half = (areas_apart w.blocks).maps_and_log w.slot epoch i (in_map w.blocks k w.slot i within is) half
   step_and_half Stored within epoch i is half = low_and_half w.blocks epoch i (closing_low w.slot w.gate i is) half
@@ -154,22 +154,28 @@ module _ (w : Work) (whole : IsWhole w) (s : Store) (slot : Slot) (root : RootBo
   blocks_stay stands touched =
       LeavesOnly-touched (InStep w Bodied) FromMaps (λ c. HoldsAll (store_of c) w.plan.blocks) (holds_depend w.blocks w.plan.blocks whole.place) (λ i is from. let low = gate_low w.slot i is in omega (arith, low, from)) old new sectors stands.reached.0.blocks touched
 
+  map_stays : StandsAtStage w Bodied old → Touches (InStep w Bodied) old new → LeavesOnly old new (λ c. HasMap w.blocks c w.slot w.plan.words)
+  map_stays stands touched =
+      LeavesOnly-touched (InStep w Bodied) FromMaps (λ c. HasMap w.blocks c w.slot w.plan.words) (map_depends w.blocks w.slot w.plan.words) (λ i is from. let low = gate_low w.slot i is in omega (arith, low, from)) old new sectors stands.reached.0.map touched
+
   pub opening_shows : StandsAtStage w Bodied old → StepsTo w Bodied result old new → LeavesEither result old new (Shows w.blocks s slot root older newer) (ShowsNext w s root third fourth)
   opening_shows stands steps =
       let changed = steps.root.shown w.blocks slot root (payloads_of older) (payloads_of newer) (payloads_of third) (payloads_of fourth) beside.beside.other beside.beside.later (λ c crash. (beside.shown c crash).shown) beside.has_third beside.has_fourth in
       let reached = reach_stays Bodied tt steps.touched in
       let held = blocks_stay stands steps.touched in
+      let mapped = map_stays stands steps.touched in
       let reached_now = LeavesOnly-now old new (λ c. SameIn (all_reach s root) s (store_of c)) reached in
       let held_now = LeavesOnly-now old new (λ c. HoldsAll (store_of c) w.plan.blocks) held in
+      let mapped_now = LeavesOnly-now old new (λ c. HasMap w.blocks c w.slot w.plan.words) mapped in
       record {
         any_moment = record {
           follows = changed.any_moment.follows;
           each = λ c since. ⊎_elim
               (λ shown. inl (record { shown = shown; same = reached.each c since }))
-              (λ next. inr (record { shown = next; same = reached.each c since; blocks = held.each c since }))
+              (λ next. inr (record { shown = next; same = reached.each c since; blocks = held.each c since; map = mapped.each c since }))
               (changed.any_moment.each c since);
         };
-        done = OnOk-then result (λ next c crash. record { shown = next c crash; same = reached_now c crash; blocks = held_now c crash }) changed.done;
+        done = OnOk-then result (λ next c crash. record { shown = next c crash; same = reached_now c crash; blocks = held_now c crash; map = mapped_now c crash }) changed.done;
       }
 
 -- ---- the records of the next root

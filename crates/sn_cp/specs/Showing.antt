@@ -1,6 +1,6 @@
 -- What a point leaves to a crash of what the disk shows, on a disk of the point's own size.
 use Rattle.std.specs.Prelude.{◌≡◌, ℕ, ◌+◌, ◌^◌, ◌<◌, List, [], ◌++◌, Contains, Result, OnOk, Some}
-use Rattle.sn_device.specs.Sectors.{Contents, AreSectors}
+use Rattle.sn_device.specs.Sectors.{Contents, AreDisjoint, AreSectors, Union}
 use Rattle.sn_device.specs.Disk.{Disk, Always, reads}
 use Rattle.sn_device.specs.Crash.{LeavesOnly, Touches}
 use Rattle.sn_device.specs.declared.device.Fault.{Fault}
@@ -10,7 +10,9 @@ use Rattle.sn_layout.specs.Places.{other_slot}
 use Rattle.sn_model.specs.declared.change.Change.{Change}
 use Rattle.sn_model.specs.Changes.{apply_all}
 use Rattle.sn_model.specs.Tree.{Tree}
+use Rattle.sn_ondisk.specs.Blocks.{InBlock}
 use Rattle.sn_ondisk.specs.LogHalf.{HasNoLater, InHalf, Replays, base_of}
+use Rattle.sn_ondisk.specs.MapCopy.{HasMap, InMap}
 use Rattle.sn_ondisk.specs.Shown.{Shown}
 use Rattle.sn_ondisk.specs.TreeLaws.{SameIn}
 use Rattle.sn_ondisk.specs.Trees.{Store, store_of}
@@ -44,11 +46,12 @@ pub record ShowsBeside (w : Work) (s : Store) (slot : Slot) (root : RootBody) (o
   pub has_third : Always d (HasRecords w.blocks w.plan.next.epoch third)
   pub has_fourth : Always d (HasRecords w.blocks (w.plan.next.epoch + 1) fourth)
 
--- The disk shows the next root. The new blocks stand, and what the root before it reached is as it was: so whatever holds of its tree over such blocks does here.
+-- The disk shows the next root. The new blocks stand with the words of its map, and what the root before it reached is as it was: so whatever holds of its tree over such blocks does here.
 pub record ShowsNext (w : Work) (s : Store) (root : RootBody) (third fourth : List Change) (c : Contents) : Type 0 where
   pub shown : Shown w.blocks c w.slot w.plan.next (payloads_of third) (payloads_of fourth)
   pub same : SameIn (all_reach s root) s (store_of c)
   pub blocks : HoldsAll (store_of c) w.plan.blocks
+  pub map : HasMap w.blocks c w.slot w.plan.words
 
 -- before the gate is opened
 abbrev pub IsBeforeOpening : Stage → Type 0
@@ -115,3 +118,11 @@ pub record Finishes {T E : Type 0} (w : Work) (result : Result T E) (old new : D
   pub done : OnOk result (StandsAtStage w Done new)
   pub shown : (s : Store) (slot : Slot) (root : RootBody) (older newer third fourth : List Change) → ShowsBeside w s slot root older newer third fourth old
       → LeavesEither result old new (Shows w.blocks s slot root older newer) (ShowsNext w s root third fourth)
+
+-- what a point leaves alone: the superblock, the map of the slot that counts, and both halves of the log
+abbrev pub InAround : ℕ → Slot → ℕ → ℕ → Type 0
+InAround n slot epoch = Union (InBlock 0) (Union (InMap n slot) (Union (InHalf (base_of n epoch)) (InHalf (base_of n (epoch + 1)))))
+
+-- No step writes there.
+abbrev pub PointsStayApart : Type 0
+PointsStayApart = (w : Work) (slot : Slot) (epoch : ℕ) → IsWhole w → other_slot slot ≡ w.slot → AreDisjoint (InPoint w) (InAround w.blocks slot epoch)

@@ -18,7 +18,8 @@
 //!
 //! What the disk shows is said by laws, on a disk of the point's own size and beside a root that is given:
 //! - [`shown_laws`]: until the gate is opened a crash at any moment of a step leaves that root with its records, in the
-//!   opening that or the next one (`ShowsNext`); and a call of the log between two steps leaves the point at its stage.
+//!   opening that or the next one (`ShowsNext`); a call of the log between two steps leaves the point at its stage; and no step
+//!   touches the superblock, the map of the slot that counts, or the log.
 //! - [`next_laws`]: what shows the next root opens to the tree that was built, with the records of its epochs on top of
 //!   it, and once the point is done, that root is sound in what is read.
 //! - [`count_laws`]: each step leaves one less, and with its beginning a point of F new blocks and M blocks of the map

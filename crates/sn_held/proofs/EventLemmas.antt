@@ -50,11 +50,11 @@ use Rattle.sn_held.proofs.HeldLemmas.{Rests, image_newer, image_older, image_sho
 -- ---- what a crash leaves of a mount that runs
 
 -- contents that a crash leaves have as many sectors, and whole ones
-disk_always : (n : ℕ) (d : Disk) → IsDisk n (reads d) → Always d (IsDisk n)
+pub disk_always : (n : ℕ) (d : Disk) → IsDisk n (reads d) → Always d (IsDisk n)
 disk_always n d disk c crash = record { size = disk.size; whole = crash.whole; long = subst (λ (m : ℕ). 8 * n ≤ m) (sym crash.others.count) disk.long }
 
 -- a root with changes that cover the live tree stands for the settled world
-stands_of : (s : Store) (root : RootBody) (changes : List Change) (w : World) → root.limits ≡ version_1 → MakesCover version_1 changes (image s root.inode_file) w.live → w.frozen ≡ frozen_of s root.snapshots
+pub stands_of : (s : Store) (root : RootBody) (changes : List Change) (w : World) → root.limits ≡ version_1 → MakesCover version_1 changes (image s root.inode_file) w.live → w.frozen ≡ frozen_of s root.snapshots
     → StandsFor s root changes (settle w)
 stands_of s root changes w limits cover frozen =
     let settles : found w.live (frozen_of s root.snapshots) ≡ settle w = λ i. record { live = settled w.live; frozen = sym frozen i; sessions = replicate 64 None; descriptors = map.empty } in
@@ -62,7 +62,7 @@ stands_of s root changes w limits cover frozen =
     (covers_stand s root changes w.live (subst (λ (l : Limits). MakesCover l changes (image s root.inode_file) w.live) (sym limits) cover))
 
 -- what is charged of a mount that runs fits in what its root leaves free
-fits_now : (h : Held) (w : World) (r : Runs h w) → Fits r.root.limits (r.older ++ r.newer) (image r.store r.root.inode_file) (free_blocks h.at.blocks r.store r.root)
+pub fits_now : (h : Held) (w : World) (r : Runs h w) → Fits r.root.limits (r.older ++ r.newer) (image r.store r.root.inode_file) (free_blocks h.at.blocks r.store r.root)
 fits_now h w r =
     subst (λ (l : Limits). Fits l (r.older ++ r.newer) (image r.store r.root.inode_file) (free_blocks h.at.blocks r.store r.root)) (sym r.limits)
     (subst (Fits version_1 (r.older ++ r.newer) (image r.store r.root.inode_file)) r.charged.free r.charged.fits)

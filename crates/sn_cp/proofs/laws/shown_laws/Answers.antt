@@ -1,3 +1,4 @@
+use Rattle.sn_cp.proofs.AroundLemmas.{stays_apart}
 use Rattle.sn_cp.proofs.LogLemmas.{log_keeps}
 use Rattle.sn_cp.proofs.ShowLemmas.{opening_shows, ordinary_show, steps_keep}
 use Rattle.sn_cp.proofs.laws.shown_laws.Goals as goal
@@ -15,3 +16,6 @@ returns-clause-opening c w result s slot root older newer third fourth old new s
 
 pub returns-clause-log : goal.returns-clause-log
 returns-clause-log c = log_keeps
+
+pub returns-clause-apart : goal.returns-clause-apart
+returns-clause-apart c w slot epoch whole other = stays_apart w whole slot other epoch

@@ -1,0 +1,59 @@
+-- A point of a mount's live tree.
+use Rattle.std.specs.Prelude.{◌≡◌, ℕ, ◌+◌, List, [], slice_index}
+use Rattle.sn_device.specs.Sectors.{Contents}
+use Rattle.sn_device.specs.Disk.{Disk, Always, IsSynced}
+use Rattle.sn_layout.specs.Places.{other_slot}
+use Rattle.sn_layout.specs.Superblock.{superblock_bytes}
+use Rattle.sn_layout.specs.declared.places.Slot.{Slot}
+use Rattle.sn_log.specs.Places.{IsReadyAt, first_of}
+use Rattle.sn_model.specs.World.{World}
+use Rattle.sn_ondisk.specs.Blocks.{block_at}
+use Rattle.sn_ondisk.specs.LogHalf.{HasNoLater, base_of}
+use Rattle.sn_ondisk.specs.MapCopy.{HasMap}
+use Rattle.sn_ondisk.specs.TreeLaws.{SameIn}
+use Rattle.sn_ondisk.specs.Trees.{Store}
+use Rattle.sn_opening.specs.Opens.{IsDisk, Shows}
+use Rattle.sn_opening.specs.Points.{HoldsAll, IsBuilt}
+use Rattle.sn_opening.specs.Worlds.{all_reach}
+use Rattle.sn_room.specs.Rooms.{RoomCounts}
+use Rattle.sn_sound.specs.Logs.{HasAgeLeft}
+use Rattle.sn_sound.specs.Maps.{IsSoundRoot}
+use Rattle.sn_held.specs.Held.{Held, Runs}
+use Rattle.sn_held.specs.Room.{IsCharged}
+use Rattle.sn_cp.specs.Points.{Work}
+use Rattle.sn_cp.specs.Steps.{IsWhole}
+
+-- No point is in progress, so that the log goes on under the root's own epoch, and nothing is unsynced.
+pub record IsBetween (h : Held) (world : World) (r : Runs h world) : Type 0 where
+  pub none_newer : r.newer ≡ []
+  pub epoch : h.at.epoch ≡ r.root.epoch
+  pub ready : Always h.disk (IsReadyAt h.at r.older)
+  pub synced : IsSynced h.disk
+
+-- The point was built of the live tree, for the slot that doesn't count: wherever its blocks stand beside what the root reaches, its root is sound with its snapshots and its map, and what is kept of the room is charged of it. It has an age left.
+pub record IsOfLive (h : Held) (world : World) (r : Runs h world) (w : Work) (room : RoomCounts) : Type 0 where
+  pub whole : IsWhole w
+  pub blocks : w.blocks ≡ h.at.blocks
+  pub slot : other_slot r.slot ≡ w.slot
+  pub epoch : w.plan.next.epoch ≡ r.root.epoch + 1
+  pub built : IsBuilt h.at.blocks r.store r.root world.live w.plan
+  pub sound : (s : Store) → SameIn (all_reach r.store r.root) r.store s → HoldsAll s w.plan.blocks → IsSoundRoot h.at.blocks s w.plan.next (slice_index w.plan.words)
+  pub charged : (s : Store) → SameIn (all_reach r.store r.root) r.store s → HoldsAll s w.plan.blocks → IsCharged room h.at.blocks s w.plan.next []
+  pub age : HasAgeLeft w.plan.next
+
+-- What no step of a point touches, on a disk of so many blocks: the superblock, the map of the slot that counts, the half of the root's epoch, which begins with no record of a later one, and that of the next, which is ready for its first.
+pub record StandsAround (n : ℕ) (slot : Slot) (words : List ℕ) (epoch : ℕ) (c : Contents) : Type 0 where
+  pub disk : IsDisk n c
+  pub formatted : block_at c 0 ≡ superblock_bytes (record { places = n })
+  pub map : HasMap n c slot words
+  pub none_later : HasNoLater c (base_of n epoch) epoch
+  pub ready : IsReadyAt (first_of n (epoch + 1)) [] c
+
+-- The point has begun: whatever a crash leaves, the root is shown with its records, and the next epoch can be logged under.
+pub record HasBegun (h : Held) (world : World) (r : Runs h world) (d : Disk) : Type 0 where
+  pub shows : Always d (Shows h.at.blocks r.store r.slot r.root r.older [])
+  pub around : Always d (StandsAround h.at.blocks r.slot r.words r.root.epoch)
+
+-- what is held behind the point: the log is empty
+abbrev pub behind_point : Held → RoomCounts → ℕ → Disk → Held
+behind_point h room epoch d = record h { room = room; at = first_of h.at.blocks (epoch + 1); disk = d }
