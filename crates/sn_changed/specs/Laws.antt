@@ -1,0 +1,35 @@
+-- How what changed since a root grows, event by event.
+use Rattle.std.specs.Prelude.{◌≡◌, ℕ, ◌+◌, ◌*◌, ◌≤◌, Bool, true, Some}
+use Rattle.std.specs.FinMap as map
+use Rattle.sn_limits.specs.declared.limits.Limits.{Limits}
+use Rattle.sn_model.specs.declared.change.Change.{Change}
+use Rattle.sn_model.specs.Changes.{apply, take_node}
+use Rattle.sn_model.specs.Charges.{charge_for}
+use Rattle.sn_model.specs.NameTree.{IsHierarchy}
+use Rattle.sn_model.specs.Settling.{is_nameless}
+use Rattle.sn_model.specs.Tree.{Tree}
+use Rattle.sn_overlay.specs.Layers.{Layer}
+use Rattle.sn_overlay.specs.Merges.{merge}
+use Rattle.sn_overlay.specs.Needs.{AreCharged, nameless_in, need}
+use Rattle.sn_overlay.specs.Overlays.{gone, no_changes}
+use Rattle.sn_overlay_change.specs.ChangeLayers.{layer_of_change}
+use Rattle.sn_changed.specs.Changed.{HasChanged}
+
+-- Over a root that is new nothing has changed, and nothing was charged.
+abbrev pub NothingChanged : Type 0
+NothingChanged = (limits : Limits) (root : Tree) → HasChanged limits no_changes root root 0
+
+-- A change that is made of the live tree is merged, and charged.
+abbrev pub ChangesMerge : Type 0
+ChangesMerge = (limits : Limits) (layer : Layer) (root live after : Tree) (charged : ℕ) (change : Change) → AreCharged limits → IsHierarchy live → HasChanged limits layer root live charged → apply limits change live ≡ Some after
+    → HasChanged limits (merge layer (layer_of_change live change)) root after (charged + charge_for limits live change)
+
+-- A live file without names that goes is merged, and paid by its own charge.
+abbrev pub DropsMerge : Type 0
+DropsMerge = (limits : Limits) (layer : Layer) (root live : Tree) (charged number : ℕ) (by_close : Bool) → AreCharged limits → IsHierarchy live → HasChanged limits layer root live charged → is_nameless live number (map.get live.nodes number) ≡ true
+    → HasChanged limits (merge layer (gone number by_close)) root (take_node live number) charged
+
+-- Where what was charged, with a charge for each file that the root's tree has without names, is no more than is free, what is to be built fits there, and leaves a charge for each live file without names.
+abbrev pub BuildsFit : Type 0
+BuildsFit = (limits : Limits) (layer : Layer) (root live : Tree) (charged free : ℕ) → HasChanged limits layer root live charged → charged + limits.inode_charge * nameless_in root ≤ free
+    → need limits layer + limits.inode_charge * nameless_in live ≤ free
