@@ -2,22 +2,30 @@
 //! [`sn_program::program`], which does the rest.
 #![tactic(auto)]
 
-use sn_program::{Fault, program, tell};
-use std::env;
+use sn_program::{Fault, Person, program, tell};
 use std::env::Env;
 use std::process::ExitCode;
+use std::{env, io};
 
 /// The words of the command line, without the program's own name.
-fn words<R: Env + AllocGlobal>(rt: &R) -> Result<Vec<String>, Fault> {
+fn words<R: Env + AllocGlobal>(rt: &R) -> io::Result<Vec<String>> {
     Ok(env::args(rt)?.skip(1).collect(rt.alloc())?)
 }
 
+/// Words that aren't text are no command.
+fn fault_of(error: io::Error) -> Fault {
+    match error.kind() {
+        io::ErrorKind::OutOfMemory => Fault::Memory,
+        _ => Fault::Usage,
+    }
+}
+
 fn main(rt: HostRuntime) -> ExitCode {
-    let mut out = rt.stdout();
-    let mut err = rt.stderr();
+    let (mut out, mut err) = (rt.stdout(), rt.stderr());
+    let mut person = Person::at(rt.stderr());
     let status = match words(&rt) {
-        Ok(words) => program(&rt, words.as_slice(), &mut out, &mut err),
-        Err(fault) => tell(fault, &mut err),
+        Ok(words) => program(&rt, words.as_slice(), &mut out, &mut err, &mut person),
+        Err(error) => tell(fault_of(error), &mut err),
     };
     ExitCode::from(status)
 }

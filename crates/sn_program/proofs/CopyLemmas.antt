@@ -1,5 +1,5 @@
 -- What a crash behind a run leaves of the disk that it ran on.
-use Rattle.std.proofs.Common.{◌≡◌, ◌⊎◌, inl, inr, ℕ, ◌<◌, List, [], ◌∷◌, ◌++◌, length, sym, subst, ◌∙◌, append_assoc, arith}
+use Rattle.std.proofs.Common.{◌≡◌, ◌⊎◌, inl, inr, ◌<◌, List, [], ◌∷◌, ◌++◌, length, sym, subst, ◌∙◌, append_assoc, arith}
 use Rattle.std.proofs.lemmas.List.{append-nil, same_lists, get_or_default}
 use Rattle.std.specs.Prelude.{Contains, EachIndex}
 use Rattle.sn_device.specs.Sectors.{AgreesOutside, AreSectors, Contents, sector_at}

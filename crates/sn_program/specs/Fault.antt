@@ -33,7 +33,13 @@ fault_in (Err why) = Some why
 
 -- a file or an output failed, or memory did on the way
 abbrev pub IsOfFile : Fault → Type 0
-IsOfFile given = (given ≡ fault.File) ⊎ (given ≡ fault.Memory)
+IsOfFile (fault.File which error) = Unit {0}
+IsOfFile fault.Memory = Unit {0}
+IsOfFile fault.Usage = ⊥
+IsOfFile (fault.Script why) = ⊥
+IsOfFile (fault.Mount why) = ⊥
+IsOfFile (fault.Format why) = ⊥
+IsOfFile fault.Stopped = ⊥
 
 -- a script's file failed, or memory did, also in the reading of its lines
 abbrev pub IsUnread : Fault → Type 0

@@ -1,5 +1,5 @@
 -- What the program leaves of what its words ask for.
-use Rattle.std.specs.Prelude.{◌≡◌, ◌⊎◌, ℕ, List, [], ◌∷◌, length, None, Some, Ok, Err}
+use Rattle.std.specs.Prelude.{◌≡◌, ◌⊎◌, ℕ, List, [], ◌∷◌, length, None, Some, Err}
 use Rattle.std.specs.declared.option.Option.{Option}
 use Rattle.std.specs.Io.KnownBytes.{Appends, Keeps}
 use Rattle.std.specs.List.{flat_map}
@@ -31,12 +31,17 @@ Says replies old new = Appends old new (lines_of replies)
 abbrev pub BeginsToSay : List Reply → Option (List ℕ) → Option (List ℕ) → Type 0
 BeginsToSay replies old new = AppendsFront old new (lines_of replies)
 
--- those of some replies
-abbrev pub SaysSome : Option (List ℕ) → Option (List ℕ) → Type 0
-SaysSome old new = (replies : List Reply) × Says replies old new
+-- some replies to a script's events, one to each
+pub record AreReplies (events : List Event) (replies : List Reply) : Type 0 where
+  pub read : AreEventsOf None events
+  pub each : length replies ≡ length events
 
-abbrev pub BeginsToSaySome : Option (List ℕ) → Option (List ℕ) → Type 0
-BeginsToSaySome old new = (replies : List Reply) × BeginsToSay replies old new
+-- those of a run on an image, one to each line of some script
+abbrev pub SaysRun : Option (List ℕ) → Option (List ℕ) → Type 0
+SaysRun old new = (events : List Event) × (replies : List Reply) × AreReplies events replies × Says replies old new
+
+abbrev pub BeginsToSayRun : Option (List ℕ) → Option (List ℕ) → Type 0
+BeginsToSayRun old new = (replies : List Reply) × BeginsToSay replies old new
 
 -- These are the replies of some script's events on a copy of some image, and a crash left something of that.
 pub record IsOfCopy (how : Fill) (end : End) (replies : List Reply) : Type 0 where
@@ -65,7 +70,7 @@ BeginsOfCopy how old new = Keeps old new ⊎ ((end : End) × (replies : List Rep
 
 -- What a task leaves on the output. Of which bytes a file had, and so of the replies of a run on one, nothing can be said; an image is answered by `ok`. A fault is told of what was done only where that was to cut a run short.
 abbrev pub Leaves : Task → Option Fault → Option (List ℕ) → Option (List ℕ) → Type 0
-Leaves (task.Run image script) told old new = (told ≡ None) × SaysSome old new
+Leaves (task.Run image script) told old new = (told ≡ None) × SaysRun old new
 Leaves (task.Mkfs image blocks) told old new = (told ≡ None) × Says (answer.Done ∷ []) old new
 Leaves (task.StopAt cut how image script out) told old new = LeavesOfCopy how told old new
 
@@ -75,7 +80,7 @@ IsDone words told old new = (asked : Task) × AsksFor words asked × Leaves aske
 
 -- the front of that
 abbrev pub Begins : Task → Option (List ℕ) → Option (List ℕ) → Type 0
-Begins (task.Run image script) old new = BeginsToSaySome old new
+Begins (task.Run image script) old new = BeginsToSayRun old new
 Begins (task.Mkfs image blocks) old new = BeginsToSay (answer.Done ∷ []) old new
 Begins (task.StopAt cut how image script out) old new = BeginsOfCopy how old new
 

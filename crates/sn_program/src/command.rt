@@ -1,6 +1,7 @@
 //! What the words of the command line ask for, done.
 ghost use Rattle.std.specs.Prelude.{◌≡◌, ◌≢◌, ◌≤◌, ◌↔◌, ◌⊎◌, [], ◌∷◌, None, map, length, Err, IfOk, OnOk, OnErr, IfErr, IsErrOf, IsOk};
 ghost use Rattle.std.specs.declared.option.Option.{Option};
+ghost use Rattle.std.specs.Io.KnownBytes.{Keeps};
 ghost use Rattle.sn_device.specs.Memory.{contents_of, disk_of, first, status_of};
 ghost use Rattle.sn_device.specs.Status.{uncalled};
 ghost use Rattle.sn_layout.specs.Places.{IsDiskSize};
@@ -8,13 +9,16 @@ ghost use Rattle.sn_mkfs.specs.declared.fault.MkfsFault.TheVariants as mkfs_faul
 ghost use Rattle.sn_model.specs.declared.reply.Reply.TheVariants as answer_of;
 ghost use Rattle.sn_program.specs.Answers.{AreEventsOf};
 ghost use Rattle.sn_program.specs.Fault.{IsOfFile, fault_in, outcome_of};
-ghost use Rattle.sn_program.specs.Tasks.{AsksToStop, BeginsOfCopy, BeginsToSay, BeginsToSaySome, HasBegun, IsDone, LeavesOfCopy, Says, SaysSome};
+ghost use Rattle.sn_program.specs.Fault.{status_of as exit_of};
+ghost use Rattle.sn_program.specs.Tasks.{AsksToStop, Begins, BeginsOfCopy, BeginsToSay, BeginsToSayRun, HasBegun, IsDone, IsStop, Leaves, LeavesOfCopy, Says, SaysRun};
 ghost use Rattle.sn_program.specs.declared.fault.Fault.{Fault as Why};
 ghost use Rattle.sn_program.specs.declared.fault.Fault.TheVariants as fault;
 
 use crate::copy::{CutShort, answer_cut};
-use crate::fault::{Fault, tell};
+use crate::fault::{Fault, Which, on_file, tell};
 use crate::output::write_replies;
+use crate::person::explain;
+use crate::progress::Progress;
 use crate::run::{Answered, answer, outcome};
 use crate::script::read_events;
 use sn_command::{Task, parse};
@@ -23,11 +27,13 @@ use sn_filedev::{FileDevice, LockFile};
 use sn_layout::Places;
 use sn_mkfs::{MkfsFault, mkfs};
 use sn_model::{End, Event, Reply};
+use sn_run::Watch;
 use std::alloc::Global;
 use std::convert::AsStr;
 use std::fs::{Files, OpenFile};
 use std::io::{Read, Write};
 use std::os::unix::fs::FileExt;
+use std::time::Clock;
 use std::{fs, io};
 
 /// Makes an image of so many blocks, in the place of what the file at this path has. K1 comes before the file is made.
@@ -42,7 +48,10 @@ fn make_image<F: FileExt + OpenFile + LockFile + Read + Drop, R: Files<File = F>
     if Places::new(blocks).is_none() {
         return Err(Fault::Format(MkfsFault::Size));
     }
-    let device = FileDevice::create(rt.alloc(), rt, image, blocks)?;
+    let device = on_file(
+        Which::Image,
+        FileDevice::create(rt.alloc(), rt, image, blocks),
+    )?;
     match mkfs(rt.alloc(), device, blocks) {
         Ok(_) => Ok(()),
         Err(unformatted) => Err(Fault::Format(unformatted.fault)),
@@ -63,19 +72,32 @@ fn format<
     write_replies(rt.alloc(), &[Reply::Done], out)
 }
 
+/// The events of the script at a path.
+fn events_at<F: FileExt + OpenFile + Read + Drop, R: Files<File = F> + AllocGlobal>(
+    rt: &R,
+    script: &str,
+) -> Result<Vec<Event>, Fault>
+    ensures read { IfOk result (λ events. AreEventsOf None events.items) }
+    ensures words { IfErr result (λ why. why ≢ fault.Usage) }
+{
+    let file = on_file(Which::Script, fs::open(rt, script))?;
+    read_events(rt.alloc(), file)
+}
+
 /// Runs the script at a path on the image at another, which is locked as long as the run has it.
 fn run_on<
     F: FileExt + OpenFile + LockFile + Read + Drop,
     R: Files<File = F> + AllocGlobal,
     W: Write,
->(rt: &R, image: &str, script: &str, out: &mut W) -> Result<(), Fault>
-    ensures done { OnOk result (SaysSome (W.contents out.old) (W.contents out.new)) }
-    ensures front { OnErr result (BeginsToSaySome (W.contents out.old) (W.contents out.new)) }
+    L: Watch,
+>(rt: &R, image: &str, script: &str, out: &mut W, watch: &mut L) -> Result<(), Fault>
+    ensures done { OnOk result (SaysRun (W.contents out.old) (W.contents out.new)) }
+    ensures front { OnErr result (BeginsToSayRun (W.contents out.old) (W.contents out.new)) }
     ensures words { IfErr result (λ why. why ≢ fault.Usage) }
 {
-    let events = read_events(rt.alloc(), fs::open(rt, script)?)?;
-    let device = FileDevice::open(rt.alloc(), rt, image)?;
-    let Answered { ran, written } = answer(rt.alloc(), device, events.as_slice(), out);
+    let events = events_at(rt, script)?;
+    let device = on_file(Which::Image, FileDevice::open(rt.alloc(), rt, image))?;
+    let Answered { ran, written } = answer(rt.alloc(), device, events.as_slice(), out, watch);
     outcome(ran.end, written)
 }
 
@@ -88,7 +110,7 @@ fn copy_of<F: FileExt + OpenFile + Drop>(
     ensures status { IfOk result (λ d. status_of d ≡ uncalled (length (contents_of d))) }
     ensures faults { IfErr result IsOfFile }
 {
-    let bytes = image.read_all(alloc)?;
+    let bytes = on_file(Which::Image, image.read_all(alloc))?;
     let copy = MemDevice::from_bytes(alloc, bytes.as_slice())?;
     Ok(copy)
 }
@@ -112,8 +134,11 @@ fn copy_and_read<F: FileExt + OpenFile + LockFile + Read + Drop, R: Files<File =
     ensures status { IfOk result (λ c. status_of c.copy ≡ uncalled (length (contents_of c.copy))) }
     ensures words { IfErr result (λ why. why ≢ fault.Usage) }
 {
-    let events = read_events(rt.alloc(), fs::open(rt, script)?)?;
-    let mut image = FileDevice::open_to_read(rt.alloc(), rt, image)?;
+    let events = events_at(rt, script)?;
+    let mut image = on_file(
+        Which::Image,
+        FileDevice::open_to_read(rt.alloc(), rt, image),
+    )?;
     let copy = copy_of(rt.alloc(), &mut image)?;
     Ok(Copied {
         events,
@@ -127,7 +152,7 @@ fn unsaved(end: End, error: io::Error) -> Fault
     ensures { result ≢ fault.Usage }
 {
     match Fault::of_end(end) {
-        Ok(()) => Fault::from(error),
+        Ok(()) => Fault::of_file(Which::Saved, error),
         Err(fault) => fault,
     }
 }
@@ -148,6 +173,7 @@ fn cut_short<
     F: FileExt + OpenFile + LockFile + Read + Drop,
     R: Files<File = F> + AllocGlobal,
     W: Write,
+    L: Watch,
 >(
     rt: &R,
     cut: u32,
@@ -156,6 +182,7 @@ fn cut_short<
     script: &str,
     saved: &str,
     out: &mut W,
+    watch: &mut L,
 ) -> Result<Option<Fault>, Fault>
     ensures done { IfOk result (λ told. LeavesOfCopy fill told (W.contents out.old) (W.contents out.new)) }
     ensures front { OnErr result (BeginsOfCopy fill (W.contents out.old) (W.contents out.new)) }
@@ -171,7 +198,7 @@ fn cut_short<
         written,
         left,
         ..
-    } = answer_cut(rt.alloc(), copy, cut, fill, events.as_slice(), out);
+    } = answer_cut(rt.alloc(), copy, cut, fill, events.as_slice(), out, watch);
     match image.save_elsewhere(rt.alloc(), rt, saved, left.contents()) {
         Ok(()) => Ok(told_of(end, written)),
         Err(error) => Err(unsaved(end, error)),
@@ -189,19 +216,19 @@ fn quietly(done: Result<(), Fault>) -> Result<Option<Fault>, Fault>
     }
 }
 
-/// Does what the words ask for. A fault that comes with what was done is one of a run that was cut short.
+/// Does what a task asks for. A fault that comes with what was done is one of a run that was cut short.
 fn execute<
     F: FileExt + OpenFile + LockFile + Read + Drop,
     R: Files<File = F> + AllocGlobal,
     W: Write,
-    S: AsStr,
->(rt: &R, words: &[S], out: &mut W) -> Result<Option<Fault>, Fault>
-    ensures done { IfOk result (λ told. IsDone (map S.text words.now) told (W.contents out.old) (W.contents out.new)) }
-    ensures front { OnErr result (HasBegun (map S.text words.now) (W.contents out.old) (W.contents out.new)) }
-    ensures words { IsErrOf result fault.Usage → out.new ≡ out.old }
+    L: Watch,
+>(rt: &R, task: Task<'_>, out: &mut W, watch: &mut L) -> Result<Option<Fault>, Fault>
+    ensures done { IfOk result (λ told. Leaves task.entry told (W.contents out.old) (W.contents out.new)) }
+    ensures front { OnErr result (Keeps (W.contents out.old) (W.contents out.new) ⊎ Begins task.entry (W.contents out.old) (W.contents out.new)) }
+    ensures words { IfErr result (λ why. why ≢ fault.Usage) }
 {
-    match parse(rt.alloc(), words)? {
-        Task::Run { image, script } => quietly(run_on(rt, image, script, out)),
+    match task {
+        Task::Run { image, script } => quietly(run_on(rt, image, script, out, watch)),
         Task::Mkfs { image, blocks } => quietly(format(rt, image, blocks, out)),
         Task::StopAt {
             cut,
@@ -209,20 +236,56 @@ fn execute<
             image,
             script,
             out: saved,
-        } => cut_short(rt, cut, fill, image, script, saved, out),
+        } => cut_short(rt, cut, fill, image, script, saved, out, watch),
+    }
+}
+
+/// Tells a fault of a task, a person also of which file it is. Gives the exit status.
+fn tell_of<E: Write, P: Write>(fault: Fault, task: Task<'_>, err: &mut E, person: &mut P) -> u8
+    ensures { result ≡ exit_of fault }
+{
+    let status = tell(fault, err);
+    explain(fault, task, person);
+    status
+}
+
+/// Does what a task asks for, and tells what came of it.
+fn perform<
+    F: FileExt + OpenFile + LockFile + Read + Drop,
+    R: Files<File = F> + AllocGlobal + Clock,
+    W: Write,
+    E: Write,
+    P: Write,
+>(rt: &R, task: Task<'_>, out: &mut W, err: &mut E, person: &mut P) -> u8
+    ensures done { result ≡ 0 → (told : Option Why) × Leaves task.entry told (W.contents out.old) (W.contents out.new) }
+    ensures front { result ≢ 0 → Keeps (W.contents out.old) (W.contents out.new) ⊎ Begins task.entry (W.contents out.old) (W.contents out.new) }
+    ensures quiet { result ≡ 0 → IsStop task.entry ⊎ (err.new ≡ err.old) }
+    ensures status { result ≤ 1 }
+{
+    let mut progress = Progress::new(rt, person);
+    let done = execute(rt, task, out, &mut progress);
+    progress.end();
+    match done {
+        Ok(None) => 0,
+        Ok(Some(fault)) => {
+            tell_of(fault, task, err, person);
+            0
+        }
+        Err(fault) => tell_of(fault, task, err, person),
     }
 }
 
 /// Does what the words ask for, and gives the exit status: 0 where it was done, 2 for words that are no
 /// command, else 1. A fault is told by a line on standard error, also that of a run which was cut short and whose
-/// remains were saved, where the status is 0.
+/// remains were saved, where the status is 0. `person` is told which file failed and why, and how far a long run has come.
 pub fn program<
     F: FileExt + OpenFile + LockFile + Read + Drop,
-    R: Files<File = F> + AllocGlobal,
+    R: Files<File = F> + AllocGlobal + Clock,
     W: Write,
     E: Write,
+    P: Write,
     S: AsStr,
->(rt: &R, words: &[S], out: &mut W, err: &mut E) -> u8
+>(rt: &R, words: &[S], out: &mut W, err: &mut E, person: &mut P) -> u8
     // What was written are the lines of replies, or the front of them. Which bytes a file gave, and what one holds now,
     // can't be said: so nor can the replies of a run on one. Those of a run on a copy are of one from some image on.
     ensures done { result ≡ 0 → (told : Option Why) × IsDone (map S.text words.now) told (W.contents out.old) (W.contents out.new) }
@@ -231,12 +294,8 @@ pub fn program<
     ensures quiet { result ≡ 0 → AsksToStop (map S.text words.now) ⊎ (err.new ≡ err.old) }
     ensures status { result ≤ 2 }
 {
-    match execute(rt, words, out) {
-        Ok(None) => 0,
-        Ok(Some(fault)) => {
-            tell(fault, err);
-            0
-        }
-        Err(fault) => tell(fault, err),
+    match parse(rt.alloc(), words) {
+        Ok(task) => perform(rt, task, out, err, person),
+        Err(fault) => tell(Fault::from(fault), err),
     }
 }

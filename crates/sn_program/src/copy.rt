@@ -1,5 +1,5 @@
 //! Runs that are cut short, on a copy of an image.
-ghost use Rattle.std.specs.Prelude.{◌≡◌, IfErr, OnOk};
+ghost use Rattle.std.specs.Prelude.{IfErr, OnOk};
 ghost use Rattle.std.specs.Io.KnownBytes.{Appends};
 ghost use Rattle.sn_device.specs.Memory.{contents_of, disk_of, status_of};
 ghost use Rattle.sn_program.specs.Answers.{AppendsFront};
@@ -11,7 +11,7 @@ use crate::fault::Fault;
 use crate::run::{Answered, answer};
 use sn_device::{Fill, MemDevice};
 use sn_model::{End, Event, Reply};
-use sn_run::Ran;
+use sn_run::{Ran, Watch};
 use std::alloc::Global;
 use std::io::Write;
 
@@ -26,13 +26,14 @@ pub struct CutShort {
 
 /// Runs events on a copy that takes so many more writes, writes the replies, and crashes: each sector that was written
 /// since the last sync that succeeded is filled.
-pub fn answer_cut<W: Write>(
+pub fn answer_cut<W: Write, L: Watch>(
     alloc: Global,
     copy: MemDevice,
     cut: u32,
     fill: Fill,
     events: &[Event],
     out: &mut W,
+    watch: &mut L,
 ) -> CutShort
     // The run is one on this copy, and what is left is what the crash leaves of it. That it is cut behind so many writes
     // no clause says: a run tells of its device only what every device tells.
@@ -45,7 +46,7 @@ pub fn answer_cut<W: Write>(
 {
     let mut copy = copy;
     copy.stop_at(u64::from(cut));
-    let Answered { ran, written } = answer(alloc, copy, events, out);
+    let Answered { ran, written } = answer(alloc, copy, events, out, watch);
     let Ran {
         replies,
         end,

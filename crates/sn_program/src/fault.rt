@@ -1,4 +1,4 @@
-ghost use Rattle.std.specs.Prelude.{◌≡◌};
+ghost use Rattle.std.specs.Prelude.{◌≡◌, Ok, IfOk, IfErr};
 ghost use Rattle.sn_program.specs.Fault.{status_of, fault_of, fault_of_words, IsOfFile};
 ghost use Rattle.sn_program.specs.declared.fault.Fault.TheVariants as fault;
 
@@ -11,17 +11,28 @@ use std::io;
 use std::io::Write;
 use thiserror::Error;
 
+/// One of the files of a command.
+#[derive(Clone, Copy, Debug, PartialEq, Eq)]
+pub enum Which {
+    Script,
+    Image,
+    /// OUT, which is to have what a run that was cut short has left.
+    Saved,
+    /// Standard output.
+    Output,
+}
+
 /// Why the program ends without having done all that was asked. The text is the line on standard
 /// error, behind `snapfs: `.
-#[derive(Clone, Copy, Debug, PartialEq, Eq, Error)]
+#[derive(Clone, Copy, Debug, Error)]
 pub enum Fault {
     #[error("usage")]
     Usage,
     #[error(transparent)]
     Script(ScriptFault),
-    /// The script can't be read, or standard output can't be written.
+    /// A file can't be opened, read, written or locked, or isn't one that serves.
     #[error("file")]
-    File,
+    File { which: Which, error: io::Error },
     #[error("memory")]
     Memory,
     /// There was no mount.
@@ -36,6 +47,16 @@ pub enum Fault {
 }
 
 impl Fault {
+    /// What an error of a file comes to: want of memory is one of the program.
+    pub fn of_file(which: Which, error: io::Error) -> Fault
+        ensures { IsOfFile result }
+    {
+        match error.kind() {
+            io::ErrorKind::OutOfMemory => Fault::Memory,
+            _ => Fault::File { which, error },
+        }
+    }
+
     /// The exit status: 2 for words that are no command, else 1.
     pub fn status(self) -> u8
         ensures { result ≡ status_of self }
@@ -59,6 +80,17 @@ impl Fault {
     }
 }
 
+/// What was done with a file of the command.
+pub(crate) fn on_file<T>(which: Which, done: io::Result<T>) -> Result<T, Fault>
+    ensures done { IfOk result (λ found. done ≡ Ok found) }
+    ensures failed { IfErr result IsOfFile }
+{
+    match done {
+        Ok(found) => Ok(found),
+        Err(error) => Err(Fault::of_file(which, error)),
+    }
+}
+
 /// Writes the fault's line, and gives the exit status, which also holds where the line can't be written.
 pub fn tell<W: Write>(fault: Fault, err: &mut W) -> u8
     ensures { result ≡ status_of fault }
@@ -72,17 +104,6 @@ impl From<AllocError> for Fault {
 
     fn from(_error: AllocError) -> Fault {
         Fault::Memory
-    }
-}
-
-impl From<io::Error> for Fault {
-    ghost from_gives = { λ _ given. IsOfFile given };
-
-    fn from(error: io::Error) -> Fault {
-        match error.kind() {
-            io::ErrorKind::OutOfMemory => Fault::Memory,
-            _ => Fault::File,
-        }
     }
 }
 

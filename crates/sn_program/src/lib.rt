@@ -1,5 +1,6 @@
-//! What the program `snapfs` does, over the files of a handle and two writers: its `main` adds nothing but the words
-//! of the command line and the two streams of the process.
+//! What the program `snapfs` does, over the files of a handle and three writers: its `main` adds nothing but the words
+//! of the command line and the streams of the process. The third writer is for a person: a [`Person`] is standard error where
+//! that is a terminal.
 //!
 //! [`program`] is all of it. It reads the words by `sn_command`, the script's file by [`read_events`], and [`answer`] runs
 //! the events on a device and writes their replies: its clauses, by `specs/Answers`, speak of every device that tells its
@@ -11,7 +12,7 @@
 //! What the sources leave open is decided in `docs/DECISIONS.md`, under "Scripts and the program".
 //!
 //! ```text
-//! let status = program(&rt, &["run", "disk.img", "first.snap"], &mut out, &mut err);
+//! let status = program(&rt, &["run", "disk.img", "first.snap"], &mut out, &mut err, &mut Person::at(rt.stderr()));
 //! ```
 #![tactic(auto)]
 
@@ -19,11 +20,14 @@ mod command;
 mod copy;
 mod fault;
 mod output;
+mod person;
+mod progress;
 mod run;
 mod script;
 
 pub use command::program;
 pub use copy::{CutShort, answer_cut};
-pub use fault::{Fault, tell};
+pub use fault::{Fault, Which, tell};
+pub use person::Person;
 pub use run::{Answered, answer, outcome};
 pub use script::read_events;

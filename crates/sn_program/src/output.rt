@@ -1,11 +1,11 @@
-ghost use Rattle.std.specs.Prelude.{◌≡◌, ◌≤◌, [], length, take, OnOk, OnErr, IfOk, IfErr};
+ghost use Rattle.std.specs.Prelude.{◌≤◌, [], length, take, OnOk, OnErr, IfOk, IfErr};
 ghost use Rattle.std.specs.List.{flat_map};
 ghost use Rattle.std.specs.Io.KnownBytes.{Appends};
 ghost use Rattle.sn_replies.specs.Replies.{reply_line};
 ghost use Rattle.sn_program.specs.Answers.{AppendsFront};
 ghost use Rattle.sn_program.specs.Fault.{IsOfFile};
 
-use crate::fault::Fault;
+use crate::fault::{Fault, Which, on_file};
 use sn_model::Reply;
 use sn_replies::print_replies;
 use std::alloc::Global;
@@ -59,7 +59,6 @@ pub(crate) fn write_replies<W: Write>(
     ensures faults { IfErr result IsOfFile }
 {
     let text = print_replies(alloc, replies)?;
-    write_front(out, text.as_slice())?;
-    out.flush()?;
-    Ok(())
+    on_file(Which::Output, write_front(out, text.as_slice()))?;
+    on_file(Which::Output, out.flush())
 }

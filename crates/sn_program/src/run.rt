@@ -1,6 +1,7 @@
 //! Runs over a device.
-ghost use Rattle.std.specs.Prelude.{◌≡◌, IsTrue, OnOk, IfErr};
+ghost use Rattle.std.specs.Prelude.{◌≡◌, IsTrue, OnOk, IfErr, length};
 ghost use Rattle.std.specs.Io.KnownBytes.{Appends};
+ghost use Rattle.sn_model.specs.declared.mount.End.TheVariants as ending;
 ghost use Rattle.sn_program.specs.Answers.{AppendsFront, IsRun};
 ghost use Rattle.sn_program.specs.Fault.{IsOfFile, outcome_of};
 ghost use Rattle.sn_program.specs.Tasks.{lines_of};
@@ -9,7 +10,7 @@ use crate::fault::Fault;
 use crate::output::write_replies;
 use sn_device::Device;
 use sn_model::{End, Event};
-use sn_run::{Ran, run};
+use sn_run::{Ran, Watch, run};
 use std::alloc::Global;
 use std::io::Write;
 
@@ -21,21 +22,25 @@ pub struct Answered<D: Device> {
 }
 
 /// Runs events on a device, and writes the replies, also where the run doesn't end well.
-pub fn answer<D: Device, W: Write>(
+pub fn answer<D: Device, W: Write, L: Watch>(
     alloc: Global,
     device: D,
     events: &[Event],
     out: &mut W,
+    watch: &mut L,
 ) -> Answered<D>
     ensures run { IsTrue D.tells_bytes → IsRun result.ran.end events.now result.ran.replies.items
         (D.disk device) (D.status device) (D.disk result.ran.device) (D.status result.ran.device) }
+
+    // Over any device: each event has its reply where the run ended well.
+    ensures counted { result.ran.end ≡ ending.Clean → length result.ran.replies.items ≡ length events.now }
 
     // Nothing but the lines of its replies is written: all of them, or where that fails, the front.
     ensures written { OnOk result.written (Appends (W.contents out.old) (W.contents out.new) (lines_of result.ran.replies.items)) }
     ensures front { AppendsFront (W.contents out.old) (W.contents out.new) (lines_of result.ran.replies.items) }
     ensures faults { IfErr result.written IsOfFile }
 {
-    let ran = run(alloc, device, events);
+    let ran = run(alloc, device, events, watch);
     let written = write_replies(alloc, ran.replies.as_slice(), out);
     Answered { ran, written }
 }

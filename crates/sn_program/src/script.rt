@@ -6,20 +6,28 @@ ghost use Rattle.sn_program.specs.Answers.{AreEventsOf};
 ghost use Rattle.sn_program.specs.Fault.{IsOfFile, IsOfScript, IsUnread};
 ghost use Rattle.sn_program.specs.declared.fault.Fault.TheVariants as fault;
 
-use crate::fault::Fault;
+use crate::fault::{Fault, Which, on_file};
 use sn_model::Event;
 use sn_script::{SCRIPT_MAX, read_script};
 use std::alloc::Global;
+use std::io;
 use std::io::Read;
 
 /// The bytes of a script, and no more than one byte past the most that a script may have.
-fn read_bytes<R: Read + Drop>(alloc: Global, reader: R) -> Result<Vec<u8>, Fault>
-    ensures read { IfOk result (λ bytes. IfSome (R.remaining reader) (λ all. bytes.items ≡ take 16777217 all)) }
-    ensures faults { IfErr result IsOfFile }
+fn take_bytes<R: Read + Drop>(alloc: Global, reader: R) -> io::Result<Vec<u8>>
+    ensures { IfOk result (λ bytes. IfSome (R.remaining reader) (λ all. bytes.items ≡ take 16777217 all)) }
 {
     let mut bytes = Vec::new(alloc);
     reader.take(SCRIPT_MAX as u64 + 1).read_to_end(&mut bytes)?;
     Ok(bytes)
+}
+
+/// The same, of the command's script.
+fn read_bytes<R: Read + Drop>(alloc: Global, reader: R) -> Result<Vec<u8>, Fault>
+    ensures read { IfOk result (λ bytes. IfSome (R.remaining reader) (λ all. bytes.items ≡ take 16777217 all)) }
+    ensures faults { IfErr result IsOfFile }
+{
+    on_file(Which::Script, take_bytes(alloc, reader))
 }
 
 /// The events of the script that a reader has left to give, all of it.

@@ -11,7 +11,8 @@
 //! - [`run`]: the replies and the end are those of a whole run of the machine from the world that the disk
 //!   is an image of. A crash in the course of an event leaves what the machine's run leaves that is cut short in
 //!   that event or behind it, and behind the last event all that was answered (`LeavesItsRun`). A disk without a
-//!   root is told by its fault.
+//!   root is told by its fault. Over any device each event has its reply, unless there was no mount; and a [`Watch`]
+//!   is told how far the run has come.
 //! - [`no_failure_is_invented`]: where the device didn't fail, no event was refused for a failure.
 //! - [`only_its_end_fails`]: where the device's count of failures stayed, each failure was the device's end: a
 //!   device whose type keeps that count at 0 fails in no other way.
@@ -20,14 +21,16 @@
 //! What the sources leave open is decided in `docs/DECISIONS.md`, under "Mount and calls over a device".
 //!
 //! ```text
-//! let Ran { replies, end, device } = run(alloc, device, &events);
+//! let Ran { replies, end, device } = run(alloc, device, &events, &mut Unwatched);
 //! ```
 #![tactic(auto)]
 
 mod laws;
 mod running;
 mod server;
+mod watch;
 
 pub use laws::{crash_laws, no_failure_is_invented, only_its_end_fails};
 pub use running::{Ran, run};
 pub use server::Server;
+pub use watch::{Unwatched, Watch};

@@ -1,15 +1,16 @@
 //! Whole runs.
-ghost use Rattle.std.specs.Prelude.{◌≡◌, ◌≤◌, [], IsTrue, IfOk, length, vec_capacity};
+ghost use Rattle.std.specs.Prelude.{◌≡◌, ◌⊎◌, ◌≤◌, [], IsTrue, IfOk, length, vec_capacity};
 ghost use Rattle.sn_device.specs.Disk.{reads};
 ghost use Rattle.sn_limits.specs.Versions.{version_1};
 ghost use Rattle.sn_model.specs.Machine.{Anything, Lacks, WholeRun};
 ghost use Rattle.sn_model.specs.World.{World};
+ghost use Rattle.sn_model.specs.declared.mount.End.TheVariants as ending;
 ghost use Rattle.sn_model.specs.declared.mount.MountFault.{MountFault};
 ghost use Rattle.sn_held.specs.Images.{IsLiveImage};
 ghost use Rattle.sn_run.specs.Runs.{AnswersAll, IsRunOf, LacksRoot, RunsTo};
 ghost use Rattle.sn_run.specs.Servers.{IsServer, is_stopped, standing};
 
-use crate::Server;
+use crate::{Server, Watch};
 use sn_device::Device;
 use sn_fs::{Unmounted, mount};
 use sn_model::{End, Event, Reply};
@@ -32,17 +33,19 @@ fn room_for(alloc: Global, count: usize) -> Result<Vec<Reply>, AllocError>
 }
 
 /// Answers events in their order, into a list that has room for the replies.
-fn answer_all<D: Device>(
+fn answer_all<D: Device, W: Watch>(
     alloc: Global,
     server: Server<D>,
     events: &[Event],
     replies: &mut Vec<Reply>,
+    watch: &mut W,
 ) -> Server<D>
     requires sound { IsServer server }
     requires empty { replies.old.items ≡ [] }
     requires room { length events.now ≤ vec_capacity replies.old }
     ensures answered { IsTrue D.tells_bytes → AnswersAll events.now replies.new.items
         (standing server) (is_stopped server) (standing result) (is_stopped result) }
+    ensures counted { length replies.new.items ≡ length events.now }
     ensures sound { IsServer result }
 {
     let mut server = server;
@@ -50,6 +53,7 @@ fn answer_all<D: Device>(
         let (reply, next) = server.answer(alloc, event);
         replies.push_reserved(reply);
         server = next;
+        watch.answered(replies.len(), events.len());
     }
     server
 }
@@ -58,14 +62,18 @@ fn answer_all<D: Device>(
 ///
 /// The room for the replies is looked for first: without it nothing is done, and the end is `Memory`.
 /// Where there is no mount the end has its cause, and no event is answered. It is `Stopped` where a
-/// failure of the device has stopped the mount, or a restart found none, and `Clean` otherwise.
-pub fn run<D: Device>(alloc: Global, device: D, events: &[Event]) -> Ran<D>
+/// failure of the device has stopped the mount, or a restart found none, and `Clean` otherwise. Behind each
+/// event `watch` is told how many were answered.
+pub fn run<D: Device, W: Watch>(alloc: Global, device: D, events: &[Event], watch: &mut W) -> Ran<D>
     ensures runs { IsTrue D.tells_bytes → RunsTo result.end events.now result.replies.items
         (D.disk device) (D.status device) (D.disk result.device) (D.status result.device) }
     ensures machine { IsTrue D.tells_bytes → (world : World) → IsLiveImage (reads (D.disk device)) world
         → IsRunOf world events.now result.replies.items result.end (D.disk device) (D.disk result.device) }
     ensures unfit { IsTrue D.tells_bytes → (fault : MountFault) → LacksRoot (D.status device).sectors (reads (D.disk device)) fault
         → WholeRun Anything version_1 (Lacks fault) events.now result.replies.items result.end }
+
+    // Over any device: each event has its reply where there was a mount.
+    ensures counted { (result.end ≡ ending.Clean) ⊎ (result.end ≡ ending.Stopped) → length result.replies.items ≡ length events.now }
 {
     let Ok(mut replies) = room_for(alloc, events.len()) else {
         return Ran {
@@ -76,7 +84,7 @@ pub fn run<D: Device>(alloc: Global, device: D, events: &[Event]) -> Ran<D>
     };
     match mount(alloc, device) {
         Ok(fs) => {
-            let server = answer_all(alloc, Server::Mounted(fs), events, &mut replies);
+            let server = answer_all(alloc, Server::Mounted(fs), events, &mut replies, watch);
             let end = if server.is_stopped() {
                 End::Stopped
             } else {

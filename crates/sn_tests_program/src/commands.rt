@@ -1,8 +1,9 @@
 //! Commands on files, one after the other.
 //!
 //! A line of `commands.txt` is `WORDS => STATUS, LINE, LINE..`: the status that the words end with, and the lines that they
-//! write, those of standard output before those of standard error. Or it makes a file: `NAME << LINE|LINE..` a script of
-//! these lines, `NAME from OTHER LENGTH` the front of another file, `NAME set OFFSET BYTE` one byte of it anew.
+//! write: those of standard output, of standard error, and those that a person is told. Or it makes a file: `NAME << LINE|LINE..`
+//! a script of these lines, `NAME from OTHER LENGTH` the front of another file, `NAME with OTHER COUNT` another file and so many
+//! zeros behind it, `NAME set OFFSET BYTE` one byte of it anew.
 
 use crate::ended::Ended;
 use anyhow::{Context, Result, bail};
@@ -14,8 +15,8 @@ const COMMANDS: &str = "commands.txt";
 /// The status of an end and its lines, behind commas.
 fn told(rt: &HostRuntime, ended: &Ended) -> Result<String> {
     let mut text = format!(in rt.alloc(); "{}", ended.status)?;
-    for written in [ended.out.as_slice(), ended.err.as_slice()] {
-        for line in str::from_utf8(written)?.lines() {
+    for written in [&ended.out, &ended.err, &ended.person] {
+        for line in str::from_utf8(written.as_slice())?.lines() {
             write!(text, ", {line}")?;
         }
     }
@@ -51,6 +52,13 @@ fn take_front(rt: &HostRuntime, name: &str, other: &str, length: usize) -> Resul
     Ok(fs::write(rt, name, front)?)
 }
 
+/// Another file, and so many zeros behind it.
+fn take_with(rt: &HostRuntime, name: &str, other: &str, count: usize) -> Result<()> {
+    let mut bytes = fs::read(rt, other)?;
+    bytes.resize(bytes.len().saturating_add(count), 0)?;
+    Ok(fs::write(rt, name, bytes.as_slice())?)
+}
+
 fn set_byte(rt: &HostRuntime, name: &str, offset: &str, byte: u8) -> Result<()> {
     let mut bytes = fs::read(rt, name)?;
     let offset: usize = offset.parse()?;
@@ -58,7 +66,7 @@ fn set_byte(rt: &HostRuntime, name: &str, offset: &str, byte: u8) -> Result<()> 
     Ok(fs::write(rt, name, bytes.as_slice())?)
 }
 
-/// Takes the front of a file for another one, or changes a byte.
+/// Makes a file of another one, or changes a byte.
 fn make_file(rt: &HostRuntime, line: &str) -> Result<()> {
     let words: Vec<&str> = line.split(' ').collect(rt.alloc())?;
     let &[name, verb, first, second] = words.as_slice() else {
@@ -66,6 +74,7 @@ fn make_file(rt: &HostRuntime, line: &str) -> Result<()> {
     };
     match verb {
         "from" => take_front(rt, name, first, second.parse()?),
+        "with" => take_with(rt, name, first, second.parse()?),
         "set" => set_byte(rt, name, first, second.parse()?),
         _ => bail!("no command: {line}"),
     }

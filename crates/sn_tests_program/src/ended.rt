@@ -2,20 +2,28 @@ use sn_program::program;
 use std::convert::AsStr;
 use std::io;
 
-/// What a run of the program leaves: its status, and what it wrote to its two outputs.
+/// What a run of the program leaves: its status, and what it wrote to its outputs.
 #[derive(Drop)]
 pub struct Ended {
     pub status: u8,
     pub out: Vec<u8>,
     pub err: Vec<u8>,
+    /// What a person was told.
+    pub person: Vec<u8>,
 }
 
 impl Ended {
     pub fn of_words<S: AsStr>(rt: &HostRuntime, words: &[S]) -> Ended {
         let mut out = Vec::new(rt.alloc());
         let mut err = Vec::new(rt.alloc());
-        let status = program(rt, words, &mut out, &mut err);
-        Ended { status, out, err }
+        let mut person = Vec::new(rt.alloc());
+        let status = program(rt, words, &mut out, &mut err, &mut person);
+        Ended {
+            status,
+            out,
+            err,
+            person,
+        }
     }
 
     /// A run of a script on an image that is made for it: a log record takes two sectors at least, so that the free blocks

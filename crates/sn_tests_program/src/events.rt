@@ -5,7 +5,7 @@ use sn_device::MemDevice;
 use sn_model::{End, Event, Reply};
 use sn_mounted::new_device;
 use sn_replies::print_replies;
-use sn_run::{Ran, run};
+use sn_run::{Ran, Unwatched, run};
 use sn_script::read_script;
 use std::alloc::Global;
 use std::str;
@@ -34,7 +34,12 @@ pub fn events_of(alloc: Global, text: &str) -> Result<Vec<Event>> {
 /// A line for each event of a run on a new disk, which has to end well.
 pub fn replies(alloc: Global, text: &str) -> Result<String> {
     let events = events_of(alloc, text)?;
-    let Ran { replies, end, .. } = run(alloc, new_device(alloc)?, events.as_slice());
+    let Ran { replies, end, .. } = run(
+        alloc,
+        new_device(alloc)?,
+        events.as_slice(),
+        &mut Unwatched,
+    );
     ensure!(end == End::Clean, "no memory for the run");
     lines_of(alloc, replies.as_slice())
 }
@@ -47,6 +52,6 @@ fn lines_of(alloc: Global, replies: &[Reply]) -> Result<String> {
 /// A line for each event of a run on a device, or none where it isn't mounted.
 pub fn found_on(alloc: Global, device: MemDevice, text: &str) -> Result<String> {
     let events = events_of(alloc, text)?;
-    let Ran { replies, .. } = run(alloc, device, events.as_slice());
+    let Ran { replies, .. } = run(alloc, device, events.as_slice(), &mut Unwatched);
     lines_of(alloc, replies.as_slice())
 }

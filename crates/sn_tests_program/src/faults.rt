@@ -2,12 +2,12 @@
 
 use sn_mkfs::MkfsFault;
 use sn_model::{Damage, MountFault};
-use sn_program::{Fault, program, tell};
+use sn_program::{Fault, Which, program, tell};
 use sn_script::ScriptFault;
 use std::io::{ErrorKind, Write};
 use std::{fs, io};
 
-const FAULTS: [(Fault, &str, u8); 9] = [
+const FAULTS: [(Fault, &str, u8); 8] = [
     (Fault::Usage, "snapfs: usage\n", 2),
     (
         Fault::Script(ScriptFault::Line(7)),
@@ -15,7 +15,6 @@ const FAULTS: [(Fault, &str, u8); 9] = [
         1,
     ),
     (Fault::Script(ScriptFault::Memory), "snapfs: memory\n", 1),
-    (Fault::File, "snapfs: file\n", 1),
     (Fault::Memory, "snapfs: memory\n", 1),
     (Fault::Mount(MountFault::Memory), "snapfs: M5\n", 1),
     (
@@ -82,10 +81,19 @@ const REPLIES: &[u8] = b"ok\nok d 0755 1 0 0 0\nok\n";
 
 /// A reply that can't be written is a fault of a file; the status holds where the fault can't be told either.
 fn holds_where_closed(rt: &HostRuntime) -> bool {
-    let mut err = Vec::new(rt.alloc());
-    let unwritten = program(rt, &SCRIPT, &mut Closed, &mut err);
-    let untold = program(rt, &["run"], &mut Closed, &mut Closed);
-    unwritten == 1 && err.as_slice() == b"snapfs: file\n".as_slice() && untold == 2
+    let (mut err, mut person) = (Vec::new(rt.alloc()), Vec::new(rt.alloc()));
+    let unwritten = program(rt, &SCRIPT, &mut Closed, &mut err, &mut person);
+    let untold = program(rt, &["run"], &mut Closed, &mut Closed, &mut Closed);
+    let is_told = err.as_slice() == b"snapfs: file\n".as_slice()
+        && person.as_slice() == b"snapfs: standard output: broken pipe\n".as_slice();
+    unwritten == 1 && is_told && untold == 2
+}
+
+/// An error of a file is told by its own line alone, and want of memory by that of the program.
+fn tells_files(rt: &HostRuntime) -> bool {
+    let closed = Fault::of_file(Which::Image, io::Error::from(ErrorKind::NotFound));
+    let refused = Fault::of_file(Which::Script, io::Error::from(ErrorKind::OutOfMemory));
+    is_told(rt, closed, "snapfs: file\n", 1) && is_told(rt, refused, "snapfs: memory\n", 1)
 }
 
 /// Whatever room an output has, it holds the front of the replies, and status 0 says that it holds all.
@@ -96,7 +104,7 @@ fn holds_the_front(rt: &HostRuntime) -> io::Result<bool> {
             taken: Vec::new(rt.alloc()),
             room,
         };
-        let status = program(rt, &SCRIPT, &mut out, &mut err);
+        let status = program(rt, &SCRIPT, &mut out, &mut err, &mut io::sink());
         let whole = out.taken.as_slice() == REPLIES;
         let front = REPLIES.starts_with(out.taken.as_slice());
         if !front || (status == 0) != whole {
@@ -111,8 +119,14 @@ fn holds_the_front(rt: &HostRuntime) -> io::Result<bool> {
 fn holds_where_cut_short(rt: &HostRuntime) -> bool {
     let (mut err, mut made) = (Vec::new(rt.alloc()), Vec::new(rt.alloc()));
     let cut = ["stop-at", "9", "old", SCRIPT[1], SCRIPT[2], "left.img"];
-    let saved = program(rt, &cut, &mut Closed, &mut err);
-    let unsaid = program(rt, &["mkfs", "other.img", "256"], &mut Closed, &mut made);
+    let saved = program(rt, &cut, &mut Closed, &mut err, &mut Closed);
+    let unsaid = program(
+        rt,
+        &["mkfs", "other.img", "256"],
+        &mut Closed,
+        &mut made,
+        &mut Closed,
+    );
     let line = b"snapfs: file\n".as_slice();
     saved == 0 && err.as_slice() == line && unsaid == 1 && made.as_slice() == line
 }
@@ -130,9 +144,14 @@ pub fn run_all(rt: &HostRuntime) -> io::Result<u64> {
     program(
         rt,
         &["mkfs", SCRIPT[1], "256"],
-        &mut Vec::new(rt.alloc()),
-        &mut Vec::new(rt.alloc()),
+        &mut io::sink(),
+        &mut io::sink(),
+        &mut io::sink(),
     );
+    if !tells_files(rt) {
+        println!(rt; "wrong: the faults of files")?;
+        wrong = wrong.saturating_add(1);
+    }
     if !holds_where_cut_short(rt) {
         println!(rt; "wrong: a run that was cut short")?;
         wrong = wrong.saturating_add(1);
@@ -145,6 +164,6 @@ pub fn run_all(rt: &HostRuntime) -> io::Result<u64> {
         println!(rt; "wrong: outputs with little room")?;
         wrong = wrong.saturating_add(1);
     }
-    println!(rt; "faults: {}, wrong: {wrong}", FAULTS.len() + 3)?;
+    println!(rt; "faults: {}, wrong: {wrong}", FAULTS.len() + 4)?;
     Ok(wrong)
 }

@@ -4,7 +4,7 @@ use crate::events::events_of;
 use anyhow::{Result, bail};
 use sn_model::{Call, End, Errno, Event, MountFault, Reply};
 use sn_mounted::new_device;
-use sn_run::Ran;
+use sn_run::{Ran, Unwatched};
 use sn_table::{Report, Tally};
 use std::alloc::Global;
 
@@ -140,7 +140,12 @@ pub fn run(report: &mut Report<'_>) -> Result<()> {
     for call in 1..MOST_CALLS {
         let mut device = new_device(alloc)?;
         device.fail_at(call);
-        let Ran { replies, end, .. } = sn_run::run(alloc, device, events.as_slice());
+        let Ran { replies, end, .. } = sn_run::run(
+            alloc,
+            device,
+            events.as_slice(),
+            &mut Unwatched,
+        );
         match told_by(alloc, events.as_slice(), replies.as_slice(), end)? {
             Told::Nothing => return report.add("refused calls of the device", tally),
             Told::OneCall => tally.count(true),

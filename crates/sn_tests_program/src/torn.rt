@@ -9,7 +9,7 @@ use anyhow::{Result, ensure};
 use sn_device::{Device, MemDevice};
 use sn_model::{End, Event};
 use sn_mounted::{FILLS, crashed, new_device};
-use sn_run::{Ran, run};
+use sn_run::{Ran, Unwatched, run};
 use std::alloc::Global;
 
 /// What is asked behind a crash: attributes, lists of entries, names and bytes.
@@ -73,7 +73,7 @@ fn step_of(alloc: Global, before: &[Event], events: &[Event]) -> Result<Step> {
 }
 
 fn run_whole(alloc: Global, events: &[Event]) -> Result<Whole> {
-    let Ran { end, device, .. } = run(alloc, new_device(alloc)?, events);
+    let Ran { end, device, .. } = run(alloc, new_device(alloc)?, events, &mut Unwatched);
     ensure!(end == End::Clean, "no memory for a run");
     let writes = device.status().writes;
     let found = found_on(alloc, device, ASKED)?;
@@ -144,7 +144,7 @@ fn is_left(alloc: Global, events: &[Event], step: &Step, stop: u64, number: u32)
 fn cut_short(alloc: Global, events: &[Event], stop: u64) -> Result<MemDevice> {
     let mut device = new_device(alloc)?;
     device.stop_at(stop);
-    let Ran { device, .. } = run(alloc, device, events);
+    let Ran { device, .. } = run(alloc, device, events, &mut Unwatched);
     Ok(device)
 }
 

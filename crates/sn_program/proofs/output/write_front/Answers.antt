@@ -1,4 +1,4 @@
-use Rattle.std.proofs.Common.{◌≡◌, ◌+◌, ◌∙◌, length, refl, sym, eqb-true, arith}
+use Rattle.std.proofs.Common.{◌+◌, ◌∙◌, length, refl, sym, eqb-true, arith}
 use Rattle.std.proofs.lemmas.List.{take_rest}
 use Rattle.sn_program.proofs.OutputLemmas.{appends_none, finished, more_few, more_front, more_left, same_more}
 use Rattle.sn_program.proofs.output.write_front.Goals as goal

@@ -1,4 +1,3 @@
-use Rattle.std.proofs.Common.{refl}
 use Rattle.sn_run.proofs.CauseLemmas.{causes}
 use Rattle.sn_program.proofs.run.answer.Goals as goal
 

@@ -1,0 +1,56 @@
+//! What is told to a person alone, and not to programs that read what snapfs writes.
+
+use crate::fault::{Fault, Which};
+use sn_command::Task;
+use std::io;
+use std::io::{IsTerminal, Write};
+
+/// A stream where a person reads it, on a terminal. Elsewhere what is written to it goes nowhere.
+#[derive(Drop)]
+pub struct Person<S: Write + Drop>(Option<S>);
+
+impl<S: Write + IsTerminal + Drop> Person<S> {
+    pub fn at(stream: S) -> Person<S> {
+        if stream.is_terminal() {
+            Person(Some(stream))
+        } else {
+            Person(None)
+        }
+    }
+}
+
+impl<S: Write + Drop> Write for Person<S> {
+    fn write(&mut self, buf: &[u8]) -> io::Result<usize> {
+        match &mut self.0 {
+            Some(stream) => stream.write(buf),
+            None => Ok(buf.len()),
+        }
+    }
+
+    fn flush(&mut self) -> io::Result<()> {
+        match &mut self.0 {
+            Some(stream) => stream.flush(),
+            None => Ok(()),
+        }
+    }
+}
+
+/// The words for one of the files of a task.
+fn name_of<'a>(which: Which, task: Task<'a>) -> &'a str {
+    match (which, task) {
+        (
+            Which::Image,
+            Task::Mkfs { image, .. } | Task::Run { image, .. } | Task::StopAt { image, .. },
+        ) => image,
+        (Which::Script, Task::Run { script, .. } | Task::StopAt { script, .. }) => script,
+        (Which::Saved, Task::StopAt { out, .. }) => out,
+        _ => "standard output",
+    }
+}
+
+/// Tells which file it was that failed in a task, and the system's reason.
+pub(crate) fn explain<P: Write>(fault: Fault, task: Task<'_>, person: &mut P) {
+    if let Fault::File { which, error } = fault {
+        let _ = writeln!(person, "snapfs: {}: {error}", name_of(which, task));
+    }
+}

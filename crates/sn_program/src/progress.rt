@@ -1,0 +1,52 @@
+//! What a person sees of a long run.
+
+use sn_run::Watch;
+use std::io::Write;
+use std::time::{Clock, Instant};
+
+/// Tells once a second how many lines of a script have been answered, in one line that each time stands in the
+/// place of the one before. A run of less than a second tells nothing, and neither does one whose clock fails.
+#[derive(Drop)]
+pub(crate) struct Progress<'a, C: Clock, P: Write> {
+    clock: &'a C,
+    begun: Option<Instant>,
+    /// The second that was told last.
+    told: u64,
+    person: &'a mut P,
+}
+
+impl<'a, C: Clock, P: Write> Progress<'a, C, P> {
+    pub(crate) fn new(clock: &'a C, person: &'a mut P) -> Progress<'a, C, P> {
+        Progress {
+            clock,
+            begun: Instant::now(clock).ok(),
+            told: 0,
+            person,
+        }
+    }
+
+    /// The seconds since the beginning, where the clock tells them.
+    fn seconds(&self) -> Option<u64> {
+        Some(self.begun?.elapsed(self.clock).ok()?.as_secs())
+    }
+
+    /// Takes the line away, if there is one.
+    pub(crate) fn end(self) {
+        if self.told > 0 {
+            let _ = write!(self.person, "\r\x1b[K");
+            let _ = self.person.flush();
+        }
+    }
+}
+
+impl<C: Clock, P: Write> Watch for Progress<'_, C, P> {
+    fn answered(&mut self, done: usize, all: usize) {
+        if let Some(seconds) = self.seconds() {
+            if seconds > self.told {
+                self.told = seconds;
+                let _ = write!(self.person, "\r\x1b[Ksnapfs: {done} of {all} lines");
+                let _ = self.person.flush();
+            }
+        }
+    }
+}
