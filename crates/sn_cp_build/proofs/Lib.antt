@@ -1,0 +1,13 @@
+pub mod BitLemmas
+pub mod SumLemmas
+pub mod ListedLemmas
+pub mod BuiltLemmas
+pub mod SeenLemmas
+pub mod PlaceLemmas
+pub mod NodesLemmas
+pub mod RiseLemmas
+pub mod StepLemmas
+pub mod FrozenLemmas
+pub mod NeedLemmas
+pub mod WholeLemmas
+pub mod NoneLemmas

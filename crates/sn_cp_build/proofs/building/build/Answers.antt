@@ -1,0 +1,50 @@
+use Rattle.std.proofs.Common.{◌≡◌, ◌+◌, ◌<◌, Result, Err, length, IsTrue, ap, subst, arith}
+use Rattle.std.specs.Prelude.{IfErr}
+use Rattle.std.proofs.lemmas.Result.{err_from_is_err_and}
+use Rattle.sn_alloc.specs.Taking.{free_data}
+use Rattle.sn_device.specs.Disk.{reads}
+use Rattle.sn_block.specs.Lending.{device_of}
+use Rattle.sn_layout.specs.Places.{start_of}
+use Rattle.sn_layout.specs.declared.places.Area.TheVariants.{Data}
+use Rattle.sn_ondisk.specs.Trees.{store_of}
+use Rattle.sn_overlay.specs.Needs.{need}
+use Rattle.sn_overlay.specs.Overlays.{layer_of}
+use Rattle.sn_tree.specs.Drafts.{Draft}
+use Rattle.sn_tree.specs.declared.fault.PlanFault.{PlanFault}
+use Rattle.sn_tree.specs.declared.fault.PlanFault.TheVariants.{Full, Tree}
+use Rattle.sn_tree_read.specs.declared.fault.TreeFault.TheVariants.{Damaged}
+use Rattle.sn_cp_build.specs.declared.building.Built.{Built}
+use Rattle.sn_cp_build.specs.Building.{IsTreePlanned}
+use Rattle.sn_cp_build.proofs.WholeLemmas.{all_builds, begun_is, well_built}
+use Rattle.sn_cp_build.proofs.building.build.Goals as goal
+
+pub returns-clause-well : goal.returns-clause-well
+returns-clause-well g c =
+    let s = store_of (reads (g.D.Device.disk (device_of c.args.blocks.now))) in
+    let first = begun_is c.args.map.now c.in_ok-try_clone.field-0 (start_of c.args.places Data) c.start-first.result c.new.result c.new-build.result c.in_ok-try_clone.ensures c.start-first.ensures c.new.ensures c.new-build.ensures in
+    let plan = subst (λ (d : Draft). IsTreePlanned (IsTrue g.D.Device.tells_bytes) c.args.root.now.limits s c.args.root.now.inode_file (layer_of c.args.changes) c.in_ok-inode_file.inode_file d c.plan_tree.new.build) first c.in_ok-inode_file.ensures.planned in
+    well_built (IsTrue g.D.Device.tells_bytes) c.args.places c.args.root.now.limits s c.args.root.now.inode_file (layer_of c.args.changes) c.in_ok-inode_file.inode_file c.args.map.now c.plan_tree.new.build plan
+    c.finished.ensures.free c.finished.ensures.rise c.finished.result c.finished.ensures.file c.finished.ensures.blocks c.finished.ensures.bits
+
+pub returns-clause-builds : goal.returns-clause-builds
+returns-clause-builds g c = λ told.
+    let s = store_of (reads (g.D.Device.disk (device_of c.args.blocks.now))) in
+    let first = begun_is c.args.map.now c.in_ok-try_clone.field-0 (start_of c.args.places Data) c.start-first.result c.new.result c.new-build.result c.in_ok-try_clone.ensures c.start-first.ensures c.new.ensures c.new-build.ensures in
+    let plan = subst (λ (d : Draft). IsTreePlanned (IsTrue g.D.Device.tells_bytes) c.args.root.now.limits s c.args.root.now.inode_file (layer_of c.args.changes) c.in_ok-inode_file.inode_file d c.plan_tree.new.build) first c.in_ok-inode_file.ensures.planned in
+    all_builds (IsTrue g.D.Device.tells_bytes) c.args.places c.args.root.now.limits s c.args.root.now.inode_file (layer_of c.args.changes) c.in_ok-inode_file.inode_file c.args.map.now c.plan_tree.new.build plan
+    c.finished.ensures.free c.finished.ensures.rise told c.requires.words c.finished.result c.finished.ensures.file c.finished.ensures.blocks c.finished.ensures.bits
+
+pub returns-in_err-inode_file-clause-full : goal.returns-in_err-inode_file-clause-full
+returns-in_err-inode_file-clause-full g c = λ told full ground enough.
+    let p = err_from_is_err_and c.from_residual-in_err-inode_file.result c.from_residual-in_err-inode_file.ensures.1 in
+    let fault : c.in_err-inode_file.field-0.0 ≡ Full = cc (p.1, p.2) in
+    let first = begun_is c.args.map.now c.in_ok-try_clone.field-0 (start_of c.args.places Data) c.start-first.result c.new.result c.new-build.result c.in_ok-try_clone.ensures c.start-first.ensures c.new.ensures c.new-build.ensures in
+    let less = c.in_err-inode_file.ensures.full told (ap (λ f. Err f) fault) c.args.places ground in
+    let here : free_data c.args.map.now (start_of c.args.places Data) < 0 + need c.args.root.now.limits (layer_of c.args.changes) =
+    subst (λ (d : Draft). free_data d.words d.first < length d.added + need c.args.root.now.limits (layer_of c.args.changes)) first less in
+    omega (arith, here, enough)
+
+pub returns-clause-full : goal.returns-clause-full
+returns-clause-full g c = λ told full ground enough.
+    let bad : Full ≡ Tree Damaged = subst (λ (r : Result Built PlanFault). IfErr r (λ fault. fault ≡ Tree Damaged)) full c.finished.ensures.fault in
+    absurd cc

@@ -1,0 +1,41 @@
+use Rattle.std.proofs.Common.{◌≡◌, ◌≢◌, ◌+◌, ◌*◌, ◌<◌, List, [], Err, length, IsTrue, sym, ap, subst, ◌∙◌}
+use Rattle.std.proofs.lemmas.Bool.{eqb-true, eqb-false}
+use Rattle.std.proofs.lemmas.List.{nil_from_length}
+use Rattle.std.proofs.lemmas.Result.{err_from_is_err_and}
+use Rattle.sn_alloc.specs.Taking.{free_data}
+use Rattle.sn_device.specs.Disk.{Disk, reads}
+use Rattle.sn_block.specs.Lending.{device_of}
+use Rattle.sn_ondisk.specs.Trees.{store_of}
+use Rattle.sn_overlay.specs.Overlays.{layer_of}
+use Rattle.sn_inode.specs.declared.changes.InodeChange.{InodeChange}
+use Rattle.sn_tree.specs.declared.fault.PlanFault.TheVariants.{Full}
+use Rattle.sn_cp_build.proofs.NeedLemmas.{inodes_full, needs_most}
+use Rattle.sn_cp_build.proofs.NoneLemmas.{none_planned}
+use Rattle.sn_cp_build.proofs.WholeLemmas.{tree_planned}
+use Rattle.sn_cp_build.proofs.building.plan_tree.Goals as goal
+
+pub returns-clause-planned : goal.returns-clause-planned
+returns-clause-planned g c =
+    tree_planned (IsTrue g.D.Device.tells_bytes) c.args.limits.now (store_of (reads (g.D.Device.disk (device_of c.args.blocks.now)))) (store_of (reads (g.D.Device.disk (device_of c.plan_nodes.new.blocks)))) c.args.file.now (layer_of c.args.changes.now)
+    c.args.build.now c.plan_nodes.new.build c.with.new.build c.in_ok-planned.planned.items c.as_slice-inodes.result.now c.with.result
+    (λ told. ap (λ (d : Disk). store_of (reads d)) (c.plan_nodes.ensures.same told)) c.requires.version c.as_slice-inodes.ensures.value c.in_ok-planned.ensures.built
+    c.with.ensures.with c.with.ensures.larger c.with.ensures.file
+
+pub returns-in_err-planned-clause-full : goal.returns-in_err-planned-clause-full
+returns-in_err-planned-clause-full g c = λ told full n ground.
+    let p = err_from_is_err_and c.from_residual.result c.from_residual.ensures.1 in
+    let fault : c.in_err-planned.field-0.0 ≡ Full = cc (p.1, p.2) in
+    needs_most c.args.limits.now (layer_of c.args.changes.now) c.args.build.now (c.in_err-planned.ensures.full told (ap (λ f. Err f) fault) n ground)
+
+pub returns-then-is_empty-clause-planned : goal.returns-then-is_empty-clause-planned
+returns-then-is_empty-clause-planned g c =
+    none_planned (IsTrue g.D.Device.tells_bytes) c.args.limits.now (store_of (reads (g.D.Device.disk (device_of c.args.blocks.now)))) c.args.file.now (layer_of c.args.changes.now) c.args.build.now c.plan_nodes.new.build c.in_ok-planned.planned.items
+    (sym c.as_slice-inodes.ensures.value ∙ nil_from_length c.as_slice-inodes.result.now (eqb-true (length c.as_slice-inodes.result.now) 0 (sym c.is_empty.ensures ∙ c.if-is_empty.true)))
+    (c.is_inode_file.ensures.0 c.if-not-is_inode_file.false) c.in_ok-planned.ensures.built
+
+pub returns-clause-full : goal.returns-clause-full
+returns-clause-full g c = λ told full n ground.
+    let some : c.in_ok-planned.planned.items ≢ [] = λ nothing. eqb-false (length c.as_slice-inodes.result.now) 0 (sym c.is_empty.ensures ∙ c.if-is_empty.false) (ap (λ (cs : List InodeChange). length cs) (c.as_slice-inodes.ensures.value ∙ nothing)) in
+    inodes_full c.args.limits.now (layer_of c.args.changes.now) (IsTrue g.D.Device.tells_bytes) (store_of (reads (g.D.Device.disk (device_of c.args.blocks.now)))) c.args.file.now c.args.build.now c.plan_nodes.new.build c.in_ok-planned.planned.items
+    c.in_ok-planned.ensures.built some
+    (subst (λ (cs : List InodeChange). free_data c.plan_nodes.new.build.words c.plan_nodes.new.build.first < length c.plan_nodes.new.build.added + (3 * length cs + 2)) c.as_slice-inodes.ensures.value (c.with.ensures.full full))

@@ -1,0 +1,27 @@
+-- What becomes of the bits of the block map.
+use Rattle.std.specs.Prelude.{◌≡◌, ◌≢◌, ◌↔◌, ℕ, ◌+◌, ◌≤◌, List, length, slice_index, Contains}
+use Rattle.std.specs.Int.{bit_at}
+use Rattle.sn_ondisk.specs.Counts.{times}
+
+-- Bit 0 of a block's word is set exactly if the block is among these.
+abbrev pub TellsBlocks : List ℕ → List ℕ → Type 0
+TellsBlocks words reached = (block : ℕ) → (bit_at (slice_index words block) 0 ≡ 1) ↔ Contains reached block
+
+-- Bit 0 of the words of some blocks is the given one. Their other bits and the other words are what they were.
+pub record PutsBits (bit : ℕ) (blocks old new : List ℕ) : Type 0 where
+  pub as_many : length new ≡ length old
+  pub put : (block : ℕ) → Contains blocks block → bit_at (slice_index new block) 0 ≡ bit
+  pub others : (block k : ℕ) → k ≢ 0 → bit_at (slice_index new block) k ≡ bit_at (slice_index old block) k
+  pub elsewhere : (block : ℕ) → ¬ Contains blocks block → slice_index new block ≡ slice_index old block
+
+-- What is reached, with what was released, is what was reached with what was added, each block as often, but for 0, which is no block of the data area. What was reached had no block twice and none of those that were added, and none was added twice.
+pub record MakesUp (was is added released : List ℕ) : Type 0 where
+  pub sum : (block : ℕ) → block ≢ 0 → times block is + times block released ≡ times block was + times block added
+  pub once : (block : ℕ) → times block was + times block added ≤ 1
+  pub no_zero : times 0 is + times 0 was + times 0 added ≡ 0
+
+-- The map tells what is reached where it told what was, and nothing but bit 0 changed.
+pub record BitsFollow (added released old new : List ℕ) : Type 0 where
+  pub as_many : length new ≡ length old
+  pub others : (block k : ℕ) → k ≢ 0 → bit_at (slice_index new block) k ≡ bit_at (slice_index old block) k
+  pub tells : (was is : List ℕ) → MakesUp was is added released → TellsBlocks old was → TellsBlocks new is

@@ -1,0 +1,129 @@
+//! A whole tree.
+ghost use Rattle.std.specs.Prelude.{◌≡◌, ℕ, ◌+◌, ◌<◌, ◌≤◌, length, All, Err, IsTrue, IfOk, IfErr};
+ghost use Rattle.std.specs.List.Sorted.{IsStrictlyIncreasing};
+ghost use Rattle.sn_alloc.specs.Taking.{IsFreeData, free_data};
+ghost use Rattle.sn_device.specs.Disk.{reads};
+ghost use Rattle.sn_block.specs.Lending.{device_of};
+ghost use Rattle.sn_layout.specs.Places.{start_of};
+ghost use Rattle.sn_layout.specs.RootBody.{IsRootBody};
+ghost use Rattle.sn_layout.specs.declared.places.Area.TheVariants.{Data};
+ghost use Rattle.sn_limits.specs.Versions.{limits_of};
+ghost use Rattle.sn_ondisk.specs.Trees.{store_of};
+ghost use Rattle.sn_overlay.specs.Needs.{need};
+ghost use Rattle.sn_overlay.specs.Overlays.{layer_of};
+ghost use Rattle.sn_tree.specs.Drafts.{numbers_of};
+ghost use Rattle.sn_tree.specs.Steps.{CountsPlan};
+ghost use Rattle.sn_tree.specs.declared.fault.PlanFault.TheVariants.{Full, Tree};
+ghost use Rattle.sn_tree_read.specs.declared.fault.TreeFault.TheVariants.{Damaged};
+ghost use Rattle.sn_cp_nodes.specs.Built.{IsGround};
+ghost use Rattle.sn_cp_build.specs.Bits.{BitsFollow};
+ghost use Rattle.sn_cp_build.specs.Building.{IsTreePlanned, IsWellBuilt, Builds};
+
+use crate::bits::put_bits;
+use crate::nodes::plan_nodes;
+use sn_alloc::BlockAllocator;
+use sn_block::Blocks;
+use sn_device::Device;
+use sn_inode::{is_inode_file, with};
+use sn_layout::{Area, BlockTree, Places, RootBody};
+use sn_limits::Limits;
+use sn_map::Map;
+use sn_overlay::Overlay;
+use sn_tree::{Build, NewBlock, PlanFault};
+use sn_tree_read::TreeFault;
+use std::alloc::Global;
+
+/// What is to be written for a tree.
+#[derive(Drop)]
+pub struct Built {
+    /// The new inode file.
+    pub inode_file: BlockTree,
+    /// The new blocks, their numbers rising.
+    pub blocks: Vec<NewBlock>,
+    /// The map in which bit 0 tells what the new inode file reaches.
+    pub map: Map,
+}
+
+// Plans the nodes of a layer, and then the inode file with what became of their inodes.
+fn plan_tree<D: Device>(
+    alloc: Global,
+    build: &mut Build,
+    blocks: &mut Blocks<D>,
+    limits: &Limits,
+    file: &BlockTree,
+    changes: &mut Overlay,
+) -> Result<BlockTree, PlanFault>
+    requires version { limits_of limits.now.version ≡ Some limits.now }
+    ensures planned { IfOk result (λ new. IsTreePlanned (IsTrue D.tells_bytes) limits.now
+        (store_of (reads (D.disk (device_of blocks.old)))) file.now (layer_of changes.old) new build.old build.new) }
+    ensures full { IsTrue D.tells_bytes → result ≡ Err Full → (n : ℕ) → IsGround limits.now n
+        (store_of (reads (D.disk (device_of blocks.old)))) file.now (layer_of changes.old)
+        → free_data build.old.words build.old.first < length build.old.added + need limits.now (layer_of changes.old) }
+    ensures same { IsTrue D.tells_bytes → D.disk (device_of blocks.new) ≡ D.disk (device_of blocks.old) }
+    ensures counts { CountsPlan result (D.status (device_of blocks.old)) (D.status (device_of blocks.new)) }
+{
+    if !is_inode_file(limits, file) {
+        return Err(PlanFault::Tree(TreeFault::Damaged));
+    }
+    let planned = plan_nodes(alloc, build, blocks, limits, file, changes)?;
+    let inodes = planned.as_slice();
+    if inodes.is_empty() {
+        return Ok(*file);
+    }
+    with(alloc, build, blocks, limits, file, inodes)
+}
+
+// The new blocks and the map of a tree that was planned.
+fn finished(build: Build, inode_file: BlockTree) -> Result<Built, PlanFault>
+    ensures file { IfOk result (λ built. built.inode_file ≡ inode_file) }
+    ensures blocks { IfOk result (λ built. built.blocks.items ≡ build.added) }
+    ensures free { All (IsFreeData build.words build.first) (numbers_of build.added) }
+    ensures rise { IsStrictlyIncreasing (numbers_of build.added) }
+    ensures bits { IfOk result (λ built. BitsFollow (numbers_of build.added) build.released build.words built.map) }
+    ensures fault { IfErr result (λ fault. fault ≡ Tree Damaged) }
+{
+    build.added();
+    let (allocator, blocks, released) = build.into_parts();
+    let mut map = allocator.give_up();
+    put_bits(&mut map, blocks.as_slice(), released.as_slice())?;
+    Ok(Built {
+        inode_file,
+        blocks,
+        map,
+    })
+}
+
+/// Builds the tree that is seen through an overlay over that of a root: its new blocks, and the map in which bit 0
+/// tells what it reaches. It only reads. `Damaged` comes where what was read can't be used. After an error there is
+/// nothing to undo.
+pub fn build<D: Device>(
+    alloc: Global,
+    blocks: &mut Blocks<D>,
+    places: Places,
+    root: &RootBody,
+    map: &Map,
+    mut changes: Overlay,
+) -> Result<Built, PlanFault>
+    requires root { IsRootBody root.now }
+    requires words { length map.now ≡ places }
+    ensures well { IfOk result (IsWellBuilt places root.now.limits map.now (layer_of changes)) }
+    ensures builds { IsTrue D.tells_bytes → IfOk result (Builds places root.now.limits
+        (store_of (reads (D.disk (device_of blocks.old)))) root.now.inode_file map.now (layer_of changes)) }
+    ensures full { IsTrue D.tells_bytes → result ≡ Err Full → IsGround root.now.limits places
+        (store_of (reads (D.disk (device_of blocks.old)))) root.now.inode_file (layer_of changes)
+        → need root.now.limits (layer_of changes) ≤ free_data map.now (start_of places Data) → ⊥ }
+    ensures same { IsTrue D.tells_bytes → D.disk (device_of blocks.new) ≡ D.disk (device_of blocks.old) }
+    ensures counts { CountsPlan result (D.status (device_of blocks.old)) (D.status (device_of blocks.new)) }
+{
+    let first = places.start(Area::Data);
+    let mut build = Build::new(alloc, BlockAllocator::new(alloc, map.try_clone()?, first));
+    let inode_file = plan_tree(
+        alloc,
+        &mut build,
+        blocks,
+        &root.limits,
+        &root.inode_file,
+        &mut changes,
+    )?;
+    finished(build, inode_file)
+}

@@ -1,0 +1,33 @@
+//! Building a tree: what a consistency point writes for all that changed since its root.
+//!
+//! The model. An overlay is a layer over the tree that an inode file denotes (`sn_overlay`, `sn_image`), and the map is
+//! the list of its words, of which bit 0 tells what the live tree reaches (`sn_map`). [`build`] only reads. What it says
+//! holds in every store that has the new blocks and agrees with the old one in what the old inode file reaches: so writes
+//! elsewhere don't matter, and no block of the old root is written.
+//!
+//! - There the new inode file denotes the tree that is seen through the layer, and is sound, and bit 0 of the new map tells
+//!   exactly what it reaches (`IsFrozen`). This asks for a sound inode file, a map that tells what that reaches, and a
+//!   layer that lies over its tree and shows a name tree.
+//! - Whatever the device tells, the new blocks were free, rise, and are no more than the layer needs, and of the map bit 0
+//!   alone changes (`IsWellBuilt`).
+//! - Over such a ground it is never `Full` where what the layer needs is free.
+//!
+//! The way through: `nodes` plans the nodes of the layer one after the other by `build_node` of `sn_cp_nodes`, each with
+//! the blocks that it takes out of the overlay (`AreBuilt`). `building` then plans the inode file with what became of
+//! their inodes, by `with` of `sn_inode` (`IsTreePlanned`). `bits` puts the map: bit 0 is set for each block that was
+//! added, and then unset for each that was released, so that a block that one plan added and another released has it unset
+//! (`BitsFollow`). `specs/Bits`, `specs/Planned` and `specs/Building` have these words, in this order.
+//!
+//! What the sources leave open is decided in `docs/DECISIONS.md`, under "Building a whole tree".
+//!
+//! ```text
+//! let built = build(alloc, &mut blocks, places, &root, &map, changes)?;
+//! let root = RootBody { inode_file: built.inode_file, .. };
+//! ```
+#![tactic(auto)]
+
+mod bits;
+mod building;
+mod nodes;
+
+pub use building::{Built, build};
