@@ -1,0 +1,16 @@
+use Rattle.std.proofs.Common.{Err, sym, ap, subst}
+use Rattle.sn_device.specs.Disk.{reads}
+use Rattle.sn_block.specs.Lending.{device_of}
+use Rattle.sn_inode.specs.Reads.{CanReadRecord}
+use Rattle.sn_ondisk.specs.Trees.{store_of}
+use Rattle.sn_marks.specs.Fault.{Tells}
+use Rattle.sn_marks.specs.declared.fault.CheckFault.{CheckFault}
+use Rattle.sn_check_root.specs.Rules.{Breaks}
+use Rattle.sn_check_root.proofs.WrongLemmas.{rule_told}
+use Rattle.sn_check_root.proofs.contents.inode_of.Goals as goal
+
+pub returns-in-Err-clause-fault : goal.returns-in-Err-clause-fault
+returns-in-Err-clause-fault g c told =
+    let Rule = CanReadRecord c.args.limits.now (g.D.Device.status (device_of c.args.blocks.now)).sectors (store_of (reads (g.D.Device.disk (device_of c.args.blocks.now)))) c.args.file.now c.args.number in
+    subst (λ (f : CheckFault). Tells f (Breaks Rule c.args.top)) (sym c.fault_at.ensures)
+    (rule_told Rule c.args.top c.in-Err.fault (λ is can. c.in-Err.ensures.damaged told (ap (λ f. Err f) is) can))

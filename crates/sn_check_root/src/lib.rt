@@ -1,0 +1,34 @@
+//! Checking one root of an image: its pointers, and what is spelled in its blocks. Whether names and
+//! links agree isn't looked at here.
+//!
+//! The model is that of `sn_image`, which says when a root is sound, and of `sn_sound`, which says which
+//! fault stands at which block, of any bytes at all. `IsSoundButLinks` is all of `IsSound` but its links,
+//! and `StandsInRoot` has the faults of pointers and of spelling. What stands isn't sound, so an answer
+//! can't be the other one; over a device that tells its bytes it is exact, on any image.
+//!
+//! A block is marked before it is followed (`sn_marks`). So all that is read lies in the data area, and
+//! the readers of trees, inodes and directories find each block on the device: where one of them answers
+//! `Damaged`, bytes spell nothing of their kind, and that is told of their block. The marks of the inode
+//! file and of all inodes add up to what the root reaches, each block once.
+//!
+//! The way through: `readers` looks up pointers and the block of a record, `directories` tests a
+//! directory's blocks and names, `contents` all that stands under one number, `reserved` the records that
+//! no node has and the root directory, and `roots` goes over all numbers. In order: the size of the inode
+//! file, its tree, the reserved records, each number, the root directory. The first fault found so is
+//! told. A directory's names are counted before memory is taken for them.
+//!
+//! What the sources leave open is decided in `docs/DECISIONS.md`, under "The image check".
+//!
+//! ```text
+//! let root = RootBit { places, bit: 0 };
+//! check_root(alloc, blocks, map, &root, &limits, &inode_file, body)?;
+//! ```
+#![tactic(auto)]
+
+mod contents;
+mod directories;
+mod readers;
+mod reserved;
+mod roots;
+
+pub use roots::check_root;
