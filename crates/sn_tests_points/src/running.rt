@@ -1,0 +1,245 @@
+//! A point that runs, with the log beside it.
+ghost use Rattle.std.specs.Prelude.{◌≡◌, IfOk, length, true};
+ghost use Rattle.sn_layout.specs.Bytes.{AreNumbers};
+ghost use Rattle.sn_layout.specs.Places.{IsDiskSize};
+ghost use Rattle.sn_layout.specs.RootBody.{IsRootBody};
+ghost use Rattle.sn_cp.specs.Points.{work_of};
+ghost use Rattle.sn_tests_points.specs.Placed.{are_placed};
+ghost use Rattle.sn_tests_points.specs.Running.{CanGoOn};
+
+use crate::tape::{Call, Tape};
+use anyhow::{Context, Result, bail, ensure};
+use sn_block::Blocks;
+use sn_cp::{Point, Stage};
+use sn_device::Device;
+use sn_drawn_disks::{DrawnDisk, Geometry, Slot, block_of, number_at, part, put};
+use sn_layout::{BLOCK_SIZE, Block, Gate, Places, RootBody};
+use sn_log::{Buffer, Log, Position};
+use sn_map::Map;
+use sn_record::decode;
+use sn_tree::NewBlock;
+use std::alloc::{AllocError, Global};
+use std::marker::Model;
+
+/// A point of a drawn disk, over a device that keeps its calls.
+#[derive(Drop)]
+pub struct Running {
+    places: Places,
+    point: Point,
+    blocks: Blocks<Tape>,
+    log: Log,
+}
+
+impl Model for Running {
+    ghost use Rattle.sn_block.specs.Lending.{device_of};
+    ghost use Rattle.sn_tests_points.specs.Running.{IsRunning};
+    ghost use Rattle.sn_tests_points.specs.Tape.{status_of};
+
+    ghost Value = { Unit {0} };
+
+    ghost view = { λ r. tt };
+
+    ghost invariant = { λ r. IsRunning r.places r.point r.log.blocks (status_of (device_of r.blocks)).sectors };
+}
+
+/// Whether each block lies in the data area and above the one before it.
+fn are_placed(places: Places, blocks: &[NewBlock]) -> bool
+    ensures { result ≡ are_placed places 0 blocks.now }
+{
+    let mut before = 0;
+    for block in blocks {
+        if block.number <= before || !places.is_data(block.number) {
+            return false;
+        }
+        before = block.number;
+    }
+    true
+}
+
+fn block_from(bytes: &[u8]) -> Block {
+    let mut block = [0; BLOCK_SIZE];
+    put(&mut block, 0, bytes);
+    block
+}
+
+/// The new blocks of a drawn point.
+fn blocks_of(alloc: Global, places: Places, drawn: &DrawnDisk) -> Result<Vec<NewBlock>>
+    ensures { IfOk result (λ blocks. are_placed places 0 blocks.items ≡ true) }
+{
+    let blocks = new_blocks(alloc, drawn)?;
+    if !are_placed(places, blocks.as_slice()) {
+        bail!("blocks out of place");
+    }
+    Ok(blocks)
+}
+
+fn new_blocks(alloc: Global, drawn: &DrawnDisk) -> Result<Vec<NewBlock>> {
+    let mut blocks = Vec::new(alloc);
+    for number in drawn.added.iter() {
+        let bytes = block_from(block_of(drawn.after.as_slice(), u64::from(*number)));
+        blocks.push(NewBlock {
+            number: *number,
+            bytes: Box::new(alloc, bytes)?,
+        })?;
+    }
+    Ok(blocks)
+}
+
+/// Each word is one of four bytes, by its type.
+fn fit(words: &[u32])
+    ensures { AreNumbers 4 words.now }
+{
+    words.len();
+}
+
+/// The map that a drawn point writes.
+fn map_of(alloc: Global, places: Places, drawn: &DrawnDisk) -> Result<Map>
+    ensures { IfOk result (λ map. IsDiskSize places × ((length map ≡ places) × AreNumbers 4 map)) }
+{
+    let words = words_of(alloc, drawn)?;
+    if words.len() != places.blocks() as usize {
+        bail!("another number of words");
+    }
+    fit(words.as_slice());
+    Ok(Map::from_words(words))
+}
+
+fn words_of(alloc: Global, drawn: &DrawnDisk) -> Result<Vec<u32>> {
+    let geometry = Geometry::read(drawn.after.as_slice());
+    let map = geometry.map(drawn.slot.other());
+    let size = (geometry.blocks() as usize).saturating_mul(4);
+    let mut words = Vec::new(alloc);
+    for word in part(drawn.after.as_slice(), map, size).chunks_exact(4) {
+        words.push((number_at(word, 0, 4) % (1 << 32)) as u32)?;
+    }
+    Ok(words)
+}
+
+fn next_of(drawn: &DrawnDisk) -> Result<RootBody>
+    ensures { IfOk result IsRootBody }
+{
+    let body = part(
+        drawn.after.as_slice(),
+        drawn.slot.other().body(),
+        BLOCK_SIZE,
+    );
+    match RootBody::decode(&block_from(body)) {
+        Some(next) => Ok(next),
+        None => bail!("no root body"),
+    }
+}
+
+fn slot_of(slot: Slot) -> sn_layout::Slot {
+    match slot {
+        Slot::A => sn_layout::Slot::A,
+        Slot::B => sn_layout::Slot::B,
+    }
+}
+
+/// A drawn point, where nothing of it is written yet.
+fn point_of(alloc: Global, places: Places, drawn: &DrawnDisk) -> Result<Point>
+    ensures { IfOk result (λ point. CanGoOn point × ((work_of point).blocks ≡ places)) }
+{
+    let next = next_of(drawn)?;
+    let map = map_of(alloc, places, drawn)?;
+    let blocks = blocks_of(alloc, places, drawn)?;
+    let slot = slot_of(drawn.slot.other());
+    let gate = if drawn.is_other_open {
+        Gate::Open
+    } else {
+        Gate::Closed
+    };
+    Ok(Point::new(places, blocks, map, next, slot, gate))
+}
+
+fn places_of(drawn: &DrawnDisk) -> Result<Places> {
+    let blocks = Geometry::read(drawn.before.as_slice()).blocks();
+    Places::new((blocks % (1 << 32)) as u32).context("no disk")
+}
+
+/// A device of the drawn disk as it is when the point begins.
+fn device_of(alloc: Global, drawn: &DrawnDisk) -> Result<Blocks<Tape>> {
+    let tape = Tape::new(alloc, Vec::from_slice(alloc, drawn.before.as_slice())?);
+    Ok(Blocks::new(alloc, tape).map_err(AllocError::from)?)
+}
+
+fn log_of(alloc: Global, places: Places, epoch: u64) -> Result<Log>
+    ensures { IfOk result (λ log. log.blocks ≡ places) }
+{
+    let buffer = Buffer::new(alloc)?;
+    Ok(Log::new(Position::first(places, epoch), buffer))
+}
+
+impl Running {
+    /// The point of a drawn disk, where nothing of it is written yet.
+    pub fn new(alloc: Global, drawn: &DrawnDisk) -> Result<Running> {
+        let places = places_of(drawn)?;
+        let point = point_of(alloc, places, drawn)?;
+        Running::with(alloc, drawn, places, point)
+    }
+
+    fn with(alloc: Global, drawn: &DrawnDisk, places: Places, point: Point) -> Result<Running>
+        requires point { CanGoOn point }
+        requires place { (work_of point).blocks ≡ places }
+    {
+        let log = log_of(alloc, places, drawn.epoch)?;
+        let blocks = device_of(alloc, drawn)?;
+        ensure!(
+            blocks.sectors() >= 8 * u64::from(places.blocks()),
+            "a smaller device"
+        );
+        Ok(Running {
+            places,
+            point,
+            blocks,
+            log,
+        })
+    }
+
+    /// How many writes and syncs were made.
+    pub fn calls(&self) -> u64 {
+        let status = self.blocks.status();
+        status.writes.saturating_add(status.syncs)
+    }
+
+    pub fn stage(&self) -> Stage {
+        self.point.stage()
+    }
+
+    /// Begins the point in the log.
+    pub fn begin(&mut self) -> Result<()> {
+        ensure!(self.log.position().epoch() < u64::MAX, "no next epoch");
+        if sn_cp::begin(&mut self.blocks, self.places, &mut self.log).is_err() {
+            bail!("a device without a fault");
+        }
+        Ok(())
+    }
+
+    /// Makes the next step, where one is left.
+    pub fn advance(&mut self) -> Result<()> {
+        if !self.point.is_done() && self.point.advance(&mut self.blocks).is_err() {
+            bail!("a device without a fault");
+        }
+        Ok(())
+    }
+
+    /// Logs a change, and answers whether that was done: not where the payload is none, or has no room.
+    pub fn append(&mut self, payload: &[u8]) -> Result<bool> {
+        let Some(change) = decode(payload) else {
+            return Ok(false);
+        };
+        if !self.log.has_room(&change) {
+            return Ok(false);
+        }
+        if self.log.append(&mut self.blocks, &change).is_err() {
+            bail!("a device without a fault");
+        }
+        Ok(true)
+    }
+
+    /// All that was written, and each sync.
+    pub fn into_calls(self) -> Vec<Call> {
+        let Running { blocks, .. } = self;
+        blocks.into_device().into_calls()
+    }
+}
