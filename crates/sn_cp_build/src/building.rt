@@ -94,7 +94,8 @@ fn finished(build: Build, inode_file: BlockTree) -> Result<Built, PlanFault>
 }
 
 /// Builds the tree that is seen through an overlay over that of a root: its new blocks, and the map in which bit 0
-/// tells what it reaches. It only reads. `Damaged` comes where what was read can't be used. After an error there is
+/// tells what it reaches. It only reads. `Full` comes where there are too few free blocks, over a sound root only where
+/// they are fewer than the overlay needs, and `Damaged` where what was read can't be used. After an error there is
 /// nothing to undo.
 pub fn build<D: Device>(
     alloc: Global,
