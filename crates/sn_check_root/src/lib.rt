@@ -3,8 +3,8 @@
 //!
 //! The model is that of `sn_image`, which says when a root is sound, and of `sn_sound`, which says which
 //! fault stands at which block, of any bytes at all. `IsSoundButLinks` is all of `IsSound` but its links,
-//! and `StandsInRoot` has the faults of pointers and of spelling. What stands isn't sound, so an answer
-//! can't be the other one; over a device that tells its bytes it is exact, on any image.
+//! and `StandsInRoot` has the faults of pointers and of spelling. By `root_laws` where one stands a root
+//! isn't sound, so over a device that tells its bytes the answer is exact, on any image.
 //!
 //! A block is marked before it is followed (`sn_marks`). So all that is read lies in the data area, and
 //! the readers of trees, inodes and directories find each block on the device: where one of them answers
@@ -27,8 +27,10 @@
 
 mod contents;
 mod directories;
+mod laws;
 mod readers;
 mod reserved;
 mod roots;
 
+pub use laws::root_laws;
 pub use roots::check_root;
