@@ -1,1 +1,3 @@
+pub mod BuildLemmas
+pub mod RoomLemmas
 pub mod WholeLemmas

@@ -1,2 +1,3 @@
+pub mod Builds
 pub mod Laws
 pub mod Wholes

@@ -4,12 +4,13 @@
 //! that: at each moment a crash leaves an image of the settled world, by the root that counted or by the next one. Once it is done the
 //! mount runs on over the next root, whose log is empty.
 //!
-//! The way through: `specs/Wholes.antt` says when a mount is between two points, what a point of its live tree is, and what
-//! stands once it has begun; `Laws.antt` has the laws, and `laws` their proofs' functions.
+//! The way through: `specs/Builds.antt` says what a build gives a point; `Wholes.antt` when a mount is between two points, what a
+//! point of its live tree is, and what stands once it has begun; `Laws.antt` what a whole point leaves; and `laws` has the
+//! functions that prove them.
 //!
 //! What the sources leave open is decided in `docs/DECISIONS.md`, under "Steps of a consistency point".
 #![tactic(auto)]
 
 mod laws;
 
-pub use laws::whole_laws;
+pub use laws::{build_laws, whole_laws};

@@ -1,0 +1,12 @@
+use Rattle.sn_cp_held.proofs.BuildLemmas.{builds_are_built, builds_are_sound}
+use Rattle.sn_cp_held.proofs.RoomLemmas.{builds_leave_room}
+use Rattle.sn_cp_held.proofs.laws.build_laws.Goals as goal
+
+pub returns-clause-built : goal.returns-clause-built
+returns-clause-built c = builds_are_built
+
+pub returns-clause-sound : goal.returns-clause-sound
+returns-clause-sound c n s root words layer built next of r same holds = builds_are_sound n s root words layer built next of r same holds
+
+pub returns-clause-room : goal.returns-clause-room
+returns-clause-room c n s root words layer built next of r same holds = builds_leave_room n s root words layer built next of r same holds
