@@ -4,7 +4,7 @@
     bench/points.py [COUNT]            runs the program of sn_tests_points on so many points, 10,000 where it isn't given
     bench/points.py --faults [COUNT]   plants each fault below in a copy of the code, and runs it on so many points, 20
 
-Run by hand. The program has to be built: `rt ci sn_tests_points`. A copy with a fault can't be proved, so it is run by
+Run by hand. The program has to be built: `rt run -- . 1` in crates/sn_tests_points. A copy with a fault can't be proved, so it is run by
 `rt try`, which is slow: half an hour for all of them. Some show in few points alone: that a closed gate is closed again
 only where a whole body stands behind it, one point in five. A fault is found where the program says that a crash or a
 step went wrong, or where it ends with an error. The status is 1 where a crash of the code as it stands went wrong, or
@@ -66,7 +66,7 @@ FAULTS = {
 def run_program(count):
     """Runs the program as it was built, and answers its status."""
     if not PROGRAM.is_file():
-        sys.exit(f"{PROGRAM} isn't there: rt ci {NAME}")
+        sys.exit(f"{PROGRAM} isn't there: run `rt run -- . 1` in crates/{NAME}")
     return subprocess.run([PROGRAM, ".", str(count)]).returncode
 
 
