@@ -140,14 +140,15 @@ each_refused "$program" run "$work/image" "$work/script"
 each_refused "$program" stop-at 1000 new "$work/image" "$work/script" "$work/left"
 
 judge=tested before=:
-for crate in sn_tests sn_tests_disk sn_tests_block sn_tests_formats sn_tests_memory sn_tests_trees; do
+for crate in sn_tests sn_tests_disk sn_tests_block sn_tests_formats sn_tests_memory sn_tests_trees sn_tests_builds; do
+    folder=$top/crates/$crate
     # Some have tens of thousands of allocations, nearly all of them in devices and contents that are made anew.
     case $crate in
-        sn_tests_disk | sn_tests_trees) step=7 ;;
-        *) step=1 ;;
+        sn_tests_disk | sn_tests_trees) step=7 words=("$folder/data") ;;
+        sn_tests_builds) step=53 words=(. 5) ;;
+        *) step=1 words=("$folder/data") ;;
     esac
-    folder=$top/crates/$crate
-    (cd "$folder" && rt run -- data > "$work/log" 2>&1) || { tail -n 20 "$work/log"; exit 1; }
-    "$folder/out/$crate" "$folder/data" > "$work/whole"
-    each_refused "$folder/out/$crate" "$folder/data"
+    (cd "$folder" && rt run -- "${words[@]}" > "$work/log" 2>&1) || { tail -n 20 "$work/log"; exit 1; }
+    "$folder/out/$crate" "${words[@]}" > "$work/whole"
+    each_refused "$folder/out/$crate" "${words[@]}"
 done

@@ -1,1 +1,5 @@
 pub mod ChangedLemmas
+pub mod HoldsLemmas
+pub mod DecidedLemmas
+pub mod DroppedLemmas
+pub mod MemoryLemmas

@@ -1,19 +1,24 @@
 -- How what changed since a root grows, event by event.
-use Rattle.std.specs.Prelude.{◌≡◌, ℕ, ◌+◌, ◌*◌, ◌≤◌, Bool, true, Some}
+use Rattle.std.specs.Prelude.{◌≡◌, ◌≢◌, ℕ, ◌+◌, ◌*◌, ◌≤◌, Bool, true, List, AllPairs, Some}
 use Rattle.std.specs.FinMap as map
 use Rattle.sn_limits.specs.declared.limits.Limits.{Limits}
 use Rattle.sn_model.specs.declared.change.Change.{Change}
 use Rattle.sn_model.specs.Changes.{apply, take_node}
 use Rattle.sn_model.specs.Charges.{charge_for}
 use Rattle.sn_model.specs.NameTree.{IsHierarchy}
-use Rattle.sn_model.specs.Settling.{is_nameless}
+use Rattle.sn_model.specs.declared.outcome.Caller.{Caller}
+use Rattle.sn_model.specs.Settling.{dropped, is_nameless, without_nameless}
+use Rattle.sn_model.specs.Steps.{with_caller}
 use Rattle.sn_model.specs.Tree.{Tree}
+use Rattle.sn_model.specs.World.{World}
 use Rattle.sn_overlay.specs.Layers.{Layer}
 use Rattle.sn_overlay.specs.Merges.{merge}
 use Rattle.sn_overlay.specs.Needs.{AreCharged, nameless_in, need}
 use Rattle.sn_overlay.specs.Overlays.{gone, no_changes}
 use Rattle.sn_overlay_change.specs.ChangeLayers.{layer_of_change}
+use Rattle.sn_changed.specs.declared.dropped.DroppedFile.{DroppedFile}
 use Rattle.sn_changed.specs.Changed.{HasChanged}
+use Rattle.sn_changed.specs.Dropped.{AreNameless, LeadsOn, TellsGone, numbers_of, with_drops, without_each}
 
 -- Over a root that is new nothing has changed, and nothing was charged.
 abbrev pub NothingChanged : Type 0
@@ -33,3 +38,17 @@ DropsMerge = (limits : Limits) (layer : Layer) (root live : Tree) (charged numbe
 abbrev pub BuildsFit : Type 0
 BuildsFit = (limits : Limits) (layer : Layer) (root live : Tree) (charged free : ℕ) → HasChanged limits layer root live charged → charged + limits.inode_charge * nameless_in root ≤ free
     → need limits layer + limits.inode_charge * nameless_in live ≤ free
+
+-- Files without names that go, each once, are merged, and paid by their own charges.
+abbrev pub EachMerges : Type 0
+EachMerges = (files : List DroppedFile) (limits : Limits) (layer : Layer) (root live : Tree) (charged : ℕ) → AreCharged limits → IsHierarchy live → HasChanged limits layer root live charged → AreNameless live files → AllPairs ◌≢◌ (numbers_of files)
+    → HasChanged limits (with_drops layer files) root (without_each live files) charged
+
+-- The tree without those that went is the one that they went to, whichever files were held.
+abbrev pub WithoutEachIs : Type 0
+WithoutEachIs = (live : Tree) (held : ℕ → Bool) (files : List DroppedFile) → TellsGone live (without_nameless held live) files → without_each live files ≡ without_nameless held live
+
+-- Behind a caller, those that went lead on to the live tree that is left.
+abbrev pub CallersDrop : Type 0
+CallersDrop = (limits : Limits) (layer new : Layer) (root : Tree) (charged : ℕ) (world : World) (session : ℕ) (caller : Caller) (files : List DroppedFile) → AreCharged limits → IsHierarchy world.live → HasChanged limits layer root world.live charged
+    → TellsGone world.live (dropped (with_caller world session caller)).live files → LeadsOn layer files new → HasChanged limits new root (dropped (with_caller world session caller)).live charged

@@ -1,2 +1,4 @@
 pub mod Changed
+pub mod Decided
+pub mod Dropped
 pub mod Laws

@@ -1,5 +1,6 @@
 //! The laws that the definitions of `specs/` keep.
-ghost use Rattle.sn_changed.specs.Laws.{BuildsFit, ChangesMerge, DropsMerge, NothingChanged};
+ghost use Rattle.sn_changed.specs.Decided.{DecidedGiveNoFirstName, KeptOpenStay, LoggedKeepNameless, LoggedKeepOpen, LoggedStayNameless};
+ghost use Rattle.sn_changed.specs.Laws.{BuildsFit, CallersDrop, ChangesMerge, DropsMerge, EachMerges, NothingChanged, WithoutEachIs};
 
 use sn_overlay::changes_are_paid;
 
@@ -12,3 +13,20 @@ pub fn changed_laws()
 {
     changes_are_paid();
 }
+
+/// No file gets its first name by what a call has decided, and a call that is logged closes nothing: so it leaves
+/// each file without names so, and no fewer of them.
+pub fn decided_laws()
+    ensures names { DecidedGiveNoFirstName }
+    ensures kept { LoggedKeepOpen }
+    ensures held { KeptOpenStay }
+    ensures nameless { LoggedStayNameless }
+    ensures counted { LoggedKeepNameless }
+{}
+
+/// How files that go lead on, each once: to the tree that is left of the live one.
+pub fn dropped_laws()
+    ensures merged { EachMerges }
+    ensures left { WithoutEachIs }
+    ensures caller { CallersDrop }
+{}

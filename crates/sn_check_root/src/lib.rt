@@ -33,4 +33,5 @@ mod reserved;
 mod roots;
 
 pub use laws::root_laws;
+pub use readers::{pointer_to, record_block};
 pub use roots::check_root;

@@ -24,8 +24,9 @@ pub(crate) fn fault_at(fault: TreeFault, block: u32) -> CheckFault
     }
 }
 
-// The pointer to a data block of a tree.
-pub(crate) fn pointer_to<D: Device>(
+/// The pointer to a data block of a tree whose blocks lie on the device, 0 where it is a hole. A block on the
+/// way to it may not be read, and nothing else is told.
+pub fn pointer_to<D: Device>(
     blocks: &mut Blocks<D>,
     tree: &BlockTree,
     i: u64,
@@ -45,8 +46,10 @@ pub(crate) fn pointer_to<D: Device>(
     }
 }
 
-// The block of a number's record. Where there is a hole, it is the block of the inode file's root.
-pub(crate) fn record_block<D: Device>(
+/// The block of a number's record, where the inode file's blocks lie on the device. Where there is a hole, it
+/// is `body`, the block of the inode file's root. A block on the way to it may not be read, and nothing else
+/// is told.
+pub fn record_block<D: Device>(
     blocks: &mut Blocks<D>,
     file: &BlockTree,
     body: u32,

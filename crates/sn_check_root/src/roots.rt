@@ -138,7 +138,7 @@ pub fn check_root<D: Device>(
     file: &BlockTree,
     body: u32,
 ) -> Result<(), CheckFault>
-    requires clear { (block : ℕ) → bit_at (slice_index map.old block) root.now.bit ≡ 0 }
+    requires clear { IsTrue D.tells_bytes → (block : ℕ) → bit_at (slice_index map.old block) root.now.bit ≡ 0 }
     requires words { length map.old ≡ root.now.places }
     requires room { 8 * root.now.places ≤ (D.status (device_of blocks.old)).sectors }
     ensures sound { IsTrue D.tells_bytes → OnOk result (IsSoundButLinks limits.now root.now.places

@@ -1,110 +1,40 @@
 -- What becomes of descriptors, and of the files that they had.
-use Rattle.std.proofs.Common.{◌≡◌, ◌⊎◌, inl, inr, ℕ, zero, suc, ◌+◌, ◌<◌, Bool, true, false, not, ◌||◌, ◌==◌, cond, List, [], ◌∷◌, Option, Some, None, Ok, is_some, length, Contains, refl, sym, ap, subst, ◌∙◌, arith, true≢false, eq-eqb, eqb-true}
+use Rattle.std.proofs.Common.{◌≡◌, ℕ, zero, suc, ◌<◌, Bool, true, false, not, ◌||◌, ◌==◌, cond, List, [], ◌∷◌, Option, Some, None, is_some, length, Contains, refl, sym, ap, subst, ◌∙◌, arith, true≢false, eq-eqb, eqb-true}
 use Rattle.std.specs.FinMap as map
 use Rattle.std.specs.Cmp.{nat_cmp_total}
 use Rattle.std.specs.Prelude.{IsSomeAnd, slice_get}
 use Rattle.std.proofs.lemmas.Map.Lookups.{exact_unsigned}
 use Rattle.sn_limits.specs.declared.kind.Kind.TheVariants.{File}
 use Rattle.sn_limits.specs.Versions.{version_1}
-use Rattle.sn_walk.specs.declared.object.Home.TheVariants.{Live}
 use Rattle.sn_model.specs.declared.outcome.Caller.{Caller}
 use Rattle.sn_model.specs.declared.outcome.Caller.TheVariants.{Stays, LogsIn, SetsUmask, LogsOut, Opens, OpensNew, Closes, Moves}
 use Rattle.sn_model.specs.declared.outcome.Pending.{Pending}
 use Rattle.sn_model.specs.declared.session.Session.{Session}
-use Rattle.sn_model.specs.Descriptors.{Descriptors, at_offset, closed, first_without, given, is_held_in, moved_if, moved_to, next_descriptor, opened}
+use Rattle.sn_model.specs.Descriptors.{Descriptors, closed, is_held_in}
 use Rattle.sn_model.specs.NameTree.{IsTree}
 use Rattle.sn_model.specs.Changes.{take_node}
 use Rattle.sn_model.specs.Settling.{OnlyLost, dropped, dropped_if, is_abandoned, is_held, is_nameless, without_nameless}
 use Rattle.sn_model.specs.Steps.{filled, with_caller}
 use Rattle.sn_model.specs.Tree.{Node, Tree}
 use Rattle.sn_model.specs.Worlds.{IsLoggedIn}
-use Rattle.sn_model.specs.World.{Descriptor, World}
+use Rattle.sn_model.specs.World.{World}
 use Rattle.sn_model.proofs.ChainLemmas.{and_left, some_same}
-use Rattle.sn_model.proofs.DecisionLemmas.{same_ok}
 use Rattle.sn_model.proofs.DropLemmas.{dropping_tree}
-use Rattle.sn_model.proofs.HeldLemmas.{descriptors_total, exact_descriptors, held_at, held_by}
 use Rattle.sn_model.proofs.LoseLemmas.{abandoned_is, dropped_once, is_abandoned_at, none_dropped, still_abandoned}
-use Rattle.sn_model.proofs.MapLemmas.{same_or_apart, get_inserted, get_left, get_other, get_removed}
+use Rattle.sn_model.proofs.MapLemmas.{get_left, get_removed}
 use Rattle.sn_model.proofs.MoveLemmas.{some_node}
 use Rattle.sn_model.proofs.OtherCallLemmas.{caller_live}
 use Rattle.sn_model.proofs.OutcomeLemmas.{FitsCaller}
 use Rattle.sn_model.proofs.SettlingLemmas.{get_without}
+use Rattle.sn_changed.proofs.HoldsLemmas.{StillHolds}
 use Rattle.sn_desc.specs.Closing.{released_if}
 use Rattle.sn_desc.proofs.ReleaseLemmas.{told_last}
 use Rattle.sn_core.specs.Called.{AreNumbers, CanTurn, HasRoom, TellsReleased}
 
--- ---- descriptors that hold what they held
-
--- whoever holds a file of these still does of those
-abbrev pub StillHolds : Descriptors → Descriptors → Type 0
-StillHolds old new = (n : ℕ) → is_held_in old n ≡ true → is_held_in new n ≡ true
+-- ---- what is released
 
 pub none_released : (old new : World) (numbers : List ℕ) → StillHolds old.descriptors new.descriptors → TellsReleased old new numbers
 none_released old new numbers holds n held left = absurd (true≢false (sym (holds n held) ∙ left))
-
-pub same_holds : (old new : Descriptors) → new ≡ old → StillHolds old new
-same_holds old new e n held = ap (λ (t : Descriptors). is_held_in t n) e ∙ held
-
-pub some_descriptor : {P : Descriptor → Type 0} (o : Option Descriptor) → IsSomeAnd o P → (d : Descriptor) × (o ≡ Some d) × P d
-some_descriptor None h = absurd h
-some_descriptor (Some d) h = (d, refl, h)
-
-abbrev Key : Type 0
-Key = ℕ × ℕ
-
-abbrev AreOne : Key → Key → Type 0
-AreOne a b = a ≡ b
-
--- one more descriptor
-pub opened_holds : (table : Descriptors) (session fd : ℕ) (d : Descriptor) → map.get table (session, fd) ≡ None → StillHolds table (opened table session fd d)
-opened_holds table session fd d vacant n held =
-    let b = held_by table n held in
-    let x = some_descriptor (map.get table (b.0, b.1)) b.2 in
-    let apart : AreOne (b.0, b.1) (session, fd) → ⊥ = (λ q. let never : None ≡ Some x.0 = sym vacant ∙ ap (map.get table) (sym q) ∙ x.1 in cc) in
-    held_at (opened table session fd d) n b.0 b.1 x.0 (get_other descriptors_total exact_descriptors table (session, fd) d (b.0, b.1) apart ∙ x.1) x.2.0 x.2.1
-
--- a descriptor at another offset
-pub moved_holds : (table : Descriptors) (session fd offset : ℕ) → StillHolds table (moved_to table session fd offset)
-moved_holds table session fd offset n held = told (map.get table (session, fd)) refl
-  where
-    told : (o : Option Descriptor) → map.get table (session, fd) ≡ o → is_held_in (moved_if table session fd offset o) n ≡ true
-    told None e = held
-    told (Some d) e = split (same_or_apart descriptors_total exact_descriptors (b.0, b.1) (session, fd))
-      where
-        b : (i : ℕ) × (k : ℕ) × IsSomeAnd (map.get table (i, k)) (λ x. (x.home ≡ Live) × (x.number ≡ n))
-        b = held_by table n held
-
-        split : AreOne (b.0, b.1) (session, fd) ⊎ (AreOne (b.0, b.1) (session, fd) → ⊥) → is_held_in (opened table session fd (at_offset offset d)) n ≡ true
-        split (inl q) =
-            let x = some_descriptor (map.get table (b.0, b.1)) b.2 in
-            let both : Some x.0 ≡ Some d = sym x.1 ∙ ap (map.get table) q ∙ e in
-            let same = some_same x.0 d both in
-            held_at (opened table session fd (at_offset offset d)) n session fd (at_offset offset d) (get_inserted descriptors_total table (session, fd) (at_offset offset d))
-            (ap (λ (y : Descriptor). y.home) (sym same) ∙ x.2.0) (ap (λ (y : Descriptor). y.number) (sym same) ∙ x.2.1)
-        split (inr apart) =
-            let x = some_descriptor (map.get table (b.0, b.1)) b.2 in
-            held_at (opened table session fd (at_offset offset d)) n b.0 b.1 x.0 (get_other descriptors_total exact_descriptors table (session, fd) (at_offset offset d) (b.0, b.1) apart ∙ x.1) x.2.0 x.2.1
-
--- the next descriptor isn't open yet
-unused : (used : ℕ → Bool) (first many fd : ℕ) → first_without used first many ≡ Some fd → used fd ≡ false
-unfolding first_without
-unused used first zero fd e = cc
-unused used first (suc many) fd e = told (used first) refl (unused used (first + 1) many fd) e
-  where
-    told : (b : Bool) → used first ≡ b → (first_without used (first + 1) many ≡ Some fd → used fd ≡ false) → cond b (first_without used (first + 1) many) (Some first) ≡ Some fd → used fd ≡ false
-    told true t more f = more f
-    told false t more f = ap used (sym (some_same first fd f)) ∙ t
-
-given_is : (o : Option ℕ) (fd : ℕ) → given o ≡ Ok fd → o ≡ Some fd
-given_is None fd e = cc
-given_is (Some n) fd e = ap (λ (k : ℕ). Some k) (same_ok n fd e)
-
-pub next_vacant : (table : Descriptors) (session fd : ℕ) → next_descriptor table session ≡ Ok fd → map.get table (session, fd) ≡ None
-next_vacant table session fd e = told (map.get table (session, fd)) (unused (λ n. is_some (map.get table (session, n))) 0 64 fd (given_is _ fd e))
-  where
-    told : (o : Option Descriptor) → is_some o ≡ false → o ≡ None
-    told None f = refl
-    told (Some d) f = absurd (true≢false f)
 
 -- ---- what a caller that was decided needs
 

@@ -3,3 +3,5 @@ pub mod NumberLemmas
 pub mod StepLemmas
 pub mod ViewLemmas
 pub mod RestartLemmas
+pub mod LiveLemmas
+pub mod ToldLemmas

@@ -36,7 +36,7 @@ use Rattle.sn_model.proofs.PartLemmas.{Made, made_is}
 use Rattle.sn_model.proofs.SettlingLemmas.{get_without, nameless_is}
 use Rattle.sn_model.proofs.StayLemmas.{change_stays, file_stays}
 use Rattle.sn_numbers.specs.Numbers.{kept_after}
-use Rattle.sn_core.proofs.CallerLemmas.{some_descriptor}
+use Rattle.sn_changed.proofs.HoldsLemmas.{some_descriptor}
 use Rattle.sn_core.specs.Called.{TellsReleased, WereHeld}
 use Rattle.sn_core.specs.Numbering.{GivesOut, Numbers, has_closed, has_gone}
 
@@ -241,20 +241,23 @@ module _ (old turned mid : World) (numbers seen : List ℕ) (same : seen ≡ num
       told false e = e ∙ sym (ap (λ (b : Bool). is_held old n && b) (sym (from_old n) ∙ e) ∙ both (is_held old n))
 
   -- and what lost its name isn't one of them
-  pub closed_one : (lost n : ℕ) → has_gone turned mid n ≡ has_closed old (dropped_if mid lost) n
-  closed_one lost n = told (is_abandoned mid lost) refl
+  pub unheld : (lost : ℕ) → is_abandoned mid lost ≡ true → is_held old lost ≡ false
+  unheld lost abandoned = was_left (is_held old lost) refl
     where
-      was_left : (b : Bool) → is_held old lost ≡ b → is_abandoned mid lost ≡ true → is_held old lost ≡ false
-      was_left false e abandoned = e
-      was_left true e abandoned =
+      was_left : (b : Bool) → is_held old lost ≡ b → is_held old lost ≡ false
+      was_left false e = e
+      was_left true e =
           let l = left lost abandoned in
           absurd (l.1 (subst (λ (xs : List ℕ). Contains xs lost) (sym same) (tells lost e (abandoned_is turned lost l.0).left)))
 
+  pub closed_one : (lost n : ℕ) → has_gone turned mid n ≡ has_closed old (dropped_if mid lost) n
+  closed_one lost n = told (is_abandoned mid lost) refl
+    where
       split : (n ≡ lost) ⊎ (n ≢ lost) → is_abandoned mid lost ≡ true → has_gone turned mid n ≡ has_closed old (without old mid lost) n
       split (inl q) e =
           let here : is_some (map.get mid.live.nodes n) ≡ true = ap (λ (k : ℕ). is_some (map.get mid.live.nodes k)) q ∙ abandoned_there mid lost e in
           stays_there (map.get turned.live.nodes n) (map.get mid.live.nodes n) here
-          ∙ sym (ap (λ (b : Bool). b && has_gone old (without old mid lost) n) (ap (is_held old) q ∙ was_left (is_held old lost) refl e))
+          ∙ sym (ap (λ (b : Bool). b && has_gone old (without old mid lost) n) (ap (is_held old) q ∙ unheld lost e))
       split (inr q) e = closed_none n ∙ sym (ap (λ (b : Bool). is_held old n && b) (at_other old mid lost n q))
 
       told : (b : Bool) → is_abandoned mid lost ≡ b → has_gone turned mid n ≡ has_closed old (cond b (without old mid lost) mid) n

@@ -3,3 +3,4 @@ pub mod Numbering
 pub mod Plain
 pub mod PlainRuns
 pub mod Served
+pub mod Told

@@ -1,16 +1,20 @@
 //! What becomes of whoever called, and of files that nobody has and no name stands for.
-ghost use Rattle.std.specs.Prelude.{◌≡◌, ◌<◌, ◌≤◌, ◌==◌, ◌&&◌, ◌||◌, ℕ, true, Ok, Contains, OnOk, OnErr};
-ghost use Rattle.sn_desc.specs.InUse.{descriptor_of};
+ghost use Rattle.std.specs.Prelude.{◌≡◌, ◌+◌, ◌<◌, ◌≤◌, ◌==◌, ◌&&◌, ◌||◌, ℕ, true, false, All, Ok, Contains, OnOk, OnErr, is_some, length, if◌then◌else◌};
+ghost use Rattle.arrayvec.specs.ArrayVec.{array_vec_len};
+ghost use Rattle.sn_changed.specs.Dropped.{TellsGone};
+ghost use Rattle.sn_desc.specs.InUse.{descriptor_of, live_in};
 ghost use Rattle.sn_limits.specs.Versions.{version_1};
 ghost use Rattle.sn_model.specs.Descriptors.{next_descriptor, opened};
 ghost use Rattle.sn_model.specs.NameTree.{IsTree};
 ghost use Rattle.sn_model.specs.Outcomes.{is_opening};
-ghost use Rattle.sn_model.specs.Settling.{OnlyLost, dropped, dropped_if, is_abandoned};
+ghost use Rattle.sn_model.specs.Settling.{OnlyLost, dropped, dropped_if, is_abandoned, is_held};
 ghost use Rattle.sn_model.specs.Steps.{with_caller, with_descriptors};
 ghost use Rattle.sn_core.specs.Called.{AreNumbers, CanTurn, HasRoom, TellsReleased, WereHeld};
 ghost use Rattle.sn_core.specs.Numbering.{has_closed, has_gone};
+ghost use Rattle.sn_core.specs.Told.{dropped_lost, told_if, told_lost};
 
 use crate::PlainWorld;
+use sn_changed::{DroppedFile, DroppedFiles};
 use sn_desc::{OpenFile, Released};
 use sn_model::Caller;
 use std::alloc::AllocError;
@@ -52,6 +56,7 @@ impl PlainWorld {
         ensures kept { kept_of self.new ≡ kept_of self.old }
         ensures released { TellsReleased (world_of self.old) (world_of self.new) result.items }
         ensures held { WereHeld (world_of self.old) result.items }
+        ensures few { array_vec_len result + live_in (world_of self.new).descriptors ≤ live_in (world_of self.old).descriptors }
     {
         let mut released = Released::new();
         if let Some(number) = self.sessions.close_if_open(session, fd) {
@@ -68,6 +73,7 @@ impl PlainWorld {
         ensures kept { kept_of self.new ≡ kept_of self.old }
         ensures released { TellsReleased (world_of self.old) (world_of self.new) result.items }
         ensures held { WereHeld (world_of self.old) result.items }
+        ensures few { array_vec_len result + live_in (world_of self.new).descriptors ≤ live_in (world_of self.old).descriptors + (if is_opening caller then 1 else 0) }
     {
         match caller {
             Caller::Stays | Caller::OpensNew { .. } => {}
@@ -103,56 +109,99 @@ impl PlainWorld {
         self.tree.tree().is_nameless(number) && !self.sessions.is_held(number)
     }
 
-    /// Takes a live file away that lost its last descriptor, if no name stands for it: its number is
-    /// kept back.
-    fn drop_if_closed(&mut self, number: u16)
-        requires { AreNumbers (world_of self.old) }
+    /// Takes a live file away that lost its last descriptor, if no name stands for it, and tells it behind
+    /// the others: its number is kept back.
+    fn drop_if_closed(&mut self, number: u16, dropped: &mut DroppedFiles)
+        requires numbers { AreNumbers (world_of self.old) }
+        requires room { array_vec_len dropped.old < 65 }
         ensures world { world_of self.new ≡ dropped_if (world_of self.old) number }
         ensures kept { (n : ℕ) → kept_of self.new n ≡ ((is_abandoned (world_of self.old) number && n == number) || kept_of self.old n) }
+        ensures told { dropped.new.items ≡ told_if (world_of self.old) number true dropped.old.items }
     {
         if self.is_abandoned(number) {
             self.tree.drop_closed(number);
+            dropped.push(DroppedFile {
+                number,
+                by_close: true,
+            });
         }
     }
 
     /// The same for each of these.
-    fn drop_each_closed(&mut self, numbers: &[u16])
-        requires { AreNumbers (world_of self.old) }
+    fn drop_each_closed(&mut self, numbers: &[u16]) -> DroppedFiles
+        requires numbers { AreNumbers (world_of self.old) }
+        requires few { length numbers.now ≤ 64 }
         ensures world { dropped (world_of self.new) ≡ dropped (world_of self.old) }
         ensures left { (number : ℕ) → is_abandoned (world_of self.new) number ≡ true → (is_abandoned (world_of self.old) number ≡ true) × (Contains numbers.now number → ⊥) }
         ensures gone { (number : ℕ) → has_gone (world_of self.old) (world_of self.new) number ≡ true → Contains numbers.now number }
         ensures kept { (number : ℕ) → kept_of self.new number ≡ (has_gone (world_of self.old) (world_of self.new) number || kept_of self.old number) }
+        ensures told { TellsGone (world_of self.old).live (world_of self.new).live result.items }
+        ensures closed { All (λ file. file.by_close ≡ true) result.items }
+        ensures few { array_vec_len result ≤ length numbers.now }
     {
+        let mut dropped = DroppedFiles::new();
         for number in numbers {
-            self.drop_if_closed(*number);
+            self.drop_if_closed(*number, &mut dropped);
         }
+        dropped
     }
 
-    /// Takes a live file away that lost a name, if no other stands for it and nobody has it open.
-    fn drop_if_lost(&mut self, number: u16)
-        requires { AreNumbers (world_of self.old) }
+    /// Takes a live file away that lost a name, if no other stands for it and nobody has it open, and tells
+    /// it behind the others.
+    fn drop_if_lost(&mut self, number: u16, dropped: &mut DroppedFiles)
+        requires numbers { AreNumbers (world_of self.old) }
+        requires room { array_vec_len dropped.old < 65 }
         ensures world { world_of self.new ≡ dropped_if (world_of self.old) number }
         ensures kept { (n : ℕ) → kept_of self.new n ≡ kept_of self.old n }
+        ensures told { dropped.new.items ≡ told_if (world_of self.old) number false dropped.old.items }
     {
         if self.is_abandoned(number) {
             self.tree.drop_file(number);
+            dropped.push(DroppedFile {
+                number,
+                by_close: false,
+            });
+        }
+    }
+
+    /// The same where a file lost a name.
+    fn drop_lost(&mut self, lost: Option<u16>, dropped: &mut DroppedFiles)
+        requires numbers { AreNumbers (world_of self.old) }
+        requires room { array_vec_len dropped.old < 65 }
+        ensures world { world_of self.new ≡ dropped_lost (world_of self.old) lost }
+        ensures kept { (n : ℕ) → kept_of self.new n ≡ kept_of self.old n }
+        ensures told { dropped.new.items ≡ told_lost (world_of self.old) lost dropped.old.items }
+    {
+        if let Some(number) = lost {
+            self.drop_if_lost(number, dropped);
         }
     }
 
     /// Sets what becomes of a caller's session and its descriptors. A live file that no name stands for
     /// goes where nobody has it open any more: one that lost its last descriptor, or its name by the
-    /// change that was made. Only those are looked at. The numbers of the former are kept back.
-    pub fn set_caller(&mut self, session: u32, caller: Caller, lost: Option<u16>)
+    /// change that was made. Only those are looked at. The numbers of the former are kept back. It tells
+    /// the files that went, each once, and whether with the last descriptor.
+    pub fn set_caller(&mut self, session: u32, caller: Caller, lost: Option<u16>) -> DroppedFiles
         requires whole { IsTree version_1 (world_of self.old).live }
         requires opens { CanTurn (world_of self.old).descriptors (room_of self.old) session caller }
         requires lost { OnlyLost (world_of self.old) lost }
         ensures world { world_of self.new ≡ dropped (with_caller (world_of self.old) session caller) }
         ensures kept { (number : ℕ) → kept_of self.new number ≡ (has_closed (world_of self.old) (world_of self.new) number || kept_of self.old number) }
+        ensures told { TellsGone (world_of self.old).live (world_of self.new).live result.items }
+        ensures closed { All (λ file. file.by_close ≡ is_held (world_of self.old) file.number) result.items }
+        ensures few { array_vec_len result + live_in (world_of self.new).descriptors
+            ≤ live_in (world_of self.old).descriptors + (if is_opening caller then 1 else 0) + (if is_some lost then 1 else 0) }
     {
         let released = self.turn(session, caller);
-        self.drop_each_closed(released.as_slice());
-        if let Some(number) = lost {
-            self.drop_if_lost(number);
-        }
+        let mut dropped = self.drop_each_closed(released.as_slice());
+        self.drop_lost(lost, &mut dropped);
+        dropped
+    }
+
+    /// How many descriptors have live files. It is kept, and not counted anew.
+    pub fn open_files(&self) -> u16
+        ensures { result ≡ live_in (world_of self.now).descriptors }
+    {
+        self.sessions.live()
     }
 }

@@ -1,6 +1,7 @@
 //! How a point begins.
-ghost use Rattle.std.specs.Prelude.{◌≡◌, ◌+◌, ◌*◌, ◌^◌, ◌<◌, ◌≤◌, IsTrue, OnErr, OnOk};
+ghost use Rattle.std.specs.Prelude.{◌≡◌, ◌+◌, ◌*◌, ◌^◌, ◌<◌, ◌≤◌, Err, IsTrue, OnErr, OnOk};
 ghost use Rattle.sn_block.specs.Lending.{device_of};
+ghost use Rattle.sn_block.specs.declared.fault.ReadFault.TheVariants.{Memory};
 ghost use Rattle.sn_log.specs.Clearing.{CountsClearing};
 ghost use Rattle.sn_log.specs.Places.{first_of};
 ghost use Rattle.sn_cp.specs.Beginning.{Begins};
@@ -25,6 +26,7 @@ pub fn begin<D: Device>(
         (D.disk (device_of blocks.old)) (D.disk (device_of blocks.new)) }
     ensures counts { CountsClearing result
         (D.status (device_of blocks.old)) (D.status (device_of blocks.new)) }
+    ensures memory { IsTrue D.tells_bytes → result ≡ Err Memory → D.disk (device_of blocks.new) ≡ D.disk (device_of blocks.old) }
     ensures turned { OnOk result (log.new ≡ first_of log.old.blocks (log.old.epoch + 1)) }
     ensures stays { OnErr result (log.new ≡ log.old) }
 {

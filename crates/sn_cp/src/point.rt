@@ -89,6 +89,15 @@ impl Point {
         }
     }
 
+    /// The root that it writes, and the words of its map.
+    pub fn into_root(self) -> (RootBody, Map)
+        ensures root { result.0 ≡ (work_of self).plan.next }
+        ensures words { result.1 ≡ (work_of self).plan.words }
+    {
+        let Point { map, next, .. } = self;
+        (next, map)
+    }
+
     /// Whether its root counts.
     pub fn is_done(&self) -> bool
         ensures { IsTrue result ↔ (stage_of self.now ≡ Done) }

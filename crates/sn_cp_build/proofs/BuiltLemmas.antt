@@ -2,15 +2,14 @@
 use Rattle.std.proofs.Common.{◌≡◌, ◌≢◌, ⊎_elim, ℕ, ◌+◌, ◌≤◌, List, [], ◌∷◌, ◌++◌, length, sum_by, Option, None, Some, refl, sym, ap, subst, ◌∙◌, arith}
 use Rattle.std.specs.Prelude.{All, Contains}
 use Rattle.std.proofs.lemmas.List.{map-append, length-append, append-nil}
-use Rattle.std.proofs.lemmas.List.Elements.{All-nil, All-cons, All-head, All-tail, All-append, All-weaker, Contains-append_left, Contains-append_right, Contains-append_cases}
+use Rattle.std.proofs.lemmas.List.Elements.{All-nil, All-cons, All-append, All-weaker, Contains-append_left, Contains-append_right, Contains-append_cases}
 use Rattle.std.proofs.lemmas.List.Sums.{sum_by-append}
 use Rattle.sn_device.proofs.SectorLemmas.{Contains-first, Contains-cases}
 use Rattle.sn_image.specs.Contents.{content_reach}
 use Rattle.sn_image.specs.Image.{image}
 use Rattle.sn_image.specs.Inodes.{inode_at}
-use Rattle.sn_image.specs.Reach.{reach, reach_at}
+use Rattle.sn_image.specs.Reach.{reach}
 use Rattle.sn_image.proofs.ListLemmas.{none_in}
-use Rattle.sn_image.proofs.ReachLemmas.{reach_parts}
 use Rattle.sn_inode.specs.Changes.{IsChange, IsChanged, numbers_in}
 use Rattle.sn_inode.specs.declared.changes.InodeChange.{InodeChange}
 use Rattle.sn_layout.specs.declared.tree.BlockTree.{BlockTree}
@@ -28,21 +27,8 @@ use Rattle.sn_tree.proofs.StepLemmas.{grown-grown, grown-none}
 use Rattle.sn_cp_nodes.specs.Built.{BuildsNode, IsGround, StandsFor}
 use Rattle.sn_cp_nodes.specs.Inodes.{content_in}
 use Rattle.sn_cp_nodes.specs.Parts.{content_of}
+use Rattle.sn_cp_nodes.proofs.PutLemmas.{holds_parts, of_number}
 use Rattle.sn_cp_build.specs.Planned.{AreBuilt, none, more, IsFor, listed, most_for}
-
--- ---- new blocks that stand in their places
-
-abbrev Stands : Store → NewBlock → Type 0
-Stands r block = r block.number ≡ block.bytes.value
-
-pub holds_parts : (r : Store) (a b : List NewBlock) → Holds r (a ++ b) → Holds r a × Holds r b
-holds_parts r [] b holds = (All-nil (Stands r), holds)
-holds_parts r (x ∷ a) b holds =
-    let rest = holds_parts r a b (All-tail (Stands r) x (a ++ b) holds) in
-    (All-cons (Stands r) x a (All-head (Stands r) x (a ++ b) holds) rest.0, rest.1)
-
-pub of_number : (s r : Store) (file : BlockTree) (number : ℕ) → SameIn (reach s file) s r → SameIn (reach_at s file number) s r
-of_number s r file number same block among = same block ((reach_parts s file block).1 number among)
 
 -- ---- what was built
 

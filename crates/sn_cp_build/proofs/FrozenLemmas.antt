@@ -33,11 +33,12 @@ use Rattle.sn_tree.specs.Plans.{Holds}
 use Rattle.sn_tree.specs.declared.new_block.NewBlock.{NewBlock}
 use Rattle.sn_tree.proofs.StepLemmas.{grown-grown}
 use Rattle.sn_cp_nodes.specs.Built.{IsGround}
+use Rattle.sn_cp_nodes.proofs.PutLemmas.{holds_parts}
+use Rattle.sn_cp_nodes.proofs.RiseLemmas.{rising_once}
 use Rattle.sn_cp_build.specs.Bits.{MakesUp, TellsBlocks}
 use Rattle.sn_cp_build.specs.Building.{IsTreePlanned}
 use Rattle.sn_cp_build.specs.Planned.{numbers_of}
-use Rattle.sn_cp_build.proofs.BuiltLemmas.{HasGrown, has_grown, holds_parts}
-use Rattle.sn_cp_build.proofs.ListedLemmas.{rising_once}
+use Rattle.sn_cp_build.proofs.BuiltLemmas.{HasGrown, has_grown}
 use Rattle.sn_cp_build.proofs.PlaceLemmas.{adds_up}
 use Rattle.sn_cp_build.proofs.RiseLemmas.{changes_rise, layer_rises}
 use Rattle.sn_cp_build.proofs.SeenLemmas.{denotes, same_file, sound_new}
@@ -75,6 +76,16 @@ no_zero t inodes = ⊎_elim
     (λ (nothing : times 0 (reach t inodes) ≤ 0). omega (arith, nothing))
     (cases_lt 0 (times 0 (reach t inodes)))
 
+-- ---- what a map tells
+
+-- none of the blocks that are told can be taken
+pub told_kept : (words reached : List ℕ) (first block : ℕ) → TellsBlocks words reached → Contains reached block → IsFreeData words first block → ⊥
+told_kept words reached first block tells among free =
+    let one : bit_at (slice_index words block) 0 ≡ 1 = (tells block).1 among in
+    let none : bit_at (slice_index words block) 0 ≡ 0 = ap (λ (word : ℕ). bit_at word 0) free.free in
+    let never : 0 ≡ 1 = sym none ∙ one in
+    omega (arith, never)
+
 -- ---- what was planned
 
 module _ (Told : Type 0) (limits : Limits) (s : Store) (file : BlockTree) (layer : Layer) (new : BlockTree) (old after : Draft) (plan : IsTreePlanned Told limits s file layer new old after) where
@@ -91,30 +102,13 @@ module _ (Told : Type 0) (limits : Limits) (s : Store) (file : BlockTree) (layer
   grew = plan.inodes.grew ∙ ap (λ (d : Draft). grown d plan.inodes.added plan.inodes.released) first.grew ∙ grown-grown old first.added plan.inodes.added first.released plan.inodes.released
 
   module _ (n : ℕ) (words : List ℕ) (told : Told) (ground : IsGround limits n s file layer) (tells : TellsBlocks words (reach s file))
-      (free : All (IsFreeData words (start_of n Data)) (blocks_of added)) (rise : IsStrictlyIncreasing (blocks_of added)) (long : length words ≡ n)
-      (r : Store) (same : SameIn (reach s file) s r) (holds : Holds r added) where
-    parts : Holds r first.added × Holds r plan.inodes.added
-    parts = holds_parts r first.added plan.inodes.added holds
-
-    adds : (block : ℕ) → block ≢ 0 → times block (reach r new) + times block released ≡ times block (reach s file) + times block (blocks_of added)
-    adds block some =
-        let changed = plan.inodes.changes_inodes told in
-        let there = same_file limits n s r file layer ground same in
-        adds_up s r file new plan.changes block plan.larger same (λ number apart. changed.others r there parts.1 number apart) (changed.changed r there parts.1)
-        (rising_once _ (changes_rise Told limits s file layer old (numbers_of layer) plan.changes plan.between plan.nodes (layer_rises layer)))
-        first.added plan.inodes.added first.released plan.inodes.released
-        (first.reaches told r same parts.0 block some)
-        (changed.reach r there parts.1 block some)
-
+      (free : All (IsFreeData words (start_of n Data)) (blocks_of added)) (rise : IsStrictlyIncreasing (blocks_of added)) (long : length words ≡ n) where
     -- what was added was reached by nothing
-    apart : (block : ℕ) → 0 < times block (blocks_of added) → times block (reach s file) ≡ 0
+    pub apart : (block : ℕ) → 0 < times block (blocks_of added) → times block (reach s file) ≡ 0
     apart block some =
         let is = All-contains (IsFreeData words (start_of n Data)) (blocks_of added) block free (times_among block (blocks_of added) some) in
         ⊎_elim
-        (λ (reached : 0 < times block (reach s file)).
-        let one : bit_at (slice_index words block) 0 ≡ 1 = (tells block).1 (times_among block (reach s file) reached) in
-        let none : bit_at (slice_index words block) 0 ≡ 0 = ap (λ (word : ℕ). bit_at word 0) is.free in
-        absurd (let never : 0 ≡ 1 = sym none ∙ one in omega (arith, never)))
+        (λ (reached : 0 < times block (reach s file)). absurd (told_kept words (reach s file) (start_of n Data) block tells (times_among block (reach s file) reached) is))
         (λ (nothing : times block (reach s file) ≤ 0). omega (arith, nothing))
         (cases_lt 0 (times block (reach s file)))
 
@@ -132,47 +126,61 @@ module _ (Told : Type 0) (limits : Limits) (s : Store) (file : BlockTree) (layer
         (λ (nothing : times 0 (blocks_of added) ≤ 0). omega (arith, nothing))
         (cases_lt 0 (times 0 (blocks_of added)))
 
-    pub makes_up : MakesUp (reach s file) (reach r new) (blocks_of added) released
-    makes_up = record {
-      sum = adds;
-      once = once;
-      no_zero = omega (arith, no_zero r new, no_zero s file, none_added);
-    }
+    module _ (r : Store) (same : SameIn (reach s file) s r) (holds : Holds r added) where
+      parts : Holds r first.added × Holds r plan.inodes.added
+      parts = holds_parts r first.added plan.inodes.added holds
 
-    -- it reaches what the old one reached, or what was added
-    counted : (block : ℕ) → Contains (reach r new) block → 0 < times block (reach s file) + times block (blocks_of added)
-    counted block among =
-        let some = among_times block (reach r new) among in
-        let is_block : block ≢ 0 = λ zero. omega (arith, some, ap (λ (b : ℕ). times b (reach r new)) zero, no_zero r new) in
-        omega (arith, adds block is_block, some)
+      adds : (block : ℕ) → block ≢ 0 → times block (reach r new) + times block released ≡ times block (reach s file) + times block (blocks_of added)
+      adds block some =
+          let changed = plan.inodes.changes_inodes told in
+          let there = same_file limits n s r file layer ground same in
+          adds_up s r file new plan.changes block plan.larger same (λ number apart. changed.others r there parts.1 number apart) (changed.changed r there parts.1)
+          (rising_once _ (changes_rise Told limits s file layer old (numbers_of layer) plan.changes plan.between plan.nodes (layer_rises layer)))
+          first.added plan.inodes.added first.released plan.inodes.released
+          (first.reaches told r same parts.0 block some)
+          (changed.reach r there parts.1 block some)
 
-    pub within : (block : ℕ) → Contains (reach r new) block → Contains (reach s file) block ⊎ Contains (blocks_of added) block
-    within block among = ⊎_elim
-        (λ (before : 0 < times block (reach s file)). inl (times_among block (reach s file) before))
-        (λ (not : times block (reach s file) ≤ 0). inr (times_among block (blocks_of added) (omega (arith, counted block among, not))))
-        (cases_lt 0 (times block (reach s file)))
+      pub makes_up : MakesUp (reach s file) (reach r new) (blocks_of added) released
+      makes_up = record {
+        sum = adds;
+        once = once;
+        no_zero = omega (arith, no_zero r new, no_zero s file, none_added);
+      }
 
-    placed : IsPlaced n r new
-    placed = record {
-      within = λ block among. ⊎_elim
-          (λ (before : Contains (reach s file) block). ground.sound.placed.within block before)
-          (λ (newly : Contains (blocks_of added) block).
-          let is = All-contains (IsFreeData words (start_of n Data)) (blocks_of added) block free newly in
-          record { from = is.in_data_area; below = omega (arith, is.within, long) })
-          (within block among);
-      once = λ block. ⊎_elim
-          (λ (zero : block ≡ 0). omega (arith, ap (λ (b : ℕ). times b (reach r new)) zero, no_zero r new))
-          (λ (is_block : block ≢ 0). omega (arith, adds block is_block, once block))
-          (cases_eq block 0);
-    }
+      -- it reaches what the old one reached, or what was added
+      counted : (block : ℕ) → Contains (reach r new) block → 0 < times block (reach s file) + times block (blocks_of added)
+      counted block among =
+          let some = among_times block (reach r new) among in
+          let is_block : block ≢ 0 = λ zero. omega (arith, some, ap (λ (b : ℕ). times b (reach r new)) zero, no_zero r new) in
+          omega (arith, adds block is_block, some)
 
-    none_then : plan.changes ≡ [] → new ≡ file
-    none_then none = (plan.inodes.none none).0
+      pub within : (block : ℕ) → Contains (reach r new) block → Contains (reach s file) block ⊎ Contains (blocks_of added) block
+      within block among = ⊎_elim
+          (λ (before : 0 < times block (reach s file)). inl (times_among block (reach s file) before))
+          (λ (not : times block (reach s file) ≤ 0). inr (times_among block (blocks_of added) (omega (arith, counted block among, not))))
+          (cases_lt 0 (times block (reach s file)))
 
-    pub tree : image r new ≡ through layer (image s file)
-    tree = denotes limits n s r file layer ground same new plan.changes plan.inodes.added plan.inodes.released plan.file_is first.can (plan.inodes.changes_inodes told) parts.1 none_then
-        (first.stands told n ground r same parts.0) (first.unused told n ground r same parts.0)
+      placed : IsPlaced n r new
+      placed = record {
+        within = λ block among. ⊎_elim
+            (λ (before : Contains (reach s file) block). ground.sound.placed.within block before)
+            (λ (newly : Contains (blocks_of added) block).
+            let is = All-contains (IsFreeData words (start_of n Data)) (blocks_of added) block free newly in
+            record { from = is.in_data_area; below = omega (arith, is.within, long) })
+            (within block among);
+        once = λ block. ⊎_elim
+            (λ (zero : block ≡ 0). omega (arith, ap (λ (b : ℕ). times b (reach r new)) zero, no_zero r new))
+            (λ (is_block : block ≢ 0). omega (arith, adds block is_block, once block))
+            (cases_eq block 0);
+      }
 
-    pub sound : IsSound limits n r new
-    sound = sound_new limits n s r file layer ground same new plan.changes plan.inodes.added plan.inodes.released plan.file_is first.can (plan.inodes.changes_inodes told) parts.1 none_then
-        (first.stands told n ground r same parts.0) (first.unused told n ground r same parts.0) placed
+      none_then : plan.changes ≡ [] → new ≡ file
+      none_then none = (plan.inodes.none none).0
+
+      pub tree : image r new ≡ through layer (image s file)
+      tree = denotes limits n s r file layer ground same new plan.changes plan.inodes.added plan.inodes.released plan.file_is first.can (plan.inodes.changes_inodes told) parts.1 none_then
+          (first.stands told n ground r same parts.0) (first.unused told n ground r same parts.0)
+
+      pub sound : IsSound limits n r new
+      sound = sound_new limits n s r file layer ground same new plan.changes plan.inodes.added plan.inodes.released plan.file_is first.can (plan.inodes.changes_inodes told) parts.1 none_then
+          (first.stands told n ground r same parts.0) (first.unused told n ground r same parts.0) placed

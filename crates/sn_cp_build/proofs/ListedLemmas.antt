@@ -1,12 +1,12 @@
 -- Lists of numbers: what is among them, and how often.
-use Rattle.std.proofs.Common.{◌≡◌, ◌≢◌, ◌⊎◌, inl, inr, ⊎_elim, ℕ, suc, ◌+◌, ◌<◌, ◌≤◌, Bool, true, false, cond, List, [], ◌∷◌, map, Some, refl, sym, ap, subst, ◌∙◌, arith}
-use Rattle.std.specs.Prelude.{All, Contains, slice_index}
+use Rattle.std.proofs.Common.{◌≡◌, ◌⊎◌, inl, inr, ⊎_elim, ℕ, ◌+◌, ◌<◌, ◌≤◌, Bool, true, false, cond, List, [], ◌∷◌, map, Some, refl, sym, subst, ◌∙◌, arith}
+use Rattle.std.specs.Prelude.{All, Contains}
 use Rattle.std.specs.List.{AllByRecursion, range_with_len}
 use Rattle.std.specs.List.Sorted.{IsStrictlyIncreasing}
 use Rattle.std.specs.FinMap as fin
 use Rattle.std.specs.FinMap.Entries.{find}
 use Rattle.std.specs.Ordering.{nat_cmp, eq_by_cmp}
-use Rattle.std.proofs.lemmas.Bool.{cases_eq, cases_lt}
+use Rattle.std.proofs.lemmas.Bool.{cases_lt}
 use Rattle.std.proofs.lemmas.List.Elements.{All-head, All-tail}
 use Rattle.std.proofs.lemmas.List.FromFn.{length-range_with_len, get_or-range_with_len}
 use Rattle.std.proofs.lemmas.Map.Lookups.{exact_unsigned}
@@ -16,9 +16,10 @@ use Rattle.sn_image.proofs.ListLemmas.{none_in}
 use Rattle.sn_inode.specs.Changes.{numbers_in}
 use Rattle.sn_inode.specs.declared.changes.InodeChange.{InodeChange}
 use Rattle.sn_ondisk.specs.Counts.{times}
-use Rattle.sn_ondisk.proofs.CountLemmas.{among_times, times_among, times-cons, times-same, times-other}
+use Rattle.sn_ondisk.proofs.CountLemmas.{among_times, times_among}
 use Rattle.sn_overlay.specs.Layers.{Layer}
 use Rattle.sn_overlay.specs.declared.node.NodeChange.{NodeChange}
+use Rattle.sn_cp_nodes.proofs.RiseLemmas.{rising_once}
 use Rattle.sn_cp_build.specs.Planned.{numbers_of}
 
 pub among_or_not : (x : ℕ) (xs : List ℕ) → Contains xs x ⊎ (Contains xs x → ⊥)
@@ -31,25 +32,6 @@ pub not_among : (x : ℕ) (xs : List ℕ) → times x xs ≡ 0 → Contains xs x
 not_among x xs none among = omega (arith, none, among_times x xs among)
 
 -- ---- numbers that rise
-
-pub rest_rises : (x : ℕ) (xs : List ℕ) → IsStrictlyIncreasing (x ∷ xs) → IsStrictlyIncreasing xs
-rest_rises x xs rise k within =
-    let at : suc k + 1 ≡ suc (k + 1) = omega arith in
-    subst (λ (m : ℕ). slice_index xs k < slice_index (x ∷ xs) m) at (rise (suc k) (omega (arith, within)))
-
-below_rest : (x y : ℕ) (xs : List ℕ) → IsStrictlyIncreasing (x ∷ xs) → y ≤ x → times y xs ≡ 0
-below_rest x y [] rise le = refl
-below_rest x y (z ∷ xs) rise le =
-    let next : x < z = rise 0 (omega arith) in
-    let other : z ≢ y = λ e. omega (arith, next, le, e) in
-    times-cons y z xs ∙ omega (arith, times-other y z other, below_rest z y xs (rest_rises x (z ∷ xs) rise) (omega (arith, next, le)))
-
-pub rising_once : (xs : List ℕ) → IsStrictlyIncreasing xs → (y : ℕ) → times y xs ≤ 1
-rising_once [] rise y = omega arith
-rising_once (x ∷ xs) rise y = ⊎_elim
-    (λ (same : x ≡ y). omega (arith, times-cons y x xs, ap (λ (z : ℕ). times y (z ∷ [])) same, times-same y, below_rest x y xs rise (omega (arith, same))))
-    (λ (other : x ≢ y). omega (arith, times-cons y x xs, times-other y x other, rising_once xs (rest_rises x xs rise) y))
-    (cases_eq x y)
 
 range_rises : (a n : ℕ) → IsStrictlyIncreasing (range_with_len a n)
 range_rises a n k within =

@@ -24,11 +24,11 @@ use Rattle.sn_overlay.specs.declared.file_block.FileBlock.{FileBlock}
 use Rattle.sn_overlay.specs.declared.node.NodeChange.{NodeChange}
 use Rattle.sn_overlay.proofs.OverlaidLemmas.{exact_file_blocks, file_blocks_total}
 use Rattle.sn_tree.specs.Drafts.{Draft}
+use Rattle.sn_cp_nodes.proofs.RiseLemmas.{rising_once}
 use Rattle.sn_cp_build.specs.Building.{IsTreePlanned}
 use Rattle.sn_cp_build.specs.Planned.{AreBuilt, none, more, listed, most_for, numbers_of}
 use Rattle.sn_cp_build.proofs.BuiltLemmas.{has_grown}
 use Rattle.sn_cp_build.proofs.FrozenLemmas.{added, first}
-use Rattle.sn_cp_build.proofs.ListedLemmas.{rising_once}
 use Rattle.sn_cp_build.proofs.RiseLemmas.{layer_rises}
 use Rattle.sn_cp_build.proofs.SumLemmas.{sum_alike, sum_both, sum_nothing}
 

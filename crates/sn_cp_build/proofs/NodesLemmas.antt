@@ -8,8 +8,7 @@ use Rattle.std.proofs.lemmas.Bool.{eqb-true, ne_eqb}
 use Rattle.std.proofs.lemmas.Map.Lookups.{exact_unsigned}
 use Rattle.std.proofs.lemmas.Map.Views.{tells_apart}
 use Rattle.std.specs.Ordering.{nat_cmp, eq_by_cmp, is_lt}
-use Rattle.std.specs.declared.cmp.Ordering.{Ordering}
-use Rattle.std.specs.declared.cmp.Ordering.TheVariants.{Less, Equal, Greater}
+use Rattle.std.specs.declared.cmp.Ordering.TheVariants.{Less, Equal}
 use Rattle.std.proofs.lemmas.List.{get_or-map, length-map}
 use Rattle.std.proofs.lemmas.List.Elements.{Contains-append_left, Contains-append_right}
 use Rattle.sn_device.proofs.SectorLemmas.{Contains-first}
@@ -35,6 +34,7 @@ use Rattle.sn_tree.specs.Plans.{Holds}
 use Rattle.sn_cp_nodes.specs.Built.{BuildsNode, IsGround, StandsFor}
 use Rattle.sn_cp_nodes.specs.Inodes.{Becomes, content_for}
 use Rattle.sn_cp_nodes.specs.Parts.{Blocks, IsPartOf, Names, content_of}
+use Rattle.sn_cp_nodes.proofs.RiseLemmas.{lesser}
 use Rattle.sn_cp_build.specs.Planned.{IsLeft, numbers_of}
 
 -- ---- what a layer has of one number
@@ -50,11 +50,6 @@ taken_names layer number = refl
 names_alike : (a b : Layer) (directory : ℕ) → a.names ≡ b.names → changed_names a directory ≡ changed_names b directory
 unfolding changed_names
 names_alike a b directory same = λ i. fin.entries (fin.retain_keys (same i) (λ link. link.directory == directory))
-
-lesser : (r : Ordering) → T (is_lt r) → r ≡ Less
-lesser Less h = refl
-lesser Equal h = absurd h
-lesser Greater h = absurd h
 
 both : (a b : Bool) → T (a && b) → T a × T b
 both true b h = (tt, h)

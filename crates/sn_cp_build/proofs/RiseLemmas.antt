@@ -1,14 +1,10 @@
 -- Numbers that rise: those of a layer's nodes, and of the changes of their inodes.
-use Rattle.std.proofs.Common.{◌≡◌, ⊎_elim, ℕ, zero, suc, ◌+◌, ◌<◌, ◌≤◌, ◌&&◌, Bool, true, false, T, List, [], ◌∷◌, ◌++◌, map, Option, None, Some, refl, sym, subst, ◌∙◌, arith}
+use Rattle.std.proofs.Common.{◌≡◌, ⊎_elim, ℕ, zero, suc, ◌+◌, ◌<◌, ◌&&◌, Bool, true, false, T, List, [], ◌∷◌, ◌++◌, map, Option, None, Some, sym, subst, arith}
 use Rattle.std.specs.Prelude.{All, Contains, slice_index}
 use Rattle.std.specs.List.Sorted.{IsStrictlyIncreasing}
 use Rattle.std.specs.FinMap as fin
 use Rattle.std.specs.FinMap.Entries.{below_all, is_sorted}
-use Rattle.std.specs.Cmp.{nat_cmp_is}
 use Rattle.std.specs.Ordering.{nat_cmp, is_lt}
-use Rattle.std.specs.declared.cmp.Ordering.{Ordering}
-use Rattle.std.specs.declared.cmp.Ordering.TheVariants.{Less, Equal, Greater}
-use Rattle.std.proofs.lemmas.Bool.{cases_lt}
 use Rattle.std.proofs.lemmas.List.{map-append, append-nil}
 use Rattle.std.proofs.lemmas.List.Elements.{All-head, All-tail, Contains-append_right}
 use Rattle.sn_device.proofs.SectorLemmas.{Contains-first, Contains-more, Contains-cases}
@@ -21,9 +17,9 @@ use Rattle.sn_ondisk.specs.Trees.{Store}
 use Rattle.sn_overlay.specs.Layers.{Layer}
 use Rattle.sn_overlay.specs.declared.node.NodeChange.{NodeChange}
 use Rattle.sn_tree.specs.Drafts.{Draft}
+use Rattle.sn_cp_nodes.proofs.RiseLemmas.{lesser, less_by, rest_rises}
 use Rattle.sn_cp_build.specs.Planned.{AreBuilt, none, more, IsFor, listed, numbers_of}
 use Rattle.sn_cp_build.proofs.BuiltLemmas.{has_grown}
-use Rattle.sn_cp_build.proofs.ListedLemmas.{rest_rises}
 
 abbrev Next : ℕ → List ℕ → Type 0
 Next x [] = Unit {0}
@@ -78,23 +74,9 @@ pushed_rises (y ∷ ys) x rise all =
 
 -- ---- the nodes of a layer
 
-lesser : (r : Ordering) → T (is_lt r) → r ≡ Less
-lesser Less h = refl
-lesser Equal h = absurd h
-lesser Greater h = absurd h
-
 both : (a b : Bool) → T (a && b) → T a × T b
 both true b h = (tt, h)
 both false b h = absurd h
-
-less_by : (a b : ℕ) → nat_cmp a b ≡ Less → a < b
-less_by a b is = ⊎_elim
-    (λ (less : a < b). less)
-    (λ (not : b ≤ a). ⊎_elim
-    (λ (greater : b < a). let never : Greater ≡ Less = nat_cmp_is a b Greater greater ∙ is in absurd cc)
-    (λ (equal : a ≤ b). let never : Equal ≡ Less = nat_cmp_is a b Equal (omega (arith, not, equal)) ∙ is in absurd cc)
-    (cases_lt b a))
-    (cases_lt a b)
 
 abbrev keys : List (ℕ × NodeChange) → List ℕ
 keys es = map (λ (e : ℕ × NodeChange). e.0) es

@@ -14,7 +14,8 @@ use Rattle.sn_overlay.specs.Layers.{Layer}
 use Rattle.sn_overlay.specs.Lists.{without_blocks, written_blocks}
 use Rattle.sn_overlay.specs.declared.node.NodeChange.{NodeChange}
 use Rattle.sn_tree.specs.Drafts.{Draft}
-use Rattle.sn_cp_nodes.specs.Built.{BuildsNode}
+use Rattle.sn_cp_nodes.specs.Built.{BuildsNode, IsSafeGround}
+use Rattle.sn_cp_nodes.proofs.PutLemmas.{keeps_grown}
 use Rattle.sn_cp_build.specs.Planned.{AreBuilt, more, IsFor, IsLeft, listed, most_for, numbers_of}
 use Rattle.sn_cp_build.proofs.BuiltLemmas.{has_grown}
 use Rattle.sn_cp_build.proofs.NodesLemmas.{built_there, left_more}
@@ -90,6 +91,14 @@ module _ (Told : Type 0) (limits : Limits) (s : Store) (file : BlockTree) (layer
         ap (λ (ns : List ℕ). most_for limits layer (slice_index ns k)) same,
         sum_by_more_le (most_for limits layer) (numbers_of layer) k 0 there,
       )
+
+  -- what is so of a ground when it begins is so in between
+  pub damaged_then : (n sectors : ℕ) → IsSafeGround limits n sectors s file layer old → (layer.nodes ≡ left.nodes → layer.names ≡ left.names → written_blocks layer (slice_index (numbers_of left) k) ≡ written_blocks left (slice_index (numbers_of left) k)
+      → IsSafeGround limits n sectors s file layer between → ⊥) → ⊥
+  damaged_then n sectors safe never =
+      let grew = has_grown limits s file layer Told old (take k (numbers_of layer)) changes between built in
+      never (sym so_far.nodes) (sym so_far.names) (sym (so_far.blocks (slice_index (numbers_of left) k) (fresh Told limits s s file layer left old between between k changes changes None so_far within)))
+      (record { ground = safe.ground; room = safe.room; kept = keeps_grown s file old between safe.kept grew.added grew.released grew.grew })
 
   pub full_then : (t : Store) → (layer.nodes ≡ left.nodes → layer.names ≡ left.names → written_blocks layer (slice_index (numbers_of left) k) ≡ written_blocks left (slice_index (numbers_of left) k)
       → free_data between.words between.first < length between.added + most_for limits layer (slice_index (numbers_of left) k)) → free_data old.words old.first < length old.added + sum_by (most_for limits layer) (numbers_of layer)

@@ -1,7 +1,9 @@
 -- A whole tree is built, by what was planned of it and by how the map was put.
-use Rattle.std.proofs.Common.{◌≡◌, ◌⊎◌, ℕ, ◌+◌, ◌%◌, ◌≤◌, List, [], length, Result, Ok, Err, IfOk, Some, refl, sym, ap, subst, ◌∙◌}
+use Rattle.std.proofs.Common.{◌≡◌, ◌≢◌, ◌⊎◌, ⊎_elim, ℕ, ◌+◌, ◌%◌, ◌<◌, ◌≤◌, List, [], length, Result, Ok, Err, IfOk, Some, refl, sym, ap, subst, ◌∙◌, arith}
 use Rattle.std.specs.Prelude.{All, Contains}
 use Rattle.std.specs.List.Sorted.{IsStrictlyIncreasing}
+use Rattle.std.proofs.lemmas.Bool.{cases_eq, cases_lt}
+use Rattle.std.proofs.lemmas.List.Elements.{All-contains, All-contains_itself, All-weaker}
 use Rattle.sn_alloc.specs.Taking.{IsFreeData, Taking, nothing_taken}
 use Rattle.sn_image.specs.Reach.{reach}
 use Rattle.sn_image.specs.Sound.{IsInodeFile}
@@ -13,18 +15,23 @@ use Rattle.sn_layout.specs.declared.places.Area.TheVariants.{Data}
 use Rattle.sn_layout.specs.declared.tree.BlockTree.{BlockTree}
 use Rattle.sn_limits.specs.Versions.{limits_of}
 use Rattle.sn_limits.specs.declared.limits.Limits.{Limits}
+use Rattle.sn_ondisk.specs.Counts.{times}
+use Rattle.sn_ondisk.specs.TreeLaws.{SameIn}
 use Rattle.sn_ondisk.specs.Trees.{Store}
+use Rattle.sn_ondisk.proofs.CountLemmas.{among_times, times_among}
 use Rattle.sn_overlay.specs.Layers.{Layer}
 use Rattle.sn_overlay.specs.Needs.{need}
 use Rattle.sn_tree.specs.Drafts.{Draft, numbers_of as blocks_of}
 use Rattle.sn_tree.specs.Plans.{Holds}
 use Rattle.sn_tree.specs.declared.fault.PlanFault.{PlanFault}
 use Rattle.sn_tree.specs.declared.new_block.NewBlock.{NewBlock}
-use Rattle.sn_cp_build.specs.Bits.{BitsFollow}
+use Rattle.sn_cp_nodes.specs.Built.{IsGround}
+use Rattle.sn_cp_nodes.proofs.PutLemmas.{put_elsewhere, put_holds, put_in}
+use Rattle.sn_cp_build.specs.Bits.{BitsFollow, MakesUp, TellsBlocks}
 use Rattle.sn_cp_build.specs.Building.{Builds, IsFrozen, IsTreePlanned, IsWellBuilt}
 use Rattle.sn_cp_build.specs.Planned.{AreBuilt, numbers_of}
 use Rattle.sn_cp_build.specs.declared.building.Built.{Built}
-use Rattle.sn_cp_build.proofs.FrozenLemmas.{added, grew, makes_up, released, sound, tree, within}
+use Rattle.sn_cp_build.proofs.FrozenLemmas.{added, grew, makes_up, released, sound, told_kept, tree, within}
 use Rattle.sn_cp_build.proofs.NeedLemmas.{few_needed}
 
 -- ---- the inode file
@@ -82,6 +89,33 @@ module _ (Told : Type 0) (n : ℕ) (limits : Limits) (s : Store) (file : BlockTr
 
   rising_blocks : IsStrictlyIncreasing (blocks_of blocks)
   rising_blocks = subst (λ (d : Draft). IsStrictlyIncreasing (blocks_of d.added)) grown_is rise
+
+  -- each block that was released was reached or added
+  pub released_within : Told → length words ≡ n → 0 < n → IsGround limits n s file layer → TellsBlocks words (reach s file) → All (λ (b : ℕ). b < length after.words) after.released
+  released_within told long some ground tells =
+      subst (λ (d : Draft). All (λ (b : ℕ). b < length d.words) d.released) (sym grown_is)
+      (All-weaker (Contains gone) (λ (b : ℕ). b < length words) (λ block among. ⊎_elim
+      (λ (zero : block ≡ 0). omega (arith, zero, some, long))
+      (λ (is_block : block ≢ 0). known block (omega (arith, makes.sum block is_block, among_times block gone among)))
+      (cases_eq block 0)) gone (All-contains_itself gone))
+    where
+      r : Store
+      r = put_in blocks s
+
+      same : SameIn (reach s file) s r
+      same block among = put_elsewhere blocks s block (λ newly. told_kept words (reach s file) (start_of n Data) block tells among (All-contains (IsFreeData words (start_of n Data)) (blocks_of blocks) block free_blocks newly))
+
+      makes : MakesUp (reach s file) (reach r new) (blocks_of blocks) gone
+      makes = makes_up Told limits s file layer new (begun words (start_of n Data)) after plan n words told ground tells free_blocks rising_blocks long r same (put_holds blocks s rising_blocks)
+
+      known : (block : ℕ) → 0 < times block (reach s file) + times block (blocks_of blocks) → block < length words
+      known block some = ⊎_elim
+          (λ (before : 0 < times block (reach s file)).
+          let below : block < n = (ground.sound.placed.within block (times_among block (reach s file) before)).below in
+          omega (arith, below, long))
+          (λ (not : times block (reach s file) ≤ 0).
+          (All-contains (IsFreeData words (start_of n Data)) (blocks_of blocks) block free_blocks (times_among block (blocks_of blocks) (omega (arith, not, some)))).within)
+          (cases_lt 0 (times block (reach s file)))
 
   module _ (built : Built) (file_is : built.inode_file ≡ new) (blocks_are : built.blocks.items ≡ after.added) (bits : BitsFollow (blocks_of after.added) after.released after.words built.map) where
     items_are : built.blocks.items ≡ blocks

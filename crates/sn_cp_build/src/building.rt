@@ -1,8 +1,9 @@
 //! A whole tree.
-ghost use Rattle.std.specs.Prelude.{◌≡◌, ℕ, ◌+◌, ◌<◌, ◌≤◌, length, All, Err, IsTrue, IfOk, IfErr};
+ghost use Rattle.std.specs.Prelude.{◌≡◌, ℕ, ◌+◌, ◌*◌, ◌<◌, ◌≤◌, length, All, Err, IsTrue, IfOk, IfErr};
 ghost use Rattle.std.specs.List.Sorted.{IsStrictlyIncreasing};
 ghost use Rattle.sn_alloc.specs.Taking.{IsFreeData, free_data};
 ghost use Rattle.sn_device.specs.Disk.{reads};
+ghost use Rattle.sn_image.specs.Reach.{reach};
 ghost use Rattle.sn_block.specs.Lending.{device_of};
 ghost use Rattle.sn_layout.specs.Places.{start_of};
 ghost use Rattle.sn_layout.specs.RootBody.{IsRootBody};
@@ -15,8 +16,8 @@ ghost use Rattle.sn_tree.specs.Drafts.{numbers_of};
 ghost use Rattle.sn_tree.specs.Steps.{CountsPlan};
 ghost use Rattle.sn_tree.specs.declared.fault.PlanFault.TheVariants.{Full, Tree};
 ghost use Rattle.sn_tree_read.specs.declared.fault.TreeFault.TheVariants.{Damaged};
-ghost use Rattle.sn_cp_nodes.specs.Built.{IsGround};
-ghost use Rattle.sn_cp_build.specs.Bits.{BitsFollow};
+ghost use Rattle.sn_cp_nodes.specs.Built.{IsGround, IsSafeGround};
+ghost use Rattle.sn_cp_build.specs.Bits.{BitsFollow, TellsBlocks};
 ghost use Rattle.sn_cp_build.specs.Building.{IsTreePlanned, IsWellBuilt, Builds};
 
 use crate::bits::put_bits;
@@ -24,7 +25,7 @@ use crate::nodes::plan_nodes;
 use sn_alloc::BlockAllocator;
 use sn_block::Blocks;
 use sn_device::Device;
-use sn_inode::{is_inode_file, with};
+use sn_inode::{inode_laws, is_inode_file, with};
 use sn_layout::{Area, BlockTree, Places, RootBody};
 use sn_limits::Limits;
 use sn_map::Map;
@@ -59,9 +60,13 @@ fn plan_tree<D: Device>(
     ensures full { IsTrue D.tells_bytes → result ≡ Err Full → (n : ℕ) → IsGround limits.now n
         (store_of (reads (D.disk (device_of blocks.old)))) file.now (layer_of changes.old)
         → free_data build.old.words build.old.first < length build.old.added + need limits.now (layer_of changes.old) }
+    ensures damaged { IsTrue D.tells_bytes → result ≡ Err (Tree Damaged) → (n : ℕ) → IsSafeGround limits.now n
+        (D.status (device_of blocks.old)).sectors
+        (store_of (reads (D.disk (device_of blocks.old)))) file.now (layer_of changes.old) build.old → ⊥ }
     ensures same { IsTrue D.tells_bytes → D.disk (device_of blocks.new) ≡ D.disk (device_of blocks.old) }
     ensures counts { CountsPlan result (D.status (device_of blocks.old)) (D.status (device_of blocks.new)) }
 {
+    inode_laws();
     if !is_inode_file(limits, file) {
         return Err(PlanFault::Tree(TreeFault::Damaged));
     }
@@ -80,6 +85,7 @@ fn finished(build: Build, inode_file: BlockTree) -> Result<Built, PlanFault>
     ensures free { All (IsFreeData build.words build.first) (numbers_of build.added) }
     ensures rise { IsStrictlyIncreasing (numbers_of build.added) }
     ensures bits { IfOk result (λ built. BitsFollow (numbers_of build.added) build.released build.words built.map) }
+    ensures damaged { result ≡ Err (Tree Damaged) → All (λ (b : ℕ). b < length build.words) build.released → ⊥ }
     ensures fault { IfErr result (λ fault. fault ≡ Tree Damaged) }
 {
     build.added();
@@ -95,8 +101,9 @@ fn finished(build: Build, inode_file: BlockTree) -> Result<Built, PlanFault>
 
 /// Builds the tree that is seen through an overlay over that of a root: its new blocks, and the map in which bit 0
 /// tells what it reaches. It only reads. `Full` comes where there are too few free blocks, over a sound root only where
-/// they are fewer than the overlay needs, and `Damaged` where what was read can't be used. After an error there is
-/// nothing to undo.
+/// they are fewer than the overlay needs, and `Damaged` where what was read can't be used, over a sound root never: one
+/// whose blocks lie on the device, with a map that tells in bit 0 what it reaches. After an error there is nothing to
+/// undo.
 pub fn build<D: Device>(
     alloc: Global,
     blocks: &mut Blocks<D>,
@@ -113,9 +120,15 @@ pub fn build<D: Device>(
     ensures full { IsTrue D.tells_bytes → result ≡ Err Full → IsGround root.now.limits places
         (store_of (reads (D.disk (device_of blocks.old)))) root.now.inode_file (layer_of changes)
         → need root.now.limits (layer_of changes) ≤ free_data map.now (start_of places Data) → ⊥ }
+    ensures damaged { IsTrue D.tells_bytes → result ≡ Err (Tree Damaged) → IsGround root.now.limits places
+        (store_of (reads (D.disk (device_of blocks.old)))) root.now.inode_file (layer_of changes)
+        → TellsBlocks map.now (reach (store_of (reads (D.disk (device_of blocks.old)))) root.now.inode_file)
+        → 8 * places ≤ (D.status (device_of blocks.old)).sectors → ⊥ }
     ensures same { IsTrue D.tells_bytes → D.disk (device_of blocks.new) ≡ D.disk (device_of blocks.old) }
     ensures counts { CountsPlan result (D.status (device_of blocks.old)) (D.status (device_of blocks.new)) }
 {
+    // A disk has blocks, so each block that is reached or was added has a word.
+    places.blocks();
     let first = places.start(Area::Data);
     let mut build = Build::new(alloc, BlockAllocator::new(alloc, map.try_clone()?, first));
     let inode_file = plan_tree(

@@ -10,7 +10,8 @@
 //!   layer that lies over its tree and shows a name tree.
 //! - Whatever the device tells, the new blocks were free, rise, and are no more than the layer needs, and of the map bit 0
 //!   alone changes (`IsWellBuilt`).
-//! - Over such a ground it is never `Full` where what the layer needs is free.
+//! - Over such a ground it is never `Full` where what the layer needs is free, and never `Damaged` where the disk's blocks
+//!   lie on the device.
 //!
 //! The way through: `nodes` plans the nodes of the layer one after the other by `build_node` of `sn_cp_nodes`, each with
 //! the blocks that it takes out of the overlay (`AreBuilt`). `building` then plans the inode file with what became of

@@ -11,12 +11,13 @@ ghost use Rattle.sn_overlay.specs.Layers.{Layer};
 ghost use Rattle.sn_overlay.specs.Overlays.{layer_of};
 ghost use Rattle.sn_overlay.specs.Lists.{without_blocks, written_blocks};
 ghost use Rattle.sn_tree.specs.Steps.{CountsPlan};
-ghost use Rattle.sn_tree.specs.declared.fault.PlanFault.TheVariants.{Full};
-ghost use Rattle.sn_cp_nodes.specs.Built.{BuildsNode, IsGround};
+ghost use Rattle.sn_tree.specs.declared.fault.PlanFault.TheVariants.{Full, Tree};
+ghost use Rattle.sn_tree_read.specs.declared.fault.TreeFault.TheVariants.{Damaged};
+ghost use Rattle.sn_cp_nodes.specs.Built.{BuildsNode, IsGround, IsSafeGround};
 ghost use Rattle.sn_cp_build.specs.Planned.{AreBuilt, IsFor, listed, most_for, numbers_of};
 
 use sn_block::Blocks;
-use sn_cp_nodes::{build_node, room_laws};
+use sn_cp_nodes::{build_node, damage_laws, room_laws};
 use sn_device::Device;
 use sn_inode::InodeChange;
 use sn_layout::BlockTree;
@@ -48,10 +49,15 @@ fn plan_next<D: Device>(
         (store_of (reads (D.disk (device_of blocks.old)))) file.now layer → layer.nodes ≡ (layer_of changes.old).nodes → layer.names ≡ (layer_of changes.old).names
         → written_blocks layer (slice_index (numbers_of (layer_of changes.old)) index) ≡ written_blocks (layer_of changes.old) (slice_index (numbers_of (layer_of changes.old)) index)
         → free_data build.old.words build.old.first < length build.old.added + most_for limits.now layer (slice_index (numbers_of (layer_of changes.old)) index) }
+    ensures damaged { IsTrue D.tells_bytes → result ≡ Err (Tree Damaged) → (n : ℕ) (layer : Layer) → layer.nodes ≡ (layer_of changes.old).nodes → layer.names ≡ (layer_of changes.old).names
+        → written_blocks layer (slice_index (numbers_of (layer_of changes.old)) index) ≡ written_blocks (layer_of changes.old) (slice_index (numbers_of (layer_of changes.old)) index)
+        → IsSafeGround limits.now n (D.status (device_of blocks.old)).sectors
+        (store_of (reads (D.disk (device_of blocks.old)))) file.now layer build.old → ⊥ }
     ensures same { IsTrue D.tells_bytes → D.disk (device_of blocks.new) ≡ D.disk (device_of blocks.old) }
     ensures counts { CountsPlan result (D.status (device_of blocks.old)) (D.status (device_of blocks.new)) }
 {
     room_laws();
+    damage_laws();
     let number = changes.nodes()[index].0;
     let written = changes.take_blocks(alloc, number)?;
     let (_, change) = &changes.nodes()[index];
@@ -92,6 +98,9 @@ pub(crate) fn plan_nodes<D: Device>(
     ensures full { IsTrue D.tells_bytes → result ≡ Err Full → (n : ℕ) → IsGround limits.now n
         (store_of (reads (D.disk (device_of blocks.old)))) file.now (layer_of changes.old)
         → free_data build.old.words build.old.first < length build.old.added + sum_by (most_for limits.now (layer_of changes.old)) (numbers_of (layer_of changes.old)) }
+    ensures damaged { IsTrue D.tells_bytes → result ≡ Err (Tree Damaged) → (n : ℕ) → IsSafeGround limits.now n
+        (D.status (device_of blocks.old)).sectors
+        (store_of (reads (D.disk (device_of blocks.old)))) file.now (layer_of changes.old) build.old → ⊥ }
     ensures same { IsTrue D.tells_bytes → D.disk (device_of blocks.new) ≡ D.disk (device_of blocks.old) }
     ensures counts { CountsPlan result (D.status (device_of blocks.old)) (D.status (device_of blocks.new)) }
 {

@@ -57,7 +57,7 @@ module _ (n : ℕ) (words : List ℕ) (count : length words ≡ n) where
   placed : (block : ℕ) → IsFree block → IsIn n Data block
   placed block free = record { from = free.in_data_area; below = omega (arith, free.within, count) }
 
-  place_all : (xs : List NewBlock) → All IsFree (numbers_of xs) → AllByRecursion (λ (b : Written). IsIn n Data b.0) (map written_by xs)
+  pub place_all : (xs : List NewBlock) → All IsFree (numbers_of xs) → AllByRecursion (λ (b : Written). IsIn n Data b.0) (map written_by xs)
   place_all [] all = tt
   place_all (x ∷ xs) all = (placed x.number (all 0 0 (omega arith)), place_all xs (rest_free x xs all))
 
@@ -141,6 +141,13 @@ rises_above before (x ∷ xs) rises k among =
     (λ more. let above = rises_above x.bit xs (and_right (nat_lt before x.bit) (are_rising x.bit xs) rises) k more in omega (arith, first, above))
     (first_or_more (frozen_root x) (map frozen_root xs) k among)
 
+-- what bit 0 tells is reached by the live root
+pub live_reached : (s : Store) (root : RootBody) → IsRootBody root → (block : ℕ) → IsReachedBy s (rooted_in root) block 0 → Contains (reach s root.inode_file) block
+live_reached s root body block by = ⊎_elim
+    (λ (live : record { bit = 0; inodes = by.inodes } ≡ record { bit = 0; inodes = root.inode_file }). subst (λ (y : Rooted). Contains (reach s y.inodes) block) live by.reached)
+    (λ more. absurd (let above = rises_above 0 root.snapshots (rising body) (record { bit = 0; inodes = by.inodes }) more in omega (arith, above)))
+    (first_or_more (record { bit = 0; inodes = root.inode_file }) (map frozen_root root.snapshots) (record { bit = 0; inodes = by.inodes }) by.among)
+
 -- ---- a build
 
 module _ (n : ℕ) (s : Store) (root : RootBody) (words : List ℕ) (layer : Layer) (built : Built) (next : RootBody) (of : IsOfBuild n s root words layer built next) where
@@ -201,14 +208,8 @@ module _ (n : ℕ) (s : Store) (root : RootBody) (words : List ℕ) (layer : Lay
         among = first_among (record { bit = 0; inodes = next.inode_file }) (map frozen_root next.snapshots);
         reached = subst (λ file. Contains (reach r file) block) (sym of.inode_file) (((frozen r same holds).bits block).0 is);
       },
-      λ by. ((frozen r same holds).bits block).1 (subst (λ file. Contains (reach r file) block) of.inode_file (live_reached by)),
+      λ by. ((frozen r same holds).bits block).1 (subst (λ file. Contains (reach r file) block) of.inode_file (live_reached r next of.body block by)),
     )
-      where
-        live_reached : IsReachedBy r (rooted_in next) block 0 → Contains (reach r next.inode_file) block
-        live_reached by = ⊎_elim
-            (λ (live : record { bit = 0; inodes = by.inodes } ≡ record { bit = 0; inodes = next.inode_file }). subst (λ (y : Rooted). Contains (reach r y.inodes) block) live by.reached)
-            (λ more. absurd (let above = rises_above 0 next.snapshots (rising of.body) (record { bit = 0; inodes = by.inodes }) more in omega (arith, above)))
-            (first_or_more (record { bit = 0; inodes = next.inode_file }) (map frozen_root next.snapshots) (record { bit = 0; inodes = by.inodes }) by.among)
 
     -- each other bit is a snapshot's, whose tree reaches what it did
     frozen_bit : (block k : ℕ) → block < 1024 * map_blocks n → k ≢ 0 → (bit_at (slice_index built.map block) k ≡ 1) ↔ IsReachedBy r (rooted_in next) block k

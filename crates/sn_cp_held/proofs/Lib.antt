@@ -1,3 +1,5 @@
 pub mod BuildLemmas
+pub mod LiveLemmas
+pub mod RecoverLemmas
 pub mod RoomLemmas
 pub mod WholeLemmas

@@ -28,6 +28,9 @@ use Rattle.sn_ondisk.proofs.LogLemmas.{no_later-same, ready-same}
 use Rattle.sn_ondisk.proofs.MapLemmas.{HasMap-same}
 use Rattle.sn_ondisk.proofs.PlaceLemmas.{halves_apart}
 use Rattle.sn_image.specs.Image.{image}
+use Rattle.sn_changed.specs.Changed.{HasChanged}
+use Rattle.sn_changed.proofs.ChangedLemmas.{nothing_changed}
+use Rattle.sn_overlay.specs.Overlays.{no_changes}
 use Rattle.sn_opening.specs.Covering.{MakesCover}
 use Rattle.sn_opening.specs.Opens.{IsDisk, LieInData, Shows}
 use Rattle.sn_opening.specs.Points.{HoldsAll, IsBuilt}
@@ -35,7 +38,7 @@ use Rattle.sn_opening.specs.Spelled.{AreSpelled}
 use Rattle.sn_opening.specs.Worlds.{StandsFor, all_reach, frozen_of}
 use Rattle.sn_root.specs.Replacing.{LeavesEither}
 use Rattle.sn_room.specs.Rooms.{RoomCounts}
-use Rattle.sn_sound.specs.Charges.{Fits}
+use Rattle.sn_sound.specs.Charges.{Fits, charges_from}
 use Rattle.sn_sound.specs.Maps.{free_blocks}
 use Rattle.sn_sound.proofs.StandingLemmas.{lies_in_data}
 use Rattle.sn_held.specs.Held.{Held, Runs}
@@ -50,11 +53,11 @@ use Rattle.sn_cp.specs.declared.stage.Stage.TheVariants.{Done}
 use Rattle.sn_cp.proofs.AroundLemmas.{stays_apart}
 use Rattle.sn_cp.proofs.NextLemmas.{done_points_stand, frozen_stay}
 use Rattle.sn_cp.proofs.ShowLemmas.{ordinary_show}
-use Rattle.sn_cp_held.specs.Wholes.{HasBegun, IsBetween, IsOfLive, StandsAround, behind_point}
+use Rattle.sn_cp_held.specs.Wholes.{HasBegun, IsBetween, IsOfLive, IsReady, Kept, RunsReady, StandsAround, behind_point, kept_behind}
 
 -- ---- what no step touches
 
-no_later_depends : (n epoch bound : ℕ) → DependsOn (InHalf (base_of n epoch)) (λ c. HasNoLater c (base_of n epoch) bound)
+pub no_later_depends : (n epoch bound : ℕ) → DependsOn (InHalf (base_of n epoch)) (λ c. HasNoLater c (base_of n epoch) bound)
 no_later_depends n epoch bound c d whole_c whole_d agrees none = no_later-same c d (base_of n epoch) bound (λ i from to. agrees.same i (from, omega (arith, to))) none
 
 around_depends : (n : ℕ) (slot : Slot) (words : List ℕ) (epoch : ℕ) → DependsOn (InAround n slot epoch) (StandsAround n slot words epoch)
@@ -69,7 +72,7 @@ around_depends n slot words epoch c d whole_c whole_d agrees around = record {
   };
 }
 
-later_weaker : (c : Contents) (base epoch bound : ℕ) → epoch ≤ bound → HasNoLater c base epoch → HasNoLater c base bound
+pub later_weaker : (c : Contents) (base epoch bound : ℕ) → epoch ≤ bound → HasNoLater c base epoch → HasNoLater c base bound
 later_weaker c base epoch bound less (inl closed) = inl closed
 later_weaker c base epoch bound less (inr early) = inr (omega (arith, less, early))
 
@@ -267,5 +270,27 @@ module _ (h : Held) (world : World) (r : Runs h world) where
             frozen = next_frozen t now.same now.blocks;
           }
 
-      pub runs_behind : OnOk result (Runs (behind_point h room r.root.epoch d) world)
-      runs_behind = OnOk-both result runs_on finishes.done either.done
+      -- and it is ready for the next point, where it was for this one
+      ready_on : (k : Kept) → IsReady h world r k → StandsAtStage w Done d → Always d (ShowsNext w r.store r.root [] []) → RunsReady (behind_point h room r.root.epoch d) world (kept_behind w)
+      unfolding charges_from runs_on
+      ready_on k ready stands next =
+          let now = Always-reads d (ShowsNext w r.store r.root [] []) whole next in
+          let around = LeavesOnly-now begun d (StandsAround n r.slot r.words r.root.epoch) around_stays in
+          let t = store_of (reads d) in
+          let tree = of.built.tree t now.same now.blocks in
+          let none : room.charged ≡ 0 = (of.charged t now.same now.blocks).charged in
+          record {
+            runs = runs_on stands next;
+            ready = record {
+              between = record { none_newer = refl; epoch = sym of.epoch; ready = λ c crash. (around c crash).ready; synced = stands.reached.1 };
+              slot = refl;
+              root = refl;
+              words = refl;
+              changed = subst (λ (m : ℕ). HasChanged version_1 no_changes (image t w.plan.next.inode_file) world.live m) (sym none)
+                  (subst (λ (live : Tree). HasChanged version_1 no_changes (image t w.plan.next.inode_file) live 0) tree (nothing_changed version_1 (image t w.plan.next.inode_file)));
+              tree = ready.tree;
+            };
+          }
+
+      pub ready_behind : (k : Kept) → IsReady h world r k → OnOk result (RunsReady (behind_point h room r.root.epoch d) world (kept_behind w))
+      ready_behind k ready = OnOk-both result (ready_on k ready) finishes.done either.done

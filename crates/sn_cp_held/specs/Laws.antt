@@ -1,5 +1,5 @@
 -- What a whole point leaves of the world.
-use Rattle.std.specs.Prelude.{◌≡◌, [], Result, OnOk}
+use Rattle.std.specs.Prelude.{Result, OnOk}
 use Rattle.sn_device.specs.Sectors.{AreSectors}
 use Rattle.sn_device.specs.Disk.{Disk, reads}
 use Rattle.sn_device.specs.Crash.{LeavesOnly}
@@ -13,15 +13,15 @@ use Rattle.sn_held.specs.Images.{IsImage}
 use Rattle.sn_cp.specs.Beginning.{Begins}
 use Rattle.sn_cp.specs.Points.{Work}
 use Rattle.sn_cp.specs.Showing.{Finishes}
-use Rattle.sn_cp_held.specs.Wholes.{HasBegun, IsBetween, IsOfLive, behind_point}
+use Rattle.sn_cp_held.specs.Wholes.{HasBegun, IsBetween, IsOfLive, Kept, RunsReady, behind_point, kept_behind}
 
 -- A point begins: whatever the answer, a crash at any moment leaves an image of the settled world. At `Ok` it has begun.
 abbrev pub BeginningsLeaveTheWorld : Type 0
 BeginningsLeaveTheWorld = (h : Held) (world : World) (r : Runs h world) (result : Result (Unit {0}) ReadFault) (d : Disk) → IsBetween h world r → Begins h.at result h.disk d
     → LeavesOnly h.disk d (λ c. IsImage c (settle world)) × OnOk result (HasBegun h world r d)
 
--- It makes its steps, all in a row: whatever the answer, a crash at any moment leaves an image of the settled world. At `Ok` the mount runs on over the next root.
+-- It makes its steps, all in a row: whatever the answer, a crash at any moment leaves an image of the settled world. At `Ok` the mount runs on over the next root, ready for another point.
 abbrev pub PointsLeaveTheWorld : Type 0
-PointsLeaveTheWorld = (h : Held) (world : World) (r : Runs h world) (w : Work) (room : RoomCounts) (result : Result (Unit {0}) Fault) (begun d : Disk) → IsOfLive h world r w room → r.newer ≡ [] → AreSectors (reads begun) → AreSectors (reads d)
-    → HasBegun h world r begun → Finishes w result begun d
-    → LeavesOnly begun d (λ c. IsImage c (settle world)) × OnOk result (Runs (behind_point h room r.root.epoch d) world)
+PointsLeaveTheWorld = (h : Held) (world : World) (k : Kept) (r : RunsReady h world k) (w : Work) (room : RoomCounts) (result : Result (Unit {0}) Fault) (begun d : Disk) → IsOfLive h world r.runs w room → AreSectors (reads begun) → AreSectors (reads d)
+    → HasBegun h world r.runs begun → Finishes w result begun d
+    → LeavesOnly begun d (λ c. IsImage c (settle world)) × OnOk result (RunsReady (behind_point h room r.runs.root.epoch d) world (kept_behind w))

@@ -1,3 +1,4 @@
 pub mod Builds
 pub mod Laws
+pub mod Recovering
 pub mod Wholes

@@ -1,11 +1,17 @@
 -- A point of a mount's live tree.
-use Rattle.std.specs.Prelude.{◌≡◌, ℕ, ◌+◌, List, [], slice_index}
+use Rattle.std.specs.Prelude.{◌≡◌, ℕ, ◌+◌, ◌*◌, ◌≤◌, List, [], slice_index}
+use Rattle.sn_changed.specs.Changed.{HasChanged}
 use Rattle.sn_device.specs.Sectors.{Contents}
 use Rattle.sn_device.specs.Disk.{Disk, Always, IsSynced}
 use Rattle.sn_layout.specs.Places.{other_slot}
 use Rattle.sn_layout.specs.Superblock.{superblock_bytes}
+use Rattle.sn_image.specs.Image.{image}
 use Rattle.sn_layout.specs.declared.places.Slot.{Slot}
+use Rattle.sn_layout.specs.declared.root.RootBody.{RootBody}
+use Rattle.sn_limits.specs.Versions.{version_1}
 use Rattle.sn_log.specs.Places.{IsReadyAt, first_of}
+use Rattle.sn_model.specs.declared.change.Change.{Change}
+use Rattle.sn_model.specs.NameTree.{IsTree}
 use Rattle.sn_model.specs.World.{World}
 use Rattle.sn_ondisk.specs.Blocks.{block_at}
 use Rattle.sn_ondisk.specs.LogHalf.{HasNoLater, base_of}
@@ -15,9 +21,12 @@ use Rattle.sn_ondisk.specs.Trees.{Store}
 use Rattle.sn_opening.specs.Opens.{IsDisk, Shows}
 use Rattle.sn_opening.specs.Points.{HoldsAll, IsBuilt}
 use Rattle.sn_opening.specs.Worlds.{all_reach}
+use Rattle.sn_overlay.specs.Layers.{Layer}
+use Rattle.sn_overlay.specs.Needs.{nameless_in}
+use Rattle.sn_overlay.specs.Overlays.{no_changes}
 use Rattle.sn_room.specs.Rooms.{RoomCounts}
 use Rattle.sn_sound.specs.Logs.{HasAgeLeft}
-use Rattle.sn_sound.specs.Maps.{IsSoundRoot}
+use Rattle.sn_sound.specs.Maps.{IsSoundRoot, free_blocks}
 use Rattle.sn_held.specs.Held.{Held, Runs}
 use Rattle.sn_held.specs.Room.{IsCharged}
 use Rattle.sn_cp.specs.Points.{Work}
@@ -38,7 +47,7 @@ pub record IsOfLive (h : Held) (world : World) (r : Runs h world) (w : Work) (ro
   pub epoch : w.plan.next.epoch ≡ r.root.epoch + 1
   pub built : IsBuilt h.at.blocks r.store r.root world.live w.plan
   pub sound : (s : Store) → SameIn (all_reach r.store r.root) r.store s → HoldsAll s w.plan.blocks → IsSoundRoot h.at.blocks s w.plan.next (slice_index w.plan.words)
-  pub charged : (s : Store) → SameIn (all_reach r.store r.root) r.store s → HoldsAll s w.plan.blocks → IsCharged room h.at.blocks s w.plan.next []
+  pub charged : (s : Store) → SameIn (all_reach r.store r.root) r.store s → HoldsAll s w.plan.blocks → IsCharged room h.at.blocks s w.plan.next [] world.live
   pub age : HasAgeLeft w.plan.next
 
 -- What no step of a point touches, on a disk of so many blocks: the superblock, the map of the slot that counts, the half of the root's epoch, which begins with no record of a later one, and that of the next, which is ready for its first.
@@ -53,6 +62,46 @@ pub record StandsAround (n : ℕ) (slot : Slot) (words : List ℕ) (epoch : ℕ)
 pub record HasBegun (h : Held) (world : World) (r : Runs h world) (d : Disk) : Type 0 where
   pub shows : Always d (Shows h.at.blocks r.store r.slot r.root r.older [])
   pub around : Always d (StandsAround h.at.blocks r.slot r.words r.root.epoch)
+
+-- What a mounted file system keeps for its next point: the root that counts, where it stands, the words of its map, and what changed since.
+pub record Kept : Type 0 where
+  pub slot : Slot
+  pub root : RootBody
+  pub words : List ℕ
+  pub changed : Layer
+
+-- The root that is kept stands in these contents with its records, sound with its map, and the world's live tree, a name tree, is seen through what changed since. What that was charged, with a charge for each file that the root's tree has without a name, is no more than is free.
+pub record StandsKept (n : ℕ) (c : Contents) (world : World) (k : Kept) : Type 0 where
+  pub store : Store
+  pub older : List Change
+  pub newer : List Change
+  pub disk : IsDisk n c
+  pub shown : Shows n store k.slot k.root older newer c
+  pub map : HasMap n c k.slot k.words
+  pub sound : IsSoundRoot n store k.root (slice_index k.words)
+  pub limits : k.root.limits ≡ version_1
+  pub charged : ℕ
+  pub changed : HasChanged version_1 k.changed (image store k.root.inode_file) world.live charged
+  pub fits : charged + version_1.inode_charge * nameless_in (image store k.root.inode_file) ≤ free_blocks n store k.root
+  pub tree : IsTree version_1 world.live
+
+-- The mount is ready for it: it is between two points, its root counts, and the live tree, a name tree, is seen through what changed since, which was charged.
+pub record IsReady (h : Held) (world : World) (r : Runs h world) (k : Kept) : Type 0 where
+  pub between : IsBetween h world r
+  pub slot : k.slot ≡ r.slot
+  pub root : k.root ≡ r.root
+  pub words : k.words ≡ r.words
+  pub changed : HasChanged version_1 k.changed (image r.store r.root.inode_file) world.live h.room.charged
+  pub tree : IsTree version_1 world.live
+
+-- A mount runs over this world, and is ready for a point.
+pub record RunsReady (h : Held) (world : World) (k : Kept) : Type 0 where
+  pub runs : Runs h world
+  pub ready : IsReady h world runs k
+
+-- what is kept once the point is done: its root counts, and nothing has changed
+abbrev pub kept_behind : Work → Kept
+kept_behind w = record { slot = w.slot; root = w.plan.next; words = w.plan.words; changed = no_changes }
 
 -- what is held behind the point: the log is empty
 abbrev pub behind_point : Held → RoomCounts → ℕ → Disk → Held

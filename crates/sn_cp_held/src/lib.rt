@@ -5,7 +5,7 @@
 //! mount runs on over the next root, whose log is empty.
 //!
 //! The way through: `specs/Builds.antt` says what a build gives a point; `Wholes.antt` when a mount is between two points, what a
-//! point of its live tree is, and what stands once it has begun; `Laws.antt` what a whole point leaves; and `laws` has the
+//! point of its live tree is, and what stands once it has begun; `Laws.antt` what a whole point leaves, and `Recovering.antt` one that a mount makes of what it replayed; and `laws` has the
 //! functions that prove them.
 //!
 //! What the sources leave open is decided in `docs/DECISIONS.md`, under "Steps of a consistency point".
@@ -13,4 +13,4 @@
 
 mod laws;
 
-pub use laws::{build_laws, whole_laws};
+pub use laws::{build_laws, recovery_laws, whole_laws};

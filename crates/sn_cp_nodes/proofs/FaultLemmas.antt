@@ -20,7 +20,7 @@ use Rattle.sn_tree.specs.Steps.{LeadsOutside}
 use Rattle.sn_tree.specs.declared.fault.PlanFault.{PlanFault}
 use Rattle.sn_tree.specs.declared.new_block.NewBlock.{NewBlock}
 use Rattle.sn_tree.specs.declared.fault.PlanFault.TheVariants.{Full}
-use Rattle.sn_cp_nodes.specs.Inodes.{IsInodeFor}
+use Rattle.sn_cp_nodes.specs.Inodes.{FitsRecord, IsInodeFor}
 use Rattle.sn_cp_nodes.specs.Made.{CanBegin, CanMakeDirectory, ChangeThem, IsBegun, IsContentMade, IsInodeMade, IsTooSmall, Pair}
 use Rattle.sn_cp_nodes.specs.Parts.{Blocks, Names, content_of, empty_tree}
 use Rattle.sn_cp_nodes.proofs.DirectoryLemmas.{empty_reach}
@@ -97,12 +97,13 @@ module _ (Told : Type 0) (s t : Store) (same : t ≡ s) (old : Content) (fresh :
 
 -- one that was made of a content is an inode that was made
 pub inode_made : (Told : Type 0) (s : Store) (was : Option Inode) (state : NodeState) (names : Names) (written : Blocks) (old content : Content) (inode : Inode) (acls : AclChange) (a b : Draft)
-    → old ≡ content_of was → IsInodeFor was state content inode acls → IsContentMade Told s old state names written content a b → IsInodeMade Told s was state names written (Used inode acls) a b
-inode_made Told s was state names written old content inode acls a b is made planned = record {
+    → old ≡ content_of was → IsInodeFor was state content inode acls → FitsRecord inode → IsContentMade Told s old state names written content a b → IsInodeMade Told s was state names written (Used inode acls) a b
+inode_made Told s was state names written old content inode acls a b is made fits planned = record {
   inode = inode;
   acls = acls;
   used = refl;
   made = subst (λ (x : Content). IsInodeFor was state x inode acls) (sym made.has) made;
+  fits = fits;
   content = subst (λ (x : Content). IsContentMade Told s (content_of was) state names written x a b) (sym made.has)
       (subst (λ (x : Content). IsContentMade Told s x state names written content a b) is planned);
 }

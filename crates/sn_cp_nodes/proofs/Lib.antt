@@ -8,8 +8,16 @@ pub mod AclLemmas
 pub mod StandLemmas
 pub mod BuildLemmas
 pub mod ElementLemmas
+pub mod EntryLemmas
 pub mod ListedLemmas
 pub mod RoomLemmas
 pub mod FaultLemmas
 pub mod NodeLemmas
 pub mod MadeLemmas
+pub mod RiseLemmas
+pub mod PutLemmas
+pub mod LieLemmas
+pub mod OrderLemmas
+pub mod AllowedLemmas
+pub mod ValidLemmas
+pub mod CanLemmas

@@ -1,10 +1,8 @@
 -- The names of a directory of a tree, as a list.
-use Rattle.std.proofs.Common.{◌≡◌, ⊎_elim, ℕ, ◌≤◌, ◌==◌, ◌&&◌, Bool, true, false, cond, if◌then◌else◌, T, List, [], ◌∷◌, length, count_by, None, Some, refl, sym, ap, ◌∙◌, arith}
+use Rattle.std.proofs.Common.{◌≡◌, ⊎_elim, ℕ, ◌≤◌, ◌==◌, Bool, true, false, cond, if◌then◌else◌, T, List, [], ◌∷◌, length, count_by, None, Some, refl, sym, ap, ◌∙◌, arith}
 use Rattle.std.specs.FinMap as fin
 use Rattle.std.specs.FinMap.Entries.{below_all, find, is_sorted}
-use Rattle.std.specs.Ordering.{eq_by_cmp, is_eq, is_lt}
-use Rattle.std.specs.declared.cmp.Ordering.{Ordering}
-use Rattle.std.specs.declared.cmp.Ordering.TheVariants.{Less, Equal, Greater}
+use Rattle.std.specs.Ordering.{eq_by_cmp}
 use Rattle.std.specs.Cmp.{eq_by_cmp_equiv}
 use Rattle.std.proofs.lemmas.Bool.{eq-eqb, eqb-true, true≢false}
 use Rattle.std.proofs.lemmas.List.Sums.{sum_by-cons}
@@ -14,6 +12,7 @@ use Rattle.sn_layout_node.specs.Directory.{Link as Name, number_of}
 use Rattle.sn_model.specs.Tree.{Tree, link_cmp, link_to, names_in}
 use Rattle.sn_model.specs.declared.link.Link.{Link}
 use Rattle.sn_model.proofs.LinkLemmas.{exact_links, links_total}
+use Rattle.sn_cp_nodes.proofs.EntryLemmas.{find_below, sorted_parts}
 use Rattle.sn_cp_nodes.proofs.ElementLemmas.{cases_name, other_name, same_name, times-first, times-none, times-rest, times_named}
 
 abbrev pub as_name : Link × ℕ → Name
@@ -81,21 +80,6 @@ count_in tree d = count_listed d (fin.entries tree.links)
 
 -- ---- none stands twice
 
-pub sorted_parts : (a b : Bool) → T (a && b) → T a × T b
-sorted_parts true b h = (tt, h)
-sorted_parts false b h = absurd h
-
-lesser : (r : Ordering) → T (is_lt r) → is_eq r ≡ false
-lesser Less h = refl
-lesser Equal h = absurd h
-lesser Greater h = absurd h
-
-pub find_below : {X : Type 0} (link : Link) (es : List (Link × X)) → T (below_all link_cmp link es) → find link_cmp link es ≡ None
-find_below link [] h = refl
-find_below link (e ∷ es) h =
-    let parts = sorted_parts (is_lt (link_cmp link e.0)) (below_all link_cmp link es) h in
-    ap (λ (c : Bool). cond c (Some e.1) (find link_cmp link es)) (lesser (link_cmp link e.0) parts.0) ∙ find_below link es parts.1
-
 once_listed : (d : ℕ) (es : List (Link × ℕ)) → T (is_sorted link_cmp es) → AreOnce (listed_in d es)
 once_listed d [] h name = omega arith
 once_listed d (e ∷ es) h name =
@@ -106,7 +90,7 @@ once_listed d (e ∷ es) h name =
     told true is below later = ⊎_elim
         (λ (same : e.0.name ≡ name).
         let one : link_to d name ≡ e.0 = λ i. record { directory = sym (eqb-true e.0.directory d is) i; name = sym same i } in
-        let none : number_of name (listed_in d es) ≡ None = number_listed d name es ∙ ap (λ (l : Link). find link_cmp l es) one ∙ find_below e.0 es below in
+        let none : number_of name (listed_in d es) ≡ None = number_listed d name es ∙ ap (λ (l : Link). find link_cmp l es) one ∙ find_below link_cmp e.0 es below in
         omega (arith, times-none name (listed_in d es) none, times-first name (as_name e) (listed_in d es) (same_name e.0.name name same)))
         (λ (other : e.0.name ≡ name → ⊥). omega (arith, later, times-rest name (as_name e) (listed_in d es) (other_name e.0.name name other)))
         (cases_name e.0.name name)

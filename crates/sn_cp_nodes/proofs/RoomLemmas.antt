@@ -1,17 +1,15 @@
 -- Where too few blocks are left for a node, fewer are than its names and its blocks need.
-use Rattle.std.proofs.Common.{◌≡◌, ◌≢◌, ⊎_elim, ℕ, ◌+◌, ◌*◌, ◌<◌, ◌≤◌, ◌==◌, Bool, true, false, cond, if◌then◌else◌, T, List, [], ◌∷◌, length, map, Option, None, Some, Contains, refl, sym, ap, subst, ◌∙◌, arith}
+use Rattle.std.proofs.Common.{◌≡◌, ◌≢◌, ℕ, ◌+◌, ◌*◌, ◌<◌, ◌≤◌, ◌==◌, Bool, true, false, if◌then◌else◌, T, List, [], ◌∷◌, length, map, Option, None, Some, Contains, refl, sym, ap, subst, ◌∙◌, arith}
 use Rattle.std.specs.Prelude.{All, IsTrue}
 use Rattle.std.specs.FinMap as fin
-use Rattle.std.specs.FinMap.Entries.{below_all, find, is_sorted}
-use Rattle.std.specs.Ordering.{eq_by_cmp}
-use Rattle.std.specs.Cmp.{eq_by_cmp_equiv}
+use Rattle.std.specs.FinMap.Entries.{find, is_sorted}
 use Rattle.std.specs.Global.{Global}
 use Rattle.std.specs.declared.boxed.Box.{Box}
 use Rattle.std.proofs.lemmas.List.{length-map}
 use Rattle.std.proofs.lemmas.List.Elements.{All-nil, All-cons, All-contains, All-map, All-same}
-use Rattle.std.proofs.lemmas.Map.Views.{tells_apart}
 use Rattle.sn_alloc.specs.Taking.{free_data}
 use Rattle.sn_dir_change.specs.Changes.{IsChanged}
+use Rattle.sn_dir_change.specs.Planned.{IsSizeWith}
 use Rattle.sn_dir_change.specs.declared.name_change.NameChange.{NameChange}
 use Rattle.sn_dir_change.specs.Laws.{GrownDirectoriesFit}
 use Rattle.sn_image.specs.Image.{image}
@@ -27,6 +25,7 @@ use Rattle.sn_limits.specs.declared.kind.Kind.{Kind}
 use Rattle.sn_limits.specs.declared.kind.Kind.TheVariants.{File, Directory}
 use Rattle.sn_limits.specs.declared.limits.Limits.{Limits}
 use Rattle.sn_model.specs.Changes.{node_with}
+use Rattle.sn_model.specs.NameTree.{IsNode}
 use Rattle.sn_model.specs.Tree.{Tree as NameTree, link_cmp, link_to}
 use Rattle.sn_model.specs.declared.link.Link.{Link}
 use Rattle.sn_model.proofs.LinkLemmas.{exact_links, links_total}
@@ -44,41 +43,22 @@ use Rattle.sn_overlay.proofs.PieceLemmas.{length-joined}
 use Rattle.sn_tree.specs.Drafts.{Draft}
 use Rattle.sn_cp_nodes.specs.Built.{IsGround, IsTooSmallAt}
 use Rattle.sn_cp_nodes.specs.Made.{ChangeThem, IsTooSmall, IsTooSmallAs, Pair, pair_in, pair_of}
-use Rattle.sn_cp_nodes.specs.Parts.{Blocks, IsPartOf, Names, content_of}
+use Rattle.sn_cp_nodes.specs.Parts.{Blocks, IsPartOf, Names, content_of, empty_tree}
 use Rattle.sn_cp_nodes.proofs.BuildLemmas.{few_levels, one_or_two, size_within}
 use Rattle.sn_cp_nodes.proofs.DirectoryLemmas.{begun_base}
-use Rattle.sn_cp_nodes.proofs.ElementLemmas.{cases_there, first_there, more_there}
-use Rattle.sn_cp_nodes.proofs.ListedLemmas.{count_in, find_below, listed_of, number_in, once_in, sorted_parts}
+use Rattle.sn_cp_nodes.proofs.ElementLemmas.{first_there, more_there}
+use Rattle.sn_cp_nodes.proofs.EntryLemmas.{found_each}
+use Rattle.sn_cp_nodes.proofs.ListedLemmas.{count_in, listed_of, number_in, once_in}
 use Rattle.sn_cp_nodes.proofs.NameLemmas.{AreIn, changed_at, found_pair, from_pairs, names_in_it, pairs_of}
 use Rattle.sn_cp_nodes.proofs.OldLemmas.{old_of, old_valid}
-
--- ---- entries are found at their keys
-
-never : {A : Type 0} {x : A} → None ≡ Some x → ⊥
-never e = absurd cc
-
-found_each : (es : Names) → T (is_sorted link_cmp es) → (e : Link × Option ℕ) → Contains es e → find link_cmp e.0 es ≡ Some e.1
-found_each [] h e among = absurd (omega (arith, among.1))
-found_each (x ∷ es) h e among = ⊎_elim
-    (λ (same : e ≡ x). subst (λ (y : Link × Option ℕ). find link_cmp y.0 (x ∷ es) ≡ Some y.1) (sym same)
-    (ap (λ (c : Bool). cond c (Some x.1) (find link_cmp x.0 es)) ((eq_by_cmp_equiv links_total).refl x.0)))
-    (λ (more : Contains es e). behind (eq_by_cmp link_cmp e.0 x.0) refl (found_each es parts.1 e more))
-    (cases_there x es e among)
-  where
-    parts : T (below_all link_cmp x.0 es) × T (is_sorted link_cmp es)
-    parts = sorted_parts (below_all link_cmp x.0 es) (is_sorted link_cmp es) h
-
-    behind : (b : Bool) → eq_by_cmp link_cmp e.0 x.0 ≡ b → find link_cmp e.0 es ≡ Some e.1 → cond b (Some x.1) (find link_cmp e.0 es) ≡ Some e.1
-    behind true is found = absurd (never (sym (ap (λ (l : Link). find link_cmp l es) (tells_apart exact_links e.0 x.0 is) ∙ find_below x.0 es parts.0) ∙ found))
-    behind false is found = found
 
 -- ---- the names that a directory has then
 
 module _ (layer : Layer) (tree : NameTree) (d : ℕ) where
-  abbrev seen : List Name
+  abbrev pub seen : List Name
   seen = listed_of (through layer tree) d
 
-  abbrev IsSeenAs : Pair → Type 0
+  abbrev pub IsSeenAs : Pair → Type 0
   IsSeenAs p = number_of p.0 seen ≡ p.1
 
   shows : (name : List ℕ) (value : Option (Option ℕ)) → fin.get layer.names (link_to d name) ≡ value → number_of name seen ≡ name_seen layer (link_to d name) value (fin.get tree.links (link_to d name))
@@ -86,26 +66,27 @@ module _ (layer : Layer) (tree : NameTree) (d : ℕ) where
       number_in (through layer tree) d name ∙ get-through_links layer tree (link_to d name)
       ∙ ap (λ (v : Option (Option ℕ)). name_seen layer (link_to d name) v (fin.get tree.links (link_to d name))) e
 
-  changed_sorted : T (is_sorted link_cmp (changed_names layer d))
+  pub changed_sorted : T (is_sorted link_cmp (changed_names layer d))
   unfolding changed_names
   changed_sorted = fin.entries_sorted (fin.retain_keys layer.names (λ link. link.directory == d))
 
   entry_seen : (e : Link × Option ℕ) → Contains (changed_names layer d) e → e.0.directory ≡ d → IsSeenAs (pair_in e)
   entry_seen e among directory =
       let one : link_to d e.0.name ≡ e.0 = λ i. record { directory = sym directory i; name = e.0.name } in
-      shows e.0.name (Some e.1) (sym (changed_at layer d e.0.name) ∙ ap (λ (l : Link). find link_cmp l (changed_names layer d)) one ∙ found_each (changed_names layer d) changed_sorted e among)
+      shows e.0.name (Some e.1) (sym (changed_at layer d e.0.name) ∙ ap (λ (l : Link). find link_cmp l (changed_names layer d)) one ∙ found_each links_total exact_links (changed_names layer d) changed_sorted e among)
 
   entries_seen : (es : Names) → AreIn d es → ((e : Link × Option ℕ) → Contains es e → Contains (changed_names layer d) e) → All IsSeenAs (pairs_of es)
   entries_seen [] are within = All-nil IsSeenAs
   entries_seen (e ∷ es) are within =
       All-cons IsSeenAs (pair_in e) (pairs_of es) (entry_seen e (within e (first_there e es)) are.0) (entries_seen es are.1 (λ x more. within x (more_there e es x more)))
 
+  pub made_seen : (names : Names) (changes : List NameChange) → names ≡ changed_names layer d → ChangeThem names changes → All (λ (c : NameChange). IsSeenAs (pair_of c)) changes
+  made_seen names changes are them =
+      from_pairs IsSeenAs changes (All-same IsSeenAs (map pair_of changes) (pairs_of (changed_names layer d)) (them ∙ ap (λ (es : Names). pairs_of es) are)
+      (entries_seen (changed_names layer d) (names_in_it layer d) (λ e among. among)))
+
   module _ (names : Names) (changes : List NameChange) (old : List Name) (are : names ≡ changed_names layer d) (them : ChangeThem names changes)
       (was : (name : List ℕ) → number_of name old ≡ (if hides_names (fin.get layer.nodes d) then None else fin.get tree.links (link_to d name))) where
-    made_seen : All IsSeenAs (map pair_of changes)
-    made_seen = All-same IsSeenAs (map pair_of changes) (pairs_of (changed_names layer d)) (them ∙ ap (λ (es : Names). pairs_of es) are)
-        (entries_seen (changed_names layer d) (names_in_it layer d) (λ e among. among))
-
     others_seen : (name : List ℕ) → All (λ (c : NameChange). c.name.now ≢ name) changes → number_of name seen ≡ number_of name old
     others_seen name none = told (fin.get layer.names (link_to d name)) refl
       where
@@ -119,7 +100,7 @@ module _ (layer : Layer) (tree : NameTree) (d : ℕ) where
 
     pub changed_list : IsChanged changes old seen
     changed_list = record {
-      made = from_pairs IsSeenAs changes made_seen;
+      made = made_seen names changes are them;
       others = others_seen;
       once = once_in (through layer tree) d;
     }
@@ -130,7 +111,7 @@ module _ (tells : Bool) (told : IsTrue tells) (fit : GrownDirectoriesFit) (limit
   abbrev needed : ℕ
   needed = levels limits * (length (changed_names layer number) + length (written_blocks layer number) + 1)
 
-  largest : limits.largest_file ≡ 67108864
+  pub largest : limits.largest_file ≡ 67108864
   largest = ap (λ (l : Limits). l.largest_file) (sym (only_version limits ground.version))
 
   -- a path for each of some parts and one more, in a file that a version allows
@@ -145,10 +126,14 @@ module _ (tells : Bool) (told : IsTrue tells) (fit : GrownDirectoriesFit) (limit
     abbrev bytes : List ℕ
     bytes = joined 4096 state.size (block_seen layer number state (bytes_of (fin.get (image s file).nodes number)))
 
-    small_file : state.size ≤ 67108864
-    small_file =
-        let is = get-through_nodes layer (image s file) number ∙ ap (λ (c : Option NodeChange). node_seen layer number c (fin.get (image s file).nodes number)) part.node in
-        omega (arith, (ground.tree.nodes.nodes number (node_with state.kind state.ownership bytes) is).size, length-joined 4096 state.size (block_seen layer number state (bytes_of (fin.get (image s file).nodes number))), largest)
+    pub is_seen : fin.get (through layer (image s file)).nodes number ≡ Some (node_with state.kind state.ownership bytes)
+    is_seen = get-through_nodes layer (image s file) number ∙ ap (λ (c : Option NodeChange). node_seen layer number c (fin.get (image s file).nodes number)) part.node
+
+    pub node_allowed : IsNode limits number (node_with state.kind state.ownership bytes)
+    node_allowed = ground.tree.nodes.nodes number (node_with state.kind state.ownership bytes) is_seen
+
+    pub small_file : state.size ≤ 67108864
+    small_file = omega (arith, node_allowed.size, length-joined 4096 state.size (block_seen layer number state (bytes_of (fin.get (image s file).nodes number))), largest)
 
     long_written : length written ≡ length (written_blocks layer number)
     long_written = sym (length-map written (λ (e : FileBlock × Box (List ℕ) Global). (e.0, e.1.value))) ∙ ap (λ (es : List (FileBlock × List ℕ)). length es) part.its_blocks
@@ -168,14 +153,19 @@ module _ (tells : Bool) (told : IsTrue tells) (fit : GrownDirectoriesFit) (limit
             let valid = old_valid limits n s file layer number ground inode used in
             size_within limits inode.kind (Tree tree) ground.version (subst (IsContent limits inode.kind) content valid.content)
 
+    -- the size that it gets is one that a version allows
+    pub size_allowed : state.kind ≡ Directory → (tree : BlockTree) → (state.fresh ≡ true → tree ≡ empty_tree) → (state.fresh ≡ false → content_of (inode_at s file number) ≡ Tree tree) → (changes : List NameChange) (size : ℕ)
+        → ChangeThem names changes → IsSizeWith (IsTrue tells) s tree changes size → size ≤ limits.largest_file
+    size_allowed is tree empty kept changes size them sized =
+        let base = begun_base limits n s file layer number ground state part.node is s (λ block among. refl) tree empty kept in
+        let changed = changed_list layer (image s file) number names changes (names_of s (Tree tree)) part.its_names them base.names in
+        let tree_small : tree.size ≤ 67108864 = small_tree is tree (λ fresh. ap (λ (t : BlockTree). t.size) (empty fresh)) kept in
+        let few : length (listed_of (through layer (image s file)) number) ≤ limits.names = omega (arith, count_in (through layer (image s file)) number, ground.tree.few.names number) in
+        fit tells s tree changes size limits.version limits (listed_of (through layer (image s file)) number) ground.version sized told base.once base.spelled (omega (arith, tree_small, largest)) changed few
+
     less_directory : state.kind ≡ Directory → IsTooSmall (IsTrue tells) s (content_of (inode_at s file number)) state.fresh names draft → free_data draft.words draft.first < length draft.added + needed
     less_directory is small =
-        let base = begun_base limits n s file layer number ground state part.node is s (λ block among. refl) small.tree small.empty small.kept in
-        let changed = changed_list layer (image s file) number names small.changes (names_of s (Tree small.tree)) part.its_names small.are base.names in
-        let tree_small : small.tree.size ≤ 67108864 = small_tree is small.tree (λ fresh. ap (λ (t : BlockTree). t.size) (small.empty fresh)) small.kept in
-        let few : length (listed_of (through layer (image s file)) number) ≤ limits.names = omega (arith, count_in (through layer (image s file)) number, ground.tree.few.names number) in
-        let fits : small.size ≤ limits.largest_file =
-        fit tells s small.tree small.changes small.size limits.version limits (listed_of (through layer (image s file)) number) ground.version small.sized told base.once base.spelled (omega (arith, tree_small, largest)) changed few in
+        let fits : small.size ≤ limits.largest_file = size_allowed is small.tree small.empty small.kept small.changes small.size small.are small.sized in
         less_needed small.size (length names) (omega (arith, fits, largest)) (omega (arith, long_names)) small.less
 
     less_changed : IsTooSmallAs state.kind (IsTrue tells) s (content_of (inode_at s file number)) state names written draft → free_data draft.words draft.first < length draft.added + needed

@@ -42,9 +42,15 @@ pub record IsGround (limits : Limits) (n : ℕ) (s : Store) (file : BlockTree) (
   pub lies : LiesOver layer (image s file)
   pub tree : IsTree limits (through layer (image s file))
 
--- None of the blocks that it reaches can be taken.
+-- None of the blocks that a root reaches can be taken.
 abbrev pub KeepsReach : Store → BlockTree → Draft → Type 0
 KeepsReach s file draft = (block : ℕ) → Contains (reach s file) block → IsFreeData draft.words draft.first block → ⊥
+
+-- A ground whose blocks lie on a device of so many sectors, and can't be taken.
+pub record IsSafeGround (limits : Limits) (n sectors : ℕ) (s : Store) (file : BlockTree) (layer : Layer) (draft : Draft) : Type 0 where
+  pub ground : IsGround limits n s file layer
+  pub room : 8 * n ≤ sectors
+  pub kept : KeepsReach s file draft
 
 -- The inode that a number gets stands for the node that is shown, whichever block its ACLs get, and is well formed.
 pub record StandsFor (shown : Tree) (number : ℕ) (r : Store) (new : Option Inode) : Type 0 where

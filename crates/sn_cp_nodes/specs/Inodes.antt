@@ -1,5 +1,5 @@
 -- The inode that a node is to have.
-use Rattle.std.specs.Prelude.{◌≡◌, false, [], Option, None, Some, IsSomeAnd}
+use Rattle.std.specs.Prelude.{◌≡◌, ℕ, ◌^◌, ◌<◌, ◌≤◌, false, [], length, Option, None, Some, IsSomeAnd}
 use Rattle.sn_acl.specs.declared.modes.Mode.{Mode}
 use Rattle.sn_inode.specs.Changes.{IsChanged}
 use Rattle.sn_inode.specs.declared.changes.AclChange.{AclChange}
@@ -7,9 +7,11 @@ use Rattle.sn_inode.specs.declared.changes.AclChange.TheVariants.{Kept, Set}
 use Rattle.sn_inode.specs.declared.changes.InodeChange.{InodeChange}
 use Rattle.sn_inode.specs.declared.changes.RecordChange.{RecordChange}
 use Rattle.sn_inode.specs.declared.changes.RecordChange.TheVariants.{Unused, Used}
+use Rattle.sn_layout.specs.BlockTree.{IsBlockTree}
 use Rattle.sn_layout_acl.specs.AclBlock.{joined}
+use Rattle.sn_layout_acl.specs.Mode.{IsMode}
 use Rattle.sn_layout_node.specs.declared.content.Content.{Content}
-use Rattle.sn_layout_node.specs.declared.content.Content.TheVariants.{Inline}
+use Rattle.sn_layout_node.specs.declared.content.Content.TheVariants.{Inline, Tree}
 use Rattle.sn_layout_node.specs.declared.inode.Inode.{Inode}
 use Rattle.sn_ondisk.specs.Trees.{Store}
 use Rattle.sn_overlay.specs.declared.node.NodeState.{NodeState}
@@ -29,6 +31,19 @@ pub record IsInodeFor (was : Option Inode) (state : NodeState) (content : Conten
   pub group : inode.group ≡ state.ownership.group
   pub has : inode.content ≡ content
   pub its_acls : AreAclsFor was state inode.objects acls
+
+-- at most 64 bytes, or a size and pointers that fit their fields
+abbrev pub FitsContent : Content → Type 0
+FitsContent (Inline bytes) = length bytes ≤ 64
+FitsContent (Tree tree) = IsBlockTree tree
+
+-- The fields of an inode fit those of its record.
+pub record FitsRecord (inode : Inode) : Type 0 where
+  pub objects : IsMode inode.objects
+  pub owner : inode.owner < 256 ^ 4
+  pub group : inode.group < 256 ^ 4
+  pub acl_block : inode.acl_block < 256 ^ 4
+  pub content : FitsContent inode.content
 
 -- what a number's inode becomes by a change, if there is one
 abbrev pub Becomes : Store → Option Inode → Option InodeChange → Option Inode → Type 0

@@ -34,7 +34,7 @@ use Rattle.sn_tree.specs.Drafts.{Draft}
 use Rattle.sn_tree.specs.Orders.{AreInOrder}
 use Rattle.sn_tree.specs.Plans.{Holds}
 use Rattle.sn_tree.specs.declared.new_block.NewBlock.{NewBlock}
-use Rattle.sn_cp_nodes.specs.Built.{IsGround, IsTooSmallAt}
+use Rattle.sn_cp_nodes.specs.Built.{CanBuildNode, IsGround, IsSafeGround, IsTooSmallAt}
 use Rattle.sn_cp_nodes.specs.Made.{ChangeThem}
 use Rattle.sn_cp_nodes.specs.Parts.{Blocks, IsPartOf, Names, content_of, dirty_of, empty_tree, keep_of}
 
@@ -68,3 +68,9 @@ abbrev pub GroundsHaveRoom : Type 0
 GroundsHaveRoom = (told : Bool) (limits : Limits) (n : ℕ) (s : Store) (file : BlockTree) (layer : Layer) (number : ℕ) (change : NodeChange) (names : Names) (written : Blocks) (draft : Draft)
     → IsTrue told → IsGround limits n s file layer → IsPartOf layer number change names written → IsTooSmallAt (IsTrue told) s file number change names written draft
     → free_data draft.words draft.first < length draft.added + levels limits * (length (changed_names layer number) + length (written_blocks layer number) + 1)
+
+-- Where its blocks lie on the device and can't be taken, what it has of a number can be read, and what becomes of it can be planned.
+abbrev pub SafeGroundsAreBuilt : Type 0
+SafeGroundsAreBuilt = (told : Bool) (limits : Limits) (n sectors : ℕ) (s : Store) (file : BlockTree) (layer : Layer) (number : ℕ) (change : NodeChange) (names : Names) (written : Blocks) (draft : Draft)
+    → IsTrue told → IsSafeGround limits n sectors s file layer draft → IsPartOf layer number change names written
+    → CanBuildNode (IsTrue told) limits sectors s file number change names written draft

@@ -30,7 +30,7 @@ use Rattle.sn_ondisk.specs.Trees.{Store}
 use Rattle.sn_tree.specs.Drafts.{Draft, grown, numbers_of}
 use Rattle.sn_tree.specs.Orders.{AreInOrder}
 use Rattle.sn_tree.specs.Steps.{LeadsOutside}
-use Rattle.sn_cp_nodes.specs.Inodes.{IsInodeFor}
+use Rattle.sn_cp_nodes.specs.Inodes.{FitsRecord, IsInodeFor}
 use Rattle.sn_cp_nodes.specs.Parts.{Blocks, Names, content_of, dirty_of, empty_tree, keep_of}
 
 -- a name and what it is to stand for: a number, or nothing
@@ -124,6 +124,7 @@ pub record IsInodeMade (Told : Type 0) (s : Store) (was : Option Inode) (state :
   pub acls : AclChange
   pub used : record_change ≡ Used inode acls
   pub made : IsInodeFor was state inode.content inode acls
+  pub fits : FitsRecord inode
   pub content : IsContentMade Told s (content_of was) state names written inode.content old_draft new_draft
 
 -- What a number had was released, if it had anything.

@@ -1,11 +1,11 @@
 //! The inodes of nodes that changed.
 ghost use Rattle.std.specs.Prelude.{Option};
 ghost use Rattle.sn_layout_node.specs.declared.inode.Inode.{Inode as TheInode};
-ghost use Rattle.sn_cp_nodes.specs.Inodes.{AreAclsFor, IsInodeFor};
+ghost use Rattle.sn_cp_nodes.specs.Inodes.{AreAclsFor, FitsContent, FitsRecord, IsInodeFor};
 
 use sn_acl::Mode;
 use sn_inode::AclChange;
-use sn_layout_acl::{AclBlock, AclParts};
+use sn_layout_acl::{AclBlock, AclParts, fitting};
 use sn_layout_node::{Content, Inode};
 use sn_overlay::NodeState;
 
@@ -32,13 +32,37 @@ fn acls_for(was: &Option<Inode>, state: &NodeState) -> (Mode, AclChange)
     }
 }
 
+// By the type of its bytes, or those of its size and its pointers.
+fn fits_content(content: &Content)
+    ensures { FitsContent content.now }
+{
+    match content {
+        Content::Inline(bytes) => {
+            bytes.as_slice();
+        }
+        Content::Tree(tree) => tree.fits(),
+    }
+}
+
+// By the types of its fields.
+fn fits_record(inode: &Inode)
+    ensures { FitsRecord inode.now }
+{
+    let _owner = inode.owner;
+    let _group = inode.group;
+    let _acl_block = inode.acl_block;
+    fitting(inode.objects);
+    fits_content(&inode.content);
+}
+
 /// The inode of a node that changed, and what is to become of its ACLs.
 pub(crate) fn inode_for(
     was: &Option<Inode>,
     state: &NodeState,
     content: Content,
 ) -> (Inode, AclChange)
-    ensures { IsInodeFor was.now state.now content result.0 result.1 }
+    ensures made { IsInodeFor was.now state.now content result.0 result.1 }
+    ensures fits { FitsRecord result.0 }
 {
     let (objects, acls) = acls_for(was, state);
     let inode = Inode {
@@ -52,5 +76,6 @@ pub(crate) fn inode_for(
         acl_block: 0,
         content,
     };
+    fits_record(&inode);
     (inode, acls)
 }

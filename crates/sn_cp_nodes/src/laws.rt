@@ -1,7 +1,9 @@
 //! What was planned of a node is what is seen of it.
-ghost use Rattle.sn_cp_nodes.specs.Laws.{FilesAreSeen, DirectoriesAreSeen, GroundsHaveRoom};
+ghost use Rattle.sn_cp_nodes.specs.Laws.{FilesAreSeen, DirectoriesAreSeen, GroundsHaveRoom, SafeGroundsAreBuilt};
 
+use sn_dir::directory_laws;
 use sn_dir_change::size_laws;
+use sn_inode::inode_laws;
 
 /// A file that was planned with the size and the blocks of a layer has the bytes that are seen of it, and a directory
 /// whose names were changed as the layer says has the names.
@@ -16,4 +18,14 @@ pub fn room_laws()
     ensures { GroundsHaveRoom }
 {
     size_laws();
+}
+
+/// Over a sound root whose blocks lie on the device and can't be taken, and a layer that shows a name tree, each node
+/// can be built: `Damaged` never comes.
+pub fn damage_laws()
+    ensures { SafeGroundsAreBuilt }
+{
+    size_laws();
+    inode_laws();
+    directory_laws();
 }

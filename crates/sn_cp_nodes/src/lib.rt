@@ -9,7 +9,7 @@
 //! names, and `inodes` makes the inode, whose ACLs are kept where the layer says that they are those below.
 //! `specs/Parts` says what a layer has of one number, `specs/Made` what each step comes to and why one fails, and
 //! `specs/Built` what all of them are for. [`content_laws`] says that what is planned so is what is seen through the
-//! layer, and [`room_laws`] how many blocks a node takes at most.
+//! layer, [`room_laws`] how many blocks a node takes at most, and [`damage_laws`] that over a sound root each can be built.
 //!
 //! ```text
 //! let written = changes.take_blocks(alloc, number)?;
@@ -25,5 +25,5 @@ mod inodes;
 mod laws;
 mod node;
 
-pub use laws::{content_laws, room_laws};
+pub use laws::{content_laws, damage_laws, room_laws};
 pub use node::build_node;

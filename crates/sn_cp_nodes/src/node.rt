@@ -173,7 +173,8 @@ fn planned<D: Device>(
 /// Plans what becomes of a number that a layer has, with the names and the blocks that the layer has of it, and answers
 /// how its inode is to change: not at all, where it is gone and had none. Nothing is written. `Full` comes only where
 /// fewer blocks are left than a path for each of those names and blocks and one more take, and `Damaged` only where the
-/// number's record can't be read or the node can't be made. After an error the build can only be given up.
+/// number's record can't be read or the node can't be made, over a sound root never (`damage_laws`). After an error the
+/// build can only be given up.
 pub fn build_node<D: Device>(
     alloc: Global,
     build: &mut Build,

@@ -7,11 +7,13 @@ use Rattle.std.proofs.lemmas.List.Quantifiers.{all_pairs_push}
 use Rattle.sn_walk.specs.declared.object.Home.{Home}
 use Rattle.sn_walk.specs.declared.object.Home.TheVariants.{Live, Frozen}
 use Rattle.sn_model.proofs.ChainLemmas.{some_same}
-use Rattle.sn_model.proofs.CountLemmas.{count, once}
+use Rattle.sn_model.proofs.CountLemmas.{count, count_fewer, count_removed, once}
 use Rattle.sn_model.proofs.EntryLemmas.{share, total-remove}
 use Rattle.sn_model.specs.Settling.{is_of_live}
 use Rattle.sn_model.specs.World.{Descriptor}
 use Rattle.sn_model.specs.Descriptors.{Descriptors, closed, is_held_in, released_at}
+use Rattle.sn_desc.specs.Holders.{is_live}
+use Rattle.sn_desc.specs.InUse.{live_in}
 use Rattle.sn_desc.specs.Closing.{AreReleased, LostTheLast, pushed, released_if}
 use Rattle.sn_model.proofs.HeldLemmas.{descriptors_total, exact_descriptors, held_count, is_holder}
 
@@ -154,3 +156,31 @@ held_before table new session fd is number e = still_held table (session, fd) nu
 pub pushed_few : (numbers more : List ℕ) (told : Option ℕ) (fd : ℕ) → more ≡ pushed numbers told → length numbers ≤ fd → length more ≤ fd + 1
 pushed_few numbers more None fd is few = omega (arith, ap length is, few)
 pushed_few numbers more (Some n) fd is few = omega (arith, ap length is, length-append numbers (n ∷ []), few)
+
+-- ---- how many descriptors of live files are left
+
+abbrev is_of_live_file : (ℕ × ℕ) × Descriptor → Bool
+is_of_live_file e = is_live e.1.home
+
+-- what a close tells had a descriptor of a live file
+told_live : (left : Descriptors) (found : Option Descriptor) (number : ℕ) → released_if left found ≡ Some number → (d : Descriptor) × (found ≡ Some d) × (is_live d.home ≡ true)
+told_live left None number e = let never : None ≡ Some number = e in absurd cc
+told_live left (Some d) number e = (d, refl, of_home d.home e)
+  where
+    of_home : (home : Home) → released_at left home d.number ≡ Some number → is_live home ≡ true
+    of_home Live f = refl
+    of_home (Frozen name) f = let never : None ≡ Some number = f in absurd cc
+
+-- each file that is told has one fewer
+pub closed_live : (table : Descriptors) (k : ℕ × ℕ) (number : ℕ) → released_if (map.remove table k) (map.get table k) ≡ Some number → live_in (map.remove table k) + 1 ≡ live_in table
+closed_live table k number e =
+    let d = told_live (map.remove table k) (map.get table k) number e in
+    omega (arith, count_removed descriptors_total exact_descriptors is_of_live_file table k d.0 d.1, ap {B = ℕ} (λ (b : Bool). cond b 1 0) d.2)
+
+pub closed_fewer : (table : Descriptors) (k : ℕ × ℕ) → live_in (map.remove table k) ≤ live_in table
+closed_fewer table k = count_fewer descriptors_total exact_descriptors is_of_live_file table k
+
+pub released_live : (table new : Descriptors) (session fd : ℕ) (numbers more : List ℕ) (told : Option ℕ) (most : ℕ) → new ≡ closed table session fd → told ≡ released_if (closed table session fd) (map.get table (session, fd)) → more ≡ pushed numbers told
+    → length numbers + live_in table ≤ most → length more + live_in new ≤ most
+released_live table new session fd numbers more None most is_new is_told is_more few = omega (arith, ap length is_more, ap live_in is_new, closed_fewer table (session, fd), few)
+released_live table new session fd numbers more (Some n) most is_new is_told is_more few = omega (arith, ap length is_more, length-append numbers (n ∷ []), ap live_in is_new, closed_live table (session, fd) n (sym is_told), few)

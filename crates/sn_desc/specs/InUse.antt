@@ -1,11 +1,12 @@
 -- Who is logged in, and what is open.
-use Rattle.std.specs.Prelude.{◌≡◌, ℕ, ◌+◌, ◌*◌, ◌/◌, ◌%◌, ◌&&◌, nat_lt, List, [], ◌∷◌, Option, None, Some, IsSomeAnd, replicate, if◌then◌else◌}
+use Rattle.std.specs.Prelude.{◌≡◌, ℕ, ◌+◌, ◌*◌, ◌/◌, ◌%◌, ◌&&◌, nat_lt, List, [], ◌∷◌, count_by, Option, None, Some, IsSomeAnd, replicate, if◌then◌else◌}
 use Rattle.std.specs.FinMap as map
 use Rattle.sn_model.specs.declared.session.Session.{Session}
 use Rattle.sn_model.specs.Descriptors.{Descriptors}
 use Rattle.sn_model.specs.World.{Descriptor, World}
 use Rattle.sn_walk.specs.declared.object.Home.{Home}
 use Rattle.sn_desc.specs.declared.open_file.OpenFile.{OpenFile}
+use Rattle.sn_desc.specs.Holders.{is_live}
 
 abbrev pub descriptor_of : OpenFile → Descriptor
 descriptor_of f = record { home = f.home; number = f.number; readable = f.readable; writable = f.writable; appends = f.appends; offset = f.offset }
@@ -22,6 +23,10 @@ descriptors_in files = placed_from 0 files
 -- the place of a descriptor, where a session can have one with that number
 abbrev pub place_of : ℕ → ℕ → Option ℕ
 place_of session fd = if nat_lt session 64 && nat_lt fd 64 then Some (session * 64 + fd) else None
+
+-- how many descriptors have live files
+abbrev pub live_in : Descriptors → ℕ
+live_in table = count_by (λ e. is_live e.1.home) (map.entries table)
 
 pub record InUse : Type 0 where
   -- None where nobody is logged in

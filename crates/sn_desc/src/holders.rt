@@ -1,8 +1,18 @@
-ghost use Rattle.std.specs.Prelude.{◌≡◌, ℕ, ◌+◌, ◌<◌, ◌≤◌, length, slice_index, Some};
-ghost use Rattle.sn_desc.specs.Holders.{one};
+ghost use Rattle.std.specs.Prelude.{◌≡◌, ℕ, ◌+◌, ◌<◌, ◌≤◌, length, slice_index, Some, if◌then◌else◌};
+ghost use Rattle.sn_desc.specs.Holders.{has_live, one};
 
 use crate::open_file::OpenFile;
 use sn_walk::Home;
+
+/// 1 for a file of the live tree, else 0.
+pub(crate) fn live(file: &OpenFile) -> u16
+    ensures { result ≡ (if has_live (Some file.now) then 1 else 0) }
+{
+    match file.home {
+        Home::Live => 1,
+        Home::Frozen(_) => 0,
+    }
+}
 
 /// One more descriptor has a file.
 pub(crate) fn add(holders: &mut [u16], file: &OpenFile)

@@ -1,6 +1,6 @@
 ghost use Rattle.std.specs.Prelude.{◌≡◌, ◌-◌, ◌<◌, ◌≤◌, ◌↔◌, ℕ, IsTrue, replicate, length, slice_index_or, slice_set, option_copied, nat_lt, count_by, None, Some, IsOk, IfOk, OnOk};
 ghost use Rattle.std.specs.Option.{option_map};
-ghost use Rattle.sn_desc.specs.Holders.{IsCounted, is_live_file};
+ghost use Rattle.sn_desc.specs.Holders.{IsCounted, is_live_file, live_places};
 ghost use Rattle.sn_desc.specs.Files.{files_at, with_offset, room_at};
 
 use crate::holders;
@@ -20,7 +20,10 @@ const NUMBERS: usize = 65_536;
 pub(crate) struct OpenFiles {
     places: Places,
     holders: Vec<u16>,
+    /// How many places have a file of the live tree.
+    live: u16,
     ghost counted: { IsCounted (files_at places) holders.items },
+    ghost live_counted: { live ≡ live_places (files_at places) },
 }
 
 impl OpenFiles {
@@ -33,6 +36,7 @@ impl OpenFiles {
         Ok(OpenFiles {
             places: Places::new(alloc, PLACES)?,
             holders: vec![in alloc; 0; NUMBERS]?,
+            live: 0,
         })
     }
 
@@ -72,6 +76,13 @@ impl OpenFiles {
         self.holders[number as usize]
     }
 
+    /// How many places have a file of the live tree.
+    pub fn live(&self) -> u16
+        ensures { result ≡ live_places (files_of self.now) }
+    {
+        self.live
+    }
+
     /// The live file that was closed, where no descriptor has it any more.
     fn released(&self, file: &OpenFile) -> Option<u16>
         ensures { result ≡ released_file (files_of self.now) (Some file.now) }
@@ -101,6 +112,7 @@ impl OpenFiles {
         ensures room { room_of self.new ≡ room_of self.old - 1 }
     {
         holders::add(self.holders.as_mut_slice(), &file);
+        self.live += holders::live(&file);
         self.places.put(place, file);
     }
 
@@ -112,6 +124,7 @@ impl OpenFiles {
     {
         let file = self.places.take(place)?;
         holders::remove(self.holders.as_mut_slice(), &file);
+        self.live -= holders::live(&file);
         self.released(&file)
     }
 

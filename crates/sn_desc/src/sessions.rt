@@ -9,7 +9,7 @@ ghost use Rattle.sn_walk.specs.Gives.{Answers};
 ghost use Rattle.arrayvec.specs.ArrayVec.{array_vec_len};
 ghost use Rattle.sn_desc.specs.Closing.{AreReleased, closing, pushed, released_if};
 ghost use Rattle.sn_desc.specs.Seeking.{Seeks};
-ghost use Rattle.sn_desc.specs.InUse.{HasOpen, descriptor_of, in_world, nothing_in_use, place_of};
+ghost use Rattle.sn_desc.specs.InUse.{HasOpen, descriptor_of, in_world, live_in, nothing_in_use, place_of};
 
 use crate::open_file::OpenFile;
 use crate::open_files::OpenFiles;
@@ -272,6 +272,7 @@ impl Sessions {
     fn close_all(&mut self, session: u32) -> Released
         ensures in_use { in_use_of self.new ≡ record (in_use_of self.old) { descriptors = without_session (in_use_of self.old).descriptors session; room = (in_use_of self.new).room } }
         ensures released { AreReleased (in_use_of self.old).descriptors (in_use_of self.new).descriptors result.items }
+        ensures few { array_vec_len result + live_in (in_use_of self.new).descriptors ≤ live_in (in_use_of self.old).descriptors }
         ensures room { (in_use_of self.old).room ≤ (in_use_of self.new).room }
     {
         let mut released = Released::new();
@@ -287,6 +288,7 @@ impl Sessions {
     pub fn logout(&mut self, session: u32) -> Released
         ensures in_use { in_use_of self.new ≡ record (in_use_of self.old) { sessions = slice_set (in_use_of self.old).sessions session None; descriptors = without_session (in_use_of self.old).descriptors session; room = (in_use_of self.new).room } }
         ensures released { AreReleased (in_use_of self.old).descriptors (in_use_of self.new).descriptors result.items }
+        ensures few { array_vec_len result + live_in (in_use_of self.new).descriptors ≤ live_in (in_use_of self.old).descriptors }
         ensures room { (in_use_of self.old).room ≤ (in_use_of self.new).room }
     {
         let released = self.close_all(session);
@@ -311,6 +313,13 @@ impl Sessions {
         ensures { result ≡ is_held_in (in_use_of self.now).descriptors number }
     {
         self.files.holders(number) > 0
+    }
+
+    /// How many descriptors have live files. It is kept, and not counted anew.
+    pub fn live(&self) -> u16
+        ensures { result ≡ live_in (in_use_of self.now).descriptors }
+    {
+        self.files.live()
     }
 
     /// Whether any descriptor has a file of this tree, live or frozen: it passes over all of them once.

@@ -48,7 +48,8 @@ use Rattle.sn_fs.specs.Answers.{Answers, AnswersFrom, Costs, CostsRefused, IsCha
 use Rattle.sn_fs.specs.Changing.{FailsChange, IsLogged, errno_of, stops}
 use Rattle.sn_fs.specs.declared.fault.ChangeFault.{ChangeFault}
 use Rattle.sn_fs.specs.declared.fault.ChangeFault.TheVariants as fault
-use Rattle.sn_fs.proofs.DecisionLemmas.{CanBeMade, can_be_made, charge_of_change, has_no_change, is_charged, refused_none}
+use Rattle.sn_changed.proofs.DecidedLemmas.{logged_keep_nameless}
+use Rattle.sn_fs.proofs.DecisionLemmas.{CanBeMade, can_be_made, charge_of_change, has_no_change, is_charged, is_logged, refused_none}
 
 -- no node is new
 stays_numbers : (session : ℕ) (c : Call) (s : State) (kept : ℕ → Bool) → NumbersIn (event.Call session c) s kept s kept
@@ -161,6 +162,10 @@ module _ (old : Held) (session : ℕ) (c : Call) (o : Outcome) (picked : Chosen)
   comes : (tree : Tree) → apply version_1 change old.world.live ≡ Some tree → Comes version_1 old.world session o (next_with tree)
   comes tree e = (subst (λ (d : Result Outcome Refusal). Becomes version_1 old.world session d o.told (next_with tree)) decided (chosen_becomes old.world old.kept session c o picked tree numbers whole decided chosen (done tree e))).1
 
+  -- no file without names goes
+  no_fewer : (tree : Tree) → apply version_1 change old.world.live ≡ Some tree → nameless_in old.world.live ≤ nameless_in (next_with tree).live
+  no_fewer tree e = logged_keep_nameless version_1 old.world (next_with tree) session c o whole decided (is_logged old.world old.kept session c o picked change decided chosen some) (comes tree e)
+
   of_tree : (tree : Tree) → IsOfTree old.world tree (next_with tree)
   of_tree tree = left_of_tree old.world session picked.caller tree
 
@@ -228,7 +233,7 @@ module _ (old : Held) (session : ℕ) (c : Call) (o : Outcome) (picked : Chosen)
           let next = next_with tree in
           let after : Held = record mid { world = dropped (with_caller mid.world session picked.caller); kept = new.kept } in
           let made : after.world ≡ next = ap (λ (x : World). dropped (with_caller x session picked.caller)) logged.made.world in
-          let on : Runs after next = runs_on old after old.world next change tree r can.spelled logged.made.applied (of_tree tree) whole.live.hierarchy (has_room logged.fits) (logged.touched refl) (logged.acknowledged refl) (logged.sectors refl) logged.at (logged.charged ∙ ap (λ (k : ℕ). logs k old.room) charge_is) made in
+          let on : Runs after next = runs_on old after old.world next change tree r can.spelled logged.made.applied (of_tree tree) whole.live.hierarchy (has_room logged.fits) (logged.touched refl) (logged.acknowledged refl) (logged.sectors refl) logged.at (logged.charged ∙ ap (λ (k : ℕ). logs k old.room) charge_is) made (no_fewer tree logged.made.applied) in
           subst (λ (x : Held). AnswersFrom (Running old.world) (event.Call session c) o.told old x false) (sym is) (record {
             met = None;
             mid = old;
@@ -259,7 +264,7 @@ told_answers old new session c o picked numbers whole decided chosen none is kee
         let parked = nameless_in old.world.live - nameless_in next.live in
         let after : Held = record old { world = next; kept = new.kept; room = dropping parked old.room } in
         let of = left_of_tree old.world session picked.caller old.world.live in
-        let on : Runs after next = dropped_runs old old.world next new.kept parked r of in
+        let on : Runs after next = dropped_runs old old.world next new.kept parked r of (omega arith) in
         let shows = live_show after next on (of.frozen ∙ bare) in
         let served = chosen_served old.world old.kept session c o picked old.world.live numbers whole decided chosen (subst (λ (x : Option Change). MadeBy x old.world.live old.world.live) (sym none) refl)
         old.kept new.kept (λ n. sym (ap (λ (x : Option Change). kept_by x old.kept n) none)) keeps in

@@ -18,6 +18,7 @@ use Rattle.sn_model.specs.World.{World}
 use Rattle.sn_model.specs.Worlds.{IsWorld}
 use Rattle.sn_model.proofs.DecidedLemmas.{decided_is}
 use Rattle.sn_model.proofs.OutcomeLemmas.{DoesToOld, OnChange}
+use Rattle.sn_changed.specs.Decided.{IsLogged}
 use Rattle.sn_numbers.specs.Numbers.{next_number}
 use Rattle.sn_numbers.proofs.FreeLemmas.{next_is_number}
 use Rattle.sn_core.specs.declared.choosing.Chosen.{Chosen}
@@ -50,6 +51,15 @@ module _ (w : World) (kept : ℕ → Bool) (session : ℕ) (c : Call) (o : Outco
   -- It is charged for.
   pub is_charged : 0 < o.charge
   is_charged = when_picked w.live kept o.change change (picked_is w.live kept o.change o.caller picked change chosen is) ((decided_is version_1 w session c o decided).charged (lit< tt))
+
+  -- It is logged.
+  pub is_logged : IsLogged o.change
+  is_logged = logs o.change (picked_is w.live kept o.change o.caller picked change chosen is)
+    where
+      logs : (pending : Pending) → IsPicked w.live kept pending change → IsLogged pending
+      logs Nothing none = absurd none
+      logs (Makes directory name kind o) made = tt
+      logs (Does c) does = tt
 
 -- a change that is pending is charged alike, whatever number a new node gets
 picked_charge : (tree : Tree) (kept : ℕ → Bool) (pending : Pending) (change : Change) → IsPicked tree kept pending change → charge_of version_1 tree pending ≡ charge_for version_1 tree change

@@ -33,6 +33,7 @@ use Rattle.sn_opening.proofs.LogLemmas.{of_position}
 use Rattle.sn_opening.proofs.OpeningLemmas.{opens_to_one}
 use Rattle.sn_opening.proofs.SpelledLemmas.{spelled_more}
 use Rattle.sn_ondisk.proofs.PlaceLemmas.{halves_apart}
+use Rattle.sn_overlay.specs.Needs.{nameless_in}
 use Rattle.sn_room.specs.Rooms.{dropping, logged}
 use Rattle.sn_sound.specs.Charges.{Fits}
 use Rattle.sn_sound.specs.Disks.{IsFormatted}
@@ -113,8 +114,8 @@ left_covers : (changes : List Change) (from tree live : Tree) (held : ℕ → Bo
 left_covers changes from tree live held e m = subst (MakesCover version_1 changes from) (sym e) (dropping_covers version_1 changes from tree held m)
 
 -- files without names that go change nothing of the disk
-pub dropped_runs : (h : Held) (w next : World) (kept : ℕ → Bool) (count : ℕ) → Runs h w → IsOfTree w w.live next → Runs (record h { world = next; kept = kept; room = dropping count h.room }) next
-dropped_runs h w next kept count r of = record {
+pub dropped_runs : (h : Held) (w next : World) (kept : ℕ → Bool) (count : ℕ) → Runs h w → IsOfTree w w.live next → nameless_in w.live ≤ nameless_in next.live + count → Runs (record h { world = next; kept = kept; room = dropping count h.room }) next
+dropped_runs h w next kept count r of counted = record {
   is = refl;
   store = r.store;
   slot = r.slot;
@@ -131,7 +132,7 @@ dropped_runs h w next kept count r of = record {
   log = r.log;
   cover = left_covers (r.older ++ r.newer) (image r.store r.root.inode_file) w.live next.live of.held of.live r.cover;
   frozen = of.frozen ∙ r.frozen;
-  charged = record { free = r.charged.free; charged = r.charged.charged; dropped = omega (arith, r.charged.dropped); fits = r.charged.fits };
+  charged = record { free = r.charged.free; charged = r.charged.charged; parked = omega (arith, r.charged.parked, counted); fits = r.charged.fits };
   age = r.age;
 }
 
@@ -157,18 +158,21 @@ module _ (old new : Held) (w next : World) (change : Change) (tree : Tree) (r : 
   more_frozen = of.frozen ∙ r.frozen
 
   -- what is charged behind it
-  more_charged : (changes : List Change) → changes ≡ (r.older ++ r.newer) ++ change ∷ [] → IsCharged (logged (charge_for version_1 w.live change) old.room) n r.store r.root changes
-  more_charged changes is = subst (IsCharged (logged (charge_for version_1 w.live change) old.room) n r.store r.root) (sym is) (record {
+  all_fit : Fits version_1 ((r.older ++ r.newer) ++ change ∷ []) (image r.store r.root.inode_file) old.room.free
+  all_fit = one_more_fits old.room n r.store r.root (r.older ++ r.newer) change w.live r.charged r.cover hierarchy has_room
+
+  more_charged : nameless_in w.live ≤ nameless_in next.live → (changes : List Change) → changes ≡ (r.older ++ r.newer) ++ change ∷ [] → IsCharged (logged (charge_for version_1 w.live change) old.room) n r.store r.root changes next.live
+  more_charged no_fewer changes is = subst (λ (cs : List Change). IsCharged (logged (charge_for version_1 w.live change) old.room) n r.store r.root cs next.live) (sym is) (record {
     free = r.charged.free;
     charged = sym (one_more_charged (r.older ++ r.newer) change (image r.store r.root.inode_file) w.live r.cover hierarchy ∙ ap (λ (k : ℕ). k + charge_for version_1 w.live change) (sym r.charged.charged));
-    dropped = r.charged.dropped;
-    fits = one_more_fits old.room n r.store r.root (r.older ++ r.newer) change w.live r.charged r.cover hierarchy has_room;
+    parked = omega (arith, r.charged.parked, no_fewer);
+    fits = all_fit;
   })
 
   more_fits : (changes : List Change) → changes ≡ (r.older ++ r.newer) ++ change ∷ [] → Fits r.root.limits changes (image r.store r.root.inode_file) (free_blocks n r.store r.root)
   more_fits changes is =
       subst (λ (l : Limits). Fits l changes (image r.store r.root.inode_file) (free_blocks n r.store r.root)) (sym r.limits)
-      (subst (Fits version_1 changes (image r.store r.root.inode_file)) r.charged.free (more_charged changes is).fits)
+      (subst (Fits version_1 changes (image r.store r.root.inode_file)) r.charged.free (subst (λ (cs : List Change). Fits version_1 cs (image r.store r.root.inode_file) old.room.free) (sym is) all_fit))
 
   -- what stays where the half of the one epoch is written, and where that of the other is
   older_rest : old.at.epoch ≡ r.root.epoch → LeavesOnly old.disk new.disk (Rests n r.store r.slot r.root r.words (r.root.epoch + 1) r.newer)
@@ -216,8 +220,8 @@ module _ (old new : Held) (w next : World) (change : Change) (tree : Tree) (r : 
           }
 
   -- after the append the new world runs
-  pub runs_on : LeavesMore old.at change old.disk new.disk → AreSectors (reads new.disk) → new.at ≡ behind old.at change → new.room ≡ logged (charge_for version_1 w.live change) old.room → new.world ≡ next → Runs new next
-  runs_on leaves whole at charged is = subst (λ (h : Held). Runs h next) (λ i. record new { at = sym at i; room = sym charged i; world = sym is i }) (⊎_elim in_older in_newer r.log)
+  pub runs_on : LeavesMore old.at change old.disk new.disk → AreSectors (reads new.disk) → new.at ≡ behind old.at change → new.room ≡ logged (charge_for version_1 w.live change) old.room → new.world ≡ next → nameless_in w.live ≤ nameless_in next.live → Runs new next
+  runs_on leaves whole at charged is no_fewer = subst (λ (h : Held). Runs h next) (λ i. record new { at = sym at i; room = sym charged i; world = sym is i }) (⊎_elim in_older in_newer r.log)
     where
       after : Held
       after = record new { at = behind old.at change; room = logged (charge_for version_1 w.live change) old.room; world = next }
@@ -247,7 +251,7 @@ module _ (old new : Held) (w next : World) (change : Change) (tree : Tree) (r : 
             none_later = λ e c crash. older_none n r.store r.slot r.root r.words (r.older ++ change ∷ []) r.newer c (behind old.at change) (rests c crash) refl epoch (more c crash) e;
             log = inl (none, epoch, more);
             cover = subst (λ (cs : List Change). MakesCover version_1 cs (image r.store r.root.inode_file) next.live) (behind_older r.older r.newer change none) more_covers;
-            charged = more_charged ((r.older ++ change ∷ []) ++ r.newer) (sym (behind_older r.older r.newer change none));
+            charged = more_charged no_fewer ((r.older ++ change ∷ []) ++ r.newer) (sym (behind_older r.older r.newer change none));
             age = r.age;
             frozen = more_frozen;
           }
@@ -277,7 +281,7 @@ module _ (old new : Held) (w next : World) (change : Change) (tree : Tree) (r : 
             none_later = λ e c crash. newer_none n r.store r.slot r.root r.words r.older (r.newer ++ change ∷ []) c (behind old.at change) (rests c crash) refl epoch (more c crash) e;
             log = inr (epoch, more);
             cover = subst (λ (cs : List Change). MakesCover version_1 cs (image r.store r.root.inode_file) next.live) (append_assoc r.older r.newer (change ∷ [])) more_covers;
-            charged = more_charged (r.older ++ (r.newer ++ change ∷ [])) (sym (append_assoc r.older r.newer (change ∷ [])));
+            charged = more_charged no_fewer (r.older ++ (r.newer ++ change ∷ [])) (sym (append_assoc r.older r.newer (change ∷ [])));
             age = r.age;
             frozen = more_frozen;
           }

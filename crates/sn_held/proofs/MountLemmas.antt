@@ -213,7 +213,7 @@ module _ (mid new : Disk) (w : World) (im : IsImage (reads mid) w) (at : LogPosi
         charged = record {
           free = refl;
           charged = ap (λ (l : Limits). charges_from l (o.older ++ o.newer) (image s o.root.inode_file)) (sym (only_version o.root.limits o.shown.newest.body.fits.version));
-          dropped = omega arith;
+          parked = omega arith;
           fits = subst (λ (l : Limits). Fits l (o.older ++ o.newer) (image s o.root.inode_file) (free_blocks n s o.root)) (sym (only_version o.root.limits o.shown.newest.body.fits.version)) im.fits;
         };
         age = im.age;

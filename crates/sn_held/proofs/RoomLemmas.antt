@@ -74,10 +74,10 @@ one_more_charged changes change from live m hierarchy =
     ∙ ap (λ (k : ℕ). charges_from version_1 changes from + k) (one_charge version_1 m.tree change ∙ charged_alike version_1 m.tree live change hierarchy m.covers)
 
 -- and what is charged then fits
-pub one_more_fits : (room : RoomCounts) (n : ℕ) (s : Store) (root : RootBody) (changes : List Change) (change : Change) (live : Tree) → IsCharged room n s root changes → MakesCover version_1 changes (image s root.inode_file) live
+pub one_more_fits : (room : RoomCounts) (n : ℕ) (s : Store) (root : RootBody) (changes : List Change) (change : Change) (live : Tree) → IsCharged room n s root changes live → MakesCover version_1 changes (image s root.inode_file) live
     → IsHierarchy live → HasRoomFor room live change → Fits version_1 (changes ++ change ∷ []) (image s root.inode_file) room.free
 one_more_fits room n s root changes change live is m hierarchy has =
-    omega (arith, one_more_charged changes change (image s root.inode_file) live m hierarchy, is.charged, is.dropped, has)
+    omega (arith, one_more_charged changes change (image s root.inode_file) live m hierarchy, is.charged, is.parked, has)
 
 -- ---- files without names that go
 

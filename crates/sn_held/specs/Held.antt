@@ -56,7 +56,7 @@ pub record Runs (h : Held) (world : World) : Type 0 where
   pub none_later : (epoch : ℕ) → Always h.disk (λ c. HasNoLater c (base_of h.at.blocks epoch) (root.epoch + 1))
   pub log : GoesOn h.at root older newer h.disk
   pub cover : MakesCover version_1 (older ++ newer) (image store root.inode_file) world.live
-  pub charged : IsCharged h.room h.at.blocks store root (older ++ newer)
+  pub charged : IsCharged h.room h.at.blocks store root (older ++ newer) world.live
   pub age : HasAgeLeft root
   pub frozen : world.frozen ≡ frozen_of store root.snapshots
 

@@ -1,5 +1,5 @@
 -- What follows from the definitions of what a mounted file system holds.
-use Rattle.std.specs.Prelude.{◌≡◌, ◌⊎◌, ℕ, ◌≤◌, Bool, Some}
+use Rattle.std.specs.Prelude.{◌≡◌, ◌⊎◌, ℕ, ◌+◌, ◌≤◌, Bool, Some}
 use Rattle.sn_device.specs.Sectors.{Contents, AreSectors}
 use Rattle.sn_device.specs.Disk.{Always, reads}
 use Rattle.sn_device.specs.Crash.{LeavesOnly, Touches}
@@ -31,7 +31,7 @@ RunsShow = (h : Held) (world : World) → Runs h world → Always h.disk (λ c. 
 
 -- Files without names that go, so many that were dropped, and what becomes of sessions, change nothing of the disk.
 abbrev pub DropsRun : Type 0
-DropsRun = (h : Held) (world next : World) (kept : ℕ → Bool) (count : ℕ) → Runs h world → IsOfTree world world.live next → Runs (record h { world = next; kept = kept; room = dropping count h.room }) next
+DropsRun = (h : Held) (world next : World) (kept : ℕ → Bool) (count : ℕ) → Runs h world → IsOfTree world world.live next → nameless_in world.live ≤ nameless_in next.live + count → Runs (record h { world = next; kept = kept; room = dropping count h.room }) next
 
 -- A change of the live tree that has room is appended: a crash in its course leaves an image of the settled world from before it, or of the one after it.
 abbrev pub AppendsLeaveEither : Type 0
@@ -39,11 +39,11 @@ AppendsLeaveEither = (old new : Held) (world next : World) (change : Change) (tr
     → Touches (InHalf (base_at old.at)) old.disk new.disk → LeavesEither old.at change old.disk new.disk
     → LeavesOnly old.disk new.disk (λ c. IsImage c (settle world) ⊎ IsImage c (settle next))
 
--- Once its record stands, and it is charged, the mount runs over the world after it.
+-- Once its record stands, and it is charged, the mount runs over the world after it, which has no fewer files without names.
 abbrev pub AppendsRun : Type 0
 AppendsRun = (old new : Held) (world next : World) (change : Change) (tree : Tree) → Runs old world → IsSpelled change → apply version_1 change world.live ≡ Some tree → IsOfTree world tree next → IsHierarchy world.live → HasRoomFor old.room world.live change
     → Touches (InHalf (base_at old.at)) old.disk new.disk → LeavesMore old.at change old.disk new.disk
-    → AreSectors (reads new.disk) → new.at ≡ behind old.at change → new.room ≡ logged (charge_for version_1 world.live change) old.room → new.world ≡ next → Runs new next
+    → AreSectors (reads new.disk) → new.at ≡ behind old.at change → new.room ≡ logged (charge_for version_1 world.live change) old.room → new.world ≡ next → nameless_in world.live ≤ nameless_in next.live → Runs new next
 
 -- Files that are taken away leave no more files without names.
 abbrev pub DropsLeaveFewer : Type 0

@@ -9,22 +9,22 @@ use Rattle.sn_model.specs.Tree.{Tree}
 use Rattle.sn_model.specs.World.{World}
 use Rattle.sn_ondisk.specs.Trees.{Store, store_of}
 use Rattle.sn_overlay.specs.Needs.{nameless_in}
-use Rattle.sn_room.specs.Rooms.{RoomCounts, mounted}
+use Rattle.sn_room.specs.Rooms.{RoomCounts, mounted, parked}
 use Rattle.sn_image.specs.Image.{image}
 use Rattle.sn_sound.specs.Charges.{Fits, charges_from}
 use Rattle.sn_sound.specs.Maps.{free_blocks}
 use Rattle.sn_held.specs.Images.{IsImage}
 
--- The room that is kept is that of a root with these changes logged on top of it: they are charged, no more than the root leaves free, and the files that were dropped are at least those that its tree has without names.
-pub record IsCharged (room : RoomCounts) (n : ℕ) (s : Store) (root : RootBody) (changes : List Change) : Type 0 where
+-- The room that is kept is that of a root with these changes logged on top of it, which make this live tree: they are charged, no more than the root leaves free, and each file that the root's tree has without a name is live without one still, or was dropped.
+pub record IsCharged (room : RoomCounts) (n : ℕ) (s : Store) (root : RootBody) (changes : List Change) (live : Tree) : Type 0 where
   pub free : room.free ≡ free_blocks n s root
   pub charged : room.charged ≡ charges_from version_1 changes (image s root.inode_file)
-  pub dropped : nameless_in (image s root.inode_file) ≤ room.dropped
+  pub parked : nameless_in (image s root.inode_file) ≤ parked room (nameless_in live)
   pub fits : Fits version_1 changes (image s root.inode_file) room.free
 
--- Behind a change of this tree all that is charged is still no more than is free.
+-- Behind a change of this tree all that is charged, with a charge for each parked file, is still no more than is free.
 abbrev pub HasRoomFor : RoomCounts → Tree → Change → Type 0
-HasRoomFor room tree change = room.charged + charge_for version_1 tree change + version_1.inode_charge * room.dropped ≤ room.free
+HasRoomFor room tree change = room.charged + charge_for version_1 tree change + version_1.inode_charge * parked room (nameless_in tree) ≤ room.free
 
 -- What a mount keeps of an image: its records are charged, and the files that its root's tree has without names are dropped.
 abbrev pub room_of_image : (c : Contents) (world : World) → IsImage c world → RoomCounts

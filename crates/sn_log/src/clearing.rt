@@ -1,6 +1,7 @@
 //! Clearing a place, so that no record there counts.
-ghost use Rattle.std.specs.Prelude.{◌≡◌, ◌+◌, ◌*◌, ◌≤◌, ◌==◌, ◌||◌, if◌then◌else◌, nat_le, slice_index, IsTrue};
+ghost use Rattle.std.specs.Prelude.{◌≡◌, ◌+◌, ◌*◌, ◌≤◌, ◌==◌, ◌||◌, if◌then◌else◌, nat_le, slice_index, Err, IsTrue};
 ghost use Rattle.sn_block.specs.Lending.{device_of};
+ghost use Rattle.sn_block.specs.declared.fault.ReadFault.TheVariants.{Memory};
 ghost use Rattle.sn_log.specs.Places.{half_base};
 ghost use Rattle.sn_log.specs.Clearing.{Clears, CountsClearing};
 
@@ -37,6 +38,7 @@ pub fn clear<D: Device>(
         (D.disk (device_of blocks.old)) (D.disk (device_of blocks.new)) }
     ensures counts { CountsClearing result
         (D.status (device_of blocks.old)) (D.status (device_of blocks.new)) }
+    ensures memory { IsTrue D.tells_bytes → result ≡ Err Memory → D.disk (device_of blocks.new) ≡ D.disk (device_of blocks.old) }
 {
     let start = first_block(places, half);
     let mut gate = [0; 512];
@@ -57,6 +59,7 @@ pub fn close_half<D: Device>(
         (D.disk (device_of blocks.old)) (D.disk (device_of blocks.new)) }
     ensures counts { CountsClearing result
         (D.status (device_of blocks.old)) (D.status (device_of blocks.new)) }
+    ensures memory { IsTrue D.tells_bytes → result ≡ Err Memory → D.disk (device_of blocks.new) ≡ D.disk (device_of blocks.old) }
 {
     clear(blocks, places, half, 0)
 }

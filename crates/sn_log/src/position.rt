@@ -48,6 +48,13 @@ impl Position {
         }
     }
 
+    /// The places of the disk's areas.
+    pub fn places(self) -> Places
+        ensures { result ≡ self.blocks }
+    {
+        self.places
+    }
+
     /// How many blocks the disk has.
     pub fn blocks(self) -> u32
         ensures { result ≡ self.blocks }

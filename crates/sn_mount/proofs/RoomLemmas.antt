@@ -1,13 +1,11 @@
 -- What is free by the words of a map.
-use Rattle.std.proofs.Common.{◌≡◌, inl, inr, ℕ, ◌+◌, ◌-◌, ◌*◌, ◌/◌, ◌^◌, ◌<◌, ◌≤◌, ◌==◌, min, nat_le, Bool, true, false, cond, List, [], ◌∷◌, ◌++◌, drop, take, length, map, count_by, slice_index, get_or, refl, sym, ap, ◌∙◌, append-nil, arith, leb-true, leb-false}
+use Rattle.std.proofs.Common.{◌≡◌, inl, inr, ℕ, ◌+◌, ◌-◌, ◌*◌, ◌/◌, ◌^◌, ◌<◌, ◌≤◌, ◌==◌, min, nat_le, Bool, true, false, List, ◌++◌, drop, take, length, count_by, slice_index, refl, sym, ap, ◌∙◌, append-nil, arith, leb-true, leb-false}
 use Rattle.std.specs.List.{range_with_len}
-use Rattle.std.proofs.lemmas.List.{same_lists, length-drop, length-take, get_or-drop, get_or_default, take-append-drop}
+use Rattle.std.proofs.lemmas.List.{length-drop, length-take, take-append-drop}
 use Rattle.std.proofs.Math.ListN.{drop_of_length-le}
 use Rattle.std.proofs.Math.Seq.{take-add}
 use Rattle.std.proofs.lemmas.Slice.{take-put_mid}
 use borrow.Rule.Slice.PartMut.{put_mid}
-use Rattle.std.proofs.lemmas.List.FromFn.{get_or-map-range_with_len, length-map-range_with_len}
-use Rattle.std.proofs.lemmas.List.Sums.{sum_by-cons}
 use Rattle.sn_device.specs.Sectors.{AreSectors, Contents}
 use Rattle.sn_layout.specs.declared.places.Area.TheVariants.{Data, MapCopy}
 use Rattle.sn_layout.specs.declared.places.Slot.{Slot}
@@ -22,35 +20,18 @@ use Rattle.sn_ondisk.proofs.MapBlockLemmas.{map_blocks_spelled}
 use Rattle.sn_map.specs.Free.{is_free_word}
 use Rattle.sn_ondisk.specs.MapCopy.{HasMap}
 use Rattle.sn_ondisk.specs.Trees.{store_of}
-use Rattle.sn_sound.proofs.FreeLemmas.{free_counted}
+use Rattle.sn_sound.proofs.FreeLemmas.{free_counted, words_counted}
 use Rattle.sn_block.specs.declared.fault.ReadFault.{ReadFault}
 use Rattle.sn_block.specs.declared.fault.ReadFault.TheVariants as read
 use Rattle.sn_mount.specs.Failing.{read_fault}
 use Rattle.sn_mount.specs.Refusing.{TellsFree}
 use Rattle.sn_mount.specs.Rooms.{IsNoDamage}
 
-count_mapped : (f : ℕ → ℕ) (p : ℕ → Bool) (xs : List ℕ) → count_by p (map f xs) ≡ count_by (λ x. p (f x)) xs
-count_mapped f p [] = refl
-count_mapped f p (x ∷ xs) =
-    sum_by-cons (λ (y : ℕ). cond (p y) 1 0) (f x) (map f xs) ∙ ap (λ (k : ℕ). cond (p (f x)) 1 0 + k) (count_mapped f p xs) ∙ sym (sum_by-cons (λ (y : ℕ). cond (p (f y)) 1 0) x xs)
-
--- the words from a block on, by their numbers
-dropped_words : (words : List ℕ) (start n : ℕ) → length words ≡ n → start ≤ n → drop start words ≡ map (λ block. slice_index words block) (range_with_len start (n - start))
-dropped_words words start n long within =
-    same_lists (drop start words) (map (λ block. slice_index words block) (range_with_len start (n - start))) (length-drop start words ∙ ap (λ (m : ℕ). m - start) long ∙ sym (length-map-range_with_len (λ block. slice_index words block) start (n - start)))
-    (λ k d inside.
-    let here : k < n - start = omega (arith, inside, length-drop start words, long) in
-    get_or-drop start words k d ∙ get_or_default words (start + k) d 0 (omega (arith, here, long)) ∙ sym (get_or-map-range_with_len (λ block. slice_index words block) start (n - start) k (start + k) d here refl))
-
-free_from : (words : List ℕ) (start n : ℕ) → length words ≡ n → start ≤ n → count_by is_free_word (drop start words) ≡ count_by (λ block. slice_index words block == 0) (range_with_len start (n - start))
-free_from words start n long within =
-    ap (count_by is_free_word) (dropped_words words start n long within) ∙ count_mapped (λ block. slice_index words block) is_free_word (range_with_len start (n - start))
-
 -- words that are those of any map that the copy is spelled with tell what is free
 pub tells_free : (n : ℕ) (c : Contents) (slot : Slot) (root : RootBody) (words : List ℕ) (free : ℕ) → length words ≡ n → start_of n Data ≤ n → ((all : List ℕ) → HasMap n c slot all → words ≡ all)
     → free ≡ count_by is_free_word (drop (start_of n Data) words) → TellsFree n c slot root free
 tells_free n c slot root words free long within only is all has sound =
-    is ∙ free_from words (start_of n Data) n long within
+    is ∙ words_counted is_free_word words (start_of n Data) n long within
     ∙ ap (λ (ws : List ℕ). count_by (λ block. slice_index ws block == 0) (range_with_len (start_of n Data) (n - start_of n Data))) (only all has)
     ∙ sym (free_counted n (store_of c) root (slice_index all) sound)
 

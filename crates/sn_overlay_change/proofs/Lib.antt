@@ -13,3 +13,4 @@ pub mod NamelessLemmas
 pub mod DropLemmas
 pub mod LiesLemmas
 pub mod ApplyLemmas
+pub mod StayingLemmas

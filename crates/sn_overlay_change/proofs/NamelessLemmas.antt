@@ -24,13 +24,13 @@ use Rattle.sn_model.proofs.EntryLemmas.{share, total-remove, total-le}
 use Rattle.sn_model.proofs.KeepLemmas.{vacant_absent, replaced_clears}
 use Rattle.sn_model.proofs.MapLemmas.{same_or_apart, get_inserted, get_other, get_removed, get_left, get_was}
 use Rattle.sn_model.proofs.NameLemmas.{names_for_more, names_for_other}
-use Rattle.sn_model.proofs.PartLemmas.{made_is, linked_is, removed_is, renamed_is, replaced_is, unlinked_is, written_is, cut_is, owned_is, file_is, Unlinked, Renamed, IsRenamed}
+use Rattle.sn_model.proofs.PartLemmas.{made_is, linked_is, removed_is, renamed_is, replaced_is, unlinked_is, written_is, cut_is, owned_is, file_is, Unlinked, Moved, Renamed, IsRenamed}
 use Rattle.sn_model.specs.Charges.{file_under}
 use Rattle.sn_overlay.specs.Needs.{left_nameless, nameless_in}
 use Rattle.sn_overlay_change.proofs.NamesLemmas.{fewer_other, moved_names}
 
 -- whether an entry is a file without names
-abbrev bare : Tree → ℕ × Node → Bool
+abbrev pub bare : Tree → ℕ × Node → Bool
 bare tree e = is_nameless tree e.0 (Some e.1)
 
 -- what a number has of them
@@ -40,14 +40,14 @@ bare_at tree number = share (once (bare tree)) number (map.get tree.nodes number
 of_kind : (tree : Tree) (number : ℕ) (node : Node) (kind : Kind) → node.kind ≡ kind → bare tree (number, node) ≡ bare tree (number, record node { kind = kind })
 of_kind tree number node kind e = ap (λ k. bare tree (number, record node { kind = k })) e
 
-same_names : (tree after : Tree) (number : ℕ) (node : Node) → names_for after number ≡ names_for tree number → bare after (number, node) ≡ bare tree (number, node)
+pub same_names : (tree after : Tree) (number : ℕ) (node : Node) → names_for after number ≡ names_for tree number → bare after (number, node) ≡ bare tree (number, node)
 same_names tree after number node e = told node.kind refl
   where
     told : (kind : Kind) → node.kind ≡ kind → bare after (number, node) ≡ bare tree (number, node)
     told File k = of_kind after number node File k ∙ ap (λ n. eqb n 0) e ∙ sym (of_kind tree number node File k)
     told Directory k = of_kind after number node Directory k ∙ sym (of_kind tree number node Directory k)
 
-has_name : (tree : Tree) (number : ℕ) (node : Node) (n : ℕ) → names_for tree number ≡ n + 1 → bare tree (number, node) ≡ false
+pub has_name : (tree : Tree) (number : ℕ) (node : Node) (n : ℕ) → names_for tree number ≡ n + 1 → bare tree (number, node) ≡ false
 has_name tree number node n e = told node.kind refl
   where
     more : (m : ℕ) → m ≡ n + 1 → eqb m 0 ≡ false
@@ -70,9 +70,9 @@ share_one tree number (Some node) = told (bare tree (number, node))
     told false = omega arith
 
 -- Two trees with the same nodes but at one number, of which the other numbers have as many names.
-record AreAlikeBut (tree after : Tree) (number : ℕ) : Type 0 where
-  nodes : (q : ℕ) → q ≢ number → map.get after.nodes q ≡ map.get tree.nodes q
-  names : (q : ℕ) → q ≢ number → names_for after q ≡ names_for tree q
+pub record AreAlikeBut (tree after : Tree) (number : ℕ) : Type 0 where
+  pub nodes : (q : ℕ) → q ≢ number → map.get after.nodes q ≡ map.get tree.nodes q
+  pub names : (q : ℕ) → q ≢ number → names_for after q ≡ names_for tree q
 
 nameless_but : (tree after : Tree) (number : ℕ) → AreAlikeBut tree after number → nameless_in after + bare_at tree number ≤ nameless_in tree + bare_at after number
 unfolding nameless_in
@@ -111,18 +111,22 @@ nameless_alike tree after nodes names =
     shares (Some node) = ap {B = ℕ} (λ (b : Bool). cond b 1 0) (same_names tree after 0 node (names 0))
 
 -- a node in place of one of its kind
+pub put_alike : (tree : Tree) (number : ℕ) (new : Node) → AreAlikeBut tree (put_node tree number new) number
+put_alike tree number new = record { nodes = λ q apart. get_other nat_cmp_total exact_unsigned tree.nodes number new q apart; names = λ q apart. refl }
+
+-- whether it is a file without names is told by its kind
+pub same_bare : (tree : Tree) (number : ℕ) (node new : Node) → new.kind ≡ node.kind → bare tree (number, new) ≡ bare tree (number, node)
+same_bare tree number node new kind = told node.kind refl
+  where
+    told : (k : Kind) → node.kind ≡ k → bare tree (number, new) ≡ bare tree (number, node)
+    told File e = of_kind tree number new File (kind ∙ e) ∙ sym (of_kind tree number node File e)
+    told Directory e = of_kind tree number new Directory (kind ∙ e) ∙ sym (of_kind tree number node Directory e)
+
 nameless_put : (tree : Tree) (number : ℕ) (node new : Node) → map.get tree.nodes number ≡ Some node → new.kind ≡ node.kind → nameless_in (put_node tree number new) ≤ nameless_in tree
 nameless_put tree number node new there kind =
     let after = put_node tree number new in
-    let all = nameless_but tree after number (record { nodes = λ q apart. get_other nat_cmp_total exact_unsigned tree.nodes number new q apart; names = λ q apart. refl }) in
-    omega (arith, all, ap (share (once (bare after)) number) (get_inserted nat_cmp_total tree.nodes number new), ap (share (once (bare tree)) number) there, ap {B = ℕ} (λ (b : Bool). cond b 1 0) alike)
-  where
-    alike : bare tree (number, new) ≡ bare tree (number, node)
-    alike = told node.kind refl
-      where
-        told : (k : Kind) → node.kind ≡ k → bare tree (number, new) ≡ bare tree (number, node)
-        told File e = of_kind tree number new File (kind ∙ e) ∙ sym (of_kind tree number node File e)
-        told Directory e = of_kind tree number new Directory (kind ∙ e) ∙ sym (of_kind tree number node Directory e)
+    let all = nameless_but tree after number (put_alike tree number new) in
+    omega (arith, all, ap (share (once (bare after)) number) (get_inserted nat_cmp_total tree.nodes number new), ap (share (once (bare tree)) number) there, ap {B = ℕ} (λ (b : Bool). cond b 1 0) (same_bare tree number node new kind))
 
 apart_turned : (a b : ℕ) → a ≢ b → b ≢ a
 apart_turned a b h e = h (sym e)
@@ -131,18 +135,38 @@ apart_turned a b h e = h (sym e)
 abbrev left_by : Bool → ℕ
 left_by is_directory = cond is_directory 0 1
 
-nameless_unlinked : (tree after : Tree) (link : Link) (number : ℕ) (node : Node) → map.get tree.links link ≡ Some number → Unlinked tree link number node after → nameless_in after ≤ nameless_in tree + left_by (is_directory node.kind)
-nameless_unlinked tree after link number node named (inl p) =
-    let dropped = take_node (take_link tree link) number in
-    let all = nameless_but tree dropped number (record {
+pub unlinked_alike : (tree after : Tree) (link : Link) (number : ℕ) (node : Node) → map.get tree.links link ≡ Some number → Unlinked tree link number node after → AreAlikeBut tree after number
+unlinked_alike tree after link number node named (inl p) =
+    let alike : AreAlikeBut tree (take_node (take_link tree link) number) number = record {
       nodes = λ q apart. get_left nat_cmp_total exact_unsigned tree.nodes number q apart;
       names = λ q apart. fewer_other tree link number named q (apart_turned q number apart);
-    }) in
-    omega (arith, all, ap nameless_in p.gives, ap (share (once (bare dropped)) number) (get_removed nat_cmp_total tree.nodes number))
+    } in
+    subst (λ (t : Tree). AreAlikeBut tree t number) p.gives alike
+unlinked_alike tree after link number node named (inr p) =
+    let alike : AreAlikeBut tree (take_link tree link) number = record {
+      nodes = λ q apart. refl;
+      names = λ q apart. fewer_other tree link number named q (apart_turned q number apart);
+    } in
+    subst (λ (t : Tree). AreAlikeBut tree t number) p.gives alike
+
+nameless_unlinked : (tree after : Tree) (link : Link) (number : ℕ) (node : Node) → map.get tree.links link ≡ Some number → Unlinked tree link number node after → nameless_in after ≤ nameless_in tree + left_by (is_directory node.kind)
+nameless_unlinked tree after link number node named (inl p) =
+    let all = nameless_but tree after number (unlinked_alike tree after link number node named (inl p)) in
+    let lost : map.get after.nodes number ≡ None = ap (λ (t : Tree). map.get t.nodes number) (sym p.gives) ∙ get_removed nat_cmp_total tree.nodes number in
+    omega (arith, all, ap (share (once (bare after)) number) lost)
 nameless_unlinked tree after link number node named (inr p) =
-    let left = take_link tree link in
-    let all = nameless_but tree left number (record { nodes = λ q apart. refl; names = λ q apart. fewer_other tree link number named q (apart_turned q number apart) }) in
-    omega (arith, all, ap nameless_in p.gives, share_one left number (map.get tree.nodes number), ap left_by p.kind)
+    let all = nameless_but tree after number (unlinked_alike tree after link number node named (inr p)) in
+    omega (arith, all, share_one after number (map.get after.nodes number), ap left_by p.kind)
+
+-- what is made, and what is linked, has a name afterwards
+pub made_alike : (tree : Tree) (link : Link) (number : ℕ) (node : Node) → map.get tree.links link ≡ None → AreAlikeBut tree (put_link (put_node tree number node) link number) number
+made_alike tree link number node absent = record {
+  nodes = λ q apart. get_other nat_cmp_total exact_unsigned tree.nodes number node q apart;
+  names = λ q apart. names_for_other (put_node tree number node) link number absent q (apart_turned q number apart);
+}
+
+pub linked_alike : (tree : Tree) (link : Link) (number : ℕ) → map.get tree.links link ≡ None → AreAlikeBut tree (put_link tree link number) number
+linked_alike tree link number absent = record { nodes = λ q apart. refl; names = λ q apart. names_for_other tree link number absent q (apart_turned q number apart) }
 
 nameless_made : (limits : Limits) (tree after : Tree) (link : Link) (number : ℕ) (kind : Kind) (o : Ownership) → made limits tree link number kind o ≡ Some after → nameless_in after ≤ nameless_in tree
 nameless_made limits tree after link number kind o e =
@@ -150,20 +174,14 @@ nameless_made limits tree after link number kind o e =
     let node = node_with kind o [] in
     let there = put_node tree number node in
     let absent = vacant_absent tree link p.vacant in
-    let all = nameless_but tree (put_link there link number) number (record {
-      nodes = λ q apart. get_other nat_cmp_total exact_unsigned tree.nodes number node q apart;
-      names = λ q apart. names_for_other there link number absent q (apart_turned q number apart);
-    }) in
+    let all = nameless_but tree (put_link there link number) number (made_alike tree link number node absent) in
     omega (arith, all, ap nameless_in p.gives, share_named (put_link there link number) number (map.get there.nodes number) (names_for there number) (names_for_more there link number absent number refl))
 
 nameless_linked : (limits : Limits) (tree after : Tree) (link : Link) (number : ℕ) → linked limits tree link number ≡ Some after → nameless_in after ≤ nameless_in tree
 nameless_linked limits tree after link number e =
     let p = linked_is limits tree link number after e in
     let absent = vacant_absent tree link p.vacant in
-    let all = nameless_but tree (put_link tree link number) number (record {
-      nodes = λ q apart. refl;
-      names = λ q apart. names_for_other tree link number absent q (apart_turned q number apart);
-    }) in
+    let all = nameless_but tree (put_link tree link number) number (linked_alike tree link number absent) in
     omega (arith, all, ap nameless_in p.gives, share_named (put_link tree link number) number (map.get tree.nodes number) (names_for tree number) (names_for_more tree link number absent number refl))
 
 -- a file that is found under a name counts
@@ -190,25 +208,28 @@ nameless_replaced tree cleared new moved (Some n) named e =
     let p = replaced_is tree new moved n cleared e in
     omega (arith, nameless_unlinked tree cleared new n p.node named (unlinked_is tree new n p.node cleared p.gone), at_most_one (is_directory p.node.kind))
 
-nameless_renamed : (limits : Limits) (tree after : Tree) (old new : Link) → renamed limits tree old new ≡ Some after → nameless_in after ≤ nameless_in tree + 1
-nameless_renamed limits tree after old new e = told p.done
+-- a name that is moved leaves each number as many names as it had once what had the new name has lost it
+pub exchanged_names : (limits : Limits) (tree after : Tree) (old new : Link) (number : ℕ) (node : Node) → map.get tree.links old ≡ Some number → same_number number (map.get tree.links new) ≡ false → (m : Moved limits tree old new number node after) → (q : ℕ) → names_for after q ≡ names_for m.cleared q
+exchanged_names limits tree after old new number node named differ m q =
+    let clears = replaced_clears tree new node (map.get tree.links new) m.cleared refl m.cleared_is in
+    ap (λ (t : Tree). names_for t q) (sym m.gives) ∙ moved_names m.cleared old new number (clears.stays old apart ∙ named) clears.absent q
   where
-    p : Renamed limits tree old new after
-    p = renamed_is limits tree old new after e
+    apart : old ≢ new
+    apart same = true≢false (sym (eq-eqb number number refl) ∙ ap (same_number number) (sym (ap (map.get tree.links) (sym same) ∙ named)) ∙ differ)
 
-    apart : same_number p.number (map.get tree.links new) ≡ false → old ≢ new
-    apart f same = true≢false (sym (eq-eqb p.number p.number refl) ∙ ap (same_number p.number) (sym (ap (map.get tree.links) (sym same) ∙ p.named)) ∙ f)
-
-    told : IsRenamed limits tree old new p.number p.node after → nameless_in after ≤ nameless_in tree + 1
-    told (inl q) = omega (arith, ap nameless_in q.1)
-    told (inr q) =
+nameless_renamed : (limits : Limits) (tree after : Tree) (old new : Link) → renamed limits tree old new ≡ Some after → nameless_in after ≤ nameless_in tree + 1
+nameless_renamed limits tree after old new e =
+    let p = renamed_is limits tree old new after e in
+    told p p.done
+  where
+    told : (p : Renamed limits tree old new after) → IsRenamed limits tree old new p.number p.node after → nameless_in after ≤ nameless_in tree + 1
+    told p (inl q) = omega (arith, ap nameless_in q.1)
+    told p (inr q) =
         let m = q.1 in
-        let clears = replaced_clears tree new p.node (map.get tree.links new) m.cleared refl m.cleared_is in
         omega (
           arith,
-          ap nameless_in m.gives,
           nameless_replaced tree m.cleared new p.node (map.get tree.links new) refl m.cleared_is,
-          nameless_alike m.cleared (put_link (take_link m.cleared old) new p.number) refl (moved_names m.cleared old new p.number (clears.stays old (apart q.0) ∙ p.named) clears.absent),
+          nameless_alike m.cleared after (ap (λ (t : Tree). t.nodes) (sym m.gives)) (exchanged_names limits tree after old new p.number p.node p.named q.0 m),
         )
 
 pub nameless_are_counted : (limits : Limits) (change : Change) (tree after : Tree) → IsHierarchy tree → apply limits change tree ≡ Some after → nameless_in after ≤ nameless_in tree + left_nameless tree change

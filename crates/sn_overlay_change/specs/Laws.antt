@@ -13,6 +13,7 @@ use Rattle.sn_model.specs.Settling.{is_nameless}
 use Rattle.sn_model.specs.Changes.{made, linked, removed, renamed, written, owned, cut, resized, overwritten, take_node, apply}
 use Rattle.sn_overlay.specs.Pieces.{piece}
 use Rattle.sn_overlay_change.specs.Blocks.{zeroed, spliced, part_in}
+use Rattle.sn_overlay_change.specs.FirstNames.{GivesNoFirstName, StayNameless}
 use Rattle.sn_overlay.specs.Layers.{IsLayer, Fits, through}
 use Rattle.sn_overlay_change.specs.ChangeLayers.{make_layer, link_layer, remove_layer, rename_layer, write_layer, ownership_layer, size_layer, layer_of_change}
 use Rattle.sn_overlay.specs.Seen.{CountsNames, LiesOver}
@@ -59,6 +60,13 @@ ChangesCount = (limits : Limits) (change : Change) (tree after : Tree) → IsHie
 -- A change leaves no more files without names than are counted for it.
 abbrev pub NamelessAreCounted : Type 0
 NamelessAreCounted = (limits : Limits) (change : Change) (tree after : Tree) → IsHierarchy tree → apply limits change tree ≡ Some after → nameless_in after ≤ nameless_in tree + left_nameless tree change
+
+-- Where a change gives no file its first name, files without names stay so; and where they stay so, there are no fewer.
+abbrev pub NamelessStay : Type 0
+NamelessStay = (limits : Limits) (change : Change) (tree after : Tree) → GivesNoFirstName tree change → apply limits change tree ≡ Some after → StayNameless tree after
+
+abbrev pub StayingIsCounted : Type 0
+StayingIsCounted = (tree after : Tree) → StayNameless tree after → nameless_in tree ≤ nameless_in after
 
 -- Through the layer in which a file is gone, the tree is the one without its node; that layer lies over the tree, and needs what is counted for one node.
 abbrev pub DropsShow : Type 0

@@ -2,4 +2,5 @@ pub mod Blocks
 pub mod ChangeLayers
 pub mod SeenLayers
 pub mod Faults
+pub mod FirstNames
 pub mod Laws

@@ -1,4 +1,4 @@
-ghost use Rattle.sn_overlay_change.specs.Laws.{AttributesShow, ChangesAreLayers, ChangesCount, ChangesNeed, ChangesShow, CutsKeep, CutsZero, DropsAreCounted, DropsLie, DropsNeed, DropsShow, LinksShow, MakesShow, NamelessAreCounted, RemovesShow, RenamesShow, SizesShow, WritesKeep, WritesShow, WritesSpan, WritesSplice};
+ghost use Rattle.sn_overlay_change.specs.Laws.{AttributesShow, ChangesAreLayers, ChangesCount, ChangesNeed, ChangesShow, CutsKeep, CutsZero, DropsAreCounted, DropsLie, DropsNeed, DropsShow, LinksShow, MakesShow, NamelessAreCounted, NamelessStay, RemovesShow, RenamesShow, SizesShow, StayingIsCounted, WritesKeep, WritesShow, WritesSpan, WritesSplice};
 
 /// Through the layer of a make, the tree is the one with the new node under its name.
 pub fn makes_show()
@@ -59,6 +59,16 @@ pub fn changes_count()
 /// A change leaves no more files without names than are counted for it.
 pub fn nameless_are_counted()
     ensures { NamelessAreCounted }
+{}
+
+/// By a change that gives no file its first name, files without names stay so.
+pub fn nameless_stay()
+    ensures { NamelessStay }
+{}
+
+/// Where files without names stay so, there are no fewer.
+pub fn staying_is_counted()
+    ensures { StayingIsCounted }
 {}
 
 /// Through the layer in which a file is gone, the tree is the one without its node.

@@ -37,6 +37,6 @@ pub use fault::LayerFault;
 pub use laws::{
     attributes_show, changes_are_layers, changes_count, changes_need, changes_show, cuts_keep,
     cuts_zero, drops_are_counted, drops_lie, drops_need, drops_show, links_show, makes_show,
-    nameless_are_counted, removes_show, renames_show, sizes_show, writes_keep, writes_show,
-    writes_span, writes_splice,
+    nameless_are_counted, nameless_stay, removes_show, renames_show, sizes_show,
+    staying_is_counted, writes_keep, writes_show, writes_span, writes_splice,
 };

@@ -22,7 +22,7 @@
 //!   body is written, and both before the gate opens. `log_keeps_slots` carries that over calls of the log.
 //!
 //! The way through: `specs/Slots.antt`, `Finding.antt` and `Replacing.antt` have the words of the clauses.
-//! `slots` reads the gates and what an open slot holds, `finding` chooses, `following` has the next
+//! `slots` reads the gates (`read_gate`, one of them) and what an open slot holds, `finding` chooses, `following` has the next
 //! root's generation and epoch, and `replacing` the three parts.
 //!
 //! What the sources leave open is decided in `docs/DECISIONS.md`, under "Roots".
@@ -48,3 +48,4 @@ pub use finding::{NewestRoot, newest};
 pub use following::{PointKind, next_root};
 pub use laws::{finding_is_one, log_keeps_slots};
 pub use replacing::{close_slot, open_slot, replace, write_body};
+pub use slots::read_gate;

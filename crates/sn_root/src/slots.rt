@@ -78,6 +78,20 @@ pub(crate) fn read_gates<D: Device>(blocks: &mut Blocks<D>) -> Result<(Gate, Gat
     Ok((gate_a, gate_b))
 }
 
+/// The gate of a slot. It reads the block of the two gates.
+pub fn read_gate<D: Device>(blocks: &mut Blocks<D>, slot: Slot) -> Result<Gate, ReadFault>
+    requires room { 32 ≤ (D.status (device_of blocks.old)).sectors }
+    ensures gate { IsTrue D.tells_bytes → IfOk result (λ gate. gate_in (reads (D.disk (device_of blocks.old))) slot ≡ gate) }
+    ensures same { IsTrue D.tells_bytes → D.disk (device_of blocks.new) ≡ D.disk (device_of blocks.old) }
+    ensures counts { CountsRead result (D.status (device_of blocks.old)) (D.status (device_of blocks.new)) }
+{
+    let (gate_a, gate_b) = read_gates(blocks)?;
+    match slot {
+        Slot::A => Ok(gate_a),
+        Slot::B => Ok(gate_b),
+    }
+}
+
 /// What a slot holds whose gate is so. Behind a closed one nothing is read.
 pub(crate) fn look<D: Device>(
     blocks: &mut Blocks<D>,

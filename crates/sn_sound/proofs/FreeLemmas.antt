@@ -1,8 +1,10 @@
 -- On a sound disk the free blocks are the words that are 0.
-use Rattle.std.proofs.Common.{◌≡◌, ℕ, zero, suc, ◌-◌, ◌*◌, ◌<◌, ◌==◌, ◌||◌, Bool, true, false, not, cond, List, [], ◌∷◌, Contains, count_by, refl, sym, ap, subst, ◌∙◌, arith}
+use Rattle.std.proofs.Common.{◌≡◌, ℕ, zero, suc, ◌+◌, ◌-◌, ◌*◌, ◌<◌, ◌≤◌, ◌==◌, ◌||◌, Bool, true, false, not, cond, List, [], ◌∷◌, drop, length, map, slice_index, Contains, count_by, refl, sym, ap, subst, ◌∙◌, arith}
 use Rattle.std.specs.List.{list_any, range_with_len}
 use Rattle.std.specs.Int.{bit_at, w32, trailing_zeros}
 use Rattle.std.proofs.lemmas.Bool.{eq-eqb, eqb-true, ne_eqb}
+use Rattle.std.proofs.lemmas.List.{same_lists, length-drop, get_or-drop, get_or_default}
+use Rattle.std.proofs.lemmas.List.FromFn.{get_or-map-range_with_len, length-map-range_with_len}
 use Rattle.std.proofs.lemmas.List.Sums.{sum_by-cons}
 use Rattle.std.proofs.lemmas.Nat.Bits.{bit_at-zero, bit_at-trailing_zeros}
 use Rattle.sn_ondisk.specs.Trees.{Store}
@@ -75,3 +77,22 @@ pub free_counted : (n : ℕ) (s : Store) (root : RootBody) (word : ℕ → ℕ) 
     → free_blocks n s root ≡ count_by (λ block. word block == 0) (range_with_len (start_of n Data) (n - start_of n Data))
 free_counted n s root word sound = same_count (λ block. not (is_reached s (rooted_in root) block)) (λ block. word block == 0) (range_with_len (start_of n Data) (n - start_of n Data))
     (λ block among. free_word s (rooted_in root) block (word block) (sound.map block (word_of n block among)))
+
+-- ---- words from a block on
+
+count_mapped : (f : ℕ → ℕ) (p : ℕ → Bool) (xs : List ℕ) → count_by p (map f xs) ≡ count_by (λ x. p (f x)) xs
+count_mapped f p [] = refl
+count_mapped f p (x ∷ xs) =
+    sum_by-cons (λ (y : ℕ). cond (p y) 1 0) (f x) (map f xs) ∙ ap (λ (k : ℕ). cond (p (f x)) 1 0 + k) (count_mapped f p xs) ∙ sym (sum_by-cons (λ (y : ℕ). cond (p (f y)) 1 0) x xs)
+
+-- the words from a block on, by their numbers
+dropped_words : (words : List ℕ) (start n : ℕ) → length words ≡ n → start ≤ n → drop start words ≡ map (λ block. slice_index words block) (range_with_len start (n - start))
+dropped_words words start n long within =
+    same_lists (drop start words) (map (λ block. slice_index words block) (range_with_len start (n - start))) (length-drop start words ∙ ap (λ (m : ℕ). m - start) long ∙ sym (length-map-range_with_len (λ block. slice_index words block) start (n - start)))
+    (λ k d inside.
+    let here : k < n - start = omega (arith, inside, length-drop start words, long) in
+    get_or-drop start words k d ∙ get_or_default words (start + k) d 0 (omega (arith, here, long)) ∙ sym (get_or-map-range_with_len (λ block. slice_index words block) start (n - start) k (start + k) d here refl))
+
+-- words are counted from a block on, by their numbers
+pub words_counted : (p : ℕ → Bool) (words : List ℕ) (start n : ℕ) → length words ≡ n → start ≤ n → count_by p (drop start words) ≡ count_by (λ block. p (slice_index words block)) (range_with_len start (n - start))
+words_counted p words start n long within = ap (count_by p) (dropped_words words start n long within) ∙ count_mapped (λ block. slice_index words block) p (range_with_len start (n - start))

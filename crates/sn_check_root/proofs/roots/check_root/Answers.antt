@@ -32,5 +32,5 @@ returns-clause-fault g c told =
     told_weaker c.check_file.result
     (IsWrong c.args.root.now.places c.args.root.now.bit (reach s c.args.file.now) c.args.map.now (IsMisspelt c.args.limits.now s c.args.file.now c.args.body))
     (StandsInRoot c.args.limits.now c.args.root.now.places s c.args.file.now c.args.body)
-    (λ damage block wrong. stands c.args.limits.now s c.args.file.now c.args.body c.args.root.now.places c.args.root.now.bit c.args.map.now c.requires.clear damage block wrong)
+    (λ damage block wrong. stands c.args.limits.now s c.args.file.now c.args.body c.args.root.now.places c.args.root.now.bit c.args.map.now (c.requires.clear told) damage block wrong)
     (c.check_file.ensures.fault told)

@@ -1,16 +1,18 @@
 use Rattle.std.proofs.Common.{◌≡◌, List, IsTrue, Err, [], refl, take, ap, sym, subst, ◌∙◌, arith}
 use Rattle.std.proofs.lemmas.Result.{err_from_is_err_and}
 use Rattle.sn_device.specs.Disk.{Disk, reads}
+use Rattle.sn_device.specs.declared.status.Status.{Status}
 use Rattle.sn_block.specs.Lending.{device_of}
 use Rattle.sn_inode.specs.declared.changes.InodeChange.{InodeChange}
 use Rattle.sn_ondisk.specs.Trees.{store_of}
 use Rattle.sn_overlay.specs.Overlays.{layer_of}
-use Rattle.sn_tree.specs.declared.fault.PlanFault.TheVariants.{Full}
-use Rattle.sn_cp_nodes.specs.Built.{IsGround}
+use Rattle.sn_tree.specs.declared.fault.PlanFault.TheVariants.{Full, Tree}
+use Rattle.sn_tree_read.specs.declared.fault.TreeFault.TheVariants.{Damaged}
+use Rattle.sn_cp_nodes.specs.Built.{IsGround, IsSafeGround}
 use Rattle.sn_cp_build.specs.Planned.{AreBuilt, none, numbers_of}
 use Rattle.sn_cp_build.proofs.BuiltLemmas.{has_grown}
 use Rattle.sn_cp_build.proofs.RiseLemmas.{changes_rise}
-use Rattle.sn_cp_build.proofs.StepLemmas.{all_built, built_then, full_then, taken_rise, inside_left, left_first, left_then}
+use Rattle.sn_cp_build.proofs.StepLemmas.{all_built, built_then, damaged_then, full_then, taken_rise, inside_left, left_first, left_then}
 use Rattle.sn_cp_build.proofs.nodes.plan_nodes.Goals as goal
 
 pub loop-index-init : goal.loop-index-init
@@ -65,3 +67,17 @@ returns-in_err-change-clause-full g c = λ told full n ground.
     c.loop-index.invariant.left inside c.loop-index.invariant.built t
     (c.in_err-change.ensures.full told (ap (λ f. Err f) fault) n (layer_of c.args.changes.now)
     (subst (λ (d : Disk). IsGround c.args.limits.now n (store_of (reads d)) c.args.file.now (layer_of c.args.changes.now)) (sym (c.loop-index.invariant.same told)) ground))
+
+pub returns-in_err-change-clause-damaged : goal.returns-in_err-change-clause-damaged
+returns-in_err-change-clause-damaged g c = λ told damaged n safe.
+    let p = err_from_is_err_and c.from_residual.result c.from_residual.ensures.1 in
+    let fault : c.in_err-change.field-0.0 ≡ Tree Damaged = cc (p.1, p.2) in
+    let layer = layer_of c.args.changes.now in
+    let build = c.loop-index.build in
+    let s = store_of (reads (g.D.Device.disk (device_of c.args.blocks.now))) in
+    let inside = inside_left layer (layer_of c.loop-index.changes) c.loop-index.index _ c.loop-index.invariant.left c.nodes-index-end.result.now c.nodes-index-end.ensures c.loop-index-test.true in
+    damaged_then (IsTrue g.D.Device.tells_bytes) c.args.limits.now s c.args.file.now layer (layer_of c.loop-index.changes) c.args.build.now build c.loop-index.index c.loop-index.planned.items
+    c.loop-index.invariant.left inside c.loop-index.invariant.built n (g.D.Device.status (device_of c.args.blocks.now)).sectors safe
+    (λ nodes names written later. c.in_err-change.ensures.damaged told (ap (λ f. Err f) fault) n layer nodes names written
+    (subst (λ (d : Disk). IsSafeGround c.args.limits.now n (g.D.Device.status (device_of c.loop-index.blocks)).sectors (store_of (reads d)) c.args.file.now layer build) (sym (c.loop-index.invariant.same told))
+    (subst (λ (st : Status). IsSafeGround c.args.limits.now n st.sectors s c.args.file.now layer build) (sym c.loop-index.invariant.status) later)))

@@ -1,4 +1,5 @@
 use Rattle.sn_cp_held.proofs.BuildLemmas.{builds_are_built, builds_are_sound}
+use Rattle.sn_cp_held.proofs.LiveLemmas.{can_be_built, of_live}
 use Rattle.sn_cp_held.proofs.RoomLemmas.{builds_leave_room}
 use Rattle.sn_cp_held.proofs.laws.build_laws.Goals as goal
 
@@ -10,3 +11,9 @@ returns-clause-sound c n s root words layer built next of r same holds = builds_
 
 pub returns-clause-room : goal.returns-clause-room
 returns-clause-room c n s root words layer built next of r same holds = builds_leave_room n s root words layer built next of r same holds
+
+pub returns-clause-live : goal.returns-clause-live
+returns-clause-live c h world k gate built next r is = of_live h world k r gate built next is
+
+pub returns-clause-fit : goal.returns-clause-fit
+returns-clause-fit c h world k r = can_be_built h world k r

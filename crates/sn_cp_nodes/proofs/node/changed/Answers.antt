@@ -16,7 +16,7 @@ use Rattle.sn_cp_nodes.proofs.node.changed.Goals as goal
 pub returns-clause-made : goal.returns-clause-made
 returns-clause-made g c =
     inode_made (IsTrue g.D.Device.tells_bytes) (store_of (reads (g.D.Device.disk (device_of c.args.blocks.now)))) c.args.was.now c.args.state.now c.args.names.now c.args.written.items
-    c.content_of-old.result c.in_ok-content.content c.inode_for-inode.result.0 c.inode_for-inode.result.1 c.args.build.now c.content_for.new.build c.content_of-old.ensures c.inode_for-inode.ensures c.in_ok-content.ensures.made
+    c.content_of-old.result c.in_ok-content.content c.inode_for-inode.result.0 c.inode_for-inode.result.1 c.args.build.now c.content_for.new.build c.content_of-old.ensures c.inode_for-inode.ensures.made c.inode_for-inode.ensures.fits c.in_ok-content.ensures.made
 
 pub returns-then-not-is_change-clause-damaged : goal.returns-then-not-is_change-clause-damaged
 returns-then-not-is_change-clause-damaged g c = λ told damaged can.
@@ -27,5 +27,5 @@ returns-then-not-is_change-clause-damaged g c = λ told damaged can.
     } in
     let made =
     inode_made (IsTrue g.D.Device.tells_bytes) (store_of (reads (g.D.Device.disk (device_of c.args.blocks.now)))) c.args.was.now c.args.state.now c.args.names.now c.args.written.items
-    c.content_of-old.result c.in_ok-content.content c.inode_for-inode.result.0 c.inode_for-inode.result.1 c.args.build.now behind c.content_of-old.ensures c.inode_for-inode.ensures c.in_ok-content.ensures.made in
+    c.content_of-old.result c.in_ok-content.content c.inode_for-inode.result.0 c.inode_for-inode.result.1 c.args.build.now behind c.content_of-old.ensures c.inode_for-inode.ensures.made c.inode_for-inode.ensures.fits c.in_ok-content.ensures.made in
     true≢false (sym (c.is_change.ensures.1 (can.fits (Used c.inode_for-inode.result.0 c.inode_for-inode.result.1) behind taken made)) ∙ c.if-not-is_change.true)

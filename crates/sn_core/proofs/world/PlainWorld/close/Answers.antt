@@ -1,10 +1,11 @@
-use Rattle.std.proofs.Common.{◌≡◌, ℕ, zero, suc, List, [], ◌∷◌, ◌++◌, Some, Contains, refl, sym, ap, subst, ◌∙◌, arith}
+use Rattle.std.proofs.Common.{◌≡◌, ℕ, zero, suc, List, [], ◌∷◌, ◌++◌, Some, Contains, length, refl, sym, ap, subst, ◌∙◌, arith}
 use Rattle.sn_model.proofs.ChainLemmas.{some_same}
-use Rattle.sn_desc.specs.InUse.{InUse}
+use Rattle.sn_desc.specs.Closing.{pushed}
+use Rattle.sn_desc.specs.InUse.{InUse, live_in}
 use Rattle.sn_core.specs.Plain.{world_of}
 use Rattle.sn_core.proofs.CallerLemmas.{close_tells}
 use Rattle.sn_core.proofs.world.PlainWorld.close.Goals as goal
-use Rattle.sn_desc.proofs.ReleaseLemmas.{last_told}
+use Rattle.sn_desc.proofs.ReleaseLemmas.{closed_fewer, last_told, released_live}
 
 one : (n : ℕ) → Contains (n ∷ []) n
 one n = (0, omega arith, refl)
@@ -30,3 +31,14 @@ returns-in-Some-clause-held c = λ n has.
     let items : c.push.new.self.items ≡ c.in-Some.number ∷ [] = c.push.ensures.items ∙ ap (λ (xs : List ℕ). xs ++ c.in-Some.number ∷ []) c.new-released.ensures in
     let same : n ≡ c.in-Some.number = only n c.in-Some.number (subst (λ (xs : List ℕ). Contains xs n) items has) in
     (last_told (world_of c.args.self.now).descriptors (c.args.session, c.args.fd) n (sym c.close_if_open.ensures.released ∙ c.in-Some.is ∙ ap (λ (m : ℕ). Some m) (sym same))).0
+
+pub returns-in-Some-clause-few : goal.returns-in-Some-clause-few
+returns-in-Some-clause-few c =
+    let items : c.push.new.self.items ≡ pushed [] (Some c.in-Some.number) = c.push.ensures.items ∙ ap (λ (xs : List ℕ). xs ++ c.in-Some.number ∷ []) c.new-released.ensures in
+    released_live (world_of c.args.self.now).descriptors _ c.args.session c.args.fd [] c.push.new.self.items (Some c.in-Some.number) (live_in (world_of c.args.self.now).descriptors) (ap (λ (u : InUse). u.descriptors) c.close_if_open.ensures.in_use)
+    (sym c.in-Some.is ∙ c.close_if_open.ensures.released) items (omega arith)
+
+pub returns-in_default-clause-few : goal.returns-in_default-clause-few
+returns-in_default-clause-few c =
+    let fewer = closed_fewer (world_of c.args.self.now).descriptors (c.args.session, c.args.fd) in
+    omega (arith, ap length c.new-released.ensures, ap (λ (u : InUse). live_in u.descriptors) c.close_if_open.ensures.in_use, fewer)

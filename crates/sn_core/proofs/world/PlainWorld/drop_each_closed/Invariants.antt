@@ -1,4 +1,7 @@
-use Rattle.std.proofs.Common.{◌≡◌, ◌<◌, ◌||◌, ℕ, true, slice_index}
+use Rattle.std.proofs.Common.{◌≡◌, ◌<◌, ◌≤◌, ◌||◌, ℕ, true, slice_index}
+use Rattle.std.specs.Prelude.{All}
+use Rattle.arrayvec.specs.ArrayVec.{array_vec_len}
+use Rattle.sn_changed.specs.Dropped.{TellsGone}
 use Rattle.sn_model.specs.Settling.{dropped, is_abandoned}
 use Rattle.sn_core.specs.Called.{AreNumbers}
 use Rattle.sn_core.specs.Numbering.{has_gone}
@@ -12,5 +15,8 @@ invariant-loop-number l = record {
   world : dropped (world_of l.self) ≡ dropped (world_of l.fn.self);
   left : (n : ℕ) → is_abandoned (world_of l.self) n ≡ true → (is_abandoned (world_of l.fn.self) n ≡ true) × ((k : ℕ) → k < l.number-index → slice_index l.numbers k ≡ n → ⊥);
   gone : (n : ℕ) → has_gone (world_of l.fn.self) (world_of l.self) n ≡ true → (k : ℕ) × (k < l.number-index) × (slice_index l.numbers k ≡ n);
+  told : TellsGone (world_of l.fn.self).live (world_of l.self).live l.dropped.items;
+  closed : All (λ file. file.by_close ≡ true) l.dropped.items;
+  few : array_vec_len l.dropped ≤ l.number-index;
   kept : (n : ℕ) → kept_of l.self n ≡ (has_gone (world_of l.fn.self) (world_of l.self) n || kept_of l.fn.self n);
 }

@@ -1,11 +1,11 @@
 use Rattle.std.proofs.Common.{◌≡◌, [], ap, ◌∙◌, arith}
 use Rattle.sn_model.specs.Descriptors.{closed}
-use Rattle.sn_desc.specs.InUse.{InUse}
+use Rattle.sn_desc.specs.InUse.{InUse, live_in}
 use Rattle.sn_desc.specs.OpenFiles.{files_of}
 use Rattle.sn_desc.specs.Sessions.{in_use_of}
 use Rattle.sn_desc.proofs.LogoutLemmas.{all_below, more_below, none_below}
 use Rattle.sn_desc.proofs.PlaceLemmas.{get_far}
-use Rattle.sn_desc.proofs.ReleaseLemmas.{held_before, more_released, none_released, pushed_few}
+use Rattle.sn_desc.proofs.ReleaseLemmas.{held_before, more_released, none_released, pushed_few, released_live}
 use Rattle.sn_desc.proofs.sessions.Sessions.close_all.Goals as goal
 
 pub loop-fd-init : goal.loop-fd-init
@@ -16,6 +16,7 @@ loop-fd-init c =
       released = let none : c.new-released.result.items ≡ [] = c.new-released.ensures in rw none (none_released u.descriptors);
       was_held = λ number e. e;
       few = rw c.new-released.ensures (omega arith);
+      live = rw c.new-released.ensures (omega arith);
       room = omega arith;
     }
 
@@ -34,6 +35,7 @@ loop-fd-preserved c =
       released = more_released u.descriptors mid.descriptors new.descriptors c.args.session c.loop-fd.fd c.loop-fd.released.items _ _ i.released i.was_held is_new c.close_if_open-number.ensures.released c.push_some.ensures;
       was_held = λ number e. i.was_held number (held_before mid.descriptors new.descriptors c.args.session c.loop-fd.fd is_new number e);
       few = pushed_few _ _ _ _ c.push_some.ensures i.few;
+      live = released_live mid.descriptors new.descriptors c.args.session c.loop-fd.fd c.loop-fd.released.items _ _ (live_in u.descriptors) is_new c.close_if_open-number.ensures.released c.push_some.ensures i.live;
       room = omega (arith, i.room, c.close_if_open-number.ensures.room);
     }
 

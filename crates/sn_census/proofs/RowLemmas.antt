@@ -1,0 +1,35 @@
+-- The rows of a census.
+use Rattle.std.proofs.Common.{◌≡◌, ◌≢◌, ⊎_elim, ℕ, ◌+◌, ◌<◌, ◌≤◌, List, length, set, sym, ap, ◌∙◌, arith}
+use Rattle.std.proofs.lemmas.Bool.{cases_eq}
+use Rattle.std.proofs.lemmas.List.{get_or-set_same, get_or-set_other, get_or_past}
+use Rattle.sn_layout.specs.declared.tree.BlockTree.{BlockTree}
+use Rattle.sn_ondisk.specs.Trees.{Store}
+use Rattle.sn_image.specs.Inodes.{inode_at}
+use Rattle.sn_census.specs.Climbs.{KeepsKinds}
+use Rattle.sn_census.specs.Rows.{AreLoaded, Sets, row_at, row_of, unused_row}
+use Rattle.sn_census.specs.declared.table.Row.{Row}
+
+pub row_set : (rows : List Row) (number : ℕ) (row : Row) → number < length rows → Sets number row rows (set rows number row)
+row_set rows number row within = record {
+  here = get_or-set_same rows number row unused_row within;
+  others = λ n other. get_or-set_other rows number n row unused_row other;
+}
+
+pub past_rows : (rows : List Row) (number : ℕ) → length rows ≡ 65536 → 65536 ≤ number → row_at rows number ≡ unused_row
+past_rows rows number size past = get_or_past rows number unused_row (omega (arith, size, past))
+
+pub kinds_kept : (number : ℕ) (row : Row) (old new : List Row) → Sets number row old new → row.kind ≡ (row_at old number).kind → KeepsKinds old new
+kinds_kept number row old new put kind n = ⊎_elim
+    (λ (same : n ≡ number). ap (λ (k : ℕ). (row_at new k).kind) same ∙ ap (λ (r : Row). r.kind) put.here ∙ kind ∙ ap (λ (k : ℕ). (row_at old k).kind) (sym same))
+    (λ (other : n ≢ number). ap (λ (r : Row). r.kind) (put.others n other))
+    (cases_eq n number)
+
+module _ (s : Store) (inodes : BlockTree) where
+  pub loaded_none : (rows : List Row) → AreLoaded s inodes 0 rows
+  loaded_none rows number within = absurd (omega (arith, within))
+
+  pub loaded_more : (n : ℕ) (old new : List Row) → AreLoaded s inodes n old → Sets n (row_of n (inode_at s inodes n)) old new → AreLoaded s inodes (n + 1) new
+  loaded_more n old new loaded put number within = ⊎_elim
+      (λ (same : number ≡ n). ap (λ (k : ℕ). row_at new k) same ∙ put.here ∙ ap (λ (k : ℕ). row_of k (inode_at s inodes k)) (sym same))
+      (λ (other : number ≢ n). put.others number other ∙ loaded number (omega (arith, within, other)))
+      (cases_eq number n)

@@ -1,0 +1,28 @@
+-- Going up from parent to parent.
+use Rattle.std.specs.Prelude.{◌≡◌, ◌≢◌, ℕ, ◌<◌, List}
+use Rattle.sn_census.specs.Rows.{row_at}
+use Rattle.sn_census.specs.declared.table.Row.{Row}
+
+-- the parents that rows tell
+abbrev pub parents_of : List Row → ℕ → ℕ
+parents_of rows number = (row_at rows number).parent
+
+-- From a number one comes up to the root.
+pub data LeadsUp (parents : ℕ → ℕ) : ℕ → Type 0 where
+  root : LeadsUp parents 2
+  below : (number : ℕ) → LeadsUp parents (parents number) → LeadsUp parents number
+
+-- no way was gone
+abbrev pub AreUnclimbed : List Row → Type 0
+AreUnclimbed rows = (number : ℕ) → (row_at rows number).climb ≡ 0
+
+-- Ways up were gone from directories below one alone, and all of them led to the root.
+pub record AreClimbed (parents : ℕ → ℕ) (end : ℕ) (rows : List Row) : Type 0 where
+  pub parents_are : (number : ℕ) → (row_at rows number).parent ≡ parents number
+  pub before : (number : ℕ) → (row_at rows number).climb < end
+  pub up : (number : ℕ) → (row_at rows number).climb ≢ 0 → LeadsUp parents number
+  pub top : (row_at rows 2).climb ≢ 0
+
+-- Each number has the kind that it had.
+abbrev pub KeepsKinds : List Row → List Row → Type 0
+KeepsKinds old new = (number : ℕ) → (row_at new number).kind ≡ (row_at old number).kind

@@ -1,0 +1,121 @@
+//! Readers of what was checked before. Where the device tells its bytes, all of it can be read.
+ghost use Rattle.std.specs.Prelude.{◌≡◌, IsTrue, IsSome, IfOk, IfErr, OnOk};
+ghost use Rattle.sn_device.specs.Disk.{reads};
+ghost use Rattle.sn_block.specs.Lending.{device_of, fetched_number, fetched_bytes};
+ghost use Rattle.sn_layout_node.specs.Directory.{IsDirectoryBlock};
+ghost use Rattle.sn_model.specs.declared.mount.Damage.TheVariants.{Links};
+ghost use Rattle.sn_ondisk.specs.Trees.{store_of, data_block};
+ghost use Rattle.sn_image.specs.Inodes.{inode_at};
+ghost use Rattle.sn_image.specs.Names.{names_in};
+ghost use Rattle.sn_dir.specs.Blocks.{CanRead};
+ghost use Rattle.sn_inode.specs.Reads.{CanReadRecord};
+ghost use Rattle.sn_sound.specs.Faults.{record_block};
+ghost use Rattle.sn_marks.specs.Fault.{CountsCheck, Tells};
+ghost use Rattle.sn_marks.specs.declared.fault.CheckFault.TheVariants.{Damaged};
+ghost use Rattle.sn_check_root.specs.Reading.{TreeLies};
+ghost use Rattle.sn_census.specs.Faults.{IsAt, unread};
+
+use sn_block::{Block, Blocks, ReadFault};
+use sn_check_root::record_block;
+use sn_device::Device;
+use sn_dir::{decoded, fetch_block};
+use sn_inode::get;
+use sn_layout::BlockTree;
+use sn_layout_node::{DirectoryBlock, Inode};
+use sn_limits::Limits;
+use sn_marks::CheckFault;
+use sn_model::Damage;
+use sn_tree_read::TreeFault;
+
+// A reader's fault. What was checked is damaged only where a device gives other bytes than before.
+fn unread(fault: TreeFault) -> CheckFault
+    ensures { result ≡ unread fault }
+{
+    match fault {
+        TreeFault::Read(fault) => CheckFault::Read(fault),
+        TreeFault::Damaged => CheckFault::Read(ReadFault::Device),
+    }
+}
+
+// The inode of a number.
+pub(crate) fn inode_of<D: Device>(
+    blocks: &mut Blocks<D>,
+    limits: &Limits,
+    file: &BlockTree,
+    number: u16,
+) -> Result<Option<Inode>, CheckFault>
+    requires read { IsTrue D.tells_bytes → CanReadRecord limits.now (D.status (device_of blocks.old)).sectors
+        (store_of (reads (D.disk (device_of blocks.old)))) file.now number }
+    ensures inode { IsTrue D.tells_bytes → IfOk result (λ inode. inode
+        ≡ inode_at (store_of (reads (D.disk (device_of blocks.old)))) file.now number) }
+    ensures fault { IfErr result (λ fault. Tells fault (λ damage block. ⊥)) }
+    ensures same { IsTrue D.tells_bytes → D.disk (device_of blocks.new) ≡ D.disk (device_of blocks.old) }
+    ensures counts { CountsCheck (IsTrue D.tells_bytes) result (D.status (device_of blocks.old)) (D.status (device_of blocks.new)) }
+{
+    match get(blocks, limits, file, number) {
+        Ok(inode) => Ok(inode),
+        Err(fault) => Err(unread(fault)),
+    }
+}
+
+// Makes a block of a directory the one that is lent.
+pub(crate) fn fetch_names<D: Device>(
+    blocks: &mut Blocks<D>,
+    tree: &BlockTree,
+    i: u64,
+) -> Result<(), CheckFault>
+    requires read { IsTrue D.tells_bytes → CanRead (D.status (device_of blocks.old)).sectors
+        (store_of (reads (D.disk (device_of blocks.old)))) tree.now i }
+    ensures lent { OnOk result (IsSome (fetched_number blocks.new)) }
+    ensures block { IsTrue D.tells_bytes → OnOk result (fetched_bytes blocks.new
+        ≡ data_block (store_of (reads (D.disk (device_of blocks.old)))) tree.now i) }
+    ensures fault { IfErr result (λ fault. Tells fault (λ damage block. ⊥)) }
+    ensures same { IsTrue D.tells_bytes → D.disk (device_of blocks.new) ≡ D.disk (device_of blocks.old) }
+    ensures counts { CountsCheck (IsTrue D.tells_bytes) result (D.status (device_of blocks.old)) (D.status (device_of blocks.new)) }
+{
+    match fetch_block(blocks, tree, i) {
+        Ok(()) => Ok(()),
+        Err(fault) => Err(unread(fault)),
+    }
+}
+
+// The names that a block spells.
+pub(crate) fn spelled_names(block: &Block) -> Result<DirectoryBlock<'_>, CheckFault>
+    ensures names { IfOk result (λ names. names ≡ names_in block.now) }
+    ensures fault { IfErr result (λ fault. Tells fault (λ damage block. ⊥)) }
+    ensures spelled { IsDirectoryBlock block.now → IfErr result (λ fault. ⊥) }
+{
+    match decoded(block) {
+        Ok(names) => Ok(names),
+        Err(fault) => Err(unread(fault)),
+    }
+}
+
+// The fault of a number, which is told of the block of its record.
+pub(crate) fn record_fault<D: Device>(
+    blocks: &mut Blocks<D>,
+    file: &BlockTree,
+    body: u32,
+    number: u16,
+) -> Result<(), CheckFault>
+    requires lies { IsTrue D.tells_bytes → TreeLies (D.status (device_of blocks.old)).sectors
+        (store_of (reads (D.disk (device_of blocks.old)))) file.now }
+    ensures never { OnOk result ⊥ }
+    ensures fault { IsTrue D.tells_bytes → IfErr result (λ fault. Tells fault (IsAt
+        (record_block (store_of (reads (D.disk (device_of blocks.old)))) file.now body number))) }
+    ensures same { IsTrue D.tells_bytes → D.disk (device_of blocks.new) ≡ D.disk (device_of blocks.old) }
+    ensures counts { CountsCheck (IsTrue D.tells_bytes) result (D.status (device_of blocks.old)) (D.status (device_of blocks.new)) }
+{
+    let block = record_block(blocks, file, body, u64::from(number))?;
+    Err(link_fault(block))
+}
+
+// Names and inodes don't agree, which is told of a block.
+pub(crate) fn link_fault(block: u32) -> CheckFault
+    ensures { result ≡ Damaged Links block }
+{
+    CheckFault::Damaged {
+        damage: Damage::Links,
+        block,
+    }
+}

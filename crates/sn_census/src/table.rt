@@ -1,0 +1,123 @@
+//! The table of a census.
+ghost use Rattle.std.specs.Prelude.{◌≡◌, ◌≢◌, ◌↔◌, ◌<◌, ◌≤◌, ℕ, List, length, replicate, vec_len, slice_set, Some, IsTrue, IfOk};
+ghost use Rattle.sn_limits.specs.declared.kind.Kind.TheVariants.{Directory};
+ghost use Rattle.sn_census.specs.Rows.{Sets, row_at, row_of, unused_row};
+ghost use Rattle.sn_census.specs.declared.table.Row.{Row as TheRow};
+
+use sn_layout_node::Inode;
+use sn_limits::Kind;
+use std::alloc::{AllocError, Global};
+use std::marker::Model;
+
+/// How many numbers there are, those that no node can have among them.
+pub(crate) const NUMBERS: u32 = 65536;
+
+/// The number of the root directory.
+pub(crate) const ROOT: u16 = 2;
+
+/// What is known of a number.
+#[derive(Clone, Copy)]
+pub struct Row {
+    // The kind of its inode, `None` where no node has the number.
+    pub(crate) kind: Option<Kind>,
+    // How many names it is to have: as many as its inode says, and none if it has no inode or is the root
+    // directory's.
+    pub(crate) links: u16,
+    // How many names were found, no more than that.
+    pub(crate) names: u16,
+    // The directory in which the last of them was found.
+    pub(crate) parent: u16,
+    // The directory from which the way up came through here, 0 where none did.
+    pub(crate) climb: u16,
+}
+
+impl Row {
+    // What is known of a number that no node has.
+    pub(crate) fn unused() -> Self
+        ensures { result ≡ unused_row }
+    {
+        Row {
+            kind: None,
+            links: 0,
+            names: 0,
+            parent: 0,
+            climb: 0,
+        }
+    }
+
+    // What is known of a number before names are counted.
+    pub(crate) fn new(number: u16, inode: &Option<Inode>) -> Self
+        ensures { result ≡ row_of number inode.now }
+    {
+        match inode {
+            Some(inode) => Row {
+                kind: Some(inode.kind),
+                links: if number == ROOT { 0 } else { inode.links },
+                names: 0,
+                parent: 0,
+                climb: 0,
+            },
+            None => Row::unused(),
+        }
+    }
+
+    // Whether the number is a directory's.
+    pub(crate) fn is_directory(&self) -> bool
+        ensures { IsTrue result ↔ (self.now.kind ≡ Some Directory) }
+    {
+        match self.kind {
+            Some(Kind::Directory) => true,
+            Some(Kind::File) => false,
+            None => false,
+        }
+    }
+}
+
+/// A table with a row for each number. It is taken once, and counts root after root.
+#[derive(Drop)]
+pub struct Census {
+    rows: Vec<Row>,
+}
+
+impl Model for Census {
+    ghost Value = { List TheRow };
+
+    ghost view = { λ census. census.rows.items };
+
+    ghost invariant = { λ census. vec_len census.rows ≡ 65536 };
+}
+
+impl Census {
+    /// A table that knows nothing yet. It takes all the memory that counting needs.
+    pub fn new(alloc: Global) -> Result<Self, AllocError>
+        ensures { IfOk result (λ census. census ≡ replicate 65536 unused_row) }
+    {
+        Ok(Census {
+            rows: Vec::from_elem(alloc, Row::unused(), NUMBERS as usize)?,
+        })
+    }
+
+    // The row of a number.
+    pub(crate) fn row(&self, number: u16) -> Row
+        ensures row { result ≡ row_at self.now number }
+        ensures size { length self.now ≡ 65536 }
+    {
+        self.rows[number as usize]
+    }
+
+    // Sets the row of a number.
+    pub(crate) fn set_row(&mut self, number: u16, row: Row)
+        ensures rows { self.new ≡ slice_set self.old number row }
+        ensures set { Sets number row self.old self.new }
+        ensures size { length self.old ≡ 65536 }
+    {
+        self.rows[number as usize] = row;
+    }
+
+    // What the type says of the rows.
+    pub(crate) fn size_law(&self)
+        ensures { length self.now ≡ 65536 }
+    {
+        let _count = self.rows.len();
+    }
+}

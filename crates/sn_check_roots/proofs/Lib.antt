@@ -1,0 +1,2 @@
+pub mod RootedLemmas
+pub mod FirstLemmas

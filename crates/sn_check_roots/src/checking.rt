@@ -1,0 +1,110 @@
+//! The roots of a disk, its map, and the links of all roots.
+ghost use Rattle.std.specs.Prelude.{◌≡◌, ◌*◌, ◌≤◌, length, replicate, IsTrue, IfErr, IfOk};
+ghost use Rattle.sn_device.specs.Disk.{reads};
+ghost use Rattle.sn_block.specs.Lending.{device_of};
+ghost use Rattle.sn_block.specs.declared.fault.ReadFault.TheVariants.{Memory};
+ghost use Rattle.sn_layout.specs.RootBody.{IsRootBody};
+ghost use Rattle.sn_ondisk.specs.MapCopy.{map_word};
+ghost use Rattle.sn_ondisk.specs.Trees.{store_of};
+ghost use Rattle.sn_sound.specs.Maps.{IsSoundRoot};
+ghost use Rattle.sn_marks.specs.Fault.{CountsCheck, Tells};
+ghost use Rattle.sn_marks.specs.declared.fault.CheckFault.TheVariants.{Read};
+ghost use Rattle.sn_check_map.specs.Laws.{FitWords};
+ghost use Rattle.sn_check_map.specs.Words.{HasWords};
+ghost use Rattle.sn_check_roots.specs.First.{AreMarked, IsFirstOf};
+
+use crate::linking::link_roots;
+use crate::marking::mark_roots;
+use sn_block::{Blocks, ReadFault};
+use sn_census::Census;
+use sn_check_map::{check_map, set_laws};
+use sn_check_root::root_laws;
+use sn_device::Device;
+use sn_layout::{Area, Places, RootBody, Slot};
+use sn_map::Map;
+use sn_marks::CheckFault;
+use std::alloc::Global;
+
+// A map without marks.
+fn blank_map(alloc: Global, places: Places) -> Result<Map, CheckFault>
+    ensures map { IfOk result (λ map. map ≡ replicate places 0) }
+    ensures fault { IfErr result (λ fault. fault ≡ Read Memory) }
+{
+    match Map::new(alloc, places.blocks()) {
+        Ok(map) => Ok(map),
+        Err(_) => Err(CheckFault::Read(ReadFault::Memory)),
+    }
+}
+
+// What the type says of words.
+fn words_law(words: &[u32])
+    ensures { FitWords words.now }
+{}
+
+// A table to count names in.
+fn new_census(alloc: Global) -> Result<Census, CheckFault>
+    ensures fault { IfErr result (λ fault. fault ≡ Read Memory) }
+{
+    match Census::new(alloc) {
+        Ok(census) => Ok(census),
+        Err(_) => Err(CheckFault::Read(ReadFault::Memory)),
+    }
+}
+
+// Checks all roots but for their links, and the copy of the map. It answers what they reach.
+fn check_marks<D: Device>(
+    alloc: Global,
+    blocks: &mut Blocks<D>,
+    places: Places,
+    slot: Slot,
+    root: &RootBody,
+) -> Result<Map, CheckFault>
+    requires fits { IsRootBody root.now }
+    requires room { 8 * places ≤ (D.status (device_of blocks.old)).sectors }
+    ensures words { IsTrue D.tells_bytes → IfOk result (λ map. HasWords places (reads (D.disk (device_of blocks.old))) slot map) }
+    ensures marked { IsTrue D.tells_bytes → IfOk result (λ map. AreMarked places (reads (D.disk (device_of blocks.old))) slot root.now) }
+    ensures count { IfOk result (λ map. length map ≡ places) }
+    ensures fault { IsTrue D.tells_bytes → IfErr result (λ fault. Tells fault (IsFirstOf places (reads (D.disk (device_of blocks.old))) slot root.now)) }
+    ensures same { IsTrue D.tells_bytes → D.disk (device_of blocks.new) ≡ D.disk (device_of blocks.old) }
+    ensures counts { CountsCheck (IsTrue D.tells_bytes) result (D.status (device_of blocks.old)) (D.status (device_of blocks.new)) }
+{
+    // Where words are those of the marks of all roots, they tell what the roots reach.
+    set_laws();
+    root_laws();
+    let body = places.start(Area::RootBody(slot));
+    let mut map = blank_map(alloc, places)?;
+    mark_roots(alloc, blocks, &mut map, places, root, body)?;
+    words_law(map.words());
+    check_map(blocks, places, slot, &map)?;
+    Ok(map)
+}
+
+/// Checks all roots of a disk, the live one and those of its snapshots: the pointers and the spelling of each,
+/// then the words of the slot's copy of the map, then the names and links of each. At `Ok` they are sound, and
+/// the map that is answered has the words of the copy. What is told otherwise stands, and nothing of an earlier
+/// group does. The memory for the map and for the count of names is taken here.
+pub fn check_roots<D: Device>(
+    alloc: Global,
+    blocks: &mut Blocks<D>,
+    places: Places,
+    slot: Slot,
+    root: &RootBody,
+) -> Result<Map, CheckFault>
+    requires fits { IsRootBody root.now }
+    requires room { 8 * places ≤ (D.status (device_of blocks.old)).sectors }
+    ensures sound { IsTrue D.tells_bytes → IfOk result (λ map. IsSoundRoot places (store_of (reads (D.disk (device_of blocks.old)))) root.now
+        (map_word places (reads (D.disk (device_of blocks.old))) slot)) }
+    ensures words { IsTrue D.tells_bytes → IfOk result (λ map. HasWords places (reads (D.disk (device_of blocks.old))) slot map) }
+    ensures count { IfOk result (λ map. length map ≡ places) }
+    ensures fault { IsTrue D.tells_bytes → IfErr result (λ fault. Tells fault (IsFirstOf places (reads (D.disk (device_of blocks.old))) slot root.now)) }
+    ensures same { IsTrue D.tells_bytes → D.disk (device_of blocks.new) ≡ D.disk (device_of blocks.old) }
+    ensures counts { CountsCheck (IsTrue D.tells_bytes) result (D.status (device_of blocks.old)) (D.status (device_of blocks.new)) }
+{
+    // A root is sound with its links, and what stands makes it unsound.
+    root_laws();
+    let map = check_marks(alloc, blocks, places, slot, root)?;
+    let mut census = new_census(alloc)?;
+    let body = places.start(Area::RootBody(slot));
+    link_roots(&mut census, blocks, places, root, body)?;
+    Ok(map)
+}

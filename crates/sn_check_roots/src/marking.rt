@@ -1,0 +1,56 @@
+//! All roots but for their links.
+ghost use Rattle.std.specs.Prelude.{◌≡◌, ◌*◌, ◌≤◌, length, replicate, IsTrue, IfErr, OnOk};
+ghost use Rattle.sn_device.specs.Disk.{reads};
+ghost use Rattle.sn_block.specs.Lending.{device_of};
+ghost use Rattle.sn_layout.specs.RootBody.{IsRootBody};
+ghost use Rattle.sn_ondisk.specs.Trees.{store_of};
+ghost use Rattle.sn_sound.specs.Maps.{rooted_in};
+ghost use Rattle.sn_sound.specs.Verdicts.{OfSome};
+ghost use Rattle.sn_marks.specs.Fault.{CountsCheck, Tells};
+ghost use Rattle.sn_check_root.specs.Rules.{StandsInRoot};
+ghost use Rattle.sn_check_map.specs.Sets.{AreSets};
+ghost use Rattle.sn_check_roots.specs.First.{AreChecked};
+
+use crate::rooted::{root_at, root_count};
+use sn_block::Blocks;
+use sn_check_map::set_laws;
+use sn_check_root::check_root;
+use sn_device::Device;
+use sn_layout::{Places, RootBody};
+use sn_map::Map;
+use sn_marks::{CheckFault, RootBit};
+use std::alloc::Global;
+
+/// Checks all roots but for their links, and marks in a map of zeros what each reaches. `body` is the block of
+/// the root body. The first fault found so is told.
+pub(crate) fn mark_roots<D: Device>(
+    alloc: Global,
+    blocks: &mut Blocks<D>,
+    map: &mut Map,
+    places: Places,
+    root: &RootBody,
+    body: u32,
+) -> Result<(), CheckFault>
+    requires fits { IsRootBody root.now }
+    requires blank { map.old ≡ replicate places 0 }
+    requires room { 8 * places ≤ (D.status (device_of blocks.old)).sectors }
+    ensures sets { IsTrue D.tells_bytes → OnOk result (AreSets (store_of (reads (D.disk (device_of blocks.old)))) (rooted_in root.now) map.new) }
+    ensures checked { IsTrue D.tells_bytes → OnOk result (AreChecked places (store_of (reads (D.disk (device_of blocks.old)))) root.now (rooted_in root.now)) }
+    ensures fault { IsTrue D.tells_bytes → IfErr result (λ fault. Tells fault (λ damage block. OfSome root.now (λ r. StandsInRoot root.now.limits places
+        (store_of (reads (D.disk (device_of blocks.old)))) r.inodes body damage block))) }
+    ensures words { length map.new ≡ places }
+    ensures same { IsTrue D.tells_bytes → D.disk (device_of blocks.new) ≡ D.disk (device_of blocks.old) }
+    ensures counts { CountsCheck (IsTrue D.tells_bytes) result (D.status (device_of blocks.old)) (D.status (device_of blocks.new)) }
+{
+    // Marks of one root after the other come to sets of roots.
+    set_laws();
+    for i in 0..root_count(root) {
+        let it = root_at(root, i);
+        let bit = RootBit {
+            places,
+            bit: it.bit,
+        };
+        check_root(alloc, blocks, map, &bit, &root.limits, &it.file, body)?;
+    }
+    Ok(())
+}

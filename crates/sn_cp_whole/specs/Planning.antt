@@ -1,0 +1,67 @@
+-- What a point is built of, and what is planned for it.
+use Rattle.std.specs.Prelude.{◌≡◌, length, All}
+use Rattle.sn_device.specs.declared.status.Status.{Status}
+use Rattle.sn_layout.specs.Bytes.{AreNumbers}
+use Rattle.sn_layout.specs.RootBody.{IsRootBody}
+use Rattle.sn_layout.specs.declared.root.RootBody.{RootBody}
+use Rattle.sn_log.specs.Places.{LogPosition}
+use Rattle.sn_overlay.specs.Overlays.{layer_of}
+use Rattle.sn_root.specs.Following.{following}
+use Rattle.sn_root.specs.declared.following.PointKind.TheVariants.{Ordinary}
+use Rattle.sn_sound.specs.Logs.{HasAgeLeft}
+use Rattle.sn_cp_build.specs.declared.building.Built.{Built}
+use Rattle.sn_cp_held.specs.Wholes.{Kept}
+use Rattle.sn_block.specs.Counts.{FailsRead}
+use Rattle.sn_block.specs.declared.fault.ReadFault.{ReadFault}
+use Rattle.sn_block.specs.declared.fault.ReadFault.TheVariants as read
+use Rattle.sn_tree.specs.declared.fault.PlanFault.{PlanFault}
+use Rattle.sn_tree.specs.declared.fault.PlanFault.TheVariants as plan
+use Rattle.sn_tree.specs.declared.new_block.NewBlock.{NewBlock}
+use Rattle.sn_tree_read.specs.declared.fault.TreeFault.TheVariants as tree
+use Rattle.sn_cp_whole.specs.declared.base.PointBase.{PointBase}
+use Rattle.sn_cp_whole.specs.declared.fault.PointFault.{PointFault}
+use Rattle.sn_cp_whole.specs.declared.fault.PointFault.TheVariants.{Memory, Age, Read, Damaged, Device}
+
+-- what is kept for a point, as `sn_cp_held` speaks of it
+abbrev pub kept_in : PointBase → Kept
+kept_in base = record { slot = base.slot; root = base.root; words = base.map; changed = layer_of base.changed }
+
+-- The base is one of a disk whose log goes on at this position, between two points: its root can be written, its map has a word for each block, and the log goes on under the root's own epoch.
+pub record IsBaseAt (at : LogPosition) (base : PointBase) : Type 0 where
+  pub body : IsRootBody base.root
+  pub words : length base.map ≡ at.blocks
+  pub epoch : at.epoch ≡ base.root.epoch
+
+-- The root that follows, with the inode file that was built: it can be written, and another can follow on it.
+pub record IsNextRoot (root : RootBody) (built : Built) (next : RootBody) : Type 0 where
+  pub is : next ≡ record (following Ordinary root.limits root) { inode_file = built.inode_file }
+  pub body : IsRootBody next
+  pub age : HasAgeLeft next
+
+-- a block of 4,096 bytes
+abbrev pub IsWholeBlock : NewBlock → Type 0
+IsWholeBlock block = length block.bytes.value ≡ 4096
+
+-- What was built has words of four bytes and whole blocks.
+pub record IsSpellable (built : Built) : Type 0 where
+  pub numbers : AreNumbers 4 built.map
+  pub whole : All IsWholeBlock built.blocks.items
+
+-- what a read that fails makes of a point, and what a build that does
+abbrev pub read_fault_of : ReadFault → PointFault
+read_fault_of read.Memory = Memory
+read_fault_of read.Device = Read
+
+abbrev pub point_fault_of : PlanFault → PointFault
+point_fault_of plan.Memory = Memory
+point_fault_of plan.Full = Damaged
+point_fault_of (plan.Tree tree.Damaged) = Damaged
+point_fault_of (plan.Tree (tree.Read fault)) = read_fault_of fault
+
+-- why none is planned: nothing was called but a read that failed
+abbrev pub HasCauseToStop : PointFault → Status → Status → Type 0
+HasCauseToStop Memory old new = new ≡ old
+HasCauseToStop Age old new = new ≡ old
+HasCauseToStop Read old new = FailsRead old new
+HasCauseToStop Damaged old new = new ≡ old
+HasCauseToStop Device old new = ⊥

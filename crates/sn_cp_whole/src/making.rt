@@ -1,0 +1,82 @@
+//! A whole point.
+ghost use Rattle.std.specs.Prelude.{◌≡◌, ◌≢◌, ◌*◌, ◌+◌, ◌≤◌, IsTrue, IfErr, OnErr, OnOk};
+ghost use Rattle.sn_block.specs.Lending.{device_of};
+ghost use Rattle.sn_held.specs.Held.{Held};
+ghost use Rattle.sn_log.specs.Places.{first_of};
+ghost use Rattle.sn_model.specs.World.{World};
+ghost use Rattle.sn_overlay.specs.Needs.{need};
+ghost use Rattle.sn_overlay.specs.Overlays.{HasRoom, layer_of, no_changes};
+ghost use Rattle.sn_cp_held.specs.Wholes.{RunsReady};
+ghost use Rattle.sn_cp_whole.specs.Making.{CostsPoint, MakesPoint, room_over, with_parts};
+ghost use Rattle.sn_cp_whole.specs.Planning.{IsBaseAt, kept_in};
+ghost use Rattle.sn_cp_whole.specs.declared.fault.PointFault.TheVariants.{Device as DeviceFault};
+
+use crate::planning::{Planned, plan};
+use crate::{PointBase, PointFault};
+use sn_block::{Blocks, ReadFault};
+use sn_cp::{Point, begin};
+use sn_device::Device;
+use sn_layout::Area;
+use sn_log::Log;
+use sn_room::Room;
+use std::alloc::Global;
+
+/// Makes a whole consistency point of what changed since the root that counts: then the next root counts, the log is
+/// empty, nothing is charged, and the overlay is empty, with room for so many drops of files.
+pub fn make_point<D: Device>(
+    alloc: Global,
+    blocks: &mut Blocks<D>,
+    base: &mut PointBase,
+    log: &mut Log,
+    room: &mut Room,
+    drops: u16,
+) -> Result<(), PointFault>
+    requires disk { 8 * log.old.blocks ≤ (D.status (device_of blocks.old)).sectors }
+    requires base { IsBaseAt log.old base.old }
+    ensures point { IsTrue D.tells_bytes → (h : Held) (world : World)
+        → RunsReady (with_parts h log.old room.old (D.disk (device_of blocks.old))) world (kept_in base.old)
+        → MakesPoint result world (D.disk (device_of blocks.old)) (with_parts h log.new room.new (D.disk (device_of blocks.new))) (kept_in base.new) }
+    ensures costs { CostsPoint result log.old.blocks (need base.old.root.limits (layer_of base.old.changed))
+        (D.status (device_of blocks.old)) (D.status (device_of blocks.new)) }
+    ensures base { OnOk result (IsBaseAt log.new base.new) }
+    ensures log { OnOk result (log.new ≡ first_of log.old.blocks (log.old.epoch + 1)) }
+    ensures room { OnOk result (room.new ≡ room_over log.old.blocks (kept_in base.new)) }
+    ensures empty { OnOk result (layer_of base.new.changed ≡ no_changes) }
+    ensures drops { OnOk result (HasRoom base.new.changed (record { nodes = drops; names = 0; blocks = 0 })) }
+    ensures keeps { OnErr result ((base.new ≡ base.old) × (room.new ≡ room.old)) }
+    ensures stays { IfErr result (λ fault. fault ≢ DeviceFault → log.new ≡ log.old) }
+{
+    let places = log.position().places();
+    // It bounds the disk.
+    let _blocks = places.blocks();
+    let Planned {
+        next,
+        built,
+        gate,
+        changed,
+    } = match plan(alloc, blocks, places, base, drops) {
+        Ok(planned) => planned,
+        Err(fault) => return Err(fault),
+    };
+    let free = built.map.count_free_from(places.start(Area::Data));
+    match begin(blocks, places, log) {
+        Ok(()) => {}
+        Err(ReadFault::Memory) => return Err(PointFault::Memory),
+        Err(ReadFault::Device) => return Err(PointFault::Device),
+    }
+    let slot = base.slot.other();
+    let mut point = Point::new(places, built.blocks, built.map, next, slot, gate);
+    let Ok(()) = point.finish(blocks) else {
+        return Err(PointFault::Device);
+    };
+    let (root, map) = point.into_root();
+    *base = PointBase {
+        slot,
+        root,
+        map,
+        changed,
+    };
+    room.begin_point();
+    room.end_point(free);
+    Ok(())
+}

@@ -1,0 +1,221 @@
+//! What a point is to write.
+ghost use Rattle.std.specs.Prelude.{◌≡◌, ◌*◌, ◌≤◌, length, All, Err, IsTrue, IfErr, IfOk, IfSome, OnOk};
+ghost use Rattle.sn_device.specs.Disk.{reads};
+ghost use Rattle.sn_block.specs.Lending.{device_of};
+ghost use Rattle.sn_layout.specs.Bytes.{AreNumbers};
+ghost use Rattle.sn_layout.specs.Places.{other_slot};
+ghost use Rattle.sn_layout.specs.RootBody.{IsRootBody};
+ghost use Rattle.sn_ondisk.specs.Trees.{store_of};
+ghost use Rattle.sn_overlay.specs.Overlays.{HasRoom, layer_of, no_changes};
+ghost use Rattle.sn_root.specs.Following.{following};
+ghost use Rattle.sn_root.specs.Slots.{gate_in};
+ghost use Rattle.sn_root.specs.declared.following.PointKind.TheVariants.{Ordinary as OrdinaryPoint};
+ghost use Rattle.sn_sound.specs.Logs.{HasAgeLeft};
+ghost use Rattle.sn_cp_build.specs.Building.{Builds, IsWellBuilt};
+ghost use Rattle.sn_cp_held.specs.Builds.{CanBeBuilt};
+ghost use Rattle.sn_cp_whole.specs.declared.fault.PointFault.TheVariants.{Damaged as DamagedPoint};
+ghost use Rattle.sn_cp_whole.specs.Planning.{HasCauseToStop, IsNextRoot, IsSpellable, IsWholeBlock, kept_in, point_fault_of, read_fault_of};
+
+use crate::{PointBase, PointFault};
+use sn_block::{Blocks, ReadFault};
+use sn_cp_build::{Built, build};
+use sn_device::Device;
+use sn_layout::{Area, Block, Gate, LARGEST_AGE, LogHalf, Places, RootBody, Slot};
+use sn_overlay::Overlay;
+use sn_root::{PointKind, next_root, read_gate};
+use sn_tree::{NewBlock, PlanFault};
+use sn_tree_read::TreeFault;
+use std::alloc::Global;
+
+/// All that a point needs before it begins: the root that follows, what was built of the live tree, the gate of the slot that is replaced,
+/// and the overlay that comes behind the point.
+#[derive(Drop)]
+pub(crate) struct Planned {
+    pub next: RootBody,
+    pub built: Built,
+    pub gate: Gate,
+    pub changed: Overlay,
+}
+
+/// The root that follows on this one, where another one can follow on that.
+fn following_root(root: &RootBody) -> Option<RootBody>
+    requires body { IsRootBody root.now }
+    ensures is { IfSome result (λ next. next ≡ following OrdinaryPoint root.now.limits root.now) }
+    ensures body { IfSome result IsRootBody }
+    ensures age { IfSome result HasAgeLeft }
+{
+    match next_root(root, &root.limits, PointKind::Ordinary) {
+        Some(next) if next.generation < LARGEST_AGE && next.epoch <= LARGEST_AGE - 2 => Some(next),
+        _ => None,
+    }
+}
+
+fn read_fault(fault: ReadFault) -> PointFault
+    ensures { result ≡ read_fault_of fault }
+{
+    match fault {
+        ReadFault::Memory => PointFault::Memory,
+        ReadFault::Device => PointFault::Read,
+    }
+}
+
+fn plan_fault(fault: PlanFault) -> PointFault
+    ensures { result ≡ point_fault_of fault }
+{
+    match fault {
+        PlanFault::Memory => PointFault::Memory,
+        PlanFault::Tree(TreeFault::Read(fault)) => read_fault(fault),
+        PlanFault::Tree(TreeFault::Damaged) | PlanFault::Full => PointFault::Damaged,
+    }
+}
+
+/// Each word is one of four bytes, by its type.
+fn words_fit(words: &[u32])
+    ensures { AreNumbers 4 words.now }
+{
+    words.len();
+}
+
+/// A block is a whole one, by its type.
+fn block_fits(bytes: &Block)
+    ensures { length bytes.now ≡ 4096 }
+{
+    bytes.as_slice();
+}
+
+/// And so is each of these.
+fn blocks_fit(blocks: &[NewBlock])
+    ensures { All IsWholeBlock blocks.now }
+{
+    for block in blocks {
+        block_fits(&block.bytes);
+    }
+}
+
+/// The root with another inode file.
+fn with_inode_file(root: RootBody, built: &Built) -> RootBody
+    requires { IsRootBody root }
+    ensures is { result ≡ record root { inode_file = built.now.inode_file } }
+    ensures body { IsRootBody result }
+{
+    let inode_file = built.inode_file;
+    inode_file.fits();
+    RootBody { inode_file, ..root }
+}
+
+/// Builds the live tree, and the root that follows with it.
+fn plan_tree<D: Device>(
+    alloc: Global,
+    blocks: &mut Blocks<D>,
+    places: Places,
+    base: &PointBase,
+) -> Result<(RootBody, Built), PointFault>
+    requires disk { 8 * places ≤ (D.status (device_of blocks.old)).sectors }
+    requires body { IsRootBody base.now.root }
+    requires words { length base.now.map ≡ places }
+    ensures next { IfOk result (λ made. IsNextRoot base.now.root made.1 made.0) }
+    ensures spelled { IfOk result (λ made. IsSpellable made.1) }
+    ensures well { IfOk result (λ made. IsWellBuilt places base.now.root.limits base.now.map (layer_of base.now.changed) made.1) }
+    ensures builds { IsTrue D.tells_bytes → IfOk result (λ made. Builds places base.now.root.limits
+        (store_of (reads (D.disk (device_of blocks.old)))) base.now.root.inode_file base.now.map (layer_of base.now.changed) made.1) }
+    ensures damaged { IsTrue D.tells_bytes → result ≡ Err DamagedPoint → CanBeBuilt places (store_of (reads (D.disk (device_of blocks.old)))) (kept_in base.now) → ⊥ }
+    ensures same { IsTrue D.tells_bytes → D.disk (device_of blocks.new) ≡ D.disk (device_of blocks.old) }
+    ensures idle { OnOk result (D.status (device_of blocks.new) ≡ D.status (device_of blocks.old)) }
+    ensures cause { IfErr result (λ fault. HasCauseToStop fault (D.status (device_of blocks.old)) (D.status (device_of blocks.new))) }
+{
+    let Some(next) = following_root(&base.root) else {
+        return Err(PointFault::Age);
+    };
+    let Ok(changed) = base.changed.copy(alloc) else {
+        return Err(PointFault::Memory);
+    };
+    match build(alloc, blocks, places, &base.root, &base.map, changed) {
+        Ok(built) => {
+            words_fit(built.map.words());
+            blocks_fit(built.blocks.as_slice());
+            Ok((with_inode_file(next, &built), built))
+        }
+        Err(fault) => Err(plan_fault(fault)),
+    }
+}
+
+/// An empty overlay with room for so many drops.
+fn empty_overlay(alloc: Global, drops: u16) -> Result<Overlay, PointFault>
+    ensures empty { IfOk result (λ changed. layer_of changed ≡ no_changes) }
+    ensures room { IfOk result (λ changed. HasRoom changed (record { nodes = drops; names = 0; blocks = 0 })) }
+    ensures fault { IfErr result (λ fault. fault ≡ PointFault.Memory) }
+{
+    let mut changed = Overlay::new(alloc);
+    match changed.reserve(usize::from(drops), 0, 0) {
+        Ok(()) => Ok(changed),
+        Err(_) => Err(PointFault::Memory),
+    }
+}
+
+/// Reads the gate of the slot that is replaced, and last the one with which the point of an epoch begins: so what can't be read is met
+/// before the first write.
+fn read_ahead<D: Device>(
+    blocks: &mut Blocks<D>,
+    places: Places,
+    slot: Slot,
+    epoch: u64,
+) -> Result<Gate, PointFault>
+    requires disk { 8 * places ≤ (D.status (device_of blocks.old)).sectors }
+    ensures gate { IsTrue D.tells_bytes → IfOk result (λ gate. gate_in (reads (D.disk (device_of blocks.old))) slot ≡ gate) }
+    ensures same { IsTrue D.tells_bytes → D.disk (device_of blocks.new) ≡ D.disk (device_of blocks.old) }
+    ensures idle { OnOk result (D.status (device_of blocks.new) ≡ D.status (device_of blocks.old)) }
+    ensures cause { IfErr result (λ fault. HasCauseToStop fault (D.status (device_of blocks.old)) (D.status (device_of blocks.new))) }
+    ensures readable { result ≡ Err DamagedPoint → ⊥ }
+{
+    let gate = match read_gate(blocks, slot) {
+        Ok(gate) => gate,
+        Err(fault) => return Err(read_fault(fault)),
+    };
+    match blocks.read_block(places.start(Area::Log(LogHalf::of_epoch(epoch)))) {
+        Ok(_) => Ok(gate),
+        Err(fault) => Err(read_fault(fault)),
+    }
+}
+
+/// Plans a point. It only reads.
+pub(crate) fn plan<D: Device>(
+    alloc: Global,
+    blocks: &mut Blocks<D>,
+    places: Places,
+    base: &PointBase,
+    drops: u16,
+) -> Result<Planned, PointFault>
+    requires disk { 8 * places ≤ (D.status (device_of blocks.old)).sectors }
+    requires body { IsRootBody base.now.root }
+    requires words { length base.now.map ≡ places }
+    ensures next { IfOk result (λ p. IsNextRoot base.now.root p.built p.next) }
+    ensures spelled { IfOk result (λ p. IsSpellable p.built) }
+    ensures well { IfOk result (λ p. IsWellBuilt places base.now.root.limits base.now.map (layer_of base.now.changed) p.built) }
+    ensures builds { IsTrue D.tells_bytes → IfOk result (λ p. Builds places base.now.root.limits
+        (store_of (reads (D.disk (device_of blocks.old)))) base.now.root.inode_file base.now.map (layer_of base.now.changed) p.built) }
+    ensures gate { IsTrue D.tells_bytes → IfOk result (λ p. gate_in (reads (D.disk (device_of blocks.old))) (other_slot base.now.slot) ≡ p.gate) }
+    ensures empty { IfOk result (λ p. layer_of p.changed ≡ no_changes) }
+    ensures room { IfOk result (λ p. HasRoom p.changed (record { nodes = drops; names = 0; blocks = 0 })) }
+    ensures damaged { IsTrue D.tells_bytes → result ≡ Err DamagedPoint → CanBeBuilt places (store_of (reads (D.disk (device_of blocks.old)))) (kept_in base.now) → ⊥ }
+    ensures same { IsTrue D.tells_bytes → D.disk (device_of blocks.new) ≡ D.disk (device_of blocks.old) }
+    ensures idle { OnOk result (D.status (device_of blocks.new) ≡ D.status (device_of blocks.old)) }
+    ensures cause { IfErr result (λ fault. HasCauseToStop fault (D.status (device_of blocks.old)) (D.status (device_of blocks.new))) }
+{
+    let (next, built) = match plan_tree(alloc, blocks, places, base) {
+        Ok(made) => made,
+        Err(fault) => return Err(fault),
+    };
+    let changed = match empty_overlay(alloc, drops) {
+        Ok(changed) => changed,
+        Err(fault) => return Err(fault),
+    };
+    match read_ahead(blocks, places, base.slot.other(), next.epoch) {
+        Ok(gate) => Ok(Planned {
+            next,
+            built,
+            gate,
+            changed,
+        }),
+        Err(fault) => Err(fault),
+    }
+}

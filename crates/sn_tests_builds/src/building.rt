@@ -1,0 +1,184 @@
+//! A disk whose tree is built anew.
+ghost use Rattle.std.specs.Prelude.{◌≡◌, IfOk, length};
+ghost use Rattle.sn_layout.specs.RootBody.{IsRootBody};
+
+use crate::reading::{Image, read_image};
+use anyhow::{Context, Result, bail, ensure};
+use sn_block::{Blocks, ReadFault};
+use sn_cp_build::{Built, build};
+use sn_device::MemDevice;
+use sn_drawn_disks::{part, put};
+use sn_layout::{Area, BlockTree, Places, Pointers, RootBody, Snapshots};
+use sn_limits::Limits;
+use sn_map::Map;
+use sn_overlay::Overlay;
+use sn_tree::{NewBlock, PlanFault};
+use sn_tree_read::TreeFault;
+use std::alloc::{AllocError, Global};
+
+/// The bytes of a disk, the inode file of its root, and the words of its map.
+#[derive(Drop)]
+pub struct Disk {
+    pub words: Vec<u32>,
+    bytes: Vec<u8>,
+    file: BlockTree,
+    places: Places,
+}
+
+/// What a build answers.
+#[derive(Drop)]
+pub enum Answer {
+    Built(Built),
+    Full,
+    /// A read of the device failed.
+    Unread,
+    Damaged,
+}
+
+fn root_of(file: &BlockTree) -> Result<RootBody>
+    ensures { IfOk result IsRootBody }
+{
+    let root = RootBody {
+        limits: Limits::VERSION_1,
+        generation: 1,
+        epoch: 1,
+        inode_file: *file,
+        snapshots: Snapshots::new(),
+    };
+    if !root.is_valid() {
+        bail!("no root body");
+    }
+    Ok(root)
+}
+
+fn map_of(alloc: Global, places: Places, words: &[u32]) -> Result<Map>
+    ensures { IfOk result (λ map. length map ≡ places) }
+{
+    if words.len() != places.blocks() as usize {
+        bail!("another number of words");
+    }
+    Ok(Map::from_words(Vec::from_slice(alloc, words)?))
+}
+
+fn answer_of(built: Result<Built, PlanFault>) -> Result<Answer> {
+    match built {
+        Ok(built) => Ok(Answer::Built(built)),
+        Err(PlanFault::Full) => Ok(Answer::Full),
+        Err(PlanFault::Tree(TreeFault::Read(ReadFault::Device))) => Ok(Answer::Unread),
+        Err(PlanFault::Tree(TreeFault::Damaged)) => Ok(Answer::Damaged),
+        Err(_) => bail!("out of memory"),
+    }
+}
+
+/// Lays the inode file of an empty tree in a block: inode 2 alone, a directory with mode 0755.
+fn lay_inodes(bytes: &mut [u8], block: usize) {
+    let record = block.saturating_mul(4096).saturating_add(256);
+    put(bytes, record, &[2, 0, 0xed, 1, 1]);
+}
+
+fn first_pointer(first: u32) -> Pointers {
+    let mut pointers = [0; 16];
+    pointers[0] = first;
+    Pointers::new(&pointers)
+}
+
+/// Whether a device has these bytes.
+fn has_bytes(device: &MemDevice, bytes: &[u8]) -> bool {
+    for (i, sector) in device.contents().iter().enumerate() {
+        if part(bytes, i.saturating_mul(512), 512) != sector.as_slice() {
+            return false;
+        }
+    }
+    true
+}
+
+impl Disk {
+    /// Of so many blocks, with an empty tree.
+    pub fn new(alloc: Global, blocks: u32) -> Result<Disk> {
+        let places = Places::new(blocks).context("no such disk")?;
+        let first = places.start(Area::Data);
+        let mut bytes = Vec::from_elem(alloc, 0, (blocks as usize).saturating_mul(4096))?;
+        let mut words = Vec::from_elem(alloc, 0, blocks as usize)?;
+        lay_inodes(&mut bytes, first as usize);
+        if let Some(word) = words.get_mut(first as usize) {
+            *word = 1;
+        }
+        let pointers = first_pointer(first);
+        Ok(Disk {
+            words,
+            bytes,
+            file: BlockTree {
+                size: 4096,
+                pointers,
+            },
+            places,
+        })
+    }
+
+    /// The first block of the data area.
+    pub fn first(&self) -> u32 {
+        self.places.start(Area::Data)
+    }
+
+    /// Builds the tree that is seen through an overlay, with these words in the map. Of the device's calls one fails,
+    /// if it isn't number 0. Whatever the answer, nothing is written.
+    pub fn build(
+        &self,
+        alloc: Global,
+        overlay: &Overlay,
+        words: &[u32],
+        failing: u64,
+    ) -> Result<Answer> {
+        let mut device = MemDevice::from_bytes(alloc, self.bytes.as_slice())?;
+        if failing > 0 {
+            device.fail_at(failing);
+        }
+        let mut blocks = Blocks::new(alloc, device).map_err(AllocError::from)?;
+        let answer = self.build_on(alloc, &mut blocks, overlay, words);
+        let device = blocks.into_device();
+        ensure!(has_bytes(&device, self.bytes.as_slice()), "a build writes");
+        answer
+    }
+
+    fn build_on(
+        &self,
+        alloc: Global,
+        blocks: &mut Blocks<MemDevice>,
+        overlay: &Overlay,
+        words: &[u32],
+    ) -> Result<Answer> {
+        let root = root_of(&self.file)?;
+        let map = map_of(alloc, self.places, words)?;
+        let changes = overlay.copy(alloc)?;
+        answer_of(build(alloc, blocks, self.places, &root, &map, changes))
+    }
+
+    /// Writes what was built.
+    pub fn write(&mut self, alloc: Global, built: &Built) -> Result<()> {
+        write_all(&mut self.bytes, built.blocks.as_slice());
+        self.words = Vec::from_slice(alloc, built.map.words())?;
+        self.file = built.inode_file;
+        Ok(())
+    }
+
+    /// Reads its tree.
+    pub fn read(&self, alloc: Global) -> Result<Image> {
+        let mut pointers = Vec::new(alloc);
+        for pointer in self.file.pointers.as_slice() {
+            pointers.extend_from_slice(&pointer.to_le_bytes())?;
+        }
+        read_image(
+            alloc,
+            self.bytes.as_slice(),
+            self.file.size,
+            pointers.as_slice(),
+        )
+    }
+}
+
+fn write_all(bytes: &mut [u8], blocks: &[NewBlock]) {
+    for block in blocks {
+        let at = (block.number as usize).saturating_mul(4096);
+        put(bytes, at, block.bytes.as_slice());
+    }
+}

@@ -1,0 +1,36 @@
+//! Whole trees that are built of drawn overlays, one over the other.
+//!
+//! A course begins with the empty tree of a new disk. `sn_drawn_trees` draws changes of the tree that was built last, as
+//! lists of nodes and names alone. `layering` has the overlay of all that differs, and of some that doesn't. `building`
+//! builds it by `sn_cp_build` and writes the new blocks, and `reading` reads the disk by docs/FORMAT.md, without the
+//! codecs. What is wanted of each build:
+//! - the disk has the tree that was drawn, each file counts its names, and bit 0 of the map is set for exactly the blocks
+//!   that are reached, none of them twice; the other bits stay;
+//! - the new blocks rise, were free, and are no more than the overlay needs;
+//! - on a disk with just so many free blocks as it took, and with as many as the overlay needs, it is built again of as
+//!   many, and with one less it is full;
+//! - each read of the device that fails is told, and the device is as it was.
+//!
+//! `runs` compares, and `seen` counts what came up. What is printed is compared with `stdout`. The arguments are a folder and how many trees are built, as in
+//!
+//! ```text
+//! rt run -- . 100
+//! ```
+#![tactic(auto)]
+
+mod building;
+mod layering;
+mod reading;
+mod runs;
+mod seen;
+
+use anyhow::{Context, Result};
+use sn_table::{Report, number_of};
+use std::env;
+
+fn main(rt: HostRuntime) -> Result<()> {
+    let mut report = Report::new(&rt)?;
+    let count = env::args(&rt)?.nth(2).context("no number of trees")?;
+    runs::run(&mut report, number_of(count.as_str())?)?;
+    report.end()
+}
