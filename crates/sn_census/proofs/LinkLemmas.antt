@@ -16,9 +16,9 @@ use Rattle.sn_image.specs.Sound.{IsLinked, IsReached, root, below, name_count}
 use Rattle.sn_image.proofs.PointLemmas.{used_in, in_numbers}
 use Rattle.sn_image.proofs.SoundNameLemmas.{counted, counted_twice, named_directory, one_link}
 use Rattle.sn_sound.specs.Faults.{IsLinkFault, apart, record_block}
-use Rattle.sn_census.specs.Climbs.{LeadsUp, parents_of}
+use Rattle.sn_census.specs.Climbs.{KeepsRows, LeadsUp, parents_of}
 use Rattle.sn_census.specs.Climbs as climb
-use Rattle.sn_census.specs.Counts.{AreCounted, kind_of, links_under}
+use Rattle.sn_census.specs.Counts.{AreCounted, HasFound, HasName, kind_of, links_under}
 use Rattle.sn_census.specs.Roots.{IsReadable}
 use Rattle.sn_census.specs.Rows.{links_of, row_at}
 use Rattle.sn_census.specs.declared.table.Row.{Row}
@@ -60,6 +60,13 @@ module _ (limits : Limits) (sectors : ℕ) (s : Store) (inodes : BlockTree) (rea
           let more : 2 ≤ name_count s inodes w.0.number = counted_twice s inodes (parents_of rows name.number) directory w.0 name w.2
           (λ is. other (ap (λ (l : TreeLink). l.directory) is)) w.1 among in
           omega (arith, more, ap (λ (n : ℕ). name_count s inodes n) w.2)
+
+  -- what was found is kept
+  pub found : (new : List Row) → KeepsRows rows new → HasFound s inodes new
+  found new kept = record {
+    names = λ number. (kept number).names ∙ names_are number;
+    parents = λ number some. subst (λ (d : ℕ). HasName s inodes d number) (sym (kept number).parent) ((all number).parent (omega (arith, some, names_are number)));
+  }
 
   -- ---- ways up and ways down
 

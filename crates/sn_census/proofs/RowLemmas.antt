@@ -1,11 +1,11 @@
 -- The rows of a census.
-use Rattle.std.proofs.Common.{◌≡◌, ◌≢◌, ⊎_elim, ℕ, ◌+◌, ◌<◌, ◌≤◌, List, length, set, sym, ap, ◌∙◌, arith}
+use Rattle.std.proofs.Common.{◌≡◌, ◌≢◌, ⊎_elim, ℕ, ◌+◌, ◌<◌, ◌≤◌, List, length, set, sym, ap, ◌∙◌, arith, refl, subst}
 use Rattle.std.proofs.lemmas.Bool.{cases_eq}
 use Rattle.std.proofs.lemmas.List.{get_or-set_same, get_or-set_other, get_or_past}
 use Rattle.sn_layout.specs.declared.tree.BlockTree.{BlockTree}
 use Rattle.sn_ondisk.specs.Trees.{Store}
 use Rattle.sn_image.specs.Inodes.{inode_at}
-use Rattle.sn_census.specs.Climbs.{KeepsKinds}
+use Rattle.sn_census.specs.Climbs.{KeepsRow, KeepsRows}
 use Rattle.sn_census.specs.Rows.{AreLoaded, Sets, row_at, row_of, unused_row}
 use Rattle.sn_census.specs.declared.table.Row.{Row}
 
@@ -18,10 +18,16 @@ row_set rows number row within = record {
 pub past_rows : (rows : List Row) (number : ℕ) → length rows ≡ 65536 → 65536 ≤ number → row_at rows number ≡ unused_row
 past_rows rows number size past = get_or_past rows number unused_row (omega (arith, size, past))
 
-pub kinds_kept : (number : ℕ) (row : Row) (old new : List Row) → Sets number row old new → row.kind ≡ (row_at old number).kind → KeepsKinds old new
-kinds_kept number row old new put kind n = ⊎_elim
-    (λ (same : n ≡ number). ap (λ (k : ℕ). (row_at new k).kind) same ∙ ap (λ (r : Row). r.kind) put.here ∙ kind ∙ ap (λ (k : ℕ). (row_at old k).kind) (sym same))
-    (λ (other : n ≢ number). ap (λ (r : Row). r.kind) (put.others n other))
+pub row_same : (row : Row) → KeepsRow row row
+row_same row = record { kind = refl; names = refl; parent = refl }
+
+pub kept_joined : (a b c : Row) → KeepsRow a b → KeepsRow b c → KeepsRow a c
+kept_joined a b c first second = record { kind = second.kind ∙ first.kind; names = second.names ∙ first.names; parent = second.parent ∙ first.parent }
+
+pub rows_kept : (number : ℕ) (row : Row) (old new : List Row) → Sets number row old new → KeepsRow (row_at old number) row → KeepsRows old new
+rows_kept number row old new put kept n = ⊎_elim
+    (λ (same : n ≡ number). subst (λ (k : ℕ). KeepsRow (row_at old k) (row_at new k)) (sym same) (subst (KeepsRow (row_at old number)) (sym put.here) kept))
+    (λ (other : n ≢ number). subst (KeepsRow (row_at old n)) (sym (put.others n other)) (row_same (row_at old n)))
     (cases_eq n number)
 
 module _ (s : Store) (inodes : BlockTree) where

@@ -23,6 +23,11 @@ pub record AreClimbed (parents : ℕ → ℕ) (end : ℕ) (rows : List Row) : Ty
   pub up : (number : ℕ) → (row_at rows number).climb ≢ 0 → LeadsUp parents number
   pub top : (row_at rows 2).climb ≢ 0
 
--- Each number has the kind that it had.
-abbrev pub KeepsKinds : List Row → List Row → Type 0
-KeepsKinds old new = (number : ℕ) → (row_at new number).kind ≡ (row_at old number).kind
+-- A row is as it was, but for the way that came through.
+pub record KeepsRow (old new : Row) : Type 0 where
+  pub kind : new.kind ≡ old.kind
+  pub names : new.names ≡ old.names
+  pub parent : new.parent ≡ old.parent
+
+abbrev pub KeepsRows : List Row → List Row → Type 0
+KeepsRows old new = (number : ℕ) → KeepsRow (row_at old number) (row_at new number)

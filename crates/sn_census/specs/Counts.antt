@@ -11,7 +11,8 @@ use Rattle.sn_image.specs.Inodes.{inode_at}
 use Rattle.sn_image.specs.Names.{names_at}
 use Rattle.sn_image.specs.Sound.{name_count}
 use Rattle.sn_sound.specs.Faults.{record_block}
-use Rattle.sn_census.specs.Rows.{links_of, row_at}
+use Rattle.sn_census.specs.Climbs.{parents_of}
+use Rattle.sn_census.specs.Rows.{links_of, names_found, row_at}
 use Rattle.sn_census.specs.declared.table.Row.{Row}
 
 -- how many of these names a number has
@@ -83,6 +84,11 @@ pub record IsCounted (s : Store) (inodes : BlockTree) (end number : ℕ) (row : 
 
 abbrev pub AreCounted : Store → BlockTree → ℕ → List Row → Type 0
 AreCounted s inodes end rows = (number : ℕ) → IsCounted s inodes end number (row_at rows number)
+
+-- All names are told: how many each number has, and a directory in which one is.
+pub record HasFound (s : Store) (inodes : BlockTree) (rows : List Row) : Type 0 where
+  pub names : (number : ℕ) → names_found rows number ≡ name_count s inodes number
+  pub parents : (number : ℕ) → 0 < name_count s inodes number → HasName s inodes (parents_of rows number) number
 
 -- a name of no bytes, for its number
 abbrev pub one_name : ℕ → Link

@@ -22,6 +22,10 @@ row_of number (Some inode) = record { kind = Some inode.kind; links = links_of n
 abbrev pub row_at : List Row → ℕ → Row
 row_at rows number = slice_index_or rows number unused_row
 
+-- how many names of a number were found
+abbrev pub names_found : List Row → ℕ → ℕ
+names_found rows number = (row_at rows number).names
+
 -- One row was set.
 pub record Sets (number : ℕ) (row : Row) (old new : List Row) : Type 0 where
   pub here : row_at new number ≡ row

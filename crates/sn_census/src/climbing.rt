@@ -1,7 +1,7 @@
 //! The way up from each directory.
 ghost use Rattle.std.specs.Prelude.{◌≡◌, ◌+◌, ◌<◌, ◌≤◌, ℕ, false, Some, IsTrue, IfNone, IfSome};
 ghost use Rattle.sn_limits.specs.declared.kind.Kind.TheVariants.{Directory};
-ghost use Rattle.sn_census.specs.Climbs.{AreClimbed, LeadsUp, AreUnclimbed, KeepsKinds, parents_of};
+ghost use Rattle.sn_census.specs.Climbs.{AreClimbed, LeadsUp, AreUnclimbed, KeepsRows, parents_of};
 ghost use Rattle.sn_census.specs.Rows.{row_at};
 
 use crate::table::{Census, NUMBERS, ROOT, Row};
@@ -13,7 +13,7 @@ fn climb(census: &mut Census, directory: u16) -> bool
     ensures climbed { (parents : ℕ → ℕ) → AreClimbed parents directory census.old → IsTrue result → AreClimbed parents (directory + 1) census.new }
     ensures up { (parents : ℕ → ℕ) → AreClimbed parents directory census.old → IsTrue result → LeadsUp parents directory }
     ensures apart { (parents : ℕ → ℕ) → AreClimbed parents directory census.old → result ≡ false → LeadsUp parents directory → ⊥ }
-    ensures kinds { KeepsKinds census.old census.new }
+    ensures kept { KeepsRows census.old census.new }
 {
     let mut at = directory;
     'steps: while census.row(at).climb == 0 {
@@ -33,7 +33,7 @@ fn climb(census: &mut Census, directory: u16) -> bool
 // Says that the way up ends at the root directory.
 fn begin(census: &mut Census)
     ensures climbed { AreUnclimbed census.old → AreClimbed (parents_of census.old) 3 census.new }
-    ensures kinds { KeepsKinds census.old census.new }
+    ensures kept { KeepsRows census.old census.new }
 {
     let row = census.row(ROOT);
     census.set_row(ROOT, Row { climb: ROOT, ..row });
@@ -46,7 +46,7 @@ fn leads_up(census: &mut Census, number: u16) -> bool
     ensures up { (parents : ℕ → ℕ) → AreClimbed parents number census.old → (row_at census.old number).kind ≡ Some Directory → IsTrue result → LeadsUp parents number }
     ensures apart { (parents : ℕ → ℕ) → AreClimbed parents number census.old → result ≡ false → LeadsUp parents number → ⊥ }
     ensures directory { result ≡ false → (row_at census.old number).kind ≡ Some Directory }
-    ensures kinds { KeepsKinds census.old census.new }
+    ensures kept { KeepsRows census.old census.new }
 {
     if !census.row(number).is_directory() {
         return true;
@@ -60,6 +60,7 @@ pub(crate) fn first_apart(census: &mut Census) -> Option<u16>
         → (row_at census.old directory).kind ≡ Some Directory → LeadsUp (parents_of census.old) directory) }
     ensures some { AreUnclimbed census.old → IfSome result (λ directory. LeadsUp (parents_of census.old) directory → ⊥) }
     ensures directory { IfSome result (λ directory. (row_at census.old directory).kind ≡ Some Directory) }
+    ensures kept { KeepsRows census.old census.new }
 {
     begin(census);
     for number in 3..NUMBERS {

@@ -5,7 +5,7 @@ ghost use Rattle.sn_block.specs.Lending.{device_of};
 ghost use Rattle.sn_ondisk.specs.Trees.{store_of};
 ghost use Rattle.sn_image.specs.Sound.{IsLinked};
 ghost use Rattle.sn_marks.specs.Fault.{CountsCheck, Tells};
-ghost use Rattle.sn_census.specs.Counts.{AreCounted};
+ghost use Rattle.sn_census.specs.Counts.{AreCounted, HasFound};
 ghost use Rattle.sn_census.specs.Faults.{StandsInLinks};
 ghost use Rattle.sn_census.specs.Roots.{IsChecked, IsReadable};
 ghost use Rattle.sn_census.specs.Rows.{row_at};
@@ -45,6 +45,7 @@ fn test_reached<D: Device>(
         (store_of (reads (D.disk (device_of blocks.old)))) file.now (file.now.size / 128) census.old }
     requires full { (number : ℕ) → number < 65536 → (row_at census.old number).names ≡ (row_at census.old number).links }
     ensures linked { IsTrue D.tells_bytes → OnOk result (IsLinked (store_of (reads (D.disk (device_of blocks.old)))) file.now) }
+    ensures found { IsTrue D.tells_bytes → OnOk result (HasFound (store_of (reads (D.disk (device_of blocks.old)))) file.now census.new) }
     ensures fault { IsTrue D.tells_bytes → IfErr result (λ fault. Tells fault
         (StandsInLinks (store_of (reads (D.disk (device_of blocks.old)))) file.now body)) }
     ensures same { IsTrue D.tells_bytes → D.disk (device_of blocks.new) ≡ D.disk (device_of blocks.old) }
@@ -70,6 +71,7 @@ fn test_counted<D: Device>(
     requires counted { IsTrue D.tells_bytes → AreCounted
         (store_of (reads (D.disk (device_of blocks.old)))) file.now (file.now.size / 128) census.old }
     ensures linked { IsTrue D.tells_bytes → OnOk result (IsLinked (store_of (reads (D.disk (device_of blocks.old)))) file.now) }
+    ensures found { IsTrue D.tells_bytes → OnOk result (HasFound (store_of (reads (D.disk (device_of blocks.old)))) file.now census.new) }
     ensures fault { IsTrue D.tells_bytes → IfErr result (λ fault. Tells fault
         (StandsInLinks (store_of (reads (D.disk (device_of blocks.old)))) file.now body)) }
     ensures same { IsTrue D.tells_bytes → D.disk (device_of blocks.new) ≡ D.disk (device_of blocks.old) }
@@ -85,7 +87,7 @@ fn test_counted<D: Device>(
 /// inodes say. `body` is the block of the root body. At `Ok` the root is linked, and so sound. What is told
 /// otherwise stands: a name of an unused number, told of the block of its directory, or, told of the block
 /// of its record, a number with too many or too few names, or a directory that isn't reached from the root.
-/// Whatever the census counted before, it counts anew.
+/// At `Ok` the census tells the names of each number. Whatever the census counted before, it counts anew.
 pub fn count_links<D: Device>(
     census: &mut Census,
     blocks: &mut Blocks<D>,
@@ -96,6 +98,7 @@ pub fn count_links<D: Device>(
     requires checked { IsTrue D.tells_bytes → IsChecked limits.now (D.status (device_of blocks.old)).sectors
         (store_of (reads (D.disk (device_of blocks.old)))) file.now }
     ensures linked { IsTrue D.tells_bytes → OnOk result (IsLinked (store_of (reads (D.disk (device_of blocks.old)))) file.now) }
+    ensures found { IsTrue D.tells_bytes → OnOk result (HasFound (store_of (reads (D.disk (device_of blocks.old)))) file.now census.new) }
     ensures fault { IsTrue D.tells_bytes → IfErr result (λ fault. Tells fault
         (StandsInLinks (store_of (reads (D.disk (device_of blocks.old)))) file.now body)) }
     ensures same { IsTrue D.tells_bytes → D.disk (device_of blocks.new) ≡ D.disk (device_of blocks.old) }

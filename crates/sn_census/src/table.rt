@@ -1,7 +1,8 @@
 //! The table of a census.
 ghost use Rattle.std.specs.Prelude.{◌≡◌, ◌≢◌, ◌↔◌, ◌<◌, ◌≤◌, ℕ, List, length, replicate, vec_len, slice_set, Some, IsTrue, IfOk};
 ghost use Rattle.sn_limits.specs.declared.kind.Kind.TheVariants.{Directory};
-ghost use Rattle.sn_census.specs.Rows.{Sets, row_at, row_of, unused_row};
+ghost use Rattle.sn_census.specs.Climbs.{parents_of};
+ghost use Rattle.sn_census.specs.Rows.{Sets, names_found, row_at, row_of, unused_row};
 ghost use Rattle.sn_census.specs.declared.table.Row.{Row as TheRow};
 
 use sn_layout_node::Inode;
@@ -95,6 +96,20 @@ impl Census {
         Ok(Census {
             rows: Vec::from_elem(alloc, Row::unused(), NUMBERS as usize)?,
         })
+    }
+
+    /// How many names of a number were found. Once a root was counted, that is how many it has.
+    pub fn names(&self, number: u16) -> u16
+        ensures { result ≡ names_found self.now number }
+    {
+        self.row(number).names
+    }
+
+    /// The directory in which the last name of a number was found. Of one without names it says nothing.
+    pub fn parent(&self, number: u16) -> u16
+        ensures { result ≡ parents_of self.now number }
+    {
+        self.row(number).parent
     }
 
     // The row of a number.

@@ -1,18 +1,19 @@
 //! A whole consistency point of a mount's live tree, from what changed since its root to the next root that counts.
 //!
-//! The model. `sn_cp_held` says when a mounted file system is ready for a point (`RunsReady`), what a point of its live
-//! tree is, and what a whole one leaves. A [`PointBase`] is what is kept for that beside log and room: the root that counts, its map, and
-//! the overlay of what changed since. [`make_point`] builds the live tree over them in memory, begins the point, and makes all its steps in a
-//! row; then the base is that of the next root, nothing is charged, and the log goes on empty.
+//! The model. `sn_cp_held` says when a mounted file system is ready for a point (`RunsReady`), what a point of its
+//! live tree is, and what a whole one leaves. A [`PointBase`] is what is kept for that beside log and room: the root
+//! that counts, its map, and the overlay of what changed since. [`make_point`] builds the live tree over them in
+//! memory, begins the point, and makes all its steps in a row; then the base is that of the next root, nothing is
+//! charged, and the log goes on empty.
 //!
 //! What its clauses say, those on bytes of each device that tells them:
-//! - Whatever the answer, a crash at any moment leaves an image of the settled world. At `Ok` the mount runs on over the next root, and is
-//!   ready for another point.
-//! - All that may be refused comes before the first write: memory, a read that fails, an age that none follows. Then nothing has changed.
-//!   After a failure of the device while it writes nothing may be written before the next mount.
+//! - Whatever the answer, a crash at any moment leaves an image of the settled world. At `Ok` the mount runs on over
+//!   the next root, and is ready for another point.
+//! - All that may be refused comes before the first write: memory, a read that fails, an age that none follows. Then
+//!   nothing has changed. After a failure of the device while it writes nothing may be written before the next mount.
 //!
-//! The way through: `base` has what is kept; `planning` what is built of it, with the root that follows; `making` the point. `specs/Making.antt`
-//! says what it makes of a mount.
+//! The way through: `base` has what is kept; `planning` what is built of it, with the root that follows; `making` the
+//! point. `specs/Making.antt` says what it makes of a mount.
 //!
 //! What the sources leave open is decided in `docs/DECISIONS.md`, under "Steps of a consistency point".
 //!

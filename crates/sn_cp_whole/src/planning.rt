@@ -27,8 +27,8 @@ use sn_tree::{NewBlock, PlanFault};
 use sn_tree_read::TreeFault;
 use std::alloc::Global;
 
-/// All that a point needs before it begins: the root that follows, what was built of the live tree, the gate of the slot that is replaced,
-/// and the overlay that comes behind the point.
+/// All that a point needs before it begins: the root that follows, what was built of the live tree, the gate of the
+/// slot that is replaced, and the overlay that comes behind the point.
 #[derive(Drop)]
 pub(crate) struct Planned {
     pub next: RootBody,
@@ -152,8 +152,8 @@ fn empty_overlay(alloc: Global, drops: u16) -> Result<Overlay, PointFault>
     }
 }
 
-/// Reads the gate of the slot that is replaced, and last the one with which the point of an epoch begins: so what can't be read is met
-/// before the first write.
+/// Reads the gate of the slot that is replaced, and last the one with which the point of an epoch begins: so what
+/// can't be read is met before the first write.
 fn read_ahead<D: Device>(
     blocks: &mut Blocks<D>,
     places: Places,

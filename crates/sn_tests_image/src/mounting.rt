@@ -62,7 +62,8 @@ pub fn mounted(alloc: Global, device: MemDevice) -> Result<Result<FoundWorld, Mo
     }
 }
 
-fn changed(alloc: Global, case: Case<'_>) -> Result<MemDevice> {
+/// A disk of BLOCKS blocks, formatted, with runs AT:HEX written over it.
+pub fn changed(alloc: Global, case: Case<'_>) -> Result<MemDevice> {
     let mut words = case.text().split_ascii_whitespace();
     let blocks = number(words.next())?;
     ensure!(blocks < 65_536, "too many blocks");

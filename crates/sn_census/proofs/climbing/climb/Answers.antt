@@ -2,11 +2,11 @@ use Rattle.std.proofs.Common.{◌≡◌, refl, sym, ap, ◌∙◌}
 use Rattle.sn_census.specs.Rows.{row_at}
 use Rattle.sn_census.specs.declared.table.Row.{Row}
 use Rattle.sn_census.proofs.ClimbLemmas.{apart_told, climbing_begun, climbing_more, climbed_apart, climbed_more, climbed_up, same_told}
-use Rattle.sn_census.proofs.RowLemmas.{kinds_kept}
+use Rattle.sn_census.proofs.RowLemmas.{kept_joined, row_same, rows_kept}
 use Rattle.sn_census.proofs.climbing.climb.Goals as goal
 
 pub steps-init : goal.steps-init
-steps-init c = record { way = λ parents climbed. climbing_begun parents c.args.directory c.args.census.now climbed; kinds = λ number. refl }
+steps-init c = record { way = λ parents climbed. climbing_begun parents c.args.directory c.args.census.now climbed; kept = λ number. row_same (row_at c.args.census.now number) }
 
 pub steps-preserved : goal.steps-preserved
 steps-preserved c =
@@ -16,7 +16,9 @@ steps-preserved c =
       way = λ parents climbed.
           climbing_more parents c.args.directory c.steps.at c.row-row.result.parent c.steps.census c.set_row.new.self _ c.set_row.ensures.set refl (ap (λ (r : Row). r.parent) row) (ap (λ (r : Row). r.parent) row) fresh
           (c.steps.invariant.way parents climbed);
-      kinds = λ number. kinds_kept c.steps.at _ c.steps.census c.set_row.new.self c.set_row.ensures.set (ap (λ (r : Row). r.kind) row) number ∙ c.steps.invariant.kinds number;
+      kept = λ number.
+          kept_joined _ _ _ (c.steps.invariant.kept number)
+          (rows_kept c.steps.at _ c.steps.census c.set_row.new.self c.set_row.ensures.set (record { kind = ap (λ (r : Row). r.kind) row; names = ap (λ (r : Row). r.names) row; parent = ap (λ (r : Row). r.parent) row }) number);
     }
 
 pub returns-clause-climbed : goal.returns-clause-climbed

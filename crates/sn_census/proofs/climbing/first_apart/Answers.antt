@@ -2,10 +2,11 @@ use Rattle.std.proofs.Common.{◌≡◌, ◌≢◌, ⊎_elim, ℕ, sym, ap, subs
 use Rattle.std.proofs.lemmas.Bool.{cases_eq}
 use Rattle.sn_census.specs.Climbs.{LeadsUp, parents_of}
 use Rattle.sn_census.specs.Rows.{row_at}
+use Rattle.sn_census.proofs.RowLemmas.{kept_joined}
 use Rattle.sn_census.proofs.climbing.first_apart.Goals as goal
 
 pub loop-number-init : goal.loop-number-init
-loop-number-init c = record { climbed = λ none. c.begin.ensures.climbed none; up = λ none directory above under kind. absurd (omega (arith, above, under)); kinds = c.begin.ensures.kinds }
+loop-number-init c = record { climbed = λ none. c.begin.ensures.climbed none; up = λ none directory above under kind. absurd (omega (arith, above, under)); kept = c.begin.ensures.kept }
 
 pub loop-number-preserved : goal.loop-number-preserved
 loop-number-preserved c = record {
@@ -14,8 +15,11 @@ loop-number-preserved c = record {
       (λ (same : directory ≡ c.loop-number.number).
       subst (LeadsUp (parents_of c.args.census.now)) (sym same)
       (c.leads_up.ensures.up (parents_of c.args.census.now) (c.loop-number.invariant.climbed none)
-      (c.loop-number.invariant.kinds c.loop-number.number ∙ ap (λ (n : ℕ). (row_at c.args.census.now n).kind) (sym same) ∙ kind) c.if-not-leads_up.false))
+      ((c.loop-number.invariant.kept c.loop-number.number).kind ∙ ap (λ (n : ℕ). (row_at c.args.census.now n).kind) (sym same) ∙ kind) c.if-not-leads_up.false))
       (λ (other : directory ≢ c.loop-number.number). c.loop-number.invariant.up none directory above (omega (arith, under, other)) kind)
       (cases_eq directory c.loop-number.number);
-  kinds = λ number. c.leads_up.ensures.kinds number ∙ c.loop-number.invariant.kinds number;
+  kept = λ number. kept_joined _ _ _ (c.loop-number.invariant.kept number) (c.leads_up.ensures.kept number);
 }
+
+pub returns-then-not-leads_up-clause-kept : goal.returns-then-not-leads_up-clause-kept
+returns-then-not-leads_up-clause-kept c = λ number. kept_joined _ _ _ (c.loop-number.invariant.kept number) (c.leads_up.ensures.kept number)

@@ -7,7 +7,7 @@ use Rattle.sn_image.specs.Sound.{IsLinked}
 use Rattle.sn_marks.specs.Fault.{Tells}
 use Rattle.sn_marks.proofs.WalkLemmas.{tells_weaker, told_weaker}
 use Rattle.sn_check_root.proofs.DeviceLemmas.{stays_one, stays_more, at_start, at_now}
-use Rattle.sn_census.specs.Counts.{AreCounted}
+use Rattle.sn_census.specs.Counts.{AreCounted, HasFound}
 use Rattle.sn_census.specs.Faults.{StandsInLinks}
 use Rattle.sn_census.specs.Roots.{IsReadable}
 use Rattle.sn_census.proofs.ReadLemmas.{readable}
@@ -76,3 +76,10 @@ returns-clause-fault g c told =
     told_weaker c.test_counted.result (StandsInLinks r c.args.file.now c.args.body) (StandsInLinks s c.args.file.now c.args.body)
     (λ damage block stands. subst (λ (q : Store). StandsInLinks q c.args.file.now c.args.body damage block) same stands)
     (c.test_counted.ensures.fault told)
+
+pub returns-clause-found : goal.returns-clause-found
+returns-clause-found g c told =
+    let s = store_of (reads (g.D.Device.disk (device_of c.args.blocks.now))) in
+    let r = store_of (reads (g.D.Device.disk (device_of c.count_names.new.blocks))) in
+    let same : r ≡ s = ap (λ (d : Disk). store_of (reads d)) (c.count_names.ensures.same told ∙ c.load_rows.ensures.same told) in
+    on_ok_weaker c.test_counted.result (λ (is : HasFound r c.args.file.now c.test_counted.new.census). subst (λ (q : Store). HasFound q c.args.file.now c.test_counted.new.census) same is) (c.test_counted.ensures.found told)

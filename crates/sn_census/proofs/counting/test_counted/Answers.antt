@@ -25,3 +25,6 @@ returns-in-Some-clause-fault g c told =
     told_weaker c.record_fault.result (IsAt (record_block s c.args.file.now c.args.body c.in-Some.number)) (StandsInLinks s c.args.file.now c.args.body)
     (λ damage block at. at_stands s c.args.file.now c.args.body _ damage block stands at)
     (c.record_fault.ensures.fault told)
+
+pub returns-in-Some-clause-found : goal.returns-in-Some-clause-found
+returns-in-Some-clause-found g c told = never_ok _ c.record_fault.result c.record_fault.ensures.never

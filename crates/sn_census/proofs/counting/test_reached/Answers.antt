@@ -5,7 +5,7 @@ use Rattle.sn_sound.specs.Faults.{record_block}
 use Rattle.sn_marks.proofs.WalkLemmas.{told_weaker}
 use Rattle.sn_census.specs.Faults.{IsAt, StandsInLinks}
 use Rattle.sn_census.proofs.FaultLemmas.{at_stands, never_ok}
-use Rattle.sn_census.proofs.LinkLemmas.{apart_stands, linked}
+use Rattle.sn_census.proofs.LinkLemmas.{apart_stands, found, linked}
 use Rattle.sn_census.proofs.counting.test_reached.Goals as goal
 
 pub record_fault-requires : goal.record_fault-requires
@@ -29,3 +29,12 @@ returns-in-None-clause-linked g c told =
     let s = store_of (reads (g.D.Device.disk (device_of c.args.blocks.now))) in
     let n = (g.D.Device.status (device_of c.args.blocks.now)).sectors in
     linked c.args.limits.now n s c.args.file.now (c.requires.readable told) c.args.census.now (c.requires.counted told) c.requires.full (c.in-None.ensures.none (λ number. (c.requires.counted told number).climb))
+
+pub returns-in-Some-clause-found : goal.returns-in-Some-clause-found
+returns-in-Some-clause-found g c told = never_ok _ c.record_fault.result c.record_fault.ensures.never
+
+pub returns-in-None-clause-found : goal.returns-in-None-clause-found
+returns-in-None-clause-found g c told =
+    let s = store_of (reads (g.D.Device.disk (device_of c.args.blocks.now))) in
+    let n = (g.D.Device.status (device_of c.args.blocks.now)).sectors in
+    found c.args.limits.now n s c.args.file.now (c.requires.readable told) c.args.census.now (c.requires.counted told) c.first_apart.new.census c.first_apart.ensures.kept
