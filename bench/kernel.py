@@ -32,7 +32,7 @@ What isn't compared, since it is this project's own rule:
 - to move a directory takes write to itself there, for its `..`, and hard links and files in directories with S_ISVTX
   may be guarded (`fs.protected_hardlinks`, `fs.protected_regular`). Such a move or link is made by user 0 then, and what
   is there is opened without O_CREAT;
-- `/.snapshot`, a full log, and memory: scripts that come to these differ.
+- `/.snapshot`, a full disk, and memory: scripts that come to these differ.
 """
 
 import errno

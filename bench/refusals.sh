@@ -57,7 +57,8 @@ void *calloc(size_t n, size_t size) { return refuses() ? NULL : __libc_calloc(n,
 C
 gcc -O1 -shared -fPIC -o "$work/refuse.so" "$work/refuse.c" -ldl
 
-# Each mkdir stands twice, so that the second one tells whether the first was done.
+# Each mkdir stands twice, so that the second one tells whether the first was done. The last one doesn't fit on the image, so
+# that a consistency point comes first.
 cat > "$work/script" <<'S'
 0 login 0 0 -
 0 mkdir /a 0777
@@ -75,6 +76,13 @@ cat > "$work/script" <<'S'
 0 mkdir /a/a-name-that-is-longer-than-most-names-are 0755
 0 mkdir /a/a-name-that-is-longer-than-most-names-are 0755
 0 stat /a/a-name-that-is-longer-than-most-names-are
+0 mkdir /d 0700
+0 mkdir /d 0700
+0 mkdir /e 0700
+0 mkdir /e 0700
+0 mkdir /e/f 0700
+0 mkdir /e/f 0700
+0 stat /e/f
 S
 fresh() { cp "$work/fresh" "$work/image"; }
 fresh

@@ -4,6 +4,8 @@ use Rattle.std.specs.FinMap as map
 use Rattle.sn_limits.specs.Versions.{version_1}
 use Rattle.sn_model.specs.declared.call.Event.{Event}
 use Rattle.sn_model.specs.declared.call.Event.TheVariants.{Call, Step, Restart}
+use Rattle.sn_model.specs.declared.change.Change.{Change}
+use Rattle.sn_model.specs.declared.change.Change.TheVariants.{Make, AddLink, Remove, Rename, Write, SetSize, SetAttributes}
 use Rattle.sn_model.specs.Settling.{is_held}
 use Rattle.sn_model.specs.World.{World}
 use Rattle.sn_numbers.specs.Numbers.{next_number}
@@ -12,6 +14,16 @@ use Rattle.sn_numbers.specs.Numbers.{next_number}
 pub record GivesOut (old new : World) (number : ℕ) : Type 0 where
   pub unused : map.get old.live.nodes number ≡ None
   pub used : is_some (map.get new.live.nodes number) ≡ true
+
+-- a change gives a new node a number that is kept back
+abbrev pub gives_kept : Change → (ℕ → Bool) → Bool
+gives_kept (Make directory name number kind o) kept = kept number
+gives_kept (AddLink directory name number) kept = false
+gives_kept (Remove directory name) kept = false
+gives_kept (Rename old_directory old_name new_directory new_name) kept = false
+gives_kept (Write number offset bytes) kept = false
+gives_kept (SetSize number size) kept = false
+gives_kept (SetAttributes number o) kept = false
 
 -- a new node has the least number that no node has and that isn't kept back, or where there is no other the least that no node has
 abbrev pub TakesNext : World → (ℕ → Bool) → World → Type 0

@@ -1,6 +1,8 @@
 ghost use Rattle.std.specs.Prelude.{◌≡◌};
+ghost use Rattle.std.specs.FinMap as map;
 ghost use Rattle.sn_limits.specs.Versions.{version_1};
 ghost use Rattle.sn_model.specs.Charges.{charge_for};
+ghost use Rattle.sn_model.specs.Settling.{is_nameless};
 ghost use Rattle.sn_overlay.specs.Needs.{nameless_in};
 
 use crate::world::PlainWorld;
@@ -22,5 +24,12 @@ impl PlainWorld {
         ensures { result ≡ nameless_in (world_of self.now).live }
     {
         self.tree.tree().nameless()
+    }
+
+    /// Whether a number is that of a live file that no name stands for.
+    pub fn is_nameless(&self, number: u16) -> bool
+        ensures { result ≡ is_nameless (world_of self.now).live number (map.get (world_of self.now).live.nodes number) }
+    {
+        self.tree.tree().is_nameless(number)
     }
 }

@@ -7,7 +7,8 @@
 //! most of it by `sn_core_decide` and `sn_core_names` over the tree as `view` shows it; `choosing` fills in a new node's number; the tree makes the
 //! change; and `calling` sets what becomes of the session and its descriptors, and drops a file that nobody has
 //! and no name stands for, and tells which went. `charging` tells what a change is charged, and how many live files
-//! have no name; `overlaying` gives what a change makes different, for whoever keeps what changed since a root.
+//! have no name; `numbering` whether a number was kept back, until a consistency point; `overlaying` gives what a change
+//! makes different, for whoever keeps what changed since a root.
 //! `specs/Plain` says which world this stands for.
 //!
 //! What the sources leave open is decided in `docs/DECISIONS.md`, under "The tree in memory".
@@ -24,6 +25,7 @@ mod deciding;
 mod deciding_files;
 mod deciding_names;
 mod error;
+mod numbering;
 mod overlaying;
 mod plain;
 mod view;

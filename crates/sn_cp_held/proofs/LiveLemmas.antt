@@ -45,7 +45,7 @@ use Rattle.sn_sound.specs.Maps.{IsSoundRoot, Rooted, free_blocks, frozen_root}
 use Rattle.sn_sound.proofs.FreeLemmas.{free_counted, words_counted}
 use Rattle.sn_sound.proofs.ReachLemmas.{sound_depends}
 use Rattle.sn_sound.proofs.StandingLemmas.{first_among}
-use Rattle.sn_held.specs.Held.{Held, Runs}
+use Rattle.sn_held.specs.Held.{Held, Kept, Runs, RunsReady}
 use Rattle.sn_held.specs.Room.{IsCharged}
 use Rattle.sn_cp.specs.Steps.{IsWhole}
 use Rattle.sn_cp_nodes.specs.Built.{IsGround}
@@ -53,7 +53,7 @@ use Rattle.sn_cp_build.specs.Bits.{TellsBlocks}
 use Rattle.sn_cp_build.specs.Building.{Builds}
 use Rattle.sn_cp_build.specs.declared.building.Built.{Built}
 use Rattle.sn_cp_held.specs.Builds.{CanBeBuilt, IsBuiltOf, IsOfBuild, plan_of, room_behind, work_for}
-use Rattle.sn_cp_held.specs.Wholes.{IsOfLive, Kept, RunsReady, StandsKept}
+use Rattle.sn_cp_held.specs.Wholes.{IsOfLive, StandsKept}
 use Rattle.sn_cp_held.proofs.BuildLemmas.{builds_are_built, builds_are_sound, frozen_reach, live_reached}
 use Rattle.sn_cp_held.proofs.RoomLemmas.{builds_leave_room}
 

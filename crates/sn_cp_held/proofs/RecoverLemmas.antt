@@ -40,11 +40,12 @@ use Rattle.sn_overlay.specs.Needs.{nameless_in}
 use Rattle.sn_root.specs.Replacing.{LeavesEither}
 use Rattle.sn_root.specs.declared.following.PointKind.TheVariants.{Recovery}
 use Rattle.sn_sound.specs.Charges.{Fits, charges_from}
-use Rattle.sn_sound.specs.Logs.{HasAgeLeft}
+use Rattle.sn_sound.specs.Logs.{HasAgeLeft, IsToRecover}
 use Rattle.sn_sound.specs.Maps.{IsSoundRoot, free_blocks}
 use Rattle.sn_sound.proofs.StandingLemmas.{lies_in_data}
 use Rattle.sn_held.specs.Images.{IsImage}
 use Rattle.sn_held.proofs.HeldLemmas.{each_half, image_shown}
+use Rattle.sn_held.proofs.RoomLemmas.{settled_has_none}
 use Rattle.sn_cp.specs.Points.{Work}
 use Rattle.sn_cp.specs.Showing.{Finishes, HasRecords, InAround, InPoint, ShowsBeside, ShowsNext}
 use Rattle.sn_cp.specs.Steps.{IsWhole, StandsAtStage}
@@ -54,7 +55,8 @@ use Rattle.sn_cp.proofs.NextLemmas.{frozen_stay}
 use Rattle.sn_cp_build.specs.declared.building.Built.{Built}
 use Rattle.sn_cp_held.specs.Builds.{IsBuiltOf, plan_of, work_for}
 use Rattle.sn_cp_held.specs.Recovering.{HasReplayed, IsRecovered}
-use Rattle.sn_cp_held.specs.Wholes.{Kept, StandsKept}
+use Rattle.sn_held.specs.Held.{Kept}
+use Rattle.sn_cp_held.specs.Wholes.{StandsKept}
 use Rattle.sn_cp_held.proofs.LiveLemmas.{made, new_tree, sound_next, whole_work}
 use Rattle.sn_cp_held.proofs.LiveLemmas as live
 use Rattle.sn_cp_held.proofs.WholeLemmas.{later_weaker, no_later_depends}
@@ -120,8 +122,8 @@ module _ (old new : Disk) (world : World) (im : IsImage (reads old) world) (k : 
   all_fits : Fits k.root.limits (older ++ newer) (image s k.root.inode_file) (free_blocks n s k.root)
   all_fits = subst (λ (b : RootBody). Fits b.limits (older ++ newer) (image s b.inode_file) (free_blocks n s b)) (sym r.root) im.fits
 
-  age : HasAgeLeft k.root
-  age = subst HasAgeLeft (sym r.root) im.age
+  age : IsToRecover (older ++ newer) (image s k.root.inode_file) → HasAgeLeft k.root
+  age = subst (λ (b : RootBody). IsToRecover (older ++ newer) (image s b.inode_file) → HasAgeLeft b) (sym r.root) im.age
 
   none_later : (epoch : ℕ) → HasNoLater (reads old) (base_of n epoch) (k.root.epoch + 1)
   none_later epoch = subst (λ (b : RootBody). HasNoLater (reads old) (base_of n epoch) (b.epoch + 1)) (sym r.root) (im.none_later epoch)
@@ -181,6 +183,10 @@ module _ (old new : Disk) (world : World) (im : IsImage (reads old) world) (k : 
         settles = stands.settles ∙ (λ i. record { live = (sym (ap (λ (y : World). y.live) stands.settles) ∙ live_is) i; frozen = (sym (ap (λ (y : World). y.frozen) stands.settles) ∙ frozen_is) i; sessions = replicate 64 None; descriptors = map.empty });
       }
 
+      nothing_left : IsToRecover [] (image t next.inode_file) → ⊥
+      nothing_left (inl some) = some refl
+      nothing_left (inr some) = some (ap nameless_in (tree_is ∙ live_is) ∙ settled_has_none (image t next.inode_file))
+
       next_fits : Fits next.limits [] (image t next.inode_file) (free_blocks n t next)
       next_fits =
           let charged = live.charged n (reads old) world k replayed_stands Recovery built next x t same holds in
@@ -221,7 +227,7 @@ module _ (old new : Disk) (world : World) (im : IsImage (reads old) world) (k : 
         sound = sound_next n (reads old) world k replayed_stands Recovery built next x (store_of c) shows.same shows.blocks;
         none_later = none_after c a;
         fits = next_fits (store_of c) shows.same shows.blocks;
-        age = x.age;
+        age = λ recovers. absurd (nothing_left (store_of c) shows.same shows.blocks recovers);
       }
 
       pub recovery_leaves : LeavesOnly old new (λ c. IsImage c world)
@@ -233,8 +239,10 @@ module _ (old new : Disk) (world : World) (im : IsImage (reads old) world) (k : 
       recovered_on : StandsAtStage w Done new → Always new (ShowsNext w s k.root [] []) → IsRecovered new world w
       recovered_on done shows =
           let a = Always-reads new (Around n k.slot k.words k.root.epoch) whole (LeavesOnly-now old new (Around n k.slot k.words k.root.epoch) around_stays) in
+          let now = Always-reads new (ShowsNext w s k.root [] []) whole shows in
           record {
-            image = next_image (reads new) a (Always-reads new (ShowsNext w s k.root [] []) whole shows);
+            live = tree_is (store_of (reads new)) now.same now.blocks;
+            image = next_image (reads new) a now;
             blocks = refl;
             slot = refl;
             root = refl;

@@ -39,9 +39,10 @@ use Rattle.sn_opening.specs.Worlds.{StandsFor, all_reach, frozen_of}
 use Rattle.sn_root.specs.Replacing.{LeavesEither}
 use Rattle.sn_room.specs.Rooms.{RoomCounts}
 use Rattle.sn_sound.specs.Charges.{Fits, charges_from}
+use Rattle.sn_sound.specs.Logs.{HasAgeLeft, IsToRecover}
 use Rattle.sn_sound.specs.Maps.{free_blocks}
 use Rattle.sn_sound.proofs.StandingLemmas.{lies_in_data}
-use Rattle.sn_held.specs.Held.{Held, Runs}
+use Rattle.sn_held.specs.Held.{Held, IsBetween, IsReady, Kept, Runs, RunsReady}
 use Rattle.sn_held.specs.Images.{IsImage}
 use Rattle.sn_held.proofs.EventLemmas.{disk_always, fits_now, stands_for, stands_of}
 use Rattle.sn_held.proofs.HeldLemmas.{Rests, each_half, image_shown, ready_no_later, rests_stay}
@@ -53,7 +54,7 @@ use Rattle.sn_cp.specs.declared.stage.Stage.TheVariants.{Done}
 use Rattle.sn_cp.proofs.AroundLemmas.{stays_apart}
 use Rattle.sn_cp.proofs.NextLemmas.{done_points_stand, frozen_stay}
 use Rattle.sn_cp.proofs.ShowLemmas.{ordinary_show}
-use Rattle.sn_cp_held.specs.Wholes.{HasBegun, IsBetween, IsOfLive, IsReady, Kept, RunsReady, StandsAround, behind_point, kept_behind}
+use Rattle.sn_cp_held.specs.Wholes.{HasBegun, IsOfLive, StandsAround, behind_point, kept_behind}
 
 -- ---- what no step touches
 
@@ -101,7 +102,7 @@ module _ (h : Held) (world : World) (r : Runs h world) where
       image_shown n r.store r.slot r.root r.words r.older [] (settle world) r.older_spelled (subst AreSpelled none_newer r.newer_spelled) r.stands.sound
       (subst (λ (ns : List Change). StandsFor r.store r.root (r.older ++ ns) (settle world)) none_newer (stands_for h world r))
       (subst (λ (ns : List Change). Fits r.root.limits (r.older ++ ns) (image r.store r.root.inode_file) (free_blocks n r.store r.root)) none_newer (fits_now h world r))
-      r.age
+      (subst (λ (ns : List Change). IsToRecover (r.older ++ ns) (image r.store r.root.inode_file) → HasAgeLeft r.root) none_newer r.age)
 
   -- ---- the beginning
 
@@ -223,7 +224,7 @@ module _ (h : Held) (world : World) (r : Runs h world) where
       next_image : (c : Contents) → StandsAround n r.slot r.words r.root.epoch c → ShowsNext w r.store r.root [] [] c → IsImage c (settle world)
       next_image c around next =
           image_shown n (store_of c) w.slot w.plan.next w.plan.words [] [] (settle world) tt tt (of.sound (store_of c) next.same next.blocks)
-          (next_stands (store_of c) next.same next.blocks) (next_fits (store_of c) next.same next.blocks) of.age
+          (next_stands (store_of c) next.same next.blocks) (next_fits (store_of c) next.same next.blocks) (λ recovers. of.age)
           c around.disk around.formatted (subst (λ (m : ℕ). HasMap m c w.slot w.plan.words) of.blocks next.map) (none_after c around) (next_shows c next)
 
       pub steps_leave : LeavesOnly begun d (λ c. IsImage c (settle world))
@@ -266,7 +267,7 @@ module _ (h : Held) (world : World) (r : Runs h world) where
             log = inl (refl, sym of.epoch, λ c crash. (around c crash).ready);
             cover = next_cover t now.same now.blocks;
             charged = of.charged t now.same now.blocks;
-            age = of.age;
+            age = λ recovers. of.age;
             frozen = next_frozen t now.same now.blocks;
           }
 

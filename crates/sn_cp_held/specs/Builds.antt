@@ -21,16 +21,16 @@ use Rattle.sn_overlay.specs.Needs.{need}
 use Rattle.sn_room.specs.Rooms.{RoomCounts, fresh}
 use Rattle.sn_root.specs.Following.{following}
 use Rattle.sn_root.specs.declared.following.PointKind.{PointKind}
-use Rattle.sn_root.specs.declared.following.PointKind.TheVariants.{Ordinary}
+use Rattle.sn_root.specs.declared.following.PointKind.TheVariants.{Ordinary, Recovery}
 use Rattle.sn_sound.specs.Logs.{HasAgeLeft}
 use Rattle.sn_sound.specs.Maps.{IsSoundRoot, free_blocks}
-use Rattle.sn_held.specs.Held.{Held}
+use Rattle.sn_held.specs.Held.{Held, Kept, RunsReady}
 use Rattle.sn_cp_nodes.specs.Built.{IsGround}
 use Rattle.sn_cp_build.specs.Bits.{TellsBlocks}
 use Rattle.sn_cp_build.specs.Building.{Builds, IsWellBuilt}
 use Rattle.sn_cp_build.specs.declared.building.Built.{Built}
 use Rattle.sn_cp.specs.Points.{Work, written_by}
-use Rattle.sn_cp_held.specs.Wholes.{IsOfLive, Kept, RunsReady}
+use Rattle.sn_cp_held.specs.Wholes.{IsOfLive}
 
 -- what is written of it, with the root that follows
 abbrev pub plan_of : Built → RootBody → Plan
@@ -52,6 +52,11 @@ pub record IsOfBuild (n : ℕ) (s : Store) (root : RootBody) (words : List ℕ) 
   pub inode_file : next.inode_file ≡ built.inode_file
   pub snapshots : next.snapshots ≡ root.snapshots
 
+-- Another root can follow on one on which changes will be logged. On a root that is recovered nothing is.
+abbrev pub LeavesAge : PointKind → RootBody → Type 0
+LeavesAge Ordinary next = HasAgeLeft next
+LeavesAge Recovery next = Unit {0}
+
 -- What `build` tells of a live tree on a disk of n blocks with these contents, and the root that follows on it with the new inode file, for a point of this kind.
 pub record IsBuiltOf (n : ℕ) (c : Contents) (kind : PointKind) (k : Kept) (built : Built) (next : RootBody) : Type 0 where
   pub well : IsWellBuilt n k.root.limits k.words k.changed built
@@ -60,7 +65,7 @@ pub record IsBuiltOf (n : ℕ) (c : Contents) (kind : PointKind) (k : Kept) (bui
   pub whole : (b : Written) → Contains (map written_by built.blocks.items) b → length b.1 ≡ 4096
   pub body : IsRootBody next
   pub is : next ≡ record (following kind k.root.limits k.root) { inode_file = built.inode_file }
-  pub age : HasAgeLeft next
+  pub age : LeavesAge kind next
 
 -- the point that writes it into the other slot, whose gate is so
 abbrev pub work_for : ℕ → Kept → Gate → Built → RootBody → Work

@@ -15,11 +15,11 @@ use Rattle.sn_ondisk.specs.Trees.{store_of}
 use Rattle.sn_root.specs.declared.following.PointKind.TheVariants.{Recovery}
 use Rattle.sn_sound.specs.Charges.{charges_from}
 use Rattle.sn_held.specs.Images.{IsImage}
+use Rattle.sn_held.specs.Held.{Kept}
 use Rattle.sn_cp.specs.Points.{Work}
 use Rattle.sn_cp.specs.Showing.{Finishes}
 use Rattle.sn_cp_build.specs.declared.building.Built.{Built}
 use Rattle.sn_cp_held.specs.Builds.{IsBuiltOf, work_for}
-use Rattle.sn_cp_held.specs.Wholes.{Kept}
 
 -- A disk is an image of this world, and nothing is unsynced. What is kept is its root, with what its records changed and what was dropped since.
 pub record HasReplayed (d : Disk) (world : World) (im : IsImage (reads d) world) (k : Kept) : Type 0 where
@@ -30,8 +30,9 @@ pub record HasReplayed (d : Disk) (world : World) (im : IsImage (reads d) world)
   pub changed : HasChanged version_1 k.changed (image (store_of (reads d)) im.opens.root.inode_file) world.live (charges_from version_1 (im.opens.older ++ im.opens.newer) (image (store_of (reads d)) im.opens.root.inode_file))
   pub tree : IsTree version_1 world.live
 
--- It is one whose root is the point's, on which nothing is logged.
+-- It is one whose root is the point's, on which nothing is logged, and whose tree is the live one.
 pub record IsRecovered (d : Disk) (world : World) (w : Work) : Type 0 where
+  pub live : image (store_of (reads d)) w.plan.next.inode_file ≡ world.live
   pub image : IsImage (reads d) world
   pub blocks : image.blocks ≡ w.blocks
   pub slot : image.opens.slot ≡ w.slot

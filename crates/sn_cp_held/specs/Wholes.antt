@@ -2,12 +2,11 @@
 use Rattle.std.specs.Prelude.{◌≡◌, ℕ, ◌+◌, ◌*◌, ◌≤◌, List, [], slice_index}
 use Rattle.sn_changed.specs.Changed.{HasChanged}
 use Rattle.sn_device.specs.Sectors.{Contents}
-use Rattle.sn_device.specs.Disk.{Disk, Always, IsSynced}
+use Rattle.sn_device.specs.Disk.{Disk, Always}
 use Rattle.sn_layout.specs.Places.{other_slot}
 use Rattle.sn_layout.specs.Superblock.{superblock_bytes}
 use Rattle.sn_image.specs.Image.{image}
 use Rattle.sn_layout.specs.declared.places.Slot.{Slot}
-use Rattle.sn_layout.specs.declared.root.RootBody.{RootBody}
 use Rattle.sn_limits.specs.Versions.{version_1}
 use Rattle.sn_log.specs.Places.{IsReadyAt, first_of}
 use Rattle.sn_model.specs.declared.change.Change.{Change}
@@ -21,23 +20,15 @@ use Rattle.sn_ondisk.specs.Trees.{Store}
 use Rattle.sn_opening.specs.Opens.{IsDisk, Shows}
 use Rattle.sn_opening.specs.Points.{HoldsAll, IsBuilt}
 use Rattle.sn_opening.specs.Worlds.{all_reach}
-use Rattle.sn_overlay.specs.Layers.{Layer}
 use Rattle.sn_overlay.specs.Needs.{nameless_in}
 use Rattle.sn_overlay.specs.Overlays.{no_changes}
 use Rattle.sn_room.specs.Rooms.{RoomCounts}
 use Rattle.sn_sound.specs.Logs.{HasAgeLeft}
 use Rattle.sn_sound.specs.Maps.{IsSoundRoot, free_blocks}
-use Rattle.sn_held.specs.Held.{Held, Runs}
+use Rattle.sn_held.specs.Held.{Held, Kept, Runs}
 use Rattle.sn_held.specs.Room.{IsCharged}
 use Rattle.sn_cp.specs.Points.{Work}
 use Rattle.sn_cp.specs.Steps.{IsWhole}
-
--- No point is in progress, so that the log goes on under the root's own epoch, and nothing is unsynced.
-pub record IsBetween (h : Held) (world : World) (r : Runs h world) : Type 0 where
-  pub none_newer : r.newer ≡ []
-  pub epoch : h.at.epoch ≡ r.root.epoch
-  pub ready : Always h.disk (IsReadyAt h.at r.older)
-  pub synced : IsSynced h.disk
 
 -- The point was built of the live tree, for the slot that doesn't count: wherever its blocks stand beside what the root reaches, its root is sound with its snapshots and its map, and what is kept of the room is charged of it. It has an age left.
 pub record IsOfLive (h : Held) (world : World) (r : Runs h world) (w : Work) (room : RoomCounts) : Type 0 where
@@ -63,13 +54,6 @@ pub record HasBegun (h : Held) (world : World) (r : Runs h world) (d : Disk) : T
   pub shows : Always d (Shows h.at.blocks r.store r.slot r.root r.older [])
   pub around : Always d (StandsAround h.at.blocks r.slot r.words r.root.epoch)
 
--- What a mounted file system keeps for its next point: the root that counts, where it stands, the words of its map, and what changed since.
-pub record Kept : Type 0 where
-  pub slot : Slot
-  pub root : RootBody
-  pub words : List ℕ
-  pub changed : Layer
-
 -- The root that is kept stands in these contents with its records, sound with its map, and the world's live tree, a name tree, is seen through what changed since. What that was charged, with a charge for each file that the root's tree has without a name, is no more than is free.
 pub record StandsKept (n : ℕ) (c : Contents) (world : World) (k : Kept) : Type 0 where
   pub store : Store
@@ -84,20 +68,6 @@ pub record StandsKept (n : ℕ) (c : Contents) (world : World) (k : Kept) : Type
   pub changed : HasChanged version_1 k.changed (image store k.root.inode_file) world.live charged
   pub fits : charged + version_1.inode_charge * nameless_in (image store k.root.inode_file) ≤ free_blocks n store k.root
   pub tree : IsTree version_1 world.live
-
--- The mount is ready for it: it is between two points, its root counts, and the live tree, a name tree, is seen through what changed since, which was charged.
-pub record IsReady (h : Held) (world : World) (r : Runs h world) (k : Kept) : Type 0 where
-  pub between : IsBetween h world r
-  pub slot : k.slot ≡ r.slot
-  pub root : k.root ≡ r.root
-  pub words : k.words ≡ r.words
-  pub changed : HasChanged version_1 k.changed (image r.store r.root.inode_file) world.live h.room.charged
-  pub tree : IsTree version_1 world.live
-
--- A mount runs over this world, and is ready for a point.
-pub record RunsReady (h : Held) (world : World) (k : Kept) : Type 0 where
-  pub runs : Runs h world
-  pub ready : IsReady h world runs k
 
 -- what is kept once the point is done: its root counts, and nothing has changed
 abbrev pub kept_behind : Work → Kept

@@ -1,1 +1,2 @@
 mod PointLemmas
+pub mod RecoverLemmas

@@ -38,7 +38,7 @@ use Rattle.sn_root.specs.declared.following.PointKind.TheVariants.{Ordinary}
 use Rattle.sn_root.specs.Replacing.{closing_writes}
 use Rattle.sn_root.specs.Slots.{gate_in}
 use Rattle.sn_root.proofs.ReplacingLemmas.{log_and_gate}
-use Rattle.sn_held.specs.Held.{Held}
+use Rattle.sn_held.specs.Held.{Held, Kept, RunsReady}
 use Rattle.sn_held.specs.Images.{IsImage}
 use Rattle.sn_held.proofs.EventLemmas.{runs_show}
 use Rattle.sn_tree.specs.declared.fault.PlanFault.{PlanFault}
@@ -57,11 +57,11 @@ use Rattle.sn_cp_build.specs.Bits.{TellsBlocks}
 use Rattle.sn_cp_build.specs.Building.{Builds, IsWellBuilt}
 use Rattle.sn_cp_build.specs.declared.building.Built.{Built}
 use Rattle.sn_cp_held.specs.Builds.{CanBeBuilt, IsBuiltOf, plan_of, room_behind, work_for}
-use Rattle.sn_cp_held.specs.Wholes.{HasBegun, IsOfLive, Kept, RunsReady, behind_point, kept_behind}
+use Rattle.sn_cp_held.specs.Wholes.{HasBegun, IsOfLive, behind_point, kept_behind}
 use Rattle.sn_cp_held.proofs.BuildLemmas.{numbers_same, place_all}
 use Rattle.sn_cp_held.proofs.LiveLemmas.{can_be_built, of_live}
 use Rattle.sn_cp_held.proofs.WholeLemmas.{begin_leaves, has_begun, ready_behind, steps_leave}
-use Rattle.sn_cp_whole.specs.Making.{CostsPoint, MakesPoint, most_syncs, most_writes, syncs_of_point, with_parts, writes_of_point}
+use Rattle.sn_cp_whole.specs.Making.{CostsPoint, HasCauseFor, MakesPoint, most_syncs, most_writes, syncs_of_point, with_parts, writes_of_point}
 use Rattle.sn_cp_whole.specs.Planning.{HasCauseToStop, IsNextRoot, IsSpellable, IsWholeBlock, point_fault_of}
 use Rattle.sn_cp_whole.specs.declared.fault.PointFault.{PointFault}
 use Rattle.sn_cp_whole.specs.declared.fault.PointFault.TheVariants as fault
@@ -81,7 +81,7 @@ whole_work n limits words layer built next slot gate size count well spelled bod
 }
 
 -- whole blocks are written
-whole_written : (xs : List NewBlock) → All IsWholeBlock xs → (b : Written) → Contains (map written_by xs) b → length b.1 ≡ 4096
+pub whole_written : (xs : List NewBlock) → All IsWholeBlock xs → (b : Written) → Contains (map written_by xs) b → length b.1 ≡ 4096
 whole_written [] all b (k, within, is) = absurd (omega (arith, within))
 whole_written (x ∷ xs) all b (zero, within, is) = ap (λ (w : Written). length w.1) (sym is) ∙ all 0 x (omega arith)
 whole_written (x ∷ xs) all b (suc k, within, is) = whole_written xs (λ i d inside. all (suc i) d (omega (arith, inside))) b (k, omega (arith, within), is)
@@ -108,7 +108,7 @@ module _ (h : Held) (world : World) (k : Kept) (rr : RunsReady h world k) where
   begins_leave result planned d same begins = begin_leaves h world rr.runs result d rr.ready.between (subst (λ (e : Disk). Begins h.at result e d) same begins)
 
   module _ (built : Built) (next : RootBody) (gate : Gate) (well : IsWellBuilt h.at.blocks k.root.limits k.words k.changed built)
-      (builds : Builds h.at.blocks k.root.limits (store_of (reads h.disk)) k.root.inode_file k.words k.changed built) (spelled : IsSpellable built) (follows : IsNextRoot k.root built next) where
+      (builds : Builds h.at.blocks k.root.limits (store_of (reads h.disk)) k.root.inode_file k.words k.changed built) (spelled : IsSpellable built) (follows : IsNextRoot Ordinary k.root built next) where
     is_built : IsBuiltOf h.at.blocks (reads h.disk) Ordinary k built next
     is_built = record { well = well; builds = builds; numbers = spelled.numbers; whole = whole_written built.blocks.items spelled.whole; body = follows.body; is = follows.is; age = follows.age }
 
@@ -151,53 +151,65 @@ room_left free old mid new one two = two ∙ ap (done free) one
 
 -- ---- what it costs
 
-written_count : (xs : List NewBlock) → length (map written_by xs) ≡ length xs
+pub written_count : (xs : List NewBlock) → length (map written_by xs) ≡ length xs
 written_count [] = refl
 written_count (x ∷ xs) = omega (arith, written_count xs)
 
-first_writes : (w : Work) → writes_left w (first_stage (length w.plan.blocks)) ≡ 8 * length w.plan.blocks + 8 * map_blocks w.blocks + (closing_writes w.gate + 9)
+pub first_writes : (w : Work) → writes_left w (first_stage (length w.plan.blocks)) ≡ 8 * length w.plan.blocks + 8 * map_blocks w.blocks + (closing_writes w.gate + 9)
 first_writes w = told (length w.plan.blocks == 0) refl
   where
     told : (none : Bool) → (length w.plan.blocks == 0) ≡ none → writes_left w (if none then MapBlocks 0 else Blocks 0) ≡ 8 * length w.plan.blocks + 8 * map_blocks w.blocks + (closing_writes w.gate + 9)
     told true e = let none = eqb-true (length w.plan.blocks) 0 e in omega (arith, none)
     told false e = omega arith
 
-first_syncs : (w : Work) → syncs_left w (first_stage (length w.plan.blocks)) ≡ root_steps w.gate + 1
+pub first_syncs : (w : Work) → syncs_left w (first_stage (length w.plan.blocks)) ≡ root_steps w.gate + 1
 first_syncs w = told (length w.plan.blocks == 0)
   where
     told : (none : Bool) → syncs_left w (if none then MapBlocks 0 else Blocks 0) ≡ root_steps w.gate + 1
     told true = refl
     told false = refl
 
-few_closing : (gate : Gate) → closing_writes gate ≤ 1
+pub few_closing : (gate : Gate) → closing_writes gate ≤ 1
 few_closing Open = omega arith
 few_closing Closed = omega arith
 
-few_steps : (gate : Gate) → root_steps gate ≤ 3
+pub few_steps : (gate : Gate) → root_steps gate ≤ 3
 few_steps Open = omega arith
 few_steps Closed = omega arith
 
--- none was planned
+-- none was planned: nothing was called but a read that failed
+abbrev CallsNothing : Status → Status → Type 0
+CallsNothing old new = IsLater old new × (new.writes ≡ old.writes) × (new.syncs ≡ old.syncs)
+
+same_status : (old new : Status) → new ≡ old → CallsNothing old new
+same_status old new same = (later-same old new same, ap (λ (s : Status). s.writes) same, ap (λ (s : Status). s.syncs) same)
+
+failed_status : (ended : Bool) (old new : Status) → MatchBool ended (new ≡ old) (new ≡ one_failure old) → CallsNothing old new
+failed_status true old new same = same_status old new same
+failed_status false old new is = (
+  subst (IsLater old) (sym is) (record { sectors = refl; failures = omega arith; writes = omega arith; syncs = omega arith; spent = λ spent. spent }),
+  ap (λ (s : Status). s.writes) is,
+  ap (λ (s : Status). s.syncs) is,
+)
+
+pub calls_nothing : (f : PointFault) (old new : Status) → HasCauseToStop f old new → IsLater old new × (new.writes ≡ old.writes) × (new.syncs ≡ old.syncs)
+calls_nothing fault.Memory old new same = same_status old new same
+calls_nothing fault.Age old new same = same_status old new same
+calls_nothing fault.Read old new fails = failed_status (has_ended old) old new fails
+calls_nothing fault.Damaged old new same = same_status old new same
+calls_nothing fault.Device old new none = absurd none
+
+pub has_cause : (f : PointFault) (old new : Status) → HasCauseToStop f old new → HasCauseFor f old new
+has_cause fault.Memory old new same = same
+has_cause fault.Age old new same = same
+has_cause fault.Read old new fails = fails
+has_cause fault.Damaged old new same = same
+has_cause fault.Device old new none = absurd none
+
 pub unplanned_costs : (f : PointFault) (n most : ℕ) (old new : Status) → HasCauseToStop f old new → CostsPoint (Err f) n most old new
-unplanned_costs fault.Memory n most old new same = record { done = tt; later = later-same old new same; writes = omega (arith, ap (λ (s : Status). s.writes) same); syncs = omega (arith, ap (λ (s : Status). s.syncs) same); cause = same }
-unplanned_costs fault.Age n most old new same = record { done = tt; later = later-same old new same; writes = omega (arith, ap (λ (s : Status). s.writes) same); syncs = omega (arith, ap (λ (s : Status). s.syncs) same); cause = same }
-unplanned_costs fault.Damaged n most old new same = record { done = tt; later = later-same old new same; writes = omega (arith, ap (λ (s : Status). s.writes) same); syncs = omega (arith, ap (λ (s : Status). s.syncs) same); cause = same }
-unplanned_costs fault.Read n most old new fails = read_costs (has_ended old) refl fails
-  where
-    read_costs : (ended : Bool) → has_ended old ≡ ended → MatchBool ended (new ≡ old) (new ≡ one_failure old) → CostsPoint (Err fault.Read) n most old new
-    read_costs true e same = record { done = tt; later = later-same old new same; writes = omega (arith, ap (λ (s : Status). s.writes) same); syncs = omega (arith, ap (λ (s : Status). s.syncs) same); cause = fails }
-    read_costs false e is =
-        record {
-          done = tt;
-          later = failed_later is;
-          writes = omega (arith, ap (λ (s : Status). s.writes) is);
-          syncs = omega (arith, ap (λ (s : Status). s.syncs) is);
-          cause = fails;
-        }
-      where
-        failed_later : new ≡ one_failure old → IsLater old new
-        failed_later is = subst (IsLater old) (sym is) (record { sectors = refl; failures = omega arith; writes = omega arith; syncs = omega arith; spent = λ spent. spent })
-unplanned_costs fault.Device n most old new none = absurd none
+unplanned_costs f n most old new why =
+    let nothing = calls_nothing f old new why in
+    record { done = tt; later = nothing.0; writes = omega (arith, nothing.1); syncs = omega (arith, nothing.2); cause = has_cause f old new why }
 
 -- its beginning failed
 pub unbegun_costs : (n most : ℕ) (old planned new : Status) {T : Type 0} (result : Result T ReadFault) → planned ≡ old → CountsClearing result planned new → result ≡ Err read.Device → CostsPoint (Err fault.Device) n most old new

@@ -15,10 +15,9 @@ use Rattle.sn_model.specs.Settling.{settle}
 use Rattle.sn_model.specs.World.{World}
 use Rattle.sn_room.specs.Rooms.{RoomCounts, fresh}
 use Rattle.sn_root.specs.Replacing.{closing_writes}
-use Rattle.sn_held.specs.Held.{Held}
+use Rattle.sn_held.specs.Held.{Held, Kept, RunsReady}
 use Rattle.sn_held.specs.Images.{IsImage}
 use Rattle.sn_cp.specs.Counting.{root_steps}
-use Rattle.sn_cp_held.specs.Wholes.{Kept, RunsReady}
 use Rattle.sn_cp_whole.specs.declared.fault.PointFault.{PointFault}
 use Rattle.sn_cp_whole.specs.declared.fault.PointFault.TheVariants.{Memory, Age, Read, Damaged, Device}
 

@@ -1,16 +1,16 @@
 -- What a point is built of, and what is planned for it.
-use Rattle.std.specs.Prelude.{◌≡◌, length, All}
+use Rattle.std.specs.Prelude.{◌≡◌, ◌+◌, ◌^◌, ◌≤◌, length, All}
 use Rattle.sn_device.specs.declared.status.Status.{Status}
 use Rattle.sn_layout.specs.Bytes.{AreNumbers}
 use Rattle.sn_layout.specs.RootBody.{IsRootBody}
 use Rattle.sn_layout.specs.declared.root.RootBody.{RootBody}
 use Rattle.sn_log.specs.Places.{LogPosition}
 use Rattle.sn_overlay.specs.Overlays.{layer_of}
-use Rattle.sn_root.specs.Following.{following}
-use Rattle.sn_root.specs.declared.following.PointKind.TheVariants.{Ordinary}
-use Rattle.sn_sound.specs.Logs.{HasAgeLeft}
+use Rattle.sn_root.specs.Following.{epochs_of, following}
+use Rattle.sn_root.specs.declared.following.PointKind.{PointKind}
+use Rattle.sn_held.specs.Held.{Kept}
 use Rattle.sn_cp_build.specs.declared.building.Built.{Built}
-use Rattle.sn_cp_held.specs.Wholes.{Kept}
+use Rattle.sn_cp_held.specs.Builds.{LeavesAge}
 use Rattle.sn_block.specs.Counts.{FailsRead}
 use Rattle.sn_block.specs.declared.fault.ReadFault.{ReadFault}
 use Rattle.sn_block.specs.declared.fault.ReadFault.TheVariants as read
@@ -32,11 +32,15 @@ pub record IsBaseAt (at : LogPosition) (base : PointBase) : Type 0 where
   pub words : length base.map ≡ at.blocks
   pub epoch : at.epoch ≡ base.root.epoch
 
--- The root that follows, with the inode file that was built: it can be written, and another can follow on it.
-pub record IsNextRoot (root : RootBody) (built : Built) (next : RootBody) : Type 0 where
-  pub is : next ≡ record (following Ordinary root.limits root) { inode_file = built.inode_file }
+-- On this root another can follow by a point of this kind, which leaves an age where it needs one.
+abbrev pub HasAgeFor : PointKind → RootBody → Type 0
+HasAgeFor kind root = (root.generation + 1 ≤ 2 ^ 62) × (root.epoch + epochs_of kind ≤ 2 ^ 62) × LeavesAge kind (following kind root.limits root)
+
+-- The root that follows by a point of this kind, with the inode file that was built: it can be written, and leaves such an age.
+pub record IsNextRoot (kind : PointKind) (root : RootBody) (built : Built) (next : RootBody) : Type 0 where
+  pub is : next ≡ record (following kind root.limits root) { inode_file = built.inode_file }
   pub body : IsRootBody next
-  pub age : HasAgeLeft next
+  pub age : LeavesAge kind next
 
 -- a block of 4,096 bytes
 abbrev pub IsWholeBlock : NewBlock → Type 0

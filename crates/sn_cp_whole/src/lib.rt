@@ -1,4 +1,4 @@
-//! A whole consistency point of a mount's live tree, from what changed since its root to the next root that counts.
+//! A whole consistency point of a live tree, from what changed since its root to the next root that counts.
 //!
 //! The model. `sn_cp_held` says when a mounted file system is ready for a point (`RunsReady`), what a point of its
 //! live tree is, and what a whole one leaves. A [`PointBase`] is what is kept for that beside log and room: the root
@@ -12,8 +12,11 @@
 //! - All that may be refused comes before the first write: memory, a read that fails, an age that none follows. Then
 //!   nothing has changed. After a failure of the device while it writes nothing may be written before the next mount.
 //!
+//! [`make_recovery`] does the same before a mount runs, of what it replayed and dropped: the next root's epoch is behind
+//! both that were replayed, so no clearing begins it, and the log is left alone.
+//!
 //! The way through: `base` has what is kept; `planning` what is built of it, with the root that follows; `making` the
-//! point. `specs/Making.antt` says what it makes of a mount.
+//! point of a mount, and `recovering` the one before it. `specs/Making.antt` and `Recovering.antt` say what they make.
 //!
 //! What the sources leave open is decided in `docs/DECISIONS.md`, under "Steps of a consistency point".
 //!
@@ -26,7 +29,10 @@ mod base;
 mod fault;
 mod making;
 mod planning;
+mod recovering;
 
 pub use base::PointBase;
 pub use fault::PointFault;
 pub use making::make_point;
+pub use planning::empty_overlay;
+pub use recovering::make_recovery;

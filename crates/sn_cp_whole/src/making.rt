@@ -1,15 +1,16 @@
 //! A whole point.
-ghost use Rattle.std.specs.Prelude.{◌≡◌, ◌≢◌, ◌*◌, ◌+◌, ◌≤◌, IsTrue, IfErr, OnErr, OnOk};
+ghost use Rattle.std.specs.Prelude.{◌≡◌, ◌≢◌, ◌*◌, ◌+◌, ◌≤◌, Err, IsTrue, IfErr, OnErr, OnOk};
 ghost use Rattle.sn_block.specs.Lending.{device_of};
-ghost use Rattle.sn_held.specs.Held.{Held};
+ghost use Rattle.sn_held.specs.Held.{Held, RunsReady};
 ghost use Rattle.sn_log.specs.Places.{first_of};
+ghost use Rattle.sn_sound.specs.Logs.{HasAgeLeft};
+ghost use Rattle.sn_root.specs.declared.following.PointKind.TheVariants.{Ordinary as OrdinaryPoint};
 ghost use Rattle.sn_model.specs.World.{World};
 ghost use Rattle.sn_overlay.specs.Needs.{need};
 ghost use Rattle.sn_overlay.specs.Overlays.{HasRoom, layer_of, no_changes};
-ghost use Rattle.sn_cp_held.specs.Wholes.{RunsReady};
 ghost use Rattle.sn_cp_whole.specs.Making.{CostsPoint, MakesPoint, room_over, with_parts};
-ghost use Rattle.sn_cp_whole.specs.Planning.{IsBaseAt, kept_in};
-ghost use Rattle.sn_cp_whole.specs.declared.fault.PointFault.TheVariants.{Device as DeviceFault};
+ghost use Rattle.sn_cp_whole.specs.Planning.{HasAgeFor, IsBaseAt, kept_in};
+ghost use Rattle.sn_cp_whole.specs.declared.fault.PointFault.TheVariants.{Age as AgeFault, Device as DeviceFault};
 
 use crate::planning::{Planned, plan};
 use crate::{PointBase, PointFault};
@@ -19,6 +20,7 @@ use sn_device::Device;
 use sn_layout::Area;
 use sn_log::Log;
 use sn_room::Room;
+use sn_root::PointKind;
 use std::alloc::Global;
 
 /// Makes a whole consistency point of what changed since the root that counts: then the next root counts, the log is
@@ -38,7 +40,9 @@ pub fn make_point<D: Device>(
         → MakesPoint result world (D.disk (device_of blocks.old)) (with_parts h log.new room.new (D.disk (device_of blocks.new))) (kept_in base.new) }
     ensures costs { CostsPoint result log.old.blocks (need base.old.root.limits (layer_of base.old.changed))
         (D.status (device_of blocks.old)) (D.status (device_of blocks.new)) }
+    ensures aged { result ≡ Err AgeFault → HasAgeFor OrdinaryPoint base.old.root → ⊥ }
     ensures base { OnOk result (IsBaseAt log.new base.new) }
+    ensures age { OnOk result (HasAgeLeft base.new.root) }
     ensures log { OnOk result (log.new ≡ first_of log.old.blocks (log.old.epoch + 1)) }
     ensures room { OnOk result (room.new ≡ room_over log.old.blocks (kept_in base.new)) }
     ensures empty { OnOk result (layer_of base.new.changed ≡ no_changes) }
@@ -54,7 +58,7 @@ pub fn make_point<D: Device>(
         built,
         gate,
         changed,
-    } = match plan(alloc, blocks, places, base, drops) {
+    } = match plan(alloc, blocks, places, base, PointKind::Ordinary, drops) {
         Ok(planned) => planned,
         Err(fault) => return Err(fault),
     };

@@ -1,5 +1,5 @@
 //! What a point is to write.
-ghost use Rattle.std.specs.Prelude.{◌≡◌, ◌*◌, ◌≤◌, length, All, Err, IsTrue, IfErr, IfOk, IfSome, OnOk};
+ghost use Rattle.std.specs.Prelude.{◌≡◌, ◌*◌, ◌≤◌, ◌↔◌, length, All, Err, None, IsTrue, IfErr, IfOk, IfSome, OnOk};
 ghost use Rattle.sn_device.specs.Disk.{reads};
 ghost use Rattle.sn_block.specs.Lending.{device_of};
 ghost use Rattle.sn_layout.specs.Bytes.{AreNumbers};
@@ -9,12 +9,10 @@ ghost use Rattle.sn_ondisk.specs.Trees.{store_of};
 ghost use Rattle.sn_overlay.specs.Overlays.{HasRoom, layer_of, no_changes};
 ghost use Rattle.sn_root.specs.Following.{following};
 ghost use Rattle.sn_root.specs.Slots.{gate_in};
-ghost use Rattle.sn_root.specs.declared.following.PointKind.TheVariants.{Ordinary as OrdinaryPoint};
-ghost use Rattle.sn_sound.specs.Logs.{HasAgeLeft};
 ghost use Rattle.sn_cp_build.specs.Building.{Builds, IsWellBuilt};
-ghost use Rattle.sn_cp_held.specs.Builds.{CanBeBuilt};
-ghost use Rattle.sn_cp_whole.specs.declared.fault.PointFault.TheVariants.{Damaged as DamagedPoint};
-ghost use Rattle.sn_cp_whole.specs.Planning.{HasCauseToStop, IsNextRoot, IsSpellable, IsWholeBlock, kept_in, point_fault_of, read_fault_of};
+ghost use Rattle.sn_cp_held.specs.Builds.{CanBeBuilt, LeavesAge};
+ghost use Rattle.sn_cp_whole.specs.declared.fault.PointFault.TheVariants.{Age as AgePoint, Damaged as DamagedPoint};
+ghost use Rattle.sn_cp_whole.specs.Planning.{HasAgeFor, HasCauseToStop, IsNextRoot, IsSpellable, IsWholeBlock, kept_in, point_fault_of, read_fault_of};
 
 use crate::{PointBase, PointFault};
 use sn_block::{Blocks, ReadFault};
@@ -37,16 +35,29 @@ pub(crate) struct Planned {
     pub changed: Overlay,
 }
 
-/// The root that follows on this one, where another one can follow on that.
-fn following_root(root: &RootBody) -> Option<RootBody>
-    requires body { IsRootBody root.now }
-    ensures is { IfSome result (λ next. next ≡ following OrdinaryPoint root.now.limits root.now) }
-    ensures body { IfSome result IsRootBody }
-    ensures age { IfSome result HasAgeLeft }
+/// Whether the root that a point of this kind leaves has an age left, where it needs one.
+fn leaves_age(kind: PointKind, next: &RootBody) -> bool
+    ensures { IsTrue result ↔ LeavesAge kind next.now }
 {
-    match next_root(root, &root.limits, PointKind::Ordinary) {
-        Some(next) if next.generation < LARGEST_AGE && next.epoch <= LARGEST_AGE - 2 => Some(next),
-        _ => None,
+    match kind {
+        PointKind::Ordinary => next.generation < LARGEST_AGE && next.epoch <= LARGEST_AGE - 2,
+        PointKind::Recovery => true,
+    }
+}
+
+/// The root that follows on this one by a point of this kind, where it has an age, and leaves one.
+fn following_root(root: &RootBody, kind: PointKind) -> Option<RootBody>
+    requires body { IsRootBody root.now }
+    ensures is { IfSome result (λ next. next ≡ following kind root.now.limits root.now) }
+    ensures body { IfSome result IsRootBody }
+    ensures age { IfSome result (LeavesAge kind) }
+    ensures none { result ≡ None → HasAgeFor kind root.now → ⊥ }
+{
+    let next = next_root(root, &root.limits, kind)?;
+    if leaves_age(kind, &next) {
+        Some(next)
+    } else {
+        None
     }
 }
 
@@ -109,21 +120,23 @@ fn plan_tree<D: Device>(
     blocks: &mut Blocks<D>,
     places: Places,
     base: &PointBase,
+    kind: PointKind,
 ) -> Result<(RootBody, Built), PointFault>
     requires disk { 8 * places ≤ (D.status (device_of blocks.old)).sectors }
     requires body { IsRootBody base.now.root }
     requires words { length base.now.map ≡ places }
-    ensures next { IfOk result (λ made. IsNextRoot base.now.root made.1 made.0) }
+    ensures next { IfOk result (λ made. IsNextRoot kind base.now.root made.1 made.0) }
     ensures spelled { IfOk result (λ made. IsSpellable made.1) }
     ensures well { IfOk result (λ made. IsWellBuilt places base.now.root.limits base.now.map (layer_of base.now.changed) made.1) }
     ensures builds { IsTrue D.tells_bytes → IfOk result (λ made. Builds places base.now.root.limits
         (store_of (reads (D.disk (device_of blocks.old)))) base.now.root.inode_file base.now.map (layer_of base.now.changed) made.1) }
+    ensures aged { result ≡ Err AgePoint → HasAgeFor kind base.now.root → ⊥ }
     ensures damaged { IsTrue D.tells_bytes → result ≡ Err DamagedPoint → CanBeBuilt places (store_of (reads (D.disk (device_of blocks.old)))) (kept_in base.now) → ⊥ }
     ensures same { IsTrue D.tells_bytes → D.disk (device_of blocks.new) ≡ D.disk (device_of blocks.old) }
     ensures idle { OnOk result (D.status (device_of blocks.new) ≡ D.status (device_of blocks.old)) }
     ensures cause { IfErr result (λ fault. HasCauseToStop fault (D.status (device_of blocks.old)) (D.status (device_of blocks.new))) }
 {
-    let Some(next) = following_root(&base.root) else {
+    let Some(next) = following_root(&base.root, kind) else {
         return Err(PointFault::Age);
     };
     let Ok(changed) = base.changed.copy(alloc) else {
@@ -139,8 +152,8 @@ fn plan_tree<D: Device>(
     }
 }
 
-/// An empty overlay with room for so many drops.
-fn empty_overlay(alloc: Global, drops: u16) -> Result<Overlay, PointFault>
+/// An empty overlay with room for so many drops: nothing has changed since a root.
+pub fn empty_overlay(alloc: Global, drops: u16) -> Result<Overlay, PointFault>
     ensures empty { IfOk result (λ changed. layer_of changed ≡ no_changes) }
     ensures room { IfOk result (λ changed. HasRoom changed (record { nodes = drops; names = 0; blocks = 0 })) }
     ensures fault { IfErr result (λ fault. fault ≡ PointFault.Memory) }
@@ -152,8 +165,8 @@ fn empty_overlay(alloc: Global, drops: u16) -> Result<Overlay, PointFault>
     }
 }
 
-/// Reads the gate of the slot that is replaced, and last the one with which the point of an epoch begins: so what
-/// can't be read is met before the first write.
+/// Reads the gate of the slot that is replaced, and last the first one of the half that an epoch's records are to
+/// stand in, which is cleared: so what can't be read is met before the first write.
 fn read_ahead<D: Device>(
     blocks: &mut Blocks<D>,
     places: Places,
@@ -166,6 +179,7 @@ fn read_ahead<D: Device>(
     ensures idle { OnOk result (D.status (device_of blocks.new) ≡ D.status (device_of blocks.old)) }
     ensures cause { IfErr result (λ fault. HasCauseToStop fault (D.status (device_of blocks.old)) (D.status (device_of blocks.new))) }
     ensures readable { result ≡ Err DamagedPoint → ⊥ }
+    ensures ageless { result ≡ Err AgePoint → ⊥ }
 {
     let gate = match read_gate(blocks, slot) {
         Ok(gate) => gate,
@@ -177,18 +191,19 @@ fn read_ahead<D: Device>(
     }
 }
 
-/// Plans a point. It only reads.
+/// Plans a point of this kind. It only reads.
 pub(crate) fn plan<D: Device>(
     alloc: Global,
     blocks: &mut Blocks<D>,
     places: Places,
     base: &PointBase,
+    kind: PointKind,
     drops: u16,
 ) -> Result<Planned, PointFault>
     requires disk { 8 * places ≤ (D.status (device_of blocks.old)).sectors }
     requires body { IsRootBody base.now.root }
     requires words { length base.now.map ≡ places }
-    ensures next { IfOk result (λ p. IsNextRoot base.now.root p.built p.next) }
+    ensures next { IfOk result (λ p. IsNextRoot kind base.now.root p.built p.next) }
     ensures spelled { IfOk result (λ p. IsSpellable p.built) }
     ensures well { IfOk result (λ p. IsWellBuilt places base.now.root.limits base.now.map (layer_of base.now.changed) p.built) }
     ensures builds { IsTrue D.tells_bytes → IfOk result (λ p. Builds places base.now.root.limits
@@ -196,12 +211,13 @@ pub(crate) fn plan<D: Device>(
     ensures gate { IsTrue D.tells_bytes → IfOk result (λ p. gate_in (reads (D.disk (device_of blocks.old))) (other_slot base.now.slot) ≡ p.gate) }
     ensures empty { IfOk result (λ p. layer_of p.changed ≡ no_changes) }
     ensures room { IfOk result (λ p. HasRoom p.changed (record { nodes = drops; names = 0; blocks = 0 })) }
+    ensures aged { result ≡ Err AgePoint → HasAgeFor kind base.now.root → ⊥ }
     ensures damaged { IsTrue D.tells_bytes → result ≡ Err DamagedPoint → CanBeBuilt places (store_of (reads (D.disk (device_of blocks.old)))) (kept_in base.now) → ⊥ }
     ensures same { IsTrue D.tells_bytes → D.disk (device_of blocks.new) ≡ D.disk (device_of blocks.old) }
     ensures idle { OnOk result (D.status (device_of blocks.new) ≡ D.status (device_of blocks.old)) }
     ensures cause { IfErr result (λ fault. HasCauseToStop fault (D.status (device_of blocks.old)) (D.status (device_of blocks.new))) }
 {
-    let (next, built) = match plan_tree(alloc, blocks, places, base) {
+    let (next, built) = match plan_tree(alloc, blocks, places, base, kind) {
         Ok(made) => made,
         Err(fault) => return Err(fault),
     };

@@ -6,19 +6,19 @@ use Rattle.sn_block.specs.Effects.{Nowhere}
 use Rattle.sn_model.specs.declared.mount.MountFault.{MountFault}
 use Rattle.sn_model.specs.declared.mount.MountFault.TheVariants.{Memory}
 use Rattle.sn_model.specs.World.{World}
-use Rattle.sn_held.specs.Held.{Held, Runs}
-use Rattle.sn_mount.specs.Recovering.{IsRecovered, KeepsTheWorld, OfImage, TouchesOneGate, WritesAtFault}
-use Rattle.sn_mount.specs.Refusing.{Refuses}
+use Rattle.sn_held.specs.Held.{Held, RunsReady}
+use Rattle.sn_mount.specs.Recovering.{IsRecovered, KeepsTheWorld, OfImage, WritesAtFault, KeepsTheRoot}
+use Rattle.sn_examine.specs.Refusing.{Refuses}
 use Rattle.sn_fs.specs.Mounting.{IsLeft, Mounts}
 
-pub mounts : (sectors : ℕ) (old : Disk) (h : Held) → TouchesOneGate sectors old h.disk × OfImage old (IsRecovered sectors h.at h.world h.room old h.disk) → ((number : ℕ) → h.kept number ≡ false) → Mounts sectors old h false
+pub mounts : (sectors : ℕ) (old : Disk) (h : Held) → KeepsTheRoot sectors old h.disk × OfImage old (IsRecovered h.at h.world h.room h.base old h.disk) → ((number : ℕ) → h.kept number ≡ false) → Mounts sectors old h false
 mounts sectors old h r none = record {
   running = refl;
   none_kept = none;
   touched = r.0;
   runs = λ world image. let is = r.1 world image in record {
     room = is.room_is;
-    means = (refl, subst (λ (w : World). Runs (record h { world = w }) world) (sym is.is) (is.runs h.kept h.status), image.frozen);
+    means = (refl, subst (λ (w : World). RunsReady (record h { world = w }) world h.base) (sym is.is) (is.runs h.kept h.status), image.frozen);
     leaves = is.leaves;
   };
 }

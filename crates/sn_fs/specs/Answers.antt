@@ -1,8 +1,10 @@
 -- What an event leads a mounted file system to, on its disk too.
-use Rattle.std.specs.Prelude.{◌≡◌, ◌⊎◌, ℕ, ◌+◌, ◌-◌, ◌<◌, Bool, false, true, Option, None, Some, Ok}
+use Rattle.std.specs.Prelude.{◌≡◌, ◌⊎◌, ℕ, ◌+◌, ◌-◌, ◌*◌, ◌<◌, ◌≤◌, Bool, false, true, Option, None, Some, Ok}
 use Rattle.sn_device.specs.Crash.{Touches}
 use Rattle.sn_device.specs.Disk.{Disk, reads}
 use Rattle.sn_device.specs.declared.status.Status.{Status}
+use Rattle.sn_layout.specs.declared.gate.Gate.{Gate}
+use Rattle.sn_layout.specs.declared.root.RootBody.{RootBody}
 use Rattle.sn_limits.specs.Versions.{version_1}
 use Rattle.sn_model.specs.declared.call.Call.{Call}
 use Rattle.sn_model.specs.declared.call.Event.{Event}
@@ -19,29 +21,24 @@ use Rattle.sn_block.specs.Counts.{IsLater, called}
 use Rattle.sn_block.specs.Effects.{Nowhere}
 use Rattle.sn_ondisk.specs.LogHalf.{InHalf, body_sectors}
 use Rattle.sn_record.specs.Payload.{payload_bytes}
-use Rattle.sn_log.specs.Places.{LogPosition, HasRoom, base_at}
-use Rattle.sn_core.specs.Numbering.{Numbers}
+use Rattle.sn_log.specs.Places.{HasRoom, base_at, first_of}
+use Rattle.sn_core.specs.Numbering.{Numbers, gives_kept}
 use Rattle.sn_core.specs.declared.choosing.Chosen.{Chosen}
 use Rattle.sn_core.specs.Served.{Chooses}
 use Rattle.sn_held.specs.Held.{Held, Means}
 use Rattle.sn_held.specs.Moments.{LastsOver}
 use Rattle.sn_held.specs.Room.{HasRoomOf}
-use Rattle.sn_overlay.specs.Needs.{nameless_in}
-use Rattle.sn_room.specs.Rooms.{RoomCounts, dropping, fits, logged}
-use Rattle.sn_mount.specs.Failing.{CostsAtMost, HasFailed, HasNotFailed}
+use Rattle.sn_overlay.specs.Needs.{nameless_in, need}
+use Rattle.sn_overlay.specs.Overlays.{no_changes}
+use Rattle.sn_room.specs.Rooms.{RoomCounts, dropping, fits, fresh, logged}
+use Rattle.sn_sound.specs.Logs.{HasAgeLeft}
+use Rattle.sn_root.specs.declared.following.PointKind.TheVariants.{Ordinary}
+use Rattle.sn_cp_whole.specs.Planning.{HasAgeFor}
+use Rattle.sn_cp_whole.specs.Making.{most_syncs, most_writes, syncs_of_point, writes_of_point}
+use Rattle.sn_examine.specs.Failing.{CostsAtMost, HasFailed, HasNotFailed}
+use Rattle.sn_mount.specs.Costs.{CostsFew, CostsMount}
 use Rattle.sn_mount.specs.Recovering.{LeavesTheWorld}
 use Rattle.sn_fs.specs.Mounting.{WritesToMount}
-
--- What is held behind the whole point that an event makes first: no event makes one yet.
-abbrev pub IsBehindPoint : Held → Held → Type 0
-IsBehindPoint old mid = mid ≡ old
-
--- the most writes of such a point, and its syncs
-abbrev pub point_writes : Held → ℕ
-point_writes h = 0
-
-abbrev pub point_syncs : Held → ℕ
-point_syncs h = 0
 
 -- the change that a call comes to
 pub record IsChangeOf (world : World) (kept : ℕ → Bool) (session : ℕ) (c : Call) (change : Change) : Type 0 where
@@ -50,12 +47,6 @@ pub record IsChangeOf (world : World) (kept : ℕ → Bool) (session : ℕ) (c :
   pub picked : Chosen
   pub chosen : Chooses world.live kept outcome.change outcome.caller picked
   pub is : picked.change ≡ Some change
-
--- the record of a call's change has no room behind the position
-pub record HasNoRoom (at : LogPosition) (world : World) (kept : ℕ → Bool) (session : ℕ) (c : Call) : Type 0 where
-  pub change : Change
-  pub is : IsChangeOf world kept session c change
-  pub none : HasRoom at change → ⊥
 
 -- whether a call fits that comes to this, on top of what was logged
 abbrev pub is_fitting : Held → Outcome → Bool
@@ -67,19 +58,58 @@ pub record DoesNotFit (h : Held) (session : ℕ) (c : Call) : Type 0 where
   pub is : IsChangeOf h.world h.kept session c change
   pub over : is_fitting h is.outcome ≡ false
 
+-- What the change of a call lacks: room for its record in the log, or for its charge on the disk; a number, where one that is kept back would be given out; or a root that could follow, so that a mount could make a point of what is logged.
+abbrev pub Lacks : Held → Change → Outcome → Type 0
+Lacks h change o = (HasRoom h.at change → ⊥) ⊎ (is_fitting h o ≡ false) ⊎ (gives_kept change h.kept ≡ true) ⊎ (HasAgeLeft h.base.root → ⊥)
+
+-- a call comes to a change that lacks something
+pub record LacksFirst (h : Held) (session : ℕ) (c : Call) : Type 0 where
+  pub change : Change
+  pub is : IsChangeOf h.world h.kept session c change
+  pub lacks : Lacks h change is.outcome
+
+-- Then a whole point comes first. A step asks for one.
+abbrev pub NeedsPoint : Held → Event → Type 0
+NeedsPoint h (event.Call session c) = LacksFirst h session c
+NeedsPoint h event.Step = Unit {0}
+NeedsPoint h event.Restart = ⊥
+
+-- A whole point was made first, with its writes and syncs: the log is empty, nothing is charged or has changed, and no number is kept back.
+pub record HasMadePoint (e : Event) (old mid : Held) : Type 0 where
+  pub needed : NeedsPoint old e
+  pub world : mid.world ≡ old.world
+  pub none_kept : (number : ℕ) → mid.kept number ≡ false
+  pub log : mid.at ≡ first_of old.at.blocks (old.at.epoch + 1)
+  pub room : mid.room ≡ fresh mid.room.free
+  pub changed : mid.base.changed ≡ no_changes
+  pub age : HasAgeLeft mid.base.root
+  pub count : ℕ
+  pub few : count ≤ need old.base.root.limits old.base.changed
+  pub gate : Gate
+  pub costs : mid.status ≡ called (writes_of_point old.at.blocks gate count) (syncs_of_point gate) old.status
+
+-- What is held behind the whole point that an event makes first, where it makes one.
+abbrev pub IsBehindPoint : Event → Held → Held → Type 0
+IsBehindPoint e old mid = (mid ≡ old) ⊎ HasMadePoint e old mid
+
+-- what lacks right behind a whole point
 abbrev pub LacksRoom : Held → Event → Type 0
-LacksRoom h (event.Call session c) = HasNoRoom h.at h.world h.kept session c ⊎ DoesNotFit h session c
+LacksRoom h (event.Call session c) = DoesNotFit h session c
 LacksRoom h event.Step = ⊥
 LacksRoom h event.Restart = ⊥
 
--- what an event may meet with: EIO only where the device failed, ENOSPC only where the record has no room behind the event's point or its charge isn't free, and nothing but EIO where the device failed
+-- no root can follow on it that leaves an age for another
+abbrev pub IsLastRoot : RootBody → Type 0
+IsLastRoot root = HasAgeFor Ordinary root → ⊥
+
+-- what an event may meet with: EIO only where the device failed, ENOSPC only where the call doesn't fit right behind a whole point, ELIMIT for age only where a point is needed and its root would be too old, and nothing but EIO where the device failed
 abbrev pub MayMeet : Held → Held → Event → Option Mishap → Status → Type 0
 MayMeet old mid e None new = HasNotFailed old.status new
 MayMeet old mid e (Some Memory) new = HasNotFailed old.status new
 MayMeet old mid e (Some Read) new = HasFailed old.status new
 MayMeet old mid e (Some Write) new = HasFailed old.status new
-MayMeet old mid e (Some Space) new = LacksRoom mid e × HasNotFailed old.status new
-MayMeet old mid e (Some Age) new = ⊥
+MayMeet old mid e (Some Space) new = LacksRoom mid e × HasMadePoint e old mid × HasNotFailed old.status new
+MayMeet old mid e (Some Age) new = NeedsPoint old e × IsLastRoot old.base.root × HasNotFailed old.status new
 
 -- Which number a new node gets, and which are kept back: none once a mount that had stopped runs again.
 abbrev pub NumbersIn : Event → State → (ℕ → Bool) → State → (ℕ → Bool) → Type 0
@@ -96,53 +126,68 @@ writes_of change = body_sectors (payload_bytes change) + 2
 abbrev pub HasNoChange : World → (ℕ → Bool) → ℕ → Call → Type 0
 HasNoChange world kept session c = (change : Change) → IsChangeOf world kept session c change → ⊥
 
--- The change that a call comes to was appended to the log, where it had room and fits: with the writes and the two syncs of its record.
+-- it lacks nothing: its record has room, its charge fits, its number isn't kept back, and a mount could make a point of it
+pub record HasAll (h : Held) (change : Change) (o : Outcome) : Type 0 where
+  pub room : HasRoom h.at change
+  pub fits : is_fitting h o ≡ true
+  pub number : gives_kept change h.kept ≡ false
+  pub age : HasAgeLeft h.base.root
+
+-- The change that a call comes to was appended to the log, where it lacked nothing: with the writes and the two syncs of its record.
 pub record IsRecorded (h : Held) (session : ℕ) (c : Call) (new : Status) : Type 0 where
   pub change : Change
   pub is : IsChangeOf h.world h.kept session c change
-  pub room : HasRoom h.at change
-  pub fits : is_fitting h is.outcome ≡ true
+  pub all : HasAll h change is.outcome
   pub costs : new ≡ called (writes_of change) 2 h.status
 
 -- its append was cut off
 pub record IsTried (h : Held) (session : ℕ) (c : Call) (new : Status) : Type 0 where
   pub change : Change
   pub is : IsChangeOf h.world h.kept session c change
-  pub room : HasRoom h.at change
-  pub fits : is_fitting h is.outcome ≡ true
+  pub all : HasAll h change is.outcome
   pub costs : CostsAtMost (writes_of change) 2 h.status new
 
--- a call that is refused has made a point at most
-abbrev pub CostsRefused : Held → Status → Type 0
-CostsRefused h new = CostsAtMost (point_writes h) (point_syncs h) h.status new
+-- a point that was needed was cut off
+pub record IsCutPoint (old : Held) (e : Event) (new : Status) : Type 0 where
+  pub needed : NeedsPoint old e
+  pub costs : CostsAtMost (most_writes old.at.blocks (need old.base.root.limits old.base.changed)) most_syncs old.status new
 
--- Behind the point that a call makes first, where it needs one: a call that comes to a change is recorded, also where the change alters nothing, and any other writes nothing.
+-- Behind the point that a call makes first, where it needs one: a call that comes to a change is recorded, also where the change alters nothing, and any other writes nothing; nor does one that is refused.
 abbrev pub CostsCall : Held → Held → ℕ → Call → Option Mishap → Status → Type 0
 CostsCall old mid session c None new = (HasNoChange mid.world mid.kept session c × (new ≡ mid.status)) ⊎ IsRecorded mid session c new
-CostsCall old mid session c (Some Memory) new = CostsRefused old new
-CostsCall old mid session c (Some Read) new = CostsRefused old new
-CostsCall old mid session c (Some Write) new = IsTried mid session c new
-CostsCall old mid session c (Some Space) new = CostsRefused old new
-CostsCall old mid session c (Some Age) new = CostsRefused old new
+CostsCall old mid session c (Some Memory) new = new ≡ mid.status
+CostsCall old mid session c (Some Read) new = CostsAtMost 0 0 mid.status new
+CostsCall old mid session c (Some Write) new = IsTried mid session c new ⊎ IsCutPoint old (event.Call session c) new
+CostsCall old mid session c (Some Space) new = new ≡ mid.status
+CostsCall old mid session c (Some Age) new = new ≡ mid.status
 
--- a mount makes one write and two syncs, or was cut off
-abbrev pub CostsMount : Option Mishap → Status → Status → Type 0
-CostsMount None old new = new ≡ called 1 2 old
-CostsMount (Some m) old new = CostsAtMost 1 2 old new
+-- a step makes a whole point, and nothing else
+abbrev pub CostsStep : Held → Held → Option Mishap → Status → Type 0
+CostsStep old mid None new = HasMadePoint event.Step old mid × (new ≡ mid.status)
+CostsStep old mid (Some Memory) new = new ≡ old.status
+CostsStep old mid (Some Read) new = CostsAtMost 0 0 old.status new
+CostsStep old mid (Some Write) new = IsCutPoint old event.Step new
+CostsStep old mid (Some Space) new = ⊥
+CostsStep old mid (Some Age) new = new ≡ old.status
+
+-- what a mount costs, or one that was cut off
+abbrev pub CostsRestart : Option Mishap → Status → Status → Type 0
+CostsRestart None old new = (n : ℕ) × (8 * n ≤ old.sectors) × CostsMount n old new
+CostsRestart (Some m) old new = CostsFew old new
 
 -- in a stopped mount nothing is called but by a restart
 abbrev pub Costs : State → Held → Held → Event → Option Mishap → Status → Type 0
 Costs (Running w) old mid (event.Call session c) met new = CostsCall old mid session c met new
-Costs (Running w) old mid event.Step met new = new ≡ old.status
-Costs (Running w) old mid event.Restart met new = CostsMount met old.status new
+Costs (Running w) old mid event.Step met new = CostsStep old mid met new
+Costs (Running w) old mid event.Restart met new = CostsRestart met old.status new
 Costs (Stopped before after) old mid (event.Call session c) met new = new ≡ old.status
 Costs (Stopped before after) old mid event.Step met new = new ≡ old.status
-Costs (Stopped before after) old mid event.Restart met new = CostsMount met old.status new
+Costs (Stopped before after) old mid event.Restart met new = CostsRestart met old.status new
 
--- Which sectors an event may write: a call its half of the log, a mount one gate there, and a step none yet. In a stopped mount only a restart writes.
+-- Which sectors an event may write: a call its half of the log, unless it needs a point. In a stopped mount only a restart writes.
 abbrev pub Writes : State → Held → Event → Disk → Disk → Type 0
-Writes (Running w) h (event.Call session c) old new = Touches (InHalf (base_at h.at)) old new
-Writes (Running w) h event.Step old new = Touches Nowhere old new
+Writes (Running w) h (event.Call session c) old new = Touches (InHalf (base_at h.at)) old new ⊎ NeedsPoint h (event.Call session c)
+Writes (Running w) h event.Step old new = Unit {0}
 Writes (Running w) h event.Restart old new = WritesToMount h.status.sectors old new
 Writes (Stopped before after) h (event.Call session c) old new = Touches Nowhere old new
 Writes (Stopped before after) h event.Step old new = Touches Nowhere old new
@@ -159,14 +204,14 @@ abbrev pub RoomOfCall : Held → ℕ → Call → Option Mishap → World → Ro
 RoomOfCall h session c None next room = (HasNoChange h.world h.kept session c × (room ≡ dropping (nameless_in h.world.live - nameless_in next.live) h.room)) ⊎ IsChargedFor h session c room
 RoomOfCall h session c (Some m) next room = room ≡ h.room
 
--- What an event leaves of the room: a mount keeps that of the image that it finds.
+-- What an event leaves of the room: behind a mount it is that of the image that is there.
 abbrev pub RoomIn : Event → Held → Disk → Option Mishap → State → RoomCounts → Type 0
-RoomIn (event.Call session c) mid old met (Running next) room = RoomOfCall mid session c met next room
-RoomIn (event.Call session c) mid old met (Stopped before after) room = Unit {0}
-RoomIn event.Step mid old met (Running next) room = room ≡ mid.room
-RoomIn event.Step mid old met (Stopped before after) room = Unit {0}
-RoomIn event.Restart mid old met (Running next) room = HasRoomOf (reads old) next room
-RoomIn event.Restart mid old met (Stopped before after) room = Unit {0}
+RoomIn (event.Call session c) mid new met (Running next) room = RoomOfCall mid session c met next room
+RoomIn (event.Call session c) mid new met (Stopped before after) room = Unit {0}
+RoomIn event.Step mid new met (Running next) room = room ≡ mid.room
+RoomIn event.Step mid new met (Stopped before after) room = Unit {0}
+RoomIn event.Restart mid new met (Running next) room = HasRoomOf (reads new) next room
+RoomIn event.Restart mid new met (Stopped before after) room = Unit {0}
 
 -- a step that says that there is more has written something
 abbrev pub Works : Event → Reply → Status → Status → Type 0
@@ -185,7 +230,7 @@ Begins event.Step next old new = Unit {0}
 pub record AnswersFrom (s : State) (e : Event) (reply : Reply) (old new : Held) (has_stopped : Bool) : Type 0 where
   pub met : Option Mishap
   pub mid : Held
-  pub point : IsBehindPoint old mid
+  pub point : IsBehindPoint e old mid
   pub may : MayMeet old mid e met new.status
   pub next : State
   pub step : EventStep version_1 s e met reply next
@@ -194,7 +239,7 @@ pub record AnswersFrom (s : State) (e : Event) (reply : Reply) (old new : Held) 
   pub writes : Writes s old e old.disk new.disk
   pub begins : Begins e next old.disk new.disk
   pub numbers : NumbersIn e s mid.kept next new.kept
-  pub room : RoomIn e mid old.disk met next new.room
+  pub room : RoomIn e mid new.disk met next new.room
   pub later : IsLater old.status new.status
   pub costs : Costs s old mid e met new.status
   pub works : Works e reply old.status new.status

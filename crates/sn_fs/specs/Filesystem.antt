@@ -8,11 +8,11 @@ use Rattle.sn_block.specs.Lending.{device_of}
 
 module _ {D : Type 0} {g : Ghosts D} where
   abbrev pub held : Fs D g → Held
-  held fs = holding g fs.blocks fs.log fs.world fs.room
+  held fs = holding g fs.blocks fs.log fs.world fs.room fs.base
 
   abbrev pub has_stopped : Fs D g → Bool
   has_stopped fs = fs.has_stopped
 
   -- what holds of it before and after each call
   abbrev pub IsFs : Fs D g → Type 0
-  IsFs fs = IsMounted (g.status (device_of fs.blocks)) fs.log fs.world fs.room fs.has_stopped
+  IsFs fs = IsMounted (g.status (device_of fs.blocks)) fs.log fs.world fs.room fs.base fs.has_stopped

@@ -3,3 +3,5 @@ pub mod Changing
 pub mod Filesystem
 pub mod Mounted
 pub mod Mounting
+pub mod Pointing
+pub mod Serving

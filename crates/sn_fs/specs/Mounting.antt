@@ -8,20 +8,20 @@ use Rattle.sn_model.specs.Machine.{Running}
 use Rattle.sn_model.specs.World.{World}
 use Rattle.sn_held.specs.Held.{Held, Means}
 use Rattle.sn_held.specs.Room.{HasRoomOf}
-use Rattle.sn_mount.specs.Recovering.{KeepsTheWorld, LeavesTheWorld, OfImage, TouchesOneGate, WritesAtFault}
-use Rattle.sn_mount.specs.Refusing.{Refuses}
+use Rattle.sn_mount.specs.Recovering.{KeepsTheWorld, LeavesTheWorld, OfImage, WritesAtFault, KeepsTheRoot}
+use Rattle.sn_examine.specs.Refusing.{Refuses}
 
--- the world that the disk was an image of runs, with the room that the image has, and at no moment a crash would have left another
+-- The world that the disk was an image of runs, with the room of the image that is there now, and at no moment a crash would have left another.
 pub record MountsWorld (old : Disk) (h : Held) (has_stopped : Bool) (world : World) : Type 0 where
-  pub room : HasRoomOf (reads old) world h.room
+  pub room : HasRoomOf (reads h.disk) world h.room
   pub means : Means h has_stopped (Running world)
   pub leaves : LeavesTheWorld old h.disk world
 
--- A disk is mounted: no number is kept back, and one gate was written at most. What it was an image of runs.
+-- A disk is mounted, and no number is kept back. What it was an image of runs.
 pub record Mounts (sectors : ℕ) (old : Disk) (h : Held) (has_stopped : Bool) : Type 0 where
   pub running : has_stopped ≡ false
   pub none_kept : (number : ℕ) → h.kept number ≡ false
-  pub touched : TouchesOneGate sectors old h.disk
+  pub touched : KeepsTheRoot sectors old h.disk
   pub runs : OfImage old (MountsWorld old h has_stopped)
 
 -- It isn't, for a cause, and the world that it is an image of, if any, is still there.
@@ -32,4 +32,4 @@ pub record IsLeft (fault : MountFault) (sectors : ℕ) (old new : Disk) : Type 0
 
 -- what a mount may write, whether it succeeds or not
 abbrev pub WritesToMount : ℕ → Disk → Disk → Type 0
-WritesToMount sectors old new = Touches Nowhere old new ⊎ TouchesOneGate sectors old new
+WritesToMount sectors old new = Touches Nowhere old new ⊎ KeepsTheRoot sectors old new

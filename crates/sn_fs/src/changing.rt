@@ -1,59 +1,58 @@
 //! A change in memory and in the log.
-ghost use Rattle.std.specs.Prelude.{◌≡◌, ◌+◌, ◌*◌, ◌<◌, ◌≤◌, ◌^◌, IsTrue};
+ghost use Rattle.std.specs.Prelude.{◌≡◌, ◌+◌, ◌*◌, ◌<◌, ◌≤◌, ◌^◌, false, IfErr, OnOk};
 ghost use Rattle.sn_block.specs.Lending.{device_of};
 ghost use Rattle.sn_core.specs.Plain.{room_of, world_of};
+ghost use Rattle.sn_desc.specs.InUse.{live_in};
 ghost use Rattle.sn_limits.specs.Versions.{version_1};
+ghost use Rattle.sn_log.specs.Places.{HasRoom as HasLogRoom};
 ghost use Rattle.sn_model.specs.NameTree.{IsTree};
+ghost use Rattle.sn_overlay.specs.Needs.{counts};
+ghost use Rattle.sn_overlay.specs.Overlays.{HasRoom, TakesRoom};
 ghost use Rattle.sn_record.specs.Payload.{IsSpelled};
-ghost use Rattle.sn_fs.specs.Changing.{Changes};
-ghost use Rattle.sn_fs.specs.Mounted.{holding};
+ghost use Rattle.sn_fs.specs.Changing.{Changes, stops};
+ghost use Rattle.sn_fs.specs.Filesystem.{has_stopped, held};
+ghost use Rattle.sn_fs.specs.Mounted.{IsSameRoot};
 
+use crate::Fs;
 use crate::fault::ChangeFault;
-use sn_block::Blocks;
-use sn_core::PlainWorld;
 use sn_device::Device;
-use sn_log::Log;
 use sn_model::Change;
-use sn_room::Room;
-use std::alloc::Global;
 
-/// Makes a change in memory, appends its record and charges it, where the call fits. All memory that it needs is taken
-/// before the first write.
-pub(crate) fn make_change<D: Device>(
-    alloc: Global,
-    blocks: &mut Blocks<D>,
-    log: &mut Log,
-    world: &mut PlainWorld,
-    room: &mut Room,
-    change: &Change<'_>,
-    charge: u64,
-    fits: bool,
-) -> Result<(), ChangeFault>
-    requires whole { IsTree version_1 (world_of world.old).live }
-    requires spelled { IsSpelled change.now }
-    requires within { 8 * log.old.blocks ≤ (D.status (device_of blocks.old)).sectors }
-    requires charge { IsTrue fits → room.old.charged + charge < 2 ^ 64 }
-    ensures made { Changes D.tells_bytes result change.now charge fits
-        (holding D.Device blocks.old log.old world.old room.old) (holding D.Device blocks.new log.new world.new room.new) }
-    ensures room { room_of world.new ≡ room_of world.old }
-    ensures blocks { log.new.blocks ≡ log.old.blocks }
-    ensures sectors { (D.status (device_of blocks.new)).sectors ≡ (D.status (device_of blocks.old)).sectors }
-{
-    if !fits {
-        return Err(ChangeFault::Space);
-    }
-    if !log.has_room(change) {
-        return Err(ChangeFault::Space);
-    }
-    match world.apply(alloc, change) {
-        Ok(()) => {}
-        Err(_) => return Err(ChangeFault::Memory),
-    }
-    match log.append(blocks, change) {
-        Ok(()) => {
-            room.log(charge);
-            Ok(())
+impl<D: Device> Fs<D> {
+    /// Makes a change in memory and in what changed since the root, appends its record and charges it. All memory that
+    /// it needs is taken before the first write, also for the drop of each file that is open behind it.
+    pub(crate) fn log_change(&mut self, change: &Change<'_>, charge: u64) -> Result<(), ChangeFault>
+        requires whole { IsTree version_1 (world_of self.old.world).live }
+        requires spelled { IsSpelled change.now }
+        requires room { HasLogRoom self.old.log change.now }
+        requires within { 8 * self.old.log.blocks ≤ (D.status (device_of self.old.blocks)).sectors }
+        requires charge { self.old.room.charged + charge < 2 ^ 64 }
+        ensures made { Changes D.tells_bytes result change.now charge (held self.old) (held self.new) }
+        ensures stopped { has_stopped self.new ≡ has_stopped self.old }
+        ensures room { room_of self.new.world ≡ room_of self.old.world }
+        ensures drops { OnOk result (HasRoom self.new.base.changed (counts (live_in (world_of self.old.world).descriptors + 2) 0 0)) }
+        ensures kept { IfErr result (λ fault. stops fault ≡ false → TakesRoom self.old.base.changed self.new.base.changed (counts 0 0 0)) }
+        ensures base { IsSameRoot self.old.base self.new.base }
+        ensures blocks { self.new.log.blocks ≡ self.old.log.blocks }
+        ensures epoch { self.new.log.epoch ≡ self.old.log.epoch }
+        ensures sectors { (D.status (device_of self.new.blocks)).sectors ≡ (D.status (device_of self.old.blocks)).sectors }
+    {
+        let Some(drops) = self.world.open_files().checked_add(2) else {
+            return Err(ChangeFault::Memory);
+        };
+        match self
+            .world
+            .apply_beside(self.alloc, change, &mut self.base.changed, drops)
+        {
+            Ok(()) => {}
+            Err(_) => return Err(ChangeFault::Memory),
         }
-        Err(_) => Err(ChangeFault::Device),
+        match self.log.append(&mut self.blocks, change) {
+            Ok(()) => {
+                self.room.log(charge);
+                Ok(())
+            }
+            Err(_) => Err(ChangeFault::Device),
+        }
     }
 }

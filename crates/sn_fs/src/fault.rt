@@ -7,8 +7,6 @@ use sn_model::Errno;
 /// Why a change isn't made.
 #[derive(Clone, Copy, PartialEq, Eq)]
 pub(crate) enum ChangeFault {
-    /// Its record has no room in the log.
-    Space,
     Memory,
     /// The device failed while its record was written.
     Device,
@@ -20,7 +18,6 @@ impl ChangeFault {
         ensures { result ≡ errno_of self }
     {
         match self {
-            ChangeFault::Space => Errno::Enospc,
             ChangeFault::Memory => Errno::Enomem,
             ChangeFault::Device => Errno::Eio,
         }

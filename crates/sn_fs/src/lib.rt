@@ -1,22 +1,27 @@
 //! The file system over a device: mount, calls, and the device back.
 //!
-//! The model. A mounted file system holds a world in memory, a position in its log, and a device (`Held` of
-//! `sn_held`). It means a state of the machine of `sn_model` (`Means` there): one that runs over a world stands on a sound
-//! root and keeps the changes of its log, which make of the root's tree one that covers the live one, whatever a crash
-//! leaves; one that a failure has stopped knows that each crash leaves one of two worlds. The world has no frozen
-//! trees: those of a root's snapshots aren't kept in memory yet.
+//! The model. A mounted file system holds a world in memory, a position in its log, the room that is left, what the next
+//! consistency point is built of, and a device (`Held` of `sn_held`). It means a state of the machine of `sn_model` (`Means`
+//! there): one that runs over a world stands on a sound root, keeps the changes of its log, which make of the root's tree one
+//! that covers the live one, whatever a crash leaves, and is ready for a point; one that a failure has stopped knows that
+//! each crash leaves one of two worlds. The world has no frozen trees: those of a root's snapshots aren't kept in memory yet.
 //!
 //! What the clauses say, those on bytes of each device that tells them:
 //! - [`Fs::call`]: from each state that is meant, the reply is that of a step of the machine, and the next
 //!   state is meant. A crash at any moment of the call leaves an image of the settled world from before it or from
-//!   after it, and once it is answered of the one after alone. What it may meet with has a cause: EIO where
-//!   the device failed, ENOSPC where the record of its change has no room.
+//!   after it, and once it is answered of the one after alone. Where what it comes to lacks room in the log or on the disk, a
+//!   number or an age, a whole point comes first (`HasMadePoint`), and else none. What it may meet with has a cause: EIO where
+//!   the device failed, ENOSPC where it doesn't fit right behind that point.
+//! - [`Fs::step`]: makes a whole point, which changes no world.
 //! - [`mount`]: where the contents are an image of a world without snapshots, that world runs; from the first sync on
-//!   every crash leaves an image of it, also where the mount fails. A mount fails for a cause (`Refuses` of `sn_mount`).
+//!   every crash leaves an image of it, also where the mount fails. A mount fails for a cause (`Refuses` of `sn_examine`).
 //!
 //! The way through: `sn_held` says what is meant, and of what the disk is an image. `specs/Answers.antt` says what an event
-//! leads to, `Changing.antt` what a change does in memory and on the disk, `Mounting.antt` what a mount makes of a disk. A call is decided by `sn_core`; `changing` makes its change in memory, which takes all the memory, and then
-//! appends its record; a mount is `sn_mount`'s.
+//! leads to, `Serving.antt` a call without a point, `Changing.antt` what a change does in memory and on the disk, `Pointing.antt`
+//! a point, `Mounting.antt` what a mount makes of a disk. A call is decided by `sn_core`; `serving` asks whether it lacks
+//! something and does it, `changing` makes its change in memory, which takes all the memory, and then appends its record,
+//! `pointing` makes a point of what changed since the root, by `sn_cp_whole`, and `calling` puts them together; a mount is
+//! `sn_mount`'s.
 //!
 //! What the sources leave open is decided in `docs/DECISIONS.md`, under "Mount and calls over a device".
 //!
@@ -33,6 +38,8 @@ mod fault;
 mod found;
 mod fs;
 mod mounting;
+mod pointing;
+mod serving;
 
 pub use found::Unmounted;
 pub use fs::Fs;

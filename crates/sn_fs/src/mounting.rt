@@ -1,7 +1,8 @@
 //! Mount and unmount.
-ghost use Rattle.std.specs.Prelude.{◌≡◌, IsTrue, IfOk, IfErr};
-ghost use Rattle.sn_block.specs.Counts.{IsLater, called};
-ghost use Rattle.sn_mount.specs.Failing.{CostsAtMost, IsSoOf};
+ghost use Rattle.std.specs.Prelude.{◌≡◌, ◌*◌, ◌≤◌, IsTrue, IfOk, IfErr};
+ghost use Rattle.sn_block.specs.Counts.{IsLater};
+ghost use Rattle.sn_examine.specs.Failing.{IsSoOf};
+ghost use Rattle.sn_mount.specs.Costs.{CostsFew, CostsMount};
 ghost use Rattle.sn_fs.specs.Filesystem.{IsFs, has_stopped, held};
 ghost use Rattle.sn_fs.specs.Mounting.{IsLeft, Mounts};
 
@@ -14,8 +15,9 @@ use sn_mount::{Recovered, recover};
 use std::alloc::Global;
 
 /// Mounts a device: syncs it, reads the newest root's tree, replays the log into it, looks whether what that is charged
-/// is free, drops the files that no name stands for, and clears the place where the log goes on. `NotFormatted`, `NoRoot`, `Version` and `Damaged` come in
-/// this order, each before anything is written.
+/// is free, and drops the files that no name stands for. Where anything was replayed or dropped, a consistency point
+/// makes a root of it; then the first place of the log is cleared. `NotFormatted`, `NoRoot`, `Version` and `Damaged`
+/// come in this order, each before anything is written.
 pub fn mount<D: Device>(alloc: Global, device: D) -> Result<Fs<D>, Unmounted<D>>
     ensures mounted { IsTrue D.tells_bytes → IfOk result (λ fs. Mounts (D.status device).sectors (D.disk device) (held fs) (has_stopped fs)) }
     ensures sound { IfOk result IsFs }
@@ -23,8 +25,9 @@ pub fn mount<D: Device>(alloc: Global, device: D) -> Result<Fs<D>, Unmounted<D>>
     ensures failed { IfErr result (λ u. IsSoOf u.fault (D.status device) (D.status u.device)) }
     ensures sectors { IfErr result (λ u. (D.status u.device).sectors ≡ (D.status device).sectors) }
     ensures later { IfErr result (λ u. IsLater (D.status device) (D.status u.device)) }
-    ensures costs { IfOk result (λ fs. (held fs).status ≡ called 1 2 (D.status device)) }
-    ensures tries { IfErr result (λ u. CostsAtMost 1 2 (D.status device) (D.status u.device)) }
+    ensures costs { IfOk result (λ fs. CostsMount (held fs).at.blocks (D.status device) (held fs).status) }
+    ensures within { IfOk result (λ fs. 8 * (held fs).at.blocks ≤ (D.status device).sectors) }
+    ensures tries { IfErr result (λ u. CostsFew (D.status device) (D.status u.device)) }
 {
     let mut blocks = match Blocks::new(alloc, device) {
         Ok(blocks) => blocks,
@@ -36,12 +39,20 @@ pub fn mount<D: Device>(alloc: Global, device: D) -> Result<Fs<D>, Unmounted<D>>
         }
     };
     match recover(alloc, &mut blocks) {
-        Ok(Recovered { log, world, room }) => Ok(Fs {
+        Ok(
+            Recovered {
+                log,
+                world,
+                room,
+                base,
+            },
+        ) => Ok(Fs {
             alloc,
             blocks,
             log,
             world,
             room,
+            base,
             has_stopped: false,
         }),
         Err(fault) => Err(Unmounted {
@@ -61,10 +72,12 @@ impl<D: Device> Fs<D> {
             blocks,
             log,
             world,
+            base,
             ..
         } = self;
         drop(log);
         drop(world);
+        drop(base);
         blocks.into_device()
     }
 }

@@ -2,8 +2,9 @@
 use Rattle.std.proofs.Common.{◌≡◌, ◌⊎◌, inl, inr, ⊎_elim, ℕ, ◌+◌, ◌*◌, ◌≤◌, Bool, List, [], ◌∷◌, ◌++◌, None, Some, length, replicate, slice_index, refl, sym, ap, subst, ◌∙◌, append-nil, append_assoc, arith}
 use Rattle.std.specs.FinMap as map
 use Rattle.sn_device.specs.Sectors.{Contents, AreSectors}
-use Rattle.sn_device.specs.Disk.{Always, Disk, reads}
+use Rattle.sn_device.specs.Disk.{Always, Disk, IsSynced, reads}
 use Rattle.sn_device.specs.Crash.{LeavesOnly, Touches}
+use Rattle.sn_device.specs.declared.status.Status.{Status}
 use Rattle.sn_device.proofs.CrashLemmas.{LeavesOnly-start, LeavesOnly-weaker, LeavesOnly-now, Always-reads}
 use Rattle.sn_layout.specs.declared.root.RootBody.{RootBody}
 use Rattle.sn_limits.specs.declared.limits.Limits.{Limits}
@@ -13,7 +14,7 @@ use Rattle.sn_model.specs.declared.outcome.Caller.{Caller}
 use Rattle.sn_model.specs.declared.outcome.Caller.TheVariants.{Stays, LogsIn, SetsUmask, LogsOut, Opens as OpensFile, OpensNew, Closes, Moves}
 use Rattle.sn_model.specs.Changes.{apply}
 use Rattle.sn_model.specs.Charges.{charge_for}
-use Rattle.sn_model.specs.NameTree.{IsHierarchy}
+use Rattle.sn_model.specs.NameTree.{IsHierarchy, IsTree}
 use Rattle.sn_model.specs.Machine.{State, Running, Stopped}
 use Rattle.sn_model.specs.Settling.{dropped, is_held, settle, settled, without_nameless}
 use Rattle.sn_model.specs.Steps.{with_caller, with_live}
@@ -37,16 +38,17 @@ use Rattle.sn_overlay.specs.Needs.{nameless_in}
 use Rattle.sn_room.specs.Rooms.{dropping, logged}
 use Rattle.sn_sound.specs.Charges.{Fits}
 use Rattle.sn_sound.specs.Disks.{IsFormatted}
+use Rattle.sn_sound.specs.Logs.{HasAgeLeft}
 use Rattle.sn_sound.specs.Maps.{free_blocks}
 use Rattle.sn_sound.proofs.DiskLemmas.{one_size}
 use Rattle.sn_sound.proofs.StandingLemmas.{lies_in_data}
-use Rattle.sn_held.specs.Held.{Held, Means, Runs}
+use Rattle.sn_held.specs.Held.{CarriesOn, Held, Kept, Means, Runs, RunsReady}
 use Rattle.sn_held.specs.Images.{IsImage, IsLiveImage}
 use Rattle.sn_held.specs.Moments.{LastsOver, ShowsState}
 use Rattle.sn_held.specs.Room.{HasRoomFor, IsCharged}
 use Rattle.sn_held.specs.Events.{IsOfTree, LeavesEither, LeavesMore}
 use Rattle.sn_held.proofs.RoomLemmas.{one_more_charged, one_more_fits}
-use Rattle.sn_held.proofs.HeldLemmas.{Rests, image_newer, image_older, image_shown, newer_none, newer_shows, older_none, older_shows, rests_stay}
+use Rattle.sn_held.proofs.HeldLemmas.{Rests, image_newer, image_older, image_shown, older_none, older_shows, rests_stay}
 
 -- ---- what a crash leaves of a mount that runs
 
@@ -82,7 +84,7 @@ pub live_show : (h : Held) (w : World) → Runs h w → w.frozen ≡ map.empty �
 live_show h w r none c crash = record { image = runs_show h w r c crash; frozen = none }
 
 pub means_show : (h : Held) (has_stopped : Bool) (s : State) → Means h has_stopped s → Always h.disk (ShowsState s)
-means_show h has_stopped (Running w) m = live_show h w m.1 m.2
+means_show h has_stopped (Running w) m = live_show h w m.1.runs m.2
 means_show h has_stopped (Stopped before after) m = m.1
 
 -- an event that leaves state and disk as they are
@@ -114,8 +116,8 @@ left_covers : (changes : List Change) (from tree live : Tree) (held : ℕ → Bo
 left_covers changes from tree live held e m = subst (MakesCover version_1 changes from) (sym e) (dropping_covers version_1 changes from tree held m)
 
 -- files without names that go change nothing of the disk
-pub dropped_runs : (h : Held) (w next : World) (kept : ℕ → Bool) (count : ℕ) → Runs h w → IsOfTree w w.live next → nameless_in w.live ≤ nameless_in next.live + count → Runs (record h { world = next; kept = kept; room = dropping count h.room }) next
-dropped_runs h w next kept count r of counted = record {
+pub dropped_runs : (h : Held) (w next : World) (kept : ℕ → Bool) (count : ℕ) (base : Kept) → Runs h w → IsOfTree w w.live next → nameless_in w.live ≤ nameless_in next.live + count → Runs (record h { world = next; kept = kept; room = dropping count h.room; base = base }) next
+dropped_runs h w next kept count base r of counted = record {
   is = refl;
   store = r.store;
   slot = r.slot;
@@ -145,7 +147,7 @@ behind_older older newer change none =
     (ap (λ (cs : List Change). cs ++ change ∷ []) (append-nil older) ∙ sym (append-nil (older ++ change ∷ [])))
 
 module _ (old new : Held) (w next : World) (change : Change) (tree : Tree) (r : Runs old w) (spelled : IsSpelled change) (applied : apply version_1 change w.live ≡ Some tree) (of : IsOfTree w tree next)
-    (hierarchy : IsHierarchy w.live) (has_room : HasRoomFor old.room w.live change) (touched : Touches (InHalf (base_at old.at)) old.disk new.disk) where
+    (hierarchy : IsHierarchy w.live) (has_room : HasRoomFor old.room w.live change) (aged : HasAgeLeft r.root) (touched : Touches (InHalf (base_at old.at)) old.disk new.disk) where
   abbrev pub n : ℕ
   n = old.at.blocks
 
@@ -201,7 +203,7 @@ module _ (old new : Held) (w next : World) (change : Change) (tree : Tree) (r : 
             each = λ c since. ⊎_elim
                 (λ ready. inl (image_older n r.store r.slot r.root r.words r.older r.newer (settle w) r.older_spelled r.newer_spelled r.stands.sound (stands_for old w r) (fits_now old w r) r.age c old.at (rest.each c since) refl epoch ready))
                 (λ ready. inr (image_older n r.store r.slot r.root r.words (r.older ++ change ∷ []) r.newer (settle next) (spelled_more r.older change r.older_spelled spelled) r.newer_spelled r.stands.sound stands
-                (more_fits ((r.older ++ change ∷ []) ++ r.newer) (sym (behind_older r.older r.newer change none))) r.age c (behind old.at change) (rest.each c since) refl epoch ready))
+                (more_fits ((r.older ++ change ∷ []) ++ r.newer) (sym (behind_older r.older r.newer change none))) (λ recovers. aged) c (behind old.at change) (rest.each c since) refl epoch ready))
                 (either.each c since);
           }
 
@@ -215,76 +217,43 @@ module _ (old new : Held) (w next : World) (change : Change) (tree : Tree) (r : 
             each = λ c since. ⊎_elim
                 (λ ready. inl (image_newer n r.store r.slot r.root r.words r.older r.newer (settle w) r.older_spelled r.newer_spelled r.stands.sound (stands_for old w r) (fits_now old w r) r.age c old.at (rest.each c since) refl epoch ready))
                 (λ ready. inr (image_newer n r.store r.slot r.root r.words r.older (r.newer ++ change ∷ []) (settle next) r.older_spelled (spelled_more r.newer change r.newer_spelled spelled) r.stands.sound stands
-                (more_fits (r.older ++ (r.newer ++ change ∷ [])) (sym (append_assoc r.older r.newer (change ∷ [])))) r.age c (behind old.at change) (rest.each c since) refl epoch ready))
+                (more_fits (r.older ++ (r.newer ++ change ∷ [])) (sym (append_assoc r.older r.newer (change ∷ [])))) (λ recovers. aged) c (behind old.at change) (rest.each c since) refl epoch ready))
                 (either.each c since);
           }
 
-  -- after the append the new world runs
-  pub runs_on : LeavesMore old.at change old.disk new.disk → AreSectors (reads new.disk) → new.at ≡ behind old.at change → new.room ≡ logged (charge_for version_1 w.live change) old.room → new.world ≡ next → nameless_in w.live ≤ nameless_in next.live → Runs new next
-  runs_on leaves whole at charged is no_fewer = subst (λ (h : Held). Runs h next) (λ i. record new { at = sym at i; room = sym charged i; world = sym is i }) (⊎_elim in_older in_newer r.log)
-    where
-      after : Held
-      after = record new { at = behind old.at change; room = logged (charge_for version_1 w.live change) old.room; world = next }
+  abbrev pub after : Held
+  after = record new { at = behind old.at change; room = logged (charge_for version_1 w.live change) old.room; world = next }
 
-      in_older : (r.newer ≡ []) × (old.at.epoch ≡ r.root.epoch) × Always old.disk (IsReadyAt old.at r.older) → Runs after next
-      in_older (none, epoch, is_ready) =
-          let rests = LeavesOnly-now old.disk new.disk (Rests n r.store r.slot r.root r.words (r.root.epoch + 1) r.newer) (older_rest epoch) in
-          let more = leaves r.older is_ready in
-          record {
-            is = refl;
-            store = r.store;
-            slot = r.slot;
-            root = r.root;
-            words = r.words;
-            older = r.older ++ change ∷ [];
-            newer = r.newer;
-            older_spelled = spelled_more r.older change r.older_spelled spelled;
-            newer_spelled = r.newer_spelled;
-            limits = r.limits;
-            formatted = λ c crash. (rests c crash).spelled;
-            stands = record {
-              disk = Always-reads new.disk (IsDisk n) whole (λ c crash. (rests c crash).disk);
-              shows = λ c crash. older_shows n r.store r.slot r.root r.words (r.older ++ change ∷ []) r.newer c (behind old.at change) (rests c crash) refl epoch (more c crash);
-              map = λ c crash. (rests c crash).map;
-              sound = r.stands.sound;
-            };
-            none_later = λ e c crash. older_none n r.store r.slot r.root r.words (r.older ++ change ∷ []) r.newer c (behind old.at change) (rests c crash) refl epoch (more c crash) e;
-            log = inl (none, epoch, more);
-            cover = subst (λ (cs : List Change). MakesCover version_1 cs (image r.store r.root.inode_file) next.live) (behind_older r.older r.newer change none) more_covers;
-            charged = more_charged no_fewer ((r.older ++ change ∷ []) ++ r.newer) (sym (behind_older r.older r.newer change none));
-            age = r.age;
-            frozen = more_frozen;
-          }
-
-      in_newer : (old.at.epoch ≡ r.root.epoch + 1) × Always old.disk (IsReadyAt old.at r.newer) → Runs after next
-      in_newer (epoch, is_ready) =
-          let rests = LeavesOnly-now old.disk new.disk (Rests n r.store r.slot r.root r.words r.root.epoch r.older) (newer_rest epoch) in
-          let more = leaves r.newer is_ready in
-          record {
-            is = refl;
-            store = r.store;
-            slot = r.slot;
-            root = r.root;
-            words = r.words;
-            older = r.older;
-            newer = r.newer ++ change ∷ [];
-            older_spelled = r.older_spelled;
-            newer_spelled = spelled_more r.newer change r.newer_spelled spelled;
-            limits = r.limits;
-            formatted = λ c crash. (rests c crash).spelled;
-            stands = record {
-              disk = Always-reads new.disk (IsDisk n) whole (λ c crash. (rests c crash).disk);
-              shows = λ c crash. newer_shows n r.store r.slot r.root r.words r.older (r.newer ++ change ∷ []) c (behind old.at change) (rests c crash) refl epoch (more c crash);
-              map = λ c crash. (rests c crash).map;
-              sound = r.stands.sound;
-            };
-            none_later = λ e c crash. newer_none n r.store r.slot r.root r.words r.older (r.newer ++ change ∷ []) c (behind old.at change) (rests c crash) refl epoch (more c crash) e;
-            log = inr (epoch, more);
-            cover = subst (λ (cs : List Change). MakesCover version_1 cs (image r.store r.root.inode_file) next.live) (append_assoc r.older r.newer (change ∷ [])) more_covers;
-            charged = more_charged no_fewer (r.older ++ (r.newer ++ change ∷ [])) (sym (append_assoc r.older r.newer (change ∷ [])));
-            age = r.age;
-            frozen = more_frozen;
-          }
+  -- after the append, between two points, the new world runs
+  after_runs : (r.newer ≡ []) → old.at.epoch ≡ r.root.epoch → Always old.disk (IsReadyAt old.at r.older) → LeavesMore old.at change old.disk new.disk → AreSectors (reads new.disk) → nameless_in w.live ≤ nameless_in next.live → Runs after next
+  after_runs none epoch is_ready leaves whole no_fewer =
+      let rests = LeavesOnly-now old.disk new.disk (Rests n r.store r.slot r.root r.words (r.root.epoch + 1) r.newer) (older_rest epoch) in
+      let more = leaves r.older is_ready in
+      record {
+        is = refl;
+        store = r.store;
+        slot = r.slot;
+        root = r.root;
+        words = r.words;
+        older = r.older ++ change ∷ [];
+        newer = r.newer;
+        older_spelled = spelled_more r.older change r.older_spelled spelled;
+        newer_spelled = r.newer_spelled;
+        limits = r.limits;
+        formatted = λ c crash. (rests c crash).spelled;
+        stands = record {
+          disk = Always-reads new.disk (IsDisk n) whole (λ c crash. (rests c crash).disk);
+          shows = λ c crash. older_shows n r.store r.slot r.root r.words (r.older ++ change ∷ []) r.newer c (behind old.at change) (rests c crash) refl epoch (more c crash);
+          map = λ c crash. (rests c crash).map;
+          sound = r.stands.sound;
+        };
+        none_later = λ e c crash. older_none n r.store r.slot r.root r.words (r.older ++ change ∷ []) r.newer c (behind old.at change) (rests c crash) refl epoch (more c crash) e;
+        log = inl (none, epoch, more);
+        cover = subst (λ (cs : List Change). MakesCover version_1 cs (image r.store r.root.inode_file) next.live) (behind_older r.older r.newer change none) more_covers;
+        charged = more_charged no_fewer ((r.older ++ change ∷ []) ++ r.newer) (sym (behind_older r.older r.newer change none));
+        age = λ recovers. aged;
+        frozen = more_frozen;
+      }
 
   module _ (none : w.frozen ≡ map.empty) where
     pub still_none : next.frozen ≡ map.empty
@@ -307,6 +276,84 @@ module _ (old new : Held) (w next : World) (change : Change) (tree : Tree) (r : 
       moments = LeavesOnly-weaker old.disk new.disk (λ c. IsLiveImage c (settle w) ⊎ IsLiveImage c (settle next)) (λ c. ShowsState (Running w) c ⊎ ShowsState (Stopped (settle w) (settle next)) c) (λ c h. inr h) (live_either leaves);
       answered = stops_between leaves;
     }
+
+-- ---- what makes a mount ready for a point
+
+-- whatever numbers are kept back, whatever was kept for the point before, and whatever the device has counted
+pub ready_with : (h : Held) (w : World) (k : Kept) (kept : ℕ → Bool) (base : Kept) (status : Status) → RunsReady h w k → RunsReady (record h { kept = kept; base = base; status = status }) w k
+ready_with h w k kept base status ready =
+    let r = ready.runs in
+    let is = ready.ready in
+    record {
+      runs = record {
+        is = r.is;
+        store = r.store;
+        slot = r.slot;
+        root = r.root;
+        words = r.words;
+        older = r.older;
+        newer = r.newer;
+        older_spelled = r.older_spelled;
+        newer_spelled = r.newer_spelled;
+        limits = r.limits;
+        formatted = r.formatted;
+        stands = r.stands;
+        none_later = r.none_later;
+        log = r.log;
+        cover = r.cover;
+        charged = r.charged;
+        age = r.age;
+        frozen = r.frozen;
+      };
+      ready = record {
+        between = record { none_newer = is.between.none_newer; epoch = is.between.epoch; ready = is.between.ready; synced = is.between.synced };
+        slot = is.slot;
+        root = is.root;
+        words = is.words;
+        changed = is.changed;
+        tree = is.tree;
+      };
+    }
+
+-- files without names that go
+pub drops_ready : (h : Held) (w next : World) (kept : ℕ → Bool) (count : ℕ) (base : Kept) → RunsReady h w h.base → IsOfTree w w.live next → nameless_in w.live ≤ nameless_in next.live + count
+    → CarriesOn h.base w.live h.room.charged base next.live h.room.charged → IsTree version_1 next.live → RunsReady (record h { world = next; kept = kept; room = dropping count h.room; base = base }) next base
+unfolding dropped_runs
+drops_ready h w next kept count base ready of counted carried tree =
+    let is = ready.ready in
+    record {
+      runs = dropped_runs h w next kept count base ready.runs of counted;
+      ready = record {
+        between = record { none_newer = is.between.none_newer; epoch = is.between.epoch; ready = is.between.ready; synced = is.between.synced };
+        slot = carried.slot ∙ is.slot;
+        root = carried.root ∙ is.root;
+        words = carried.words ∙ is.words;
+        changed = carried.changed (image ready.runs.store ready.runs.root.inode_file) is.changed;
+        tree = tree;
+      };
+    }
+
+-- a change that is appended
+pub appends_ready : (old new : Held) (w next : World) (change : Change) (tree : Tree) → RunsReady old w old.base → IsSpelled change → apply version_1 change w.live ≡ Some tree → IsOfTree w tree next → IsHierarchy w.live → HasRoomFor old.room w.live change → HasAgeLeft old.base.root
+    → Touches (InHalf (base_at old.at)) old.disk new.disk → LeavesMore old.at change old.disk new.disk
+    → AreSectors (reads new.disk) → IsSynced new.disk → new.at ≡ behind old.at change → new.room ≡ logged (charge_for version_1 w.live change) old.room → new.world ≡ next → nameless_in w.live ≤ nameless_in next.live
+    → CarriesOn old.base w.live old.room.charged new.base next.live (old.room.charged + charge_for version_1 w.live change) → IsTree version_1 next.live → RunsReady new next new.base
+unfolding after_runs
+appends_ready old new w next change tree ready spelled applied of hierarchy has_room aged touched leaves whole synced at charged is no_fewer carried hierarchic =
+    let r = ready.runs in
+    let between = ready.ready.between in
+    subst (λ (h : Held). RunsReady h next new.base) (λ i. record new { at = sym at i; room = sym charged i; world = sym is i })
+    (record {
+      runs = after_runs old new w next change tree r spelled applied of hierarchy has_room (subst HasAgeLeft ready.ready.root aged) touched between.none_newer between.epoch between.ready leaves whole no_fewer;
+      ready = record {
+        between = record { none_newer = between.none_newer; epoch = between.epoch; ready = leaves r.older between.ready; synced = synced };
+        slot = carried.slot ∙ ready.ready.slot;
+        root = carried.root ∙ ready.ready.root;
+        words = carried.words ∙ ready.ready.words;
+        changed = carried.changed (image r.store r.root.inode_file) ready.ready.changed;
+        tree = hierarchic;
+      };
+    })
 
 -- ---- one world
 

@@ -29,7 +29,7 @@ use Rattle.sn_opening.proofs.OpeningLemmas.{half_lies}
 use Rattle.sn_sound.specs.Charges.{Fits, charges_from}
 use Rattle.sn_sound.specs.Maps.{free_blocks}
 use Rattle.sn_sound.proofs.StandingLemmas.{lies_in_data}
-use Rattle.sn_held.specs.Held.{GoesOn, Runs}
+use Rattle.sn_held.specs.Held.{GoesOn, Kept, Runs}
 use Rattle.sn_held.specs.Images.{EndsAt, IsImage}
 use Rattle.sn_held.specs.Room.{room_of_image}
 use Rattle.sn_held.proofs.HeldLemmas.{Rests, each_half, image_shown, rests_stay}
@@ -184,12 +184,12 @@ module _ (mid new : Disk) (w : World) (im : IsImage (reads mid) w) (at : LogPosi
       inr (in_epoch, λ d crash. record { count = count; ready = record { leads = (stay d crash).leads; closed = closed d crash } })
 
   -- once it is closed, the mount runs over the world
-  pub cleared_runs : EndsAt c w im at → Always new (λ d. IsClosed d (base_at at + at.place)) → AreSectors (reads new) → (keeps_back : ℕ → Bool) (status : Status)
-      → Runs (record { world = w; kept = keeps_back; room = room_of_image c w im; at = at; disk = new; status = status }) w
-  cleared_runs ends closed whole keeps_back status =
+  pub cleared_runs : EndsAt c w im at → Always new (λ d. IsClosed d (base_at at + at.place)) → AreSectors (reads new) → (keeps_back : ℕ → Bool) (base : Kept) (status : Status)
+      → Runs (record { world = w; kept = keeps_back; room = room_of_image c w im; at = at; base = base; disk = new; status = status }) w
+  cleared_runs ends closed whole keeps_back base status =
       let now = LeavesOnly-now mid new IsKept (kept ends) in
       let same : record at { blocks = n } ≡ at = λ i. record at { blocks = sym ends.0 i } in
-      subst (λ (p : LogPosition). Runs (record { world = w; kept = keeps_back; room = room_of_image c w im; at = p; disk = new; status = status }) w) same (record {
+      subst (λ (p : LogPosition). Runs (record { world = w; kept = keeps_back; room = room_of_image c w im; at = p; base = base; disk = new; status = status }) w) same (record {
         is = refl;
         store = s;
         slot = o.slot;

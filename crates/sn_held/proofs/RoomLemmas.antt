@@ -1,10 +1,13 @@
 -- What is charged on top of a root, change by change, and what of it is the same on another store.
-use Rattle.std.proofs.Common.{◌≡◌, ℕ, ◌+◌, ◌*◌, ◌≤◌, Bool, true, false, cond, T, List, [], ◌∷◌, ◌++◌, Option, Some, None, count_by, flat_map, slice_index, refl, sym, ap, subst, ◌∙◌, arith}
+use Rattle.std.proofs.Common.{◌≡◌, ℕ, ◌+◌, ◌≤◌, Bool, true, false, cond, T, List, [], ◌∷◌, ◌++◌, Option, Some, None, count_by, flat_map, slice_index, refl, sym, ap, subst, ◌∙◌, arith}
 use Rattle.std.specs.List.{filter}
 use Rattle.std.specs.Prelude.{not, ◌||◌}
+use Rattle.std.proofs.lemmas.Bool.{true≢false}
+use Rattle.std.proofs.lemmas.List.{nil_from_length}
 use Rattle.std.specs.Ordering.{nat_cmp}
 use Rattle.std.specs.declared.cmp.Ordering.TheVariants.{Equal}
 use Rattle.std.specs.FinMap as map
+use Rattle.std.specs.FinMap.{put}
 use Rattle.std.specs.FinMap.Entries.{is_sorted, is_sorted-where_key, find-where_key}
 use Rattle.std.specs.Cmp.{nat_cmp_total}
 use Rattle.std.proofs.lemmas.Map.Lookups.{exact_unsigned}
@@ -19,10 +22,12 @@ use Rattle.sn_model.specs.Chains.{◌>>=◌}
 use Rattle.sn_model.specs.Changes.{apply, apply_all}
 use Rattle.sn_model.specs.Charges.{charge_for}
 use Rattle.sn_model.specs.NameTree.{IsHierarchy}
-use Rattle.sn_model.specs.Settling.{is_nameless, without_nameless}
+use Rattle.sn_model.specs.Settling.{is_nameless, settled, without_nameless}
 use Rattle.sn_model.specs.Tree.{Node, Tree}
 use Rattle.sn_model.proofs.ChainLemmas.{some_same}
+use Rattle.sn_model.specs.World.{new_root, new_tree}
 use Rattle.sn_overlay.specs.Needs.{nameless_in}
+use Rattle.sn_overlay_change.proofs.StayingLemmas.{staying_is_counted}
 use Rattle.sn_ondisk.specs.TreeLaws.{SameIn}
 use Rattle.sn_ondisk.specs.Trees.{Store}
 use Rattle.sn_image.specs.Image.{image}
@@ -118,6 +123,28 @@ drops_leave_fewer held tree =
     let stays = λ (n : ℕ). not (is_nameless tree n (map.get tree.nodes n)) || held n in
     let left : count_by counts (map.entries (map.retain_keys tree.nodes stays)) ≡ count_by counts (filter (λ e. stays e.0) (map.entries tree.nodes)) = ap (count_by counts) (left_entries tree.nodes stays) in
     omega (arith, left, fewer_pass counts (λ e. stays e.0) (map.entries tree.nodes))
+
+-- a tree that was settled has none
+settled_named : (tree : Tree) (n : ℕ) → is_nameless (settled tree) n (map.get (settled tree).nodes n) ≡ false
+settled_named tree n = ap (is_nameless tree n) (map.get-retain_keys tree.nodes stays n (λ x tie. ap stays (sym (exact_unsigned n x tie)))) ∙ told (is_nameless tree n (map.get tree.nodes n)) refl
+  where
+    stays : ℕ → Bool
+    stays q = not (is_nameless tree q (map.get tree.nodes q)) || false
+
+    told : (bare : Bool) → is_nameless tree n (map.get tree.nodes n) ≡ bare → is_nameless tree n (cond (not bare || false) (map.get tree.nodes n) None) ≡ false
+    told true is = refl
+    told false is = is
+
+no_entries : map.entries (map.empty {X = Node} {R = nat_cmp}) ≡ []
+no_entries = nil_from_length (map.entries (map.empty {X = Node} {R = nat_cmp})) (sym (map.len-entries (map.empty {X = Node} {R = nat_cmp})) ∙ map.len-empty nat_cmp Node)
+
+pub none_nameless : nameless_in new_tree ≡ 0
+unfolding nameless_in
+none_nameless =
+    ap (count_by (λ (e : ℕ × Node). is_nameless new_tree e.0 (Some e.1))) (map.entries-insert nat_cmp_total map.empty 2 new_root ∙ ap (put nat_cmp 2 new_root) no_entries)
+
+pub settled_has_none : (tree : Tree) → nameless_in (settled tree) ≡ 0
+settled_has_none tree = omega (arith, staying_is_counted (settled tree) new_tree (λ n bare. absurd (true≢false (sym bare ∙ settled_named tree n))), none_nameless)
 
 -- ---- on another store
 

@@ -1,7 +1,8 @@
 -- What a mounted file system over a root holds, and what that means.
 use Rattle.std.specs.Prelude.{◌≡◌, ◌⊎◌, ℕ, ◌+◌, Bool, true, false, List, [], ◌++◌}
 use Rattle.std.specs.FinMap as map
-use Rattle.sn_device.specs.Disk.{Disk, Always}
+use Rattle.sn_changed.specs.Changed.{HasChanged}
+use Rattle.sn_device.specs.Disk.{Disk, Always, IsSynced}
 use Rattle.sn_device.specs.declared.status.Status.{Status}
 use Rattle.sn_layout.specs.declared.places.Slot.{Slot}
 use Rattle.sn_layout.specs.declared.root.RootBody.{RootBody}
@@ -9,6 +10,8 @@ use Rattle.sn_layout.specs.Superblock.{superblock_bytes}
 use Rattle.sn_limits.specs.Versions.{version_1}
 use Rattle.sn_model.specs.declared.change.Change.{Change}
 use Rattle.sn_model.specs.Machine.{State, Running, Stopped}
+use Rattle.sn_model.specs.NameTree.{IsTree}
+use Rattle.sn_model.specs.Tree.{Tree}
 use Rattle.sn_model.specs.World.{World}
 use Rattle.sn_ondisk.specs.Blocks.{block_at}
 use Rattle.sn_ondisk.specs.LogHalf.{HasNoLater, base_of}
@@ -18,18 +21,27 @@ use Rattle.sn_image.specs.Image.{image}
 use Rattle.sn_opening.specs.Covering.{MakesCover}
 use Rattle.sn_opening.specs.Spelled.{AreSpelled}
 use Rattle.sn_opening.specs.Worlds.{frozen_of}
+use Rattle.sn_overlay.specs.Layers.{Layer}
 use Rattle.sn_room.specs.Rooms.{RoomCounts}
-use Rattle.sn_sound.specs.Logs.{HasAgeLeft}
+use Rattle.sn_sound.specs.Logs.{HasAgeLeft, IsToRecover}
 use Rattle.sn_sound.specs.Standing.{RootStands}
 use Rattle.sn_held.specs.Moments.{ShowsState}
 use Rattle.sn_held.specs.Room.{IsCharged}
 
--- the world in memory, the numbers that are kept back in it and the room that is left for it, where its log goes on, and the device
+-- What a mounted file system keeps for its next point: the root that counts, where it stands, the words of its map, and what changed since.
+pub record Kept : Type 0 where
+  pub slot : Slot
+  pub root : RootBody
+  pub words : List ℕ
+  pub changed : Layer
+
+-- the world in memory, the numbers that are kept back in it and the room that is left for it, where its log goes on, what is kept for the next point, and the device
 pub record Held : Type 0 where
   pub world : World
   pub kept : ℕ → Bool
   pub room : RoomCounts
   pub at : LogPosition
+  pub base : Kept
   pub disk : Disk
   pub status : Status
 
@@ -57,10 +69,38 @@ pub record Runs (h : Held) (world : World) : Type 0 where
   pub log : GoesOn h.at root older newer h.disk
   pub cover : MakesCover version_1 (older ++ newer) (image store root.inode_file) world.live
   pub charged : IsCharged h.room h.at.blocks store root (older ++ newer) world.live
-  pub age : HasAgeLeft root
+  pub age : IsToRecover (older ++ newer) (image store root.inode_file) → HasAgeLeft root
   pub frozen : world.frozen ≡ frozen_of store root.snapshots
 
--- One that runs has no frozen trees in its world. One that a failure has stopped knows of its disk alone, that the next mount finds one of two worlds there.
+-- No point is in progress, so that the log goes on under the root's own epoch, and nothing is unsynced.
+pub record IsBetween (h : Held) (world : World) (r : Runs h world) : Type 0 where
+  pub none_newer : r.newer ≡ []
+  pub epoch : h.at.epoch ≡ r.root.epoch
+  pub ready : Always h.disk (IsReadyAt h.at r.older)
+  pub synced : IsSynced h.disk
+
+-- The mount is ready for a point: it is between two points, the root that is kept counts, and the live tree, a name tree, is seen through what changed since, which was charged.
+pub record IsReady (h : Held) (world : World) (r : Runs h world) (k : Kept) : Type 0 where
+  pub between : IsBetween h world r
+  pub slot : k.slot ≡ r.slot
+  pub root : k.root ≡ r.root
+  pub words : k.words ≡ r.words
+  pub changed : HasChanged version_1 k.changed (image r.store r.root.inode_file) world.live h.room.charged
+  pub tree : IsTree version_1 world.live
+
+-- A mount runs over this world, and is ready for a point.
+pub record RunsReady (h : Held) (world : World) (k : Kept) : Type 0 where
+  pub runs : Runs h world
+  pub ready : IsReady h world runs k
+
+-- The same root is kept, and what changed of its tree up to a live tree, and was charged, leads on to another.
+pub record CarriesOn (old : Kept) (before : Tree) (charged : ℕ) (new : Kept) (after : Tree) (charges : ℕ) : Type 0 where
+  pub slot : new.slot ≡ old.slot
+  pub root : new.root ≡ old.root
+  pub words : new.words ≡ old.words
+  pub changed : (root : Tree) → HasChanged version_1 old.changed root before charged → HasChanged version_1 new.changed root after charges
+
+-- One that runs is ready for a point, and has no frozen trees in its world. One that a failure has stopped knows of its disk alone, that the next mount finds one of two worlds there.
 abbrev pub Means : Held → Bool → State → Type 0
-Means h has_stopped (Running world) = (has_stopped ≡ false) × Runs h world × (world.frozen ≡ map.empty)
+Means h has_stopped (Running world) = (has_stopped ≡ false) × RunsReady h world h.base × (world.frozen ≡ map.empty)
 Means h has_stopped (Stopped before after) = (has_stopped ≡ true) × Always h.disk (ShowsState (Stopped before after))

@@ -12,7 +12,7 @@ use Rattle.sn_ondisk.specs.Trees.{store_of}
 use Rattle.sn_opening.specs.Opens.{IsDisk, Opens}
 use Rattle.sn_image.specs.Image.{image}
 use Rattle.sn_sound.specs.Charges.{Fits}
-use Rattle.sn_sound.specs.Logs.{HasAgeLeft}
+use Rattle.sn_sound.specs.Logs.{HasAgeLeft, IsToRecover}
 use Rattle.sn_sound.specs.Maps.{IsSoundRoot, free_blocks}
 
 -- The contents are those of a formatted disk, whose newest root is sound with its snapshots and its map. They open to this world, at the first place of neither half of the log stands a record of an epoch later than the next, and what was logged on top of the root was charged no more than the root leaves free.
@@ -27,7 +27,8 @@ pub record IsImage (c : Contents) (world : World) : Type 0 where
   pub sound : IsSoundRoot blocks (store_of c) opens.root (slice_index words)
   pub none_later : (epoch : ℕ) → HasNoLater c (base_of blocks epoch) (opens.root.epoch + 1)
   pub fits : Fits opens.root.limits (opens.older ++ opens.newer) (image (store_of c) opens.root.inode_file) (free_blocks blocks (store_of c) opens.root)
-  pub age : HasAgeLeft opens.root
+  -- a mount of it can make a point, where it has to
+  pub age : IsToRecover (opens.older ++ opens.newer) (image (store_of c) opens.root.inode_file) → HasAgeLeft opens.root
 
 -- They are one of a world without frozen trees: those of a root's snapshots aren't kept in memory yet.
 pub record IsLiveImage (c : Contents) (world : World) : Type 0 where

@@ -1,14 +1,10 @@
 -- A fresh disk opens to the new world, and is sound.
-use Rattle.std.proofs.Common.{◌≡◌, ◌≢◌, inl, inr, ⊎_elim, ℕ, zero, suc, ◌+◌, ◌-◌, ◌*◌, ◌<◌, ◌≤◌, ◌==◌, ◌||◌, Bool, true, false, not, cond, List, [], ◌∷◌, replicate, length, Some, Contains, count_by, refl, sym, ap, subst, ◌∙◌, arith}
+use Rattle.std.proofs.Common.{◌≡◌, ◌≢◌, inl, inr, ⊎_elim, ℕ, zero, suc, ◌+◌, ◌-◌, ◌*◌, ◌<◌, ◌≤◌, ◌==◌, ◌||◌, Bool, true, false, not, cond, List, [], ◌∷◌, replicate, length, Contains, count_by, refl, sym, ap, subst, ◌∙◌, arith}
 use Rattle.std.specs.Prelude.{slice_index}
-use Rattle.std.specs.Cmp.{nat_cmp_total}
-use Rattle.std.specs.FinMap as fin
-use Rattle.std.specs.FinMap.{put}
 use Rattle.std.specs.Int.{bit_at}
 use Rattle.std.specs.List.{list_any, range_with_len}
-use Rattle.std.specs.Ordering.{nat_cmp}
 use Rattle.std.proofs.lemmas.Bool.{cases_eq, cases_lt, eq-eqb, ne_eqb}
-use Rattle.std.proofs.lemmas.List.{get_or-append_right, get_or_append_left, length-replicate, nil_from_length}
+use Rattle.std.proofs.lemmas.List.{get_or-append_right, get_or_append_left, length-replicate}
 use Rattle.std.proofs.lemmas.List.Sums.{sum_by-cons}
 use Rattle.std.proofs.lemmas.Nat.Bits.{bit_at-pow_other, bit_at-pow_same, bit_at-zero}
 use Rattle.sn_device.specs.Sectors.{AreSectors, Contents}
@@ -18,9 +14,9 @@ use Rattle.sn_layout.specs.declared.places.Area.TheVariants.{Data}
 use Rattle.sn_layout.specs.declared.places.Slot.TheVariants.{A}
 use Rattle.sn_layout.specs.declared.tree.BlockTree.{BlockTree}
 use Rattle.sn_model.specs.Changes.{apply_all}
-use Rattle.sn_model.specs.Settling.{is_nameless, settled}
-use Rattle.sn_model.specs.Tree.{Node, Tree}
-use Rattle.sn_model.specs.World.{new_root, new_tree, new_world}
+use Rattle.sn_model.specs.Settling.{settled}
+use Rattle.sn_model.specs.Tree.{Tree}
+use Rattle.sn_model.specs.World.{new_world}
 use Rattle.sn_ondisk.specs.Gates.{IsClosed}
 use Rattle.sn_ondisk.specs.LogHalf.{Replays, base_of}
 use Rattle.sn_ondisk.specs.MapCopy.{map_word}
@@ -39,20 +35,13 @@ use Rattle.sn_sound.specs.Logs.{AreReplayed, HasSoundLog}
 use Rattle.sn_sound.specs.Maps.{IsSetOfRoots, IsSoundRoot, Rooted, free_blocks, is_reached, rooted_in}
 use Rattle.sn_sound.proofs.StandingLemmas.{first_among}
 use Rattle.sn_held.specs.Images.{IsLiveImage}
+use Rattle.sn_held.proofs.RoomLemmas.{none_nameless}
 use Rattle.sn_mkfs.specs.Faults.{HasRoom}
 use Rattle.sn_mkfs.specs.Fresh.{IsFresh, fresh_root, fresh_words, inode_file}
 use Rattle.sn_mkfs.proofs.InodeLemmas.{zero_at}
 use Rattle.sn_mkfs.proofs.TreeLemmas.{image_is, is_sound, reach_is, settled_new}
 
 -- ---- the new tree has no file without names
-
-no_entries : fin.entries (fin.empty {X = Node} {R = nat_cmp}) ≡ []
-no_entries = nil_from_length (fin.entries (fin.empty {X = Node} {R = nat_cmp})) (sym (fin.len-entries (fin.empty {X = Node} {R = nat_cmp})) ∙ fin.len-empty nat_cmp Node)
-
-none_nameless : nameless_in new_tree ≡ 0
-unfolding nameless_in
-none_nameless =
-    ap (count_by (λ (e : ℕ × Node). is_nameless new_tree e.0 (Some e.1))) (fin.entries-insert nat_cmp_total fin.empty 2 new_root ∙ ap (put nat_cmp 2 new_root) no_entries)
 
 -- ---- the words of the map
 
@@ -247,7 +236,7 @@ module _ (sectors n : ℕ) (c : Contents) (room : HasRoom sectors n) (fresh : Is
       };
       none_later = λ epoch. inl (fresh.prepared.log epoch);
       fits = fits;
-      age = record { generation = omega arith; epoch = omega arith };
+      age = λ recovers. record { generation = omega arith; epoch = omega arith };
     };
     frozen = refl;
   }

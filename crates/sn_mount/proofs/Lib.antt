@@ -1,6 +1,4 @@
-pub mod ReplayLemmas
-pub mod ExamineLemmas
-pub mod BothLemmas
-pub mod FindLemmas
 pub mod RecoverLemmas
-pub mod RoomLemmas
+pub mod ClearedLemmas
+pub mod CostLemmas
+pub mod ListedLemmas

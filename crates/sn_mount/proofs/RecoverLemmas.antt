@@ -1,62 +1,113 @@
--- What a mount leaves that has found all it needs, and clears the place where the log goes on.
-use Rattle.std.proofs.Common.{◌≡◌, inl, inr, ⊎_elim, ℕ, ◌+◌, ◌*◌, ◌≤◌, List, ◌++◌, length, replicate, slice_index, Option, Some, None, Result, refl, sym, ap, subst, ◌∙◌, arith, leb-true}
+-- What a mount makes of what it has found: it is the disk's world, and where a root can't be made of it, the map is no sound root's.
+use Rattle.std.proofs.Common.{◌≡◌, ◌≢◌, inl, inr, ℕ, zero, suc, ◌+◌, ◌*◌, ◌≤◌, Bool, true, false, List, [], ◌∷◌, ◌++◌, length, replicate, slice_index, Option, Some, None, Result, Err, refl, sym, ap, subst, ◌∙◌, arith, leb-true}
+use Rattle.std.specs.Prelude.{IfOk}
 use Rattle.std.specs.FinMap as map
-use Rattle.std.proofs.lemmas.List.{nil_from_length}
-use Rattle.sn_device.specs.Sectors.{AreSectors, Contents, Single}
-use Rattle.sn_device.specs.Disk.{Always, Disk, IsSynced, reads}
+use Rattle.std.specs.Cmp.{nat_cmp_total}
+use Rattle.std.proofs.Common.{not, ◌||◌, cond}
+use Rattle.std.proofs.lemmas.Map.Lookups.{exact_unsigned}
+use Rattle.sn_changed.specs.Changed.{HasChanged}
+use Rattle.sn_device.specs.Sectors.{AreSectors, Contents}
+use Rattle.sn_device.specs.Disk.{Disk, IsSynced, reads}
 use Rattle.sn_device.specs.Crash.{LeavesOnly, Touches}
-use Rattle.sn_device.proofs.CrashLemmas.{LeavesOnly-weaker, Touches-join, Touches-within}
+use Rattle.sn_device.proofs.CrashLemmas.{Always-synced, LeavesOnly-start, Touches-join, Touches-within}
 use Rattle.sn_block.specs.Effects.{Nowhere}
 use Rattle.sn_block.specs.declared.fault.ReadFault.{ReadFault}
 use Rattle.sn_block.specs.declared.fault.ReadFault.TheVariants as read
+use Rattle.sn_layout.specs.declared.places.Area.TheVariants.{MapCopy}
+use Rattle.sn_layout.specs.declared.places.Slot.{Slot}
 use Rattle.sn_layout.specs.declared.root.RootBody.{RootBody}
+use Rattle.sn_layout.specs.Places.{start_of}
 use Rattle.sn_limits.specs.declared.limits.Limits.{Limits}
 use Rattle.sn_limits.specs.Versions.{version_1}
 use Rattle.sn_model.specs.declared.change.Change.{Change}
+use Rattle.sn_model.specs.declared.mount.Damage.{Damage}
+use Rattle.sn_model.specs.declared.mount.Damage.TheVariants.{MapWord}
+use Rattle.sn_model.specs.declared.mount.MountFault.{MountFault}
+use Rattle.sn_model.specs.declared.mount.MountFault.TheVariants as fault
 use Rattle.sn_model.specs.Chains.{◌>>=◌}
 use Rattle.sn_model.specs.Changes.{apply_all}
-use Rattle.sn_model.specs.Settling.{settle, settled}
+use Rattle.sn_model.specs.NameTree.{IsTree}
+use Rattle.sn_model.specs.Settling.{is_nameless, settle, settled}
 use Rattle.sn_model.specs.Tree.{Tree}
 use Rattle.sn_model.specs.World.{World}
+use Rattle.sn_model.proofs.DropLemmas.{dropping_tree}
 use Rattle.sn_model.proofs.ListLemmas.{lists_join}
-use Rattle.sn_ondisk.specs.Gates.{IsClosed}
-use Rattle.sn_ondisk.specs.LogHalf.{ReplaysTo, cleared_sector}
+use Rattle.sn_model.proofs.SettlingLemmas.{get_without}
 use Rattle.sn_ondisk.specs.MapCopy.{HasMap}
 use Rattle.sn_ondisk.specs.Roots.{IsNewest}
+use Rattle.sn_ondisk.specs.Shown.{Shown}
 use Rattle.sn_ondisk.specs.Trees.{Store, store_of}
-use Rattle.sn_log.specs.Clearing.{Clears}
-use Rattle.sn_log.specs.Places.{LogPosition, base_at, payloads_of}
+use Rattle.sn_log.specs.Places.{LogPosition, payloads_of}
 use Rattle.sn_image.specs.Image.{image}
 use Rattle.sn_image.proofs.SoundNodeLemmas.{only_version}
-use Rattle.sn_opening.specs.Opens.{IsDisk, Opens}
+use Rattle.sn_opening.specs.Opens.{IsDisk, Opens, Shows}
 use Rattle.sn_opening.specs.Worlds.{found, frozen_of}
-use Rattle.sn_sound.specs.Disks.{IsFormatted}
 use Rattle.sn_overlay.specs.Needs.{nameless_in}
-use Rattle.sn_room.specs.Rooms.{RoomCounts, mounted}
-use Rattle.sn_layout.specs.declared.places.Slot.{Slot}
+use Rattle.sn_overlay.specs.Overlays.{no_changes}
+use Rattle.sn_overlay_change.proofs.NamelessLemmas.{drops_are_counted}
+use Rattle.sn_room.specs.Rooms.{RoomCounts}
 use Rattle.sn_sound.specs.Charges.{Fits, charges_from}
-use Rattle.sn_sound.specs.Logs.{HasAgeLeft}
+use Rattle.sn_sound.specs.Disks.{IsFormatted}
+use Rattle.sn_sound.specs.Logs.{HasAgeLeft, IsToRecover}
 use Rattle.sn_sound.specs.Maps.{IsSoundRoot, free_blocks}
-use Rattle.sn_held.specs.Held.{Runs}
-use Rattle.sn_held.specs.Images.{EndsAt, IsImage, IsLiveImage}
-use Rattle.sn_held.specs.Room.{HasRoomOf, room_of_image}
+use Rattle.sn_held.specs.Held.{Kept}
+use Rattle.sn_held.specs.Images.{IsImage}
 use Rattle.sn_held.proofs.EventLemmas.{images_one}
-use Rattle.sn_held.proofs.MountLemmas.{cleared_runs, cleared_within, clearing_keeps}
-use Rattle.sn_mount.specs.Both.{Replays}
-use Rattle.sn_mount.specs.Finding.{HasFound}
-use Rattle.sn_mount.specs.Recovering.{IsRecovered, LeavesTheWorld, TouchesOneGate, WritesAtFault}
-use Rattle.sn_mount.specs.Failing.{read_fault}
-use Rattle.sn_mount.specs.Refusing.{Refuses}
-use Rattle.sn_mount.proofs.FindLemmas.{IsSameRoot, are_replayed, charges_are, same_root}
+use Rattle.sn_cp_held.specs.Builds.{CanBeBuilt}
+use Rattle.sn_cp_held.specs.Recovering.{HasReplayed}
+use Rattle.sn_cp_held.specs.Wholes.{StandsKept}
+use Rattle.sn_cp_held.proofs.LiveLemmas.{kept_can_be_built}
+use Rattle.sn_cp_whole.specs.Planning.{kept_in}
+use Rattle.sn_cp_whole.specs.Recovering.{IsApart, IsImageOver, MakesRecovery}
+use Rattle.sn_cp_whole.specs.declared.base.PointBase.{PointBase}
+use Rattle.sn_cp_whole.specs.declared.fault.PointFault.{PointFault}
+use Rattle.sn_cp_whole.specs.declared.fault.PointFault.TheVariants as point
+use Rattle.sn_examine.specs.Ages.{TellsRecovery}
+use Rattle.sn_examine.specs.Finding.{HasFound}
+use Rattle.sn_examine.specs.Refusing.{Refuses}
+use Rattle.sn_examine.proofs.FindLemmas.{IsSameRoot, are_replayed, charges_are, same_root}
+use Rattle.sn_examine.specs.Failing.{read_fault}
+use Rattle.sn_mount.specs.Recovering.{KeepsTheRoot, WritesAtFault}
+use Rattle.sn_mount.specs.Settling.{IsNoRoot, MakesRoot, SettlesChanges}
 
--- ---- what is found on an image is its world
+-- ---- nothing to recover
 
-module _ (sectors : ℕ) (c : Contents) (at : LogPosition) (world : World) (room : RoomCounts) (f : HasFound sectors c at world room) (count : length c ≡ sectors) (w : World) (im : IsImage c w) (empty : w.frozen ≡ map.empty) where
+both_nil : {A : Type 0} (xs ys : List A) → (xs ++ ys ≢ [] → ⊥) → (xs ≡ []) × (ys ≡ [])
+both_nil [] [] never = (refl, refl)
+both_nil [] (y ∷ ys) never = absurd (never (λ nil. cc))
+both_nil (x ∷ xs) ys never = absurd (never (λ nil. cc))
+
+is_zero : (m : ℕ) → (m ≢ 0 → ⊥) → m ≡ 0
+is_zero zero never = refl
+is_zero (suc m) never = absurd (never (λ e. omega (arith, e)))
+
+-- a tree in which each file has a name stays as it is
+settled_same : (tree : Tree) → nameless_in tree ≡ 0 → settled tree ≡ tree
+settled_same tree none = λ i. record { nodes = nodes i; links = tree.links }
+  where
+    named : (n : ℕ) (b : Bool) → is_nameless tree n (map.get tree.nodes n) ≡ b → cond (not b || false) (map.get tree.nodes n) None ≡ map.get tree.nodes n
+    named n true is = absurd (omega (arith, drops_are_counted tree n is, none))
+    named n false is = refl
+
+    nodes : (settled tree).nodes ≡ tree.nodes
+    nodes = map.same_map nat_cmp_total exact_unsigned _ _ (λ n. get_without (λ _. false) tree n ∙ named n (is_nameless tree n (map.get tree.nodes n)) refl)
+
+made_of_none : (limits : Limits) (changes : List Change) (from tree : Tree) → changes ≡ [] → apply_all limits changes from ≡ Some tree → tree ≡ from
+unfolding apply_all
+made_of_none limits [] from tree none made = cc
+made_of_none limits (change ∷ changes) from tree none made = absurd cc
+
+-- ---- what is found
+
+module _ (sectors : ℕ) (c : Contents) (k : Kept) (at : LogPosition) (world : World) (room : RoomCounts) (recovers : Bool) (f : HasFound sectors c k at world room recovers) where
   abbrev pub n : ℕ
   n = at.blocks
 
   abbrev pub s : Store
   s = store_of c
+
+  abbrev pub img : Tree
+  img = image s k.root.inode_file
 
   abbrev pub older : List Change
   older = f.both.has_older.all.replayed.changes
@@ -64,156 +115,243 @@ module _ (sectors : ℕ) (c : Contents) (at : LogPosition) (world : World) (room
   abbrev pub newer : List Change
   newer = f.both.has_newer.all.replayed.changes
 
-  -- the world that the root and these records stand for
-  abbrev pub standing : World
-  standing = found world.live (frozen_of s f.root.snapshots)
+  pub limits_one : version_1 ≡ k.root.limits
+  limits_one = only_version k.root.limits f.roots.newest.body.fits.version
 
-  pub made : apply_all f.root.limits (older ++ newer) (image s f.root.inode_file) ≡ Some world.live
-  made =
-      subst (λ (l : Limits). apply_all l (older ++ newer) (image s f.root.inode_file) ≡ Some world.live) (only_version f.root.limits f.roots.newest.body.fits.version)
-      (lists_join version_1 older newer (image s f.root.inode_file) ∙ ap (λ (o : Option Tree). o >>= apply_all version_1 newer) f.both.has_older.all.replayed.applied ∙ f.both.has_newer.all.replayed.applied)
+  made_one : apply_all version_1 (older ++ newer) img ≡ Some world.live
+  made_one = lists_join version_1 older newer img ∙ ap (λ (o : Option Tree). o >>= apply_all version_1 newer) f.both.has_older.all.replayed.applied ∙ f.both.has_newer.all.replayed.applied
 
-  abbrev pub opens_it : Opens n c standing
-  opens_it = record {
-    slot = f.slot;
-    root = f.root;
-    older = older;
-    newer = newer;
-    older_spelled = f.both.has_older.all.replayed.spelled;
-    newer_spelled = f.both.has_newer.all.replayed.spelled;
-    shown = record {
-      newest = f.roots.newest;
-      has_older = (are_replayed c (image s f.root.inode_file) n f.root.epoch f.both.older f.both.middle f.both.first f.both.has_older).records;
-      has_newer = (are_replayed c f.both.middle n (f.root.epoch + 1) f.both.newer world.live f.both.second f.both.has_newer).records;
-    };
-    stands = record { tree = world.live; applied = made; settles = refl };
+  charged_one : f.charges ≡ charges_from version_1 (older ++ newer) img
+  charged_one = charges_are c img n k.root.epoch at world.live f.charges f.both
+
+  pub shown_here : Shown n c k.slot k.root (payloads_of older) (payloads_of newer)
+  shown_here = record {
+    newest = f.roots.newest;
+    has_older = (are_replayed c img n k.root.epoch f.both.older f.both.middle f.both.first f.both.has_older).records;
+    has_newer = (are_replayed c f.both.middle n (k.root.epoch + 1) f.both.newer world.live f.both.second f.both.has_newer).records;
   }
 
-  abbrev pub same : IsSameRoot c n f.slot f.root w im
-  same = same_root sectors c n f.slot f.root w im count f.roots.formatted f.roots.newest
+  -- where the map is that of a sound root
+  module _ (whole : AreSectors c) (count : length c ≡ sectors) (spelled : HasMap n c k.slot k.words) (sound : IsSoundRoot n s k.root (slice_index k.words)) where
+    pub disk_is : IsDisk n c
+    disk_is = record { size = f.roots.formatted.size; whole = whole; long = subst (λ (m : ℕ). 8 * n ≤ m) (sym count) f.roots.formatted.room }
 
-  pub map_is : HasMap n c f.slot im.words
-  map_is = subst (λ (r : Slot). HasMap n c r im.words) same.slots (subst (λ (m : ℕ). HasMap m c im.opens.slot im.words) same.blocks im.map)
+    covers : f.charges + version_1.inode_charge * nameless_in img ≤ free_blocks n s k.root
+    covers = omega (arith, leb-true (f.charges + version_1.inode_charge * nameless_in img) f.finds.free f.finds.covered, f.finds.told k.words spelled sound)
 
-  pub root_sound : IsSoundRoot n s f.root (slice_index im.words)
-  root_sound = subst (λ (r : RootBody). IsSoundRoot n s r (slice_index im.words)) same.roots (subst (λ (m : ℕ). IsSoundRoot m s im.opens.root (slice_index im.words)) same.blocks im.sound)
+    pub fits_one : Fits version_1 (older ++ newer) img (free_blocks n s k.root)
+    fits_one = omega (arith, covers, charged_one)
 
-  pub is_free : f.finds.free ≡ free_blocks n s f.root
-  is_free = f.finds.told im.words map_is root_sound
+    module _ (k2 : Kept) (w : World) (settles : SettlesChanges k world.live k2) (live : w.live ≡ settled world.live) (tree : IsTree version_1 world.live) where
+      tree_left : IsTree version_1 w.live
+      tree_left = subst (IsTree version_1) (sym live) (dropping_tree version_1 world.live (λ _. false) tree)
 
-  pub limits_one : version_1 ≡ f.root.limits
-  limits_one = only_version f.root.limits f.roots.newest.body.fits.version
+      changed_left : HasChanged version_1 k2.changed img w.live f.charges
+      changed_left = subst (λ (t : Tree). HasChanged version_1 k2.changed img t f.charges) (sym live) (settles.changed img f.charges f.changed)
 
-  pub charged_one : f.charges ≡ charges_from version_1 (older ++ newer) (image s f.root.inode_file)
-  charged_one = charges_are c (image s f.root.inode_file) n f.root.epoch at world.live f.charges f.both
-
-  pub covers : Fits version_1 (older ++ newer) (image s f.root.inode_file) (free_blocks n s f.root)
-  covers = omega (arith, leb-true (f.charges + version_1.inode_charge * nameless_in (image s f.root.inode_file)) f.finds.free f.finds.covered, charged_one, is_free)
-
-  abbrev pub image_found : IsImage c standing
-  image_found =
-      record {
-        blocks = n;
-        disk = subst (λ (m : ℕ). IsDisk m c) same.blocks im.disk;
-        spelled = f.roots.formatted.spelled;
-        opens = opens_it;
-        words = im.words;
-        map = map_is;
-        sound = root_sound;
-        none_later = f.roots.none_later;
-        fits = subst (λ (l : Limits). Fits l (older ++ newer) (image s f.root.inode_file) (free_blocks n s f.root)) limits_one covers;
-        age = subst HasAgeLeft same.roots im.age;
+      stands : StandsKept n c w k2
+      stands = record {
+        store = s;
+        older = older;
+        newer = newer;
+        disk = disk_is;
+        shown = subst (λ (slot : Slot). Shows n s slot k2.root older newer c) (sym settles.slot) (subst (λ (b : RootBody). Shows n s k.slot b older newer c) (sym settles.root) (record { shown = shown_here; same = λ block among. refl }));
+        map = subst (λ (slot : Slot). HasMap n c slot k2.words) (sym settles.slot) (subst (λ (ws : List ℕ). HasMap n c k.slot ws) (sym settles.words) spelled);
+        sound = subst (λ (b : RootBody). IsSoundRoot n s b (slice_index k2.words)) (sym settles.root) (subst (λ (ws : List ℕ). IsSoundRoot n s k.root (slice_index ws)) (sym settles.words) sound);
+        limits = ap (λ (b : RootBody). b.limits) settles.root ∙ sym limits_one;
+        charged = f.charges;
+        changed = subst (λ (b : RootBody). HasChanged version_1 k2.changed (image s b.inode_file) w.live f.charges) (sym settles.root) changed_left;
+        fits = subst (λ (b : RootBody). f.charges + version_1.inode_charge * nameless_in (image s b.inode_file) ≤ free_blocks n s b) (sym settles.root) covers;
+        tree = tree_left;
       }
 
-  -- the room is the image's
-  pub room_found : room ≡ room_of_image c standing image_found
-  room_found =
-      let charged = charged_one ∙ ap (λ (l : Limits). charges_from l (older ++ newer) (image s f.root.inode_file)) limits_one in
-      f.finds.is ∙ (λ i. mounted (is_free i) (charged i) (nameless_in (image s f.root.inode_file)))
+  -- where no root can be made of it, it isn't
+  module _ (whole : AreSectors c) (count : length c ≡ sectors) (k2 : Kept) (settles : SettlesChanges k world.live k2) (tree : IsTree version_1 world.live) (never : CanBeBuilt n s k2 → ⊥) where
+    unsound : (words : List ℕ) → HasMap n c k.slot words → IsSoundRoot n s k.root (slice_index words) → ⊥
+    unsound words spelled sound =
+        let same = f.words words spelled in
+        never (kept_can_be_built n c (settle world) k2 (stands whole count (subst (λ (ws : List ℕ). HasMap n c k.slot ws) (sym same) spelled) (subst (λ (ws : List ℕ). IsSoundRoot n s k.root (slice_index ws)) (sym same) sound) k2 (settle world) settles refl tree))
 
-  pub standing_is : standing ≡ w
-  standing_is = images_one c standing w image_found im
+    pub map_refuses : (damage : Damage) (block : ℕ) → damage ≡ MapWord → block ≡ start_of n (MapCopy k2.slot) → Refuses (fault.Damaged damage block) sectors c
+    map_refuses damage block is at_map =
+        subst (λ (d : Damage). Refuses (fault.Damaged d block) sectors c) (sym is) (
+          (n, f.roots.formatted),
+          (
+            λ w im.
+                let same = same_root sectors c n k.slot k.root w im count f.roots.formatted f.roots.newest in
+                unsound im.words
+                (subst (λ (r : Slot). HasMap n c r im.words) same.slots (subst (λ (m : ℕ). HasMap m c im.opens.slot im.words) same.blocks im.map))
+                (subst (λ (r : RootBody). IsSoundRoot n s r (slice_index im.words)) same.roots (subst (λ (m : ℕ). IsSoundRoot m s im.opens.root (slice_index im.words)) same.blocks im.sound)),
+            record { blocks = n; formatted = f.roots.formatted; slot = k.slot; root = k.root; newest = f.roots.newest; unsound = unsound; is = at_map ∙ ap (λ (slot : Slot). start_of n (MapCopy slot)) settles.slot },
+          ),
+        )
 
-  -- and so is what is left of it once it is settled
-  pub settled_is : settle world ≡ w
-  settled_is =
-      let frozen : world.frozen ≡ frozen_of s f.root.snapshots = ap (λ (x : World). x.frozen) f.is ∙ sym (ap (λ (x : World). x.frozen) standing_is ∙ empty) in
-      let same : settle world ≡ standing = λ i. record { live = settled world.live; frozen = frozen i; sessions = replicate 64 None; descriptors = map.empty } in
-      same ∙ standing_is
+  -- ---- on an image
 
-  replays_to : (p : LogPosition) (from tree : Tree) (epoch charges : ℕ) (r : Replays c from n epoch p tree charges) → at ≡ p → ReplaysTo c (base_at at) at.epoch (payloads_of r.all.replayed.changes) at.place
-  replays_to p from tree epoch charges r is =
-      subst (λ (q : LogPosition). ReplaysTo c (base_at q) q.epoch (payloads_of r.all.replayed.changes) q.place) (sym is) (record { leads = r.all.replayed.behind.leads; stops = r.all.stops })
+  module _ (whole : AreSectors c) (count : length c ≡ sectors) (w : World) (im : IsImage c w) (empty : w.frozen ≡ map.empty) where
+    same : IsSameRoot c n k.slot k.root w im
+    same = same_root sectors c n k.slot k.root w im count f.roots.formatted f.roots.newest
 
-  pub found_ends : EndsAt c standing image_found at
-  found_ends = (
-    refl,
-    ⊎_elim
-        (λ (i : (f.both.newer.count ≡ 0) × (at ≡ f.both.older)).
-        inl (
-          nil_from_length newer (sym f.both.has_newer.all.replayed.behind.count ∙ i.0),
-          ap (λ (p : LogPosition). p.epoch) i.1 ∙ f.both.has_older.of_epoch,
-          ap (λ (p : LogPosition). p.count) i.1 ∙ f.both.has_older.all.replayed.behind.count,
-          replays_to f.both.older (image s f.root.inode_file) f.both.middle f.root.epoch f.both.first f.both.has_older i.1,
-        ))
-        (λ (i : at ≡ f.both.newer).
-        inr (
-          ap (λ (p : LogPosition). p.epoch) i ∙ f.both.has_newer.of_epoch,
-          ap (λ (p : LogPosition). p.count) i ∙ f.both.has_newer.all.replayed.behind.count,
-          replays_to f.both.newer f.both.middle world.live (f.root.epoch + 1) f.both.second f.both.has_newer i,
-        ))
-        f.both.is,
-  )
+    spelled_its : HasMap n c k.slot im.words
+    spelled_its = subst (λ (r : Slot). HasMap n c r im.words) same.slots (subst (λ (m : ℕ). HasMap m c im.opens.slot im.words) same.blocks im.map)
 
--- ---- the place is cleared
+    words_same : k.words ≡ im.words
+    words_same = f.words im.words spelled_its
 
-module _ (sectors : ℕ) (old mid new : Disk) (at : LogPosition) (world : World) (room : RoomCounts) (f : HasFound sectors (reads mid) at world room) (count : length (reads mid) ≡ sectors) (first : Touches Nowhere old mid) (same : reads mid ≡ reads old) (synced : IsSynced mid)
-    (within : at.place ≤ 255) {T E : Type 0} (result : Result T E) (clears : Clears (base_at at) at.place result mid new) where
-  -- one gate was written at most
-  pub one_gate : TouchesOneGate sectors old new
-  one_gate =
-      let sector = cleared_sector (reads mid) (base_at at) at.place in
-      record {
-        blocks = at.blocks;
-        formatted = subst (λ (c : Contents). IsFormatted sectors c at.blocks) same f.roots.formatted;
-        slot = f.slot;
-        root = f.root;
-        newest = subst (λ (c : Contents). IsNewest c f.slot f.root) same f.roots.newest;
-        epoch = at.epoch;
-        sector = sector;
-        within = cleared_within (reads mid) (base_at at) at.place within;
-        touched = Touches-join (Single sector) old mid new (Touches-within Nowhere (Single sector) old mid (λ i none. absurd none) first) clears.written.touched;
-      }
+    pub spelled_here : HasMap n c k.slot k.words
+    spelled_here = subst (λ (ws : List ℕ). HasMap n c k.slot ws) (sym words_same) spelled_its
 
-  module _ (w : World) (is : IsImage (reads old) w) (empty : w.frozen ≡ map.empty) where
-    im : IsImage (reads mid) w
-    im = subst (λ (c : Contents). IsImage c w) (sym same) is
+    pub sound_here : IsSoundRoot n s k.root (slice_index k.words)
+    sound_here =
+        subst (λ (ws : List ℕ). IsSoundRoot n s k.root (slice_index ws)) (sym words_same)
+        (subst (λ (r : RootBody). IsSoundRoot n s r (slice_index im.words)) same.roots (subst (λ (m : ℕ). IsSoundRoot m s im.opens.root (slice_index im.words)) same.blocks im.sound))
 
-    pub leaves : LeavesTheWorld old new w
-    leaves = record {
-      mid = mid;
-      first = first;
-      same = same;
+    -- the world that the root and these records stand for
+    abbrev pub standing : World
+    standing = found world.live (frozen_of s k.root.snapshots)
+
+    pub made : apply_all k.root.limits (older ++ newer) img ≡ Some world.live
+    made = subst (λ (l : Limits). apply_all l (older ++ newer) img ≡ Some world.live) limits_one made_one
+
+    abbrev pub opens_it : Opens n c standing
+    opens_it = record {
+      slot = k.slot;
+      root = k.root;
+      older = older;
+      newer = newer;
+      older_spelled = f.both.has_older.all.replayed.spelled;
+      newer_spelled = f.both.has_newer.all.replayed.spelled;
+      shown = shown_here;
+      stands = record { tree = world.live; applied = made; settles = refl };
+    }
+
+    pub age_left : (b : Bool) → recovers ≡ b → IsToRecover (older ++ newer) img → HasAgeLeft k.root
+    age_left true e some = f.age e
+    age_left false e some = absurd (subst (λ (b : Bool). TellsRecovery b (older ++ newer) img) e f.recovery some)
+
+    abbrev pub image_found : IsImage c standing
+    image_found = record {
+      blocks = n;
+      disk = disk_is whole count spelled_here sound_here;
+      spelled = f.roots.formatted.spelled;
+      opens = opens_it;
+      words = k.words;
+      map = spelled_here;
+      sound = sound_here;
+      none_later = f.roots.none_later;
+      fits = subst (λ (l : Limits). Fits l (older ++ newer) img (free_blocks n s k.root)) limits_one (fits_one whole count spelled_here sound_here);
+      age = age_left recovers refl;
+    }
+
+    pub standing_is : standing ≡ w
+    standing_is = images_one c standing w image_found im
+
+    -- and so is what is left once it is settled
+    pub settled_is : settle world ≡ w
+    settled_is =
+        let frozen : world.frozen ≡ frozen_of s k.root.snapshots = ap (λ (x : World). x.frozen) f.is ∙ sym (ap (λ (x : World). x.frozen) standing_is ∙ empty) in
+        let same : settle world ≡ standing = λ i. record { live = settled world.live; frozen = frozen i; sessions = replicate 64 None; descriptors = map.empty } in
+        same ∙ standing_is
+
+    -- where nothing is to recover
+    module _ (none : recovers ≡ false) where
+      left : IsToRecover (older ++ newer) img → ⊥
+      left = subst (λ (b : Bool). TellsRecovery b (older ++ newer) img) none f.recovery
+
+      pub no_records : (older ≡ []) × (newer ≡ [])
+      no_records = both_nil older newer (λ some. left (inl some))
+
+      pub tree_stays : img ≡ settled world.live
+      tree_stays =
+          let live : world.live ≡ img = made_of_none version_1 (older ++ newer) img world.live (λ i. no_records.0 i ++ no_records.1 i) made_one in
+          sym (settled_same img (is_zero (nameless_in img) (λ some. left (inr some)))) ∙ ap settled (sym live)
+
+-- ---- the root that is made
+
+module _ (sectors : ℕ) (mid : Disk) (k : Kept) (at : LogPosition) (world : World) (room : RoomCounts) (recovers : Bool) (f : HasFound sectors (reads mid) k at world room recovers) (count : length (reads mid) ≡ sectors) (whole : AreSectors (reads mid))
+    (synced : IsSynced mid) (k2 : Kept) (settles : SettlesChanges k world.live k2) (tree : IsTree version_1 world.live) where
+  module _ (w : World) (im : IsImage (reads mid) w) (empty : w.frozen ≡ map.empty) where
+    abbrev here : World
+    here = standing sectors (reads mid) k at world room recovers f whole count w im empty
+
+    abbrev its : IsImage (reads mid) here
+    its = image_found sectors (reads mid) k at world room recovers f whole count w im empty
+
+    replayed : HasReplayed mid here its k2
+    replayed = record {
       synced = synced;
-      moments = LeavesOnly-weaker mid new (λ d. IsImage d w) (λ d. IsLiveImage d w) (λ d h. record { image = h; frozen = empty }) (subst (λ (x : World). LeavesOnly mid new (λ d. IsImage d x)) (standing_is sectors (reads mid) at world room f count w im empty)
-          (clearing_keeps mid new (standing sectors (reads mid) at world room f count w im empty) (image_found sectors (reads mid) at world room f count w im empty) at within synced result clears (found_ends sectors (reads mid) at world room f count w im empty)));
+      slot = settles.slot;
+      root = settles.root;
+      words = settles.words;
+      changed = subst (λ (charges : ℕ). HasChanged version_1 k2.changed (image (store_of (reads mid)) k.root.inode_file) here.live charges) (charged_one sectors (reads mid) k at world room recovers f)
+          (settles.changed (image (store_of (reads mid)) k.root.inode_file) f.charges f.changed);
+      tree = dropping_tree version_1 world.live (λ _. false) tree;
     }
 
-    pub recovered : (p : LogPosition) (x : World) (r : RoomCounts) → p ≡ at → x ≡ settle world → r ≡ room → Always new (λ d. IsClosed d (base_at at + at.place)) → AreSectors (reads new) → IsRecovered sectors p x r old new w
-    recovered p x r on of left closed whole = record {
-      is = of ∙ settled_is sectors (reads mid) at world room f count w im empty;
-      room_is =
-          subst (λ (c : Contents). HasRoomOf c w r) same
-          (subst (λ (y : World). HasRoomOf (reads mid) y r) (standing_is sectors (reads mid) at world room f count w im empty)
-          (image_found sectors (reads mid) at world room f count w im empty, left ∙ room_found sectors (reads mid) at world room f count w im empty));
-      runs = λ kept status.
-          subst (λ (q : LogPosition). Runs (record { world = w; kept = kept; room = r; at = q; disk = new; status = status }) w) (sym on)
-          (subst (λ (y : World). Runs (record { world = y; kept = kept; room = r; at = at; disk = new; status = status }) y) (standing_is sectors (reads mid) at world room f count w im empty)
-          (subst (λ (k : RoomCounts). Runs (record { world = standing sectors (reads mid) at world room f count w im empty; kept = kept; room = k; at = at; disk = new; status = status }) (standing sectors (reads mid) at world room f count w im empty))
-          (sym (left ∙ room_found sectors (reads mid) at world room f count w im empty))
-          (cleared_runs mid new (standing sectors (reads mid) at world room f count w im empty) (image_found sectors (reads mid) at world room f count w im empty) at within synced result clears (found_ends sectors (reads mid) at world room f count w im empty) closed whole kept status)));
-      leaves = leaves;
+    stays : recovers ≡ false → IsImageOver mid here at.blocks (record k2 { changed = no_changes })
+    stays none = record {
+      live = ap (λ (b : RootBody). image (store_of (reads mid)) b.inode_file) settles.root ∙ tree_stays sectors (reads mid) k at world room recovers f whole count w im empty none;
+      image = its;
+      blocks = refl;
+      slot = sym settles.slot;
+      root = sym settles.root;
+      words = sym settles.words;
+      older = (no_records sectors (reads mid) k at world room recovers f whole count w im empty none).0;
+      newer = (no_records sectors (reads mid) k at world room recovers f whole count w im empty none).1;
+      synced = synced;
     }
+
+    is_it : here ≡ w
+    is_it = standing_is sectors (reads mid) k at world room recovers f whole count w im empty
+
+    module _ (result : Result PointBase MountFault) (d : Disk) (makes : MakesRoot result at.blocks k2 recovers mid d) where
+      pub root_leaves : LeavesOnly mid d (λ c. IsImage c w)
+      root_leaves = subst (λ (x : World). LeavesOnly mid d (λ c. IsImage c x)) is_it (makes here its refl replayed stays).0
+
+      pub root_over : IfOk result (λ next. IsImageOver d w at.blocks (kept_in next))
+      root_over = subst (λ (x : World). IfOk result (λ next. IsImageOver d x at.blocks (kept_in next))) is_it (makes here its refl replayed stays).1
+
+  -- what was never written
+  pub root_kept : (old new : Disk) → Touches Nowhere old mid → reads mid ≡ reads old → Touches (IsApart at.blocks k.slot) mid new → KeepsTheRoot sectors old new
+  root_kept old new first same touched = record {
+    blocks = at.blocks;
+    formatted = subst (λ (c : Contents). IsFormatted sectors c at.blocks) same f.roots.formatted;
+    slot = k.slot;
+    root = k.root;
+    newest = subst (λ (c : Contents). IsNewest c k.slot k.root) same f.roots.newest;
+    touched = Touches-join (IsApart at.blocks k.slot) old mid new (Touches-within Nowhere (IsApart at.blocks k.slot) old mid (λ i none. absurd none) first) touched;
+  }
+
+  -- where no root can be made
+  pub no_root_refuses : (fault : MountFault) (d : Disk) → IsNoRoot fault at.blocks k2 mid d → Refuses fault sectors (reads mid)
+  no_root_refuses (fault.Damaged damage block) d is = map_refuses sectors (reads mid) k at world room recovers f whole count k2 settles tree is.3 damage block is.0 is.1
+  no_root_refuses fault.NotFormatted d is = absurd is
+  no_root_refuses fault.Version d is = absurd is
+  no_root_refuses fault.NoRoot d is = absurd is
+  no_root_refuses fault.Memory d is = tt
+  no_root_refuses fault.Device d is = tt
+
+pub no_root_writes : (fault : MountFault) (sectors n : ℕ) (k : Kept) (old mid d : Disk) → IsNoRoot fault n k mid d → Touches Nowhere old mid → KeepsTheRoot sectors old d → WritesAtFault fault sectors old d
+no_root_writes (fault.Damaged damage block) sectors n k old mid d is first kept = subst (λ (e : Disk). Touches Nowhere old e) (sym is.2) first
+no_root_writes fault.NotFormatted sectors n k old mid d is first kept = absurd is
+no_root_writes fault.Version sectors n k old mid d is first kept = absurd is
+no_root_writes fault.NoRoot sectors n k old mid d is first kept = absurd is
+no_root_writes fault.Memory sectors n k old mid d is first kept = inr kept
+no_root_writes fault.Device sectors n k old mid d is first kept = inr kept
+
+-- whatever became of a recovery that isn't made, the image is left
+pub unmade_leaves : (f : PointFault) (n : ℕ) (world : World) (old new : Disk) → IsSynced old → IsImage (reads old) world → MakesRecovery (Err f) n world old new → LeavesOnly old new (λ c. IsImage c world)
+unmade_leaves f n world old new synced im makes = told f makes
+  where
+    stays : new ≡ old → LeavesOnly old new (λ c. IsImage c world)
+    stays same = subst (λ (d : Disk). LeavesOnly old d (λ c. IsImage c world)) (sym same) (LeavesOnly-start old (λ c. IsImage c world) (Always-synced old (λ c. IsImage c world) synced im))
+
+    told : (f : PointFault) → MakesRecovery (Err f) n world old new → LeavesOnly old new (λ c. IsImage c world)
+    told point.Memory same = stays same
+    told point.Age same = stays same
+    told point.Read same = stays same
+    told point.Damaged never = absurd never
+    told point.Device leaves = leaves
 
 -- ---- a clearing that fails
 
@@ -221,6 +359,6 @@ pub read_refuses : (f : ReadFault) (sectors : ℕ) (c : Contents) → Refuses (r
 read_refuses read.Device sectors c = tt
 read_refuses read.Memory sectors c = tt
 
-pub read_writes : (f : ReadFault) (sectors : ℕ) (old new : Disk) → TouchesOneGate sectors old new → WritesAtFault (read_fault f) sectors old new
-read_writes read.Device sectors old new touched = inr touched
-read_writes read.Memory sectors old new touched = inr touched
+pub read_writes : (f : ReadFault) (sectors : ℕ) (old new : Disk) → KeepsTheRoot sectors old new → WritesAtFault (read_fault f) sectors old new
+read_writes read.Device sectors old new kept = inr kept
+read_writes read.Memory sectors old new kept = inr kept

@@ -1,6 +1,5 @@
 -- What a mount makes of a disk.
 use Rattle.std.specs.Prelude.{◌≡◌, ◌⊎◌, ℕ, Bool, Result, Ok, Err}
-use Rattle.sn_device.specs.Sectors.{Single}
 use Rattle.sn_device.specs.Disk.{Disk, IsSynced, reads}
 use Rattle.sn_device.specs.Crash.{LeavesOnly, Touches}
 use Rattle.sn_device.specs.declared.status.Status.{Status}
@@ -11,28 +10,26 @@ use Rattle.sn_core.specs.Plain.{world_of}
 use Rattle.sn_model.specs.declared.mount.MountFault.{MountFault}
 use Rattle.sn_model.specs.declared.mount.MountFault.TheVariants as fault
 use Rattle.sn_model.specs.World.{World}
-use Rattle.sn_ondisk.specs.LogHalf.{InHalf, base_of}
 use Rattle.sn_ondisk.specs.Roots.{IsNewest}
 use Rattle.sn_log.specs.Places.{LogPosition}
 use Rattle.sn_sound.specs.Disks.{IsFormatted}
-use Rattle.sn_held.specs.Held.{Runs}
+use Rattle.sn_held.specs.Held.{Kept, RunsReady}
 use Rattle.sn_held.specs.Images.{IsLiveImage}
 use Rattle.sn_held.specs.Room.{HasRoomOf}
 use Rattle.sn_room.specs.Rooms.{RoomCounts}
-use Rattle.sn_mount.specs.Refusing.{Refuses}
+use Rattle.sn_cp_whole.specs.Planning.{kept_in}
+use Rattle.sn_cp_whole.specs.Recovering.{IsApart}
+use Rattle.sn_examine.specs.Refusing.{Refuses}
 use Rattle.sn_mount.specs.declared.found.Recovered.{Recovered}
 
--- Of all sectors one at most was written, in a half of the log of the formatted disk, which has a newest root.
-pub record TouchesOneGate (sectors : ℕ) (old new : Disk) : Type 0 where
+-- Of the formatted disk, which has a newest root, neither the superblock was written, nor that root or its map.
+pub record KeepsTheRoot (sectors : ℕ) (old new : Disk) : Type 0 where
   pub blocks : ℕ
   pub formatted : IsFormatted sectors (reads old) blocks
   pub slot : Slot
   pub root : RootBody
   pub newest : IsNewest (reads old) slot root
-  pub epoch : ℕ
-  pub sector : ℕ
-  pub within : InHalf (base_of blocks epoch) sector
-  pub touched : Touches (Single sector) old new
+  pub touched : Touches (IsApart blocks slot) old new
 
 -- Up to a sync that succeeded nothing was written. From then on each content that a crash leaves is an image of the world that was there.
 pub record LeavesTheWorld (old new : Disk) (world : World) : Type 0 where
@@ -42,25 +39,25 @@ pub record LeavesTheWorld (old new : Disk) (world : World) : Type 0 where
   pub synced : IsSynced mid
   pub moments : LeavesOnly mid new (λ c. IsLiveImage c world)
 
--- The world that the disk was an image of runs, over a log that goes on at this position and with the room that the image has, and at no moment a crash would have left another.
-pub record IsRecovered (sectors : ℕ) (at : LogPosition) (found : World) (room : RoomCounts) (old new : Disk) (world : World) : Type 0 where
+-- The world that the disk was an image of runs, ready for a point, over a root on which nothing is logged: with the room that its image has now. At no moment a crash would have left another.
+pub record IsRecovered (at : LogPosition) (found : World) (room : RoomCounts) (base : Kept) (old new : Disk) (world : World) : Type 0 where
   pub is : found ≡ world
-  pub room_is : HasRoomOf (reads old) world room
-  pub runs : (kept : ℕ → Bool) (status : Status) → Runs (record { world = world; kept = kept; room = room; at = at; disk = new; status = status }) world
+  pub room_is : HasRoomOf (reads new) world room
+  pub runs : (kept : ℕ → Bool) (status : Status) → RunsReady (record { world = world; kept = kept; room = room; at = at; base = base; disk = new; status = status }) world base
   pub leaves : LeavesTheWorld old new world
 
 -- either nothing was written, or at no moment a crash would have left another world
 abbrev pub KeepsTheWorld : Disk → Disk → World → Type 0
 KeepsTheWorld old new world = Touches Nowhere old new ⊎ LeavesTheWorld old new world
 
--- A mount that finds that it can't be one has written nothing; one that was refused memory, or whose device failed, may have cleared its place in the log.
+-- A mount that finds that it can't be one has written nothing; one that was refused memory, or whose device failed, may have written beside the root.
 abbrev pub WritesAtFault : MountFault → ℕ → Disk → Disk → Type 0
 WritesAtFault (fault.Damaged damage block) sectors old new = Touches Nowhere old new
 WritesAtFault fault.NotFormatted sectors old new = Touches Nowhere old new
 WritesAtFault fault.Version sectors old new = Touches Nowhere old new
 WritesAtFault fault.NoRoot sectors old new = Touches Nowhere old new
-WritesAtFault fault.Memory sectors old new = Touches Nowhere old new ⊎ TouchesOneGate sectors old new
-WritesAtFault fault.Device sectors old new = Touches Nowhere old new ⊎ TouchesOneGate sectors old new
+WritesAtFault fault.Memory sectors old new = Touches Nowhere old new ⊎ KeepsTheRoot sectors old new
+WritesAtFault fault.Device sectors old new = Touches Nowhere old new ⊎ KeepsTheRoot sectors old new
 
 -- of a disk that is an image of a world without frozen trees
 abbrev pub OfImage : Disk → (World → Type 0) → Type 0
@@ -68,5 +65,5 @@ OfImage old P = (world : World) → IsLiveImage (reads old) world → P world
 
 -- What was an image of a world runs. Otherwise there is a cause, and the world, if any, is still there.
 abbrev pub Recovers : Result Recovered MountFault → ℕ → Disk → Disk → Type 0
-Recovers (Ok r) sectors old new = TouchesOneGate sectors old new × OfImage old (IsRecovered sectors r.log (world_of r.world) r.room old new)
+Recovers (Ok r) sectors old new = KeepsTheRoot sectors old new × OfImage old (IsRecovered r.log (world_of r.world) r.room (kept_in r.base) old new)
 Recovers (Err f) sectors old new = Refuses f sectors (reads old) × WritesAtFault f sectors old new × OfImage old (KeepsTheWorld old new)

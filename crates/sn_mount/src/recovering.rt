@@ -1,38 +1,51 @@
-//! Recovery: what a mount reads, and clearing the place where the log goes on.
-ghost use Rattle.std.specs.Prelude.{◌≡◌, ◌+◌, ◌*◌, ◌≤◌, ◌^◌, ℕ, false, IsTrue, IfOk, OnOk};
-ghost use Rattle.sn_block.specs.Counts.{IsLater, called};
+//! Recovery: what a mount reads, the root that it makes, and clearing the first place of its log.
+ghost use Rattle.std.specs.Prelude.{◌≡◌, ◌+◌, ◌*◌, ◌≤◌, ◌^◌, ℕ, false, IsTrue, IfOk};
+ghost use Rattle.sn_block.specs.Counts.{IsLater};
 ghost use Rattle.sn_block.specs.Lending.{device_of};
 ghost use Rattle.sn_core.specs.Plain.{kept_of, world_of};
+ghost use Rattle.sn_cp_whole.specs.Making.{room_over};
+ghost use Rattle.sn_cp_whole.specs.Planning.{IsBaseAt, kept_in};
 ghost use Rattle.sn_limits.specs.Versions.{version_1};
+ghost use Rattle.sn_log.specs.Places.{first_of};
 ghost use Rattle.sn_model.specs.Worlds.{IsWorld};
-ghost use Rattle.sn_overlay.specs.Needs.{nameless_in};
-ghost use Rattle.sn_mount.specs.Failing.{CostsAtMost, FailsAs};
+ghost use Rattle.sn_desc.specs.InUse.{live_in};
+ghost use Rattle.sn_overlay.specs.Needs.{counts, nameless_in};
+ghost use Rattle.sn_overlay.specs.Overlays.{HasRoom, layer_of, no_changes};
+ghost use Rattle.sn_examine.specs.Failing.{FailsAs};
+ghost use Rattle.sn_mount.specs.Costs.{CostsFew, CostsMount};
 ghost use Rattle.sn_mount.specs.Recovering.{Recovers};
 
-use crate::fault::fault_of;
-use crate::finding::{Found, find};
 use crate::found::Recovered;
+use crate::settling::{Settled, make_root, settle};
 use sn_block::Blocks;
 use sn_device::Device;
-use sn_layout::LogHalf;
-use sn_log::{Buffer, Log, clear};
+use sn_examine::{fault_of, find};
+use sn_layout::{Area, LogHalf};
+use sn_log::{Buffer, Log, Position, clear};
 use sn_model::MountFault;
+use sn_room::Room;
 use std::alloc::Global;
 
-/// Syncs, reads the newest root's tree, replays the log into it, looks whether what that is charged is free, drops the files that no name stands for, and clears the
-/// place where the log goes on. `NotFormatted`, `NoRoot`, `Version` and `Damaged` come in this order, each before
-/// anything is written.
+/// Syncs, reads the newest root's tree, replays the log into it, looks whether what that is charged is free, and drops
+/// the files that no name stands for. Where a record was replayed or a file dropped, a whole point makes a root of
+/// that. Last it clears the first place of the root's half of the log, where nothing is logged then. `NotFormatted`,
+/// `NoRoot`, `Version` and `Damaged` come in this order, each before anything is written.
 pub fn recover<D: Device>(alloc: Global, blocks: &mut Blocks<D>) -> Result<Recovered, MountFault>
     ensures recovers { IsTrue D.tells_bytes → Recovers result (D.status (device_of blocks.old)).sectors (D.disk (device_of blocks.old)) (D.disk (device_of blocks.new)) }
     ensures whole { IfOk result (λ r. IsWorld version_1 (world_of r.world)) }
     ensures kept { IfOk result (λ r. (number : ℕ) → kept_of r.world number ≡ false) }
     ensures few { IfOk result (λ r. r.room.dropped + nameless_in (world_of r.world).live ≤ 2 ^ 33) }
+    ensures base { IfOk result (λ r. IsBaseAt r.log r.base) }
+    ensures log { IfOk result (λ r. r.log ≡ first_of r.log.blocks r.base.root.epoch) }
+    ensures room { IfOk result (λ r. r.room ≡ room_over r.log.blocks (kept_in r.base)) }
+    ensures empty { IfOk result (λ r. layer_of r.base.changed ≡ no_changes) }
+    ensures drops { IfOk result (λ r. HasRoom r.base.changed (counts (live_in (world_of r.world).descriptors) 0 0)) }
     ensures within { IfOk result (λ r. 8 * r.log.blocks ≤ (D.status (device_of blocks.old)).sectors) }
     ensures sectors { (D.status (device_of blocks.new)).sectors ≡ (D.status (device_of blocks.old)).sectors }
     ensures later { IsLater (D.status (device_of blocks.old)) (D.status (device_of blocks.new)) }
-    ensures done { OnOk result (D.status (device_of blocks.new) ≡ called 1 2 (D.status (device_of blocks.old))) }
+    ensures done { IfOk result (λ r. CostsMount r.log.blocks (D.status (device_of blocks.old)) (D.status (device_of blocks.new))) }
     ensures failed { FailsAs result (D.status (device_of blocks.old)) (D.status (device_of blocks.new)) }
-    ensures costs { CostsAtMost 1 2 (D.status (device_of blocks.old)) (D.status (device_of blocks.new)) }
+    ensures costs { CostsFew (D.status (device_of blocks.old)) (D.status (device_of blocks.new)) }
 {
     let Ok(mut buffer) = Buffer::new(alloc) else {
         return Err(MountFault::Memory);
@@ -40,23 +53,29 @@ pub fn recover<D: Device>(alloc: Global, blocks: &mut Blocks<D>) -> Result<Recov
     let Ok(()) = blocks.sync() else {
         return Err(MountFault::Device);
     };
-    let Found {
-        places,
-        at,
-        mut world,
-        room,
-    } = match find(alloc, blocks, &mut buffer) {
+    let found = match find(alloc, blocks, &mut buffer) {
         Ok(found) => found,
         Err(fault) => return Err(fault),
     };
-    world.settle();
+    let places = found.places;
+    let recovers = found.recovers;
+    let Ok(Settled { world, base }) = settle(alloc, found) else {
+        return Err(MountFault::Memory);
+    };
     // It bounds the files without names.
     let _nameless = world.nameless();
-    match clear(blocks, places, LogHalf::of_epoch(at.epoch()), at.place()) {
+    let base = match make_root(alloc, blocks, places, base, recovers) {
+        Ok(base) => base,
+        Err(fault) => return Err(fault),
+    };
+    let at = Position::first(places, base.root.epoch);
+    let room = Room::fresh(base.map.count_free_from(places.start(Area::Data)));
+    match clear(blocks, places, LogHalf::of_epoch(base.root.epoch), 0) {
         Ok(()) => Ok(Recovered {
             log: Log::new(at, buffer),
             world,
             room,
+            base,
         }),
         Err(fault) => Err(fault_of(fault)),
     }

@@ -46,6 +46,11 @@ impl Mounted {
         self.fs.call(session, call)
     }
 
+    /// Makes a whole consistency point.
+    pub fn step(&mut self) -> Reply {
+        self.fs.step()
+    }
+
     /// The line of the reply to a call of session 0.
     pub fn told(&mut self, alloc: Global, call: &Call) -> Result<String> {
         let reply = self.call(0, call);
@@ -76,13 +81,14 @@ impl Mounted {
         self.told(alloc, &call)
     }
 
-    /// The reply to the call of a script's line.
+    /// The reply to a step, or to the call of a script's line.
     pub fn asked(&mut self, alloc: Global, line: &str) -> Result<Reply> {
         let script = format!(in alloc; "{line}\n")?;
         let mut events = read_script(alloc, script.as_str().as_bytes())?;
         match events.pop().context("one event")? {
             Event::Call { session, call } => Ok(self.call(session, &call)),
-            _ => bail!("no call: {line}"),
+            Event::Step => Ok(self.step()),
+            Event::Restart => bail!("no call: {line}"),
         }
     }
 

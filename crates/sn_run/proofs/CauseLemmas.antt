@@ -1,5 +1,5 @@
 -- What fails where no failure is counted.
-use Rattle.std.proofs.Common.{◌≡◌, ◌⊎◌, inl, inr, List, [], ◌∷◌, IsTrue, Option, None, Some, sym, ap, subst, ◌∙◌, arith}
+use Rattle.std.proofs.Common.{◌≡◌, ◌⊎◌, inl, inr, ℕ, List, [], ◌∷◌, IsTrue, Option, None, Some, sym, ap, subst, ◌∙◌, arith}
 use Rattle.std.proofs.lemmas.List.Elements.{Contains-append_right}
 use Rattle.sn_device.specs.Disk.{Disk, reads}
 use Rattle.sn_device.specs.Status.{has_ended}
@@ -18,7 +18,8 @@ use Rattle.sn_model.specs.Machine.{State, Running, Stopped, Mishap, Memory, Read
 use Rattle.sn_model.specs.World.{World}
 use Rattle.sn_held.specs.Held.{Held}
 use Rattle.sn_held.specs.Images.{IsLiveImage}
-use Rattle.sn_mount.specs.Failing.{HasFailed, IsSoOf}
+use Rattle.sn_examine.specs.Failing.{HasFailed, IsSoOf}
+use Rattle.sn_mount.specs.Costs.{CostsMount}
 use Rattle.sn_fs.specs.Answers.{MayMeet}
 use Rattle.sn_run.specs.Causes.{FailsAtItsEnd, GoesOrEnds, HasCauses, HasNoMemory, IsFailure, ServedToItsEnd}
 use Rattle.sn_run.specs.Runs.{Goes, IsServed, RunsTo, Served, Standing, start}
@@ -135,6 +136,11 @@ stop_cause Before first last (e ∷ events) (reply ∷ replies) run had stopped 
     joined (IsTrue (has_ended last.held.status)) Before reply replies
     (stop_cause (Before ⊎ (reply ≡ answer.Unmounted mount.Memory)) run.0 last events replies run.2 (one_cause first run.0 e reply run.1 Before had) stopped)
 
+-- a mount that succeeds counts no failure
+mount_unfailing : (n : ℕ) (old new : Status) → CostsMount n old new → new.failures ≡ old.failures
+mount_unfailing n old new (inl is) = ap (λ (x : Status). x.failures) is
+mount_unfailing n old new (inr (count, few, gate, is)) = ap (λ (x : Status). x.failures) is
+
 -- ---- runs
 
 ends_stopped : (s : State) → Ends s None ending.Stopped → HasStopped s
@@ -145,7 +151,7 @@ module _ (events : List Event) (replies : List Reply) (disk last_disk : Disk) (s
   served_ends : (end : End) (s : Served events replies end disk status last_disk last_status) → ServedToItsEnd end events replies disk status last_disk last_status s
   served_ends end s world image =
       let it = s.served world image in
-      let began : s.mounted.status.failures ≡ status.failures = ap (λ (x : Status). x.failures) s.costs in
+      let began : s.mounted.status.failures ≡ status.failures = mount_unfailing s.blocks status s.mounted.status s.costs in
       let ended : it.last.held.status.failures ≡ last_status.failures = ap (λ (x : Status). x.failures) it.counted in
       run_ends (start world s.mounted) it.last events replies it.run (ended ∙ same ∙ sym began)
 

@@ -10,7 +10,7 @@ use Rattle.sn_model.specs.declared.call.Event.{Event}
 use Rattle.sn_model.specs.declared.reply.Reply.{Reply}
 use Rattle.sn_model.specs.Machine.{State, Mishap, Memory, Read, Write, Space, Age, EventStep, Run, RunBy}
 use Rattle.sn_held.specs.Held.{Held}
-use Rattle.sn_mount.specs.Failing.{HasFailed}
+use Rattle.sn_examine.specs.Failing.{HasFailed}
 use Rattle.sn_fs.specs.Answers.{MayMeet}
 use Rattle.sn_run.specs.Laws.{Unfailing}
 use Rattle.sn_run.specs.Runs.{Goes, Standing}
@@ -29,7 +29,7 @@ met_unfailing h mid e (Some Memory) new may same goes_on = tt
 met_unfailing h mid e (Some Read) new may same goes_on = never_failed h.status new same goes_on may
 met_unfailing h mid e (Some Write) new may same goes_on = never_failed h.status new same goes_on may
 met_unfailing h mid e (Some Space) new may same goes_on = tt
-met_unfailing h mid e (Some Age) new may same goes_on = may
+met_unfailing h mid e (Some Age) new may same goes_on = tt
 
 -- over a run no count falls
 pub runs_later : (first last : Standing) (events : List Event) (replies : List Reply) → RunBy Goes first events replies last → IsLater first.held.status last.held.status

@@ -1,88 +1,37 @@
--- What a mount answers to a restart, and steps.
-use Rattle.std.proofs.Common.{◌≡◌, ◌⊎◌, inl, inr, ℕ, ◌*◌, ◌<◌, ◌≤◌, Bool, true, false, length, [], Some, None, refl, sym, ap, subst, ◌∙◌, arith}
-use Rattle.std.proofs.lemmas.Bool.{true≢false}
+-- What a mount answers to a restart.
+use Rattle.std.proofs.Common.{◌≡◌, ◌⊎◌, inl, inr, ℕ, ◌*◌, ◌<◌, ◌≤◌, Bool, true, length, [], Some, None, refl, sym, ap, subst, ◌∙◌, arith}
 use Rattle.std.proofs.lemmas.List.{same_lists, get_or_default}
 use Rattle.sn_device.specs.Sectors.{AgreesOutside, AreSectors, Contents}
 use Rattle.sn_device.specs.Disk.{Disk, Always, reads}
 use Rattle.sn_device.specs.Crash.{LeavesOnly, Touches}
-use Rattle.sn_device.proofs.CrashLemmas.{Always-reads, LeavesOnly-join, LeavesOnly-now, LeavesOnly-torn, LeavesOnly-weaker, Touches-start}
-use Rattle.sn_block.specs.Counts.{IsLater, called}
+use Rattle.sn_device.proofs.CrashLemmas.{Always-reads, LeavesOnly-join, LeavesOnly-now, LeavesOnly-torn, LeavesOnly-weaker}
+use Rattle.sn_block.specs.Counts.{IsLater}
 use Rattle.sn_block.specs.Effects.{Nowhere}
-use Rattle.sn_block.proofs.CountLemmas.{later-is, later-same}
+use Rattle.sn_block.proofs.CountLemmas.{later-is}
 use Rattle.sn_device.specs.declared.status.Status.{Status}
 use Rattle.sn_model.specs.declared.call.Event.TheVariants as event
 use Rattle.sn_model.specs.declared.mount.Damage.{Damage}
 use Rattle.sn_model.specs.declared.mount.Damage.TheVariants as damage
 use Rattle.sn_model.specs.declared.mount.MountFault.{MountFault}
 use Rattle.sn_model.specs.declared.mount.MountFault.TheVariants as fault
-use Rattle.sn_model.specs.declared.reply.Errno.TheVariants.{Estopped}
-use Rattle.sn_model.specs.declared.reply.Progress.TheVariants as progress
 use Rattle.sn_model.specs.declared.reply.Reply.TheVariants as answer
-use Rattle.sn_model.specs.Machine.{State, Running, Stopped, Mishap, Memory, Read, mount_fault_of, refused}
+use Rattle.sn_model.specs.Machine.{State, Running, Stopped, Mishap, Memory, Read, mount_fault_of}
 use Rattle.sn_model.specs.Settling.{settle}
 use Rattle.sn_model.specs.World.{World}
-use Rattle.sn_core.proofs.NumberLemmas.{step_numbers}
 use Rattle.sn_core.proofs.RestartLemmas.{restart_numbers}
 use Rattle.sn_held.specs.Held.{Held}
 use Rattle.sn_held.specs.Images.{IsImage, IsLiveImage}
 use Rattle.sn_held.specs.Moments.{LastsOver, ShowsState}
-use Rattle.sn_held.proofs.EventLemmas.{live_show, stays_lasts}
-use Rattle.sn_mount.specs.Failing.{CostsAtMost, IsSoOf}
+use Rattle.sn_held.proofs.EventLemmas.{live_show}
+use Rattle.sn_examine.specs.Failing.{IsSoOf}
+use Rattle.sn_mount.specs.Costs.{CostsFew, CostsMount}
 use Rattle.sn_mount.specs.Recovering.{LeavesTheWorld, WritesAtFault}
-use Rattle.sn_mount.specs.Refusing.{Refuses, StandsAt}
+use Rattle.sn_examine.specs.Refusing.{Refuses, StandsAt}
 use Rattle.sn_fs.specs.Answers.{Answers, AnswersFrom, MayMeet}
 use Rattle.sn_fs.specs.Mounting.{IsLeft, Mounts, WritesToMount}
 use Rattle.sn_run.specs.Runs.{LacksRoot}
 use Rattle.sn_run.proofs.CutLemmas.{found_settled}
 use Rattle.sn_run.proofs.UnfitLemmas.{lacks_none}
-
--- ---- steps
-
-done_is_more : {A : Type 0} → answer.Progress progress.Done ≡ answer.Progress progress.More → A
-done_is_more e = cc
-
-refused_is_more : {A : Type 0} → refused Estopped ≡ answer.Progress progress.More → A
-refused_is_more e = cc
-
-pub runs_step : (h : Held) → Answers event.Step (answer.Progress progress.Done) h false h false
-runs_step h (Running w) m = record {
-  met = None;
-  mid = h;
-  point = refl;
-  may = refl;
-  next = Running w;
-  step = (inr refl, refl);
-  means = m;
-  lasts = stays_lasts h false (Running w) m;
-  writes = Touches-start Nowhere h.disk;
-  begins = tt;
-  numbers = step_numbers w h.kept;
-  room = refl;
-  later = later-same h.status h.status refl;
-  costs = refl;
-  works = λ e. done_is_more e;
-}
-runs_step h (Stopped before after) m = absurd (true≢false (sym m.0))
-
-pub stopped_step : (h : Held) → Answers event.Step (refused Estopped) h true h true
-stopped_step h (Running w) m = absurd (true≢false m.0)
-stopped_step h (Stopped before after) m = record {
-  met = None;
-  mid = h;
-  point = refl;
-  may = refl;
-  next = Stopped before after;
-  step = (refl, refl);
-  means = m;
-  lasts = stays_lasts h true (Stopped before after) m;
-  writes = Touches-start Nowhere h.disk;
-  begins = tt;
-  numbers = tt;
-  room = tt;
-  later = later-same h.status h.status refl;
-  costs = refl;
-  works = λ e. refused_is_more e;
-}
 
 -- ---- mounts
 
@@ -104,7 +53,21 @@ kept_leaves P old new world whole here so (inr leaves) =
     LeavesOnly-join old leaves.mid new P (nowhere_leaves P old leaves.mid whole here leaves.first)
     (LeavesOnly-weaker leaves.mid new (λ c. IsLiveImage c world) P so leaves.moments)
 
-module _ (old new : Held) (had : Bool) (whole : AreSectors (reads old.disk)) (costs : new.status ≡ called 1 2 old.status) where
+module _ (old new : Held) (had : Bool) (whole : AreSectors (reads old.disk)) (n : ℕ) (within : 8 * n ≤ old.status.sectors) (costs : CostsMount n old.status new.status) where
+  none_failed : new.status.failures ≡ old.status.failures
+  none_failed = told costs
+    where
+      told : CostsMount n old.status new.status → new.status.failures ≡ old.status.failures
+      told (inl is) = ap (λ (x : Status). x.failures) is
+      told (inr (count, few, gate, is)) = ap (λ (x : Status). x.failures) is
+
+  is_later : IsLater old.status new.status
+  is_later = told costs
+    where
+      told : CostsMount n old.status new.status → IsLater old.status new.status
+      told (inl is) = later-is 1 2 old.status new.status is
+      told (inr (count, few, gate, is)) = later-is _ _ old.status new.status is
+
   -- the mount runs over the world that the disk was an image of
   mounted_lasts : (s : State) (world : World) → Always old.disk (λ c. ShowsState s c) → IsLiveImage (reads old.disk) world → LeavesTheWorld old.disk new.disk world → LastsOver s (Running world) old.disk new.disk
   mounted_lasts s world shows image leaves =
@@ -120,14 +83,14 @@ module _ (old new : Held) (had : Bool) (whole : AreSectors (reads old.disk)) (co
 
   pub mounted_answers : (has : Bool) → Mounts old.status.sectors old.disk new has → Answers event.Restart answer.Done old had new has
   mounted_answers has m (Running w) means =
-      let shows = live_show old w means.1 means.2 in
+      let shows = live_show old w means.1.runs means.2 in
       let image = Always-reads old.disk (λ c. IsLiveImage c (settle w)) whole shows in
       let it = m.runs (settle w) image in
       record {
         met = None;
         mid = old;
-        point = refl;
-        may = ap (λ (x : Status). x.failures) costs;
+        point = inl refl;
+        may = none_failed;
         next = Running (settle w);
         step = (refl, refl);
         means = it.means;
@@ -136,8 +99,8 @@ module _ (old new : Held) (had : Bool) (whole : AreSectors (reads old.disk)) (co
         begins = it.leaves;
         numbers = restart_numbers w (settle w) old.kept new.kept refl m.none_kept;
         room = it.room;
-        later = later-is 1 2 old.status new.status costs;
-        costs = costs;
+        later = is_later;
+        costs = (n, within, costs);
         works = tt;
       }
   mounted_answers has m (Stopped before after) means = told (Always-reads old.disk (λ c. ShowsState (Stopped before after) c) whole means.1)
@@ -148,8 +111,8 @@ module _ (old new : Held) (had : Bool) (whole : AreSectors (reads old.disk)) (co
           record {
             met = None;
             mid = old;
-            point = refl;
-            may = ap (λ (x : Status). x.failures) costs;
+            point = inl refl;
+            may = none_failed;
             next = Running world;
             step = (refl, same);
             means = it.means;
@@ -158,8 +121,8 @@ module _ (old new : Held) (had : Bool) (whole : AreSectors (reads old.disk)) (co
             begins = it.leaves;
             numbers = m.none_kept;
             room = it.room;
-            later = later-is 1 2 old.status new.status costs;
-            costs = costs;
+            later = is_later;
+            costs = (n, within, costs);
             works = tt;
           }
 
@@ -174,7 +137,7 @@ pub no_damage : (damage : Damage) (sectors : ℕ) (c : Contents) (block : ℕ) (
 no_damage damage.Root sectors c block world image h = h.0 world image
 no_damage damage.Pointer sectors c block world image h = h
 no_damage damage.ReachedTwice sectors c block world image h = h
-no_damage damage.MapWord sectors c block world image h = h
+no_damage damage.MapWord sectors c block world image h = h.0 world image
 no_damage damage.Misspelt sectors c block world image h = h.0 world image
 no_damage damage.Links sectors c block world image h = h
 no_damage damage.Log sectors c block world image h = h.0 world image
@@ -202,7 +165,7 @@ writes_to_mount fault.NoRoot sectors old new touched = inl touched
 writes_to_mount fault.Memory sectors old new touched = touched
 writes_to_mount fault.Device sectors old new touched = touched
 
-module _ (old new : Held) (had : Bool) (f : MountFault) (whole : AreSectors (reads old.disk)) (count : length (reads old.disk) ≡ old.status.sectors) (left : IsLeft f old.status.sectors old.disk new.disk) (failed : IsSoOf f old.status new.status) (later : IsLater old.status new.status) (costs : CostsAtMost 1 2 old.status new.status) where
+module _ (old new : Held) (had : Bool) (f : MountFault) (whole : AreSectors (reads old.disk)) (count : length (reads old.disk) ≡ old.status.sectors) (left : IsLeft f old.status.sectors old.disk new.disk) (failed : IsSoOf f old.status new.status) (later : IsLater old.status new.status) (costs : CostsFew old.status new.status) where
   -- between two worlds, of which the disk was an image of one
   unmounted_from : (before after world : World) → Always old.disk (λ c. ShowsState (Stopped before after) c) → IsLiveImage (reads old.disk) world
       → ((c : Contents) → IsLiveImage c world → ShowsState (Stopped before after) c) → LeavesOnly old.disk new.disk (λ c. ShowsState (Stopped before after) c)
@@ -211,7 +174,7 @@ module _ (old new : Held) (had : Bool) (f : MountFault) (whole : AreSectors (rea
 
   pub unmounted_answers : Answers event.Restart (answer.Unmounted f) old had new true
   unmounted_answers (Running w) means =
-      let shows = live_show old w means.1 means.2 in
+      let shows = live_show old w means.1.runs means.2 in
       let here = Always-reads old.disk (λ c. IsLiveImage c (settle w)) whole shows in
       let met = met_with f (reads old.disk) (settle w) old.status.sectors old new here count left.cause failed in
       let all = unmounted_from (settle w) (settle w) (settle w) (λ c crash. inl (shows c crash)) here (λ c h. inl h) in
@@ -219,7 +182,7 @@ module _ (old new : Held) (had : Bool) (f : MountFault) (whole : AreSectors (rea
       record {
         met = Some met.0;
         mid = old;
-        point = refl;
+        point = inl refl;
         may = met.2;
         next = next;
         step = inr (record { fault = f; is = met.1; told = refl; left = refl });
@@ -245,7 +208,7 @@ module _ (old new : Held) (had : Bool) (f : MountFault) (whole : AreSectors (rea
           record {
             met = Some met.0;
             mid = old;
-            point = refl;
+            point = inl refl;
             may = met.2;
             next = Stopped before after;
             step = record { fault = f; is = met.1; told = refl; left = refl };

@@ -1,19 +1,18 @@
 -- Whole runs.
-use Rattle.std.proofs.Common.{◌≡◌, ◌⊎◌, inl, inr, Bool, true, false, length, List, [], ◌∷◌, ◌++◌, None, refl, sym, ap, subst}
+use Rattle.std.proofs.Common.{◌≡◌, ◌⊎◌, ◌≤◌, ◌*◌, ℕ, inl, inr, Bool, true, false, length, List, [], ◌∷◌, ◌++◌, None, refl, sym, ap, subst}
 use Rattle.std.proofs.lemmas.Bool.{true≢false}
 use Rattle.sn_device.specs.Sectors.{Contents}
 use Rattle.sn_device.specs.Disk.{Disk, reads}
 use Rattle.sn_device.specs.Crash.{Touches}
 use Rattle.sn_device.specs.declared.status.Status.{Status}
 use Rattle.sn_device.proofs.CrashLemmas.{LeavesOnly-now, LeavesOnly-weaker, Touches-start}
-use Rattle.sn_block.specs.Counts.{called}
+use Rattle.sn_mount.specs.Costs.{CostsMount}
 use Rattle.sn_block.specs.Effects.{Nowhere}
 use Rattle.sn_limits.specs.Versions.{version_1}
 use Rattle.sn_model.specs.declared.call.Event.{Event}
 use Rattle.sn_model.specs.declared.mount.End.{End}
 use Rattle.sn_model.specs.declared.mount.End.TheVariants as ending
 use Rattle.sn_model.specs.declared.mount.MountFault.{MountFault}
-use Rattle.sn_model.specs.declared.mount.MountFault.TheVariants.{Memory}
 use Rattle.sn_model.specs.declared.reply.Refusal.{Refusal}
 use Rattle.sn_model.specs.declared.reply.Reply.{Reply}
 use Rattle.sn_model.specs.declared.reply.Errno.{Errno}
@@ -31,6 +30,7 @@ use Rattle.sn_held.proofs.EventLemmas.{images_one, means_show}
 use Rattle.sn_mount.specs.Recovering.{LeavesTheWorld}
 use Rattle.sn_fs.specs.Answers.{Answers}
 use Rattle.sn_fs.specs.Mounting.{Mounts}
+use Rattle.sn_run.specs.Servers.{no_base}
 use Rattle.sn_run.specs.Laws.{LivesOn}
 use Rattle.sn_run.specs.Runs.{AnswersAll, Goes, IsRunOf, IsServed, LacksRoot, LeavesAll, LeavesFrom, LeavesItsRun, NotMounted, RunsTo, Served, ShowsCut, start}
 use Rattle.sn_run.proofs.CutLemmas.{cut_now, found_settled, machine_run, run_leaves}
@@ -72,12 +72,14 @@ ends_stopped : (h : Held) (s : State) → Means h true s → Ends s None ending.
 ends_stopped h (Running w) means = absurd (true≢false means.0)
 ends_stopped h (Stopped before after) means = record { reply = refused Estopped; unmounts = refl; ends = (done_is_refused Estopped, stopped_is_memory) }
 
-module _ (events : List Event) (replies : List Reply) (disk last_disk : Disk) (status last_status : Status) (h new : Held) (had : Bool) (m : Mounts status.sectors disk h had) (costs : h.status ≡ called 1 2 status) (same_disk : last_disk ≡ new.disk) (same_status : last_status ≡ new.status) where
+module _ (events : List Event) (replies : List Reply) (disk last_disk : Disk) (status last_status : Status) (h new : Held) (had : Bool) (m : Mounts status.sectors disk h had) (n : ℕ) (within : 8 * n ≤ status.sectors) (costs : CostsMount n status h.status) (same_disk : last_disk ≡ new.disk) (same_status : last_status ≡ new.status) where
   served : (has : Bool) (end : End) → AnswersAll events replies h had new has → ((s : State) → Means new has s → Ends s None end) → Served events replies end disk status last_disk last_status
   served has end all ends = record {
     mounted = h;
     none_kept = m.none_kept;
     touched = m.touched;
+    blocks = n;
+    within = within;
     costs = costs;
     served = λ world image.
         let it = m.runs world image in
@@ -104,7 +106,7 @@ module _ (events : List Event) (replies : List Reply) (disk last_disk : Disk) (s
 
 -- a device alone
 abbrev bare : Disk → Status → Held
-bare disk status = record { world = new_world; kept = λ number. false; room = fresh 0; at = first_of 256 1; disk = disk; status = status }
+bare disk status = record { world = new_world; kept = λ number. false; room = fresh 0; at = first_of 256 1; base = no_base; disk = disk; status = status }
 
 module _ (events : List Event) (replies : List Reply) (disk last_disk : Disk) (status last_status : Status) (world : World) (count : length (reads disk) ≡ status.sectors) (image : IsLiveImage (reads disk) world) where
   served_leaves : (end : End) (mounted : Held) → IsServed world events replies end disk mounted last_disk last_status → LeavesItsRun world events replies disk last_disk

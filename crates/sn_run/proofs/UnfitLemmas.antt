@@ -20,7 +20,7 @@ use Rattle.sn_layout.specs.declared.places.Slot.TheVariants.{A, B}
 use Rattle.sn_sound.specs.Disks.{IsFormatted}
 use Rattle.sn_sound.specs.Verdicts.{IsSomeSize}
 use Rattle.sn_sound.proofs.VerdictLemmas.{rooted_verdict}
-use Rattle.sn_mount.specs.Refusing.{Refuses, StandsAt}
+use Rattle.sn_examine.specs.Refusing.{Refuses, StandsAt}
 use Rattle.sn_run.specs.Runs.{LacksRoot}
 
 one_of_two : {A : Type 0} (f : MountFault) → (f ≡ fault.Memory → ⊥) → (f ≡ fault.Device → ⊥) → (f ≡ fault.Memory) ⊎ (f ≡ fault.Device) → A
@@ -52,7 +52,7 @@ no_damage : (f : MountFault) (damage : Damage) (sectors : ℕ) (c : Contents) (b
 no_damage f damage.Root sectors c block some h lacks = known_damage f sectors c h.1.which some h.1.known h.1.damaged lacks
 no_damage f damage.Pointer sectors c block some h lacks = h
 no_damage f damage.ReachedTwice sectors c block some h lacks = h
-no_damage f damage.MapWord sectors c block some h lacks = h
+no_damage f damage.MapWord sectors c block some h lacks = lacks_none f sectors c h.1.blocks h.1.slot h.1.root h.1.formatted h.1.newest lacks
 no_damage f damage.Misspelt sectors c block some h lacks = lacks_none f sectors c h.1.blocks h.1.slot h.1.root h.1.formatted h.1.newest lacks
 no_damage f damage.Links sectors c block some h lacks = h
 no_damage f damage.Log sectors c block some h lacks = lacks_none f sectors c h.1.blocks h.1.slot h.1.root h.1.formatted h.1.newest lacks

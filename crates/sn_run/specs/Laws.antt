@@ -33,7 +33,7 @@ Unfailing (Some Memory) = Unit {0}
 Unfailing (Some Space) = Unit {0}
 Unfailing (Some Read) = ⊥
 Unfailing (Some Write) = ⊥
-Unfailing (Some Age) = ⊥
+Unfailing (Some Age) = Unit {0}
 
 -- Where the device failed in none of the events, and isn't at its end, they are a run in which no failure was met with: none is invented.
 abbrev pub NoFailureIsInvented : Type 0

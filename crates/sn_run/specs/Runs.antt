@@ -1,10 +1,10 @@
 -- Runs over a device, and what a crash leaves of them.
-use Rattle.std.specs.Prelude.{◌≡◌, ◌⊎◌, ℕ, Bool, false, List, [], ◌∷◌, ◌++◌, None}
+use Rattle.std.specs.Prelude.{◌≡◌, ◌⊎◌, ℕ, ◌≤◌, ◌*◌, Bool, false, List, [], ◌∷◌, ◌++◌, None}
 use Rattle.sn_device.specs.Sectors.{Contents}
 use Rattle.sn_device.specs.Disk.{Disk, Always, reads}
 use Rattle.sn_device.specs.Crash.{LeavesOnly, Touches}
 use Rattle.sn_device.specs.declared.status.Status.{Status}
-use Rattle.sn_block.specs.Counts.{IsLater, called}
+use Rattle.sn_block.specs.Counts.{IsLater}
 use Rattle.sn_block.specs.Effects.{Nowhere}
 use Rattle.sn_limits.specs.Versions.{version_1}
 use Rattle.sn_model.specs.declared.call.Event.{Event}
@@ -19,8 +19,9 @@ use Rattle.sn_sound.specs.Verdicts.{HasNoVerdict}
 use Rattle.sn_held.specs.Held.{Held, Means}
 use Rattle.sn_held.specs.Images.{IsLiveImage}
 use Rattle.sn_held.specs.Room.{HasRoomOf}
-use Rattle.sn_mount.specs.Failing.{CostsAtMost, IsSoOf}
-use Rattle.sn_mount.specs.Recovering.{LeavesTheWorld, OfImage, TouchesOneGate}
+use Rattle.sn_examine.specs.Failing.{IsSoOf}
+use Rattle.sn_mount.specs.Costs.{CostsFew, CostsMount}
+use Rattle.sn_mount.specs.Recovering.{KeepsTheRoot, LeavesTheWorld, OfImage}
 use Rattle.sn_fs.specs.Answers.{AnswersFrom}
 use Rattle.sn_fs.specs.Mounting.{IsLeft}
 
@@ -49,10 +50,10 @@ AnswersAll events replies old had_stopped new has_stopped = (s : State) → Mean
 abbrev pub start : World → Held → Standing
 start world h = record { state = Running world; held = h; has_stopped = false }
 
--- The world that the disk was an image of was mounted, with the room that the image has, and at no moment a crash would have left another. The events were answered; the last unmount calls nothing.
+-- The world that the disk was an image of was mounted, with the room of the image that was there then, and at no moment a crash would have left another. The events were answered; the last unmount calls nothing.
 pub record IsServed (world : World) (events : List Event) (replies : List Reply) (end : End) (disk : Disk) (mounted : Held) (last_disk : Disk) (last_status : Status) : Type 0 where
   pub means : Means mounted false (Running world)
-  pub room : HasRoomOf (reads disk) world mounted.room
+  pub room : HasRoomOf (reads mounted.disk) world mounted.room
   pub leaves : LeavesTheWorld disk mounted.disk world
   pub last : Standing
   pub run : RunBy Goes (start world mounted) events replies last
@@ -60,12 +61,14 @@ pub record IsServed (world : World) (events : List Event) (replies : List Reply)
   pub left : last.held.disk ≡ last_disk
   pub counted : last.held.status ≡ last_status
 
--- The disk was mounted, with one write and two syncs and no number kept back, and what it was an image of was served.
+-- The disk was mounted, with no number kept back, and what it was an image of was served.
 pub record Served (events : List Event) (replies : List Reply) (end : End) (disk : Disk) (status : Status) (last_disk : Disk) (last_status : Status) : Type 0 where
   pub mounted : Held
   pub none_kept : (number : ℕ) → mounted.kept number ≡ false
-  pub touched : TouchesOneGate status.sectors disk mounted.disk
-  pub costs : mounted.status ≡ called 1 2 status
+  pub touched : KeepsTheRoot status.sectors disk mounted.disk
+  pub blocks : ℕ
+  pub within : 8 * blocks ≤ status.sectors
+  pub costs : CostsMount blocks status mounted.status
   pub served : OfImage disk (λ world. IsServed world events replies end disk mounted last_disk last_status)
 
 -- There was no mount, for a cause, and the world that the disk is an image of, if any, is still there.
@@ -74,7 +77,7 @@ pub record NotMounted (fault : MountFault) (replies : List Reply) (disk : Disk) 
   pub left : IsLeft fault status.sectors disk last_disk
   pub failed : IsSoOf fault status last_status
   pub later : IsLater status last_status
-  pub costs : CostsAtMost 1 2 status last_status
+  pub costs : CostsFew status last_status
 
 -- nothing was done, not even a mount
 pub record NothingDone (replies : List Reply) (disk : Disk) (status : Status) (last_disk : Disk) (last_status : Status) : Type 0 where

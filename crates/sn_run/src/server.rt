@@ -1,12 +1,14 @@
 //! What serves events.
 ghost use Rattle.std.specs.Prelude.{◌≡◌, IsTrue};
 ghost use Rattle.sn_model.specs.declared.call.Event.TheVariants as event;
+ghost use Rattle.sn_model.specs.Machine.{refused};
+ghost use Rattle.sn_model.specs.declared.reply.Errno.TheVariants.{Estopped};
 ghost use Rattle.sn_fs.specs.Answers.{Answers};
 ghost use Rattle.sn_run.specs.Servers.{IsServer, is_stopped, standing};
 
 use sn_device::Device;
 use sn_fs::{Fs, Unmounted, mount};
-use sn_model::{Call, Errno, Event, Progress, Refusal, Reply};
+use sn_model::{Call, Errno, Event, Refusal, Reply};
 use std::alloc::Global;
 
 /// A file system that answers events.
@@ -15,6 +17,13 @@ pub enum Server<D: Device> {
     Mounted(Fs<D>),
     /// The last mount failed. Every event but a restart is refused with ESTOPPED.
     Unmounted(D),
+}
+
+/// What every event but a restart is refused with that isn't served any more.
+fn stopped() -> Reply
+    ensures { result ≡ refused Estopped }
+{
+    Reply::Refused(Refusal::plain(Errno::Estopped))
 }
 
 impl<D: Device> Server<D> {
@@ -50,24 +59,23 @@ impl<D: Device> Server<D> {
                 let reply = fs.call(session, call);
                 (reply, Server::Mounted(fs))
             }
-            Server::Unmounted(device) => (
-                Reply::Refused(Refusal::plain(Errno::Estopped)),
-                Server::Unmounted(device),
-            ),
+            Server::Unmounted(device) => (stopped(), Server::Unmounted(device)),
         }
     }
 
-    /// There are no consistency points yet, so that a step is always done.
     fn step(self) -> (Reply, Server<D>)
         requires { IsServer self }
         ensures answered { IsTrue D.tells_bytes → Answers event.Step result.0
             (standing self) (is_stopped self) (standing result.1) (is_stopped result.1) }
         ensures sound { IsServer result.1 }
     {
-        if self.is_stopped() {
-            return (Reply::Refused(Refusal::plain(Errno::Estopped)), self);
+        match self {
+            Server::Mounted(mut fs) => {
+                let reply = fs.step();
+                (reply, Server::Mounted(fs))
+            }
+            Server::Unmounted(device) => (stopped(), Server::Unmounted(device)),
         }
-        (Reply::Progress(Progress::Done), self)
     }
 
     fn restart(self, alloc: Global) -> (Reply, Server<D>)

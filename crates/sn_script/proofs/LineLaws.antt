@@ -29,19 +29,26 @@ use Rattle.sn_words.proofs.FieldLaws.{want_graphic, kind_graphic}
 use Rattle.sn_words.proofs.FlagLaws.{flags_graphic, content_graphic}
 use Rattle.sn_script.proofs.CallLaws.{call_takes, call_again}
 
--- a restart stands alone
+-- steps and restarts stand alone
 lone_takes : (name : List ℕ) (e : Event) → lone_event_of name ≡ Some e → (name ∷ [] ≡ words_of e) × IsEvent e
 unfolding lone_event_of
-lone_takes name e read = of (bytes_eq name (codes "restart")) refl read
+lone_takes name e read = step (bytes_eq name (codes "step")) refl read
   where
     alone : (a b : List ℕ) → a ≡ b → a ∷ [] ≡ b ∷ []
     alone a b p = cc
 
-    of : (b : Bool) → bytes_eq name (codes "restart") ≡ b → cond b (Some event.Restart) None ≡ Some e → (name ∷ [] ≡ words_of e) × IsEvent e
-    of true same r =
+    restart : (b : Bool) → bytes_eq name (codes "restart") ≡ b → cond b (Some event.Restart) None ≡ Some e → (name ∷ [] ≡ words_of e) × IsEvent e
+    restart true same r =
         subst (λ (y : Event). (name ∷ [] ≡ words_of y) × IsEvent y) (some_same event.Restart e r)
         (alone name (codes "restart") ((bytes_eq-Decides name (codes "restart")).0 same), tt)
-    of false other r = absurd cc
+    restart false other r = absurd cc
+
+    step : (b : Bool) → bytes_eq name (codes "step") ≡ b
+        → cond b (Some event.Step) (cond (bytes_eq name (codes "restart")) (Some event.Restart) None) ≡ Some e → (name ∷ [] ≡ words_of e) × IsEvent e
+    step true same r =
+        subst (λ (y : Event). (name ∷ [] ≡ words_of y) × IsEvent y) (some_same event.Step e r)
+        (alone name (codes "step") ((bytes_eq-Decides name (codes "step")).0 same), tt)
+    step false other r = restart (bytes_eq name (codes "restart")) refl r
 
 event_takes : (words : List (List ℕ)) (e : Event) → event_of words ≡ Some e → (words ≡ words_of e) × IsEvent e
 unfolding event_of
@@ -58,15 +65,19 @@ event_takes (session ∷ name ∷ arguments) x e =
     all_three : (a x b y : List ℕ) (cs zs : List (List ℕ)) → a ≡ x → b ≡ y → cs ≡ zs → a ∷ b ∷ cs ≡ x ∷ y ∷ zs
     all_three a x b y cs zs p q r = cc
 
-lone_again : lone_event_of (codes "restart") ≡ Some event.Restart
+step_again : lone_event_of (codes "step") ≡ Some event.Step
 unfolding lone_event_of
-lone_again = refl
+step_again = refl
+
+restart_again : lone_event_of (codes "restart") ≡ Some event.Restart
+unfolding lone_event_of
+restart_again = refl
 
 event_again : (e : Event) → IsEvent e → event_of (words_of e) ≡ Some e
 unfolding event_of
 event_again (event.Call session c) h = rw (number_again (2 ^ 32) session (lit≤ tt) h.0, call_again c h.1) refl
-event_again event.Step h = absurd h
-event_again event.Restart h = lone_again
+event_again event.Step h = step_again
+event_again event.Restart h = restart_again
 
 -- ---- lines
 
@@ -129,7 +140,7 @@ call_graphic (call.Ftruncate fd size) h = (graphic_within (codes "ftruncate") re
 
 words_graphic : (e : Event) → IsEvent e → AllByRecursion IsGraphic (words_of e)
 words_graphic (event.Call session c) h = (number_graphic session h.0, call_graphic c h.1)
-words_graphic event.Step h = absurd h
+words_graphic event.Step h = (graphic_within (codes "step") refl, tt)
 words_graphic event.Restart h = (graphic_within (codes "restart") refl, tt)
 
 all_lack : (c : ℕ) (ws : List (List ℕ)) → c < 33 → AllByRecursion IsGraphic ws → AllByRecursion (Lacks c) ws
@@ -177,7 +188,7 @@ few_words event.Restart = refl
 
 text_cut : (e : Event) → IsEvent e → parts 32 (text_of e) ≡ words_of e
 text_cut (event.Call session c) h = parts_join 32 (decimal session) (name_of c ∷ arguments_of c) (all_lack 32 (words_of (event.Call session c)) (lit< tt) (words_graphic (event.Call session c) h))
-text_cut event.Step h = absurd h
+text_cut event.Step h = parts_join 32 (codes "step") [] (all_lack 32 (words_of event.Step) (lit< tt) (words_graphic event.Step h))
 text_cut event.Restart h = parts_join 32 (codes "restart") [] (all_lack 32 (words_of event.Restart) (lit< tt) (words_graphic event.Restart h))
 
 pub line_again : (e : Event) → IsEvent e → line_event (text_of e) ≡ Some e

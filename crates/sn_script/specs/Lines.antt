@@ -88,8 +88,8 @@ IsCall (call.Write fd bytes) = (fd < 2 ^ 32) × IsBytes bytes
 IsCall (call.Seek fd offset) = (fd < 2 ^ 32) × (offset < 2 ^ 64)
 IsCall (call.Ftruncate fd size) = (fd < 2 ^ 32) × (size < 2 ^ 64)
 
--- Lines of steps aren't read yet.
+-- the events that have a line
 abbrev pub IsEvent : Event → Type 0
 IsEvent (event.Call session c) = (session < 2 ^ 32) × IsCall c
-IsEvent event.Step = ⊥
+IsEvent event.Step = Unit {0}
 IsEvent event.Restart = Unit {0}

@@ -145,9 +145,11 @@ call_of name arguments =
     if bytes_eq name (codes "logout") then logout_of arguments else
     if bytes_eq name (codes "umask") then umask_of arguments else name_call_of name arguments
 
--- the event that is no call of a session
+-- the events that are no calls of a session
 unfoldable pub lone_event_of : List ℕ → Option Event
-lone_event_of name = if bytes_eq name (codes "restart") then Some event.Restart else None
+lone_event_of name =
+    if bytes_eq name (codes "step") then Some event.Step else
+    if bytes_eq name (codes "restart") then Some event.Restart else None
 
 unfoldable pub event_of : List (List ℕ) → Option Event
 event_of (name ∷ []) = lone_event_of name

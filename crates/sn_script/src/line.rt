@@ -55,6 +55,8 @@ const SEEK: &[u8] = b"seek";
 
 const FTRUNCATE: &[u8] = b"ftruncate";
 
+const STEP: &[u8] = b"step";
+
 const RESTART: &[u8] = b"restart";
 
 #[tactic(auto, unfolding(crate::specs::Reading::login_of))]
@@ -281,16 +283,18 @@ fn call(alloc: Global, name: &[u8], arguments: &[&[u8]]) -> Result<Call, ReadFau
     name_call(alloc, name, arguments)
 }
 
-/// The event that is no call of a session.
+/// The events that are no calls of a session.
 #[tactic(auto, unfolding(crate::specs::Reading::lone_event_of))]
 fn lone_event(name: &[u8]) -> Result<Event, ReadFault>
     ensures { IsRead (λ e. e) result (lone_event_of name.now) }
 {
-    if name == RESTART {
-        Ok(Event::Restart)
-    } else {
-        Err(ReadFault::Bad)
+    if name == STEP {
+        return Ok(Event::Step);
     }
+    if name == RESTART {
+        return Ok(Event::Restart);
+    }
+    Err(ReadFault::Bad)
 }
 
 #[tactic(auto, unfolding(crate::specs::Reading::event_of))]

@@ -19,7 +19,7 @@ fn push_event(text: &mut String, event: &Event) -> Result<()> {
             push_call(text, call)
         }
         Event::Restart => push(text, "restart"),
-        Event::Step => bail!("no line of a script is a step"),
+        Event::Step => push(text, "step"),
     }
 }
 

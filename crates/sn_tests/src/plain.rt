@@ -27,15 +27,8 @@ fn is_no_memory(reply: &Reply) -> bool {
     }
 }
 
-/// The event of a line. A step has no line of a script yet.
+/// The event of a line.
 fn event_of(alloc: Global, line: &str) -> Result<Event> {
-    match line {
-        "step" => Ok(Event::Step),
-        _ => call_of(alloc, line),
-    }
-}
-
-fn call_of(alloc: Global, line: &str) -> Result<Event> {
     let script = format!(in alloc; "{line}\n")?;
     only_event(alloc, script.as_str())
 }

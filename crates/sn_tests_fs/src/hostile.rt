@@ -11,7 +11,7 @@ use sn_mounted::{Mounted, new_device, remounted};
 use sn_table::{Report, Tally};
 use std::alloc::Global;
 
-const HALVES: u32 = 3_000;
+const HALVES: u32 = 200;
 
 /// The first sector of the half.
 const FIRST: u64 = 352;
@@ -104,7 +104,7 @@ fn is_of_half(fault: MountFault) -> bool {
         MountFault::Damaged {
             damage: Damage::Log,
             block,
-        } => 38 <= block && block <= 69,
+        } => 44 <= block && block <= 75,
         _ => false,
     }
 }

@@ -1,19 +1,17 @@
-//! The tables of calls and of crashes.
+//! The table of lives that a crash cuts short.
 
 use anyhow::{Context, Result, bail};
 use sn_device::{Fill, MemDevice};
-use sn_model::{Call, Reply};
-use sn_mounted::{Mounted, least_device, line_of, login, mkdir, new_device, remounted, stat};
+use sn_model::Call;
+use sn_mounted::{Mounted, least_device, login, mkdir, remounted, stat};
 use sn_table::{Case, Report};
 use std::alloc::Global;
 
 pub fn run(report: &mut Report<'_>) -> Result<()> {
-    report.script("calls.txt", replies)?;
-    report.script("room.txt", replies_in_little_room)?;
     report.table("stops.txt", stops)
 }
 
-fn fill_of(word: &str) -> Result<Fill> {
+pub fn fill_of(word: &str) -> Result<Fill> {
     Ok(match word {
         "old" => Fill::Old,
         "new" => Fill::New,
@@ -22,52 +20,6 @@ fn fill_of(word: &str) -> Result<Fill> {
         "junk" => Fill::Junk,
         _ => bail!("no fill: {word}"),
     })
-}
-
-/// A line for each line of a script, in which `crash` and a fill stand for a crash and a mount.
-fn replies(alloc: Global, script: &str) -> Result<String> {
-    replies_on(alloc, new_device(alloc)?, script)
-}
-
-/// The same on the least disk, whose blocks are full before its log is.
-fn replies_in_little_room(alloc: Global, script: &str) -> Result<String> {
-    replies_on(alloc, least_device(alloc)?, script)
-}
-
-fn replies_on(alloc: Global, device: MemDevice, script: &str) -> Result<String> {
-    let mut text = String::new(alloc);
-    let mut mounted = remounted(alloc, device)?;
-    for line in script.lines() {
-        mounted = answered(alloc, mounted, line, &mut text)?;
-    }
-    Ok(text)
-}
-
-/// The file system behind a line.
-fn answered(alloc: Global, mounted: Mounted, line: &str, text: &mut String) -> Result<Mounted> {
-    match line.strip_prefix("crash ") {
-        Some(word) => crashed(alloc, mounted, word, text),
-        None => asked(alloc, mounted, line, text),
-    }
-}
-
-fn crashed(alloc: Global, mounted: Mounted, word: &str, text: &mut String) -> Result<Mounted> {
-    text.push_str("mounted\n")?;
-    let fill = fill_of(word)?;
-    remounted(alloc, mounted.into_device().crash(fill))
-}
-
-fn asked(alloc: Global, mounted: Mounted, line: &str, text: &mut String) -> Result<Mounted> {
-    let mut mounted = mounted;
-    let reply = mounted.asked(alloc, line)?;
-    push_reply(alloc, &reply, text)?;
-    Ok(mounted)
-}
-
-fn push_reply(alloc: Global, reply: &Reply, text: &mut String) -> Result<()> {
-    let line = line_of(alloc, reply)?;
-    text.push_str(line.as_str())?;
-    Ok(())
 }
 
 /// So many writes succeed, and then there is a crash.

@@ -3,7 +3,7 @@
 use crate::calls;
 use crate::counts::Counts;
 use crate::records::{change_list, lay_list};
-use crate::sectors::{EPOCH, FIRST_BLOCK, change_some, draw, half_of};
+use crate::sectors::{EPOCH, FIRST_BLOCK, change_some, close_second_root, draw, half_of};
 use crate::trees::{is_made, is_tree};
 use anyhow::Result;
 use rand_pcg::Pcg32;
@@ -72,13 +72,15 @@ fn copy_of(alloc: Global, list: &[Vec<u8>]) -> Result<Vec<Vec<u8>>> {
     Ok(copy)
 }
 
-/// A half of random sectors, of the records of real calls, or of drawn ones, and some of it changed.
+/// A half of random sectors, of the records of real calls, or of drawn ones, and some of it changed. It is that of the
+/// first root, whose tree is empty.
 fn draw_half(
     alloc: Global,
     device: &mut MemDevice,
     made: &[Vec<u8>],
     random: &mut Pcg32,
 ) -> Result<()> {
+    close_second_root(device)?;
     match below(random, 8) {
         0 => draw(device, random)?,
         kind => draw_list(alloc, device, made, random, kind < 4)?,

@@ -6,7 +6,7 @@
 //! bytes by docs/FORMAT.md, to a tree or to the place of a damage. What is wanted is that a mount of the same
 //! bytes finds that tree, which is looked at by calls of the user 0 (`trees`, with the lines that are wanted
 //! in `lines`), or that damage at the block of its place; and the same at the next mount, after a crash, which
-//! then makes a directory.
+//! then makes a directory. The first mount makes a root of a tree that has records; its own root is put back for the next half.
 //! `counts` tells how many halves came to each end, and that each end came up. What is printed is compared
 //! with `stdout`. The argument is a folder, as in
 //!

@@ -19,6 +19,9 @@ const FIRST: u64 = 352;
 /// The sectors of a half.
 pub const PLACES: u64 = 256;
 
+/// The gate of the second root.
+const SECOND_GATE: u64 = 25;
+
 /// The places of a half of random sectors.
 const RANDOM: u64 = 12;
 
@@ -43,6 +46,14 @@ pub fn put(device: &mut MemDevice, place: u64, sector: &Sector) -> Result<()> {
         "no place {place}"
     );
     let is_written = device.write(FIRST + place, sector).is_ok();
+    ensure!(is_written, "a device without a fault");
+    Ok(())
+}
+
+/// Lets the first root count again, and its empty tree, which the mount that made the second one has left as it was.
+pub fn close_second_root(device: &mut MemDevice) -> Result<()> {
+    ensure!(SECOND_GATE < device.sectors(), "no gate");
+    let is_written = device.write(SECOND_GATE, &[0; SECTOR_SIZE]).is_ok();
     ensure!(is_written, "a device without a fault");
     Ok(())
 }

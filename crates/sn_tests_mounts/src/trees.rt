@@ -12,9 +12,6 @@ use std::str;
 /// More directories than lie in one another in a half's tree.
 const DEPTH: usize = 128;
 
-/// The last place of a gate that can have a body.
-const LAST_GATE: usize = 253;
-
 /// The path of a directory, which is empty for the root directory.
 fn path_of(alloc: Global, tree: &Tree<'_>, directory: u16) -> Result<String> {
     let mut path = String::new(alloc);
@@ -218,12 +215,10 @@ fn free_number(tree: &Tree<'_>) -> Option<u16> {
     None
 }
 
-/// What the making of `/new` answers behind the records. A directory of that name may be there.
+/// What the making of `/new` answers: the mount has emptied the log. A directory of that name may be there.
 fn made_line(reading: &Reading<'_>) -> &'static str {
     if has_name(&reading.tree, 2, "new") {
         "err EEXIST\n"
-    } else if reading.place > LAST_GATE {
-        "err ENOSPC\n"
     } else {
         "ok\n"
     }

@@ -10,16 +10,11 @@ use sn_script::read_script;
 use std::alloc::Global;
 use std::str;
 
-/// A step, or the event of a script's line.
+/// The event of a script's line.
 pub fn event_of(alloc: Global, line: &str) -> Result<Event> {
-    match line {
-        "step" => Ok(Event::Step),
-        _ => {
-            let script = format!(in alloc; "{line}\n")?;
-            let mut events = read_script(alloc, script.as_str().as_bytes())?;
-            events.pop().context(format_args!("no call: {line}"))
-        }
-    }
+    let script = format!(in alloc; "{line}\n")?;
+    let mut events = read_script(alloc, script.as_str().as_bytes())?;
+    events.pop().context(format_args!("no event: {line}"))
 }
 
 /// The events of a text, one a line.

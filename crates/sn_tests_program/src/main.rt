@@ -6,7 +6,7 @@
 //! what isn't as the files there say, and how many cases it had; the status is 1 where one was wrong. `runs.txt` is one
 //! run on a new disk, an event a line with its reply. `refused` makes a run with each call of the device refused in
 //! turn, and looks at what it answers from then on; `torn` cuts runs off behind each of their writes by crashes of many
-//! kinds, and looks at what they leave (`torn.txt`).
+//! kinds, and looks at what they leave (`torn.txt`, and `points.txt` of consistency points).
 #![tactic(auto)]
 
 mod commands;
@@ -46,6 +46,7 @@ fn main(rt: HostRuntime) -> Result<()> {
     report.script("runs.txt", events::replies)?;
     refused::run(&mut report)?;
     report.script("torn.txt", torn::torn)?;
+    report.script("points.txt", torn::torn_in_little_room)?;
     report.end()?;
     ensure!(wrong == 0, "cases of the program were wrong");
     Ok(())

@@ -2,15 +2,15 @@
 
 use crate::events::events_of;
 use anyhow::{Result, bail};
-use sn_model::{Call, End, Errno, Event, MountFault, Reply};
+use sn_model::{Call, End, Errno, Event, MountFault, Progress, Reply};
 use sn_mounted::new_device;
 use sn_run::{Ran, Unwatched};
 use sn_table::{Report, Tally};
 use std::alloc::Global;
 
-/// Two directories, with a restart behind each, and what is there in the end.
+/// Two directories, with a restart behind each, and two steps behind the first; and what is there in the end.
 const EVENTS: &str =
-    "0 login 0 0 -\n0 mkdir /a 0755\nrestart\n0 login 0 0 -\n0 mkdir /b 0755\nrestart\n0 login 0 0 -\n0 stat /a\n0 stat /b\n";
+    "0 login 0 0 -\n0 mkdir /a 0755\nstep\nstep\nrestart\n0 login 0 0 -\n0 mkdir /b 0755\nrestart\n0 login 0 0 -\n0 stat /a\n0 stat /b\n";
 
 /// No run of these events makes as many calls of its device.
 const MOST_CALLS: u64 = 1_000;
@@ -21,6 +21,8 @@ struct Course {
     /// The refused call has been told.
     is_told: bool,
     has_stopped: bool,
+    /// A step has told it: if it was a read, nothing has stopped, as the next reply tells.
+    may_have_stopped: bool,
     /// Whether each directory was answered, in the order in which they are made.
     made: Vec<bool>,
     /// How many were asked for in the end, in the same order.
@@ -39,13 +41,26 @@ impl Course {
         Course {
             is_told: false,
             has_stopped: false,
+            may_have_stopped: false,
             made: Vec::new(alloc),
             asked: 0,
         }
     }
 
+    /// A step is done, or tells the refused call.
+    fn steps(&mut self, reply: &Reply) -> bool {
+        if let Reply::Progress(Progress::Done) = reply {
+            return true;
+        }
+        let is_first = !self.is_told;
+        self.is_told = true;
+        self.may_have_stopped = true;
+        is_first && is_refused(reply, Errno::Eio)
+    }
+
     /// A restart mounts, or tells the refused call and stops.
     fn restarts(&mut self, reply: &Reply) -> bool {
+        self.may_have_stopped = false;
         if let Reply::Done = reply {
             self.has_stopped = false;
             return true;
@@ -80,6 +95,10 @@ impl Course {
         if let Event::Restart = event {
             return Ok(self.restarts(reply));
         }
+        if self.may_have_stopped {
+            self.may_have_stopped = false;
+            self.has_stopped = is_refused(reply, Errno::Estopped);
+        }
         if self.has_stopped {
             return Ok(is_refused(reply, Errno::Estopped));
         }
@@ -92,6 +111,7 @@ impl Course {
                 call: Call::Stat { .. },
                 ..
             } => self.finds(reply),
+            Event::Step => self.steps(reply),
             _ => matches!(reply, Reply::Done),
         })
     }

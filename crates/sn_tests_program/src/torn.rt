@@ -2,13 +2,13 @@
 //!
 //! What is wanted is what was there before the event or what is there behind it, and where it was answered the
 //! second alone. Some records take several sectors, so that a crash may leave one of them without another, or a part
-//! of one.
+//! of one. Steps, restarts and calls that don't fit make roots.
 
 use crate::events::{events_of, found_on};
 use anyhow::{Result, ensure};
 use sn_device::{Device, MemDevice};
 use sn_model::{End, Event};
-use sn_mounted::{FILLS, crashed, new_device};
+use sn_mounted::{FILLS, crashed, least_device, new_device};
 use sn_run::{Ran, Unwatched, run};
 use std::alloc::Global;
 
@@ -16,10 +16,27 @@ use std::alloc::Global;
 const ASKED: &str =
     "0 login 0 0 -\n0 stat /a\n0 getacl /a a\n0 getacl /a d\n0 readdir /a\n0 stat /a/f\n0 getacl /a/f a\n0 open /a/f r\n0 read 0 65536\n";
 
-/// How many crashes there are behind each number of writes, and how many of them fill sectors.
-const CRASHES: u32 = 40;
+/// On which disk events run, how many crashes there are behind each number of writes, and how many of them fill sectors.
+#[derive(Clone, Copy)]
+struct Plan {
+    is_least: bool,
+    crashes: u32,
+    filled: u32,
+}
 
-const FILLED: u32 = 12;
+/// On a disk on which events fill nothing.
+const LARGE: Plan = Plan {
+    is_least: false,
+    crashes: 16,
+    filled: 8,
+};
+
+/// On the least one.
+const LEAST: Plan = Plan {
+    is_least: true,
+    crashes: 16,
+    filled: 6,
+};
 
 /// A longer line is told by its front and the number of its bytes.
 const SHOWN: usize = 24;
@@ -41,47 +58,76 @@ struct Whole {
 /// A line for each event of a text: how many writes it makes, how many crashes in it left what they may not, and
 /// what is there behind it.
 pub fn torn(alloc: Global, text: &str) -> Result<String> {
-    let events = events_of(alloc, text)?;
-    lines_of(alloc, events.as_slice())
+    torn_by(alloc, LARGE, text)
 }
 
-fn lines_of(alloc: Global, events: &[Event]) -> Result<String> {
+/// The same on the least disk.
+pub fn torn_in_little_room(alloc: Global, text: &str) -> Result<String> {
+    torn_by(alloc, LEAST, text)
+}
+
+fn torn_by(alloc: Global, plan: Plan, text: &str) -> Result<String> {
+    let events = events_of(alloc, text)?;
+    lines_of(alloc, plan, events.as_slice())
+}
+
+fn lines_of(alloc: Global, plan: Plan, events: &[Event]) -> Result<String> {
     let mut lines = String::new(alloc);
-    push_all(alloc, events, &mut lines)?;
+    push_all(alloc, plan, events, &mut lines)?;
     Ok(lines)
 }
 
-fn push_all(alloc: Global, events: &[Event], lines: &mut String) -> Result<()> {
+fn push_all(alloc: Global, plan: Plan, events: &[Event], lines: &mut String) -> Result<()> {
     for count in 0..events.len() {
-        push_one(alloc, &events[..count], &events[..count + 1], lines)?;
+        push_one(alloc, plan, &events[..count], &events[..count + 1], lines)?;
     }
     Ok(())
 }
 
 /// The line of the last of some events.
-fn push_one(alloc: Global, before: &[Event], events: &[Event], lines: &mut String) -> Result<()> {
-    let step = step_of(alloc, before, events)?;
-    push_step(alloc, events, &step, lines)
+fn push_one(
+    alloc: Global,
+    plan: Plan,
+    before: &[Event],
+    events: &[Event],
+    lines: &mut String,
+) -> Result<()> {
+    let step = step_of(alloc, plan, before, events)?;
+    push_step(alloc, plan, events, &step, lines)
 }
 
-fn step_of(alloc: Global, before: &[Event], events: &[Event]) -> Result<Step> {
-    let before = run_whole(alloc, before)?;
+fn step_of(alloc: Global, plan: Plan, before: &[Event], events: &[Event]) -> Result<Step> {
+    let before = run_whole(alloc, plan, before)?;
     Ok(Step {
         before,
-        behind: run_whole(alloc, events)?,
+        behind: run_whole(alloc, plan, events)?,
     })
 }
 
-fn run_whole(alloc: Global, events: &[Event]) -> Result<Whole> {
-    let Ran { end, device, .. } = run(alloc, new_device(alloc)?, events, &mut Unwatched);
+fn device_of(alloc: Global, plan: Plan) -> Result<MemDevice> {
+    if plan.is_least {
+        least_device(alloc)
+    } else {
+        new_device(alloc)
+    }
+}
+
+fn run_whole(alloc: Global, plan: Plan, events: &[Event]) -> Result<Whole> {
+    let Ran { end, device, .. } = run(alloc, device_of(alloc, plan)?, events, &mut Unwatched);
     ensure!(end == End::Clean, "no memory for a run");
     let writes = device.status().writes;
     let found = found_on(alloc, device, ASKED)?;
     Ok(Whole { found, writes })
 }
 
-fn push_step(alloc: Global, events: &[Event], step: &Step, lines: &mut String) -> Result<()> {
-    let wrong = wrong_crashes(alloc, events, step)?;
+fn push_step(
+    alloc: Global,
+    plan: Plan,
+    events: &[Event],
+    step: &Step,
+    lines: &mut String,
+) -> Result<()> {
+    let wrong = wrong_crashes(alloc, plan, events, step)?;
     let writes = step.behind.writes.saturating_sub(step.before.writes);
     write!(lines, "{writes} writes, {wrong} wrong")?;
     push_found(step.behind.found.as_str(), lines)
@@ -106,19 +152,27 @@ fn push_short(line: &str, lines: &mut String) -> Result<()> {
 }
 
 /// How many crashes in the last of some events leave what they may not.
-fn wrong_crashes(alloc: Global, events: &[Event], step: &Step) -> Result<u32> {
+fn wrong_crashes(alloc: Global, plan: Plan, events: &[Event], step: &Step) -> Result<u32> {
     let mut wrong = 0_u32;
     for stop in step.before.writes..step.behind.writes.saturating_add(1) {
-        wrong = wrong.saturating_add(wrong_behind(alloc, events, step, stop)?);
+        wrong = wrong.saturating_add(wrong_behind(alloc, plan, events, step, stop)?);
     }
     Ok(wrong)
 }
 
 /// The same behind so many writes of the whole run.
-fn wrong_behind(alloc: Global, events: &[Event], step: &Step, stop: u64) -> Result<u32> {
+fn wrong_behind(
+    alloc: Global,
+    plan: Plan,
+    events: &[Event],
+    step: &Step,
+    stop: u64,
+) -> Result<u32> {
     let mut wrong = 0_u32;
-    for number in 0..CRASHES {
-        if !is_left(alloc, events, step, stop, number)? {
+    for number in 0..plan.crashes {
+        let device = cut_short(alloc, plan, events, stop)?;
+        let left = crashed(alloc, device, crash_of(plan, number))?;
+        if !is_right(alloc, left, step, stop)? {
             wrong = wrong.saturating_add(1);
         }
     }
@@ -126,23 +180,17 @@ fn wrong_behind(alloc: Global, events: &[Event], step: &Step, stop: u64) -> Resu
 }
 
 /// The fills first, and then crashes that tear sectors.
-fn crash_of(number: u32) -> u32 {
-    if number < FILLED {
+fn crash_of(plan: Plan, number: u32) -> u32 {
+    if number < plan.filled {
         number
     } else {
         FILLS.saturating_add(number)
     }
 }
 
-fn is_left(alloc: Global, events: &[Event], step: &Step, stop: u64, number: u32) -> Result<bool> {
-    let device = cut_short(alloc, events, stop)?;
-    let left = crashed(alloc, device, crash_of(number))?;
-    is_right(alloc, left, step, stop)
-}
-
 /// The device behind a run of which so many writes succeed, and no later call.
-fn cut_short(alloc: Global, events: &[Event], stop: u64) -> Result<MemDevice> {
-    let mut device = new_device(alloc)?;
+fn cut_short(alloc: Global, plan: Plan, events: &[Event], stop: u64) -> Result<MemDevice> {
+    let mut device = device_of(alloc, plan)?;
     device.stop_at(stop);
     let Ran { device, .. } = run(alloc, device, events, &mut Unwatched);
     Ok(device)

@@ -12,6 +12,7 @@ use Rattle.sn_log.specs.Places.{LogPosition}
 use Rattle.sn_ondisk.specs.Trees.{store_of}
 use Rattle.sn_overlay.specs.Overlays.{layer_of}
 use Rattle.sn_room.specs.Rooms.{fresh}
+use Rattle.sn_sound.specs.Logs.{HasAgeLeft}
 use Rattle.sn_root.specs.Slots.{gate_in}
 use Rattle.sn_cp_whole.specs.Planning.{kept_in}
 use Rattle.sn_cp_whole.proofs.PointLemmas.{begins_leave, finished_costs, gate_stays, leaves, nothing_written, ready, ready_with, room_left, unfinished_costs, unplanned_costs, whole_work}
@@ -87,3 +88,9 @@ returns-clause-costs g c =
     let n_is = c.places-places.ensures ∙ ap (λ (at : LogPosition). at.blocks) c.position.ensures in
     finished_costs _ _ p.built p.next c.other-slot.result p.gate c.in-Ok.ensures.well.few _ _ _ _ c.in-Ok.ensures.idle c.in-Ok-begin.ensures.counts.done _ _ _
     (c.new-point.ensures.work ∙ (λ i. record { blocks = n_is i; slot = c.other-slot.result; gate = p.gate; plan = plan_of p.built p.next })) c.new-point.ensures.stage c.in-Ok-finish.ensures.counts c.in-Ok-finish.ensures.counts.done
+
+pub returns-clause-age : goal.returns-clause-age
+returns-clause-age g c =
+    let work = c.new-point.ensures.work in
+    let after = c.in-Ok-finish.ensures.same ∙ work in
+    subst HasAgeLeft (sym (c.into_root-root.ensures.root ∙ ap (λ (w : Work). w.plan.next) after)) c.in-Ok.ensures.next.age

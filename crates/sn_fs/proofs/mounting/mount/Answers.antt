@@ -10,7 +10,7 @@ use Rattle.sn_fs.proofs.mounting.mount.Goals as goal
 pub returns-in-Ok-recover-clause-mounted : goal.returns-in-Ok-recover-clause-mounted
 returns-in-Ok-recover-clause-mounted g c told =
     let r = c.in-Ok-recover.field-0 in
-    let h = holding g.D.Device c.recover.new.blocks r.log r.world r.room in
+    let h = holding g.D.Device c.recover.new.blocks r.log r.world r.room r.base in
     let old = g.D.Device.disk (device_of c.in-Ok.blocks) in
     let sectors = (g.D.Device.status (device_of c.in-Ok.blocks)).sectors in
     subst (λ (d : _). Mounts (g.D.Device.status d).sectors (g.D.Device.disk d) h false) c.in-Ok.ensures.device

@@ -26,12 +26,12 @@ returns-after-is_stopped-clause-runs g c told =
       | then-is_stopped w ↦
           let is = sym c.is_stopped.ensures ∙ w.if-is_stopped.true in
           subst (λ (e : End). RunsTo e events replies disk status last_disk last_status) (sym w.end-is)
-          (served_stopped events replies disk last_disk status last_status h new had mounts costs c.into_device.ensures.disk c.into_device.ensures.status
+          (served_stopped events replies disk last_disk status last_status h new had mounts h.at.blocks c.in-Ok-mount.ensures.within costs c.into_device.ensures.disk c.into_device.ensures.status
           (subst (λ (b : Bool). AnswersAll events replies h had new b) is all))
       | else-is_stopped w ↦
           let is = sym c.is_stopped.ensures ∙ w.if-is_stopped.false in
           subst (λ (e : End). RunsTo e events replies disk status last_disk last_status) (sym w.end-is)
-          (served_clean events replies disk last_disk status last_status h new had mounts costs c.into_device.ensures.disk c.into_device.ensures.status
+          (served_clean events replies disk last_disk status last_status h new had mounts h.at.blocks c.in-Ok-mount.ensures.within costs c.into_device.ensures.disk c.into_device.ensures.status
           (subst (λ (b : Bool). AnswersAll events replies h had new b) is all))
     ]
 

@@ -1,7 +1,8 @@
 use Rattle.std.proofs.Common.{sym, subst, true}
 use Rattle.sn_model.specs.declared.call.Event.TheVariants.{Call}
-use Rattle.sn_model.specs.declared.reply.Refusal.{Refusal}
-use Rattle.sn_model.specs.declared.reply.Reply.TheVariants.{Refused}
+use Rattle.sn_model.specs.declared.reply.Errno.TheVariants.{Estopped}
+use Rattle.sn_model.specs.declared.reply.Reply.{Reply}
+use Rattle.sn_model.specs.Machine.{refused}
 use Rattle.sn_fs.specs.Answers.{Answers}
 use Rattle.sn_fs.specs.Filesystem.{has_stopped, held}
 use Rattle.sn_fs.proofs.CallLemmas.{stopped_answers}
@@ -22,5 +23,5 @@ returns-in-Unmounted-clause-answered g c told =
     let S = Server g.row.D.Denot g.D.Device in
     let self : S = Server.Unmounted c.in-Unmounted.device in
     let h = standing self in
-    subst (λ (r : Refusal). Answers e (Refused r) (standing c.args.self) (is_stopped c.args.self) h true) (sym c.plain.ensures)
-    (subst (λ (x : S). Answers e (Refused _) (standing x) (is_stopped x) h true) (sym c.in-Unmounted.is) (stopped_answers h c.args.session c.args.call.now))
+    subst (λ (r : Reply). Answers e r (standing c.args.self) (is_stopped c.args.self) h true) (sym c.stopped.ensures)
+    (subst (λ (x : S). Answers e (refused Estopped) (standing x) (is_stopped x) h true) (sym c.in-Unmounted.is) (stopped_answers h c.args.session c.args.call.now))

@@ -1,24 +1,25 @@
-use Rattle.std.proofs.Common.{Bool, sym, subst, ◌∙◌}
+use Rattle.std.proofs.Common.{sym, subst, true}
 use Rattle.sn_model.specs.declared.call.Event.TheVariants.{Step}
 use Rattle.sn_model.specs.declared.reply.Errno.TheVariants.{Estopped}
-use Rattle.sn_model.specs.declared.reply.Progress.TheVariants.{Done}
-use Rattle.sn_model.specs.declared.reply.Refusal.{Refusal}
-use Rattle.sn_model.specs.declared.reply.Reply.TheVariants.{Progress, Refused}
+use Rattle.sn_model.specs.declared.reply.Reply.{Reply}
 use Rattle.sn_model.specs.Machine.{refused}
 use Rattle.sn_fs.specs.Answers.{Answers}
+use Rattle.sn_fs.specs.Filesystem.{has_stopped, held}
+use Rattle.sn_fs.proofs.PointLemmas.{stopped_step}
+use Rattle.sn_run.specs.declared.server.Server.{Server}
 use Rattle.sn_run.specs.Servers.{is_stopped, standing}
-use Rattle.sn_run.proofs.RestartLemmas.{runs_step, stopped_step}
 use Rattle.sn_run.proofs.server.Server.step.Goals as goal
 
-pub returns-then-is_stopped-clause-answered : goal.returns-then-is_stopped-clause-answered
-returns-then-is_stopped-clause-answered g c told =
-    let h = standing c.args.self in
-    let is = sym c.is_stopped.ensures ∙ c.if-is_stopped.true in
-    subst (λ (r : Refusal). Answers Step (Refused r) h (is_stopped c.args.self) h (is_stopped c.args.self)) (sym c.plain.ensures)
-    (subst (λ (b : Bool). Answers Step (refused Estopped) h b h b) (sym is) (stopped_step h))
+pub returns-in-Mounted-clause-answered : goal.returns-in-Mounted-clause-answered
+returns-in-Mounted-clause-answered g c told =
+    let S = Server g.row.D.Denot g.D.Device in
+    let new = c.step-reply.new.self in
+    subst (λ (x : S). Answers Step c.step-reply.result (standing x) (is_stopped x) (held new) (has_stopped new)) (sym c.in-Mounted.is) (c.step-reply.ensures.answered told)
 
-pub returns-clause-answered : goal.returns-clause-answered
-returns-clause-answered g c told =
-    let h = standing c.args.self in
-    let is = sym c.is_stopped.ensures ∙ c.if-is_stopped.false in
-    subst (λ (b : Bool). Answers Step (Progress Done) h b h b) (sym is) (runs_step h)
+pub returns-in-Unmounted-clause-answered : goal.returns-in-Unmounted-clause-answered
+returns-in-Unmounted-clause-answered g c told =
+    let S = Server g.row.D.Denot g.D.Device in
+    let self : S = Server.Unmounted c.in-Unmounted.device in
+    let h = standing self in
+    subst (λ (r : Reply). Answers Step r (standing c.args.self) (is_stopped c.args.self) h true) (sym c.stopped.ensures)
+    (subst (λ (x : S). Answers Step (refused Estopped) (standing x) (is_stopped x) h true) (sym c.in-Unmounted.is) (stopped_step h))

@@ -1,0 +1,80 @@
+//! A whole point of what a mount has replayed.
+ghost use Rattle.std.specs.Prelude.{◌≡◌, ◌≢◌, ◌*◌, ◌+◌, ◌≤◌, length, Err, IsTrue, IfErr, IfOk};
+ghost use Rattle.sn_block.specs.Lending.{device_of};
+ghost use Rattle.sn_device.specs.Crash.{Touches};
+ghost use Rattle.sn_device.specs.Disk.{IsSynced, reads};
+ghost use Rattle.sn_layout.specs.RootBody.{IsRootBody};
+ghost use Rattle.sn_held.specs.Images.{IsImage};
+ghost use Rattle.sn_model.specs.World.{World};
+ghost use Rattle.sn_ondisk.specs.Trees.{store_of};
+ghost use Rattle.sn_overlay.specs.Needs.{need};
+ghost use Rattle.sn_overlay.specs.Overlays.{HasRoom, layer_of, no_changes};
+ghost use Rattle.sn_sound.specs.Logs.{HasAgeLeft};
+ghost use Rattle.sn_cp_held.specs.Builds.{CanBeBuilt};
+ghost use Rattle.sn_cp_held.specs.Recovering.{HasReplayed};
+ghost use Rattle.sn_cp_whole.specs.Planning.{kept_in};
+ghost use Rattle.sn_cp_whole.specs.Recovering.{CostsSteps, IsApart, MakesRecovery};
+ghost use Rattle.sn_cp_whole.specs.declared.fault.PointFault.TheVariants.{Age as AgePoint, Damaged as DamagedPoint, Device as DevicePoint};
+
+use crate::planning::{Planned, plan};
+use crate::{PointBase, PointFault};
+use sn_block::Blocks;
+use sn_cp::Point;
+use sn_device::Device;
+use sn_layout::Places;
+use sn_root::PointKind;
+use std::alloc::Global;
+
+/// Makes a whole consistency point of what a mount has replayed on top of the root that counts: then the next root
+/// counts, two epochs on, so that replay finds nothing. The log isn't touched, so no clearing begins it; the disk has to
+/// be synced. Answers what is kept of the next root, with room for so many drops of files in its empty overlay.
+pub fn make_recovery<D: Device>(
+    alloc: Global,
+    blocks: &mut Blocks<D>,
+    places: Places,
+    base: &PointBase,
+    drops: u16,
+) -> Result<PointBase, PointFault>
+    requires disk { 8 * places ≤ (D.status (device_of blocks.old)).sectors }
+    requires synced { IsTrue D.tells_bytes → IsSynced (D.disk (device_of blocks.old)) }
+    requires body { IsRootBody base.now.root }
+    requires words { length base.now.map ≡ places }
+    ensures recovery { IsTrue D.tells_bytes → (world : World) (im : IsImage (reads (D.disk (device_of blocks.old))) world)
+        → im.blocks ≡ places → HasReplayed (D.disk (device_of blocks.old)) world im (kept_in base.now)
+        → MakesRecovery result places world (D.disk (device_of blocks.old)) (D.disk (device_of blocks.new)) }
+    ensures touched { IsTrue D.tells_bytes → Touches (IsApart places base.now.slot) (D.disk (device_of blocks.old)) (D.disk (device_of blocks.new)) }
+    ensures costs { CostsSteps result places (need base.now.root.limits (layer_of base.now.changed))
+        (D.status (device_of blocks.old)) (D.status (device_of blocks.new)) }
+    ensures unwritten { IsTrue D.tells_bytes → IfErr result (λ fault. fault ≢ DevicePoint → D.disk (device_of blocks.new) ≡ D.disk (device_of blocks.old)) }
+    ensures damaged { IsTrue D.tells_bytes → result ≡ Err DamagedPoint → CanBeBuilt places (store_of (reads (D.disk (device_of blocks.old)))) (kept_in base.now) → ⊥ }
+    ensures aged { result ≡ Err AgePoint → HasAgeLeft base.now.root → ⊥ }
+    ensures body { IfOk result (λ next. IsRootBody next.root) }
+    ensures words { IfOk result (λ next. length next.map ≡ places) }
+    ensures epoch { IfOk result (λ next. next.root.epoch ≡ base.now.root.epoch + 2) }
+    ensures empty { IfOk result (λ next. layer_of next.changed ≡ no_changes) }
+    ensures drops { IfOk result (λ next. HasRoom next.changed (record { nodes = drops; names = 0; blocks = 0 })) }
+{
+    // It bounds the disk.
+    let _blocks = places.blocks();
+    let Planned {
+        next,
+        built,
+        gate,
+        changed,
+    } = match plan(alloc, blocks, places, base, PointKind::Recovery, drops) {
+        Ok(planned) => planned,
+        Err(fault) => return Err(fault),
+    };
+    let slot = base.slot.other();
+    let mut point = Point::new(places, built.blocks, built.map, next, slot, gate);
+    let Ok(()) = point.finish(blocks) else {
+        return Err(PointFault::Device);
+    };
+    let (root, map) = point.into_root();
+    Ok(PointBase {
+        slot,
+        root,
+        map,
+        changed,
+    })
+}

@@ -1,0 +1,383 @@
+-- What a mount finds on an image, and why it finds none elsewhere.
+use Rattle.std.proofs.Common.{◌≡◌, ◌≢◌, ◌⊎◌, inl, inr, ⊎_elim, ℕ, ◌+◌, ◌*◌, ◌<◌, ◌≤◌, Bool, true, false, List, [], ◌∷◌, ◌++◌, length, slice_index, Option, Some, None, Err, refl, sym, ap, subst, ◌∙◌, arith, leb-false, length-append}
+use Rattle.std.proofs.lemmas.List.{nil_from_length}
+use Rattle.sn_device.specs.Sectors.{Contents}
+use Rattle.sn_limits.specs.declared.limits.Limits.{Limits}
+use Rattle.sn_limits.specs.Versions.{version_1}
+use Rattle.sn_layout.specs.Places.{start_of}
+use Rattle.sn_layout.specs.declared.places.Area.TheVariants.{RootBody as Body}
+use Rattle.sn_layout.specs.declared.places.Slot.{Slot}
+use Rattle.sn_layout.specs.declared.root.RootBody.{RootBody}
+use Rattle.sn_model.specs.declared.mount.Damage.{Damage}
+use Rattle.sn_model.specs.declared.mount.Damage.TheVariants.{Log}
+use Rattle.sn_model.specs.declared.mount.MountFault.{MountFault}
+use Rattle.sn_model.specs.declared.mount.MountFault.TheVariants as fault
+use Rattle.sn_model.specs.declared.change.Change.{Change}
+use Rattle.sn_model.specs.Steps.{with_live}
+use Rattle.sn_model.specs.Chains.{◌>>=◌}
+use Rattle.sn_model.specs.Changes.{apply_all}
+use Rattle.sn_model.specs.Tree.{Tree}
+use Rattle.sn_model.specs.World.{World, new_world}
+use Rattle.sn_changed.specs.Changed.{HasChanged}
+use Rattle.sn_changed.proofs.ChangedLemmas.{nothing_changed}
+use Rattle.sn_model.proofs.ListLemmas.{lists_join}
+use Rattle.sn_ondisk.specs.LogHalf.{HasNoLater, Replays as ReplaysPayloads, base_of}
+use Rattle.sn_ondisk.specs.Roots.{IsNewest}
+use Rattle.sn_ondisk.specs.Trees.{store_of}
+use Rattle.sn_ondisk.proofs.OneRootLemmas.{newest_is_one}
+use Rattle.sn_log.specs.Places.{LogPosition, payloads_of}
+use Rattle.sn_image.specs.Image.{image}
+use Rattle.sn_image.specs.Sound.{IsSound}
+use Rattle.sn_image.proofs.SoundNodeLemmas.{only_version}
+use Rattle.sn_opening.proofs.OpeningLemmas.{half_lies}
+use Rattle.sn_sound.specs.Disks.{IsFormatted}
+use Rattle.sn_sound.specs.Logs.{AreReplayed, BreaksAt, HasAgeLeft, IsLogFault, IsToRecover, age as without_age, half_block, charges as overcharged, later, newer, older}
+use Rattle.sn_ondisk.specs.MapCopy.{HasMap}
+use Rattle.sn_sound.specs.Maps.{IsSoundRoot, free_blocks}
+use Rattle.sn_sound.proofs.DiskLemmas.{never_breaks, one_size, replayed_once}
+use Rattle.sn_held.specs.Held.{Kept}
+use Rattle.sn_held.specs.Images.{IsImage}
+use Rattle.sn_overlay.specs.Needs.{nameless_in}
+use Rattle.sn_overlay.specs.Overlays.{no_changes}
+use Rattle.sn_room.specs.Rooms.{RoomCounts, is_covered, mounted}
+use Rattle.sn_sound.specs.Charges.{Fits, charges_from}
+use Rattle.sn_held.proofs.RoomLemmas.{charges_join}
+use Rattle.sn_examine.specs.Ages.{IsAged, TellsRecovery}
+use Rattle.sn_examine.specs.Replaying.{LeadsOn}
+use Rattle.sn_examine.specs.Rooms.{FindsRoom, IsUncovered}
+use Rattle.sn_examine.specs.Both.{BreaksBoth, HasBoth, Replays, ReplaysBoth, in_newer, in_older}
+use Rattle.sn_examine.specs.Examining.{SomeIsLater}
+use Rattle.sn_examine.specs.Finding.{HasFound, HasRoot, IsOfTree, IsUnsound}
+use Rattle.sn_examine.specs.Refusing.{HasLogFault, IsNoImage, Refuses, TellsFree}
+
+-- ---- the same root
+
+-- An image has the size and the newest root that are found.
+pub record IsSameRoot (c : Contents) (n : ℕ) (slot : Slot) (root : RootBody) (w : World) (im : IsImage c w) : Type 0 where
+  pub blocks : im.blocks ≡ n
+  pub slots : im.opens.slot ≡ slot
+  pub roots : im.opens.root ≡ root
+
+pub same_root : (sectors : ℕ) (c : Contents) (n : ℕ) (slot : Slot) (root : RootBody) (w : World) (im : IsImage c w) → length c ≡ sectors → IsFormatted sectors c n → IsNewest c slot root → IsSameRoot c n slot root w im
+same_root sectors c n slot root w im count formatted newest =
+    let one = newest_is_one c im.opens.slot slot im.opens.root root im.opens.shown.newest newest in
+    record {
+      blocks = one_size sectors c im.blocks n (record { size = im.disk.size; spelled = im.spelled; room = subst (λ (m : ℕ). 8 * im.blocks ≤ m) count im.disk.long }) formatted;
+      slots = one.0;
+      roots = one.1;
+    }
+
+-- ---- records that are made
+
+-- the records of an epoch up to a position, as those that a log has
+pub are_replayed : (c : Contents) (from : Tree) (n epoch : ℕ) (at : LogPosition) (tree : Tree) (charges : ℕ) (r : Replays c from n epoch at tree charges) → AreReplayed c version_1 from n epoch r.all.replayed.changes tree
+are_replayed c from n epoch at tree charges r = record {
+  spelled = r.all.replayed.spelled;
+  records =
+      subst (λ (e : ℕ). ReplaysPayloads c (base_of n e) e (payloads_of r.all.replayed.changes)) r.of_epoch
+      (subst (λ (m : ℕ). ReplaysPayloads c (base_of m at.epoch) at.epoch (payloads_of r.all.replayed.changes)) r.blocks
+      (at.place, record { leads = r.all.replayed.behind.leads; stops = r.all.stops }));
+  applied = r.all.replayed.applied;
+}
+
+-- changes that are made one behind the other have a tree between them
+split_made : (first : Option Tree) (second : Tree → Option Tree) (tree : Tree) → (first >>= second) ≡ Some tree → (middle : Tree) × (first ≡ Some middle) × (second middle ≡ Some tree)
+split_made (Some middle) second tree e = (middle, refl, e)
+split_made None second tree e = never e
+  where
+    never : {A : Type 0} → None ≡ Some tree → A
+    never e = cc
+
+module _ (c : Contents) (w : World) (im : IsImage c w) where
+  limits_one : version_1 ≡ im.opens.root.limits
+  limits_one = only_version im.opens.root.limits im.opens.shown.newest.body.fits.version
+
+  abbrev from : Tree
+  from = image (store_of c) im.opens.root.inode_file
+
+  made : apply_all version_1 (im.opens.older ++ im.opens.newer) from ≡ Some im.opens.stands.tree
+  made = ap (λ (l : Limits). apply_all l (im.opens.older ++ im.opens.newer) from) limits_one ∙ im.opens.stands.applied
+
+  halves : (middle : Tree) × (apply_all version_1 im.opens.older from ≡ Some middle) × (apply_all version_1 im.opens.newer middle ≡ Some im.opens.stands.tree)
+  halves = split_made (apply_all version_1 im.opens.older from) (apply_all version_1 im.opens.newer) im.opens.stands.tree (sym (lists_join version_1 im.opens.older im.opens.newer from) ∙ made)
+
+  image_older : AreReplayed c version_1 from im.blocks im.opens.root.epoch im.opens.older halves.0
+  image_older = record { spelled = im.opens.older_spelled; records = im.opens.shown.has_older; applied = halves.1 }
+
+  image_newer : AreReplayed c version_1 halves.0 im.blocks (im.opens.root.epoch + 1) im.opens.newer im.opens.stands.tree
+  image_newer = record { spelled = im.opens.newer_spelled; records = im.opens.shown.has_newer; applied = halves.2 }
+
+  -- nothing breaks the log of an image
+  pub image_breaks : (block : ℕ) → BreaksBoth c from im.blocks im.opens.root.epoch block → ⊥
+  image_breaks block (in_older b) =
+      never_breaks c version_1 from im.blocks im.opens.root.epoch block im.opens.older halves.0 (half_lies im.blocks im.opens.root.epoch c im.disk) image_older b
+  image_breaks block (in_newer at middle charges first b) =
+      let one = replayed_once c version_1 from im.blocks im.opens.root.epoch first.all.replayed.changes im.opens.older middle halves.0 (half_lies im.blocks im.opens.root.epoch c im.disk)
+      (are_replayed c from im.blocks im.opens.root.epoch at middle charges first) image_older in
+      never_breaks c version_1 halves.0 im.blocks (im.opens.root.epoch + 1) block im.opens.newer im.opens.stands.tree (half_lies im.blocks (im.opens.root.epoch + 1) c im.disk) image_newer
+      (subst (λ (t : Tree). BreaksAt c version_1 t im.blocks (im.opens.root.epoch + 1) block) one.trees b)
+
+-- what all records that were replayed are charged
+pub charges_are : (c : Contents) (from : Tree) (n epoch : ℕ) (at : LogPosition) (tree : Tree) (charges : ℕ) (both : HasBoth c from n epoch at tree charges)
+    → charges ≡ charges_from version_1 (both.has_older.all.replayed.changes ++ both.has_newer.all.replayed.changes) from
+charges_are c from n epoch at tree charges both =
+    omega (
+      arith,
+      both.charged,
+      both.has_older.all.replayed.charged,
+      both.has_newer.all.replayed.charged,
+      charges_join version_1 both.has_older.all.replayed.changes both.has_newer.all.replayed.changes from both.middle both.has_older.all.replayed.applied,
+    )
+
+module _ (c : Contents) (w : World) (im : IsImage c w) where
+  -- the records are those of the image, and so is what they are charged
+  pub image_changes : (at : LogPosition) (tree : Tree) (charges : ℕ) (both : HasBoth c (image (store_of c) im.opens.root.inode_file) im.blocks im.opens.root.epoch at tree charges)
+      → both.has_older.all.replayed.changes ++ both.has_newer.all.replayed.changes ≡ im.opens.older ++ im.opens.newer
+  image_changes at tree charges both =
+      let img = image (store_of c) im.opens.root.inode_file in
+      let epoch = im.opens.root.epoch in
+      let first = both.has_older.all.replayed.changes in
+      let second = both.has_newer.all.replayed.changes in
+      let one = replayed_once c version_1 img im.blocks epoch first im.opens.older both.middle (halves c w im).0 (half_lies im.blocks epoch c im.disk)
+      (are_replayed c img im.blocks epoch both.older both.middle both.first both.has_older) (image_older c w im) in
+      let two = replayed_once c version_1 (halves c w im).0 im.blocks (epoch + 1) second im.opens.newer tree im.opens.stands.tree (half_lies im.blocks (epoch + 1) c im.disk)
+      (subst (λ (t : Tree). AreReplayed c version_1 t im.blocks (epoch + 1) second tree) one.trees (are_replayed c both.middle im.blocks (epoch + 1) both.newer tree both.second both.has_newer)) (image_newer c w im) in
+      λ i. one.lists i ++ two.lists i
+
+  pub image_charges : (at : LogPosition) (tree : Tree) (charges : ℕ) → HasBoth c (image (store_of c) im.opens.root.inode_file) im.blocks im.opens.root.epoch at tree charges
+      → charges ≡ charges_from version_1 (im.opens.older ++ im.opens.newer) (image (store_of c) im.opens.root.inode_file)
+  image_charges at tree charges both =
+      let img = image (store_of c) im.opens.root.inode_file in
+      charges_are c img im.blocks im.opens.root.epoch at tree charges both ∙ ap (λ (xs : List Change). charges_from version_1 xs img) (image_changes at tree charges both)
+
+-- ---- whether something is to recover
+
+module _ (c : Contents) (from : Tree) (n epoch : ℕ) (at : LogPosition) (tree : Tree) (charges : ℕ) (both : HasBoth c from n epoch at tree charges) where
+  abbrev older_ones : List Change
+  older_ones = both.has_older.all.replayed.changes
+
+  abbrev newer_ones : List Change
+  newer_ones = both.has_newer.all.replayed.changes
+
+  some_logged : 0 < at.count → older_ones ++ newer_ones ≢ []
+  some_logged logged nil =
+      let none : length older_ones + length newer_ones ≡ 0 = sym (length-append older_ones newer_ones) ∙ ap length nil in
+      let first = both.has_older.all.replayed.behind.count in
+      let second = both.has_newer.all.replayed.behind.count in
+      ⊎_elim
+      (λ (i : (both.newer.count ≡ 0) × (at ≡ both.older)). let same : at.count ≡ both.older.count = ap (λ (p : LogPosition). p.count) i.1 in omega (arith, logged, none, first, same))
+      (λ (i : at ≡ both.newer). let same : at.count ≡ both.newer.count = ap (λ (p : LogPosition). p.count) i in omega (arith, logged, none, second, same))
+      both.is
+
+  none_logged : at.count ≡ 0 → older_ones ++ newer_ones ≡ []
+  none_logged nothing =
+      let none = both.none nothing in
+      λ i. nil_from_length older_ones (sym both.has_older.all.replayed.behind.count ∙ none.0) i ++ nil_from_length newer_ones (sym both.has_newer.all.replayed.behind.count ∙ none.1) i
+
+  pub tells_recovery : (recovers : Bool) (dropped : ℕ) → dropped ≡ nameless_in from → (recovers ≡ true → (0 < at.count) ⊎ (0 < dropped)) → (recovers ≡ false → (at.count ≡ 0) × (dropped ≡ 0)) → TellsRecovery recovers (older_ones ++ newer_ones) from
+  tells_recovery true dropped is some none = ⊎_elim (λ (logged : 0 < at.count). inl (some_logged logged)) (λ (left : 0 < dropped). inr (λ (e : nameless_in from ≡ 0). absurd (omega (arith, left, is, e)))) (some refl)
+  tells_recovery false dropped is some none = ⊎_elim (λ (logged : older_ones ++ newer_ones ≢ []). logged (none_logged (none refl).0)) (λ (left : nameless_in from ≢ 0). left (sym is ∙ (none refl).1))
+
+-- behind the records it is to be recovered too
+recovers_after : (changes : List Change) (from tree : Tree) → apply_all version_1 changes from ≡ Some tree → IsToRecover changes from → IsToRecover changes tree
+unfolding apply_all
+recovers_after [] from tree e (inl some) = inl some
+recovers_after [] from tree e (inr left) = let same : from ≡ tree = cc in inr (subst (λ (t : Tree). nameless_in t ≢ 0) same left)
+recovers_after (change ∷ changes) from tree e recovers = inl (λ nil. never nil)
+  where
+    never : change ∷ changes ≡ [] → ⊥
+    never nil = cc
+
+-- so it is under another spelling of the root
+recovers_at : (c : Contents) (at : LogPosition) (tree : Tree) (charges n m : ℕ) (root other : RootBody) → m ≡ n → other ≡ root → (both : HasBoth c (image (store_of c) root.inode_file) n root.epoch at tree charges)
+    → IsToRecover (both.has_older.all.replayed.changes ++ both.has_newer.all.replayed.changes) (image (store_of c) root.inode_file)
+    → (b : HasBoth c (image (store_of c) other.inode_file) m other.epoch at tree charges) × IsToRecover (b.has_older.all.replayed.changes ++ b.has_newer.all.replayed.changes) (image (store_of c) other.inode_file)
+recovers_at c at tree charges n m root other in_n is both recovers =
+    subst (λ (k : ℕ). (b : HasBoth c (image (store_of c) other.inode_file) k other.epoch at tree charges) × IsToRecover (b.has_older.all.replayed.changes ++ b.has_newer.all.replayed.changes) (image (store_of c) other.inode_file)) (sym in_n)
+    (subst (λ (r : RootBody). (b : HasBoth c (image (store_of c) r.inode_file) n r.epoch at tree charges) × IsToRecover (b.has_older.all.replayed.changes ++ b.has_newer.all.replayed.changes) (image (store_of c) r.inode_file)) (sym is) (both, recovers))
+
+-- all that is found
+pub has_found : (sectors : ℕ) (c : Contents) (n : ℕ) (k : Kept) (at : LogPosition) (world : World) (room : RoomCounts) (recovers : Bool) (charges dropped : ℕ) → at.blocks ≡ n → HasRoot sectors c n k.slot k.root → ((words : List ℕ) → HasMap n c k.slot words → k.words ≡ words)
+    → HasBoth c (image (store_of c) k.root.inode_file) n k.root.epoch at world.live charges → LeadsOn no_changes (image (store_of c) k.root.inode_file) 0 k.changed world.live charges → FindsRoom n c k.slot k.root charges dropped room
+    → dropped ≡ nameless_in (image (store_of c) k.root.inode_file) → (recovers ≡ true → (0 < at.count) ⊎ (0 < dropped)) → (recovers ≡ false → (at.count ≡ 0) × (dropped ≡ 0)) → (recovers ≡ true → HasAgeLeft k.root) → world ≡ with_live new_world world.live
+    → HasFound sectors c k at world room recovers
+has_found sectors c n k at world room recovers charges dropped in_n roots words both leads finds is some none age rest =
+    let img = image (store_of c) k.root.inode_file in
+    let here = subst (λ (m : ℕ). HasBoth c img m k.root.epoch at world.live charges) (sym in_n) both in
+    let start : HasChanged version_1 no_changes img img (0 + 0) = nothing_changed version_1 img in
+    let sum : 0 + charges ≡ charges = omega arith in
+    record {
+      roots = subst (λ (m : ℕ). HasRoot sectors c m k.slot k.root) (sym in_n) roots;
+      words = subst (λ (m : ℕ). (words : List ℕ) → HasMap m c k.slot words → k.words ≡ words) (sym in_n) words;
+      charges = charges;
+      both = here;
+      changed = subst (HasChanged version_1 k.changed img world.live) sum (leads img 0 start);
+      finds = subst (λ (d : ℕ). FindsRoom at.blocks c k.slot k.root charges d room) is (subst (λ (m : ℕ). FindsRoom m c k.slot k.root charges dropped room) (sym in_n) finds);
+      recovery = tells_recovery c img at.blocks k.root.epoch at world.live charges here recovers dropped is some none;
+      age = age;
+      is = rest;
+    }
+
+-- ---- refusals
+
+-- charges that aren't covered are more than is free
+uncovered_is : (free charges dropped : ℕ) → is_covered version_1 (mounted free charges dropped) ≡ false → free < charges + version_1.inode_charge * dropped
+uncovered_is free charges dropped is = leb-false (charges + version_1.inode_charge * dropped) free is
+
+module _ (sectors : ℕ) (c : Contents) (n : ℕ) (slot : Slot) (root : RootBody) (count : length c ≡ sectors) where
+  -- the live tree of an image is sound
+  image_sound : IsFormatted sectors c n → IsNewest c slot root → (w : World) → IsImage c w → IsSound version_1 n (store_of c) root.inode_file
+  image_sound formatted newest w im =
+      let same = same_root sectors c n slot root w im count formatted newest in
+      let live = im.sound.roots (record { bit = 0; inodes = im.opens.root.inode_file }) (0, omega arith, refl) in
+      let sized = subst (λ (m : ℕ). IsSound im.opens.root.limits m (store_of c) im.opens.root.inode_file) same.blocks live in
+      let own = subst (λ (r : RootBody). IsSound r.limits n (store_of c) r.inode_file) same.roots sized in
+      subst (λ (l : Limits). IsSound l n (store_of c) root.inode_file) (sym (only_version root.limits newest.body.fits.version)) own
+
+  -- a tree that can't be read
+  pub tree_refuses : (f : MountFault) (body : ℕ) → body ≡ start_of n (Body slot) → IsFormatted sectors c n → IsNewest c slot root → IsOfTree body f → IsUnsound sectors c root.inode_file f → Refuses f sectors c
+  tree_refuses (fault.Damaged damage block) body at formatted newest is unsound =
+      let bad = unsound n formatted.room in
+      let limits_is = only_version root.limits newest.body.fits.version in
+      subst (λ (d : Damage). Refuses (fault.Damaged d block) sectors c) (sym is.0) (
+        (n, formatted),
+        (
+          λ w im. bad (image_sound formatted newest w im),
+          record {
+            blocks = n;
+            formatted = formatted;
+            slot = slot;
+            root = root;
+            newest = newest;
+            unsound = λ sound. bad (subst (λ (l : Limits). IsSound l n (store_of c) root.inode_file) (sym limits_is) sound);
+            is = is.1 ∙ at;
+          },
+        ),
+      )
+  tree_refuses fault.NotFormatted body at formatted newest is unsound = absurd is
+  tree_refuses fault.Version body at formatted newest is unsound = absurd is
+  tree_refuses fault.NoRoot body at formatted newest is unsound = absurd is
+  tree_refuses fault.Memory body at formatted newest is unsound = tt
+  tree_refuses fault.Device body at formatted newest is unsound = tt
+
+  -- a damage of the log
+  log_refuses : (damage : Damage) (block : ℕ) → damage ≡ Log → IsNoImage c → HasLogFault sectors c block → Refuses (fault.Damaged damage block) sectors c
+  log_refuses damage block is none has = subst (λ (d : Damage). Refuses (fault.Damaged d block) sectors c) (sym is) ((has.blocks, has.formatted), (none, has))
+
+  pub later_refuses : (f : MountFault) → IsFormatted sectors c n → IsNewest c slot root → SomeIsLater f c n (root.epoch + 1) → Refuses f sectors c
+  later_refuses (fault.Damaged damage block) formatted newest is =
+      log_refuses damage block is.0
+      (λ w im.
+      let same = same_root sectors c n slot root w im count formatted newest in
+      is.1.1 (subst (λ (r : RootBody). HasNoLater c (base_of n is.1.0) (r.epoch + 1)) same.roots (subst (λ (m : ℕ). HasNoLater c (base_of m is.1.0) (im.opens.root.epoch + 1)) same.blocks (im.none_later is.1.0))))
+      (record { blocks = n; formatted = formatted; slot = slot; root = root; newest = newest; free = free_blocks n (store_of c) root; told = λ words has sound. refl; is = subst (IsLogFault n c root (free_blocks n (store_of c) root)) (sym is.1.2) (later is.1.0 is.1.1) })
+  later_refuses fault.NotFormatted formatted newest is = absurd is
+  later_refuses fault.Version formatted newest is = absurd is
+  later_refuses fault.NoRoot formatted newest is = absurd is
+  later_refuses fault.Memory formatted newest is = tt
+  later_refuses fault.Device formatted newest is = tt
+
+  -- a record that can't be replayed
+  log_fault : (block : ℕ) → IsNewest c slot root → BreaksBoth c (image (store_of c) root.inode_file) n root.epoch block → IsLogFault n c root (free_blocks n (store_of c) root) block
+  log_fault block newest b = told b
+    where
+      limits_is : version_1 ≡ root.limits
+      limits_is = only_version root.limits newest.body.fits.version
+
+      told : BreaksBoth c (image (store_of c) root.inode_file) n root.epoch block → IsLogFault n c root (free_blocks n (store_of c) root) block
+      told (in_older b) = older block (subst (λ (l : Limits). BreaksAt c l (image (store_of c) root.inode_file) n root.epoch block) limits_is b)
+      told (in_newer at middle charges first b) =
+          newer block first.all.replayed.changes middle
+          (subst (λ (l : Limits). AreReplayed c l (image (store_of c) root.inode_file) n root.epoch first.all.replayed.changes middle) limits_is (are_replayed c (image (store_of c) root.inode_file) n root.epoch at middle charges first))
+          (subst (λ (l : Limits). BreaksAt c l middle n (root.epoch + 1) block) limits_is b)
+
+  pub both_refuses : (f : MountFault) (tree : Tree) → IsFormatted sectors c n → IsNewest c slot root → ReplaysBoth (Err f) c (image (store_of c) root.inode_file) n root.epoch tree → Refuses f sectors c
+  both_refuses (fault.Damaged damage block) tree formatted newest is =
+      log_refuses damage block is.0
+      (λ w im.
+      let same = same_root sectors c n slot root w im count formatted newest in
+      image_breaks c w im block
+      (subst (λ (m : ℕ). BreaksBoth c (image (store_of c) im.opens.root.inode_file) m im.opens.root.epoch block) (sym same.blocks)
+      (subst (λ (r : RootBody). BreaksBoth c (image (store_of c) r.inode_file) n r.epoch block) (sym same.roots) is.1)))
+      (record { blocks = n; formatted = formatted; slot = slot; root = root; newest = newest; free = free_blocks n (store_of c) root; told = λ words has sound. refl; is = log_fault block newest is.1 })
+  both_refuses fault.NotFormatted tree formatted newest is = absurd is
+  both_refuses fault.Version tree formatted newest is = absurd is
+  both_refuses fault.NoRoot tree formatted newest is = absurd is
+  both_refuses fault.Memory tree formatted newest is = tt
+  both_refuses fault.Device tree formatted newest is = tt
+
+  -- charges that aren't covered by what is free
+  uncovered_never : (at : LogPosition) (tree : Tree) (charges free : ℕ) → IsFormatted sectors c n → IsNewest c slot root → HasBoth c (image (store_of c) root.inode_file) n root.epoch at tree charges → TellsFree n c slot root free
+      → is_covered version_1 (mounted free charges (nameless_in (image (store_of c) root.inode_file))) ≡ false → IsNoImage c
+  uncovered_never at tree charges free formatted newest both told uncovered w im =
+      let same = same_root sectors c n slot root w im count formatted newest in
+      let img = image (store_of c) im.opens.root.inode_file in
+      let here = subst (λ (m : ℕ). HasBoth c img m im.opens.root.epoch at tree charges) (sym same.blocks) (subst (λ (r : RootBody). HasBoth c (image (store_of c) r.inode_file) n r.epoch at tree charges) (sym same.roots) both) in
+      let charged = image_charges c w im at tree charges here in
+      let fits = subst (λ (l : Limits). Fits l (im.opens.older ++ im.opens.newer) img (free_blocks im.blocks (store_of c) im.opens.root)) (sym (only_version im.opens.root.limits im.opens.shown.newest.body.fits.version)) im.fits in
+      let map = subst (λ (r : Slot). HasMap n c r im.words) same.slots (subst (λ (m : ℕ). HasMap m c im.opens.slot im.words) same.blocks im.map) in
+      let sound = subst (λ (r : RootBody). IsSoundRoot n (store_of c) r (slice_index im.words)) same.roots (subst (λ (m : ℕ). IsSoundRoot m (store_of c) im.opens.root (slice_index im.words)) same.blocks im.sound) in
+      let is_free = told im.words map sound in
+      let free_is : free_blocks im.blocks (store_of c) im.opens.root ≡ free_blocks n (store_of c) root = λ i. free_blocks (same.blocks i) (store_of c) (same.roots i) in
+      let nameless_is = ap (λ (r : RootBody). nameless_in (image (store_of c) r.inode_file)) same.roots in
+      absurd (omega (arith, uncovered_is free charges (nameless_in (image (store_of c) root.inode_file)) uncovered, charged, fits, is_free, free_is, nameless_is))
+
+  uncovered_fault : (at : LogPosition) (tree : Tree) (charges free block : ℕ) → IsNewest c slot root → HasBoth c (image (store_of c) root.inode_file) n root.epoch at tree charges
+      → is_covered version_1 (mounted free charges (nameless_in (image (store_of c) root.inode_file))) ≡ false → block ≡ half_block n root.epoch → IsLogFault n c root free block
+  uncovered_fault at tree charges free block newest both uncovered is =
+      let img = image (store_of c) root.inode_file in
+      let limits_is = only_version root.limits newest.body.fits.version in
+      let first = both.has_older.all.replayed.changes in
+      let second = both.has_newer.all.replayed.changes in
+      subst (IsLogFault n c root free) (sym is)
+      (overcharged first second both.middle tree
+      (subst (λ (l : Limits). AreReplayed c l img n root.epoch first both.middle) limits_is (are_replayed c img n root.epoch both.older both.middle both.first both.has_older))
+      (subst (λ (l : Limits). AreReplayed c l both.middle n (root.epoch + 1) second tree) limits_is (are_replayed c both.middle n (root.epoch + 1) both.newer tree both.second both.has_newer))
+      (λ fits.
+      let fits_one = subst (λ (l : Limits). Fits l (first ++ second) img free) (sym limits_is) fits in
+      absurd (omega (arith, uncovered_is free charges (nameless_in img) uncovered, charges_are c img n root.epoch at tree charges both, fits_one))))
+
+  pub uncovered_refuses : (f : MountFault) (at : LogPosition) (tree : Tree) (charges : ℕ) → IsFormatted sectors c n → IsNewest c slot root → HasBoth c (image (store_of c) root.inode_file) n root.epoch at tree charges
+      → IsUncovered f n c slot root charges (nameless_in (image (store_of c) root.inode_file)) → Refuses f sectors c
+  uncovered_refuses (fault.Damaged damage block) at tree charges formatted newest both is =
+      log_refuses damage block is.0 (uncovered_never at tree charges is.1.free formatted newest both is.1.told is.1.uncovered)
+      (record { blocks = n; formatted = formatted; slot = slot; root = root; newest = newest; free = is.1.free; told = is.1.told; is = uncovered_fault at tree charges is.1.free block newest both is.1.uncovered is.1.is })
+  uncovered_refuses fault.NotFormatted at tree charges formatted newest both is = absurd is
+  uncovered_refuses fault.Version at tree charges formatted newest both is = absurd is
+  uncovered_refuses fault.NoRoot at tree charges formatted newest both is = absurd is
+  uncovered_refuses fault.Memory at tree charges formatted newest both is = tt
+  uncovered_refuses fault.Device at tree charges formatted newest both is = tt
+
+  -- an age that isn't left
+  aged_never : (at : LogPosition) (tree : Tree) (charges : ℕ) (both : HasBoth c (image (store_of c) root.inode_file) n root.epoch at tree charges) → IsFormatted sectors c n → IsNewest c slot root
+      → IsToRecover (both.has_older.all.replayed.changes ++ both.has_newer.all.replayed.changes) (image (store_of c) root.inode_file) → (HasAgeLeft root → ⊥) → IsNoImage c
+  aged_never at tree charges both formatted newest recovers aged w im =
+      let same = same_root sectors c n slot root w im count formatted newest in
+      let here = recovers_at c at tree charges n im.blocks root im.opens.root same.blocks same.roots both recovers in
+      aged (subst HasAgeLeft same.roots (im.age (subst (λ (xs : List Change). IsToRecover xs (image (store_of c) im.opens.root.inode_file)) (image_changes c w im at tree charges here.0) here.1)))
+
+  aged_fault : (at : LogPosition) (tree : Tree) (charges block : ℕ) (both : HasBoth c (image (store_of c) root.inode_file) n root.epoch at tree charges) → IsNewest c slot root
+      → IsToRecover (both.has_older.all.replayed.changes ++ both.has_newer.all.replayed.changes) (image (store_of c) root.inode_file) → (HasAgeLeft root → ⊥) → block ≡ half_block n root.epoch → IsLogFault n c root (free_blocks n (store_of c) root) block
+  aged_fault at tree charges block both newest recovers aged is =
+      let img = image (store_of c) root.inode_file in
+      let limits_is = only_version root.limits newest.body.fits.version in
+      let first = both.has_older.all.replayed.changes in
+      let second = both.has_newer.all.replayed.changes in
+      let made : apply_all version_1 (first ++ second) img ≡ Some tree = lists_join version_1 first second img ∙ ap (λ (o : Option Tree). o >>= apply_all version_1 second) both.has_older.all.replayed.applied ∙ both.has_newer.all.replayed.applied in
+      subst (IsLogFault n c root (free_blocks n (store_of c) root)) (sym is)
+      (without_age first second both.middle tree
+      (subst (λ (l : Limits). AreReplayed c l img n root.epoch first both.middle) limits_is (are_replayed c img n root.epoch both.older both.middle both.first both.has_older))
+      (subst (λ (l : Limits). AreReplayed c l both.middle n (root.epoch + 1) second tree) limits_is (are_replayed c both.middle n (root.epoch + 1) both.newer tree both.second both.has_newer))
+      (recovers_after (first ++ second) img tree made recovers) aged)
+
+  pub aged_refuses : (f : MountFault) (at : LogPosition) (tree : Tree) (charges : ℕ) (both : HasBoth c (image (store_of c) root.inode_file) n root.epoch at tree charges) (recovers : Bool) → IsFormatted sectors c n → IsNewest c slot root
+      → TellsRecovery recovers (both.has_older.all.replayed.changes ++ both.has_newer.all.replayed.changes) (image (store_of c) root.inode_file) → IsAged f n root recovers → Refuses f sectors c
+  aged_refuses (fault.Damaged damage block) at tree charges both recovers formatted newest tells is =
+      let some = subst (λ (b : Bool). TellsRecovery b (both.has_older.all.replayed.changes ++ both.has_newer.all.replayed.changes) (image (store_of c) root.inode_file)) is.1 tells in
+      log_refuses damage block is.0 (aged_never at tree charges both formatted newest some is.2)
+      (record { blocks = n; formatted = formatted; slot = slot; root = root; newest = newest; free = free_blocks n (store_of c) root; told = λ words has sound. refl; is = aged_fault at tree charges block both newest some is.2 is.3 })
+  aged_refuses fault.NotFormatted at tree charges both recovers formatted newest tells is = absurd is
+  aged_refuses fault.Version at tree charges both recovers formatted newest tells is = absurd is
+  aged_refuses fault.NoRoot at tree charges both recovers formatted newest tells is = absurd is
+  aged_refuses fault.Memory at tree charges both recovers formatted newest tells is = absurd is
+  aged_refuses fault.Device at tree charges both recovers formatted newest tells is = absurd is

@@ -1,0 +1,5 @@
+pub mod ReplayLemmas
+pub mod ExamineLemmas
+pub mod BothLemmas
+pub mod FindLemmas
+pub mod RoomLemmas

@@ -1,0 +1,117 @@
+-- What replay has made of a tree, record by record.
+use Rattle.std.proofs.Common.{◌≡◌, inl, inr, ℕ, ◌+◌, ◌/◌, Bool, true, false, [], ◌∷◌, ◌++◌, Some, None, Result, Ok, Err, MatchBool, refl, sym, ap, subst, ◌∙◌, arith}
+use Rattle.sn_device.specs.Sectors.{Contents}
+use Rattle.sn_device.specs.declared.status.Status.{Status}
+use Rattle.sn_device.specs.Status.{has_ended}
+use Rattle.sn_block.proofs.CountLemmas.{later-read}
+use Rattle.sn_block.specs.Counts.{CountsRead, IsLater}
+use Rattle.sn_block.specs.declared.fault.ReadFault.{ReadFault}
+use Rattle.sn_block.specs.declared.fault.ReadFault.TheVariants as read
+use Rattle.sn_limits.specs.Versions.{version_1}
+use Rattle.sn_model.specs.declared.change.Change.{Change as TheChange}
+use Rattle.sn_changed.specs.Changed.{HasChanged}
+use Rattle.sn_changed.specs.Laws.{ChangesMerge}
+use Rattle.sn_overlay.specs.Layers.{Layer}
+use Rattle.sn_overlay.specs.Merges.{merge}
+use Rattle.sn_overlay.specs.Needs.{AreCharged}
+use Rattle.sn_overlay_change.specs.ChangeLayers.{layer_of_change}
+use Rattle.sn_model.specs.NameTree.{IsTree}
+use Rattle.sn_model.specs.Chains.{◌>>=◌}
+use Rattle.sn_model.specs.Changes.{apply, apply_all}
+use Rattle.sn_model.specs.Tree.{Tree}
+use Rattle.sn_model.proofs.ListLemmas.{lists_join}
+use Rattle.sn_log.specs.Places.{LogPosition, IsBehind, base_at, behind, first_of}
+use Rattle.sn_log.specs.Replaying.{Finds}
+use Rattle.sn_log.specs.declared.replay.Found.TheVariants.{Change, Misspelt}
+use Rattle.sn_opening.proofs.CoveringLemmas.{applied_one}
+use Rattle.sn_opening.proofs.SpelledLemmas.{spelled_more}
+use Rattle.sn_sound.specs.Charges.{charges_from}
+use Rattle.sn_sound.specs.Logs.{BreaksAt}
+use Rattle.sn_model.specs.Charges.{charge_for}
+use Rattle.sn_held.proofs.RoomLemmas.{charges_join, one_charge}
+use Rattle.sn_examine.specs.Failing.{HasFailed, IsSoOf, WritesNothing, read_fault}
+use Rattle.sn_examine.specs.Replaying.{HasReplayed, LeadsOn}
+
+-- at the first place of an epoch nothing is replayed yet
+pub starts : (c : Contents) (from : Tree) (n epoch : ℕ) → HasReplayed c from (first_of n epoch) from 0
+unfolding apply_all charges_from
+starts c from n epoch = record { changes = []; spelled = tt; behind = record { count = refl; leads = refl }; applied = refl; charged = refl }
+
+-- one more
+pub replayed_more : (c : Contents) (from : Tree) (at : LogPosition) (tree : Tree) (charges : ℕ) (change : TheChange) (after : Tree) (done : HasReplayed c from at tree charges) → Finds c at (Change change) → apply version_1 change tree ≡ Some after
+    → IsBehind (behind at change) (done.changes ++ change ∷ []) c → HasReplayed c from (behind at change) after (charges + charge_for version_1 tree change)
+replayed_more c from at tree charges change after done finds e is = record {
+  changes = done.changes ++ change ∷ [];
+  spelled = spelled_more done.changes change done.spelled finds.1;
+  behind = is;
+  applied = lists_join version_1 done.changes (change ∷ []) from ∙ ap (λ x. x >>= apply_all version_1 (change ∷ [])) done.applied ∙ applied_one version_1 change tree after e;
+  charged =
+      ap (λ (k : ℕ). k + charge_for version_1 tree change) done.charged
+      ∙ sym (charges_join version_1 done.changes (change ∷ []) from tree done.applied ∙ ap (λ (k : ℕ). charges_from version_1 done.changes from + k) (one_charge version_1 tree change));
+}
+
+-- a record that is misspelt
+pub misspelt_breaks : (c : Contents) (from : Tree) (at : LogPosition) (tree : Tree) (charges block : ℕ) → HasReplayed c from at tree charges → Finds c at (Misspelt block) → BreaksAt c version_1 from at.blocks at.epoch block
+misspelt_breaks c from at tree charges block done finds = record {
+  at = at;
+  blocks = refl;
+  of_epoch = refl;
+  changes = done.changes;
+  tree = tree;
+  spelled = done.spelled;
+  behind = done.behind;
+  applied = done.applied;
+  bad = inl finds;
+}
+
+-- a change that can't be made
+pub inapplicable_breaks : (c : Contents) (from : Tree) (at : LogPosition) (tree : Tree) (charges : ℕ) (change : TheChange) (block : ℕ) → HasReplayed c from at tree charges → Finds c at (Change change) → apply version_1 change tree ≡ None
+    → block ≡ (base_at at + at.place) / 8 → BreaksAt c version_1 from at.blocks at.epoch block
+inapplicable_breaks c from at tree charges change block done finds none is = record {
+  at = at;
+  blocks = refl;
+  of_epoch = refl;
+  changes = done.changes;
+  tree = tree;
+  spelled = done.spelled;
+  behind = done.behind;
+  applied = done.applied;
+  bad = inr (change, finds, none, is);
+}
+
+-- ---- beside what changed
+
+version_charged : AreCharged version_1
+version_charged = record { inodes = omega arith; blocks = refl }
+
+-- with one more record what changed leads on
+pub changes_lead : ChangesMerge → (layer next : Layer) (tree after : Tree) (charges charge : ℕ) (change : TheChange) → IsTree version_1 tree → apply version_1 change tree ≡ Some after → next ≡ merge layer (layer_of_change tree change) → charge ≡ charge_for version_1 tree change
+    → LeadsOn layer tree charges next after (charges + charge)
+changes_lead merges layer next tree after charges charge change whole e is charged root before has =
+    let sum : before + charges + charge_for version_1 tree change ≡ before + (charges + charge) = omega (arith, charged) in
+    subst (λ (l : Layer). HasChanged version_1 l root after (before + (charges + charge))) (sym is)
+    (subst (HasChanged version_1 (merge layer (layer_of_change tree change)) root after) sum
+    (merges version_1 layer root tree after (before + charges) change version_charged whole.hierarchy has e))
+
+-- ---- reads
+
+failed_read : (b : Bool) (old new : Status) → has_ended old ≡ b → MatchBool b (new ≡ old) (new ≡ record old { failures = old.failures + 1 }) → HasFailed old new
+failed_read true old new e same = inr (ap has_ended same ∙ e)
+failed_read false old new e more = inl (let rose : new.failures ≡ old.failures + 1 = ap (λ (s : Status). s.failures) more in omega (arith, rose))
+
+pub read_failed : {T : Type 0} (result : Result T ReadFault) (f : ReadFault) (old new : Status) → CountsRead result old new → result ≡ Err f → IsSoOf (read_fault f) old new
+read_failed result read.Device old new counts e = failed_read (has_ended old) old new refl (counts.device e)
+read_failed result read.Memory old new counts e = ap (λ (s : Status). s.failures) (counts.memory e)
+
+idle : (old new : Status) → IsLater old new → new ≡ old → WritesNothing old new
+idle old new later same = record { later = later; writes = ap (λ (s : Status). s.writes) same; syncs = ap (λ (s : Status). s.syncs) same }
+
+fails_reading : (b : Bool) (old new : Status) → IsLater old new → MatchBool b (new ≡ old) (new ≡ record old { failures = old.failures + 1 }) → WritesNothing old new
+fails_reading true old new later same = idle old new later same
+fails_reading false old new later more = record { later = later; writes = ap (λ (s : Status). s.writes) more; syncs = ap (λ (s : Status). s.syncs) more }
+
+-- a read writes nothing
+pub reads_only : {T : Type 0} (result : Result T ReadFault) (old new : Status) → CountsRead result old new → WritesNothing old new
+reads_only (Ok x) old new counts = idle old new (later-read (Ok x) old new counts) counts.done
+reads_only (Err read.Device) old new counts = fails_reading (has_ended old) old new (later-read (Err read.Device) old new counts) (counts.device refl)
+reads_only (Err read.Memory) old new counts = idle old new (later-read (Err read.Memory) old new counts) (counts.memory refl)

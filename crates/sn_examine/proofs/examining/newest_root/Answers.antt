@@ -1,0 +1,13 @@
+use Rattle.std.proofs.Common.{sym, subst}
+use Rattle.sn_model.specs.declared.mount.MountFault.{MountFault}
+use Rattle.sn_examine.specs.Refusing.{Refuses}
+use Rattle.sn_device.specs.Disk.{reads}
+use Rattle.sn_block.specs.Lending.{device_of}
+use Rattle.sn_examine.proofs.ExamineLemmas.{root_refuses}
+use Rattle.sn_examine.proofs.examining.newest_root.Goals as goal
+
+pub returns-in-Err-clause-refuses : goal.returns-in-Err-clause-refuses
+returns-in-Err-clause-refuses g c told some =
+    let disk = g.D.Device.disk (device_of c.args.blocks.now) in
+    subst (λ (f : MountFault). Refuses f (g.D.Device.status (device_of c.args.blocks.now)).sectors (reads disk)) (sym c.root_fault.ensures)
+    (root_refuses c.in-Err.fault (g.D.Device.status (device_of c.args.blocks.now)).sectors (reads disk) some (c.in-Err.ensures.found told))

@@ -1,0 +1,23 @@
+-- Whether something is to recover, and an age is left for that.
+use Rattle.std.specs.Prelude.{◌≡◌, ℕ, Bool, true, false, List}
+use Rattle.sn_layout.specs.declared.root.RootBody.{RootBody}
+use Rattle.sn_model.specs.declared.change.Change.{Change}
+use Rattle.sn_model.specs.declared.mount.Damage.TheVariants.{Log}
+use Rattle.sn_model.specs.declared.mount.MountFault.{MountFault}
+use Rattle.sn_model.specs.declared.mount.MountFault.TheVariants as fault
+use Rattle.sn_model.specs.Tree.{Tree}
+use Rattle.sn_sound.specs.Logs.{HasAgeLeft, IsToRecover, half_block}
+
+-- something is to recover, or nothing is
+abbrev pub TellsRecovery : Bool → List Change → Tree → Type 0
+TellsRecovery true changes tree = IsToRecover changes tree
+TellsRecovery false changes tree = IsToRecover changes tree → ⊥
+
+-- something is, and the root has no age left for that, which is told of the half of its epoch
+abbrev pub IsAged : MountFault → ℕ → RootBody → Bool → Type 0
+IsAged (fault.Damaged damage block) n root recovers = (damage ≡ Log) × (recovers ≡ true) × (HasAgeLeft root → ⊥) × (block ≡ half_block n root.epoch)
+IsAged fault.NotFormatted n root recovers = ⊥
+IsAged fault.Version n root recovers = ⊥
+IsAged fault.NoRoot n root recovers = ⊥
+IsAged fault.Memory n root recovers = ⊥
+IsAged fault.Device n root recovers = ⊥

@@ -1,0 +1,45 @@
+-- What replay of a root's epoch and of the next one makes of its tree.
+use Rattle.std.specs.Prelude.{◌≡◌, ◌⊎◌, ℕ, ◌+◌, Result, Ok, Err}
+use Rattle.sn_device.specs.Sectors.{Contents}
+use Rattle.sn_limits.specs.Versions.{version_1}
+use Rattle.sn_model.specs.declared.mount.Damage.TheVariants.{Log}
+use Rattle.sn_model.specs.declared.mount.MountFault.{MountFault}
+use Rattle.sn_model.specs.declared.mount.MountFault.TheVariants as fault
+use Rattle.sn_model.specs.Tree.{Tree}
+use Rattle.sn_log.specs.Places.{LogPosition}
+use Rattle.sn_sound.specs.Logs.{BreaksAt}
+use Rattle.sn_examine.specs.Replaying.{HasAll}
+use Rattle.sn_examine.specs.declared.replaying.Replayed.{Replayed}
+
+-- All records of an epoch were replayed, up to this position, and are charged so much.
+pub record Replays (c : Contents) (from : Tree) (n epoch : ℕ) (at : LogPosition) (tree : Tree) (charges : ℕ) : Type 0 where
+  pub blocks : at.blocks ≡ n
+  pub of_epoch : at.epoch ≡ epoch
+  pub all : HasAll c from at tree charges
+
+-- Those of the root's epoch and then those of the next one were, and the log goes on behind the last of them.
+pub record HasBoth (c : Contents) (from : Tree) (n epoch : ℕ) (at : LogPosition) (tree : Tree) (charges : ℕ) : Type 0 where
+  pub older : LogPosition
+  pub newer : LogPosition
+  pub middle : Tree
+  pub first : ℕ
+  pub second : ℕ
+  pub has_older : Replays c from n epoch older middle first
+  pub has_newer : Replays c middle n (epoch + 1) newer tree second
+  pub charged : charges ≡ first + second
+  pub is : ((newer.count ≡ 0) × (at ≡ older)) ⊎ (at ≡ newer)
+  pub none : at.count ≡ 0 → (older.count ≡ 0) × (newer.count ≡ 0)
+
+-- One that can't be replayed stands among those of the root's epoch, or among those of the next one, where all of the root's can.
+pub data BreaksBoth (c : Contents) (from : Tree) (n epoch block : ℕ) : Type 0 where
+  in_older : BreaksAt c version_1 from n epoch block → BreaksBoth c from n epoch block
+  in_newer : (at : LogPosition) (middle : Tree) (charges : ℕ) → Replays c from n epoch at middle charges → BreaksAt c version_1 middle n (epoch + 1) block → BreaksBoth c from n epoch block
+
+abbrev pub ReplaysBoth : Result Replayed MountFault → Contents → Tree → ℕ → ℕ → Tree → Type 0
+ReplaysBoth (Ok r) c from n epoch tree = HasBoth c from n epoch r.at tree r.charges
+ReplaysBoth (Err (fault.Damaged damage block)) c from n epoch tree = (damage ≡ Log) × BreaksBoth c from n epoch block
+ReplaysBoth (Err fault.NotFormatted) c from n epoch tree = ⊥
+ReplaysBoth (Err fault.Version) c from n epoch tree = ⊥
+ReplaysBoth (Err fault.NoRoot) c from n epoch tree = ⊥
+ReplaysBoth (Err fault.Memory) c from n epoch tree = Unit {0}
+ReplaysBoth (Err fault.Device) c from n epoch tree = Unit {0}

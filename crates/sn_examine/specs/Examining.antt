@@ -1,0 +1,41 @@
+-- What is found on a disk before its tree is read.
+use Rattle.std.specs.Prelude.{◌≡◌, ℕ}
+use Rattle.sn_device.specs.Sectors.{Contents}
+use Rattle.sn_layout.specs.declared.places.Area.TheVariants as area
+use Rattle.sn_layout.specs.declared.places.LogHalf.{LogHalf}
+use Rattle.sn_layout.specs.Places.{start_of}
+use Rattle.sn_model.specs.declared.mount.Damage.TheVariants.{Log, Root}
+use Rattle.sn_model.specs.declared.mount.MountFault.{MountFault}
+use Rattle.sn_model.specs.declared.mount.MountFault.TheVariants as fault
+use Rattle.sn_ondisk.specs.LogHalf.{HasNoLater, base_of}
+use Rattle.sn_log.specs.Places.{half_base}
+use Rattle.sn_root.specs.Fault.{block_of}
+use Rattle.sn_root.specs.declared.fault.RootFault.{RootFault}
+use Rattle.sn_root.specs.declared.fault.RootFault.TheVariants as root
+use Rattle.sn_sound.specs.Logs.{half_block}
+use Rattle.sn_examine.specs.Failing.{read_fault}
+
+-- what a mount makes of slots without a newest root
+abbrev pub root_fault : RootFault → MountFault
+root_fault root.NoOpenRoot = fault.NoRoot
+root_fault root.UnknownVersion = fault.Version
+root_fault (root.Damaged damage) = fault.Damaged Root (block_of damage)
+root_fault (root.Read f) = read_fault f
+
+-- a record of an epoch later than this one stands first in the half, which is told of its first block; or that couldn't be read
+abbrev pub IsLaterIn : MountFault → Contents → ℕ → LogHalf → ℕ → Type 0
+IsLaterIn (fault.Damaged damage block) c n half epoch = (damage ≡ Log) × (HasNoLater c (half_base n half) epoch → ⊥) × (block ≡ start_of n (area.Log half))
+IsLaterIn fault.NotFormatted c n half epoch = ⊥
+IsLaterIn fault.Version c n half epoch = ⊥
+IsLaterIn fault.NoRoot c n half epoch = ⊥
+IsLaterIn fault.Memory c n half epoch = Unit {0}
+IsLaterIn fault.Device c n half epoch = Unit {0}
+
+-- the same of the half of some epoch
+abbrev pub SomeIsLater : MountFault → Contents → ℕ → ℕ → Type 0
+SomeIsLater (fault.Damaged damage block) c n epoch = (damage ≡ Log) × ((e : ℕ) × (HasNoLater c (base_of n e) epoch → ⊥) × (block ≡ half_block n e))
+SomeIsLater fault.NotFormatted c n epoch = ⊥
+SomeIsLater fault.Version c n epoch = ⊥
+SomeIsLater fault.NoRoot c n epoch = ⊥
+SomeIsLater fault.Memory c n epoch = Unit {0}
+SomeIsLater fault.Device c n epoch = Unit {0}

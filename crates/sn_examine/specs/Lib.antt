@@ -1,0 +1,9 @@
+pub mod Failing
+pub mod Examining
+pub mod Refusing
+pub mod Replaying
+pub mod Both
+pub mod Rooms
+pub mod Finding
+pub mod Ages
+pub mod Found

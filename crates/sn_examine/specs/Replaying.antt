@@ -1,0 +1,64 @@
+-- What replay of an epoch makes of a tree.
+use Rattle.std.specs.Prelude.{◌≡◌, ℕ, ◌+◌, Bool, true, false, List, Result, Ok, Err, Some}
+use Rattle.sn_changed.specs.Changed.{HasChanged}
+use Rattle.sn_device.specs.Sectors.{Contents}
+use Rattle.sn_limits.specs.Versions.{version_1}
+use Rattle.sn_model.specs.declared.change.Change.{Change}
+use Rattle.sn_model.specs.declared.mount.Damage.TheVariants.{Log}
+use Rattle.sn_model.specs.declared.mount.MountFault.{MountFault}
+use Rattle.sn_model.specs.declared.mount.MountFault.TheVariants as fault
+use Rattle.sn_model.specs.Changes.{apply_all}
+use Rattle.sn_model.specs.Tree.{Tree}
+use Rattle.sn_overlay.specs.Layers.{Layer}
+use Rattle.sn_ondisk.specs.LogHalf.{Stops}
+use Rattle.sn_log.specs.Places.{LogPosition, IsBehind, base_at}
+use Rattle.sn_opening.specs.Spelled.{AreSpelled}
+use Rattle.sn_sound.specs.Charges.{charges_from}
+use Rattle.sn_sound.specs.Logs.{BreaksAt}
+use Rattle.sn_examine.specs.declared.replaying.Replayed.{Replayed}
+
+-- Up to a position of its epoch stand the records of these changes, which make this tree of another and are charged so much for it.
+pub record HasReplayed (c : Contents) (from : Tree) (at : LogPosition) (tree : Tree) (charges : ℕ) : Type 0 where
+  pub changes : List Change
+  pub spelled : AreSpelled changes
+  pub behind : IsBehind at changes c
+  pub applied : apply_all version_1 changes from ≡ Some tree
+  pub charged : charges ≡ charges_from version_1 changes from
+
+-- It fails for memory, for the device, or where a record stands that is misspelt or whose change can't be made, in the block of its gate.
+abbrev pub Breaks : MountFault → Contents → Tree → ℕ → ℕ → Type 0
+Breaks (fault.Damaged damage block) c from n epoch = (damage ≡ Log) × BreaksAt c version_1 from n epoch block
+Breaks fault.NotFormatted c from n epoch = ⊥
+Breaks fault.Version c from n epoch = ⊥
+Breaks fault.NoRoot c from n epoch = ⊥
+Breaks fault.Memory c from n epoch = Unit {0}
+Breaks fault.Device c from n epoch = Unit {0}
+
+-- the next record was replayed, or there is none
+abbrev pub IsNext : Bool → Contents → Tree → LogPosition → Tree → ℕ → LogPosition → Tree → ℕ → Type 0
+IsNext true c from at tree charges next after more = HasReplayed c from next after more
+IsNext false c from at tree charges next after more = (next ≡ at) × (after ≡ tree) × (more ≡ charges) × Stops c (base_at at) at.epoch at.place
+
+abbrev pub ReplaysOne : Result Bool MountFault → Contents → Tree → LogPosition → Tree → ℕ → LogPosition → Tree → ℕ → Type 0
+ReplaysOne (Ok further) c from at tree charges next after more = IsNext further c from at tree charges next after more
+ReplaysOne (Err fault) c from at tree charges next after more = Breaks fault c from at.blocks at.epoch
+
+-- all records of the epoch were replayed
+pub record HasAll (c : Contents) (from : Tree) (at : LogPosition) (tree : Tree) (charges : ℕ) : Type 0 where
+  pub replayed : HasReplayed c from at tree charges
+  pub stops : Stops c (base_at at) at.epoch at.place
+
+-- the records before the position were replayed, and unless there may be more, these are all
+abbrev pub ReplaysSo : Bool → Contents → Tree → LogPosition → Tree → ℕ → Type 0
+ReplaysSo true c from at tree charges = HasReplayed c from at tree charges
+ReplaysSo false c from at tree charges = HasAll c from at tree charges
+
+abbrev pub ReplaysAll : Result Replayed MountFault → Contents → Tree → ℕ → ℕ → Tree → Type 0
+ReplaysAll (Ok r) c from n epoch tree = HasAll c from r.at tree r.charges
+ReplaysAll (Err fault) c from n epoch tree = Breaks fault c from n epoch
+
+-- ---- beside what changed
+
+-- What changed since a root, up to this tree, for these charges and others before them, is on with this layer what changed up to that tree, for those charges.
+abbrev pub LeadsOn : Layer → Tree → ℕ → Layer → Tree → ℕ → Type 0
+LeadsOn layer tree charges next after more = (root : Tree) (before : ℕ) → HasChanged version_1 layer root tree (before + charges) → HasChanged version_1 next root after (before + more)

@@ -1,0 +1,39 @@
+-- What is charged for what a mount replays, beside what is free.
+use Rattle.std.specs.Prelude.{◌≡◌, ◌⊎◌, ℕ, true, false}
+use Rattle.sn_device.specs.Sectors.{Contents}
+use Rattle.sn_layout.specs.declared.places.Slot.{Slot}
+use Rattle.sn_layout.specs.declared.root.RootBody.{RootBody}
+use Rattle.sn_limits.specs.Versions.{version_1}
+use Rattle.sn_model.specs.declared.mount.Damage.TheVariants.{Log}
+use Rattle.sn_model.specs.declared.mount.MountFault.{MountFault}
+use Rattle.sn_model.specs.declared.mount.MountFault.TheVariants as fault
+use Rattle.sn_room.specs.Rooms.{RoomCounts, is_covered, mounted}
+use Rattle.sn_sound.specs.Logs.{half_block}
+use Rattle.sn_examine.specs.Refusing.{TellsFree}
+
+-- so much is free by the map, and covers the charges
+pub record FindsRoom (n : ℕ) (c : Contents) (slot : Slot) (root : RootBody) (charges dropped : ℕ) (room : RoomCounts) : Type 0 where
+  pub free : ℕ
+  pub told : TellsFree n c slot root free
+  pub is : room ≡ mounted free charges dropped
+  pub covered : is_covered version_1 (mounted free charges dropped) ≡ true
+
+-- it doesn't, which is told of the half of the root's epoch
+pub record LacksRoom (n : ℕ) (c : Contents) (slot : Slot) (root : RootBody) (charges dropped block : ℕ) : Type 0 where
+  pub free : ℕ
+  pub told : TellsFree n c slot root free
+  pub uncovered : is_covered version_1 (mounted free charges dropped) ≡ false
+  pub is : block ≡ half_block n root.epoch
+
+-- or that couldn't be read
+abbrev pub IsUncovered : MountFault → ℕ → Contents → Slot → RootBody → ℕ → ℕ → Type 0
+IsUncovered (fault.Damaged damage block) n c slot root charges dropped = (damage ≡ Log) × LacksRoom n c slot root charges dropped block
+IsUncovered fault.NotFormatted n c slot root charges dropped = ⊥
+IsUncovered fault.Version n c slot root charges dropped = ⊥
+IsUncovered fault.NoRoot n c slot root charges dropped = ⊥
+IsUncovered fault.Memory n c slot root charges dropped = Unit {0}
+IsUncovered fault.Device n c slot root charges dropped = Unit {0}
+
+-- memory was refused, or the device failed
+abbrev pub IsNoDamage : MountFault → Type 0
+IsNoDamage f = (f ≡ fault.Memory) ⊎ (f ≡ fault.Device)

@@ -1,0 +1,36 @@
+//! Whether something is to recover, and an age is left for that.
+ghost use Rattle.std.specs.Prelude.{◌≡◌, ◌⊎◌, ◌↔◌, ◌<◌, true, false, IsTrue, IfErr, OnOk};
+ghost use Rattle.sn_sound.specs.Logs.{HasAgeLeft};
+ghost use Rattle.sn_examine.specs.Ages.{IsAged};
+
+use sn_layout::{Area, LARGEST_AGE, LogHalf, Places, RootBody};
+use sn_model::{Damage, MountFault};
+
+/// Whether something is to recover on top of a root: a record is logged, or a file has no name.
+pub(crate) fn is_to_recover(logged: u32, nameless: u32) -> bool
+    ensures some { result ≡ true → (0 < logged) ⊎ (0 < nameless) }
+    ensures none { result ≡ false → (logged ≡ 0) × (nameless ≡ 0) }
+{
+    logged > 0 || nameless > 0
+}
+
+/// Whether a recovery has a root to write.
+fn has_age_left(root: &RootBody) -> bool
+    ensures { IsTrue result ↔ HasAgeLeft root.now }
+{
+    root.generation < LARGEST_AGE && root.epoch <= LARGEST_AGE - 2
+}
+
+/// Damaged where something is to recover and no age is left for that, which is told of the half of the root's epoch.
+pub(crate) fn test_age(places: Places, root: &RootBody, recovers: bool) -> Result<(), MountFault>
+    ensures left { OnOk result (recovers ≡ true → HasAgeLeft root.now) }
+    ensures aged { IfErr result (λ f. IsAged f places root.now recovers) }
+{
+    if recovers && !has_age_left(root) {
+        return Err(MountFault::Damaged {
+            damage: Damage::Log,
+            block: places.range(Area::Log(LogHalf::of_epoch(root.epoch))).start,
+        });
+    }
+    Ok(())
+}

@@ -1,0 +1,42 @@
+//! What stands on a disk: its size, its newest root, the live tree with the log on top of it, and the room that is
+//! left. It only reads. A mount begins with it (`sn_mount`), and so does a check.
+//!
+//! The model. `sn_held` says when contents are an image of a world (`IsImage`). [`find`] reads superblock and roots, looks
+//! at the first places of both halves of the log, loads the newest root's tree by `sn_load`, replays the records of its
+//! epoch and then those of the next one beside what they change of the root's tree, and looks whether what they are
+//! charged is free, and an age is left where something is to recover.
+//!
+//! What the clauses say, those on bytes of each device that tells them:
+//! - `found`: the newest root's tree with the records of both epochs is the live tree of the world that is found, and
+//!   what is kept beside the root is what the records changed.
+//! - `refuses`: the faults of superblock, gates and versions come in this order, and a damage of the roots or the log
+//!   stands at the block that it is told of (`Refuses`). What can't be read of a tree is told as misspelt, at the root
+//!   body's block, and then the root is unsound.
+//! - Nothing is written, and the device is told to have failed only where it did.
+//!
+//! The way through: `specs/Refusing.antt` says why a disk is none that can be mounted, `Finding.antt` and `Both.antt`
+//! what is read. `examining` reads what stands first, `loading` the tree, `replaying` and `both` the log, `room` the
+//! map, `ages` whether there is an age for a recovery; `finding` puts them together.
+//!
+//! What the sources leave open is decided in `docs/DECISIONS.md`, under "Mount of a root".
+//!
+//! ```text
+//! let Found { root, map, at, world, changed, room, .. } = find(alloc, &mut blocks, &mut buffer)?;
+//! ```
+#![tactic(auto)]
+
+mod ages;
+mod both;
+mod examining;
+mod fault;
+mod finding;
+mod loading;
+mod replaying;
+mod room;
+
+pub use both::replay_both;
+pub use fault::fault_of;
+pub use finding::{DiskRoot, Found, find, find_root};
+pub use loading::load_world;
+pub use replaying::Replayed;
+pub use room::read_map;

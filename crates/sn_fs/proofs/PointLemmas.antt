@@ -1,0 +1,492 @@
+-- What an event answers that makes a whole point first, or whose point isn't made.
+use Rattle.std.proofs.Common.{◌≡◌, ◌≢◌, ◌⊎◌, inl, inr, ℕ, ◌+◌, ◌<◌, Bool, true, false, Option, Some, None, Err, Ok, refl, sym, ap, subst, ◌∙◌, arith}
+use Rattle.std.specs.FinMap as map
+use Rattle.std.specs.Prelude.{IsOk, IsTrue, MatchBool}
+use Rattle.std.proofs.lemmas.Bool.{true≢false}
+use Rattle.sn_limits.specs.Versions.{version_1}
+use Rattle.sn_model.specs.declared.call.Call.{Call}
+use Rattle.sn_model.specs.declared.call.Event.{Event}
+use Rattle.sn_model.specs.declared.call.Event.TheVariants as event
+use Rattle.sn_model.specs.declared.change.Change.{Change}
+use Rattle.sn_model.specs.declared.change.Change.TheVariants.{Make, AddLink, Remove, Rename, Write as WriteBytes, SetSize, SetAttributes}
+use Rattle.sn_model.specs.declared.outcome.Outcome.{Outcome}
+use Rattle.sn_model.specs.declared.reply.Errno.{Errno}
+use Rattle.sn_model.specs.declared.reply.Errno.TheVariants.{Eio, Elimit, Enomem, Enospc, Estopped}
+use Rattle.sn_model.specs.declared.reply.Progress.TheVariants as progress
+use Rattle.sn_model.specs.declared.reply.Reply.{Reply}
+use Rattle.sn_model.specs.declared.reply.Reply.TheVariants as answer
+use Rattle.sn_model.specs.Calls.{ready}
+use Rattle.sn_model.specs.Machine.{State, Running, Stopped, Mishap, Memory, Read, Write, Space, Age, EventStep, IsCharged, errno_of, refused}
+use Rattle.sn_model.specs.Settling.{settle}
+use Rattle.sn_model.specs.Steps.{TakesMemory}
+use Rattle.sn_model.specs.World.{World}
+use Rattle.sn_model.specs.Worlds.{IsCall, IsWorld}
+use Rattle.sn_block.specs.Counts.{FailsRead, IsLater}
+use Rattle.sn_block.specs.Effects.{Nowhere}
+use Rattle.sn_block.proofs.CountLemmas.{later-is, later-join, later-same}
+use Rattle.sn_core.specs.Numbering.{gives_kept}
+use Rattle.sn_core.proofs.NumberLemmas.{same_numbers, step_numbers}
+use Rattle.sn_core.proofs.StepLemmas.{change_takes}
+use Rattle.sn_device.specs.Status.{has_ended, one_failure}
+use Rattle.sn_device.specs.declared.status.Status.{Status}
+use Rattle.sn_device.specs.Disk.{Disk}
+use Rattle.sn_device.specs.Crash.{LeavesOnly}
+use Rattle.sn_device.proofs.CrashLemmas.{LeavesOnly-join, LeavesOnly-now, LeavesOnly-weaker, Touches-start}
+use Rattle.sn_record.specs.Payload.{IsSpelled, PayloadsFit}
+use Rattle.sn_log.specs.Places.{HasRoom, LogPosition, first_of}
+use Rattle.sn_room.specs.Rooms.{RoomCounts}
+use Rattle.sn_held.specs.Held.{Held, Kept, RunsReady}
+use Rattle.sn_held.specs.Images.{IsImage, IsLiveImage}
+use Rattle.sn_held.specs.Moments.{ShowsState}
+use Rattle.sn_held.proofs.EventLemmas.{live_show, ready_with, stays_lasts}
+use Rattle.sn_overlay.specs.Needs.{need}
+use Rattle.sn_cp_whole.specs.Making.{HasCauseFor, MakesPoint, most_syncs, most_writes}
+use Rattle.sn_cp_whole.specs.declared.fault.PointFault.{PointFault}
+use Rattle.sn_cp_whole.specs.declared.fault.PointFault.TheVariants as point
+use Rattle.sn_examine.specs.Failing.{CostsAtMost, HasFailed, HasNotFailed}
+use Rattle.sn_fs.specs.Answers.{Answers, AnswersFrom, Begins, Costs, CostsCall, DoesNotFit, HasMadePoint, IsChangeOf, IsCutPoint, IsLastRoot, Lacks, LacksFirst, MayMeet, NeedsPoint, NumbersIn, RoomIn, RoomOfCall, Works, Writes, is_fitting}
+use Rattle.sn_fs.specs.Pointing.{IsCutOff, IsPointed, IsUnpointed, Points, errno_of_point, stops_for}
+use Rattle.sn_fs.specs.Serving.{Serves, ServesFrom, ServesTo}
+use Rattle.sn_fs.proofs.CallLemmas.{comes, next_with}
+use Rattle.sn_fs.proofs.DecisionLemmas.{CanBeMade, can_be_made, is_charged}
+
+-- what is so of the world that is held is so of the one that is meant
+in_its_world : (e : Event) (old new : Held) (reply : Reply) (has_stopped : Bool) → (RunsReady old old.world old.base → old.world.frozen ≡ map.empty → AnswersFrom (Running old.world) e reply old new has_stopped) → Answers e reply old false new has_stopped
+in_its_world e old new reply has_stopped f (Running w) m =
+    subst (λ (x : World). AnswersFrom (Running x) e reply old new has_stopped) m.1.runs.is (f (subst (λ (x : World). RunsReady old x old.base) (sym m.1.runs.is) m.1) (ap (λ (x : World). x.frozen) m.1.runs.is ∙ m.2))
+in_its_world e old new reply has_stopped f (Stopped before after) m = absurd (true≢false (sym m.0))
+
+-- ---- a point that was made
+
+pub made_point : (e : Event) (old mid : Held) → NeedsPoint old e → IsPointed old mid → HasMadePoint e old mid
+made_point e old mid needed p = record {
+  needed = needed;
+  world = p.world;
+  none_kept = p.none_kept;
+  log = p.log;
+  room = p.room;
+  changed = p.changed;
+  age = p.age;
+  count = p.count;
+  few = p.few;
+  gate = p.gate;
+  costs = p.costs;
+}
+
+-- it shows the settled world all the time
+settled_all : (old mid : Held) → IsPointed old mid → old.world.frozen ≡ map.empty → LeavesOnly old.disk mid.disk (λ c. IsLiveImage c (settle old.world))
+settled_all old mid p bare = LeavesOnly-weaker old.disk mid.disk (λ c. IsImage c (settle old.world)) (λ c. IsLiveImage c (settle old.world)) (λ c im. record { image = im; frozen = bare }) p.moments
+
+none_failed : (old mid new : Status) → mid.failures ≡ old.failures → HasNotFailed mid new → HasNotFailed old new
+none_failed old mid new same none = none ∙ same
+
+some_failed : (old mid new : Status) → mid.failures ≡ old.failures → HasFailed mid new → HasFailed old new
+some_failed old mid new same (inl more) = inl (omega (arith, same, more))
+some_failed old mid new same (inr ended) = inr ended
+
+-- ---- a call that is served behind it
+
+module _ (old mid new : Held) (session : ℕ) (c : Call) (needed : LacksFirst old session c) (p : IsPointed old mid) (bare : old.world.frozen ≡ map.empty) where
+  abbrev e : Event
+  e = event.Call session c
+
+  made : HasMadePoint e old mid
+  made = made_point e old mid needed p
+
+  no_failures : mid.status.failures ≡ old.status.failures
+  no_failures = ap (λ (s : Status). s.failures) p.costs
+
+  later : IsLater old.status mid.status
+  later = later-is _ _ old.status mid.status p.costs
+
+  may_meet : (at : Held) (met : Option Mishap) → ServesTo met mid session c new.status → MayMeet mid at e met new.status → MayMeet old mid e met new.status
+  may_meet at None to may = none_failed old.status mid.status new.status no_failures may
+  may_meet at (Some Memory) to may = none_failed old.status mid.status new.status no_failures may
+  may_meet at (Some Read) to may = absurd to
+  may_meet at (Some Write) to may = some_failed old.status mid.status new.status no_failures may
+  may_meet at (Some Space) to may = absurd to
+  may_meet at (Some Age) to may = absurd to
+
+  costs_call : (at : Held) (met : Option Mishap) → at ≡ mid → ServesTo met mid session c new.status → CostsCall mid at session c met new.status → CostsCall old mid session c met new.status
+  costs_call at None same to costs = subst (λ (x : Held). CostsCall old x session c None new.status) same costs
+  costs_call at (Some Memory) same to costs = costs ∙ ap (λ (x : Held). x.status) same
+  costs_call at (Some Read) same to costs = absurd to
+  costs_call at (Some Write) same to costs = inl to
+  costs_call at (Some Space) same to costs = absurd to
+  costs_call at (Some Age) same to costs = absurd to
+
+  room_in : (at : Held) (met : Option Mishap) (next : State) → at ≡ mid → RoomIn e at new.disk met next new.room → RoomIn e mid new.disk met next new.room
+  room_in at met (Running w) same room = subst (λ (x : Held). RoomOfCall x session c met w new.room) same room
+  room_in at met (Stopped before after) same room = tt
+
+  behind_point : {has_stopped : Bool} {reply : Reply} → ServesFrom (Running old.world) session c reply mid new has_stopped → AnswersFrom (Running old.world) e reply old new has_stopped
+  behind_point {has_stopped} {reply} served =
+      let a = served.answers in
+      record {
+        met = a.met;
+        mid = mid;
+        point = inr made;
+        may = may_meet a.mid a.met served.met a.may;
+        next = a.next;
+        step = a.step;
+        means = a.means;
+        lasts = record {
+          moments = LeavesOnly-join old.disk mid.disk new.disk (λ d. ShowsState (Running old.world) d ⊎ ShowsState a.next d)
+              (LeavesOnly-weaker old.disk mid.disk (λ d. IsLiveImage d (settle old.world)) (λ d. ShowsState (Running old.world) d ⊎ ShowsState a.next d) (λ d h. inl h) (settled_all old mid p bare)) a.lasts.moments;
+          answered = a.lasts.answered;
+        };
+        writes = inr needed;
+        begins = tt;
+        numbers = subst (λ (x : Held). NumbersIn e (Running old.world) x.kept a.next new.kept) served.at_once a.numbers;
+        room = room_in a.mid a.met a.next served.at_once a.room;
+        later = later-join old.status mid.status new.status later a.later;
+        costs = costs_call a.mid a.met served.at_once served.met a.costs;
+        works = tt;
+      }
+
+-- ---- one that doesn't fit behind it
+
+-- a record has room in an empty half
+empty_has_room : PayloadsFit → (n epoch : ℕ) (change : Change) → IsSpelled change → HasRoom (first_of n epoch) change
+empty_has_room fit n epoch change spelled = omega (arith, (fit change spelled).1)
+
+gives_none : (change : Change) (kept : ℕ → Bool) → ((n : ℕ) → kept n ≡ false) → gives_kept change kept ≡ false
+gives_none (Make directory name number kind o) kept none = none number
+gives_none (AddLink directory name number) kept none = refl
+gives_none (Remove directory name) kept none = refl
+gives_none (Rename old_directory old_name new_directory new_name) kept none = refl
+gives_none (WriteBytes number offset bytes) kept none = refl
+gives_none (SetSize number size) kept none = refl
+gives_none (SetAttributes number o) kept none = refl
+
+-- what lacks behind a point is room for the charge
+still_lacks : PayloadsFit → (e : Event) (old mid : Held) (session : ℕ) (c : Call) → IsWorld version_1 mid.world → HasMadePoint e old mid → LacksFirst mid session c → DoesNotFit mid session c
+still_lacks fit e old mid session c whole made lacks = record { change = change; is = is; over = told lacks.lacks }
+  where
+    change : Change
+    change = lacks.change
+
+    is : IsChangeOf mid.world mid.kept session c change
+    is = lacks.is
+
+    spelled : IsSpelled change
+    spelled = (can_be_made mid.world mid.kept session c is.outcome is.picked change whole is.decided is.chosen is.is).spelled
+
+    told : Lacks mid change is.outcome → is_fitting mid is.outcome ≡ false
+    told (inl none) = absurd (none (subst (λ (at : LogPosition). HasRoom at change) (sym made.log) (empty_has_room fit old.at.blocks (old.at.epoch + 1) change spelled)))
+    told (inr (inl over)) = over
+    told (inr (inr (inl kept))) = absurd (true≢false (sym kept ∙ gives_none change mid.kept made.none_kept))
+    told (inr (inr (inr over))) = absurd (over made.age)
+
+space_answers : PayloadsFit → (old mid : Held) (session : ℕ) (c : Call) → IsWorld version_1 mid.world → LacksFirst old session c → IsPointed old mid → old.world.frozen ≡ map.empty → LacksFirst mid session c → AnswersFrom (Running old.world) (event.Call session c) (refused Enospc) old mid false
+space_answers fit old mid session c whole needed p bare lacks = record {
+  met = Some Space;
+  mid = mid;
+  point = inr made;
+  may = (still_lacks fit (event.Call session c) old mid session c whole made lacks, made, ap (λ (s : Status). s.failures) p.costs);
+  next = Running old.world;
+  step = (subst (λ (w : World). IsCharged version_1 w session c) p.world (lacks.is.outcome, lacks.is.decided, is_charged mid.world mid.kept session c lacks.is.outcome lacks.is.picked lacks.change lacks.is.decided lacks.is.chosen lacks.is.is), record { told = refl; same = refl });
+  means = (refl, p.runs, bare);
+  lasts = record {
+    moments = LeavesOnly-weaker old.disk mid.disk (λ d. IsLiveImage d (settle old.world)) (λ d. ShowsState (Running old.world) d ⊎ ShowsState (Running old.world) d) (λ d h. inl h) (settled_all old mid p bare);
+    answered = live_show mid old.world p.runs.runs bare;
+  };
+  writes = inr needed;
+  begins = tt;
+  numbers = same_numbers session c old.world old.world mid.kept mid.kept refl refl;
+  room = refl;
+  later = later-is _ _ old.status mid.status p.costs;
+  costs = refl;
+  works = tt;
+}
+  where
+    made : HasMadePoint (event.Call session c) old mid
+    made = made_point (event.Call session c) old mid needed p
+
+-- ---- a point that isn't made
+
+pub not_device : (fault : PointFault) → stops_for fault ≡ false → fault ≢ point.Device
+not_device fault runs is = true≢false (subst (λ (f : PointFault). stops_for f ≡ false) is runs)
+
+-- what is left of what is held
+module _ (old new : Held) (world : new.world ≡ old.world) (kept : new.kept ≡ old.kept) (room : new.room ≡ old.room) (base : new.base ≡ old.base) where
+  pub point_unmade : (fault : PointFault) (k : Kept) → (fault ≢ point.Device → new.at ≡ old.at) → MakesPoint (Err fault) old.world old.disk (record old { at = new.at; room = new.room; disk = new.disk }) k → HasCauseFor fault old.status new.status → IsLater old.status new.status
+      → CostsAtMost (most_writes old.at.blocks (need old.base.root.limits old.base.changed)) most_syncs old.status new.status → (fault ≡ point.Age → IsLastRoot old.base.root) → IsUnpointed fault old new
+  point_unmade point.Memory k at made cause later costs aged = λ i. record { world = world i; kept = kept i; room = room i; at = at (not_device point.Memory refl) i; base = base i; disk = made i; status = cause i }
+  point_unmade point.Age k at made cause later costs aged = (λ i. record { world = world i; kept = kept i; room = room i; at = at (not_device point.Age refl) i; base = base i; disk = made i; status = cause i }, aged refl)
+  point_unmade point.Read k at made cause later costs aged = (λ i. record { world = world i; kept = kept i; room = room i; at = at (not_device point.Read refl) i; base = base i; disk = made i; status = new.status }, cause)
+  point_unmade point.Damaged k at made cause later costs aged = absurd made
+  point_unmade point.Device k at made cause later costs aged = record { moments = made; failed = cause; later = later; costs = costs }
+
+-- ---- an event whose point isn't made
+
+-- one that stops tells nothing of its numbers
+stopped_numbers : (e : Event) (w : World) (kept : ℕ → Bool) (before after : World) (left : ℕ → Bool) → NumbersIn e (Running w) kept (Stopped before after) left
+stopped_numbers e w kept before after left = tt
+
+-- why a point is refused before it begins
+abbrev IsRefusing : Mishap → Type 0
+IsRefusing Memory = Unit {0}
+IsRefusing Read = ⊥
+IsRefusing Write = ⊥
+IsRefusing Space = ⊥
+IsRefusing Age = Unit {0}
+
+-- what it answers from this world, and what it may cost
+record PointEvent (e : Event) (old : Held) (w : World) : Type 0 where
+  needed : NeedsPoint old e
+  memory : EventStep version_1 (Running w) e (Some Memory) (refused Enomem) (Running w)
+  read : EventStep version_1 (Running w) e (Some Read) (refused Eio) (Running w)
+  age : EventStep version_1 (Running w) e (Some Age) (refused Elimit) (Running w)
+  after : World
+  cut : EventStep version_1 (Running w) e (Some Write) (refused Eio) (Stopped (settle w) after)
+  writes : (d : Disk) → Writes (Running w) old e old.disk d
+  begins : (next : State) (d : Disk) → Begins e next old.disk d
+  numbers : NumbersIn e (Running w) old.kept (Running w) old.kept
+  room : (m : Mishap) → RoomIn e old old.disk (Some m) (Running w) old.room
+  any_room : (before after : World) (d : Disk) (room : RoomCounts) → RoomIn e old d (Some Write) (Stopped before after) room
+  works : (m : Mishap) (new : Status) → Works e (refused (errno_of m)) old.status new
+  costs_none : (m : Mishap) → IsRefusing m → Costs (Running w) old old e (Some m) old.status
+  costs_read : (new : Status) → CostsAtMost 0 0 old.status new → Costs (Running w) old old e (Some Read) new
+  costs_cut : (new : Status) → IsCutPoint old e new → Costs (Running w) old old e (Some Write) new
+
+-- a read that failed
+fails_read : (old new : Status) → FailsRead old new → HasFailed old new × IsLater old new × CostsAtMost 0 0 old new
+fails_read old new fails = told (has_ended old) refl fails
+  where
+    told : (ended : Bool) → has_ended old ≡ ended → MatchBool ended (new ≡ old) (new ≡ one_failure old) → HasFailed old new × IsLater old new × CostsAtMost 0 0 old new
+    told true is same = (
+      inr (sym (ap has_ended (sym same)) ∙ is),
+      later-same old new same,
+      subst (CostsAtMost 0 0 old) (sym same) (record { writes = omega arith; syncs = omega arith }),
+    )
+    told false is same = (
+      inl (omega (arith, ap (λ (s : Status). s.failures) same)),
+      subst (IsLater old) (sym same) (record { sectors = refl; failures = omega arith; writes = omega arith; syncs = omega arith; spent = λ was. was }),
+      subst (CostsAtMost 0 0 old) (sym same) (record { writes = omega arith; syncs = omega arith }),
+    )
+
+module _ (e : Event) (old : Held) (x : PointEvent e old old.world) (r : RunsReady old old.world old.base) (bare : old.world.frozen ≡ map.empty) where
+  -- nothing has changed
+  refuses : (m : Mishap) → IsRefusing m → MayMeet old old e (Some m) old.status → EventStep version_1 (Running old.world) e (Some m) (refused (errno_of m)) (Running old.world) → AnswersFrom (Running old.world) e (refused (errno_of m)) old old false
+  refuses m is may step = record {
+    met = Some m;
+    mid = old;
+    point = inl refl;
+    may = may;
+    next = Running old.world;
+    step = step;
+    means = (refl, r, bare);
+    lasts = stays_lasts old false (Running old.world) (refl, r, bare);
+    writes = x.writes old.disk;
+    begins = x.begins (Running old.world) old.disk;
+    numbers = x.numbers;
+    room = x.room m;
+    later = later-same old.status old.status refl;
+    costs = x.costs_none m is;
+    works = x.works m old.status;
+  }
+
+  -- but what the device counts
+  cannot_read : (new : Held) → new ≡ record old { status = new.status } → FailsRead old.status new.status → AnswersFrom (Running old.world) e (refused Eio) old new false
+  cannot_read new is fails =
+      let told = fails_read old.status new.status fails in
+      subst (λ (h : Held). AnswersFrom (Running old.world) e (refused Eio) old h false) (sym is) (record {
+        met = Some Read;
+        mid = old;
+        point = inl refl;
+        may = told.0;
+        next = Running old.world;
+        step = x.read;
+        means = (refl, ready_with old old.world old.base old.kept old.base new.status r, bare);
+        lasts = stays_lasts old false (Running old.world) (refl, r, bare);
+        writes = x.writes old.disk;
+        begins = x.begins (Running old.world) old.disk;
+        numbers = x.numbers;
+        room = x.room Read;
+        later = told.1;
+        costs = x.costs_read new.status told.2;
+        works = x.works Read new.status;
+      })
+
+  -- it was cut off, and either world may be there, of which the first is
+  is_cut : (new : Held) → IsCutOff old new → AnswersFrom (Running old.world) e (refused Eio) old new true
+  is_cut new cut =
+      let moments = LeavesOnly-weaker old.disk new.disk (λ d. IsImage d (settle old.world)) (λ d. IsLiveImage d (settle old.world) ⊎ IsLiveImage d x.after) (λ d im. inl (record { image = im; frozen = bare })) cut.moments in
+      let now = LeavesOnly-now old.disk new.disk (λ d. IsLiveImage d (settle old.world) ⊎ IsLiveImage d x.after) moments in
+      record {
+        met = Some Write;
+        mid = old;
+        point = inl refl;
+        may = cut.failed;
+        next = Stopped (settle old.world) x.after;
+        step = x.cut;
+        means = (refl, now);
+        lasts = record {
+          moments = LeavesOnly-weaker old.disk new.disk (λ d. IsLiveImage d (settle old.world) ⊎ IsLiveImage d x.after) (λ d. ShowsState (Running old.world) d ⊎ ShowsState (Stopped (settle old.world) x.after) d) (λ d h. inr h) moments;
+          answered = now;
+        };
+        writes = x.writes new.disk;
+        begins = x.begins (Stopped (settle old.world) x.after) new.disk;
+        numbers = stopped_numbers e old.world old.kept (settle old.world) x.after new.kept;
+        room = x.any_room (settle old.world) x.after new.disk new.room;
+        later = cut.later;
+        costs = x.costs_cut new.status (record { needed = x.needed; costs = cut.costs });
+        works = x.works Write new.status;
+      }
+
+  unpointed_answers : (fault : PointFault) (new : Held) → IsUnpointed fault old new → AnswersFrom (Running old.world) e (refused (errno_of_point fault)) old new (stops_for fault)
+  unpointed_answers point.Memory new is = subst (λ (h : Held). AnswersFrom (Running old.world) e (refused Enomem) old h false) (sym is) (refuses Memory tt refl x.memory)
+  unpointed_answers point.Age new is = subst (λ (h : Held). AnswersFrom (Running old.world) e (refused Elimit) old h false) (sym is.0) (refuses Age tt (x.needed, is.1, refl) x.age)
+  unpointed_answers point.Read new is = cannot_read new is.0 is.1
+  unpointed_answers point.Damaged new is = absurd is
+  unpointed_answers point.Device new is = is_cut new is
+
+-- ---- a call
+
+not_more : (errno : Errno) → refused errno ≡ answer.Progress progress.More → ⊥
+not_more errno e = cc
+
+call_point : (old : Held) (session : ℕ) (c : Call) → IsCall c → IsWorld version_1 old.world → LacksFirst old session c → PointEvent (event.Call session c) old old.world
+call_point old session c numbers whole needed = record {
+  needed = needed;
+  memory = (takes, record { told = refl; same = refl });
+  read = (takes, record { told = refl; same = refl });
+  age = ((o, is.decided, inl charged), record { told = refl; same = refl });
+  after = settle next;
+  cut = record { outcome = o; decided = is.decided; writes = inl charged; next = next; comes = comes old session c o is.picked needed.change numbers whole is.decided is.chosen is.is can.tree can.applied; stops = record { told = refl; left = refl } };
+  writes = λ d. inr needed;
+  begins = λ s d. tt;
+  numbers = same_numbers session c old.world old.world old.kept old.kept refl refl;
+  room = λ m. refl;
+  any_room = λ before after d room. tt;
+  works = λ m new. tt;
+  costs_none = none;
+  costs_read = λ new costs. costs;
+  costs_cut = λ new cut. inr cut;
+}
+  where
+    is : IsChangeOf old.world old.kept session c needed.change
+    is = needed.is
+
+    o : Outcome
+    o = is.outcome
+
+    can : CanBeMade old.world needed.change
+    can = can_be_made old.world old.kept session c o is.picked needed.change whole is.decided is.chosen is.is
+
+    next : World
+    next = next_with old session c o is.picked needed.change numbers whole is.decided is.chosen is.is can.tree
+
+    charged : 0 < o.charge
+    charged = is_charged old.world old.kept session c o is.picked needed.change is.decided is.chosen is.is
+
+    takes : TakesMemory c × IsOk (ready old.world session c)
+    takes = change_takes old.world old.kept session c o is.picked needed.change is.decided is.chosen is.is
+
+    none : (m : Mishap) → IsRefusing m → Costs (Running old.world) old old (event.Call session c) (Some m) old.status
+    none Memory is = refl
+    none Read is = absurd is
+    none Write is = absurd is
+    none Space is = absurd is
+    none Age is = refl
+
+unpointed_call : (old new : Held) (session : ℕ) (c : Call) (fault : PointFault) → IsCall c → IsWorld version_1 old.world → LacksFirst old session c → RunsReady old old.world old.base → old.world.frozen ≡ map.empty → IsUnpointed fault old new
+    → AnswersFrom (Running old.world) (event.Call session c) (refused (errno_of_point fault)) old new (stops_for fault)
+unpointed_call old new session c fault numbers whole needed r bare is = unpointed_answers (event.Call session c) old (call_point old session c numbers whole needed) r bare fault new is
+
+-- the same in each world that is meant
+pub call_behind : (old mid new : Held) (session : ℕ) (c : Call) (reply : Reply) (has_stopped : Bool) → LacksFirst old session c → Points (Ok tt) old mid → Serves (Some reply) mid session c new has_stopped → Answers (event.Call session c) reply old false new has_stopped
+call_behind old mid new session c reply has_stopped needed points serves =
+    in_its_world (event.Call session c) old new reply has_stopped (λ r bare. let p = points r in behind_point old mid new session c needed p bare (serves (Running old.world) (refl, p.runs, bare)))
+
+pub call_without_room : PayloadsFit → (old mid new : Held) (session : ℕ) (c : Call) → IsWorld version_1 mid.world → LacksFirst old session c → Points (Ok tt) old mid → Serves None mid session c new false → Answers (event.Call session c) (refused Enospc) old false new false
+call_without_room fit old mid new session c whole needed points serves =
+    subst (λ (h : Held). Answers (event.Call session c) (refused Enospc) old false h false) (sym serves.1)
+    (in_its_world (event.Call session c) old mid (refused Enospc) false (λ r bare. space_answers fit old mid session c whole needed (points r) bare serves.0))
+
+pub call_unpointed : (old new : Held) (session : ℕ) (c : Call) (fault : PointFault) → IsCall c → IsWorld version_1 old.world → LacksFirst old session c → Points (Err fault) old new → Answers (event.Call session c) (refused (errno_of_point fault)) old false new (stops_for fault)
+call_unpointed old new session c fault numbers whole needed points =
+    in_its_world (event.Call session c) old new (refused (errno_of_point fault)) (stops_for fault) (λ r bare. unpointed_call old new session c fault numbers whole needed r bare (points r))
+
+-- ---- a step
+
+step_point : (old : Held) → PointEvent event.Step old old.world
+step_point old = record {
+  needed = tt;
+  memory = record { told = refl; same = refl };
+  read = record { told = refl; same = refl };
+  age = record { told = refl; same = refl };
+  after = settle old.world;
+  cut = record { told = refl; left = refl };
+  writes = λ d. tt;
+  begins = λ s d. tt;
+  numbers = step_numbers old.world old.kept;
+  room = λ m. refl;
+  any_room = λ before after d room. tt;
+  works = λ m new more. absurd (not_more (errno_of m) more);
+  costs_none = none;
+  costs_read = λ new costs. costs;
+  costs_cut = λ new cut. cut;
+}
+  where
+    none : (m : Mishap) → IsRefusing m → Costs (Running old.world) old old event.Step (Some m) old.status
+    none Memory is = refl
+    none Read is = absurd is
+    none Write is = absurd is
+    none Space is = absurd is
+    none Age is = refl
+
+done_is_not_more : answer.Progress progress.Done ≡ answer.Progress progress.More → ⊥
+done_is_not_more e = cc
+
+done_step : (old new : Held) → IsPointed old new → old.world.frozen ≡ map.empty → AnswersFrom (Running old.world) event.Step (answer.Progress progress.Done) old new false
+done_step old new p bare = record {
+  met = None;
+  mid = new;
+  point = inr made;
+  may = ap (λ (s : Status). s.failures) p.costs;
+  next = Running old.world;
+  step = (inr refl, refl);
+  means = (refl, p.runs, bare);
+  lasts = record {
+    moments = LeavesOnly-weaker old.disk new.disk (λ d. IsLiveImage d (settle old.world)) (λ d. ShowsState (Running old.world) d ⊎ ShowsState (Running old.world) d) (λ d h. inl h) (settled_all old new p bare);
+    answered = live_show new old.world p.runs.runs bare;
+  };
+  writes = tt;
+  begins = tt;
+  numbers = step_numbers old.world new.kept;
+  room = refl;
+  later = later-is _ _ old.status new.status p.costs;
+  costs = (made, refl);
+  works = λ more. absurd (done_is_not_more more);
+}
+  where
+    made : HasMadePoint event.Step old new
+    made = made_point event.Step old new tt p
+
+pub stopped_step : (h : Held) → Answers event.Step (refused Estopped) h true h true
+stopped_step h (Running w) m = absurd (true≢false m.0)
+stopped_step h (Stopped before after) m = record {
+  met = None;
+  mid = h;
+  point = inl refl;
+  may = refl;
+  next = Stopped before after;
+  step = (refl, refl);
+  means = m;
+  lasts = stays_lasts h true (Stopped before after) m;
+  writes = Touches-start Nowhere h.disk;
+  begins = tt;
+  numbers = tt;
+  room = tt;
+  later = later-same h.status h.status refl;
+  costs = refl;
+  works = λ more. absurd (not_more Estopped more);
+}
+
+pub pointed_step : (old new : Held) → Points (Ok tt) old new → Answers event.Step (answer.Progress progress.Done) old false new false
+pointed_step old new points = in_its_world event.Step old new (answer.Progress progress.Done) false (λ r bare. done_step old new (points r) bare)
+
+pub unpointed_step : (old new : Held) (fault : PointFault) → Points (Err fault) old new → Answers event.Step (refused (errno_of_point fault)) old false new (stops_for fault)
+unpointed_step old new fault points = in_its_world event.Step old new (refused (errno_of_point fault)) (stops_for fault) (λ r bare. unpointed_answers event.Step old (step_point old) r bare fault new (points r))

@@ -1,0 +1,72 @@
+-- A call that is served without a point, or that needs one.
+use Rattle.std.specs.Prelude.{◌≡◌, ◌⊎◌, ℕ, ◌-◌, Bool, false, true, ◌||◌, List, Option, None, Some}
+use Rattle.sn_changed.specs.Dropped.{LeadsOn, TellsGone}
+use Rattle.sn_changed.specs.declared.dropped.DroppedFile.{DroppedFile}
+use Rattle.sn_model.specs.declared.call.Call.{Call}
+use Rattle.sn_model.specs.declared.call.Event.TheVariants as event
+use Rattle.sn_model.specs.declared.change.Change.{Change}
+use Rattle.sn_model.specs.declared.outcome.Caller.{Caller}
+use Rattle.sn_model.specs.declared.reply.Reply.{Reply}
+use Rattle.sn_device.specs.declared.status.Status.{Status}
+use Rattle.sn_model.specs.Machine.{State, Mishap, Memory, Read, Write, Space, Age}
+use Rattle.sn_model.specs.Settling.{dropped}
+use Rattle.sn_model.specs.Steps.{with_caller}
+use Rattle.sn_model.specs.Tree.{Tree}
+use Rattle.sn_model.specs.Worlds.{IsCall}
+use Rattle.sn_core.specs.Numbering.{gives_kept, has_closed}
+use Rattle.sn_overlay.specs.Needs.{nameless_in}
+use Rattle.sn_room.specs.Rooms.{dropping}
+use Rattle.sn_held.specs.Held.{Held, Kept, Means}
+use Rattle.sn_log.specs.Places.{HasRoom}
+use Rattle.sn_sound.specs.Logs.{HasAgeLeft}
+use Rattle.sn_fs.specs.Answers.{AnswersFrom, IsTried, LacksFirst}
+
+-- without a point a call meets with want of memory alone, or its append was cut off
+abbrev pub ServesTo : Option Mishap → Held → ℕ → Call → Status → Type 0
+ServesTo None h session c new = Unit {0}
+ServesTo (Some Memory) h session c new = Unit {0}
+ServesTo (Some Read) h session c new = ⊥
+ServesTo (Some Write) h session c new = IsTried h session c new
+ServesTo (Some Space) h session c new = ⊥
+ServesTo (Some Age) h session c new = ⊥
+
+-- It is answered from this state, and no point came first.
+pub record ServesFrom (s : State) (session : ℕ) (c : Call) (reply : Reply) (old new : Held) (has_stopped : Bool) : Type 0 where
+  pub answers : AnswersFrom s (event.Call session c) reply old new has_stopped
+  pub at_once : answers.mid ≡ old
+  pub met : ServesTo answers.met old session c new.status
+
+-- A call is answered at once, from each state that is meant; or it comes to a change that lacks something, and nothing has changed; its numbers are those of a call.
+abbrev pub Serves : Option Reply → Held → ℕ → Call → Held → Bool → Type 0
+Serves (Some reply) old session c new has_stopped = (s : State) → Means old false s → ServesFrom s session c reply old new has_stopped
+Serves None old session c new has_stopped = LacksFirst old session c × (new ≡ old) × IsCall c
+
+-- What a change may lack, where it fits or doesn't.
+abbrev pub LacksSome : Held → Change → Bool → Type 0
+LacksSome h change enough = (HasRoom h.at change → ⊥) ⊎ (enough ≡ false) ⊎ (gives_kept change h.kept ≡ true) ⊎ (HasAgeLeft h.base.root → ⊥)
+
+-- It lacks nothing.
+pub record LacksNothing (h : Held) (change : Change) (enough : Bool) : Type 0 where
+  pub room : HasRoom h.at change
+  pub fits : enough ≡ true
+  pub number : gives_kept change h.kept ≡ false
+  pub age : HasAgeLeft h.base.root
+
+abbrev pub TellsLack : Bool → Held → Change → Bool → Type 0
+TellsLack true h change enough = LacksSome h change enough
+TellsLack false h change enough = LacksNothing h change enough
+
+-- What changed up to a tree is carried on to the tree without the files that went.
+pub record DropsFiles (old : Kept) (before : Tree) (new : Kept) (after : Tree) : Type 0 where
+  pub files : List DroppedFile
+  pub slot : new.slot ≡ old.slot
+  pub root : new.root ≡ old.root
+  pub words : new.words ≡ old.words
+  pub gone : TellsGone before after files
+  pub leads : LeadsOn old.changed files new.changed
+
+-- What becomes of a caller was set, and the files that went with it were taken out of what changed, and counted.
+pub record Turns (session : ℕ) (caller : Caller) (parked : ℕ) (old new : Held) : Type 0 where
+  pub is : new ≡ record old { world = dropped (with_caller old.world session caller); kept = new.kept; room = dropping (parked - nameless_in new.world.live) old.room; base = new.base }
+  pub kept : (n : ℕ) → new.kept n ≡ (has_closed old.world (dropped (with_caller old.world session caller)) n || old.kept n)
+  pub base : DropsFiles old.base old.world.live new.base new.world.live

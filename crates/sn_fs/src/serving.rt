@@ -1,0 +1,153 @@
+//! A call for which all is there that it needs.
+ghost use Rattle.std.specs.Prelude.{◌≡◌, ◌+◌, ◌-◌, ◌^◌, ◌<◌, false, true, IsTrue, IfNone, OnErr, OnOk, is_some, if◌then◌else◌};
+ghost use Rattle.sn_core.specs.Called.{CanTurn, HasRoom as HasCallRoom};
+ghost use Rattle.sn_core.specs.Plain.{room_of, world_of};
+ghost use Rattle.sn_desc.specs.InUse.{live_in};
+ghost use Rattle.sn_limits.specs.Versions.{version_1};
+ghost use Rattle.sn_model.specs.Machine as machine;
+ghost use Rattle.sn_model.specs.NameTree.{IsTree};
+ghost use Rattle.sn_model.specs.Outcomes.{is_opening};
+ghost use Rattle.sn_model.specs.Settling.{OnlyLost};
+ghost use Rattle.sn_overlay.specs.Needs.{counts, nameless_in};
+ghost use Rattle.sn_overlay.specs.Overlays.{HasRoom};
+ghost use Rattle.sn_record.specs.Payload.{IsSpelled};
+ghost use Rattle.sn_sound.specs.Logs.{HasAgeLeft};
+ghost use Rattle.sn_fs.specs.Filesystem.{IsFs, has_stopped, held};
+ghost use Rattle.sn_fs.specs.Mounted.{IsSameRoot};
+ghost use Rattle.sn_fs.specs.Serving.{Serves, TellsLack, Turns};
+
+use crate::Fs;
+use sn_changed::{changed_laws, drop_each};
+use sn_core::{CallError, Chosen};
+use sn_device::Device;
+use sn_layout::{LARGEST_AGE, RootBody};
+use sn_limits::Limits;
+use sn_model::{Call, Caller, Change, Errno, Outcome, Refusal, Reply};
+use std::alloc::AllocError;
+
+/// Whether a mount could make a point of what is logged on top of this root.
+fn has_age_left(root: &RootBody) -> bool
+    ensures left { IsTrue result → HasAgeLeft root.now }
+    ensures over { result ≡ false → HasAgeLeft root.now → ⊥ }
+{
+    root.generation < LARGEST_AGE && root.epoch <= LARGEST_AGE - 2
+}
+
+pub(crate) fn refused(errno: Errno) -> Reply
+    ensures { result ≡ machine.refused errno }
+{
+    Reply::Refused(Refusal::plain(errno))
+}
+
+impl<D: Device> Fs<D> {
+    /// Makes room for the file that a caller opens, and for its drop. Where memory is refused nothing changes.
+    fn prepare(&mut self, caller: &Caller) -> Result<(), AllocError>
+        requires { HasRoom self.old.base.changed (counts (live_in (world_of self.old.world).descriptors) 0 0) }
+        ensures held { held self.new ≡ held self.old }
+        ensures stopped { has_stopped self.new ≡ has_stopped self.old }
+        ensures room { OnOk result (HasCallRoom caller.now (room_of self.new.world)) }
+        ensures drops { OnOk result (HasRoom self.new.base.changed
+            (counts (live_in (world_of self.old.world).descriptors + (if is_opening caller.now then 1 else 0)) 0 0)) }
+        ensures opening { OnErr result (is_opening caller.now ≡ true) }
+        ensures kept { HasRoom self.new.base.changed (counts (live_in (world_of self.old.world).descriptors) 0 0) }
+        ensures base { IsSameRoot self.old.base self.new.base }
+    {
+        self.world.prepare(caller)?;
+        match caller {
+            Caller::Opens { .. } | Caller::OpensNew { .. } => {
+                let drops = usize::from(self.world.open_files()) + 1;
+                self.base.changed.reserve(drops, 0, 0)
+            }
+            _ => Ok(()),
+        }
+    }
+
+    /// Whether a change lacks something that a whole point gives: room for its record in the log or for its charge on
+    /// the disk, a number that isn't kept back, or a root that another one can follow on.
+    fn lacks(&self, change: &Change<'_>, fits: bool) -> bool
+        requires { IsSpelled change.now }
+        ensures { TellsLack result (held self.now) change.now fits }
+    {
+        !fits
+            || !self.log.has_room(change)
+            || self.world.gives_kept(change)
+            || !has_age_left(&self.base.root)
+    }
+
+    /// Sets what becomes of a caller, and takes the files that go with it out of what changed. Of so many files without
+    /// names those that are left no more are counted as dropped.
+    fn turn(&mut self, session: u32, caller: Caller, lost: Option<u16>, parked: u32)
+        requires whole { IsTree version_1 (world_of self.old.world).live }
+        requires opens { CanTurn (world_of self.old.world).descriptors (room_of self.old.world) session caller }
+        requires lost { OnlyLost (world_of self.old.world) lost }
+        requires drops { HasRoom self.old.base.changed (counts (live_in (world_of self.old.world).descriptors
+            + (if is_opening caller then 1 else 0) + (if is_some lost then 1 else 0)) 0 0) }
+        requires count { self.old.room.dropped + parked < 2 ^ 64 }
+        ensures turned { Turns session caller parked (held self.old) (held self.new) }
+        ensures stopped { has_stopped self.new ≡ has_stopped self.old }
+        ensures few { nameless_in (world_of self.new.world).live < 2 ^ 32 }
+        ensures drops { HasRoom self.new.base.changed (counts (live_in (world_of self.new.world).descriptors) 0 0) }
+        ensures base { IsSameRoot self.old.base self.new.base }
+    {
+        let dropped = self.world.set_caller(session, caller, lost);
+        drop_each(&mut self.base.changed, dropped.as_slice());
+        self.room
+            .drop_files(parked.saturating_sub(self.world.nameless()));
+    }
+
+    /// Answers a call, where what it comes to lacks nothing that a whole point gives. Else nothing has changed.
+    pub(crate) fn serve(&mut self, session: u32, call: &Call) -> Option<Reply>
+        requires running { has_stopped self.old ≡ false }
+        requires sound { IsFs self.old }
+        ensures served { IsTrue D.tells_bytes → Serves result (held self.old) session call.now (held self.new) (has_stopped self.new) }
+        ensures running { IfNone result (has_stopped self.new ≡ false) }
+        ensures sound { IsFs self.new }
+    {
+        changed_laws();
+        let outcome = match self.world.decide(self.alloc, session, call) {
+            Ok(outcome) => outcome,
+            Err(CallError::Refused(refusal)) => return Some(Reply::Refused(refusal)),
+            Err(CallError::Memory) => return Some(refused(Errno::Enomem)),
+        };
+        let fits = self
+            .room
+            .fits(&Limits::VERSION_1, self.world.nameless(), &outcome);
+        let Outcome {
+            change,
+            caller,
+            told,
+            charge,
+        } = outcome;
+        let Ok(()) = self.prepare(&caller) else {
+            return Some(refused(Errno::Enomem));
+        };
+        let Chosen {
+            change,
+            caller,
+            lost,
+        } = self.world.choose(change, caller);
+        match change {
+            Some(change) => {
+                if self.lacks(&change, fits) {
+                    return None;
+                }
+                match self.log_change(&change, charge) {
+                    Ok(()) => {}
+                    Err(fault) => {
+                        self.has_stopped = fault.stops();
+                        return Some(refused(fault.errno()));
+                    }
+                }
+                // A file that goes with its last name was charged by its call.
+                self.turn(session, caller, lost, 0);
+                Some(told)
+            }
+            None => {
+                // One that a close or a logout drops is parked.
+                let parked = self.world.nameless();
+                self.turn(session, caller, lost, parked);
+                Some(told)
+            }
+        }
+    }
+}
