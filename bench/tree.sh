@@ -1,7 +1,6 @@
 #!/bin/bash
 # Times block trees and directories on a device in memory, by runs of the program `measure_plans` and of the test program
-# of trees. Run by hand; the memory wants gcc, since it is counted by a small library that stands before the C
-# library's malloc.
+# of trees. Run by hand; the memory wants gcc.
 #
 # Prints the time of reading 64 MiB through lent blocks, in parts of 64 KiB, beside a copy of as many bytes; of a plan
 # of one dirty block in files of 64 KiB, of which it makes one new block, and of 68 KiB and 64 MiB, of which it makes an
@@ -11,6 +10,7 @@
 # with one.
 set -eu
 top=$(cd "$(dirname "$0")/.." && pwd)
+. "$top/bench/peak.sh"
 work=$(mktemp -d)
 trap 'rm -rf "$work"' EXIT
 (cd "$top/crates/sn_tests_trees" && rt run -- data > "$work/log" 2>&1) || { tail -n 20 "$work/log"; exit 1; }
@@ -28,51 +28,9 @@ awk '{ t[$1, $2] = $3 } END {
     printf " and %.2f of that in 64 KiB, of one (%.2f us)\n", plan / t["plan", 16], t["plan", 16] / 1000
 }' "$work/times"
 
-cat > "$work/peak.c" <<'C'
-#define _GNU_SOURCE
-#include <dlfcn.h>
-#include <malloc.h>
-#include <stdio.h>
-#include <stdlib.h>
-
-static size_t held, most;
-
-static void *noted(void *at) {
-    if (at && (held += malloc_usable_size(at)) > most)
-        most = held;
-    return at;
-}
-
-#define REAL(name) static __typeof__(&name) real; if (!real) real = (__typeof__(&name))dlsym(RTLD_NEXT, #name)
-
-void *malloc(size_t size) { REAL(malloc); return noted(real(size)); }
-void *aligned_alloc(size_t to, size_t size) { REAL(aligned_alloc); return noted(real(to, size)); }
-int posix_memalign(void **at, size_t to, size_t size) {
-    REAL(posix_memalign);
-    int status = real(at, to, size);
-    if (!status) noted(*at);
-    return status;
-}
-extern void *__libc_calloc(size_t, size_t);
-void *calloc(size_t n, size_t size) { return noted(__libc_calloc(n, size)); }
-void *realloc(void *old, size_t size) {
-    REAL(realloc);
-    size_t before = old ? malloc_usable_size(old) : 0;
-    void *at = real(old, size);
-    if (at) held -= before;
-    return noted(at);
-}
-void free(void *at) {
-    REAL(free);
-    if (at) held -= malloc_usable_size(at);
-    real(at);
-}
-
-__attribute__((destructor)) static void tell(void) { fprintf(stderr, "%zu\n", most); }
-C
-gcc -O1 -shared -fPIC -o "$work/peak.so" "$work/peak.c" -ldl
-plan=$(LD_PRELOAD=$work/peak.so "$plans" once plan 2>&1 > /dev/null | tail -n 1)
-nothing=$(LD_PRELOAD=$work/peak.so "$plans" once nothing 2>&1 > /dev/null | tail -n 1)
+peak_into "$work"
+plan=$(peak "$plans" once plan)
+nothing=$(peak "$plans" once nothing)
 echo "memory of that plan, with its dirty block and its map: $((plan - nothing)) bytes at most"
 
 python3 - "$top" "$work" <<'P'

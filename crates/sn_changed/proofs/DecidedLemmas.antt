@@ -260,6 +260,7 @@ module _ (limits : Limits) (world : World) where
   call_gives_none (calls.Write session fd bytes) h = write_gives_none session fd bytes
   call_gives_none (calls.Seek session fd offset) h = seek_gives_none session fd offset
   call_gives_none (calls.Ftruncate session fd size) h = ftruncate_gives_none session fd size
+  call_gives_none calls.Sync h = tt
 
   filled_in : (number : ℕ) (pending : Pending) (caller : Caller) → Spares world.live pending caller → IsNumberFor limits world.live number pending → PendsNoFirstName world.live number pending
   filled_in number Nothing caller h free = tt

@@ -6,7 +6,7 @@ use Rattle.clap.specs.Simple.{App, Shape, built_leaf, inherited}
 use Rattle.clap.specs.Walk.{Held, Text, idle, rows_after}
 use Rattle.clap.specs.Words.{first_of}
 use Rattle.clap.proofs.OnLiterals.{clap_on_literals}
-use Rattle.sn_command.specs.Commands.{mkfs, run, stop_at, top}
+use Rattle.sn_command.specs.Commands.{check, mkfs, run, stop_at, top}
 use Rattle.sn_command.specs.Words.{is_misfit}
 use Rattle.sn_command.proofs.LeafLemmas.{is_none, leaf_fault, leaf_is, or_else_some, rows_are, start}
 use Rattle.sn_command.proofs.WalkLemmas.{IsOpen, OpenAlong, faults_along, front_fits}
@@ -160,3 +160,33 @@ stop_at_words (a ∷ b ∷ c ∷ []) fit e = absurd (true≢false (sym (ap is_no
 stop_at_words (a ∷ b ∷ c ∷ d ∷ []) fit e = absurd (true≢false (sym (ap is_none e) ∙ stop_at_4 a b c d fit))
 stop_at_words (a ∷ b ∷ c ∷ d ∷ f ∷ []) fit e = (a, b, c, d, f, refl)
 stop_at_words (a ∷ b ∷ c ∷ d ∷ f ∷ g ∷ more) fit e = absurd (true≢false (sym (ap is_none e) ∙ stop_at_more a b c d f g more fit))
+
+-- ---- check
+
+check_open : (a : Text) → OpenAlong (leaf check).rules start (a ∷ [])
+check_open a = (opened _ _, tt)
+
+pub check_fits : (a : Text) → list_any is_misfit (a ∷ []) ≡ false → leaf_fault (leaf check) (a ∷ []) ≡ []
+unfolding clap_on_literals
+check_fits a fit = leaf_is (leaf check) (a ∷ []) fit (check_open a) ∙ refl
+
+pub check_image : (a : Text) → list_any is_misfit (a ∷ []) ≡ false → first_of (codes "IMAGE") (rows_after (leaf check).rules [] (a ∷ [])) ≡ Some a
+unfolding clap_on_literals
+check_image a fit = ap (first_of (codes "IMAGE")) (rows_are (leaf check) (a ∷ []) fit (check_open a)) ∙ refl
+
+check_0 : is_none (leaf_fault (leaf check) []) ≡ false
+unfolding clap_on_literals
+check_0 = refl
+
+check_more : (a d : Text) (more : List Text) → list_any is_misfit (a ∷ d ∷ more) ≡ false → is_none (leaf_fault (leaf check) (a ∷ d ∷ more)) ≡ false
+unfolding clap_on_literals
+check_more a d more fit =
+    let front : list_any is_misfit (a ∷ d ∷ []) ≡ false = front_fits (a ∷ d ∷ []) more fit in
+    let opens : OpenAlong (leaf check).rules start (a ∷ d ∷ []) = (opened _ _, (opened _ _, tt)) in
+    or_else_some (walk_fault (leaf check) [] start (a ∷ d ∷ more)) _ (ap is_none (faults_along (leaf check) start (a ∷ d ∷ []) more front opens) ∙ refl)
+
+-- it takes 1 word
+pub check_words : (words : List Text) → list_any is_misfit words ≡ false → leaf_fault (leaf check) words ≡ [] → (a : Text) × (words ≡ a ∷ [])
+check_words [] fit e = absurd (true≢false (sym (ap is_none e) ∙ check_0))
+check_words (a ∷ []) fit e = (a, refl)
+check_words (a ∷ d ∷ more) fit e = absurd (true≢false (sym (ap is_none e) ∙ check_more a d more fit))

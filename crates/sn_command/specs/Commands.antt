@@ -15,6 +15,9 @@ abbrev pub stop_at : App
 stop_at = with_rule (with_rule (with_rule (with_rule (with_rule (new_app (codes "stop-at")) (required (codes "K")))
     (required (codes "FILL"))) (required (codes "IMAGE"))) (required (codes "SCRIPT"))) (required (codes "OUT"))
 
+abbrev pub check : App
+check = with_rule (new_app (codes "check")) (required (codes "IMAGE"))
+
 abbrev pub top : App
 top = record (new_app (codes "snapfs")) {
   top = record (new_app (codes "snapfs")).top { no_binary_name = true; subcommand_required = true; disable_help_subcommand = true };
@@ -22,4 +25,4 @@ top = record (new_app (codes "snapfs")) {
 
 -- all that may follow the program's name
 abbrev pub snapfs : App
-snapfs = with_subcommand (with_subcommand (with_subcommand top mkfs.top) run.top) stop_at.top
+snapfs = with_subcommand (with_subcommand (with_subcommand (with_subcommand top mkfs.top) run.top) stop_at.top) check.top

@@ -22,6 +22,7 @@ Spells words (task.Mkfs image blocks) = (words ≡ codes "mkfs" ∷ image.now �
 Spells words (task.Run image script) = words ≡ codes "run" ∷ image.now ∷ script.now ∷ []
 Spells words (task.StopAt cut how image script out) = (word : List ℕ) × (fill_word how ≡ Some word)
     × (words ≡ codes "stop-at" ∷ decimal cut ∷ word ∷ image.now ∷ script.now ∷ out.now ∷ []) × (cut < 2 ^ 32)
+Spells words (task.Check image) = words ≡ codes "check" ∷ image.now ∷ []
 
 -- and none of them is empty or begins with a dash
 abbrev pub AsksFor : List (List ℕ) → Task → Type 0
@@ -35,3 +36,4 @@ IsRead name read (task.Run image script) = (name ≡ codes "run") × (read (code
 IsRead name read (task.StopAt cut how image script out) = (name ≡ codes "stop-at") × (read (codes "K") ≡ Some (decimal cut)) × (cut < 2 ^ 32)
     × ((word : List ℕ) × (fill_word how ≡ Some word) × (read (codes "FILL") ≡ Some word))
     × (read (codes "IMAGE") ≡ Some image.now) × (read (codes "SCRIPT") ≡ Some script.now) × (read (codes "OUT") ≡ Some out.now)
+IsRead name read (task.Check image) = (name ≡ codes "check") × (read (codes "IMAGE") ≡ Some image.now)

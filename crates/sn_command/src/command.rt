@@ -34,6 +34,10 @@ pub enum Task<'a> {
         script: &'a str,
         out: &'a str,
     },
+    /// Checks an image.
+    Check {
+        image: &'a str,
+    },
 }
 
 /// An empty word, or one that begins with a dash: there are no options.

@@ -79,6 +79,15 @@ fn stop_at<'a>(found: &ArgMatches<'a>) -> Result<Task<'a>, WordsFault>
     })
 }
 
+fn check<'a>(found: &ArgMatches<'a>) -> Result<Task<'a>, WordsFault>
+    ensures read { IfOk result (IsRead (codes "check") (first_value (found_of found.now))) }
+    ensures unread { (task : Asked) → IsRead (codes "check") (first_value (found_of found.now)) task → IfErr result (λ why. why ≡ fault.Memory) }
+{
+    Ok(Task::Check {
+        image: text(found, "IMAGE")?,
+    })
+}
+
 /// The task of the command with this name, whose words were found.
 pub(crate) fn task_of<'a>(name: &str, found: &ArgMatches<'a>) -> Result<Task<'a>, WordsFault>
     ensures read { IfOk result (IsRead name.now (first_value (found_of found.now))) }
@@ -88,6 +97,7 @@ pub(crate) fn task_of<'a>(name: &str, found: &ArgMatches<'a>) -> Result<Task<'a>
         "mkfs" => mkfs(found),
         "run" => run(found),
         "stop-at" => stop_at(found),
+        "check" => check(found),
         _ => Err(WordsFault::Usage),
     }
 }

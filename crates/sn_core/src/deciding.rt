@@ -207,6 +207,7 @@ impl PlainWorld {
             Call::Write { fd, bytes } => self.decide_write(session, *fd, bytes),
             Call::Seek { fd, offset } => self.decide_seek(session, *fd, *offset),
             Call::Ftruncate { fd, size } => self.decide_ftruncate(session, *fd, *size),
+            Call::Sync => self.decide_sync(session),
         }
     }
 }

@@ -102,6 +102,13 @@ impl PlainWorld {
         Ok(turns(Caller::LogsOut, Reply::Done))
     }
 
+    pub(crate) fn decide_sync(&self, session: u32) -> Result<Outcome<'static>, CallError>
+        ensures { Decides (world_of self.now) session call.Sync result }
+    {
+        self.logged_in(session)?;
+        Ok(turns(Caller::Stays, Reply::Done))
+    }
+
     pub(crate) fn decide_unlink<'a>(
         &self,
         session: u32,

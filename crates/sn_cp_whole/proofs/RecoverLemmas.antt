@@ -1,4 +1,4 @@
--- What a point makes of a disk on which a mount has replayed something, and what its steps cost.
+-- What a point makes of a disk on which a mount has replayed something, where points write, and what their steps cost.
 use Rattle.std.proofs.Common.{◌≡◌, ◌⊎◌, inl, inr, ℕ, zero, suc, ◌+◌, ◌*◌, ◌<◌, ◌≤◌, List, [], ◌∷◌, length, slice_index, Result, Ok, Err, IsTrue, refl, sym, ap, subst, ◌∙◌, arith}
 use Rattle.std.specs.Prelude.{OnOk}
 use Rattle.std.specs.List.Sorted.{IsStrictlyIncreasing}
@@ -9,18 +9,21 @@ use Rattle.sn_device.specs.Disk.{Disk, reads}
 use Rattle.sn_device.specs.Sectors.{AreSectors, Single, Union}
 use Rattle.sn_device.specs.Status.{has_ended}
 use Rattle.sn_device.specs.declared.status.Status.{Status}
-use Rattle.sn_device.proofs.CrashLemmas.{Always-synced, LeavesOnly-start, Touches-start, Touches-within}
+use Rattle.sn_device.proofs.CrashLemmas.{Always-synced, LeavesOnly-start, Touches-join, Touches-start, Touches-within}
 use Rattle.sn_layout.specs.declared.gate.Gate.{Gate}
 use Rattle.sn_layout.specs.declared.gate.Gate.TheVariants.{Open, Closed}
 use Rattle.sn_layout.specs.declared.places.Slot.{Slot}
 use Rattle.sn_layout.specs.declared.places.Slot.TheVariants.{A, B}
 use Rattle.sn_layout.specs.declared.root.RootBody.{RootBody}
-use Rattle.sn_layout.specs.Places.{gate_sector, map_blocks, other_slot}
+use Rattle.sn_layout.specs.Places.{gate_sector, half_of_epoch, map_blocks, other_slot}
 use Rattle.sn_limits.specs.declared.limits.Limits.{Limits}
+use Rattle.sn_log.specs.Places.{LogPosition}
 use Rattle.sn_model.specs.World.{World}
 use Rattle.sn_ondisk.specs.Blocks.{InBlock}
+use Rattle.sn_ondisk.specs.LogHalf.{InHalf, base_of}
 use Rattle.sn_ondisk.specs.Roots.{body_block}
 use Rattle.sn_ondisk.specs.Trees.{store_of}
+use Rattle.sn_ondisk.proofs.PlaceLemmas.{areas_apart, half_from}
 use Rattle.sn_overlay.specs.Layers.{Layer}
 use Rattle.sn_root.specs.Replacing.{InClosing, closing_writes}
 use Rattle.sn_root.specs.declared.following.PointKind.TheVariants.{Recovery}
@@ -28,6 +31,7 @@ use Rattle.sn_held.specs.Held.{Kept}
 use Rattle.sn_held.specs.Images.{IsImage}
 use Rattle.sn_tree.specs.Drafts.{numbers_of}
 use Rattle.sn_tree.specs.declared.new_block.NewBlock.{NewBlock}
+use Rattle.sn_cp.specs.Beginning.{Begins}
 use Rattle.sn_cp.specs.Counting.{syncs_left, writes_left}
 use Rattle.sn_cp.specs.Points.{Work, first_stage}
 use Rattle.sn_cp.specs.Showing.{Finishes, InPoint}
@@ -118,6 +122,20 @@ high_beside : (slot : Slot) (i : ℕ) → 32 ≤ i → Union (InBlock (body_bloc
 high_beside slot i high (inl body) = let low = body_low slot i body in omega (arith, high, low)
 high_beside slot i high (inr gate) = let low = gate_low slot i gate in omega (arith, high, low)
 
+-- a half of the log lies apart from the root that counts
+pub half_apart : (n epoch : ℕ) (slot : Slot) (i : ℕ) → InHalf (base_of n epoch) i → IsApart n slot i
+half_apart n epoch slot i is (inl block) = omega (arith, is.0, block.1, half_from n (half_of_epoch epoch))
+half_apart n epoch slot i is (inr (inl map)) = (areas_apart n).maps_and_log slot epoch i map is
+half_apart n epoch slot i is (inr (inr (inl body))) = let low = body_low slot i body in omega (arith, is.0, low, half_from n (half_of_epoch epoch))
+half_apart n epoch slot i is (inr (inr (inr gate))) = let low = gate_low slot i gate in omega (arith, is.0, low, half_from n (half_of_epoch epoch))
+
+-- so does the clearing with which a point begins
+pub begins_apart : {T E : Type 0} (at : LogPosition) (slot : Slot) (result : Result T E) (old planned new : Disk) → planned ≡ old → Begins at result planned new → Touches (IsApart at.blocks slot) old new
+begins_apart at slot result old planned new same begins =
+    subst (λ (d : Disk). Touches (IsApart at.blocks slot) d new) same
+    (Touches-within (InHalf (base_of at.blocks (at.epoch + 1))) (IsApart at.blocks slot) planned new (half_apart at.blocks (at.epoch + 1) slot) begins.touched)
+
+-- all steps of a point write beside the root that counts
 module _ (w : Work) (whole : IsWhole w) (slot : Slot) (other : other_slot slot ≡ w.slot) where
   root_beside : (stage : Stage) → IsWithin w stage → (i : ℕ) → InStep w stage i → Union (InBlock (body_block slot)) (Single (gate_sector slot)) i → ⊥
   root_beside (Blocks k) within i is root = let lie = lies_at w.blocks w.plan.blocks k is.block whole.place is.stands in high_beside slot i (omega (arith, is.within.0, lie.from)) root
@@ -135,6 +153,12 @@ module _ (w : Work) (whole : IsWhole w) (slot : Slot) (other : other_slot slot �
   pub writes_apart : {T E : Type 0} (result : Result T E) (v : Work) (old d new : Disk) → v ≡ w → d ≡ old → Finishes v result d new → Touches (IsApart w.blocks slot) old new
   writes_apart result v old d new is same finishes =
       subst (λ (e : Disk). Touches (IsApart w.blocks slot) e new) same (Touches-within (InPoint w) (IsApart w.blocks slot) d new apart (subst (λ (x : Work). Finishes x result d new) is finishes).touched)
+
+  -- and a whole point does, from its beginning on
+  pub point_apart : {A B T E : Type 0} (at : LogPosition) (cleared : Result A B) (result : Result T E) (v : Work) (old planned begun new : Disk) → w.blocks ≡ at.blocks → v ≡ w → planned ≡ old → Begins at cleared planned begun → Finishes v result begun new → Touches (IsApart at.blocks slot) old new
+  point_apart at cleared result v old planned begun new size is same begins finishes =
+      Touches-join (IsApart at.blocks slot) old begun new (begins_apart at slot cleared old planned begun same begins)
+      (subst (λ (n : ℕ). Touches (IsApart n slot) begun new) size (writes_apart result v begun begun new is refl finishes))
 
 pub untouched : (F : ℕ → Type 0) (old d : Disk) → d ≡ old → Touches F old d
 untouched F old d same = subst (λ (e : Disk). Touches F old e) (sym same) (Touches-start F old)

@@ -11,6 +11,7 @@
 //!   the next root, and is ready for another point.
 //! - All that may be refused comes before the first write: memory, a read that fails, an age that none follows. Then
 //!   nothing has changed. After a failure of the device while it writes nothing may be written before the next mount.
+//! - The superblock, the root that counted and its map are never written.
 //!
 //! [`make_recovery`] does the same before a mount runs, of what it replayed and dropped: the next root's epoch is behind
 //! both that were replayed, so no clearing begins it, and the log is left alone.

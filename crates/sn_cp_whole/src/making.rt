@@ -1,6 +1,7 @@
 //! A whole point.
 ghost use Rattle.std.specs.Prelude.{◌≡◌, ◌≢◌, ◌*◌, ◌+◌, ◌≤◌, Err, IsTrue, IfErr, OnErr, OnOk};
 ghost use Rattle.sn_block.specs.Lending.{device_of};
+ghost use Rattle.sn_device.specs.Crash.{Touches};
 ghost use Rattle.sn_held.specs.Held.{Held, RunsReady};
 ghost use Rattle.sn_log.specs.Places.{first_of};
 ghost use Rattle.sn_sound.specs.Logs.{HasAgeLeft};
@@ -10,6 +11,7 @@ ghost use Rattle.sn_overlay.specs.Needs.{need};
 ghost use Rattle.sn_overlay.specs.Overlays.{HasRoom, layer_of, no_changes};
 ghost use Rattle.sn_cp_whole.specs.Making.{CostsPoint, MakesPoint, room_over, with_parts};
 ghost use Rattle.sn_cp_whole.specs.Planning.{HasAgeFor, IsBaseAt, kept_in};
+ghost use Rattle.sn_cp_whole.specs.Recovering.{IsApart};
 ghost use Rattle.sn_cp_whole.specs.declared.fault.PointFault.TheVariants.{Age as AgeFault, Device as DeviceFault};
 
 use crate::planning::{Planned, plan};
@@ -38,6 +40,7 @@ pub fn make_point<D: Device>(
     ensures point { IsTrue D.tells_bytes → (h : Held) (world : World)
         → RunsReady (with_parts h log.old room.old (D.disk (device_of blocks.old))) world (kept_in base.old)
         → MakesPoint result world (D.disk (device_of blocks.old)) (with_parts h log.new room.new (D.disk (device_of blocks.new))) (kept_in base.new) }
+    ensures touched { IsTrue D.tells_bytes → Touches (IsApart log.old.blocks base.old.slot) (D.disk (device_of blocks.old)) (D.disk (device_of blocks.new)) }
     ensures costs { CostsPoint result log.old.blocks (need base.old.root.limits (layer_of base.old.changed))
         (D.status (device_of blocks.old)) (D.status (device_of blocks.new)) }
     ensures aged { result ≡ Err AgeFault → HasAgeFor OrdinaryPoint base.old.root → ⊥ }

@@ -15,6 +15,15 @@ pub enum Kind {
     Directory,
 }
 
+impl Kind {
+    pub fn other(self) -> Kind {
+        match self {
+            Kind::File => Kind::Directory,
+            Kind::Directory => Kind::File,
+        }
+    }
+}
+
 /// An entry of an ACL, as it is spelled.
 #[derive(Clone, Copy, PartialEq, Eq)]
 pub struct Entry {

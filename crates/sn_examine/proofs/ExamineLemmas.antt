@@ -2,6 +2,7 @@
 use Rattle.std.proofs.Common.{ℕ, Err, refl}
 use Rattle.sn_device.specs.Sectors.{Contents}
 use Rattle.sn_layout.specs.declared.places.LogHalf.TheVariants.{Zero, One}
+use Rattle.sn_block.specs.declared.fault.ReadFault.{ReadFault}
 use Rattle.sn_block.specs.declared.fault.ReadFault.TheVariants as read
 use Rattle.sn_model.specs.declared.mount.MountFault.{MountFault}
 use Rattle.sn_model.specs.declared.mount.MountFault.TheVariants as fault
@@ -13,7 +14,8 @@ use Rattle.sn_root.specs.declared.fault.RootFault.TheVariants as root
 use Rattle.sn_sound.specs.Verdicts.{IsSomeSize}
 use Rattle.sn_sound.proofs.VerdictLemmas.{not_damaged}
 use Rattle.sn_held.proofs.HeldLemmas.{each_half}
-use Rattle.sn_examine.specs.Examining.{IsLaterIn, SomeIsLater, root_fault}
+use Rattle.sn_examine.specs.Examining.{IsLaterIn, IsOfRoots, SomeIsLater, root_fault}
+use Rattle.sn_examine.specs.Failing.{read_fault}
 use Rattle.sn_examine.specs.Refusing.{Refuses}
 
 -- why there is no newest root
@@ -29,6 +31,17 @@ root_refuses (root.Damaged damage) sectors c some finds = (
 )
 root_refuses (root.Read read.Device) sectors c some finds = tt
 root_refuses (root.Read read.Memory) sectors c some finds = tt
+
+-- a read that fails tells no damage, and slots without a newest root one of the roots
+pub read_of_roots : (f : ReadFault) → IsOfRoots (read_fault f)
+read_of_roots read.Device = tt
+read_of_roots read.Memory = tt
+
+pub root_of_roots : (f : RootFault) → IsOfRoots (root_fault f)
+root_of_roots root.NoOpenRoot = tt
+root_of_roots root.UnknownVersion = tt
+root_of_roots (root.Damaged damage) = refl
+root_of_roots (root.Read f) = read_of_roots f
 
 -- a later record in the one half or the other
 pub later_zero : (f : MountFault) (c : Contents) (n epoch : ℕ) → IsLaterIn f c n Zero epoch → SomeIsLater f c n epoch

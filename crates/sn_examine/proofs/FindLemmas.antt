@@ -5,6 +5,7 @@ use Rattle.sn_device.specs.Sectors.{Contents}
 use Rattle.sn_limits.specs.declared.limits.Limits.{Limits}
 use Rattle.sn_limits.specs.Versions.{version_1}
 use Rattle.sn_layout.specs.Places.{start_of}
+use Rattle.sn_layout.specs.RootBody.{IsRootBody}
 use Rattle.sn_layout.specs.declared.places.Area.TheVariants.{RootBody as Body}
 use Rattle.sn_layout.specs.declared.places.Slot.{Slot}
 use Rattle.sn_layout.specs.declared.root.RootBody.{RootBody}
@@ -79,6 +80,20 @@ are_replayed c from n epoch at tree charges r = record {
       (at.place, record { leads = r.all.replayed.behind.leads; stops = r.all.stops }));
   applied = r.all.replayed.applied;
 }
+
+-- one that can't be replayed is a fault of the log, whatever is free
+pub breaks_log : (c : Contents) (n : ℕ) (root : RootBody) (free block : ℕ) → IsRootBody root → BreaksBoth c (image (store_of c) root.inode_file) n root.epoch block → IsLogFault n c root free block
+breaks_log c n root free block fits b = told b
+  where
+    limits_is : version_1 ≡ root.limits
+    limits_is = only_version root.limits fits.version
+
+    told : BreaksBoth c (image (store_of c) root.inode_file) n root.epoch block → IsLogFault n c root free block
+    told (in_older b) = older block (subst (λ (l : Limits). BreaksAt c l (image (store_of c) root.inode_file) n root.epoch block) limits_is b)
+    told (in_newer at middle charges first b) =
+        newer block first.all.replayed.changes middle
+        (subst (λ (l : Limits). AreReplayed c l (image (store_of c) root.inode_file) n root.epoch first.all.replayed.changes middle) limits_is (are_replayed c (image (store_of c) root.inode_file) n root.epoch at middle charges first))
+        (subst (λ (l : Limits). BreaksAt c l middle n (root.epoch + 1) block) limits_is b)
 
 -- changes that are made one behind the other have a tree between them
 split_made : (first : Option Tree) (second : Tree → Option Tree) (tree : Tree) → (first >>= second) ≡ Some tree → (middle : Tree) × (first ≡ Some middle) × (second middle ≡ Some tree)
@@ -179,7 +194,7 @@ module _ (c : Contents) (from : Tree) (n epoch : ℕ) (at : LogPosition) (tree :
   tells_recovery false dropped is some none = ⊎_elim (λ (logged : older_ones ++ newer_ones ≢ []). logged (none_logged (none refl).0)) (λ (left : nameless_in from ≢ 0). left (sym is ∙ (none refl).1))
 
 -- behind the records it is to be recovered too
-recovers_after : (changes : List Change) (from tree : Tree) → apply_all version_1 changes from ≡ Some tree → IsToRecover changes from → IsToRecover changes tree
+pub recovers_after : (changes : List Change) (from tree : Tree) → apply_all version_1 changes from ≡ Some tree → IsToRecover changes from → IsToRecover changes tree
 unfolding apply_all
 recovers_after [] from tree e (inl some) = inl some
 recovers_after [] from tree e (inr left) = let same : from ≡ tree = cc in inr (subst (λ (t : Tree). nameless_in t ≢ 0) same left)
@@ -278,19 +293,6 @@ module _ (sectors : ℕ) (c : Contents) (n : ℕ) (slot : Slot) (root : RootBody
   later_refuses fault.Device formatted newest is = tt
 
   -- a record that can't be replayed
-  log_fault : (block : ℕ) → IsNewest c slot root → BreaksBoth c (image (store_of c) root.inode_file) n root.epoch block → IsLogFault n c root (free_blocks n (store_of c) root) block
-  log_fault block newest b = told b
-    where
-      limits_is : version_1 ≡ root.limits
-      limits_is = only_version root.limits newest.body.fits.version
-
-      told : BreaksBoth c (image (store_of c) root.inode_file) n root.epoch block → IsLogFault n c root (free_blocks n (store_of c) root) block
-      told (in_older b) = older block (subst (λ (l : Limits). BreaksAt c l (image (store_of c) root.inode_file) n root.epoch block) limits_is b)
-      told (in_newer at middle charges first b) =
-          newer block first.all.replayed.changes middle
-          (subst (λ (l : Limits). AreReplayed c l (image (store_of c) root.inode_file) n root.epoch first.all.replayed.changes middle) limits_is (are_replayed c (image (store_of c) root.inode_file) n root.epoch at middle charges first))
-          (subst (λ (l : Limits). BreaksAt c l middle n (root.epoch + 1) block) limits_is b)
-
   pub both_refuses : (f : MountFault) (tree : Tree) → IsFormatted sectors c n → IsNewest c slot root → ReplaysBoth (Err f) c (image (store_of c) root.inode_file) n root.epoch tree → Refuses f sectors c
   both_refuses (fault.Damaged damage block) tree formatted newest is =
       log_refuses damage block is.0
@@ -299,7 +301,7 @@ module _ (sectors : ℕ) (c : Contents) (n : ℕ) (slot : Slot) (root : RootBody
       image_breaks c w im block
       (subst (λ (m : ℕ). BreaksBoth c (image (store_of c) im.opens.root.inode_file) m im.opens.root.epoch block) (sym same.blocks)
       (subst (λ (r : RootBody). BreaksBoth c (image (store_of c) r.inode_file) n r.epoch block) (sym same.roots) is.1)))
-      (record { blocks = n; formatted = formatted; slot = slot; root = root; newest = newest; free = free_blocks n (store_of c) root; told = λ words has sound. refl; is = log_fault block newest is.1 })
+      (record { blocks = n; formatted = formatted; slot = slot; root = root; newest = newest; free = free_blocks n (store_of c) root; told = λ words has sound. refl; is = breaks_log c n root (free_blocks n (store_of c) root) block newest.body.fits is.1 })
   both_refuses fault.NotFormatted tree formatted newest is = absurd is
   both_refuses fault.Version tree formatted newest is = absurd is
   both_refuses fault.NoRoot tree formatted newest is = absurd is

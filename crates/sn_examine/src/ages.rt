@@ -7,7 +7,7 @@ use sn_layout::{Area, LARGEST_AGE, LogHalf, Places, RootBody};
 use sn_model::{Damage, MountFault};
 
 /// Whether something is to recover on top of a root: a record is logged, or a file has no name.
-pub(crate) fn is_to_recover(logged: u32, nameless: u32) -> bool
+pub fn is_to_recover(logged: u32, nameless: u32) -> bool
     ensures some { result ≡ true → (0 < logged) ⊎ (0 < nameless) }
     ensures none { result ≡ false → (logged ≡ 0) × (nameless ≡ 0) }
 {
@@ -22,7 +22,7 @@ fn has_age_left(root: &RootBody) -> bool
 }
 
 /// Damaged where something is to recover and no age is left for that, which is told of the half of the root's epoch.
-pub(crate) fn test_age(places: Places, root: &RootBody, recovers: bool) -> Result<(), MountFault>
+pub fn test_age(places: Places, root: &RootBody, recovers: bool) -> Result<(), MountFault>
     ensures left { OnOk result (recovers ≡ true → HasAgeLeft root.now) }
     ensures aged { IfErr result (λ f. IsAged f places root.now recovers) }
 {

@@ -8,7 +8,7 @@ ghost use Rattle.sn_ondisk.specs.Roots.{IsNewest};
 ghost use Rattle.sn_sound.specs.Disks.{IsFormatted};
 ghost use Rattle.sn_sound.specs.Verdicts.{IsSomeSize};
 ghost use Rattle.sn_log.specs.Places.{half_base};
-ghost use Rattle.sn_examine.specs.Examining.{IsLaterIn, SomeIsLater};
+ghost use Rattle.sn_examine.specs.Examining.{IsLaterIn, IsOfRoots, SomeIsLater};
 ghost use Rattle.sn_examine.specs.Failing.{FailsAs, WritesNothing};
 ghost use Rattle.sn_examine.specs.Refusing.{RefusesAs};
 
@@ -28,6 +28,7 @@ pub(crate) fn disk_size<D: Device>(blocks: &mut Blocks<D>) -> Result<Places, Mou
     ensures found { IsTrue D.tells_bytes → IfOk result (λ n. IsFormatted (D.status (device_of blocks.old)).sectors (reads (D.disk (device_of blocks.old))) n) }
     ensures within { IfOk result (λ n. 8 * n ≤ (D.status (device_of blocks.old)).sectors) }
     ensures least { OnOk result (2048 ≤ (D.status (device_of blocks.old)).sectors) }
+    ensures roots { IfErr result IsOfRoots }
     ensures refuses { IsTrue D.tells_bytes → RefusesAs result (D.status (device_of blocks.old)).sectors (reads (D.disk (device_of blocks.old))) }
     ensures same { IsTrue D.tells_bytes → D.disk (device_of blocks.new) ≡ D.disk (device_of blocks.old) }
     ensures idle { OnOk result (D.status (device_of blocks.new) ≡ D.status (device_of blocks.old)) }
@@ -56,6 +57,7 @@ pub(crate) fn newest_root<D: Device>(blocks: &mut Blocks<D>) -> Result<NewestRoo
     requires room { 2048 ≤ (D.status (device_of blocks.old)).sectors }
     ensures found { IsTrue D.tells_bytes → IfOk result (λ it. IsNewest (reads (D.disk (device_of blocks.old))) it.slot it.root) }
     ensures fits { IfOk result (λ it. IsRootBody it.root) }
+    ensures roots { IfErr result IsOfRoots }
     ensures refuses { IsTrue D.tells_bytes → IsSomeSize (D.status (device_of blocks.old)).sectors (reads (D.disk (device_of blocks.old)))
         → RefusesAs result (D.status (device_of blocks.old)).sectors (reads (D.disk (device_of blocks.old))) }
     ensures same { IsTrue D.tells_bytes → D.disk (device_of blocks.new) ≡ D.disk (device_of blocks.old) }
@@ -95,8 +97,9 @@ fn none_later_in<D: Device>(
     }
 }
 
-/// The same of both halves.
-pub(crate) fn none_later<D: Device>(
+/// Damaged where at the first place of either half stands a record of an epoch later than this one. It is told of that
+/// half's first block.
+pub fn none_later<D: Device>(
     blocks: &mut Blocks<D>,
     places: Places,
     epoch: u64,

@@ -1,5 +1,5 @@
 //! All that a mount reads.
-ghost use Rattle.std.specs.Prelude.{◌≡◌, ◌*◌, ◌≤◌, ◌^◌, true, length, IsTrue, IfOk, OnOk};
+ghost use Rattle.std.specs.Prelude.{◌≡◌, ◌*◌, ◌≤◌, ◌^◌, true, length, IsTrue, IfErr, IfOk, OnOk};
 ghost use Rattle.sn_device.specs.Disk.{reads};
 ghost use Rattle.sn_block.specs.Lending.{device_of};
 ghost use Rattle.sn_core.specs.Plain.{world_of};
@@ -8,7 +8,10 @@ ghost use Rattle.sn_limits.specs.Versions.{version_1};
 ghost use Rattle.sn_model.specs.NameTree.{IsTree};
 ghost use Rattle.sn_model.specs.Steps.{with_live};
 ghost use Rattle.sn_model.specs.World.{new_world};
+ghost use Rattle.sn_ondisk.specs.Roots.{IsNewest};
+ghost use Rattle.sn_sound.specs.Disks.{IsFormatted};
 ghost use Rattle.sn_sound.specs.Logs.{HasAgeLeft};
+ghost use Rattle.sn_examine.specs.Examining.{IsOfRoots};
 ghost use Rattle.sn_examine.specs.Failing.{FailsAs, WritesNothing};
 ghost use Rattle.sn_examine.specs.Finding.{HasFound, HasRoot};
 ghost use Rattle.sn_examine.specs.Found.{kept_of};
@@ -55,6 +58,33 @@ pub struct Found {
     pub recovers: bool,
 }
 
+/// Reads superblock and roots.
+pub fn find_newest<D: Device>(blocks: &mut Blocks<D>) -> Result<DiskRoot, MountFault>
+    ensures formatted { IsTrue D.tells_bytes → IfOk result (λ r. IsFormatted (D.status (device_of blocks.old)).sectors (reads (D.disk (device_of blocks.old))) r.places) }
+    ensures newest { IsTrue D.tells_bytes → IfOk result (λ r. IsNewest (reads (D.disk (device_of blocks.old))) r.slot r.root) }
+    ensures fits { IfOk result (λ r. IsRootBody r.root) }
+    ensures within { IfOk result (λ r. 8 * r.places ≤ (D.status (device_of blocks.old)).sectors) }
+    ensures roots { IfErr result IsOfRoots }
+    ensures refuses { IsTrue D.tells_bytes → RefusesAs result (D.status (device_of blocks.old)).sectors (reads (D.disk (device_of blocks.old))) }
+    ensures same { IsTrue D.tells_bytes → D.disk (device_of blocks.new) ≡ D.disk (device_of blocks.old) }
+    ensures idle { OnOk result (D.status (device_of blocks.new) ≡ D.status (device_of blocks.old)) }
+    ensures reads { WritesNothing (D.status (device_of blocks.old)) (D.status (device_of blocks.new)) }
+    ensures failed { FailsAs result (D.status (device_of blocks.old)) (D.status (device_of blocks.new)) }
+{
+    let places = match disk_size(blocks) {
+        Ok(places) => places,
+        Err(fault) => return Err(fault),
+    };
+    match newest_root(blocks) {
+        Ok(newest) => Ok(DiskRoot {
+            places,
+            slot: newest.slot,
+            root: newest.root,
+        }),
+        Err(fault) => Err(fault),
+    }
+}
+
 /// Reads superblock and roots, and looks for records of later epochs.
 pub fn find_root<D: Device>(blocks: &mut Blocks<D>) -> Result<DiskRoot, MountFault>
     ensures found { IsTrue D.tells_bytes → IfOk result (λ r. HasRoot (D.status (device_of blocks.old)).sectors (reads (D.disk (device_of blocks.old))) r.places r.slot r.root) }
@@ -66,20 +96,12 @@ pub fn find_root<D: Device>(blocks: &mut Blocks<D>) -> Result<DiskRoot, MountFau
     ensures reads { WritesNothing (D.status (device_of blocks.old)) (D.status (device_of blocks.new)) }
     ensures failed { FailsAs result (D.status (device_of blocks.old)) (D.status (device_of blocks.new)) }
 {
-    let places = match disk_size(blocks) {
-        Ok(places) => places,
-        Err(fault) => return Err(fault),
-    };
-    let newest = match newest_root(blocks) {
+    let newest = match find_newest(blocks) {
         Ok(newest) => newest,
         Err(fault) => return Err(fault),
     };
-    match none_later(blocks, places, newest.root.epoch + 1) {
-        Ok(()) => Ok(DiskRoot {
-            places,
-            slot: newest.slot,
-            root: newest.root,
-        }),
+    match none_later(blocks, newest.places, newest.root.epoch + 1) {
+        Ok(()) => Ok(newest),
         Err(fault) => Err(fault),
     }
 }

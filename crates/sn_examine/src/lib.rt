@@ -1,5 +1,5 @@
 //! What stands on a disk: its size, its newest root, the live tree with the log on top of it, and the room that is
-//! left. It only reads. A mount begins with it (`sn_mount`), and so does a check.
+//! left. It only reads. A mount begins with it (`sn_mount`).
 //!
 //! The model. `sn_held` says when contents are an image of a world (`IsImage`). [`find`] reads superblock and roots, looks
 //! at the first places of both halves of the log, loads the newest root's tree by `sn_load`, replays the records of its
@@ -13,6 +13,8 @@
 //!   stands at the block that it is told of (`Refuses`). What can't be read of a tree is told as misspelt, at the root
 //!   body's block, and then the root is unsound.
 //! - Nothing is written, and the device is told to have failed only where it did.
+//!
+//! The parts of `find` are public for the image check (`sn_check`), which asks for them in another order.
 //!
 //! The way through: `specs/Refusing.antt` says why a disk is none that can be mounted, `Finding.antt` and `Both.antt`
 //! what is read. `examining` reads what stands first, `loading` the tree, `replaying` and `both` the log, `room` the
@@ -34,9 +36,11 @@ mod loading;
 mod replaying;
 mod room;
 
+pub use ages::{is_to_recover, test_age};
 pub use both::replay_both;
+pub use examining::none_later;
 pub use fault::fault_of;
-pub use finding::{DiskRoot, Found, find, find_root};
+pub use finding::{DiskRoot, Found, find, find_newest, find_root};
 pub use loading::load_world;
 pub use replaying::Replayed;
 pub use room::read_map;

@@ -1,5 +1,5 @@
 -- What a call answers, by how it ends.
-use Rattle.std.proofs.Common.{◌≡◌, ◌⊎◌, inl, inr, ◌||◌, ℕ, ◌+◌, ◌-◌, ◌≤◌, if◌then◌else◌, Bool, true, false, Option, Some, None, Result, Ok, refl, sym, ap, subst, ◌∙◌, arith, leb-true}
+use Rattle.std.proofs.Common.{◌≡◌, ◌⊎◌, inl, inr, ◌||◌, ℕ, ◌+◌, ◌-◌, ◌≤◌, if◌then◌else◌, Bool, true, false, Option, Some, None, Result, Ok, Err, refl, sym, ap, subst, ◌∙◌, arith, leb-true}
 use Rattle.std.specs.FinMap as map
 use Rattle.std.proofs.lemmas.Bool.{true≢false}
 use Rattle.sn_limits.specs.Versions.{version_1}
@@ -22,7 +22,7 @@ use Rattle.sn_held.specs.Room.{HasRoomFor}
 use Rattle.sn_model.specs.Machine.{State, Running, Stopped, Mishap, Memory, Write, EventStep, refused}
 use Rattle.sn_model.specs.Outcomes.{is_opening}
 use Rattle.sn_model.specs.Settling.{dropped, settle}
-use Rattle.sn_model.specs.Steps.{Becomes, Comes, decision, with_caller, with_live}
+use Rattle.sn_model.specs.Steps.{Becomes, Comes, asks_for_point, decision, with_caller, with_live}
 use Rattle.sn_model.specs.Tree.{Tree}
 use Rattle.sn_model.specs.World.{World}
 use Rattle.sn_model.specs.Worlds.{IsCall, IsWorld}
@@ -51,26 +51,26 @@ use Rattle.sn_held.specs.Moments.{ShowsState}
 use Rattle.sn_sound.specs.Logs.{HasAgeLeft}
 use Rattle.sn_held.proofs.RoomLemmas.{drops_leave_fewer}
 use Rattle.sn_held.proofs.EventLemmas.{appends_ready, drops_ready, left_of_tree, live_show, runs_lasts, stays_lasts, still_none, stops_between, stops_lasts}
-use Rattle.sn_fs.specs.Answers.{Answers, Costs, HasAll, IsChangeOf, Lacks, LacksFirst, MayMeet, NumbersIn, RoomIn, Writes, is_fitting, writes_of}
+use Rattle.sn_fs.specs.Answers.{Answers, AsksFirst, Costs, HasAll, IsChangeOf, Lacks, LacksFirst, MayMeet, NumbersIn, RoomIn, Writes, is_fitting, writes_of}
 use Rattle.sn_fs.specs.Changing.{FailsChange, IsLogged, errno_of, stops}
-use Rattle.sn_fs.specs.Serving.{DropsFiles, Serves, ServesFrom, ServesTo, Turns}
+use Rattle.sn_fs.specs.Serving.{DropsFiles, Serves, ServesFrom, ServesTo, Turns, reply_to}
 use Rattle.sn_fs.specs.declared.fault.ChangeFault.{ChangeFault}
 use Rattle.sn_fs.specs.declared.fault.ChangeFault.TheVariants as fault
 use Rattle.sn_changed.proofs.DecidedLemmas.{logged_keep_nameless}
 use Rattle.sn_fs.proofs.DecisionLemmas.{CanBeMade, can_be_made, charge_of_change, has_no_change, is_charged, is_logged, refused_none}
 
 -- no node is new
-stays_numbers : (session : ℕ) (c : Call) (s : State) (kept : ℕ → Bool) → NumbersIn (event.Call session c) s kept s kept
-stays_numbers session c (Running w) kept = same_numbers session c w w kept kept refl refl
-stays_numbers session c (Stopped before after) kept = tt
+stays_numbers : (session : ℕ) (c : Call) (met : Option Mishap) (s : State) (kept : ℕ → Bool) → NumbersIn (event.Call session c) met s kept s kept
+stays_numbers session c met (Running w) kept = same_numbers session c w w kept kept refl refl
+stays_numbers session c met (Stopped before after) kept = tt
 
 -- nothing is written
-writes_nothing : (h : Held) (s : State) (session : ℕ) (c : Call) (d : Disk) → Writes s h (event.Call session c) d d
-writes_nothing h (Running w) session c d = inl (Touches-start (InHalf (base_at h.at)) d)
-writes_nothing h (Stopped before after) session c d = Touches-start Nowhere d
+writes_nothing : (h : Held) (s : State) (session : ℕ) (c : Call) → Writes s h h (event.Call session c) h.disk
+writes_nothing h (Running w) session c = inl (Touches-start (InHalf (base_at h.at)) h.disk)
+writes_nothing h (Stopped before after) session c = Touches-start Nowhere h.disk
 
 -- no file is dropped
-nothing_dropped : (n : ℕ) (room : RoomCounts) → room ≡ dropping (n - n) room
+pub nothing_dropped : (n : ℕ) (room : RoomCounts) → room ≡ dropping (n - n) room
 nothing_dropped n room = λ i. record room { dropped = same room.dropped i; dropped_since = same room.dropped_since i }
   where
     same : (k : ℕ) → k ≡ k + (n - n)
@@ -100,15 +100,16 @@ kept h has_stopped s session c met reply to m may costs room step = record {
     step = step;
     means = m;
     lasts = stays_lasts h has_stopped s m;
-    writes = writes_nothing h s session c h.disk;
+    writes = writes_nothing h s session c;
     begins = tt;
-    numbers = stays_numbers session c s h.kept;
+    numbers = stays_numbers session c met s h.kept;
     room = room;
     later = later-same h.status h.status refl;
     costs = costs;
     works = tt;
   };
   at_once = refl;
+  wrote = Touches-start (InHalf (base_at h.at)) h.disk;
   met = to;
 }
 
@@ -128,16 +129,23 @@ in_world h new has_stopped session c reply f (Running w) m =
     subst (λ (x : World). ServesFrom (Running x) session c reply h new has_stopped) m.1.runs.is (f (subst (λ (x : World). RunsReady h x h.base) (sym m.1.runs.is) m.1) (ap (λ (x : World). x.frozen) m.1.runs.is ∙ m.2))
 in_world h new has_stopped session c reply f (Stopped before after) m = absurd (true≢false (sym m.0))
 
-abbrev pub reply_of : CallError → Reply
-reply_of (lack.Refused r) = answer.Refused r
-reply_of lack.Memory = refused Enomem
+-- a call that is refused asks for nothing
+cannot_ask : (h : Held) (session : ℕ) (c : Call) (refusal : Refusal) {A : Type 0} → AsksFirst h session c → decision version_1 h.world session c ≡ Err refusal → A
+cannot_ask h session c refusal asks none = absurd (never (asks.decided) none)
+  where
+    never : {d : Result Outcome Refusal} {o : Outcome} → d ≡ Ok o → d ≡ Err refusal → ⊥
+    never is not = let e : Ok _ ≡ Err refusal = sym is ∙ not in cc e
+
+-- nor does one that asks for no point
+asks_nothing : {A : Type 0} (h : Held) (session : ℕ) (c : Call) → asks_for_point c ≡ false → AsksFirst h session c → A
+asks_nothing h session c alone asks = absurd (true≢false (sym asks.asks ∙ alone))
 
 -- the call has no outcome
-pub undecided_serves : (h : Held) (session : ℕ) (c : Call) (e : CallError) → HasNone e h.world session c → Serves (Some (reply_of e)) h session c h false
-undecided_serves h session c e none = in_world h h false session c (reply_of e) (λ r bare. told r bare e none)
+pub undecided_serves : (h : Held) (session : ℕ) (c : Call) (e : CallError) → HasNone e h.world session c → Serves (Some (reply_to e)) h session c h false
+undecided_serves h session c e none = in_world h h false session c (reply_to e) (λ r bare. told r bare e none)
   where
-    told : RunsReady h h.world h.base → h.world.frozen ≡ map.empty → (e : CallError) → HasNone e h.world session c → ServesFrom (Running h.world) session c (reply_of e) h h false
-    told r bare (lack.Refused refusal) none = kept h false (Running h.world) session c None (answer.Refused refusal) tt (refl, r, bare) refl (inl (refused_none h.world h.kept session c refusal none, refl)) (inl (refused_none h.world h.kept session c refusal none, nothing_dropped (nameless_in h.world.live) h.room))
+    told : RunsReady h h.world h.base → h.world.frozen ≡ map.empty → (e : CallError) → HasNone e h.world session c → ServesFrom (Running h.world) session c (reply_to e) h h false
+    told r bare (lack.Refused refusal) none = kept h false (Running h.world) session c None (answer.Refused refusal) tt (refl, r, bare) refl (λ asks. cannot_ask h session c refusal asks none, inl (refused_none h.world h.kept session c refusal none, refl)) (inl (refused_none h.world h.kept session c refusal none, nothing_dropped (nameless_in h.world.live) h.room))
         (record { next = h.world; becomes = subst (λ (d : Result Outcome Refusal). Becomes version_1 h.world session d (answer.Refused refusal) h.world) (sym none) (refl, refl); runs = refl })
     told r bare lack.Memory none = kept h false (Running h.world) session c (Some Memory) (refused Enomem) tt (refl, r, bare) refl refl refl (none, record { told = refl; same = refl })
 
@@ -145,7 +153,7 @@ undecided_serves h session c e none = in_world h h false session c (reply_of e) 
 pub unprepared_serves : (h : Held) (session : ℕ) (c : Call) (o : Outcome) → decision version_1 h.world session c ≡ Ok o → is_opening o.caller ≡ true → Serves (Some (refused Enomem)) h session c h false
 unprepared_serves h session c o decided opens = in_world h h false session c (refused Enomem) (λ r bare. kept h false (Running h.world) session c (Some Memory) (refused Enomem) tt (refl, r, bare) refl refl refl (opening_takes h.world session c o decided opens, record { told = refl; same = refl }))
 
-figures : AreCharged version_1
+pub figures : AreCharged version_1
 figures = record { inodes = omega arith; blocks = refl }
 
 -- what changed is carried on to the tree that a caller leaves
@@ -240,12 +248,13 @@ module _ (old : Held) (session : ℕ) (c : Call) (o : Outcome) (picked : Chosen)
               works = tt;
             };
             at_once = refl;
+            wrote = fails.touched refl;
             met = record { change = change; is = is_change; all = all; costs = fails.costs };
           }
 
   -- it is made and logged, and what becomes of the caller is set
-  pub made_serves : ChangesMerge → (mid new : Held) → IsLogged true change o.charge old mid → HasAll old change o → Turns session picked.caller 0 mid new → Serves (Some o.told) old session c new false
-  made_serves merges mid new logged all turned = in_world old new false session c o.told told
+  pub made_serves : ChangesMerge → (mid new : Held) → asks_for_point c ≡ false → IsLogged true change o.charge old mid → HasAll old change o → Turns session picked.caller 0 mid new → Serves (Some o.told) old session c new false
+  made_serves merges mid new alone logged all turned = in_world old new false session c o.told told
     where
       tree : Tree
       tree = logged.made.tree
@@ -325,17 +334,18 @@ module _ (old : Held) (session : ℕ) (c : Call) (o : Outcome) (picked : Chosen)
               numbers = served.1;
               room = inr (record { change = change; is = is_change; charged = room_is ∙ ap (λ (k : ℕ). logs k old.room) (sym charge_is) });
               later = later-is (writes_of change) 2 old.status new.status (status_is ∙ logged.costs);
-              costs = inr (record { change = change; is = is_change; all = all; costs = status_is ∙ logged.costs });
+              costs = (asks_nothing old session c alone, inr (record { change = change; is = is_change; all = all; costs = status_is ∙ logged.costs }));
               works = tt;
             };
             at_once = refl;
+            wrote = touched;
             met = tt;
           }
 
 -- a call that changes nothing of the tree, but for files that nobody has
-pub told_serves : (old new : Held) (session : ℕ) (c : Call) (o : Outcome) (picked : Chosen) → IsCall c → IsWorld version_1 old.world → decision version_1 old.world session c ≡ Ok o → Chooses old.world.live old.kept o.change o.caller picked → picked.change ≡ None
+pub told_serves : (old new : Held) (session : ℕ) (c : Call) (o : Outcome) (picked : Chosen) → asks_for_point c ≡ false → IsCall c → IsWorld version_1 old.world → decision version_1 old.world session c ≡ Ok o → Chooses old.world.live old.kept o.change o.caller picked → picked.change ≡ None
     → Turns session picked.caller (nameless_in old.world.live) old new → Serves (Some o.told) old session c new false
-told_serves old new session c o picked numbers whole decided chosen none turned = in_world old new false session c o.told told
+told_serves old new session c o picked alone numbers whole decided chosen none turned = in_world old new false session c o.told told
   where
     next : World
     next = dropped (with_caller old.world session picked.caller)
@@ -380,9 +390,10 @@ told_serves old new session c o picked numbers whole decided chosen none turned 
             numbers = served.1;
             room = inl (has_no_change old.world old.kept session c o picked decided chosen none, refl);
             later = later-same old.status old.status refl;
-            costs = inl (has_no_change old.world old.kept session c o picked decided chosen none, refl);
+            costs = (asks_nothing old session c alone, inl (has_no_change old.world old.kept session c o picked decided chosen none, refl));
             works = tt;
           };
           at_once = refl;
+          wrote = Touches-start (InHalf (base_at old.at)) old.disk;
           met = tt;
         })

@@ -30,35 +30,38 @@ use Rattle.sn_core.proofs.StepLemmas.{change_takes}
 use Rattle.sn_device.specs.Status.{has_ended, one_failure}
 use Rattle.sn_device.specs.declared.status.Status.{Status}
 use Rattle.sn_device.specs.Disk.{Disk}
-use Rattle.sn_device.specs.Crash.{LeavesOnly}
-use Rattle.sn_device.proofs.CrashLemmas.{LeavesOnly-join, LeavesOnly-now, LeavesOnly-weaker, Touches-start}
+use Rattle.sn_device.specs.Crash.{LeavesOnly, Touches}
+use Rattle.sn_device.proofs.CrashLemmas.{LeavesOnly-join, LeavesOnly-now, LeavesOnly-weaker, Touches-join, Touches-start, Touches-within}
 use Rattle.sn_record.specs.Payload.{IsSpelled, PayloadsFit}
-use Rattle.sn_log.specs.Places.{HasRoom, LogPosition, first_of}
+use Rattle.sn_ondisk.specs.LogHalf.{InHalf}
+use Rattle.sn_log.specs.Places.{HasRoom, LogPosition, base_at, first_of}
 use Rattle.sn_room.specs.Rooms.{RoomCounts}
 use Rattle.sn_held.specs.Held.{Held, Kept, RunsReady}
 use Rattle.sn_held.specs.Images.{IsImage, IsLiveImage}
 use Rattle.sn_held.specs.Moments.{ShowsState}
 use Rattle.sn_held.proofs.EventLemmas.{live_show, ready_with, stays_lasts}
+use Rattle.sn_overlay.specs.Layers.{Layer}
 use Rattle.sn_overlay.specs.Needs.{need}
 use Rattle.sn_cp_whole.specs.Making.{HasCauseFor, MakesPoint, most_syncs, most_writes}
 use Rattle.sn_cp_whole.specs.declared.fault.PointFault.{PointFault}
 use Rattle.sn_cp_whole.specs.declared.fault.PointFault.TheVariants as point
+use Rattle.sn_cp_whole.proofs.RecoverLemmas.{half_apart}
 use Rattle.sn_examine.specs.Failing.{CostsAtMost, HasFailed, HasNotFailed}
-use Rattle.sn_fs.specs.Answers.{Answers, AnswersFrom, Begins, Costs, CostsCall, DoesNotFit, HasMadePoint, IsChangeOf, IsCutPoint, IsLastRoot, Lacks, LacksFirst, MayMeet, NeedsPoint, NumbersIn, RoomIn, RoomOfCall, Works, Writes, is_fitting}
+use Rattle.sn_fs.specs.Answers.{Answers, AnswersFrom, Begins, BuildsOf, Costs, CostsCall, DoesNotFit, HasMadePoint, IsBesideRoot, IsChangeOf, IsCutPoint, IsLastRoot, Lacks, LacksFirst, MayMeet, HasNoChange, IsRecorded, NeedsPoint, NumbersIn, RoomIn, RoomOfCall, Works, Writes, is_fitting}
 use Rattle.sn_fs.specs.Pointing.{IsCutOff, IsPointed, IsUnpointed, Points, errno_of_point, stops_for}
 use Rattle.sn_fs.specs.Serving.{Serves, ServesFrom, ServesTo}
 use Rattle.sn_fs.proofs.CallLemmas.{comes, next_with}
 use Rattle.sn_fs.proofs.DecisionLemmas.{CanBeMade, can_be_made, is_charged}
 
 -- what is so of the world that is held is so of the one that is meant
-in_its_world : (e : Event) (old new : Held) (reply : Reply) (has_stopped : Bool) → (RunsReady old old.world old.base → old.world.frozen ≡ map.empty → AnswersFrom (Running old.world) e reply old new has_stopped) → Answers e reply old false new has_stopped
+pub in_its_world : (e : Event) (old new : Held) (reply : Reply) (has_stopped : Bool) → (RunsReady old old.world old.base → old.world.frozen ≡ map.empty → AnswersFrom (Running old.world) e reply old new has_stopped) → Answers e reply old false new has_stopped
 in_its_world e old new reply has_stopped f (Running w) m =
     subst (λ (x : World). AnswersFrom (Running x) e reply old new has_stopped) m.1.runs.is (f (subst (λ (x : World). RunsReady old x old.base) (sym m.1.runs.is) m.1) (ap (λ (x : World). x.frozen) m.1.runs.is ∙ m.2))
 in_its_world e old new reply has_stopped f (Stopped before after) m = absurd (true≢false (sym m.0))
 
 -- ---- a point that was made
 
-pub made_point : (e : Event) (old mid : Held) → NeedsPoint old e → IsPointed old mid → HasMadePoint e old mid
+pub made_point : (e : Event) (old mid : Held) → NeedsPoint old e → IsPointed e old mid → HasMadePoint e old mid
 made_point e old mid needed p = record {
   needed = needed;
   world = p.world;
@@ -67,6 +70,9 @@ made_point e old mid needed p = record {
   room = p.room;
   changed = p.changed;
   age = p.age;
+  touched = p.touched;
+  built = p.built;
+  builds = p.builds;
   count = p.count;
   few = p.few;
   gate = p.gate;
@@ -74,19 +80,19 @@ made_point e old mid needed p = record {
 }
 
 -- it shows the settled world all the time
-settled_all : (old mid : Held) → IsPointed old mid → old.world.frozen ≡ map.empty → LeavesOnly old.disk mid.disk (λ c. IsLiveImage c (settle old.world))
-settled_all old mid p bare = LeavesOnly-weaker old.disk mid.disk (λ c. IsImage c (settle old.world)) (λ c. IsLiveImage c (settle old.world)) (λ c im. record { image = im; frozen = bare }) p.moments
+pub settled_all : (e : Event) (old mid : Held) → IsPointed e old mid → old.world.frozen ≡ map.empty → LeavesOnly old.disk mid.disk (λ c. IsLiveImage c (settle old.world))
+settled_all e old mid p bare = LeavesOnly-weaker old.disk mid.disk (λ c. IsImage c (settle old.world)) (λ c. IsLiveImage c (settle old.world)) (λ c im. record { image = im; frozen = bare }) p.moments
 
-none_failed : (old mid new : Status) → mid.failures ≡ old.failures → HasNotFailed mid new → HasNotFailed old new
+pub none_failed : (old mid new : Status) → mid.failures ≡ old.failures → HasNotFailed mid new → HasNotFailed old new
 none_failed old mid new same none = none ∙ same
 
-some_failed : (old mid new : Status) → mid.failures ≡ old.failures → HasFailed mid new → HasFailed old new
+pub some_failed : (old mid new : Status) → mid.failures ≡ old.failures → HasFailed mid new → HasFailed old new
 some_failed old mid new same (inl more) = inl (omega (arith, same, more))
 some_failed old mid new same (inr ended) = inr ended
 
 -- ---- a call that is served behind it
 
-module _ (old mid new : Held) (session : ℕ) (c : Call) (needed : LacksFirst old session c) (p : IsPointed old mid) (bare : old.world.frozen ≡ map.empty) where
+module _ (old mid new : Held) (session : ℕ) (c : Call) (needed : NeedsPoint old (event.Call session c)) (p : IsPointed (event.Call session c) old mid) (bare : old.world.frozen ≡ map.empty) where
   abbrev e : Event
   e = event.Call session c
 
@@ -108,7 +114,7 @@ module _ (old mid new : Held) (session : ℕ) (c : Call) (needed : LacksFirst ol
   may_meet at (Some Age) to may = absurd to
 
   costs_call : (at : Held) (met : Option Mishap) → at ≡ mid → ServesTo met mid session c new.status → CostsCall mid at session c met new.status → CostsCall old mid session c met new.status
-  costs_call at None same to costs = subst (λ (x : Held). CostsCall old x session c None new.status) same costs
+  costs_call at None same to costs = (λ _. made, subst (λ (x : Held). (HasNoChange x.world x.kept session c × (new.status ≡ x.status)) ⊎ IsRecorded x session c new.status) same costs.1)
   costs_call at (Some Memory) same to costs = costs ∙ ap (λ (x : Held). x.status) same
   costs_call at (Some Read) same to costs = absurd to
   costs_call at (Some Write) same to costs = inl to
@@ -118,6 +124,13 @@ module _ (old mid new : Held) (session : ℕ) (c : Call) (needed : LacksFirst ol
   room_in : (at : Held) (met : Option Mishap) (next : State) → at ≡ mid → RoomIn e at new.disk met next new.room → RoomIn e mid new.disk met next new.room
   room_in at met (Running w) same room = subst (λ (x : Held). RoomOfCall x session c met w new.room) same room
   room_in at met (Stopped before after) same room = tt
+
+  -- point and record lie beside the root that counted
+  beside : Touches (InHalf (base_at mid.at)) mid.disk new.disk → Touches (IsBesideRoot old) old.disk new.disk
+  beside wrote =
+      Touches-join (IsBesideRoot old) old.disk mid.disk new.disk p.touched
+      (Touches-within (InHalf (base_at mid.at)) (IsBesideRoot old) mid.disk new.disk
+      (λ i is. half_apart old.at.blocks (old.at.epoch + 1) old.base.slot i (subst (λ (at : LogPosition). InHalf (base_at at) i) p.log is)) wrote)
 
   behind_point : {has_stopped : Bool} {reply : Reply} → ServesFrom (Running old.world) session c reply mid new has_stopped → AnswersFrom (Running old.world) e reply old new has_stopped
   behind_point {has_stopped} {reply} served =
@@ -132,12 +145,12 @@ module _ (old mid new : Held) (session : ℕ) (c : Call) (needed : LacksFirst ol
         means = a.means;
         lasts = record {
           moments = LeavesOnly-join old.disk mid.disk new.disk (λ d. ShowsState (Running old.world) d ⊎ ShowsState a.next d)
-              (LeavesOnly-weaker old.disk mid.disk (λ d. IsLiveImage d (settle old.world)) (λ d. ShowsState (Running old.world) d ⊎ ShowsState a.next d) (λ d h. inl h) (settled_all old mid p bare)) a.lasts.moments;
+              (LeavesOnly-weaker old.disk mid.disk (λ d. IsLiveImage d (settle old.world)) (λ d. ShowsState (Running old.world) d ⊎ ShowsState a.next d) (λ d h. inl h) (settled_all e old mid p bare)) a.lasts.moments;
           answered = a.lasts.answered;
         };
-        writes = inr needed;
+        writes = inr (needed, beside served.wrote);
         begins = tt;
-        numbers = subst (λ (x : Held). NumbersIn e (Running old.world) x.kept a.next new.kept) served.at_once a.numbers;
+        numbers = subst (λ (x : Held). NumbersIn e a.met (Running old.world) x.kept a.next new.kept) served.at_once a.numbers;
         room = room_in a.mid a.met a.next served.at_once a.room;
         later = later-join old.status mid.status new.status later a.later;
         costs = costs_call a.mid a.met served.at_once served.met a.costs;
@@ -178,7 +191,7 @@ still_lacks fit e old mid session c whole made lacks = record { change = change;
     told (inr (inr (inl kept))) = absurd (true≢false (sym kept ∙ gives_none change mid.kept made.none_kept))
     told (inr (inr (inr over))) = absurd (over made.age)
 
-space_answers : PayloadsFit → (old mid : Held) (session : ℕ) (c : Call) → IsWorld version_1 mid.world → LacksFirst old session c → IsPointed old mid → old.world.frozen ≡ map.empty → LacksFirst mid session c → AnswersFrom (Running old.world) (event.Call session c) (refused Enospc) old mid false
+space_answers : PayloadsFit → (old mid : Held) (session : ℕ) (c : Call) → IsWorld version_1 mid.world → LacksFirst old session c → IsPointed (event.Call session c) old mid → old.world.frozen ≡ map.empty → LacksFirst mid session c → AnswersFrom (Running old.world) (event.Call session c) (refused Enospc) old mid false
 space_answers fit old mid session c whole needed p bare lacks = record {
   met = Some Space;
   mid = mid;
@@ -188,10 +201,10 @@ space_answers fit old mid session c whole needed p bare lacks = record {
   step = (subst (λ (w : World). IsCharged version_1 w session c) p.world (lacks.is.outcome, lacks.is.decided, is_charged mid.world mid.kept session c lacks.is.outcome lacks.is.picked lacks.change lacks.is.decided lacks.is.chosen lacks.is.is), record { told = refl; same = refl });
   means = (refl, p.runs, bare);
   lasts = record {
-    moments = LeavesOnly-weaker old.disk mid.disk (λ d. IsLiveImage d (settle old.world)) (λ d. ShowsState (Running old.world) d ⊎ ShowsState (Running old.world) d) (λ d h. inl h) (settled_all old mid p bare);
+    moments = LeavesOnly-weaker old.disk mid.disk (λ d. IsLiveImage d (settle old.world)) (λ d. ShowsState (Running old.world) d ⊎ ShowsState (Running old.world) d) (λ d h. inl h) (settled_all (event.Call session c) old mid p bare);
     answered = live_show mid old.world p.runs.runs bare;
   };
-  writes = inr needed;
+  writes = inr (inl needed, p.touched);
   begins = tt;
   numbers = same_numbers session c old.world old.world mid.kept mid.kept refl refl;
   room = refl;
@@ -201,7 +214,7 @@ space_answers fit old mid session c whole needed p bare lacks = record {
 }
   where
     made : HasMadePoint (event.Call session c) old mid
-    made = made_point (event.Call session c) old mid needed p
+    made = made_point (event.Call session c) old mid (inl needed) p
 
 -- ---- a point that isn't made
 
@@ -209,23 +222,32 @@ pub not_device : (fault : PointFault) → stops_for fault ≡ false → fault �
 not_device fault runs is = true≢false (subst (λ (f : PointFault). stops_for f ≡ false) is runs)
 
 -- what is left of what is held
-module _ (old new : Held) (world : new.world ≡ old.world) (kept : new.kept ≡ old.kept) (room : new.room ≡ old.room) (base : new.base ≡ old.base) where
-  pub point_unmade : (fault : PointFault) (k : Kept) → (fault ≢ point.Device → new.at ≡ old.at) → MakesPoint (Err fault) old.world old.disk (record old { at = new.at; room = new.room; disk = new.disk }) k → HasCauseFor fault old.status new.status → IsLater old.status new.status
-      → CostsAtMost (most_writes old.at.blocks (need old.base.root.limits old.base.changed)) most_syncs old.status new.status → (fault ≡ point.Age → IsLastRoot old.base.root) → IsUnpointed fault old new
-  point_unmade point.Memory k at made cause later costs aged = λ i. record { world = world i; kept = kept i; room = room i; at = at (not_device point.Memory refl) i; base = base i; disk = made i; status = cause i }
-  point_unmade point.Age k at made cause later costs aged = (λ i. record { world = world i; kept = kept i; room = room i; at = at (not_device point.Age refl) i; base = base i; disk = made i; status = cause i }, aged refl)
-  point_unmade point.Read k at made cause later costs aged = (λ i. record { world = world i; kept = kept i; room = room i; at = at (not_device point.Read refl) i; base = base i; disk = made i; status = new.status }, cause)
-  point_unmade point.Damaged k at made cause later costs aged = absurd made
-  point_unmade point.Device k at made cause later costs aged = record { moments = made; failed = cause; later = later; costs = costs }
+module _ (e : Event) (old new : Held) (world : new.world ≡ old.world) (kept : new.kept ≡ old.kept) (room : new.room ≡ old.room) (base : new.base ≡ old.base) (built : Layer) (builds : BuildsOf e old built) where
+  pub point_unmade : (fault : PointFault) (of : World) (settled_is : settle of ≡ settle old.world) (h : Held) (k : Kept) → h.disk ≡ new.disk → (fault ≢ point.Device → new.at ≡ old.at) → MakesPoint (Err fault) of old.disk h k
+      → Touches (IsBesideRoot old) old.disk new.disk → HasCauseFor fault old.status new.status → IsLater old.status new.status
+      → CostsAtMost (most_writes old.at.blocks (need old.base.root.limits built)) most_syncs old.status new.status → (fault ≡ point.Age → IsLastRoot old.base.root) → IsUnpointed fault e old new
+  point_unmade point.Memory of settled_is h k disk at made touched cause later costs aged = λ i. record { world = world i; kept = kept i; room = room i; at = at (not_device point.Memory refl) i; base = base i; disk = (sym disk ∙ made) i; status = cause i }
+  point_unmade point.Age of settled_is h k disk at made touched cause later costs aged = (λ i. record { world = world i; kept = kept i; room = room i; at = at (not_device point.Age refl) i; base = base i; disk = (sym disk ∙ made) i; status = cause i }, aged refl)
+  point_unmade point.Read of settled_is h k disk at made touched cause later costs aged = (λ i. record { world = world i; kept = kept i; room = room i; at = at (not_device point.Read refl) i; base = base i; disk = (sym disk ∙ made) i; status = new.status }, cause)
+  point_unmade point.Damaged of settled_is h k disk at made touched cause later costs aged = absurd made
+  point_unmade point.Device of settled_is h k disk at made touched cause later costs aged = record {
+    touched = touched;
+    built = built;
+    builds = builds;
+    moments = subst (λ (d : Disk). LeavesOnly old.disk d (λ c. IsImage c (settle old.world))) disk (subst (λ (w : World). LeavesOnly old.disk h.disk (λ c. IsImage c w)) settled_is made);
+    failed = cause;
+    later = later;
+    costs = costs;
+  }
 
 -- ---- an event whose point isn't made
 
 -- one that stops tells nothing of its numbers
-stopped_numbers : (e : Event) (w : World) (kept : ℕ → Bool) (before after : World) (left : ℕ → Bool) → NumbersIn e (Running w) kept (Stopped before after) left
-stopped_numbers e w kept before after left = tt
+stopped_numbers : (e : Event) (met : Option Mishap) (w : World) (kept : ℕ → Bool) (before after : World) (left : ℕ → Bool) → NumbersIn e met (Running w) kept (Stopped before after) left
+stopped_numbers e met w kept before after left = tt
 
 -- why a point is refused before it begins
-abbrev IsRefusing : Mishap → Type 0
+abbrev pub IsRefusing : Mishap → Type 0
 IsRefusing Memory = Unit {0}
 IsRefusing Read = ⊥
 IsRefusing Write = ⊥
@@ -233,22 +255,22 @@ IsRefusing Space = ⊥
 IsRefusing Age = Unit {0}
 
 -- what it answers from this world, and what it may cost
-record PointEvent (e : Event) (old : Held) (w : World) : Type 0 where
-  needed : NeedsPoint old e
-  memory : EventStep version_1 (Running w) e (Some Memory) (refused Enomem) (Running w)
-  read : EventStep version_1 (Running w) e (Some Read) (refused Eio) (Running w)
-  age : EventStep version_1 (Running w) e (Some Age) (refused Elimit) (Running w)
-  after : World
-  cut : EventStep version_1 (Running w) e (Some Write) (refused Eio) (Stopped (settle w) after)
-  writes : (d : Disk) → Writes (Running w) old e old.disk d
-  begins : (next : State) (d : Disk) → Begins e next old.disk d
-  numbers : NumbersIn e (Running w) old.kept (Running w) old.kept
-  room : (m : Mishap) → RoomIn e old old.disk (Some m) (Running w) old.room
-  any_room : (before after : World) (d : Disk) (room : RoomCounts) → RoomIn e old d (Some Write) (Stopped before after) room
-  works : (m : Mishap) (new : Status) → Works e (refused (errno_of m)) old.status new
-  costs_none : (m : Mishap) → IsRefusing m → Costs (Running w) old old e (Some m) old.status
-  costs_read : (new : Status) → CostsAtMost 0 0 old.status new → Costs (Running w) old old e (Some Read) new
-  costs_cut : (new : Status) → IsCutPoint old e new → Costs (Running w) old old e (Some Write) new
+pub record PointEvent (e : Event) (old : Held) (w : World) : Type 0 where
+  pub needed : NeedsPoint old e
+  pub memory : EventStep version_1 (Running w) e (Some Memory) (refused Enomem) (Running w)
+  pub read : EventStep version_1 (Running w) e (Some Read) (refused Eio) (Running w)
+  pub age : EventStep version_1 (Running w) e (Some Age) (refused Elimit) (Running w)
+  pub after : World
+  pub cut : EventStep version_1 (Running w) e (Some Write) (refused Eio) (Stopped (settle w) after)
+  pub writes : (d : Disk) → Touches (IsBesideRoot old) old.disk d → Writes (Running w) old old e d
+  pub begins : (m : Mishap) (next : State) (d : Disk) → Begins e (Some m) next old.disk d
+  pub numbers : (m : Mishap) → NumbersIn e (Some m) (Running w) old.kept (Running w) old.kept
+  pub room : (m : Mishap) → RoomIn e old old.disk (Some m) (Running w) old.room
+  pub any_room : (before after : World) (d : Disk) (room : RoomCounts) → RoomIn e old d (Some Write) (Stopped before after) room
+  pub works : (m : Mishap) (new : Status) → Works e (refused (errno_of m)) old.status new
+  pub costs_none : (m : Mishap) → IsRefusing m → Costs (Running w) old old e (Some m) old.status
+  pub costs_read : (new : Status) → CostsAtMost 0 0 old.status new → Costs (Running w) old old e (Some Read) new
+  pub costs_cut : (new : Status) → IsCutPoint old e new → Costs (Running w) old old e (Some Write) new
 
 -- a read that failed
 fails_read : (old new : Status) → FailsRead old new → HasFailed old new × IsLater old new × CostsAtMost 0 0 old new
@@ -278,9 +300,9 @@ module _ (e : Event) (old : Held) (x : PointEvent e old old.world) (r : RunsRead
     step = step;
     means = (refl, r, bare);
     lasts = stays_lasts old false (Running old.world) (refl, r, bare);
-    writes = x.writes old.disk;
-    begins = x.begins (Running old.world) old.disk;
-    numbers = x.numbers;
+    writes = x.writes old.disk (Touches-start (IsBesideRoot old) old.disk);
+    begins = x.begins m (Running old.world) old.disk;
+    numbers = x.numbers m;
     room = x.room m;
     later = later-same old.status old.status refl;
     costs = x.costs_none m is;
@@ -300,9 +322,9 @@ module _ (e : Event) (old : Held) (x : PointEvent e old old.world) (r : RunsRead
         step = x.read;
         means = (refl, ready_with old old.world old.base old.kept old.base new.status r, bare);
         lasts = stays_lasts old false (Running old.world) (refl, r, bare);
-        writes = x.writes old.disk;
-        begins = x.begins (Running old.world) old.disk;
-        numbers = x.numbers;
+        writes = x.writes old.disk (Touches-start (IsBesideRoot old) old.disk);
+        begins = x.begins Read (Running old.world) old.disk;
+        numbers = x.numbers Read;
         room = x.room Read;
         later = told.1;
         costs = x.costs_read new.status told.2;
@@ -310,7 +332,7 @@ module _ (e : Event) (old : Held) (x : PointEvent e old old.world) (r : RunsRead
       })
 
   -- it was cut off, and either world may be there, of which the first is
-  is_cut : (new : Held) → IsCutOff old new → AnswersFrom (Running old.world) e (refused Eio) old new true
+  is_cut : (new : Held) → IsCutOff e old new → AnswersFrom (Running old.world) e (refused Eio) old new true
   is_cut new cut =
       let moments = LeavesOnly-weaker old.disk new.disk (λ d. IsImage d (settle old.world)) (λ d. IsLiveImage d (settle old.world) ⊎ IsLiveImage d x.after) (λ d im. inl (record { image = im; frozen = bare })) cut.moments in
       let now = LeavesOnly-now old.disk new.disk (λ d. IsLiveImage d (settle old.world) ⊎ IsLiveImage d x.after) moments in
@@ -326,16 +348,16 @@ module _ (e : Event) (old : Held) (x : PointEvent e old old.world) (r : RunsRead
           moments = LeavesOnly-weaker old.disk new.disk (λ d. IsLiveImage d (settle old.world) ⊎ IsLiveImage d x.after) (λ d. ShowsState (Running old.world) d ⊎ ShowsState (Stopped (settle old.world) x.after) d) (λ d h. inr h) moments;
           answered = now;
         };
-        writes = x.writes new.disk;
-        begins = x.begins (Stopped (settle old.world) x.after) new.disk;
-        numbers = stopped_numbers e old.world old.kept (settle old.world) x.after new.kept;
+        writes = x.writes new.disk cut.touched;
+        begins = x.begins Write (Stopped (settle old.world) x.after) new.disk;
+        numbers = stopped_numbers e (Some Write) old.world old.kept (settle old.world) x.after new.kept;
         room = x.any_room (settle old.world) x.after new.disk new.room;
         later = cut.later;
-        costs = x.costs_cut new.status (record { needed = x.needed; costs = cut.costs });
+        costs = x.costs_cut new.status (record { needed = x.needed; built = cut.built; builds = cut.builds; costs = cut.costs });
         works = x.works Write new.status;
       }
 
-  unpointed_answers : (fault : PointFault) (new : Held) → IsUnpointed fault old new → AnswersFrom (Running old.world) e (refused (errno_of_point fault)) old new (stops_for fault)
+  pub unpointed_answers : (fault : PointFault) (new : Held) → IsUnpointed fault e old new → AnswersFrom (Running old.world) e (refused (errno_of_point fault)) old new (stops_for fault)
   unpointed_answers point.Memory new is = subst (λ (h : Held). AnswersFrom (Running old.world) e (refused Enomem) old h false) (sym is) (refuses Memory tt refl x.memory)
   unpointed_answers point.Age new is = subst (λ (h : Held). AnswersFrom (Running old.world) e (refused Elimit) old h false) (sym is.0) (refuses Age tt (x.needed, is.1, refl) x.age)
   unpointed_answers point.Read new is = cannot_read new is.0 is.1
@@ -347,21 +369,29 @@ module _ (e : Event) (old : Held) (x : PointEvent e old old.world) (r : RunsRead
 not_more : (errno : Errno) → refused errno ≡ answer.Progress progress.More → ⊥
 not_more errno e = cc
 
+-- one that is refused before its point begins costs nothing
+pub refused_costs : (old : Held) (session : ℕ) (c : Call) (m : Mishap) → IsRefusing m → Costs (Running old.world) old old (event.Call session c) (Some m) old.status
+refused_costs old session c Memory is = refl
+refused_costs old session c Read is = absurd is
+refused_costs old session c Write is = absurd is
+refused_costs old session c Space is = absurd is
+refused_costs old session c Age is = refl
+
 call_point : (old : Held) (session : ℕ) (c : Call) → IsCall c → IsWorld version_1 old.world → LacksFirst old session c → PointEvent (event.Call session c) old old.world
 call_point old session c numbers whole needed = record {
-  needed = needed;
+  needed = inl needed;
   memory = (takes, record { told = refl; same = refl });
   read = (takes, record { told = refl; same = refl });
   age = ((o, is.decided, inl charged), record { told = refl; same = refl });
   after = settle next;
   cut = record { outcome = o; decided = is.decided; writes = inl charged; next = next; comes = comes old session c o is.picked needed.change numbers whole is.decided is.chosen is.is can.tree can.applied; stops = record { told = refl; left = refl } };
-  writes = λ d. inr needed;
-  begins = λ s d. tt;
-  numbers = same_numbers session c old.world old.world old.kept old.kept refl refl;
+  writes = λ d touched. inr (inl needed, touched);
+  begins = λ m s d. tt;
+  numbers = λ m. same_numbers session c old.world old.world old.kept old.kept refl refl;
   room = λ m. refl;
   any_room = λ before after d room. tt;
   works = λ m new. tt;
-  costs_none = none;
+  costs_none = refused_costs old session c;
   costs_read = λ new costs. costs;
   costs_cut = λ new cut. inr cut;
 }
@@ -384,21 +414,22 @@ call_point old session c numbers whole needed = record {
     takes : TakesMemory c × IsOk (ready old.world session c)
     takes = change_takes old.world old.kept session c o is.picked needed.change is.decided is.chosen is.is
 
-    none : (m : Mishap) → IsRefusing m → Costs (Running old.world) old old (event.Call session c) (Some m) old.status
-    none Memory is = refl
-    none Read is = absurd is
-    none Write is = absurd is
-    none Space is = absurd is
-    none Age is = refl
-
-unpointed_call : (old new : Held) (session : ℕ) (c : Call) (fault : PointFault) → IsCall c → IsWorld version_1 old.world → LacksFirst old session c → RunsReady old old.world old.base → old.world.frozen ≡ map.empty → IsUnpointed fault old new
+unpointed_call : (old new : Held) (session : ℕ) (c : Call) (fault : PointFault) → IsCall c → IsWorld version_1 old.world → LacksFirst old session c → RunsReady old old.world old.base → old.world.frozen ≡ map.empty → IsUnpointed fault (event.Call session c) old new
     → AnswersFrom (Running old.world) (event.Call session c) (refused (errno_of_point fault)) old new (stops_for fault)
 unpointed_call old new session c fault numbers whole needed r bare is = unpointed_answers (event.Call session c) old (call_point old session c numbers whole needed) r bare fault new is
+
+-- a point that isn't made in a call is as one in a step
+pub unmade_in_call : (fault : PointFault) (session : ℕ) (c : Call) (old new : Held) → IsUnpointed fault event.Step old new → IsUnpointed fault (event.Call session c) old new
+unmade_in_call point.Memory session c old new is = is
+unmade_in_call point.Age session c old new is = is
+unmade_in_call point.Read session c old new is = is
+unmade_in_call point.Damaged session c old new is = is
+unmade_in_call point.Device session c old new is = is
 
 -- the same in each world that is meant
 pub call_behind : (old mid new : Held) (session : ℕ) (c : Call) (reply : Reply) (has_stopped : Bool) → LacksFirst old session c → Points (Ok tt) old mid → Serves (Some reply) mid session c new has_stopped → Answers (event.Call session c) reply old false new has_stopped
 call_behind old mid new session c reply has_stopped needed points serves =
-    in_its_world (event.Call session c) old new reply has_stopped (λ r bare. let p = points r in behind_point old mid new session c needed p bare (serves (Running old.world) (refl, p.runs, bare)))
+    in_its_world (event.Call session c) old new reply has_stopped (λ r bare. let p = points r in behind_point old mid new session c (inl needed) p bare (serves (Running old.world) (refl, p.runs, bare)))
 
 pub call_without_room : PayloadsFit → (old mid new : Held) (session : ℕ) (c : Call) → IsWorld version_1 mid.world → LacksFirst old session c → Points (Ok tt) old mid → Serves None mid session c new false → Answers (event.Call session c) (refused Enospc) old false new false
 call_without_room fit old mid new session c whole needed points serves =
@@ -407,7 +438,7 @@ call_without_room fit old mid new session c whole needed points serves =
 
 pub call_unpointed : (old new : Held) (session : ℕ) (c : Call) (fault : PointFault) → IsCall c → IsWorld version_1 old.world → LacksFirst old session c → Points (Err fault) old new → Answers (event.Call session c) (refused (errno_of_point fault)) old false new (stops_for fault)
 call_unpointed old new session c fault numbers whole needed points =
-    in_its_world (event.Call session c) old new (refused (errno_of_point fault)) (stops_for fault) (λ r bare. unpointed_call old new session c fault numbers whole needed r bare (points r))
+    in_its_world (event.Call session c) old new (refused (errno_of_point fault)) (stops_for fault) (λ r bare. unpointed_call old new session c fault numbers whole needed r bare (unmade_in_call fault session c old new (points r)))
 
 -- ---- a step
 
@@ -419,9 +450,9 @@ step_point old = record {
   age = record { told = refl; same = refl };
   after = settle old.world;
   cut = record { told = refl; left = refl };
-  writes = λ d. tt;
-  begins = λ s d. tt;
-  numbers = step_numbers old.world old.kept;
+  writes = λ d touched. touched;
+  begins = λ m s d. tt;
+  numbers = λ m. step_numbers old.world old.kept;
   room = λ m. refl;
   any_room = λ before after d room. tt;
   works = λ m new more. absurd (not_more (errno_of m) more);
@@ -440,7 +471,7 @@ step_point old = record {
 done_is_not_more : answer.Progress progress.Done ≡ answer.Progress progress.More → ⊥
 done_is_not_more e = cc
 
-done_step : (old new : Held) → IsPointed old new → old.world.frozen ≡ map.empty → AnswersFrom (Running old.world) event.Step (answer.Progress progress.Done) old new false
+done_step : (old new : Held) → IsPointed event.Step old new → old.world.frozen ≡ map.empty → AnswersFrom (Running old.world) event.Step (answer.Progress progress.Done) old new false
 done_step old new p bare = record {
   met = None;
   mid = new;
@@ -450,10 +481,10 @@ done_step old new p bare = record {
   step = (inr refl, refl);
   means = (refl, p.runs, bare);
   lasts = record {
-    moments = LeavesOnly-weaker old.disk new.disk (λ d. IsLiveImage d (settle old.world)) (λ d. ShowsState (Running old.world) d ⊎ ShowsState (Running old.world) d) (λ d h. inl h) (settled_all old new p bare);
+    moments = LeavesOnly-weaker old.disk new.disk (λ d. IsLiveImage d (settle old.world)) (λ d. ShowsState (Running old.world) d ⊎ ShowsState (Running old.world) d) (λ d h. inl h) (settled_all event.Step old new p bare);
     answered = live_show new old.world p.runs.runs bare;
   };
-  writes = tt;
+  writes = p.touched;
   begins = tt;
   numbers = step_numbers old.world new.kept;
   room = refl;
@@ -490,3 +521,34 @@ pointed_step old new points = in_its_world event.Step old new (answer.Progress p
 
 pub unpointed_step : (old new : Held) (fault : PointFault) → Points (Err fault) old new → Answers event.Step (refused (errno_of_point fault)) old false new (stops_for fault)
 unpointed_step old new fault points = in_its_world event.Step old new (refused (errno_of_point fault)) (stops_for fault) (λ r bare. unpointed_answers event.Step old (step_point old) r bare fault new (points r))
+
+-- ---- a restart whose unmount is refused
+
+unmount_point : (old : Held) → PointEvent event.Restart old old.world
+unmount_point old = record {
+  needed = tt;
+  memory = inl (record { told = refl; same = refl });
+  read = inl (record { told = refl; same = refl });
+  age = inl (record { told = refl; same = refl });
+  after = settle old.world;
+  cut = inl (record { told = refl; left = refl });
+  writes = λ d touched. inl touched;
+  begins = λ m s d. tt;
+  numbers = λ m n. refl;
+  room = λ m. refl;
+  any_room = λ before after d room. tt;
+  works = λ m new. tt;
+  costs_none = none;
+  costs_read = λ new costs. inl costs;
+  costs_cut = λ new cut. cut;
+}
+  where
+    none : (m : Mishap) → IsRefusing m → Costs (Running old.world) old old event.Restart (Some m) old.status
+    none Memory is = inl refl
+    none Read is = absurd is
+    none Write is = absurd is
+    none Space is = absurd is
+    none Age is = refl
+
+pub unpointed_restart : (old new : Held) (fault : PointFault) → (RunsReady old old.world old.base → IsUnpointed fault event.Restart old new) → Answers event.Restart (refused (errno_of_point fault)) old false new (stops_for fault)
+unpointed_restart old new fault points = in_its_world event.Restart old new (refused (errno_of_point fault)) (stops_for fault) (λ r bare. unpointed_answers event.Restart old (unmount_point old) r bare fault new (points r))

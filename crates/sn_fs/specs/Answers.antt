@@ -15,7 +15,8 @@ use Rattle.sn_model.specs.declared.reply.Progress.TheVariants as progress
 use Rattle.sn_model.specs.declared.reply.Reply.{Reply}
 use Rattle.sn_model.specs.declared.reply.Reply.TheVariants as answer
 use Rattle.sn_model.specs.Machine.{State, Running, Stopped, Mishap, Memory, Read, Write, Space, Age, EventStep}
-use Rattle.sn_model.specs.Steps.{decision}
+use Rattle.sn_model.specs.Settling.{settle}
+use Rattle.sn_model.specs.Steps.{AsksForPoint, decision}
 use Rattle.sn_model.specs.World.{World}
 use Rattle.sn_block.specs.Counts.{IsLater, called}
 use Rattle.sn_block.specs.Effects.{Nowhere}
@@ -28,16 +29,19 @@ use Rattle.sn_core.specs.Served.{Chooses}
 use Rattle.sn_held.specs.Held.{Held, Means}
 use Rattle.sn_held.specs.Moments.{LastsOver}
 use Rattle.sn_held.specs.Room.{HasRoomOf}
+use Rattle.sn_overlay.specs.Layers.{Layer}
 use Rattle.sn_overlay.specs.Needs.{nameless_in, need}
 use Rattle.sn_overlay.specs.Overlays.{no_changes}
 use Rattle.sn_room.specs.Rooms.{RoomCounts, dropping, fits, fresh, logged}
 use Rattle.sn_sound.specs.Logs.{HasAgeLeft}
 use Rattle.sn_root.specs.declared.following.PointKind.TheVariants.{Ordinary}
 use Rattle.sn_cp_whole.specs.Planning.{HasAgeFor}
+use Rattle.sn_cp_whole.specs.Recovering.{IsApart}
 use Rattle.sn_cp_whole.specs.Making.{most_syncs, most_writes, syncs_of_point, writes_of_point}
 use Rattle.sn_examine.specs.Failing.{CostsAtMost, HasFailed, HasNotFailed}
 use Rattle.sn_mount.specs.Costs.{CostsFew, CostsMount}
 use Rattle.sn_mount.specs.Recovering.{LeavesTheWorld}
+use Rattle.sn_fs.specs.Dropping.{DropsFiles}
 use Rattle.sn_fs.specs.Mounting.{WritesToMount}
 
 -- the change that a call comes to
@@ -68,23 +72,48 @@ pub record LacksFirst (h : Held) (session : ℕ) (c : Call) : Type 0 where
   pub is : IsChangeOf h.world h.kept session c change
   pub lacks : Lacks h change is.outcome
 
--- Then a whole point comes first. A step asks for one.
-abbrev pub NeedsPoint : Held → Event → Type 0
-NeedsPoint h (event.Call session c) = LacksFirst h session c
-NeedsPoint h event.Step = Unit {0}
-NeedsPoint h event.Restart = ⊥
+-- a call asks for a point, and its tests pass
+pub record AsksFirst (h : Held) (session : ℕ) (c : Call) : Type 0 where
+  pub asks : AsksForPoint c
+  pub outcome : Outcome
+  pub decided : decision version_1 h.world session c ≡ Ok outcome
 
--- A whole point was made first, with its writes and syncs: the log is empty, nothing is charged or has changed, and no number is kept back.
+-- Then a whole point comes first. A step asks for one, and so does the unmount of a restart.
+abbrev pub NeedsPoint : Held → Event → Type 0
+NeedsPoint h (event.Call session c) = LacksFirst h session c ⊎ AsksFirst h session c
+NeedsPoint h event.Step = Unit {0}
+NeedsPoint h event.Restart = Unit {0}
+
+-- The world that a point is made of: an unmount drops the files that no name stands for.
+abbrev pub world_behind : Event → World → World
+world_behind (event.Call session c) world = world
+world_behind event.Step world = world
+world_behind event.Restart world = settle world
+
+-- what a point is built of: what changed since the root, without the files that go
+abbrev pub BuildsOf : Event → Held → Layer → Type 0
+BuildsOf (event.Call session c) old built = built ≡ old.base.changed
+BuildsOf event.Step old built = built ≡ old.base.changed
+BuildsOf event.Restart old built = DropsFiles old.base old.world.live (record old.base { changed = built }) (settle old.world).live
+
+-- the sectors beside the root that counts
+abbrev pub IsBesideRoot : Held → ℕ → Type 0
+IsBesideRoot h = IsApart h.at.blocks h.base.slot
+
+-- A whole point was made first, with its writes and syncs, beside the root that counted: the log is empty, nothing is charged or has changed, and no number is kept back.
 pub record HasMadePoint (e : Event) (old mid : Held) : Type 0 where
   pub needed : NeedsPoint old e
-  pub world : mid.world ≡ old.world
+  pub world : mid.world ≡ world_behind e old.world
   pub none_kept : (number : ℕ) → mid.kept number ≡ false
   pub log : mid.at ≡ first_of old.at.blocks (old.at.epoch + 1)
   pub room : mid.room ≡ fresh mid.room.free
   pub changed : mid.base.changed ≡ no_changes
   pub age : HasAgeLeft mid.base.root
+  pub touched : Touches (IsBesideRoot old) old.disk mid.disk
+  pub built : Layer
+  pub builds : BuildsOf e old built
   pub count : ℕ
-  pub few : count ≤ need old.base.root.limits old.base.changed
+  pub few : count ≤ need old.base.root.limits built
   pub gate : Gate
   pub costs : mid.status ≡ called (writes_of_point old.at.blocks gate count) (syncs_of_point gate) old.status
 
@@ -111,12 +140,19 @@ MayMeet old mid e (Some Write) new = HasFailed old.status new
 MayMeet old mid e (Some Space) new = LacksRoom mid e × HasMadePoint e old mid × HasNotFailed old.status new
 MayMeet old mid e (Some Age) new = NeedsPoint old e × IsLastRoot old.base.root × HasNotFailed old.status new
 
+-- from one world to the next; a restart that is refused keeps the numbers that it had
+abbrev pub NumbersOver : Event → Option Mishap → World → (ℕ → Bool) → World → (ℕ → Bool) → Type 0
+NumbersOver (event.Call session c) met old kept new after = Numbers (event.Call session c) old kept new after
+NumbersOver event.Step met old kept new after = Numbers event.Step old kept new after
+NumbersOver event.Restart None old kept new after = Numbers event.Restart old kept new after
+NumbersOver event.Restart (Some m) old kept new after = (number : ℕ) → after number ≡ kept number
+
 -- Which number a new node gets, and which are kept back: none once a mount that had stopped runs again.
-abbrev pub NumbersIn : Event → State → (ℕ → Bool) → State → (ℕ → Bool) → Type 0
-NumbersIn e (Running old) kept (Running new) after = Numbers e old kept new after
-NumbersIn e (Running old) kept (Stopped first last) after = Unit {0}
-NumbersIn e (Stopped first last) kept (Running new) after = (number : ℕ) → after number ≡ false
-NumbersIn e (Stopped first last) kept (Stopped one other) after = Unit {0}
+abbrev pub NumbersIn : Event → Option Mishap → State → (ℕ → Bool) → State → (ℕ → Bool) → Type 0
+NumbersIn e met (Running old) kept (Running new) after = NumbersOver e met old kept new after
+NumbersIn e met (Running old) kept (Stopped first last) after = Unit {0}
+NumbersIn e met (Stopped first last) kept (Running new) after = (number : ℕ) → after number ≡ false
+NumbersIn e met (Stopped first last) kept (Stopped one other) after = Unit {0}
 
 -- the writes of a record: its body's sectors, the next gate closed and its own gate opened
 abbrev pub writes_of : Change → ℕ
@@ -150,11 +186,17 @@ pub record IsTried (h : Held) (session : ℕ) (c : Call) (new : Status) : Type 0
 -- a point that was needed was cut off
 pub record IsCutPoint (old : Held) (e : Event) (new : Status) : Type 0 where
   pub needed : NeedsPoint old e
-  pub costs : CostsAtMost (most_writes old.at.blocks (need old.base.root.limits old.base.changed)) most_syncs old.status new
+  pub built : Layer
+  pub builds : BuildsOf e old built
+  pub costs : CostsAtMost (most_writes old.at.blocks (need old.base.root.limits built)) most_syncs old.status new
+
+-- a call that asks for a point, and whose tests pass, is answered behind one
+abbrev pub MakesAsked : Held → Held → ℕ → Call → Type 0
+MakesAsked old mid session c = AsksFirst old session c → HasMadePoint (event.Call session c) old mid
 
 -- Behind the point that a call makes first, where it needs one: a call that comes to a change is recorded, also where the change alters nothing, and any other writes nothing; nor does one that is refused.
 abbrev pub CostsCall : Held → Held → ℕ → Call → Option Mishap → Status → Type 0
-CostsCall old mid session c None new = (HasNoChange mid.world mid.kept session c × (new ≡ mid.status)) ⊎ IsRecorded mid session c new
+CostsCall old mid session c None new = MakesAsked old mid session c × ((HasNoChange mid.world mid.kept session c × (new ≡ mid.status)) ⊎ IsRecorded mid session c new)
 CostsCall old mid session c (Some Memory) new = new ≡ mid.status
 CostsCall old mid session c (Some Read) new = CostsAtMost 0 0 mid.status new
 CostsCall old mid session c (Some Write) new = IsTried mid session c new ⊎ IsCutPoint old (event.Call session c) new
@@ -170,28 +212,49 @@ CostsStep old mid (Some Write) new = IsCutPoint old event.Step new
 CostsStep old mid (Some Space) new = ⊥
 CostsStep old mid (Some Age) new = new ≡ old.status
 
--- what a mount costs, or one that was cut off
-abbrev pub CostsRestart : Option Mishap → Status → Status → Type 0
-CostsRestart None old new = (n : ℕ) × (8 * n ≤ old.sectors) × CostsMount n old new
-CostsRestart (Some m) old new = CostsFew old new
+-- what a mount costs
+abbrev pub CostsMountOf : Status → Status → Type 0
+CostsMountOf old new = (n : ℕ) × (8 * n ≤ old.sectors) × CostsMount n old new
+
+-- or one that was cut off
+abbrev pub CostsMounting : Option Mishap → Status → Status → Type 0
+CostsMounting None old new = CostsMountOf old new
+CostsMounting (Some m) old new = CostsFew old new
+
+-- a mount fails behind the point of an unmount
+abbrev pub CostsBehind : Held → Held → Status → Type 0
+CostsBehind old mid new = HasMadePoint event.Restart old mid × CostsFew mid.status new
+
+-- A restart makes a whole point, and mounts behind it. Where the point isn't made it costs what a step would.
+abbrev pub CostsRestart : Held → Held → Option Mishap → Status → Type 0
+CostsRestart old mid None new = HasMadePoint event.Restart old mid × CostsMountOf mid.status new
+CostsRestart old mid (Some Memory) new = (new ≡ old.status) ⊎ CostsBehind old mid new
+CostsRestart old mid (Some Read) new = CostsAtMost 0 0 old.status new ⊎ CostsBehind old mid new
+CostsRestart old mid (Some Write) new = IsCutPoint old event.Restart new
+CostsRestart old mid (Some Space) new = ⊥
+CostsRestart old mid (Some Age) new = new ≡ old.status
 
 -- in a stopped mount nothing is called but by a restart
 abbrev pub Costs : State → Held → Held → Event → Option Mishap → Status → Type 0
 Costs (Running w) old mid (event.Call session c) met new = CostsCall old mid session c met new
 Costs (Running w) old mid event.Step met new = CostsStep old mid met new
-Costs (Running w) old mid event.Restart met new = CostsRestart met old.status new
+Costs (Running w) old mid event.Restart met new = CostsRestart old mid met new
 Costs (Stopped before after) old mid (event.Call session c) met new = new ≡ old.status
 Costs (Stopped before after) old mid event.Step met new = new ≡ old.status
-Costs (Stopped before after) old mid event.Restart met new = CostsRestart met old.status new
+Costs (Stopped before after) old mid event.Restart met new = CostsMounting met old.status new
 
--- Which sectors an event may write: a call its half of the log, unless it needs a point. In a stopped mount only a restart writes.
-abbrev pub Writes : State → Held → Event → Disk → Disk → Type 0
-Writes (Running w) h (event.Call session c) old new = Touches (InHalf (base_at h.at)) old new ⊎ NeedsPoint h (event.Call session c)
-Writes (Running w) h event.Step old new = Unit {0}
-Writes (Running w) h event.Restart old new = WritesToMount h.status.sectors old new
-Writes (Stopped before after) h (event.Call session c) old new = Touches Nowhere old new
-Writes (Stopped before after) h event.Step old new = Touches Nowhere old new
-Writes (Stopped before after) h event.Restart old new = WritesToMount h.status.sectors old new
+-- behind the point of its unmount a mount writes
+abbrev pub WritesBehind : Held → Held → Disk → Type 0
+WritesBehind old mid new = HasMadePoint event.Restart old mid × WritesToMount mid.status.sectors mid.disk new
+
+-- Which sectors an event may write: a call its half of the log, unless it needs a point; then, and in a step or an unmount, none of the root that counts. In a stopped mount only a restart writes.
+abbrev pub Writes : State → Held → Held → Event → Disk → Type 0
+Writes (Running w) old mid (event.Call session c) new = Touches (InHalf (base_at old.at)) old.disk new ⊎ (NeedsPoint old (event.Call session c) × Touches (IsBesideRoot old) old.disk new)
+Writes (Running w) old mid event.Step new = Touches (IsBesideRoot old) old.disk new
+Writes (Running w) old mid event.Restart new = Touches (IsBesideRoot old) old.disk new ⊎ WritesBehind old mid new
+Writes (Stopped before after) old mid (event.Call session c) new = Touches Nowhere old.disk new
+Writes (Stopped before after) old mid event.Step new = Touches Nowhere old.disk new
+Writes (Stopped before after) old mid event.Restart new = WritesToMount old.status.sectors old.disk new
 
 -- a call that comes to a change is charged for it
 pub record IsChargedFor (h : Held) (session : ℕ) (c : Call) (room : RoomCounts) : Type 0 where
@@ -210,7 +273,8 @@ RoomIn (event.Call session c) mid new met (Running next) room = RoomOfCall mid s
 RoomIn (event.Call session c) mid new met (Stopped before after) room = Unit {0}
 RoomIn event.Step mid new met (Running next) room = room ≡ mid.room
 RoomIn event.Step mid new met (Stopped before after) room = Unit {0}
-RoomIn event.Restart mid new met (Running next) room = HasRoomOf (reads new) next room
+RoomIn event.Restart mid new None (Running next) room = HasRoomOf (reads new) next room
+RoomIn event.Restart mid new (Some m) (Running next) room = room ≡ mid.room
 RoomIn event.Restart mid new met (Stopped before after) room = Unit {0}
 
 -- a step that says that there is more has written something
@@ -219,12 +283,13 @@ Works event.Step reply old new = reply ≡ answer.Progress progress.More → old
 Works (event.Call session c) reply old new = Unit {0}
 Works event.Restart reply old new = Unit {0}
 
--- a mount leaves the world that it runs over from its first sync on, whatever there may have been before
-abbrev pub Begins : Event → State → Disk → Disk → Type 0
-Begins event.Restart (Running world) old new = LeavesTheWorld old new world
-Begins event.Restart (Stopped before after) old new = Unit {0}
-Begins (event.Call session c) next old new = Unit {0}
-Begins event.Step next old new = Unit {0}
+-- A mount leaves the world that it runs over from its first sync on, whatever there may have been before: behind the point of the unmount, if one came first.
+abbrev pub Begins : Event → Option Mishap → State → Disk → Disk → Type 0
+Begins event.Restart None (Running world) mid new = LeavesTheWorld mid new world
+Begins event.Restart None (Stopped before after) mid new = Unit {0}
+Begins event.Restart (Some m) next mid new = Unit {0}
+Begins (event.Call session c) met next mid new = Unit {0}
+Begins event.Step met next mid new = Unit {0}
 
 -- The event is a step of the machine, from this state to the next: a crash at any moment of its course leaves one of the two, and once it is answered the next alone. The number of a new node, room, charges and costs are those behind the point that the event makes first, where it makes one.
 pub record AnswersFrom (s : State) (e : Event) (reply : Reply) (old new : Held) (has_stopped : Bool) : Type 0 where
@@ -236,9 +301,9 @@ pub record AnswersFrom (s : State) (e : Event) (reply : Reply) (old new : Held) 
   pub step : EventStep version_1 s e met reply next
   pub means : Means new has_stopped next
   pub lasts : LastsOver s next old.disk new.disk
-  pub writes : Writes s old e old.disk new.disk
-  pub begins : Begins e next old.disk new.disk
-  pub numbers : NumbersIn e s mid.kept next new.kept
+  pub writes : Writes s old mid e new.disk
+  pub begins : Begins e met next mid.disk new.disk
+  pub numbers : NumbersIn e met s mid.kept next new.kept
   pub room : RoomIn e mid new.disk met next new.room
   pub later : IsLater old.status new.status
   pub costs : Costs s old mid e met new.status

@@ -1,25 +1,34 @@
 -- A call that is served without a point, or that needs one.
-use Rattle.std.specs.Prelude.{◌≡◌, ◌⊎◌, ℕ, ◌-◌, Bool, false, true, ◌||◌, List, Option, None, Some}
-use Rattle.sn_changed.specs.Dropped.{LeadsOn, TellsGone}
-use Rattle.sn_changed.specs.declared.dropped.DroppedFile.{DroppedFile}
+use Rattle.std.specs.Prelude.{◌≡◌, ◌⊎◌, ℕ, ◌-◌, Bool, false, true, ◌||◌, Option, None, Some}
 use Rattle.sn_model.specs.declared.call.Call.{Call}
 use Rattle.sn_model.specs.declared.call.Event.TheVariants as event
 use Rattle.sn_model.specs.declared.change.Change.{Change}
 use Rattle.sn_model.specs.declared.outcome.Caller.{Caller}
+use Rattle.sn_model.specs.declared.reply.Errno.TheVariants.{Enomem}
 use Rattle.sn_model.specs.declared.reply.Reply.{Reply}
+use Rattle.sn_model.specs.declared.reply.Reply.TheVariants as answer
+use Rattle.sn_core.specs.declared.error.CallError.{CallError}
+use Rattle.sn_core.specs.declared.error.CallError.TheVariants as lack
+use Rattle.sn_device.specs.Crash.{Touches}
 use Rattle.sn_device.specs.declared.status.Status.{Status}
-use Rattle.sn_model.specs.Machine.{State, Mishap, Memory, Read, Write, Space, Age}
+use Rattle.sn_ondisk.specs.LogHalf.{InHalf}
+use Rattle.sn_model.specs.Machine.{State, Mishap, Memory, Read, Write, Space, Age, refused}
 use Rattle.sn_model.specs.Settling.{dropped}
 use Rattle.sn_model.specs.Steps.{with_caller}
-use Rattle.sn_model.specs.Tree.{Tree}
 use Rattle.sn_model.specs.Worlds.{IsCall}
 use Rattle.sn_core.specs.Numbering.{gives_kept, has_closed}
 use Rattle.sn_overlay.specs.Needs.{nameless_in}
 use Rattle.sn_room.specs.Rooms.{dropping}
-use Rattle.sn_held.specs.Held.{Held, Kept, Means}
-use Rattle.sn_log.specs.Places.{HasRoom}
+use Rattle.sn_held.specs.Held.{Held, Means}
+use Rattle.sn_log.specs.Places.{HasRoom, base_at}
 use Rattle.sn_sound.specs.Logs.{HasAgeLeft}
 use Rattle.sn_fs.specs.Answers.{AnswersFrom, IsTried, LacksFirst}
+pub use Rattle.sn_fs.specs.Dropping.{DropsFiles}
+
+-- what a call is answered that comes to nothing
+abbrev pub reply_to : CallError → Reply
+reply_to (lack.Refused r) = answer.Refused r
+reply_to lack.Memory = refused Enomem
 
 -- without a point a call meets with want of memory alone, or its append was cut off
 abbrev pub ServesTo : Option Mishap → Held → ℕ → Call → Status → Type 0
@@ -34,6 +43,7 @@ ServesTo (Some Age) h session c new = ⊥
 pub record ServesFrom (s : State) (session : ℕ) (c : Call) (reply : Reply) (old new : Held) (has_stopped : Bool) : Type 0 where
   pub answers : AnswersFrom s (event.Call session c) reply old new has_stopped
   pub at_once : answers.mid ≡ old
+  pub wrote : Touches (InHalf (base_at old.at)) old.disk new.disk
   pub met : ServesTo answers.met old session c new.status
 
 -- A call is answered at once, from each state that is meant; or it comes to a change that lacks something, and nothing has changed; its numbers are those of a call.
@@ -55,15 +65,6 @@ pub record LacksNothing (h : Held) (change : Change) (enough : Bool) : Type 0 wh
 abbrev pub TellsLack : Bool → Held → Change → Bool → Type 0
 TellsLack true h change enough = LacksSome h change enough
 TellsLack false h change enough = LacksNothing h change enough
-
--- What changed up to a tree is carried on to the tree without the files that went.
-pub record DropsFiles (old : Kept) (before : Tree) (new : Kept) (after : Tree) : Type 0 where
-  pub files : List DroppedFile
-  pub slot : new.slot ≡ old.slot
-  pub root : new.root ≡ old.root
-  pub words : new.words ≡ old.words
-  pub gone : TellsGone before after files
-  pub leads : LeadsOn old.changed files new.changed
 
 -- What becomes of a caller was set, and the files that went with it were taken out of what changed, and counted.
 pub record Turns (session : ℕ) (caller : Caller) (parked : ℕ) (old new : Held) : Type 0 where

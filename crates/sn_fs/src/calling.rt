@@ -1,14 +1,18 @@
 //! Calls.
-ghost use Rattle.std.specs.Prelude.{◌≡◌, IsTrue};
+ghost use Rattle.std.specs.Prelude.{◌≡◌, false, true, IsTrue};
+ghost use Rattle.sn_held.specs.Held.{Runs};
+ghost use Rattle.sn_model.specs.Steps.{asks_for_point};
+ghost use Rattle.sn_model.specs.World.{World};
+ghost use Rattle.sn_sound.specs.Maps.{free_blocks};
 ghost use Rattle.sn_model.specs.declared.call.Event.TheVariants as event;
 ghost use Rattle.sn_fs.specs.Answers.{Answers};
 ghost use Rattle.sn_fs.specs.Filesystem.{IsFs, has_stopped, held};
 
 use crate::Fs;
 use crate::pointing::errno_of;
-use crate::serving::refused;
+use crate::serving::{refused, reply_of};
 use sn_device::Device;
-use sn_model::{Call, Errno, Reply};
+use sn_model::{Call, Errno, Outcome, Reply};
 use sn_record::payloads_fit;
 
 impl<D: Device> Fs<D> {
@@ -19,10 +23,39 @@ impl<D: Device> Fs<D> {
         self.has_stopped
     }
 
+    /// The free blocks of the root that counts: the data blocks that neither its tree reaches nor one of its snapshots.
+    /// What was logged since takes some of them with the next consistency point.
+    pub fn free(&self) -> u32
+        ensures room { result ≡ (held self.now).room.free }
+        ensures blocks { (world : World) (r : Runs (held self.now) world) → result ≡ free_blocks (held self.now).at.blocks r.store r.root }
+    {
+        self.room.free()
+    }
+
+    /// Answers a call that asks for a whole consistency point. It is made once the call's tests have passed.
+    fn sync(&mut self, session: u32, call: &Call) -> Reply
+        requires running { has_stopped self.old ≡ false }
+        requires sound { IsFs self.old }
+        requires asks { asks_for_point call.now ≡ true }
+        ensures answered { IsTrue D.tells_bytes → Answers (event.Call session call.now) result
+            (held self.old) (has_stopped self.old) (held self.new) (has_stopped self.new) }
+        ensures sound { IsFs self.new }
+    {
+        let outcome = match self.world.decide(self.alloc, session, call) {
+            Ok(outcome) => outcome,
+            Err(error) => return reply_of(error),
+        };
+        let Outcome { told, .. } = outcome;
+        match self.make_point() {
+            Ok(()) => told,
+            Err(fault) => refused(errno_of(fault)),
+        }
+    }
+
     /// Answers a call. Once it is answered, a crash loses nothing of it. Where the log has no room for its record, the
     /// disk none for its charge, or no number is left but those kept back, a whole consistency point comes first: so
-    /// ENOSPC comes only where the call doesn't fit behind that. EIO comes where the device fails. Where that was
-    /// in a write or a sync, it stops the mount: then every call is ESTOPPED.
+    /// ENOSPC comes only where the call doesn't fit behind that. So it does where the call asks for one. EIO comes where
+    /// the device fails. Where that was in a write or a sync, it stops the mount: then every call is ESTOPPED.
     pub fn call(&mut self, session: u32, call: &Call) -> Reply
         requires { IsFs self.old }
         ensures answered { IsTrue D.tells_bytes → Answers (event.Call session call.now) result
@@ -32,6 +65,9 @@ impl<D: Device> Fs<D> {
         payloads_fit();
         if self.has_stopped {
             return refused(Errno::Estopped);
+        }
+        if call.asks_for_point() {
+            return self.sync(session, call);
         }
         if let Some(reply) = self.serve(session, call) {
             return reply;

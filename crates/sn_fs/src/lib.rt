@@ -13,22 +13,24 @@
 //!   number or an age, a whole point comes first (`HasMadePoint`), and else none. What it may meet with has a cause: EIO where
 //!   the device failed, ENOSPC where it doesn't fit right behind that point.
 //! - [`Fs::step`]: makes a whole point, which changes no world.
+//! - [`Fs::unmount`]: makes one of the tree without the files that no name stands for, and hands the device back; or it is
+//!   refused as a step is, and the file system is there still.
 //! - [`mount`]: where the contents are an image of a world without snapshots, that world runs; from the first sync on
 //!   every crash leaves an image of it, also where the mount fails. A mount fails for a cause (`Refuses` of `sn_examine`).
 //!
 //! The way through: `sn_held` says what is meant, and of what the disk is an image. `specs/Answers.antt` says what an event
 //! leads to, `Serving.antt` a call without a point, `Changing.antt` what a change does in memory and on the disk, `Pointing.antt`
-//! a point, `Mounting.antt` what a mount makes of a disk. A call is decided by `sn_core`; `serving` asks whether it lacks
+//! a point, `Unmounting.antt` the one of an unmount, `Mounting.antt` what a mount makes of a disk. A call is decided by `sn_core`; `serving` asks whether it lacks
 //! something and does it, `changing` makes its change in memory, which takes all the memory, and then appends its record,
-//! `pointing` makes a point of what changed since the root, by `sn_cp_whole`, and `calling` puts them together; a mount is
-//! `sn_mount`'s.
+//! `pointing` makes a point of what changed since the root, by `sn_cp_whole`, and `calling` puts them together; `unmounting` makes
+//! the last one, and a mount is `sn_mount`'s.
 //!
 //! What the sources leave open is decided in `docs/DECISIONS.md`, under "Mount and calls over a device".
 //!
 //! ```text
 //! let mut fs = mount(alloc, device)?;
 //! let reply = fs.call(session, &call);
-//! let device = fs.into_device();
+//! let device = fs.unmount()?;
 //! ```
 #![tactic(auto)]
 
@@ -40,7 +42,9 @@ mod fs;
 mod mounting;
 mod pointing;
 mod serving;
+mod unmounting;
 
 pub use found::Unmounted;
 pub use fs::Fs;
 pub use mounting::mount;
+pub use unmounting::StillMounted;

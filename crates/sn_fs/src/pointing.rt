@@ -23,7 +23,7 @@ pub(crate) fn errno_of(fault: PointFault) -> Errno
 }
 
 /// Whether it stops the mount.
-fn stops(fault: PointFault) -> bool
+pub(crate) fn stops(fault: PointFault) -> bool
     ensures { result ≡ stops_for fault }
 {
     fault == PointFault::Device

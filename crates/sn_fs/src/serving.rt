@@ -8,13 +8,14 @@ ghost use Rattle.sn_model.specs.Machine as machine;
 ghost use Rattle.sn_model.specs.NameTree.{IsTree};
 ghost use Rattle.sn_model.specs.Outcomes.{is_opening};
 ghost use Rattle.sn_model.specs.Settling.{OnlyLost};
+ghost use Rattle.sn_model.specs.Steps.{asks_for_point};
 ghost use Rattle.sn_overlay.specs.Needs.{counts, nameless_in};
 ghost use Rattle.sn_overlay.specs.Overlays.{HasRoom};
 ghost use Rattle.sn_record.specs.Payload.{IsSpelled};
 ghost use Rattle.sn_sound.specs.Logs.{HasAgeLeft};
 ghost use Rattle.sn_fs.specs.Filesystem.{IsFs, has_stopped, held};
 ghost use Rattle.sn_fs.specs.Mounted.{IsSameRoot};
-ghost use Rattle.sn_fs.specs.Serving.{Serves, TellsLack, Turns};
+ghost use Rattle.sn_fs.specs.Serving.{Serves, TellsLack, Turns, reply_to};
 
 use crate::Fs;
 use sn_changed::{changed_laws, drop_each};
@@ -37,6 +38,16 @@ pub(crate) fn refused(errno: Errno) -> Reply
     ensures { result ≡ machine.refused errno }
 {
     Reply::Refused(Refusal::plain(errno))
+}
+
+/// What a call is answered that comes to nothing.
+pub(crate) fn reply_of(error: CallError) -> Reply
+    ensures { result ≡ reply_to error }
+{
+    match error {
+        CallError::Refused(refusal) => Reply::Refused(refusal),
+        CallError::Memory => refused(Errno::Enomem),
+    }
 }
 
 impl<D: Device> Fs<D> {
@@ -95,10 +106,11 @@ impl<D: Device> Fs<D> {
             .drop_files(parked.saturating_sub(self.world.nameless()));
     }
 
-    /// Answers a call, where what it comes to lacks nothing that a whole point gives. Else nothing has changed.
+    /// Answers a call that asks for no point, where what it comes to lacks nothing that a whole point gives. Else nothing has changed.
     pub(crate) fn serve(&mut self, session: u32, call: &Call) -> Option<Reply>
         requires running { has_stopped self.old ≡ false }
         requires sound { IsFs self.old }
+        requires alone { asks_for_point call.now ≡ false }
         ensures served { IsTrue D.tells_bytes → Serves result (held self.old) session call.now (held self.new) (has_stopped self.new) }
         ensures running { IfNone result (has_stopped self.new ≡ false) }
         ensures sound { IsFs self.new }
@@ -106,8 +118,7 @@ impl<D: Device> Fs<D> {
         changed_laws();
         let outcome = match self.world.decide(self.alloc, session, call) {
             Ok(outcome) => outcome,
-            Err(CallError::Refused(refusal)) => return Some(Reply::Refused(refusal)),
-            Err(CallError::Memory) => return Some(refused(Errno::Enomem)),
+            Err(error) => return Some(reply_of(error)),
         };
         let fits = self
             .room

@@ -34,7 +34,7 @@ use Rattle.sn_model.proofs.DenialLemmas.{IsDeniedAt, bind_err, mkdir_denied, sta
 use Rattle.sn_model.proofs.NameDenialLemmas.{link_denied, readdir_denied, rename_denied, rmdir_denied}
 use Rattle.sn_model.proofs.OtherLemmas.{chain_other, tested_other}
 use Rattle.sn_model.proofs.OpenDenialLemmas.{open_denied, unlink_denied}
-use Rattle.sn_model.proofs.FileDenialLemmas.{close_other, ftruncate_other, logout_other, read_other, seek_other, write_other}
+use Rattle.sn_model.proofs.FileDenialLemmas.{close_other, ftruncate_other, never_refused, read_other, seek_other, write_other}
 
 -- ---- sessions and arguments
 
@@ -151,6 +151,7 @@ module _ (world : World) (session : ℕ) (r : Refusal) (is : r.errno ≡ Eacces)
       (λ s. chain_other (bytes_argument bytes) (λ new. ready_ok (calls.Write session fd new)) r (λ h. bytes_other bytes r h is) (λ new h. never_ok _ r h))
   ready_other (call.Seek fd offset) = behind_caller (λ _. ready_ok (calls.Seek session fd offset)) (λ s h. never_ok _ r h)
   ready_other (call.Ftruncate fd size) = behind_caller (λ _. ready_ok (calls.Ftruncate session fd size)) (λ s h. never_ok _ r h)
+  ready_other call.Sync = behind_caller (λ _. ready_ok calls.Sync) (λ s h. never_ok _ r h)
 
 read_ok : (p : Result (List (List ℕ)) PathFault) (names : List (List ℕ)) → read_path p ≡ Ok names → p ≡ Ok names
 read_ok (Ok all) names e = let same : all ≡ names = cc e in ap (λ (x : List (List ℕ)). Ok x) same
@@ -294,7 +295,10 @@ module _ (limits : Limits) (world : World) (session : ℕ) (r : Refusal) (is : r
       of_path (call.Readdir path) path more x k refl (readdir_denied limits world k.caller r is k.names (goes_on (calls.Readdir k.caller k.names) x k.passed g))
 
   logout_denies : Denies call.Logout
-  logout_denies x f g = absurd (logout_other r is (behind_session call.Logout calls.Logout x f g))
+  logout_denies x f g = absurd (never_refused _ r (behind_session call.Logout calls.Logout x f g))
+
+  sync_denies : Denies call.Sync
+  sync_denies x f g = absurd (never_refused _ r (behind_session call.Sync calls.Sync x f g))
 
   open_denies : (path : List ℕ) (flags : OpenFlags) (mode : ℕ) → Denies (call.Open path flags mode)
   open_denies path flags mode x f g =
@@ -347,6 +351,7 @@ module _ (limits : Limits) (world : World) (session : ℕ) (r : Refusal) (is : r
   decided_denies (call.Write fd bytes) = write_denies fd bytes
   decided_denies (call.Seek fd offset) = seek_denies fd offset
   decided_denies (call.Ftruncate fd size) = ftruncate_denies fd size
+  decided_denies call.Sync = sync_denies
 
 pub access_denied : (limits : Limits) (world : World) (session : ℕ) (c : Call) (r : Refusal) → decision limits world session c ≡ Err r → r.errno ≡ Eacces → IsDenied world session c r
 access_denied limits world session c r e is = told (bind_err (ready world session c) (outcome_of limits world) r e)

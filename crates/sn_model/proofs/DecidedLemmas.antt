@@ -398,6 +398,11 @@ module _ (limits : Limits) (world : World) (session : ℕ) where
       let k = seated (λ _. found.ok (calls.Ftruncate session fd size)) r.0 r.1 in
       ftruncate_is limits world session fd size o (goes_on (calls.Ftruncate session fd size) r.0 o k.2 r.2)
 
+  sync_decided : (o : Outcome) → ReadyTo call.Sync o → IsDecided limits world session call.Sync o
+  sync_decided o r =
+      let k = seated (λ _. found.ok calls.Sync) r.0 r.1 in
+      tells_decided call.Sync o reply.Done (λ refusal e. cc e) (sym (same_ok _ o (goes_on calls.Sync r.0 o k.2 r.2)))
+
   by_call : (c : Call) (o : Outcome) → ReadyTo c o → IsDecided limits world session c o
   by_call (call.Login uid gid groups) o r = login_decided uid gid groups o r
   by_call (call.Umask mask) o r = umask_decided mask o r
@@ -420,6 +425,7 @@ module _ (limits : Limits) (world : World) (session : ℕ) where
   by_call (call.Write fd bytes) o r = write_decided fd bytes o r
   by_call (call.Seek fd offset) o r = seek_decided fd offset o r
   by_call (call.Ftruncate fd size) o r = ftruncate_decided fd size o r
+  by_call call.Sync o r = sync_decided o r
 
   pub decided_is : (c : Call) (o : Outcome) → decision limits world session c ≡ Ok o → IsDecided limits world session c o
   decided_is c o e = by_call c o (bind_ok (ready world session c) (outcome_of limits world) o e)

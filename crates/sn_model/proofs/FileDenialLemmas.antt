@@ -7,13 +7,13 @@ use Rattle.sn_model.specs.declared.reply.Errno.TheVariants.{Eacces, Ebadf, Efbig
 use Rattle.sn_model.specs.declared.reply.Refusal.{Refusal}
 use Rattle.sn_model.specs.declared.reply.Reply.TheVariants as reply
 use Rattle.sn_model.specs.Descriptors.{Descriptors, descriptor_at, for_reading, for_writing, found as found_in, is_offset, readable_at, writable_at}
-use Rattle.sn_model.specs.FileCalls.{close_outcome, cuts, ftruncate_outcome, is_size, logout_outcome, open_bytes, read_outcome, reads, seek_outcome, write_offset, write_outcome, write_some, writes}
+use Rattle.sn_model.specs.FileCalls.{close_outcome, cuts, ftruncate_outcome, is_size, open_bytes, read_outcome, reads, seek_outcome, write_offset, write_outcome, write_some, writes}
 use Rattle.sn_model.specs.Outcomes.{Closes, Moves, Outcome, tells, turns}
 use Rattle.sn_model.specs.World.{Descriptor, World}
 use Rattle.sn_model.proofs.DecisionLemmas.{ok}
 use Rattle.sn_model.proofs.OtherLemmas.{chain_other, plain_other, tested_other}
 
-never_refused : (o : Outcome) (r : Refusal) → ok o ≡ Err r → ⊥
+pub never_refused : (o : Outcome) (r : Refusal) → ok o ≡ Err r → ⊥
 never_refused o r e = cc e
 
 module _ (r : Refusal) (is : r.errno ≡ Eacces) where
@@ -32,9 +32,6 @@ module _ (r : Refusal) (is : r.errno ≡ Eacces) where
 
   size_other : (limits : Limits) (size : ℕ) → is_size limits size ≡ Err r → ⊥
   size_other limits size e = tested_other Efbig (λ q. cc q) (nat_le size limits.largest_file) tt r e is
-
-pub logout_other : (r : Refusal) → r.errno ≡ Eacces → ok logout_outcome ≡ Err r → ⊥
-logout_other r is e = cc e
 
 pub close_other : (table : Descriptors) (session fd : ℕ) (r : Refusal) → r.errno ≡ Eacces → close_outcome table session fd ≡ Err r → ⊥
 unfolding close_outcome

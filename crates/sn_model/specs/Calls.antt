@@ -12,7 +12,7 @@ use Rattle.sn_model.specs.declared.call.Call.{Call}
 use Rattle.sn_model.specs.declared.call.Call.TheVariants as call
 use Rattle.sn_model.specs.declared.reply.Access as access
 use Rattle.sn_model.specs.declared.reply.Refusal.{Refusal}
-use Rattle.sn_model.specs.declared.reply.Reply.TheVariants.{Status}
+use Rattle.sn_model.specs.declared.reply.Reply.TheVariants.{Done, Status}
 use Rattle.sn_model.specs.declared.reply.Status as status
 use Rattle.sn_limits.specs.declared.limits.Limits.{Limits}
 use Rattle.sn_model.specs.declared.change.Ownership.{Ownership}
@@ -52,6 +52,7 @@ pub data Ready : Type 0 where
   Write : ℕ → ℕ → List ℕ → Ready
   Seek : ℕ → ℕ → ℕ → Ready
   Ftruncate : ℕ → ℕ → ℕ → Ready
+  Sync : Ready
 
 -- the umask of a new session, 0022
 abbrev pub first_umask : Mode
@@ -83,6 +84,7 @@ ready world session (call.Read fd count) = logged_in world session >>= (λ _. co
 ready world session (call.Write fd bytes) = logged_in world session >>= (λ _. bytes_argument bytes >>= (λ new. Ok (Write session fd new)))
 ready world session (call.Seek fd offset) = logged_in world session >>= (λ _. Ok (Seek session fd offset))
 ready world session (call.Ftruncate fd size) = logged_in world session >>= (λ _. Ok (Ftruncate session fd size))
+ready world session call.Sync = logged_in world session >>= (λ _. Ok Sync)
 
 -- a new directory: its owner is the caller's; its group and S_ISGID are a set-gid parent's, else the group is the caller's; its ACLs are inherited
 abbrev pub new_directory : Session → Mode → Attributes → Option (List Entry) → Ownership
@@ -146,3 +148,4 @@ outcome_of limits world (Read session fd count) = read_outcome world session fd 
 outcome_of limits world (Write session fd bytes) = write_outcome limits world session fd bytes
 outcome_of limits world (Seek session fd offset) = seek_outcome limits world.descriptors session fd offset
 outcome_of limits world (Ftruncate session fd size) = ftruncate_outcome limits world.descriptors session fd size
+outcome_of limits world Sync = Ok (tells Done)

@@ -53,6 +53,7 @@ path_of (call.Read fd count) which = None
 path_of (call.Write fd bytes) which = None
 path_of (call.Seek fd offset) which = None
 path_of (call.Ftruncate fd size) which = None
+path_of call.Sync which = None
 
 -- the object at the denial's place has an ACL whose entry denies what was wanted
 pub record IsByRule (trees : ViewedTrees) (cred : Credential) (names : List (List ℕ)) (denial : Denial) : Type 0 where

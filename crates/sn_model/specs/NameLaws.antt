@@ -150,6 +150,7 @@ changes_names (call.Read fd count) = false
 changes_names (call.Write fd bytes) = false
 changes_names (call.Seek fd offset) = false
 changes_names (call.Ftruncate fd size) = false
+changes_names call.Sync = false
 
 -- Whatever another call answers, each name stands for what it stood for, and there is no other.
 abbrev pub FewCallsChangeNames : Type 0

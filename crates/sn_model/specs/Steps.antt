@@ -1,5 +1,5 @@
 -- What a call may answer while nothing fails, and the world that it leaves.
-use Rattle.std.specs.Prelude.{◌≡◌, ◌⊎◌, ℕ, ◌≤◌, ◌<◌, Option, None, Some, Result, Ok, Err, IsOk, slice_get, slice_set}
+use Rattle.std.specs.Prelude.{◌≡◌, ◌⊎◌, ℕ, ◌≤◌, ◌<◌, Bool, true, false, IsTrue, Option, None, Some, Result, Ok, Err, IsOk, slice_get, slice_set}
 use Rattle.std.specs.FinMap as map
 use Rattle.std.specs.Option.{option_map}
 use Rattle.sn_acl.specs.declared.modes.Mode.{Mode}
@@ -114,10 +114,35 @@ TakesMemory (call.Read fd count) = Unit {0}
 TakesMemory (call.Write fd bytes) = Unit {0}
 TakesMemory (call.Seek fd offset) = ⊥
 TakesMemory (call.Ftruncate fd size) = Unit {0}
+TakesMemory call.Sync = Unit {0}
 
--- the calls that ask for a whole consistency point: none does yet, and those that will are charged for nothing
+-- the calls that ask for a whole consistency point; they are charged for nothing
+abbrev pub asks_for_point : Call → Bool
+asks_for_point (call.Login uid gid groups) = false
+asks_for_point (call.Umask mask) = false
+asks_for_point (call.Mkdir path mode) = false
+asks_for_point (call.Chmod path mode) = false
+asks_for_point (call.Chown path uid gid) = false
+asks_for_point (call.Stat path) = false
+asks_for_point (call.Access path want) = false
+asks_for_point (call.GetAcl path kind) = false
+asks_for_point (call.SetAcl path kind acl) = false
+asks_for_point (call.Rmdir path) = false
+asks_for_point (call.Unlink path) = false
+asks_for_point (call.Link old new) = false
+asks_for_point (call.Rename old new) = false
+asks_for_point (call.Readdir path) = false
+asks_for_point call.Logout = false
+asks_for_point (call.Open path flags mode) = false
+asks_for_point (call.Close fd) = false
+asks_for_point (call.Read fd count) = false
+asks_for_point (call.Write fd bytes) = false
+asks_for_point (call.Seek fd offset) = false
+asks_for_point (call.Ftruncate fd size) = false
+asks_for_point call.Sync = true
+
 abbrev pub AsksForPoint : Call → Type 0
-AsksForPoint c = ⊥
+AsksForPoint c = IsTrue (asks_for_point c)
 
 -- a call may find no memory once its session and arguments have passed, and then changes nothing
 pub record LacksMemory (world : World) (session : ℕ) (c : Call) (reply : Reply) (new : World) : Type 0 where

@@ -86,6 +86,7 @@ IsCall (call.Read fd count) = Unit {0}
 IsCall (call.Write fd bytes) = Unit {0}
 IsCall (call.Seek fd offset) = Unit {0}
 IsCall (call.Ftruncate fd size) = Unit {0}
+IsCall call.Sync = Unit {0}
 
 abbrev pub IsEvent : Event → Type 0
 IsEvent (event.Call session c) = IsCall c

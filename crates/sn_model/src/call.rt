@@ -105,6 +105,21 @@ pub enum Call {
         fd: u32,
         size: u64,
     },
+    /// POSIX.1-2017 sync(), which here waits: makes a whole consistency point, so that the tree that was
+    /// live is the durable one.
+    Sync,
+}
+
+impl Call {
+    ghost use Rattle.std.specs.Prelude.{◌≡◌};
+    ghost use Rattle.sn_model.specs.Steps.{asks_for_point};
+
+    /// Whether the call asks for a whole consistency point, as `sync` does.
+    pub fn asks_for_point(&self) -> bool
+        ensures { result ≡ asks_for_point self.now }
+    {
+        matches!(self, Call::Sync)
+    }
 }
 
 /// What happens to a file system, one after the other.

@@ -19,7 +19,7 @@ use Rattle.sn_block.specs.Effects.{Nowhere}
 use Rattle.sn_layout.specs.declared.places.Area.TheVariants.{Data}
 use Rattle.sn_layout.specs.declared.places.Slot.{Slot}
 use Rattle.sn_layout.specs.declared.root.RootBody.{RootBody}
-use Rattle.sn_layout.specs.Places.{half_of_epoch, start_of}
+use Rattle.sn_layout.specs.Places.{start_of}
 use Rattle.sn_layout.specs.Superblock.{superblock_bytes}
 use Rattle.sn_limits.specs.declared.limits.Limits.{Limits}
 use Rattle.sn_limits.specs.Versions.{version_1}
@@ -42,7 +42,7 @@ use Rattle.sn_ondisk.specs.Shown.{Shown}
 use Rattle.sn_ondisk.specs.Trees.{Store, store_of}
 use Rattle.sn_ondisk.proofs.MapLemmas.{map_is_one}
 use Rattle.sn_ondisk.proofs.OneRootLemmas.{shown_is_one}
-use Rattle.sn_ondisk.proofs.PlaceLemmas.{areas_apart, half_from, halves_apart}
+use Rattle.sn_ondisk.proofs.PlaceLemmas.{halves_apart}
 use Rattle.sn_image.specs.Image.{image}
 use Rattle.sn_image.proofs.SoundNodeLemmas.{only_version}
 use Rattle.sn_opening.specs.Covering.{MakesCover}
@@ -64,10 +64,10 @@ use Rattle.sn_held.specs.Room.{HasRoomOf, room_of_image}
 use Rattle.sn_held.proofs.HeldLemmas.{Rests, rests_stay}
 use Rattle.sn_held.proofs.MountLemmas.{cleared_within, clearing_keeps}
 use Rattle.sn_held.proofs.RoomLemmas.{image_same, settled_has_none}
-use Rattle.sn_cp.proofs.FrameLemmas.{body_low, gate_low}
 use Rattle.sn_cp_whole.specs.Planning.{kept_in}
 use Rattle.sn_cp_whole.specs.Recovering.{IsApart, IsImageOver}
 use Rattle.sn_cp_whole.specs.declared.base.PointBase.{PointBase}
+use Rattle.sn_cp_whole.proofs.RecoverLemmas.{half_apart}
 use Rattle.sn_examine.specs.Finding.{HasFound}
 use Rattle.sn_mount.specs.Recovering.{IsRecovered, LeavesTheWorld}
 use Rattle.sn_mount.specs.Settling.{MakesRoot, SettlesChanges}
@@ -302,13 +302,6 @@ module _ (d : Disk) (w : World) (n : ℕ) (k : Kept) (over : IsImageOver d w n k
         (subst (λ (r : RoomCounts). RunsReady (held_at r (first_of its.blocks opened.root.epoch)) w k) rooms (record { runs = runs_here; ready = is_ready }))
 
 -- ---- the mount as a whole
-
--- a half of the log lies apart from the root that counts
-half_apart : (n epoch : ℕ) (slot : Slot) (i : ℕ) → InHalf (base_of n epoch) i → IsApart n slot i
-half_apart n epoch slot i is (inl block) = omega (arith, is.0, block.1, half_from n (half_of_epoch epoch))
-half_apart n epoch slot i is (inr (inl map)) = (areas_apart n).maps_and_log slot epoch i map is
-half_apart n epoch slot i is (inr (inr (inl body))) = let low = body_low slot i body in omega (arith, is.0, low, half_from n (half_of_epoch epoch))
-half_apart n epoch slot i is (inr (inr (inr gate))) = let low = gate_low slot i gate in omega (arith, is.0, low, half_from n (half_of_epoch epoch))
 
 pub touches_apart : (n epoch : ℕ) (slot : Slot) (mid rooted new : Disk) {T E : Type 0} (result : Result T E) → Touches (IsApart n slot) mid rooted → Clears (base_of n epoch) 0 result rooted new → Touches (IsApart n slot) mid new
 touches_apart n epoch slot mid rooted new result first clears =

@@ -10,6 +10,8 @@ use Rattle.sn_model.specs.NameTree.{IsTree}
 use Rattle.sn_model.specs.Settling.{is_nameless, settled}
 use Rattle.sn_model.specs.Tree.{Node, Tree}
 use Rattle.sn_model.proofs.SettlingLemmas.{get_without}
+use Rattle.sn_overlay.specs.Needs.{nameless_in}
+use Rattle.sn_overlay_change.proofs.NamelessLemmas.{drops_are_counted}
 use Rattle.sn_changed.specs.declared.dropped.DroppedFile.{DroppedFile}
 use Rattle.sn_changed.specs.Dropped.{TellsGone, is_gone, numbers_of}
 use Rattle.sn_mount.specs.Settling.{listed_if}
@@ -25,6 +27,13 @@ pub record AreListed (tree : Tree) (below : ℕ) (files : List DroppedFile) : Ty
 pub none_listed : (tree : Tree) → AreListed tree 0 []
 none_listed tree = record {
   each = λ n. (λ c. absurd (omega (arith, c.1)), λ e. absurd (omega (arith, e.0)));
+  once = λ i j d low high. absurd (omega (arith, high));
+}
+
+-- none of all, where none is counted
+pub none_counted : (tree : Tree) → nameless_in tree ≡ 0 → AreListed tree 65536 []
+none_counted tree none = record {
+  each = λ n. (λ c. absurd (omega (arith, c.1)), λ e. absurd (let one = drops_are_counted tree n e.1 in omega (arith, one, none)));
   once = λ i j d low high. absurd (omega (arith, high));
 }
 

@@ -14,6 +14,8 @@
 //! - Behind a mount nothing is logged, and nothing is charged.
 //! - A mount that succeeds costs one write and two syncs, or those of a whole point and a sync.
 //!
+//! [`nameless_files`] lists the files that a mount drops, for whoever leaves a world as a mount finds it.
+//!
 //! The way through: `specs/Recovering.antt` says what a mount makes of a disk, `Settling.antt` what becomes of what was
 //! found, `Costs.antt` what it costs; `settling` drops the files and makes the root, `recovering` puts all together.
 //!
@@ -31,3 +33,4 @@ mod settling;
 
 pub use found::Recovered;
 pub use recovering::recover;
+pub use settling::nameless_files;

@@ -54,12 +54,16 @@ fn list_if_nameless(
     Ok(())
 }
 
-/// The live files that no name stands for: those that go once the world is settled.
-fn nameless_files(alloc: Global, world: &PlainWorld) -> Result<Vec<DroppedFile>, AllocError>
+/// The live files that no name stands for, each once: those that go once the world is settled. Where the world counts
+/// none, no number is looked at. The error comes where memory is refused.
+pub fn nameless_files(alloc: Global, world: &PlainWorld) -> Result<Vec<DroppedFile>, AllocError>
     requires { IsTree version_1 (world_of world.now).live }
     ensures { IfOk result (λ files. TellsGone (world_of world.now).live (settled (world_of world.now).live) files.items) }
 {
     let mut files = Vec::new(alloc);
+    if world.nameless() == 0 {
+        return Ok(files);
+    }
     for number in 0..65_536u32 {
         list_if_nameless(world, number as u16, &mut files)?;
     }

@@ -46,6 +46,11 @@ impl Mounted {
         self.fs.call(session, call)
     }
 
+    /// The free blocks of the root that counts.
+    pub fn free(&self) -> u32 {
+        self.fs.free()
+    }
+
     /// Makes a whole consistency point.
     pub fn step(&mut self) -> Reply {
         self.fs.step()

@@ -1,13 +1,17 @@
 -- What the program leaves of what its words ask for.
-use Rattle.std.specs.Prelude.{◌≡◌, ◌⊎◌, ℕ, List, [], ◌∷◌, length, None, Some, Err}
+use Rattle.std.specs.Prelude.{◌≡◌, ◌⊎◌, ℕ, List, [], ◌∷◌, ◌++◌, length, None, Some, Err, codes}
 use Rattle.std.specs.declared.option.Option.{Option}
 use Rattle.std.specs.Io.KnownBytes.{Appends, Keeps}
 use Rattle.std.specs.List.{flat_map}
+use Rattle.sn_check.specs.Verdicts.{verdict_text}
+use Rattle.sn_check.specs.declared.verdict.Verdict.{Verdict}
+use Rattle.sn_check.specs.declared.verdict.Verdict.TheVariants as verdict
 use Rattle.sn_device.specs.Sectors.{Contents}
 use Rattle.sn_device.specs.Memory.{first}
 use Rattle.sn_device.specs.Status.{uncalled}
 use Rattle.sn_device.specs.declared.fill.Fill.{Fill}
 use Rattle.sn_model.specs.declared.call.Event.{Event}
+use Rattle.sn_model.specs.declared.mount.Damage.{Damage}
 use Rattle.sn_model.specs.declared.mount.End.{End}
 use Rattle.sn_model.specs.declared.mount.End.TheVariants as ending
 use Rattle.sn_model.specs.declared.reply.Reply.{Reply}
@@ -20,6 +24,8 @@ use Rattle.sn_program.specs.Answers.{AppendsFront, AreEventsOf}
 use Rattle.sn_program.specs.Copies.{IsCutShort}
 use Rattle.sn_program.specs.Fault.{IsOfFile, fault_of}
 use Rattle.sn_program.specs.declared.fault.Fault.{Fault}
+use Rattle.sn_program.specs.declared.ending.Ending.{Ending}
+use Rattle.sn_program.specs.declared.ending.Ending.TheVariants.{Done, Told, Damaged}
 
 abbrev pub lines_of : List Reply → List ℕ
 lines_of replies = flat_map reply_line replies
@@ -68,21 +74,51 @@ pub record LeavesOfCopy (how : Fill) (told : Option Fault) (old new : Option (Li
 abbrev pub BeginsOfCopy : Fill → Option (List ℕ) → Option (List ℕ) → Type 0
 BeginsOfCopy how old new = Keeps old new ⊎ ((end : End) × (replies : List Reply) × IsOfCopy how end replies × BeginsToSay replies old new)
 
--- What a task leaves on the output. Of which bytes a file had, and so of the replies of a run on one, nothing can be said; an image is answered by `ok`. A fault is told of what was done only where that was to cut a run short.
-abbrev pub Leaves : Task → Option Fault → Option (List ℕ) → Option (List ℕ) → Type 0
-Leaves (task.Run image script) told old new = (told ≡ None) × SaysRun old new
-Leaves (task.Mkfs image blocks) told old new = (told ≡ None) × Says (answer.Done ∷ []) old new
-Leaves (task.StopAt cut how image script out) told old new = LeavesOfCopy how told old new
+-- the line of a verdict
+abbrev pub verdict_line : Verdict → List ℕ
+verdict_line v = verdict_text v ++ codes "\n"
+
+abbrev pub BeginsToSayVerdict : Option (List ℕ) → Option (List ℕ) → Type 0
+BeginsToSayVerdict old new = (v : Verdict) × AppendsFront old new (verdict_line v)
+
+-- what came of a run that was cut short
+abbrev pub ComesOfCopy : Fill → Ending → Option (List ℕ) → Option (List ℕ) → Type 0
+ComesOfCopy how Done old new = LeavesOfCopy how None old new
+ComesOfCopy how (Told why) old new = LeavesOfCopy how (Some why) old new
+ComesOfCopy how (Damaged damage block) old new = ⊥
+
+-- the verdict of a check was written
+abbrev pub SaysVerdict : Ending → Option (List ℕ) → Option (List ℕ) → Type 0
+SaysVerdict Done old new = (free : ℕ) × Appends old new (verdict_line (verdict.Clean free))
+SaysVerdict (Told why) old new = ⊥
+SaysVerdict (Damaged damage block) old new = Appends old new (verdict_line (verdict.Fault damage block))
+
+-- What a task that was done leaves on the output, by what came of it. Of which bytes a file had, and so of the replies of a run on one and of what a check finds in one, nothing can be said; an image that is made is answered by `ok`. A fault is told of what was done only where that was to cut a run short.
+abbrev pub Leaves : Task → Ending → Option (List ℕ) → Option (List ℕ) → Type 0
+Leaves (task.Run image script) came old new = (came ≡ Done) × SaysRun old new
+Leaves (task.Mkfs image blocks) came old new = (came ≡ Done) × Says (answer.Done ∷ []) old new
+Leaves (task.StopAt cut how image script out) came old new = ComesOfCopy how came old new
+Leaves (task.Check image) came old new = SaysVerdict came old new
+
+-- with a fault that is told, or without one
+abbrev pub came_of : Option Fault → Ending
+came_of None = Done
+came_of (Some why) = Told why
 
 -- what the words ask for was done
 abbrev pub IsDone : List (List ℕ) → Option Fault → Option (List ℕ) → Option (List ℕ) → Type 0
-IsDone words told old new = (asked : Task) × AsksFor words asked × Leaves asked told old new
+IsDone words told old new = (asked : Task) × AsksFor words asked × Leaves asked (came_of told) old new
+
+-- a check was asked for and done, and the image is damaged
+abbrev pub IsDamaged : List (List ℕ) → Option (List ℕ) → Option (List ℕ) → Type 0
+IsDamaged words old new = (asked : Task) × AsksFor words asked × ((damage : Damage) × (block : ℕ) × Leaves asked (Damaged damage block) old new)
 
 -- the front of that
 abbrev pub Begins : Task → Option (List ℕ) → Option (List ℕ) → Type 0
 Begins (task.Run image script) old new = BeginsToSayRun old new
 Begins (task.Mkfs image blocks) old new = BeginsToSay (answer.Done ∷ []) old new
 Begins (task.StopAt cut how image script out) old new = BeginsOfCopy how old new
+Begins (task.Check image) old new = BeginsToSayVerdict old new
 
 -- nothing, or the front of what may be said to the words
 abbrev pub HasBegun : List (List ℕ) → Option (List ℕ) → Option (List ℕ) → Type 0
@@ -92,6 +128,7 @@ abbrev pub IsStop : Task → Type 0
 IsStop (task.Run image script) = ⊥
 IsStop (task.Mkfs image blocks) = ⊥
 IsStop (task.StopAt cut how image script out) = Unit {0}
+IsStop (task.Check image) = ⊥
 
 -- the words ask for a run that is cut short
 abbrev pub AsksToStop : List (List ℕ) → Type 0

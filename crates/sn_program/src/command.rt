@@ -1,26 +1,31 @@
 //! What the words of the command line ask for, done.
-ghost use Rattle.std.specs.Prelude.{◌≡◌, ◌≢◌, ◌≤◌, ◌↔◌, ◌⊎◌, [], ◌∷◌, None, map, length, Err, IfOk, OnOk, OnErr, IfErr, IsErrOf, IsOk};
+ghost use Rattle.std.specs.Prelude.{ℕ, ◌≡◌, ◌≢◌, ◌≤◌, ◌↔◌, ◌⊎◌, [], ◌∷◌, None, map, length, Err, IfOk, OnOk, OnErr, IfErr, IsErrOf, IsOk};
 ghost use Rattle.std.specs.declared.option.Option.{Option};
 ghost use Rattle.std.specs.Io.KnownBytes.{Keeps};
 ghost use Rattle.sn_device.specs.Memory.{contents_of, disk_of, first, status_of};
 ghost use Rattle.sn_device.specs.Status.{uncalled};
 ghost use Rattle.sn_layout.specs.Places.{IsDiskSize};
 ghost use Rattle.sn_mkfs.specs.declared.fault.MkfsFault.TheVariants as mkfs_fault;
+ghost use Rattle.sn_model.specs.declared.mount.Damage.{Damage as Kind};
 ghost use Rattle.sn_model.specs.declared.reply.Reply.TheVariants as answer_of;
 ghost use Rattle.sn_program.specs.Answers.{AreEventsOf};
 ghost use Rattle.sn_program.specs.Fault.{IsOfFile, fault_in, outcome_of};
 ghost use Rattle.sn_program.specs.Fault.{status_of as exit_of};
-ghost use Rattle.sn_program.specs.Tasks.{AsksToStop, Begins, BeginsOfCopy, BeginsToSay, BeginsToSayRun, HasBegun, IsDone, IsStop, Leaves, LeavesOfCopy, Says, SaysRun};
+ghost use Rattle.sn_program.specs.Tasks.{AsksToStop, Begins, BeginsOfCopy, BeginsToSay, BeginsToSayRun, BeginsToSayVerdict, HasBegun, IsDamaged, IsDone, IsStop, Leaves, LeavesOfCopy, Says, SaysRun, SaysVerdict, came_of};
 ghost use Rattle.sn_program.specs.declared.fault.Fault.{Fault as Why};
 ghost use Rattle.sn_program.specs.declared.fault.Fault.TheVariants as fault;
+ghost use Rattle.sn_program.specs.declared.ending.Ending.TheVariants as ended;
 
+use crate::checking::check_on;
 use crate::copy::{CutShort, answer_cut};
+use crate::ending::Ending;
 use crate::fault::{Fault, Which, on_file, tell};
 use crate::output::write_replies;
-use crate::person::explain;
+use crate::person::{advise, explain};
 use crate::progress::Progress;
 use crate::run::{Answered, answer, outcome};
 use crate::script::read_events;
+use sn_check::Verdict;
 use sn_command::{Task, parse};
 use sn_device::{Fill, MemDevice};
 use sn_filedev::{FileDevice, LockFile};
@@ -35,6 +40,9 @@ use std::io::{Read, Write};
 use std::os::unix::fs::FileExt;
 use std::time::Clock;
 use std::{fs, io};
+
+/// The exit status where an image was checked and is damaged.
+const DAMAGED: u8 = 3;
 
 /// Makes an image of so many blocks, in the place of what the file at this path has. K1 comes before the file is made.
 fn make_image<F: FileExt + OpenFile + LockFile + Read + Drop, R: Files<File = F> + AllocGlobal>(
@@ -205,25 +213,49 @@ fn cut_short<
     }
 }
 
-/// Of what was done nothing is told.
-fn quietly(done: Result<(), Fault>) -> Result<Option<Fault>, Fault>
-    ensures done { IfOk result (λ told. (told ≡ None) × IsOk done) }
-    ensures failed { IfErr result (λ why. done ≡ Err why) }
+/// Checks the image at a path, which is locked for other readers as long as it is open, and says what was found.
+fn check_image<
+    F: FileExt + OpenFile + LockFile + Read + Drop,
+    R: Files<File = F> + AllocGlobal,
+    W: Write,
+>(rt: &R, image: &str, out: &mut W) -> Result<Ending, Fault>
+    ensures done { IfOk result (λ came. SaysVerdict came (W.contents out.old) (W.contents out.new)) }
+    ensures front { OnErr result (BeginsToSayVerdict (W.contents out.old) (W.contents out.new)) }
+    ensures words { IfErr result (λ why. why ≢ fault.Usage) }
 {
-    match done {
-        Ok(()) => Ok(None),
+    let device = match on_file(
+        Which::Image,
+        FileDevice::open_to_read(rt.alloc(), rt, image),
+    ) {
+        Ok(device) => device,
+        Err(fault) => return Err(fault),
+    };
+    match check_on(rt.alloc(), device, out) {
+        Ok(Verdict::Clean { .. }) => Ok(Ending::Done),
+        Ok(Verdict::Fault { damage, block }) => Ok(Ending::Damaged { damage, block }),
         Err(fault) => Err(fault),
     }
 }
 
-/// Does what a task asks for. A fault that comes with what was done is one of a run that was cut short.
+/// Of what was done nothing is told.
+fn quietly(done: Result<(), Fault>) -> Result<Ending, Fault>
+    ensures done { IfOk result (λ came. (came ≡ ended.Done) × IsOk done) }
+    ensures failed { IfErr result (λ why. done ≡ Err why) }
+{
+    match done {
+        Ok(()) => Ok(Ending::Done),
+        Err(fault) => Err(fault),
+    }
+}
+
+/// Does what a task asks for.
 fn execute<
     F: FileExt + OpenFile + LockFile + Read + Drop,
     R: Files<File = F> + AllocGlobal,
     W: Write,
     L: Watch,
->(rt: &R, task: Task<'_>, out: &mut W, watch: &mut L) -> Result<Option<Fault>, Fault>
-    ensures done { IfOk result (λ told. Leaves task.entry told (W.contents out.old) (W.contents out.new)) }
+>(rt: &R, task: Task<'_>, out: &mut W, watch: &mut L) -> Result<Ending, Fault>
+    ensures done { IfOk result (λ came. Leaves task.entry came (W.contents out.old) (W.contents out.new)) }
     ensures front { OnErr result (Keeps (W.contents out.old) (W.contents out.new) ⊎ Begins task.entry (W.contents out.old) (W.contents out.new)) }
     ensures words { IfErr result (λ why. why ≢ fault.Usage) }
 {
@@ -236,7 +268,12 @@ fn execute<
             image,
             script,
             out: saved,
-        } => cut_short(rt, cut, fill, image, script, saved, out, watch),
+        } => match cut_short(rt, cut, fill, image, script, saved, out, watch) {
+            Ok(None) => Ok(Ending::Done),
+            Ok(Some(fault)) => Ok(Ending::Told(fault)),
+            Err(fault) => Err(fault),
+        },
+        Task::Check { image } => check_image(rt, image, out),
     }
 }
 
@@ -257,27 +294,32 @@ fn perform<
     E: Write,
     P: Write,
 >(rt: &R, task: Task<'_>, out: &mut W, err: &mut E, person: &mut P) -> u8
-    ensures done { result ≡ 0 → (told : Option Why) × Leaves task.entry told (W.contents out.old) (W.contents out.new) }
-    ensures front { result ≢ 0 → Keeps (W.contents out.old) (W.contents out.new) ⊎ Begins task.entry (W.contents out.old) (W.contents out.new) }
+    ensures done { result ≡ 0 → (told : Option Why) × Leaves task.entry (came_of told) (W.contents out.old) (W.contents out.new) }
+    ensures damaged { result ≡ 3 → ((damage : Kind) × (block : ℕ) × Leaves task.entry (ended.Damaged damage block) (W.contents out.old) (W.contents out.new)) × (err.new ≡ err.old) }
+    ensures front { result ≡ 1 → Keeps (W.contents out.old) (W.contents out.new) ⊎ Begins task.entry (W.contents out.old) (W.contents out.new) }
     ensures quiet { result ≡ 0 → IsStop task.entry ⊎ (err.new ≡ err.old) }
-    ensures status { result ≤ 1 }
+    ensures status { (result ≤ 1) ⊎ (result ≡ 3) }
 {
     let mut progress = Progress::new(rt, person);
     let done = execute(rt, task, out, &mut progress);
     progress.end();
     match done {
-        Ok(None) => 0,
-        Ok(Some(fault)) => {
+        Ok(Ending::Done) => 0,
+        Ok(Ending::Told(fault)) => {
             tell_of(fault, task, err, person);
             0
+        }
+        Ok(Ending::Damaged { damage, block }) => {
+            advise(damage, block, task, person);
+            DAMAGED
         }
         Err(fault) => tell_of(fault, task, err, person),
     }
 }
 
-/// Does what the words ask for, and gives the exit status: 0 where it was done, 2 for words that are no
-/// command, else 1. A fault is told by a line on standard error, also that of a run which was cut short and whose
-/// remains were saved, where the status is 0. `person` is told which file failed and why, and how far a long run has come.
+/// Does what the words ask for, and gives the exit status: 0 where it was done, 3 where an image was checked and is
+/// damaged, 2 for words that are no command, else 1. A fault is told by a line on standard error, also that of a run which was cut short and whose
+/// remains were saved, where the status is 0. `person` is told which file failed and why, what a damage means, and how far a long run has come.
 pub fn program<
     F: FileExt + OpenFile + LockFile + Read + Drop,
     R: Files<File = F> + AllocGlobal + Clock,
@@ -289,10 +331,11 @@ pub fn program<
     // What was written are the lines of replies, or the front of them. Which bytes a file gave, and what one holds now,
     // can't be said: so nor can the replies of a run on one. Those of a run on a copy are of one from some image on.
     ensures done { result ≡ 0 → (told : Option Why) × IsDone (map S.text words.now) told (W.contents out.old) (W.contents out.new) }
-    ensures front { result ≢ 0 → HasBegun (map S.text words.now) (W.contents out.old) (W.contents out.new) }
+    ensures damaged { result ≡ 3 → IsDamaged (map S.text words.now) (W.contents out.old) (W.contents out.new) × (err.new ≡ err.old) }
+    ensures front { result ≢ 0 → result ≢ 3 → HasBegun (map S.text words.now) (W.contents out.old) (W.contents out.new) }
     ensures words { result ≡ 2 → out.new ≡ out.old }
     ensures quiet { result ≡ 0 → AsksToStop (map S.text words.now) ⊎ (err.new ≡ err.old) }
-    ensures status { result ≤ 2 }
+    ensures status { result ≤ 3 }
 {
     match parse(rt.alloc(), words) {
         Ok(task) => perform(rt, task, out, err, person),

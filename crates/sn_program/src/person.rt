@@ -2,6 +2,7 @@
 
 use crate::fault::{Fault, Which};
 use sn_command::Task;
+use sn_model::Damage;
 use std::io;
 use std::io::{IsTerminal, Write};
 
@@ -40,7 +41,10 @@ fn name_of<'a>(which: Which, task: Task<'a>) -> &'a str {
     match (which, task) {
         (
             Which::Image,
-            Task::Mkfs { image, .. } | Task::Run { image, .. } | Task::StopAt { image, .. },
+            Task::Mkfs { image, .. }
+            | Task::Run { image, .. }
+            | Task::StopAt { image, .. }
+            | Task::Check { image },
         ) => image,
         (Which::Script, Task::Run { script, .. } | Task::StopAt { script, .. }) => script,
         (Which::Saved, Task::StopAt { out, .. }) => out,
@@ -53,4 +57,27 @@ pub(crate) fn explain<P: Write>(fault: Fault, task: Task<'_>, person: &mut P) {
     if let Fault::File { which, error } = fault {
         let _ = writeln!(person, "snapfs: {}: {error}", name_of(which, task));
     }
+}
+
+/// What a damage means.
+fn meaning(damage: Damage) -> &'static str {
+    match damage {
+        Damage::Root => "a root is misspelt, or two roots have one generation",
+        Damage::Pointer => "a pointer leads out of the data area",
+        Damage::ReachedTwice => "a block is reached twice",
+        Damage::MapWord => "the block map is wrong for this block",
+        Damage::Misspelt => "the block spells no value of its kind",
+        Damage::Links => "names and files don't agree",
+        Damage::Log => "a record of the log can't be replayed",
+    }
+}
+
+/// Tells what a damage means, of an image that was checked.
+pub(crate) fn advise<P: Write>(damage: Damage, block: u32, task: Task<'_>, person: &mut P) {
+    let image = name_of(Which::Image, task);
+    let _ = writeln!(
+        person,
+        "snapfs: {image}: block {block}: {}; docs/FAULTS.md says what to do",
+        meaning(damage)
+    );
 }

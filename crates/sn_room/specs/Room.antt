@@ -10,3 +10,13 @@ room_of r = record {
   dropped = r.dropped;
   dropped_since = r.dropped_since;
 }
+
+-- the fields that it sees so
+abbrev pub fields_of : RoomCounts → Inside
+fields_of room = record {
+  free = room.free;
+  charged = room.charged;
+  charged_since = room.charged_since;
+  dropped = room.dropped;
+  dropped_since = room.dropped_since;
+}

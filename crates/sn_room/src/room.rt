@@ -7,7 +7,7 @@ use sn_model::{Change, Outcome, Pending};
 use std::marker::Model;
 
 /// The free blocks of the durable root, and what calls have been charged against them since its moment.
-#[derive(Drop)]
+#[derive(Clone, Copy)]
 pub struct Room {
     free: u32,
     charged: u64,
@@ -21,11 +21,13 @@ impl Model for Room {
 
     ghost Value = { RoomCounts };
 
-    ghost use Rattle.sn_room.specs.Room.{room_of};
+    ghost use Rattle.sn_room.specs.Room.{fields_of, room_of};
 
     ghost view = { room_of };
 
     ghost invariant = { λ r. IsRoom (room_of r) };
+
+    ghost inverse = { fields_of };
 }
 
 /// Whether a change gives blocks back, so that it may use the reserve: whoever has filled a disk can still remove.

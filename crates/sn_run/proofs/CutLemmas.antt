@@ -18,22 +18,13 @@ use Rattle.sn_model.specs.Settling.{settle, settled}
 use Rattle.sn_model.specs.Steps.{Becomes}
 use Rattle.sn_model.specs.Tree.{Tree}
 use Rattle.sn_model.specs.World.{World}
-use Rattle.sn_model.proofs.ListLemmas.{covers_itself}
-use Rattle.sn_model.proofs.SettlingLemmas.{dropping_kept, settle_alike}
+use Rattle.sn_fs.proofs.UnmountLemmas.{settled_twice, settles_twice}
 use Rattle.sn_ondisk.specs.Trees.{store_of}
 use Rattle.sn_opening.specs.Worlds.{frozen_of}
 use Rattle.sn_held.specs.Images.{IsLiveImage}
 use Rattle.sn_held.specs.Moments.{ShowsState}
 use Rattle.sn_core.proofs.StepLemmas.{run_more}
 use Rattle.sn_run.specs.Runs.{Goes, LeavesFrom, ShowsCut, Standing}
-
--- ---- settling twice
-
-pub settled_twice : (tree : Tree) → settled (settled tree) ≡ settled tree
-settled_twice tree = sym (settle_alike tree (settled tree) (dropping_kept tree tree (λ _. false) (covers_itself tree)))
-
-pub settles_twice : (w : World) → settle (settle w) ≡ settle w
-settles_twice w = ap (λ (t : Tree). record { live = t; frozen = w.frozen; sessions = replicate 64 None; descriptors = map.empty }) (settled_twice w.live)
 
 -- the worlds of a stopped machine are settled
 abbrev pub AreSettled : State → Type 0

@@ -1,5 +1,7 @@
 -- What a mount answers to a restart.
-use Rattle.std.proofs.Common.{◌≡◌, ◌⊎◌, inl, inr, ℕ, ◌*◌, ◌<◌, ◌≤◌, Bool, true, length, [], Some, None, refl, sym, ap, subst, ◌∙◌, arith}
+use Rattle.std.proofs.Common.{◌≡◌, ◌⊎◌, inl, inr, ℕ, ◌*◌, ◌<◌, ◌≤◌, Bool, false, true, length, [], Some, None, refl, sym, ap, subst, ◌∙◌, arith}
+use Rattle.std.specs.FinMap as map
+use Rattle.std.proofs.lemmas.Bool.{true≢false}
 use Rattle.std.proofs.lemmas.List.{same_lists, get_or_default}
 use Rattle.sn_device.specs.Sectors.{AgreesOutside, AreSectors, Contents}
 use Rattle.sn_device.specs.Disk.{Disk, Always, reads}
@@ -7,13 +9,14 @@ use Rattle.sn_device.specs.Crash.{LeavesOnly, Touches}
 use Rattle.sn_device.proofs.CrashLemmas.{Always-reads, LeavesOnly-join, LeavesOnly-now, LeavesOnly-torn, LeavesOnly-weaker}
 use Rattle.sn_block.specs.Counts.{IsLater}
 use Rattle.sn_block.specs.Effects.{Nowhere}
-use Rattle.sn_block.proofs.CountLemmas.{later-is}
+use Rattle.sn_block.proofs.CountLemmas.{later-is, later-join}
 use Rattle.sn_device.specs.declared.status.Status.{Status}
 use Rattle.sn_model.specs.declared.call.Event.TheVariants as event
 use Rattle.sn_model.specs.declared.mount.Damage.{Damage}
 use Rattle.sn_model.specs.declared.mount.Damage.TheVariants as damage
 use Rattle.sn_model.specs.declared.mount.MountFault.{MountFault}
 use Rattle.sn_model.specs.declared.mount.MountFault.TheVariants as fault
+use Rattle.sn_model.specs.declared.reply.Reply.{Reply}
 use Rattle.sn_model.specs.declared.reply.Reply.TheVariants as answer
 use Rattle.sn_model.specs.Machine.{State, Running, Stopped, Mishap, Memory, Read, mount_fault_of}
 use Rattle.sn_model.specs.Settling.{settle}
@@ -22,13 +25,16 @@ use Rattle.sn_core.proofs.RestartLemmas.{restart_numbers}
 use Rattle.sn_held.specs.Held.{Held}
 use Rattle.sn_held.specs.Images.{IsImage, IsLiveImage}
 use Rattle.sn_held.specs.Moments.{LastsOver, ShowsState}
-use Rattle.sn_held.proofs.EventLemmas.{live_show}
 use Rattle.sn_examine.specs.Failing.{IsSoOf}
-use Rattle.sn_mount.specs.Costs.{CostsFew, CostsMount}
+use Rattle.sn_mount.specs.Costs.{CostsFew}
 use Rattle.sn_mount.specs.Recovering.{LeavesTheWorld, WritesAtFault}
 use Rattle.sn_examine.specs.Refusing.{Refuses, StandsAt}
-use Rattle.sn_fs.specs.Answers.{Answers, AnswersFrom, MayMeet}
-use Rattle.sn_fs.specs.Mounting.{IsLeft, Mounts, WritesToMount}
+use Rattle.sn_fs.specs.Answers.{Answers, AnswersFrom, CostsMountOf, CostsRestart, HasMadePoint, MayMeet}
+use Rattle.sn_fs.specs.Mounting.{IsLeft, WritesToMount}
+use Rattle.sn_fs.specs.Pointing.{IsPointed}
+use Rattle.sn_fs.specs.Unmounting.{HasUnmounted, IsUnmountedTo}
+use Rattle.sn_fs.proofs.PointLemmas.{in_its_world, made_point, none_failed, settled_all, some_failed}
+use Rattle.sn_run.specs.Restarting.{IsNotRemounted, IsRemounted, IsWholeDisk, Remounts}
 use Rattle.sn_run.specs.Runs.{LacksRoot}
 use Rattle.sn_run.proofs.CutLemmas.{found_settled}
 use Rattle.sn_run.proofs.UnfitLemmas.{lacks_none}
@@ -53,22 +59,16 @@ kept_leaves P old new world whole here so (inr leaves) =
     LeavesOnly-join old leaves.mid new P (nowhere_leaves P old leaves.mid whole here leaves.first)
     (LeavesOnly-weaker leaves.mid new (λ c. IsLiveImage c world) P so leaves.moments)
 
-module _ (old new : Held) (had : Bool) (whole : AreSectors (reads old.disk)) (n : ℕ) (within : 8 * n ≤ old.status.sectors) (costs : CostsMount n old.status new.status) where
-  none_failed : new.status.failures ≡ old.status.failures
-  none_failed = told costs
-    where
-      told : CostsMount n old.status new.status → new.status.failures ≡ old.status.failures
-      told (inl is) = ap (λ (x : Status). x.failures) is
-      told (inr (count, few, gate, is)) = ap (λ (x : Status). x.failures) is
+mount_unfailing : (old new : Status) → CostsMountOf old new → new.failures ≡ old.failures
+mount_unfailing old new (n, within, inl is) = ap (λ (x : Status). x.failures) is
+mount_unfailing old new (n, within, inr (count, few, gate, is)) = ap (λ (x : Status). x.failures) is
 
-  is_later : IsLater old.status new.status
-  is_later = told costs
-    where
-      told : CostsMount n old.status new.status → IsLater old.status new.status
-      told (inl is) = later-is 1 2 old.status new.status is
-      told (inr (count, few, gate, is)) = later-is _ _ old.status new.status is
+mount_later : (old new : Status) → CostsMountOf old new → IsLater old new
+mount_later old new (n, within, inl is) = later-is 1 2 old new is
+mount_later old new (n, within, inr (count, few, gate, is)) = later-is _ _ old new is
 
-  -- the mount runs over the world that the disk was an image of
+-- the mount runs over the world that the disk was an image of
+module _ (old new : Held) (whole : AreSectors (reads old.disk)) where
   mounted_lasts : (s : State) (world : World) → Always old.disk (λ c. ShowsState s c) → IsLiveImage (reads old.disk) world → LeavesTheWorld old.disk new.disk world → LastsOver s (Running world) old.disk new.disk
   mounted_lasts s world shows image leaves =
       let settled = found_settled (reads old.disk) world image in
@@ -81,54 +81,82 @@ module _ (old new : Held) (had : Bool) (whole : AreSectors (reads old.disk)) (n 
         answered = LeavesOnly-now leaves.mid new.disk (λ c. ShowsState (Running world) c) later;
       }
 
-  pub mounted_answers : (has : Bool) → Mounts old.status.sectors old.disk new has → Answers event.Restart answer.Done old had new has
-  mounted_answers has m (Running w) means =
-      let shows = live_show old w means.1.runs means.2 in
-      let image = Always-reads old.disk (λ c. IsLiveImage c (settle w)) whole shows in
-      let it = m.runs (settle w) image in
-      record {
-        met = None;
-        mid = old;
-        point = inl refl;
-        may = none_failed;
-        next = Running (settle w);
-        step = (refl, refl);
-        means = it.means;
-        lasts = mounted_lasts (Running w) (settle w) shows image it.leaves;
-        writes = inr m.touched;
-        begins = it.leaves;
-        numbers = restart_numbers w (settle w) old.kept new.kept refl m.none_kept;
-        room = it.room;
-        later = is_later;
-        costs = (n, within, costs);
-        works = tt;
-      }
+  -- a mount that had stopped, or failed
+  pub mounted_answers : (has : Bool) → IsRemounted old.status old.disk new has → Answers event.Restart answer.Done old true new has
+  mounted_answers has m (Running w) means = absurd (true≢false means.0)
   mounted_answers has m (Stopped before after) means = told (Always-reads old.disk (λ c. ShowsState (Stopped before after) c) whole means.1)
     where
       answers : (world : World) → (Running world ≡ Running before) ⊎ (Running world ≡ Running after) → IsLiveImage (reads old.disk) world → AnswersFrom (Stopped before after) event.Restart answer.Done old new has
       answers world same image =
-          let it = m.runs world image in
+          let it = m.mounts.runs world image in
           record {
             met = None;
             mid = old;
             point = inl refl;
-            may = none_failed;
+            may = mount_unfailing old.status new.status m.costs;
             next = Running world;
             step = (refl, same);
             means = it.means;
             lasts = mounted_lasts (Stopped before after) world means.1 image it.leaves;
-            writes = inr m.touched;
+            writes = inr m.mounts.touched;
             begins = it.leaves;
-            numbers = m.none_kept;
+            numbers = m.mounts.none_kept;
             room = it.room;
-            later = is_later;
-            costs = (n, within, costs);
+            later = mount_later old.status new.status m.costs;
+            costs = m.costs;
             works = tt;
           }
 
       told : IsLiveImage (reads old.disk) before ⊎ IsLiveImage (reads old.disk) after → AnswersFrom (Stopped before after) event.Restart answer.Done old new has
       told (inl h) = answers before (inl refl) h
       told (inr h) = answers after (inr refl) h
+
+-- ---- mounts behind the point of an unmount
+
+module _ (old mid new : Held) (whole : AreSectors (reads mid.disk)) (p : IsPointed event.Restart old mid) (bare : old.world.frozen ≡ map.empty) where
+  settled_here : LeavesOnly old.disk mid.disk (λ c. IsLiveImage c (settle old.world))
+  settled_here = settled_all event.Restart old mid p bare
+
+  settled_now : Always mid.disk (λ c. IsLiveImage c (settle old.world))
+  settled_now = LeavesOnly-now old.disk mid.disk (λ c. IsLiveImage c (settle old.world)) settled_here
+
+  is_image : IsLiveImage (reads mid.disk) (settle old.world)
+  is_image = Always-reads mid.disk (λ c. IsLiveImage c (settle old.world)) whole settled_now
+
+  point_made : HasMadePoint event.Restart old mid
+  point_made = made_point event.Restart old mid tt p
+
+  same_failures : mid.status.failures ≡ old.status.failures
+  same_failures = ap (λ (s : Status). s.failures) p.costs
+
+  point_later : IsLater old.status mid.status
+  point_later = later-is _ _ old.status mid.status p.costs
+
+  remounted_from : (has : Bool) → IsRemounted mid.status mid.disk new has → AnswersFrom (Running old.world) event.Restart answer.Done old new has
+  remounted_from has m =
+      let it = m.mounts.runs (settle old.world) is_image in
+      let over = mounted_lasts mid new whole (Running old.world) (settle old.world) settled_now is_image it.leaves in
+      let P = λ (c : Contents). ShowsState (Running old.world) c ⊎ ShowsState (Running (settle old.world)) c in
+      record {
+        met = None;
+        mid = mid;
+        point = inr point_made;
+        may = none_failed old.status mid.status new.status same_failures (mount_unfailing mid.status new.status m.costs);
+        next = Running (settle old.world);
+        step = (refl, refl);
+        means = it.means;
+        lasts = record {
+          moments = LeavesOnly-join old.disk mid.disk new.disk P (LeavesOnly-weaker old.disk mid.disk (λ c. IsLiveImage c (settle old.world)) P (λ c h. inl h) settled_here) over.moments;
+          answered = over.answered;
+        };
+        writes = inr (point_made, inr m.mounts.touched);
+        begins = it.leaves;
+        numbers = restart_numbers old.world (settle old.world) mid.kept new.kept refl m.mounts.none_kept;
+        room = it.room;
+        later = later-join old.status mid.status new.status point_later (mount_later mid.status new.status m.costs);
+        costs = (point_made, m.costs);
+        works = tt;
+      }
 
 -- ---- mounts that fail
 
@@ -165,46 +193,30 @@ writes_to_mount fault.NoRoot sectors old new touched = inl touched
 writes_to_mount fault.Memory sectors old new touched = touched
 writes_to_mount fault.Device sectors old new touched = touched
 
-module _ (old new : Held) (had : Bool) (f : MountFault) (whole : AreSectors (reads old.disk)) (count : length (reads old.disk) ≡ old.status.sectors) (left : IsLeft f old.status.sectors old.disk new.disk) (failed : IsSoOf f old.status new.status) (later : IsLater old.status new.status) (costs : CostsFew old.status new.status) where
-  -- between two worlds, of which the disk was an image of one
-  unmounted_from : (before after world : World) → Always old.disk (λ c. ShowsState (Stopped before after) c) → IsLiveImage (reads old.disk) world
-      → ((c : Contents) → IsLiveImage c world → ShowsState (Stopped before after) c) → LeavesOnly old.disk new.disk (λ c. ShowsState (Stopped before after) c)
-  unmounted_from before after world shows opens so =
-      kept_leaves (λ c. ShowsState (Stopped before after) c) old.disk new.disk world whole shows so (left.keeps world opens)
+-- and behind the point of an unmount
+met_behind : (f : MountFault) (c : Contents) (world : World) (sectors : ℕ) (old mid new : Held) → IsLiveImage c world → length c ≡ sectors → Refuses f sectors c → IsSoOf f mid.status new.status → mid.status.failures ≡ old.status.failures → HasMadePoint event.Restart old mid → CostsFew mid.status new.status
+    → (m : Mishap) × (mount_fault_of m ≡ Some f) × MayMeet old mid event.Restart (Some m) new.status × CostsRestart old mid (Some m) new.status
+met_behind (fault.Damaged damage block) c world sectors old mid new is count cause failed same made few = absurd (no_damage damage sectors c block world is.image cause.1)
+met_behind fault.NotFormatted c world sectors old mid new is count cause failed same made few = absurd (found_root fault.NotFormatted sectors c world is.image count cause)
+met_behind fault.Version c world sectors old mid new is count cause failed same made few = absurd (found_root fault.Version sectors c world is.image count cause)
+met_behind fault.NoRoot c world sectors old mid new is count cause failed same made few = absurd (found_root fault.NoRoot sectors c world is.image count cause)
+met_behind fault.Memory c world sectors old mid new is count cause failed same made few = (Memory, refl, none_failed old.status mid.status new.status same failed, inr (made, few))
+met_behind fault.Device c world sectors old mid new is count cause failed same made few = (Read, refl, some_failed old.status mid.status new.status same failed, inr (made, few))
 
-  pub unmounted_answers : Answers event.Restart (answer.Unmounted f) old had new true
-  unmounted_answers (Running w) means =
-      let shows = live_show old w means.1.runs means.2 in
-      let here = Always-reads old.disk (λ c. IsLiveImage c (settle w)) whole shows in
-      let met = met_with f (reads old.disk) (settle w) old.status.sectors old new here count left.cause failed in
-      let all = unmounted_from (settle w) (settle w) (settle w) (λ c crash. inl (shows c crash)) here (λ c h. inl h) in
-      let next = Stopped (settle w) (settle w) in
-      record {
-        met = Some met.0;
-        mid = old;
-        point = inl refl;
-        may = met.2;
-        next = next;
-        step = inr (record { fault = f; is = met.1; told = refl; left = refl });
-        means = (refl, LeavesOnly-now old.disk new.disk (λ c. ShowsState next c) all);
-        lasts = record {
-          moments = LeavesOnly-weaker old.disk new.disk (λ c. ShowsState next c) (λ c. ShowsState (Running w) c ⊎ ShowsState next c) (λ c h. inr h) all;
-          answered = LeavesOnly-now old.disk new.disk (λ c. ShowsState next c) all;
-        };
-        writes = writes_to_mount f old.status.sectors old.disk new.disk left.touched;
-        begins = tt;
-        numbers = tt;
-        room = tt;
-        later = later;
-        costs = costs;
-        works = tt;
-      }
-  unmounted_answers (Stopped before after) means = told (Always-reads old.disk (λ c. ShowsState (Stopped before after) c) whole means.1)
+-- where a mount failed a crash leaves what it would have left before
+unmounted_over : (f : MountFault) (old new : Held) (before after world : World) → AreSectors (reads old.disk) → IsLeft f old.status.sectors old.disk new.disk → Always old.disk (λ c. ShowsState (Stopped before after) c) → IsLiveImage (reads old.disk) world
+    → ((c : Contents) → IsLiveImage c world → ShowsState (Stopped before after) c) → LeavesOnly old.disk new.disk (λ c. ShowsState (Stopped before after) c)
+unmounted_over f old new before after world whole left shows opens so = kept_leaves (λ c. ShowsState (Stopped before after) c) old.disk new.disk world whole shows so (left.keeps world opens)
+
+module _ (old new : Held) (f : MountFault) (disk : IsWholeDisk old.status old.disk) (has : Bool) (n : IsNotRemounted f old.status old.disk new has) where
+  pub unmounted_answers : Answers event.Restart (answer.Unmounted f) old true new true
+  unmounted_answers (Running w) means = absurd (true≢false means.0)
+  unmounted_answers (Stopped before after) means = told (Always-reads old.disk (λ c. ShowsState (Stopped before after) c) disk.whole means.1)
     where
       from : (world : World) → IsLiveImage (reads old.disk) world → ((c : Contents) → IsLiveImage c world → ShowsState (Stopped before after) c) → AnswersFrom (Stopped before after) event.Restart (answer.Unmounted f) old new true
       from world here so =
-          let met = met_with f (reads old.disk) world old.status.sectors old new here count left.cause failed in
-          let all = unmounted_from before after world means.1 here so in
+          let met = met_with f (reads old.disk) world old.status.sectors old new here disk.count n.left.cause n.failed in
+          let all = unmounted_over f old new before after world disk.whole n.left means.1 here so in
           record {
             met = Some met.0;
             mid = old;
@@ -217,15 +229,81 @@ module _ (old new : Held) (had : Bool) (f : MountFault) (whole : AreSectors (rea
               moments = LeavesOnly-weaker old.disk new.disk (λ c. ShowsState (Stopped before after) c) (λ c. ShowsState (Stopped before after) c ⊎ ShowsState (Stopped before after) c) (λ c h. inr h) all;
               answered = LeavesOnly-now old.disk new.disk (λ c. ShowsState (Stopped before after) c) all;
             };
-            writes = writes_to_mount f old.status.sectors old.disk new.disk left.touched;
+            writes = writes_to_mount f old.status.sectors old.disk new.disk n.left.touched;
             begins = tt;
             numbers = tt;
             room = tt;
-            later = later;
-            costs = costs;
+            later = n.later;
+            costs = n.costs;
             works = tt;
           }
 
       told : IsLiveImage (reads old.disk) before ⊎ IsLiveImage (reads old.disk) after → AnswersFrom (Stopped before after) event.Restart (answer.Unmounted f) old new true
       told (inl h) = from before h (λ c k. inl k)
       told (inr h) = from after h (λ c k. inr k)
+
+module _ (old mid new : Held) (disk : IsWholeDisk mid.status mid.disk) (p : IsPointed event.Restart old mid) (bare : old.world.frozen ≡ map.empty) (f : MountFault) (has : Bool) (n : IsNotRemounted f mid.status mid.disk new has) where
+  unmounted_behind : AnswersFrom (Running old.world) event.Restart (answer.Unmounted f) old new true
+  unmounted_behind =
+      let w = settle old.world in
+      let first = settled_here old mid new disk.whole p bare in
+      let here = is_image old mid new disk.whole p bare in
+      let made = point_made old mid new disk.whole p bare in
+      let met = met_behind f (reads mid.disk) w mid.status.sectors old mid new here disk.count n.left.cause n.failed (same_failures old mid new disk.whole p bare) made n.costs in
+      let next = Stopped w w in
+      let shows = settled_now old mid new disk.whole p bare in
+      let all = unmounted_over f mid new w w w disk.whole n.left (λ c crash. inl (shows c crash)) here (λ c h. inl h) in
+      let P = λ (c : Contents). ShowsState (Running old.world) c ⊎ ShowsState next c in
+      record {
+        met = Some met.0;
+        mid = mid;
+        point = inr made;
+        may = met.2;
+        next = next;
+        step = inr (record { fault = f; is = met.1; told = refl; left = refl });
+        means = (refl, LeavesOnly-now mid.disk new.disk (λ c. ShowsState next c) all);
+        lasts = record {
+          moments = LeavesOnly-join old.disk mid.disk new.disk P
+              (LeavesOnly-weaker old.disk mid.disk (λ c. IsLiveImage c w) P (λ c h. inl h) first)
+              (LeavesOnly-weaker mid.disk new.disk (λ c. ShowsState next c) P (λ c h. inr h) all);
+          answered = LeavesOnly-now mid.disk new.disk (λ c. ShowsState next c) all;
+        };
+        writes = inr (made, writes_to_mount f mid.status.sectors mid.disk new.disk n.left.touched);
+        begins = tt;
+        numbers = tt;
+        room = tt;
+        later = later-join old.status mid.status new.status (point_later old mid new disk.whole p bare) n.later;
+        costs = met.3;
+        works = tt;
+      }
+
+-- ---- a restart
+
+abbrev Remounted : Status → Disk → Held → Bool → Reply → Type 0
+Remounted status disk new has reply = ((reply ≡ answer.Done) × IsRemounted status disk new has) ⊎ ((f : MountFault) × (reply ≡ answer.Unmounted f) × IsNotRemounted f status disk new has)
+
+-- of a mount that has stopped
+pub restart_stopped : (old new : Held) (has : Bool) (reply : Reply) → Remounts reply old.status old.disk new has → Answers event.Restart reply old true new has
+restart_stopped old new has reply r = told r.1
+  where
+    told : Remounted old.status old.disk new has reply → Answers event.Restart reply old true new has
+    told (inl (is, m)) = subst (λ (x : Reply). Answers event.Restart x old true new has) (sym is) (mounted_answers old new r.0.whole has m)
+    told (inr (f, is, n)) =
+        subst (λ (x : Reply). Answers event.Restart x old true new has) (sym is)
+        (subst (λ (b : Bool). Answers event.Restart (answer.Unmounted f) old true new b) (sym n.stopped) (unmounted_answers old new f r.0 has n))
+
+-- of one that was unmounted first
+pub restart_running : (old new : Held) (has : Bool) (reply : Reply) (disk : Disk) (status : Status) → HasUnmounted old disk status → Remounts reply status disk new has → Answers event.Restart reply old false new has
+restart_running old new has reply disk status unmounts r = in_its_world event.Restart old new reply has (λ ready bare. at (unmounts ready) bare)
+  where
+    at : IsUnmountedTo old disk status → old.world.frozen ≡ map.empty → AnswersFrom (Running old.world) event.Restart reply old new has
+    at u bare = told whole_r.1
+      where
+        whole_r : Remounts reply u.mid.status u.mid.disk new has
+        whole_r = subst (λ (s : Status). Remounts reply s u.mid.disk new has) (sym u.status_is) (subst (λ (d : Disk). Remounts reply status d new has) (sym u.disk_is) r)
+
+        told : Remounted u.mid.status u.mid.disk new has reply → AnswersFrom (Running old.world) event.Restart reply old new has
+        told (inl (is, m)) = subst (λ (x : Reply). AnswersFrom (Running old.world) event.Restart x old new has) (sym is) (remounted_from old u.mid new whole_r.0.whole u.pointed bare has m)
+        told (inr (f, is, n)) =
+            subst (λ (x : Reply). AnswersFrom (Running old.world) event.Restart x old new has) (sym is)
+            (subst (λ (b : Bool). AnswersFrom (Running old.world) event.Restart (answer.Unmounted f) old new b) (sym n.stopped) (unmounted_behind old u.mid new whole_r.0 u.pointed bare f has n))

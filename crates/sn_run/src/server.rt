@@ -1,13 +1,13 @@
 //! What serves events.
 ghost use Rattle.std.specs.Prelude.{◌≡◌, IsTrue};
 ghost use Rattle.sn_model.specs.declared.call.Event.TheVariants as event;
-ghost use Rattle.sn_model.specs.Machine.{refused};
-ghost use Rattle.sn_model.specs.declared.reply.Errno.TheVariants.{Estopped};
+ghost use Rattle.sn_model.specs.Machine as machine;
 ghost use Rattle.sn_fs.specs.Answers.{Answers};
+ghost use Rattle.sn_run.specs.Restarting.{Remounts};
 ghost use Rattle.sn_run.specs.Servers.{IsServer, is_stopped, standing};
 
 use sn_device::Device;
-use sn_fs::{Fs, Unmounted, mount};
+use sn_fs::{Fs, StillMounted, Unmounted, mount};
 use sn_model::{Call, Errno, Event, Refusal, Reply};
 use std::alloc::Global;
 
@@ -19,11 +19,21 @@ pub enum Server<D: Device> {
     Unmounted(D),
 }
 
-/// What every event but a restart is refused with that isn't served any more.
-fn stopped() -> Reply
-    ensures { result ≡ refused Estopped }
+fn refused(errno: Errno) -> Reply
+    ensures { result ≡ machine.refused errno }
 {
-    Reply::Refused(Refusal::plain(Errno::Estopped))
+    Reply::Refused(Refusal::plain(errno))
+}
+
+/// Mounts a device, for a restart.
+fn remount<D: Device>(alloc: Global, device: D) -> (Reply, Server<D>)
+    ensures mounts { IsTrue D.tells_bytes → Remounts result.0 (D.status device) (D.disk device) (standing result.1) (is_stopped result.1) }
+    ensures sound { IsServer result.1 }
+{
+    match mount(alloc, device) {
+        Ok(fs) => (Reply::Done, Server::Mounted(fs)),
+        Err(Unmounted { fault, device }) => (Reply::Unmounted(fault), Server::Unmounted(device)),
+    }
 }
 
 impl<D: Device> Server<D> {
@@ -59,7 +69,7 @@ impl<D: Device> Server<D> {
                 let reply = fs.call(session, call);
                 (reply, Server::Mounted(fs))
             }
-            Server::Unmounted(device) => (stopped(), Server::Unmounted(device)),
+            Server::Unmounted(device) => (refused(Errno::Estopped), Server::Unmounted(device)),
         }
     }
 
@@ -74,7 +84,7 @@ impl<D: Device> Server<D> {
                 let reply = fs.step();
                 (reply, Server::Mounted(fs))
             }
-            Server::Unmounted(device) => (stopped(), Server::Unmounted(device)),
+            Server::Unmounted(device) => (refused(Errno::Estopped), Server::Unmounted(device)),
         }
     }
 
@@ -84,16 +94,22 @@ impl<D: Device> Server<D> {
             (standing self) (is_stopped self) (standing result.1) (is_stopped result.1) }
         ensures sound { IsServer result.1 }
     {
-        match mount(alloc, self.into_device()) {
-            Ok(fs) => (Reply::Done, Server::Mounted(fs)),
-            Err(Unmounted { fault, device }) => {
-                (Reply::Unmounted(fault), Server::Unmounted(device))
-            }
+        let fs = match self {
+            Server::Mounted(fs) => fs,
+            Server::Unmounted(device) => return remount(alloc, device),
+        };
+        if fs.has_stopped() {
+            return remount(alloc, fs.into_device());
+        }
+        match fs.unmount() {
+            Ok(device) => remount(alloc, device),
+            Err(StillMounted { errno, fs }) => (refused(errno), Server::Mounted(fs)),
         }
     }
 
     /// Answers an event. A restart unmounts and mounts, or mounts alone where it has stopped: where the
-    /// mount fails, the reply has its cause, and all but a restart is refused from then on.
+    /// unmount is refused, nothing has changed, and where the mount fails, the reply has its cause, and all
+    /// but a restart is refused from then on.
     pub fn answer(self, alloc: Global, event: &Event) -> (Reply, Server<D>)
         requires { IsServer self }
         ensures answered { IsTrue D.tells_bytes → Answers event.now result.0

@@ -1,5 +1,5 @@
 -- A call that is read from its name and arguments is theirs, and the call of a name and arguments is read from them.
-use Rattle.std.proofs.Common.{◌≡◌, ℕ, ◌^◌, ◌<◌, inl, inr, cond, List, [], ◌∷◌, Option, Some, None, refl, subst, ◌∙◌, lit≤}
+use Rattle.std.proofs.Common.{◌≡◌, ℕ, ◌^◌, ◌<◌, inl, inr, cond, List, [], ◌∷◌, Option, Some, None, refl, sym, subst, ◌∙◌, lit≤}
 use Rattle.std.specs.Prelude.{true, decimal, codes}
 use Rattle.std.specs.Str.{bytes_eq}
 use Rattle.std.proofs.lemmas.Slice.Eq.{bytes_eq-Decides}
@@ -11,7 +11,7 @@ use Rattle.sn_model.specs.Texts.{access_text}
 use Rattle.sn_words.specs.Fields.{octal, id_word, numbers_word, is_word, kind_word, flags_word, content_word, mode_words}
 use Rattle.sn_script.specs.Lines.{name_of, arguments_of, IsCall}
 use Rattle.sn_words.specs.Reading.{number_below, octal_of, groups_of, id_of, word_of, want_of, kind_named, flags_of, file_mode_of, content_of}
-use Rattle.sn_script.specs.Reading.{path_of, paths_of, path_mode_of, descriptor_of, descriptor_number_of, login_of, logout_of, umask_of, chown_of, access_of, getacl_of, setacl_of, open_of, write_of, file_call_of, access_call_of, path_call_of, name_call_of, call_of}
+use Rattle.sn_script.specs.Reading.{path_of, paths_of, path_mode_of, descriptor_of, descriptor_number_of, login_of, bare_of, umask_of, chown_of, access_of, getacl_of, setacl_of, open_of, write_of, file_call_of, access_call_of, path_call_of, name_call_of, call_of}
 use Rattle.sn_words.proofs.Options.{chosen}
 use Rattle.sn_words.proofs.Numbers.{number_again, number_takes}
 use Rattle.sn_words.proofs.FieldLaws.{octal_takes, octal_again, word_takes, word_again, groups_take, groups_again, id_takes, id_again, want_takes, want_again, kind_takes, kind_again}
@@ -111,10 +111,10 @@ login_takes (uid ∷ gid ∷ groups ∷ []) c e =
     subst (Reads (codes "login") (uid ∷ gid ∷ groups ∷ [])) (some_same (call.Login u.0 g.0 others.0) c others.2)
     (refl, three uid gid groups (decimal u.0) (decimal g.0) (numbers_word others.0) p.0 q.0 r.0, (p.1, q.1, r.1, r.2))
 
-logout_takes : (arguments : List (List ℕ)) (c : Call) → logout_of arguments ≡ Some c → Reads (codes "logout") arguments c
-unfolding logout_of
-logout_takes (more ∷ others) c e = absurd cc
-logout_takes [] c e = subst (Reads (codes "logout") []) (some_same call.Logout c e) (refl, refl, tt)
+bare_takes : (bare : Call) (arguments : List (List ℕ)) (c : Call) → arguments_of bare ≡ [] → IsCall bare → bare_of bare arguments ≡ Some c → Reads (name_of bare) arguments c
+unfolding bare_of
+bare_takes bare (more ∷ others) c none valid e = absurd cc
+bare_takes bare [] c none valid e = subst (Reads (name_of bare) []) (some_same bare c e) (refl, sym none, valid)
 
 umask_takes : (arguments : List (List ℕ)) (c : Call) → umask_of arguments ≡ Some c → Reads (codes "umask") arguments c
 unfolding umask_of
@@ -266,13 +266,15 @@ module _ (name : List ℕ) (arguments : List (List ℕ)) (c : Call) where
   unfolding call_of
   call_takes =
       picked (codes "login") (login_of arguments) _ (login_takes arguments c)
-      (picked (codes "logout") (logout_of arguments) _ (logout_takes arguments c)
-      (picked (codes "umask") (umask_of arguments) (name_call_of name arguments) (umask_takes arguments c) name_call_takes))
+      (picked (codes "logout") (bare_of call.Logout arguments) _ (bare_takes call.Logout arguments c refl tt)
+      (picked (codes "sync") (bare_of call.Sync arguments) _ (bare_takes call.Sync arguments c refl tt)
+      (picked (codes "umask") (umask_of arguments) (name_call_of name arguments) (umask_takes arguments c) name_call_takes)))
 
 pub call_again : (c : Call) → IsCall c → call_of (name_of c) (arguments_of c) ≡ Some c
-unfolding call_of name_call_of path_call_of access_call_of file_call_of path_of paths_of path_mode_of descriptor_of descriptor_number_of login_of logout_of umask_of chown_of access_of getacl_of setacl_of open_of write_of
+unfolding call_of name_call_of path_call_of access_call_of file_call_of path_of paths_of path_mode_of descriptor_of descriptor_number_of login_of bare_of umask_of chown_of access_of getacl_of setacl_of open_of write_of
 call_again (call.Login uid gid groups) h = rw (number_again (2 ^ 32) uid (lit≤ tt) h.0, number_again (2 ^ 32) gid (lit≤ tt) h.1, groups_again groups h.2 h.3) refl
 call_again call.Logout h = refl
+call_again call.Sync h = refl
 call_again (call.Umask mask) h = rw (octal_again mask h) refl
 call_again (call.Mkdir path mode) h = rw (word_again path h.0, octal_again mode h.1) refl
 call_again (call.Chmod path mode) h = rw (word_again path h.0, octal_again mode h.1) refl

@@ -118,6 +118,7 @@ modes_graphic false mode is = tt
 call_graphic : (c : Call) → IsCall c → AllByRecursion IsGraphic (name_of c ∷ arguments_of c)
 call_graphic (call.Login uid gid groups) h = (graphic_within (codes "login") refl, (number_graphic uid h.0, (number_graphic gid h.1, (numbers_graphic groups h.2, tt))))
 call_graphic call.Logout h = (graphic_within (codes "logout") refl, tt)
+call_graphic call.Sync h = (graphic_within (codes "sync") refl, tt)
 call_graphic (call.Umask mask) h = (graphic_within (codes "umask") refl, (octal_graphic mask h, tt))
 call_graphic (call.Mkdir path mode) h = (graphic_within (codes "mkdir") refl, (word_graphic path h.0, (octal_graphic mode h.1, tt)))
 call_graphic (call.Chmod path mode) h = (graphic_within (codes "chmod") refl, (word_graphic path h.0, (octal_graphic mode h.1, tt)))
@@ -162,6 +163,7 @@ few_arguments (call.Open path flags mode) = few flags.create
     few false = refl
 few_arguments (call.Login uid gid groups) = refl
 few_arguments call.Logout = refl
+few_arguments call.Sync = refl
 few_arguments (call.Umask mask) = refl
 few_arguments (call.Mkdir path mode) = refl
 few_arguments (call.Chmod path mode) = refl

@@ -31,6 +31,7 @@ name_of (call.Read fd count) = codes "read"
 name_of (call.Write fd bytes) = codes "write"
 name_of (call.Seek fd offset) = codes "seek"
 name_of (call.Ftruncate fd size) = codes "ftruncate"
+name_of call.Sync = codes "sync"
 
 abbrev pub arguments_of : Call → List (List ℕ)
 arguments_of (call.Login uid gid groups) = decimal uid ∷ decimal gid ∷ numbers_word groups ∷ []
@@ -54,6 +55,7 @@ arguments_of (call.Read fd count) = decimal fd ∷ decimal count ∷ []
 arguments_of (call.Write fd bytes) = decimal fd ∷ content_word bytes ∷ []
 arguments_of (call.Seek fd offset) = decimal fd ∷ decimal offset ∷ []
 arguments_of (call.Ftruncate fd size) = decimal fd ∷ decimal size ∷ []
+arguments_of call.Sync = []
 
 abbrev pub words_of : Event → List (List ℕ)
 words_of (event.Call session c) = decimal session ∷ name_of c ∷ arguments_of c
@@ -87,6 +89,7 @@ IsCall (call.Read fd count) = (fd < 2 ^ 32) × (count < 2 ^ 64)
 IsCall (call.Write fd bytes) = (fd < 2 ^ 32) × IsBytes bytes
 IsCall (call.Seek fd offset) = (fd < 2 ^ 32) × (offset < 2 ^ 64)
 IsCall (call.Ftruncate fd size) = (fd < 2 ^ 32) × (size < 2 ^ 64)
+IsCall call.Sync = Unit {0}
 
 -- the events that have a line
 abbrev pub IsEvent : Event → Type 0

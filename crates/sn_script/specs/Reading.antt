@@ -56,9 +56,10 @@ umask_of (mask ∷ []) = do
   Some (call.Umask m)
 umask_of _ = None
 
-unfoldable pub logout_of : List (List ℕ) → Option Call
-logout_of [] = Some call.Logout
-logout_of _ = None
+-- a call without arguments
+unfoldable pub bare_of : Call → List (List ℕ) → Option Call
+bare_of c [] = Some c
+bare_of c _ = None
 
 unfoldable pub chown_of : List (List ℕ) → Option Call
 chown_of (path ∷ uid ∷ gid ∷ []) = do
@@ -142,7 +143,8 @@ name_call_of name arguments =
 unfoldable pub call_of : List ℕ → List (List ℕ) → Option Call
 call_of name arguments =
     if bytes_eq name (codes "login") then login_of arguments else
-    if bytes_eq name (codes "logout") then logout_of arguments else
+    if bytes_eq name (codes "logout") then bare_of call.Logout arguments else
+    if bytes_eq name (codes "sync") then bare_of call.Sync arguments else
     if bytes_eq name (codes "umask") then umask_of arguments else name_call_of name arguments
 
 -- the events that are no calls of a session

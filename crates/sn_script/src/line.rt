@@ -1,6 +1,6 @@
 ghost use Rattle.std.specs.Prelude.{map};
 ghost use Rattle.sn_words.specs.Reading.{IsRead};
-ghost use Rattle.sn_script.specs.Reading.{login_of, logout_of, umask_of, chown_of, access_of, getacl_of, setacl_of, open_of, write_of, file_call_of, access_call_of, path_call_of, name_call_of, call_of, event_of, line_event, lone_event_of};
+ghost use Rattle.sn_script.specs.Reading.{login_of, bare_of, umask_of, chown_of, access_of, getacl_of, setacl_of, open_of, write_of, file_call_of, access_call_of, path_call_of, name_call_of, call_of, event_of, line_event, lone_event_of};
 
 use crate::arguments::{descriptor, descriptor_and_number, path, path_and_mode, paths};
 use sn_model::{Call, Event};
@@ -55,6 +55,8 @@ const SEEK: &[u8] = b"seek";
 
 const FTRUNCATE: &[u8] = b"ftruncate";
 
+const SYNC: &[u8] = b"sync";
+
 const STEP: &[u8] = b"step";
 
 const RESTART: &[u8] = b"restart";
@@ -72,12 +74,13 @@ fn login(alloc: Global, arguments: &[&[u8]]) -> Result<Call, ReadFault>
     Ok(Call::Login { uid, gid, groups })
 }
 
-#[tactic(auto, unfolding(crate::specs::Reading::logout_of))]
-fn logout(arguments: &[&[u8]]) -> Result<Call, ReadFault>
-    ensures { IsRead (λ c. c) result (logout_of (map (λ w. w.now) arguments.now)) }
+/// A call without arguments.
+#[tactic(auto, unfolding(crate::specs::Reading::bare_of))]
+fn bare(call: Call, arguments: &[&[u8]]) -> Result<Call, ReadFault>
+    ensures { IsRead (λ c. c) result (bare_of call (map (λ w. w.now) arguments.now)) }
 {
     if arguments.is_empty() {
-        Ok(Call::Logout)
+        Ok(call)
     } else {
         Err(ReadFault::Bad)
     }
@@ -275,7 +278,10 @@ fn call(alloc: Global, name: &[u8], arguments: &[&[u8]]) -> Result<Call, ReadFau
         return login(alloc, arguments);
     }
     if name == LOGOUT {
-        return logout(arguments);
+        return bare(Call::Logout, arguments);
+    }
+    if name == SYNC {
+        return bare(Call::Sync, arguments);
     }
     if name == UMASK {
         return umask(arguments);

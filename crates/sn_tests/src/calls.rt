@@ -30,6 +30,7 @@ fn push_call(text: &mut String, call: &Call) -> Result<()> {
             Ok(write!(text, "login, uid {uid}, gid {gid}, groups {groups:?}")?)
         }
         Call::Logout => push(text, "logout"),
+        Call::Sync => push(text, "sync"),
         Call::Umask { mask } => push_number(text, "umask, mask", u64::from(*mask)),
         Call::Chmod { path, mode } => push_with_mode(text, "chmod", path, *mode),
         Call::Chown { path, uid, gid } => push_chown(text, path, *uid, *gid),

@@ -33,6 +33,7 @@ pub enum Answer {
     /// A read of the device failed.
     Unread,
     Damaged,
+    OutOfMemory,
 }
 
 fn root_of(file: &BlockTree) -> Result<RootBody>
@@ -60,20 +61,31 @@ fn map_of(alloc: Global, places: Places, words: &[u32]) -> Result<Map>
     Ok(Map::from_words(Vec::from_slice(alloc, words)?))
 }
 
-fn answer_of(built: Result<Built, PlanFault>) -> Result<Answer> {
+fn answer_of(built: Result<Built, PlanFault>) -> Answer {
     match built {
-        Ok(built) => Ok(Answer::Built(built)),
-        Err(PlanFault::Full) => Ok(Answer::Full),
-        Err(PlanFault::Tree(TreeFault::Read(ReadFault::Device))) => Ok(Answer::Unread),
-        Err(PlanFault::Tree(TreeFault::Damaged)) => Ok(Answer::Damaged),
-        Err(_) => bail!("out of memory"),
+        Ok(built) => Answer::Built(built),
+        Err(PlanFault::Full) => Answer::Full,
+        Err(PlanFault::Tree(TreeFault::Read(ReadFault::Device))) => Answer::Unread,
+        Err(PlanFault::Tree(TreeFault::Damaged)) => Answer::Damaged,
+        Err(_) => Answer::OutOfMemory,
     }
 }
 
-/// Lays the inode file of an empty tree in a block: inode 2 alone, a directory with mode 0755.
-fn lay_inodes(bytes: &mut [u8], block: usize) {
-    let record = block.saturating_mul(4096).saturating_add(256);
-    put(bytes, record, &[2, 0, 0xed, 1, 1]);
+/// The bytes of so many blocks. In one is the inode file of an empty tree: inode 2 alone, a directory with mode 0755.
+fn new_bytes(alloc: Global, blocks: u32, inodes: u32) -> Result<Vec<u8>, AllocError> {
+    let mut bytes = Vec::from_elem(alloc, 0, (blocks as usize).saturating_mul(4096))?;
+    let record = (inodes as usize).saturating_mul(4096).saturating_add(256);
+    put(&mut bytes, record, &[2, 0, 0xed, 1, 1]);
+    Ok(bytes)
+}
+
+/// The words of so many blocks, of which one is the live tree's.
+fn new_words(alloc: Global, blocks: u32, inodes: u32) -> Result<Vec<u32>, AllocError> {
+    let mut words = Vec::from_elem(alloc, 0, blocks as usize)?;
+    if let Some(word) = words.get_mut(inodes as usize) {
+        *word = 1;
+    }
+    Ok(words)
 }
 
 fn first_pointer(first: u32) -> Pointers {
@@ -97,16 +109,10 @@ impl Disk {
     pub fn new(alloc: Global, blocks: u32) -> Result<Disk> {
         let places = Places::new(blocks).context("no such disk")?;
         let first = places.start(Area::Data);
-        let mut bytes = Vec::from_elem(alloc, 0, (blocks as usize).saturating_mul(4096))?;
-        let mut words = Vec::from_elem(alloc, 0, blocks as usize)?;
-        lay_inodes(&mut bytes, first as usize);
-        if let Some(word) = words.get_mut(first as usize) {
-            *word = 1;
-        }
         let pointers = first_pointer(first);
         Ok(Disk {
-            words,
-            bytes,
+            words: new_words(alloc, blocks, first)?,
+            bytes: new_bytes(alloc, blocks, first)?,
             file: BlockTree {
                 size: 4096,
                 pointers,
@@ -120,8 +126,15 @@ impl Disk {
         self.places.start(Area::Data)
     }
 
+    /// How many blocks are free.
+    pub fn free(&self) -> u64 {
+        let data = self.words.iter().skip(self.first() as usize);
+        data.filter(|word| **word == 0).count() as u64
+    }
+
     /// Builds the tree that is seen through an overlay, with these words in the map. Of the device's calls one fails,
-    /// if it isn't number 0. Whatever the answer, nothing is written.
+    /// if it isn't number 0. Whatever the answer, nothing is written. Where the build was refused memory, it is made
+    /// once more, of the same root and overlay.
     pub fn build(
         &self,
         alloc: Global,
@@ -129,15 +142,33 @@ impl Disk {
         words: &[u32],
         failing: u64,
     ) -> Result<Answer> {
-        let mut device = MemDevice::from_bytes(alloc, self.bytes.as_slice())?;
-        if failing > 0 {
-            device.fail_at(failing);
+        match self.build_once(alloc, overlay, words, failing)? {
+            Answer::OutOfMemory => self.build_once(alloc, overlay, words, failing),
+            answer => Ok(answer),
         }
-        let mut blocks = Blocks::new(alloc, device).map_err(AllocError::from)?;
+    }
+
+    fn build_once(
+        &self,
+        alloc: Global,
+        overlay: &Overlay,
+        words: &[u32],
+        failing: u64,
+    ) -> Result<Answer> {
+        let mut blocks = self.device(alloc, failing)?;
         let answer = self.build_on(alloc, &mut blocks, overlay, words);
         let device = blocks.into_device();
         ensure!(has_bytes(&device, self.bytes.as_slice()), "a build writes");
         answer
+    }
+
+    /// A device with its bytes, of whose calls one fails, if it isn't number 0.
+    fn device(&self, alloc: Global, failing: u64) -> Result<Blocks<MemDevice>> {
+        let mut device = MemDevice::from_bytes(alloc, self.bytes.as_slice())?;
+        if failing > 0 {
+            device.fail_at(failing);
+        }
+        Ok(Blocks::new(alloc, device).map_err(AllocError::from)?)
     }
 
     fn build_on(
@@ -147,10 +178,21 @@ impl Disk {
         overlay: &Overlay,
         words: &[u32],
     ) -> Result<Answer> {
+        let changes = overlay.copy(alloc)?;
+        self.build_of(alloc, blocks, changes, words)
+    }
+
+    fn build_of(
+        &self,
+        alloc: Global,
+        blocks: &mut Blocks<MemDevice>,
+        changes: Overlay,
+        words: &[u32],
+    ) -> Result<Answer> {
         let root = root_of(&self.file)?;
         let map = map_of(alloc, self.places, words)?;
-        let changes = overlay.copy(alloc)?;
-        answer_of(build(alloc, blocks, self.places, &root, &map, changes))
+        let built = build(alloc, blocks, self.places, &root, &map, changes);
+        Ok(answer_of(built))
     }
 
     /// Writes what was built.
@@ -163,10 +205,7 @@ impl Disk {
 
     /// Reads its tree.
     pub fn read(&self, alloc: Global) -> Result<Image> {
-        let mut pointers = Vec::new(alloc);
-        for pointer in self.file.pointers.as_slice() {
-            pointers.extend_from_slice(&pointer.to_le_bytes())?;
-        }
+        let pointers = spelled(alloc, &self.file.pointers)?;
         read_image(
             alloc,
             self.bytes.as_slice(),
@@ -174,6 +213,14 @@ impl Disk {
             pointers.as_slice(),
         )
     }
+}
+
+fn spelled(alloc: Global, pointers: &Pointers) -> Result<Vec<u8>, AllocError> {
+    let mut bytes = Vec::new(alloc);
+    for pointer in pointers.as_slice() {
+        bytes.extend_from_slice(&pointer.to_le_bytes())?;
+    }
+    Ok(bytes)
 }
 
 fn write_all(bytes: &mut [u8], blocks: &[NewBlock]) {

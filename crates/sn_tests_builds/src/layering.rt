@@ -55,15 +55,19 @@ fn push_object(entries: &mut Vec<AclEntry>, tag: Tag, permissions: Permissions) 
     Ok(())
 }
 
-/// The access ACL: what the mode grants, and the other entries between.
+/// What the mode grants, and the other entries between.
+fn push_access(entries: &mut Vec<AclEntry>, attributes: &Attributes) -> Result<()> {
+    let (rights, named) = (attributes.rights, attributes.access.as_slice());
+    push_object(entries, Tag::UserObj, granted(rights, 6)?)?;
+    push_entries(entries, named, 2, 2)?;
+    push_object(entries, Tag::GroupObj, granted(rights, 3)?)?;
+    push_entries(entries, named, 4, 5)?;
+    push_object(entries, Tag::Other, granted(rights, 0)?)
+}
+
 fn access_acl(alloc: Global, attributes: &Attributes) -> Result<Acl> {
     let mut entries = Vec::new(alloc);
-    let named = attributes.access.as_slice();
-    push_object(&mut entries, Tag::UserObj, granted(attributes.rights, 6)?)?;
-    push_entries(&mut entries, named, 2, 2)?;
-    push_object(&mut entries, Tag::GroupObj, granted(attributes.rights, 3)?)?;
-    push_entries(&mut entries, named, 4, 5)?;
-    push_object(&mut entries, Tag::Other, granted(attributes.rights, 0)?)?;
+    push_access(&mut entries, attributes)?;
     Acl::from_entries(entries.as_slice()).context("no ACL")
 }
 
@@ -73,8 +77,7 @@ fn default_acl(alloc: Global, attributes: &Attributes) -> Result<Option<Acl>> {
     }
     let mut entries = Vec::new(alloc);
     push_entries(&mut entries, attributes.default.as_slice(), 1, 6)?;
-    let acl = Acl::from_entries(entries.as_slice()).context("no ACL")?;
-    Ok(Some(acl))
+    Ok(Some(Acl::from_entries(entries.as_slice()).context("no ACL")?))
 }
 
 fn ownership(alloc: Global, attributes: &Attributes) -> Result<Ownership> {
@@ -152,16 +155,16 @@ impl Layer {
         name: &[u8],
         number: Option<u16>,
     ) -> Result<()> {
-        let name = Word::new(alloc, name)?;
         self.overlay.reserve(0, 1, 0)?;
+        let name = Word::new(alloc, name)?;
         self.overlay.set_name(Link { directory, name }, number);
         self.names = self.names.saturating_add(1);
         Ok(())
     }
 
     fn set_block(&mut self, alloc: Global, file: u16, index: u64, bytes: Block) -> Result<()> {
-        let bytes = Box::new(alloc, bytes)?;
         self.overlay.reserve(0, 0, 1)?;
+        let bytes = Box::new(alloc, bytes)?;
         self.overlay.set_block(FileBlock { file, index }, bytes);
         self.blocks = self.blocks.saturating_add(1);
         Ok(())

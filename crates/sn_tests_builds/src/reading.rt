@@ -39,6 +39,14 @@ fn block_from(bytes: &[u8]) -> Block {
     block
 }
 
+/// The bytes of a file. Of a directory none are counted.
+fn size_in(kind: Kind, record: &[u8]) -> u64 {
+    match kind {
+        Kind::File => number_at(record, 16, 8),
+        Kind::Directory => 0,
+    }
+}
+
 fn entries_of(alloc: Global, bytes: &[u8]) -> Result<Vec<Entry>> {
     let mut entries = Vec::new(alloc);
     for field in bytes.chunks_exact(8) {
@@ -108,13 +116,14 @@ impl Reader<'_> {
             default: Vec::new(self.alloc),
         };
         if acls != 0 {
-            self.reach(acls)?;
-            self.read_acls(&mut attributes, block_of(self.disk, acls))?;
+            self.read_acls(&mut attributes, acls)?;
         }
         Ok(attributes)
     }
 
-    fn read_acls(&mut self, attributes: &mut Attributes, block: &[u8]) -> Result<()> {
+    fn read_acls(&mut self, attributes: &mut Attributes, number: u64) -> Result<()> {
+        self.reach(number)?;
+        let block = block_of(self.disk, number);
         let access = (number_at(block, 0, 1) as usize).saturating_mul(8);
         let default = (number_at(block, 1, 1) as usize).saturating_mul(8);
         ensure!(access != 0 || default != 0, "an ACL block without entries");
@@ -205,24 +214,22 @@ impl Reader<'_> {
         Ok(Vec::new(self.alloc))
     }
 
-    fn read_node(&mut self, number: u16, kind: Kind, record: &[u8]) -> Result<()> {
-        let attributes = self.attributes(record)?;
-        let blocks = self.content(number, kind, record)?;
-        let size = if kind == Kind::File {
-            number_at(record, 16, 8)
-        } else {
-            0
-        };
-        self.image.links.push((number, number_at(record, 4, 2)))?;
-        self.image.tree.nodes.push(Node {
+    fn node(&mut self, number: u16, kind: Kind, record: &[u8]) -> Result<Node> {
+        Ok(Node {
             number,
             kind,
-            attributes,
-            size,
-            blocks,
+            attributes: self.attributes(record)?,
+            size: size_in(kind, record),
+            blocks: self.content(number, kind, record)?,
             is_made: false,
             cut: 0,
-        })?;
+        })
+    }
+
+    fn read_node(&mut self, number: u16, kind: Kind, record: &[u8]) -> Result<()> {
+        self.image.links.push((number, number_at(record, 4, 2)))?;
+        let node = self.node(number, kind, record)?;
+        self.image.tree.nodes.push(node)?;
         Ok(())
     }
 

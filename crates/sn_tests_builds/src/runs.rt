@@ -2,14 +2,14 @@
 
 use crate::building::{Answer, Disk};
 use crate::layering::{Layer, layer_between};
-use crate::reading::Image;
-use crate::seen::Seen;
+use crate::looking::{are_blocks_right, is_built_of, is_map_right, with_free};
+use crate::tallies::Tallies;
 use anyhow::Result;
 use rand_pcg::Pcg32;
 use sn_cp_build::Built;
 use sn_drawn::is_once_in;
 use sn_drawn_trees::{Tree, draw_changes};
-use sn_table::{Report, Tally};
+use sn_table::Report;
 use std::alloc::{AllocError, Global};
 
 /// How many trees are built one over the other.
@@ -17,18 +17,6 @@ const BUILDS: u32 = 6;
 
 /// How many reads fail in turn.
 const READS: u64 = 6;
-
-/// A tally for each thing that is looked at.
-#[derive(Clone, Copy)]
-struct Tallies {
-    trees: Tally,
-    maps: Tally,
-    blocks: Tally,
-    enough: Tally,
-    too_few: Tally,
-    unread: Tally,
-    seen: Seen,
-}
 
 /// A disk and the tree that was drawn for it.
 #[derive(Drop)]
@@ -42,128 +30,66 @@ struct Course {
 pub fn run(report: &mut Report<'_>, count: u32) -> Result<()> {
     let mut tallies = Tallies::new();
     for seed in 0..count.div_ceil(BUILDS) {
-        run_seed(report.alloc(), u64::from(seed), &mut tallies)?;
+        let left = count.saturating_sub(seed.saturating_mul(BUILDS));
+        run_seed(report.alloc(), seed, left.min(BUILDS), &mut tallies)?;
     }
     tallies.report(report)
 }
 
-fn run_seed(alloc: Global, seed: u64, tallies: &mut Tallies) -> Result<()> {
-    let mut random = Pcg32::new(seed, 0);
+/// Builds so many trees one over the other.
+fn run_seed(alloc: Global, seed: u32, builds: u32, tallies: &mut Tallies) -> Result<()> {
+    let mut random = Pcg32::new(u64::from(seed), 0);
     let mut course = Course {
         alloc,
-        disk: Disk::new(alloc, 1100)?,
+        disk: disk_for(alloc, seed)?,
         tree: Tree::new(alloc)?,
     };
-    for _ in 0..BUILDS {
+    for _ in 0..builds {
         course.step(&mut random, tallies)?;
         course.keep_some(&mut random);
     }
     Ok(())
 }
 
-impl Tallies {
-    fn new() -> Tallies {
-        Tallies {
-            trees: Tally::new(),
-            maps: Tally::new(),
-            blocks: Tally::new(),
-            enough: Tally::new(),
-            too_few: Tally::new(),
-            unread: Tally::new(),
-            seen: Seen::new(),
-        }
+/// Every third disk has so few free blocks that some trees don't fit.
+fn disk_for(alloc: Global, seed: u32) -> Result<Disk> {
+    if seed % 3 > 0 {
+        return Disk::new(alloc, 1100);
     }
-
-    fn report(&self, report: &mut Report<'_>) -> Result<()> {
-        report.add("trees", self.trees)?;
-        report.add("maps", self.maps)?;
-        report.add("new blocks", self.blocks)?;
-        report.add("disks with enough free blocks", self.enough)?;
-        report.add("disks with one too few", self.too_few)?;
-        report.add("reads that fail", self.unread)?;
-        self.seen.report(report)
-    }
-}
-
-/// Whether the map tells exactly what is reached, each block once, and its other bits are as they were.
-fn is_map_right(alloc: Global, image: &Image, old: &[u32], new: &[u32]) -> Result<bool> {
-    let mut times: Vec<u32> = Vec::from_elem(alloc, 0, new.len())?;
-    let mut is_right = old.len() == new.len();
-    for block in image.reached.iter() {
-        match times.get_mut(*block as usize) {
-            Some(count) => *count = count.saturating_add(1),
-            None => is_right = false,
-        }
-    }
-    for ((count, before), after) in times.iter().zip(old.iter()).zip(new.iter()) {
-        is_right &= *count == *after % 2 && *before / 2 == *after / 2;
-    }
-    Ok(is_right)
-}
-
-/// Whether the new blocks rise, were free, and are no more than the overlay needs.
-fn are_blocks_right(layer: &Layer, built: &Built, words: &[u32]) -> bool {
-    let mut is_right = built.blocks.len() as u64 <= layer.need();
-    let mut before = 0;
-    for block in built.blocks.iter() {
-        is_right &= block.number > before && words.get(block.number as usize) == Some(&0);
-        before = block.number;
-    }
-    is_right
-}
-
-fn is_built_of(answer: Answer, count: usize) -> bool {
-    match answer {
-        Answer::Built(built) => built.blocks.len() == count,
-        _ => false,
-    }
-}
-
-/// The words where so many blocks alone are free, those behind the others.
-fn with_free(
-    alloc: Global,
-    words: &[u32],
-    first: u32,
-    count: usize,
-) -> Result<Vec<u32>, AllocError> {
-    let mut left = count;
-    let mut words = Vec::from_slice(alloc, words)?;
-    for word in words.iter_mut().skip(first as usize).rev() {
-        if *word == 0 {
-            if left == 0 {
-                *word = 2;
-            }
-            left = left.saturating_sub(1);
-        }
-    }
-    Ok(words)
+    let mut disk = Disk::new(alloc, 256)?;
+    disk.words = with_free(alloc, disk.words.as_slice(), disk.first(), 100)?;
+    Ok(disk)
 }
 
 impl Course {
+    /// Draws a tree, and builds it.
+    fn step(&mut self, random: &mut Pcg32, tallies: &mut Tallies) -> Result<()> {
+        let wanted = self.drawn(random)?;
+        self.build(random, &wanted, tallies)
+    }
+
+    fn drawn(&self, random: &mut Pcg32) -> Result<Tree, AllocError> {
+        let mut wanted = self.tree.built(self.alloc)?;
+        draw_changes(self.alloc, random, &mut wanted)?;
+        Ok(wanted)
+    }
+
+    fn build(&mut self, random: &mut Pcg32, wanted: &Tree, tallies: &mut Tallies) -> Result<()> {
+        let layer = layer_between(self.alloc, random, &self.tree, wanted)?;
+        match self.answer(&layer)? {
+            Answer::Built(built) => self.take(&layer, &built, wanted, tallies)?,
+            Answer::Full => tallies.full.count(self.disk.free() < layer.need()),
+            _ => tallies.trees.count(false),
+        }
+        Ok(())
+    }
+
     fn answer(&self, layer: &Layer) -> Result<Answer> {
         let words = self.disk.words.as_slice();
         self.disk.build(self.alloc, &layer.overlay, words, 0)
     }
 
-    /// Draws a tree, builds it, and looks at what was built.
-    fn step(&mut self, random: &mut Pcg32, tallies: &mut Tallies) -> Result<()> {
-        let mut wanted = self.tree.built(self.alloc)?;
-        draw_changes(self.alloc, random, &mut wanted)?;
-        let layer = layer_between(self.alloc, random, &self.tree, &wanted)?;
-        tallies.seen.look(&self.tree, &wanted);
-        match self.answer(&layer)? {
-            Answer::Built(built) => {
-                self.look_at_space(&layer, built.blocks.len(), tallies)?;
-                self.look_at_reads(&layer, tallies)?;
-                self.take(&layer, &built, &wanted, tallies)?;
-            }
-            _ => tallies.trees.count(false),
-        }
-        self.tree = wanted.built(self.alloc)?;
-        Ok(())
-    }
-
-    /// Writes what was built, and reads it.
+    /// Looks at what was built, and goes on with it.
     fn take(
         &mut self,
         layer: &Layer,
@@ -171,21 +97,29 @@ impl Course {
         wanted: &Tree,
         tallies: &mut Tallies,
     ) -> Result<()> {
-        let words = Vec::from_slice(self.alloc, self.disk.words.as_slice())?;
+        tallies.seen.look(&self.tree, wanted);
+        let is_right = are_blocks_right(layer, built, self.disk.words.as_slice());
+        tallies.blocks.count(is_right);
+        self.look_at_space(layer, built.blocks.len(), tallies)?;
+        self.look_at_reads(layer, tallies)?;
+        self.write(built, wanted, tallies)?;
+        self.tree = wanted.built(self.alloc)?;
+        Ok(())
+    }
+
+    fn write(&mut self, built: &Built, wanted: &Tree, tallies: &mut Tallies) -> Result<()> {
+        let before = Vec::from_slice(self.alloc, self.disk.words.as_slice())?;
         self.disk.write(self.alloc, built)?;
+        self.look_at_disk(before.as_slice(), wanted, tallies)
+    }
+
+    /// Reads the disk, whose map had these words before.
+    fn look_at_disk(&self, before: &[u32], wanted: &Tree, tallies: &mut Tallies) -> Result<()> {
         let image = self.disk.read(self.alloc)?;
-        tallies
-            .trees
-            .count(image.tree.is_same(wanted) && image.are_links_right());
-        tallies.maps.count(is_map_right(
-            self.alloc,
-            &image,
-            words.as_slice(),
-            self.disk.words.as_slice(),
-        )?);
-        tallies
-            .blocks
-            .count(are_blocks_right(layer, built, words.as_slice()));
+        let is_right = image.tree.is_same(wanted) && image.are_links_right();
+        tallies.trees.count(is_right);
+        let is_right = is_map_right(self.alloc, &image, before, self.disk.words.as_slice())?;
+        tallies.maps.count(is_right);
         Ok(())
     }
 
@@ -200,7 +134,35 @@ impl Course {
         }
     }
 
-    /// Builds on a disk with so many free blocks.
+    /// Builds on disks with few free blocks, where it took so many: as many as that and as it needs, and one less.
+    fn look_at_space(&self, layer: &Layer, count: usize, tallies: &mut Tallies) -> Result<()> {
+        let need = layer.need() as usize;
+        for free in [count, need.saturating_sub(1), need] {
+            self.look_at_free(layer, count, free, tallies)?;
+        }
+        if count > 0 {
+            self.look_at_free(layer, count, count - 1, tallies)?;
+        }
+        Ok(())
+    }
+
+    /// Builds on a disk with so many free blocks, where it took a number of them.
+    fn look_at_free(
+        &self,
+        layer: &Layer,
+        count: usize,
+        free: usize,
+        tallies: &mut Tallies,
+    ) -> Result<()> {
+        let answer = self.answer_with(layer, free)?;
+        if free < count {
+            tallies.too_few.count(matches!(answer, Answer::Full));
+        } else {
+            tallies.enough.count(is_built_of(&answer, count));
+        }
+        Ok(())
+    }
+
     fn answer_with(&self, layer: &Layer, free: usize) -> Result<Answer> {
         let (words, first) = (self.disk.words.as_slice(), self.disk.first());
         let words = with_free(self.alloc, words, first, free)?;
@@ -208,39 +170,24 @@ impl Course {
             .build(self.alloc, &layer.overlay, words.as_slice(), 0)
     }
 
-    /// Builds on disks with few free blocks, where it took so many.
-    fn look_at_space(&self, layer: &Layer, count: usize, tallies: &mut Tallies) -> Result<()> {
-        for free in [count, layer.need() as usize] {
-            let answer = self.answer_with(layer, free)?;
-            tallies.enough.count(is_built_of(answer, count));
-        }
-        if count > 0 {
-            let answer = self.answer_with(layer, count - 1)?;
-            tallies.too_few.count(matches!(answer, Answer::Full));
-        }
-        Ok(())
-    }
-
     /// Builds where a read fails. Behind the last read none does.
     fn look_at_reads(&self, layer: &Layer, tallies: &mut Tallies) -> Result<()> {
         let mut has_ended = false;
         for failing in 1..READS + 1 {
-            let answer = self.disk.build(
-                self.alloc,
-                &layer.overlay,
-                self.disk.words.as_slice(),
-                failing,
-            )?;
-            let is_right = match answer {
-                Answer::Unread => !has_ended,
-                Answer::Built(_) => {
-                    has_ended = true;
-                    true
-                }
-                _ => false,
-            };
-            tallies.unread.count(is_right);
+            let answer = self.answer_without(layer, failing)?;
+            let is_built = matches!(answer, Answer::Built(_));
+            has_ended |= is_built;
+            let is_unread = matches!(answer, Answer::Unread);
+            tallies
+                .unread
+                .count(if has_ended { is_built } else { is_unread });
         }
         Ok(())
+    }
+
+    /// Builds where a read fails.
+    fn answer_without(&self, layer: &Layer, failing: u64) -> Result<Answer> {
+        let words = self.disk.words.as_slice();
+        self.disk.build(self.alloc, &layer.overlay, words, failing)
     }
 }

@@ -19,7 +19,8 @@ pub fn run(report: &mut Report<'_>) -> Result<()> {
 
 /// A line for each line of a script, of steps, calls, and lines that other scripts don't have: `crash` and a fill stand for
 /// a crash and a mount, `new` for a mount of the least disk, which was just formatted, `fill`, a descriptor and a count for a
-/// write of so many bytes by session 0, and `number` and a path for the number of what is there.
+/// write of so many bytes by session 0, `number` and a path for the number of what is there, and `free` for the blocks that the
+/// root that counts leaves free.
 fn replies(alloc: Global, script: &str) -> Result<String> {
     replies_on(alloc, new_device(alloc)?, script)
 }
@@ -59,6 +60,10 @@ fn mounted_on(alloc: Global, device: MemDevice, text: &mut String) -> Result<Mou
 
 fn asked(alloc: Global, mounted: Mounted, line: &str, text: &mut String) -> Result<Mounted> {
     let mut mounted = mounted;
+    if line == "free" {
+        write!(text, "{}\n", mounted.free())?;
+        return Ok(mounted);
+    }
     match line.strip_prefix("number ") {
         Some(path) => push_number(alloc, &mut mounted, path, text)?,
         None => push_reply(alloc, &reply_to(alloc, &mut mounted, line)?, text)?,

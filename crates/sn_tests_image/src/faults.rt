@@ -2,23 +2,34 @@
 
 use crate::mounting::mounted;
 use anyhow::{Result, bail, ensure};
+use sn_block::Blocks;
+use sn_check::check;
 use sn_device::MemDevice;
 use sn_mkfs::{MkfsFault, Unformatted, mkfs};
 use sn_model::MountFault;
 use sn_table::{Report, Tally};
-use std::alloc::Global;
+use std::alloc::{AllocError, Global};
 
 /// A format of 256 blocks writes 593 sectors and syncs four times.
 const FORMAT_CALLS: u64 = 597;
 
-/// A mount of a new disk makes no more calls than these.
-const MOUNT_CALLS: u64 = 80;
+/// A mount of a new disk, and a check of one, makes no more calls than these.
+const MOST_CALLS: u64 = 80;
+
+/// What is done with a formatted device.
+#[derive(Clone, Copy)]
+enum Task {
+    Mount,
+    Check,
+}
 
 pub fn run(report: &mut Report<'_>) -> Result<()> {
     let formats = formats(report)?;
     report.add("a failure at each call of a format", formats)?;
-    let mounts = mounts(report)?;
-    report.add("a failure at each call of a mount", mounts)
+    let mounts = failures(report, Task::Mount)?;
+    report.add("a failure at each call of a mount", mounts)?;
+    let checks = failures(report, Task::Check)?;
+    report.add("a failure at each call of a check", checks)
 }
 
 /// A new device of 2,048 sectors that fails at a call, formatted.
@@ -46,32 +57,46 @@ fn formats(report: &Report<'_>) -> Result<Tally> {
     Ok(tally)
 }
 
-/// A formatted device whose next calls are counted up to one that fails.
-fn mount_failing(alloc: Global, call: u64) -> Result<Option<MountFault>> {
+/// Why a task isn't done, if it isn't.
+fn perform(alloc: Global, device: MemDevice, task: Task) -> Result<Option<MountFault>> {
+    match task {
+        Task::Mount => match mounted(alloc, device)? {
+            Ok(_) => Ok(None),
+            Err(fault) => Ok(Some(fault)),
+        },
+        Task::Check => {
+            let mut blocks = Blocks::new(alloc, device).map_err(AllocError::from)?;
+            match check(alloc, &mut blocks) {
+                Ok(_) => Ok(None),
+                Err(fault) => Ok(Some(fault)),
+            }
+        }
+    }
+}
+
+/// The same of a formatted device whose next calls are counted up to one that fails.
+fn perform_failing(alloc: Global, task: Task, call: u64) -> Result<Option<MountFault>> {
     ensure!(call > 0, "calls are counted from 1");
     let Ok(mut device) = mkfs(alloc, MemDevice::new(alloc, 2_048)?, 256) else {
         bail!("no format");
     };
     device.fail_at(call);
-    match mounted(alloc, device)? {
-        Ok(_) => Ok(None),
-        Err(fault) => Ok(Some(fault)),
-    }
+    perform(alloc, device, task)
 }
 
-/// Up to some call each failure is told, and behind it the mount makes no more calls.
-fn mounts(report: &Report<'_>) -> Result<Tally> {
+/// Up to some call each failure is told, and behind it the task makes no more calls.
+fn failures(report: &Report<'_>, task: Task) -> Result<Tally> {
     let mut tally = Tally::new();
-    let mut was_mounted = false;
-    for call in 1..MOUNT_CALLS + 1 {
-        let fault = mount_failing(report.alloc(), call)?;
+    let mut was_done = false;
+    for call in 1..MOST_CALLS + 1 {
+        let fault = perform_failing(report.alloc(), task, call)?;
         let is_right = match fault {
-            Some(fault) => fault == MountFault::Device && !was_mounted,
+            Some(fault) => fault == MountFault::Device && !was_done,
             None => call > 1,
         };
-        was_mounted = fault.is_none();
+        was_done = fault.is_none();
         tally.check(report.runtime(), is_right, &[call as u32])?;
     }
-    tally.check(report.runtime(), was_mounted, &[0])?;
+    tally.check(report.runtime(), was_done, &[0])?;
     Ok(tally)
 }

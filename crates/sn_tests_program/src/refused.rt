@@ -8,9 +8,9 @@ use sn_run::{Ran, Unwatched};
 use sn_table::{Report, Tally};
 use std::alloc::Global;
 
-/// Two directories, with a restart behind each, and two steps behind the first; and what is there in the end.
+/// Two directories, with a restart behind each, and a step and a `sync` behind the first; and what is there in the end.
 const EVENTS: &str =
-    "0 login 0 0 -\n0 mkdir /a 0755\nstep\nstep\nrestart\n0 login 0 0 -\n0 mkdir /b 0755\nrestart\n0 login 0 0 -\n0 stat /a\n0 stat /b\n";
+    "0 login 0 0 -\n0 mkdir /a 0755\nstep\n0 sync\nrestart\n0 login 0 0 -\n0 mkdir /b 0755\nrestart\n0 login 0 0 -\n0 stat /a\n0 stat /b\n";
 
 /// No run of these events makes as many calls of its device.
 const MOST_CALLS: u64 = 1_000;
@@ -21,8 +21,10 @@ struct Course {
     /// The refused call has been told.
     is_told: bool,
     has_stopped: bool,
-    /// A step has told it: if it was a read, nothing has stopped, as the next reply tells.
+    /// A root has told it: if it was a read, nothing has stopped, as the next reply tells.
     may_have_stopped: bool,
+    /// The session is open: a restart ends it that isn't refused.
+    is_open: bool,
     /// Whether each directory was answered, in the order in which they are made.
     made: Vec<bool>,
     /// How many were asked for in the end, in the same order.
@@ -42,25 +44,41 @@ impl Course {
             is_told: false,
             has_stopped: false,
             may_have_stopped: false,
+            is_open: false,
             made: Vec::new(alloc),
             asked: 0,
         }
     }
 
-    /// A step is done, or tells the refused call.
-    fn steps(&mut self, reply: &Reply) -> bool {
-        if let Reply::Progress(Progress::Done) = reply {
-            return true;
-        }
+    /// A root that is refused tells the refused call.
+    fn makes_no_root(&mut self, reply: &Reply) -> bool {
         let is_first = !self.is_told;
         self.is_told = true;
         self.may_have_stopped = true;
         is_first && is_refused(reply, Errno::Eio)
     }
 
-    /// A restart mounts, or tells the refused call and stops.
+    /// A step or a `sync` is done, or it is refused.
+    fn steps(&mut self, reply: &Reply) -> bool {
+        matches!(reply, Reply::Done | Reply::Progress(Progress::Done)) || self.makes_no_root(reply)
+    }
+
+    /// A session is opened, unless it is open still.
+    fn logs_in(&mut self, reply: &Reply) -> bool {
+        if self.is_open {
+            return is_refused(reply, Errno::Ebusy);
+        }
+        self.is_open = true;
+        matches!(reply, Reply::Done)
+    }
+
+    /// A restart mounts, or tells the refused call: its unmount is refused, or it stops.
     fn restarts(&mut self, reply: &Reply) -> bool {
+        if let Reply::Refused(_) = reply {
+            return self.makes_no_root(reply);
+        }
         self.may_have_stopped = false;
+        self.is_open = false;
         if let Reply::Done = reply {
             self.has_stopped = false;
             return true;
@@ -102,6 +120,11 @@ impl Course {
         if self.has_stopped {
             return Ok(is_refused(reply, Errno::Estopped));
         }
+        self.serves(event, reply)
+    }
+
+    /// What may be answered to a call or a step of a mount that runs.
+    fn serves(&mut self, event: &Event, reply: &Reply) -> Result<bool> {
         Ok(match event {
             Event::Call {
                 call: Call::Mkdir { .. },
@@ -111,7 +134,15 @@ impl Course {
                 call: Call::Stat { .. },
                 ..
             } => self.finds(reply),
-            Event::Step => self.steps(reply),
+            Event::Step
+            | Event::Call {
+                call: Call::Sync,
+                ..
+            } => self.steps(reply),
+            Event::Call {
+                call: Call::Login { .. },
+                ..
+            } => self.logs_in(reply),
             _ => matches!(reply, Reply::Done),
         })
     }

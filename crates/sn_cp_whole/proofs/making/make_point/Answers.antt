@@ -16,6 +16,7 @@ use Rattle.sn_sound.specs.Logs.{HasAgeLeft}
 use Rattle.sn_root.specs.Slots.{gate_in}
 use Rattle.sn_cp_whole.specs.Planning.{kept_in}
 use Rattle.sn_cp_whole.proofs.PointLemmas.{begins_leave, finished_costs, gate_stays, leaves, nothing_written, ready, ready_with, room_left, unfinished_costs, unplanned_costs, whole_work}
+use Rattle.sn_cp_whole.proofs.RecoverLemmas.{begins_apart, point_apart, untouched}
 use Rattle.sn_cp_whole.proofs.making.make_point.Goals as goal
 
 pub returns-in-Err-clause-point : goal.returns-in-Err-clause-point
@@ -24,11 +25,20 @@ returns-in-Err-clause-point g c told h world rr =
     nothing_written _ world _ rr c.plan.result c.in-Err.fault _ c.args.room.now c.args.log.now c.in-Err.is (c.in-Err.ensures.same told)
     (λ e can. c.plan.ensures.damaged told e (subst (λ (n : ℕ). CanBeBuilt n (store_of (reads (g.D.Device.disk (device_of c.args.blocks.now)))) (kept_in c.args.base.now)) (sym n_is) can))
 
+pub returns-in-Err-clause-touched : goal.returns-in-Err-clause-touched
+returns-in-Err-clause-touched g c told = untouched _ _ _ (c.in-Err.ensures.same told)
+
 pub returns-in-Err-clause-costs : goal.returns-in-Err-clause-costs
 returns-in-Err-clause-costs g c = unplanned_costs c.in-Err.fault _ _ _ _ c.in-Err.ensures.cause
 
 pub returns-in-Err-Device-clause-point : goal.returns-in-Err-Device-clause-point
 returns-in-Err-Device-clause-point g c told h world rr = begins_leave _ world _ rr _ _ _ (c.in-Ok.ensures.same told) (c.in-Err-Device.ensures.bytes told)
+
+pub returns-in-Err-Memory-clause-touched : goal.returns-in-Err-Memory-clause-touched
+returns-in-Err-Memory-clause-touched g c told = begins_apart c.args.log.now c.args.base.now.slot _ _ _ _ (c.in-Ok.ensures.same told) (c.in-Err-Memory.ensures.bytes told)
+
+pub returns-in-Err-Device-clause-touched : goal.returns-in-Err-Device-clause-touched
+returns-in-Err-Device-clause-touched g c told = begins_apart c.args.log.now c.args.base.now.slot _ _ _ _ (c.in-Ok.ensures.same told) (c.in-Err-Device.ensures.bytes told)
 
 pub finish-requires-clause-whole : goal.finish-requires-clause-whole
 finish-requires-clause-whole g c =
@@ -57,6 +67,15 @@ returns-in_default-clause-point g c told h world rr =
     (g.met.D.Device.whole (device_of c.begin.new.blocks) told) (g.met.D.Device.whole (device_of c.finish.new.blocks) told) _ _
     (c.new-point.ensures.work ∙ (λ i. record { blocks = n_is i; slot = c.other-slot.ensures i; gate = p.gate; plan = plan_of p.built p.next })) (c.in_default.ensures.bytes told)
 
+pub returns-in_default-clause-touched : goal.returns-in_default-clause-touched
+returns-in_default-clause-touched g c told =
+    let base = c.args.base.now in
+    let p = c.in-Ok.planned in
+    let n_is = c.places-places.ensures ∙ ap (λ (at : LogPosition). at.blocks) c.position.ensures in
+    point_apart (record { blocks = c.places-places.result; slot = c.other-slot.result; gate = p.gate; plan = plan_of p.built p.next })
+    (whole_work c.places-places.result base.root.limits base.map (layer_of base.changed) p.built p.next c.other-slot.result p.gate c.blocks-blocks.ensures.valid (c.requires.base.words ∙ sym n_is) c.in-Ok.ensures.well c.in-Ok.ensures.spelled c.in-Ok.ensures.next.body)
+    base.slot (sym c.other-slot.ensures) c.args.log.now _ _ _ _ _ _ _ n_is c.new-point.ensures.work (c.in-Ok.ensures.same told) (c.in-Ok-begin.ensures.bytes told) (c.in_default.ensures.bytes told)
+
 pub returns-in_default-clause-costs : goal.returns-in_default-clause-costs
 returns-in_default-clause-costs g c =
     let p = c.in-Ok.planned in
@@ -81,6 +100,15 @@ returns-clause-point g c told h world rr =
           (λ i. record { slot = c.other-slot.ensures i; root = (c.into_root-root.ensures.root ∙ ap (λ (w : Work). w.plan.next) after) i; words = (c.into_root-root.ensures.words ∙ ap (λ (w : Work). w.plan.words) after) i; changed = c.in-Ok.ensures.empty i })
           (ready _ world _ rr p.built p.next p.gate well builds c.in-Ok.ensures.spelled c.in-Ok.ensures.next _ _ _ (c.in-Ok.ensures.same told) (c.in-Ok-begin.ensures.bytes told) whole_begun whole _ _ work (c.in-Ok-finish.ensures.bytes told)),
     )
+
+pub returns-clause-touched : goal.returns-clause-touched
+returns-clause-touched g c told =
+    let base = c.args.base.now in
+    let p = c.in-Ok.planned in
+    let n_is = c.places-places.ensures ∙ ap (λ (at : LogPosition). at.blocks) c.position.ensures in
+    point_apart (record { blocks = c.places-places.result; slot = c.other-slot.result; gate = p.gate; plan = plan_of p.built p.next })
+    (whole_work c.places-places.result base.root.limits base.map (layer_of base.changed) p.built p.next c.other-slot.result p.gate c.blocks-blocks.ensures.valid (c.requires.base.words ∙ sym n_is) c.in-Ok.ensures.well c.in-Ok.ensures.spelled c.in-Ok.ensures.next.body)
+    base.slot (sym c.other-slot.ensures) c.args.log.now _ _ _ _ _ _ _ n_is c.new-point.ensures.work (c.in-Ok.ensures.same told) (c.in-Ok-begin.ensures.bytes told) (c.in-Ok-finish.ensures.bytes told)
 
 pub returns-clause-costs : goal.returns-clause-costs
 returns-clause-costs g c =

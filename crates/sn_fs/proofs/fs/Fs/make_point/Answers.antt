@@ -6,6 +6,7 @@ use Rattle.sn_held.specs.Held.{Held, RunsReady}
 use Rattle.sn_held.proofs.EventLemmas.{ready_with}
 use Rattle.sn_limits.specs.Versions.{version_1}
 use Rattle.sn_model.specs.World.{World}
+use Rattle.sn_model.specs.declared.call.Event.TheVariants.{Step}
 use Rattle.sn_model.specs.Worlds.{IsWorld}
 use Rattle.sn_log.specs.Places.{LogPosition}
 use Rattle.sn_overlay.specs.Needs.{counts, nameless_in}
@@ -35,6 +36,9 @@ returns-in-Ok-clause-points g c told r =
       changed = c.in-Ok.ensures.empty;
       age = c.in-Ok.ensures.age;
       moments = made.0;
+      touched = c.in-Ok.ensures.touched told;
+      built = old.base.changed;
+      builds = refl;
       runs = subst (λ (w : World). RunsReady (record parts { world = w; kept = kept; base = base; status = status }) old.world base) (sym c.release_kept.ensures.world) (ready_with parts old.world base kept base status made.1);
       count = done.0;
       few = done.1;
@@ -64,7 +68,8 @@ returns-in-Err-clause-points g c told r =
       status = g.D.Device.status (device_of c.make_point.new.blocks);
     } in
     let e = c.in-Err.ensures in
-    point_unmade old new refl refl e.keeps.1 (ap kept_in e.keeps.0) c.in-Err.fault (kept_in c.make_point.new.base) e.stays (e.point told old old.world r) e.costs.cause e.costs.later
+    let parts = with_parts old c.make_point.new.log c.make_point.new.room new.disk in
+    point_unmade Step old new refl refl e.keeps.1 (ap kept_in e.keeps.0) old.base.changed refl c.in-Err.fault old.world refl parts (kept_in c.make_point.new.base) refl e.stays (e.point told old old.world r) (e.touched told) e.costs.cause e.costs.later
     (record { writes = e.costs.writes; syncs = e.costs.syncs }) (λ is. e.aged (ap Err is))
 
 pub returns-in-Err-clause-sound : goal.returns-in-Err-clause-sound

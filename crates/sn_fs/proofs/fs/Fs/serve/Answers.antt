@@ -3,7 +3,6 @@ use Rattle.std.specs.Prelude.{if◌then◌else◌, is_some}
 use Rattle.sn_limits.specs.Versions.{version_1}
 use Rattle.sn_model.specs.declared.reply.Errno.TheVariants.{Enomem}
 use Rattle.sn_model.specs.declared.reply.Reply.{Reply}
-use Rattle.sn_model.specs.declared.reply.Reply.TheVariants.{Refused}
 use Rattle.sn_model.specs.Machine.{refused}
 use Rattle.sn_model.specs.NameTree.{IsTree}
 use Rattle.sn_model.specs.Settling.{OnlyLost, dropped}
@@ -12,7 +11,6 @@ use Rattle.sn_model.specs.Steps.{Becomes, decision, with_caller}
 use Rattle.sn_model.specs.World.{World}
 use Rattle.sn_model.specs.Worlds.{IsWorld}
 use Rattle.sn_desc.specs.InUse.{live_in}
-use Rattle.sn_core.specs.declared.error.CallError.TheVariants as lack
 use Rattle.sn_core.specs.Called.{CanTurn, HasRoom}
 use Rattle.sn_core.specs.Plain.{kept_of, room_of, world_of}
 use Rattle.sn_core.specs.Served.{HasNumber}
@@ -23,32 +21,24 @@ use Rattle.sn_room.specs.Rooms.{RoomCounts, fits}
 use Rattle.sn_held.specs.Held.{Held}
 use Rattle.sn_fs.specs.Changing.{FailsChange, IsLogged, errno_of}
 use Rattle.sn_fs.specs.Filesystem.{held}
-use Rattle.sn_fs.specs.Serving.{Serves, Turns}
+use Rattle.sn_fs.specs.Serving.{Serves, Turns, reply_to}
 use Rattle.sn_fs.proofs.CallLemmas.{fewer_left, lacking, made_serves, told_serves, undecided_serves, unmade_serves, unprepared_serves}
 use Rattle.sn_fs.proofs.DecisionLemmas.{can_be_made}
 use Rattle.sn_fs.proofs.ServeLemmas.{HasRoomFor, based_still, lacks_nothing, made_over, one_at_most, room_fewer, room_kept, same_twice, some_lack, still_same, within_still}
 use Rattle.sn_fs.proofs.fs.Fs.serve.Goals as goal
 
-pub returns-in-Err-Refused-clause-served : goal.returns-in-Err-Refused-clause-served
-returns-in-Err-Refused-clause-served g c told =
+pub returns-in-Err-clause-served : goal.returns-in-Err-clause-served
+returns-in-Err-clause-served g c told =
     let h = held c.args.self.now in
-    let none = rw c.in-Err-Refused.field-0-is at c.in-Err-Refused.ensures.decided in
-    subst (λ (b : Bool). Serves (Some (Refused c.in-Err-Refused.refusal)) h c.args.session c.args.call.now h b) (sym c.requires.running)
-    (undecided_serves h c.args.session c.args.call.now (lack.Refused c.in-Err-Refused.refusal) none)
-
-pub returns-in-Err-Memory-clause-served : goal.returns-in-Err-Memory-clause-served
-returns-in-Err-Memory-clause-served g c told =
-    let h = held c.args.self.now in
-    let none = rw c.in-Err-Memory.field-0-is at c.in-Err-Memory.ensures.decided in
-    subst (λ (r : Reply). Serves (Some r) h c.args.session c.args.call.now h c.args.self.now.has_stopped) (sym c.refused.ensures)
-    (subst (λ (b : Bool). Serves (Some (refused Enomem)) h c.args.session c.args.call.now h b) (sym c.requires.running)
-    (undecided_serves h c.args.session c.args.call.now lack.Memory none))
+    subst (λ (r : Reply). Serves (Some r) h c.args.session c.args.call.now h c.args.self.now.has_stopped) (sym c.reply_of.ensures)
+    (subst (λ (b : Bool). Serves (Some (reply_to c.in-Err.error)) h c.args.session c.args.call.now h b) (sym c.requires.running)
+    (undecided_serves h c.args.session c.args.call.now c.in-Err.error c.in-Err.ensures.decided))
 
 pub returns-in_default-clause-served : goal.returns-in_default-clause-served
 returns-in_default-clause-served g c told =
     let h = held c.args.self.now in
     let p = c.prepare.new.self in
-    subst (λ (r : Reply). Serves (Some r) h c.args.session c.args.call.now (held p) p.has_stopped) (sym c.refused-in_default.ensures)
+    subst (λ (r : Reply). Serves (Some r) h c.args.session c.args.call.now (held p) p.has_stopped) (sym c.refused.ensures)
     (subst (λ (b : Bool). Serves (Some (refused Enomem)) h c.args.session c.args.call.now (held p) b) (sym (c.in_default.ensures.stopped ∙ c.requires.running))
     (subst (λ (x : Held). Serves (Some (refused Enomem)) h c.args.session c.args.call.now x false) (sym c.in_default.ensures.held)
     (unprepared_serves h c.args.session c.args.call.now c.in-Ok.outcome c.in-Ok.ensures.decided c.in_default.ensures.opening)))
@@ -90,32 +80,32 @@ returns-then-lacks-clause-served g c told =
       c.in-Ok.ensures.numbers,
     )
 
-pub returns-in-Err-clause-served : goal.returns-in-Err-clause-served
-returns-in-Err-clause-served g c told =
+pub returns-in-Err-log_change-clause-served : goal.returns-in-Err-log_change-clause-served
+returns-in-Err-log_change-clause-served g c told =
     let h = held c.args.self.now in
     let p = held c.prepare.new.self in
     let o = c.in-Ok.outcome in
-    let fault = c.in-Err.fault in
+    let fault = c.in-Err-log_change.fault in
     let after = held c.log_change.new.self in
     let same = c.in-Ok-prepare.ensures.held in
     let chosen = choosing p.world h.world p.kept h.kept o c.choose-change.result (ap (λ (x : Held). x.world) same) (ap (λ (x : Held). x.kept) same) c.choose-change.ensures in
     let fitting = c.fits-fits.ensures.exact ∙ ap (λ (n : ℕ). fits version_1 h.room n o) c.nameless.ensures in
     let all = lacks_nothing h p o c.in-Some.change c.fits-fits.result c.lacks.result same fitting c.if-lacks.false c.lacks.ensures in
-    let made = subst (λ (x : Held). FailsChange g.D.Device.tells_bytes fault c.in-Some.change x after) same c.in-Err.ensures.made in
+    let made = subst (λ (x : Held). FailsChange g.D.Device.tells_bytes fault c.in-Some.change x after) same c.in-Err-log_change.ensures.made in
     let fails = subst (λ (b : Bool). FailsChange b fault c.in-Some.change h after) told made in
     let a = unmade_serves h c.args.session c.args.call.now o c.choose-change.result c.in-Some.change c.in-Ok.ensures.numbers (c.requires.sound.whole c.requires.running) c.in-Ok.ensures.decided chosen c.in-Some.is after fault fails all in
-    subst (λ (r : Reply). Serves (Some r) h c.args.session c.args.call.now after c.stops-self.result) (sym (c.refused-in-Err.ensures ∙ ap refused c.errno.ensures))
+    subst (λ (r : Reply). Serves (Some r) h c.args.session c.args.call.now after c.stops-self.result) (sym (c.refused-in-Err-log_change.ensures ∙ ap refused c.errno.ensures))
     (subst (λ (b : Bool). Serves (Some (refused (errno_of fault))) h c.args.session c.args.call.now after b) (sym c.stops-self.ensures) a)
 
-pub returns-in-Err-clause-sound : goal.returns-in-Err-clause-sound
-returns-in-Err-clause-sound g c =
+pub returns-in-Err-log_change-clause-sound : goal.returns-in-Err-log_change-clause-sound
+returns-in-Err-log_change-clause-sound g c =
     let h = held c.args.self.now in
     let p = held c.prepare.new.self in
     let running = c.requires.running in
     let prepared = c.in-Ok-prepare.ensures in
-    let failed = c.in-Err.ensures in
+    let failed = c.in-Err-log_change.ensures in
     let at_is = ap (λ (x : Held). x.at) prepared.held in
-    let same = λ (goes_on : c.stops-self.result ≡ false). still_same g.D.Device.tells_bytes c.in-Err.fault c.in-Some.change p (held c.log_change.new.self) failed.made (sym c.stops-self.ensures ∙ goes_on) ∙ prepared.held in
+    let same = λ (goes_on : c.stops-self.result ≡ false). still_same g.D.Device.tells_bytes c.in-Err-log_change.fault c.in-Some.change p (held c.log_change.new.self) failed.made (sym c.stops-self.ensures ∙ goes_on) ∙ prepared.held in
     record {
       within = λ goes_on. within_still c.args.self.now.log.blocks c.log_change.new.self.log.blocks _ _ (failed.blocks ∙ ap (λ (x : Held). x.at.blocks) prepared.held) (failed.sectors ∙ ap (λ (x : Held). x.status.sectors) prepared.held) (c.requires.sound.within running);
       whole = λ goes_on. subst (λ (x : Held). IsWorld version_1 x.world) (sym (same goes_on)) (c.requires.sound.whole running);
@@ -192,7 +182,7 @@ returns-in-Ok-log_change-clause-served g c told =
     let fitting = c.fits-fits.ensures.exact ∙ ap (λ (n : ℕ). fits version_1 h.room n o) c.nameless.ensures in
     let all = lacks_nothing h p o c.in-Some.change c.fits-fits.result c.lacks.result same fitting c.if-lacks.false c.lacks.ensures in
     let logged = subst (λ (b : Bool). IsLogged b c.in-Some.change o.charge h mid) told (subst (λ (x : Held). IsLogged g.D.Device.tells_bytes c.in-Some.change o.charge x mid) same c.in-Ok-log_change.ensures.made) in
-    let a = made_serves h c.args.session c.args.call.now o picked c.in-Some.change c.in-Ok.ensures.numbers whole c.in-Ok.ensures.decided chosen c.in-Some.is c.changed_laws.ensures.changes mid new logged all c.turn.ensures.turned in
+    let a = made_serves h c.args.session c.args.call.now o picked c.in-Some.change c.in-Ok.ensures.numbers whole c.in-Ok.ensures.decided chosen c.in-Some.is c.changed_laws.ensures.changes mid new c.requires.alone logged all c.turn.ensures.turned in
     subst (λ (b : Bool). Serves (Some o.told) h c.args.session c.args.call.now new b) (sym (c.turn.ensures.stopped ∙ c.in-Ok-log_change.ensures.stopped ∙ c.in-Ok-prepare.ensures.stopped ∙ c.requires.running)) a
 
 pub returns-in-Ok-log_change-clause-sound : goal.returns-in-Ok-log_change-clause-sound
@@ -273,7 +263,7 @@ returns-in-None-clause-served g c told =
     let new = held c.turn-in-None.new.self in
     let parked = c.nameless-parked.ensures ∙ ap (λ (x : Held). nameless_in x.world.live) same in
     let turned = subst (λ (n : ℕ). Turns c.args.session picked.caller n h new) parked (subst (λ (x : Held). Turns c.args.session picked.caller c.nameless-parked.result x new) same c.turn-in-None.ensures.turned) in
-    let a = told_serves h new c.args.session c.args.call.now o picked c.in-Ok.ensures.numbers whole c.in-Ok.ensures.decided chosen c.in-None.is turned in
+    let a = told_serves h new c.args.session c.args.call.now o picked c.requires.alone c.in-Ok.ensures.numbers whole c.in-Ok.ensures.decided chosen c.in-None.is turned in
     subst (λ (b : Bool). Serves (Some o.told) h c.args.session c.args.call.now new b) (sym (c.turn-in-None.ensures.stopped ∙ c.in-Ok-prepare.ensures.stopped ∙ c.requires.running)) a
 
 pub returns-in-None-clause-sound : goal.returns-in-None-clause-sound

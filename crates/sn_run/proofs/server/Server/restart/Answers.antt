@@ -1,47 +1,59 @@
-use Rattle.std.proofs.Common.{◌≡◌, ◌*◌, ◌≤◌, length, false, sym, ap, subst, ◌∙◌}
-use Rattle.sn_device.specs.Disk.{Disk, reads}
-use Rattle.sn_device.specs.Sectors.{AreSectors}
+use Rattle.std.proofs.Common.{◌≡◌, Bool, false, true, sym, ap, subst, ◌∙◌}
+use Rattle.sn_device.specs.Disk.{Disk}
 use Rattle.sn_device.specs.declared.status.Status.{Status}
-use Rattle.sn_model.specs.World.{new_world}
-use Rattle.sn_log.specs.Places.{first_of}
-use Rattle.sn_block.specs.Counts.{IsLater}
-use Rattle.sn_room.specs.Rooms.{fresh}
-use Rattle.sn_held.specs.Held.{Held}
-use Rattle.sn_examine.specs.Failing.{IsSoOf}
-use Rattle.sn_mount.specs.Costs.{CostsFew, CostsMount}
+use Rattle.sn_model.specs.declared.call.Event.TheVariants.{Restart}
+use Rattle.sn_model.specs.declared.reply.Reply.{Reply}
+use Rattle.sn_model.specs.Machine.{refused}
+use Rattle.sn_fs.specs.Answers.{Answers}
 use Rattle.sn_fs.specs.Filesystem.{has_stopped, held}
-use Rattle.sn_fs.specs.Mounting.{IsLeft, Mounts}
-use Rattle.sn_run.specs.Servers.{is_stopped, no_base, standing}
-use Rattle.sn_run.proofs.RestartLemmas.{mounted_answers, unmounted_answers}
+use Rattle.sn_fs.specs.Pointing.{errno_of_point}
+use Rattle.sn_fs.proofs.PointLemmas.{unpointed_restart}
+use Rattle.sn_run.specs.declared.server.Server.{Server}
+use Rattle.sn_run.specs.Restarting.{Remounts}
+use Rattle.sn_run.specs.Servers.{is_stopped, standing}
+use Rattle.sn_run.proofs.RestartLemmas.{restart_running, restart_stopped}
 use Rattle.sn_run.proofs.server.Server.restart.Goals as goal
+
+pub returns-in-Unmounted-clause-answered : goal.returns-in-Unmounted-clause-answered
+returns-in-Unmounted-clause-answered g c told =
+    let S = Server g.row.D.Denot g.D.Device in
+    let self : S = Server.Unmounted c.in-Unmounted.device in
+    let next = c.remount.result in
+    subst (λ (x : S). Answers Restart next.0 (standing x) (is_stopped x) (standing next.1) (is_stopped next.1)) (sym c.in-Unmounted.is)
+    (restart_stopped (standing self) (standing next.1) (is_stopped next.1) next.0 (c.remount.ensures.mounts told))
+
+pub returns-then-has_stopped-clause-answered : goal.returns-then-has_stopped-clause-answered
+returns-then-has_stopped-clause-answered g c told =
+    let S = Server g.row.D.Denot g.D.Device in
+    let fs = c.in-Mounted.fs in
+    let next = c.remount-then-has_stopped.result in
+    let old = held fs in
+    let r = subst (λ (s : Status). Remounts next.0 s old.disk (standing next.1) (is_stopped next.1)) c.into_device.ensures.status
+    (subst (λ (d : Disk). Remounts next.0 (g.D.Device.status c.into_device.result) d (standing next.1) (is_stopped next.1)) c.into_device.ensures.disk (c.remount-then-has_stopped.ensures.mounts told)) in
+    subst (λ (x : S). Answers Restart next.0 (standing x) (is_stopped x) (standing next.1) (is_stopped next.1)) (sym c.in-Mounted.is)
+    (subst (λ (b : Bool). Answers Restart next.0 old b (standing next.1) (is_stopped next.1)) (sym (sym c.has_stopped.ensures ∙ c.if-has_stopped.true))
+    (restart_stopped old (standing next.1) (is_stopped next.1) next.0 r))
 
 pub returns-in-Ok-clause-answered : goal.returns-in-Ok-clause-answered
 returns-in-Ok-clause-answered g c told =
-    let old = standing c.args.self in
-    let device = c.into_device.result in
-    let new = held c.in-Ok.fs in
-    let disk = c.into_device.ensures.disk in
-    let status = c.into_device.ensures.status in
-    let has = has_stopped c.in-Ok.fs in
-    let whole = subst (λ (d : Disk). AreSectors (reads d)) disk (g.met.D.Device.whole device told) in
-    let within = subst (λ (s : Status). 8 * new.at.blocks ≤ s.sectors) status c.in-Ok.ensures.within in
-    let costs = subst (λ (s : Status). CostsMount new.at.blocks s new.status) status c.in-Ok.ensures.costs in
-    let of_status = subst (λ (s : Status). Mounts s.sectors (g.D.Device.disk device) new has) status (c.in-Ok.ensures.mounted told) in
-    mounted_answers old new (is_stopped c.args.self) whole new.at.blocks within costs has (subst (λ (d : Disk). Mounts old.status.sectors d new has) disk of_status)
+    let S = Server g.row.D.Denot g.D.Device in
+    let old = held c.in-Mounted.fs in
+    let device = c.in-Ok.device in
+    let next = c.remount-in-Ok.result in
+    subst (λ (x : S). Answers Restart next.0 (standing x) (is_stopped x) (standing next.1) (is_stopped next.1)) (sym c.in-Mounted.is)
+    (subst (λ (b : Bool). Answers Restart next.0 old b (standing next.1) (is_stopped next.1)) (sym c.in-Ok.ensures.running)
+    (restart_running old (standing next.1) (is_stopped next.1) next.0 (g.D.Device.disk device) (g.D.Device.status device) (c.in-Ok.ensures.unmounted told) (c.remount-in-Ok.ensures.mounts told)))
 
 pub returns-in-Err-clause-answered : goal.returns-in-Err-clause-answered
 returns-in-Err-clause-answered g c told =
-    let old = standing c.args.self in
-    let device = c.into_device.result in
-    let u = c.in-Err.field-0 in
-    let new : Held = record { world = new_world; kept = λ number. false; room = fresh 0; at = first_of 256 1; base = no_base; disk = g.D.Device.disk u.device; status = g.D.Device.status u.device } in
-    let disk = c.into_device.ensures.disk in
-    let status = c.into_device.ensures.status in
-    let whole = subst (λ (d : Disk). AreSectors (reads d)) disk (g.met.D.Device.whole device told) in
-    let count : length (reads old.disk) ≡ old.status.sectors = sym (ap (λ (d : Disk). length (reads d)) disk) ∙ g.met.D.Device.count device told ∙ ap (λ (s : Status). s.sectors) status in
-    let of_status = subst (λ (s : Status). IsLeft u.fault s.sectors (g.D.Device.disk device) new.disk) status (c.in-Err.ensures.unmounted told) in
-    let left = subst (λ (d : Disk). IsLeft u.fault old.status.sectors d new.disk) disk of_status in
-    let failed = subst (λ (s : Status). IsSoOf u.fault s new.status) status c.in-Err.ensures.failed in
-    let later = subst (λ (s : Status). IsLater s new.status) status c.in-Err.ensures.later in
-    let costs = subst (λ (s : Status). CostsFew s new.status) status c.in-Err.ensures.tries in
-    unmounted_answers old new (is_stopped c.args.self) u.fault whole count left failed later costs
+    let S = Server g.row.D.Denot g.D.Device in
+    let old = held c.in-Mounted.fs in
+    let s = c.in-Err.field-0 in
+    let new = held s.fs in
+    let running = sym c.has_stopped.ensures ∙ c.if-has_stopped.false in
+    let refuses = c.in-Err.ensures.refused told running in
+    subst (λ (x : S). Answers Restart c.refused.result (standing x) (is_stopped x) new (has_stopped s.fs)) (sym c.in-Mounted.is)
+    (subst (λ (r : Reply). Answers Restart r old (has_stopped c.in-Mounted.fs) new (has_stopped s.fs)) (sym (c.refused.ensures ∙ ap refused refuses.told))
+    (subst (λ (b : Bool). Answers Restart (refused (errno_of_point refuses.fault)) old b new (has_stopped s.fs)) (sym running)
+    (subst (λ (b : Bool). Answers Restart (refused (errno_of_point refuses.fault)) old false new b) (sym refuses.stops)
+    (unpointed_restart old new refuses.fault refuses.unpointed))))

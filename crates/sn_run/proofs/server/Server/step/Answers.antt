@@ -21,5 +21,5 @@ returns-in-Unmounted-clause-answered g c told =
     let S = Server g.row.D.Denot g.D.Device in
     let self : S = Server.Unmounted c.in-Unmounted.device in
     let h = standing self in
-    subst (λ (r : Reply). Answers Step r (standing c.args.self) (is_stopped c.args.self) h true) (sym c.stopped.ensures)
+    subst (λ (r : Reply). Answers Step r (standing c.args.self) (is_stopped c.args.self) h true) (sym c.refused.ensures)
     (subst (λ (x : S). Answers Step (refused Estopped) (standing x) (is_stopped x) h true) (sym c.in-Unmounted.is) (stopped_step h))

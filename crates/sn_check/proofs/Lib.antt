@@ -1,0 +1,4 @@
+pub mod FaultLemmas
+pub mod FreeLemmas
+pub mod LogLemmas
+pub mod VerdictLemmas

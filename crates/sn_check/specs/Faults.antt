@@ -1,0 +1,30 @@
+-- What faults of the parts make of a check.
+use Rattle.std.specs.Prelude.{ℕ}
+use Rattle.sn_examine.specs.Failing.{read_fault}
+use Rattle.sn_marks.specs.declared.fault.CheckFault.{CheckFault}
+use Rattle.sn_marks.specs.declared.fault.CheckFault.TheVariants as of_check
+use Rattle.sn_model.specs.declared.mount.Damage.{Damage}
+use Rattle.sn_model.specs.declared.mount.MountFault.{MountFault}
+use Rattle.sn_model.specs.declared.mount.MountFault.TheVariants.{NotFormatted, Version, NoRoot, Damaged, Memory, Device}
+
+abbrev pub fault_of_check : CheckFault → MountFault
+fault_of_check (of_check.Damaged damage block) = Damaged damage block
+fault_of_check (of_check.Read fault) = read_fault fault
+
+-- what was checked before and is damaged now is a failure of the device, which gives other bytes than before
+abbrev pub unread : MountFault → MountFault
+unread (Damaged damage block) = Device
+unread NotFormatted = NotFormatted
+unread Version = Version
+unread NoRoot = NoRoot
+unread Memory = Memory
+unread Device = Device
+
+-- A damage that is told is so of its block. Else memory was refused, or the device failed.
+abbrev pub IsDamageOf : (Damage → ℕ → Type 0) → MountFault → Type 0
+IsDamageOf P (Damaged damage block) = P damage block
+IsDamageOf P NotFormatted = ⊥
+IsDamageOf P Version = ⊥
+IsDamageOf P NoRoot = ⊥
+IsDamageOf P Memory = Unit {0}
+IsDamageOf P Device = Unit {0}

@@ -1,0 +1,132 @@
+//! The log on top of a sound root.
+ghost use Rattle.std.specs.Prelude.{◌≡◌, ◌*◌, ◌≤◌, ℕ, true, IsTrue, IfErr, IfOk, OnOk};
+ghost use Rattle.sn_device.specs.Disk.{reads};
+ghost use Rattle.sn_block.specs.Lending.{device_of};
+ghost use Rattle.sn_layout.specs.RootBody.{IsRootBody};
+ghost use Rattle.sn_limits.specs.Versions.{version_1};
+ghost use Rattle.sn_image.specs.Sound.{IsSound};
+ghost use Rattle.sn_ondisk.specs.Trees.{store_of};
+ghost use Rattle.sn_room.specs.Rooms.{is_covered, mounted};
+ghost use Rattle.sn_sound.specs.Logs.{HasSoundLog};
+ghost use Rattle.sn_examine.specs.Failing.{FailsAs, WritesNothing};
+ghost use Rattle.sn_check.specs.Faults.{IsDamageOf};
+ghost use Rattle.sn_check.specs.Logs.{HasLogged, IsOfLog, IsOver};
+
+use crate::fault::unread;
+use sn_block::Blocks;
+use sn_device::Device;
+use sn_examine::{is_to_recover, load_world, none_later, replay_both, test_age};
+use sn_layout::{Area, LogHalf, Places, RootBody};
+use sn_limits::Limits;
+use sn_log::Buffer;
+use sn_model::{Damage, MountFault};
+use sn_room::Room;
+use std::alloc::Global;
+
+/// What the log on top of a root comes to.
+#[derive(Clone, Copy)]
+pub(crate) struct Logged {
+    /// What its records are charged.
+    pub(crate) charges: u128,
+    /// How many files of the root's tree have no name.
+    pub(crate) dropped: u32,
+    /// Whether something is to recover: a record is logged, or a file has no name.
+    pub(crate) recovers: bool,
+}
+
+/// Reads the tree of a sound root into memory, and replays the records of its epoch and of the next one into it. `body` is
+/// the block of the root body. Damaged is a record that is misspelt or can't be applied, told of the block of its gate.
+fn replay_log<D: Device>(
+    alloc: Global,
+    blocks: &mut Blocks<D>,
+    places: Places,
+    root: &RootBody,
+    body: u32,
+) -> Result<Logged, MountFault>
+    requires fits { IsRootBody root.now }
+    requires room { 8 * places ≤ (D.status (device_of blocks.old)).sectors }
+    requires sound { IsTrue D.tells_bytes → IsSound root.now.limits places (store_of (reads (D.disk (device_of blocks.old)))) root.now.inode_file }
+    ensures logged { IsTrue D.tells_bytes → IfOk result (λ l. HasLogged places (reads (D.disk (device_of blocks.old))) root.now l.charges l.dropped l.recovers) }
+    ensures fault { IsTrue D.tells_bytes → IfErr result (λ f. (free : ℕ) → IsDamageOf (IsOfLog places (reads (D.disk (device_of blocks.old))) root.now free) f) }
+    ensures same { IsTrue D.tells_bytes → D.disk (device_of blocks.new) ≡ D.disk (device_of blocks.old) }
+    ensures idle { OnOk result (D.status (device_of blocks.new) ≡ D.status (device_of blocks.old)) }
+    ensures reads { WritesNothing (D.status (device_of blocks.old)) (D.status (device_of blocks.new)) }
+    ensures failed { IsTrue D.tells_bytes → FailsAs result (D.status (device_of blocks.old)) (D.status (device_of blocks.new)) }
+{
+    let Ok(mut buffer) = Buffer::new(alloc) else {
+        return Err(MountFault::Memory);
+    };
+    let mut world = match load_world(alloc, blocks, root, body) {
+        Ok(world) => world,
+        Err(fault) => return Err(unread(fault)),
+    };
+    let dropped = world.nameless();
+    let replayed = match replay_both(alloc, blocks, &mut buffer, &mut world, places, root.epoch) {
+        Ok(replayed) => replayed,
+        Err(fault) => return Err(fault),
+    };
+    let recovers = is_to_recover(replayed.at.count(), dropped);
+    Ok(Logged {
+        charges: replayed.charges,
+        dropped,
+        recovers,
+    })
+}
+
+/// Damaged where what is logged is charged more than is free, which is told of the half of the root's epoch.
+fn test_charges(
+    places: Places,
+    root: &RootBody,
+    free: u32,
+    logged: &Logged,
+) -> Result<(), MountFault>
+    ensures covered { OnOk result (is_covered version_1 (mounted free logged.now.charges logged.now.dropped) ≡ true) }
+    ensures over { IfErr result (λ f. IsOver f places root.now free logged.now.charges logged.now.dropped) }
+{
+    match Room::mounted(&Limits::VERSION_1, free, logged.charges, logged.dropped) {
+        Some(_) => Ok(()),
+        None => Err(MountFault::Damaged {
+            damage: Damage::Log,
+            block: places.range(Area::Log(LogHalf::of_epoch(root.epoch))).start,
+        }),
+    }
+}
+
+/// Checks the log on top of a sound root that leaves so many blocks free: no record of a later epoch, each record in
+/// order, all of them charged no more than is free, and an age left where something is to recover. `body` is the block of
+/// the root body.
+pub(crate) fn check_log<D: Device>(
+    alloc: Global,
+    blocks: &mut Blocks<D>,
+    places: Places,
+    root: &RootBody,
+    body: u32,
+    free: u32,
+) -> Result<(), MountFault>
+    requires fits { IsRootBody root.now }
+    requires room { 8 * places ≤ (D.status (device_of blocks.old)).sectors }
+    requires sound { IsTrue D.tells_bytes → IsSound root.now.limits places (store_of (reads (D.disk (device_of blocks.old)))) root.now.inode_file }
+    ensures sound { IsTrue D.tells_bytes → OnOk result (HasSoundLog places (reads (D.disk (device_of blocks.old))) root.now free) }
+    ensures fault { IsTrue D.tells_bytes → IfErr result (IsDamageOf (IsOfLog places (reads (D.disk (device_of blocks.old))) root.now free)) }
+    ensures same { IsTrue D.tells_bytes → D.disk (device_of blocks.new) ≡ D.disk (device_of blocks.old) }
+    ensures idle { OnOk result (D.status (device_of blocks.new) ≡ D.status (device_of blocks.old)) }
+    ensures reads { WritesNothing (D.status (device_of blocks.old)) (D.status (device_of blocks.new)) }
+    ensures failed { IsTrue D.tells_bytes → FailsAs result (D.status (device_of blocks.old)) (D.status (device_of blocks.new)) }
+{
+    match none_later(blocks, places, root.epoch + 1) {
+        Ok(()) => {}
+        Err(fault) => return Err(fault),
+    }
+    let logged = match replay_log(alloc, blocks, places, root, body) {
+        Ok(logged) => logged,
+        Err(fault) => return Err(fault),
+    };
+    match test_charges(places, root, free, &logged) {
+        Ok(()) => {}
+        Err(fault) => return Err(fault),
+    }
+    match test_age(places, root, logged.recovers) {
+        Ok(()) => Ok(()),
+        Err(fault) => Err(fault),
+    }
+}

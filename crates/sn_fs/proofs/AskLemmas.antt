@@ -1,0 +1,154 @@
+-- What a call answers that asks for a whole point.
+use Rattle.std.proofs.Common.{◌≡◌, ◌⊎◌, inl, inr, ℕ, Bool, true, false, Option, Some, None, Result, Ok, Err, refl, sym, ap, subst, ◌∙◌}
+use Rattle.std.specs.FinMap as map
+use Rattle.std.specs.Prelude.{◌-◌, IsOk}
+use Rattle.std.proofs.lemmas.Bool.{true≢false}
+use Rattle.sn_limits.specs.Versions.{version_1}
+use Rattle.sn_walk.proofs.ChainLemmas.{bind_ok}
+use Rattle.sn_model.specs.declared.call.Call.{Call}
+use Rattle.sn_model.specs.declared.call.Call.TheVariants as call
+use Rattle.sn_model.specs.declared.call.Event.TheVariants as event
+use Rattle.sn_model.specs.declared.outcome.Outcome.{Outcome}
+use Rattle.sn_model.specs.declared.reply.Reply.TheVariants as answer
+use Rattle.sn_model.specs.Calls as calls
+use Rattle.sn_model.specs.Calls.{outcome_of, ready}
+use Rattle.sn_model.specs.Machine.{Running, refused}
+use Rattle.sn_model.specs.declared.outcome.Caller.TheVariants.{Stays}
+use Rattle.sn_model.specs.declared.reply.Refusal.{Refusal}
+use Rattle.sn_model.specs.Outcomes.{tells}
+use Rattle.sn_overlay.specs.Needs.{nameless_in}
+use Rattle.sn_room.specs.Rooms.{dropping}
+use Rattle.sn_model.specs.Settling.{settle}
+use Rattle.sn_model.specs.Steps.{Becomes, Comes, TakesMemory, asks_for_point, decision}
+use Rattle.sn_model.specs.Tests.{logged_in}
+use Rattle.sn_model.specs.World.{World}
+use Rattle.sn_model.specs.Worlds.{IsWorld}
+use Rattle.sn_model.proofs.DecisionLemmas.{ok, same_ok}
+use Rattle.sn_model.proofs.DroppedLemmas.{all_held, dropped_same}
+use Rattle.sn_core.proofs.NumberLemmas.{same_numbers}
+use Rattle.sn_block.proofs.CountLemmas.{later-is}
+use Rattle.sn_device.proofs.CrashLemmas.{LeavesOnly-weaker}
+use Rattle.sn_device.specs.declared.status.Status.{Status}
+use Rattle.sn_held.specs.Held.{Held}
+use Rattle.sn_held.specs.Images.{IsLiveImage}
+use Rattle.sn_held.specs.Moments.{ShowsState}
+use Rattle.sn_held.proofs.EventLemmas.{live_show}
+use Rattle.sn_cp_whole.specs.declared.fault.PointFault.{PointFault}
+use Rattle.sn_fs.specs.Answers.{Answers, AnswersFrom, AsksFirst, HasMadePoint, HasNoChange}
+use Rattle.sn_fs.specs.Pointing.{IsPointed, Points, errno_of_point, stops_for}
+use Rattle.sn_fs.proofs.CallLemmas.{nothing_dropped}
+use Rattle.sn_fs.proofs.DecisionLemmas.{has_no_change}
+use Rattle.sn_fs.proofs.PointLemmas.{PointEvent, in_its_world, made_point, refused_costs, settled_all, unmade_in_call, unpointed_answers}
+
+is_sync : (c : Call) → asks_for_point c ≡ true → c ≡ call.Sync
+is_sync (call.Login uid gid groups) e = absurd (true≢false (sym e))
+is_sync (call.Umask mask) e = absurd (true≢false (sym e))
+is_sync (call.Mkdir path mode) e = absurd (true≢false (sym e))
+is_sync (call.Chmod path mode) e = absurd (true≢false (sym e))
+is_sync (call.Chown path uid gid) e = absurd (true≢false (sym e))
+is_sync (call.Stat path) e = absurd (true≢false (sym e))
+is_sync (call.Access path want) e = absurd (true≢false (sym e))
+is_sync (call.GetAcl path kind) e = absurd (true≢false (sym e))
+is_sync (call.SetAcl path kind acl) e = absurd (true≢false (sym e))
+is_sync (call.Rmdir path) e = absurd (true≢false (sym e))
+is_sync (call.Unlink path) e = absurd (true≢false (sym e))
+is_sync (call.Link old new) e = absurd (true≢false (sym e))
+is_sync (call.Rename old new) e = absurd (true≢false (sym e))
+is_sync (call.Readdir path) e = absurd (true≢false (sym e))
+is_sync call.Logout e = absurd (true≢false (sym e))
+is_sync (call.Open path flags mode) e = absurd (true≢false (sym e))
+is_sync (call.Close fd) e = absurd (true≢false (sym e))
+is_sync (call.Read fd count) e = absurd (true≢false (sym e))
+is_sync (call.Write fd bytes) e = absurd (true≢false (sym e))
+is_sync (call.Seek fd offset) e = absurd (true≢false (sym e))
+is_sync (call.Ftruncate fd size) e = absurd (true≢false (sym e))
+is_sync call.Sync e = refl
+
+module _ (w : World) (session : ℕ) (c : Call) (asks : asks_for_point c ≡ true) (o : Outcome) (decided : decision version_1 w session c ≡ Ok o) where
+  for_sync : decision version_1 w session call.Sync ≡ Ok o
+  for_sync = subst (λ (x : Call). decision version_1 w session x ≡ Ok o) (is_sync c asks) decided
+
+  -- nothing is done but the point
+  outcome_is : tells answer.Done ≡ o
+  outcome_is =
+      let r = bind_ok (ready w session call.Sync) (outcome_of version_1 w) o for_sync in
+      let s = bind_ok (logged_in w session) (λ _. ok calls.Sync) r.0 r.1 in
+      same_ok (tells answer.Done) o (subst (λ (x : calls.Ready). outcome_of version_1 w x ≡ Ok o) (sym (same_ok calls.Sync r.0 s.2)) r.2)
+
+  decided_is : decision version_1 w session c ≡ Ok (tells answer.Done)
+  decided_is = subst (λ (x : Outcome). decision version_1 w session c ≡ Ok x) (sym outcome_is) decided
+
+  takes : TakesMemory c × IsOk (ready w session c)
+  takes = let r = bind_ok (ready w session c) (outcome_of version_1 w) o decided in (subst TakesMemory (sym (is_sync c asks)) tt, subst (λ (x : Result calls.Ready Refusal). IsOk x) (sym r.1) refl)
+
+  comes_to : IsWorld version_1 w → Comes version_1 w session o w
+  comes_to whole = subst (λ (x : Outcome). Comes version_1 w session x w) outcome_is (record { number = 0; free = tt; tree = w.live; applied = refl; world = sym (dropped_same version_1 w (all_held version_1 w whole)) })
+
+  becomes : IsWorld version_1 w → Becomes version_1 w session (decision version_1 w session c) o.told w
+  becomes whole = subst (λ (d : Result Outcome Refusal). Becomes version_1 w session d o.told w) (sym decided) (refl, comes_to whole)
+
+  no_change : (kept : ℕ → Bool) → HasNoChange w kept session c
+  no_change kept = has_no_change w kept session c (tells answer.Done) (record { change = None; caller = Stays; lost = None }) decided_is refl refl
+
+-- it is made, and the call is answered
+asked_answers : (old new : Held) (session : ℕ) (c : Call) (asked : AsksFirst old session c) → IsWorld version_1 old.world → IsPointed (event.Call session c) old new → old.world.frozen ≡ map.empty → AnswersFrom (Running old.world) (event.Call session c) asked.outcome.told old new false
+asked_answers old new session c asked whole p bare = record {
+  met = None;
+  mid = new;
+  point = inr made;
+  may = ap (λ (s : Status). s.failures) p.costs;
+  next = Running old.world;
+  step = record { next = old.world; becomes = becomes old.world session c asked.asks asked.outcome asked.decided whole; runs = refl };
+  means = (refl, p.runs, bare);
+  lasts = record {
+    moments = LeavesOnly-weaker old.disk new.disk (λ d. IsLiveImage d (settle old.world)) (λ d. ShowsState (Running old.world) d ⊎ ShowsState (Running old.world) d) (λ d h. inl h) (settled_all (event.Call session c) old new p bare);
+    answered = live_show new old.world p.runs.runs bare;
+  };
+  writes = inr (inr asked, p.touched);
+  begins = tt;
+  numbers = same_numbers session c old.world old.world new.kept new.kept refl refl;
+  room = inl (none, nothing_left);
+  later = later-is _ _ old.status new.status p.costs;
+  costs = (λ _. made, inl (none, refl));
+  works = tt;
+}
+  where
+    made : HasMadePoint (event.Call session c) old new
+    made = made_point (event.Call session c) old new (inr asked) p
+
+    none : HasNoChange new.world new.kept session c
+    none = subst (λ (w : World). HasNoChange w new.kept session c) (sym p.world) (no_change old.world session c asked.asks asked.outcome asked.decided new.kept)
+
+    nothing_left : new.room ≡ dropping (nameless_in new.world.live - nameless_in old.world.live) new.room
+    nothing_left = subst (λ (w : World). new.room ≡ dropping (nameless_in new.world.live - nameless_in w.live) new.room) p.world (nothing_dropped (nameless_in new.world.live) new.room)
+
+-- it isn't made
+asked_point : (old : Held) (session : ℕ) (c : Call) → IsWorld version_1 old.world → AsksFirst old session c → PointEvent (event.Call session c) old old.world
+asked_point old session c whole asked = record {
+  needed = inr asked;
+  memory = (takes_some, record { told = refl; same = refl });
+  read = (takes_some, record { told = refl; same = refl });
+  age = ((asked.outcome, asked.decided, inr asked.asks), record { told = refl; same = refl });
+  after = settle old.world;
+  cut = record { outcome = asked.outcome; decided = asked.decided; writes = inr asked.asks; next = old.world; comes = comes_to old.world session c asked.asks asked.outcome asked.decided whole; stops = record { told = refl; left = refl } };
+  writes = λ d touched. inr (inr asked, touched);
+  begins = λ m s d. tt;
+  numbers = λ m. same_numbers session c old.world old.world old.kept old.kept refl refl;
+  room = λ m. refl;
+  any_room = λ before after d room. tt;
+  works = λ m new. tt;
+  costs_none = refused_costs old session c;
+  costs_read = λ new costs. costs;
+  costs_cut = λ new cut. inr cut;
+}
+  where
+    takes_some : TakesMemory c × IsOk (ready old.world session c)
+    takes_some = takes old.world session c asked.asks asked.outcome asked.decided
+
+-- so it is in each world that is meant
+pub asked_behind : (old new : Held) (session : ℕ) (c : Call) (asked : AsksFirst old session c) → IsWorld version_1 old.world → Points (Ok tt) old new → Answers (event.Call session c) asked.outcome.told old false new false
+asked_behind old new session c asked whole points = in_its_world (event.Call session c) old new asked.outcome.told false (λ r bare. asked_answers old new session c asked whole (points r) bare)
+
+pub asked_unpointed : (old new : Held) (session : ℕ) (c : Call) (fault : PointFault) → AsksFirst old session c → IsWorld version_1 old.world → Points (Err fault) old new → Answers (event.Call session c) (refused (errno_of_point fault)) old false new (stops_for fault)
+asked_unpointed old new session c fault asked whole points =
+    in_its_world (event.Call session c) old new (refused (errno_of_point fault)) (stops_for fault) (λ r bare. unpointed_answers (event.Call session c) old (asked_point old session c whole asked) r bare fault new (unmade_in_call fault session c old new (points r)))

@@ -1,0 +1,46 @@
+//! What is counted.
+
+use crate::seen::Seen;
+use anyhow::Result;
+use sn_table::{Report, Tally};
+
+/// A tally for each thing that is looked at.
+#[derive(Clone, Copy)]
+pub struct Tallies {
+    pub trees: Tally,
+    pub maps: Tally,
+    pub blocks: Tally,
+    pub enough: Tally,
+    pub too_few: Tally,
+    /// Trees that weren't built since the disk has fewer free blocks than they need.
+    pub full: Tally,
+    pub unread: Tally,
+    pub seen: Seen,
+}
+
+impl Tallies {
+    pub fn new() -> Tallies {
+        Tallies {
+            trees: Tally::new(),
+            maps: Tally::new(),
+            blocks: Tally::new(),
+            enough: Tally::new(),
+            too_few: Tally::new(),
+            full: Tally::new(),
+            unread: Tally::new(),
+            seen: Seen::new(),
+        }
+    }
+
+    /// Prints them.
+    pub fn report(&self, report: &mut Report<'_>) -> Result<()> {
+        report.add("trees", self.trees)?;
+        report.add("maps", self.maps)?;
+        report.add("new blocks", self.blocks)?;
+        report.add("disks with enough free blocks", self.enough)?;
+        report.add("disks with one too few", self.too_few)?;
+        report.add("trees that need more than is free", self.full)?;
+        report.add("reads that fail", self.unread)?;
+        self.seen.report(report)
+    }
+}
