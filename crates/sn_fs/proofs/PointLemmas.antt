@@ -273,7 +273,7 @@ pub record PointEvent (e : Event) (old : Held) (w : World) : Type 0 where
   pub costs_cut : (new : Status) → IsCutPoint old e new → Costs (Running w) old old e (Some Write) new
 
 -- a read that failed
-fails_read : (old new : Status) → FailsRead old new → HasFailed old new × IsLater old new × CostsAtMost 0 0 old new
+pub fails_read : (old new : Status) → FailsRead old new → HasFailed old new × IsLater old new × CostsAtMost 0 0 old new
 fails_read old new fails = told (has_ended old) refl fails
   where
     told : (ended : Bool) → has_ended old ≡ ended → MatchBool ended (new ≡ old) (new ≡ one_failure old) → HasFailed old new × IsLater old new × CostsAtMost 0 0 old new

@@ -25,7 +25,7 @@ use Rattle.sn_program.specs.Copies.{IsCutShort}
 -- behind the last reply
 at_last : (s : State) (events : List Event) (said replies : List Reply) (old new : Disk) → LeavesFrom s events said replies old new → Always new (ShowsCut s events (said ++ replies))
 at_last s events said [] old new h =
-    subst (λ (r : List Reply). Always new (ShowsCut s events r)) (sym (append-nil said)) (subst (λ (d : Disk). Always d (ShowsCut s events said)) (sym h.0) h.1)
+    subst (λ (r : List Reply). Always new (ShowsCut s events r)) (sym (append-nil said)) (LeavesOnly-now old new (ShowsCut s events said) h)
 at_last s events said (reply ∷ replies) old new h =
     subst (λ (r : List Reply). Always new (ShowsCut s events r)) (append_assoc said (reply ∷ []) replies) (at_last s events (said ++ reply ∷ []) replies h.0 new h.2)
 

@@ -1,9 +1,10 @@
 -- What fails where no failure is counted.
-use Rattle.std.proofs.Common.{◌≡◌, ◌⊎◌, inl, inr, ℕ, List, [], ◌∷◌, IsTrue, Option, None, Some, sym, ap, subst, ◌∙◌, arith}
+use Rattle.std.proofs.Common.{◌≡◌, ◌⊎◌, inl, inr, ℕ, List, [], ◌∷◌, IsTrue, Option, None, Some, refl, sym, ap, subst, ◌∙◌, arith}
 use Rattle.std.proofs.lemmas.List.Elements.{Contains-append_right}
 use Rattle.sn_device.specs.Disk.{Disk, reads}
 use Rattle.sn_device.specs.Status.{has_ended}
 use Rattle.sn_device.specs.declared.status.Status.{Status}
+use Rattle.sn_block.specs.Counts.{IsLater}
 use Rattle.sn_block.proofs.CountLemmas.{later-ended}
 use Rattle.sn_limits.specs.Versions.{version_1}
 use Rattle.sn_model.specs.declared.call.Event.{Event}
@@ -22,7 +23,7 @@ use Rattle.sn_examine.specs.Failing.{HasFailed, IsSoOf}
 use Rattle.sn_mount.specs.Costs.{CostsMount}
 use Rattle.sn_fs.specs.Answers.{MayMeet}
 use Rattle.sn_run.specs.Causes.{FailsAtItsEnd, GoesOrEnds, HasCauses, HasNoMemory, IsFailure, ServedToItsEnd}
-use Rattle.sn_run.specs.Runs.{Goes, IsServed, RunsTo, Served, Standing, start}
+use Rattle.sn_run.specs.Runs.{Goes, RunsTo, Served, Standing, start}
 use Rattle.sn_run.proofs.FailureLemmas.{runs_later}
 
 -- ---- events
@@ -143,27 +144,40 @@ mount_unfailing n old new (inr (count, few, gate, is)) = ap (λ (x : Status). x.
 
 -- ---- runs
 
-ends_stopped : (s : State) → Ends s None ending.Stopped → HasStopped s
-ends_stopped (Running w) h = absurd (h.ends.0 h.unmounts)
-ends_stopped (Stopped before after) h = tt
-
 module _ (events : List Event) (replies : List Reply) (disk last_disk : Disk) (status last_status : Status) (same : last_status.failures ≡ status.failures) where
   served_ends : (end : End) (s : Served events replies end disk status last_disk last_status) → ServedToItsEnd end events replies disk status last_disk last_status s
   served_ends end s world image =
       let it = s.served world image in
       let began : s.mounted.status.failures ≡ status.failures = mount_unfailing s.blocks status s.mounted.status s.costs in
-      let ended : it.last.held.status.failures ≡ last_status.failures = ap (λ (x : Status). x.failures) it.counted in
-      run_ends (start world s.mounted) it.last events replies it.run (ended ∙ same ∙ sym began)
+      let rest = runs_later (start world s.mounted) it.last events replies it.run in
+      let ended : it.last.held.status.failures ≡ s.mounted.status.failures = omega (arith, rest.failures, it.ended.later.failures, same, began) in
+      run_ends (start world s.mounted) it.last events replies it.run ended
 
-  served_cause : (s : Served events replies ending.Stopped disk status last_disk last_status) (world : World) → IsLiveImage (reads disk) world → IsTrue (has_ended last_status) ⊎ HasNoMemory replies
+  -- why it ends so
+  cause_of : (s : State) (h mid : Held) (met : Option Mishap) → Ends s met ending.Stopped → MayMeet h mid event.Restart met last_status → last_status.failures ≡ h.status.failures → IsLater h.status last_status
+      → (HasStopped s → IsTrue (has_ended h.status) ⊎ (⊥ ⊎ HasNoMemory replies)) → IsTrue (has_ended last_status) ⊎ HasNoMemory replies ⊎ (met ≡ Some Age)
+  cause_of (Stopped before after) h mid met ends may failed later stops = from (stops tt)
+    where
+      from : IsTrue (has_ended h.status) ⊎ (⊥ ⊎ HasNoMemory replies) → IsTrue (has_ended last_status) ⊎ HasNoMemory replies ⊎ (met ≡ Some Age)
+      from (inl ended) = inl (later-ended h.status last_status later ended)
+      from (inr (inl never)) = absurd never
+      from (inr (inr none)) = inr (inl none)
+  cause_of (Running w) h mid None ends may failed later stops = absurd (ends.ends.0 ends.unmounts)
+  cause_of (Running w) h mid (Some Memory) ends may failed later stops = absurd (ends.ends.1 ends.unmounts)
+  cause_of (Running w) h mid (Some Read) ends may failed later stops = inl (uncounted_end h.status last_status failed may)
+  cause_of (Running w) h mid (Some Write) ends may failed later stops = inl (uncounted_end h.status last_status failed may)
+  cause_of (Running w) h mid (Some Space) ends may failed later stops = absurd ends.unmounts
+  cause_of (Running w) h mid (Some Age) ends may failed later stops = inr (inr refl)
+
+  served_cause : (s : Served events replies ending.Stopped disk status last_disk last_status) (world : World) (image : IsLiveImage (reads disk) world) → IsTrue (has_ended last_status) ⊎ HasNoMemory replies ⊎ ((s.served world image).ended.met ≡ Some Age)
   served_cause s world image =
       let it = s.served world image in
-      from it (stop_cause ⊥ (start world s.mounted) it.last events replies (served_ends ending.Stopped s world image) (λ stopped. absurd stopped) (ends_stopped it.last.state it.ends))
-    where
-      from : (it : IsServed world events replies ending.Stopped disk s.mounted last_disk last_status) → IsTrue (has_ended it.last.held.status) ⊎ (⊥ ⊎ HasNoMemory replies) → IsTrue (has_ended last_status) ⊎ HasNoMemory replies
-      from it (inl ended) = inl (subst (λ (x : Status). IsTrue (has_ended x)) it.counted ended)
-      from it (inr (inl never)) = absurd never
-      from it (inr (inr none)) = inr none
+      let e = it.ended in
+      let began : s.mounted.status.failures ≡ status.failures = mount_unfailing s.blocks status s.mounted.status s.costs in
+      let rest = runs_later (start world s.mounted) it.last events replies it.run in
+      let failed : last_status.failures ≡ it.last.held.status.failures = omega (arith, rest.failures, e.later.failures, same, began) in
+      cause_of it.last.state it.last.held e.mid e.met e.ends e.may failed e.later
+      (stop_cause ⊥ (start world s.mounted) it.last events replies (served_ends ending.Stopped s world image) (λ stopped. absurd stopped))
 
   mount_end : (fault : MountFault) → IsSoOf fault status last_status → FailsAtItsEnd fault last_status
   mount_end mount.Device failed = uncounted_end status last_status same failed
@@ -176,5 +190,5 @@ module _ (events : List Event) (replies : List Reply) (disk last_disk : Disk) (s
   pub causes : (end : End) (runs : RunsTo end events replies disk status last_disk last_status) → HasCauses end events replies disk status last_disk last_status runs
   causes ending.Clean s = served_ends ending.Clean s
   causes ending.Stopped s = (served_ends ending.Stopped s, served_cause s)
-  causes ending.Memory nothing = tt
+  causes ending.Memory either = λ s. served_ends ending.Memory s
   causes (ending.Mount fault) unmounted = mount_end fault unmounted.failed

@@ -2,7 +2,7 @@
 use Rattle.std.proofs.Common.{◌≡◌, ◌⊎◌, inl, inr, ℕ, false, List, [], ◌∷◌, ◌++◌, Option, Some, None, Result, refl, sym, ap, subst, ◌∙◌, replicate}
 use Rattle.std.specs.FinMap as map
 use Rattle.sn_device.specs.Sectors.{Contents}
-use Rattle.sn_device.specs.Disk.{Always}
+use Rattle.sn_device.specs.Disk.{Disk}
 use Rattle.sn_device.specs.Crash.{LeavesOnly}
 use Rattle.sn_device.proofs.CrashLemmas.{LeavesOnly-weaker}
 use Rattle.sn_limits.specs.Versions.{version_1}
@@ -176,9 +176,6 @@ step_of old new e reply goes = (goes.answers.met, tt, subst (λ (s : State). Eve
 goes_settled : (old new : Standing) (e : Event) (reply : Reply) → AreSettled old.state → Goes old e reply new → AreSettled new.state
 goes_settled old new e reply here goes = let step = step_of old new e reply goes in step_settled old.state e step.0 reply new.state here step.2
 
-goes_shows : (old new : Standing) (e : Event) (reply : Reply) → Goes old e reply new → Always new.held.disk (λ c. ShowsState new.state c)
-goes_shows old new e reply goes = subst (λ (s : State). Always new.held.disk (λ c. ShowsState s c)) (sym goes.next) goes.answers.lasts.answered
-
 goes_leaves : (old new : Standing) (e : Event) (reply : Reply) → AreSettled old.state → Goes old e reply new → LeavesOnly old.held.disk new.held.disk (ShowsLeft old.state e)
 goes_leaves old new e reply here goes =
     let a = goes.answers in
@@ -216,19 +213,21 @@ list_joined : (xs : List Event) (y : Event) (ys : List Event) → (xs ++ y ∷ [
 list_joined [] y ys = refl
 list_joined (x ∷ xs) y ys = ap (λ (zs : List Event). x ∷ zs) (list_joined xs y ys)
 
--- a crash at any moment of what is left of a run, behind the events that were answered
-pub run_leaves : (first mid last : Standing) (done todo : List Event) (said replies : List Reply) → AreSettled first.state → Always mid.held.disk (λ c. ShowsState mid.state c) → RunBy Goes first done said mid → RunBy Goes mid todo replies last
-    → LeavesFrom first.state (done ++ todo) said replies mid.held.disk last.held.disk
-run_leaves first mid last done [] said [] here shows before run =
-    (ap (λ (x : Standing). x.held.disk) run, λ c crash. let now = shown_now mid.state c (shows c crash) in (now.0, now.1, cut_behind first mid done said now.0 before now.2))
-run_leaves first mid last done [] said (reply ∷ replies) here shows before run = absurd run
-run_leaves first mid last done (e ∷ todo) said [] here shows before run = absurd run
-run_leaves first mid last done (e ∷ todo) said (reply ∷ replies) here shows before run =
+-- a crash at any moment of what is left of a run, behind the events that were answered, and of the last unmount
+pub run_leaves : (first mid last : Standing) (done todo : List Event) (said replies : List Reply) (new : Disk) → AreSettled first.state → RunBy Goes first done said mid → RunBy Goes mid todo replies last → LeavesOnly last.held.disk new (ShowsState last.state)
+    → LeavesFrom first.state (done ++ todo) said replies mid.held.disk new
+run_leaves first mid last done [] said [] new here before run lasts =
+    LeavesOnly-weaker mid.held.disk new (ShowsState mid.state) (ShowsCut first.state (done ++ []) said)
+    (λ c shows. let now = shown_now mid.state c shows in (now.0, now.1, cut_behind first mid done said now.0 before now.2))
+    (subst (λ (x : Standing). LeavesOnly x.held.disk new (ShowsState x.state)) run lasts)
+run_leaves first mid last done [] said (reply ∷ replies) new here before run lasts = absurd run
+run_leaves first mid last done (e ∷ todo) said [] new here before run lasts = absurd run
+run_leaves first mid last done (e ∷ todo) said (reply ∷ replies) new here before run lasts =
     let next = run.0 in (
       next.held.disk,
       cut_in first mid next done todo e said reply here before run.1,
-      subst (λ (events : List Event). LeavesFrom first.state events (said ++ reply ∷ []) replies next.held.disk last.held.disk) (list_joined done e todo)
-          (run_leaves first next last (done ++ e ∷ []) todo (said ++ reply ∷ []) replies here (goes_shows mid next e reply run.1) (run_more Goes first mid next done said e reply before run.1) run.2),
+      subst (λ (events : List Event). LeavesFrom first.state events (said ++ reply ∷ []) replies next.held.disk new) (list_joined done e todo)
+          (run_leaves first next last (done ++ e ∷ []) todo (said ++ reply ∷ []) replies new here (run_more Goes first mid next done said e reply before run.1) run.2 lasts),
     )
 
 -- before the first event

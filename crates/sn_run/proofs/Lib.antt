@@ -1,4 +1,5 @@
 pub mod CauseLemmas
+pub mod EndingLemmas
 pub mod CutLemmas
 mod FailureLemmas
 pub mod RestartLemmas

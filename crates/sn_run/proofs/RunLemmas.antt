@@ -1,11 +1,10 @@
 -- Whole runs.
 use Rattle.std.proofs.Common.{◌≡◌, ◌⊎◌, ◌≤◌, ◌*◌, ℕ, inl, inr, Bool, true, false, length, List, [], ◌∷◌, ◌++◌, None, refl, sym, ap, subst}
-use Rattle.std.proofs.lemmas.Bool.{true≢false}
 use Rattle.sn_device.specs.Sectors.{Contents}
 use Rattle.sn_device.specs.Disk.{Disk, reads}
 use Rattle.sn_device.specs.Crash.{Touches}
 use Rattle.sn_device.specs.declared.status.Status.{Status}
-use Rattle.sn_device.proofs.CrashLemmas.{LeavesOnly-now, LeavesOnly-weaker, Touches-start}
+use Rattle.sn_device.proofs.CrashLemmas.{LeavesOnly-now, LeavesOnly-start, LeavesOnly-weaker, Touches-start}
 use Rattle.sn_mount.specs.Costs.{CostsMount}
 use Rattle.sn_block.specs.Effects.{Nowhere}
 use Rattle.sn_limits.specs.Versions.{version_1}
@@ -13,23 +12,19 @@ use Rattle.sn_model.specs.declared.call.Event.{Event}
 use Rattle.sn_model.specs.declared.mount.End.{End}
 use Rattle.sn_model.specs.declared.mount.End.TheVariants as ending
 use Rattle.sn_model.specs.declared.mount.MountFault.{MountFault}
-use Rattle.sn_model.specs.declared.reply.Refusal.{Refusal}
 use Rattle.sn_model.specs.declared.reply.Reply.{Reply}
-use Rattle.sn_model.specs.declared.reply.Errno.{Errno}
-use Rattle.sn_model.specs.declared.reply.Errno.TheVariants.{Enomem, Estopped}
-use Rattle.sn_model.specs.declared.reply.Reply.TheVariants as answer
-use Rattle.sn_model.specs.Machine.{State, Running, Stopped, Anything, CutRun, Ends, Lacks, Life, WholeRun, refused}
-use Rattle.sn_model.specs.Tests.{plain}
+use Rattle.sn_model.specs.Machine.{State, Running, Stopped, Anything, CutRun, Lacks, Life, WholeRun}
 use Rattle.sn_model.specs.World.{World, new_world}
 use Rattle.sn_log.specs.Places.{first_of}
 use Rattle.sn_core.proofs.StepLemmas.{run_more}
 use Rattle.sn_room.specs.Rooms.{fresh}
 use Rattle.sn_held.specs.Held.{Held, Means}
 use Rattle.sn_held.specs.Images.{IsLiveImage}
-use Rattle.sn_held.proofs.EventLemmas.{images_one, means_show}
+use Rattle.sn_held.proofs.EventLemmas.{images_one}
 use Rattle.sn_mount.specs.Recovering.{LeavesTheWorld}
 use Rattle.sn_fs.specs.Answers.{Answers}
 use Rattle.sn_fs.specs.Mounting.{Mounts}
+use Rattle.sn_run.specs.Ending.{EndsSo, IsLastEnd}
 use Rattle.sn_run.specs.Servers.{no_base}
 use Rattle.sn_run.specs.Laws.{LivesOn}
 use Rattle.sn_run.specs.Runs.{AnswersAll, Goes, IsRunOf, IsServed, LacksRoot, LeavesAll, LeavesFrom, LeavesItsRun, NotMounted, RunsTo, Served, ShowsCut, start}
@@ -56,25 +51,9 @@ answers_more events replies e reply old mid new had was has all next s means =
 
 -- ---- a run that was served
 
-done_is_refused : (errno : Errno) → refused errno ≡ answer.Done → ⊥
-done_is_refused errno e = cc
-
-stopped_is_memory : refused Estopped ≡ refused Enomem → ⊥
-stopped_is_memory e =
-    let same : plain Estopped ≡ plain Enomem = cc in
-    let never : Estopped ≡ Enomem = ap (λ (r : Refusal). r.errno) same in cc
-
-ends_clean : (h : Held) (s : State) → Means h false s → Ends s None ending.Clean
-ends_clean h (Running w) means = record { reply = answer.Done; unmounts = refl; ends = refl }
-ends_clean h (Stopped before after) means = absurd (true≢false (sym means.0))
-
-ends_stopped : (h : Held) (s : State) → Means h true s → Ends s None ending.Stopped
-ends_stopped h (Running w) means = absurd (true≢false means.0)
-ends_stopped h (Stopped before after) means = record { reply = refused Estopped; unmounts = refl; ends = (done_is_refused Estopped, stopped_is_memory) }
-
-module _ (events : List Event) (replies : List Reply) (disk last_disk : Disk) (status last_status : Status) (h new : Held) (had : Bool) (m : Mounts status.sectors disk h had) (n : ℕ) (within : 8 * n ≤ status.sectors) (costs : CostsMount n status h.status) (same_disk : last_disk ≡ new.disk) (same_status : last_status ≡ new.status) where
-  served : (has : Bool) (end : End) → AnswersAll events replies h had new has → ((s : State) → Means new has s → Ends s None end) → Served events replies end disk status last_disk last_status
-  served has end all ends = record {
+module _ (events : List Event) (replies : List Reply) (disk last_disk : Disk) (status last_status : Status) (h new : Held) (had has : Bool) (m : Mounts status.sectors disk h had) (n : ℕ) (within : 8 * n ≤ status.sectors) (costs : CostsMount n status h.status) (all : AnswersAll events replies h had new has) where
+  served : (end : End) → EndsSo end new has last_disk last_status → Served events replies end disk status last_disk last_status
+  served end ends = record {
     mounted = h;
     none_kept = m.none_kept;
     touched = m.touched;
@@ -90,17 +69,15 @@ module _ (events : List Event) (replies : List Reply) (disk last_disk : Disk) (s
           leaves = it.leaves;
           last = record { state = a.state; held = new; has_stopped = has };
           run = a.run;
-          ends = ends a.state a.means;
-          left = sym same_disk;
-          counted = sym same_status;
+          ended = ends a.state a.means;
         };
   }
 
-  pub served_clean : AnswersAll events replies h had new false → Served events replies ending.Clean disk status last_disk last_status
-  served_clean all = served false ending.Clean all (ends_clean new)
-
-  pub served_stopped : AnswersAll events replies h had new true → Served events replies ending.Stopped disk status last_disk last_status
-  served_stopped all = served true ending.Stopped all (ends_stopped new)
+  pub served_to : (end : End) → IsLastEnd end → EndsSo end new has last_disk last_status → RunsTo end events replies disk status last_disk last_status
+  served_to ending.Clean told ends = served ending.Clean ends
+  served_to ending.Stopped told ends = served ending.Stopped ends
+  served_to ending.Memory told ends = inr (served ending.Memory ends)
+  served_to (ending.Mount fault) told ends = absurd told
 
 -- ---- in the machine's words
 
@@ -111,12 +88,10 @@ bare disk status = record { world = new_world; kept = λ number. false; room = f
 module _ (events : List Event) (replies : List Reply) (disk last_disk : Disk) (status last_status : Status) (world : World) (count : length (reads disk) ≡ status.sectors) (image : IsLiveImage (reads disk) world) where
   served_leaves : (end : End) (mounted : Held) → IsServed world events replies end disk mounted last_disk last_status → LeavesItsRun world events replies disk last_disk
   served_leaves end mounted s =
-      let shows = means_show mounted false (Running world) s.means in
-      let rest = run_leaves (start world mounted) (start world mounted) s.last [] events [] replies tt shows refl s.run in
       record {
         mounted = mounted.disk;
         mounts = s.leaves;
-        moments = subst (λ (d : Disk). LeavesFrom (Running world) events [] replies mounted.disk d) s.left rest;
+        moments = run_leaves (start world mounted) (start world mounted) s.last [] events [] replies last_disk tt refl s.run s.ended.lasts;
       }
 
   served_run : (end : End) → Served events replies end disk status last_disk last_status → IsRunOf world events replies end disk last_disk
@@ -126,9 +101,9 @@ module _ (events : List Event) (replies : List Reply) (disk last_disk : Disk) (s
         run = inr (inr (record {
           last = it.last.state;
           run = machine_run (start world s.mounted) it.last events replies it.run;
-          met = None;
+          met = it.ended.met;
           may = tt;
-          ends = it.ends;
+          ends = it.ended.ends;
         }));
         crash = inr (served_leaves end s.mounted it);
       }
@@ -143,7 +118,8 @@ module _ (events : List Event) (replies : List Reply) (disk last_disk : Disk) (s
     mounted = last_disk;
     mounts = leaves;
     moments = subst (λ (said : List Reply). LeavesFrom (Running world) events [] said last_disk last_disk) (sym none)
-        (refl, LeavesOnly-now leaves.mid last_disk (ShowsCut (Running world) events []) (LeavesOnly-weaker leaves.mid last_disk (λ c. IsLiveImage c world) (ShowsCut (Running world) events []) shows_cut leaves.moments));
+        (LeavesOnly-start last_disk (ShowsCut (Running world) events [])
+        (LeavesOnly-now leaves.mid last_disk (ShowsCut (Running world) events []) (LeavesOnly-weaker leaves.mid last_disk (λ c. IsLiveImage c world) (ShowsCut (Running world) events []) shows_cut leaves.moments)));
   })
 
   unserved_run : (f : MountFault) → NotMounted f replies disk status last_disk last_status → IsRunOf world events replies (ending.Mount f) disk last_disk
@@ -157,7 +133,8 @@ module _ (events : List Event) (replies : List Reply) (disk last_disk : Disk) (s
   pub is_run : (end : End) → RunsTo end events replies disk status last_disk last_status → IsRunOf world events replies end disk last_disk
   is_run ending.Clean h = served_run ending.Clean h
   is_run ending.Stopped h = served_run ending.Stopped h
-  is_run ending.Memory h = record {
+  is_run ending.Memory (inr s) = served_run ending.Memory s
+  is_run ending.Memory (inl h) = record {
     run = inl (record { may = tt; none = h.none; ends = refl });
     crash = inl (record { none = h.none; touches = subst (λ (d : Disk). Touches Nowhere disk d) (sym h.left) (Touches-start Nowhere disk) });
   }
@@ -173,7 +150,8 @@ module _ (events : List Event) (replies : List Reply) (disk last_disk : Disk) (s
   pub is_unfit : (end : End) → RunsTo end events replies disk status last_disk last_status → WholeRun Anything version_1 (Lacks f) events replies end
   is_unfit ending.Clean h = absurd (never_served ending.Clean h)
   is_unfit ending.Stopped h = absurd (never_served ending.Stopped h)
-  is_unfit ending.Memory h = inl (record { may = tt; none = h.none; ends = refl })
+  is_unfit ending.Memory (inr s) = absurd (never_served ending.Memory s)
+  is_unfit ending.Memory (inl h) = inl (record { may = tt; none = h.none; ends = refl })
   is_unfit (ending.Mount g) h = inr (unfit_fault f g status.sectors (reads disk) events replies h.none lacks h.left.cause)
 
 -- ---- lives

@@ -1,4 +1,5 @@
 pub mod Causes
+pub mod Ending
 pub mod Restarting
 pub mod Servers
 pub mod Runs

@@ -1,7 +1,7 @@
 -- Runs over a device, and what a crash leaves of them.
-use Rattle.std.specs.Prelude.{◌≡◌, ◌⊎◌, ℕ, ◌≤◌, ◌*◌, Bool, false, List, [], ◌∷◌, ◌++◌, None}
+use Rattle.std.specs.Prelude.{◌≡◌, ◌⊎◌, ℕ, ◌≤◌, ◌*◌, Bool, false, List, [], ◌∷◌, ◌++◌}
 use Rattle.sn_device.specs.Sectors.{Contents}
-use Rattle.sn_device.specs.Disk.{Disk, Always, reads}
+use Rattle.sn_device.specs.Disk.{Disk, reads}
 use Rattle.sn_device.specs.Crash.{LeavesOnly, Touches}
 use Rattle.sn_device.specs.declared.status.Status.{Status}
 use Rattle.sn_block.specs.Counts.{IsLater}
@@ -13,7 +13,7 @@ use Rattle.sn_model.specs.declared.mount.End.TheVariants as ending
 use Rattle.sn_model.specs.declared.mount.MountFault.{MountFault}
 use Rattle.sn_model.specs.declared.mount.MountFault.TheVariants as fault
 use Rattle.sn_model.specs.declared.reply.Reply.{Reply}
-use Rattle.sn_model.specs.Machine.{State, Running, Anything, CutRun, Ends, Holds, RunBy, WholeRun}
+use Rattle.sn_model.specs.Machine.{State, Running, Anything, CutRun, Holds, RunBy, WholeRun}
 use Rattle.sn_model.specs.World.{World}
 use Rattle.sn_sound.specs.Verdicts.{HasNoVerdict}
 use Rattle.sn_held.specs.Held.{Held, Means}
@@ -24,6 +24,7 @@ use Rattle.sn_mount.specs.Costs.{CostsFew, CostsMount}
 use Rattle.sn_mount.specs.Recovering.{KeepsTheRoot, LeavesTheWorld, OfImage}
 use Rattle.sn_fs.specs.Answers.{AnswersFrom}
 use Rattle.sn_fs.specs.Mounting.{IsLeft}
+use Rattle.sn_run.specs.Ending.{IsEnded}
 
 -- where a run stands between two events: the state of the machine, and what is held
 pub record Standing : Type 0 where
@@ -50,16 +51,14 @@ AnswersAll events replies old had_stopped new has_stopped = (s : State) → Mean
 abbrev pub start : World → Held → Standing
 start world h = record { state = Running world; held = h; has_stopped = false }
 
--- The world that the disk was an image of was mounted, with the room of the image that was there then, and at no moment a crash would have left another. The events were answered; the last unmount calls nothing.
+-- The world that the disk was an image of was mounted, with the room of the image that was there then, and at no moment a crash would have left another. The events were answered, and then the last unmount.
 pub record IsServed (world : World) (events : List Event) (replies : List Reply) (end : End) (disk : Disk) (mounted : Held) (last_disk : Disk) (last_status : Status) : Type 0 where
   pub means : Means mounted false (Running world)
   pub room : HasRoomOf (reads mounted.disk) world mounted.room
   pub leaves : LeavesTheWorld disk mounted.disk world
   pub last : Standing
   pub run : RunBy Goes (start world mounted) events replies last
-  pub ends : Ends last.state None end
-  pub left : last.held.disk ≡ last_disk
-  pub counted : last.held.status ≡ last_status
+  pub ended : IsEnded last.state last.held end last_disk last_status
 
 -- The disk was mounted, with no number kept back, and what it was an image of was served.
 pub record Served (events : List Event) (replies : List Reply) (end : End) (disk : Disk) (status : Status) (last_disk : Disk) (last_status : Status) : Type 0 where
@@ -89,16 +88,16 @@ pub record NothingDone (replies : List Reply) (disk : Disk) (status : Status) (l
 abbrev pub RunsTo : End → List Event → List Reply → Disk → Status → Disk → Status → Type 0
 RunsTo ending.Clean events replies disk status last_disk last_status = Served events replies ending.Clean disk status last_disk last_status
 RunsTo ending.Stopped events replies disk status last_disk last_status = Served events replies ending.Stopped disk status last_disk last_status
-RunsTo ending.Memory events replies disk status last_disk last_status = NothingDone replies disk status last_disk last_status
+RunsTo ending.Memory events replies disk status last_disk last_status = NothingDone replies disk status last_disk last_status ⊎ Served events replies ending.Memory disk status last_disk last_status
 RunsTo (ending.Mount fault) events replies disk status last_disk last_status = NotMounted fault replies disk status last_disk last_status
 
 -- the contents are an image of a world that the machine's run, cut short after these replies, leaves
 abbrev pub ShowsCut : State → List Event → List Reply → Contents → Type 0
 ShowsCut s events said c = (world : World) × IsLiveImage c world × CutRun Anything version_1 s events said world
 
--- From a disk on the events that are left get these replies, behind those that were given: in the course of each a crash leaves a run that was cut short in it or behind it, and once all are answered one that was cut short behind the last.
+-- From a disk on the events that are left get these replies, behind those that were given: in the course of each a crash leaves a run that was cut short in it or behind it, and once all are answered one that was cut short behind the last, in the course of the last unmount too.
 abbrev pub LeavesFrom : State → List Event → List Reply → List Reply → Disk → Disk → Type 0
-LeavesFrom s events said [] old new = (new ≡ old) × Always old (ShowsCut s events said)
+LeavesFrom s events said [] old new = LeavesOnly old new (ShowsCut s events said)
 LeavesFrom s events said (reply ∷ replies) old new = (mid : Disk) × LeavesOnly old mid (ShowsCut s events said) × LeavesFrom s events (said ++ reply ∷ []) replies mid new
 
 -- Up to a first sync that succeeds nothing is written. From then on a crash leaves the world that was found, and once it is mounted, what the machine's run leaves, event by event.

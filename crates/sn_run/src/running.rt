@@ -62,8 +62,9 @@ fn answer_all<D: Device, W: Watch>(
 ///
 /// The room for the replies is looked for first: without it nothing is done, and the end is `Memory`.
 /// Where there is no mount the end has its cause, and no event is answered. It is `Stopped` where a
-/// failure of the device has stopped the mount, or a restart found none, and `Clean` otherwise. Behind each
-/// event `watch` is told how many were answered.
+/// failure of the device has stopped the mount, or a restart found none, and else what the last unmount makes
+/// it, which is a whole consistency point: `Clean`, `Memory`, or `Stopped` where the device fails or no root
+/// can follow. Behind each event `watch` is told how many were answered.
 pub fn run<D: Device, W: Watch>(alloc: Global, device: D, events: &[Event], watch: &mut W) -> Ran<D>
     ensures runs { IsTrue D.tells_bytes → RunsTo result.end events.now result.replies.items
         (D.disk device) (D.status device) (D.disk result.device) (D.status result.device) }
@@ -85,15 +86,11 @@ pub fn run<D: Device, W: Watch>(alloc: Global, device: D, events: &[Event], watc
     match mount(alloc, device) {
         Ok(fs) => {
             let server = answer_all(alloc, Server::Mounted(fs), events, &mut replies, watch);
-            let end = if server.is_stopped() {
-                End::Stopped
-            } else {
-                End::Clean
-            };
+            let (end, device) = server.finish();
             Ran {
                 replies,
                 end,
-                device: server.into_device(),
+                device,
             }
         }
         Err(Unmounted { fault, device }) => Ran {

@@ -3,12 +3,13 @@ ghost use Rattle.std.specs.Prelude.{◌≡◌, IsTrue};
 ghost use Rattle.sn_model.specs.declared.call.Event.TheVariants as event;
 ghost use Rattle.sn_model.specs.Machine as machine;
 ghost use Rattle.sn_fs.specs.Answers.{Answers};
+ghost use Rattle.sn_run.specs.Ending.{EndsSo, IsLastEnd, end_for};
 ghost use Rattle.sn_run.specs.Restarting.{Remounts};
 ghost use Rattle.sn_run.specs.Servers.{IsServer, is_stopped, standing};
 
 use sn_device::Device;
 use sn_fs::{Fs, StillMounted, Unmounted, mount};
-use sn_model::{Call, Errno, Event, Refusal, Reply};
+use sn_model::{Call, End, Errno, Event, Refusal, Reply};
 use std::alloc::Global;
 
 /// A file system that answers events.
@@ -23,6 +24,17 @@ fn refused(errno: Errno) -> Reply
     ensures { result ≡ machine.refused errno }
 {
     Reply::Refused(Refusal::plain(errno))
+}
+
+/// How a run ends whose last unmount is refused.
+fn end_of(errno: Errno) -> End
+    ensures is { result ≡ end_for errno }
+    ensures told { IsLastEnd result }
+{
+    match errno {
+        Errno::Enomem => End::Memory,
+        _ => End::Stopped,
+    }
 }
 
 /// Mounts a device, for a restart.
@@ -47,14 +59,20 @@ impl<D: Device> Server<D> {
         }
     }
 
-    /// Unmounts: hands the device back, and calls nothing of it.
-    pub fn into_device(self) -> D
-        ensures disk { D.disk result ≡ (standing self).disk }
-        ensures status { D.status result ≡ (standing self).status }
+    /// Unmounts for the last time: hands the device back, and tells how the run ends. `Clean` where it is unmounted, `Memory`
+    /// where memory was refused for that, and `Stopped` where it was refused otherwise, had stopped, or isn't mounted.
+    pub fn finish(self) -> (End, D)
+        requires { IsServer self }
+        ensures ended { IsTrue D.tells_bytes → EndsSo result.0 (standing self) (is_stopped self) (D.disk result.1) (D.status result.1) }
+        ensures told { IsLastEnd result.0 }
     {
-        match self {
-            Server::Mounted(fs) => fs.into_device(),
-            Server::Unmounted(device) => device,
+        let fs = match self {
+            Server::Mounted(fs) => fs,
+            Server::Unmounted(device) => return (End::Stopped, device),
+        };
+        match fs.unmount() {
+            Ok(device) => (End::Clean, device),
+            Err(StillMounted { errno, fs }) => (end_of(errno), fs.into_device()),
         }
     }
 

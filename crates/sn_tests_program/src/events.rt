@@ -39,7 +39,8 @@ pub fn replies(alloc: Global, text: &str) -> Result<String> {
     lines_of(alloc, replies.as_slice())
 }
 
-fn lines_of(alloc: Global, replies: &[Reply]) -> Result<String> {
+/// The lines of replies.
+pub fn lines_of(alloc: Global, replies: &[Reply]) -> Result<String> {
     let lines = print_replies(alloc, replies)?;
     Ok(String::from_str(alloc, str::from_utf8(lines.as_slice())?)?)
 }

@@ -118,7 +118,7 @@ fn holds_the_front(rt: &HostRuntime) -> io::Result<bool> {
 /// written. An image that is made and can't be answered isn't done.
 fn holds_where_cut_short(rt: &HostRuntime) -> bool {
     let (mut err, mut made) = (Vec::new(rt.alloc()), Vec::new(rt.alloc()));
-    let cut = ["stop-at", "9", "old", SCRIPT[1], SCRIPT[2], "left.img"];
+    let cut = ["stop-at", "99", "old", SCRIPT[1], SCRIPT[2], "left.img"];
     let saved = program(rt, &cut, &mut Closed, &mut err, &mut Closed);
     let unsaid = program(
         rt,

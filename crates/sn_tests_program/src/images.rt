@@ -40,7 +40,7 @@ fn is_kept_in_use(rt: &HostRuntime) -> Result<bool> {
     let held = FileDevice::open(rt.alloc(), rt, IMAGE)?;
     let made = Ended::of_words(rt, &["mkfs", IMAGE, "256"]);
     let ran = Ended::of_words(rt, &["run", IMAGE, SCRIPT]);
-    let cut = Ended::of_words(rt, &["stop-at", "1", "old", IMAGE, SCRIPT, COPY]);
+    let cut = Ended::of_words(rt, &["stop-at", "99", "old", IMAGE, SCRIPT, COPY]);
     let bytes = fs::read(rt, IMAGE)?;
     drop(held);
     let are_refused = [made, ran, cut]
@@ -53,7 +53,7 @@ fn is_kept_in_use(rt: &HostRuntime) -> Result<bool> {
 fn is_shared_by_readers(rt: &HostRuntime) -> Result<bool> {
     let before = fs::read(rt, IMAGE)?;
     let held = FileDevice::open_to_read(rt.alloc(), rt, IMAGE)?;
-    let cut = Ended::of_words(rt, &["stop-at", "1", "old", IMAGE, SCRIPT, COPY]);
+    let cut = Ended::of_words(rt, &["stop-at", "99", "old", IMAGE, SCRIPT, COPY]);
     let ran = Ended::of_words(rt, &["run", IMAGE, SCRIPT]);
     let bytes = fs::read(rt, IMAGE)?;
     drop(held);
@@ -65,7 +65,7 @@ fn is_shared_by_readers(rt: &HostRuntime) -> Result<bool> {
 fn is_out_kept_in_use(rt: &HostRuntime) -> Result<bool> {
     fs::write(rt, COPY, b"in use")?;
     let held = FileDevice::open(rt.alloc(), rt, COPY)?;
-    let cut = Ended::of_words(rt, &["stop-at", "1", "old", IMAGE, SCRIPT, COPY]);
+    let cut = Ended::of_words(rt, &["stop-at", "99", "old", IMAGE, SCRIPT, COPY]);
     let bytes = fs::read(rt, COPY)?;
     drop(held);
     Ok(cut.is(1, b"err EBADF\n", b"snapfs: file\n") && bytes.as_slice() == b"in use".as_slice())

@@ -146,6 +146,24 @@ impl Course {
             _ => matches!(reply, Reply::Done),
         })
     }
+
+    /// What was refused in a run that ends so: the unmount behind the last event may meet the refused call as well.
+    fn ends(&self, end: End) -> Told {
+        let wanted = if self.has_stopped {
+            End::Stopped
+        } else {
+            End::Clean
+        };
+        if end == End::Stopped && !self.is_told {
+            Told::OneCall
+        } else if end != wanted {
+            Told::Wrong
+        } else if self.is_told {
+            Told::OneCall
+        } else {
+            Told::Nothing
+        }
+    }
 }
 
 /// What was refused in a run, as its answers tell.
@@ -160,7 +178,6 @@ fn told_by(alloc: Global, events: &[Event], replies: &[Reply], end: End) -> Resu
         return Ok(Told::OneCall);
     }
     let mut course = Course::new(alloc);
-    // The last restart finds nothing more to refuse, unless it is told the refused call itself.
     if replies.len() != events.len() {
         return Ok(Told::Wrong);
     }
@@ -169,18 +186,7 @@ fn told_by(alloc: Global, events: &[Event], replies: &[Reply], end: End) -> Resu
             return Ok(Told::Wrong);
         }
     }
-    let wanted = if course.has_stopped {
-        End::Stopped
-    } else {
-        End::Clean
-    };
-    Ok(if end != wanted {
-        Told::Wrong
-    } else if course.is_told {
-        Told::OneCall
-    } else {
-        Told::Nothing
-    })
+    Ok(course.ends(end))
 }
 
 /// Runs the events with one call of the device refused after the other, until no call is left.

@@ -1,10 +1,10 @@
 //! Crashes at each write of each event of a list.
 //!
 //! What is wanted is what was there before the event or what is there behind it, and where it was answered the
-//! second alone. Some records take several sectors, so that a crash may leave one of them without another, or a part
-//! of one. Steps, restarts and calls that don't fit make roots.
+//! second alone, also in the unmount with which each run ends. Some records take several sectors, so that a crash may
+//! leave one of them without another, or a part of one. Steps, restarts, unmounts and calls that don't fit make roots.
 
-use crate::events::{events_of, found_on};
+use crate::events::{events_of, found_on, lines_of as lines_of_replies};
 use anyhow::{Result, ensure};
 use sn_device::{Device, MemDevice};
 use sn_model::{End, Event};
@@ -41,18 +41,21 @@ const LEAST: Plan = Plan {
 /// A longer line is told by its front and the number of its bytes.
 const SHOWN: usize = 24;
 
-/// What is there before an event and behind it, and how many writes were made.
+/// What is there before an event and behind it, and how many writes were made up to each.
 #[derive(Drop)]
 struct Step {
     before: Whole,
     behind: Whole,
+    /// No event comes behind it, so that the unmount does.
+    is_last: bool,
 }
 
-/// What events leave that aren't cut short, and how many writes they make.
+/// What events leave that aren't cut short, how many writes they make, and how many with the unmount behind them.
 #[derive(Drop)]
 struct Whole {
     found: String,
     writes: u64,
+    unmounted: u64,
 }
 
 /// A line for each event of a text: how many writes it makes, how many crashes in it left what they may not, and
@@ -78,30 +81,18 @@ fn lines_of(alloc: Global, plan: Plan, events: &[Event]) -> Result<String> {
 }
 
 fn push_all(alloc: Global, plan: Plan, events: &[Event], lines: &mut String) -> Result<()> {
-    for count in 0..events.len() {
-        push_one(alloc, plan, &events[..count], &events[..count + 1], lines)?;
+    let mut before = run_whole(alloc, plan, &events[..0], 0)?;
+    for count in 1..events.len() + 1 {
+        let behind = run_whole(alloc, plan, &events[..count], before.writes)?;
+        let step = Step {
+            before,
+            behind,
+            is_last: count == events.len(),
+        };
+        push_step(alloc, plan, &events[..count], &step, lines)?;
+        before = step.behind;
     }
     Ok(())
-}
-
-/// The line of the last of some events.
-fn push_one(
-    alloc: Global,
-    plan: Plan,
-    before: &[Event],
-    events: &[Event],
-    lines: &mut String,
-) -> Result<()> {
-    let step = step_of(alloc, plan, before, events)?;
-    push_step(alloc, plan, events, &step, lines)
-}
-
-fn step_of(alloc: Global, plan: Plan, before: &[Event], events: &[Event]) -> Result<Step> {
-    let before = run_whole(alloc, plan, before)?;
-    Ok(Step {
-        before,
-        behind: run_whole(alloc, plan, events)?,
-    })
 }
 
 fn device_of(alloc: Global, plan: Plan) -> Result<MemDevice> {
@@ -112,12 +103,57 @@ fn device_of(alloc: Global, plan: Plan) -> Result<MemDevice> {
     }
 }
 
-fn run_whole(alloc: Global, plan: Plan, events: &[Event]) -> Result<Whole> {
-    let Ran { end, device, .. } = run(alloc, device_of(alloc, plan)?, events, &mut Unwatched);
+/// What events leave that make at least so many writes.
+fn run_whole(alloc: Global, plan: Plan, events: &[Event], least: u64) -> Result<Whole> {
+    let Ran {
+        replies,
+        end,
+        device,
+    } = run(alloc, device_of(alloc, plan)?, events, &mut Unwatched);
     ensure!(end == End::Clean, "no memory for a run");
-    let writes = device.status().writes;
+    let unmounted = device.status().writes;
+    let said = lines_of_replies(alloc, replies.as_slice())?;
+    let writes = answered_behind(alloc, plan, events, said.as_str(), least, unmounted)?;
     let found = found_on(alloc, device, ASKED)?;
-    Ok(Whole { found, writes })
+    Ok(Whole {
+        found,
+        writes,
+        unmounted,
+    })
+}
+
+/// The least number of writes behind which all events are answered so. With more writes no event is answered otherwise, so
+/// that each run halves what it may be.
+fn answered_behind(
+    alloc: Global,
+    plan: Plan,
+    events: &[Event],
+    said: &str,
+    least: u64,
+    most: u64,
+) -> Result<u64> {
+    let (mut least, mut most) = (least, most);
+    for _ in 0..u64::BITS {
+        let middle = least.saturating_add(most.saturating_sub(least) / 2);
+        if least >= most {
+            return Ok(most);
+        }
+        if says(alloc, plan, events, middle, said)? {
+            most = middle;
+        } else {
+            least = middle.saturating_add(1);
+        }
+    }
+    Ok(most)
+}
+
+/// Whether a run of which so many writes succeed is mounted, and answers so.
+fn says(alloc: Global, plan: Plan, events: &[Event], stop: u64, said: &str) -> Result<bool> {
+    let mut device = device_of(alloc, plan)?;
+    device.stop_at(stop);
+    let Ran { replies, end, .. } = run(alloc, device, events, &mut Unwatched);
+    let lines = lines_of_replies(alloc, replies.as_slice())?;
+    Ok(matches!(end, End::Clean | End::Stopped) && lines.as_str() == said)
 }
 
 fn push_step(
@@ -151,10 +187,15 @@ fn push_short(line: &str, lines: &mut String) -> Result<()> {
     Ok(())
 }
 
-/// How many crashes in the last of some events leave what they may not.
+/// How many crashes in the last of some events, and in the unmount behind the last of all, leave what they may not.
 fn wrong_crashes(alloc: Global, plan: Plan, events: &[Event], step: &Step) -> Result<u32> {
     let mut wrong = 0_u32;
-    for stop in step.before.writes..step.behind.writes.saturating_add(1) {
+    let most = if step.is_last {
+        step.behind.unmounted
+    } else {
+        step.behind.writes
+    };
+    for stop in step.before.writes..most.saturating_add(1) {
         wrong = wrong.saturating_add(wrong_behind(alloc, plan, events, step, stop)?);
     }
     Ok(wrong)

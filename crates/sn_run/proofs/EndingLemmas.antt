@@ -1,0 +1,143 @@
+-- The last unmount.
+use Rattle.std.proofs.Common.{◌≡◌, ◌≢◌, ◌⊎◌, inl, inr, Bool, true, false, Option, Some, None, refl, sym, ap, subst, ◌∙◌}
+use Rattle.std.specs.FinMap as map
+use Rattle.std.proofs.lemmas.Bool.{true≢false}
+use Rattle.sn_device.specs.Disk.{Disk}
+use Rattle.sn_device.specs.Crash.{LeavesOnly}
+use Rattle.sn_device.specs.declared.status.Status.{Status}
+use Rattle.sn_device.proofs.CrashLemmas.{LeavesOnly-start, LeavesOnly-weaker}
+use Rattle.sn_block.proofs.CountLemmas.{later-is, later-same}
+use Rattle.sn_model.specs.declared.call.Event.TheVariants as event
+use Rattle.sn_model.specs.declared.mount.End.{End}
+use Rattle.sn_model.specs.declared.mount.End.TheVariants as ending
+use Rattle.sn_model.specs.declared.reply.Errno.{Errno}
+use Rattle.sn_model.specs.declared.reply.Errno.TheVariants.{Eio, Elimit, Enomem, Estopped}
+use Rattle.sn_model.specs.declared.reply.Refusal.{Refusal}
+use Rattle.sn_model.specs.declared.reply.Reply.TheVariants as answer
+use Rattle.sn_model.specs.Machine.{State, Running, Stopped, Mishap, Memory, Read, Write, Space, Age, EndsBy, errno_of, refused}
+use Rattle.sn_model.specs.Settling.{settle}
+use Rattle.sn_model.specs.Tests.{plain}
+use Rattle.sn_model.specs.World.{World}
+use Rattle.sn_held.specs.Held.{Held, Means, RunsReady}
+use Rattle.sn_held.specs.Images.{IsImage, IsLiveImage}
+use Rattle.sn_held.specs.Moments.{ShowsState}
+use Rattle.sn_held.proofs.EventLemmas.{live_show}
+use Rattle.sn_cp_whole.specs.declared.fault.PointFault.{PointFault}
+use Rattle.sn_cp_whole.specs.declared.fault.PointFault.TheVariants as point
+use Rattle.sn_fs.specs.Answers.{HasMadePoint}
+use Rattle.sn_fs.specs.Pointing.{IsUnpointed, errno_of_point}
+use Rattle.sn_fs.specs.Unmounting.{HasUnmounted, IsRefusedTo, IsUnmountedTo}
+use Rattle.sn_fs.proofs.PointLemmas.{fails_read, made_point, settled_all}
+use Rattle.sn_run.specs.Ending.{EndsSo, IsEnded, end_for}
+
+done_is_refused : (errno : Errno) → refused errno ≡ answer.Done → ⊥
+done_is_refused errno e = cc
+
+-- another error than want of memory
+is_memory : (errno : Errno) → (errno ≡ Enomem → ⊥) → refused errno ≡ refused Enomem → ⊥
+is_memory errno apart e =
+    let same : plain errno ≡ plain Enomem = cc in
+    apart (ap (λ (r : Refusal). r.errno) same)
+
+-- what is so of the world that is held is so of the one that is meant
+in_its_world : (last : Held) (end : End) (disk : Disk) (status : Status) → (RunsReady last last.world last.base → last.world.frozen ≡ map.empty → IsEnded (Running last.world) last end disk status) → EndsSo end last false disk status
+in_its_world last end disk status f (Running w) m =
+    subst (λ (x : World). IsEnded (Running x) last end disk status) m.1.runs.is (f (subst (λ (x : World). RunsReady last x last.base) (sym m.1.runs.is) m.1) (ap (λ (x : World). x.frozen) m.1.runs.is ∙ m.2))
+in_its_world last end disk status f (Stopped before after) m = absurd (true≢false (sym m.0))
+
+-- one that has stopped calls nothing
+pub ends_stopped : (last : Held) → EndsSo ending.Stopped last true last.disk last.status
+ends_stopped last (Running w) m = absurd (true≢false m.0)
+ends_stopped last (Stopped before after) m = record {
+  met = None;
+  ends = record { reply = refused Estopped; unmounts = refl; ends = (done_is_refused Estopped, is_memory Estopped (λ e. cc e)) };
+  mid = last;
+  point = inl refl;
+  may = refl;
+  lasts = LeavesOnly-start last.disk (ShowsState (Stopped before after)) m.1;
+  later = later-same last.status last.status refl;
+  costs = refl;
+}
+
+-- one that is made
+pub ends_clean : (last : Held) (disk : Disk) (status : Status) → HasUnmounted last disk status → EndsSo ending.Clean last false disk status
+ends_clean last disk status unmounts = in_its_world last ending.Clean disk status (λ r bare. at (unmounts r) bare)
+  where
+    at : IsUnmountedTo last disk status → last.world.frozen ≡ map.empty → IsEnded (Running last.world) last ending.Clean disk status
+    at u bare =
+        let p = u.pointed in
+        let made : HasMadePoint event.Restart last u.mid = made_point event.Restart last u.mid tt p in
+        let over : IsEnded (Running last.world) last ending.Clean u.mid.disk u.mid.status = record {
+          met = None;
+          ends = record { reply = answer.Done; unmounts = refl; ends = refl };
+          mid = u.mid;
+          point = inr made;
+          may = ap (λ (s : Status). s.failures) p.costs;
+          lasts = settled_all event.Restart last u.mid p bare;
+          later = later-is _ _ last.status u.mid.status p.costs;
+          costs = (made, refl);
+        } in
+        subst (λ (s : Status). IsEnded (Running last.world) last ending.Clean disk s) u.status_is (subst (λ (d : Disk). IsEnded (Running last.world) last ending.Clean d u.mid.status) u.disk_is over)
+
+-- ---- one that is refused
+
+module _ (last : Held) (r : RunsReady last last.world last.base) (bare : last.world.frozen ≡ map.empty) where
+  shows_still : LeavesOnly last.disk last.disk (ShowsState (Running last.world))
+  shows_still = LeavesOnly-start last.disk (ShowsState (Running last.world)) (live_show last last.world r.runs bare)
+
+  ends_refused : (fault : PointFault) (new : Held) → IsUnpointed fault event.Restart last new → IsEnded (Running last.world) last (end_for (errno_of_point fault)) new.disk new.status
+  ends_refused point.Memory new is = subst (λ (h : Held). IsEnded (Running last.world) last ending.Memory h.disk h.status) (sym is) (record {
+    met = Some Memory;
+    ends = record { reply = refused Enomem; unmounts = refl; ends = refl };
+    mid = last;
+    point = inl refl;
+    may = refl;
+    lasts = shows_still;
+    later = later-same last.status last.status refl;
+    costs = refl;
+  })
+  ends_refused point.Age new is = subst (λ (h : Held). IsEnded (Running last.world) last ending.Stopped h.disk h.status) (sym is.0) (record {
+    met = Some Age;
+    ends = record { reply = refused Elimit; unmounts = refl; ends = (done_is_refused Elimit, is_memory Elimit (λ e. cc e)) };
+    mid = last;
+    point = inl refl;
+    may = (tt, is.1, refl);
+    lasts = shows_still;
+    later = later-same last.status last.status refl;
+    costs = refl;
+  })
+  ends_refused point.Read new is =
+      let told = fails_read last.status new.status is.1 in
+      subst (λ (d : Disk). IsEnded (Running last.world) last ending.Stopped d new.status) (sym (ap (λ (h : Held). h.disk) is.0)) (record {
+        met = Some Read;
+        ends = record { reply = refused Eio; unmounts = refl; ends = (done_is_refused Eio, is_memory Eio (λ e. cc e)) };
+        mid = last;
+        point = inl refl;
+        may = told.0;
+        lasts = shows_still;
+        later = told.1;
+        costs = told.2;
+      })
+  ends_refused point.Damaged new is = absurd is
+  ends_refused point.Device new cut = record {
+    met = Some Write;
+    ends = record { reply = refused Eio; unmounts = refl; ends = (done_is_refused Eio, is_memory Eio (λ e. cc e)) };
+    mid = last;
+    point = inl refl;
+    may = cut.failed;
+    lasts = LeavesOnly-weaker last.disk new.disk (λ c. IsImage c (settle last.world)) (ShowsState (Running last.world)) (λ c im. record { image = im; frozen = bare }) cut.moments;
+    later = cut.later;
+    costs = record { needed = tt; built = cut.built; builds = cut.builds; costs = cut.costs };
+  }
+
+ends_by : (last new : Held) (errno : Errno) (has_stopped : Bool) → IsRefusedTo errno last new has_stopped → EndsSo (end_for errno) last false new.disk new.status
+ends_by last new errno has_stopped refuses =
+    subst (λ (x : Errno). EndsSo (end_for x) last false new.disk new.status) (sym refuses.told)
+    (in_its_world last (end_for (errno_of_point refuses.fault)) new.disk new.status (λ r bare. ends_refused last r bare refuses.fault new (refuses.unpointed r)))
+
+-- it had stopped before, or not
+pub ends_either : (last new : Held) (errno : Errno) (had has : Bool) → (had ≡ false → IsRefusedTo errno last new has) → (had ≡ true → (errno ≡ Estopped) × (new ≡ last) × (has ≡ true)) → EndsSo (end_for errno) last had new.disk new.status
+ends_either last new errno true has refuses stopped =
+    let t = stopped refl in
+    subst (λ (x : Errno). EndsSo (end_for x) last true new.disk new.status) (sym t.0) (subst (λ (h : Held). EndsSo ending.Stopped last true h.disk h.status) (sym t.1) (ends_stopped last))
+ends_either last new errno false has refuses stopped = ends_by last new errno has (refuses refl)
