@@ -1,9 +1,7 @@
 -- What the census tells stands.
 use Rattle.std.proofs.Common.{◌≡◌, ◌≢◌, ⊎_elim, ℕ, ◌<◌, ◌≤◌, Bool, if◌then◌else◌, List, Option, None, Some, Ok, Err, Result, OnOk, Contains, refl, sym, ap, subst, ◌∙◌, arith}
 use Rattle.std.proofs.lemmas.Bool.{cases_eq, eq-eqb, ne_eqb}
-use Rattle.sn_device.specs.declared.status.Status.{Status}
 use Rattle.sn_block.specs.declared.fault.ReadFault.{ReadFault}
-use Rattle.sn_block.specs.declared.fault.ReadFault.TheVariants as read
 use Rattle.sn_layout.specs.declared.tree.BlockTree.{BlockTree}
 use Rattle.sn_layout_node.specs.Directory.{Link}
 use Rattle.sn_layout_node.specs.declared.inode.Inode.{Inode}
@@ -13,50 +11,18 @@ use Rattle.sn_ondisk.specs.Trees.{Store}
 use Rattle.sn_image.specs.Inodes.{inode_at}
 use Rattle.sn_image.specs.Sound.{name_count}
 use Rattle.sn_sound.specs.Faults.{IsLinkFault, IsNameIn, leads, named_root, counted, record_block}
-use Rattle.sn_tree_read.specs.Counts.{CountsTree}
-use Rattle.sn_tree_read.specs.declared.fault.TreeFault.{TreeFault}
-use Rattle.sn_tree_read.specs.declared.fault.TreeFault.TheVariants as tree
-use Rattle.sn_marks.specs.Fault.{CountsCheck, Tells}
 use Rattle.sn_marks.specs.declared.fault.CheckFault.{CheckFault}
+use Rattle.sn_marks.specs.declared.fault.CheckFault.TheVariants as check
 use Rattle.sn_census.specs.Counts.{HasRoom, HasSpare, IsOf, blamed, kind_of, links_under}
-use Rattle.sn_census.specs.Faults.{IsAt, at, StandsInLinks, unread}
+use Rattle.sn_census.specs.Faults.{IsAt, at, StandsInLinks}
 use Rattle.sn_census.specs.Rows.{links_of, row_at}
 use Rattle.sn_census.specs.declared.table.Row.{Row}
 
 -- ---- readers
 
-pub unread_told : (fault : TreeFault) (P : Damage → ℕ → Type 0) → Tells (unread fault) P
-unread_told (tree.Read fault) P = tt
-unread_told tree.Damaged P = tt
-
-counts_unread : (Told T U : Type 0) (fault : TreeFault) (old new : Status) → CountsTree {T = T} (Err fault) old new → (Told → fault ≡ tree.Damaged → ⊥) → CountsCheck {T = U} Told (Err (unread fault)) old new
-counts_unread Told T U (tree.Read fault) old new counts never = record {
-  done = tt;
-  sectors = counts.sectors;
-  damaged = λ damage block is. absurd cc;
-  memory = λ is. let same : fault ≡ read.Memory = cc in counts.memory (ap (λ (f : ReadFault). Err (tree.Read f)) same);
-  device = λ told is. let same : fault ≡ read.Device = cc in counts.device (ap (λ (f : ReadFault). Err (tree.Read f)) same);
-}
-counts_unread Told T U tree.Damaged old new counts never = record {
-  done = tt;
-  sectors = counts.sectors;
-  damaged = λ damage block is. absurd cc;
-  memory = λ is. counts.damaged refl;
-  device = λ told is. absurd (never told refl);
-}
-
-pub unread_counts : (Told T U : Type 0) (fault : TreeFault) (found : CheckFault) (old new : Status) → found ≡ unread fault → CountsTree {T = T} (Err fault) old new → (Told → fault ≡ tree.Damaged → ⊥) → CountsCheck {T = U} Told (Err found) old new
-unread_counts Told T U fault found old new is counts never = subst (λ (f : CheckFault). CountsCheck {T = U} Told (Err f) old new) (sym is) (counts_unread Told T U fault old new counts never)
-
--- what reads nothing, and fails only where bytes aren't told
-pub own_counts : (Told U : Type 0) (fault : CheckFault) (old new : Status) → new ≡ old → (Told → ⊥) → CountsCheck {T = U} Told (Err fault) old new
-own_counts Told U fault old new same never = record {
-  done = tt;
-  sectors = ap (λ (s : Status). s.sectors) same;
-  damaged = λ damage block is. same;
-  memory = λ is. same;
-  device = λ told is. absurd (never told);
-}
+-- what is told of a block isn't a block that isn't read
+pub never_read : {T : Type 0} (damage : Damage) (block : ℕ) (fault : CheckFault) (result : Result T CheckFault) → result ≡ Err fault → fault ≡ check.Damaged damage block → (read : ReadFault) → result ≢ Err (check.Read read)
+never_read damage block fault result here told read is = absurd cc
 
 -- an answer that is never `Ok`
 pub never_ok : (P : Type 0) {T : Type 0} (result : Result T CheckFault) → OnOk result ⊥ → OnOk result P

@@ -3,13 +3,8 @@ use Rattle.std.specs.Prelude.{ℕ}
 use Rattle.sn_layout.specs.declared.tree.BlockTree.{BlockTree}
 use Rattle.sn_model.specs.declared.mount.Damage.{Damage}
 use Rattle.sn_model.specs.declared.mount.Damage.TheVariants.{Links}
-use Rattle.sn_block.specs.declared.fault.ReadFault.TheVariants.{Device}
 use Rattle.sn_ondisk.specs.Trees.{Store}
 use Rattle.sn_sound.specs.Faults.{IsLinkFault}
-use Rattle.sn_tree_read.specs.declared.fault.TreeFault.{TreeFault}
-use Rattle.sn_tree_read.specs.declared.fault.TreeFault.TheVariants as tree
-use Rattle.sn_marks.specs.declared.fault.CheckFault.{CheckFault}
-use Rattle.sn_marks.specs.declared.fault.CheckFault.TheVariants as check
 
 -- A fault of the links of one root that stands. `body` is the block of the root body.
 abbrev pub StandsInLinks : Store → BlockTree → ℕ → Damage → ℕ → Type 0
@@ -19,8 +14,3 @@ StandsInLinks s inodes body other block = ⊥
 -- links are wrong, which is told of this block
 pub data IsAt (block : ℕ) : Damage → ℕ → Type 0 where
   at : IsAt block Links block
-
--- the fault of a reader of what was checked before
-abbrev pub unread : TreeFault → CheckFault
-unread (tree.Read fault) = check.Read fault
-unread tree.Damaged = check.Read Device

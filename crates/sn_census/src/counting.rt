@@ -49,7 +49,7 @@ fn test_reached<D: Device>(
     ensures fault { IsTrue D.tells_bytes → IfErr result (λ fault. Tells fault
         (StandsInLinks (store_of (reads (D.disk (device_of blocks.old)))) file.now body)) }
     ensures same { IsTrue D.tells_bytes → D.disk (device_of blocks.new) ≡ D.disk (device_of blocks.old) }
-    ensures counts { CountsCheck (IsTrue D.tells_bytes) result (D.status (device_of blocks.old)) (D.status (device_of blocks.new)) }
+    ensures counts { CountsCheck result (D.status (device_of blocks.old)) (D.status (device_of blocks.new)) }
 {
     match first_apart(census) {
         Some(directory) => record_fault(blocks, file, body, directory),
@@ -75,7 +75,7 @@ fn test_counted<D: Device>(
     ensures fault { IsTrue D.tells_bytes → IfErr result (λ fault. Tells fault
         (StandsInLinks (store_of (reads (D.disk (device_of blocks.old)))) file.now body)) }
     ensures same { IsTrue D.tells_bytes → D.disk (device_of blocks.new) ≡ D.disk (device_of blocks.old) }
-    ensures counts { CountsCheck (IsTrue D.tells_bytes) result (D.status (device_of blocks.old)) (D.status (device_of blocks.new)) }
+    ensures counts { CountsCheck result (D.status (device_of blocks.old)) (D.status (device_of blocks.new)) }
 {
     match first_lacking(census) {
         Some(number) => record_fault(blocks, file, body, number),
@@ -102,7 +102,7 @@ pub fn count_links<D: Device>(
     ensures fault { IsTrue D.tells_bytes → IfErr result (λ fault. Tells fault
         (StandsInLinks (store_of (reads (D.disk (device_of blocks.old)))) file.now body)) }
     ensures same { IsTrue D.tells_bytes → D.disk (device_of blocks.new) ≡ D.disk (device_of blocks.old) }
-    ensures counts { CountsCheck (IsTrue D.tells_bytes) result (D.status (device_of blocks.old)) (D.status (device_of blocks.new)) }
+    ensures counts { CountsCheck result (D.status (device_of blocks.old)) (D.status (device_of blocks.new)) }
 {
     // What was checked can be read, and each number has a row.
     read_laws();
@@ -110,7 +110,7 @@ pub fn count_links<D: Device>(
     directory_laws();
     number_law(limits.largest_number);
     census.size_law();
-    load_rows(census, blocks, limits, file)?;
+    load_rows(census, blocks, limits, file, body)?;
     // The rows past the last number are none.
     census.size_law();
     count_names(census, blocks, limits, file, body)?;

@@ -22,17 +22,18 @@ fn load_row<D: Device>(
     blocks: &mut Blocks<D>,
     limits: &Limits,
     file: &BlockTree,
+    body: u32,
     number: u16,
 ) -> Result<(), CheckFault>
     requires read { IsTrue D.tells_bytes → CanReadRecord limits.now (D.status (device_of blocks.old)).sectors
         (store_of (reads (D.disk (device_of blocks.old)))) file.now number }
     ensures row { IsTrue D.tells_bytes → OnOk result (Sets number
         (row_of number (inode_at (store_of (reads (D.disk (device_of blocks.old)))) file.now number)) census.old census.new) }
-    ensures fault { IfErr result (λ fault. Tells fault (λ damage block. ⊥)) }
+    ensures fault { IsTrue D.tells_bytes → IfErr result (λ fault. Tells fault (λ damage block. ⊥)) }
     ensures same { IsTrue D.tells_bytes → D.disk (device_of blocks.new) ≡ D.disk (device_of blocks.old) }
-    ensures counts { CountsCheck (IsTrue D.tells_bytes) result (D.status (device_of blocks.old)) (D.status (device_of blocks.new)) }
+    ensures counts { CountsCheck result (D.status (device_of blocks.old)) (D.status (device_of blocks.new)) }
 {
-    let inode = inode_of(blocks, limits, file, number)?;
+    let inode = inode_of(blocks, limits, file, body, number)?;
     census.set_row(number, Row::new(number, &inode));
     Ok(())
 }
@@ -43,17 +44,18 @@ pub(crate) fn load_rows<D: Device>(
     blocks: &mut Blocks<D>,
     limits: &Limits,
     file: &BlockTree,
+    body: u32,
 ) -> Result<(), CheckFault>
     requires read { IsTrue D.tells_bytes → (number : ℕ) → CanReadRecord limits.now (D.status (device_of blocks.old)).sectors
         (store_of (reads (D.disk (device_of blocks.old)))) file.now number }
     ensures rows { IsTrue D.tells_bytes → OnOk result (AreLoaded
         (store_of (reads (D.disk (device_of blocks.old)))) file.now 65536 census.new) }
-    ensures fault { IfErr result (λ fault. Tells fault (λ damage block. ⊥)) }
+    ensures fault { IsTrue D.tells_bytes → IfErr result (λ fault. Tells fault (λ damage block. ⊥)) }
     ensures same { IsTrue D.tells_bytes → D.disk (device_of blocks.new) ≡ D.disk (device_of blocks.old) }
-    ensures counts { CountsCheck (IsTrue D.tells_bytes) result (D.status (device_of blocks.old)) (D.status (device_of blocks.new)) }
+    ensures counts { CountsCheck result (D.status (device_of blocks.old)) (D.status (device_of blocks.new)) }
 {
     for number in 0..NUMBERS {
-        load_row(census, blocks, limits, file, number as u16)?;
+        load_row(census, blocks, limits, file, body, number as u16)?;
     }
     Ok(())
 }

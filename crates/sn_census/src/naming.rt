@@ -74,7 +74,7 @@ fn spare_fault<D: Device>(
     ensures fault { IsTrue D.tells_bytes → IfErr result (λ fault. Tells fault (IsAt (blamed
         (store_of (reads (D.disk (device_of blocks.old)))) file.now body pointer number (row_at census.now number).kind))) }
     ensures same { IsTrue D.tells_bytes → D.disk (device_of blocks.new) ≡ D.disk (device_of blocks.old) }
-    ensures counts { CountsCheck (IsTrue D.tells_bytes) result (D.status (device_of blocks.old)) (D.status (device_of blocks.new)) }
+    ensures counts { CountsCheck result (D.status (device_of blocks.old)) (D.status (device_of blocks.new)) }
 {
     match census.row(number).kind {
         Some(_kind) => record_fault(blocks, file, body, number),
@@ -104,11 +104,11 @@ fn count_block<D: Device>(
     ensures fault { IsTrue D.tells_bytes → IfErr result (λ fault. Tells fault
         (StandsInLinks (store_of (reads (D.disk (device_of blocks.old)))) file.now body)) }
     ensures same { IsTrue D.tells_bytes → D.disk (device_of blocks.new) ≡ D.disk (device_of blocks.old) }
-    ensures counts { CountsCheck (IsTrue D.tells_bytes) result (D.status (device_of blocks.old)) (D.status (device_of blocks.new)) }
+    ensures counts { CountsCheck result (D.status (device_of blocks.old)) (D.status (device_of blocks.new)) }
 {
     let pointer = pointer_to(blocks, tree, i, body)?;
-    fetch_names(blocks, tree, i)?;
-    let names = spelled_names(blocks.fetched())?;
+    fetch_names(blocks, tree, body, i)?;
+    let names = spelled_names(blocks.fetched(), body)?;
     match count_entries(census, directory, &names) {
         Some(number) => spare_fault(census, blocks, file, body, pointer, number),
         None => Ok(()),
@@ -135,7 +135,7 @@ fn count_tree<D: Device>(
     ensures fault { IsTrue D.tells_bytes → IfErr result (λ fault. Tells fault
         (StandsInLinks (store_of (reads (D.disk (device_of blocks.old)))) file.now body)) }
     ensures same { IsTrue D.tells_bytes → D.disk (device_of blocks.new) ≡ D.disk (device_of blocks.old) }
-    ensures counts { CountsCheck (IsTrue D.tells_bytes) result (D.status (device_of blocks.old)) (D.status (device_of blocks.new)) }
+    ensures counts { CountsCheck result (D.status (device_of blocks.old)) (D.status (device_of blocks.new)) }
 {
     for i in 0..block_count(tree) {
         count_block(census, blocks, limits, file, body, directory, tree, i)?;
@@ -164,7 +164,7 @@ fn count_content<D: Device>(
     ensures fault { IsTrue D.tells_bytes → IfErr result (λ fault. Tells fault
         (StandsInLinks (store_of (reads (D.disk (device_of blocks.old)))) file.now body)) }
     ensures same { IsTrue D.tells_bytes → D.disk (device_of blocks.new) ≡ D.disk (device_of blocks.old) }
-    ensures counts { CountsCheck (IsTrue D.tells_bytes) result (D.status (device_of blocks.old)) (D.status (device_of blocks.new)) }
+    ensures counts { CountsCheck result (D.status (device_of blocks.old)) (D.status (device_of blocks.new)) }
 {
     match content {
         Content::Inline(_) => Ok(()),
@@ -192,7 +192,7 @@ fn count_inode<D: Device>(
     ensures fault { IsTrue D.tells_bytes → IfErr result (λ fault. Tells fault
         (StandsInLinks (store_of (reads (D.disk (device_of blocks.old)))) file.now body)) }
     ensures same { IsTrue D.tells_bytes → D.disk (device_of blocks.new) ≡ D.disk (device_of blocks.old) }
-    ensures counts { CountsCheck (IsTrue D.tells_bytes) result (D.status (device_of blocks.old)) (D.status (device_of blocks.new)) }
+    ensures counts { CountsCheck result (D.status (device_of blocks.old)) (D.status (device_of blocks.new)) }
 {
     match inode.kind {
         Kind::File => Ok(()),
@@ -220,9 +220,9 @@ fn count_number<D: Device>(
     ensures fault { IsTrue D.tells_bytes → IfErr result (λ fault. Tells fault
         (StandsInLinks (store_of (reads (D.disk (device_of blocks.old)))) file.now body)) }
     ensures same { IsTrue D.tells_bytes → D.disk (device_of blocks.new) ≡ D.disk (device_of blocks.old) }
-    ensures counts { CountsCheck (IsTrue D.tells_bytes) result (D.status (device_of blocks.old)) (D.status (device_of blocks.new)) }
+    ensures counts { CountsCheck result (D.status (device_of blocks.old)) (D.status (device_of blocks.new)) }
 {
-    match inode_of(blocks, limits, file, number)? {
+    match inode_of(blocks, limits, file, body, number)? {
         Some(inode) => count_inode(census, blocks, limits, file, body, number, &inode),
         None => Ok(()),
     }
@@ -252,7 +252,7 @@ pub(crate) fn count_names<D: Device>(
     ensures fault { IsTrue D.tells_bytes → IfErr result (λ fault. Tells fault
         (StandsInLinks (store_of (reads (D.disk (device_of blocks.old)))) file.now body)) }
     ensures same { IsTrue D.tells_bytes → D.disk (device_of blocks.new) ≡ D.disk (device_of blocks.old) }
-    ensures counts { CountsCheck (IsTrue D.tells_bytes) result (D.status (device_of blocks.old)) (D.status (device_of blocks.new)) }
+    ensures counts { CountsCheck result (D.status (device_of blocks.old)) (D.status (device_of blocks.new)) }
 {
     for number in 2..record_count(file) {
         count_number(census, blocks, limits, file, body, number as u16)?;

@@ -1,9 +1,10 @@
-//! Readers of what was checked before. Where the device tells its bytes, all of it can be read.
+//! Readers of what was checked before. Where the device tells its bytes, all of it can be read. One that gives other bytes at
+//! the second reading has no block to be blamed: that is told of the root body, as misspelt.
 ghost use Rattle.std.specs.Prelude.{◌≡◌, IsTrue, IsSome, IfOk, IfErr, OnOk};
 ghost use Rattle.sn_device.specs.Disk.{reads};
 ghost use Rattle.sn_block.specs.Lending.{device_of, fetched_number, fetched_bytes};
 ghost use Rattle.sn_layout_node.specs.Directory.{IsDirectoryBlock};
-ghost use Rattle.sn_model.specs.declared.mount.Damage.TheVariants.{Links};
+ghost use Rattle.sn_model.specs.declared.mount.Damage.TheVariants.{Links, Misspelt};
 ghost use Rattle.sn_ondisk.specs.Trees.{store_of, data_block};
 ghost use Rattle.sn_image.specs.Inodes.{inode_at};
 ghost use Rattle.sn_image.specs.Names.{names_in};
@@ -13,10 +14,10 @@ ghost use Rattle.sn_sound.specs.Faults.{record_block};
 ghost use Rattle.sn_marks.specs.Fault.{CountsCheck, Tells};
 ghost use Rattle.sn_marks.specs.declared.fault.CheckFault.TheVariants.{Damaged};
 ghost use Rattle.sn_check_root.specs.Reading.{TreeLies};
-ghost use Rattle.sn_census.specs.Faults.{IsAt, unread};
+ghost use Rattle.sn_census.specs.Faults.{IsAt};
 
-use sn_block::{Block, Blocks, ReadFault};
-use sn_check_root::record_block;
+use sn_block::{Block, Blocks};
+use sn_check_root::{fault_at, record_block};
 use sn_device::Device;
 use sn_dir::{decoded, fetch_block};
 use sn_inode::get;
@@ -25,36 +26,26 @@ use sn_layout_node::{DirectoryBlock, Inode};
 use sn_limits::Limits;
 use sn_marks::CheckFault;
 use sn_model::Damage;
-use sn_tree_read::TreeFault;
-
-// A reader's fault. What was checked is damaged only where a device gives other bytes than before.
-fn unread(fault: TreeFault) -> CheckFault
-    ensures { result ≡ unread fault }
-{
-    match fault {
-        TreeFault::Read(fault) => CheckFault::Read(fault),
-        TreeFault::Damaged => CheckFault::Read(ReadFault::Device),
-    }
-}
 
 // The inode of a number.
 pub(crate) fn inode_of<D: Device>(
     blocks: &mut Blocks<D>,
     limits: &Limits,
     file: &BlockTree,
+    body: u32,
     number: u16,
 ) -> Result<Option<Inode>, CheckFault>
     requires read { IsTrue D.tells_bytes → CanReadRecord limits.now (D.status (device_of blocks.old)).sectors
         (store_of (reads (D.disk (device_of blocks.old)))) file.now number }
     ensures inode { IsTrue D.tells_bytes → IfOk result (λ inode. inode
         ≡ inode_at (store_of (reads (D.disk (device_of blocks.old)))) file.now number) }
-    ensures fault { IfErr result (λ fault. Tells fault (λ damage block. ⊥)) }
+    ensures fault { IsTrue D.tells_bytes → IfErr result (λ fault. Tells fault (λ damage block. ⊥)) }
     ensures same { IsTrue D.tells_bytes → D.disk (device_of blocks.new) ≡ D.disk (device_of blocks.old) }
-    ensures counts { CountsCheck (IsTrue D.tells_bytes) result (D.status (device_of blocks.old)) (D.status (device_of blocks.new)) }
+    ensures counts { CountsCheck result (D.status (device_of blocks.old)) (D.status (device_of blocks.new)) }
 {
     match get(blocks, limits, file, number) {
         Ok(inode) => Ok(inode),
-        Err(fault) => Err(unread(fault)),
+        Err(fault) => Err(fault_at(fault, body)),
     }
 }
 
@@ -62,6 +53,7 @@ pub(crate) fn inode_of<D: Device>(
 pub(crate) fn fetch_names<D: Device>(
     blocks: &mut Blocks<D>,
     tree: &BlockTree,
+    body: u32,
     i: u64,
 ) -> Result<(), CheckFault>
     requires read { IsTrue D.tells_bytes → CanRead (D.status (device_of blocks.old)).sectors
@@ -69,25 +61,25 @@ pub(crate) fn fetch_names<D: Device>(
     ensures lent { OnOk result (IsSome (fetched_number blocks.new)) }
     ensures block { IsTrue D.tells_bytes → OnOk result (fetched_bytes blocks.new
         ≡ data_block (store_of (reads (D.disk (device_of blocks.old)))) tree.now i) }
-    ensures fault { IfErr result (λ fault. Tells fault (λ damage block. ⊥)) }
+    ensures fault { IsTrue D.tells_bytes → IfErr result (λ fault. Tells fault (λ damage block. ⊥)) }
     ensures same { IsTrue D.tells_bytes → D.disk (device_of blocks.new) ≡ D.disk (device_of blocks.old) }
-    ensures counts { CountsCheck (IsTrue D.tells_bytes) result (D.status (device_of blocks.old)) (D.status (device_of blocks.new)) }
+    ensures counts { CountsCheck result (D.status (device_of blocks.old)) (D.status (device_of blocks.new)) }
 {
     match fetch_block(blocks, tree, i) {
         Ok(()) => Ok(()),
-        Err(fault) => Err(unread(fault)),
+        Err(fault) => Err(fault_at(fault, body)),
     }
 }
 
 // The names that a block spells.
-pub(crate) fn spelled_names(block: &Block) -> Result<DirectoryBlock<'_>, CheckFault>
+pub(crate) fn spelled_names(block: &Block, body: u32) -> Result<DirectoryBlock<'_>, CheckFault>
     ensures names { IfOk result (λ names. names ≡ names_in block.now) }
-    ensures fault { IfErr result (λ fault. Tells fault (λ damage block. ⊥)) }
+    ensures own { IfErr result (λ fault. fault ≡ Damaged Misspelt body) }
     ensures spelled { IsDirectoryBlock block.now → IfErr result (λ fault. ⊥) }
 {
     match decoded(block) {
         Ok(names) => Ok(names),
-        Err(fault) => Err(unread(fault)),
+        Err(fault) => Err(fault_at(fault, body)),
     }
 }
 
@@ -104,7 +96,7 @@ pub(crate) fn record_fault<D: Device>(
     ensures fault { IsTrue D.tells_bytes → IfErr result (λ fault. Tells fault (IsAt
         (record_block (store_of (reads (D.disk (device_of blocks.old)))) file.now body number))) }
     ensures same { IsTrue D.tells_bytes → D.disk (device_of blocks.new) ≡ D.disk (device_of blocks.old) }
-    ensures counts { CountsCheck (IsTrue D.tells_bytes) result (D.status (device_of blocks.old)) (D.status (device_of blocks.new)) }
+    ensures counts { CountsCheck result (D.status (device_of blocks.old)) (D.status (device_of blocks.new)) }
 {
     let block = record_block(blocks, file, body, u64::from(number))?;
     Err(link_fault(block))

@@ -19,7 +19,7 @@ use Rattle.sn_ondisk.specs.Trees.{store_of}
 use Rattle.sn_examine.specs.Failing.{IsSoOf, WritesNothing, read_fault}
 use Rattle.sn_examine.specs.Finding.{IsOfTree, IsUnsound}
 use Rattle.sn_examine.proofs.ReplayLemmas.{read_failed, reads_only}
-use Rattle.sn_check.specs.Faults.{IsDamageOf, fault_of_check, unread}
+use Rattle.sn_check.specs.Faults.{IsDamageOf, fault_of_check}
 
 -- ---- of the roots
 
@@ -32,51 +32,34 @@ pub check_tells : (f : CheckFault) (P : Damage → ℕ → Type 0) → Tells f P
 check_tells (of_check.Damaged damage block) P tells = tells
 check_tells (of_check.Read f) P tells = read_tells f P
 
--- a device that tells its bytes counts as one read does
-as_read : (Told T : Type 0) (f : ReadFault) (old new : Status) → Told → CountsCheck {T = T} Told (Err (of_check.Read f)) old new → CountsRead {T = T} (Err f) old new
-as_read Told T f old new told counts = record {
+-- it counts as one read does
+as_read : (T : Type 0) (f : ReadFault) (old new : Status) → CountsCheck {T = T} (Err (of_check.Read f)) old new → CountsRead {T = T} (Err f) old new
+as_read T f old new counts = record {
   done = tt;
   sectors = counts.sectors;
   memory = λ is. let same : f ≡ read.Memory = cc in counts.memory (ap (λ (r : ReadFault). Err (of_check.Read r)) same);
-  device = λ is. let same : f ≡ read.Device = cc in counts.device told (ap (λ (r : ReadFault). Err (of_check.Read r)) same);
+  device = λ is. let same : f ≡ read.Device = cc in counts.device (ap (λ (r : ReadFault). Err (of_check.Read r)) same);
 }
 
 -- where nothing is counted, nothing is written
 pub same_reads : (old new : Status) → new ≡ old → WritesNothing old new
 same_reads old new same = record { later = later-same old new same; writes = ap (λ (s : Status). s.writes) same; syncs = ap (λ (s : Status). s.syncs) same }
 
-pub check_reads : (Told T : Type 0) (f : CheckFault) (old new : Status) → Told → CountsCheck {T = T} Told (Err f) old new → WritesNothing old new
-check_reads Told T (of_check.Damaged damage block) old new told counts = same_reads old new (counts.damaged damage block refl)
-check_reads Told T (of_check.Read f) old new told counts = reads_only {T = T} (Err f) old new (as_read Told T f old new told counts)
+pub check_reads : (T : Type 0) (f : CheckFault) (old new : Status) → CountsCheck {T = T} (Err f) old new → WritesNothing old new
+check_reads T (of_check.Damaged damage block) old new counts = same_reads old new (counts.damaged damage block refl)
+check_reads T (of_check.Read f) old new counts = reads_only {T = T} (Err f) old new (as_read T f old new counts)
 
-pub check_fails : (Told T : Type 0) (f : CheckFault) (old new : Status) → Told → CountsCheck {T = T} Told (Err f) old new → IsSoOf (fault_of_check f) old new
-check_fails Told T (of_check.Damaged damage block) old new told counts = ap (λ (s : Status). s.failures) (counts.damaged damage block refl)
-check_fails Told T (of_check.Read f) old new told counts = read_failed {T = T} (Err f) f old new (as_read Told T f old new told counts) refl
+pub check_fails : (T : Type 0) (f : CheckFault) (old new : Status) → CountsCheck {T = T} (Err f) old new → IsSoOf (fault_of_check f) old new
+check_fails T (of_check.Damaged damage block) old new counts = ap (λ (s : Status). s.failures) (counts.damaged damage block refl)
+check_fails T (of_check.Read f) old new counts = read_failed {T = T} (Err f) f old new (as_read T f old new counts) refl
 
 -- ---- of a tree that was sound
 
-pub unread_tells : (f : MountFault) (body : ℕ) (P : Damage → ℕ → Type 0) → IsOfTree body f → IsDamageOf P (unread f)
-unread_tells (fault.Damaged damage block) body P is = tt
-unread_tells fault.NotFormatted body P is = is
-unread_tells fault.Version body P is = is
-unread_tells fault.NoRoot body P is = is
-unread_tells fault.Memory body P is = tt
-unread_tells fault.Device body P is = tt
-
--- and all but a damage stays as it is
-pub unread_other : (f : MountFault) → ((damage : Damage) (block : ℕ) → f ≡ fault.Damaged damage block → ⊥) → f ≡ unread f
-unread_other (fault.Damaged damage block) none = absurd (none damage block refl)
-unread_other fault.NotFormatted none = refl
-unread_other fault.Version none = refl
-unread_other fault.NoRoot none = refl
-unread_other fault.Memory none = refl
-unread_other fault.Device none = refl
-
--- a sound tree is never damaged
-pub unread_fails : (f : MountFault) (sectors n : ℕ) (c : Contents) (file : BlockTree) (old new : Status) → 8 * n ≤ sectors → IsSound version_1 n (store_of c) file → IsUnsound sectors c file f → IsSoOf f old new → IsSoOf (unread f) old new
-unread_fails (fault.Damaged damage block) sectors n c file old new room sound unsound so = absurd (unsound n room sound)
-unread_fails fault.NotFormatted sectors n c file old new room sound unsound so = so
-unread_fails fault.Version sectors n c file old new room sound unsound so = so
-unread_fails fault.NoRoot sectors n c file old new room sound unsound so = so
-unread_fails fault.Memory sectors n c file old new room sound unsound so = so
-unread_fails fault.Device sectors n c file old new room sound unsound so = so
+-- which is never damaged
+pub tree_tells : (f : MountFault) (body : ℕ) (P : Damage → ℕ → Type 0) (sectors n : ℕ) (c : Contents) (file : BlockTree) → 8 * n ≤ sectors → IsSound version_1 n (store_of c) file → IsOfTree body f → IsUnsound sectors c file f → IsDamageOf P f
+tree_tells (fault.Damaged damage block) body P sectors n c file room sound is unsound = absurd (unsound n room sound)
+tree_tells fault.NotFormatted body P sectors n c file room sound is unsound = is
+tree_tells fault.Version body P sectors n c file room sound is unsound = is
+tree_tells fault.NoRoot body P sectors n c file room sound is unsound = is
+tree_tells fault.Memory body P sectors n c file room sound is unsound = tt
+tree_tells fault.Device body P sectors n c file room sound is unsound = tt

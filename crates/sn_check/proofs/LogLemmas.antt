@@ -25,25 +25,15 @@ use Rattle.sn_sound.specs.Logs.{AreReplayed, HasAgeLeft, HasSoundLog, IsLogFault
 use Rattle.sn_examine.specs.Ages.{IsAged, TellsRecovery}
 use Rattle.sn_examine.specs.Both.{HasBoth, ReplaysBoth}
 use Rattle.sn_examine.specs.Examining.{SomeIsLater}
-use Rattle.sn_examine.proofs.FindLemmas.{are_replayed, breaks_log, charges_are, recovers_after, tells_recovery}
+use Rattle.sn_examine.proofs.FindLemmas.{are_replayed, breaks_log, charges_are, recovers_after, recovers_before, tells_recovery}
 use Rattle.sn_check.specs.Faults.{IsDamageOf}
 use Rattle.sn_check.specs.Logs.{HasLogged, IsOfLog, IsOver}
 
 -- ---- what is to recover
 
--- what is to recover behind the records is so before them
-recovers_before : (changes : List Change) (from tree : Tree) → apply_all version_1 changes from ≡ Some tree → IsToRecover changes tree → IsToRecover changes from
-unfolding apply_all
-recovers_before [] from tree e (inl some) = inl some
-recovers_before [] from tree e (inr left) = let same : from ≡ tree = cc in inr (subst (λ (t : Tree). nameless_in t ≢ 0) (sym same) left)
-recovers_before (change ∷ changes) from tree e recovers = inl (λ nil. never nil)
-  where
-    never : change ∷ changes ≡ [] → ⊥
-    never nil = cc
-
 tells_after : (recovers : Bool) (changes : List Change) (from tree : Tree) → apply_all version_1 changes from ≡ Some tree → TellsRecovery recovers changes from → TellsRecovery recovers changes tree
-tells_after true changes from tree e tells = recovers_after changes from tree e tells
-tells_after false changes from tree e tells = λ some. tells (recovers_before changes from tree e some)
+tells_after true changes from tree e tells = recovers_after version_1 changes from tree e tells
+tells_after false changes from tree e tells = λ some. tells (recovers_before version_1 changes from tree e some)
 
 left_for : (recovers : Bool) (root : RootBody) (changes : List Change) (tree : Tree) → TellsRecovery recovers changes tree → (recovers ≡ true → HasAgeLeft root) → IsToRecover changes tree → HasAgeLeft root
 left_for true root changes tree tells left some = left refl

@@ -11,15 +11,6 @@ abbrev pub fault_of_check : CheckFault → MountFault
 fault_of_check (of_check.Damaged damage block) = Damaged damage block
 fault_of_check (of_check.Read fault) = read_fault fault
 
--- what was checked before and is damaged now is a failure of the device, which gives other bytes than before
-abbrev pub unread : MountFault → MountFault
-unread (Damaged damage block) = Device
-unread NotFormatted = NotFormatted
-unread Version = Version
-unread NoRoot = NoRoot
-unread Memory = Memory
-unread Device = Device
-
 -- A damage that is told is so of its block. Else memory was refused, or the device failed.
 abbrev pub IsDamageOf : (Damage → ℕ → Type 0) → MountFault → Type 0
 IsDamageOf P (Damaged damage block) = P damage block

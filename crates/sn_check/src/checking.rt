@@ -1,5 +1,5 @@
 //! The check of a whole disk.
-ghost use Rattle.std.specs.Prelude.{◌≡◌, IsTrue, IfErr, IfOk};
+ghost use Rattle.std.specs.Prelude.{◌≡◌, IsTrue, IfErr, IfOk, OnOk};
 ghost use Rattle.sn_device.specs.Disk.{reads};
 ghost use Rattle.sn_block.specs.Lending.{device_of};
 ghost use Rattle.sn_sound.specs.Verdicts.{HasNoVerdict, IsClean};
@@ -16,13 +16,15 @@ use sn_layout::Area;
 use sn_model::MountFault;
 use std::alloc::Global;
 
-/// Goes through a disk group by group, up to its first fault. At `Ok` it is sound, and so many blocks are free.
-fn check_groups<D: Device>(alloc: Global, blocks: &mut Blocks<D>) -> Result<u32, MountFault>
+/// Goes through a disk group by group, up to its first fault, as [`check`] does. At `Ok` it is sound, and so many blocks are
+/// free.
+pub fn test_disk<D: Device>(alloc: Global, blocks: &mut Blocks<D>) -> Result<u32, MountFault>
     ensures clean { IsTrue D.tells_bytes → IfOk result (λ free. IsClean (D.status (device_of blocks.old)).sectors (reads (D.disk (device_of blocks.old))) free) }
     ensures cause { IsTrue D.tells_bytes → IfErr result (IsCause (D.status (device_of blocks.old)).sectors (reads (D.disk (device_of blocks.old)))) }
     ensures same { IsTrue D.tells_bytes → D.disk (device_of blocks.new) ≡ D.disk (device_of blocks.old) }
-    ensures reads { IsTrue D.tells_bytes → WritesNothing (D.status (device_of blocks.old)) (D.status (device_of blocks.new)) }
-    ensures failed { IsTrue D.tells_bytes → FailsAs result (D.status (device_of blocks.old)) (D.status (device_of blocks.new)) }
+    ensures idle { OnOk result (D.status (device_of blocks.new) ≡ D.status (device_of blocks.old)) }
+    ensures reads { WritesNothing (D.status (device_of blocks.old)) (D.status (device_of blocks.new)) }
+    ensures failed { FailsAs result (D.status (device_of blocks.old)) (D.status (device_of blocks.new)) }
 {
     let DiskRoot { places, slot, root } = match find_newest(blocks) {
         Ok(found) => found,
@@ -43,16 +45,16 @@ fn check_groups<D: Device>(alloc: Global, blocks: &mut Blocks<D>) -> Result<u32,
 /// the map of their blocks, their names and links, and the log on top of the newest one. A disk that is sound is `Clean`,
 /// and so is no other; else a fault is told that stands at its block, of the first group that has one. There is no
 /// verdict, and `NotFormatted`, `NoRoot` and `Version` come in this order, where there is no root to check; `Memory`
-/// where memory is refused, and `Device` where the device fails, or gives other bytes at a second read. Nothing is
-/// written.
+/// where memory is refused, and `Device` where the device fails. Nothing is written. A device that gives other bytes at a
+/// second read makes a misspelt root body of it.
 pub fn check<D: Device>(alloc: Global, blocks: &mut Blocks<D>) -> Result<Verdict, MountFault>
     ensures verdict { IsTrue D.tells_bytes → IfOk result (IsRight (D.status (device_of blocks.old)).sectors (reads (D.disk (device_of blocks.old)))) }
     ensures none { IsTrue D.tells_bytes → IfErr result (HasNoVerdict (D.status (device_of blocks.old)).sectors (reads (D.disk (device_of blocks.old)))) }
     ensures same { IsTrue D.tells_bytes → D.disk (device_of blocks.new) ≡ D.disk (device_of blocks.old) }
-    ensures reads { IsTrue D.tells_bytes → WritesNothing (D.status (device_of blocks.old)) (D.status (device_of blocks.new)) }
-    ensures failed { IsTrue D.tells_bytes → FailsAs result (D.status (device_of blocks.old)) (D.status (device_of blocks.new)) }
+    ensures reads { WritesNothing (D.status (device_of blocks.old)) (D.status (device_of blocks.new)) }
+    ensures failed { FailsAs result (D.status (device_of blocks.old)) (D.status (device_of blocks.new)) }
 {
-    match check_groups(alloc, blocks) {
+    match test_disk(alloc, blocks) {
         Ok(free) => Ok(Verdict::Clean { free }),
         Err(fault) => verdict_of(fault),
     }

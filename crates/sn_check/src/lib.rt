@@ -9,6 +9,8 @@
 //! and then the log on top of the newest root, which is replayed into its tree in memory (`load_world` and `replay_both`
 //! of `sn_examine`), since whether a record can be applied depends on those before it.
 //!
+//! [`check`] answers with a verdict, and [`test_disk`] with the fault that a mount tells: a mount begins with it.
+//!
 //! The way through: `specs/Verdicts.antt` says when an answer is right. `roots` checks all roots and counts what is
 //! free, `logging` checks the log, `checking` puts them together.
 //!
@@ -26,5 +28,5 @@ mod logging;
 mod roots;
 mod verdict;
 
-pub use checking::check;
+pub use checking::{check, test_disk};
 pub use verdict::Verdict;

@@ -12,7 +12,6 @@ ghost use Rattle.sn_examine.specs.Failing.{FailsAs, WritesNothing};
 ghost use Rattle.sn_check.specs.Faults.{IsDamageOf};
 ghost use Rattle.sn_check.specs.Logs.{HasLogged, IsOfLog, IsOver};
 
-use crate::fault::unread;
 use sn_block::Blocks;
 use sn_device::Device;
 use sn_examine::{is_to_recover, load_world, none_later, replay_both, test_age};
@@ -35,7 +34,8 @@ pub(crate) struct Logged {
 }
 
 /// Reads the tree of a sound root into memory, and replays the records of its epoch and of the next one into it. `body` is
-/// the block of the root body. Damaged is a record that is misspelt or can't be applied, told of the block of its gate.
+/// the block of the root body. Damaged is a record that is misspelt or can't be applied, told of the block of its gate;
+/// and a tree that was checked and is misspelt now, since the device gives other bytes than before, told of `body`.
 fn replay_log<D: Device>(
     alloc: Global,
     blocks: &mut Blocks<D>,
@@ -51,14 +51,14 @@ fn replay_log<D: Device>(
     ensures same { IsTrue D.tells_bytes → D.disk (device_of blocks.new) ≡ D.disk (device_of blocks.old) }
     ensures idle { OnOk result (D.status (device_of blocks.new) ≡ D.status (device_of blocks.old)) }
     ensures reads { WritesNothing (D.status (device_of blocks.old)) (D.status (device_of blocks.new)) }
-    ensures failed { IsTrue D.tells_bytes → FailsAs result (D.status (device_of blocks.old)) (D.status (device_of blocks.new)) }
+    ensures failed { FailsAs result (D.status (device_of blocks.old)) (D.status (device_of blocks.new)) }
 {
     let Ok(mut buffer) = Buffer::new(alloc) else {
         return Err(MountFault::Memory);
     };
     let mut world = match load_world(alloc, blocks, root, body) {
         Ok(world) => world,
-        Err(fault) => return Err(unread(fault)),
+        Err(fault) => return Err(fault),
     };
     let dropped = world.nameless();
     let replayed = match replay_both(alloc, blocks, &mut buffer, &mut world, places, root.epoch) {
@@ -111,7 +111,7 @@ pub(crate) fn check_log<D: Device>(
     ensures same { IsTrue D.tells_bytes → D.disk (device_of blocks.new) ≡ D.disk (device_of blocks.old) }
     ensures idle { OnOk result (D.status (device_of blocks.new) ≡ D.status (device_of blocks.old)) }
     ensures reads { WritesNothing (D.status (device_of blocks.old)) (D.status (device_of blocks.new)) }
-    ensures failed { IsTrue D.tells_bytes → FailsAs result (D.status (device_of blocks.old)) (D.status (device_of blocks.new)) }
+    ensures failed { FailsAs result (D.status (device_of blocks.old)) (D.status (device_of blocks.new)) }
 {
     match none_later(blocks, places, root.epoch + 1) {
         Ok(()) => {}

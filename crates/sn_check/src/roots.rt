@@ -35,8 +35,8 @@ pub(crate) fn count_free<D: Device>(
     ensures fault { IsTrue D.tells_bytes → IfErr result (IsDamageOf (IsFirstOf places (reads (D.disk (device_of blocks.old))) slot root.now)) }
     ensures same { IsTrue D.tells_bytes → D.disk (device_of blocks.new) ≡ D.disk (device_of blocks.old) }
     ensures idle { OnOk result (D.status (device_of blocks.new) ≡ D.status (device_of blocks.old)) }
-    ensures reads { IsTrue D.tells_bytes → WritesNothing (D.status (device_of blocks.old)) (D.status (device_of blocks.new)) }
-    ensures failed { IsTrue D.tells_bytes → FailsAs result (D.status (device_of blocks.old)) (D.status (device_of blocks.new)) }
+    ensures reads { WritesNothing (D.status (device_of blocks.old)) (D.status (device_of blocks.new)) }
+    ensures failed { FailsAs result (D.status (device_of blocks.old)) (D.status (device_of blocks.new)) }
 {
     match check_roots(alloc, blocks, places, slot, root) {
         Ok(map) => Ok(map.count_free_from(places.range(Area::Data).start)),

@@ -69,7 +69,7 @@ fn check_words<D: Device>(
     ensures fault { IsTrue D.tells_bytes → IfErr result (λ fault. Tells fault (IsOther
         (numbers_in 1024 (block_at (reads (D.disk (device_of blocks.old))) number)) map.now from)) }
     ensures same { IsTrue D.tells_bytes → D.disk (device_of blocks.new) ≡ D.disk (device_of blocks.old) }
-    ensures counts { CountsCheck (IsTrue D.tells_bytes) result (D.status (device_of blocks.old)) (D.status (device_of blocks.new)) }
+    ensures counts { CountsCheck result (D.status (device_of blocks.old)) (D.status (device_of blocks.new)) }
 {
     let words = read_words(blocks, number)?;
     match first_other(&words, map, from) {
@@ -96,7 +96,7 @@ pub fn check_map<D: Device>(
     ensures fault { IsTrue D.tells_bytes → IfErr result (λ fault. Tells fault
         (HasOtherWord places (reads (D.disk (device_of blocks.old))) slot map.now)) }
     ensures same { IsTrue D.tells_bytes → D.disk (device_of blocks.new) ≡ D.disk (device_of blocks.old) }
-    ensures counts { CountsCheck (IsTrue D.tells_bytes) result (D.status (device_of blocks.old)) (D.status (device_of blocks.new)) }
+    ensures counts { CountsCheck result (D.status (device_of blocks.old)) (D.status (device_of blocks.new)) }
 {
     // It tells how large a disk can be.
     places.blocks();

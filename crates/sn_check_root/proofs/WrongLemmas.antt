@@ -93,18 +93,18 @@ pub breaks_weaker : (P Q : Type 0) (at : ℕ) (damage : Damage) (block : ℕ) �
 breaks_weaker P Q at _ _ stronger (breaks wrong) = breaks (λ q. wrong (stronger q))
 
 -- what reads nothing counts nothing
-pub counts_own : (Told : Type 0) {T : Type 0} (result : Result T CheckFault) (old new : Status) → new ≡ old → ((fault : ReadFault) → result ≢ Err (check.Read fault)) → CountsCheck Told result old new
-counts_own Told (Ok x) old new same none = record {
+pub counts_own : {T : Type 0} (result : Result T CheckFault) (old new : Status) → new ≡ old → ((fault : ReadFault) → result ≢ Err (check.Read fault)) → CountsCheck result old new
+counts_own (Ok x) old new same none = record {
   done = same;
   sectors = ap (λ (s : Status). s.sectors) same;
   damaged = λ damage block is. same;
   memory = λ is. same;
-  device = λ told is. absurd (none read.Device is);
+  device = λ is. absurd (none read.Device is);
 }
-counts_own Told (Err fault) old new same none = record {
+counts_own (Err fault) old new same none = record {
   done = tt;
   sectors = ap (λ (s : Status). s.sectors) same;
   damaged = λ damage block is. same;
   memory = λ is. same;
-  device = λ told is. absurd (none read.Device is);
+  device = λ is. absurd (none read.Device is);
 }

@@ -38,7 +38,7 @@ fn test_acls<D: Device>(blocks: &mut Blocks<D>, inode: &Inode) -> Result<(), Che
     ensures fault { IsTrue D.tells_bytes → IfErr result (λ fault. Tells fault (Breaks (CanReadAcls
         (D.status (device_of blocks.old)).sectors (store_of (reads (D.disk (device_of blocks.old)))) inode.now) inode.now.acl_block)) }
     ensures same { IsTrue D.tells_bytes → D.disk (device_of blocks.new) ≡ D.disk (device_of blocks.old) }
-    ensures counts { CountsCheck (IsTrue D.tells_bytes) result (D.status (device_of blocks.old)) (D.status (device_of blocks.new)) }
+    ensures counts { CountsCheck result (D.status (device_of blocks.old)) (D.status (device_of blocks.new)) }
 {
     match acls(blocks, inode) {
         Ok(_acls) => Ok(()),
@@ -63,7 +63,7 @@ fn check_acls<D: Device>(
         × (HasAcls (store_of (reads (D.disk (device_of blocks.old)))) inode.now → ⊥)))) }
     ensures words { length map.new ≡ length map.old }
     ensures same { IsTrue D.tells_bytes → D.disk (device_of blocks.new) ≡ D.disk (device_of blocks.old) }
-    ensures counts { CountsCheck (IsTrue D.tells_bytes) result (D.status (device_of blocks.old)) (D.status (device_of blocks.new)) }
+    ensures counts { CountsCheck result (D.status (device_of blocks.old)) (D.status (device_of blocks.new)) }
 {
     mark(map, root, inode.acl_block)?;
     test_acls(blocks, inode)
@@ -87,7 +87,7 @@ fn check_kind<D: Device>(
         (IsContentFault limits.now (store_of (reads (D.disk (device_of blocks.old)))) kind (Tree tree.now)
         (names_by (store_of (reads (D.disk (device_of blocks.old)))) kind (Tree tree.now)) top))) }
     ensures same { IsTrue D.tells_bytes → D.disk (device_of blocks.new) ≡ D.disk (device_of blocks.old) }
-    ensures counts { CountsCheck (IsTrue D.tells_bytes) result (D.status (device_of blocks.old)) (D.status (device_of blocks.new)) }
+    ensures counts { CountsCheck result (D.status (device_of blocks.old)) (D.status (device_of blocks.new)) }
 {
     match kind {
         Kind::File => Ok(()),
@@ -119,7 +119,7 @@ fn check_tree<D: Device>(
         (names_by (store_of (reads (D.disk (device_of blocks.old)))) kind (Tree tree.now)) top))) }
     ensures words { length map.new ≡ length map.old }
     ensures same { IsTrue D.tells_bytes → D.disk (device_of blocks.new) ≡ D.disk (device_of blocks.old) }
-    ensures counts { CountsCheck (IsTrue D.tells_bytes) result (D.status (device_of blocks.old)) (D.status (device_of blocks.new)) }
+    ensures counts { CountsCheck result (D.status (device_of blocks.old)) (D.status (device_of blocks.new)) }
 {
     mark_tree(blocks, map, root, tree, top)?;
     // What was gone through lies on the device.
@@ -150,7 +150,7 @@ fn check_content<D: Device>(
         (names_by (store_of (reads (D.disk (device_of blocks.old)))) inode.now.kind inode.now.content) top))) }
     ensures words { length map.new ≡ length map.old }
     ensures same { IsTrue D.tells_bytes → D.disk (device_of blocks.new) ≡ D.disk (device_of blocks.old) }
-    ensures counts { CountsCheck (IsTrue D.tells_bytes) result (D.status (device_of blocks.old)) (D.status (device_of blocks.new)) }
+    ensures counts { CountsCheck result (D.status (device_of blocks.old)) (D.status (device_of blocks.new)) }
 {
     match &inode.content {
         Content::Inline(_) => Ok(()),
@@ -182,7 +182,7 @@ fn check_used<D: Device>(
         (IsInodeFault limits.now (store_of (reads (D.disk (device_of blocks.old)))) inode.now top))) }
     ensures words { length map.new ≡ length map.old }
     ensures same { IsTrue D.tells_bytes → D.disk (device_of blocks.new) ≡ D.disk (device_of blocks.old) }
-    ensures counts { CountsCheck (IsTrue D.tells_bytes) result (D.status (device_of blocks.old)) (D.status (device_of blocks.new)) }
+    ensures counts { CountsCheck result (D.status (device_of blocks.old)) (D.status (device_of blocks.new)) }
 {
     check_acls(blocks, map, root, inode)?;
     check_content(alloc, blocks, map, root, limits, inode, top)
@@ -206,7 +206,7 @@ pub(crate) fn inode_of<D: Device>(
         (D.status (device_of blocks.old)).sectors
         (store_of (reads (D.disk (device_of blocks.old)))) file.now number) top)) }
     ensures same { IsTrue D.tells_bytes → D.disk (device_of blocks.new) ≡ D.disk (device_of blocks.old) }
-    ensures counts { CountsCheck (IsTrue D.tells_bytes) result (D.status (device_of blocks.old)) (D.status (device_of blocks.new)) }
+    ensures counts { CountsCheck result (D.status (device_of blocks.old)) (D.status (device_of blocks.new)) }
 {
     match get(blocks, limits, file, number) {
         Ok(inode) => Ok(inode),
@@ -240,7 +240,7 @@ pub(crate) fn check_inode<D: Device>(
         (IsMisspelt limits.now (store_of (reads (D.disk (device_of blocks.old)))) file.now body))) }
     ensures words { length map.new ≡ length map.old }
     ensures same { IsTrue D.tells_bytes → D.disk (device_of blocks.new) ≡ D.disk (device_of blocks.old) }
-    ensures counts { CountsCheck (IsTrue D.tells_bytes) result (D.status (device_of blocks.old)) (D.status (device_of blocks.new)) }
+    ensures counts { CountsCheck result (D.status (device_of blocks.old)) (D.status (device_of blocks.new)) }
 {
     let top = record_block(blocks, file, body, u64::from(number))?;
     match inode_of(blocks, limits, file, number, top)? {

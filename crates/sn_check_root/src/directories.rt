@@ -56,7 +56,7 @@ fn fetch_there<D: Device>(
     ensures fault { IsTrue D.tells_bytes → IfErr result (λ fault. Tells fault (Breaks
         (IsThere (D.status (device_of blocks.old)).sectors (store_of (reads (D.disk (device_of blocks.old)))) tree.now i) top)) }
     ensures same { IsTrue D.tells_bytes → D.disk (device_of blocks.new) ≡ D.disk (device_of blocks.old) }
-    ensures counts { CountsCheck (IsTrue D.tells_bytes) result (D.status (device_of blocks.old)) (D.status (device_of blocks.new)) }
+    ensures counts { CountsCheck result (D.status (device_of blocks.old)) (D.status (device_of blocks.new)) }
 {
     match fetch_block(blocks, tree, i) {
         Ok(()) => Ok(()),
@@ -81,7 +81,7 @@ fn count_in<D: Device>(
     ensures fault { IsTrue D.tells_bytes → IfErr result (λ fault. Tells fault (IsSpeltWrong
         (IsBadBlock (store_of (reads (D.disk (device_of blocks.old)))) tree.now i top))) }
     ensures same { IsTrue D.tells_bytes → D.disk (device_of blocks.new) ≡ D.disk (device_of blocks.old) }
-    ensures counts { CountsCheck (IsTrue D.tells_bytes) result (D.status (device_of blocks.old)) (D.status (device_of blocks.new)) }
+    ensures counts { CountsCheck result (D.status (device_of blocks.old)) (D.status (device_of blocks.new)) }
 {
     let pointer = pointer_to(blocks, tree, i, top)?;
     fetch_there(blocks, tree, i, top)?;
@@ -103,7 +103,7 @@ fn count_names<D: Device>(
     ensures fault { IsTrue D.tells_bytes → IfErr result (λ fault. Tells fault (IsSpeltWrong
         (HasBadBlock (store_of (reads (D.disk (device_of blocks.old)))) tree.now top))) }
     ensures same { IsTrue D.tells_bytes → D.disk (device_of blocks.new) ≡ D.disk (device_of blocks.old) }
-    ensures counts { CountsCheck (IsTrue D.tells_bytes) result (D.status (device_of blocks.old)) (D.status (device_of blocks.new)) }
+    ensures counts { CountsCheck result (D.status (device_of blocks.old)) (D.status (device_of blocks.new)) }
 {
     let mut count = 0;
     for i in 0..block_count(tree) {
@@ -141,7 +141,7 @@ fn listed<D: Device>(
         (D.status (device_of blocks.old)).sectors
         (store_of (reads (D.disk (device_of blocks.old)))) tree.now → ⊥) top)) }
     ensures same { IsTrue D.tells_bytes → D.disk (device_of blocks.new) ≡ D.disk (device_of blocks.old) }
-    ensures counts { CountsCheck (IsTrue D.tells_bytes) result (D.status (device_of blocks.old)) (D.status (device_of blocks.new)) }
+    ensures counts { CountsCheck result (D.status (device_of blocks.old)) (D.status (device_of blocks.new)) }
 {
     match names(alloc, blocks, tree) {
         Ok(names) => Ok(names),
@@ -163,7 +163,7 @@ fn check_listed<D: Device>(
         → IfErr result (λ fault. Tells fault (IsSpeltWrong (λ block. (block ≡ top) × StandsTwice
         (names_of (store_of (reads (D.disk (device_of blocks.old)))) (Tree tree.now))))) }
     ensures same { IsTrue D.tells_bytes → D.disk (device_of blocks.new) ≡ D.disk (device_of blocks.old) }
-    ensures counts { CountsCheck (IsTrue D.tells_bytes) result (D.status (device_of blocks.old)) (D.status (device_of blocks.new)) }
+    ensures counts { CountsCheck result (D.status (device_of blocks.old)) (D.status (device_of blocks.new)) }
 {
     let names = listed(alloc, blocks, tree, top)?;
     if !are_once(names.as_slice()) {
@@ -192,7 +192,7 @@ pub(crate) fn check_directory<D: Device>(
         (store_of (reads (D.disk (device_of blocks.old)))) tree.now
         (names_of (store_of (reads (D.disk (device_of blocks.old)))) (Tree tree.now)) top))) }
     ensures same { IsTrue D.tells_bytes → D.disk (device_of blocks.new) ≡ D.disk (device_of blocks.old) }
-    ensures counts { CountsCheck (IsTrue D.tells_bytes) result (D.status (device_of blocks.old)) (D.status (device_of blocks.new)) }
+    ensures counts { CountsCheck result (D.status (device_of blocks.old)) (D.status (device_of blocks.new)) }
 {
     let count = count_names(blocks, tree, top)?;
     if count > u64::from(limits.names) {

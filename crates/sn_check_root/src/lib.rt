@@ -33,5 +33,5 @@ mod reserved;
 mod roots;
 
 pub use laws::root_laws;
-pub use readers::{pointer_to, record_block};
+pub use readers::{fault_at, pointer_to, record_block};
 pub use roots::check_root;

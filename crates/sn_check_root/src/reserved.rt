@@ -59,7 +59,7 @@ fn fetch_first<D: Device>(
     ensures lent { IfOk result (λ is_there. IsTrue is_there → IsSome (fetched_number blocks.new)) }
     ensures fault { IsTrue D.tells_bytes → IfErr result (λ fault. Tells fault (λ damage block. ⊥)) }
     ensures same { IsTrue D.tells_bytes → D.disk (device_of blocks.new) ≡ D.disk (device_of blocks.old) }
-    ensures counts { CountsCheck (IsTrue D.tells_bytes) result (D.status (device_of blocks.old)) (D.status (device_of blocks.new)) }
+    ensures counts { CountsCheck result (D.status (device_of blocks.old)) (D.status (device_of blocks.new)) }
 {
     match fetch_data(blocks, file, 0) {
         Ok(is_there) => Ok(is_there),
@@ -84,7 +84,7 @@ fn check_unused<D: Device>(
         (record_at (store_of (reads (D.disk (device_of blocks.old)))) file.now number ≡ zeros 128)
         (record_block (store_of (reads (D.disk (device_of blocks.old)))) file.now body number))) }
     ensures same { IsTrue D.tells_bytes → D.disk (device_of blocks.new) ≡ D.disk (device_of blocks.old) }
-    ensures counts { CountsCheck (IsTrue D.tells_bytes) result (D.status (device_of blocks.old)) (D.status (device_of blocks.new)) }
+    ensures counts { CountsCheck result (D.status (device_of blocks.old)) (D.status (device_of blocks.new)) }
 {
     let top = record_block(blocks, file, body, number)?;
     if !fetch_first(blocks, file, top)? {
@@ -110,7 +110,7 @@ pub(crate) fn check_reserved<D: Device>(
     ensures fault { IsTrue D.tells_bytes → IfErr result (λ fault. Tells fault (IsSpeltWrong
         (IsMisspelt limits.now (store_of (reads (D.disk (device_of blocks.old)))) file.now body))) }
     ensures same { IsTrue D.tells_bytes → D.disk (device_of blocks.new) ≡ D.disk (device_of blocks.old) }
-    ensures counts { CountsCheck (IsTrue D.tells_bytes) result (D.status (device_of blocks.old)) (D.status (device_of blocks.new)) }
+    ensures counts { CountsCheck result (D.status (device_of blocks.old)) (D.status (device_of blocks.new)) }
 {
     check_unused(blocks, limits, file, body, 0)?;
     check_unused(blocks, limits, file, body, 1)?;
@@ -130,7 +130,7 @@ fn check_hidden<D: Device>(
     ensures fault { IsTrue D.tells_bytes → IfErr result (λ fault. Tells fault (Breaks (number_of (codes ".snapshot")
         (names_of (store_of (reads (D.disk (device_of blocks.old)))) (Tree tree.now)) ≡ None) top)) }
     ensures same { IsTrue D.tells_bytes → D.disk (device_of blocks.new) ≡ D.disk (device_of blocks.old) }
-    ensures counts { CountsCheck (IsTrue D.tells_bytes) result (D.status (device_of blocks.old)) (D.status (device_of blocks.new)) }
+    ensures counts { CountsCheck result (D.status (device_of blocks.old)) (D.status (device_of blocks.new)) }
 {
     match lookup(blocks, tree, b".snapshot") {
         Ok(None) => Ok(()),
@@ -153,7 +153,7 @@ fn check_root_content<D: Device>(
         (HasContent (store_of (reads (D.disk (device_of blocks.old)))) Directory content.now × (number_of (codes ".snapshot")
         (names_of (store_of (reads (D.disk (device_of blocks.old)))) content.now) ≡ None)) top)) }
     ensures same { IsTrue D.tells_bytes → D.disk (device_of blocks.new) ≡ D.disk (device_of blocks.old) }
-    ensures counts { CountsCheck (IsTrue D.tells_bytes) result (D.status (device_of blocks.old)) (D.status (device_of blocks.new)) }
+    ensures counts { CountsCheck result (D.status (device_of blocks.old)) (D.status (device_of blocks.new)) }
 {
     match content {
         Content::Inline(_) => Err(CheckFault::misspelt(top)),
@@ -175,7 +175,7 @@ fn check_root_inode<D: Device>(
     ensures fault { IsTrue D.tells_bytes → IfErr result (λ fault. Tells fault (Breaks
         (IsRootInode (store_of (reads (D.disk (device_of blocks.old)))) inode.now) top)) }
     ensures same { IsTrue D.tells_bytes → D.disk (device_of blocks.new) ≡ D.disk (device_of blocks.old) }
-    ensures counts { CountsCheck (IsTrue D.tells_bytes) result (D.status (device_of blocks.old)) (D.status (device_of blocks.new)) }
+    ensures counts { CountsCheck result (D.status (device_of blocks.old)) (D.status (device_of blocks.new)) }
 {
     match inode.kind {
         Kind::File => Err(CheckFault::misspelt(top)),
@@ -203,7 +203,7 @@ pub(crate) fn check_top<D: Device>(
     ensures fault { IsTrue D.tells_bytes → IfErr result (λ fault. Tells fault (IsSpeltWrong
         (IsMisspelt limits.now (store_of (reads (D.disk (device_of blocks.old)))) file.now body))) }
     ensures same { IsTrue D.tells_bytes → D.disk (device_of blocks.new) ≡ D.disk (device_of blocks.old) }
-    ensures counts { CountsCheck (IsTrue D.tells_bytes) result (D.status (device_of blocks.old)) (D.status (device_of blocks.new)) }
+    ensures counts { CountsCheck result (D.status (device_of blocks.old)) (D.status (device_of blocks.new)) }
 {
     // Where a directory is sound, and lies on the device, its names can be read.
     directory_laws();

@@ -55,7 +55,7 @@ fn check_inodes<D: Device>(
         (IsMisspelt limits.now (store_of (reads (D.disk (device_of blocks.old)))) file.now body))) }
     ensures words { length map.new ≡ length map.old }
     ensures same { IsTrue D.tells_bytes → D.disk (device_of blocks.new) ≡ D.disk (device_of blocks.old) }
-    ensures counts { CountsCheck (IsTrue D.tells_bytes) result (D.status (device_of blocks.old)) (D.status (device_of blocks.new)) }
+    ensures counts { CountsCheck result (D.status (device_of blocks.old)) (D.status (device_of blocks.new)) }
 {
     number_law(limits.largest_number);
     for number in 2..file.size / INODE_SIZE as u64 {
@@ -88,7 +88,7 @@ fn check_records<D: Device>(
         (IsMisspelt limits.now (store_of (reads (D.disk (device_of blocks.old)))) file.now body))) }
     ensures words { length map.new ≡ length map.old }
     ensures same { IsTrue D.tells_bytes → D.disk (device_of blocks.new) ≡ D.disk (device_of blocks.old) }
-    ensures counts { CountsCheck (IsTrue D.tells_bytes) result (D.status (device_of blocks.old)) (D.status (device_of blocks.new)) }
+    ensures counts { CountsCheck result (D.status (device_of blocks.old)) (D.status (device_of blocks.new)) }
 {
     check_reserved(blocks, limits, file, body)?;
     check_inodes(alloc, blocks, map, root, limits, file, body)?;
@@ -117,7 +117,7 @@ fn check_file<D: Device>(
         (IsMisspelt limits.now (store_of (reads (D.disk (device_of blocks.old)))) file.now body))) }
     ensures words { length map.new ≡ length map.old }
     ensures same { IsTrue D.tells_bytes → D.disk (device_of blocks.new) ≡ D.disk (device_of blocks.old) }
-    ensures counts { CountsCheck (IsTrue D.tells_bytes) result (D.status (device_of blocks.old)) (D.status (device_of blocks.new)) }
+    ensures counts { CountsCheck result (D.status (device_of blocks.old)) (D.status (device_of blocks.new)) }
 {
     mark_tree(blocks, map, root, file, body)?;
     // What was gone through lies on the device.
@@ -149,7 +149,7 @@ pub fn check_root<D: Device>(
         (store_of (reads (D.disk (device_of blocks.old)))) file.now body)) }
     ensures words { length map.new ≡ length map.old }
     ensures same { IsTrue D.tells_bytes → D.disk (device_of blocks.new) ≡ D.disk (device_of blocks.old) }
-    ensures counts { CountsCheck (IsTrue D.tells_bytes) result (D.status (device_of blocks.old)) (D.status (device_of blocks.new)) }
+    ensures counts { CountsCheck result (D.status (device_of blocks.old)) (D.status (device_of blocks.new)) }
 {
     if !is_inode_file(limits, file) {
         return Err(CheckFault::misspelt(body));

@@ -66,7 +66,7 @@ fn check_marks<D: Device>(
     ensures count { IfOk result (λ map. length map ≡ places) }
     ensures fault { IsTrue D.tells_bytes → IfErr result (λ fault. Tells fault (IsFirstOf places (reads (D.disk (device_of blocks.old))) slot root.now)) }
     ensures same { IsTrue D.tells_bytes → D.disk (device_of blocks.new) ≡ D.disk (device_of blocks.old) }
-    ensures counts { CountsCheck (IsTrue D.tells_bytes) result (D.status (device_of blocks.old)) (D.status (device_of blocks.new)) }
+    ensures counts { CountsCheck result (D.status (device_of blocks.old)) (D.status (device_of blocks.new)) }
 {
     // Where words are those of the marks of all roots, they tell what the roots reach.
     set_laws();
@@ -98,7 +98,7 @@ pub fn check_roots<D: Device>(
     ensures count { IfOk result (λ map. length map ≡ places) }
     ensures fault { IsTrue D.tells_bytes → IfErr result (λ fault. Tells fault (IsFirstOf places (reads (D.disk (device_of blocks.old))) slot root.now)) }
     ensures same { IsTrue D.tells_bytes → D.disk (device_of blocks.new) ≡ D.disk (device_of blocks.old) }
-    ensures counts { CountsCheck (IsTrue D.tells_bytes) result (D.status (device_of blocks.old)) (D.status (device_of blocks.new)) }
+    ensures counts { CountsCheck result (D.status (device_of blocks.old)) (D.status (device_of blocks.new)) }
 {
     // A root is sound with its links, and what stands makes it unsound.
     root_laws();

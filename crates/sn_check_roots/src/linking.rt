@@ -32,7 +32,7 @@ pub(crate) fn link_roots<D: Device>(
     ensures fault { IsTrue D.tells_bytes → IfErr result (λ fault. Tells fault (λ damage block. OfSome root.now (λ r. StandsInLinks
         (store_of (reads (D.disk (device_of blocks.old)))) r.inodes body damage block))) }
     ensures same { IsTrue D.tells_bytes → D.disk (device_of blocks.new) ≡ D.disk (device_of blocks.old) }
-    ensures counts { CountsCheck (IsTrue D.tells_bytes) result (D.status (device_of blocks.old)) (D.status (device_of blocks.new)) }
+    ensures counts { CountsCheck result (D.status (device_of blocks.old)) (D.status (device_of blocks.new)) }
 {
     for i in 0..root_count(root) {
         let it = root_at(root, i);

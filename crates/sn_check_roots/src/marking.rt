@@ -40,7 +40,7 @@ pub(crate) fn mark_roots<D: Device>(
         (store_of (reads (D.disk (device_of blocks.old)))) r.inodes body damage block))) }
     ensures words { length map.new ≡ places }
     ensures same { IsTrue D.tells_bytes → D.disk (device_of blocks.new) ≡ D.disk (device_of blocks.old) }
-    ensures counts { CountsCheck (IsTrue D.tells_bytes) result (D.status (device_of blocks.old)) (D.status (device_of blocks.new)) }
+    ensures counts { CountsCheck result (D.status (device_of blocks.old)) (D.status (device_of blocks.new)) }
 {
     // Marks of one root after the other come to sets of roots.
     set_laws();

@@ -104,7 +104,7 @@ split_made None second tree e = never e
     never e = cc
 
 module _ (c : Contents) (w : World) (im : IsImage c w) where
-  limits_one : version_1 ≡ im.opens.root.limits
+  pub limits_one : version_1 ≡ im.opens.root.limits
   limits_one = only_version im.opens.root.limits im.opens.shown.newest.body.fits.version
 
   abbrev from : Tree
@@ -113,13 +113,13 @@ module _ (c : Contents) (w : World) (im : IsImage c w) where
   made : apply_all version_1 (im.opens.older ++ im.opens.newer) from ≡ Some im.opens.stands.tree
   made = ap (λ (l : Limits). apply_all l (im.opens.older ++ im.opens.newer) from) limits_one ∙ im.opens.stands.applied
 
-  halves : (middle : Tree) × (apply_all version_1 im.opens.older from ≡ Some middle) × (apply_all version_1 im.opens.newer middle ≡ Some im.opens.stands.tree)
+  pub halves : (middle : Tree) × (apply_all version_1 im.opens.older from ≡ Some middle) × (apply_all version_1 im.opens.newer middle ≡ Some im.opens.stands.tree)
   halves = split_made (apply_all version_1 im.opens.older from) (apply_all version_1 im.opens.newer) im.opens.stands.tree (sym (lists_join version_1 im.opens.older im.opens.newer from) ∙ made)
 
-  image_older : AreReplayed c version_1 from im.blocks im.opens.root.epoch im.opens.older halves.0
+  pub image_older : AreReplayed c version_1 from im.blocks im.opens.root.epoch im.opens.older halves.0
   image_older = record { spelled = im.opens.older_spelled; records = im.opens.shown.has_older; applied = halves.1 }
 
-  image_newer : AreReplayed c version_1 halves.0 im.blocks (im.opens.root.epoch + 1) im.opens.newer im.opens.stands.tree
+  pub image_newer : AreReplayed c version_1 halves.0 im.blocks (im.opens.root.epoch + 1) im.opens.newer im.opens.stands.tree
   image_newer = record { spelled = im.opens.newer_spelled; records = im.opens.shown.has_newer; applied = halves.2 }
 
   -- nothing breaks the log of an image
@@ -193,12 +193,21 @@ module _ (c : Contents) (from : Tree) (n epoch : ℕ) (at : LogPosition) (tree :
   tells_recovery true dropped is some none = ⊎_elim (λ (logged : 0 < at.count). inl (some_logged logged)) (λ (left : 0 < dropped). inr (λ (e : nameless_in from ≡ 0). absurd (omega (arith, left, is, e)))) (some refl)
   tells_recovery false dropped is some none = ⊎_elim (λ (logged : older_ones ++ newer_ones ≢ []). logged (none_logged (none refl).0)) (λ (left : nameless_in from ≢ 0). left (sym is ∙ (none refl).1))
 
--- behind the records it is to be recovered too
-pub recovers_after : (changes : List Change) (from tree : Tree) → apply_all version_1 changes from ≡ Some tree → IsToRecover changes from → IsToRecover changes tree
+-- what is to recover before the records is so behind them, and the other way round
+pub recovers_after : (limits : Limits) (changes : List Change) (from tree : Tree) → apply_all limits changes from ≡ Some tree → IsToRecover changes from → IsToRecover changes tree
 unfolding apply_all
-recovers_after [] from tree e (inl some) = inl some
-recovers_after [] from tree e (inr left) = let same : from ≡ tree = cc in inr (subst (λ (t : Tree). nameless_in t ≢ 0) same left)
-recovers_after (change ∷ changes) from tree e recovers = inl (λ nil. never nil)
+recovers_after limits [] from tree e (inl some) = inl some
+recovers_after limits [] from tree e (inr left) = let same : from ≡ tree = cc in inr (subst (λ (t : Tree). nameless_in t ≢ 0) same left)
+recovers_after limits (change ∷ changes) from tree e recovers = inl (λ nil. never nil)
+  where
+    never : change ∷ changes ≡ [] → ⊥
+    never nil = cc
+
+pub recovers_before : (limits : Limits) (changes : List Change) (from tree : Tree) → apply_all limits changes from ≡ Some tree → IsToRecover changes tree → IsToRecover changes from
+unfolding apply_all
+recovers_before limits [] from tree e (inl some) = inl some
+recovers_before limits [] from tree e (inr left) = let same : from ≡ tree = cc in inr (subst (λ (t : Tree). nameless_in t ≢ 0) (sym same) left)
+recovers_before limits (change ∷ changes) from tree e recovers = inl (λ nil. never nil)
   where
     never : change ∷ changes ≡ [] → ⊥
     never nil = cc
@@ -370,7 +379,7 @@ module _ (sectors : ℕ) (c : Contents) (n : ℕ) (slot : Slot) (root : RootBody
       (without_age first second both.middle tree
       (subst (λ (l : Limits). AreReplayed c l img n root.epoch first both.middle) limits_is (are_replayed c img n root.epoch both.older both.middle both.first both.has_older))
       (subst (λ (l : Limits). AreReplayed c l both.middle n (root.epoch + 1) second tree) limits_is (are_replayed c both.middle n (root.epoch + 1) both.newer tree both.second both.has_newer))
-      (recovers_after (first ++ second) img tree made recovers) aged)
+      (recovers_after version_1 (first ++ second) img tree made recovers) aged)
 
   pub aged_refuses : (f : MountFault) (at : LogPosition) (tree : Tree) (charges : ℕ) (both : HasBoth c (image (store_of c) root.inode_file) n root.epoch at tree charges) (recovers : Bool) → IsFormatted sectors c n → IsNewest c slot root
       → TellsRecovery recovers (both.has_older.all.replayed.changes ++ both.has_newer.all.replayed.changes) (image (store_of c) root.inode_file) → IsAged f n root recovers → Refuses f sectors c

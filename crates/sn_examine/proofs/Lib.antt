@@ -3,3 +3,4 @@ pub mod ExamineLemmas
 pub mod BothLemmas
 pub mod FindLemmas
 pub mod RoomLemmas
+pub mod ImageLemmas

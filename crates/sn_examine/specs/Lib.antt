@@ -7,3 +7,4 @@ pub mod Rooms
 pub mod Finding
 pub mod Ages
 pub mod Found
+pub mod Laws

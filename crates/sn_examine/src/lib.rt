@@ -14,7 +14,8 @@
 //!   body's block, and then the root is unsound.
 //! - Nothing is written, and the device is told to have failed only where it did.
 //!
-//! The parts of `find` are public for the image check (`sn_check`), which asks for them in another order.
+//! The parts of `find` are public for the image check (`sn_check`), which asks for them in another order. That what it calls
+//! clean are the images of worlds, and no other disks, is the law `image_laws`.
 //!
 //! The way through: `specs/Refusing.antt` says why a disk is none that can be mounted, `Finding.antt` and `Both.antt`
 //! what is read. `examining` reads what stands first, `loading` the tree, `replaying` and `both` the log, `room` the
@@ -32,6 +33,7 @@ mod both;
 mod examining;
 mod fault;
 mod finding;
+mod laws;
 mod loading;
 mod replaying;
 mod room;
@@ -41,6 +43,7 @@ pub use both::replay_both;
 pub use examining::none_later;
 pub use fault::fault_of;
 pub use finding::{DiskRoot, Found, find, find_newest, find_root};
+pub use laws::image_laws;
 pub use loading::load_world;
 pub use replaying::Replayed;
 pub use room::read_map;

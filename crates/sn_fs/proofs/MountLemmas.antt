@@ -8,13 +8,15 @@ use Rattle.sn_model.specs.declared.mount.MountFault.TheVariants.{Memory}
 use Rattle.sn_model.specs.World.{World}
 use Rattle.sn_held.specs.Held.{Held, RunsReady}
 use Rattle.sn_mount.specs.Recovering.{IsRecovered, KeepsTheWorld, OfImage, WritesAtFault, KeepsTheRoot}
-use Rattle.sn_examine.specs.Refusing.{Refuses}
+use Rattle.sn_examine.specs.Laws.{IsSomeClean}
+use Rattle.sn_check.specs.Verdicts.{IsCause}
 use Rattle.sn_fs.specs.Mounting.{IsLeft, Mounts}
 
-pub mounts : (sectors : ℕ) (old : Disk) (h : Held) → KeepsTheRoot sectors old h.disk × OfImage old (IsRecovered h.at h.world h.room h.base old h.disk) → ((number : ℕ) → h.kept number ≡ false) → Mounts sectors old h false
-mounts sectors old h r none = record {
+pub mounts : (sectors : ℕ) (old : Disk) (h : Held) → KeepsTheRoot sectors old h.disk × OfImage old (IsRecovered h.at h.world h.room h.base old h.disk) → IsSomeClean sectors (reads old) → ((number : ℕ) → h.kept number ≡ false) → Mounts sectors old h false
+mounts sectors old h r clean none = record {
   running = refl;
   none_kept = none;
+  clean = clean;
   touched = r.0;
   runs = λ world image. let is = r.1 world image in record {
     room = is.room_is;
@@ -23,7 +25,7 @@ mounts sectors old h r none = record {
   };
 }
 
-pub is_left : (f : MountFault) (sectors : ℕ) (old new : Disk) → Refuses f sectors (reads old) × WritesAtFault f sectors old new × OfImage old (KeepsTheWorld old new) → IsLeft f sectors old new
+pub is_left : (f : MountFault) (sectors : ℕ) (old new : Disk) → IsCause sectors (reads old) f × WritesAtFault f sectors old new × OfImage old (KeepsTheWorld old new) → IsLeft f sectors old new
 is_left f sectors old new n = record { cause = n.0; touched = n.1; keeps = n.2 }
 
 -- one that had no memory to begin with

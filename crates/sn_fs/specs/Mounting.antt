@@ -9,7 +9,8 @@ use Rattle.sn_model.specs.World.{World}
 use Rattle.sn_held.specs.Held.{Held, Means}
 use Rattle.sn_held.specs.Room.{HasRoomOf}
 use Rattle.sn_mount.specs.Recovering.{KeepsTheWorld, LeavesTheWorld, OfImage, WritesAtFault, KeepsTheRoot}
-use Rattle.sn_examine.specs.Refusing.{Refuses}
+use Rattle.sn_examine.specs.Laws.{IsSomeClean}
+use Rattle.sn_check.specs.Verdicts.{IsCause}
 
 -- The world that the disk was an image of runs, with the room of the image that is there now, and at no moment a crash would have left another.
 pub record MountsWorld (old : Disk) (h : Held) (has_stopped : Bool) (world : World) : Type 0 where
@@ -17,16 +18,17 @@ pub record MountsWorld (old : Disk) (h : Held) (has_stopped : Bool) (world : Wor
   pub means : Means h has_stopped (Running world)
   pub leaves : LeavesTheWorld old h.disk world
 
--- A disk is mounted, and no number is kept back. What it was an image of runs.
+-- A disk without a fault is mounted, and no number is kept back. What it was an image of runs.
 pub record Mounts (sectors : ℕ) (old : Disk) (h : Held) (has_stopped : Bool) : Type 0 where
   pub running : has_stopped ≡ false
   pub none_kept : (number : ℕ) → h.kept number ≡ false
+  pub clean : IsSomeClean sectors (reads old)
   pub touched : KeepsTheRoot sectors old h.disk
   pub runs : OfImage old (MountsWorld old h has_stopped)
 
--- It isn't, for a cause, and the world that it is an image of, if any, is still there.
+-- It isn't, for the cause that a check tells, and the world that it is an image of, if any, is still there.
 pub record IsLeft (fault : MountFault) (sectors : ℕ) (old new : Disk) : Type 0 where
-  pub cause : Refuses fault sectors (reads old)
+  pub cause : IsCause sectors (reads old) fault
   pub touched : WritesAtFault fault sectors old new
   pub keeps : OfImage old (KeepsTheWorld old new)
 

@@ -16,7 +16,8 @@
 //! - [`Fs::unmount`]: makes one of the tree without the files that no name stands for, and hands the device back; or it is
 //!   refused as a step is, and the file system is there still.
 //! - [`mount`]: where the contents are an image of a world without snapshots, that world runs; from the first sync on
-//!   every crash leaves an image of it, also where the mount fails. A mount fails for a cause (`Refuses` of `sn_examine`).
+//!   every crash leaves an image of it, also where the mount fails. Only a
+//!   disk without a fault is mounted; a mount fails for the cause that a check tells (`IsCause` of `sn_check`).
 //!
 //! The way through: `sn_held` says what is meant, and of what the disk is an image. `specs/Answers.antt` says what an event
 //! leads to, `Serving.antt` a call without a point, `Changing.antt` what a change does in memory and on the disk, `Pointing.antt`

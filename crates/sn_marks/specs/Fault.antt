@@ -12,10 +12,10 @@ abbrev pub Tells : CheckFault → (Damage → ℕ → Type 0) → Type 0
 Tells (Damaged damage block) P = P damage block
 Tells (Read fault) P = Unit {0}
 
--- Nothing is counted but the failure of the device. Where the device doesn't tell its bytes, it also counts as failed where a block that was read before isn't read as the same.
-pub record CountsCheck {T : Type 0} (Told : Type 0) (result : Result T CheckFault) (old new : Status) : Type 0 where
+-- Nothing is counted but the failure of the device, and that where it isn't at its end.
+pub record CountsCheck {T : Type 0} (result : Result T CheckFault) (old new : Status) : Type 0 where
   pub done : OnOk result (new ≡ old)
   pub sectors : new.sectors ≡ old.sectors
   pub damaged : (damage : Damage) (block : ℕ) → result ≡ Err (Damaged damage block) → new ≡ old
   pub memory : result ≡ Err (Read Memory) → new ≡ old
-  pub device : Told → result ≡ Err (Read Device) → FailsRead old new
+  pub device : result ≡ Err (Read Device) → FailsRead old new

@@ -53,7 +53,7 @@ fn test_end<D: Device>(blocks: &mut Blocks<D>, from: u64, pointer: u32) -> Resul
     ensures fault { IsTrue D.tells_bytes → IfErr result (λ fault. Tells fault
         (HasTail (store_of (reads (D.disk (device_of blocks.old)))) from pointer)) }
     ensures same { IsTrue D.tells_bytes → D.disk (device_of blocks.new) ≡ D.disk (device_of blocks.old) }
-    ensures counts { CountsCheck (IsTrue D.tells_bytes) result (D.status (device_of blocks.old)) (D.status (device_of blocks.new)) }
+    ensures counts { CountsCheck result (D.status (device_of blocks.old)) (D.status (device_of blocks.new)) }
 {
     if from >= BLOCK_SIZE as u64 {
         return Ok(());
@@ -97,7 +97,7 @@ fn mark_below<D: Device>(
         (store_of (reads (D.disk (device_of blocks.old)))) size spot.height spot.first (pointer ∷ []) spot.holder map.old)) }
     ensures words { length map.new ≡ length map.old }
     ensures same { IsTrue D.tells_bytes → D.disk (device_of blocks.new) ≡ D.disk (device_of blocks.old) }
-    ensures counts { CountsCheck (IsTrue D.tells_bytes) result (D.status (device_of blocks.old)) (D.status (device_of blocks.new)) }
+    ensures counts { CountsCheck result (D.status (device_of blocks.old)) (D.status (device_of blocks.new)) }
 {
     if pointer == 0 {
         return Ok(());
@@ -146,7 +146,7 @@ fn mark_indirect<D: Device>(
         (store_of (reads (D.disk (device_of blocks.old)))) size spot.height spot.first pointers.now spot.holder map.old)) }
     ensures words { length map.new ≡ length map.old }
     ensures same { IsTrue D.tells_bytes → D.disk (device_of blocks.new) ≡ D.disk (device_of blocks.old) }
-    ensures counts { CountsCheck (IsTrue D.tells_bytes) result (D.status (device_of blocks.old)) (D.status (device_of blocks.new)) }
+    ensures counts { CountsCheck result (D.status (device_of blocks.old)) (D.status (device_of blocks.new)) }
 {
     let span = span_of(spot.height);
     for i in 0..POINTERS_PER_BLOCK {
@@ -179,7 +179,7 @@ pub fn mark_tree<D: Device>(
         (store_of (reads (D.disk (device_of blocks.old)))) tree.now top map.old)) }
     ensures words { length map.new ≡ length map.old }
     ensures same { IsTrue D.tells_bytes → D.disk (device_of blocks.new) ≡ D.disk (device_of blocks.old) }
-    ensures counts { CountsCheck (IsTrue D.tells_bytes) result (D.status (device_of blocks.old)) (D.status (device_of blocks.new)) }
+    ensures counts { CountsCheck result (D.status (device_of blocks.old)) (D.status (device_of blocks.new)) }
 {
     // It tells how many pointers there are.
     tree.fits();

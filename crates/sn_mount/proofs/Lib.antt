@@ -2,3 +2,4 @@ pub mod RecoverLemmas
 pub mod ClearedLemmas
 pub mod CostLemmas
 pub mod ListedLemmas
+pub mod CauseLemmas

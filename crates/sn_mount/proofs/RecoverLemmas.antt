@@ -355,10 +355,6 @@ unmade_leaves f n world old new synced im makes = told f makes
 
 -- ---- a clearing that fails
 
-pub read_refuses : (f : ReadFault) (sectors : ℕ) (c : Contents) → Refuses (read_fault f) sectors c
-read_refuses read.Device sectors c = tt
-read_refuses read.Memory sectors c = tt
-
 pub read_writes : (f : ReadFault) (sectors : ℕ) (old new : Disk) → KeepsTheRoot sectors old new → WritesAtFault (read_fault f) sectors old new
 read_writes read.Device sectors old new kept = inr kept
 read_writes read.Memory sectors old new kept = inr kept

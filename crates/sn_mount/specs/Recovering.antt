@@ -19,7 +19,7 @@ use Rattle.sn_held.specs.Room.{HasRoomOf}
 use Rattle.sn_room.specs.Rooms.{RoomCounts}
 use Rattle.sn_cp_whole.specs.Planning.{kept_in}
 use Rattle.sn_cp_whole.specs.Recovering.{IsApart}
-use Rattle.sn_examine.specs.Refusing.{Refuses}
+use Rattle.sn_check.specs.Verdicts.{IsCause}
 use Rattle.sn_mount.specs.declared.found.Recovered.{Recovered}
 
 -- Of the formatted disk, which has a newest root, neither the superblock was written, nor that root or its map.
@@ -66,4 +66,4 @@ OfImage old P = (world : World) → IsLiveImage (reads old) world → P world
 -- What was an image of a world runs. Otherwise there is a cause, and the world, if any, is still there.
 abbrev pub Recovers : Result Recovered MountFault → ℕ → Disk → Disk → Type 0
 Recovers (Ok r) sectors old new = KeepsTheRoot sectors old new × OfImage old (IsRecovered r.log (world_of r.world) r.room (kept_in r.base) old new)
-Recovers (Err f) sectors old new = Refuses f sectors (reads old) × WritesAtFault f sectors old new × OfImage old (KeepsTheWorld old new)
+Recovers (Err f) sectors old new = IsCause sectors (reads old) f × WritesAtFault f sectors old new × OfImage old (KeepsTheWorld old new)

@@ -1,5 +1,6 @@
 //! Recovery: what a mount reads, the root that it makes, and clearing the first place of its log.
-ghost use Rattle.std.specs.Prelude.{◌≡◌, ◌+◌, ◌*◌, ◌≤◌, ◌^◌, ℕ, false, IsTrue, IfOk};
+ghost use Rattle.std.specs.Prelude.{◌≡◌, ◌+◌, ◌*◌, ◌≤◌, ◌^◌, ℕ, false, IsTrue, IfOk, OnOk};
+ghost use Rattle.sn_device.specs.Disk.{reads};
 ghost use Rattle.sn_block.specs.Counts.{IsLater};
 ghost use Rattle.sn_block.specs.Lending.{device_of};
 ghost use Rattle.sn_core.specs.Plain.{kept_of, world_of};
@@ -12,26 +13,29 @@ ghost use Rattle.sn_desc.specs.InUse.{live_in};
 ghost use Rattle.sn_overlay.specs.Needs.{counts, nameless_in};
 ghost use Rattle.sn_overlay.specs.Overlays.{HasRoom, layer_of, no_changes};
 ghost use Rattle.sn_examine.specs.Failing.{FailsAs};
+ghost use Rattle.sn_examine.specs.Laws.{IsSomeClean};
 ghost use Rattle.sn_mount.specs.Costs.{CostsFew, CostsMount};
 ghost use Rattle.sn_mount.specs.Recovering.{Recovers};
 
+use crate::examining::examine;
 use crate::found::Recovered;
 use crate::settling::{Settled, make_root, settle};
 use sn_block::Blocks;
 use sn_device::Device;
-use sn_examine::{fault_of, find};
+use sn_examine::fault_of;
 use sn_layout::{Area, LogHalf};
 use sn_log::{Buffer, Log, Position, clear};
 use sn_model::MountFault;
 use sn_room::Room;
 use std::alloc::Global;
 
-/// Syncs, reads the newest root's tree, replays the log into it, looks whether what that is charged is free, and drops
-/// the files that no name stands for. Where a record was replayed or a file dropped, a whole point makes a root of
-/// that. Last it clears the first place of the root's half of the log, where nothing is logged then. `NotFormatted`,
-/// `NoRoot`, `Version` and `Damaged` come in this order, each before anything is written.
+/// Syncs, checks the whole disk, reads the newest root's tree, replays the log into it, and drops the files that no name
+/// stands for. Where a record was replayed or a file dropped, a whole point makes a root of that. Last it clears the
+/// first place of the root's half of the log, where nothing is logged then. `NotFormatted`, `NoRoot`, `Version` and
+/// `Damaged` come in this order, each before anything is written, and as the check tells them.
 pub fn recover<D: Device>(alloc: Global, blocks: &mut Blocks<D>) -> Result<Recovered, MountFault>
     ensures recovers { IsTrue D.tells_bytes → Recovers result (D.status (device_of blocks.old)).sectors (D.disk (device_of blocks.old)) (D.disk (device_of blocks.new)) }
+    ensures clean { IsTrue D.tells_bytes → OnOk result (IsSomeClean (D.status (device_of blocks.old)).sectors (reads (D.disk (device_of blocks.old)))) }
     ensures whole { IfOk result (λ r. IsWorld version_1 (world_of r.world)) }
     ensures kept { IfOk result (λ r. (number : ℕ) → kept_of r.world number ≡ false) }
     ensures few { IfOk result (λ r. r.room.dropped + nameless_in (world_of r.world).live ≤ 2 ^ 33) }
@@ -53,7 +57,7 @@ pub fn recover<D: Device>(alloc: Global, blocks: &mut Blocks<D>) -> Result<Recov
     let Ok(()) = blocks.sync() else {
         return Err(MountFault::Device);
     };
-    let found = match find(alloc, blocks, &mut buffer) {
+    let found = match examine(alloc, blocks, &mut buffer) {
         Ok(found) => found,
         Err(fault) => return Err(fault),
     };

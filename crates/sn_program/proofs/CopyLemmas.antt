@@ -1,9 +1,12 @@
 -- What a crash behind a run leaves of the disk that it ran on.
-use Rattle.std.proofs.Common.{◌≡◌, ◌⊎◌, inl, inr, ◌<◌, List, [], ◌∷◌, ◌++◌, length, sym, subst, ◌∙◌, append_assoc, arith}
+use Rattle.std.proofs.Common.{ℕ, ◌≡◌, ◌⊎◌, inl, inr, ◌<◌, List, [], ◌∷◌, ◌++◌, length, Result, Ok, Err, refl, sym, subst, ◌∙◌, append_assoc, arith}
 use Rattle.std.proofs.lemmas.List.{append-nil, same_lists, get_or_default}
-use Rattle.std.specs.Prelude.{Contains, EachIndex}
+use Rattle.std.specs.Prelude.{Contains, EachIndex, IfErr, None, OnOk, Some}
+use Rattle.std.specs.declared.option.Option.{Option}
 use Rattle.sn_device.specs.Sectors.{AgreesOutside, AreSectors, Contents, sector_at}
 use Rattle.sn_device.specs.Fill.{filling, last_synced}
+use Rattle.sn_device.specs.Memory.{first}
+use Rattle.sn_device.specs.Status.{uncalled}
 use Rattle.sn_device.specs.declared.fill.Fill.{Fill}
 use Rattle.sn_device.specs.declared.status.Status.{Status}
 use Rattle.sn_device.specs.Disk.{Always, CrashNow, Disk, IsSynced, reads}
@@ -13,14 +16,18 @@ use Rattle.sn_block.specs.Effects.{Nowhere}
 use Rattle.sn_limits.specs.Versions.{version_1}
 use Rattle.sn_model.specs.declared.call.Event.{Event}
 use Rattle.sn_model.specs.declared.mount.End.{End}
+use Rattle.sn_model.specs.declared.mount.End.TheVariants as ending
 use Rattle.sn_model.specs.declared.reply.Reply.{Reply}
 use Rattle.sn_model.specs.Machine.{State, Running, Anything, CutRun}
 use Rattle.sn_model.specs.World.{World}
 use Rattle.sn_held.specs.Images.{IsLiveImage}
 use Rattle.sn_run.specs.Runs.{IsRunOf, LeavesAll, LeavesFrom, LeavesItsRun, ShowsCut}
 use Rattle.sn_run.proofs.CutLemmas.{cut_now, found_settled}
-use Rattle.sn_program.specs.Answers.{IsRun}
+use Rattle.sn_program.specs.Answers.{AreEventsOf, IsRun}
 use Rattle.sn_program.specs.Copies.{IsCutShort}
+use Rattle.sn_program.specs.Fault.{IsOfFile, fault_in, outcome_of}
+use Rattle.sn_program.specs.Tasks.{BeginsToSay, IsToldOf, LeavesOfCopy, Says}
+use Rattle.sn_program.specs.declared.fault.Fault.{Fault}
 
 -- behind the last reply
 at_last : (s : State) (events : List Event) (said replies : List Reply) (old new : Disk) → LeavesFrom s events said replies old new → Always new (ShowsCut s events (said ++ replies))
@@ -64,4 +71,32 @@ cut_short copy stopped last status stopped_status last_status how end events rep
       crash = crash;
       filled = filled;
       kept = λ synced world image. kept copy last world events replies end left whole synced image (ran.machine world image) crash;
+    }
+
+-- the fault of a run goes before that of writing its replies
+tells : (end : End) (written : Result (Unit {0}) Fault) (Whole : Type 0) → OnOk written Whole → IfErr written IsOfFile → IsToldOf end (fault_in (outcome_of end written)) Whole
+tells ending.Clean (Ok x) Whole whole of_file = (refl, whole)
+tells ending.Clean (Err why) Whole whole of_file = inr (refl, of_file)
+tells ending.Stopped written Whole whole of_file = inl refl
+tells ending.Memory written Whole whole of_file = inl refl
+tells (ending.Mount m) written Whole whole of_file = inl refl
+
+-- what a run on a copy of an image leaves, whose replies were written or not
+pub leaves : (contents : Contents) (copy : Disk) (status : Status) (how : Fill) (end : End) (events : List Event) (replies : List Reply) (left : Contents) (written : Result (Unit {0}) Fault) (told : Option Fault) (old new : Option (List ℕ))
+    → copy ≡ first contents → status ≡ uncalled (length contents) → AreEventsOf None events → IsCutShort copy status how end events replies left
+    → OnOk written (Says replies old new) → BeginsToSay replies old new → IfErr written IsOfFile → told ≡ fault_in (outcome_of end written) → LeavesOfCopy how told old new
+leaves contents copy status how end events replies left written told old new same_disk same_status read cut whole front of_file said =
+    let counted : IsCutShort copy (uncalled (length contents)) how end events replies left = subst (λ (s : Status). IsCutShort copy s how end events replies left) same_status cut in
+    record {
+      end = end;
+      replies = replies;
+      cut = record {
+        events = events;
+        read = read;
+        copy = contents;
+        left = left;
+        cut = subst (λ (d : Disk). IsCutShort d (uncalled (length contents)) how end events replies left) same_disk counted;
+      };
+      front = front;
+      tells = subst (λ (t : Option Fault). IsToldOf end t (Says replies old new)) (sym said) (tells end written (Says replies old new) whole of_file);
     }

@@ -13,7 +13,6 @@ use Rattle.sn_block.proofs.CountLemmas.{later-is, later-join}
 use Rattle.sn_device.specs.declared.status.Status.{Status}
 use Rattle.sn_model.specs.declared.call.Event.TheVariants as event
 use Rattle.sn_model.specs.declared.mount.Damage.{Damage}
-use Rattle.sn_model.specs.declared.mount.Damage.TheVariants as damage
 use Rattle.sn_model.specs.declared.mount.MountFault.{MountFault}
 use Rattle.sn_model.specs.declared.mount.MountFault.TheVariants as fault
 use Rattle.sn_model.specs.declared.reply.Reply.{Reply}
@@ -28,7 +27,11 @@ use Rattle.sn_held.specs.Moments.{LastsOver, ShowsState}
 use Rattle.sn_examine.specs.Failing.{IsSoOf}
 use Rattle.sn_mount.specs.Costs.{CostsFew}
 use Rattle.sn_mount.specs.Recovering.{LeavesTheWorld, WritesAtFault}
-use Rattle.sn_examine.specs.Refusing.{Refuses, StandsAt}
+use Rattle.sn_sound.specs.Disks.{IsOfDevice}
+use Rattle.sn_sound.specs.Verdicts.{IsFaulty}
+use Rattle.sn_sound.proofs.VerdictLemmas.{never_both}
+use Rattle.sn_examine.proofs.ImageLemmas.{image_clean}
+use Rattle.sn_check.specs.Verdicts.{IsCause}
 use Rattle.sn_fs.specs.Answers.{Answers, AnswersFrom, CostsMountOf, CostsRestart, HasMadePoint, MayMeet}
 use Rattle.sn_fs.specs.Mounting.{IsLeft, WritesToMount}
 use Rattle.sn_fs.specs.Pointing.{IsPointed}
@@ -160,15 +163,9 @@ module _ (old mid new : Held) (whole : AreSectors (reads mid.disk)) (p : IsPoint
 
 -- ---- mounts that fail
 
--- an image has no damage
-pub no_damage : (damage : Damage) (sectors : ℕ) (c : Contents) (block : ℕ) (world : World) → IsImage c world → StandsAt damage sectors c block → ⊥
-no_damage damage.Root sectors c block world image h = h.0 world image
-no_damage damage.Pointer sectors c block world image h = h
-no_damage damage.ReachedTwice sectors c block world image h = h
-no_damage damage.MapWord sectors c block world image h = h.0 world image
-no_damage damage.Misspelt sectors c block world image h = h.0 world image
-no_damage damage.Links sectors c block world image h = h
-no_damage damage.Log sectors c block world image h = h.0 world image
+-- an image has no fault
+never_faulty : (damage : Damage) (sectors : ℕ) (c : Contents) (block : ℕ) (world : World) → IsOfDevice sectors c → IsImage c world → IsFaulty sectors c damage block → ⊥
+never_faulty damage sectors c block world device im faulty = let clean = image_clean sectors c world device im in never_both sectors c clean.0 damage block device clean.1 faulty
 
 -- an image has a root
 pub found_root : (f : MountFault) (sectors : ℕ) (c : Contents) (world : World) → IsImage c world → length c ≡ sectors → LacksRoot sectors c f → ⊥
@@ -176,14 +173,14 @@ found_root f sectors c world im count lacks =
     lacks_none f sectors c im.blocks im.opens.slot im.opens.root (record { size = im.disk.size; spelled = im.spelled; room = subst (λ (m : ℕ). 8 * im.blocks ≤ m) count im.disk.long }) im.opens.shown.newest lacks
 
 -- the mishap of a fault, where the contents are an image of a world
-pub met_with : (f : MountFault) (c : Contents) (world : World) (sectors : ℕ) (old new : Held) → IsLiveImage c world → length c ≡ sectors → Refuses f sectors c → IsSoOf f old.status new.status
+pub met_with : (f : MountFault) (c : Contents) (world : World) (sectors : ℕ) (old new : Held) → IsLiveImage c world → IsOfDevice sectors c → IsCause sectors c f → IsSoOf f old.status new.status
     → (m : Mishap) × (mount_fault_of m ≡ Some f) × MayMeet old old event.Restart (Some m) new.status
-met_with (fault.Damaged damage block) c world sectors old new is count cause failed = absurd (no_damage damage sectors c block world is.image cause.1)
-met_with fault.NotFormatted c world sectors old new is count cause failed = absurd (found_root fault.NotFormatted sectors c world is.image count cause)
-met_with fault.Version c world sectors old new is count cause failed = absurd (found_root fault.Version sectors c world is.image count cause)
-met_with fault.NoRoot c world sectors old new is count cause failed = absurd (found_root fault.NoRoot sectors c world is.image count cause)
-met_with fault.Memory c world sectors old new is count cause failed = (Memory, refl, failed)
-met_with fault.Device c world sectors old new is count cause failed = (Read, refl, failed)
+met_with (fault.Damaged damage block) c world sectors old new is device cause failed = absurd (never_faulty damage sectors c block world device is.image cause)
+met_with fault.NotFormatted c world sectors old new is device cause failed = absurd (found_root fault.NotFormatted sectors c world is.image device.count cause)
+met_with fault.Version c world sectors old new is device cause failed = absurd (found_root fault.Version sectors c world is.image device.count cause)
+met_with fault.NoRoot c world sectors old new is device cause failed = absurd (found_root fault.NoRoot sectors c world is.image device.count cause)
+met_with fault.Memory c world sectors old new is device cause failed = (Memory, refl, failed)
+met_with fault.Device c world sectors old new is device cause failed = (Read, refl, failed)
 
 writes_to_mount : (f : MountFault) (sectors : ℕ) (old new : Disk) → WritesAtFault f sectors old new → WritesToMount sectors old new
 writes_to_mount (fault.Damaged damage block) sectors old new touched = inl touched
@@ -194,14 +191,14 @@ writes_to_mount fault.Memory sectors old new touched = touched
 writes_to_mount fault.Device sectors old new touched = touched
 
 -- and behind the point of an unmount
-met_behind : (f : MountFault) (c : Contents) (world : World) (sectors : ℕ) (old mid new : Held) → IsLiveImage c world → length c ≡ sectors → Refuses f sectors c → IsSoOf f mid.status new.status → mid.status.failures ≡ old.status.failures → HasMadePoint event.Restart old mid → CostsFew mid.status new.status
+met_behind : (f : MountFault) (c : Contents) (world : World) (sectors : ℕ) (old mid new : Held) → IsLiveImage c world → IsOfDevice sectors c → IsCause sectors c f → IsSoOf f mid.status new.status → mid.status.failures ≡ old.status.failures → HasMadePoint event.Restart old mid → CostsFew mid.status new.status
     → (m : Mishap) × (mount_fault_of m ≡ Some f) × MayMeet old mid event.Restart (Some m) new.status × CostsRestart old mid (Some m) new.status
-met_behind (fault.Damaged damage block) c world sectors old mid new is count cause failed same made few = absurd (no_damage damage sectors c block world is.image cause.1)
-met_behind fault.NotFormatted c world sectors old mid new is count cause failed same made few = absurd (found_root fault.NotFormatted sectors c world is.image count cause)
-met_behind fault.Version c world sectors old mid new is count cause failed same made few = absurd (found_root fault.Version sectors c world is.image count cause)
-met_behind fault.NoRoot c world sectors old mid new is count cause failed same made few = absurd (found_root fault.NoRoot sectors c world is.image count cause)
-met_behind fault.Memory c world sectors old mid new is count cause failed same made few = (Memory, refl, none_failed old.status mid.status new.status same failed, inr (made, few))
-met_behind fault.Device c world sectors old mid new is count cause failed same made few = (Read, refl, some_failed old.status mid.status new.status same failed, inr (made, few))
+met_behind (fault.Damaged damage block) c world sectors old mid new is device cause failed same made few = absurd (never_faulty damage sectors c block world device is.image cause)
+met_behind fault.NotFormatted c world sectors old mid new is device cause failed same made few = absurd (found_root fault.NotFormatted sectors c world is.image device.count cause)
+met_behind fault.Version c world sectors old mid new is device cause failed same made few = absurd (found_root fault.Version sectors c world is.image device.count cause)
+met_behind fault.NoRoot c world sectors old mid new is device cause failed same made few = absurd (found_root fault.NoRoot sectors c world is.image device.count cause)
+met_behind fault.Memory c world sectors old mid new is device cause failed same made few = (Memory, refl, none_failed old.status mid.status new.status same failed, inr (made, few))
+met_behind fault.Device c world sectors old mid new is device cause failed same made few = (Read, refl, some_failed old.status mid.status new.status same failed, inr (made, few))
 
 -- where a mount failed a crash leaves what it would have left before
 unmounted_over : (f : MountFault) (old new : Held) (before after world : World) → AreSectors (reads old.disk) → IsLeft f old.status.sectors old.disk new.disk → Always old.disk (λ c. ShowsState (Stopped before after) c) → IsLiveImage (reads old.disk) world
@@ -215,7 +212,7 @@ module _ (old new : Held) (f : MountFault) (disk : IsWholeDisk old.status old.di
     where
       from : (world : World) → IsLiveImage (reads old.disk) world → ((c : Contents) → IsLiveImage c world → ShowsState (Stopped before after) c) → AnswersFrom (Stopped before after) event.Restart (answer.Unmounted f) old new true
       from world here so =
-          let met = met_with f (reads old.disk) world old.status.sectors old new here disk.count n.left.cause n.failed in
+          let met = met_with f (reads old.disk) world old.status.sectors old new here (record { whole = disk.whole; count = disk.count }) n.left.cause n.failed in
           let all = unmounted_over f old new before after world disk.whole n.left means.1 here so in
           record {
             met = Some met.0;
@@ -249,7 +246,7 @@ module _ (old mid new : Held) (disk : IsWholeDisk mid.status mid.disk) (p : IsPo
       let first = settled_here old mid new disk.whole p bare in
       let here = is_image old mid new disk.whole p bare in
       let made = point_made old mid new disk.whole p bare in
-      let met = met_behind f (reads mid.disk) w mid.status.sectors old mid new here disk.count n.left.cause n.failed (same_failures old mid new disk.whole p bare) made n.costs in
+      let met = met_behind f (reads mid.disk) w mid.status.sectors old mid new here (record { whole = disk.whole; count = disk.count }) n.left.cause n.failed (same_failures old mid new disk.whole p bare) made n.costs in
       let next = Stopped w w in
       let shows = settled_now old mid new disk.whole p bare in
       let all = unmounted_over f mid new w w w disk.whole n.left (λ c crash. inl (shows c crash)) here (λ c h. inl h) in

@@ -18,6 +18,7 @@ use Rattle.sn_model.specs.World.{World, new_world}
 use Rattle.sn_log.specs.Places.{first_of}
 use Rattle.sn_core.proofs.StepLemmas.{run_more}
 use Rattle.sn_room.specs.Rooms.{fresh}
+use Rattle.sn_sound.specs.Disks.{IsOfDevice}
 use Rattle.sn_held.specs.Held.{Held, Means}
 use Rattle.sn_held.specs.Images.{IsLiveImage}
 use Rattle.sn_held.proofs.EventLemmas.{images_one}
@@ -56,6 +57,7 @@ module _ (events : List Event) (replies : List Reply) (disk last_disk : Disk) (s
   served end ends = record {
     mounted = h;
     none_kept = m.none_kept;
+    clean = m.clean;
     touched = m.touched;
     blocks = n;
     within = within;
@@ -85,7 +87,7 @@ module _ (events : List Event) (replies : List Reply) (disk last_disk : Disk) (s
 abbrev bare : Disk → Status → Held
 bare disk status = record { world = new_world; kept = λ number. false; room = fresh 0; at = first_of 256 1; base = no_base; disk = disk; status = status }
 
-module _ (events : List Event) (replies : List Reply) (disk last_disk : Disk) (status last_status : Status) (world : World) (count : length (reads disk) ≡ status.sectors) (image : IsLiveImage (reads disk) world) where
+module _ (events : List Event) (replies : List Reply) (disk last_disk : Disk) (status last_status : Status) (world : World) (device : IsOfDevice status.sectors (reads disk)) (image : IsLiveImage (reads disk) world) where
   served_leaves : (end : End) (mounted : Held) → IsServed world events replies end disk mounted last_disk last_status → LeavesItsRun world events replies disk last_disk
   served_leaves end mounted s =
       record {
@@ -124,7 +126,7 @@ module _ (events : List Event) (replies : List Reply) (disk last_disk : Disk) (s
 
   unserved_run : (f : MountFault) → NotMounted f replies disk status last_disk last_status → IsRunOf world events replies (ending.Mount f) disk last_disk
   unserved_run f n =
-      let met = met_with f (reads disk) world status.sectors (bare disk status) (bare last_disk last_status) image count n.left.cause n.failed in
+      let met = met_with f (reads disk) world status.sectors (bare disk status) (bare last_disk last_status) image device n.left.cause n.failed in
       record {
         run = inr (inl (record { met = met.0; may = tt; fault = f; is = met.1; none = n.none; ends = refl }));
         crash = left_so n.none (n.left.keeps world image);

@@ -6,7 +6,6 @@ use Rattle.sn_layout.specs.declared.root.RootBody.{RootBody}
 use Rattle.sn_limits.specs.Versions.{version_1}
 use Rattle.sn_model.specs.declared.call.Event.{Event}
 use Rattle.sn_model.specs.declared.mount.Damage.{Damage}
-use Rattle.sn_model.specs.declared.mount.Damage.TheVariants as damage
 use Rattle.sn_model.specs.declared.mount.End.TheVariants as ending
 use Rattle.sn_model.specs.declared.mount.MountFault.{MountFault}
 use Rattle.sn_model.specs.declared.mount.MountFault.TheVariants as fault
@@ -18,9 +17,9 @@ use Rattle.sn_root.specs.declared.fault.Damage.{Damage as RootDamage}
 use Rattle.sn_root.specs.declared.fault.Damage.TheVariants.{Misspelt, EqualGenerations}
 use Rattle.sn_layout.specs.declared.places.Slot.TheVariants.{A, B}
 use Rattle.sn_sound.specs.Disks.{IsFormatted}
-use Rattle.sn_sound.specs.Verdicts.{IsSomeSize}
+use Rattle.sn_sound.specs.Verdicts.{IsFaulty, IsFirst, IsRootFault, IsSomeSize}
 use Rattle.sn_sound.proofs.VerdictLemmas.{rooted_verdict}
-use Rattle.sn_examine.specs.Refusing.{Refuses, StandsAt}
+use Rattle.sn_check.specs.Verdicts.{IsCause}
 use Rattle.sn_run.specs.Runs.{LacksRoot}
 
 one_of_two : {A : Type 0} (f : MountFault) → (f ≡ fault.Memory → ⊥) → (f ≡ fault.Device → ⊥) → (f ≡ fault.Memory) ⊎ (f ≡ fault.Device) → A
@@ -47,22 +46,20 @@ known_damage (fault.Damaged damage block) sectors c which some known damaged lac
 known_damage fault.Memory sectors c which some known damaged lacks = lacks
 known_damage fault.Device sectors c which some known damaged lacks = lacks
 
--- a damage is found of a disk that has roots
-no_damage : (f : MountFault) (damage : Damage) (sectors : ℕ) (c : Contents) (block : ℕ) → IsSomeSize sectors c → StandsAt damage sectors c block → LacksRoot sectors c f → ⊥
-no_damage f damage.Root sectors c block some h lacks = known_damage f sectors c h.1.which some h.1.known h.1.damaged lacks
-no_damage f damage.Pointer sectors c block some h lacks = h
-no_damage f damage.ReachedTwice sectors c block some h lacks = h
-no_damage f damage.MapWord sectors c block some h lacks = lacks_none f sectors c h.1.blocks h.1.slot h.1.root h.1.formatted h.1.newest lacks
-no_damage f damage.Misspelt sectors c block some h lacks = lacks_none f sectors c h.1.blocks h.1.slot h.1.root h.1.formatted h.1.newest lacks
-no_damage f damage.Links sectors c block some h lacks = h
-no_damage f damage.Log sectors c block some h lacks = lacks_none f sectors c h.1.blocks h.1.slot h.1.root h.1.formatted h.1.newest lacks
+-- a fault is found of a disk that has roots
+no_fault : (f : MountFault) (damage : Damage) (sectors : ℕ) (c : Contents) (block : ℕ) → IsFaulty sectors c damage block → LacksRoot sectors c f → ⊥
+no_fault f damage sectors c block faulty lacks = told faulty.why
+  where
+    told : IsRootFault c damage block ⊎ ((slot : Slot) × (root : RootBody) × IsFirst faulty.blocks c slot root damage block) → ⊥
+    told (inl is) = known_damage f sectors c is.which (faulty.blocks, faulty.formatted) is.known is.damaged lacks
+    told (inr (slot, root, first)) = lacks_none f sectors c faulty.blocks slot root faulty.formatted first.newest lacks
 
 -- The mount tells the same of it, or lacks memory, or the device has failed.
-pub unfit_fault : (f g : MountFault) (sectors : ℕ) (c : Contents) (events : List Event) (replies : List Reply) → replies ≡ [] → LacksRoot sectors c f → Refuses g sectors c
+pub unfit_fault : (f g : MountFault) (sectors : ℕ) (c : Contents) (events : List Event) (replies : List Reply) → replies ≡ [] → LacksRoot sectors c f → IsCause sectors c g
     → HasNoMount Anything replies (ending.Mount g) ⊎ Serves Anything version_1 (Lacks f) events replies (ending.Mount g)
 unfit_fault f fault.Memory sectors c events replies none lacks cause = inl (record { met = Memory; may = tt; fault = fault.Memory; is = refl; none = none; ends = refl })
 unfit_fault f fault.Device sectors c events replies none lacks cause = inl (record { met = Read; may = tt; fault = fault.Device; is = refl; none = none; ends = refl })
-unfit_fault f (fault.Damaged damage block) sectors c events replies none lacks cause = absurd (no_damage f damage sectors c block cause.0 cause.1 lacks)
+unfit_fault f (fault.Damaged damage block) sectors c events replies none lacks cause = absurd (no_fault f damage sectors c block cause lacks)
 unfit_fault fault.NotFormatted fault.NotFormatted sectors c events replies none lacks cause = inr (record { none = none; ends = refl })
 unfit_fault fault.NoRoot fault.NoRoot sectors c events replies none lacks cause = inr (record { none = none; ends = refl })
 unfit_fault fault.Version fault.Version sectors c events replies none lacks cause = inr (record { none = none; ends = refl })

@@ -20,6 +20,7 @@ use Rattle.sn_held.specs.Held.{Held, Means}
 use Rattle.sn_held.specs.Images.{IsLiveImage}
 use Rattle.sn_held.specs.Room.{HasRoomOf}
 use Rattle.sn_examine.specs.Failing.{IsSoOf}
+use Rattle.sn_examine.specs.Laws.{IsSomeClean}
 use Rattle.sn_mount.specs.Costs.{CostsFew, CostsMount}
 use Rattle.sn_mount.specs.Recovering.{KeepsTheRoot, LeavesTheWorld, OfImage}
 use Rattle.sn_fs.specs.Answers.{AnswersFrom}
@@ -60,10 +61,11 @@ pub record IsServed (world : World) (events : List Event) (replies : List Reply)
   pub run : RunBy Goes (start world mounted) events replies last
   pub ended : IsEnded last.state last.held end last_disk last_status
 
--- The disk was mounted, with no number kept back, and what it was an image of was served.
+-- The disk, which has no fault, was mounted, with no number kept back, and what it was an image of was served.
 pub record Served (events : List Event) (replies : List Reply) (end : End) (disk : Disk) (status : Status) (last_disk : Disk) (last_status : Status) : Type 0 where
   pub mounted : Held
   pub none_kept : (number : ℕ) → mounted.kept number ≡ false
+  pub clean : IsSomeClean status.sectors (reads disk)
   pub touched : KeepsTheRoot status.sectors disk mounted.disk
   pub blocks : ℕ
   pub within : 8 * blocks ≤ status.sectors

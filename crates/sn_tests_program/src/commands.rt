@@ -3,14 +3,13 @@
 //! A line of `commands.txt` is `WORDS => STATUS, LINE, LINE..`: the status that the words end with, and the lines that they
 //! write: those of standard output, of standard error, and those that a person is told. Or it makes a file: `NAME << LINE|LINE..`
 //! a script of these lines, `NAME from OTHER LENGTH` the front of another file, `NAME with OTHER COUNT` another file and so many
-//! zeros behind it, `NAME set OFFSET BYTE` one byte of it anew.
+//! zeros behind it, `NAME set OFFSET BYTE` one byte of it anew, `NAME put OFFSET HEX` several. `examples/images.txt` has such lines
+//! too, for a gallery of images.
 
 use crate::ended::Ended;
 use anyhow::{Context, Result, bail};
 use sn_table::{Report, Tally};
 use std::{fs, str};
-
-const COMMANDS: &str = "commands.txt";
 
 /// The status of an end and its lines, behind commas.
 fn told(rt: &HostRuntime, ended: &Ended) -> Result<String> {
@@ -66,7 +65,19 @@ fn set_byte(rt: &HostRuntime, name: &str, offset: &str, byte: u8) -> Result<()> 
     Ok(fs::write(rt, name, bytes.as_slice())?)
 }
 
-/// Makes a file of another one, or changes a byte.
+fn put_bytes(rt: &HostRuntime, name: &str, offset: &str, word: &str) -> Result<()> {
+    let mut bytes = fs::read(rt, name)?;
+    let offset: usize = offset.parse()?;
+    let new = hex::decode(rt.alloc(), word)?;
+    for (i, &byte) in new.iter().enumerate() {
+        *bytes
+            .get_mut(offset.saturating_add(i))
+            .context("it is shorter")? = byte;
+    }
+    Ok(fs::write(rt, name, bytes.as_slice())?)
+}
+
+/// Makes a file of another one, or changes bytes.
 fn make_file(rt: &HostRuntime, line: &str) -> Result<()> {
     let words: Vec<&str> = line.split(' ').collect(rt.alloc())?;
     let &[name, verb, first, second] = words.as_slice() else {
@@ -76,13 +87,15 @@ fn make_file(rt: &HostRuntime, line: &str) -> Result<()> {
         "from" => take_front(rt, name, first, second.parse()?),
         "with" => take_with(rt, name, first, second.parse()?),
         "set" => set_byte(rt, name, first, second.parse()?),
+        "put" => put_bytes(rt, name, first, second),
         _ => bail!("no command: {line}"),
     }
 }
 
-pub fn run(report: &mut Report<'_>) -> Result<()> {
+/// Carries out the lines of a file, in their order.
+pub fn run(report: &mut Report<'_>, file: &'static str) -> Result<()> {
     let rt = report.runtime();
-    let text = fs::read_to_string(rt, COMMANDS)?;
+    let text = fs::read_to_string(rt, file)?;
     let mut tally = Tally::new();
     for line in text.lines() {
         if line.starts_with('#') || line.is_empty() {
@@ -96,5 +109,5 @@ pub fn run(report: &mut Report<'_>) -> Result<()> {
             make_file(rt, line)?;
         }
     }
-    report.add(COMMANDS, tally)
+    report.add(file, tally)
 }

@@ -42,7 +42,8 @@ fn main(rt: HostRuntime) -> Result<()> {
     let wrong = wrong_in_program(&rt)?;
     let mut report = Report::new(&rt)?;
     images::run(&mut report)?;
-    commands::run(&mut report)?;
+    commands::run(&mut report, "commands.txt")?;
+    commands::run(&mut report, "examples/images.txt")?;
     report.script("runs.txt", events::replies)?;
     refused::run(&mut report)?;
     report.script("torn.txt", torn::torn)?;

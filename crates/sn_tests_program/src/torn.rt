@@ -27,15 +27,15 @@ struct Plan {
 /// On a disk on which events fill nothing.
 const LARGE: Plan = Plan {
     is_least: false,
-    crashes: 16,
-    filled: 8,
+    crashes: 7,
+    filled: 5,
 };
 
 /// On the least one.
 const LEAST: Plan = Plan {
     is_least: true,
-    crashes: 16,
-    filled: 6,
+    crashes: 7,
+    filled: 5,
 };
 
 /// A longer line is told by its front and the number of its bytes.

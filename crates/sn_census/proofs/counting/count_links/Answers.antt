@@ -53,7 +53,7 @@ pub returns-in_err-load_rows-clause-fault : goal.returns-in_err-load_rows-clause
 returns-in_err-load_rows-clause-fault g c told =
     let s = store_of (reads (g.D.Device.disk (device_of c.args.blocks.now))) in
     let p = err_from_is_err_and c.from_residual.result c.from_residual.ensures.1 in
-    rw (p.1, p.2) (tells_weaker c.in_err-load_rows.field-0.0 (λ damage block. ⊥) (StandsInLinks s c.args.file.now c.args.body) (λ damage block never. absurd never) c.in_err-load_rows.ensures.fault)
+    rw (p.1, p.2) (tells_weaker c.in_err-load_rows.field-0.0 (λ damage block. ⊥) (StandsInLinks s c.args.file.now c.args.body) (λ damage block never. absurd never) (c.in_err-load_rows.ensures.fault told))
 
 pub returns-in_err-count_names-clause-fault : goal.returns-in_err-count_names-clause-fault
 returns-in_err-count_names-clause-fault g c told =

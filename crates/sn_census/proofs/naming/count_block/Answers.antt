@@ -1,19 +1,21 @@
-use Rattle.std.proofs.Common.{◌≡◌, ℕ, List, ap, subst, ◌∙◌}
+use Rattle.std.proofs.Common.{◌≡◌, ℕ, List, Err, refl, sym, ap, subst, ◌∙◌}
 use Rattle.std.proofs.lemmas.Result.{err_from_is_err_and}
 use Rattle.sn_device.specs.Disk.{Disk, reads}
 use Rattle.sn_block.specs.Lending.{device_of}
-use Rattle.sn_layout_node.specs.Directory.{Link}
+use Rattle.sn_layout_node.specs.Directory.{Link, IsDirectoryBlock}
+use Rattle.sn_model.specs.declared.mount.Damage.TheVariants.{Misspelt}
 use Rattle.sn_ondisk.specs.Trees.{Store, store_of, data_block}
 use Rattle.sn_image.specs.Names.{names_in}
 use Rattle.sn_dir.specs.Blocks.{CanRead}
 use Rattle.sn_marks.proofs.WalkLemmas.{tells_weaker, told_weaker}
 use Rattle.sn_check_root.specs.Reading.{TreeLies}
 use Rattle.sn_check_root.proofs.DeviceLemmas.{stays_one, stays_more, at_start, at_now}
+use Rattle.sn_check_root.proofs.WrongLemmas.{counts_own}
 use Rattle.sn_census.specs.Counts.{HasSpare, blamed}
 use Rattle.sn_census.specs.Faults.{IsAt, StandsInLinks}
 use Rattle.sn_census.specs.Rows.{row_at}
 use Rattle.sn_census.proofs.CountLemmas.{counts_alike}
-use Rattle.sn_census.proofs.FaultLemmas.{at_stands, never_ok, spare_stands}
+use Rattle.sn_census.proofs.FaultLemmas.{at_stands, never_ok, never_read, spare_stands}
 use Rattle.sn_census.proofs.ReadLemmas.{name_in}
 use Rattle.sn_census.proofs.naming.count_block.Goals as goal
 
@@ -46,13 +48,20 @@ pub returns-in_err-fetch_names-clause-fault : goal.returns-in_err-fetch_names-cl
 returns-in_err-fetch_names-clause-fault g c told =
     let s = store_of (reads (g.D.Device.disk (device_of c.args.blocks.now))) in
     let p = err_from_is_err_and c.from_residual-in_err-fetch_names.result c.from_residual-in_err-fetch_names.ensures.1 in
-    rw (p.1, p.2) (tells_weaker c.in_err-fetch_names.field-0.0 (λ damage block. ⊥) (StandsInLinks s c.args.file.now c.args.body) (λ damage block never. absurd never) c.in_err-fetch_names.ensures.fault)
+    rw (p.1, p.2) (tells_weaker c.in_err-fetch_names.field-0.0 (λ damage block. ⊥) (StandsInLinks s c.args.file.now c.args.body) (λ damage block never. absurd never) (c.in_err-fetch_names.ensures.fault told))
 
 pub returns-in_err-names-clause-fault : goal.returns-in_err-names-clause-fault
 returns-in_err-names-clause-fault g c told =
-    let s = store_of (reads (g.D.Device.disk (device_of c.args.blocks.now))) in
+    let first = stays_one _ _ _ _ _ c.in_ok-pointer.ensures.counts.done c.pointer_to.ensures.same in
+    let bytes = at_start _ _ _ _ _ first (λ (m : ℕ) (r : Store). c.fetched.result.now ≡ data_block r c.args.tree.now c.args.i) told (c.fetched.ensures.value ∙ c.in_ok-fetch_names.ensures.block told) in
+    let can = ((c.requires.readable told).directories c.args.directory c.args.tree.now (c.requires.tree told)).each c.args.i c.requires.within in
+    absurd (c.in_err-names.ensures.spelled (subst IsDirectoryBlock (sym bytes) can.spelled))
+
+pub returns-in_err-names-clause-counts : goal.returns-in_err-names-clause-counts
+returns-in_err-names-clause-counts g c =
     let p = err_from_is_err_and c.from_residual-in_err-names.result c.from_residual-in_err-names.ensures.1 in
-    rw (p.1, p.2) (tells_weaker c.in_err-names.field-0.0 (λ damage block. ⊥) (StandsInLinks s c.args.file.now c.args.body) (λ damage block never. absurd never) c.in_err-names.ensures.fault)
+    rw (p.1, p.2) (counts_own (Err c.in_err-names.field-0.0) _ _ (c.in_ok-fetch_names.ensures.counts.done ∙ c.in_ok-pointer.ensures.counts.done)
+    (never_read Misspelt c.args.body c.in_err-names.field-0.0 (Err c.in_err-names.field-0.0) refl c.in_err-names.ensures.own))
 
 pub returns-in-None-clause-counted : goal.returns-in-None-clause-counted
 returns-in-None-clause-counted g c told =

@@ -34,7 +34,7 @@ pub returns-in_err-inode-clause-fault : goal.returns-in_err-inode-clause-fault
 returns-in_err-inode-clause-fault g c told =
     let s = store_of (reads (g.D.Device.disk (device_of c.args.blocks.now))) in
     let p = err_from_is_err_and c.from_residual.result c.from_residual.ensures.1 in
-    rw (p.1, p.2) (tells_weaker c.in_err-inode.field-0.0 (λ damage block. ⊥) (StandsInLinks s c.args.file.now c.args.body) (λ damage block never. absurd never) c.in_err-inode.ensures.fault)
+    rw (p.1, p.2) (tells_weaker c.in_err-inode.field-0.0 (λ damage block. ⊥) (StandsInLinks s c.args.file.now c.args.body) (λ damage block never. absurd never) (c.in_err-inode.ensures.fault told))
 
 pub returns-in-Some-clause-counted : goal.returns-in-Some-clause-counted
 returns-in-Some-clause-counted g c told =

@@ -24,7 +24,7 @@ returns-in-Err-clause-none g c told =
     subst (λ (r : Result Verdict MountFault). IfErr r (HasNoVerdict sectors disk)) (sym c.verdict_of.ensures) (verdict_none sectors disk c.in-Err.fault (c.in-Err.ensures.cause told))
 
 pub returns-in-Err-clause-failed : goal.returns-in-Err-clause-failed
-returns-in-Err-clause-failed g c told =
+returns-in-Err-clause-failed g c =
     let old = g.D.Device.status (device_of c.args.blocks.now) in
-    let new = g.D.Device.status (device_of c.check_groups.new.blocks) in
-    subst (λ (r : Result Verdict MountFault). FailsAs r old new) (sym c.verdict_of.ensures) (verdict_fails c.in-Err.fault old new (c.in-Err.ensures.failed told))
+    let new = g.D.Device.status (device_of c.test_disk.new.blocks) in
+    subst (λ (r : Result Verdict MountFault). FailsAs r old new) (sym c.verdict_of.ensures) (verdict_fails c.in-Err.fault old new c.in-Err.ensures.failed)

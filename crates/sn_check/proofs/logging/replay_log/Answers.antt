@@ -11,27 +11,19 @@ use Rattle.sn_image.specs.Sound.{IsSound}
 use Rattle.sn_image.proofs.SoundNodeLemmas.{only_version}
 use Rattle.sn_overlay.specs.Needs.{nameless_in}
 use Rattle.sn_examine.specs.Both.{HasBoth, ReplaysBoth}
-use Rattle.sn_examine.specs.Failing.{IsSoOf}
 use Rattle.sn_check.specs.Faults.{IsDamageOf}
 use Rattle.sn_check.specs.Logs.{IsOfLog}
-use Rattle.sn_check.proofs.FaultLemmas.{unread_fails, unread_tells}
+use Rattle.sn_check.proofs.FaultLemmas.{tree_tells}
 use Rattle.sn_check.proofs.LogLemmas.{both_tells, has_logged}
 use Rattle.sn_check.proofs.logging.replay_log.Goals as goal
 
 pub returns-in-Err-clause-fault : goal.returns-in-Err-clause-fault
 returns-in-Err-clause-fault g c told free =
-    let log = IsOfLog c.args.places (reads (g.D.Device.disk (device_of c.args.blocks.now))) c.args.root.now free in
-    subst (IsDamageOf log) (sym c.unread.ensures) (unread_tells c.in-Err.fault c.args.body log c.in-Err.ensures.fault)
-
-pub returns-in-Err-clause-failed : goal.returns-in-Err-clause-failed
-returns-in-Err-clause-failed g c told =
     let root = c.args.root.now in
-    let disk = reads (g.D.Device.disk (device_of c.args.blocks.now)) in
-    let old = g.D.Device.status (device_of c.args.blocks.now) in
-    let new = g.D.Device.status (device_of c.load_world.new.blocks) in
+    let device = device_of c.args.blocks.now in
+    let disk = reads (g.D.Device.disk device) in
     let sound = subst (λ (l : Limits). IsSound l c.args.places (store_of disk) root.inode_file) (sym (only_version root.limits c.requires.fits.version)) (c.requires.sound told) in
-    subst (λ (f : MountFault). IsSoOf f old new) (sym c.unread.ensures)
-    (unread_fails c.in-Err.fault old.sectors c.args.places disk root.inode_file old new c.requires.room sound (c.in-Err.ensures.unsound told) c.in-Err.ensures.failed)
+    tree_tells c.in-Err.fault c.args.body (IsOfLog c.args.places disk root free) (g.D.Device.status device).sectors c.args.places disk root.inode_file c.requires.room sound c.in-Err.ensures.fault (c.in-Err.ensures.unsound told)
 
 pub returns-in-Err-replay_both-clause-fault : goal.returns-in-Err-replay_both-clause-fault
 returns-in-Err-replay_both-clause-fault g c told free =

@@ -16,7 +16,7 @@ returns-in-Ok-clause-free g c told =
     (omega (arith, c.range.ensures.start, c.range.ensures.within, c.range.ensures.end)) (c.count_free_from.ensures ∙ ap (λ (k : ℕ). count_by is_free_word (drop k c.in-Ok.map)) c.range.ensures.start)
 
 pub returns-in-Ok-clause-reads : goal.returns-in-Ok-clause-reads
-returns-in-Ok-clause-reads g c told = same_reads _ _ c.in-Ok.ensures.counts.done
+returns-in-Ok-clause-reads g c = same_reads _ _ c.in-Ok.ensures.counts.done
 
 pub returns-in-Err-clause-fault : goal.returns-in-Err-clause-fault
 returns-in-Err-clause-fault g c told =
@@ -24,10 +24,10 @@ returns-in-Err-clause-fault g c told =
     subst (IsDamageOf first) (sym c.fault_of_check.ensures) (check_tells c.in-Err.fault first (c.in-Err.ensures.fault told))
 
 pub returns-in-Err-clause-reads : goal.returns-in-Err-clause-reads
-returns-in-Err-clause-reads g c told = check_reads _ _ c.in-Err.fault _ _ told c.in-Err.ensures.counts
+returns-in-Err-clause-reads g c = check_reads _ c.in-Err.fault _ _ c.in-Err.ensures.counts
 
 pub returns-in-Err-clause-failed : goal.returns-in-Err-clause-failed
-returns-in-Err-clause-failed g c told =
+returns-in-Err-clause-failed g c =
     let old = g.D.Device.status (device_of c.args.blocks.now) in
     let new = g.D.Device.status (device_of c.check_roots.new.blocks) in
-    subst (λ (f : MountFault). IsSoOf f old new) (sym c.fault_of_check.ensures) (check_fails _ _ c.in-Err.fault old new told c.in-Err.ensures.counts)
+    subst (λ (f : MountFault). IsSoOf f old new) (sym c.fault_of_check.ensures) (check_fails _ c.in-Err.fault old new c.in-Err.ensures.counts)

@@ -60,4 +60,4 @@ returns-clause-fault g c told =
     c.count_of.ensures.fault
 
 pub returns-clause-counts : goal.returns-clause-counts
-returns-clause-counts g c = counts_own _ c.count_of.result _ _ (c.in_ok-fetch_there.ensures.counts.done ∙ c.in_ok-pointer.ensures.counts.done) c.count_of.ensures.read
+returns-clause-counts g c = counts_own c.count_of.result _ _ (c.in_ok-fetch_there.ensures.counts.done ∙ c.in_ok-pointer.ensures.counts.done) c.count_of.ensures.read

@@ -14,7 +14,7 @@ returns-in-Ok-recover-clause-mounted g c told =
     let old = g.D.Device.disk (device_of c.in-Ok.blocks) in
     let sectors = (g.D.Device.status (device_of c.in-Ok.blocks)).sectors in
     subst (λ (d : _). Mounts (g.D.Device.status d).sectors (g.D.Device.disk d) h false) c.in-Ok.ensures.device
-    (mounts sectors old h (c.in-Ok-recover.ensures.recovers told) c.in-Ok-recover.ensures.kept)
+    (mounts sectors old h (c.in-Ok-recover.ensures.recovers told) (c.in-Ok-recover.ensures.clean told) c.in-Ok-recover.ensures.kept)
 
 pub returns-in-Err-recover-clause-unmounted : goal.returns-in-Err-recover-clause-unmounted
 returns-in-Err-recover-clause-unmounted g c told =

@@ -43,7 +43,7 @@ mark_below-returns-in_err-mark-clause-counts g t c =
       sectors = refl;
       damaged = λ damage block is. refl;
       memory = λ is. refl;
-      device = λ told is. let same : c.in_err-mark.field-0.0 ≡ Read Device = cc (p.1, p.2) in absurd (c.in_err-mark.ensures.read Device (ap (λ (f : CheckFault). Err f) same));
+      device = λ is. let same : c.in_err-mark.field-0.0 ≡ Read Device = cc (p.1, p.2) in absurd (c.in_err-mark.ensures.read Device (ap (λ (f : CheckFault). Err f) same));
     }
 
 pub mark_below-test_end-requires : goal.mark_below-test_end-requires

@@ -17,15 +17,14 @@ returns-in-Ok-mount-clause-machine g c told world image =
     let device = c.args.device in
     let end = c.finish-end.result in
     is_run c.args.events.now c.answer_all-server.new.replies.items (g.D.Device.disk device) (g.D.Device.disk end.1) (g.D.Device.status device) (g.D.Device.status end.1)
-    world (g.met.D.Device.count device told) image end.0 (returns-in-Ok-mount-clause-runs g c told)
+    world (record { whole = g.met.D.Device.whole device told; count = g.met.D.Device.count device told }) image end.0 (returns-in-Ok-mount-clause-runs g c told)
 
 pub returns-in-Err-clause-machine : goal.returns-in-Err-clause-machine
 returns-in-Err-clause-machine g c told world image =
     let device = c.args.device in
     let u = c.in-Err.field-0 in
-    let count = g.met.D.Device.count device told in
     is_run c.args.events.now c.in-Ok.replies.items (g.D.Device.disk device) (g.D.Device.disk u.device) (g.D.Device.status device) (g.D.Device.status u.device)
-    world count image (Mount u.fault)
+    world (record { whole = g.met.D.Device.whole device told; count = g.met.D.Device.count device told }) image (Mount u.fault)
     (record { none = c.in-Ok.ensures.0; left = c.in-Err.ensures.unmounted told; failed = c.in-Err.ensures.failed; later = c.in-Err.ensures.later; costs = c.in-Err.ensures.tries })
 
 pub returns-in-Ok-mount-clause-unfit : goal.returns-in-Ok-mount-clause-unfit

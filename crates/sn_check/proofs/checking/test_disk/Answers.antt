@@ -10,7 +10,7 @@ use Rattle.sn_check_roots.specs.First.{IsFirstOf}
 use Rattle.sn_check.specs.Faults.{IsDamageOf}
 use Rattle.sn_check.specs.Logs.{IsOfLog}
 use Rattle.sn_check.proofs.VerdictLemmas.{is_clean, live_sound, log_cause, newest_cause, roots_cause}
-use Rattle.sn_check.proofs.checking.check_groups.Goals as goal
+use Rattle.sn_check.proofs.checking.test_disk.Goals as goal
 
 pub returns-in-Err-clause-cause : goal.returns-in-Err-clause-cause
 returns-in-Err-clause-cause g c told =

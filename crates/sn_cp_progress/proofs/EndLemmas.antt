@@ -1,0 +1,270 @@
+-- What the beginning of a point and its last step leave of the world that a mount runs over.
+use Rattle.std.proofs.Common.{◌≡◌, inl, inr, ⊎_elim, ℕ, ◌+◌, ◌*◌, ◌^◌, ◌<◌, ◌≤◌, List, [], ◌++◌, Some, Result, length, slice_index, refl, sym, ap, subst, ◌∙◌, append-nil, arith}
+use Rattle.std.specs.Prelude.{OnOk}
+use Rattle.sn_changed.specs.Changed.{HasChanged}
+use Rattle.sn_changed.proofs.ChangedLemmas.{nothing_changed}
+use Rattle.sn_device.specs.Sectors.{AreSectors, Contents}
+use Rattle.sn_device.specs.Disk.{Always, Disk, reads}
+use Rattle.sn_device.specs.Crash.{LeavesOnly}
+use Rattle.sn_device.specs.declared.device.Fault.{Fault}
+use Rattle.sn_device.proofs.CrashLemmas.{Always-reads}
+use Rattle.sn_block.proofs.EffectLemmas.{OnOk-both}
+use Rattle.sn_limits.specs.declared.limits.Limits.{Limits}
+use Rattle.sn_limits.specs.Versions.{version_1}
+use Rattle.sn_log.specs.Places.{IsReadyAt, first_of, payloads_of}
+use Rattle.sn_model.specs.declared.change.Change.{Change}
+use Rattle.sn_model.specs.Changes.{apply_all}
+use Rattle.sn_model.specs.Settling.{settle}
+use Rattle.sn_model.specs.Tree.{Tree}
+use Rattle.sn_model.specs.World.{World}
+use Rattle.sn_model.proofs.ListLemmas.{covers_itself}
+use Rattle.sn_ondisk.specs.LogHalf.{HasNoLater, base_of}
+use Rattle.sn_ondisk.specs.MapCopy.{HasMap}
+use Rattle.sn_ondisk.specs.Shown.{Shown}
+use Rattle.sn_ondisk.specs.TreeLaws.{SameIn}
+use Rattle.sn_ondisk.specs.Trees.{Store, store_of}
+use Rattle.sn_image.specs.Image.{image}
+use Rattle.sn_opening.specs.Covering.{MakesCover}
+use Rattle.sn_opening.specs.Opens.{IsDisk, Shows}
+use Rattle.sn_opening.specs.Points.{HoldsAll, IsBuilt}
+use Rattle.sn_opening.specs.Worlds.{StandsFor, all_reach, frozen_of}
+use Rattle.sn_overlay.specs.Overlays.{no_changes}
+use Rattle.sn_root.specs.Replacing.{LeavesEither}
+use Rattle.sn_room.specs.Rooms.{begun, done, fresh}
+use Rattle.sn_sound.specs.Charges.{Fits}
+use Rattle.sn_sound.specs.Logs.{HasAgeLeft, IsToRecover}
+use Rattle.sn_sound.specs.Maps.{free_blocks}
+use Rattle.sn_held.specs.Held.{Held, Kept, Runs, RunsReady}
+use Rattle.sn_held.specs.Images.{IsImage}
+use Rattle.sn_held.specs.Room.{IsCharged}
+use Rattle.sn_held.proofs.EventLemmas.{stands_of}
+use Rattle.sn_held.proofs.HeldLemmas.{each_half, image_shown, ready_no_later}
+use Rattle.sn_cp.specs.Points.{Work}
+use Rattle.sn_cp.specs.Showing.{ShowsNext}
+use Rattle.sn_cp.specs.Steps.{IsWithin, StandsAtStage, StepsTo}
+use Rattle.sn_cp.specs.declared.stage.Stage.{Stage}
+use Rattle.sn_cp.specs.declared.stage.Stage.TheVariants.{Bodied, Done}
+use Rattle.sn_cp.proofs.NextLemmas.{done_points_stand, frozen_stay}
+use Rattle.sn_cp.proofs.ShowLemmas.{opening_shows}
+use Rattle.sn_cp_held.specs.Wholes.{HasBegun, IsOfLive, StandsAround}
+use Rattle.sn_cp_held.proofs.WholeLemmas.{later_weaker}
+use Rattle.sn_cp_progress.specs.Progress.{IsOfFrozen, Progress, RunsOn, kept_behind}
+use Rattle.sn_cp_progress.proofs.StepLemmas.{LiesAround, around_stays, around_then, beside, none_behind, old_image}
+
+-- ---- the beginning
+
+-- a tree covers itself with no change
+covers_alone : (tree : Tree) → MakesCover version_1 [] tree tree
+unfolding apply_all
+covers_alone tree = record { tree = tree; applied = refl; covers = covers_itself tree }
+
+module _ (h : Held) (world : World) (k : Kept) (ready : RunsReady h world k) (w : Work) (free : ℕ) (stage : Stage) (d : Disk) (of : IsOfLive h world ready.runs w (fresh free)) (whole : AreSectors (reads d)) (has : HasBegun h world ready.runs d)
+    (within : IsWithin w stage) (stands : StandsAtStage w stage d) where
+  abbrev old : Runs h world
+  old = ready.runs
+
+  abbrev places : ℕ
+  places = h.at.blocks
+
+  none_newer : old.newer ≡ []
+  none_newer = ready.ready.between.none_newer
+
+  one_on : old.root.epoch + 1 < 256 ^ 8
+  one_on = let fits = (Always-reads d (Shows places old.store old.slot old.root old.older []) whole has.shows).shown.newest.body.fits.epoch.most in omega (arith, fits)
+
+  none_later : (epoch : ℕ) → Always d (λ c. HasNoLater c (base_of places epoch) (old.root.epoch + 1))
+  none_later epoch c crash =
+      let around = has.around c crash in
+      each_half places old.root.epoch (λ (b : ℕ). HasNoLater c b (old.root.epoch + 1))
+      (later_weaker c (base_of places old.root.epoch) old.root.epoch (old.root.epoch + 1) (omega arith) around.none_later)
+      (ready_no_later places c (first_of places (old.root.epoch + 1)) [] (old.root.epoch + 1) (old.root.epoch + 1) around.disk refl refl (omega arith) one_on around.ready) epoch
+
+  begins_runs : Runs (record h { room = begun h.room; at = first_of places (old.root.epoch + 1); disk = d }) world
+  begins_runs = record {
+    is = old.is;
+    store = old.store;
+    slot = old.slot;
+    root = old.root;
+    words = old.words;
+    older = old.older;
+    newer = [];
+    older_spelled = old.older_spelled;
+    newer_spelled = tt;
+    limits = old.limits;
+    formatted = λ c crash. (has.around c crash).formatted;
+    stands = record {
+      disk = Always-reads d (IsDisk places) whole (λ c crash. (has.around c crash).disk);
+      shows = has.shows;
+      map = λ c crash. (has.around c crash).map;
+      sound = old.stands.sound;
+    };
+    none_later = none_later;
+    log = inr (refl, λ c crash. (has.around c crash).ready);
+    cover = subst (λ (ns : List Change). MakesCover version_1 (old.older ++ ns) (image old.store old.root.inode_file) world.live) none_newer old.cover;
+    charged = record {
+      free = old.charged.free;
+      charged = (subst (λ (ns : List Change). IsCharged h.room places old.store old.root (old.older ++ ns) world.live) none_newer old.charged).charged;
+      parked = old.charged.parked;
+      fits = (subst (λ (ns : List Change). IsCharged h.room places old.store old.root (old.older ++ ns) world.live) none_newer old.charged).fits;
+    };
+    age = subst (λ (ns : List Change). IsToRecover (old.older ++ ns) (image old.store old.root.inode_file) → HasAgeLeft old.root) none_newer old.age;
+    frozen = old.frozen;
+  }
+
+  begins_on : RunsOn (record h { room = begun h.room; at = first_of places (old.root.epoch + 1); disk = d }) world (record { work = w; stage = stage; frozen = world.live; free = free; since = no_changes })
+  unfolding begins_runs
+  begins_on = record {
+    runs = begins_runs;
+    point = record {
+      of = record { whole = of.whole; blocks = of.blocks; slot = of.slot; epoch = of.epoch; built = of.built; sound = of.sound; age = of.age };
+      within = within;
+      stands = stands;
+      epoch = refl;
+      ready = λ c crash. (has.around c crash).ready;
+      none_later = λ c crash. (has.around c crash).none_later;
+      cover = covers_alone world.live;
+      charged = of.charged;
+      changed = nothing_changed version_1 world.live;
+      tree = ready.ready.tree;
+    };
+  }
+
+pub point_begins : (h : Held) (world : World) (k : Kept) (r : RunsReady h world k) (w : Work) (free : ℕ) (stage : Stage) (d : Disk) → IsOfLive h world r.runs w (fresh free) → AreSectors (reads d)
+    → HasBegun h world r.runs d → IsWithin w stage → StandsAtStage w stage d
+    → RunsOn (record h { room = begun h.room; at = first_of h.at.blocks (r.runs.root.epoch + 1); disk = d }) world (record { work = w; stage = stage; frozen = world.live; free = free; since = no_changes })
+point_begins h world k ready w free stage d of whole has within stands = begins_on h world k ready w free stage d of whole has within stands
+
+-- ---- the last step
+
+module _ (h : Held) (world : World) (p : Progress) (ro : RunsOn h world p) (result : Result (Unit {0}) Fault) (d : Disk) (whole : AreSectors (reads d)) (is_last : p.stage ≡ Bodied) (step : StepsTo p.work p.stage result h.disk d) where
+  abbrev n : ℕ
+  n = h.at.blocks
+
+  abbrev w : Work
+  w = p.work
+
+  abbrev r : Runs h world
+  r = ro.runs
+
+  abbrev around : Contents → Type 0
+  around = LiesAround n r.slot r.words r.root.epoch h.at r.newer
+
+  stands_last : StandsAtStage w Bodied h.disk
+  stands_last = subst (λ (stage : Stage). StandsAtStage w stage h.disk) is_last ro.point.stands
+
+  step_last : StepsTo w Bodied result h.disk d
+  step_last = subst (λ (stage : Stage). StepsTo w stage result h.disk d) is_last step
+
+  either : LeavesEither result h.disk d (Shows w.blocks r.store r.slot r.root r.older r.newer) (ShowsNext w r.store r.root r.newer [])
+  either = opening_shows w ro.point.of.whole r.store r.slot r.root r.older r.newer r.newer [] result h.disk d r.stands.disk.whole (beside h world p ro) stands_last step_last
+
+  -- the next root, over a store that has its blocks
+  module _ (t : Store) (same : SameIn (all_reach r.store r.root) r.store t) (holds : HoldsAll t w.plan.blocks) where
+    next_limits : w.plan.next.limits ≡ version_1
+    next_limits = ro.point.of.built.limits ∙ r.limits
+
+    next_tree : image t w.plan.next.inode_file ≡ p.frozen
+    next_tree = ro.point.of.built.tree t same holds
+
+    next_cover : MakesCover version_1 (r.newer ++ []) (image t w.plan.next.inode_file) world.live
+    next_cover = subst (λ (cs : List Change). MakesCover version_1 cs (image t w.plan.next.inode_file) world.live) (sym (append-nil r.newer)) (subst (λ (from : Tree). MakesCover version_1 r.newer from world.live) (sym next_tree) ro.point.cover)
+
+    next_frozen : world.frozen ≡ frozen_of t w.plan.next.snapshots
+    next_frozen = r.frozen ∙ frozen_stay r.store t r.root same ∙ ap (frozen_of t) (sym ro.point.of.built.snapshots)
+
+    next_charged : IsCharged (done p.free h.room) n t w.plan.next (r.newer ++ []) world.live
+    next_charged = subst (λ (cs : List Change). IsCharged (done p.free h.room) n t w.plan.next cs world.live) (sym (append-nil r.newer)) (ro.point.charged t same holds)
+
+    next_stands : StandsFor t w.plan.next (r.newer ++ []) (settle world)
+    next_stands = stands_of t w.plan.next (r.newer ++ []) world next_limits next_cover next_frozen
+
+    next_fits : Fits w.plan.next.limits (r.newer ++ []) (image t w.plan.next.inode_file) (free_blocks n t w.plan.next)
+    next_fits =
+        subst (λ (l : Limits). Fits l (r.newer ++ []) (image t w.plan.next.inode_file) (free_blocks n t w.plan.next)) (sym next_limits)
+        (subst (Fits version_1 (r.newer ++ []) (image t w.plan.next.inode_file)) next_charged.free next_charged.fits)
+
+  none_after : (c : Contents) → around c → (epoch : ℕ) → HasNoLater c (base_of n epoch) (w.plan.next.epoch + 1)
+  none_after c here = none_behind h world p ro (w.plan.next.epoch + 1) (let e = ro.point.of.epoch in omega (arith, e)) c here
+
+  next_shows : (c : Contents) → ShowsNext w r.store r.root r.newer [] c → Shows n (store_of c) w.slot w.plan.next r.newer [] c
+  next_shows c next = record { shown = subst (λ (m : ℕ). Shown m c w.slot w.plan.next (payloads_of r.newer) (payloads_of [])) ro.point.of.blocks next.shown; same = λ block among. refl }
+
+  next_image : (c : Contents) → around c → ShowsNext w r.store r.root r.newer [] c → IsImage c (settle world)
+  next_image c here next =
+      image_shown n (store_of c) w.slot w.plan.next w.plan.words r.newer [] (settle world) r.newer_spelled tt (ro.point.of.sound (store_of c) next.same next.blocks)
+      (next_stands (store_of c) next.same next.blocks) (next_fits (store_of c) next.same next.blocks) (λ recovers. ro.point.of.age)
+      c here.disk here.formatted (subst (λ (m : ℕ). HasMap m c w.slot w.plan.words) ro.point.of.blocks next.map) (none_after c here) (next_shows c next)
+
+  last_leaves : LeavesOnly h.disk d (λ c. IsImage c (settle world))
+  last_leaves = record {
+    follows = either.any_moment.follows;
+    each = λ c since.
+        let here = (around_stays h world p ro result d whole step).each c since in
+        ⊎_elim
+        (λ shows. old_image h world p ro c here (subst (λ (m : ℕ). Shows m r.store r.slot r.root r.older r.newer c) ro.point.of.blocks shows))
+        (λ next. next_image c here next)
+        (either.any_moment.each c since);
+  }
+
+  module _ (stands : StandsAtStage w Done d) (next : Always d (ShowsNext w r.store r.root r.newer [])) where
+    abbrev t : Store
+    t = store_of (reads d)
+
+    now : ShowsNext w r.store r.root r.newer [] (reads d)
+    now = Always-reads d (ShowsNext w r.store r.root r.newer []) whole next
+
+    abbrev behind : Held
+    behind = record h { room = done p.free h.room; disk = d }
+
+    last_runs : Runs behind world
+    last_runs =
+        let shown = done_points_stand w r.store r.root p.frozen r.newer d whole (subst (λ (m : ℕ). IsBuilt m r.store r.root p.frozen w.plan) (sym ro.point.of.blocks) ro.point.of.built) stands next in
+        let here = around_then h world p ro result d whole step in
+        record {
+          is = r.is;
+          store = t;
+          slot = w.slot;
+          root = w.plan.next;
+          words = w.plan.words;
+          older = r.newer;
+          newer = [];
+          older_spelled = r.newer_spelled;
+          newer_spelled = tt;
+          limits = next_limits t now.same now.blocks;
+          formatted = λ c crash. (here c crash).formatted;
+          stands = record {
+            disk = Always-reads d (IsDisk n) whole (λ c crash. (here c crash).disk);
+            shows = subst (λ (m : ℕ). Always d (Shows m t w.slot w.plan.next r.newer [])) ro.point.of.blocks shown.shows;
+            map = λ c crash. subst (λ (m : ℕ). HasMap m c w.slot w.plan.words) ro.point.of.blocks (next c crash).map;
+            sound = ro.point.of.sound t now.same now.blocks;
+          };
+          none_later = λ epoch c crash. none_after c (here c crash) epoch;
+          log = inl (refl, ro.point.epoch ∙ sym ro.point.of.epoch, λ c crash. (here c crash).ready);
+          cover = next_cover t now.same now.blocks;
+          charged = next_charged t now.same now.blocks;
+          age = λ recovers. ro.point.of.age;
+          frozen = next_frozen t now.same now.blocks;
+        }
+
+    last_ready : RunsReady behind world (kept_behind p)
+    unfolding last_runs
+    last_ready =
+        let here = around_then h world p ro result d whole step in
+        record {
+          runs = last_runs;
+          ready = record {
+            between = record { none_newer = refl; epoch = ro.point.epoch ∙ sym ro.point.of.epoch; ready = λ c crash. (here c crash).ready; synced = stands.reached.1 };
+            slot = refl;
+            root = refl;
+            words = refl;
+            changed = subst (λ (from : Tree). HasChanged version_1 p.since from world.live h.room.charged_since) (sym (next_tree t now.same now.blocks)) ro.point.changed;
+            tree = ro.point.tree;
+          };
+        }
+
+  last_ends : OnOk result (RunsReady (record h { room = done p.free h.room; disk = d }) world (kept_behind p))
+  last_ends = OnOk-both result last_ready step_last.next either.done
+
+pub point_ends : (h : Held) (world : World) (p : Progress) (result : Result (Unit {0}) Fault) (d : Disk) → RunsOn h world p → AreSectors (reads d) → p.stage ≡ Bodied → StepsTo p.work p.stage result h.disk d
+    → LeavesOnly h.disk d (λ c. IsImage c (settle world)) × OnOk result (RunsReady (record h { room = done p.free h.room; disk = d }) world (kept_behind p))
+point_ends h world p result d ro whole is_last step = (last_leaves h world p ro result d whole is_last step, last_ends h world p ro result d whole is_last step)

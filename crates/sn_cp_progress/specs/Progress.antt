@@ -1,0 +1,67 @@
+-- What a mounted file system holds between two steps of a consistency point.
+use Rattle.std.specs.Prelude.{◌≡◌, ℕ, ◌+◌, slice_index}
+use Rattle.sn_changed.specs.Changed.{HasChanged}
+use Rattle.sn_device.specs.Disk.{Always}
+use Rattle.sn_layout.specs.Places.{other_slot}
+use Rattle.sn_layout.specs.declared.places.Slot.{Slot}
+use Rattle.sn_layout.specs.declared.root.RootBody.{RootBody}
+use Rattle.sn_limits.specs.Versions.{version_1}
+use Rattle.sn_log.specs.Places.{IsReadyAt}
+use Rattle.sn_model.specs.NameTree.{IsTree}
+use Rattle.sn_model.specs.Tree.{Tree}
+use Rattle.sn_model.specs.World.{World}
+use Rattle.sn_ondisk.specs.LogHalf.{HasNoLater, base_of}
+use Rattle.sn_ondisk.specs.TreeLaws.{SameIn}
+use Rattle.sn_ondisk.specs.Trees.{Store}
+use Rattle.sn_opening.specs.Covering.{MakesCover}
+use Rattle.sn_opening.specs.Points.{HoldsAll, IsBuilt}
+use Rattle.sn_opening.specs.Worlds.{all_reach}
+use Rattle.sn_overlay.specs.Layers.{Layer}
+use Rattle.sn_room.specs.Rooms.{done}
+use Rattle.sn_sound.specs.Logs.{HasAgeLeft}
+use Rattle.sn_sound.specs.Maps.{IsSoundRoot}
+use Rattle.sn_held.specs.Held.{Held, Kept, Runs}
+use Rattle.sn_held.specs.Room.{IsCharged}
+use Rattle.sn_cp.specs.Points.{Work}
+use Rattle.sn_cp.specs.Steps.{IsWhole, IsWithin, StandsAtStage}
+use Rattle.sn_cp.specs.declared.stage.Stage.{Stage}
+
+-- A point was built of this tree over this root, for the slot that doesn't count: wherever its blocks stand beside what the root reaches, its root is sound with its snapshots and its map. It has an age left.
+pub record IsOfFrozen (n : ℕ) (s : Store) (counts : Slot) (root : RootBody) (frozen : Tree) (w : Work) : Type 0 where
+  pub whole : IsWhole w
+  pub blocks : w.blocks ≡ n
+  pub slot : other_slot counts ≡ w.slot
+  pub epoch : w.plan.next.epoch ≡ root.epoch + 1
+  pub built : IsBuilt n s root frozen w.plan
+  pub sound : (t : Store) → SameIn (all_reach s root) s t → HoldsAll t w.plan.blocks → IsSoundRoot n t w.plan.next (slice_index w.plan.words)
+  pub age : HasAgeLeft w.plan.next
+
+-- A point in progress: what it writes, how far it is, the tree that was frozen when it began, the blocks that its root leaves free, and what changed since.
+pub record Progress : Type 0 where
+  pub work : Work
+  pub stage : Stage
+  pub frozen : Tree
+  pub free : ℕ
+  pub since : Layer
+
+-- The point is in progress in a mount that runs. What is logged is logged under the next epoch, from its first record on: those changes make of the frozen tree one that covers the live one, and what they were charged, with a charge for each file without names, is no more than the next root leaves free. The live tree is seen through what changed since over the frozen one.
+pub record InProgress (h : Held) (world : World) (r : Runs h world) (p : Progress) : Type 0 where
+  pub of : IsOfFrozen h.at.blocks r.store r.slot r.root p.frozen p.work
+  pub within : IsWithin p.work p.stage
+  pub stands : StandsAtStage p.work p.stage h.disk
+  pub epoch : h.at.epoch ≡ r.root.epoch + 1
+  pub ready : Always h.disk (IsReadyAt h.at r.newer)
+  pub none_later : Always h.disk (λ c. HasNoLater c (base_of h.at.blocks r.root.epoch) r.root.epoch)
+  pub cover : MakesCover version_1 r.newer p.frozen world.live
+  pub charged : (t : Store) → SameIn (all_reach r.store r.root) r.store t → HoldsAll t p.work.plan.blocks → IsCharged (done p.free h.room) h.at.blocks t p.work.plan.next r.newer world.live
+  pub changed : HasChanged version_1 p.since p.frozen world.live h.room.charged_since
+  pub tree : IsTree version_1 world.live
+
+-- A mount runs over this world, with a point in progress.
+pub record RunsOn (h : Held) (world : World) (p : Progress) : Type 0 where
+  pub runs : Runs h world
+  pub point : InProgress h world runs p
+
+-- what is kept once the point is done: its root counts, and what changed since it was frozen is on top of it
+abbrev pub kept_behind : Progress → Kept
+kept_behind p = record { slot = p.work.slot; root = p.work.plan.next; words = p.work.plan.words; changed = p.since }

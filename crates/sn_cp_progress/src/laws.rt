@@ -1,0 +1,13 @@
+//! The laws that the definitions of `specs/` keep.
+ghost use Rattle.sn_cp_progress.specs.Laws.{AppendsGoOn, AppendsLeaveEither, DropsGoOn, PointsBegin, PointsEnd, StepsGoOn};
+
+/// From its beginning to its last step a point leaves the world as it is, and what is logged between two steps stands on top
+/// of the root that counts, whichever it is.
+pub fn progress_laws()
+    ensures begins { PointsBegin }
+    ensures steps { StepsGoOn }
+    ensures ends { PointsEnd }
+    ensures either { AppendsLeaveEither }
+    ensures appends { AppendsGoOn }
+    ensures drops { DropsGoOn }
+{}

@@ -1,0 +1,25 @@
+//! Consistency points in progress, with calls between any two of their steps. Definitions and laws, and no code that runs.
+//!
+//! The model. `sn_held` says what a mounted file system holds (`Runs`), `sn_cp` what the steps of a point leave of a disk, and
+//! `sn_cp_held` what a whole point leaves of the world. Here stands what holds between two steps (`RunsOn`): the root that
+//! counts is the old one still, with its records, and behind them those of the next epoch, which were logged since the point
+//! began. The point was built of the tree that was frozen then. Each record since is so at once one on top of the old root
+//! and its records, and one on top of the next root alone: that is why its last step, which makes the next root the one that
+//! counts, changes nothing of the world.
+//!
+//! The laws, each of them one clause of [`progress_laws`]:
+//! - `begins`: from a mount that is ready for a point to one with a point in progress.
+//! - `steps`, `ends`: a crash at any moment of a step leaves an image of the settled world; behind the last one the mount is
+//!   ready for another point, over the next root, with what was logged since.
+//! - `either`, `appends`: a call that is logged between two steps leaves to a crash the world before it or the one after it,
+//!   and the point where it was. It has to fit on both roots.
+//! - `drops`: so does a call that logs nothing.
+//!
+//! The way through: `specs/Progress.antt` says what is held, `Laws.antt` what becomes of it.
+//!
+//! What the sources leave open is decided in `docs/DECISIONS.md`, under "Steps of a consistency point".
+#![tactic(auto)]
+
+mod laws;
+
+pub use laws::progress_laws;
