@@ -13,7 +13,8 @@ INLINE = 64
 
 
 class Tree:
-    """What an image holds: inodes by number, each with its kind, its mode, its links and its bytes or names."""
+    """What an image holds: inodes by number, each with its kind, its mode, its links and its bytes or names, and the bytes of its ACL
+    block, where it has one."""
 
     def __init__(self):
         self.nodes = {2: [2, 0o755, 1, []]}
@@ -76,22 +77,27 @@ def directory_bytes(names):
 
 def record_of(image, node):
     """The 128 bytes of an inode, whose content is put into the image."""
-    kind, mode, links, held = node
+    kind, mode, links, held, *acls = node
     data = directory_bytes(held) if kind == 2 else held
     inline = kind == 1 and len(data) <= INLINE
     content = data.ljust(INLINE, b"\0") if inline else image.pointers(data)
-    head = struct.pack("<BBHH2xIIQI", kind, 0, mode, links, 0, 0, len(data), 0)
+    head = struct.pack("<BBHH2xIIQI", kind, 0, mode, links, 0, 0, len(data), image.take(acls[0]) if acls else 0)
     return head.ljust(64, b"\0") + content
+
+
+def inode_file(image, tree):
+    """The root of the inode file of a tree, whose blocks are put into the image."""
+    inodes = bytearray(128 * (max(tree.nodes) + 1))
+    for number, node in tree.nodes.items():
+        inodes[128 * number : 128 * (number + 1)] = record_of(image, node)
+    inodes = bytes(inodes).ljust((len(inodes) + BLOCK - 1) // BLOCK * BLOCK, b"\0")
+    return struct.pack("<Q", len(inodes)) + image.pointers(inodes)
 
 
 def image_of(tree, blocks):
     """An image of so many blocks that holds a tree, with an empty log."""
     image = Image(blocks)
-    inodes = bytearray(128 * (max(tree.nodes) + 1))
-    for number, node in tree.nodes.items():
-        inodes[128 * number : 128 * (number + 1)] = record_of(image, node)
-    inodes = bytes(inodes).ljust((len(inodes) + BLOCK - 1) // BLOCK * BLOCK, b"\0")
-    root = struct.pack("<Q", len(inodes)) + image.pointers(inodes)
+    root = inode_file(image, tree)
     image.put(0, b"SNAPFSYS" + struct.pack("<I", blocks))
     image.put(1, (struct.pack("<I4xQQI4x", 1, 1, 1, 0) + root))
     image.put(3, b"\1")

@@ -5,7 +5,7 @@ use Rattle.sn_changed.specs.Changed.{HasChanged}
 use Rattle.sn_changed.proofs.ChangedLemmas.{nothing_changed}
 use Rattle.sn_device.specs.Sectors.{AreSectors, Contents}
 use Rattle.sn_device.specs.Disk.{Always, Disk, reads}
-use Rattle.sn_device.specs.Crash.{LeavesOnly}
+use Rattle.sn_device.specs.Crash.{LeavesOnly, Touches}
 use Rattle.sn_device.specs.declared.device.Fault.{Fault}
 use Rattle.sn_device.proofs.CrashLemmas.{Always-reads}
 use Rattle.sn_block.proofs.EffectLemmas.{OnOk-both}
@@ -40,7 +40,7 @@ use Rattle.sn_held.specs.Room.{IsCharged}
 use Rattle.sn_held.proofs.EventLemmas.{stands_of}
 use Rattle.sn_held.proofs.HeldLemmas.{each_half, image_shown, ready_no_later}
 use Rattle.sn_cp.specs.Points.{Work}
-use Rattle.sn_cp.specs.Showing.{ShowsNext}
+use Rattle.sn_cp.specs.Showing.{Finishes, InPoint, ShowsNext}
 use Rattle.sn_cp.specs.Steps.{IsWithin, StandsAtStage, StepsTo}
 use Rattle.sn_cp.specs.declared.stage.Stage.{Stage}
 use Rattle.sn_cp.specs.declared.stage.Stage.TheVariants.{Bodied, Done}
@@ -49,7 +49,7 @@ use Rattle.sn_cp.proofs.ShowLemmas.{opening_shows}
 use Rattle.sn_cp_held.specs.Wholes.{HasBegun, IsOfLive, StandsAround}
 use Rattle.sn_cp_held.proofs.WholeLemmas.{later_weaker}
 use Rattle.sn_cp_progress.specs.Progress.{IsOfFrozen, Progress, RunsOn, kept_behind}
-use Rattle.sn_cp_progress.proofs.StepLemmas.{LiesAround, around_stays, around_then, beside, none_behind, old_image}
+use Rattle.sn_cp_progress.proofs.StepLemmas.{LiesAround, around_stays, around_then, beside, in_point, none_behind, old_image}
 
 -- ---- the beginning
 
@@ -134,9 +134,10 @@ pub point_begins : (h : Held) (world : World) (k : Kept) (r : RunsReady h world 
     → RunsOn (record h { room = begun h.room; at = first_of h.at.blocks (r.runs.root.epoch + 1); disk = d }) world (record { work = w; stage = stage; frozen = world.live; free = free; since = no_changes })
 point_begins h world k ready w free stage d of whole has within stands = begins_on h world k ready w free stage d of whole has within stands
 
--- ---- the last step
+-- ---- the steps that end with the last one
 
-module _ (h : Held) (world : World) (p : Progress) (ro : RunsOn h world p) (result : Result (Unit {0}) Fault) (d : Disk) (whole : AreSectors (reads d)) (is_last : p.stage ≡ Bodied) (step : StepsTo p.work p.stage result h.disk d) where
+module _ (h : Held) (world : World) (p : Progress) (ro : RunsOn h world p) (result : Result (Unit {0}) Fault) (d : Disk) (whole : AreSectors (reads d)) (touched : Touches (InPoint p.work) h.disk d) (reached : OnOk result (StandsAtStage p.work Done d))
+    (either : LeavesEither result h.disk d (Shows p.work.blocks ro.runs.store ro.runs.slot ro.runs.root ro.runs.older ro.runs.newer) (ShowsNext p.work ro.runs.store ro.runs.root ro.runs.newer [])) where
   abbrev n : ℕ
   n = h.at.blocks
 
@@ -148,15 +149,6 @@ module _ (h : Held) (world : World) (p : Progress) (ro : RunsOn h world p) (resu
 
   abbrev around : Contents → Type 0
   around = LiesAround n r.slot r.words r.root.epoch h.at r.newer
-
-  stands_last : StandsAtStage w Bodied h.disk
-  stands_last = subst (λ (stage : Stage). StandsAtStage w stage h.disk) is_last ro.point.stands
-
-  step_last : StepsTo w Bodied result h.disk d
-  step_last = subst (λ (stage : Stage). StepsTo w stage result h.disk d) is_last step
-
-  either : LeavesEither result h.disk d (Shows w.blocks r.store r.slot r.root r.older r.newer) (ShowsNext w r.store r.root r.newer [])
-  either = opening_shows w ro.point.of.whole r.store r.slot r.root r.older r.newer r.newer [] result h.disk d r.stands.disk.whole (beside h world p ro) stands_last step_last
 
   -- the next root, over a store that has its blocks
   module _ (t : Store) (same : SameIn (all_reach r.store r.root) r.store t) (holds : HoldsAll t w.plan.blocks) where
@@ -199,7 +191,7 @@ module _ (h : Held) (world : World) (p : Progress) (ro : RunsOn h world p) (resu
   last_leaves = record {
     follows = either.any_moment.follows;
     each = λ c since.
-        let here = (around_stays h world p ro result d whole step).each c since in
+        let here = (around_stays h world p ro d touched).each c since in
         ⊎_elim
         (λ shows. old_image h world p ro c here (subst (λ (m : ℕ). Shows m r.store r.slot r.root r.older r.newer c) ro.point.of.blocks shows))
         (λ next. next_image c here next)
@@ -219,7 +211,7 @@ module _ (h : Held) (world : World) (p : Progress) (ro : RunsOn h world p) (resu
     last_runs : Runs behind world
     last_runs =
         let shown = done_points_stand w r.store r.root p.frozen r.newer d whole (subst (λ (m : ℕ). IsBuilt m r.store r.root p.frozen w.plan) (sym ro.point.of.blocks) ro.point.of.built) stands next in
-        let here = around_then h world p ro result d whole step in
+        let here = around_then h world p ro d touched in
         record {
           is = r.is;
           store = t;
@@ -249,7 +241,7 @@ module _ (h : Held) (world : World) (p : Progress) (ro : RunsOn h world p) (resu
     last_ready : RunsReady behind world (kept_behind p)
     unfolding last_runs
     last_ready =
-        let here = around_then h world p ro result d whole step in
+        let here = around_then h world p ro d touched in
         record {
           runs = last_runs;
           ready = record {
@@ -263,8 +255,20 @@ module _ (h : Held) (world : World) (p : Progress) (ro : RunsOn h world p) (resu
         }
 
   last_ends : OnOk result (RunsReady (record h { room = done p.free h.room; disk = d }) world (kept_behind p))
-  last_ends = OnOk-both result last_ready step_last.next either.done
+  last_ends = OnOk-both result last_ready reached either.done
 
-pub point_ends : (h : Held) (world : World) (p : Progress) (result : Result (Unit {0}) Fault) (d : Disk) → RunsOn h world p → AreSectors (reads d) → p.stage ≡ Bodied → StepsTo p.work p.stage result h.disk d
-    → LeavesOnly h.disk d (λ c. IsImage c (settle world)) × OnOk result (RunsReady (record h { room = done p.free h.room; disk = d }) world (kept_behind p))
-point_ends h world p result d ro whole is_last step = (last_leaves h world p ro result d whole is_last step, last_ends h world p ro result d whole is_last step)
+module _ (h : Held) (world : World) (p : Progress) (result : Result (Unit {0}) Fault) (d : Disk) (ro : RunsOn h world p) (whole : AreSectors (reads d)) where
+  pub point_ends : p.stage ≡ Bodied → StepsTo p.work p.stage result h.disk d → LeavesOnly h.disk d (λ c. IsImage c (settle world)) × OnOk result (RunsReady (record h { room = done p.free h.room; disk = d }) world (kept_behind p))
+  point_ends is_last step =
+      let old = ro.runs in
+      let stands = subst (λ (stage : Stage). StandsAtStage p.work stage h.disk) is_last ro.point.stands in
+      let last = subst (λ (stage : Stage). StepsTo p.work stage result h.disk d) is_last step in
+      let touched = in_point h world p ro result d whole step in
+      let either = opening_shows p.work ro.point.of.whole old.store old.slot old.root old.older old.newer old.newer [] result h.disk d old.stands.disk.whole (beside h world p ro) stands last in
+      (last_leaves h world p ro result d whole touched last.next either, last_ends h world p ro result d whole touched last.next either)
+
+  pub point_finishes : Finishes p.work result h.disk d → LeavesOnly h.disk d (λ c. IsImage c (settle world)) × OnOk result (RunsReady (record h { room = done p.free h.room; disk = d }) world (kept_behind p))
+  point_finishes all =
+      let old = ro.runs in
+      let either = all.shown old.store old.slot old.root old.older old.newer old.newer [] (beside h world p ro) in
+      (last_leaves h world p ro result d whole all.touched all.done either, last_ends h world p ro result d whole all.touched all.done either)

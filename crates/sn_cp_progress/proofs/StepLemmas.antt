@@ -5,7 +5,7 @@ use Rattle.sn_device.specs.Sectors.{AreDisjoint, AreSectors, Contents, DependsOn
 use Rattle.sn_device.specs.Disk.{Always, Disk, reads}
 use Rattle.sn_device.specs.Crash.{LeavesOnly, Touches}
 use Rattle.sn_device.specs.declared.device.Fault.{Fault}
-use Rattle.sn_device.proofs.CrashLemmas.{Always-reads, LeavesOnly-now, LeavesOnly-touched}
+use Rattle.sn_device.proofs.CrashLemmas.{Always-reads, LeavesOnly-now, LeavesOnly-touched, Touches-within}
 use Rattle.sn_block.proofs.EffectLemmas.{OnOk-then}
 use Rattle.sn_layout.specs.declared.gate.Gate.{Gate}
 use Rattle.sn_layout.specs.declared.gate.Gate.TheVariants.{Open, Closed}
@@ -32,7 +32,7 @@ use Rattle.sn_held.specs.Images.{IsImage}
 use Rattle.sn_held.proofs.EventLemmas.{disk_always, fits_now, stands_for}
 use Rattle.sn_held.proofs.HeldLemmas.{each_half, image_shown, ready_no_later}
 use Rattle.sn_cp.specs.Points.{Work}
-use Rattle.sn_cp.specs.Showing.{InAround, IsBeforeOpening, ShowsBeside}
+use Rattle.sn_cp.specs.Showing.{InAround, InPoint, IsBeforeOpening, ShowsBeside}
 use Rattle.sn_cp.specs.Steps.{InStep, IsWhole, IsWithin, StandsAtStage, StepsTo, next_stage, with_map}
 use Rattle.sn_cp.specs.declared.stage.Stage.{Stage}
 use Rattle.sn_cp.specs.declared.stage.Stage.TheVariants.{Blocks, MapBlocks, Stored, Shut, Bodied, Done}
@@ -140,25 +140,35 @@ module _ (h : Held) (world : World) (p : Progress) (ro : RunsOn h world p) where
       (subst (λ (m : ℕ). Always h.disk (Shows m r.store r.slot r.root r.older r.newer)) (sym q.of.blocks) r.stands.shows)
       (subst (λ (m : ℕ). Always h.disk (λ c. HasNoLater c (base_of m r.root.epoch) r.root.epoch)) (sym q.of.blocks) q.none_later)
 
-  module _ (result : Result (Unit {0}) Fault) (d : Disk) (whole : AreSectors (reads d)) (step : StepsTo w p.stage result h.disk d) where
+  -- where nothing was written but by steps of the point
+  module _ (d : Disk) (touched : Touches (InPoint w) h.disk d) where
     pub around_stays : LeavesOnly h.disk d (LiesAround n r.slot r.words r.root.epoch h.at r.newer)
     around_stays =
-        LeavesOnly-touched (InStep w p.stage) (InAround n r.slot r.root.epoch) (LiesAround n r.slot r.words r.root.epoch h.at r.newer) (around_depends n r.slot r.words r.root.epoch h.at r.newer refl q.epoch)
-        (λ i is around. subst (λ (m : ℕ). AreDisjoint (InStep w p.stage) (InAround m r.slot r.root.epoch)) q.of.blocks
-        (λ j it other. stays_apart w q.of.whole r.slot q.of.slot r.root.epoch j (record { stage = p.stage; within = q.within; of_step = it }) other) i is around)
-        h.disk d r.stands.disk.whole around_now step.touched
+        LeavesOnly-touched (InPoint w) (InAround n r.slot r.root.epoch) (LiesAround n r.slot r.words r.root.epoch h.at r.newer) (around_depends n r.slot r.words r.root.epoch h.at r.newer refl q.epoch)
+        (λ i is around. subst (λ (m : ℕ). AreDisjoint (InPoint w) (InAround m r.slot r.root.epoch)) q.of.blocks (stays_apart w q.of.whole r.slot q.of.slot r.root.epoch) i is around)
+        h.disk d r.stands.disk.whole around_now touched
 
     pub around_then : Always d (LiesAround n r.slot r.words r.root.epoch h.at r.newer)
     around_then = LeavesOnly-now h.disk d (LiesAround n r.slot r.words r.root.epoch h.at r.newer) around_stays
 
+  module _ (result : Result (Unit {0}) Fault) (d : Disk) (whole : AreSectors (reads d)) (step : StepsTo w p.stage result h.disk d) where
+    pub in_point : Touches (InPoint w) h.disk d
+    in_point = Touches-within (InStep w p.stage) (InPoint w) h.disk d (λ i is. record { stage = p.stage; within = q.within; of_step = is }) step.touched
+
     module _ (before : IsBeforeOpening p.stage) where
+      stays : LeavesOnly h.disk d (LiesAround n r.slot r.words r.root.epoch h.at r.newer)
+      stays = around_stays d in_point
+
+      around_behind : Always d (LiesAround n r.slot r.words r.root.epoch h.at r.newer)
+      around_behind = around_then d in_point
+
       keeps : LeavesOnly h.disk d (Shows w.blocks r.store r.slot r.root r.older r.newer) × ShowsBeside w r.store r.slot r.root r.older r.newer r.newer [] d
       keeps = steps_keep w q.of.whole r.store r.slot r.root r.older r.newer r.newer [] result h.disk d r.stands.disk.whole beside p.stage q.within before step
 
       pub step_leaves : LeavesOnly h.disk d (λ c. IsImage c (settle world))
       step_leaves = record {
         follows = keeps.0.follows;
-        each = λ c since. old_image c (around_stays.each c since) (subst (λ (m : ℕ). Shows m r.store r.slot r.root r.older r.newer c) q.of.blocks (keeps.0.each c since));
+        each = λ c since. old_image c (stays.each c since) (subst (λ (m : ℕ). Shows m r.store r.slot r.root r.older r.newer c) q.of.blocks (keeps.0.each c since));
       }
 
       then_runs : Runs (record h { disk = d }) world
@@ -173,15 +183,15 @@ module _ (h : Held) (world : World) (p : Progress) (ro : RunsOn h world p) where
         older_spelled = r.older_spelled;
         newer_spelled = r.newer_spelled;
         limits = r.limits;
-        formatted = λ c crash. (around_then c crash).formatted;
+        formatted = λ c crash. (around_behind c crash).formatted;
         stands = record {
-          disk = Always-reads d (IsDisk n) whole (λ c crash. (around_then c crash).disk);
+          disk = Always-reads d (IsDisk n) whole (λ c crash. (around_behind c crash).disk);
           shows = subst (λ (m : ℕ). Always d (Shows m r.store r.slot r.root r.older r.newer)) q.of.blocks (LeavesOnly-now h.disk d (Shows w.blocks r.store r.slot r.root r.older r.newer) keeps.0);
-          map = λ c crash. (around_then c crash).map;
+          map = λ c crash. (around_behind c crash).map;
           sound = r.stands.sound;
         };
-        none_later = λ epoch c crash. none_behind (r.root.epoch + 1) (omega arith) c (around_then c crash) epoch;
-        log = inr (q.epoch, λ c crash. (around_then c crash).ready);
+        none_later = λ epoch c crash. none_behind (r.root.epoch + 1) (omega arith) c (around_behind c crash) epoch;
+        log = inr (q.epoch, λ c crash. (around_behind c crash).ready);
         cover = r.cover;
         charged = r.charged;
         age = r.age;
@@ -197,8 +207,8 @@ module _ (h : Held) (world : World) (p : Progress) (ro : RunsOn h world p) where
           within = next_within w p.stage q.of.whole q.within before;
           stands = stands;
           epoch = q.epoch;
-          ready = λ c crash. (around_then c crash).ready;
-          none_later = λ c crash. (around_then c crash).none_later;
+          ready = λ c crash. (around_behind c crash).ready;
+          none_later = λ c crash. (around_behind c crash).none_later;
           cover = q.cover;
           charged = q.charged;
           changed = q.changed;

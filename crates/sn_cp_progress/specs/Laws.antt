@@ -26,7 +26,7 @@ use Rattle.sn_held.specs.Held.{Held, Kept, RunsReady}
 use Rattle.sn_held.specs.Images.{IsImage}
 use Rattle.sn_held.specs.Room.{HasRoomFor}
 use Rattle.sn_cp.specs.Points.{Work}
-use Rattle.sn_cp.specs.Showing.{IsBeforeOpening}
+use Rattle.sn_cp.specs.Showing.{Finishes, IsBeforeOpening}
 use Rattle.sn_cp.specs.Steps.{IsWithin, StandsAtStage, StepsTo, next_stage}
 use Rattle.sn_cp.specs.declared.stage.Stage.{Stage}
 use Rattle.sn_cp.specs.declared.stage.Stage.TheVariants.{Bodied}
@@ -47,6 +47,11 @@ StepsGoOn = (h : Held) (world : World) (p : Progress) (result : Result (Unit {0}
 -- The last step: a crash at any moment leaves an image of the settled world. At `Ok` the next root counts with all that was logged since on top of it, and the mount is ready for another point.
 abbrev pub PointsEnd : Type 0
 PointsEnd = (h : Held) (world : World) (p : Progress) (result : Result (Unit {0}) Fault) (d : Disk) → RunsOn h world p → AreSectors (reads d) → p.stage ≡ Bodied → StepsTo p.work p.stage result h.disk d
+    → LeavesOnly h.disk d (λ c. IsImage c (settle world)) × OnOk result (RunsReady (record h { room = done p.free h.room; disk = d }) world (kept_behind p))
+
+-- The steps that are left, all in a row: whatever the answer, a crash at any moment leaves an image of the settled world, and at `Ok` the mount is ready for another point.
+abbrev pub PointsFinish : Type 0
+PointsFinish = (h : Held) (world : World) (p : Progress) (result : Result (Unit {0}) Fault) (d : Disk) → RunsOn h world p → AreSectors (reads d) → Finishes p.work result h.disk d
     → LeavesOnly h.disk d (λ c. IsImage c (settle world)) × OnOk result (RunsReady (record h { room = done p.free h.room; disk = d }) world (kept_behind p))
 
 -- A change of the live tree that has room on both roots is appended between two steps: a crash in its course leaves an image of the settled world from before it, or of the one after it.

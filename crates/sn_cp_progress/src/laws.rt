@@ -1,5 +1,5 @@
 //! The laws that the definitions of `specs/` keep.
-ghost use Rattle.sn_cp_progress.specs.Laws.{AppendsGoOn, AppendsLeaveEither, DropsGoOn, PointsBegin, PointsEnd, StepsGoOn};
+ghost use Rattle.sn_cp_progress.specs.Laws.{AppendsGoOn, AppendsLeaveEither, DropsGoOn, PointsBegin, PointsEnd, PointsFinish, StepsGoOn};
 
 /// From its beginning to its last step a point leaves the world as it is, and what is logged between two steps stands on top
 /// of the root that counts, whichever it is.
@@ -7,6 +7,7 @@ pub fn progress_laws()
     ensures begins { PointsBegin }
     ensures steps { StepsGoOn }
     ensures ends { PointsEnd }
+    ensures finishes { PointsFinish }
     ensures either { AppendsLeaveEither }
     ensures appends { AppendsGoOn }
     ensures drops { DropsGoOn }

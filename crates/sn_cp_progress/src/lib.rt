@@ -10,7 +10,8 @@
 //! The laws, each of them one clause of [`progress_laws`]:
 //! - `begins`: from a mount that is ready for a point to one with a point in progress.
 //! - `steps`, `ends`: a crash at any moment of a step leaves an image of the settled world; behind the last one the mount is
-//!   ready for another point, over the next root, with what was logged since.
+//!   ready for another point, over the next root, with what was logged since. So do all that are left, made in a row
+//!   (`finishes`).
 //! - `either`, `appends`: a call that is logged between two steps leaves to a crash the world before it or the one after it,
 //!   and the point where it was. It has to fit on both roots.
 //! - `drops`: so does a call that logs nothing.

@@ -1,2 +1,3 @@
+mod GoingLemmas
 mod PointLemmas
 pub mod RecoverLemmas

@@ -21,7 +21,7 @@ use Rattle.sn_layout.specs.declared.places.Area.TheVariants.{Data}
 use Rattle.sn_layout.specs.declared.places.Slot.{Slot}
 use Rattle.sn_layout.specs.declared.root.RootBody.{RootBody}
 use Rattle.sn_layout.specs.Gate.{gate_of}
-use Rattle.sn_layout.specs.Places.{IsDiskSize, gate_sector, map_blocks, start_of}
+use Rattle.sn_layout.specs.Places.{IsDiskSize, gate_sector, map_blocks, other_slot, start_of}
 use Rattle.sn_layout.specs.RootBody.{IsRootBody}
 use Rattle.sn_limits.specs.declared.limits.Limits.{Limits}
 use Rattle.sn_log.specs.Clearing.{CountsClearing}
@@ -33,13 +33,15 @@ use Rattle.sn_ondisk.specs.Trees.{Store, store_of}
 use Rattle.sn_opening.specs.Points.{Written}
 use Rattle.sn_overlay.specs.Layers.{Layer}
 use Rattle.sn_overlay.specs.Needs.{need}
-use Rattle.sn_room.specs.Rooms.{RoomCounts, begun, done, fresh}
+use Rattle.sn_overlay.specs.Overlays.{layer_of, no_changes}
+use Rattle.sn_room.specs.Rooms.{RoomCounts, begun as begun_room, done, fresh}
 use Rattle.sn_root.specs.declared.following.PointKind.TheVariants.{Ordinary}
 use Rattle.sn_root.specs.Replacing.{closing_writes}
 use Rattle.sn_root.specs.Slots.{gate_in}
 use Rattle.sn_root.proofs.ReplacingLemmas.{log_and_gate}
 use Rattle.sn_held.specs.Held.{Held, Kept, RunsReady}
 use Rattle.sn_held.specs.Images.{IsImage}
+use Rattle.sn_sound.specs.Logs.{HasAgeLeft}
 use Rattle.sn_held.proofs.EventLemmas.{runs_show}
 use Rattle.sn_tree.specs.declared.fault.PlanFault.{PlanFault}
 use Rattle.sn_tree.specs.declared.fault.PlanFault.TheVariants as plan
@@ -47,9 +49,8 @@ use Rattle.sn_tree.specs.declared.new_block.NewBlock.{NewBlock}
 use Rattle.sn_tree_read.specs.declared.fault.TreeFault.TheVariants as tree
 use Rattle.sn_cp.specs.Beginning.{Begins}
 use Rattle.sn_cp.specs.Counting.{root_steps, syncs_left, writes_left}
-use Rattle.sn_cp.specs.Points.{Work, first_stage, written_by}
-use Rattle.sn_cp.specs.Showing.{Finishes}
-use Rattle.sn_cp.specs.Steps.{IsWhole}
+use Rattle.sn_cp.specs.Points.{Work, first_stage, stage_of, work_of, written_by}
+use Rattle.sn_cp.specs.Steps.{IsWhole, IsWithin, StandsAtStage}
 use Rattle.sn_cp.specs.declared.stage.Stage.{Stage}
 use Rattle.sn_cp.specs.declared.stage.Stage.TheVariants.{Blocks, MapBlocks}
 use Rattle.sn_cp_nodes.specs.Built.{IsGround}
@@ -57,13 +58,18 @@ use Rattle.sn_cp_build.specs.Bits.{TellsBlocks}
 use Rattle.sn_cp_build.specs.Building.{Builds, IsWellBuilt}
 use Rattle.sn_cp_build.specs.declared.building.Built.{Built}
 use Rattle.sn_cp_held.specs.Builds.{CanBeBuilt, IsBuiltOf, plan_of, room_behind, work_for}
-use Rattle.sn_cp_held.specs.Wholes.{HasBegun, IsOfLive, behind_point, kept_behind}
+use Rattle.sn_cp_held.specs.Wholes.{HasBegun, IsOfLive}
 use Rattle.sn_cp_held.proofs.BuildLemmas.{numbers_same, place_all}
 use Rattle.sn_cp_held.proofs.LiveLemmas.{can_be_built, of_live}
-use Rattle.sn_cp_held.proofs.WholeLemmas.{begin_leaves, has_begun, ready_behind, steps_leave}
+use Rattle.sn_cp_held.proofs.WholeLemmas.{begin_leaves, has_begun}
+use Rattle.sn_cp_progress.specs.Progress.{RunsOn}
+use Rattle.sn_cp_progress.proofs.EndLemmas.{point_begins}
+use Rattle.sn_cp_whole.specs.Going.{BeginsPoint, CostsBeginning, IsGoing, progress_of}
 use Rattle.sn_cp_whole.specs.Making.{CostsPoint, HasCauseFor, MakesPoint, most_syncs, most_writes, syncs_of_point, with_parts, writes_of_point}
 use Rattle.sn_cp_whole.specs.Planning.{HasCauseToStop, IsNextRoot, IsSpellable, IsWholeBlock, point_fault_of}
+use Rattle.sn_cp_whole.specs.declared.base.PointBase.{PointBase}
 use Rattle.sn_cp_whole.specs.declared.fault.PointFault.{PointFault}
+use Rattle.sn_cp_whole.specs.declared.going.GoingPoint.{GoingPoint}
 use Rattle.sn_cp_whole.specs.declared.fault.PointFault.TheVariants as fault
 
 -- ---- what is planned
@@ -96,12 +102,12 @@ gate_stays n epoch slot gate old new touched synced is =
 
 module _ (h : Held) (world : World) (k : Kept) (rr : RunsReady h world k) where
   -- nothing was written
-  pub nothing_written : {T : Type 0} (result : Result T PointFault) (f : PointFault) (d : Disk) (room : RoomCounts) (at : LogPosition) → result ≡ Err f → d ≡ h.disk → (result ≡ Err fault.Damaged → CanBeBuilt h.at.blocks (store_of (reads h.disk)) k → ⊥) → MakesPoint (Err f) world h.disk (with_parts h at room d) k
-  nothing_written result fault.Memory d room at is same readable = same
-  nothing_written result fault.Age d room at is same readable = same
-  nothing_written result fault.Read d room at is same readable = same
-  nothing_written result fault.Damaged d room at is same readable = readable is (can_be_built h world k rr)
-  nothing_written result fault.Device d room at is same readable =
+  pub nothing_written : {T : Type 0} (any : Held) (result : Result T PointFault) (f : PointFault) (at : LogPosition) (d : Disk) → result ≡ Err f → d ≡ h.disk → (result ≡ Err fault.Damaged → CanBeBuilt h.at.blocks (store_of (reads h.disk)) k → ⊥) → BeginsPoint (Err f) world any at h.disk d
+  nothing_written any result fault.Memory at d is same readable = same
+  nothing_written any result fault.Age at d is same readable = same
+  nothing_written any result fault.Read at d is same readable = same
+  nothing_written any result fault.Damaged at d is same readable = readable is (can_be_built h world k rr)
+  nothing_written any result fault.Device at d is same readable =
       subst (λ (e : Disk). LeavesOnly h.disk e (λ c. IsImage c (settle world))) (sym same) (LeavesOnly-start h.disk (λ c. IsImage c (settle world)) (runs_show h world rr.runs))
 
   pub begins_leave : {T E : Type 0} (result : Result T E) (planned d : Disk) → planned ≡ h.disk → Begins h.at result planned d → LeavesOnly h.disk d (λ c. IsImage c (settle world))
@@ -118,42 +124,64 @@ module _ (h : Held) (world : World) (k : Kept) (rr : RunsReady h world k) where
     live : IsOfLive h world rr.runs work (room_behind h.at.blocks built)
     live = of_live h world k rr gate built next is_built
 
-    module _ (planned begun d : Disk) (same : planned ≡ h.disk) (begins : Begins {T = Unit {0}} {E = ReadFault} h.at (Ok (tt {0})) planned begun) (whole_begun : AreSectors (reads begun)) (whole : AreSectors (reads d))
-        {E : Type 0} (result : Result (Unit {0}) E) (w : Work) (is : w ≡ work) (finishes : Finishes w result begun d) where
+    module _ (planned begun : Disk) (same : planned ≡ h.disk) (begins : Begins {T = Unit {0}} {E = ReadFault} h.at (Ok (tt {0})) planned begun) (whole_begun : AreSectors (reads begun)) where
       begins_here : Begins {T = Unit {0}} {E = ReadFault} h.at (Ok (tt {0})) h.disk begun
       begins_here = subst (λ (e : Disk). Begins {T = Unit {0}} {E = ReadFault} h.at (Ok (tt {0})) e begun) same begins
 
       has : HasBegun h world rr.runs begun
       has = has_begun h world rr.runs {T = Unit {0}} {E = ReadFault} (Ok (tt {0})) begun rr.ready.between begins_here
 
-      finishes_here : Finishes work result begun d
-      finishes_here = subst (λ (x : Work). Finishes x result begun d) is finishes
+      -- the mount runs on with it in progress
+      pub goes_on : (going : GoingPoint) (at : LogPosition) → work_of going.point ≡ work → IsWithin (work_of going.point) (stage_of going.point) → StandsAtStage (work_of going.point) (stage_of going.point) begun
+          → going.free ≡ free_data built.map (start_of h.at.blocks Data) → layer_of going.since ≡ no_changes → at ≡ first_of h.at.blocks (h.at.epoch + 1)
+          → RunsOn (record h { room = begun_room h.room; at = at; disk = begun }) world (progress_of going world.live)
+      goes_on going at is within stands free none turned =
+          let of = subst (λ (f : ℕ). IsOfLive h world rr.runs work (fresh f)) (sym free) live in
+          let here = subst (λ (w : Work). IsOfLive h world rr.runs w (fresh going.free)) (sym is) of in
+          let on = point_begins h world k rr (work_of going.point) going.free (stage_of going.point) begun here whole_begun has within stands in
+          let epoch : first_of h.at.blocks (rr.runs.root.epoch + 1) ≡ at = ap (λ (e : ℕ). first_of h.at.blocks (e + 1)) (sym rr.ready.between.epoch) ∙ sym turned in
+          subst (λ (x : LogPosition). RunsOn (record h { room = begun_room h.room; at = x; disk = begun }) world (progress_of going world.live)) epoch
+          (subst (λ (l : Layer). RunsOn (record h { room = begun_room h.room; at = first_of h.at.blocks (rr.runs.root.epoch + 1); disk = begun }) world (record { work = work_of going.point; stage = stage_of going.point; frozen = world.live; free = going.free; since = l })) (sym none) on)
 
-      pub leaves : LeavesOnly h.disk d (λ c. IsImage c (settle world))
-      leaves =
-          LeavesOnly-join h.disk begun d (λ c. IsImage c (settle world)) (begins_leave {T = Unit {0}} {E = ReadFault} (Ok (tt {0})) planned begun same begins)
-          (steps_leave h world rr.runs work (room_behind h.at.blocks built) live rr.ready.between.none_newer result begun d whole_begun whole has finishes_here)
+      pub leaves : LeavesOnly h.disk begun (λ c. IsImage c (settle world))
+      leaves = begins_leave {T = Unit {0}} {E = ReadFault} (Ok (tt {0})) planned begun same begins
 
-      pub ready : OnOk result (RunsReady (behind_point h (room_behind h.at.blocks built) rr.runs.root.epoch d) world (kept_behind work))
-      ready = ready_behind h world rr.runs work (room_behind h.at.blocks built) live rr.ready.between.none_newer result begun d whole_begun whole has finishes_here k rr.ready
-
-  -- what is held and kept behind it
-  pub ready_with : (w : Work) (room new_room : RoomCounts) (at : LogPosition) (d : Disk) (kept : Kept) → new_room ≡ room → at ≡ first_of h.at.blocks (h.at.epoch + 1) → kept ≡ kept_behind w
-      → RunsReady (behind_point h room rr.runs.root.epoch d) world (kept_behind w) → RunsReady (with_parts h at new_room d) world kept
-  ready_with w room new_room at d kept room_is at_is kept_is behind =
-      let epoch : first_of h.at.blocks (rr.runs.root.epoch + 1) ≡ at = ap (λ (e : ℕ). first_of h.at.blocks (e + 1)) (sym rr.ready.between.epoch) ∙ sym at_is in
-      subst (λ (x : Kept). RunsReady (with_parts h at new_room d) world x) (sym kept_is)
-      (subst (λ (x : Held). RunsReady x world (kept_behind w)) (λ i. record h { at = epoch i; room = sym room_is i; disk = d }) behind)
+-- what was refused before it began is refused of a whole point, and what failed has failed
+pub refused : (f : PointFault) (world : World) (h : Held) (at whole_at : LogPosition) (room : RoomCounts) (old new : Disk) (k : Kept) → BeginsPoint (Err f) world h at old new → MakesPoint (Err f) world old (with_parts h whole_at room new) k
+refused fault.Memory world h at whole_at room old new k same = same
+refused fault.Age world h at whole_at room old new k same = same
+refused fault.Read world h at whole_at room old new k same = same
+refused fault.Damaged world h at whole_at room old new k never = never
+refused fault.Device world h at whole_at room old new k leaves = leaves
 
 -- what is left of the room
-pub room_left : (free : ℕ) (old mid new : RoomCounts) → mid ≡ begun old → new ≡ done free mid → new ≡ fresh free
+pub room_left : (free : ℕ) (old mid new : RoomCounts) → mid ≡ begun_room old → new ≡ done free mid → new ≡ fresh free
 room_left free old mid new one two = two ∙ ap (done free) one
-
--- ---- what it costs
 
 pub written_count : (xs : List NewBlock) → length (map written_by xs) ≡ length xs
 written_count [] = refl
 written_count (x ∷ xs) = omega (arith, written_count xs)
+
+-- what is planned is what goes on
+pub is_going : (n m : ℕ) (base : PointBase) (built : Built) (next : RootBody) (slot : Slot) (gate : Gate) (going : GoingPoint) → m ≡ n → IsDiskSize m → length base.map ≡ m → IsWellBuilt m base.root.limits base.map (layer_of base.changed) built → IsSpellable built
+    → IsNextRoot Ordinary base.root built next → slot ≡ other_slot base.slot → work_of going.point ≡ record { blocks = m; slot = slot; gate = gate; plan = plan_of built next } → stage_of going.point ≡ first_stage (length built.blocks.items)
+    → IsWithin (work_of going.point) (stage_of going.point) → going.free ≡ free_data built.map (start_of m Data) → layer_of going.since ≡ no_changes → IsGoing n base going
+is_going n m base built next slot gate going in_n size count well spelled follows other is first within free none =
+    let made : Work = record { blocks = m; slot = slot; gate = gate; plan = plan_of built next } in
+    record {
+      whole = subst IsWhole (sym is) (whole_work m base.root.limits base.map (layer_of base.changed) built next slot gate size count well spelled follows.body);
+      within = within;
+      first = first ∙ ap first_stage (sym (ap (λ (w : Work). length w.plan.blocks) is ∙ written_count built.blocks.items));
+      blocks = ap (λ (w : Work). w.blocks) is ∙ in_n;
+      slot = sym (ap (λ (w : Work). w.slot) is ∙ other);
+      epoch = ap (λ (w : Work). w.plan.next.epoch) is ∙ ap (λ (r : RootBody). r.epoch) follows.is;
+      age = subst (λ (w : Work). HasAgeLeft w.plan.next) (sym is) follows.age;
+      few = omega (arith, ap (λ (w : Work). length w.plan.blocks) is, written_count built.blocks.items, well.few);
+      free = free ∙ ap (free_data built.map) (ap (λ (b : ℕ). start_of b Data) in_n) ∙ ap (λ (w : Work). free_data w.plan.words (start_of n Data)) (sym is);
+      none = none;
+    }
+
+-- ---- what it costs
 
 pub first_writes : (w : Work) → writes_left w (first_stage (length w.plan.blocks)) ≡ 8 * length w.plan.blocks + 8 * map_blocks w.blocks + (closing_writes w.gate + 9)
 first_writes w = told (length w.plan.blocks == 0) refl
@@ -206,14 +234,14 @@ has_cause fault.Read old new fails = fails
 has_cause fault.Damaged old new same = same
 has_cause fault.Device old new none = absurd none
 
-pub unplanned_costs : (f : PointFault) (n most : ℕ) (old new : Status) → HasCauseToStop f old new → CostsPoint (Err f) n most old new
-unplanned_costs f n most old new why =
+pub unplanned : {T : Type 0} (f : PointFault) (old new : Status) → HasCauseToStop f old new → CostsBeginning {T = T} (Err f) old new
+unplanned f old new why =
     let nothing = calls_nothing f old new why in
     record { done = tt; later = nothing.0; writes = omega (arith, nothing.1); syncs = omega (arith, nothing.2); cause = has_cause f old new why }
 
 -- its beginning failed
-pub unbegun_costs : (n most : ℕ) (old planned new : Status) {T : Type 0} (result : Result T ReadFault) → planned ≡ old → CountsClearing result planned new → result ≡ Err read.Device → CostsPoint (Err fault.Device) n most old new
-unbegun_costs n most old planned new result same counts failed = record {
+pub unbegun : {A : Type 0} (old planned new : Status) {T : Type 0} (result : Result T ReadFault) → planned ≡ old → CountsClearing result planned new → result ≡ Err read.Device → CostsBeginning {T = A} (Err fault.Device) old new
+unbegun old planned new result same counts failed = record {
   done = tt;
   later = later-join old planned new (later-same old planned same) counts.later;
   writes = omega (arith, counts.writes, ap (λ (s : Status). s.writes) same);
@@ -221,33 +249,38 @@ unbegun_costs n most old planned new result same counts failed = record {
   cause = subst (λ (s : Status). (s.failures < new.failures) ⊎ IsTrue (has_ended new)) same (counts.device failed);
 }
 
-pub forgotten_costs : (n most : ℕ) (old planned new : Status) {T : Type 0} (result : Result T ReadFault) → planned ≡ old → CountsClearing result planned new → result ≡ Err read.Memory → CostsPoint (Err fault.Memory) n most old new
-forgotten_costs n most old planned new result same counts refused = unplanned_costs fault.Memory n most old new (counts.memory refused ∙ same)
+pub forgotten : {A : Type 0} (old planned new : Status) {T : Type 0} (result : Result T ReadFault) → planned ≡ old → CountsClearing result planned new → result ≡ Err read.Memory → CostsBeginning {T = A} (Err fault.Memory) old new
+forgotten old planned new result same counts refused_it = unplanned fault.Memory old new (counts.memory refused_it ∙ same)
+
+-- or it has begun
+pub begun_costs : {A : Type 0} (x : A) (old planned new : Status) → planned ≡ old → new ≡ called 1 1 planned → CostsBeginning (Ok x) old new
+begun_costs x old planned new same done =
+    let one = done ∙ ap (called 1 1) same in
+    record { done = one; later = later-is 1 1 old new one; writes = omega (arith, ap (λ (s : Status). s.writes) one); syncs = omega (arith, ap (λ (s : Status). s.syncs) one); cause = tt }
+
+-- a whole point that hasn't begun costs no more than one
+pub unbegun_costs : {T : Type 0} (result : Result T PointFault) (f : PointFault) (n most : ℕ) (old new : Status) → result ≡ Err f → CostsBeginning result old new → CostsPoint (Err f) n most old new
+unbegun_costs {T} result f n most old new is costs =
+    let failed : CostsBeginning {T = T} (Err f) old new = subst (λ (r : Result T PointFault). CostsBeginning r old new) is costs in
+    record { done = tt; later = failed.later; writes = omega (arith, failed.writes); syncs = omega (arith, failed.syncs); cause = failed.cause }
 
 -- its steps were made, or were cut off
-module _ (n most : ℕ) (built : Built) (next : RootBody) (slot : Slot) (gate : Gate) (few : length built.blocks.items ≤ most) (old planned begun new : Status) (same : planned ≡ old) (begins : begun ≡ called 1 1 planned)
-    {T E : Type 0} (result : Result T E) (w : Work) (stage : Stage) (is : w ≡ record { blocks = n; slot = slot; gate = gate; plan = plan_of built next }) (first : stage ≡ first_stage (length built.blocks.items))
-    (counts : CountsCalls (writes_left w stage) (syncs_left w stage) result begun new) where
-  abbrev made : Work
-  made = record { blocks = n; slot = slot; gate = gate; plan = plan_of built next }
+module _ (n most : ℕ) (w : Work) (stage : Stage) (size : w.blocks ≡ n) (first : stage ≡ first_stage (length w.plan.blocks)) (few : length w.plan.blocks ≤ most) (old begun new : Status) (begins : begun ≡ called 1 1 old)
+    {T E : Type 0} (result : Result T E) (counts : CountsCalls (writes_left w stage) (syncs_left w stage) result begun new) where
+  left_writes : writes_left w stage ≡ 8 * length w.plan.blocks + 8 * map_blocks n + (closing_writes w.gate + 9)
+  left_writes = ap (writes_left w) first ∙ first_writes w ∙ ap (λ (m : ℕ). 8 * length w.plan.blocks + 8 * map_blocks m + (closing_writes w.gate + 9)) size
 
-  begins_first : stage ≡ first_stage (length made.plan.blocks)
-  begins_first = first ∙ ap first_stage (sym (written_count built.blocks.items))
-
-  left_writes : writes_left w stage ≡ 8 * length built.blocks.items + 8 * map_blocks n + (closing_writes gate + 9)
-  left_writes = (λ i. writes_left (is i) (begins_first i)) ∙ first_writes made ∙ ap (λ (k : ℕ). 8 * k + 8 * map_blocks n + (closing_writes gate + 9)) (written_count built.blocks.items)
-
-  left_syncs : syncs_left w stage ≡ root_steps gate + 1
-  left_syncs = (λ i. syncs_left (is i) (begins_first i)) ∙ first_syncs made
+  left_syncs : syncs_left w stage ≡ root_steps w.gate + 1
+  left_syncs = ap (syncs_left w) first ∙ first_syncs w
 
   later : IsLater old new
-  later = later-join old begun new (later-join old planned begun (later-same old planned same) (later-is 1 1 planned begun begins)) (later-calls (writes_left w stage) (syncs_left w stage) result begun new counts)
+  later = later-join old begun new (later-is 1 1 old begun begins) (later-calls (writes_left w stage) (syncs_left w stage) result begun new counts)
 
   writes : new.writes ≤ old.writes + most_writes n most
-  writes = omega (arith, counts.writes.1, ap (λ (s : Status). s.writes) begins, ap (λ (s : Status). s.writes) same, left_writes, few, few_closing gate)
+  writes = omega (arith, counts.writes.1, ap (λ (s : Status). s.writes) begins, left_writes, few, few_closing w.gate)
 
   syncs : new.syncs ≤ old.syncs + most_syncs
-  syncs = omega (arith, counts.syncs.1, ap (λ (s : Status). s.syncs) begins, ap (λ (s : Status). s.syncs) same, left_syncs, few_steps gate)
+  syncs = omega (arith, counts.syncs.1, ap (λ (s : Status). s.syncs) begins, left_syncs, few_steps w.gate)
 
   pub unfinished_costs : (begun.failures < new.failures) ⊎ IsTrue (has_ended new) → CostsPoint (Err fault.Device) n most old new
   unfinished_costs cause = record {
@@ -255,15 +288,15 @@ module _ (n most : ℕ) (built : Built) (next : RootBody) (slot : Slot) (gate : 
     later = later;
     writes = writes;
     syncs = syncs;
-    cause = subst (λ (m : ℕ). (m < new.failures) ⊎ IsTrue (has_ended new)) (ap (λ (s : Status). s.failures) begins ∙ ap (λ (s : Status). s.failures) same) cause;
+    cause = subst (λ (m : ℕ). (m < new.failures) ⊎ IsTrue (has_ended new)) (ap (λ (s : Status). s.failures) begins) cause;
   }
 
   pub finished_costs : new ≡ called (writes_left w stage) (syncs_left w stage) begun → CostsPoint (Ok (tt {0})) n most old new
   finished_costs done =
-      let all_writes : 1 + writes_left w stage ≡ writes_of_point n gate (length built.blocks.items) = omega (arith, left_writes) in
-      let all_syncs : 1 + syncs_left w stage ≡ syncs_of_point gate = omega (arith, left_syncs) in
+      let all_writes : 1 + writes_left w stage ≡ writes_of_point n w.gate (length w.plan.blocks) = omega (arith, left_writes) in
+      let all_syncs : 1 + syncs_left w stage ≡ syncs_of_point w.gate = omega (arith, left_syncs) in
       record {
-        done = (length built.blocks.items, few, gate, called-after 1 1 (writes_left w stage) (syncs_left w stage) planned begun new begins done ∙ (λ i. called (all_writes i) (all_syncs i) (same i)));
+        done = (length w.plan.blocks, few, w.gate, called-after 1 1 (writes_left w stage) (syncs_left w stage) old begun new begins done ∙ (λ i. called (all_writes i) (all_syncs i) old));
         later = later;
         writes = writes;
         syncs = syncs;

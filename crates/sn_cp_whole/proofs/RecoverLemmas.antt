@@ -145,7 +145,7 @@ module _ (w : Work) (whole : IsWhole w) (slot : Slot) (other : other_slot slot �
   root_beside Bodied within i is root = gate_beside slot i (subst (λ (s : Slot). Single (gate_sector s) i) (sym other) is) root
   root_beside Done within i is root = absurd within
 
-  apart : (i : ℕ) → InPoint w i → IsApart w.blocks slot i
+  pub apart : (i : ℕ) → InPoint w i → IsApart w.blocks slot i
   apart i is (inl block) = stays_apart w whole slot other 0 i is (inl block)
   apart i is (inr (inl map)) = stays_apart w whole slot other 0 i is (inr (inl map))
   apart i is (inr (inr root)) = root_beside is.stage is.within i is.of_step root
@@ -155,10 +155,10 @@ module _ (w : Work) (whole : IsWhole w) (slot : Slot) (other : other_slot slot �
       subst (λ (e : Disk). Touches (IsApart w.blocks slot) e new) same (Touches-within (InPoint w) (IsApart w.blocks slot) d new apart (subst (λ (x : Work). Finishes x result d new) is finishes).touched)
 
   -- and a whole point does, from its beginning on
-  pub point_apart : {A B T E : Type 0} (at : LogPosition) (cleared : Result A B) (result : Result T E) (v : Work) (old planned begun new : Disk) → w.blocks ≡ at.blocks → v ≡ w → planned ≡ old → Begins at cleared planned begun → Finishes v result begun new → Touches (IsApart at.blocks slot) old new
-  point_apart at cleared result v old planned begun new size is same begins finishes =
-      Touches-join (IsApart at.blocks slot) old begun new (begins_apart at slot cleared old planned begun same begins)
-      (subst (λ (n : ℕ). Touches (IsApart n slot) begun new) size (writes_apart result v begun begun new is refl finishes))
+  pub point_apart : (n : ℕ) (old begun new : Disk) → w.blocks ≡ n → Touches (IsApart n slot) old begun → Touches (InPoint w) begun new → Touches (IsApart n slot) old new
+  point_apart n old begun new size first rest =
+      Touches-join (IsApart n slot) old begun new first
+      (subst (λ (m : ℕ). Touches (IsApart m slot) begun new) size (Touches-within (InPoint w) (IsApart w.blocks slot) begun new apart rest))
 
 pub untouched : (F : ℕ → Type 0) (old d : Disk) → d ≡ old → Touches F old d
 untouched F old d same = subst (λ (e : Disk). Touches F old e) (sym same) (Touches-start F old)

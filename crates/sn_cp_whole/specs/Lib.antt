@@ -1,3 +1,4 @@
 pub mod Planning
 pub mod Making
+pub mod Going
 pub mod Recovering

@@ -1,10 +1,12 @@
 //! A whole consistency point of a live tree, from what changed since its root to the next root that counts.
 //!
 //! The model. `sn_cp_held` says when a mounted file system is ready for a point (`RunsReady`), what a point of its
-//! live tree is, and what a whole one leaves. A [`PointBase`] is what is kept for that beside log and room: the root
-//! that counts, its map, and the overlay of what changed since. [`make_point`] builds the live tree over them in
-//! memory, begins the point, and makes all its steps in a row; then the base is that of the next root, nothing is
-//! charged, and the log goes on empty.
+//! live tree is, and what a whole one leaves; `sn_cp_progress` when it runs on with one in progress (`RunsOn`). A
+//! [`PointBase`] is what is kept for that beside log and room: the root that counts, its map, and the overlay of what
+//! changed since. [`begin_point`] builds the live tree over them in memory and begins the point: a [`GoingPoint`], with
+//! the overlay of what changes from then on. [`GoingPoint::advance`] makes a step of it, and [`GoingPoint::finish`] all
+//! that are left. [`make_point`] does both in a row; then the base is that of the next root, nothing is charged, and
+//! the log goes on empty.
 //!
 //! What its clauses say, those on bytes of each device that tells them:
 //! - Whatever the answer, a crash at any moment leaves an image of the settled world. At `Ok` the mount runs on over
@@ -16,8 +18,9 @@
 //! [`make_recovery`] does the same before a mount runs, of what it replayed and dropped: the next root's epoch is behind
 //! both that were replayed, so no clearing begins it, and the log is left alone.
 //!
-//! The way through: `base` has what is kept; `planning` what is built of it, with the root that follows; `making` the
-//! point of a mount, and `recovering` the one before it. `specs/Making.antt` and `Recovering.antt` say what they make.
+//! The way through: `base` has what is kept; `planning` what is built of it, with the root that follows; `going` the
+//! beginning and the end of a point of a mount, `making` a whole one, and `recovering` the one before it runs.
+//! `specs/Going.antt`, `Making.antt` and `Recovering.antt` say what they make.
 //!
 //! What the sources leave open is decided in `docs/DECISIONS.md`, under "Steps of a consistency point".
 //!
@@ -28,12 +31,14 @@
 
 mod base;
 mod fault;
+mod going;
 mod making;
 mod planning;
 mod recovering;
 
 pub use base::PointBase;
 pub use fault::PointFault;
+pub use going::{GoingPoint, begin_point};
 pub use making::make_point;
 pub use planning::empty_overlay;
 pub use recovering::make_recovery;

@@ -14,15 +14,11 @@ ghost use Rattle.sn_cp_whole.specs.Planning.{HasAgeFor, IsBaseAt, kept_in};
 ghost use Rattle.sn_cp_whole.specs.Recovering.{IsApart};
 ghost use Rattle.sn_cp_whole.specs.declared.fault.PointFault.TheVariants.{Age as AgeFault, Device as DeviceFault};
 
-use crate::planning::{Planned, plan};
-use crate::{PointBase, PointFault};
-use sn_block::{Blocks, ReadFault};
-use sn_cp::{Point, begin};
+use crate::{PointBase, PointFault, begin_point};
+use sn_block::Blocks;
 use sn_device::Device;
-use sn_layout::Area;
 use sn_log::Log;
 use sn_room::Room;
-use sn_root::PointKind;
 use std::alloc::Global;
 
 /// Makes a whole consistency point of what changed since the root that counts: then the next root counts, the log is
@@ -53,35 +49,13 @@ pub fn make_point<D: Device>(
     ensures keeps { OnErr result ((base.new ≡ base.old) × (room.new ≡ room.old)) }
     ensures stays { IfErr result (λ fault. fault ≢ DeviceFault → log.new ≡ log.old) }
 {
-    let places = log.position().places();
-    // It bounds the disk.
-    let _blocks = places.blocks();
-    let Planned {
-        next,
-        built,
-        gate,
-        changed,
-    } = match plan(alloc, blocks, places, base, PointKind::Ordinary, drops) {
-        Ok(planned) => planned,
+    let going = match begin_point(alloc, blocks, base, log, drops) {
+        Ok(going) => going,
         Err(fault) => return Err(fault),
     };
-    let free = built.map.count_free_from(places.start(Area::Data));
-    match begin(blocks, places, log) {
-        Ok(()) => {}
-        Err(ReadFault::Memory) => return Err(PointFault::Memory),
-        Err(ReadFault::Device) => return Err(PointFault::Device),
-    }
-    let slot = base.slot.other();
-    let mut point = Point::new(places, built.blocks, built.map, next, slot, gate);
-    let Ok(()) = point.finish(blocks) else {
+    let free = going.free;
+    let Ok(()) = going.finish(blocks, base) else {
         return Err(PointFault::Device);
-    };
-    let (root, map) = point.into_root();
-    *base = PointBase {
-        slot,
-        root,
-        map,
-        changed,
     };
     room.begin_point();
     room.end_point(free);

@@ -57,7 +57,7 @@ fn disk_for(alloc: Global, seed: u32) -> Result<Disk> {
         return Disk::new(alloc, 1100);
     }
     let mut disk = Disk::new(alloc, 256)?;
-    disk.words = with_free(alloc, disk.words.as_slice(), disk.first(), 100)?;
+    disk.words = with_free(alloc, disk.words.as_slice(), disk.first(), 40)?;
     Ok(disk)
 }
 

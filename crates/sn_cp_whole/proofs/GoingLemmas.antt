@@ -1,0 +1,45 @@
+-- What a step of a point in progress makes of a mount.
+use Rattle.std.proofs.Common.{◌≡◌, ◌≢◌, Result, refl, sym, subst}
+use Rattle.std.specs.Prelude.{OnOk}
+use Rattle.sn_block.proofs.EffectLemmas.{OnOk-both}
+use Rattle.sn_device.specs.Crash.{Touches}
+use Rattle.sn_device.specs.Disk.{Disk, reads}
+use Rattle.sn_device.specs.Sectors.{AreSectors}
+use Rattle.sn_device.specs.declared.device.Fault.{Fault}
+use Rattle.sn_device.proofs.CrashLemmas.{Touches-within}
+use Rattle.sn_held.specs.Held.{Held}
+use Rattle.sn_model.specs.Tree.{Tree}
+use Rattle.sn_model.specs.World.{World}
+use Rattle.sn_overlay.specs.Overlays.{layer_of}
+use Rattle.sn_cp.specs.Points.{Work, stage_of, work_of}
+use Rattle.sn_cp.specs.Showing.{InPoint, IsBeforeOpening}
+use Rattle.sn_cp.specs.Steps.{InStep, IsWithin, StepsTo, next_stage}
+use Rattle.sn_cp.specs.declared.point.Point.{Point}
+use Rattle.sn_cp.specs.declared.stage.Stage.{Stage}
+use Rattle.sn_cp.specs.declared.stage.Stage.TheVariants.{Blocks, MapBlocks, Stored, Shut, Bodied, Done}
+use Rattle.sn_cp_progress.specs.Progress.{RunsOn}
+use Rattle.sn_cp_progress.proofs.StepLemmas.{step_goes_on, step_leaves}
+use Rattle.sn_cp_whole.specs.Going.{StepsOn, progress_of}
+use Rattle.sn_cp_whole.specs.declared.going.GoingPoint.{GoingPoint}
+
+-- a step that isn't the last comes before the gate is opened
+pub before_opening : (w : Work) (stage : Stage) → IsWithin w stage → stage ≢ Bodied → IsBeforeOpening stage
+before_opening w (Blocks k) within more = tt
+before_opening w (MapBlocks k) within more = tt
+before_opening w Stored within more = tt
+before_opening w Shut within more = tt
+before_opening w Bodied within more = more refl
+before_opening w Done within more = within
+
+pub stepped : (w : Work) (stage : Stage) → IsWithin w stage → (result : Result (Unit {0}) Fault) (old new : Disk) → StepsTo w stage result old new → Touches (InPoint w) old new
+stepped w stage within result old new step = Touches-within (InStep w stage) (InPoint w) old new (λ i is. record { stage = stage; within = within; of_step = is }) step.touched
+
+pub advanced : (h : Held) (world : World) (old : GoingPoint) (new : Point) (frozen : Tree) (result : Result (Unit {0}) Fault) (d : Disk) → RunsOn h world (progress_of old frozen) → AreSectors (reads d) → IsBeforeOpening (stage_of old.point)
+    → StepsTo (work_of old.point) (stage_of old.point) result h.disk d → work_of new ≡ work_of old.point → OnOk result (stage_of new ≡ next_stage (work_of old.point) (stage_of old.point)) → StepsOn result world h (record old { point = new }) frozen h.disk d
+advanced h world old new frozen result d on whole before step same onward = (step_leaves h world (progress_of old frozen) on result d whole step before, OnOk-both result ahead (step_goes_on h world (progress_of old frozen) on result d whole step before) onward)
+  where
+    ahead : RunsOn (record h { disk = d }) world (record { work = work_of old.point; stage = next_stage (work_of old.point) (stage_of old.point); frozen = frozen; free = old.free; since = layer_of old.since }) → stage_of new ≡ next_stage (work_of old.point) (stage_of old.point)
+        → RunsOn (record h { disk = d }) world (progress_of (record old { point = new }) frozen)
+    ahead runs next =
+        subst (λ (w : Work). RunsOn (record h { disk = d }) world (record { work = w; stage = stage_of new; frozen = frozen; free = old.free; since = layer_of old.since })) (sym same)
+        (subst (λ (stage : Stage). RunsOn (record h { disk = d }) world (record { work = work_of old.point; stage = stage; frozen = frozen; free = old.free; since = layer_of old.since })) (sym next) runs)

@@ -1,0 +1,162 @@
+//! A point in progress.
+ghost use Rattle.std.specs.Prelude.{◌≡◌, ◌≢◌, ◌↔◌, ◌*◌, ◌+◌, ◌≤◌, Err, IfOk, IsTrue, OnErr, OnOk};
+ghost use Rattle.sn_block.specs.Counts.{CountsCalls};
+ghost use Rattle.sn_block.specs.Lending.{device_of};
+ghost use Rattle.sn_cp.specs.Counting.{syncs_left, writes_left};
+ghost use Rattle.sn_cp.specs.Points.{stage_of, work_of};
+ghost use Rattle.sn_cp.specs.Showing.{InPoint};
+ghost use Rattle.sn_cp.specs.Steps.{IsWhole, IsWithin, StandsAtStage, next_stage, syncs_of, writes_of};
+ghost use Rattle.sn_cp.specs.declared.stage.Stage.TheVariants.{Bodied};
+ghost use Rattle.sn_cp_progress.specs.Progress.{RunsOn};
+ghost use Rattle.sn_device.specs.Crash.{Touches};
+ghost use Rattle.sn_layout.specs.Places.{other_slot};
+ghost use Rattle.sn_held.specs.Held.{Held, RunsReady};
+ghost use Rattle.sn_log.specs.Places.{first_of};
+ghost use Rattle.sn_model.specs.Tree.{Tree};
+ghost use Rattle.sn_model.specs.World.{World};
+ghost use Rattle.sn_overlay.specs.Overlays.{HasRoom};
+ghost use Rattle.sn_root.specs.declared.following.PointKind.TheVariants.{Ordinary as OrdinaryPoint};
+ghost use Rattle.sn_cp_whole.specs.Going.{BeginsPoint, CostsBeginning, FinishesPoint, IsGoing, StepsOn, base_behind, progress_of, with_disk, with_log};
+ghost use Rattle.sn_cp_whole.specs.Planning.{HasAgeFor, IsBaseAt, kept_in};
+ghost use Rattle.sn_cp_whole.specs.Recovering.{IsApart};
+ghost use Rattle.sn_cp_whole.specs.declared.fault.PointFault.TheVariants.{Age as AgeFault};
+
+use crate::planning::{Planned, plan};
+use crate::{PointBase, PointFault};
+use sn_block::{Blocks, ReadFault};
+use sn_cp::{Point, Stage, begin};
+use sn_device::{Device, Fault};
+use sn_layout::Area;
+use sn_log::Log;
+use sn_overlay::Overlay;
+use sn_root::PointKind;
+use std::alloc::Global;
+
+/// A consistency point that a mount has begun: the live tree is frozen in it as it was then.
+#[derive(Drop)]
+pub struct GoingPoint {
+    /// What it writes, and how far it is.
+    pub point: Point,
+    /// The blocks that its root leaves free.
+    pub free: u32,
+    /// What changed of the tree since it began.
+    pub since: Overlay,
+}
+
+/// Begins a point of what changed since the root that counts. From then on the log goes on under the next epoch, behind
+/// the root that is being made; what changes has room for so many drops of files.
+pub fn begin_point<D: Device>(
+    alloc: Global,
+    blocks: &mut Blocks<D>,
+    base: &PointBase,
+    log: &mut Log,
+    drops: u16,
+) -> Result<GoingPoint, PointFault>
+    requires disk { 8 * log.old.blocks ≤ (D.status (device_of blocks.old)).sectors }
+    requires base { IsBaseAt log.old base.now }
+    ensures begins { IsTrue D.tells_bytes → (h : Held) (world : World)
+        → RunsReady (with_log h log.old (D.disk (device_of blocks.old))) world (kept_in base.now)
+        → BeginsPoint result world h log.new (D.disk (device_of blocks.old)) (D.disk (device_of blocks.new)) }
+    ensures going { IfOk result (IsGoing log.old.blocks base.now) }
+    ensures stands { IsTrue D.tells_bytes → IfOk result (λ going. StandsAtStage (work_of going.point) (stage_of going.point) (D.disk (device_of blocks.new))) }
+    ensures touched { IsTrue D.tells_bytes → Touches (IsApart log.old.blocks base.now.slot) (D.disk (device_of blocks.old)) (D.disk (device_of blocks.new)) }
+    ensures costs { CostsBeginning result (D.status (device_of blocks.old)) (D.status (device_of blocks.new)) }
+    ensures aged { result ≡ Err AgeFault → HasAgeFor OrdinaryPoint base.now.root → ⊥ }
+    ensures log { OnOk result (log.new ≡ first_of log.old.blocks (log.old.epoch + 1)) }
+    ensures drops { IfOk result (λ going. HasRoom going.since (record { nodes = drops; names = 0; blocks = 0 })) }
+    ensures stays { OnErr result (log.new ≡ log.old) }
+{
+    let places = log.position().places();
+    // It bounds the disk.
+    let _blocks = places.blocks();
+    let Planned {
+        next,
+        built,
+        gate,
+        changed,
+    } = match plan(alloc, blocks, places, base, PointKind::Ordinary, drops) {
+        Ok(planned) => planned,
+        Err(fault) => return Err(fault),
+    };
+    let free = built.map.count_free_from(places.start(Area::Data));
+    match begin(blocks, places, log) {
+        Ok(()) => {}
+        Err(ReadFault::Memory) => return Err(PointFault::Memory),
+        Err(ReadFault::Device) => return Err(PointFault::Device),
+    }
+    let slot = base.slot.other();
+    Ok(GoingPoint {
+        point: Point::new(places, built.blocks, built.map, next, slot, gate),
+        free,
+        since: changed,
+    })
+}
+
+impl GoingPoint {
+    /// Whether its next step is the last, with which its root counts: [`GoingPoint::finish`] makes that one.
+    pub fn is_at_last(&self) -> bool
+        ensures { IsTrue result ↔ (stage_of self.now.point ≡ Bodied) }
+    {
+        self.point.stage() == Stage::Bodied
+    }
+
+    /// Makes the next step, which isn't the last. After a fault nothing may be written before the next mount.
+    pub fn advance<D: Device>(&mut self, blocks: &mut Blocks<D>) -> Result<(), Fault>
+        requires disk { 8 * (work_of self.old.point).blocks ≤ (D.status (device_of blocks.old)).sectors }
+        requires whole { IsWhole (work_of self.old.point) }
+        requires within { IsWithin (work_of self.old.point) (stage_of self.old.point) }
+        requires more { stage_of self.old.point ≢ Bodied }
+        requires stands { IsTrue D.tells_bytes → StandsAtStage (work_of self.old.point) (stage_of self.old.point) (D.disk (device_of blocks.old)) }
+        ensures goes_on { IsTrue D.tells_bytes → (h : Held) (world : World) (frozen : Tree)
+            → RunsOn (with_disk h (D.disk (device_of blocks.old))) world (progress_of self.old frozen)
+            → StepsOn result world h self.new frozen (D.disk (device_of blocks.old)) (D.disk (device_of blocks.new)) }
+        ensures touched { IsTrue D.tells_bytes → Touches (InPoint (work_of self.old.point)) (D.disk (device_of blocks.old)) (D.disk (device_of blocks.new)) }
+        ensures counts { CountsCalls (writes_of (work_of self.old.point) (stage_of self.old.point)) (syncs_of (work_of self.old.point) (stage_of self.old.point)) result
+            (D.status (device_of blocks.old)) (D.status (device_of blocks.new)) }
+        ensures same { (work_of self.new.point ≡ work_of self.old.point) × (self.new.free ≡ self.old.free) × (self.new.since ≡ self.old.since) }
+        ensures onward { OnOk result (stage_of self.new.point ≡ next_stage (work_of self.old.point) (stage_of self.old.point)) }
+        ensures stays { OnErr result (stage_of self.new.point ≡ stage_of self.old.point) }
+    {
+        self.point.advance(blocks)
+    }
+
+    /// Makes all steps that are left: then the root that was made counts, with what changed since on top of it, and takes
+    /// the place of the one that the point was begun over. After a fault nothing may be written before the next mount.
+    pub fn finish<D: Device>(
+        self,
+        blocks: &mut Blocks<D>,
+        base: &mut PointBase,
+    ) -> Result<(), Fault>
+        requires disk { 8 * (work_of self.point).blocks ≤ (D.status (device_of blocks.old)).sectors }
+        requires slot { other_slot base.old.slot ≡ (work_of self.point).slot }
+        requires whole { IsWhole (work_of self.point) }
+        requires within { IsWithin (work_of self.point) (stage_of self.point) }
+        requires stands { IsTrue D.tells_bytes → StandsAtStage (work_of self.point) (stage_of self.point) (D.disk (device_of blocks.old)) }
+        ensures finishes { IsTrue D.tells_bytes → (h : Held) (world : World) (frozen : Tree)
+            → RunsOn (with_disk h (D.disk (device_of blocks.old))) world (progress_of self frozen)
+            → FinishesPoint result world h self.free (kept_in base.new) (D.disk (device_of blocks.old)) (D.disk (device_of blocks.new)) }
+        ensures touched { IsTrue D.tells_bytes → Touches (InPoint (work_of self.point)) (D.disk (device_of blocks.old)) (D.disk (device_of blocks.new)) }
+        ensures counts { CountsCalls (writes_left (work_of self.point) (stage_of self.point)) (syncs_left (work_of self.point) (stage_of self.point)) result
+            (D.status (device_of blocks.old)) (D.status (device_of blocks.new)) }
+        ensures base { OnOk result (base.new ≡ base_behind self) }
+        ensures keeps { OnErr result (base.new ≡ base.old) }
+    {
+        let GoingPoint {
+            mut point,
+            since,
+            ..
+        } = self;
+        match point.finish(blocks) {
+            Ok(()) => {}
+            Err(fault) => return Err(fault),
+        }
+        let (root, map) = point.into_root();
+        *base = PointBase {
+            slot: base.slot.other(),
+            root,
+            map,
+            changed: since,
+        };
+        Ok(())
+    }
+}
