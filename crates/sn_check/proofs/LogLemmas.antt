@@ -1,12 +1,11 @@
 -- What a check finds of the log, and what is wrong with it.
-use Rattle.std.proofs.Common.{◌≡◌, ◌≢◌, ◌⊎◌, inl, inr, ℕ, ◌+◌, ◌*◌, ◌<◌, ◌≤◌, Bool, true, false, List, [], ◌∷◌, ◌++◌, Option, Some, Err, refl, sym, ap, subst, ◌∙◌, arith, leb-true, leb-false}
+use Rattle.std.proofs.Common.{◌≡◌, ◌⊎◌, ℕ, ◌+◌, ◌*◌, ◌<◌, Bool, true, false, List, ◌++◌, Option, Some, Err, refl, sym, ap, subst, ◌∙◌, arith, leb-true, leb-false}
 use Rattle.sn_device.specs.Sectors.{Contents}
 use Rattle.sn_limits.specs.declared.limits.Limits.{Limits}
 use Rattle.sn_limits.specs.Versions.{version_1}
 use Rattle.sn_layout.specs.RootBody.{IsRootBody}
 use Rattle.sn_layout.specs.declared.root.RootBody.{RootBody}
 use Rattle.sn_model.specs.declared.change.Change.{Change}
-use Rattle.sn_model.specs.declared.mount.Damage.{Damage}
 use Rattle.sn_model.specs.declared.mount.MountFault.{MountFault}
 use Rattle.sn_model.specs.declared.mount.MountFault.TheVariants as fault
 use Rattle.sn_model.specs.Chains.{◌>>=◌}
@@ -21,7 +20,7 @@ use Rattle.sn_image.proofs.SoundNodeLemmas.{only_version}
 use Rattle.sn_overlay.specs.Needs.{nameless_in}
 use Rattle.sn_room.specs.Rooms.{is_covered, mounted}
 use Rattle.sn_sound.specs.Charges.{Fits, charges_from}
-use Rattle.sn_sound.specs.Logs.{AreReplayed, HasAgeLeft, HasSoundLog, IsLogFault, IsToRecover, age, charges as overcharged, half_block, later}
+use Rattle.sn_sound.specs.Logs.{AreReplayed, HasAgeLeft, HasSoundLog, IsLogFault, IsToRecover, age, charges as overcharged, later}
 use Rattle.sn_examine.specs.Ages.{IsAged, TellsRecovery}
 use Rattle.sn_examine.specs.Both.{HasBoth, ReplaysBoth}
 use Rattle.sn_examine.specs.Examining.{SomeIsLater}

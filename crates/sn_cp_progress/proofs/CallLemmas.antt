@@ -1,8 +1,8 @@
 -- What a call between two steps of a point leaves of the point.
 use Rattle.std.proofs.Common.{◌≡◌, ◌⊎◌, inr, ℕ, ◌+◌, ◌≤◌, Bool, List, [], ◌∷◌, ◌++◌, Some, refl, sym, ap, subst, ◌∙◌, append_assoc, arith}
 use Rattle.sn_changed.specs.Changed.{HasChanged}
-use Rattle.sn_device.specs.Sectors.{AreSectors, Contents}
-use Rattle.sn_device.specs.Disk.{Always, Disk, reads}
+use Rattle.sn_device.specs.Sectors.{AreSectors}
+use Rattle.sn_device.specs.Disk.{Always, reads}
 use Rattle.sn_device.specs.Crash.{LeavesOnly, Touches}
 use Rattle.sn_device.proofs.CrashLemmas.{Always-kept, Always-reads, LeavesOnly-now}
 use Rattle.sn_layout.specs.declared.root.RootBody.{RootBody}
@@ -16,14 +16,11 @@ use Rattle.sn_model.specs.Settling.{settle, without_nameless}
 use Rattle.sn_model.specs.Tree.{Tree}
 use Rattle.sn_model.specs.World.{World}
 use Rattle.sn_ondisk.specs.LogHalf.{HasNoLater, InHalf, base_of}
-use Rattle.sn_ondisk.specs.TreeLaws.{SameIn}
 use Rattle.sn_ondisk.specs.Trees.{Store}
 use Rattle.sn_ondisk.proofs.PlaceLemmas.{halves_apart}
 use Rattle.sn_image.specs.Image.{image}
 use Rattle.sn_opening.specs.Covering.{MakesCover}
 use Rattle.sn_opening.specs.Opens.{IsDisk}
-use Rattle.sn_opening.specs.Points.{HoldsAll}
-use Rattle.sn_opening.specs.Worlds.{all_reach, frozen_of}
 use Rattle.sn_opening.proofs.CoveringLemmas.{dropping_covers, one_more_covers}
 use Rattle.sn_opening.proofs.LogLemmas.{of_position}
 use Rattle.sn_opening.proofs.SpelledLemmas.{spelled_more}

@@ -1,5 +1,5 @@
 -- What the beginning of a point and its last step leave of the world that a mount runs over.
-use Rattle.std.proofs.Common.{◌≡◌, inl, inr, ⊎_elim, ℕ, ◌+◌, ◌*◌, ◌^◌, ◌<◌, ◌≤◌, List, [], ◌++◌, Some, Result, length, slice_index, refl, sym, ap, subst, ◌∙◌, append-nil, arith}
+use Rattle.std.proofs.Common.{◌≡◌, inl, inr, ⊎_elim, ℕ, ◌+◌, ◌^◌, ◌<◌, List, [], ◌++◌, Result, refl, sym, ap, subst, ◌∙◌, append-nil, arith}
 use Rattle.std.specs.Prelude.{OnOk}
 use Rattle.sn_changed.specs.Changed.{HasChanged}
 use Rattle.sn_changed.proofs.ChangedLemmas.{nothing_changed}
@@ -11,7 +11,7 @@ use Rattle.sn_device.proofs.CrashLemmas.{Always-reads}
 use Rattle.sn_block.proofs.EffectLemmas.{OnOk-both}
 use Rattle.sn_limits.specs.declared.limits.Limits.{Limits}
 use Rattle.sn_limits.specs.Versions.{version_1}
-use Rattle.sn_log.specs.Places.{IsReadyAt, first_of, payloads_of}
+use Rattle.sn_log.specs.Places.{first_of, payloads_of}
 use Rattle.sn_model.specs.declared.change.Change.{Change}
 use Rattle.sn_model.specs.Changes.{apply_all}
 use Rattle.sn_model.specs.Settling.{settle}
@@ -46,9 +46,9 @@ use Rattle.sn_cp.specs.declared.stage.Stage.{Stage}
 use Rattle.sn_cp.specs.declared.stage.Stage.TheVariants.{Bodied, Done}
 use Rattle.sn_cp.proofs.NextLemmas.{done_points_stand, frozen_stay}
 use Rattle.sn_cp.proofs.ShowLemmas.{opening_shows}
-use Rattle.sn_cp_held.specs.Wholes.{HasBegun, IsOfLive, StandsAround}
+use Rattle.sn_cp_held.specs.Wholes.{HasBegun, IsOfLive}
 use Rattle.sn_cp_held.proofs.WholeLemmas.{later_weaker}
-use Rattle.sn_cp_progress.specs.Progress.{IsOfFrozen, Progress, RunsOn, kept_behind}
+use Rattle.sn_cp_progress.specs.Progress.{Progress, RunsOn, kept_behind}
 use Rattle.sn_cp_progress.proofs.StepLemmas.{LiesAround, around_stays, around_then, beside, in_point, none_behind, old_image}
 
 -- ---- the beginning

@@ -1,5 +1,5 @@
 -- What the steps of a point leave of the world that a mount runs over, before the last.
-use Rattle.std.proofs.Common.{◌≡◌, inl, inr, ℕ, suc, ◌+◌, ◌*◌, ◌^◌, ◌<◌, ◌≤◌, Bool, true, false, nat_lt, if◌then◌else◌, List, [], ◌++◌, length, slice_index, Result, refl, sym, ap, subst, ◌∙◌, append-nil, arith, leb-true, leb-false}
+use Rattle.std.proofs.Common.{◌≡◌, inl, inr, ℕ, ◌+◌, ◌*◌, ◌^◌, ◌<◌, ◌≤◌, Bool, true, false, nat_lt, if◌then◌else◌, List, [], length, slice_index, Result, refl, sym, ap, subst, ◌∙◌, arith}
 use Rattle.std.specs.Prelude.{OnOk}
 use Rattle.sn_device.specs.Sectors.{AreDisjoint, AreSectors, Contents, DependsOn}
 use Rattle.sn_device.specs.Disk.{Always, Disk, reads}
@@ -12,8 +12,7 @@ use Rattle.sn_layout.specs.declared.gate.Gate.TheVariants.{Open, Closed}
 use Rattle.sn_layout.specs.declared.places.Slot.{Slot}
 use Rattle.sn_layout.specs.Places.{map_blocks}
 use Rattle.sn_layout.specs.Superblock.{superblock_bytes}
-use Rattle.sn_limits.specs.Versions.{version_1}
-use Rattle.sn_log.specs.Places.{IsReadyAt, LogPosition, base_at, first_of, payloads_of}
+use Rattle.sn_log.specs.Places.{IsReadyAt, LogPosition, base_at, payloads_of}
 use Rattle.sn_model.specs.declared.change.Change.{Change}
 use Rattle.sn_model.specs.Settling.{settle}
 use Rattle.sn_model.specs.World.{World}

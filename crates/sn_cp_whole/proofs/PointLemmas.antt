@@ -1,6 +1,6 @@
 -- What a whole point makes of a mount, and what it costs.
 use Rattle.std.proofs.Common.{◌≡◌, ◌⊎◌, inl, inr, ⊎_elim, ℕ, zero, suc, ◌+◌, ◌*◌, ◌<◌, ◌≤◌, ◌==◌, if◌then◌else◌, Bool, true, false, List, [], ◌∷◌, length, map, All, Contains, Result, Ok, Err, IsTrue, refl, sym, ap, subst, ◌∙◌, arith}
-use Rattle.std.specs.Prelude.{OnOk, MatchBool}
+use Rattle.std.specs.Prelude.{MatchBool}
 use Rattle.std.specs.List.Sorted.{IsStrictlyIncreasing}
 use Rattle.std.proofs.lemmas.Bool.{eqb-true}
 use Rattle.sn_alloc.specs.Taking.{free_data}
@@ -13,7 +13,7 @@ use Rattle.sn_device.specs.Disk.{Always, Disk, IsSynced, reads}
 use Rattle.sn_device.specs.Sectors.{AreSectors}
 use Rattle.sn_device.specs.Status.{has_ended, one_failure}
 use Rattle.sn_device.specs.declared.status.Status.{Status}
-use Rattle.sn_device.proofs.CrashLemmas.{Always-synced, LeavesOnly-join, LeavesOnly-start, Touches-present}
+use Rattle.sn_device.proofs.CrashLemmas.{Always-synced, LeavesOnly-start, Touches-present}
 use Rattle.sn_image.specs.Reach.{reach}
 use Rattle.sn_layout.specs.declared.gate.Gate.{Gate}
 use Rattle.sn_layout.specs.declared.gate.Gate.TheVariants.{Open, Closed}

@@ -1,6 +1,6 @@
 -- What an image of a world and a disk without a fault have to do with each other.
 use Rattle.std.proofs.Common.{◌≡◌, ⊎_elim, ℕ, zero, suc, ◌+◌, ◌-◌, ◌*◌, ◌^◌, ◌<◌, ◌≤◌, List, [], ◌∷◌, ◌++◌, length, replicate, take, drop, slice_index, Option, Some, refl, sym, ap, subst, ◌∙◌, append-nil, arith}
-use Rattle.std.specs.Int.{bit_at, w32, trailing_zeros}
+use Rattle.std.specs.Int.{w32, trailing_zeros}
 use Rattle.std.proofs.lemmas.Bool.{cases_lt}
 use Rattle.std.proofs.lemmas.List.{drop_all, ext_get_or, get_or_append_left, get_or-append_right, get_or-drop, get_or_past, get_or-replicate, length-drop, length-replicate, length-take, take-append-drop}
 use Rattle.std.proofs.lemmas.Nat.Bits.{bit_at-trailing_zeros}
@@ -16,14 +16,13 @@ use Rattle.sn_layout.specs.Places.{map_blocks, start_of}
 use Rattle.sn_layout_node.specs.Indirect.{numbers_of}
 use Rattle.sn_layout_node.proofs.Numbers.{numbers_fit, numbers_read}
 use Rattle.sn_limits.specs.declared.limits.Limits.{Limits}
-use Rattle.sn_model.specs.declared.change.Change.{Change}
 use Rattle.sn_model.specs.Chains.{◌>>=◌}
 use Rattle.sn_model.specs.Changes.{apply_all}
 use Rattle.sn_model.specs.Tree.{Tree}
 use Rattle.sn_model.specs.World.{World}
 use Rattle.sn_model.proofs.ListLemmas.{lists_join}
 use Rattle.sn_ondisk.specs.Blocks.{bytes_at, numbers_in}
-use Rattle.sn_ondisk.specs.MapCopy.{HasMap, map_bytes, map_word, map_words}
+use Rattle.sn_ondisk.specs.MapCopy.{HasMap, map_bytes, map_words}
 use Rattle.sn_ondisk.specs.Trees.{Store, store_of}
 use Rattle.sn_ondisk.proofs.BlockLemmas.{length-bytes_at, length-numbers_in}
 use Rattle.sn_ondisk.proofs.MapLemmas.{map_word-spelled}

@@ -1,7 +1,7 @@
 -- What an event answers that makes a whole point first, or whose point isn't made.
 use Rattle.std.proofs.Common.{◌≡◌, ◌≢◌, ◌⊎◌, inl, inr, ℕ, ◌+◌, ◌<◌, Bool, true, false, Option, Some, None, Err, Ok, refl, sym, ap, subst, ◌∙◌, arith}
 use Rattle.std.specs.FinMap as map
-use Rattle.std.specs.Prelude.{IsOk, IsTrue, MatchBool}
+use Rattle.std.specs.Prelude.{IsOk, MatchBool}
 use Rattle.std.proofs.lemmas.Bool.{true≢false}
 use Rattle.sn_limits.specs.Versions.{version_1}
 use Rattle.sn_model.specs.declared.call.Call.{Call}

@@ -1,7 +1,7 @@
 -- What a crash behind a run leaves of the disk that it ran on.
 use Rattle.std.proofs.Common.{ℕ, ◌≡◌, ◌⊎◌, inl, inr, ◌<◌, List, [], ◌∷◌, ◌++◌, length, Result, Ok, Err, refl, sym, subst, ◌∙◌, append_assoc, arith}
 use Rattle.std.proofs.lemmas.List.{append-nil, same_lists, get_or_default}
-use Rattle.std.specs.Prelude.{Contains, EachIndex, IfErr, None, OnOk, Some}
+use Rattle.std.specs.Prelude.{Contains, EachIndex, IfErr, None, OnOk}
 use Rattle.std.specs.declared.option.Option.{Option}
 use Rattle.sn_device.specs.Sectors.{AgreesOutside, AreSectors, Contents, sector_at}
 use Rattle.sn_device.specs.Fill.{filling, last_synced}

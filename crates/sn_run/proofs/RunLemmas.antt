@@ -1,5 +1,5 @@
 -- Whole runs.
-use Rattle.std.proofs.Common.{◌≡◌, ◌⊎◌, ◌≤◌, ◌*◌, ℕ, inl, inr, Bool, true, false, length, List, [], ◌∷◌, ◌++◌, None, refl, sym, ap, subst}
+use Rattle.std.proofs.Common.{◌≡◌, ◌⊎◌, ◌≤◌, ◌*◌, ℕ, inl, inr, Bool, false, List, [], ◌∷◌, ◌++◌, refl, sym, subst}
 use Rattle.sn_device.specs.Sectors.{Contents}
 use Rattle.sn_device.specs.Disk.{Disk, reads}
 use Rattle.sn_device.specs.Crash.{Touches}
@@ -13,7 +13,7 @@ use Rattle.sn_model.specs.declared.mount.End.{End}
 use Rattle.sn_model.specs.declared.mount.End.TheVariants as ending
 use Rattle.sn_model.specs.declared.mount.MountFault.{MountFault}
 use Rattle.sn_model.specs.declared.reply.Reply.{Reply}
-use Rattle.sn_model.specs.Machine.{State, Running, Stopped, Anything, CutRun, Lacks, Life, WholeRun}
+use Rattle.sn_model.specs.Machine.{Running, Stopped, Anything, CutRun, Lacks, Life, WholeRun}
 use Rattle.sn_model.specs.World.{World, new_world}
 use Rattle.sn_log.specs.Places.{first_of}
 use Rattle.sn_core.proofs.StepLemmas.{run_more}

@@ -3,15 +3,12 @@ use Rattle.sn_block.specs.Lending.{device_of}
 use Rattle.sn_device.specs.Disk.{Disk, reads}
 use Rattle.sn_core.specs.Plain.{world_of}
 use Rattle.sn_limits.specs.declared.limits.Limits.{Limits}
-use Rattle.sn_model.specs.declared.mount.MountFault.{MountFault}
 use Rattle.sn_model.specs.Tree.{Tree}
 use Rattle.sn_ondisk.specs.Trees.{store_of}
-use Rattle.sn_image.specs.Image.{image}
 use Rattle.sn_image.specs.Sound.{IsSound}
 use Rattle.sn_image.proofs.SoundNodeLemmas.{only_version}
 use Rattle.sn_overlay.specs.Needs.{nameless_in}
 use Rattle.sn_examine.specs.Both.{HasBoth, ReplaysBoth}
-use Rattle.sn_check.specs.Faults.{IsDamageOf}
 use Rattle.sn_check.specs.Logs.{IsOfLog}
 use Rattle.sn_check.proofs.FaultLemmas.{tree_tells}
 use Rattle.sn_check.proofs.LogLemmas.{both_tells, has_logged}

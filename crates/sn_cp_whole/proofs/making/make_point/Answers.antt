@@ -3,12 +3,12 @@ use Rattle.sn_block.specs.Lending.{device_of}
 use Rattle.sn_cp.specs.Points.{stage_of, work_of}
 use Rattle.sn_device.proofs.CrashLemmas.{LeavesOnly-join}
 use Rattle.sn_held.specs.Images.{IsImage}
-use Rattle.sn_held.specs.Held.{Kept, RunsReady}
+use Rattle.sn_held.specs.Held.{RunsReady}
 use Rattle.sn_model.specs.Settling.{settle}
 use Rattle.sn_room.specs.Rooms.{RoomCounts, begun, done}
 use Rattle.sn_cp_whole.specs.Making.{with_parts}
 use Rattle.sn_cp_whole.specs.Planning.{kept_in}
-use Rattle.sn_cp_whole.proofs.PointLemmas.{finished_costs, refused, room_left, unbegun_costs, unfinished_costs}
+use Rattle.sn_cp_whole.proofs.PointLemmas.{finished_costs, refused, unbegun_costs, unfinished_costs}
 use Rattle.sn_cp_whole.proofs.RecoverLemmas.{point_apart}
 use Rattle.sn_cp_whole.proofs.making.make_point.Goals as goal
 
