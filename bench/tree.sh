@@ -1,11 +1,12 @@
 #!/bin/bash
-# Times block trees and directories on a device in memory, by runs of the program `measure_plans` and of the test program
-# of trees. Run by hand; the memory wants gcc.
+# Times block trees and directories on a device in memory, by runs of the programs `measure_plans` and `measure_directories`
+# and of the test program of trees. Run by hand; the memory wants gcc.
 #
 # Prints the time of reading 64 MiB through lent blocks, in parts of 64 KiB, beside a copy of as many bytes; of a plan
 # of one dirty block in files of 64 KiB, of which it makes one new block, and of 68 KiB and 64 MiB, of which it makes an
 # indirect block too, from the block's bytes on and without its making; of a look-up in directories of 100, 10,000 and
-# 65,535 names, each name as often; and the most memory that is held at a time while the plan in 64 MiB is made, over
+# 65,535 names, each name as often; of a plan that takes 254 names out of a directory of 65,024, or puts them back, beside a
+# reading of all its names; and the most memory that is held at a time while the plan in 64 MiB is made, over
 # that of a run that plans nothing. Each time is the least of several turns, those of look-ups without that of a run
 # with one.
 set -eu
@@ -15,7 +16,12 @@ work=$(mktemp -d)
 trap 'rm -rf "$work"' EXIT
 (cd "$top/crates/sn_tests_trees" && rt run -- data > "$work/log" 2>&1) || { tail -n 20 "$work/log"; exit 1; }
 "$top/bench/program.py" measure_plans
+"$top/bench/program.py" measure_directories
 plans=$top/bench/out/measure_plans
+
+"$top/bench/out/measure_directories" 65024 254 | awk '{
+    printf "%d names taken out of %d: %.2f of a reading of all (%.2f ms); put back: %.2f\n", $2, $1, $4 / $3, $3 / 1e6, $5 / $3
+}'
 
 "$plans" time > "$work/times"
 awk '{ t[$1, $2] = $3 } END {

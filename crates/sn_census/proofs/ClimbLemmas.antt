@@ -1,9 +1,8 @@
 -- The way up from a directory, step by step.
-use Rattle.std.proofs.Common.{◌≡◌, ◌≢◌, ◌⊎◌, inl, inr, ⊎_elim, ℕ, ◌+◌, ◌<◌, ◌≤◌, ◌==◌, Bool, true, false, not, cond, List, length, set, count_by, refl, sym, ap, subst, ◌∙◌, arith}
-use Rattle.std.proofs.lemmas.Bool.{cases_eq, eq-eqb, eqb-true, ne_eqb, true≢false}
-use Rattle.std.proofs.lemmas.List.Sums.{sum_by-set}
+use Rattle.std.proofs.Common.{◌≡◌, ◌≢◌, ◌⊎◌, inl, inr, ⊎_elim, ℕ, ◌+◌, ◌≤◌, ◌==◌, Bool, true, false, not, List, count_by, refl, sym, ap, subst, ◌∙◌, arith}
+use Rattle.std.proofs.lemmas.Bool.{cases_eq, eq-eqb, eqb-true, true≢false}
 use Rattle.sn_census.specs.Climbs.{AreClimbed, AreUnclimbed, LeadsUp, root, below, parents_of}
-use Rattle.sn_census.specs.Rows.{Sets, row_at, unused_row}
+use Rattle.sn_census.specs.Rows.{Sets, row_at}
 use Rattle.sn_census.specs.declared.table.Row.{Row}
 
 -- The way from a directory has come to a number. Each number behind leads up if that does, and has its parent on the way.
@@ -161,14 +160,5 @@ same_told a b is = eqb-true a b (told (a == b) is)
 
 -- ---- each step leaves a number fewer
 
-abbrev weight : Row → ℕ
-weight r = cond (r.climb == 0) 1 0
-
 abbrev pub unclimbed : List Row → ℕ
 unclimbed rows = count_by (λ (r : Row). r.climb == 0) rows
-
-pub unclimbed_less : (rows : List Row) (at : ℕ) (new : Row) → at < length rows → (row_at rows at).climb ≡ 0 → new.climb ≢ 0 → unclimbed (set rows at new) < unclimbed rows
-unclimbed_less rows at new within fresh marked =
-    let old : weight (row_at rows at) ≡ 1 = ap {B = ℕ} (λ (b : Bool). cond b 1 0) (eq-eqb (row_at rows at).climb 0 fresh) in
-    let now : weight new ≡ 0 = ap {B = ℕ} (λ (b : Bool). cond b 1 0) (ne_eqb new.climb 0 marked) in
-    omega (arith, sum_by-set weight rows at new unused_row within, old, now)

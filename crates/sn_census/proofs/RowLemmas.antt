@@ -1,19 +1,13 @@
 -- The rows of a census.
-use Rattle.std.proofs.Common.{◌≡◌, ◌≢◌, ⊎_elim, ℕ, ◌+◌, ◌<◌, ◌≤◌, List, length, set, sym, ap, ◌∙◌, arith, refl, subst}
+use Rattle.std.proofs.Common.{◌≡◌, ◌≢◌, ⊎_elim, ℕ, ◌+◌, ◌≤◌, List, length, sym, ap, ◌∙◌, arith, refl, subst}
 use Rattle.std.proofs.lemmas.Bool.{cases_eq}
-use Rattle.std.proofs.lemmas.List.{get_or-set_same, get_or-set_other, get_or_past}
+use Rattle.std.proofs.lemmas.List.{get_or_past}
 use Rattle.sn_layout.specs.declared.tree.BlockTree.{BlockTree}
 use Rattle.sn_ondisk.specs.Trees.{Store}
 use Rattle.sn_image.specs.Inodes.{inode_at}
 use Rattle.sn_census.specs.Climbs.{KeepsRow, KeepsRows}
 use Rattle.sn_census.specs.Rows.{AreLoaded, Sets, row_at, row_of, unused_row}
 use Rattle.sn_census.specs.declared.table.Row.{Row}
-
-pub row_set : (rows : List Row) (number : ℕ) (row : Row) → number < length rows → Sets number row rows (set rows number row)
-row_set rows number row within = record {
-  here = get_or-set_same rows number row unused_row within;
-  others = λ n other. get_or-set_other rows number n row unused_row other;
-}
 
 pub past_rows : (rows : List Row) (number : ℕ) → length rows ≡ 65536 → 65536 ≤ number → row_at rows number ≡ unused_row
 past_rows rows number size past = get_or_past rows number unused_row (omega (arith, size, past))

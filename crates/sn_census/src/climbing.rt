@@ -1,5 +1,5 @@
 //! The way up from each directory.
-ghost use Rattle.std.specs.Prelude.{◌≡◌, ◌+◌, ◌<◌, ◌≤◌, ℕ, false, Some, IsTrue, IfNone, IfSome};
+ghost use Rattle.std.specs.Prelude.{◌≡◌, ◌+◌, ◌<◌, ℕ, false, Some, IsTrue, IfNone, IfSome};
 ghost use Rattle.sn_limits.specs.declared.kind.Kind.TheVariants.{Directory};
 ghost use Rattle.sn_census.specs.Climbs.{AreClimbed, LeadsUp, AreUnclimbed, KeepsRows, parents_of};
 ghost use Rattle.sn_census.specs.Rows.{row_at};

@@ -7,7 +7,7 @@ use Rattle.sn_layout.specs.declared.root.RootBody.{RootBody}
 use Rattle.sn_layout.specs.Places.{start_of}
 use Rattle.sn_map.specs.Free.{is_free_word}
 use Rattle.sn_ondisk.specs.MapCopy.{map_word}
-use Rattle.sn_ondisk.specs.Trees.{Store, store_of}
+use Rattle.sn_ondisk.specs.Trees.{store_of}
 use Rattle.sn_sound.specs.Maps.{IsSetOfRoots, IsSoundRoot, free_blocks, rooted_in}
 use Rattle.sn_sound.proofs.FreeLemmas.{free_counted, words_counted}
 use Rattle.sn_check_map.specs.Words.{HasWords}

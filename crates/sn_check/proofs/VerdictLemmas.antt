@@ -1,5 +1,5 @@
 -- The groups put together.
-use Rattle.std.proofs.Common.{◌≡◌, inl, inr, ℕ, ◌<◌, Err, IfErr, IfOk, Ok, Result, refl, sym, subst, arith}
+use Rattle.std.proofs.Common.{◌≡◌, inl, inr, ℕ, ◌<◌, Err, IfErr, IfOk, refl, sym, subst, arith}
 use Rattle.sn_device.specs.Sectors.{Contents}
 use Rattle.sn_device.specs.declared.status.Status.{Status}
 use Rattle.sn_layout.specs.declared.places.Slot.{Slot}
@@ -24,7 +24,6 @@ use Rattle.sn_examine.specs.Refusing.{Refuses}
 use Rattle.sn_check.specs.Faults.{IsDamageOf}
 use Rattle.sn_check.specs.Logs.{IsOfLog}
 use Rattle.sn_check.specs.Verdicts.{IsCause, IsRight, verdict_of}
-use Rattle.sn_check.specs.declared.verdict.Verdict.{Verdict}
 
 -- ---- the newest root
 

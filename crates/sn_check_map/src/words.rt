@@ -1,5 +1,5 @@
 //! The words of a copy of the map.
-ghost use Rattle.std.specs.Prelude.{◌≡◌, ◌≢◌, ◌+◌, ◌*◌, ◌<◌, ◌≤◌, ◌^◌, ℕ, length, IsTrue, IfErr, IfNone, IfOk, IfSome, OnOk, slice_index};
+ghost use Rattle.std.specs.Prelude.{◌≡◌, ◌+◌, ◌*◌, ◌<◌, ◌≤◌, ◌^◌, ℕ, length, IsTrue, IfErr, IfNone, IfOk, IfSome, OnOk, slice_index};
 ghost use Rattle.sn_device.specs.Disk.{reads};
 ghost use Rattle.sn_block.specs.Counts.{CountsRead};
 ghost use Rattle.sn_block.specs.Lending.{device_of};

@@ -30,7 +30,7 @@ use Rattle.sn_marks.specs.Marks.{Marks, IsAstray, outside, twice}
 use Rattle.sn_marks.specs.Trees.{StandsInTree}
 use Rattle.sn_marks.specs.declared.fault.CheckFault.{CheckFault}
 use Rattle.sn_marks.proofs.MarkLemmas.{marks_once}
-use Rattle.sn_sound.specs.Faults.{IsMisspelt, LeadsOut, IsReachedTwice, record_block}
+use Rattle.sn_sound.specs.Faults.{IsMisspelt, record_block}
 use Rattle.sn_sound.specs.Faults as fault
 use Rattle.sn_check_root.specs.Rules.{AreNames, HasSoundRecords, IsRootInode, IsSoundButLinks, IsSoundNumber, IsWrong, astray, misspelt, StandsInRoot}
 use Rattle.sn_check_root.proofs.InodeLemmas.{no_names, names_are, reach_of}

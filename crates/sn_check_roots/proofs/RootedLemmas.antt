@@ -1,19 +1,15 @@
 -- The roots of a disk, in a row, each with a bit above those before it.
-use Rattle.std.proofs.Common.{◌≡◌, ◌≢◌, ⊎_elim, ℕ, zero, suc, ◌+◌, ◌<◌, ◌≤◌, ◌&&◌, Bool, true, false, List, [], ◌∷◌, ◌++◌, length, map, take, get_or, Contains, Some, refl, sym, ap, subst, ◌∙◌, arith}
-use Rattle.std.specs.Prelude.{nat_le, nat_lt, slice_index_or}
-use Rattle.std.specs.List.{list_all}
-use Rattle.std.proofs.lemmas.Bool.{and_parts, leb-true, ltb-true}
-use Rattle.std.proofs.lemmas.List.{take_more, length-map}
+use Rattle.std.proofs.Common.{◌≡◌, ◌≢◌, ⊎_elim, ℕ, zero, suc, ◌+◌, ◌<◌, ◌&&◌, true, List, [], ◌∷◌, length, map, take, get_or, Contains, refl, sym, ap, subst, ◌∙◌, arith}
+use Rattle.std.specs.Prelude.{nat_le, nat_lt}
+use Rattle.std.proofs.lemmas.Bool.{and_parts, ltb-true}
+use Rattle.std.proofs.lemmas.List.{take_more}
 use Rattle.std.proofs.lemmas.List.Elements.{Contains-append_cases}
-use Rattle.sn_limits.specs.declared.limits.Limits.{Limits}
-use Rattle.sn_limits.specs.Versions.{limits_of}
 use Rattle.sn_layout.specs.RootBody.{IsRootBody}
-use Rattle.sn_layout.specs.Snapshot.{are_distinct, are_held, are_rising, are_within}
+use Rattle.sn_layout.specs.Snapshot.{are_distinct, are_rising, are_within}
 use Rattle.sn_layout.specs.declared.root.RootBody.{RootBody}
 use Rattle.sn_layout.specs.declared.snapshot.Snapshot.{Snapshot}
 use Rattle.sn_image.proofs.ListLemmas.{none_in}
 use Rattle.sn_image.proofs.PieceLemmas.{cases}
-use Rattle.sn_image.proofs.SoundNodeLemmas.{only_version}
 use Rattle.sn_sound.specs.Maps.{Rooted, frozen_root, rooted_in}
 
 -- ---- rising bits

@@ -1,5 +1,5 @@
 -- The roots of a disk, group by group.
-use Rattle.std.specs.Prelude.{◌≡◌, ℕ, ◌<◌, List, Contains}
+use Rattle.std.specs.Prelude.{ℕ, ◌<◌, List, Contains}
 use Rattle.sn_device.specs.Sectors.{Contents}
 use Rattle.sn_layout.specs.declared.places.Slot.{Slot}
 use Rattle.sn_layout.specs.declared.root.RootBody.{RootBody}

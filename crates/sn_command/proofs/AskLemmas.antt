@@ -246,7 +246,3 @@ module _ {Z : Type 0} where
       let one : name ≡ (out-SubCommand (box_value b)).name.now = same_text name _ e in
       let two : rows ≡ rows_of (found_of (out-SubCommand (box_value b)).matches) = ap (λ (o : Option (List Row)). unwrap_or o rows) f in
       λ i. Some (sym one i, sym two i)
-
-  pub subcommand_none : (o : Option (Box SubCommand Z)) → None ≡ option_map (λ b. (out-SubCommand (box_value b)).name.now) o → subcommand_rows o ≡ None
-  subcommand_none None e = refl
-  subcommand_none (Some b) e = absurd (true≢false (ap is_some (sym e)))

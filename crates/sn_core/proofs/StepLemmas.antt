@@ -177,6 +177,16 @@ module _ (old : World) (kept : ℕ → Bool) (session : ℕ) (c : Call) (o : Out
   pub chosen_becomes : Becomes version_1 old session (decision version_1 old session c) o.told after
   chosen_becomes = becomes_told old after session c o decided (by_change o.change refl is (d.fits numbers whole))
 
+  -- files stay
+  stay_by : (change : Pending) → Chooses old.live kept change o.caller chosen → DoesToOld change → FilesStay old.live tree
+  stay_by Nothing is of_old = same_stay old.live tree (subst (λ (x : Option Change). MadeBy x old.live tree) (ap (λ (x : Chosen). x.change) is) done)
+  stay_by (Makes directory name kind own) is of_old = made_keeps old (link_to directory name) is.0 kind own tree (subst (λ (x : Option Change). MadeBy x old.live tree) (ap (λ (x : Chosen). x.change) is.2) done)
+  stay_by (Does change) is of_old = done_stay change old.live tree of_old (subst (λ (x : Option Change). MadeBy x old.live tree) (ap (λ (x : Chosen). x.change) is) done)
+
+  -- so what has closed by the end was open before
+  pub chosen_closed : (n : ℕ) → has_closed (with_live old tree) after n ≡ has_closed old after n
+  chosen_closed n = closed_same old after tree n whole (stay_by o.change is d.of_old)
+
   -- the numbers that are kept back in the end
   module _ (mid last : ℕ → Bool) (by_mid : (n : ℕ) → mid n ≡ kept_by chosen.change kept n) (by_last : (n : ℕ) → last n ≡ (has_closed (with_live old tree) after n || mid n)) where
     in_end : FilesStay old.live tree → (n : ℕ) → last n ≡ (has_closed old after n || kept_by chosen.change kept n)

@@ -5,6 +5,7 @@ use Rattle.sn_model.specs.Tree.{Tree}
 use Rattle.sn_model.specs.World.{Trees, World, new_world}
 use Rattle.sn_desc.specs.Sessions.{in_use_of}
 use Rattle.sn_numbers.specs.Live.{kept_back_of, live_of}
+use Rattle.sn_numbers.specs.Live as numbers
 use Rattle.sn_core.specs.PlainRuns.{Numbered}
 use Rattle.sn_core.specs.declared.world.PlainWorld.{PlainWorld}
 
@@ -18,6 +19,10 @@ world_of w = record { live = live_of w.tree; frozen = map.empty; sessions = (in_
 -- the numbers that are kept back
 abbrev pub kept_of : PlainWorld → ℕ → Bool
 kept_of w = kept_back_of w.tree
+
+-- those of them that are kept back since the consistency point in progress began, or the durable root's where none is
+abbrev pub kept_since_of : PlainWorld → ℕ → Bool
+kept_since_of w = numbers.kept_since_of w.tree
 
 abbrev pub numbered_of : PlainWorld → Numbered
 numbered_of w = record { world = world_of w; kept = kept_of w }

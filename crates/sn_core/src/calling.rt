@@ -20,13 +20,14 @@ use sn_model::Caller;
 use std::alloc::AllocError;
 
 impl PlainWorld {
-    ghost use Rattle.sn_core.specs.Plain.{kept_of, room_of, world_of};
+    ghost use Rattle.sn_core.specs.Plain.{kept_of, kept_since_of, room_of, world_of};
 
     /// Makes room for the file that a caller opens, if it opens one. Where memory is refused nothing
     /// changes.
     pub fn prepare(&mut self, caller: &Caller) -> Result<(), AllocError>
         ensures world { world_of self.new ≡ world_of self.old }
         ensures kept { kept_of self.new ≡ kept_of self.old }
+        ensures since { kept_since_of self.new ≡ kept_since_of self.old }
         ensures room { OnOk result (HasRoom caller.now (room_of self.new)) }
         ensures opening { OnErr result (is_opening caller.now ≡ true) }
     {
@@ -41,6 +42,7 @@ impl PlainWorld {
         requires session { session < 64 }
         requires room { 0 < room_of self.old }
         ensures kept { kept_of self.new ≡ kept_of self.old }
+        ensures since { kept_since_of self.new ≡ kept_since_of self.old }
         ensures opened { (fd : ℕ) → next_descriptor (world_of self.old).descriptors session ≡ Ok fd → world_of self.new ≡ with_descriptors (world_of self.old) (opened (world_of self.old).descriptors session fd (descriptor_of file)) }
     {
         match self.sessions.open(session, file) {
@@ -54,6 +56,7 @@ impl PlainWorld {
     fn close(&mut self, session: u32, fd: u32) -> Released
         ensures world { world_of self.new ≡ with_caller (world_of self.old) session (Caller.Closes fd) }
         ensures kept { kept_of self.new ≡ kept_of self.old }
+        ensures since { kept_since_of self.new ≡ kept_since_of self.old }
         ensures released { TellsReleased (world_of self.old) (world_of self.new) result.items }
         ensures held { WereHeld (world_of self.old) result.items }
         ensures few { array_vec_len result + live_in (world_of self.new).descriptors ≤ live_in (world_of self.old).descriptors }
@@ -71,6 +74,7 @@ impl PlainWorld {
         requires opens { CanTurn (world_of self.old).descriptors (room_of self.old) session caller }
         ensures world { world_of self.new ≡ with_caller (world_of self.old) session caller }
         ensures kept { kept_of self.new ≡ kept_of self.old }
+        ensures since { kept_since_of self.new ≡ kept_since_of self.old }
         ensures released { TellsReleased (world_of self.old) (world_of self.new) result.items }
         ensures held { WereHeld (world_of self.old) result.items }
         ensures few { array_vec_len result + live_in (world_of self.new).descriptors ≤ live_in (world_of self.old).descriptors + (if is_opening caller then 1 else 0) }
@@ -116,6 +120,7 @@ impl PlainWorld {
         requires room { array_vec_len dropped.old < 65 }
         ensures world { world_of self.new ≡ dropped_if (world_of self.old) number }
         ensures kept { (n : ℕ) → kept_of self.new n ≡ ((is_abandoned (world_of self.old) number && n == number) || kept_of self.old n) }
+        ensures since { (n : ℕ) → kept_since_of self.new n ≡ ((is_abandoned (world_of self.old) number && n == number) || kept_since_of self.old n) }
         ensures told { dropped.new.items ≡ told_if (world_of self.old) number true dropped.old.items }
     {
         if self.is_abandoned(number) {
@@ -135,6 +140,7 @@ impl PlainWorld {
         ensures left { (number : ℕ) → is_abandoned (world_of self.new) number ≡ true → (is_abandoned (world_of self.old) number ≡ true) × (Contains numbers.now number → ⊥) }
         ensures gone { (number : ℕ) → has_gone (world_of self.old) (world_of self.new) number ≡ true → Contains numbers.now number }
         ensures kept { (number : ℕ) → kept_of self.new number ≡ (has_gone (world_of self.old) (world_of self.new) number || kept_of self.old number) }
+        ensures since { (number : ℕ) → kept_since_of self.new number ≡ (has_gone (world_of self.old) (world_of self.new) number || kept_since_of self.old number) }
         ensures told { TellsGone (world_of self.old).live (world_of self.new).live result.items }
         ensures closed { All (λ file. file.by_close ≡ true) result.items }
         ensures few { array_vec_len result ≤ length numbers.now }
@@ -153,6 +159,7 @@ impl PlainWorld {
         requires room { array_vec_len dropped.old < 65 }
         ensures world { world_of self.new ≡ dropped_if (world_of self.old) number }
         ensures kept { (n : ℕ) → kept_of self.new n ≡ kept_of self.old n }
+        ensures since { (n : ℕ) → kept_since_of self.new n ≡ kept_since_of self.old n }
         ensures told { dropped.new.items ≡ told_if (world_of self.old) number false dropped.old.items }
     {
         if self.is_abandoned(number) {
@@ -170,6 +177,7 @@ impl PlainWorld {
         requires room { array_vec_len dropped.old < 65 }
         ensures world { world_of self.new ≡ dropped_lost (world_of self.old) lost }
         ensures kept { (n : ℕ) → kept_of self.new n ≡ kept_of self.old n }
+        ensures since { (n : ℕ) → kept_since_of self.new n ≡ kept_since_of self.old n }
         ensures told { dropped.new.items ≡ told_lost (world_of self.old) lost dropped.old.items }
     {
         if let Some(number) = lost {
@@ -187,6 +195,7 @@ impl PlainWorld {
         requires lost { OnlyLost (world_of self.old) lost }
         ensures world { world_of self.new ≡ dropped (with_caller (world_of self.old) session caller) }
         ensures kept { (number : ℕ) → kept_of self.new number ≡ (has_closed (world_of self.old) (world_of self.new) number || kept_of self.old number) }
+        ensures since { (number : ℕ) → kept_since_of self.new number ≡ (has_closed (world_of self.old) (world_of self.new) number || kept_since_of self.old number) }
         ensures told { TellsGone (world_of self.old).live (world_of self.new).live result.items }
         ensures closed { All (λ file. file.by_close ≡ is_held (world_of self.old) file.number) result.items }
         ensures few { array_vec_len result + live_in (world_of self.new).descriptors

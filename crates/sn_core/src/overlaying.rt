@@ -3,7 +3,7 @@ ghost use Rattle.sn_limits.specs.Versions.{version_1};
 ghost use Rattle.sn_model.specs.Changes.{apply};
 ghost use Rattle.sn_model.specs.NameTree.{IsTree};
 ghost use Rattle.sn_model.specs.Tree.{Tree};
-ghost use Rattle.sn_numbers.specs.Numbers.{kept_after};
+ghost use Rattle.sn_numbers.specs.Numbers.{kept_after, since_after};
 ghost use Rattle.sn_overlay.specs.Merges.{merge};
 ghost use Rattle.sn_overlay.specs.Overlays.{HasRoom, TakesRoom, layer_of};
 ghost use Rattle.sn_overlay_change.specs.ChangeLayers.{layer_of_change};
@@ -18,7 +18,7 @@ use sn_plain::ApplyError;
 use std::alloc::{AllocError, Global};
 
 impl PlainWorld {
-    ghost use Rattle.sn_core.specs.Plain.{kept_of, room_of, world_of};
+    ghost use Rattle.sn_core.specs.Plain.{kept_of, kept_since_of, room_of, world_of};
 
     /// The overlay of a change that can be made of the live tree: what the change makes different of it.
     /// Memory alone may be refused.
@@ -41,7 +41,9 @@ impl PlainWorld {
         requires { IsTree version_1 (world_of self.old).live }
         ensures made { MakesChange result change.now (world_of self.old) (world_of self.new) }
         ensures kept { OnOk result ((n : ℕ) → kept_of self.new n ≡ kept_after change.now (kept_of self.old) n) }
+        ensures since { OnOk result ((n : ℕ) → kept_since_of self.new n ≡ since_after change.now (kept_of self.old) (kept_since_of self.old) n) }
         ensures same { OnErr result ((n : ℕ) → kept_of self.new n ≡ kept_of self.old n) }
+        ensures same_since { OnErr result ((n : ℕ) → kept_since_of self.new n ≡ kept_since_of self.old n) }
         ensures room { room_of self.new ≡ room_of self.old }
         ensures layer { OnOk result (layer_of changed.new ≡ merge (layer_of changed.old) (layer_of_change (world_of self.old).live change.now)) }
         ensures drops { OnOk result (HasRoom changed.new (record { nodes = drops; names = 0; blocks = 0 })) }

@@ -12,7 +12,7 @@ ghost use Rattle.sn_model.specs.World.{new_world};
 ghost use Rattle.sn_walk.specs.Gives.{Answers};
 ghost use Rattle.sn_core.specs.Served.{MakesChange, Serves};
 ghost use Rattle.sn_numbers.specs.Live.{live_of};
-ghost use Rattle.sn_numbers.specs.Numbers.{kept_after};
+ghost use Rattle.sn_numbers.specs.Numbers.{kept_after, since_after};
 
 use crate::choosing::Chosen;
 use crate::error::CallError;
@@ -34,12 +34,13 @@ pub struct PlainWorld {
 }
 
 impl PlainWorld {
-    ghost use Rattle.sn_core.specs.Plain.{kept_of, numbered_of, room_of, world_of, world_over};
+    ghost use Rattle.sn_core.specs.Plain.{kept_of, kept_since_of, numbered_of, room_of, world_of, world_over};
 
     /// A root directory alone, nobody logged in, and no number kept back.
     pub fn new(alloc: Global) -> Result<PlainWorld, AllocError>
         ensures world { IfOk result (λ w. world_of w ≡ new_world) }
         ensures kept { IfOk result (λ w. (n : ℕ) → kept_of w n ≡ false) }
+        ensures since { IfOk result (λ w. (n : ℕ) → kept_since_of w n ≡ false) }
         ensures whole { IfOk result (λ w. IsWorld version_1 (world_of w)) }
     {
         let tree = LiveTree::new(alloc)?;
@@ -53,6 +54,7 @@ impl PlainWorld {
         requires { IsTree version_1 (tree_of tree) }
         ensures world { IfOk result (λ w. world_of w ≡ world_over (tree_of tree)) }
         ensures kept { IfOk result (λ w. (n : ℕ) → kept_of w n ≡ false) }
+        ensures since { IfOk result (λ w. (n : ℕ) → kept_since_of w n ≡ false) }
         ensures whole { IfOk result (λ w. ((number : ℕ) → HasKind (tree_of tree) number File
             → 0 < names_for (tree_of tree) number) → IsWorld version_1 (world_of w)) }
         ensures settled { IfOk result (λ w. IsWorld version_1 (settle (world_of w))) }
@@ -88,7 +90,9 @@ impl PlainWorld {
         requires { IsTree version_1 (world_of self.old).live }
         ensures made { MakesChange result change.now (world_of self.old) (world_of self.new) }
         ensures kept { OnOk result ((n : ℕ) → kept_of self.new n ≡ kept_after change.now (kept_of self.old) n) }
+        ensures since { OnOk result ((n : ℕ) → kept_since_of self.new n ≡ since_after change.now (kept_of self.old) (kept_since_of self.old) n) }
         ensures same { OnErr result ((n : ℕ) → kept_of self.new n ≡ kept_of self.old n) }
+        ensures same_since { OnErr result ((n : ℕ) → kept_since_of self.new n ≡ kept_since_of self.old n) }
         ensures room { room_of self.new ≡ room_of self.old }
     {
         self.tree.apply(alloc, &Limits::VERSION_1, change)
@@ -98,6 +102,7 @@ impl PlainWorld {
     pub fn settle(&mut self)
         ensures world { world_of self.new ≡ settle (world_of self.old) }
         ensures kept { (n : ℕ) → kept_of self.new n ≡ false }
+        ensures since { (n : ℕ) → kept_since_of self.new n ≡ false }
     {
         self.tree.settle();
         self.sessions.clear();

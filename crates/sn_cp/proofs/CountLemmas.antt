@@ -1,14 +1,10 @@
 -- What is left of a point, step by step.
-use Rattle.std.proofs.Common.{◌≡◌, ℕ, zero, suc, ◌+◌, ◌<◌, ◌≤◌, Bool, true, false, cond, List, [], ◌∷◌, length, nat_lt, refl, sym, ap, arith}
-use Rattle.std.specs.List.{AllByRecursion, AllPairs, slice_index_or}
+use Rattle.std.proofs.Common.{◌≡◌, ℕ, ◌+◌, ◌<◌, ◌≤◌, Bool, true, false, cond, length, nat_lt, refl, sym, ap, arith}
 use Rattle.std.proofs.lemmas.Bool.{ltb-false, ltb-true}
-use Rattle.std.proofs.lemmas.List.Kept.{AllPairs-from_increasing}
 use Rattle.sn_layout.specs.declared.gate.Gate.{Gate}
 use Rattle.sn_layout.specs.declared.gate.Gate.TheVariants.{Open, Closed}
-use Rattle.sn_layout.specs.declared.places.Area.TheVariants.{Data}
-use Rattle.sn_layout.specs.Places.{IsIn, map_blocks}
+use Rattle.sn_layout.specs.Places.{map_blocks}
 use Rattle.sn_root.specs.Replacing.{closing_writes}
-use Rattle.sn_opening.specs.Points.{Written, numbers_written}
 use Rattle.sn_cp.specs.Points.{Work}
 use Rattle.sn_cp.specs.Steps.{IsWhole, IsWithin, next_stage, syncs_of, with_map, writes_of}
 use Rattle.sn_cp.specs.Counting.{IsStageOf, root_steps, steps_left, syncs_left, writes_left}
@@ -17,28 +13,6 @@ use Rattle.sn_cp.specs.declared.stage.Stage.{Stage}
 use Rattle.sn_cp.specs.declared.stage.Stage.TheVariants.{Blocks, MapBlocks, Stored, Shut, Bodied, Done}
 
 -- ---- the new blocks are fewer than those of the disk
-
-rises : (xs : List ℕ) → AllPairs (λ x y. x < y) xs → (k : ℕ) → k < length xs → k ≤ slice_index_or xs k 0
-rises xs pairs zero within = omega arith
-rises xs pairs (suc k) within = omega (arith, rises xs pairs k (omega (arith, within)), pairs k (suc k) 0 (omega arith) within)
-
-below_at : (n : ℕ) (blocks : List Written) (k : ℕ) → AllByRecursion (λ (b : Written). IsIn n Data b.0) blocks → k < length (numbers_written blocks) → slice_index_or (numbers_written blocks) k 0 < n
-below_at n [] k lie within = absurd (omega (arith, within))
-below_at n (b ∷ bs) zero lie within = lie.0.below
-below_at n (b ∷ bs) (suc k) lie within = below_at n bs k lie.1 (omega (arith, within))
-
-count_of : (blocks : List Written) → length (numbers_written blocks) ≡ length blocks
-count_of [] = refl
-count_of (b ∷ bs) = ap (λ (k : ℕ). suc k) (count_of bs)
-
-few_numbers : (n count : ℕ) (blocks : List Written) → length (numbers_written blocks) ≡ count → AllPairs (λ x y. x < y) (numbers_written blocks) → AllByRecursion (λ (b : Written). IsIn n Data b.0) blocks → count ≤ n
-few_numbers n zero blocks is pairs lie = omega arith
-few_numbers n (suc k) blocks is pairs lie =
-    let within : k < length (numbers_written blocks) = omega (arith, is) in
-    omega (arith, rises (numbers_written blocks) pairs k within, below_at n blocks k lie within)
-
-pub blocks_few : (w : Work) → IsWhole w → length w.plan.blocks ≤ w.blocks
-blocks_few w whole = few_numbers w.blocks (length w.plan.blocks) w.plan.blocks (count_of w.plan.blocks) (AllPairs-from_increasing (numbers_written w.plan.blocks) whole.once) whole.place
 
 map_some : (w : Work) → IsWhole w → 1 ≤ map_blocks w.blocks
 map_some w whole = omega (arith, whole.size.least)

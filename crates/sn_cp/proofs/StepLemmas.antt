@@ -1,5 +1,5 @@
 -- How each step leads to the next stage.
-use Rattle.std.proofs.Common.{◌≡◌, ◌≢◌, ℕ, zero, suc, ◌+◌, ◌*◌, ◌-◌, ◌<◌, ◌≤◌, Bool, true, false, cond, List, [], ◌∷◌, length, map, take, drop, min, nat_lt, Result, Err, OnOk, IsTrue, refl, sym, ap, subst, ◌∙◌, arith}
+use Rattle.std.proofs.Common.{◌≡◌, ◌≢◌, ℕ, zero, suc, ◌+◌, ◌*◌, ◌-◌, ◌<◌, ◌≤◌, Bool, true, false, cond, List, [], ◌∷◌, length, map, take, drop, min, nat_lt, Result, OnOk, IsTrue, refl, sym, ap, subst, ◌∙◌, arith}
 use Rattle.std.specs.List.{AllByRecursion, AllPairs, slice_index_or}
 use Rattle.std.proofs.lemmas.Bool.{ltb-false}
 use Rattle.std.proofs.lemmas.List.{length-drop, take_all, take_min}
@@ -118,10 +118,6 @@ module _ (w : Work) (whole : IsWhole w) (k : ℕ) (within : k < map_blocks w.blo
         (λ done. subst (λ (b : Bool). StandsAtStage w (cond b (MapBlocks (k + 1)) (with_map w.gate)) mid) (sym more) (record { reached = done; gate = map_gate }))
         map_reached;
   }
-
-  -- a write that fails
-  pub map_fails : {U : Type 0} (fault : U) → StepsTo {T = T} w (MapBlocks k) (Err fault) old mid
-  map_fails fault = record { touched = writes.touched; root = tt; next = tt }
 
   -- the last, and the sync behind it
   module _ (last : nat_lt (k + 1) (map_blocks w.blocks) ≡ false) (wrote : HasReached w.blocks mid w.slot w.plan (far.MapBlocks (k + 1))) {U F : Type 0} (answer : Result U F) (new : Disk) (syncs : SyncsAll answer mid new) where

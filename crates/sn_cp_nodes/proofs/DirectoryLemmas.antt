@@ -53,9 +53,6 @@ empty_entry : (s : Store) (i : ℕ) → entry s (levels_of 0) (replicate 16 0) i
 unfolding entry
 empty_entry s i = empty_pointer i
 
-empty_names : (s : Store) → names_of s (Tree empty_tree) ≡ []
-empty_names s = refl
-
 pub empty_reach : (s : Store) → tree_reach s empty_tree ≡ []
 unfolding tree_reach all_pointers
 empty_reach s = refl

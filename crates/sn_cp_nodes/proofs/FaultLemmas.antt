@@ -1,10 +1,9 @@
 -- Why a node isn't planned.
-use Rattle.std.proofs.Common.{◌≡◌, ◌⊎◌, inl, inr, ℕ, ◌+◌, ◌*◌, ◌%◌, ◌<◌, ◌≤◌, Bool, true, false, List, [], length, Option, Result, Err, refl, sym, ap, subst, ◌∙◌, arith}
+use Rattle.std.proofs.Common.{◌≡◌, inl, inr, ℕ, ◌+◌, ◌*◌, ◌<◌, Bool, true, false, List, [], length, Option, Result, Err, refl, sym, ap, subst, ◌∙◌, arith}
 use Rattle.std.proofs.lemmas.List.{append-nil, length-map}
 use Rattle.sn_alloc.specs.Taking.{free_data}
 use Rattle.sn_dir_change.specs.Planned.{CannotRead, IsSizeWith, IsTooFullFor}
 use Rattle.sn_dir_change.specs.declared.name_change.NameChange.{NameChange}
-use Rattle.sn_image.specs.Contents.{content_reach}
 use Rattle.sn_inode.specs.declared.changes.AclChange.{AclChange}
 use Rattle.sn_inode.specs.declared.changes.RecordChange.TheVariants.{Used}
 use Rattle.sn_layout.specs.Pointers.{levels_of}
@@ -16,7 +15,6 @@ use Rattle.sn_ondisk.specs.Counts.{times}
 use Rattle.sn_ondisk.specs.Trees.{Store}
 use Rattle.sn_overlay.specs.declared.node.NodeState.{NodeState}
 use Rattle.sn_tree.specs.Drafts.{Draft}
-use Rattle.sn_tree.specs.Steps.{LeadsOutside}
 use Rattle.sn_tree.specs.declared.fault.PlanFault.{PlanFault}
 use Rattle.sn_tree.specs.declared.new_block.NewBlock.{NewBlock}
 use Rattle.sn_tree.specs.declared.fault.PlanFault.TheVariants.{Full}
@@ -29,22 +27,6 @@ use Rattle.sn_cp_nodes.proofs.DirectoryLemmas.{empty_reach}
 
 same_tree : (a b : BlockTree) → Tree a ≡ Tree b → a ≡ b
 same_tree a b e = cc
-
--- where it doesn't begin though it can, a block that the old content reaches isn't on the device
-pub begun_outside : (sectors : ℕ) (s : Store) (old : Content) (fresh : Bool) → ((fresh ≡ false) × ((tree : BlockTree) → old ≡ Tree tree → ⊥)) ⊎ LeadsOutside sectors (content_reach s old)
-    → (fresh ≡ false → CanBegin sectors s old) → LeadsOutside sectors (content_reach s old)
-begun_outside sectors s old fresh (inl none) can = let begin = can none.0 in absurd (none.1 begin.tree begin.is)
-begun_outside sectors s old fresh (inr outside) can = outside
-
-pub roomy_begun : (Told : Type 0) (sectors : ℕ) (s : Store) (old : Content) (fresh : Bool) (tree : BlockTree) (a b : Draft) → IsBegun Told s old fresh tree a b → (fresh ≡ false → CanBegin sectors s old)
-    → (tree.size % 4096 ≡ 0) × (tree.size ≤ 35184372088832)
-roomy_begun Told sectors s old true tree a b begun can =
-    let empty : tree.size ≡ 0 = ap (λ (t : BlockTree). t.size) (begun.empty refl) in
-    (ap (λ (size : ℕ). size % 4096) empty, omega (arith, empty))
-roomy_begun Told sectors s old false tree a b begun can =
-    let begin = can refl in
-    let is : begin.tree ≡ tree = same_tree begin.tree tree (sym begin.is ∙ (begun.kept refl).0) in
-    subst (λ (t : BlockTree). (t.size % 4096 ≡ 0) × (t.size ≤ 35184372088832)) is (begin.whole, begin.most)
 
 -- a tree without blocks can be read
 read_empty : (sectors : ℕ) (s : Store) → CannotRead sectors s empty_tree → ⊥

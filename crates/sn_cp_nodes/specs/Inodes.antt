@@ -1,5 +1,5 @@
 -- The inode that a node is to have.
-use Rattle.std.specs.Prelude.{◌≡◌, ℕ, ◌^◌, ◌<◌, ◌≤◌, false, [], length, Option, None, Some, IsSomeAnd}
+use Rattle.std.specs.Prelude.{◌≡◌, ◌^◌, ◌<◌, ◌≤◌, false, [], length, Option, None, Some, IsSomeAnd}
 use Rattle.sn_acl.specs.declared.modes.Mode.{Mode}
 use Rattle.sn_inode.specs.Changes.{IsChanged}
 use Rattle.sn_inode.specs.declared.changes.AclChange.{AclChange}

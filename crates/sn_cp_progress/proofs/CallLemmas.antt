@@ -1,6 +1,5 @@
 -- What a call between two steps of a point leaves of the point.
 use Rattle.std.proofs.Common.{◌≡◌, ◌⊎◌, inr, ℕ, ◌+◌, ◌≤◌, Bool, List, [], ◌∷◌, ◌++◌, Some, refl, sym, ap, subst, ◌∙◌, append_assoc, arith}
-use Rattle.sn_changed.specs.Changed.{HasChanged}
 use Rattle.sn_device.specs.Sectors.{AreSectors}
 use Rattle.sn_device.specs.Disk.{Always, reads}
 use Rattle.sn_device.specs.Crash.{LeavesOnly, Touches}
@@ -24,13 +23,12 @@ use Rattle.sn_opening.specs.Opens.{IsDisk}
 use Rattle.sn_opening.proofs.CoveringLemmas.{dropping_covers, one_more_covers}
 use Rattle.sn_opening.proofs.LogLemmas.{of_position}
 use Rattle.sn_opening.proofs.SpelledLemmas.{spelled_more}
-use Rattle.sn_overlay.specs.Layers.{Layer}
 use Rattle.sn_overlay.specs.Needs.{nameless_in}
 use Rattle.sn_record.specs.Payload.{IsSpelled}
 use Rattle.sn_room.specs.Rooms.{RoomCounts, done, dropping, logged}
 use Rattle.sn_sound.specs.Logs.{HasAgeLeft}
 use Rattle.sn_held.specs.Events.{IsOfTree, LeavesEither, LeavesMore}
-use Rattle.sn_held.specs.Held.{Held, Kept, Runs}
+use Rattle.sn_held.specs.Held.{CarriesOn, Held, Kept, Runs}
 use Rattle.sn_held.specs.Images.{IsImage}
 use Rattle.sn_held.specs.Room.{HasRoomFor, IsCharged}
 use Rattle.sn_held.proofs.EventLemmas.{disk_always, leaves_either}
@@ -87,8 +85,8 @@ module _ (old new : Held) (world next : World) (p : Progress) (change : Change) 
   rest_now : Always new.disk (Rests n r.store r.slot r.root r.words r.root.epoch r.older)
   rest_now = LeavesOnly-now old.disk new.disk (Rests n r.store r.slot r.root r.words r.root.epoch r.older) rest
 
-  module _ (since : Layer) (fits_next : HasRoomFor (done p.free old.room) world.live change) (leaves : LeavesMore old.at change old.disk new.disk) (whole : AreSectors (reads new.disk)) (no_fewer : nameless_in world.live ≤ nameless_in next.live)
-      (carried : (root : Tree) → HasChanged version_1 p.since root world.live old.room.charged_since → HasChanged version_1 since root next.live (old.room.charged_since + charge_for version_1 world.live change)) (hierarchic : IsTree version_1 next.live) where
+  module _ (fits_next : HasRoomFor (done p.free old.room) world.live change) (leaves : LeavesMore old.at change old.disk new.disk) (whole : AreSectors (reads new.disk)) (no_fewer : nameless_in world.live ≤ nameless_in next.live)
+      (carried : CarriesOn old.base world.live old.room.charged_since new.base next.live (old.room.charged_since + charge_for version_1 world.live change)) (hierarchic : IsTree version_1 next.live) where
     abbrev after : Held
     after = record new { at = behind old.at change; room = logged (charge_for version_1 world.live change) old.room; world = next }
 
@@ -123,7 +121,7 @@ module _ (old new : Held) (world next : World) (p : Progress) (change : Change) 
       frozen = of.frozen ∙ r.frozen;
     }
 
-    after_on : RunsOn after next (record p { since = since })
+    after_on : RunsOn after next p
     unfolding after_runs
     after_on =
         let written = of_position n (r.root.epoch + 1) old.at old.disk new.disk refl ro.point.epoch touched in
@@ -141,7 +139,9 @@ module _ (old new : Held) (world next : World) (p : Progress) (change : Change) 
             cover = new_cover;
             charged = λ t same holds. one_charged (done p.free old.room) t p.work.plan.next r.newer (ro.point.charged t same holds)
                 (subst (λ (from : Tree). MakesCover version_1 r.newer from world.live) (sym (ro.point.of.built.tree t same holds)) ro.point.cover) fits_next no_fewer;
-            changed = carried p.frozen ro.point.changed;
+            slot = carried.slot ∙ ro.point.slot;
+            root = carried.root ∙ ro.point.root;
+            changed = carried.changed p.frozen ro.point.changed;
             tree = hierarchic;
           };
         }
@@ -151,19 +151,19 @@ pub appends_leave : (old new : Held) (world next : World) (p : Progress) (change
     → LeavesOnly old.disk new.disk (λ c. IsImage c (settle world) ⊎ IsImage c (settle next))
 appends_leave old new world next p change tree ro spelled applied of hierarchy has_room aged touched leaves = appends_either old new world next p change tree ro spelled applied of hierarchy has_room aged touched leaves
 
-pub appends_go_on : (old new : Held) (world next : World) (p : Progress) (since : Layer) (change : Change) (tree : Tree) (r : RunsOn old world p) → IsSpelled change → apply version_1 change world.live ≡ Some tree → IsOfTree world tree next → IsHierarchy world.live → HasRoomFor old.room world.live change → HasRoomFor (done p.free old.room) world.live change → HasAgeLeft r.runs.root
+pub appends_go_on : (old new : Held) (world next : World) (p : Progress) (change : Change) (tree : Tree) (r : RunsOn old world p) → IsSpelled change → apply version_1 change world.live ≡ Some tree → IsOfTree world tree next → IsHierarchy world.live → HasRoomFor old.room world.live change → HasRoomFor (done p.free old.room) world.live change → HasAgeLeft r.runs.root
     → Touches (InHalf (base_at old.at)) old.disk new.disk → LeavesMore old.at change old.disk new.disk → AreSectors (reads new.disk)
     → new.at ≡ behind old.at change → new.room ≡ logged (charge_for version_1 world.live change) old.room → new.world ≡ next → nameless_in world.live ≤ nameless_in next.live
-    → ((root : Tree) → HasChanged version_1 p.since root world.live old.room.charged_since → HasChanged version_1 since root next.live (old.room.charged_since + charge_for version_1 world.live change)) → IsTree version_1 next.live
-    → RunsOn new next (record p { since = since })
-appends_go_on old new world next p since change tree ro spelled applied of hierarchy has_room fits_next aged touched leaves whole at charged is no_fewer carried hierarchic =
-    subst (λ (h : Held). RunsOn h next (record p { since = since })) (λ i. record new { at = sym at i; room = sym charged i; world = sym is i })
-    (after_on old new world next p change tree ro spelled applied of hierarchy has_room aged touched since fits_next leaves whole no_fewer carried hierarchic)
+    → CarriesOn old.base world.live old.room.charged_since new.base next.live (old.room.charged_since + charge_for version_1 world.live change) → IsTree version_1 next.live
+    → RunsOn new next p
+appends_go_on old new world next p change tree ro spelled applied of hierarchy has_room fits_next aged touched leaves whole at charged is no_fewer carried hierarchic =
+    subst (λ (h : Held). RunsOn h next p) (λ i. record new { at = sym at i; room = sym charged i; world = sym is i })
+    (after_on old new world next p change tree ro spelled applied of hierarchy has_room aged touched fits_next leaves whole no_fewer carried hierarchic)
 
 -- ---- files without names that go
 
-module _ (h : Held) (world next : World) (p : Progress) (since : Layer) (kept : ℕ → Bool) (count : ℕ) (base : Kept) (ro : RunsOn h world p) (of : IsOfTree world world.live next) (counted : nameless_in world.live ≤ nameless_in next.live + count) where
-  drop_runs : Runs (record h { world = next; kept = kept; room = dropping count h.room; base = base }) next
+module _ (h : Held) (world next : World) (p : Progress) (kept since : ℕ → Bool) (count : ℕ) (base : Kept) (ro : RunsOn h world p) (of : IsOfTree world world.live next) (counted : nameless_in world.live ≤ nameless_in next.live + count) where
+  drop_runs : Runs (record h { world = next; kept = kept; kept_since = since; room = dropping count h.room; base = base }) next
   drop_runs =
       let r = ro.runs in
       record {
@@ -187,8 +187,8 @@ module _ (h : Held) (world next : World) (p : Progress) (since : Layer) (kept : 
         age = r.age;
       }
 
-  module _ (carried : (root : Tree) → HasChanged version_1 p.since root world.live h.room.charged_since → HasChanged version_1 since root next.live h.room.charged_since) (hierarchic : IsTree version_1 next.live) where
-    drop_on : RunsOn (record h { world = next; kept = kept; room = dropping count h.room; base = base }) next (record p { since = since })
+  module _ (carried : CarriesOn h.base world.live h.room.charged_since base next.live h.room.charged_since) (hierarchic : IsTree version_1 next.live) where
+    drop_on : RunsOn (record h { world = next; kept = kept; kept_since = since; room = dropping count h.room; base = base }) next p
     unfolding drop_runs
     drop_on =
         let q = ro.point in
@@ -203,12 +203,14 @@ module _ (h : Held) (world next : World) (p : Progress) (since : Layer) (kept : 
             none_later = q.none_later;
             cover = left_covers ro.runs.newer p.frozen world.live next.live of.held of.live q.cover;
             charged = λ t same holds. let it = q.charged t same holds in record { free = it.free; charged = it.charged; parked = omega (arith, it.parked, counted); fits = it.fits };
-            changed = carried p.frozen q.changed;
+            slot = carried.slot ∙ q.slot;
+            root = carried.root ∙ q.root;
+            changed = carried.changed p.frozen q.changed;
             tree = hierarchic;
           };
         }
 
-pub drops_go_on : (h : Held) (world next : World) (p : Progress) (since : Layer) (kept : ℕ → Bool) (count : ℕ) (base : Kept) → RunsOn h world p → IsOfTree world world.live next → nameless_in world.live ≤ nameless_in next.live + count
-    → ((root : Tree) → HasChanged version_1 p.since root world.live h.room.charged_since → HasChanged version_1 since root next.live h.room.charged_since) → IsTree version_1 next.live
-    → RunsOn (record h { world = next; kept = kept; room = dropping count h.room; base = base }) next (record p { since = since })
-drops_go_on h world next p since kept count base ro of counted carried hierarchic = drop_on h world next p since kept count base ro of counted carried hierarchic
+pub drops_go_on : (h : Held) (world next : World) (p : Progress) (kept since : ℕ → Bool) (count : ℕ) (base : Kept) → RunsOn h world p → IsOfTree world world.live next → nameless_in world.live ≤ nameless_in next.live + count
+    → CarriesOn h.base world.live h.room.charged_since base next.live h.room.charged_since → IsTree version_1 next.live
+    → RunsOn (record h { world = next; kept = kept; kept_since = since; room = dropping count h.room; base = base }) next p
+drops_go_on h world next p kept since count base ro of counted carried hierarchic = drop_on h world next p kept since count base ro of counted carried hierarchic

@@ -79,7 +79,7 @@ module _ (h : Held) (world : World) (k : Kept) (ready : RunsReady h world k) (w 
       (later_weaker c (base_of places old.root.epoch) old.root.epoch (old.root.epoch + 1) (omega arith) around.none_later)
       (ready_no_later places c (first_of places (old.root.epoch + 1)) [] (old.root.epoch + 1) (old.root.epoch + 1) around.disk refl refl (omega arith) one_on around.ready) epoch
 
-  begins_runs : Runs (record h { room = begun h.room; at = first_of places (old.root.epoch + 1); disk = d }) world
+  begins_runs : Runs (record h { room = begun h.room; at = first_of places (old.root.epoch + 1); base = record k { changed = no_changes }; disk = d }) world
   begins_runs = record {
     is = old.is;
     store = old.store;
@@ -111,7 +111,7 @@ module _ (h : Held) (world : World) (k : Kept) (ready : RunsReady h world k) (w 
     frozen = old.frozen;
   }
 
-  begins_on : RunsOn (record h { room = begun h.room; at = first_of places (old.root.epoch + 1); disk = d }) world (record { work = w; stage = stage; frozen = world.live; free = free; since = no_changes })
+  begins_on : RunsOn (record h { room = begun h.room; at = first_of places (old.root.epoch + 1); base = record k { changed = no_changes }; disk = d }) world (record { work = w; stage = stage; frozen = world.live; free = free })
   unfolding begins_runs
   begins_on = record {
     runs = begins_runs;
@@ -124,6 +124,8 @@ module _ (h : Held) (world : World) (k : Kept) (ready : RunsReady h world k) (w 
       none_later = λ c crash. (has.around c crash).none_later;
       cover = covers_alone world.live;
       charged = of.charged;
+      slot = ready.ready.slot;
+      root = ready.ready.root;
       changed = nothing_changed version_1 world.live;
       tree = ready.ready.tree;
     };
@@ -131,7 +133,7 @@ module _ (h : Held) (world : World) (k : Kept) (ready : RunsReady h world k) (w 
 
 pub point_begins : (h : Held) (world : World) (k : Kept) (r : RunsReady h world k) (w : Work) (free : ℕ) (stage : Stage) (d : Disk) → IsOfLive h world r.runs w (fresh free) → AreSectors (reads d)
     → HasBegun h world r.runs d → IsWithin w stage → StandsAtStage w stage d
-    → RunsOn (record h { room = begun h.room; at = first_of h.at.blocks (r.runs.root.epoch + 1); disk = d }) world (record { work = w; stage = stage; frozen = world.live; free = free; since = no_changes })
+    → RunsOn (record h { room = begun h.room; at = first_of h.at.blocks (r.runs.root.epoch + 1); base = record k { changed = no_changes }; disk = d }) world (record { work = w; stage = stage; frozen = world.live; free = free })
 point_begins h world k ready w free stage d of whole has within stands = begins_on h world k ready w free stage d of whole has within stands
 
 -- ---- the steps that end with the last one
@@ -238,7 +240,7 @@ module _ (h : Held) (world : World) (p : Progress) (ro : RunsOn h world p) (resu
           frozen = next_frozen t now.same now.blocks;
         }
 
-    last_ready : RunsReady behind world (kept_behind p)
+    last_ready : RunsReady behind world (kept_behind h p)
     unfolding last_runs
     last_ready =
         let here = around_then h world p ro d touched in
@@ -249,16 +251,16 @@ module _ (h : Held) (world : World) (p : Progress) (ro : RunsOn h world p) (resu
             slot = refl;
             root = refl;
             words = refl;
-            changed = subst (λ (from : Tree). HasChanged version_1 p.since from world.live h.room.charged_since) (sym (next_tree t now.same now.blocks)) ro.point.changed;
+            changed = subst (λ (from : Tree). HasChanged version_1 h.base.changed from world.live h.room.charged_since) (sym (next_tree t now.same now.blocks)) ro.point.changed;
             tree = ro.point.tree;
           };
         }
 
-  last_ends : OnOk result (RunsReady (record h { room = done p.free h.room; disk = d }) world (kept_behind p))
+  last_ends : OnOk result (RunsReady (record h { room = done p.free h.room; disk = d }) world (kept_behind h p))
   last_ends = OnOk-both result last_ready reached either.done
 
 module _ (h : Held) (world : World) (p : Progress) (result : Result (Unit {0}) Fault) (d : Disk) (ro : RunsOn h world p) (whole : AreSectors (reads d)) where
-  pub point_ends : p.stage ≡ Bodied → StepsTo p.work p.stage result h.disk d → LeavesOnly h.disk d (λ c. IsImage c (settle world)) × OnOk result (RunsReady (record h { room = done p.free h.room; disk = d }) world (kept_behind p))
+  pub point_ends : p.stage ≡ Bodied → StepsTo p.work p.stage result h.disk d → LeavesOnly h.disk d (λ c. IsImage c (settle world)) × OnOk result (RunsReady (record h { room = done p.free h.room; disk = d }) world (kept_behind h p))
   point_ends is_last step =
       let old = ro.runs in
       let stands = subst (λ (stage : Stage). StandsAtStage p.work stage h.disk) is_last ro.point.stands in
@@ -267,7 +269,7 @@ module _ (h : Held) (world : World) (p : Progress) (result : Result (Unit {0}) F
       let either = opening_shows p.work ro.point.of.whole old.store old.slot old.root old.older old.newer old.newer [] result h.disk d old.stands.disk.whole (beside h world p ro) stands last in
       (last_leaves h world p ro result d whole touched last.next either, last_ends h world p ro result d whole touched last.next either)
 
-  pub point_finishes : Finishes p.work result h.disk d → LeavesOnly h.disk d (λ c. IsImage c (settle world)) × OnOk result (RunsReady (record h { room = done p.free h.room; disk = d }) world (kept_behind p))
+  pub point_finishes : Finishes p.work result h.disk d → LeavesOnly h.disk d (λ c. IsImage c (settle world)) × OnOk result (RunsReady (record h { room = done p.free h.room; disk = d }) world (kept_behind h p))
   point_finishes all =
       let old = ro.runs in
       let either = all.shown old.store old.slot old.root old.older old.newer old.newer [] (beside h world p ro) in

@@ -1,3 +1,4 @@
 pub mod StepLemmas
 pub mod EndLemmas
 pub mod CallLemmas
+pub mod MeaningLemmas

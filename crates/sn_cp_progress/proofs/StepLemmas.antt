@@ -22,7 +22,6 @@ use Rattle.sn_ondisk.specs.MapCopy.{HasMap}
 use Rattle.sn_ondisk.proofs.BlockLemmas.{bytes_at-same}
 use Rattle.sn_ondisk.proofs.LogLemmas.{Leads-end, no_later-same, ready-same}
 use Rattle.sn_ondisk.proofs.MapLemmas.{HasMap-same}
-use Rattle.sn_image.specs.Image.{image}
 use Rattle.sn_opening.specs.Opens.{IsDisk, LieInData, Shows}
 use Rattle.sn_opening.specs.Worlds.{all_reach}
 use Rattle.sn_sound.proofs.StandingLemmas.{lies_in_data}
@@ -67,7 +66,7 @@ around_depends n slot words epoch at newer in_n in_epoch c d whole_c whole_d agr
     }
 
 -- the stage behind one before the last has a step
-next_within : (w : Work) (stage : Stage) → IsWhole w → IsWithin w stage → IsBeforeOpening stage → IsWithin w (next_stage w stage)
+pub next_within : (w : Work) (stage : Stage) → IsWhole w → IsWithin w stage → IsBeforeOpening stage → IsWithin w (next_stage w stage)
 next_within w stage whole within before = stage_goes_on w (next_stage w stage) (stage_next w stage whole within) (never stage before)
   where
     block_not_done : (b : Bool) (k : ℕ) → (if b then Blocks k else MapBlocks 0) ≡ Done → ⊥
@@ -210,6 +209,8 @@ module _ (h : Held) (world : World) (p : Progress) (ro : RunsOn h world p) where
           none_later = λ c crash. (around_behind c crash).none_later;
           cover = q.cover;
           charged = q.charged;
+          slot = q.slot;
+          root = q.root;
           changed = q.changed;
           tree = q.tree;
         };

@@ -1,6 +1,5 @@
 -- What events between two steps of a point, and the steps, leave of the world.
 use Rattle.std.specs.Prelude.{◌≡◌, ◌⊎◌, ℕ, ◌+◌, ◌≤◌, Bool, Some, Result, OnOk}
-use Rattle.sn_changed.specs.Changed.{HasChanged}
 use Rattle.sn_device.specs.Sectors.{AreSectors}
 use Rattle.sn_device.specs.Disk.{Disk, reads}
 use Rattle.sn_device.specs.Crash.{LeavesOnly, Touches}
@@ -15,14 +14,13 @@ use Rattle.sn_model.specs.Settling.{settle}
 use Rattle.sn_model.specs.Tree.{Tree}
 use Rattle.sn_model.specs.World.{World}
 use Rattle.sn_ondisk.specs.LogHalf.{InHalf}
-use Rattle.sn_overlay.specs.Layers.{Layer}
 use Rattle.sn_overlay.specs.Needs.{nameless_in}
 use Rattle.sn_overlay.specs.Overlays.{no_changes}
 use Rattle.sn_record.specs.Payload.{IsSpelled}
 use Rattle.sn_room.specs.Rooms.{begun, done, dropping, fresh, logged}
 use Rattle.sn_sound.specs.Logs.{HasAgeLeft}
 use Rattle.sn_held.specs.Events.{IsOfTree, LeavesEither, LeavesMore}
-use Rattle.sn_held.specs.Held.{Held, Kept, RunsReady}
+use Rattle.sn_held.specs.Held.{CarriesOn, Held, Kept, RunsReady}
 use Rattle.sn_held.specs.Images.{IsImage}
 use Rattle.sn_held.specs.Room.{HasRoomFor}
 use Rattle.sn_cp.specs.Points.{Work}
@@ -37,7 +35,7 @@ use Rattle.sn_cp_progress.specs.Progress.{Progress, RunsOn, kept_behind}
 abbrev pub PointsBegin : Type 0
 PointsBegin = (h : Held) (world : World) (k : Kept) (r : RunsReady h world k) (w : Work) (free : ℕ) (stage : Stage) (d : Disk) → IsOfLive h world r.runs w (fresh free) → AreSectors (reads d)
     → HasBegun h world r.runs d → IsWithin w stage → StandsAtStage w stage d
-    → RunsOn (record h { room = begun h.room; at = first_of h.at.blocks (r.runs.root.epoch + 1); disk = d }) world (record { work = w; stage = stage; frozen = world.live; free = free; since = no_changes })
+    → RunsOn (record h { room = begun h.room; at = first_of h.at.blocks (r.runs.root.epoch + 1); base = record k { changed = no_changes }; disk = d }) world (record { work = w; stage = stage; frozen = world.live; free = free })
 
 -- A step before the last: a crash at any moment leaves an image of the settled world, and at `Ok` the mount runs on with the point at its next stage.
 abbrev pub StepsGoOn : Type 0
@@ -47,12 +45,12 @@ StepsGoOn = (h : Held) (world : World) (p : Progress) (result : Result (Unit {0}
 -- The last step: a crash at any moment leaves an image of the settled world. At `Ok` the next root counts with all that was logged since on top of it, and the mount is ready for another point.
 abbrev pub PointsEnd : Type 0
 PointsEnd = (h : Held) (world : World) (p : Progress) (result : Result (Unit {0}) Fault) (d : Disk) → RunsOn h world p → AreSectors (reads d) → p.stage ≡ Bodied → StepsTo p.work p.stage result h.disk d
-    → LeavesOnly h.disk d (λ c. IsImage c (settle world)) × OnOk result (RunsReady (record h { room = done p.free h.room; disk = d }) world (kept_behind p))
+    → LeavesOnly h.disk d (λ c. IsImage c (settle world)) × OnOk result (RunsReady (record h { room = done p.free h.room; disk = d }) world (kept_behind h p))
 
 -- The steps that are left, all in a row: whatever the answer, a crash at any moment leaves an image of the settled world, and at `Ok` the mount is ready for another point.
 abbrev pub PointsFinish : Type 0
 PointsFinish = (h : Held) (world : World) (p : Progress) (result : Result (Unit {0}) Fault) (d : Disk) → RunsOn h world p → AreSectors (reads d) → Finishes p.work result h.disk d
-    → LeavesOnly h.disk d (λ c. IsImage c (settle world)) × OnOk result (RunsReady (record h { room = done p.free h.room; disk = d }) world (kept_behind p))
+    → LeavesOnly h.disk d (λ c. IsImage c (settle world)) × OnOk result (RunsReady (record h { room = done p.free h.room; disk = d }) world (kept_behind h p))
 
 -- A change of the live tree that has room on both roots is appended between two steps: a crash in its course leaves an image of the settled world from before it, or of the one after it.
 abbrev pub AppendsLeaveEither : Type 0
@@ -62,14 +60,14 @@ AppendsLeaveEither = (old new : Held) (world next : World) (p : Progress) (chang
 
 -- Once its record stands, and it is charged, the mount runs over the world after it, with the point where it was.
 abbrev pub AppendsGoOn : Type 0
-AppendsGoOn = (old new : Held) (world next : World) (p : Progress) (since : Layer) (change : Change) (tree : Tree) (r : RunsOn old world p) → IsSpelled change → apply version_1 change world.live ≡ Some tree → IsOfTree world tree next → IsHierarchy world.live → HasRoomFor old.room world.live change → HasRoomFor (done p.free old.room) world.live change → HasAgeLeft r.runs.root
+AppendsGoOn = (old new : Held) (world next : World) (p : Progress) (change : Change) (tree : Tree) (r : RunsOn old world p) → IsSpelled change → apply version_1 change world.live ≡ Some tree → IsOfTree world tree next → IsHierarchy world.live → HasRoomFor old.room world.live change → HasRoomFor (done p.free old.room) world.live change → HasAgeLeft r.runs.root
     → Touches (InHalf (base_at old.at)) old.disk new.disk → LeavesMore old.at change old.disk new.disk → AreSectors (reads new.disk)
     → new.at ≡ behind old.at change → new.room ≡ logged (charge_for version_1 world.live change) old.room → new.world ≡ next → nameless_in world.live ≤ nameless_in next.live
-    → ((root : Tree) → HasChanged version_1 p.since root world.live old.room.charged_since → HasChanged version_1 since root next.live (old.room.charged_since + charge_for version_1 world.live change)) → IsTree version_1 next.live
-    → RunsOn new next (record p { since = since })
+    → CarriesOn old.base world.live old.room.charged_since new.base next.live (old.room.charged_since + charge_for version_1 world.live change) → IsTree version_1 next.live
+    → RunsOn new next p
 
 -- Files without names that go, and what becomes of sessions, change nothing of the disk nor of the point.
 abbrev pub DropsGoOn : Type 0
-DropsGoOn = (h : Held) (world next : World) (p : Progress) (since : Layer) (kept : ℕ → Bool) (count : ℕ) (base : Kept) → RunsOn h world p → IsOfTree world world.live next → nameless_in world.live ≤ nameless_in next.live + count
-    → ((root : Tree) → HasChanged version_1 p.since root world.live h.room.charged_since → HasChanged version_1 since root next.live h.room.charged_since) → IsTree version_1 next.live
-    → RunsOn (record h { world = next; kept = kept; room = dropping count h.room; base = base }) next (record p { since = since })
+DropsGoOn = (h : Held) (world next : World) (p : Progress) (kept since : ℕ → Bool) (count : ℕ) (base : Kept) → RunsOn h world p → IsOfTree world world.live next → nameless_in world.live ≤ nameless_in next.live + count
+    → CarriesOn h.base world.live h.room.charged_since base next.live h.room.charged_since → IsTree version_1 next.live
+    → RunsOn (record h { world = next; kept = kept; kept_since = since; room = dropping count h.room; base = base }) next p

@@ -16,7 +16,6 @@ use Rattle.sn_ondisk.specs.Trees.{Store}
 use Rattle.sn_opening.specs.Covering.{MakesCover}
 use Rattle.sn_opening.specs.Points.{HoldsAll, IsBuilt}
 use Rattle.sn_opening.specs.Worlds.{all_reach}
-use Rattle.sn_overlay.specs.Layers.{Layer}
 use Rattle.sn_room.specs.Rooms.{done}
 use Rattle.sn_sound.specs.Logs.{HasAgeLeft}
 use Rattle.sn_sound.specs.Maps.{IsSoundRoot}
@@ -36,15 +35,14 @@ pub record IsOfFrozen (n : ℕ) (s : Store) (counts : Slot) (root : RootBody) (f
   pub sound : (t : Store) → SameIn (all_reach s root) s t → HoldsAll t w.plan.blocks → IsSoundRoot n t w.plan.next (slice_index w.plan.words)
   pub age : HasAgeLeft w.plan.next
 
--- A point in progress: what it writes, how far it is, the tree that was frozen when it began, the blocks that its root leaves free, and what changed since.
+-- A point in progress: what it writes, how far it is, the tree that was frozen when it began, and the blocks that its root leaves free.
 pub record Progress : Type 0 where
   pub work : Work
   pub stage : Stage
   pub frozen : Tree
   pub free : ℕ
-  pub since : Layer
 
--- The point is in progress in a mount that runs. What is logged is logged under the next epoch, from its first record on: those changes make of the frozen tree one that covers the live one, and what they were charged, with a charge for each file without names, is no more than the next root leaves free. The live tree is seen through what changed since over the frozen one.
+-- The point is in progress in a mount that runs. What is logged is logged under the next epoch, from its first record on: those changes make of the frozen tree one that covers the live one, and what they were charged, with a charge for each file without names, is no more than the next root leaves free. What is kept is of the root that counts, but that the live tree is seen through what changed over the frozen one.
 pub record InProgress (h : Held) (world : World) (r : Runs h world) (p : Progress) : Type 0 where
   pub of : IsOfFrozen h.at.blocks r.store r.slot r.root p.frozen p.work
   pub within : IsWithin p.work p.stage
@@ -54,7 +52,9 @@ pub record InProgress (h : Held) (world : World) (r : Runs h world) (p : Progres
   pub none_later : Always h.disk (λ c. HasNoLater c (base_of h.at.blocks r.root.epoch) r.root.epoch)
   pub cover : MakesCover version_1 r.newer p.frozen world.live
   pub charged : (t : Store) → SameIn (all_reach r.store r.root) r.store t → HoldsAll t p.work.plan.blocks → IsCharged (done p.free h.room) h.at.blocks t p.work.plan.next r.newer world.live
-  pub changed : HasChanged version_1 p.since p.frozen world.live h.room.charged_since
+  pub slot : h.base.slot ≡ r.slot
+  pub root : h.base.root ≡ r.root
+  pub changed : HasChanged version_1 h.base.changed p.frozen world.live h.room.charged_since
   pub tree : IsTree version_1 world.live
 
 -- A mount runs over this world, with a point in progress.
@@ -63,5 +63,5 @@ pub record RunsOn (h : Held) (world : World) (p : Progress) : Type 0 where
   pub point : InProgress h world runs p
 
 -- what is kept once the point is done: its root counts, and what changed since it was frozen is on top of it
-abbrev pub kept_behind : Progress → Kept
-kept_behind p = record { slot = p.work.slot; root = p.work.plan.next; words = p.work.plan.words; changed = p.since }
+abbrev pub kept_behind : Held → Progress → Kept
+kept_behind h p = record { slot = p.work.slot; root = p.work.plan.next; words = p.work.plan.words; changed = h.base.changed }

@@ -16,7 +16,9 @@
 //!   and the point where it was. It has to fit on both roots.
 //! - `drops`: so does a call that logs nothing.
 //!
-//! The way through: `specs/Progress.antt` says what is held, `Laws.antt` what becomes of it.
+//! What a mounted file system means is said here too (`Means`), since it runs either between two points or with one in progress.
+//!
+//! The way through: `specs/Progress.antt` says what is held, `Meaning.antt` what that means, `Laws.antt` what becomes of it.
 //!
 //! What the sources leave open is decided in `docs/DECISIONS.md`, under "Steps of a consistency point".
 #![tactic(auto)]

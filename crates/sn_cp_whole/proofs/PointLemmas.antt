@@ -1,12 +1,11 @@
 -- What a whole point makes of a mount, and what it costs.
-use Rattle.std.proofs.Common.{◌≡◌, ◌⊎◌, inl, inr, ⊎_elim, ℕ, zero, suc, ◌+◌, ◌*◌, ◌<◌, ◌≤◌, ◌==◌, if◌then◌else◌, Bool, true, false, List, [], ◌∷◌, length, map, All, Contains, Result, Ok, Err, IsTrue, refl, sym, ap, subst, ◌∙◌, arith}
+use Rattle.std.proofs.Common.{◌≡◌, ◌⊎◌, ℕ, zero, suc, ◌+◌, ◌*◌, ◌<◌, ◌≤◌, ◌==◌, if◌then◌else◌, Bool, true, false, List, [], ◌∷◌, length, map, All, Contains, Result, Ok, Err, IsTrue, refl, sym, ap, subst, ◌∙◌, arith}
 use Rattle.std.specs.Prelude.{MatchBool}
 use Rattle.std.specs.List.Sorted.{IsStrictlyIncreasing}
 use Rattle.std.proofs.lemmas.Bool.{eqb-true}
 use Rattle.sn_alloc.specs.Taking.{free_data}
 use Rattle.sn_block.specs.Counts.{CountsCalls, IsLater, called}
 use Rattle.sn_block.specs.declared.fault.ReadFault.{ReadFault}
-use Rattle.sn_block.specs.declared.fault.ReadFault.TheVariants as read
 use Rattle.sn_block.proofs.CountLemmas.{called-after, later-calls, later-is, later-join, later-same}
 use Rattle.sn_device.specs.Crash.{LeavesOnly, Touches}
 use Rattle.sn_device.specs.Disk.{Always, Disk, IsSynced, reads}
@@ -14,7 +13,6 @@ use Rattle.sn_device.specs.Sectors.{AreSectors}
 use Rattle.sn_device.specs.Status.{has_ended, one_failure}
 use Rattle.sn_device.specs.declared.status.Status.{Status}
 use Rattle.sn_device.proofs.CrashLemmas.{Always-synced, LeavesOnly-start, Touches-present}
-use Rattle.sn_image.specs.Reach.{reach}
 use Rattle.sn_layout.specs.declared.gate.Gate.{Gate}
 use Rattle.sn_layout.specs.declared.gate.Gate.TheVariants.{Open, Closed}
 use Rattle.sn_layout.specs.declared.places.Area.TheVariants.{Data}
@@ -24,15 +22,13 @@ use Rattle.sn_layout.specs.Gate.{gate_of}
 use Rattle.sn_layout.specs.Places.{IsDiskSize, gate_sector, map_blocks, other_slot, start_of}
 use Rattle.sn_layout.specs.RootBody.{IsRootBody}
 use Rattle.sn_limits.specs.declared.limits.Limits.{Limits}
-use Rattle.sn_log.specs.Clearing.{CountsClearing}
 use Rattle.sn_log.specs.Places.{LogPosition, first_of}
 use Rattle.sn_model.specs.Settling.{settle}
 use Rattle.sn_model.specs.World.{World}
 use Rattle.sn_ondisk.specs.LogHalf.{InHalf, base_of}
-use Rattle.sn_ondisk.specs.Trees.{Store, store_of}
+use Rattle.sn_ondisk.specs.Trees.{store_of}
 use Rattle.sn_opening.specs.Points.{Written}
 use Rattle.sn_overlay.specs.Layers.{Layer}
-use Rattle.sn_overlay.specs.Needs.{need}
 use Rattle.sn_overlay.specs.Overlays.{layer_of, no_changes}
 use Rattle.sn_room.specs.Rooms.{RoomCounts, begun as begun_room, done, fresh}
 use Rattle.sn_root.specs.declared.following.PointKind.TheVariants.{Ordinary}
@@ -43,18 +39,14 @@ use Rattle.sn_held.specs.Held.{Held, Kept, RunsReady}
 use Rattle.sn_held.specs.Images.{IsImage}
 use Rattle.sn_sound.specs.Logs.{HasAgeLeft}
 use Rattle.sn_held.proofs.EventLemmas.{runs_show}
-use Rattle.sn_tree.specs.declared.fault.PlanFault.{PlanFault}
 use Rattle.sn_tree.specs.declared.fault.PlanFault.TheVariants as plan
 use Rattle.sn_tree.specs.declared.new_block.NewBlock.{NewBlock}
-use Rattle.sn_tree_read.specs.declared.fault.TreeFault.TheVariants as tree
 use Rattle.sn_cp.specs.Beginning.{Begins}
 use Rattle.sn_cp.specs.Counting.{root_steps, syncs_left, writes_left}
 use Rattle.sn_cp.specs.Points.{Work, first_stage, stage_of, work_of, written_by}
 use Rattle.sn_cp.specs.Steps.{IsWhole, IsWithin, StandsAtStage}
 use Rattle.sn_cp.specs.declared.stage.Stage.{Stage}
 use Rattle.sn_cp.specs.declared.stage.Stage.TheVariants.{Blocks, MapBlocks}
-use Rattle.sn_cp_nodes.specs.Built.{IsGround}
-use Rattle.sn_cp_build.specs.Bits.{TellsBlocks}
 use Rattle.sn_cp_build.specs.Building.{Builds, IsWellBuilt}
 use Rattle.sn_cp_build.specs.declared.building.Built.{Built}
 use Rattle.sn_cp_held.specs.Builds.{CanBeBuilt, IsBuiltOf, plan_of, room_behind, work_for}
@@ -62,11 +54,12 @@ use Rattle.sn_cp_held.specs.Wholes.{HasBegun, IsOfLive}
 use Rattle.sn_cp_held.proofs.BuildLemmas.{numbers_same, place_all}
 use Rattle.sn_cp_held.proofs.LiveLemmas.{can_be_built, of_live}
 use Rattle.sn_cp_held.proofs.WholeLemmas.{begin_leaves, has_begun}
+use Rattle.sn_cp_progress.specs.Meaning.{progress_over}
 use Rattle.sn_cp_progress.specs.Progress.{RunsOn}
 use Rattle.sn_cp_progress.proofs.EndLemmas.{point_begins}
-use Rattle.sn_cp_whole.specs.Going.{BeginsPoint, CostsBeginning, IsGoing, progress_of}
+use Rattle.sn_cp_whole.specs.Going.{BeginsPoint, CostsBeginning, IsGoing, going_of}
 use Rattle.sn_cp_whole.specs.Making.{CostsPoint, HasCauseFor, MakesPoint, most_syncs, most_writes, syncs_of_point, with_parts, writes_of_point}
-use Rattle.sn_cp_whole.specs.Planning.{HasCauseToStop, IsNextRoot, IsSpellable, IsWholeBlock, point_fault_of}
+use Rattle.sn_cp_whole.specs.Planning.{HasCauseToStop, IsNextRoot, IsSpellable, IsWholeBlock}
 use Rattle.sn_cp_whole.specs.declared.base.PointBase.{PointBase}
 use Rattle.sn_cp_whole.specs.declared.fault.PointFault.{PointFault}
 use Rattle.sn_cp_whole.specs.declared.going.GoingPoint.{GoingPoint}
@@ -102,7 +95,7 @@ gate_stays n epoch slot gate old new touched synced is =
 
 module _ (h : Held) (world : World) (k : Kept) (rr : RunsReady h world k) where
   -- nothing was written
-  pub nothing_written : {T : Type 0} (any : Held) (result : Result T PointFault) (f : PointFault) (at : LogPosition) (d : Disk) → result ≡ Err f → d ≡ h.disk → (result ≡ Err fault.Damaged → CanBeBuilt h.at.blocks (store_of (reads h.disk)) k → ⊥) → BeginsPoint (Err f) world any at h.disk d
+  pub nothing_written : {T : Type 0} (any : Held) (result : Result T PointFault) (f : PointFault) (at : LogPosition) (d : Disk) → result ≡ Err f → d ≡ h.disk → (result ≡ Err fault.Damaged → CanBeBuilt h.at.blocks (store_of (reads h.disk)) k → ⊥) → BeginsPoint (Err f) world any k at h.disk d
   nothing_written any result fault.Memory at d is same readable = same
   nothing_written any result fault.Age at d is same readable = same
   nothing_written any result fault.Read at d is same readable = same
@@ -132,31 +125,27 @@ module _ (h : Held) (world : World) (k : Kept) (rr : RunsReady h world k) where
       has = has_begun h world rr.runs {T = Unit {0}} {E = ReadFault} (Ok (tt {0})) begun rr.ready.between begins_here
 
       -- the mount runs on with it in progress
-      pub goes_on : (going : GoingPoint) (at : LogPosition) → work_of going.point ≡ work → IsWithin (work_of going.point) (stage_of going.point) → StandsAtStage (work_of going.point) (stage_of going.point) begun
-          → going.free ≡ free_data built.map (start_of h.at.blocks Data) → layer_of going.since ≡ no_changes → at ≡ first_of h.at.blocks (h.at.epoch + 1)
-          → RunsOn (record h { room = begun_room h.room; at = at; disk = begun }) world (progress_of going world.live)
-      goes_on going at is within stands free none turned =
+      pub goes_on : (going : GoingPoint) (since : Layer) (at : LogPosition) → work_of going.point ≡ work → IsWithin (work_of going.point) (stage_of going.point) → StandsAtStage (work_of going.point) (stage_of going.point) begun
+          → going.free ≡ free_data built.map (start_of h.at.blocks Data) → since ≡ no_changes → at ≡ first_of h.at.blocks (h.at.epoch + 1)
+          → RunsOn (record h { room = begun_room h.room; at = at; base = record k { changed = since }; disk = begun }) world (progress_over (going_of going) world.live)
+      goes_on going since at is within stands free none turned =
           let of = subst (λ (f : ℕ). IsOfLive h world rr.runs work (fresh f)) (sym free) live in
           let here = subst (λ (w : Work). IsOfLive h world rr.runs w (fresh going.free)) (sym is) of in
           let on = point_begins h world k rr (work_of going.point) going.free (stage_of going.point) begun here whole_begun has within stands in
           let epoch : first_of h.at.blocks (rr.runs.root.epoch + 1) ≡ at = ap (λ (e : ℕ). first_of h.at.blocks (e + 1)) (sym rr.ready.between.epoch) ∙ sym turned in
-          subst (λ (x : LogPosition). RunsOn (record h { room = begun_room h.room; at = x; disk = begun }) world (progress_of going world.live)) epoch
-          (subst (λ (l : Layer). RunsOn (record h { room = begun_room h.room; at = first_of h.at.blocks (rr.runs.root.epoch + 1); disk = begun }) world (record { work = work_of going.point; stage = stage_of going.point; frozen = world.live; free = going.free; since = l })) (sym none) on)
+          subst (λ (x : LogPosition). RunsOn (record h { room = begun_room h.room; at = x; base = record k { changed = since }; disk = begun }) world (progress_over (going_of going) world.live)) epoch
+          (subst (λ (l : Layer). RunsOn (record h { room = begun_room h.room; at = first_of h.at.blocks (rr.runs.root.epoch + 1); base = record k { changed = l }; disk = begun }) world (progress_over (going_of going) world.live)) (sym none) on)
 
       pub leaves : LeavesOnly h.disk begun (λ c. IsImage c (settle world))
       leaves = begins_leave {T = Unit {0}} {E = ReadFault} (Ok (tt {0})) planned begun same begins
 
 -- what was refused before it began is refused of a whole point, and what failed has failed
-pub refused : (f : PointFault) (world : World) (h : Held) (at whole_at : LogPosition) (room : RoomCounts) (old new : Disk) (k : Kept) → BeginsPoint (Err f) world h at old new → MakesPoint (Err f) world old (with_parts h whole_at room new) k
-refused fault.Memory world h at whole_at room old new k same = same
-refused fault.Age world h at whole_at room old new k same = same
-refused fault.Read world h at whole_at room old new k same = same
-refused fault.Damaged world h at whole_at room old new k never = never
-refused fault.Device world h at whole_at room old new k leaves = leaves
-
--- what is left of the room
-pub room_left : (free : ℕ) (old mid new : RoomCounts) → mid ≡ begun_room old → new ≡ done free mid → new ≡ fresh free
-room_left free old mid new one two = two ∙ ap (done free) one
+pub refused : (f : PointFault) (world : World) (h : Held) (at whole_at : LogPosition) (room : RoomCounts) (old new : Disk) (before k : Kept) → BeginsPoint (Err f) world h before at old new → MakesPoint (Err f) world old (with_parts h whole_at room new) k
+refused fault.Memory world h at whole_at room old new before k same = same
+refused fault.Age world h at whole_at room old new before k same = same
+refused fault.Read world h at whole_at room old new before k same = same
+refused fault.Damaged world h at whole_at room old new before k never = never
+refused fault.Device world h at whole_at room old new before k leaves = leaves
 
 pub written_count : (xs : List NewBlock) → length (map written_by xs) ≡ length xs
 written_count [] = refl
@@ -165,8 +154,8 @@ written_count (x ∷ xs) = omega (arith, written_count xs)
 -- what is planned is what goes on
 pub is_going : (n m : ℕ) (base : PointBase) (built : Built) (next : RootBody) (slot : Slot) (gate : Gate) (going : GoingPoint) → m ≡ n → IsDiskSize m → length base.map ≡ m → IsWellBuilt m base.root.limits base.map (layer_of base.changed) built → IsSpellable built
     → IsNextRoot Ordinary base.root built next → slot ≡ other_slot base.slot → work_of going.point ≡ record { blocks = m; slot = slot; gate = gate; plan = plan_of built next } → stage_of going.point ≡ first_stage (length built.blocks.items)
-    → IsWithin (work_of going.point) (stage_of going.point) → going.free ≡ free_data built.map (start_of m Data) → layer_of going.since ≡ no_changes → IsGoing n base going
-is_going n m base built next slot gate going in_n size count well spelled follows other is first within free none =
+    → IsWithin (work_of going.point) (stage_of going.point) → going.free ≡ free_data built.map (start_of m Data) → IsGoing n base going
+is_going n m base built next slot gate going in_n size count well spelled follows other is first within free =
     let made : Work = record { blocks = m; slot = slot; gate = gate; plan = plan_of built next } in
     record {
       whole = subst IsWhole (sym is) (whole_work m base.root.limits base.map (layer_of base.changed) built next slot gate size count well spelled follows.body);
@@ -178,7 +167,6 @@ is_going n m base built next slot gate going in_n size count well spelled follow
       age = subst (λ (w : Work). HasAgeLeft w.plan.next) (sym is) follows.age;
       few = omega (arith, ap (λ (w : Work). length w.plan.blocks) is, written_count built.blocks.items, well.few);
       free = free ∙ ap (free_data built.map) (ap (λ (b : ℕ). start_of b Data) in_n) ∙ ap (λ (w : Work). free_data w.plan.words (start_of n Data)) (sym is);
-      none = none;
     }
 
 -- ---- what it costs
@@ -239,19 +227,6 @@ unplanned f old new why =
     let nothing = calls_nothing f old new why in
     record { done = tt; later = nothing.0; writes = omega (arith, nothing.1); syncs = omega (arith, nothing.2); cause = has_cause f old new why }
 
--- its beginning failed
-pub unbegun : {A : Type 0} (old planned new : Status) {T : Type 0} (result : Result T ReadFault) → planned ≡ old → CountsClearing result planned new → result ≡ Err read.Device → CostsBeginning {T = A} (Err fault.Device) old new
-unbegun old planned new result same counts failed = record {
-  done = tt;
-  later = later-join old planned new (later-same old planned same) counts.later;
-  writes = omega (arith, counts.writes, ap (λ (s : Status). s.writes) same);
-  syncs = omega (arith, counts.syncs, ap (λ (s : Status). s.syncs) same);
-  cause = subst (λ (s : Status). (s.failures < new.failures) ⊎ IsTrue (has_ended new)) same (counts.device failed);
-}
-
-pub forgotten : {A : Type 0} (old planned new : Status) {T : Type 0} (result : Result T ReadFault) → planned ≡ old → CountsClearing result planned new → result ≡ Err read.Memory → CostsBeginning {T = A} (Err fault.Memory) old new
-forgotten old planned new result same counts refused_it = unplanned fault.Memory old new (counts.memory refused_it ∙ same)
-
 -- or it has begun
 pub begun_costs : {A : Type 0} (x : A) (old planned new : Status) → planned ≡ old → new ≡ called 1 1 planned → CostsBeginning (Ok x) old new
 begun_costs x old planned new same done =
@@ -302,21 +277,3 @@ module _ (n most : ℕ) (w : Work) (stage : Stage) (size : w.blocks ≡ n) (firs
         syncs = syncs;
         cause = tt;
       }
-
--- ---- what can't be used
-
--- what a build that failed makes of a point is damage only where the build was so, or found too little free
-pub damaged_from : (f : PlanFault) → point_fault_of f ≡ fault.Damaged → (f ≡ plan.Full) ⊎ (f ≡ plan.Tree tree.Damaged)
-damaged_from plan.Memory e = absurd cc
-damaged_from plan.Full e = inl refl
-damaged_from (plan.Tree tree.Damaged) e = inr refl
-damaged_from (plan.Tree (tree.Read read.Memory)) e = absurd cc
-damaged_from (plan.Tree (tree.Read read.Device)) e = absurd cc
-
-pub no_damage : {T : Type 0} (result : Result T PlanFault) (f : PlanFault) (n : ℕ) (s : Store) (k : Kept) → result ≡ Err f → (result ≡ Err plan.Full → IsGround k.root.limits n s k.root.inode_file k.changed → need k.root.limits k.changed ≤ free_data k.words (start_of n Data) → ⊥)
-    → (result ≡ Err (plan.Tree tree.Damaged) → IsGround k.root.limits n s k.root.inode_file k.changed → TellsBlocks k.words (reach s k.root.inode_file) → ⊥)
-    → point_fault_of f ≡ fault.Damaged → CanBeBuilt n s k → ⊥
-no_damage result f n s k is full damaged e can = ⊎_elim
-    (λ (was : f ≡ plan.Full). full (subst (λ (x : PlanFault). result ≡ Err x) was is) can.ground can.fits)
-    (λ (was : f ≡ plan.Tree tree.Damaged). damaged (subst (λ (x : PlanFault). result ≡ Err x) was is) can.ground can.tells)
-    (damaged_from f e)

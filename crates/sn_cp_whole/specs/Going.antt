@@ -13,27 +13,29 @@ use Rattle.sn_model.specs.Settling.{settle}
 use Rattle.sn_model.specs.Tree.{Tree}
 use Rattle.sn_model.specs.World.{World}
 use Rattle.sn_overlay.specs.Needs.{need}
-use Rattle.sn_overlay.specs.Overlays.{layer_of, no_changes}
+use Rattle.sn_overlay.specs.Overlays.{layer_of}
 use Rattle.sn_room.specs.Rooms.{begun, done}
 use Rattle.sn_sound.specs.Logs.{HasAgeLeft}
-use Rattle.sn_held.specs.Held.{Held, Kept, RunsReady}
+use Rattle.sn_held.specs.Held.{Going, Held, Kept, RunsReady}
 use Rattle.sn_held.specs.Images.{IsImage}
 use Rattle.sn_cp.specs.Points.{first_stage, stage_of, work_of}
 use Rattle.sn_cp.specs.Steps.{IsWhole, IsWithin}
-use Rattle.sn_cp_progress.specs.Progress.{Progress, RunsOn}
+use Rattle.sn_cp_progress.specs.Meaning.{progress_over}
+use Rattle.sn_cp_progress.specs.Progress.{RunsOn}
 use Rattle.sn_cp_whole.specs.Making.{HasCauseFor}
 use Rattle.sn_cp_whole.specs.declared.base.PointBase.{PointBase}
 use Rattle.sn_cp_whole.specs.declared.fault.PointFault.{PointFault}
 use Rattle.sn_cp_whole.specs.declared.fault.PointFault.TheVariants.{Memory, Age, Read, Damaged, Device}
+use Rattle.sn_cp_whole.specs.declared.going.Begun.{Begun}
 use Rattle.sn_cp_whole.specs.declared.going.GoingPoint.{GoingPoint}
 
--- a point in progress, as `sn_cp_progress` speaks of it, over the tree that was frozen
-abbrev pub progress_of : GoingPoint → Tree → Progress
-progress_of going frozen = record { work = work_of going.point; stage = stage_of going.point; frozen = frozen; free = going.free; since = layer_of going.since }
+-- a point in progress, as `sn_held` speaks of it
+abbrev pub going_of : GoingPoint → Going
+going_of going = record { work = work_of going.point; stage = stage_of going.point; free = going.free }
 
 -- what is kept once it is done
-abbrev pub base_behind : GoingPoint → PointBase
-base_behind going = record { slot = (work_of going.point).slot; root = (work_of going.point).plan.next; map = (work_of going.point).plan.words; changed = going.since }
+abbrev pub base_behind : GoingPoint → PointBase → PointBase
+base_behind going base = record { slot = (work_of going.point).slot; root = (work_of going.point).plan.next; map = (work_of going.point).plan.words; changed = base.changed }
 
 -- a mount with this log and disk
 abbrev pub with_log : Held → LogPosition → Disk → Held
@@ -43,23 +45,24 @@ abbrev pub with_disk : Held → Disk → Held
 with_disk h disk = record h { disk = disk }
 
 -- At `Ok` the mount runs on with the point in progress, in which the live tree is frozen, and a crash at any moment on the way leaves an image of the settled world; so it does where the device failed. Otherwise nothing was written. What is read can always be used, and is never too much for what is free.
-abbrev pub BeginsPoint : Result GoingPoint PointFault → World → Held → LogPosition → Disk → Disk → Type 0
-BeginsPoint (Ok going) world h at old new = LeavesOnly old new (λ c. IsImage c (settle world)) × RunsOn (record h { room = begun h.room; at = at; disk = new }) world (progress_of going world.live)
-BeginsPoint (Err Memory) world h at old new = new ≡ old
-BeginsPoint (Err Age) world h at old new = new ≡ old
-BeginsPoint (Err Read) world h at old new = new ≡ old
-BeginsPoint (Err Damaged) world h at old new = ⊥
-BeginsPoint (Err Device) world h at old new = LeavesOnly old new (λ c. IsImage c (settle world))
+abbrev pub BeginsPoint : Result Begun PointFault → World → Held → Kept → LogPosition → Disk → Disk → Type 0
+BeginsPoint (Ok begins) world h k at old new = LeavesOnly old new (λ c. IsImage c (settle world))
+    × RunsOn (record h { room = begun h.room; at = at; base = record k { changed = layer_of begins.since }; disk = new }) world (progress_over (going_of begins.going) world.live)
+BeginsPoint (Err Memory) world h k at old new = new ≡ old
+BeginsPoint (Err Age) world h k at old new = new ≡ old
+BeginsPoint (Err Read) world h k at old new = new ≡ old
+BeginsPoint (Err Damaged) world h k at old new = ⊥
+BeginsPoint (Err Device) world h k at old new = LeavesOnly old new (λ c. IsImage c (settle world))
 
 -- A step leaves an image of the settled world to a crash at any moment, whatever the answer, and at `Ok` the mount runs on with the point at its next stage.
 abbrev pub StepsOn : Result (Unit {0}) Fault → World → Held → GoingPoint → Tree → Disk → Disk → Type 0
-StepsOn result world h going frozen old new = LeavesOnly old new (λ c. IsImage c (settle world)) × OnOk result (RunsOn (record h { disk = new }) world (progress_of going frozen))
+StepsOn result world h going frozen old new = LeavesOnly old new (λ c. IsImage c (settle world)) × OnOk result (RunsOn (record h { disk = new }) world (progress_over (going_of going) frozen))
 
 -- Whatever the answer, a crash at any moment leaves an image of the settled world. At `Ok` the mount is ready for another point, and what was charged since this one began is charged on its root.
 abbrev pub FinishesPoint : Result (Unit {0}) Fault → World → Held → ℕ → Kept → Disk → Disk → Type 0
 FinishesPoint result world h free kept old new = LeavesOnly old new (λ c. IsImage c (settle world)) × OnOk result (RunsReady (record h { room = done free h.room; disk = new }) world kept)
 
--- A point begins over what is kept, on a disk of so many blocks: it writes the slot that doesn't count, of the next epoch, no more new blocks than what changed needs. Nothing has changed since.
+-- A point begins over what is kept, on a disk of so many blocks: it writes the slot that doesn't count, of the next epoch, no more new blocks than what changed needs.
 pub record IsGoing (n : ℕ) (base : PointBase) (going : GoingPoint) : Type 0 where
   pub whole : IsWhole (work_of going.point)
   pub within : IsWithin (work_of going.point) (stage_of going.point)
@@ -70,7 +73,6 @@ pub record IsGoing (n : ℕ) (base : PointBase) (going : GoingPoint) : Type 0 wh
   pub age : HasAgeLeft (work_of going.point).plan.next
   pub few : length (work_of going.point).plan.blocks ≤ need base.root.limits (layer_of base.changed)
   pub free : going.free ≡ free_data (work_of going.point).plan.words (start_of n Data)
-  pub none : layer_of going.since ≡ no_changes
 
 -- It costs a write and a sync. What was refused called nothing but a read that failed.
 pub record CostsBeginning {T : Type 0} (result : Result T PointFault) (old new : Status) : Type 0 where

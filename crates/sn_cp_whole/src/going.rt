@@ -7,6 +7,7 @@ ghost use Rattle.sn_cp.specs.Points.{stage_of, work_of};
 ghost use Rattle.sn_cp.specs.Showing.{InPoint};
 ghost use Rattle.sn_cp.specs.Steps.{IsWhole, IsWithin, StandsAtStage, next_stage, syncs_of, writes_of};
 ghost use Rattle.sn_cp.specs.declared.stage.Stage.TheVariants.{Bodied};
+ghost use Rattle.sn_cp_progress.specs.Meaning.{progress_over};
 ghost use Rattle.sn_cp_progress.specs.Progress.{RunsOn};
 ghost use Rattle.sn_device.specs.Crash.{Touches};
 ghost use Rattle.sn_layout.specs.Places.{other_slot};
@@ -14,9 +15,9 @@ ghost use Rattle.sn_held.specs.Held.{Held, RunsReady};
 ghost use Rattle.sn_log.specs.Places.{first_of};
 ghost use Rattle.sn_model.specs.Tree.{Tree};
 ghost use Rattle.sn_model.specs.World.{World};
-ghost use Rattle.sn_overlay.specs.Overlays.{HasRoom};
+ghost use Rattle.sn_overlay.specs.Overlays.{HasRoom, layer_of, no_changes};
 ghost use Rattle.sn_root.specs.declared.following.PointKind.TheVariants.{Ordinary as OrdinaryPoint};
-ghost use Rattle.sn_cp_whole.specs.Going.{BeginsPoint, CostsBeginning, FinishesPoint, IsGoing, StepsOn, base_behind, progress_of, with_disk, with_log};
+ghost use Rattle.sn_cp_whole.specs.Going.{BeginsPoint, CostsBeginning, FinishesPoint, IsGoing, StepsOn, base_behind, going_of, with_disk, with_log};
 ghost use Rattle.sn_cp_whole.specs.Planning.{HasAgeFor, IsBaseAt, kept_in};
 ghost use Rattle.sn_cp_whole.specs.Recovering.{IsApart};
 ghost use Rattle.sn_cp_whole.specs.declared.fault.PointFault.TheVariants.{Age as AgeFault};
@@ -39,7 +40,13 @@ pub struct GoingPoint {
     pub point: Point,
     /// The blocks that its root leaves free.
     pub free: u32,
-    /// What changed of the tree since it began.
+}
+
+/// A consistency point that has begun.
+#[derive(Drop)]
+pub struct Begun {
+    pub going: GoingPoint,
+    /// For what changes of the tree from then on.
     pub since: Overlay,
 }
 
@@ -51,19 +58,20 @@ pub fn begin_point<D: Device>(
     base: &PointBase,
     log: &mut Log,
     drops: u16,
-) -> Result<GoingPoint, PointFault>
+) -> Result<Begun, PointFault>
     requires disk { 8 * log.old.blocks ≤ (D.status (device_of blocks.old)).sectors }
     requires base { IsBaseAt log.old base.now }
     ensures begins { IsTrue D.tells_bytes → (h : Held) (world : World)
         → RunsReady (with_log h log.old (D.disk (device_of blocks.old))) world (kept_in base.now)
-        → BeginsPoint result world h log.new (D.disk (device_of blocks.old)) (D.disk (device_of blocks.new)) }
-    ensures going { IfOk result (IsGoing log.old.blocks base.now) }
-    ensures stands { IsTrue D.tells_bytes → IfOk result (λ going. StandsAtStage (work_of going.point) (stage_of going.point) (D.disk (device_of blocks.new))) }
+        → BeginsPoint result world h (kept_in base.now) log.new (D.disk (device_of blocks.old)) (D.disk (device_of blocks.new)) }
+    ensures going { IfOk result (λ begins. IsGoing log.old.blocks base.now begins.going) }
+    ensures empty { IfOk result (λ begins. layer_of begins.since ≡ no_changes) }
+    ensures stands { IsTrue D.tells_bytes → IfOk result (λ begins. StandsAtStage (work_of begins.going.point) (stage_of begins.going.point) (D.disk (device_of blocks.new))) }
     ensures touched { IsTrue D.tells_bytes → Touches (IsApart log.old.blocks base.now.slot) (D.disk (device_of blocks.old)) (D.disk (device_of blocks.new)) }
     ensures costs { CostsBeginning result (D.status (device_of blocks.old)) (D.status (device_of blocks.new)) }
     ensures aged { result ≡ Err AgeFault → HasAgeFor OrdinaryPoint base.now.root → ⊥ }
     ensures log { OnOk result (log.new ≡ first_of log.old.blocks (log.old.epoch + 1)) }
-    ensures drops { IfOk result (λ going. HasRoom going.since (record { nodes = drops; names = 0; blocks = 0 })) }
+    ensures drops { IfOk result (λ begins. HasRoom begins.since (record { nodes = drops; names = 0; blocks = 0 })) }
     ensures stays { OnErr result (log.new ≡ log.old) }
 {
     let places = log.position().places();
@@ -85,9 +93,12 @@ pub fn begin_point<D: Device>(
         Err(ReadFault::Device) => return Err(PointFault::Device),
     }
     let slot = base.slot.other();
-    Ok(GoingPoint {
+    let going = GoingPoint {
         point: Point::new(places, built.blocks, built.map, next, slot, gate),
         free,
+    };
+    Ok(Begun {
+        going,
         since: changed,
     })
 }
@@ -108,20 +119,22 @@ impl GoingPoint {
         requires more { stage_of self.old.point ≢ Bodied }
         requires stands { IsTrue D.tells_bytes → StandsAtStage (work_of self.old.point) (stage_of self.old.point) (D.disk (device_of blocks.old)) }
         ensures goes_on { IsTrue D.tells_bytes → (h : Held) (world : World) (frozen : Tree)
-            → RunsOn (with_disk h (D.disk (device_of blocks.old))) world (progress_of self.old frozen)
+            → RunsOn (with_disk h (D.disk (device_of blocks.old))) world (progress_over (going_of self.old) frozen)
             → StepsOn result world h self.new frozen (D.disk (device_of blocks.old)) (D.disk (device_of blocks.new)) }
         ensures touched { IsTrue D.tells_bytes → Touches (InPoint (work_of self.old.point)) (D.disk (device_of blocks.old)) (D.disk (device_of blocks.new)) }
         ensures counts { CountsCalls (writes_of (work_of self.old.point) (stage_of self.old.point)) (syncs_of (work_of self.old.point) (stage_of self.old.point)) result
             (D.status (device_of blocks.old)) (D.status (device_of blocks.new)) }
-        ensures same { (work_of self.new.point ≡ work_of self.old.point) × (self.new.free ≡ self.old.free) × (self.new.since ≡ self.old.since) }
+        ensures same { (work_of self.new.point ≡ work_of self.old.point) × (self.new.free ≡ self.old.free) }
         ensures onward { OnOk result (stage_of self.new.point ≡ next_stage (work_of self.old.point) (stage_of self.old.point)) }
+        ensures within { OnOk result (IsWithin (work_of self.new.point) (stage_of self.new.point)) }
+        ensures stands { IsTrue D.tells_bytes → OnOk result (StandsAtStage (work_of self.new.point) (stage_of self.new.point) (D.disk (device_of blocks.new))) }
         ensures stays { OnErr result (stage_of self.new.point ≡ stage_of self.old.point) }
     {
         self.point.advance(blocks)
     }
 
-    /// Makes all steps that are left: then the root that was made counts, with what changed since on top of it, and takes
-    /// the place of the one that the point was begun over. After a fault nothing may be written before the next mount.
+    /// Makes all steps that are left: then the root that was made counts, and takes the place of the one that the point was
+    /// begun over. What changed since stays as it is. After a fault nothing may be written before the next mount.
     pub fn finish<D: Device>(
         self,
         blocks: &mut Blocks<D>,
@@ -133,30 +146,23 @@ impl GoingPoint {
         requires within { IsWithin (work_of self.point) (stage_of self.point) }
         requires stands { IsTrue D.tells_bytes → StandsAtStage (work_of self.point) (stage_of self.point) (D.disk (device_of blocks.old)) }
         ensures finishes { IsTrue D.tells_bytes → (h : Held) (world : World) (frozen : Tree)
-            → RunsOn (with_disk h (D.disk (device_of blocks.old))) world (progress_of self frozen)
-            → FinishesPoint result world h self.free (kept_in base.new) (D.disk (device_of blocks.old)) (D.disk (device_of blocks.new)) }
+            → RunsOn (with_disk h (D.disk (device_of blocks.old))) world (progress_over (going_of self) frozen)
+            → FinishesPoint result world h self.free (record (kept_in base.new) { changed = h.base.changed }) (D.disk (device_of blocks.old)) (D.disk (device_of blocks.new)) }
         ensures touched { IsTrue D.tells_bytes → Touches (InPoint (work_of self.point)) (D.disk (device_of blocks.old)) (D.disk (device_of blocks.new)) }
         ensures counts { CountsCalls (writes_left (work_of self.point) (stage_of self.point)) (syncs_left (work_of self.point) (stage_of self.point)) result
             (D.status (device_of blocks.old)) (D.status (device_of blocks.new)) }
-        ensures base { OnOk result (base.new ≡ base_behind self) }
+        ensures base { OnOk result (base.new ≡ base_behind self base.old) }
         ensures keeps { OnErr result (base.new ≡ base.old) }
     {
-        let GoingPoint {
-            mut point,
-            since,
-            ..
-        } = self;
+        let GoingPoint { mut point, .. } = self;
         match point.finish(blocks) {
             Ok(()) => {}
             Err(fault) => return Err(fault),
         }
         let (root, map) = point.into_root();
-        *base = PointBase {
-            slot: base.slot.other(),
-            root,
-            map,
-            changed: since,
-        };
+        base.slot = base.slot.other();
+        base.root = root;
+        base.map = map;
         Ok(())
     }
 }

@@ -38,7 +38,7 @@ mod recovering;
 
 pub use base::PointBase;
 pub use fault::PointFault;
-pub use going::{GoingPoint, begin_point};
+pub use going::{Begun, GoingPoint, begin_point};
 pub use making::make_point;
 pub use planning::empty_overlay;
 pub use recovering::make_recovery;

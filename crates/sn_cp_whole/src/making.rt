@@ -14,7 +14,7 @@ ghost use Rattle.sn_cp_whole.specs.Planning.{HasAgeFor, IsBaseAt, kept_in};
 ghost use Rattle.sn_cp_whole.specs.Recovering.{IsApart};
 ghost use Rattle.sn_cp_whole.specs.declared.fault.PointFault.TheVariants.{Age as AgeFault, Device as DeviceFault};
 
-use crate::{PointBase, PointFault, begin_point};
+use crate::{Begun, PointBase, PointFault, begin_point};
 use sn_block::Blocks;
 use sn_device::Device;
 use sn_log::Log;
@@ -49,14 +49,15 @@ pub fn make_point<D: Device>(
     ensures keeps { OnErr result ((base.new ≡ base.old) × (room.new ≡ room.old)) }
     ensures stays { IfErr result (λ fault. fault ≢ DeviceFault → log.new ≡ log.old) }
 {
-    let going = match begin_point(alloc, blocks, base, log, drops) {
-        Ok(going) => going,
+    let Begun { going, since } = match begin_point(alloc, blocks, base, log, drops) {
+        Ok(begun) => begun,
         Err(fault) => return Err(fault),
     };
     let free = going.free;
     let Ok(()) = going.finish(blocks, base) else {
         return Err(PointFault::Device);
     };
+    base.changed = since;
     room.begin_point();
     room.end_point(free);
     Ok(())

@@ -50,6 +50,7 @@ pub fn put_number(bytes: &mut [u8], at: usize, width: usize, number: u64) {
     put(bytes, at, part(&number.to_le_bytes(), 0, width));
 }
 
+/// Whether each byte is 0, as it is of no bytes.
 pub fn are_zeros(bytes: &[u8]) -> bool {
     bytes.iter().all(|byte| *byte == 0)
 }

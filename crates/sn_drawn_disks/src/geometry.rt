@@ -11,6 +11,7 @@ pub enum Slot {
 }
 
 impl Slot {
+    /// The slot whose root a point replaces, where this one has the newest.
     pub fn other(self) -> Slot {
         match self {
             Slot::A => Slot::B,

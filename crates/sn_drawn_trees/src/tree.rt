@@ -16,6 +16,7 @@ pub enum Kind {
 }
 
 impl Kind {
+    /// The kind of the node that may come in the place of one of this kind, under its number and its name.
     pub fn other(self) -> Kind {
         match self {
             Kind::File => Kind::Directory,
@@ -97,6 +98,7 @@ impl Attributes {
         }
     }
 
+    /// The same owner, group, bits and entries in memory of their own. The error is that there is none.
     pub fn copy(&self, alloc: Global) -> Result<Attributes, AllocError> {
         Ok(Attributes {
             owner: self.owner,
@@ -108,12 +110,15 @@ impl Attributes {
         })
     }
 
+    /// Whether rights, access entries and default entries are those of the other node, in the same order: what the ACL
+    /// block and the mode are made of.
     pub fn has_acls_of(&self, other: &Attributes) -> bool {
         self.rights == other.rights
             && self.access.as_slice() == other.access.as_slice()
             && self.default.as_slice() == other.default.as_slice()
     }
 
+    /// Whether owner, group, bits and ACLs are all those of the other node.
     pub fn is_same(&self, other: &Attributes) -> bool {
         self.owner == other.owner
             && self.group == other.group
@@ -188,6 +193,7 @@ impl Name {
         })
     }
 
+    /// Whether it is this name of this directory, whatever it stands for.
     pub fn is_in(&self, directory: u16, name: &[u8]) -> bool {
         self.directory == directory && self.name.as_slice() == name
     }
@@ -212,6 +218,7 @@ impl Tree {
         })
     }
 
+    /// The node with this number, or none: no two nodes of a tree have one.
     pub fn node(&self, number: u16) -> Option<&Node> {
         for node in self.nodes.iter() {
             if node.number == number {
@@ -239,6 +246,7 @@ impl Tree {
             .count()
     }
 
+    /// Whether no name is in this directory. It needn't be a node.
     pub fn is_empty(&self, directory: u16) -> bool {
         self.names.iter().all(|name| name.directory != directory)
     }

@@ -9,17 +9,8 @@ use Rattle.sn_overlay.specs.Overlays.{no_changes}
 use Rattle.sn_changed.specs.Changed.{HasChanged}
 use Rattle.sn_limits.specs.Versions.{version_1}
 use Rattle.sn_log.specs.Places.{LogPosition}
-use Rattle.sn_examine.specs.Both.{Replays, ReplaysBoth, in_newer, in_older}
+use Rattle.sn_examine.specs.Both.{Replays, ReplaysBoth, in_newer}
 use Rattle.sn_examine.specs.Replaying.{Breaks, LeadsOn}
-
--- a failure in the first, and in the second
-pub older_fails : (f : MountFault) (c : Contents) (from : Tree) (n epoch : ℕ) (tree : Tree) → Breaks f c from n epoch → ReplaysBoth (Err f) c from n epoch tree
-older_fails (fault.Damaged damage block) c from n epoch tree b = (b.0, in_older b.1)
-older_fails fault.NotFormatted c from n epoch tree b = b
-older_fails fault.Version c from n epoch tree b = b
-older_fails fault.NoRoot c from n epoch tree b = b
-older_fails fault.Memory c from n epoch tree b = tt
-older_fails fault.Device c from n epoch tree b = tt
 
 pub newer_fails : (f : MountFault) (c : Contents) (from : Tree) (n epoch : ℕ) (at : LogPosition) (middle tree : Tree) (charges : ℕ) → Replays c from n epoch at middle charges → Breaks f c middle n (epoch + 1) → ReplaysBoth (Err f) c from n epoch tree
 newer_fails (fault.Damaged damage block) c from n epoch at middle tree charges first b = (b.0, in_newer at middle charges first b.1)

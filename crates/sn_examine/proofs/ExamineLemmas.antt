@@ -1,19 +1,16 @@
 -- What the parts of a disk that are read first say of it.
 use Rattle.std.proofs.Common.{ℕ, Err, refl}
 use Rattle.sn_device.specs.Sectors.{Contents}
-use Rattle.sn_layout.specs.declared.places.LogHalf.TheVariants.{Zero, One}
+use Rattle.sn_layout.specs.declared.places.LogHalf.TheVariants.{One}
 use Rattle.sn_block.specs.declared.fault.ReadFault.{ReadFault}
 use Rattle.sn_block.specs.declared.fault.ReadFault.TheVariants as read
 use Rattle.sn_model.specs.declared.mount.MountFault.{MountFault}
 use Rattle.sn_model.specs.declared.mount.MountFault.TheVariants as fault
-use Rattle.sn_ondisk.specs.LogHalf.{HasNoLater, base_of}
-use Rattle.sn_log.specs.Places.{half_base}
 use Rattle.sn_root.specs.Finding.{Finds}
 use Rattle.sn_root.specs.declared.fault.RootFault.{RootFault}
 use Rattle.sn_root.specs.declared.fault.RootFault.TheVariants as root
 use Rattle.sn_sound.specs.Verdicts.{IsSomeSize}
 use Rattle.sn_sound.proofs.VerdictLemmas.{not_damaged}
-use Rattle.sn_held.proofs.HeldLemmas.{each_half}
 use Rattle.sn_examine.specs.Examining.{IsLaterIn, IsOfRoots, SomeIsLater, root_fault}
 use Rattle.sn_examine.specs.Failing.{read_fault}
 use Rattle.sn_examine.specs.Refusing.{Refuses}
@@ -43,15 +40,6 @@ root_of_roots root.UnknownVersion = tt
 root_of_roots (root.Damaged damage) = refl
 root_of_roots (root.Read f) = read_of_roots f
 
--- a later record in the one half or the other
-pub later_zero : (f : MountFault) (c : Contents) (n epoch : ℕ) → IsLaterIn f c n Zero epoch → SomeIsLater f c n epoch
-later_zero (fault.Damaged damage block) c n epoch is = (is.0, (0, is.1, is.2))
-later_zero fault.NotFormatted c n epoch is = is
-later_zero fault.Version c n epoch is = is
-later_zero fault.NoRoot c n epoch is = is
-later_zero fault.Memory c n epoch is = tt
-later_zero fault.Device c n epoch is = tt
-
 pub later_one : (f : MountFault) (c : Contents) (n epoch : ℕ) → IsLaterIn f c n One epoch → SomeIsLater f c n epoch
 later_one (fault.Damaged damage block) c n epoch is = (is.0, (1, is.1, is.2))
 later_one fault.NotFormatted c n epoch is = is
@@ -59,7 +47,3 @@ later_one fault.Version c n epoch is = is
 later_one fault.NoRoot c n epoch is = is
 later_one fault.Memory c n epoch is = tt
 later_one fault.Device c n epoch is = tt
-
--- none in either is none in any
-pub none_in_both : (c : Contents) (n epoch : ℕ) → HasNoLater c (half_base n Zero) epoch → HasNoLater c (half_base n One) epoch → (e : ℕ) → HasNoLater c (base_of n e) epoch
-none_in_both c n epoch zero one = each_half n 0 (λ (b : ℕ). HasNoLater c b epoch) zero one

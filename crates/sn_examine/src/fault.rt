@@ -7,6 +7,8 @@ use sn_block::ReadFault;
 use sn_model::{Damage, MountFault};
 use sn_root::RootFault;
 
+/// What a mount answers where a block can't be read: `Device` where a sector of it failed, `Memory` where there was
+/// none to keep it. Nothing is told of the bytes.
 pub fn fault_of(fault: ReadFault) -> MountFault
     ensures { result ≡ read_fault fault }
 {

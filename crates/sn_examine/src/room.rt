@@ -4,7 +4,6 @@ ghost use Rattle.sn_device.specs.Disk.{reads};
 ghost use Rattle.sn_block.specs.Lending.{device_of};
 ghost use Rattle.sn_layout.specs.Bytes.{AreNumbers};
 ghost use Rattle.sn_layout.specs.MapCopy.{map_block_bytes};
-ghost use Rattle.sn_layout.specs.RootBody.{IsRootBody};
 ghost use Rattle.sn_ondisk.specs.Blocks.{block_at};
 ghost use Rattle.sn_ondisk.specs.MapCopy.{HasMap};
 ghost use Rattle.sn_examine.specs.Failing.{FailsAs, WritesNothing};

@@ -1,5 +1,5 @@
 -- What a call answers that asks for a whole point.
-use Rattle.std.proofs.Common.{◌≡◌, ◌⊎◌, inl, inr, ℕ, Bool, true, false, Option, Some, None, Result, Ok, Err, refl, sym, ap, subst, ◌∙◌}
+use Rattle.std.proofs.Common.{◌≡◌, ◌⊎◌, inl, inr, ℕ, Bool, true, false, None, Result, Ok, Err, refl, sym, ap, subst, ◌∙◌}
 use Rattle.std.specs.FinMap as map
 use Rattle.std.specs.Prelude.{◌-◌, IsOk}
 use Rattle.std.proofs.lemmas.Bool.{true≢false}
@@ -35,10 +35,11 @@ use Rattle.sn_held.specs.Moments.{ShowsState}
 use Rattle.sn_held.proofs.EventLemmas.{live_show}
 use Rattle.sn_cp_whole.specs.declared.fault.PointFault.{PointFault}
 use Rattle.sn_fs.specs.Answers.{Answers, AnswersFrom, AsksFirst, HasMadePoint, HasNoChange}
-use Rattle.sn_fs.specs.Pointing.{IsPointed, Points, errno_of_point, stops_for}
-use Rattle.sn_fs.proofs.CallLemmas.{nothing_dropped}
+use Rattle.sn_fs.specs.Pointing.{Finishes, IsPointed, Points, errno_of_point, stops_for}
+use Rattle.sn_fs.proofs.CallLemmas.{nothing_dropped, stays_since}
 use Rattle.sn_fs.proofs.DecisionLemmas.{has_no_change}
-use Rattle.sn_fs.proofs.PointLemmas.{PointEvent, in_its_world, made_point, refused_costs, settled_all, unmade_in_call, unpointed_answers}
+use Rattle.sn_fs.proofs.FinishLemmas.{behind_finish, cut_finish, is_fin}
+use Rattle.sn_fs.proofs.PointLemmas.{PointEvent, in_any_world, made_point, refused_costs, running_between, settled_all, unmade_in_call, unpointed_answers}
 
 is_sync : (c : Call) → asks_for_point c ≡ true → c ≡ call.Sync
 is_sync (call.Login uid gid groups) e = absurd (true≢false (sym e))
@@ -94,12 +95,14 @@ module _ (w : World) (session : ℕ) (c : Call) (asks : asks_for_point c ≡ tru
 asked_answers : (old new : Held) (session : ℕ) (c : Call) (asked : AsksFirst old session c) → IsWorld version_1 old.world → IsPointed (event.Call session c) old new → old.world.frozen ≡ map.empty → AnswersFrom (Running old.world) (event.Call session c) asked.outcome.told old new false
 asked_answers old new session c asked whole p bare = record {
   met = None;
+  fin = old;
+  finish = inl refl;
   mid = new;
   point = inr made;
   may = ap (λ (s : Status). s.failures) p.costs;
   next = Running old.world;
   step = record { next = old.world; becomes = becomes old.world session c asked.asks asked.outcome asked.decided whole; runs = refl };
-  means = (refl, p.runs, bare);
+  means = (refl, running_between new old.world p.point p.runs, bare);
   lasts = record {
     moments = LeavesOnly-weaker old.disk new.disk (λ d. IsLiveImage d (settle old.world)) (λ d. ShowsState (Running old.world) d ⊎ ShowsState (Running old.world) d) (λ d h. inl h) (settled_all (event.Call session c) old new p bare);
     answered = live_show new old.world p.runs.runs bare;
@@ -107,9 +110,11 @@ asked_answers old new session c asked whole p bare = record {
   writes = inr (inr asked, p.touched);
   begins = tt;
   numbers = same_numbers session c old.world old.world new.kept new.kept refl refl;
+  since = stays_since session c None (Running old.world) new.kept_since;
   room = inl (none, nothing_left);
   later = later-is _ _ old.status new.status p.costs;
   costs = (λ _. made, inl (none, refl));
+  steps = tt;
   works = tt;
 }
   where
@@ -134,8 +139,10 @@ asked_point old session c whole asked = record {
   writes = λ d touched. inr (inr asked, touched);
   begins = λ m s d. tt;
   numbers = λ m. same_numbers session c old.world old.world old.kept old.kept refl refl;
+  since = λ m n. refl;
   room = λ m. refl;
   any_room = λ before after d room. tt;
+  steps = λ m new. tt;
   works = λ m new. tt;
   costs_none = refused_costs old session c;
   costs_read = λ new costs. costs;
@@ -145,10 +152,28 @@ asked_point old session c whole asked = record {
     takes_some : TakesMemory c × IsOk (ready old.world session c)
     takes_some = takes old.world session c asked.asks asked.outcome asked.decided
 
--- so it is in each world that is meant
-pub asked_behind : (old new : Held) (session : ℕ) (c : Call) (asked : AsksFirst old session c) → IsWorld version_1 old.world → Points (Ok tt) old new → Answers (event.Call session c) asked.outcome.told old false new false
-asked_behind old new session c asked whole points = in_its_world (event.Call session c) old new asked.outcome.told false (λ r bare. asked_answers old new session c asked whole (points r) bare)
+-- What is asked for behind the point in progress, once that is finished, was asked for before.
+pub asks_still : (old fin : Held) (session : ℕ) (c : Call) → fin.world ≡ old.world → AsksFirst old session c → AsksFirst fin session c
+asks_still old fin session c same asked = record { asks = asked.asks; outcome = asked.outcome; decided = subst (λ (w : World). decision version_1 w session c ≡ Ok asked.outcome) (sym same) asked.decided }
 
-pub asked_unpointed : (old new : Held) (session : ℕ) (c : Call) (fault : PointFault) → AsksFirst old session c → IsWorld version_1 old.world → Points (Err fault) old new → Answers (event.Call session c) (refused (errno_of_point fault)) old false new (stops_for fault)
-asked_unpointed old new session c fault asked whole points =
-    in_its_world (event.Call session c) old new (refused (errno_of_point fault)) (stops_for fault) (λ r bare. unpointed_answers (event.Call session c) old (asked_point old session c whole asked) r bare fault new (unmade_in_call fault session c old new (points r)))
+-- so it is in each world that is meant
+pub asked_behind : (old fin new : Held) (session : ℕ) (c : Call) (asked : AsksFirst old session c) → IsWorld version_1 old.world → Finishes (Ok tt) old fin → Points (Ok tt) fin new → Answers (event.Call session c) asked.outcome.told old false new false
+unfolding asks_still
+asked_behind old fin new session c asked whole finishes points =
+    in_any_world (event.Call session c) old new asked.outcome.told false (λ r bare.
+    let f = is_fin old fin (finishes r) r in
+    behind_finish (event.Call session c) old fin new f (inr asked) bare asked.outcome.told false tt tt
+    (asked_answers fin new session c (asks_still old fin session c f.world asked) (subst (IsWorld version_1) (sym f.world) whole) (points f.ready) (ap (λ (w : World). w.frozen) f.world ∙ bare)))
+
+pub asked_unpointed : (old fin new : Held) (session : ℕ) (c : Call) (fault : PointFault) → AsksFirst old session c → IsWorld version_1 old.world → Finishes (Ok tt) old fin → Points (Err fault) fin new → Answers (event.Call session c) (refused (errno_of_point fault)) old false new (stops_for fault)
+asked_unpointed old fin new session c fault asked whole finishes points =
+    in_any_world (event.Call session c) old new (refused (errno_of_point fault)) (stops_for fault) (λ r bare.
+    let f = is_fin old fin (finishes r) r in
+    behind_finish (event.Call session c) old fin new f (inr asked) bare (refused (errno_of_point fault)) (stops_for fault) tt tt
+    (unpointed_answers (event.Call session c) fin (asked_point fin session c (subst (IsWorld version_1) (sym f.world) whole) (asks_still old fin session c f.world asked)) f.between f.ready (ap (λ (w : World). w.frozen) f.world ∙ bare) fault new
+    (unmade_in_call fault session c fin new (points f.ready))))
+
+-- the point in progress was cut off
+pub asked_cut : (old new : Held) (session : ℕ) (c : Call) (fault : PointFault) → AsksFirst old session c → IsWorld version_1 old.world → Finishes (Err fault) old new → Answers (event.Call session c) (refused (errno_of_point fault)) old false new (stops_for fault)
+asked_cut old new session c fault asked whole finishes =
+    in_any_world (event.Call session c) old new (refused (errno_of_point fault)) (stops_for fault) (λ r bare. cut_finish (event.Call session c) old (asked_point old session c whole asked) bare new fault (finishes r))

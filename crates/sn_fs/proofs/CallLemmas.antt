@@ -1,11 +1,13 @@
 -- What a call answers, by how it ends.
-use Rattle.std.proofs.Common.{◌≡◌, ◌⊎◌, inl, inr, ◌||◌, ℕ, ◌+◌, ◌-◌, ◌≤◌, if◌then◌else◌, Bool, true, false, Option, Some, None, Result, Ok, Err, refl, sym, ap, subst, ◌∙◌, arith, leb-true}
+use Rattle.std.specs.Prelude.{is_none, is_some}
+use Rattle.std.proofs.Common.{◌≡◌, ◌⊎◌, inl, inr, ◌&&◌, ◌||◌, ℕ, ◌+◌, ◌-◌, ◌≤◌, if◌then◌else◌, Bool, true, false, Option, Some, None, Result, Ok, Err, refl, sym, ap, subst, ◌∙◌, arith, leb-true}
 use Rattle.std.specs.FinMap as map
 use Rattle.std.proofs.lemmas.Bool.{true≢false}
 use Rattle.sn_limits.specs.Versions.{version_1}
 use Rattle.sn_model.specs.declared.call.Call.{Call}
 use Rattle.sn_model.specs.declared.call.Event.TheVariants as event
 use Rattle.sn_model.specs.declared.change.Change.{Change}
+use Rattle.sn_model.specs.declared.change.Change.TheVariants.{Make, AddLink, Remove, Rename, Write as WriteBytes, SetSize, SetAttributes}
 use Rattle.sn_model.specs.declared.outcome.Caller.{Caller}
 use Rattle.sn_model.specs.declared.outcome.Outcome.{Outcome}
 use Rattle.sn_model.specs.declared.reply.Errno.TheVariants.{Estopped, Enomem}
@@ -16,23 +18,24 @@ use Rattle.sn_model.specs.Changes.{apply}
 use Rattle.sn_model.specs.Charges.{charge_for}
 use Rattle.sn_model.specs.NameTree.{IsHierarchy}
 use Rattle.sn_overlay.specs.Needs.{AreCharged, nameless_in}
-use Rattle.sn_room.specs.Rooms.{RoomCounts, charged_behind, dropping, gives_back}
+use Rattle.sn_room.specs.Rooms.{RoomCounts, charged_behind, done, dropping, fits, gives_back}
 use Rattle.sn_room.specs.Rooms.{logged as logs}
 use Rattle.sn_held.specs.Room.{HasRoomFor}
 use Rattle.sn_model.specs.Machine.{State, Running, Stopped, Mishap, Memory, Write, EventStep, refused}
 use Rattle.sn_model.specs.Outcomes.{is_opening}
-use Rattle.sn_model.specs.Settling.{dropped, settle}
+use Rattle.sn_model.specs.Settling.{dropped, is_held, settle}
 use Rattle.sn_model.specs.Steps.{Becomes, Comes, asks_for_point, decision, with_caller, with_live}
-use Rattle.sn_model.specs.Tree.{Tree}
+use Rattle.sn_model.specs.Tree.{Node, Tree}
 use Rattle.sn_model.specs.World.{World}
 use Rattle.sn_model.specs.Worlds.{IsCall, IsWorld}
 use Rattle.sn_core.specs.declared.choosing.Chosen.{Chosen}
 use Rattle.sn_core.specs.Served.{Chooses, HasNone}
 use Rattle.sn_core.specs.declared.error.CallError.{CallError}
 use Rattle.sn_core.specs.declared.error.CallError.TheVariants as lack
-use Rattle.sn_core.specs.Numbering.{has_closed}
-use Rattle.sn_core.proofs.NumberLemmas.{kept_by, same_numbers}
-use Rattle.sn_core.proofs.StepLemmas.{MadeBy, chosen_becomes, chosen_served, chosen_whole, change_takes, opening_takes, served_whole}
+use Rattle.sn_core.specs.Numbering.{gives_kept, has_closed}
+use Rattle.sn_numbers.specs.Numbers.{since_after}
+use Rattle.sn_core.proofs.NumberLemmas.{and_not_false, kept_by, same_numbers}
+use Rattle.sn_core.proofs.StepLemmas.{MadeBy, chosen_becomes, chosen_closed, chosen_served, chosen_whole, change_takes, opening_takes, served_whole}
 use Rattle.sn_block.proofs.CountLemmas.{later-is, later-same}
 use Rattle.sn_device.specs.declared.status.Status.{Status}
 use Rattle.sn_changed.specs.Changed.{HasChanged}
@@ -46,12 +49,14 @@ use Rattle.sn_block.specs.Effects.{Nowhere}
 use Rattle.sn_ondisk.specs.LogHalf.{InHalf}
 use Rattle.sn_log.specs.Places.{base_at, behind}
 use Rattle.sn_held.specs.Events.{IsOfTree, LeavesEither, LeavesMore}
-use Rattle.sn_held.specs.Held.{CarriesOn, Held, Kept, Means, RunsReady}
+use Rattle.sn_held.specs.Held.{CarriesOn, Going, Held, Kept}
+use Rattle.sn_cp_progress.specs.Meaning.{HasRoomWith, Means, RunsWith}
+use Rattle.sn_cp_progress.proofs.MeaningLemmas.{appends_with, drops_with, room_with, root_with, runs_with, stays_lasts}
 use Rattle.sn_held.specs.Moments.{ShowsState}
 use Rattle.sn_sound.specs.Logs.{HasAgeLeft}
 use Rattle.sn_held.proofs.RoomLemmas.{drops_leave_fewer}
-use Rattle.sn_held.proofs.EventLemmas.{appends_ready, drops_ready, left_of_tree, live_show, runs_lasts, stays_lasts, still_none, stops_between, stops_lasts}
-use Rattle.sn_fs.specs.Answers.{Answers, AsksFirst, Costs, HasAll, IsChangeOf, Lacks, LacksFirst, MayMeet, NumbersIn, RoomIn, Writes, is_fitting, writes_of}
+use Rattle.sn_held.proofs.EventLemmas.{left_of_tree, live_show, runs_lasts, still_none, stops_between, stops_lasts}
+use Rattle.sn_fs.specs.Answers.{Answers, AsksFirst, Costs, HasAll, IsChangeOf, Lacks, LacksFirst, MayMeet, NumbersIn, RoomIn, SinceIn, Writes, fits_with, is_fitting, writes_of}
 use Rattle.sn_fs.specs.Changing.{FailsChange, IsLogged, errno_of, stops}
 use Rattle.sn_fs.specs.Serving.{DropsFiles, Serves, ServesFrom, ServesTo, Turns, reply_to}
 use Rattle.sn_fs.specs.declared.fault.ChangeFault.{ChangeFault}
@@ -63,6 +68,20 @@ use Rattle.sn_fs.proofs.DecisionLemmas.{CanBeMade, can_be_made, charge_of_change
 stays_numbers : (session : ℕ) (c : Call) (met : Option Mishap) (s : State) (kept : ℕ → Bool) → NumbersIn (event.Call session c) met s kept s kept
 stays_numbers session c met (Running w) kept = same_numbers session c w w kept kept refl refl
 stays_numbers session c met (Stopped before after) kept = tt
+
+-- and none has gone
+has_not_closed : (w : World) (n : ℕ) → has_closed w w n ≡ false
+has_not_closed w n = told (is_held w n) (map.get w.live.nodes n)
+  where
+    told : (held : Bool) (o : Option Node) → (held && (is_some o && is_none o)) ≡ false
+    told true None = refl
+    told true (Some x) = refl
+    told false o = refl
+
+pub stays_since : (session : ℕ) (c : Call) (met : Option Mishap) (s : State) (since : ℕ → Bool) → SinceIn (event.Call session c) met s since s since
+stays_since session c None (Running w) since = λ n. sym (ap (λ (b : Bool). b || since n) (has_not_closed w n))
+stays_since session c (Some m) (Running w) since = λ n. refl
+stays_since session c met (Stopped before after) since = tt
 
 -- nothing is written
 writes_nothing : (h : Held) (s : State) (session : ℕ) (c : Call) → Writes s h h (event.Call session c) h.disk
@@ -93,6 +112,8 @@ kept : (h : Held) (has_stopped : Bool) (s : State) (session : ℕ) (c : Call) (m
 kept h has_stopped s session c met reply to m may costs room step = record {
   answers = record {
     met = met;
+    fin = h;
+    finish = inl refl;
     mid = h;
     point = inl refl;
     may = may;
@@ -103,12 +124,14 @@ kept h has_stopped s session c met reply to m may costs room step = record {
     writes = writes_nothing h s session c;
     begins = tt;
     numbers = stays_numbers session c met s h.kept;
+    since = stays_since session c met s h.kept_since;
     room = room;
     later = later-same h.status h.status refl;
     costs = costs;
+    steps = tt;
     works = tt;
   };
-  at_once = refl;
+  at_once = (refl, refl);
   wrote = Touches-start (InHalf (base_at h.at)) h.disk;
   met = to;
 }
@@ -121,12 +144,13 @@ stopped_answers h session c (Stopped before after) m = (kept h true (Stopped bef
 -- ---- of one that runs, in the world that it holds
 
 abbrev pub OfWorld : Held → Bool → ℕ → Call → Reply → Held → Type 0
-OfWorld h has_stopped session c reply new = RunsReady h h.world h.base → h.world.frozen ≡ map.empty → ServesFrom (Running h.world) session c reply h new has_stopped
+OfWorld h has_stopped session c reply new = RunsWith h.point h h.world → h.world.frozen ≡ map.empty → ServesFrom (Running h.world) session c reply h new has_stopped
 
 -- so it is served in each state that is meant
 pub in_world : (h new : Held) (has_stopped : Bool) (session : ℕ) (c : Call) (reply : Reply) → OfWorld h has_stopped session c reply new → Serves (Some reply) h session c new has_stopped
 in_world h new has_stopped session c reply f (Running w) m =
-    subst (λ (x : World). ServesFrom (Running x) session c reply h new has_stopped) m.1.runs.is (f (subst (λ (x : World). RunsReady h x h.base) (sym m.1.runs.is) m.1) (ap (λ (x : World). x.frozen) m.1.runs.is ∙ m.2))
+    let is = (runs_with h w h.point m.1).is in
+    subst (λ (x : World). ServesFrom (Running x) session c reply h new has_stopped) is (f (subst (λ (x : World). RunsWith h.point h x) (sym is) m.1) (ap (λ (x : World). x.frozen) is ∙ m.2))
 in_world h new has_stopped session c reply f (Stopped before after) m = absurd (true≢false (sym m.0))
 
 -- a call that is refused asks for nothing
@@ -140,11 +164,21 @@ cannot_ask h session c refusal asks none = absurd (never (asks.decided) none)
 asks_nothing : {A : Type 0} (h : Held) (session : ℕ) (c : Call) → asks_for_point c ≡ false → AsksFirst h session c → A
 asks_nothing h session c alone asks = absurd (true≢false (sym asks.asks ∙ alone))
 
+-- a change that gives out no number that is kept back leaves those that are so since the point in progress began
+since_stays : (change : Change) (kept since : ℕ → Bool) → gives_kept change kept ≡ false → (n : ℕ) → since_after change kept since n ≡ since n
+since_stays (Make directory name number kind own) back since none n = and_not_false (since n) (back number) none
+since_stays (AddLink directory name number) back since none n = refl
+since_stays (Remove directory name) back since none n = refl
+since_stays (Rename old_directory old_name new_directory new_name) back since none n = refl
+since_stays (WriteBytes number offset bytes) back since none n = refl
+since_stays (SetSize number size) back since none n = refl
+since_stays (SetAttributes number own) back since none n = refl
+
 -- the call has no outcome
 pub undecided_serves : (h : Held) (session : ℕ) (c : Call) (e : CallError) → HasNone e h.world session c → Serves (Some (reply_to e)) h session c h false
 undecided_serves h session c e none = in_world h h false session c (reply_to e) (λ r bare. told r bare e none)
   where
-    told : RunsReady h h.world h.base → h.world.frozen ≡ map.empty → (e : CallError) → HasNone e h.world session c → ServesFrom (Running h.world) session c (reply_to e) h h false
+    told : RunsWith h.point h h.world → h.world.frozen ≡ map.empty → (e : CallError) → HasNone e h.world session c → ServesFrom (Running h.world) session c (reply_to e) h h false
     told r bare (lack.Refused refusal) none = kept h false (Running h.world) session c None (answer.Refused refusal) tt (refl, r, bare) refl (λ asks. cannot_ask h session c refusal asks none, inl (refused_none h.world h.kept session c refusal none, refl)) (inl (refused_none h.world h.kept session c refusal none, nothing_dropped (nameless_in h.world.live) h.room))
         (record { next = h.world; becomes = subst (λ (d : Result Outcome Refusal). Becomes version_1 h.world session d (answer.Refused refusal) h.world) (sym none) (refl, refl); runs = refl })
     told r bare lack.Memory none = kept h false (Running h.world) session c (Some Memory) (refused Enomem) tt (refl, r, bare) refl refl refl (none, record { told = refl; same = refl })
@@ -165,6 +199,10 @@ drops_carry old new w session caller charged hierarchy drops = record {
   changed = λ root changed. callers_drop version_1 old.changed new.changed root charged w session caller drops.files figures hierarchy changed drops.gone drops.leads;
 }
 
+both_true : (a b : Bool) → (a && b) ≡ true → (a ≡ true) × (b ≡ true)
+both_true true b e = (refl, e)
+both_true false b e = absurd (true≢false (sym e))
+
 -- the call has an outcome, and a change was chosen
 module _ (old : Held) (session : ℕ) (c : Call) (o : Outcome) (picked : Chosen) (change : Change) (numbers : IsCall c) (whole : IsWorld version_1 old.world) (decided : decision version_1 old.world session c ≡ Ok o) (chosen : Chooses old.world.live old.kept o.change o.caller picked) (some : picked.change ≡ Some change) where
   can : CanBeMade old.world change
@@ -178,23 +216,25 @@ module _ (old : Held) (session : ℕ) (c : Call) (o : Outcome) (picked : Chosen)
   charge_is = charge_of_change old.world old.kept session c o picked change decided chosen some
 
   -- where it fits, there is room for it on top of what was charged
+  room_on : (room : RoomCounts) → fits version_1 room (nameless_in old.world.live) o ≡ true → HasRoomFor room old.world.live change
+  room_on room it_fits = omega (arith, leb-true (charged_behind version_1 room (nameless_in old.world.live) o + (if gives_back o.change then 0 else version_1.reserve)) room.free it_fits, charge_is)
+
+  room_along : (point : Option Going) → fits_with point old.room (nameless_in old.world.live) o ≡ true → HasRoomWith point old.room old.world.live change
+  room_along None it_fits = room_on old.room it_fits
+  room_along (Some going) it_fits = let both = both_true _ _ it_fits in (room_on old.room both.0, room_on (done going.free old.room) both.1)
+
   has_room : is_fitting old o ≡ true → HasRoomFor old.room old.world.live change
-  has_room fits =
-      omega (
-        arith,
-        leb-true (charged_behind version_1 old.room (nameless_in old.world.live) o + (if gives_back o.change then 0 else version_1.reserve)) old.room.free fits,
-        charge_is,
-      )
+  has_room it_fits = room_with old.point old.room old.world.live change (room_along old.point it_fits)
 
   -- the world that it makes
   abbrev pub next_with : Tree → World
   next_with tree = dropped (with_caller (with_live old.world tree) session picked.caller)
 
-  done : (tree : Tree) → apply version_1 change old.world.live ≡ Some tree → MadeBy picked.change old.world.live tree
-  done tree e = subst (λ (x : Option Change). MadeBy x old.world.live tree) (sym some) e
+  by_change : (tree : Tree) → apply version_1 change old.world.live ≡ Some tree → MadeBy picked.change old.world.live tree
+  by_change tree e = subst (λ (x : Option Change). MadeBy x old.world.live tree) (sym some) e
 
   becomes : (tree : Tree) → apply version_1 change old.world.live ≡ Some tree → Becomes version_1 old.world session (decision version_1 old.world session c) o.told (next_with tree)
-  becomes tree e = chosen_becomes old.world old.kept session c o picked tree numbers whole decided chosen (done tree e)
+  becomes tree e = chosen_becomes old.world old.kept session c o picked tree numbers whole decided chosen (by_change tree e)
 
   pub comes : (tree : Tree) → apply version_1 change old.world.live ≡ Some tree → Comes version_1 old.world session o (next_with tree)
   comes tree e = (subst (λ (d : Result Outcome Refusal). Becomes version_1 old.world session d o.told (next_with tree)) decided (becomes tree e)).1
@@ -214,17 +254,20 @@ module _ (old : Held) (session : ℕ) (c : Call) (o : Outcome) (picked : Chosen)
   pub unmade_serves : (new : Held) (f : ChangeFault) → FailsChange true f change old new → HasAll old change o → Serves (Some (refused (errno_of f))) old session c new (stops f)
   unmade_serves new f fails all = in_world old new (stops f) session c (refused (errno_of f)) (λ r bare. told f r bare fails)
     where
-      told : (f : ChangeFault) → RunsReady old old.world old.base → old.world.frozen ≡ map.empty → FailsChange true f change old new → ServesFrom (Running old.world) session c (refused (errno_of f)) old new (stops f)
+      told : (f : ChangeFault) → RunsWith old.point old old.world → old.world.frozen ≡ map.empty → FailsChange true f change old new → ServesFrom (Running old.world) session c (refused (errno_of f)) old new (stops f)
       told fault.Memory r bare fails = subst (λ (x : Held). ServesFrom (Running old.world) session c (refused Enomem) old x false) (sym fails)
           (kept old false (Running old.world) session c (Some Memory) (refused Enomem) tt (refl, r, bare) refl refl refl (change_takes old.world old.kept session c o picked change decided chosen some, record { told = refl; same = refl }))
       told fault.Device r bare fails =
           let tree = fails.made.tree in
           let next = next_with tree in
-          let aged = subst HasAgeLeft r.ready.root all.age in
-          let between = stops_between old new old.world next change tree r.runs can.spelled fails.made.applied (of_tree tree) whole.live.hierarchy (has_room all.fits) aged (fails.touched refl) bare (fails.moments refl) in
+          let runs = runs_with old old.world old.point r in
+          let aged = subst HasAgeLeft (root_with old old.world old.point r) all.age in
+          let between = stops_between old new old.world next change tree runs can.spelled fails.made.applied (of_tree tree) whole.live.hierarchy (has_room all.fits) aged (fails.touched refl) bare (fails.moments refl) in
           record {
             answers = record {
               met = Some Write;
+              fin = old;
+              finish = inl refl;
               mid = old;
               point = inl refl;
               may = fails.failed;
@@ -238,16 +281,18 @@ module _ (old : Held) (session : ℕ) (c : Call) (o : Outcome) (picked : Chosen)
                 stops = record { told = refl; left = refl };
               };
               means = (refl, between);
-              lasts = stops_lasts old new old.world next change tree r.runs can.spelled fails.made.applied (of_tree tree) whole.live.hierarchy (has_room all.fits) aged (fails.touched refl) bare (fails.moments refl);
+              lasts = stops_lasts old new old.world next change tree runs can.spelled fails.made.applied (of_tree tree) whole.live.hierarchy (has_room all.fits) aged (fails.touched refl) bare (fails.moments refl);
               writes = inl (fails.touched refl);
               begins = tt;
               numbers = tt;
+              since = tt;
               room = tt;
               later = fails.later;
               costs = inl (record { change = change; is = is_change; all = all; costs = fails.costs });
+              steps = tt;
               works = tt;
             };
-            at_once = refl;
+            at_once = (refl, refl);
             wrote = fails.touched refl;
             met = record { change = change; is = is_change; all = all; costs = fails.costs };
           }
@@ -274,6 +319,9 @@ module _ (old : Held) (session : ℕ) (c : Call) (o : Outcome) (picked : Chosen)
       at_is : new.at ≡ behind old.at change
       at_is = ap (λ (x : Held). x.at) turned.is ∙ logged.at
 
+      point_is : new.point ≡ old.point
+      point_is = ap (λ (x : Held). x.point) turned.is ∙ logged.point
+
       disk_is : new.disk ≡ mid.disk
       disk_is = ap (λ (x : Held). x.disk) turned.is
 
@@ -289,55 +337,67 @@ module _ (old : Held) (session : ℕ) (c : Call) (o : Outcome) (picked : Chosen)
       by_last : (n : ℕ) → new.kept n ≡ (has_closed (with_live old.world tree) next n || mid.kept n)
       by_last n = turned.kept n ∙ ap (λ (w : World). has_closed w (dropped (with_caller w session picked.caller)) n || mid.kept n) logged.made.world
 
+      since_last : (n : ℕ) → new.kept_since n ≡ (has_closed old.world next n || old.kept_since n)
+      since_last n =
+          turned.since n ∙ ap (λ (w : World). has_closed w (dropped (with_caller w session picked.caller)) n || mid.kept_since n) logged.made.world
+          ∙ ap (λ (b : Bool). b || mid.kept_since n) (chosen_closed old.world old.kept session c o picked tree numbers whole decided chosen (by_change tree logged.made.applied) n)
+          ∙ ap (λ (b : Bool). has_closed old.world next n || b) (logged.since n ∙ since_stays change old.kept old.kept_since all.number n)
+
       hierarchy : IsHierarchy tree
-      hierarchy = (chosen_whole old.world old.kept session c o picked tree numbers whole decided chosen (done tree logged.made.applied)).hierarchy
+      hierarchy = (chosen_whole old.world old.kept session c o picked tree numbers whole decided chosen (by_change tree logged.made.applied)).hierarchy
 
       drops : DropsFiles mid.base tree new.base next.live
       drops = subst (λ (w : World). DropsFiles mid.base w.live new.base (dropped (with_caller w session picked.caller)).live) logged.made.world
           (subst (λ (w : World). DropsFiles mid.base mid.world.live new.base w.live) (ap (λ (x : Held). x.world) turned.is) turned.base)
 
-      carried : CarriesOn old.base old.world.live old.room.charged new.base next.live (old.room.charged + charge_for version_1 old.world.live change)
-      carried =
-          let on = drops_carry mid.base new.base (with_live old.world tree) session picked.caller (old.room.charged + charge_for version_1 old.world.live change) hierarchy drops in
+      carried : (figure : ℕ) → CarriesOn old.base old.world.live figure new.base next.live (figure + charge_for version_1 old.world.live change)
+      carried figure =
+          let on = drops_carry mid.base new.base (with_live old.world tree) session picked.caller (figure + charge_for version_1 old.world.live change) hierarchy drops in
           record {
             slot = on.slot ∙ ap (λ (k : Kept). k.slot) logged.base;
             root = on.root ∙ ap (λ (k : Kept). k.root) logged.base;
             words = on.words ∙ ap (λ (k : Kept). k.words) logged.base;
             changed = λ root changed. on.changed root
-                (subst (λ (k : Kept). HasChanged version_1 k.changed root tree (old.room.charged + charge_for version_1 old.world.live change)) (sym logged.base)
-                (merges version_1 old.base.changed root old.world.live tree old.room.charged change figures whole.live.hierarchy changed logged.made.applied));
+                (subst (λ (k : Kept). HasChanged version_1 k.changed root tree (figure + charge_for version_1 old.world.live change)) (sym logged.base)
+                (merges version_1 old.base.changed root old.world.live tree figure change figures whole.live.hierarchy changed logged.made.applied));
           }
 
-      told : RunsReady old old.world old.base → old.world.frozen ≡ map.empty → ServesFrom (Running old.world) session c o.told old new false
+      told : RunsWith old.point old old.world → old.world.frozen ≡ map.empty → ServesFrom (Running old.world) session c o.told old new false
       told r bare =
-          let aged = subst HasAgeLeft r.ready.root all.age in
+          let runs = runs_with old old.world old.point r in
+          let aged = subst HasAgeLeft (root_with old old.world old.point r) all.age in
           let of = of_tree tree in
           let touched = subst (Touches (InHalf (base_at old.at)) old.disk) (sym disk_is) (logged.touched refl) in
           let more = subst (LeavesMore old.at change old.disk) (sym disk_is) (logged.acknowledged refl) in
           let moments = subst (LeavesEither old.at change old.disk) (sym disk_is) (logged.moments refl) in
-          let on : RunsReady new next new.base =
-          appends_ready old new old.world next change tree r can.spelled logged.made.applied of whole.live.hierarchy (has_room all.fits) all.age touched more (subst (λ (d : Disk). AreSectors (reads d)) (sym disk_is) (logged.sectors refl)) (subst IsSynced (sym disk_is) (logged.synced refl)) at_is room_is world_is
-          (no_fewer tree logged.made.applied) carried whole_next.live in
-          let served = chosen_served old.world old.kept session c o picked tree numbers whole decided chosen (done tree logged.made.applied) mid.kept new.kept by_mid by_last in
+          let on : RunsWith new.point new next =
+          subst (λ (p : Option Going). RunsWith p new next) (sym point_is)
+          (appends_with old.point old new old.world next change tree r can.spelled logged.made.applied of whole.live.hierarchy (room_along old.point all.fits) all.age touched more (subst (λ (d : Disk). AreSectors (reads d)) (sym disk_is) (logged.sectors refl)) (subst IsSynced (sym disk_is) (logged.synced refl)) at_is room_is world_is
+          (no_fewer tree logged.made.applied) carried whole_next.live) in
+          let served = chosen_served old.world old.kept session c o picked tree numbers whole decided chosen (by_change tree logged.made.applied) mid.kept new.kept by_mid by_last in
           record {
             answers = record {
               met = None;
+              fin = old;
+              finish = inl refl;
               mid = old;
               point = inl refl;
               may = ap (λ (s : Status). s.failures) (status_is ∙ logged.costs);
               next = Running next;
               step = record { next = next; becomes = served.0; runs = refl };
-              means = (refl, on, still_none old new old.world next change tree r.runs can.spelled logged.made.applied of whole.live.hierarchy (has_room all.fits) aged touched bare);
-              lasts = runs_lasts old new old.world next change tree r.runs can.spelled logged.made.applied of whole.live.hierarchy (has_room all.fits) aged touched bare moments on.runs;
+              means = (refl, on, still_none old new old.world next change tree runs can.spelled logged.made.applied of whole.live.hierarchy (has_room all.fits) aged touched bare);
+              lasts = runs_lasts old new old.world next change tree runs can.spelled logged.made.applied of whole.live.hierarchy (has_room all.fits) aged touched bare moments (runs_with new next new.point on);
               writes = inl touched;
               begins = tt;
               numbers = served.1;
+              since = since_last;
               room = inr (record { change = change; is = is_change; charged = room_is ∙ ap (λ (k : ℕ). logs k old.room) (sym charge_is) });
               later = later-is (writes_of change) 2 old.status new.status (status_is ∙ logged.costs);
               costs = (asks_nothing old session c alone, inr (record { change = change; is = is_change; all = all; costs = status_is ∙ logged.costs }));
+              steps = tt;
               works = tt;
             };
-            at_once = refl;
+            at_once = (refl, refl);
             wrote = touched;
             met = tt;
           }
@@ -360,24 +420,26 @@ told_serves old new session c o picked alone numbers whole decided chosen none t
     room_is = ap (λ (x : Held). x.room) turned.is ∙ ap (λ (w : World). dropping (nameless_in old.world.live - nameless_in w.live) old.room) world_is
 
     after : Held
-    after = record old { world = next; kept = new.kept; room = dropping parked old.room; base = new.base }
+    after = record old { world = next; kept = new.kept; kept_since = new.kept_since; room = dropping parked old.room; base = new.base }
 
     is : new ≡ after
-    is = λ i. record { world = world_is i; kept = new.kept; room = room_is i; at = ap (λ (x : Held). x.at) turned.is i; base = new.base; disk = ap (λ (x : Held). x.disk) turned.is i; status = ap (λ (x : Held). x.status) turned.is i }
+    is = λ i. record { world = world_is i; kept = new.kept; kept_since = new.kept_since; room = room_is i; at = ap (λ (x : Held). x.at) turned.is i; base = new.base; point = ap (λ (x : Held). x.point) turned.is i; disk = ap (λ (x : Held). x.disk) turned.is i; status = ap (λ (x : Held). x.status) turned.is i }
 
-    told : RunsReady old old.world old.base → old.world.frozen ≡ map.empty → ServesFrom (Running old.world) session c o.told old new false
+    told : RunsWith old.point old old.world → old.world.frozen ≡ map.empty → ServesFrom (Running old.world) session c o.told old new false
     told r bare =
         let of = left_of_tree old.world session picked.caller old.world.live in
         let served = chosen_served old.world old.kept session c o picked old.world.live numbers whole decided chosen (subst (λ (x : Option Change). MadeBy x old.world.live old.world.live) (sym none) refl)
         old.kept new.kept (λ n. sym (ap (λ (x : Option Change). kept_by x old.kept n) none)) turned.kept in
         let whole_next = served_whole old.world next session c o.told served.0 numbers whole in
         let drops = subst (λ (w : World). DropsFiles old.base old.world.live new.base w.live) world_is turned.base in
-        let on : RunsReady after next new.base =
-        drops_ready old old.world next new.kept parked new.base r of (omega arith) (drops_carry old.base new.base old.world session picked.caller old.room.charged whole.live.hierarchy drops) whole_next.live in
-        let shows = live_show after next on.runs (of.frozen ∙ bare) in
+        let on : RunsWith old.point after next =
+        drops_with old.point old old.world next new.kept new.kept_since parked new.base r of (omega arith) (λ figure. drops_carry old.base new.base old.world session picked.caller figure whole.live.hierarchy drops) whole_next.live in
+        let shows = live_show after next (runs_with after next old.point on) (of.frozen ∙ bare) in
         subst (λ (x : Held). ServesFrom (Running old.world) session c o.told old x false) (sym is) (record {
           answers = record {
             met = None;
+            fin = old;
+            finish = inl refl;
             mid = old;
             point = inl refl;
             may = refl;
@@ -388,12 +450,14 @@ told_serves old new session c o picked alone numbers whole decided chosen none t
             writes = inl (Touches-start (InHalf (base_at old.at)) old.disk);
             begins = tt;
             numbers = served.1;
+            since = turned.since;
             room = inl (has_no_change old.world old.kept session c o picked decided chosen none, refl);
             later = later-same old.status old.status refl;
             costs = (asks_nothing old session c alone, inl (has_no_change old.world old.kept session c o picked decided chosen none, refl));
+            steps = tt;
             works = tt;
           };
-          at_once = refl;
+          at_once = (refl, refl);
           wrote = Touches-start (InHalf (base_at old.at)) old.disk;
           met = tt;
         })

@@ -1,7 +1,11 @@
+pub mod BasedLemmas
 pub mod DecisionLemmas
-pub mod AskLemmas
 pub mod CallLemmas
 pub mod ServeLemmas
 pub mod PointLemmas
+pub mod FinishLemmas
+pub mod StepLemmas
+pub mod BeginLemmas
+pub mod AskLemmas
 pub mod MountLemmas
 pub mod UnmountLemmas

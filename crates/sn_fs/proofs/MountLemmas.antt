@@ -1,26 +1,29 @@
 -- A mount, from what recovery makes of a disk.
-use Rattle.std.proofs.Common.{◌≡◌, inl, ℕ, false, refl, sym, subst}
+use Rattle.std.proofs.Common.{◌≡◌, inl, ℕ, false, Option, None, refl, sym, subst}
 use Rattle.sn_device.specs.Disk.{Disk, reads}
 use Rattle.sn_device.proofs.CrashLemmas.{Touches-start}
 use Rattle.sn_block.specs.Effects.{Nowhere}
 use Rattle.sn_model.specs.declared.mount.MountFault.{MountFault}
 use Rattle.sn_model.specs.declared.mount.MountFault.TheVariants.{Memory}
 use Rattle.sn_model.specs.World.{World}
-use Rattle.sn_held.specs.Held.{Held, RunsReady}
+use Rattle.sn_held.specs.Held.{Going, Held, RunsReady}
+use Rattle.sn_fs.proofs.PointLemmas.{running_between}
 use Rattle.sn_mount.specs.Recovering.{IsRecovered, KeepsTheWorld, OfImage, WritesAtFault, KeepsTheRoot}
 use Rattle.sn_examine.specs.Laws.{IsSomeClean}
 use Rattle.sn_check.specs.Verdicts.{IsCause}
 use Rattle.sn_fs.specs.Mounting.{IsLeft, Mounts}
 
-pub mounts : (sectors : ℕ) (old : Disk) (h : Held) → KeepsTheRoot sectors old h.disk × OfImage old (IsRecovered h.at h.world h.room h.base old h.disk) → IsSomeClean sectors (reads old) → ((number : ℕ) → h.kept number ≡ false) → Mounts sectors old h false
-mounts sectors old h r clean none = record {
+pub mounts : (sectors : ℕ) (old : Disk) (h : Held) → KeepsTheRoot sectors old h.disk × OfImage old (IsRecovered h.at h.world h.room h.base old h.disk) → IsSomeClean sectors (reads old) → ((number : ℕ) → h.kept number ≡ false) → ((number : ℕ) → h.kept_since number ≡ false) → h.point ≡ None → Mounts sectors old h false
+mounts sectors old h r clean none none_since between = record {
   running = refl;
   none_kept = none;
+  none_since = none_since;
+  between = between;
   clean = clean;
   touched = r.0;
   runs = λ world image. let is = r.1 world image in record {
     room = is.room_is;
-    means = (refl, subst (λ (w : World). RunsReady (record h { world = w }) world h.base) (sym is.is) (is.runs h.kept h.status), image.frozen);
+    means = (refl, running_between h world between (subst (λ (w : World). RunsReady (record h { world = w }) world h.base) (sym is.is) (subst (λ (p : Option Going). RunsReady (record h { world = world; point = p }) world h.base) (sym between) (is.runs h.kept h.kept_since h.status))), image.frozen);
     leaves = is.leaves;
   };
 }

@@ -11,7 +11,7 @@ use Rattle.sn_model.specs.declared.change.Change.{Change}
 use Rattle.sn_model.specs.declared.change.Change.TheVariants.{Make, AddLink, Remove, Rename, Write as WriteBytes, SetSize, SetAttributes}
 use Rattle.sn_model.specs.declared.outcome.Outcome.{Outcome}
 use Rattle.sn_model.specs.declared.reply.Errno.{Errno}
-use Rattle.sn_model.specs.declared.reply.Errno.TheVariants.{Eio, Elimit, Enomem, Enospc, Estopped}
+use Rattle.sn_model.specs.declared.reply.Errno.TheVariants.{Eio, Elimit, Enomem, Enospc}
 use Rattle.sn_model.specs.declared.reply.Progress.TheVariants as progress
 use Rattle.sn_model.specs.declared.reply.Reply.{Reply}
 use Rattle.sn_model.specs.declared.reply.Reply.TheVariants as answer
@@ -22,10 +22,9 @@ use Rattle.sn_model.specs.Steps.{TakesMemory}
 use Rattle.sn_model.specs.World.{World}
 use Rattle.sn_model.specs.Worlds.{IsCall, IsWorld}
 use Rattle.sn_block.specs.Counts.{FailsRead, IsLater}
-use Rattle.sn_block.specs.Effects.{Nowhere}
 use Rattle.sn_block.proofs.CountLemmas.{later-is, later-join, later-same}
 use Rattle.sn_core.specs.Numbering.{gives_kept}
-use Rattle.sn_core.proofs.NumberLemmas.{same_numbers, step_numbers}
+use Rattle.sn_core.proofs.NumberLemmas.{same_numbers}
 use Rattle.sn_core.proofs.StepLemmas.{change_takes}
 use Rattle.sn_device.specs.Status.{has_ended, one_failure}
 use Rattle.sn_device.specs.declared.status.Status.{Status}
@@ -36,10 +35,12 @@ use Rattle.sn_record.specs.Payload.{IsSpelled, PayloadsFit}
 use Rattle.sn_ondisk.specs.LogHalf.{InHalf}
 use Rattle.sn_log.specs.Places.{HasRoom, LogPosition, base_at, first_of}
 use Rattle.sn_room.specs.Rooms.{RoomCounts}
-use Rattle.sn_held.specs.Held.{Held, Kept, RunsReady}
+use Rattle.sn_held.specs.Held.{Going, Held, Kept, RunsReady}
+use Rattle.sn_cp_progress.specs.Meaning.{RunsWith}
+use Rattle.sn_cp_progress.proofs.MeaningLemmas.{runs_with, stays_lasts}
 use Rattle.sn_held.specs.Images.{IsImage, IsLiveImage}
 use Rattle.sn_held.specs.Moments.{ShowsState}
-use Rattle.sn_held.proofs.EventLemmas.{live_show, ready_with, stays_lasts}
+use Rattle.sn_held.proofs.EventLemmas.{live_show, ready_with}
 use Rattle.sn_overlay.specs.Layers.{Layer}
 use Rattle.sn_overlay.specs.Needs.{need}
 use Rattle.sn_cp_whole.specs.Making.{HasCauseFor, MakesPoint, most_syncs, most_writes}
@@ -47,25 +48,37 @@ use Rattle.sn_cp_whole.specs.declared.fault.PointFault.{PointFault}
 use Rattle.sn_cp_whole.specs.declared.fault.PointFault.TheVariants as point
 use Rattle.sn_cp_whole.proofs.RecoverLemmas.{half_apart}
 use Rattle.sn_examine.specs.Failing.{CostsAtMost, HasFailed, HasNotFailed}
-use Rattle.sn_fs.specs.Answers.{Answers, AnswersFrom, Begins, BuildsOf, Costs, CostsCall, DoesNotFit, HasMadePoint, IsBesideRoot, IsChangeOf, IsCutPoint, IsLastRoot, Lacks, LacksFirst, MayMeet, HasNoChange, IsRecorded, NeedsPoint, NumbersIn, RoomIn, RoomOfCall, Works, Writes, is_fitting}
-use Rattle.sn_fs.specs.Pointing.{IsCutOff, IsPointed, IsUnpointed, Points, errno_of_point, stops_for}
+use Rattle.sn_fs.specs.Answers.{Answers, AnswersFrom, Begins, BuildsOf, Costs, CostsCall, DoesNotFit, HasMadePoint, IsBesideRoot, IsChangeOf, IsLastRoot, Lacks, LacksFirst, MayMeet, HasNoChange, IsCutAtPoint, IsRecorded, NeedsPoint, NumbersIn, RoomIn, RoomOfCall, SinceIn, StepsIn, Works, Writes, is_fitting}
+use Rattle.sn_fs.specs.Pointing.{IsPointed, IsUnpointed, Points, errno_of_point, stops_for}
 use Rattle.sn_fs.specs.Serving.{Serves, ServesFrom, ServesTo}
 use Rattle.sn_fs.proofs.CallLemmas.{comes, next_with}
 use Rattle.sn_fs.proofs.DecisionLemmas.{CanBeMade, can_be_made, is_charged}
 
 -- what is so of the world that is held is so of the one that is meant
-pub in_its_world : (e : Event) (old new : Held) (reply : Reply) (has_stopped : Bool) → (RunsReady old old.world old.base → old.world.frozen ≡ map.empty → AnswersFrom (Running old.world) e reply old new has_stopped) → Answers e reply old false new has_stopped
-in_its_world e old new reply has_stopped f (Running w) m =
-    subst (λ (x : World). AnswersFrom (Running x) e reply old new has_stopped) m.1.runs.is (f (subst (λ (x : World). RunsReady old x old.base) (sym m.1.runs.is) m.1) (ap (λ (x : World). x.frozen) m.1.runs.is ∙ m.2))
-in_its_world e old new reply has_stopped f (Stopped before after) m = absurd (true≢false (sym m.0))
+pub in_any_world : (e : Event) (old new : Held) (reply : Reply) (has_stopped : Bool) → (RunsWith old.point old old.world → old.world.frozen ≡ map.empty → AnswersFrom (Running old.world) e reply old new has_stopped) → Answers e reply old false new has_stopped
+in_any_world e old new reply has_stopped f (Running w) m =
+    let is = (runs_with old w old.point m.1).is in
+    subst (λ (x : World). AnswersFrom (Running x) e reply old new has_stopped) is (f (subst (λ (x : World). RunsWith old.point old x) (sym is) m.1) (ap (λ (x : World). x.frozen) is ∙ m.2))
+in_any_world e old new reply has_stopped f (Stopped before after) m = absurd (true≢false (sym m.0))
+
+-- where no point is in progress
+pub in_its_world : (e : Event) (old new : Held) (reply : Reply) (has_stopped : Bool) → old.point ≡ None → (RunsReady old old.world old.base → old.world.frozen ≡ map.empty → AnswersFrom (Running old.world) e reply old new has_stopped) → Answers e reply old false new has_stopped
+in_its_world e old new reply has_stopped between f = in_any_world e old new reply has_stopped (λ r bare. f (subst (λ (p : Option Going). RunsWith p old old.world) between r) bare)
+
+-- it runs without one
+pub running_between : (h : Held) (world : World) → h.point ≡ None → RunsReady h world h.base → RunsWith h.point h world
+running_between h world between ready = subst (λ (p : Option Going). RunsWith p h world) (sym between) ready
 
 -- ---- a point that was made
 
 pub made_point : (e : Event) (old mid : Held) → NeedsPoint old e → IsPointed e old mid → HasMadePoint e old mid
 made_point e old mid needed p = record {
   needed = needed;
+  between = p.between;
+  point = p.point;
   world = p.world;
   none_kept = p.none_kept;
+  none_since = p.none_since;
   log = p.log;
   room = p.room;
   changed = p.changed;
@@ -137,9 +150,11 @@ module _ (old mid new : Held) (session : ℕ) (c : Call) (needed : NeedsPoint ol
       let a = served.answers in
       record {
         met = a.met;
+        fin = old;
+        finish = inl refl;
         mid = mid;
         point = inr made;
-        may = may_meet a.mid a.met served.met a.may;
+        may = may_meet a.mid a.met served.met (subst (λ (x : Held). MayMeet x a.mid e a.met new.status) served.at_once.0 a.may);
         next = a.next;
         step = a.step;
         means = a.means;
@@ -150,10 +165,12 @@ module _ (old mid new : Held) (session : ℕ) (c : Call) (needed : NeedsPoint ol
         };
         writes = inr (needed, beside served.wrote);
         begins = tt;
-        numbers = subst (λ (x : Held). NumbersIn e a.met (Running old.world) x.kept a.next new.kept) served.at_once a.numbers;
-        room = room_in a.mid a.met a.next served.at_once a.room;
+        numbers = subst (λ (x : Held). NumbersIn e a.met (Running old.world) x.kept a.next new.kept) served.at_once.1 a.numbers;
+        since = subst (λ (x : Held). SinceIn e a.met (Running old.world) x.kept_since a.next new.kept_since) served.at_once.1 a.since;
+        room = room_in a.mid a.met a.next served.at_once.1 a.room;
         later = later-join old.status mid.status new.status later a.later;
-        costs = costs_call a.mid a.met served.at_once served.met a.costs;
+        costs = costs_call a.mid a.met served.at_once.1 served.met (subst (λ (x : Held). CostsCall x a.mid session c a.met new.status) served.at_once.0 a.costs);
+        steps = tt;
         works = tt;
       }
 
@@ -194,12 +211,14 @@ still_lacks fit e old mid session c whole made lacks = record { change = change;
 space_answers : PayloadsFit → (old mid : Held) (session : ℕ) (c : Call) → IsWorld version_1 mid.world → LacksFirst old session c → IsPointed (event.Call session c) old mid → old.world.frozen ≡ map.empty → LacksFirst mid session c → AnswersFrom (Running old.world) (event.Call session c) (refused Enospc) old mid false
 space_answers fit old mid session c whole needed p bare lacks = record {
   met = Some Space;
+  fin = old;
+  finish = inl refl;
   mid = mid;
   point = inr made;
   may = (still_lacks fit (event.Call session c) old mid session c whole made lacks, made, ap (λ (s : Status). s.failures) p.costs);
   next = Running old.world;
   step = (subst (λ (w : World). IsCharged version_1 w session c) p.world (lacks.is.outcome, lacks.is.decided, is_charged mid.world mid.kept session c lacks.is.outcome lacks.is.picked lacks.change lacks.is.decided lacks.is.chosen lacks.is.is), record { told = refl; same = refl });
-  means = (refl, p.runs, bare);
+  means = (refl, running_between mid old.world p.point p.runs, bare);
   lasts = record {
     moments = LeavesOnly-weaker old.disk mid.disk (λ d. IsLiveImage d (settle old.world)) (λ d. ShowsState (Running old.world) d ⊎ ShowsState (Running old.world) d) (λ d h. inl h) (settled_all (event.Call session c) old mid p bare);
     answered = live_show mid old.world p.runs.runs bare;
@@ -207,9 +226,11 @@ space_answers fit old mid session c whole needed p bare lacks = record {
   writes = inr (inl needed, p.touched);
   begins = tt;
   numbers = same_numbers session c old.world old.world mid.kept mid.kept refl refl;
+  since = λ n. refl;
   room = refl;
   later = later-is _ _ old.status mid.status p.costs;
   costs = refl;
+  steps = tt;
   works = tt;
 }
   where
@@ -222,13 +243,13 @@ pub not_device : (fault : PointFault) → stops_for fault ≡ false → fault �
 not_device fault runs is = true≢false (subst (λ (f : PointFault). stops_for f ≡ false) is runs)
 
 -- what is left of what is held
-module _ (e : Event) (old new : Held) (world : new.world ≡ old.world) (kept : new.kept ≡ old.kept) (room : new.room ≡ old.room) (base : new.base ≡ old.base) (built : Layer) (builds : BuildsOf e old built) where
+module _ (e : Event) (old new : Held) (world : new.world ≡ old.world) (kept : new.kept ≡ old.kept) (since : new.kept_since ≡ old.kept_since) (going : new.point ≡ old.point) (room : new.room ≡ old.room) (base : new.base ≡ old.base) (built : Layer) (builds : BuildsOf e old built) where
   pub point_unmade : (fault : PointFault) (of : World) (settled_is : settle of ≡ settle old.world) (h : Held) (k : Kept) → h.disk ≡ new.disk → (fault ≢ point.Device → new.at ≡ old.at) → MakesPoint (Err fault) of old.disk h k
       → Touches (IsBesideRoot old) old.disk new.disk → HasCauseFor fault old.status new.status → IsLater old.status new.status
       → CostsAtMost (most_writes old.at.blocks (need old.base.root.limits built)) most_syncs old.status new.status → (fault ≡ point.Age → IsLastRoot old.base.root) → IsUnpointed fault e old new
-  point_unmade point.Memory of settled_is h k disk at made touched cause later costs aged = λ i. record { world = world i; kept = kept i; room = room i; at = at (not_device point.Memory refl) i; base = base i; disk = (sym disk ∙ made) i; status = cause i }
-  point_unmade point.Age of settled_is h k disk at made touched cause later costs aged = (λ i. record { world = world i; kept = kept i; room = room i; at = at (not_device point.Age refl) i; base = base i; disk = (sym disk ∙ made) i; status = cause i }, aged refl)
-  point_unmade point.Read of settled_is h k disk at made touched cause later costs aged = (λ i. record { world = world i; kept = kept i; room = room i; at = at (not_device point.Read refl) i; base = base i; disk = (sym disk ∙ made) i; status = new.status }, cause)
+  point_unmade point.Memory of settled_is h k disk at made touched cause later costs aged = λ i. record { world = world i; kept = kept i; kept_since = since i; point = going i; room = room i; at = at (not_device point.Memory refl) i; base = base i; disk = (sym disk ∙ made) i; status = cause i }
+  point_unmade point.Age of settled_is h k disk at made touched cause later costs aged = (λ i. record { world = world i; kept = kept i; kept_since = since i; point = going i; room = room i; at = at (not_device point.Age refl) i; base = base i; disk = (sym disk ∙ made) i; status = cause i }, aged refl)
+  point_unmade point.Read of settled_is h k disk at made touched cause later costs aged = (λ i. record { world = world i; kept = kept i; kept_since = since i; point = going i; room = room i; at = at (not_device point.Read refl) i; base = base i; disk = (sym disk ∙ made) i; status = new.status }, cause)
   point_unmade point.Damaged of settled_is h k disk at made touched cause later costs aged = absurd made
   point_unmade point.Device of settled_is h k disk at made touched cause later costs aged = record {
     touched = touched;
@@ -245,6 +266,11 @@ module _ (e : Event) (old new : Held) (world : new.world ≡ old.world) (kept : 
 -- one that stops tells nothing of its numbers
 stopped_numbers : (e : Event) (met : Option Mishap) (w : World) (kept : ℕ → Bool) (before after : World) (left : ℕ → Bool) → NumbersIn e met (Running w) kept (Stopped before after) left
 stopped_numbers e met w kept before after left = tt
+
+stopped_since : (e : Event) (w : World) (since : ℕ → Bool) (before after : World) (left : ℕ → Bool) → SinceIn e (Some Write) (Running w) since (Stopped before after) left
+stopped_since (event.Call session c) w since before after left = tt
+stopped_since event.Step w since before after left = tt
+stopped_since event.Restart w since before after left = tt
 
 -- why a point is refused before it begins
 abbrev pub IsRefusing : Mishap → Type 0
@@ -265,12 +291,14 @@ pub record PointEvent (e : Event) (old : Held) (w : World) : Type 0 where
   pub writes : (d : Disk) → Touches (IsBesideRoot old) old.disk d → Writes (Running w) old old e d
   pub begins : (m : Mishap) (next : State) (d : Disk) → Begins e (Some m) next old.disk d
   pub numbers : (m : Mishap) → NumbersIn e (Some m) (Running w) old.kept (Running w) old.kept
+  pub since : (m : Mishap) → SinceIn e (Some m) (Running w) old.kept_since (Running w) old.kept_since
   pub room : (m : Mishap) → RoomIn e old old.disk (Some m) (Running w) old.room
   pub any_room : (before after : World) (d : Disk) (room : RoomCounts) → RoomIn e old d (Some Write) (Stopped before after) room
+  pub steps : (m : Mishap) (new : Held) → StepsIn e (Running w) (refused (errno_of m)) old new
   pub works : (m : Mishap) (new : Status) → Works e (refused (errno_of m)) old.status new
   pub costs_none : (m : Mishap) → IsRefusing m → Costs (Running w) old old e (Some m) old.status
   pub costs_read : (new : Status) → CostsAtMost 0 0 old.status new → Costs (Running w) old old e (Some Read) new
-  pub costs_cut : (new : Status) → IsCutPoint old e new → Costs (Running w) old old e (Some Write) new
+  pub costs_cut : (new : Status) → IsCutAtPoint old e new → Costs (Running w) old old e (Some Write) new
 
 -- a read that failed
 pub fails_read : (old new : Status) → FailsRead old new → HasFailed old new × IsLater old new × CostsAtMost 0 0 old new
@@ -288,24 +316,62 @@ fails_read old new fails = told (has_ended old) refl fails
       subst (CostsAtMost 0 0 old) (sym same) (record { writes = omega arith; syncs = omega arith }),
     )
 
-module _ (e : Event) (old : Held) (x : PointEvent e old old.world) (r : RunsReady old old.world old.base) (bare : old.world.frozen ≡ map.empty) where
+-- it was cut off, and either world may be there, of which the first is
+pub is_cut : (e : Event) (old : Held) (x : PointEvent e old old.world) (bare : old.world.frozen ≡ map.empty) (new : Held) → Touches (IsBesideRoot old) old.disk new.disk → LeavesOnly old.disk new.disk (λ c. IsImage c (settle old.world)) → HasFailed old.status new.status
+    → IsLater old.status new.status → IsCutAtPoint old e new.status → AnswersFrom (Running old.world) e (refused Eio) old new true
+is_cut e old x bare new touched settled_always failed later cut =
+    let moments = LeavesOnly-weaker old.disk new.disk (λ d. IsImage d (settle old.world)) (λ d. IsLiveImage d (settle old.world) ⊎ IsLiveImage d x.after) (λ d im. inl (record { image = im; frozen = bare })) settled_always in
+    let now = LeavesOnly-now old.disk new.disk (λ d. IsLiveImage d (settle old.world) ⊎ IsLiveImage d x.after) moments in
+    record {
+      met = Some Write;
+      fin = old;
+      finish = inl refl;
+      mid = old;
+      point = inl refl;
+      may = failed;
+      next = Stopped (settle old.world) x.after;
+      step = x.cut;
+      means = (refl, now);
+      lasts = record {
+        moments = LeavesOnly-weaker old.disk new.disk (λ d. IsLiveImage d (settle old.world) ⊎ IsLiveImage d x.after) (λ d. ShowsState (Running old.world) d ⊎ ShowsState (Stopped (settle old.world) x.after) d) (λ d h. inr h) moments;
+        answered = now;
+      };
+      writes = x.writes new.disk touched;
+      begins = x.begins Write (Stopped (settle old.world) x.after) new.disk;
+      numbers = stopped_numbers e (Some Write) old.world old.kept (settle old.world) x.after new.kept;
+      since = stopped_since e old.world old.kept_since (settle old.world) x.after new.kept_since;
+      room = x.any_room (settle old.world) x.after new.disk new.room;
+      later = later;
+      costs = x.costs_cut new.status cut;
+      steps = x.steps Write new;
+      works = x.works Write new.status;
+    }
+
+module _ (e : Event) (old : Held) (x : PointEvent e old old.world) (between : old.point ≡ None) (r : RunsReady old old.world old.base) (bare : old.world.frozen ≡ map.empty) where
+  abbrev running : RunsWith old.point old old.world
+  running = running_between old old.world between r
+
   -- nothing has changed
   refuses : (m : Mishap) → IsRefusing m → MayMeet old old e (Some m) old.status → EventStep version_1 (Running old.world) e (Some m) (refused (errno_of m)) (Running old.world) → AnswersFrom (Running old.world) e (refused (errno_of m)) old old false
   refuses m is may step = record {
     met = Some m;
+    fin = old;
+    finish = inl refl;
     mid = old;
     point = inl refl;
     may = may;
     next = Running old.world;
     step = step;
-    means = (refl, r, bare);
-    lasts = stays_lasts old false (Running old.world) (refl, r, bare);
+    means = (refl, running, bare);
+    lasts = stays_lasts old false (Running old.world) (refl, running, bare);
     writes = x.writes old.disk (Touches-start (IsBesideRoot old) old.disk);
     begins = x.begins m (Running old.world) old.disk;
     numbers = x.numbers m;
+    since = x.since m;
     room = x.room m;
     later = later-same old.status old.status refl;
     costs = x.costs_none m is;
+    steps = x.steps m old;
     works = x.works m old.status;
   }
 
@@ -315,58 +381,36 @@ module _ (e : Event) (old : Held) (x : PointEvent e old old.world) (r : RunsRead
       let told = fails_read old.status new.status fails in
       subst (λ (h : Held). AnswersFrom (Running old.world) e (refused Eio) old h false) (sym is) (record {
         met = Some Read;
+        fin = old;
+        finish = inl refl;
         mid = old;
         point = inl refl;
         may = told.0;
         next = Running old.world;
         step = x.read;
-        means = (refl, ready_with old old.world old.base old.kept old.base new.status r, bare);
-        lasts = stays_lasts old false (Running old.world) (refl, r, bare);
+        means = (refl, running_between (record old { status = new.status }) old.world between (ready_with old old.world old.base old.kept old.kept_since old.base old.point new.status r), bare);
+        lasts = stays_lasts old false (Running old.world) (refl, running, bare);
         writes = x.writes old.disk (Touches-start (IsBesideRoot old) old.disk);
         begins = x.begins Read (Running old.world) old.disk;
         numbers = x.numbers Read;
+        since = x.since Read;
         room = x.room Read;
         later = told.1;
         costs = x.costs_read new.status told.2;
+        steps = x.steps Read (record old { status = new.status });
         works = x.works Read new.status;
       })
-
-  -- it was cut off, and either world may be there, of which the first is
-  is_cut : (new : Held) → IsCutOff e old new → AnswersFrom (Running old.world) e (refused Eio) old new true
-  is_cut new cut =
-      let moments = LeavesOnly-weaker old.disk new.disk (λ d. IsImage d (settle old.world)) (λ d. IsLiveImage d (settle old.world) ⊎ IsLiveImage d x.after) (λ d im. inl (record { image = im; frozen = bare })) cut.moments in
-      let now = LeavesOnly-now old.disk new.disk (λ d. IsLiveImage d (settle old.world) ⊎ IsLiveImage d x.after) moments in
-      record {
-        met = Some Write;
-        mid = old;
-        point = inl refl;
-        may = cut.failed;
-        next = Stopped (settle old.world) x.after;
-        step = x.cut;
-        means = (refl, now);
-        lasts = record {
-          moments = LeavesOnly-weaker old.disk new.disk (λ d. IsLiveImage d (settle old.world) ⊎ IsLiveImage d x.after) (λ d. ShowsState (Running old.world) d ⊎ ShowsState (Stopped (settle old.world) x.after) d) (λ d h. inr h) moments;
-          answered = now;
-        };
-        writes = x.writes new.disk cut.touched;
-        begins = x.begins Write (Stopped (settle old.world) x.after) new.disk;
-        numbers = stopped_numbers e (Some Write) old.world old.kept (settle old.world) x.after new.kept;
-        room = x.any_room (settle old.world) x.after new.disk new.room;
-        later = cut.later;
-        costs = x.costs_cut new.status (record { needed = x.needed; built = cut.built; builds = cut.builds; costs = cut.costs });
-        works = x.works Write new.status;
-      }
 
   pub unpointed_answers : (fault : PointFault) (new : Held) → IsUnpointed fault e old new → AnswersFrom (Running old.world) e (refused (errno_of_point fault)) old new (stops_for fault)
   unpointed_answers point.Memory new is = subst (λ (h : Held). AnswersFrom (Running old.world) e (refused Enomem) old h false) (sym is) (refuses Memory tt refl x.memory)
   unpointed_answers point.Age new is = subst (λ (h : Held). AnswersFrom (Running old.world) e (refused Elimit) old h false) (sym is.0) (refuses Age tt (x.needed, is.1, refl) x.age)
   unpointed_answers point.Read new is = cannot_read new is.0 is.1
   unpointed_answers point.Damaged new is = absurd is
-  unpointed_answers point.Device new is = is_cut new is
+  unpointed_answers point.Device new is = is_cut e old x bare new is.touched is.moments is.failed is.later (inl (record { needed = x.needed; built = is.built; builds = is.builds; costs = is.costs }))
 
 -- ---- a call
 
-not_more : (errno : Errno) → refused errno ≡ answer.Progress progress.More → ⊥
+pub not_more : (errno : Errno) → refused errno ≡ answer.Progress progress.More → ⊥
 not_more errno e = cc
 
 -- one that is refused before its point begins costs nothing
@@ -377,7 +421,7 @@ refused_costs old session c Write is = absurd is
 refused_costs old session c Space is = absurd is
 refused_costs old session c Age is = refl
 
-call_point : (old : Held) (session : ℕ) (c : Call) → IsCall c → IsWorld version_1 old.world → LacksFirst old session c → PointEvent (event.Call session c) old old.world
+pub call_point : (old : Held) (session : ℕ) (c : Call) → IsCall c → IsWorld version_1 old.world → LacksFirst old session c → PointEvent (event.Call session c) old old.world
 call_point old session c numbers whole needed = record {
   needed = inl needed;
   memory = (takes, record { told = refl; same = refl });
@@ -390,6 +434,8 @@ call_point old session c numbers whole needed = record {
   numbers = λ m. same_numbers session c old.world old.world old.kept old.kept refl refl;
   room = λ m. refl;
   any_room = λ before after d room. tt;
+  since = λ m n. refl;
+  steps = λ m new. tt;
   works = λ m new. tt;
   costs_none = refused_costs old session c;
   costs_read = λ new costs. costs;
@@ -414,9 +460,9 @@ call_point old session c numbers whole needed = record {
     takes : TakesMemory c × IsOk (ready old.world session c)
     takes = change_takes old.world old.kept session c o is.picked needed.change is.decided is.chosen is.is
 
-unpointed_call : (old new : Held) (session : ℕ) (c : Call) (fault : PointFault) → IsCall c → IsWorld version_1 old.world → LacksFirst old session c → RunsReady old old.world old.base → old.world.frozen ≡ map.empty → IsUnpointed fault (event.Call session c) old new
+unpointed_call : (old new : Held) (session : ℕ) (c : Call) (fault : PointFault) → IsCall c → IsWorld version_1 old.world → LacksFirst old session c → old.point ≡ None → RunsReady old old.world old.base → old.world.frozen ≡ map.empty → IsUnpointed fault (event.Call session c) old new
     → AnswersFrom (Running old.world) (event.Call session c) (refused (errno_of_point fault)) old new (stops_for fault)
-unpointed_call old new session c fault numbers whole needed r bare is = unpointed_answers (event.Call session c) old (call_point old session c numbers whole needed) r bare fault new is
+unpointed_call old new session c fault numbers whole needed between r bare is = unpointed_answers (event.Call session c) old (call_point old session c numbers whole needed) between r bare fault new is
 
 -- a point that isn't made in a call is as one in a step
 pub unmade_in_call : (fault : PointFault) (session : ℕ) (c : Call) (old new : Held) → IsUnpointed fault event.Step old new → IsUnpointed fault (event.Call session c) old new
@@ -427,104 +473,22 @@ unmade_in_call point.Damaged session c old new is = is
 unmade_in_call point.Device session c old new is = is
 
 -- the same in each world that is meant
-pub call_behind : (old mid new : Held) (session : ℕ) (c : Call) (reply : Reply) (has_stopped : Bool) → LacksFirst old session c → Points (Ok tt) old mid → Serves (Some reply) mid session c new has_stopped → Answers (event.Call session c) reply old false new has_stopped
-call_behind old mid new session c reply has_stopped needed points serves =
-    in_its_world (event.Call session c) old new reply has_stopped (λ r bare. let p = points r in behind_point old mid new session c (inl needed) p bare (serves (Running old.world) (refl, p.runs, bare)))
+pub call_behind : (old mid new : Held) (session : ℕ) (c : Call) (reply : Reply) (has_stopped : Bool) → old.point ≡ None → LacksFirst old session c → Points (Ok tt) old mid → Serves (Some reply) mid session c new has_stopped → Answers (event.Call session c) reply old false new has_stopped
+call_behind old mid new session c reply has_stopped between needed points serves =
+    in_its_world (event.Call session c) old new reply has_stopped between (λ r bare. let p = points r in behind_point old mid new session c (inl needed) p bare (serves (Running old.world) (refl, running_between mid old.world p.point p.runs, bare)))
 
-pub call_without_room : PayloadsFit → (old mid new : Held) (session : ℕ) (c : Call) → IsWorld version_1 mid.world → LacksFirst old session c → Points (Ok tt) old mid → Serves None mid session c new false → Answers (event.Call session c) (refused Enospc) old false new false
-call_without_room fit old mid new session c whole needed points serves =
+pub call_without_room : PayloadsFit → (old mid new : Held) (session : ℕ) (c : Call) → IsWorld version_1 mid.world → old.point ≡ None → LacksFirst old session c → Points (Ok tt) old mid → Serves None mid session c new false → Answers (event.Call session c) (refused Enospc) old false new false
+call_without_room fit old mid new session c whole between needed points serves =
     subst (λ (h : Held). Answers (event.Call session c) (refused Enospc) old false h false) (sym serves.1)
-    (in_its_world (event.Call session c) old mid (refused Enospc) false (λ r bare. space_answers fit old mid session c whole needed (points r) bare serves.0))
+    (in_its_world (event.Call session c) old mid (refused Enospc) false between (λ r bare. space_answers fit old mid session c whole needed (points r) bare serves.0))
 
-pub call_unpointed : (old new : Held) (session : ℕ) (c : Call) (fault : PointFault) → IsCall c → IsWorld version_1 old.world → LacksFirst old session c → Points (Err fault) old new → Answers (event.Call session c) (refused (errno_of_point fault)) old false new (stops_for fault)
-call_unpointed old new session c fault numbers whole needed points =
-    in_its_world (event.Call session c) old new (refused (errno_of_point fault)) (stops_for fault) (λ r bare. unpointed_call old new session c fault numbers whole needed r bare (unmade_in_call fault session c old new (points r)))
-
--- ---- a step
-
-step_point : (old : Held) → PointEvent event.Step old old.world
-step_point old = record {
-  needed = tt;
-  memory = record { told = refl; same = refl };
-  read = record { told = refl; same = refl };
-  age = record { told = refl; same = refl };
-  after = settle old.world;
-  cut = record { told = refl; left = refl };
-  writes = λ d touched. touched;
-  begins = λ m s d. tt;
-  numbers = λ m. step_numbers old.world old.kept;
-  room = λ m. refl;
-  any_room = λ before after d room. tt;
-  works = λ m new more. absurd (not_more (errno_of m) more);
-  costs_none = none;
-  costs_read = λ new costs. costs;
-  costs_cut = λ new cut. cut;
-}
-  where
-    none : (m : Mishap) → IsRefusing m → Costs (Running old.world) old old event.Step (Some m) old.status
-    none Memory is = refl
-    none Read is = absurd is
-    none Write is = absurd is
-    none Space is = absurd is
-    none Age is = refl
-
-done_is_not_more : answer.Progress progress.Done ≡ answer.Progress progress.More → ⊥
-done_is_not_more e = cc
-
-done_step : (old new : Held) → IsPointed event.Step old new → old.world.frozen ≡ map.empty → AnswersFrom (Running old.world) event.Step (answer.Progress progress.Done) old new false
-done_step old new p bare = record {
-  met = None;
-  mid = new;
-  point = inr made;
-  may = ap (λ (s : Status). s.failures) p.costs;
-  next = Running old.world;
-  step = (inr refl, refl);
-  means = (refl, p.runs, bare);
-  lasts = record {
-    moments = LeavesOnly-weaker old.disk new.disk (λ d. IsLiveImage d (settle old.world)) (λ d. ShowsState (Running old.world) d ⊎ ShowsState (Running old.world) d) (λ d h. inl h) (settled_all event.Step old new p bare);
-    answered = live_show new old.world p.runs.runs bare;
-  };
-  writes = p.touched;
-  begins = tt;
-  numbers = step_numbers old.world new.kept;
-  room = refl;
-  later = later-is _ _ old.status new.status p.costs;
-  costs = (made, refl);
-  works = λ more. absurd (done_is_not_more more);
-}
-  where
-    made : HasMadePoint event.Step old new
-    made = made_point event.Step old new tt p
-
-pub stopped_step : (h : Held) → Answers event.Step (refused Estopped) h true h true
-stopped_step h (Running w) m = absurd (true≢false m.0)
-stopped_step h (Stopped before after) m = record {
-  met = None;
-  mid = h;
-  point = inl refl;
-  may = refl;
-  next = Stopped before after;
-  step = (refl, refl);
-  means = m;
-  lasts = stays_lasts h true (Stopped before after) m;
-  writes = Touches-start Nowhere h.disk;
-  begins = tt;
-  numbers = tt;
-  room = tt;
-  later = later-same h.status h.status refl;
-  costs = refl;
-  works = λ more. absurd (not_more Estopped more);
-}
-
-pub pointed_step : (old new : Held) → Points (Ok tt) old new → Answers event.Step (answer.Progress progress.Done) old false new false
-pointed_step old new points = in_its_world event.Step old new (answer.Progress progress.Done) false (λ r bare. done_step old new (points r) bare)
-
-pub unpointed_step : (old new : Held) (fault : PointFault) → Points (Err fault) old new → Answers event.Step (refused (errno_of_point fault)) old false new (stops_for fault)
-unpointed_step old new fault points = in_its_world event.Step old new (refused (errno_of_point fault)) (stops_for fault) (λ r bare. unpointed_answers event.Step old (step_point old) r bare fault new (points r))
+pub call_unpointed : (old new : Held) (session : ℕ) (c : Call) (fault : PointFault) → IsCall c → IsWorld version_1 old.world → old.point ≡ None → LacksFirst old session c → Points (Err fault) old new → Answers (event.Call session c) (refused (errno_of_point fault)) old false new (stops_for fault)
+call_unpointed old new session c fault numbers whole between needed points =
+    in_its_world (event.Call session c) old new (refused (errno_of_point fault)) (stops_for fault) between (λ r bare. unpointed_call old new session c fault numbers whole needed between r bare (unmade_in_call fault session c old new (points r)))
 
 -- ---- a restart whose unmount is refused
 
-unmount_point : (old : Held) → PointEvent event.Restart old old.world
+pub unmount_point : (old : Held) → PointEvent event.Restart old old.world
 unmount_point old = record {
   needed = tt;
   memory = inl (record { told = refl; same = refl });
@@ -535,8 +499,10 @@ unmount_point old = record {
   writes = λ d touched. inl touched;
   begins = λ m s d. tt;
   numbers = λ m n. refl;
+  since = λ m n. refl;
   room = λ m. refl;
   any_room = λ before after d room. tt;
+  steps = λ m new. tt;
   works = λ m new. tt;
   costs_none = none;
   costs_read = λ new costs. inl costs;
@@ -550,5 +516,6 @@ unmount_point old = record {
     none Space is = absurd is
     none Age is = refl
 
-pub unpointed_restart : (old new : Held) (fault : PointFault) → (RunsReady old old.world old.base → IsUnpointed fault event.Restart old new) → Answers event.Restart (refused (errno_of_point fault)) old false new (stops_for fault)
-unpointed_restart old new fault points = in_its_world event.Restart old new (refused (errno_of_point fault)) (stops_for fault) (λ r bare. unpointed_answers event.Restart old (unmount_point old) r bare fault new (points r))
+pub unpointed_restart : (old new : Held) (fault : PointFault) → old.point ≡ None → RunsReady old old.world old.base → old.world.frozen ≡ map.empty → IsUnpointed fault event.Restart old new
+    → AnswersFrom (Running old.world) event.Restart (refused (errno_of_point fault)) old new (stops_for fault)
+unpointed_restart old new fault between r bare is = unpointed_answers event.Restart old (unmount_point old) between r bare fault new is

@@ -3,15 +3,15 @@ use Rattle.std.proofs.Common.{◌≡◌, ℕ, ◌*◌, ◌≤◌, Bool, true, fa
 use Rattle.sn_limits.specs.Versions.{version_1}
 use Rattle.sn_layout.specs.RootBody.{IsRootBody}
 use Rattle.sn_layout.specs.declared.root.RootBody.{RootBody}
-use Rattle.sn_log.specs.Places.{LogPosition}
+use Rattle.sn_log.specs.Places.{LogPosition, base_at}
+use Rattle.sn_ondisk.specs.LogHalf.{InHalf, base_of}
+use Rattle.sn_device.specs.Crash.{Touches}
+use Rattle.sn_device.specs.Disk.{Disk, reads}
+use Rattle.sn_device.specs.Sectors.{AreSectors}
+use Rattle.sn_layout.specs.Places.{other_slot}
 use Rattle.sn_model.specs.declared.change.Change.{Change}
-use Rattle.sn_model.specs.declared.change.Change.TheVariants.{Make}
-use Rattle.sn_model.specs.declared.outcome.Caller.{Caller}
 use Rattle.sn_model.specs.declared.outcome.Outcome.{Outcome}
-use Rattle.sn_model.specs.declared.outcome.Pending.{Pending}
-use Rattle.sn_model.specs.declared.outcome.Pending.TheVariants.{Does, Makes, Nothing}
 use Rattle.sn_model.specs.World.{World}
-use Rattle.sn_model.specs.Tree.{Tree}
 use Rattle.sn_model.specs.Changes.{apply}
 use Rattle.sn_model.specs.Steps.{with_live}
 use Rattle.sn_numbers.specs.Numbers.{kept_after}
@@ -20,20 +20,21 @@ use Rattle.sn_overlay.specs.Needs.{counts}
 use Rattle.sn_overlay.specs.Overlays.{HasRoom, TakesRoom}
 use Rattle.sn_overlay.specs.declared.overlay.Overlay.{Overlay}
 use Rattle.sn_core.specs.Plain.{kept_of, room_of, world_of}
-use Rattle.sn_core.specs.Served.{Chooses}
 use Rattle.sn_core.specs.declared.choosing.Chosen.{Chosen}
 use Rattle.sn_core.specs.declared.world.PlainWorld.{PlainWorld}
 use Rattle.sn_core.proofs.NumberLemmas.{kept_by}
 use Rattle.sn_core.proofs.StepLemmas.{IsMade, MadeBy}
 use Rattle.sn_held.specs.Held.{Held}
-use Rattle.sn_cp_whole.specs.Planning.{IsBaseAt}
+use Rattle.sn_cp.proofs.LogLemmas.{log_keeps}
+use Rattle.sn_cp.specs.Points.{stage_of, work_of}
+use Rattle.sn_cp_whole.specs.declared.going.GoingPoint.{GoingPoint}
 use Rattle.sn_cp_whole.specs.declared.base.PointBase.{PointBase}
 use Rattle.sn_fs.specs.Answers.{HasAll, is_fitting}
 use Rattle.std.proofs.lemmas.Bool.{true≢false}
 use Rattle.sn_fs.specs.Changing.{FailsChange, IsMade as IsChanged, stops}
 use Rattle.sn_fs.specs.declared.fault.ChangeFault.{ChangeFault}
 use Rattle.sn_fs.specs.declared.fault.ChangeFault.TheVariants as fault
-use Rattle.sn_fs.specs.Mounted.{IsSameRoot}
+use Rattle.sn_fs.specs.Mounted.{IsBased, IsSameRoot, StandsThere}
 use Rattle.sn_fs.specs.Serving.{LacksNothing, LacksSome, TellsLack}
 
 -- room for the drop of each file that is open in the world
@@ -51,12 +52,32 @@ room_kept n old new has takes = record { nodes = omega (arith, has.nodes, takes.
 pub room_fewer : (n fewer : ℕ) (it : Overlay) → fewer ≤ n → HasRoom it (counts n 0 0) → HasRoom it (counts fewer 0 0)
 room_fewer n fewer it few has = record { nodes = omega (arith, few, has.nodes); names = has.names; blocks = has.blocks }
 
-pub based_still : (old new : LogPosition) (base next : PointBase) → new.blocks ≡ old.blocks → new.epoch ≡ old.epoch → IsSameRoot base next → IsBaseAt old base → IsBaseAt new next
-based_still old new base next blocks epoch same is = record {
+pub based_still : (going : Option GoingPoint) (old new : LogPosition) (base next : PointBase) → new.blocks ≡ old.blocks → new.epoch ≡ old.epoch → IsSameRoot base next → IsBased going old base → IsBased going new next
+based_still None old new base next blocks epoch same is = record {
   body = subst IsRootBody (sym same.root) is.body;
   words = ap (λ (m : List ℕ). length m) same.map ∙ is.words ∙ sym blocks;
   epoch = epoch ∙ is.epoch ∙ ap (λ (r : RootBody). r.epoch) (sym same.root);
 }
+based_still (Some going) old new base next blocks epoch same is = record {
+  whole = is.whole;
+  within = is.within;
+  blocks = is.blocks ∙ sym blocks;
+  slot = ap other_slot same.slot ∙ is.slot;
+  epoch = epoch ∙ is.epoch;
+}
+
+-- where the same is in progress
+pub still_based : (going still : Option GoingPoint) (old new : LogPosition) (base next : PointBase) → still ≡ going → new.blocks ≡ old.blocks → new.epoch ≡ old.epoch → IsSameRoot base next → IsBased going old base → IsBased still new next
+still_based going still old new base next there blocks epoch same is = subst (λ (g : Option GoingPoint). IsBased g new next) (sym there) (based_still going old new base next blocks epoch same is)
+
+-- a record that is appended leaves the point in progress where it is
+stands_still : (going : Option GoingPoint) (at : LogPosition) (base : PointBase) (old new : Disk) → IsBased going at base → AreSectors (reads old) → Touches (InHalf (base_at at)) old new → StandsThere going old → StandsThere going new
+stands_still None at base old new based whole touched stands = tt
+stands_still (Some going) at base old new is whole touched stands =
+    log_keeps (work_of going.point) (stage_of going.point) at.epoch old new whole is.whole is.within (subst (λ (n : ℕ). Touches (InHalf (base_of n at.epoch)) old new) (sym is.blocks) touched) stands
+
+pub still_stands : (going still : Option GoingPoint) (at : LogPosition) (base : PointBase) (old new : Disk) → still ≡ going → IsBased going at base → AreSectors (reads old) → Touches (InHalf (base_at at)) old new → StandsThere going old → StandsThere still new
+still_stands going still at base old new there based whole touched stands = subst (λ (g : Option GoingPoint). StandsThere g new) (sym there) (stands_still going at base old new based whole touched stands)
 
 pub same_twice : (a b c : PointBase) → IsSameRoot a b → IsSameRoot b c → IsSameRoot a c
 same_twice a b c first second = record { slot = second.slot ∙ first.slot; root = second.root ∙ first.root; map = second.map ∙ first.map }
@@ -91,3 +112,7 @@ one_at_most false = omega arith
 pub still_same : (told : Bool) (f : ChangeFault) (change : Change) (old new : Held) → FailsChange told f change old new → stops f ≡ false → new ≡ old
 still_same told fault.Memory change old new fails runs = fails
 still_same told fault.Device change old new fails runs = absurd (true≢false runs)
+
+-- where the disk is as it was, the point in progress stands there still
+pub stands_same : (going still : Option GoingPoint) (old new : Disk) → still ≡ going → new ≡ old → StandsThere going old → StandsThere still new
+stands_same going still old new there same stands = subst (λ (g : Option GoingPoint). StandsThere g new) (sym there) (subst (StandsThere going) (sym same) stands)

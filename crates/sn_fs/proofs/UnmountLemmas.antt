@@ -1,5 +1,5 @@
 -- What the point of an unmount is made of.
-use Rattle.std.proofs.Common.{◌≡◌, ℕ, ◌+◌, ◌≤◌, false, refl, sym, ap, subst, ◌∙◌, arith}
+use Rattle.std.proofs.Common.{◌≡◌, false, refl, sym, ap, subst, arith}
 use Rattle.std.specs.FinMap as map
 use Rattle.std.specs.Prelude.{None, replicate}
 use Rattle.sn_limits.specs.Versions.{version_1}
@@ -43,10 +43,10 @@ module _ (old : Held) (built : Layer) (drops : DropsFiles old.base old.world.liv
 
   -- what runs is ready for a point of the settled world
   abbrev pub last : Held
-  last = record old { world = settle old.world; kept = λ _. false; room = dropping (nameless_in old.world.live) old.room; base = last_base }
+  last = record old { world = settle old.world; kept = λ _. false; kept_since = λ _. false; room = dropping (nameless_in old.world.live) old.room; base = last_base }
 
   last_ready : RunsReady last (settle old.world) last_base
-  last_ready = drops_ready old old.world (settle old.world) (λ _. false) (nameless_in old.world.live) last_base r of_settled (omega arith) carries (dropping_tree version_1 old.world.live (λ _. false) whole.live)
+  last_ready = drops_ready old old.world (settle old.world) (λ _. false) (λ _. false) (nameless_in old.world.live) last_base r of_settled (omega arith) carries (dropping_tree version_1 old.world.live (λ _. false) whole.live)
 
   pub ready_as : (room : RoomCounts) → room ≡ dropping (nameless_in old.world.live) old.room → RunsReady (record last { room = room }) (settle old.world) last_base
   ready_as room is = subst (λ (x : RoomCounts). RunsReady (record last { room = x }) (settle old.world) last_base) (sym is) last_ready

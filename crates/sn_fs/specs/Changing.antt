@@ -11,7 +11,7 @@ use Rattle.sn_model.specs.Tree.{Tree}
 use Rattle.sn_model.specs.World.{World}
 use Rattle.sn_model.specs.declared.reply.Errno.{Errno}
 use Rattle.sn_model.specs.declared.reply.Errno.TheVariants.{Enomem, Eio}
-use Rattle.sn_numbers.specs.Numbers.{kept_after}
+use Rattle.sn_numbers.specs.Numbers.{kept_after, since_after}
 use Rattle.sn_ondisk.specs.LogHalf.{InHalf}
 use Rattle.sn_log.specs.Places.{base_at, behind}
 use Rattle.sn_block.specs.Counts.{IsLater, called}
@@ -39,9 +39,11 @@ with_change k live change = record k { changed = merge k.changed (layer_of_chang
 pub record IsLogged (told : Bool) (change : Change) (charge : ℕ) (old new : Held) : Type 0 where
   pub made : IsMade change old.world new.world
   pub kept : (n : ℕ) → new.kept n ≡ kept_after change old.kept n
+  pub since : (n : ℕ) → new.kept_since n ≡ since_after change old.kept old.kept_since n
   pub charged : new.room ≡ logged charge old.room
   pub at : new.at ≡ behind old.at change
   pub base : new.base ≡ with_change old.base old.world.live change
+  pub point : new.point ≡ old.point
   pub touched : IsTrue told → Touches (InHalf (base_at old.at)) old.disk new.disk
   pub moments : IsTrue told → LeavesEither old.at change old.disk new.disk
   pub acknowledged : IsTrue told → LeavesMore old.at change old.disk new.disk

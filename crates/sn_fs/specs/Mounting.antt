@@ -1,12 +1,13 @@
 -- What a mount makes of a disk.
-use Rattle.std.specs.Prelude.{◌≡◌, ◌⊎◌, ℕ, Bool, false}
+use Rattle.std.specs.Prelude.{◌≡◌, ◌⊎◌, ℕ, Bool, false, None}
 use Rattle.sn_device.specs.Disk.{Disk, reads}
 use Rattle.sn_device.specs.Crash.{Touches}
 use Rattle.sn_block.specs.Effects.{Nowhere}
 use Rattle.sn_model.specs.declared.mount.MountFault.{MountFault}
 use Rattle.sn_model.specs.Machine.{Running}
 use Rattle.sn_model.specs.World.{World}
-use Rattle.sn_held.specs.Held.{Held, Means}
+use Rattle.sn_held.specs.Held.{Held}
+use Rattle.sn_cp_progress.specs.Meaning.{Means}
 use Rattle.sn_held.specs.Room.{HasRoomOf}
 use Rattle.sn_mount.specs.Recovering.{KeepsTheWorld, LeavesTheWorld, OfImage, WritesAtFault, KeepsTheRoot}
 use Rattle.sn_examine.specs.Laws.{IsSomeClean}
@@ -18,10 +19,12 @@ pub record MountsWorld (old : Disk) (h : Held) (has_stopped : Bool) (world : Wor
   pub means : Means h has_stopped (Running world)
   pub leaves : LeavesTheWorld old h.disk world
 
--- A disk without a fault is mounted, and no number is kept back. What it was an image of runs.
+-- A disk without a fault is mounted, no number is kept back, and no point is in progress. What it was an image of runs.
 pub record Mounts (sectors : ℕ) (old : Disk) (h : Held) (has_stopped : Bool) : Type 0 where
   pub running : has_stopped ≡ false
   pub none_kept : (number : ℕ) → h.kept number ≡ false
+  pub none_since : (number : ℕ) → h.kept_since number ≡ false
+  pub between : h.point ≡ None
   pub clean : IsSomeClean sectors (reads old)
   pub touched : KeepsTheRoot sectors old h.disk
   pub runs : OfImage old (MountsWorld old h has_stopped)

@@ -1,9 +1,11 @@
 -- A whole point between two events, or in the course of one.
-use Rattle.std.specs.Prelude.{◌≡◌, ℕ, ◌+◌, ◌≤◌, Bool, true, false, Result, Ok, Err}
+use Rattle.std.specs.Prelude.{◌≡◌, ◌⊎◌, ℕ, ◌+◌, ◌<◌, ◌≤◌, Bool, true, false, Option, None, Some, Result, Ok, Err}
 use Rattle.sn_device.specs.Crash.{LeavesOnly, Touches}
 use Rattle.sn_layout.specs.declared.gate.Gate.{Gate}
 use Rattle.sn_log.specs.Places.{first_of}
 use Rattle.sn_model.specs.declared.reply.Errno.{Errno}
+use Rattle.sn_model.specs.declared.reply.Progress.{Progress}
+use Rattle.sn_model.specs.declared.reply.Progress.TheVariants as progress
 use Rattle.sn_model.specs.declared.reply.Errno.TheVariants.{Elimit, Enomem, Eio}
 use Rattle.sn_model.specs.Settling.{settle}
 use Rattle.sn_model.specs.World.{World}
@@ -14,19 +16,25 @@ use Rattle.sn_overlay.specs.Layers.{Layer}
 use Rattle.sn_overlay.specs.Needs.{need}
 use Rattle.sn_overlay.specs.Overlays.{no_changes}
 use Rattle.sn_room.specs.Rooms.{fresh}
-use Rattle.sn_held.specs.Held.{Held, RunsReady}
+use Rattle.sn_held.specs.Held.{Going, Held, RunsReady}
+use Rattle.sn_cp.specs.Counting.{syncs_left, writes_left}
+use Rattle.sn_cp.specs.declared.stage.Stage.TheVariants.{Bodied}
+use Rattle.sn_cp_progress.specs.Meaning.{RunsWith}
 use Rattle.sn_held.specs.Images.{IsImage}
 use Rattle.sn_sound.specs.Logs.{HasAgeLeft}
 use Rattle.sn_cp_whole.specs.Making.{most_syncs, most_writes, syncs_of_point, writes_of_point}
 use Rattle.sn_cp_whole.specs.declared.fault.PointFault.{PointFault}
 use Rattle.sn_cp_whole.specs.declared.fault.PointFault.TheVariants.{Memory, Age, Read, Damaged, Device}
 use Rattle.sn_examine.specs.Failing.{CostsAtMost, HasFailed}
-use Rattle.sn_fs.specs.Answers.{BuildsOf, IsBesideRoot, IsLastRoot, world_behind}
+use Rattle.sn_fs.specs.Answers.{BuildsOf, HasBegun, HasFinished, HasGoneOn, IsBesideRoot, IsLastRoot, world_behind}
 
 -- A point was made of what runs, beside the root that counted: a crash at any moment leaves the settled world. This world runs on over the next root.
 pub record IsPointedTo (world_after : World) (Builds : Layer → Type 0) (old new : Held) : Type 0 where
+  pub between : old.point ≡ None
+  pub point : new.point ≡ None
   pub world : new.world ≡ world_after
   pub none_kept : (number : ℕ) → new.kept number ≡ false
+  pub none_since : (number : ℕ) → new.kept_since number ≡ false
   pub log : new.at ≡ first_of old.at.blocks (old.at.epoch + 1)
   pub room : new.room ≡ fresh new.room.free
   pub changed : new.base.changed ≡ no_changes
@@ -66,13 +74,95 @@ IsUnpointed Read e old new = (new ≡ record old { status = new.status }) × Fai
 IsUnpointed Damaged e old new = ⊥
 IsUnpointed Device e old new = IsCutOff e old new
 
+-- A step was cut off, and a crash leaves the settled world still.
+pub record IsCutStep (old new : Held) : Type 0 where
+  pub touched : Touches (IsBesideRoot old) old.disk new.disk
+  pub moments : LeavesOnly old.disk new.disk (λ c. IsImage c (settle old.world))
+  pub failed : HasFailed old.status new.status
+  pub later : IsLater old.status new.status
+  pub costs : CostsAtMost 8 1 old.status new.status
+
+-- No step was made: nothing has changed but what the device counts, or it was cut off.
+abbrev pub IsUnbegun : PointFault → Held → Held → Type 0
+IsUnbegun Memory old new = new ≡ old
+IsUnbegun Age old new = (new ≡ old) × IsLastRoot old.base.root
+IsUnbegun Read old new = (new ≡ record old { status = new.status }) × FailsRead old.status new.status
+IsUnbegun Damaged old new = ⊥
+IsUnbegun Device old new = IsCutStep old new
+
+-- The point in progress, if any, was finished: a crash at any moment leaves the settled world, which runs on over the point's root.
+pub record IsFinishedTo (old new : Held) : Type 0 where
+  pub finished : HasFinished old new
+  pub moments : LeavesOnly old.disk new.disk (λ c. IsImage c (settle old.world))
+  pub runs : RunsReady new old.world new.base
+
+-- or it was cut off, and a crash leaves the settled world still
+pub record IsCutFinishOf (old new : Held) : Type 0 where
+  pub going : Going
+  pub is : old.point ≡ Some going
+  pub touched : Touches (IsBesideRoot old) old.disk new.disk
+  pub moments : LeavesOnly old.disk new.disk (λ c. IsImage c (settle old.world))
+  pub failed : HasFailed old.status new.status
+  pub later : IsLater old.status new.status
+  pub costs : CostsAtMost (writes_left going.work going.stage) (syncs_left going.work going.stage) old.status new.status
+
+-- where none is in progress nothing is done
+abbrev pub FinishesSo : Result (Unit {0}) PointFault → Option Going → Held → Held → Type 0
+FinishesSo (Ok _) None old new = new ≡ old
+FinishesSo (Err fault) None old new = ⊥
+FinishesSo (Ok _) (Some going) old new = IsFinishedTo old new
+FinishesSo (Err fault) (Some going) old new = (fault ≡ Device) × IsCutFinishOf old new
+
+-- of what runs
+abbrev pub Finishes : Result (Unit {0}) PointFault → Held → Held → Type 0
+Finishes result old new = RunsWith old.point old old.world → FinishesSo result old.point old new
+
+-- of what runs, where no point is in progress, and is ready for one
 abbrev pub PointsSo : Result (Unit {0}) PointFault → Held → Held → Type 0
 PointsSo (Ok _) old new = IsPointed event.Step old new
 PointsSo (Err fault) old new = IsUnpointed fault event.Step old new
 
--- of what runs, and is ready for it
 abbrev pub Points : Result (Unit {0}) PointFault → Held → Held → Type 0
 Points result old new = RunsReady old old.world old.base → PointsSo result old new
+
+-- A point has begun: a crash at any moment leaves the settled world, which runs on with it in progress.
+pub record IsBegunTo (old new : Held) : Type 0 where
+  pub begun : HasBegun old new
+  pub moments : LeavesOnly old.disk new.disk (λ c. IsImage c (settle old.world))
+  pub touched : Touches (IsBesideRoot old) old.disk new.disk
+  pub runs : RunsWith new.point new old.world
+
+-- or it wasn't begun, and costs no more than its beginning would
+abbrev pub BeginsSo : Result (Unit {0}) PointFault → Held → Held → Type 0
+BeginsSo (Ok _) old new = IsBegunTo old new
+BeginsSo (Err fault) old new = IsUnbegun fault old new
+
+abbrev pub Begins : Result (Unit {0}) PointFault → Held → Held → Type 0
+Begins result old new = RunsReady old old.world old.base → BeginsSo result old new
+
+-- A step that isn't the last was made: a crash at any moment leaves the settled world, which runs on with the point at its next stage.
+pub record IsAdvancedTo (old new : Held) : Type 0 where
+  pub gone : HasGoneOn old new
+  pub some : (old.status.writes < new.status.writes) × (new.status.writes ≤ old.status.writes + 8) × (new.status.syncs ≤ old.status.syncs + 1)
+  pub moments : LeavesOnly old.disk new.disk (λ c. IsImage c (settle old.world))
+  pub touched : Touches (IsBesideRoot old) old.disk new.disk
+  pub runs : RunsWith new.point new old.world
+
+abbrev pub GoesOnSo : Result (Unit {0}) PointFault → Held → Held → Type 0
+GoesOnSo (Ok _) old new = IsAdvancedTo old new
+GoesOnSo (Err fault) old new = (fault ≡ Device) × IsCutStep old new
+
+abbrev pub GoesOn : Result (Unit {0}) PointFault → Held → Held → Type 0
+GoesOn result old new = RunsWith old.point old old.world → GoesOnSo result old new
+
+-- a step of either kind
+abbrev pub AdvancesSo : Result Progress PointFault → Held → Held → Type 0
+AdvancesSo (Ok progress.More) old new = (IsBegunTo old new ⊎ IsAdvancedTo old new)
+AdvancesSo (Ok progress.Done) old new = (finished : IsFinishedTo old new) × (finished.finished.going.stage ≡ Bodied)
+AdvancesSo (Err fault) old new = IsUnbegun fault old new
+
+abbrev pub Advances : Result Progress PointFault → Held → Held → Type 0
+Advances result old new = RunsWith old.point old old.world → AdvancesSo result old new
 
 -- what an event is refused with
 abbrev pub errno_of_point : PointFault → Errno
@@ -90,6 +180,6 @@ stops_for Read = false
 stops_for Damaged = false
 stops_for Device = true
 
-abbrev pub stops_point : Result (Unit {0}) PointFault → Bool
+abbrev pub stops_point : {T : Type 0} → Result T PointFault → Bool
 stops_point (Ok _) = false
 stops_point (Err fault) = stops_for fault

@@ -19,7 +19,8 @@ use Rattle.sn_model.specs.Worlds.{IsCall}
 use Rattle.sn_core.specs.Numbering.{gives_kept, has_closed}
 use Rattle.sn_overlay.specs.Needs.{nameless_in}
 use Rattle.sn_room.specs.Rooms.{dropping}
-use Rattle.sn_held.specs.Held.{Held, Means}
+use Rattle.sn_held.specs.Held.{Held}
+use Rattle.sn_cp_progress.specs.Meaning.{Means}
 use Rattle.sn_log.specs.Places.{HasRoom, base_at}
 use Rattle.sn_sound.specs.Logs.{HasAgeLeft}
 use Rattle.sn_fs.specs.Answers.{AnswersFrom, IsTried, LacksFirst}
@@ -42,7 +43,7 @@ ServesTo (Some Age) h session c new = ⊥
 -- It is answered from this state, and no point came first.
 pub record ServesFrom (s : State) (session : ℕ) (c : Call) (reply : Reply) (old new : Held) (has_stopped : Bool) : Type 0 where
   pub answers : AnswersFrom s (event.Call session c) reply old new has_stopped
-  pub at_once : answers.mid ≡ old
+  pub at_once : (answers.fin ≡ old) × (answers.mid ≡ old)
   pub wrote : Touches (InHalf (base_at old.at)) old.disk new.disk
   pub met : ServesTo answers.met old session c new.status
 
@@ -68,6 +69,7 @@ TellsLack false h change enough = LacksNothing h change enough
 
 -- What becomes of a caller was set, and the files that went with it were taken out of what changed, and counted.
 pub record Turns (session : ℕ) (caller : Caller) (parked : ℕ) (old new : Held) : Type 0 where
-  pub is : new ≡ record old { world = dropped (with_caller old.world session caller); kept = new.kept; room = dropping (parked - nameless_in new.world.live) old.room; base = new.base }
+  pub is : new ≡ record old { world = dropped (with_caller old.world session caller); kept = new.kept; kept_since = new.kept_since; room = dropping (parked - nameless_in new.world.live) old.room; base = new.base }
   pub kept : (n : ℕ) → new.kept n ≡ (has_closed old.world (dropped (with_caller old.world session caller)) n || old.kept n)
+  pub since : (n : ℕ) → new.kept_since n ≡ (has_closed old.world (dropped (with_caller old.world session caller)) n || old.kept_since n)
   pub base : DropsFiles old.base old.world.live new.base new.world.live

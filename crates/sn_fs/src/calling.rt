@@ -1,5 +1,5 @@
 //! Calls.
-ghost use Rattle.std.specs.Prelude.{◌≡◌, false, true, IsTrue};
+ghost use Rattle.std.specs.Prelude.{◌≡◌, false, true, None, IsTrue};
 ghost use Rattle.sn_held.specs.Held.{Runs};
 ghost use Rattle.sn_model.specs.Steps.{asks_for_point};
 ghost use Rattle.sn_model.specs.World.{World};
@@ -32,7 +32,8 @@ impl<D: Device> Fs<D> {
         self.room.free()
     }
 
-    /// Answers a call that asks for a whole consistency point. It is made once the call's tests have passed.
+    /// Answers a call that asks for a whole consistency point. It is made once the call's tests have passed, behind the one
+    /// in progress.
     fn sync(&mut self, session: u32, call: &Call) -> Reply
         requires running { has_stopped self.old ≡ false }
         requires sound { IsFs self.old }
@@ -46,29 +47,33 @@ impl<D: Device> Fs<D> {
             Err(error) => return reply_of(error),
         };
         let Outcome { told, .. } = outcome;
+        if let Err(fault) = self.finish() {
+            return refused(errno_of(fault));
+        }
         match self.make_point() {
             Ok(()) => told,
             Err(fault) => refused(errno_of(fault)),
         }
     }
 
-    /// Answers a call. Once it is answered, a crash loses nothing of it. Where the log has no room for its record, the
-    /// disk none for its charge, or no number is left but those kept back, a whole consistency point comes first: so
-    /// ENOSPC comes only where the call doesn't fit behind that. So it does where the call asks for one. EIO comes where
-    /// the device fails. Where that was in a write or a sync, it stops the mount: then every call is ESTOPPED.
-    pub fn call(&mut self, session: u32, call: &Call) -> Reply
-        requires { IsFs self.old }
+    /// Whether no consistency point is in progress.
+    fn is_between(&self) -> bool
+        ensures { IsTrue result → (held self.now).point ≡ None }
+    {
+        self.going.is_none()
+    }
+
+    /// Answers a call that asks for no point, where none is in progress: behind a whole one, where it lacks something.
+    fn serve_between(&mut self, session: u32, call: &Call) -> Reply
+        requires running { has_stopped self.old ≡ false }
+        requires sound { IsFs self.old }
+        requires alone { asks_for_point call.now ≡ false }
+        requires between { (held self.old).point ≡ None }
         ensures answered { IsTrue D.tells_bytes → Answers (event.Call session call.now) result
-            (held self.old) (has_stopped self.old) (held self.new) (has_stopped self.new) }
+            (held self.old) false (held self.new) (has_stopped self.new) }
         ensures sound { IsFs self.new }
     {
         payloads_fit();
-        if self.has_stopped {
-            return refused(Errno::Estopped);
-        }
-        if call.asks_for_point() {
-            return self.sync(session, call);
-        }
         if let Some(reply) = self.serve(session, call) {
             return reply;
         }
@@ -79,5 +84,34 @@ impl<D: Device> Fs<D> {
             Some(reply) => reply,
             None => refused(Errno::Enospc),
         }
+    }
+
+    /// Answers a call. Once it is answered, a crash loses nothing of it. Where the log has no room for its record, the
+    /// disk none for its charge, or no number is left but those kept back, the consistency point in progress is finished, and
+    /// a whole one comes where that isn't enough: so ENOSPC comes only where the call doesn't fit behind that. So it does
+    /// where the call asks for one. EIO comes where the device fails. Where that was in a write or a sync, it stops the
+    /// mount: then every call is ESTOPPED.
+    pub fn call(&mut self, session: u32, call: &Call) -> Reply
+        requires { IsFs self.old }
+        ensures answered { IsTrue D.tells_bytes → Answers (event.Call session call.now) result
+            (held self.old) (has_stopped self.old) (held self.new) (has_stopped self.new) }
+        ensures sound { IsFs self.new }
+    {
+        if self.has_stopped {
+            return refused(Errno::Estopped);
+        }
+        if call.asks_for_point() {
+            return self.sync(session, call);
+        }
+        if self.is_between() {
+            return self.serve_between(session, call);
+        }
+        if let Some(reply) = self.serve(session, call) {
+            return reply;
+        }
+        if let Err(fault) = self.finish() {
+            return refused(errno_of(fault));
+        }
+        self.serve_between(session, call)
     }
 }

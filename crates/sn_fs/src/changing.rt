@@ -33,6 +33,7 @@ impl<D: Device> Fs<D> {
         ensures drops { OnOk result (HasRoom self.new.base.changed (counts (live_in (world_of self.old.world).descriptors + 2) 0 0)) }
         ensures kept { IfErr result (λ fault. stops fault ≡ false → TakesRoom self.old.base.changed self.new.base.changed (counts 0 0 0)) }
         ensures base { IsSameRoot self.old.base self.new.base }
+        ensures going { self.new.going ≡ self.old.going }
         ensures blocks { self.new.log.blocks ≡ self.old.log.blocks }
         ensures epoch { self.new.log.epoch ≡ self.old.log.epoch }
         ensures sectors { (D.status (device_of self.new.blocks)).sectors ≡ (D.status (device_of self.old.blocks)).sectors }

@@ -1,30 +1,32 @@
 //! The file system over a device: mount, calls, and the device back.
 //!
 //! The model. A mounted file system holds a world in memory, a position in its log, the room that is left, what the next
-//! consistency point is built of, and a device (`Held` of `sn_held`). It means a state of the machine of `sn_model` (`Means`
-//! there): one that runs over a world stands on a sound root, keeps the changes of its log, which make of the root's tree one
-//! that covers the live one, whatever a crash leaves, and is ready for a point; one that a failure has stopped knows that
-//! each crash leaves one of two worlds. The world has no frozen trees: those of a root's snapshots aren't kept in memory yet.
+//! consistency point is built of, the one in progress, and a device (`Held` of `sn_held`). It means a state of the machine of
+//! `sn_model` (`Means` of `sn_cp_progress`): one that runs over a world stands on a sound root, keeps the changes of its log,
+//! which make of the root's tree one that covers the live one, whatever a crash leaves, and is ready for a point or has one
+//! in progress; one that a failure has stopped knows that each crash leaves one of two worlds. The world has no frozen trees:
+//! those of a root's snapshots aren't kept in memory yet.
 //!
 //! What the clauses say, those on bytes of each device that tells them:
-//! - [`Fs::call`]: from each state that is meant, the reply is that of a step of the machine, and the next
-//!   state is meant. A crash at any moment of the call leaves an image of the settled world from before it or from
-//!   after it, and once it is answered of the one after alone. Where what it comes to lacks room in the log or on the disk, a
-//!   number or an age, a whole point comes first (`HasMadePoint`), and else none. What it may meet with has a cause: EIO where
-//!   the device failed, ENOSPC where it doesn't fit right behind that point.
-//! - [`Fs::step`]: makes a whole point, which changes no world.
-//! - [`Fs::unmount`]: makes one of the tree without the files that no name stands for, and hands the device back; or it is
-//!   refused as a step is, and the file system is there still.
-//! - [`mount`]: where the contents are an image of a world without snapshots, that world runs; from the first sync on
-//!   every crash leaves an image of it, also where the mount fails. Only a
-//!   disk without a fault is mounted; a mount fails for the cause that a check tells (`IsCause` of `sn_check`).
+//! - [`Fs::call`]: from each state that is meant, the reply is that of a step of the machine, and the next state is meant. A
+//!   crash at any moment of the call leaves an image of the settled world from before it or from after it, and once it is
+//!   answered of the one after alone. Where what it comes to lacks room in the log or on the disk, a number or an age, the
+//!   point in progress is finished first (`HasFinished`), and a whole one comes where that isn't enough (`HasMadePoint`);
+//!   else none. What it may meet with has a cause: EIO where the device failed, ENOSPC where it doesn't fit right behind that
+//!   point.
+//! - [`Fs::step`]: begins a point, goes on with it, or ends it (`StepsTo`), which changes no world.
+//! - [`Fs::unmount`]: makes a whole one of the tree without the files that no name stands for, and hands the device back; or
+//!   it is refused as a step is, and the file system is there still.
+//! - [`mount`]: where the contents are an image of a world without snapshots, that world runs; from the first sync on every
+//!   crash leaves an image of it, also where the mount fails. Only a disk without a fault is mounted; a mount fails for the
+//!   cause that a check tells (`IsCause` of `sn_check`).
 //!
 //! The way through: `sn_held` says what is meant, and of what the disk is an image. `specs/Answers.antt` says what an event
-//! leads to, `Serving.antt` a call without a point, `Changing.antt` what a change does in memory and on the disk, `Pointing.antt`
-//! a point, `Unmounting.antt` the one of an unmount, `Mounting.antt` what a mount makes of a disk. A call is decided by `sn_core`; `serving` asks whether it lacks
-//! something and does it, `changing` makes its change in memory, which takes all the memory, and then appends its record,
-//! `pointing` makes a point of what changed since the root, by `sn_cp_whole`, and `calling` puts them together; `unmounting` makes
-//! the last one, and a mount is `sn_mount`'s.
+//! leads to, `Serving.antt` a call without a point, `Changing.antt` what a change does in memory and on the disk,
+//! `Pointing.antt` a point, `Unmounting.antt` the one of an unmount, `Mounting.antt` what a mount makes of a disk. A call is
+//! decided by `sn_core`; `serving` asks whether it lacks something and does it, `changing` makes its change in memory, which
+//! takes all the memory, and then appends its record, `pointing` makes points of what changed since the root, whole or in
+//! steps, by `sn_cp_whole`, and `calling` puts them together; `unmounting` makes the last one, and a mount is `sn_mount`'s.
 //!
 //! What the sources leave open is decided in `docs/DECISIONS.md`, under "Mount and calls over a device".
 //!

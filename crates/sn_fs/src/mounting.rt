@@ -53,6 +53,7 @@ pub fn mount<D: Device>(alloc: Global, device: D) -> Result<Fs<D>, Unmounted<D>>
             world,
             room,
             base,
+            going: None,
             has_stopped: false,
         }),
         Err(fault) => Err(Unmounted {
@@ -73,11 +74,13 @@ impl<D: Device> Fs<D> {
             log,
             world,
             base,
+            going,
             ..
         } = self;
         drop(log);
         drop(world);
         drop(base);
+        drop(going);
         blocks.into_device()
     }
 }

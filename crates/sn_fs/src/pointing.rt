@@ -1,13 +1,15 @@
-//! Whole consistency points.
-ghost use Rattle.std.specs.Prelude.{◌≡◌, false, IsTrue};
+//! Consistency points: whole ones, and one in progress, step by step.
+ghost use Rattle.std.specs.Prelude.{◌≡◌, ◌≢◌, false, true, None, IsTrue, OnOk};
+ghost use Rattle.sn_cp.specs.Points.{stage_of};
+ghost use Rattle.sn_cp.specs.declared.stage.Stage.TheVariants.{Bodied};
 ghost use Rattle.sn_model.specs.declared.call.Event.TheVariants as event;
-ghost use Rattle.sn_fs.specs.Answers.{Answers};
-ghost use Rattle.sn_fs.specs.Filesystem.{IsFs, has_stopped, held};
-ghost use Rattle.sn_fs.specs.Pointing.{Points, errno_of_point, stops_for, stops_point};
+ghost use Rattle.sn_fs.specs.Answers.{Answers, left_of};
+ghost use Rattle.sn_fs.specs.Filesystem.{IsFs, has_stopped, held, with_point};
+ghost use Rattle.sn_fs.specs.Pointing.{Advances, Begins, Finishes, GoesOn, Points, errno_of_point, stops_for, stops_point};
 
 use crate::Fs;
 use crate::serving::refused;
-use sn_cp_whole::{PointFault, make_point};
+use sn_cp_whole::{Begun, GoingPoint, PointFault, begin_point, make_point};
 use sn_device::Device;
 use sn_model::{Errno, Progress, Reply};
 
@@ -30,11 +32,12 @@ pub(crate) fn stops(fault: PointFault) -> bool
 }
 
 impl<D: Device> Fs<D> {
-    /// Makes a whole consistency point: then the log is empty, nothing is charged, and no number is kept back. A
-    /// failure of the device while it is written stops the mount.
+    /// Makes a whole consistency point, where none is in progress: then the log is empty, nothing is charged, and no
+    /// number is kept back. A failure of the device while it is written stops the mount.
     pub(crate) fn make_point(&mut self) -> Result<(), PointFault>
         requires running { has_stopped self.old ≡ false }
         requires sound { IsFs self.old }
+        requires between { (held self.old).point ≡ None }
         ensures points { IsTrue D.tells_bytes → Points result (held self.old) (held self.new) }
         ensures stopped { has_stopped self.new ≡ stops_point result }
         ensures sound { IsFs self.new }
@@ -59,8 +62,137 @@ impl<D: Device> Fs<D> {
         }
     }
 
-    /// Makes a whole consistency point, and says that it is done. ENOMEM, EIO where a block can't be read, and
-    /// ELIMIT where no root can follow change nothing; EIO where the device fails while it is written stops the mount.
+    /// Begins a consistency point, where none is in progress: what changes from then on comes behind it. A failure of the
+    /// device stops the mount.
+    fn begin(&mut self) -> Result<(), PointFault>
+        requires running { has_stopped self.old ≡ false }
+        requires sound { IsFs self.old }
+        requires between { (held self.old).point ≡ None }
+        ensures begins { IsTrue D.tells_bytes → Begins result (held self.old) (held self.new) }
+        ensures stopped { has_stopped self.new ≡ stops_point result }
+        ensures sound { IsFs self.new }
+    {
+        let drops = self.world.open_files();
+        match begin_point(
+            self.alloc,
+            &mut self.blocks,
+            &self.base,
+            &mut self.log,
+            drops,
+        ) {
+            Ok(begun) => {
+                let Begun { going, since } = begun;
+                self.base.changed = since;
+                self.going = Some(going);
+                self.room.begin_point();
+                self.world.begin_point();
+                Ok(())
+            }
+            Err(fault) => {
+                self.has_stopped = stops(fault);
+                Err(fault)
+            }
+        }
+    }
+
+    /// Makes a step of the point in progress that isn't its last. A failure of the device stops the mount.
+    fn go_on(&mut self, going: GoingPoint) -> Result<(), PointFault>
+        requires running { has_stopped self.old ≡ false }
+        requires sound { IsFs (with_point self.old going) }
+        requires more { stage_of going.point ≢ Bodied }
+        ensures goes_on { IsTrue D.tells_bytes → GoesOn result (held (with_point self.old going)) (held self.new) }
+        ensures stopped { has_stopped self.new ≡ stops_point result }
+        ensures sound { IsFs self.new }
+    {
+        let mut going = going;
+        match going.advance(&mut self.blocks) {
+            Ok(()) => {
+                self.going = Some(going);
+                Ok(())
+            }
+            Err(_) => {
+                self.has_stopped = true;
+                Err(PointFault::Device)
+            }
+        }
+    }
+
+    /// Makes all steps that are left of a point: then its root counts, with what changed since on top of it. A failure of
+    /// the device stops the mount.
+    fn end(&mut self, going: GoingPoint) -> Result<(), PointFault>
+        requires running { has_stopped self.old ≡ false }
+        requires sound { IsFs (with_point self.old going) }
+        requires alone { (held self.old).point ≡ None }
+        ensures finishes { IsTrue D.tells_bytes → Finishes result (held (with_point self.old going)) (held self.new) }
+        ensures stopped { has_stopped self.new ≡ stops_point result }
+        ensures between { OnOk result ((held self.new).point ≡ None) }
+        ensures sound { IsFs self.new }
+    {
+        let free = going.free;
+        let Ok(()) = going.finish(&mut self.blocks, &mut self.base) else {
+            self.has_stopped = true;
+            return Err(PointFault::Device);
+        };
+        self.room.end_point(free);
+        self.world.end_point();
+        Ok(())
+    }
+
+    /// Finishes the point in progress, if there is one. A failure of the device stops the mount.
+    pub(crate) fn finish(&mut self) -> Result<(), PointFault>
+        requires running { has_stopped self.old ≡ false }
+        requires sound { IsFs self.old }
+        ensures finishes { IsTrue D.tells_bytes → Finishes result (held self.old) (held self.new) }
+        ensures stopped { has_stopped self.new ≡ stops_point result }
+        ensures between { OnOk result ((held self.new).point ≡ None) }
+        ensures sound { IsFs self.new }
+    {
+        match self.going.take() {
+            Some(going) => self.end(going),
+            None => Ok(()),
+        }
+    }
+
+    /// Makes a step of a consistency point: begins one where none is in progress.
+    fn advance(&mut self) -> Result<Progress, PointFault>
+        requires running { has_stopped self.old ≡ false }
+        requires sound { IsFs self.old }
+        ensures advances { IsTrue D.tells_bytes → Advances result (held self.old) (held self.new) }
+        ensures stopped { has_stopped self.new ≡ stops_point result }
+        ensures sound { IsFs self.new }
+    {
+        let Some(going) = self.going.take() else {
+            self.begin()?;
+            return Ok(Progress::More);
+        };
+        if going.is_at_last() {
+            self.end(going)?;
+            return Ok(Progress::Done);
+        }
+        self.go_on(going)?;
+        Ok(Progress::More)
+    }
+
+    /// How many steps the consistency point in progress has left: 0 where none is, and where the mount has stopped.
+    pub fn steps_left(&self) -> u64
+        requires { IsFs self.now }
+        ensures left { has_stopped self.now ≡ false → result ≡ left_of (held self.now).point }
+        ensures none { has_stopped self.now ≡ true → result ≡ 0 }
+    {
+        if self.has_stopped {
+            return 0;
+        }
+        match &self.going {
+            Some(going) => going.point.steps_left(),
+            None => 0,
+        }
+    }
+
+    /// Makes a step of a consistency point, of at most eight sectors. The first one begins it, and builds what it writes of
+    /// what has changed since the root; the last one says that it is done, with which its root is durable. What calls
+    /// change in between is in the log, and comes into the next one. ENOMEM, EIO where a block can't be read, and
+    /// ELIMIT where no root can follow come in the first one and change nothing; EIO where the device fails while it is
+    /// written to stops the mount.
     pub fn step(&mut self) -> Reply
         requires { IsFs self.old }
         ensures answered { IsTrue D.tells_bytes → Answers event.Step result
@@ -70,8 +202,8 @@ impl<D: Device> Fs<D> {
         if self.has_stopped {
             return refused(Errno::Estopped);
         }
-        match self.make_point() {
-            Ok(()) => Reply::Progress(Progress::Done),
+        match self.advance() {
+            Ok(progress) => Reply::Progress(progress),
             Err(fault) => refused(errno_of(fault)),
         }
     }

@@ -13,6 +13,8 @@ ghost use Rattle.sn_overlay.specs.Needs.{counts, nameless_in};
 ghost use Rattle.sn_overlay.specs.Overlays.{HasRoom};
 ghost use Rattle.sn_record.specs.Payload.{IsSpelled};
 ghost use Rattle.sn_sound.specs.Logs.{HasAgeLeft};
+ghost use Rattle.sn_room.specs.Rooms.{charged_behind};
+ghost use Rattle.sn_fs.specs.Answers.{is_fitting};
 ghost use Rattle.sn_fs.specs.Filesystem.{IsFs, has_stopped, held};
 ghost use Rattle.sn_fs.specs.Mounted.{IsSameRoot};
 ghost use Rattle.sn_fs.specs.Serving.{Serves, TellsLack, Turns, reply_to};
@@ -62,6 +64,7 @@ impl<D: Device> Fs<D> {
         ensures opening { OnErr result (is_opening caller.now ≡ true) }
         ensures kept { HasRoom self.new.base.changed (counts (live_in (world_of self.old.world).descriptors) 0 0) }
         ensures base { IsSameRoot self.old.base self.new.base }
+        ensures going { self.new.going ≡ self.old.going }
     {
         self.world.prepare(caller)?;
         match caller {
@@ -70,6 +73,25 @@ impl<D: Device> Fs<D> {
                 self.base.changed.reserve(drops, 0, 0)
             }
             _ => Ok(()),
+        }
+    }
+
+    /// Whether a call fits that comes to this: on the root that counts, and on that of the point in progress.
+    fn fits(&self, outcome: &Outcome<'_>) -> bool
+        ensures exact { result ≡ is_fitting (held self.now) outcome.now }
+        ensures within { IsTrue result → charged_behind version_1 self.now.room (nameless_in (world_of self.now.world).live) outcome.now < 2 ^ 32 }
+    {
+        let nameless = self.world.nameless();
+        if !self.room.fits(&Limits::VERSION_1, nameless, outcome) {
+            return false;
+        }
+        match &self.going {
+            Some(going) => {
+                let mut behind = self.room;
+                behind.end_point(going.free);
+                behind.fits(&Limits::VERSION_1, nameless, outcome)
+            }
+            None => true,
         }
     }
 
@@ -99,6 +121,7 @@ impl<D: Device> Fs<D> {
         ensures few { nameless_in (world_of self.new.world).live < 2 ^ 32 }
         ensures drops { HasRoom self.new.base.changed (counts (live_in (world_of self.new.world).descriptors) 0 0) }
         ensures base { IsSameRoot self.old.base self.new.base }
+        ensures going { self.new.going ≡ self.old.going }
     {
         let dropped = self.world.set_caller(session, caller, lost);
         drop_each(&mut self.base.changed, dropped.as_slice());
@@ -106,13 +129,15 @@ impl<D: Device> Fs<D> {
             .drop_files(parked.saturating_sub(self.world.nameless()));
     }
 
-    /// Answers a call that asks for no point, where what it comes to lacks nothing that a whole point gives. Else nothing has changed.
+    /// Answers a call that asks for no point, where what it comes to lacks nothing that a point gives. Else nothing has changed.
+    /// The point in progress, if any, stays where it is.
     pub(crate) fn serve(&mut self, session: u32, call: &Call) -> Option<Reply>
         requires running { has_stopped self.old ≡ false }
         requires sound { IsFs self.old }
         requires alone { asks_for_point call.now ≡ false }
         ensures served { IsTrue D.tells_bytes → Serves result (held self.old) session call.now (held self.new) (has_stopped self.new) }
         ensures running { IfNone result (has_stopped self.new ≡ false) }
+        ensures point { (held self.new).point ≡ (held self.old).point }
         ensures sound { IsFs self.new }
     {
         changed_laws();
@@ -120,9 +145,7 @@ impl<D: Device> Fs<D> {
             Ok(outcome) => outcome,
             Err(error) => return Some(reply_of(error)),
         };
-        let fits = self
-            .room
-            .fits(&Limits::VERSION_1, self.world.nameless(), &outcome);
+        let fits = self.fits(&outcome);
         let Outcome {
             change,
             caller,

@@ -50,6 +50,7 @@ impl<D: Device> Fs<D> {
     fn make_last_point(&mut self, changed: Overlay) -> Result<(), PointFault>
         requires running { has_stopped self.old ≡ false }
         requires sound { IsFs self.old }
+        requires between { (held self.old).point ≡ None }
         requires settled { DropsFiles (kept_in self.old.base) (world_of self.old.world).live
             (record (kept_in self.old.base) { changed = layer_of changed }) (settled (world_of self.old.world).live) }
         ensures points { IsTrue D.tells_bytes → PointsLast result (held self.old) (held self.new) }
@@ -76,10 +77,10 @@ impl<D: Device> Fs<D> {
         }
     }
 
-    /// Makes a whole consistency point of the tree without the files that no name stands for, so that the next mount
-    /// finds it in the root, and hands the device back. ENOMEM, EIO where a block can't be read, and ELIMIT where no
-    /// root can follow change nothing: the file system goes on. EIO where the device fails while it is written stops
-    /// it, and ESTOPPED comes where that was before.
+    /// Finishes the consistency point in progress, makes a whole one of the tree without the files that no name stands for,
+    /// so that the next mount finds it in the root, and hands the device back. ENOMEM, EIO where a block can't be read, and
+    /// ELIMIT where no root can follow change nothing but that: the file system goes on. EIO where the device fails while it
+    /// is written stops it, and ESTOPPED comes where that was before.
     pub fn unmount(self) -> Result<D, StillMounted<D>>
         requires { IsFs self }
         ensures unmounted { IsTrue D.tells_bytes → IfOk result (λ device. HasUnmounted (held self) (D.disk device) (D.status device)) }
@@ -93,6 +94,12 @@ impl<D: Device> Fs<D> {
         if fs.has_stopped {
             return Err(StillMounted {
                 errno: Errno::Estopped,
+                fs,
+            });
+        }
+        if let Err(fault) = fs.finish() {
+            return Err(StillMounted {
+                errno: errno_of(fault),
                 fs,
             });
         }

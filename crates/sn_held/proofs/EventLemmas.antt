@@ -1,11 +1,11 @@
 -- What the disk of a mounted file system is an image of, call by call.
-use Rattle.std.proofs.Common.{◌≡◌, ◌⊎◌, inl, inr, ⊎_elim, ℕ, ◌+◌, ◌*◌, ◌≤◌, Bool, List, [], ◌∷◌, ◌++◌, None, Some, length, replicate, slice_index, refl, sym, ap, subst, ◌∙◌, append-nil, append_assoc, arith}
+use Rattle.std.proofs.Common.{◌≡◌, ◌⊎◌, inl, inr, ⊎_elim, ℕ, ◌+◌, ◌*◌, ◌≤◌, Bool, List, [], ◌∷◌, ◌++◌, Option, None, Some, length, replicate, slice_index, refl, sym, ap, subst, ◌∙◌, append-nil, append_assoc, arith}
 use Rattle.std.specs.FinMap as map
 use Rattle.sn_device.specs.Sectors.{Contents, AreSectors}
 use Rattle.sn_device.specs.Disk.{Always, Disk, IsSynced, reads}
 use Rattle.sn_device.specs.Crash.{LeavesOnly, Touches}
 use Rattle.sn_device.specs.declared.status.Status.{Status}
-use Rattle.sn_device.proofs.CrashLemmas.{LeavesOnly-start, LeavesOnly-weaker, LeavesOnly-now, Always-reads}
+use Rattle.sn_device.proofs.CrashLemmas.{LeavesOnly-weaker, LeavesOnly-now, Always-reads}
 use Rattle.sn_layout.specs.declared.root.RootBody.{RootBody}
 use Rattle.sn_limits.specs.declared.limits.Limits.{Limits}
 use Rattle.sn_limits.specs.Versions.{version_1}
@@ -15,7 +15,7 @@ use Rattle.sn_model.specs.declared.outcome.Caller.TheVariants.{Stays, LogsIn, Se
 use Rattle.sn_model.specs.Changes.{apply}
 use Rattle.sn_model.specs.Charges.{charge_for}
 use Rattle.sn_model.specs.NameTree.{IsHierarchy, IsTree}
-use Rattle.sn_model.specs.Machine.{State, Running, Stopped}
+use Rattle.sn_model.specs.Machine.{Running, Stopped}
 use Rattle.sn_model.specs.Settling.{dropped, is_held, settle, settled, without_nameless}
 use Rattle.sn_model.specs.Steps.{with_caller, with_live}
 use Rattle.sn_model.specs.Tree.{Tree}
@@ -42,7 +42,7 @@ use Rattle.sn_sound.specs.Logs.{HasAgeLeft}
 use Rattle.sn_sound.specs.Maps.{free_blocks}
 use Rattle.sn_sound.proofs.DiskLemmas.{one_size}
 use Rattle.sn_sound.proofs.StandingLemmas.{lies_in_data}
-use Rattle.sn_held.specs.Held.{CarriesOn, Held, Kept, Means, Runs, RunsReady}
+use Rattle.sn_held.specs.Held.{CarriesOn, Going, Held, Kept, Runs, RunsReady}
 use Rattle.sn_held.specs.Images.{IsImage, IsLiveImage}
 use Rattle.sn_held.specs.Moments.{LastsOver, ShowsState}
 use Rattle.sn_held.specs.Room.{HasRoomFor, IsCharged}
@@ -83,16 +83,6 @@ module _ (h : Held) (w : World) (r : Runs h w) where
 pub live_show : (h : Held) (w : World) → Runs h w → w.frozen ≡ map.empty → Always h.disk (λ c. IsLiveImage c (settle w))
 live_show h w r none c crash = record { image = runs_show h w r c crash; frozen = none }
 
-pub means_show : (h : Held) (has_stopped : Bool) (s : State) → Means h has_stopped s → Always h.disk (ShowsState s)
-means_show h has_stopped (Running w) m = live_show h w m.1.runs m.2
-means_show h has_stopped (Stopped before after) m = m.1
-
--- an event that leaves state and disk as they are
-pub stays_lasts : (h : Held) (has_stopped : Bool) (s : State) → Means h has_stopped s → LastsOver s s h.disk h.disk
-stays_lasts h has_stopped s m =
-    let shows = means_show h has_stopped s m in
-    record { moments = LeavesOnly-start h.disk (λ c. ShowsState s c ⊎ ShowsState s c) (λ c crash. inl (shows c crash)); answered = shows }
-
 -- ---- what a call leaves of the tree
 
 caller_frozen : (w : World) (session : ℕ) (caller : Caller) → (with_caller w session caller).frozen ≡ w.frozen
@@ -116,8 +106,8 @@ left_covers : (changes : List Change) (from tree live : Tree) (held : ℕ → Bo
 left_covers changes from tree live held e m = subst (MakesCover version_1 changes from) (sym e) (dropping_covers version_1 changes from tree held m)
 
 -- files without names that go change nothing of the disk
-pub dropped_runs : (h : Held) (w next : World) (kept : ℕ → Bool) (count : ℕ) (base : Kept) → Runs h w → IsOfTree w w.live next → nameless_in w.live ≤ nameless_in next.live + count → Runs (record h { world = next; kept = kept; room = dropping count h.room; base = base }) next
-dropped_runs h w next kept count base r of counted = record {
+pub dropped_runs : (h : Held) (w next : World) (kept since : ℕ → Bool) (count : ℕ) (base : Kept) → Runs h w → IsOfTree w w.live next → nameless_in w.live ≤ nameless_in next.live + count → Runs (record h { world = next; kept = kept; kept_since = since; room = dropping count h.room; base = base }) next
+dropped_runs h w next kept since count base r of counted = record {
   is = refl;
   store = r.store;
   slot = r.slot;
@@ -280,8 +270,8 @@ module _ (old new : Held) (w next : World) (change : Change) (tree : Tree) (r : 
 -- ---- what makes a mount ready for a point
 
 -- whatever numbers are kept back, whatever was kept for the point before, and whatever the device has counted
-pub ready_with : (h : Held) (w : World) (k : Kept) (kept : ℕ → Bool) (base : Kept) (status : Status) → RunsReady h w k → RunsReady (record h { kept = kept; base = base; status = status }) w k
-ready_with h w k kept base status ready =
+pub ready_with : (h : Held) (w : World) (k : Kept) (kept since : ℕ → Bool) (base : Kept) (point : Option Going) (status : Status) → RunsReady h w k → RunsReady (record h { kept = kept; kept_since = since; base = base; point = point; status = status }) w k
+ready_with h w k kept since base point status ready =
     let r = ready.runs in
     let is = ready.ready in
     record {
@@ -316,13 +306,13 @@ ready_with h w k kept base status ready =
     }
 
 -- files without names that go
-pub drops_ready : (h : Held) (w next : World) (kept : ℕ → Bool) (count : ℕ) (base : Kept) → RunsReady h w h.base → IsOfTree w w.live next → nameless_in w.live ≤ nameless_in next.live + count
-    → CarriesOn h.base w.live h.room.charged base next.live h.room.charged → IsTree version_1 next.live → RunsReady (record h { world = next; kept = kept; room = dropping count h.room; base = base }) next base
+pub drops_ready : (h : Held) (w next : World) (kept since : ℕ → Bool) (count : ℕ) (base : Kept) → RunsReady h w h.base → IsOfTree w w.live next → nameless_in w.live ≤ nameless_in next.live + count
+    → CarriesOn h.base w.live h.room.charged base next.live h.room.charged → IsTree version_1 next.live → RunsReady (record h { world = next; kept = kept; kept_since = since; room = dropping count h.room; base = base }) next base
 unfolding dropped_runs
-drops_ready h w next kept count base ready of counted carried tree =
+drops_ready h w next kept since count base ready of counted carried tree =
     let is = ready.ready in
     record {
-      runs = dropped_runs h w next kept count base ready.runs of counted;
+      runs = dropped_runs h w next kept since count base ready.runs of counted;
       ready = record {
         between = record { none_newer = is.between.none_newer; epoch = is.between.epoch; ready = is.between.ready; synced = is.between.synced };
         slot = carried.slot ∙ is.slot;

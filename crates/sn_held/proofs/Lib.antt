@@ -1,4 +1,3 @@
 pub mod RoomLemmas
 pub mod HeldLemmas
 pub mod EventLemmas
-pub mod MountLemmas

@@ -1,6 +1,5 @@
 -- What a mounted file system over a root holds, and what that means.
-use Rattle.std.specs.Prelude.{◌≡◌, ◌⊎◌, ℕ, ◌+◌, Bool, true, false, List, [], ◌++◌}
-use Rattle.std.specs.FinMap as map
+use Rattle.std.specs.Prelude.{◌≡◌, ◌⊎◌, ℕ, ◌+◌, Bool, List, [], ◌++◌, Option}
 use Rattle.sn_changed.specs.Changed.{HasChanged}
 use Rattle.sn_device.specs.Disk.{Disk, Always, IsSynced}
 use Rattle.sn_device.specs.declared.status.Status.{Status}
@@ -9,7 +8,6 @@ use Rattle.sn_layout.specs.declared.root.RootBody.{RootBody}
 use Rattle.sn_layout.specs.Superblock.{superblock_bytes}
 use Rattle.sn_limits.specs.Versions.{version_1}
 use Rattle.sn_model.specs.declared.change.Change.{Change}
-use Rattle.sn_model.specs.Machine.{State, Running, Stopped}
 use Rattle.sn_model.specs.NameTree.{IsTree}
 use Rattle.sn_model.specs.Tree.{Tree}
 use Rattle.sn_model.specs.World.{World}
@@ -25,23 +23,32 @@ use Rattle.sn_overlay.specs.Layers.{Layer}
 use Rattle.sn_room.specs.Rooms.{RoomCounts}
 use Rattle.sn_sound.specs.Logs.{HasAgeLeft, IsToRecover}
 use Rattle.sn_sound.specs.Standing.{RootStands}
-use Rattle.sn_held.specs.Moments.{ShowsState}
 use Rattle.sn_held.specs.Room.{IsCharged}
+use Rattle.sn_cp.specs.Points.{Work}
+use Rattle.sn_cp.specs.declared.stage.Stage.{Stage}
 
--- What a mounted file system keeps for its next point: the root that counts, where it stands, the words of its map, and what changed since.
+-- What a mounted file system keeps for its next point: the root that counts, where it stands, the words of its map, and what changed since, or since the point in progress began.
 pub record Kept : Type 0 where
   pub slot : Slot
   pub root : RootBody
   pub words : List ℕ
   pub changed : Layer
 
--- the world in memory, the numbers that are kept back in it and the room that is left for it, where its log goes on, what is kept for the next point, and the device
+-- A point in progress: what it writes, how far it is, and the blocks that its root leaves free.
+pub record Going : Type 0 where
+  pub work : Work
+  pub stage : Stage
+  pub free : ℕ
+
+-- the world in memory, the numbers that are kept back in it, in all and since the point in progress began, the room that is left for it, where its log goes on, what is kept for the next point, the point in progress, and the device
 pub record Held : Type 0 where
   pub world : World
   pub kept : ℕ → Bool
+  pub kept_since : ℕ → Bool
   pub room : RoomCounts
   pub at : LogPosition
   pub base : Kept
+  pub point : Option Going
   pub disk : Disk
   pub status : Status
 
@@ -99,8 +106,3 @@ pub record CarriesOn (old : Kept) (before : Tree) (charged : ℕ) (new : Kept) (
   pub root : new.root ≡ old.root
   pub words : new.words ≡ old.words
   pub changed : (root : Tree) → HasChanged version_1 old.changed root before charged → HasChanged version_1 new.changed root after charges
-
--- One that runs is ready for a point, and has no frozen trees in its world. One that a failure has stopped knows of its disk alone, that the next mount finds one of two worlds there.
-abbrev pub Means : Held → Bool → State → Type 0
-Means h has_stopped (Running world) = (has_stopped ≡ false) × RunsReady h world h.base × (world.frozen ≡ map.empty)
-Means h has_stopped (Stopped before after) = (has_stopped ≡ true) × Always h.disk (ShowsState (Stopped before after))

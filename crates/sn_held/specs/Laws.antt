@@ -32,8 +32,8 @@ RunsShow = (h : Held) (world : World) → Runs h world → Always h.disk (λ c. 
 
 -- Files without names that go, so many that were dropped, and what becomes of sessions, change nothing of the disk, so that the mount stays ready for a point.
 abbrev pub DropsRun : Type 0
-DropsRun = (h : Held) (world next : World) (kept : ℕ → Bool) (count : ℕ) (base : Kept) → RunsReady h world h.base → IsOfTree world world.live next → nameless_in world.live ≤ nameless_in next.live + count
-    → CarriesOn h.base world.live h.room.charged base next.live h.room.charged → IsTree version_1 next.live → RunsReady (record h { world = next; kept = kept; room = dropping count h.room; base = base }) next base
+DropsRun = (h : Held) (world next : World) (kept since : ℕ → Bool) (count : ℕ) (base : Kept) → RunsReady h world h.base → IsOfTree world world.live next → nameless_in world.live ≤ nameless_in next.live + count
+    → CarriesOn h.base world.live h.room.charged base next.live h.room.charged → IsTree version_1 next.live → RunsReady (record h { world = next; kept = kept; kept_since = since; room = dropping count h.room; base = base }) next base
 
 -- A change of the live tree that has room is appended, where another root can follow on the one that counts: a crash in its course leaves an image of the settled world from before it, or of the one after it.
 abbrev pub AppendsLeaveEither : Type 0

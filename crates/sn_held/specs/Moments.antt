@@ -1,5 +1,4 @@
 -- What the disk of a mount is an image of in the course of events, without frozen trees.
-use Rattle.std.specs.Prelude.{List}
 use Rattle.sn_device.specs.Sectors.{Contents}
 use Rattle.sn_device.specs.Disk.{Disk}
 use Rattle.sn_model.specs.Machine.{State}
@@ -11,14 +10,6 @@ use Rattle.sn_held.specs.Images.{IsLiveImage}
 abbrev pub ShowsState : State → Contents → Type 0
 ShowsState = moments.ShowsState IsLiveImage
 
--- they are one of what one of these states leaves
-abbrev pub ShowsOne : List State → Contents → Type 0
-ShowsOne = moments.ShowsOne IsLiveImage
-
 -- An event leads from a state to the next, and a crash leaves one of the two.
 abbrev pub LastsOver : State → State → Disk → Disk → Type 0
 LastsOver = moments.LastsOver IsLiveImage
-
--- Events, one after the other, lead to these states so.
-abbrev pub RunsOver : State → Disk → List State → Disk → Type 0
-RunsOver = moments.RunsOver IsLiveImage

@@ -1,7 +1,7 @@
 -- How marks add up.
 use Rattle.std.proofs.Common.{◌≡◌, ◌≢◌, ⊎_elim, ℕ, zero, suc, ◌+◌, ◌<◌, ◌≤◌, ◌==◌, not, Bool, true, false, List, [], ◌∷◌, ◌++◌, replicate, slice_index, Contains, refl, sym, ap, subst, ◌∙◌, arith, if◌then◌else◌}
 use Rattle.std.specs.Int.{bit_at}
-use Rattle.std.proofs.lemmas.Bool.{eqb-true, eqb-false, eq-eqb, cases_eq}
+use Rattle.std.proofs.lemmas.Bool.{eqb-true, eqb-false, cases_eq}
 use Rattle.std.proofs.lemmas.Nat.Bits.{bit_at-lt}
 use Rattle.sn_layout.specs.declared.places.Area.TheVariants.{Data}
 use Rattle.sn_layout.specs.Places.{IsIn}
@@ -11,7 +11,6 @@ use Rattle.sn_model.specs.declared.mount.Damage.TheVariants.{Pointer, ReachedTwi
 use Rattle.sn_ondisk.specs.Counts.{times}
 use Rattle.sn_ondisk.specs.Trees.{Store, below, all_pointers}
 use Rattle.sn_ondisk.proofs.CountLemmas.{times-cons, times-same, times-other, among_times, times_among, times-all_append, times-down}
-use Rattle.sn_map.specs.Bits.{PutsBit}
 use Rattle.sn_marks.specs.Marks.{Marks, IsAstray, outside, twice}
 use Rattle.sn_marks.specs.Walks.{named}
 
@@ -60,9 +59,6 @@ reach_some p some = either (p == 0) refl
     either true is = absurd (some (eqb-true p 0 is))
     either false is = refl
 
-pub reach_hole : (p : ℕ) → p ≡ 0 → block_reach p ≡ []
-reach_hole p hole = ap (λ (b : Bool). if b then [] else p ∷ []) (eq-eqb p 0 hole)
-
 -- ---- pointers that are holes
 
 module _ (s : Store) (block : ℕ) (some : block ≢ 0) where
@@ -105,37 +101,6 @@ module _ (n k : ℕ) where
       either : (block t : ℕ) → t ≡ times block xs → 0 < times block xs + times block ys → IsIn n Data block
       either block zero is among = second.within block (times_among block ys (omega (arith, is, among)))
       either block (suc t) is among = first.within block (times_among block xs (omega (arith, is)))
-
-  pub marks_same : (xs ys a b : List ℕ) → ((block : ℕ) → times block ys ≡ times block xs) → Marks n k xs a b → Marks n k ys a b
-  marks_same xs ys a b same marks = marks_joined xs [] ys a b b (λ block. omega (arith, same block)) marks (marks_none [] b (λ block. refl))
-
-  pub marks_one : (p : ℕ) (a b : List ℕ) → IsIn n Data p → bit_at (slice_index a p) k ≢ 1 → PutsBit p k 1 a b → Marks n k (p ∷ []) a b
-  marks_one p a b in_data unset put = record {
-    counted = λ block. ⊎_elim
-        (λ (same : block ≡ p). subst (λ (x : ℕ). bit_at (slice_index b x) k ≡ bit_at (slice_index a x) k + times x (p ∷ [])) (sym same) here)
-        (λ (other : block ≢ p). ap (λ (w : ℕ). bit_at w k) (put.elsewhere block other) ∙ sum (bit_at (slice_index a block) k) (times block (p ∷ [])) (times-other block p (λ same. other (sym same))))
-        (cases_eq block p);
-    others = λ block other apart. ⊎_elim
-        (λ (same : block ≡ p). subst (λ (x : ℕ). bit_at (slice_index b x) other ≡ bit_at (slice_index a x) other) (sym same) (put.others other apart))
-        (λ (elsewhere : block ≢ p). ap (λ (w : ℕ). bit_at w other) (put.elsewhere block elsewhere))
-        (cases_eq block p);
-    within = λ block among. ⊎_elim
-        (λ (same : block ≡ p). subst (IsIn n Data) (sym same) in_data)
-        (λ (other : block ≢ p). absurd (omega (arith, among_times block (p ∷ []) among, times-other block p (λ same. other (sym same)))))
-        (cases_eq block p);
-  }
-    where
-      sum : (x t : ℕ) → t ≡ 0 → x ≡ x + t
-      sum x t none = omega (arith, none)
-
-      none_set : (x : ℕ) → x < 2 → x ≢ 1 → x ≡ 0
-      none_set x low other = omega (arith, low, other)
-
-      here : bit_at (slice_index b p) k ≡ bit_at (slice_index a p) k + times p (p ∷ [])
-      here = put.put ∙ one (bit_at (slice_index a p) k) (times p (p ∷ [])) (none_set (bit_at (slice_index a p) k) (bit_at-lt (slice_index a p) k) unset) (times-same p)
-        where
-          one : (x t : ℕ) → x ≡ 0 → t ≡ 1 → 1 ≡ x + t
-          one x t none is = omega (arith, none, is)
 
   pub marks_join : (height : ℕ) (s : Store) (ps qs a b c : List ℕ) → Marks n k (named (all_pointers s height ps)) a b → Marks n k (named (all_pointers s height qs)) b c → Marks n k (named (all_pointers s height (ps ++ qs))) a c
   marks_join height s ps qs a b c first second =
@@ -184,9 +149,6 @@ module _ (n k : ℕ) where
     where
       two : (x t : ℕ) → x ≡ 1 → t ≡ 1 → 2 ≤ x + t
       two x t one is = omega (arith, one, is)
-
-  pub marked_one : (p : ℕ) (a b : List ℕ) → p ≢ 0 → IsIn n Data p → bit_at (slice_index a p) k ≢ 1 → PutsBit p k 1 a b → Marks n k (block_reach p) a b
-  marked_one p a b some in_data unset put = subst (λ (xs : List ℕ). Marks n k xs a b) (sym (reach_some p some)) (marks_one p a b in_data unset put)
 
   pub marked_within : (p : ℕ) (a b : List ℕ) → p ≢ 0 → Marks n k (block_reach p) a b → p < n
   marked_within p a b some marks = (marks.within p (among_reach p some)).below

@@ -1,5 +1,5 @@
 -- What stands once the first place of the log is cleared, over a root on which nothing is logged.
-use Rattle.std.proofs.Common.{◌≡◌, inl, inr, ℕ, ◌+◌, Bool, false, List, [], ◌∷◌, ◌++◌, length, slice_index, count_by, Result, Ok, refl, sym, ap, subst, ◌∙◌, arith}
+use Rattle.std.proofs.Common.{◌≡◌, inl, ℕ, ◌+◌, Bool, false, List, [], ◌∷◌, ◌++◌, None, length, slice_index, count_by, Result, Ok, refl, sym, ap, subst, ◌∙◌, arith}
 use Rattle.std.specs.Prelude.{IfOk}
 use Rattle.std.specs.FinMap as fin
 use Rattle.std.proofs.lemmas.List.{nil_from_length}
@@ -62,7 +62,7 @@ use Rattle.sn_held.specs.Held.{Held, IsReady, Kept, Runs, RunsReady}
 use Rattle.sn_held.specs.Images.{EndsAt, IsImage, IsLiveImage}
 use Rattle.sn_held.specs.Room.{HasRoomOf, room_of_image}
 use Rattle.sn_held.proofs.HeldLemmas.{Rests, rests_stay}
-use Rattle.sn_held.proofs.MountLemmas.{cleared_within, clearing_keeps}
+use Rattle.sn_mount.proofs.ClearingLemmas.{cleared_within, clearing_keeps}
 use Rattle.sn_held.proofs.RoomLemmas.{image_same, settled_has_none}
 use Rattle.sn_cp_whole.specs.Planning.{kept_in}
 use Rattle.sn_cp_whole.specs.Recovering.{IsApart, IsImageOver}
@@ -221,9 +221,9 @@ module _ (d : Disk) (w : World) (n : ℕ) (k : Kept) (over : IsImageOver d w n k
   pub has_room : (room : RoomCounts) → room ≡ fresh (free_data k.words (start_of n Data)) → HasRoomOf (reads d) w room
   has_room room is = (its, is ∙ sym room_over_is)
 
-  module _ (tree : IsTree version_1 w.live) (none : k.changed ≡ no_changes) (closed : Always d (λ c. IsClosed c (base_of n k.root.epoch + 0))) (keeps_back : ℕ → Bool) (status : Status) where
+  module _ (tree : IsTree version_1 w.live) (none : k.changed ≡ no_changes) (closed : Always d (λ c. IsClosed c (base_of n k.root.epoch + 0))) (keeps_back since : ℕ → Bool) (status : Status) where
     abbrev held_at : RoomCounts → LogPosition → Held
-    held_at room at = record { world = w; kept = keeps_back; room = room; at = at; base = k; disk = d; status = status }
+    held_at room at = record { world = w; kept = keeps_back; kept_since = since; room = room; at = at; base = k; point = None; disk = d; status = status }
 
     abbrev here : Held
     here = held_at (room_of_image (reads d) w its) (first_of its.blocks opened.root.epoch)
@@ -341,6 +341,6 @@ module _ (sectors : ℕ) (old mid rooted new : Disk) (k : Kept) (at : LogPositio
         record {
           is = found_is ∙ settled_here;
           room_is = has_room new w at.blocks (kept_in base) stays q room_is;
-          runs = λ keeps_back status. runs_over new w at.blocks (kept_in base) stays tree_here none closed keeps_back status q p room_is at_is;
+          runs = λ keeps_back since status. runs_over new w at.blocks (kept_in base) stays tree_here none closed keeps_back since status q p room_is at_is;
           leaves = leaves_at_end;
         }

@@ -1,3 +1,4 @@
+pub mod ClearingLemmas
 pub mod RecoverLemmas
 pub mod ClearedLemmas
 pub mod CostLemmas

@@ -1,5 +1,5 @@
 -- What a mount makes of a disk.
-use Rattle.std.specs.Prelude.{◌≡◌, ◌⊎◌, ℕ, Bool, Result, Ok, Err}
+use Rattle.std.specs.Prelude.{◌≡◌, ◌⊎◌, ℕ, Bool, None, Result, Ok, Err}
 use Rattle.sn_device.specs.Disk.{Disk, IsSynced, reads}
 use Rattle.sn_device.specs.Crash.{LeavesOnly, Touches}
 use Rattle.sn_device.specs.declared.status.Status.{Status}
@@ -43,7 +43,7 @@ pub record LeavesTheWorld (old new : Disk) (world : World) : Type 0 where
 pub record IsRecovered (at : LogPosition) (found : World) (room : RoomCounts) (base : Kept) (old new : Disk) (world : World) : Type 0 where
   pub is : found ≡ world
   pub room_is : HasRoomOf (reads new) world room
-  pub runs : (kept : ℕ → Bool) (status : Status) → RunsReady (record { world = world; kept = kept; room = room; at = at; base = base; disk = new; status = status }) world base
+  pub runs : (kept since : ℕ → Bool) (status : Status) → RunsReady (record { world = world; kept = kept; kept_since = since; room = room; at = at; base = base; point = None; disk = new; status = status }) world base
   pub leaves : LeavesTheWorld old new world
 
 -- either nothing was written, or at no moment a crash would have left another world

@@ -18,7 +18,8 @@
 //! [`nameless_files`] lists the files that a mount drops, for whoever leaves a world as a mount finds it.
 //!
 //! The way through: `specs/Recovering.antt` says what a mount makes of a disk, `Settling.antt` what becomes of what was
-//! found, `Costs.antt` what it costs; `examining` checks and reads, `settling` drops the files and makes the root, `recovering` puts all together.
+//! found, `Costs.antt` what it costs; `examining` checks and reads, `settling` drops the files and makes the root,
+//! `recovering` puts all together.
 //!
 //! What the sources leave open is decided in `docs/DECISIONS.md`, under "Mount of a root".
 //!

@@ -3,7 +3,7 @@ ghost use Rattle.std.specs.Prelude.{◌≡◌, ◌+◌, ◌*◌, ◌≤◌, ◌^
 ghost use Rattle.sn_device.specs.Disk.{reads};
 ghost use Rattle.sn_block.specs.Counts.{IsLater};
 ghost use Rattle.sn_block.specs.Lending.{device_of};
-ghost use Rattle.sn_core.specs.Plain.{kept_of, world_of};
+ghost use Rattle.sn_core.specs.Plain.{kept_of, kept_since_of, world_of};
 ghost use Rattle.sn_cp_whole.specs.Making.{room_over};
 ghost use Rattle.sn_cp_whole.specs.Planning.{IsBaseAt, kept_in};
 ghost use Rattle.sn_limits.specs.Versions.{version_1};
@@ -38,6 +38,7 @@ pub fn recover<D: Device>(alloc: Global, blocks: &mut Blocks<D>) -> Result<Recov
     ensures clean { IsTrue D.tells_bytes → OnOk result (IsSomeClean (D.status (device_of blocks.old)).sectors (reads (D.disk (device_of blocks.old)))) }
     ensures whole { IfOk result (λ r. IsWorld version_1 (world_of r.world)) }
     ensures kept { IfOk result (λ r. (number : ℕ) → kept_of r.world number ≡ false) }
+    ensures since { IfOk result (λ r. (number : ℕ) → kept_since_of r.world number ≡ false) }
     ensures few { IfOk result (λ r. r.room.dropped + nameless_in (world_of r.world).live ≤ 2 ^ 33) }
     ensures base { IfOk result (λ r. IsBaseAt r.log r.base) }
     ensures log { IfOk result (λ r. r.log ≡ first_of r.log.blocks r.base.root.epoch) }

@@ -1,7 +1,7 @@
 //! What was found is settled, and what is to recover becomes a root.
 ghost use Rattle.std.specs.Prelude.{◌≡◌, ◌≢◌, ℕ, ◌*◌, ◌≤◌, false, true, length, IsTrue, IfErr, IfOk, OnOk};
 ghost use Rattle.sn_block.specs.Lending.{device_of};
-ghost use Rattle.sn_core.specs.Plain.{kept_of, world_of};
+ghost use Rattle.sn_core.specs.Plain.{kept_of, kept_since_of, world_of};
 ghost use Rattle.sn_cp_whole.specs.Planning.{kept_in};
 ghost use Rattle.sn_cp_whole.specs.Recovering.{IsApart};
 ghost use Rattle.sn_cp_whole.specs.declared.fault.PointFault.TheVariants.{Age as AgePoint};
@@ -75,6 +75,7 @@ pub(crate) fn settle(alloc: Global, found: Found) -> Result<Settled, AllocError>
     requires { IsTree version_1 (world_of found.world).live }
     ensures world { IfOk result (λ s. world_of s.world ≡ settle (world_of found.world)) }
     ensures kept { IfOk result (λ s. (number : ℕ) → kept_of s.world number ≡ false) }
+    ensures since { IfOk result (λ s. (number : ℕ) → kept_since_of s.world number ≡ false) }
     ensures changed { IfOk result (λ s. SettlesChanges (kept_found found) (world_of found.world).live (kept_in s.base)) }
 {
     let Found {

@@ -1,20 +1,25 @@
-//! A file system on a device in memory, for the test programs.
+//! A file system on a disk in memory, for the test programs.
 //!
-//! The model: none. [`Mounted`] is a mounted file system whose clauses promise nothing, since what it answers
-//! is compared; what each of its calls asks for is kept by its type. So the programs above say nothing of it
-//! in loops over many cases. `asking` has the calls that they make, and how a reply is told.
+//! The model: none. A [`Disk`] is mounted or not, and its clauses promise nothing, since what it answers is compared; what
+//! each call of the file system asks for is kept by its types. So the programs above say nothing of it in loops over many
+//! cases, and each has it behind a `&mut`. `asking` has the calls that are made, and how a reply is told, `devices` formatted
+//! devices, and `tears` what a crash leaves.
 //!
 //! ```text
-//! let mut mounted = remounted(alloc, new_device(alloc)?)?;
-//! mounted.login(alloc)?;
-//! let line = mounted.stat(alloc, "/")?;
+//! let mut disk = Disk::large(alloc)?;
+//! disk.remount()?;
+//! disk.login()?;
+//! let line = disk.stat("/")?;
 //! ```
 #![tactic(auto)]
 
 mod asking;
+mod devices;
+mod disk;
 mod mounted;
 mod tears;
 
-pub use asking::{line_of, login, mkdir, number_of, stat};
-pub use mounted::{Mounted, least_device, new_device, remounted};
+pub use asking::event_of;
+pub use devices::{least_device, new_device};
+pub use disk::Disk;
 pub use tears::{FILLS, crashed};

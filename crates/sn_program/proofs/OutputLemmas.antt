@@ -22,11 +22,6 @@ appends_kept (Some xs) None c t h k = absurd h
 appends_kept (Some xs) (Some ys) None t h k = absurd k
 appends_kept (Some xs) (Some ys) (Some zs) t h k = k ∙ h
 
-pub keeps_none : (a b : Option (List ℕ)) (t : List ℕ) → t ≡ [] → Appends a b t → Keeps a b
-keeps_none None b t e h = tt
-keeps_none (Some xs) None t e h = h
-keeps_none (Some xs) (Some ys) t e h = h ∙ ap (λ (s : List ℕ). xs ++ s) e ∙ append-nil xs
-
 pub keeps_same : (a b : Option (List ℕ)) → b ≡ a → Keeps a b
 keeps_same None b e = tt
 keeps_same (Some xs) None e = let never : None ≡ Some xs = e in cc

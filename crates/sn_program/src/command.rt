@@ -317,9 +317,10 @@ fn perform<
     }
 }
 
-/// Does what the words ask for, and gives the exit status: 0 where it was done, 3 where an image was checked and is
-/// damaged, 2 for words that are no command, else 1. A fault is told by a line on standard error, also that of a run which was cut short and whose
-/// remains were saved, where the status is 0. `person` is told which file failed and why, what a damage means, and how far a long run has come.
+/// Does what the words ask for, and gives the exit status: 0 where it was done, 3 where an image was checked and is damaged,
+/// 2 for words that are no command, else 1. A fault is told by a line on standard error, also that of a run which was cut
+/// short and whose remains were saved, where the status is 0. `person` is told which file failed and why, what a damage
+/// means, and how far a long run has come.
 pub fn program<
     F: FileExt + OpenFile + LockFile + Read + Drop,
     R: Files<File = F> + AllocGlobal + Clock,

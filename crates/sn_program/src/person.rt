@@ -11,6 +11,8 @@ use std::io::{IsTerminal, Write};
 pub struct Person<S: Write + Drop>(Option<S>);
 
 impl<S: Write + IsTerminal + Drop> Person<S> {
+    /// A person who reads what is written to this stream, or nobody where the stream is no terminal: then each write
+    /// succeeds and is dropped.
     pub fn at(stream: S) -> Person<S> {
         if stream.is_terminal() {
             Person(Some(stream))

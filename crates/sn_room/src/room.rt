@@ -125,7 +125,8 @@ impl Room {
 
     /// The root of the consistency point is durable, and leaves so many data blocks free.
     pub fn end_point(&mut self, free: u32)
-        ensures { self.new ≡ done free self.old }
+        ensures counts { self.new ≡ done free self.old }
+        ensures fewer { self.new.dropped ≤ self.old.dropped }
     {
         self.free = free;
         self.charged = self.charged_since;

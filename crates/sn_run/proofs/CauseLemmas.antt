@@ -24,7 +24,7 @@ use Rattle.sn_mount.specs.Costs.{CostsMount}
 use Rattle.sn_fs.specs.Answers.{MayMeet}
 use Rattle.sn_run.specs.Causes.{FailsAtItsEnd, GoesOrEnds, HasCauses, HasNoMemory, IsFailure, ServedToItsEnd}
 use Rattle.sn_run.specs.Runs.{Goes, RunsTo, Served, Standing, start}
-use Rattle.sn_run.proofs.FailureLemmas.{runs_later}
+use Rattle.sn_run.proofs.FailureLemmas.{fin_failures, runs_later}
 
 -- ---- events
 
@@ -50,7 +50,7 @@ run_ends first last (e ∷ events) (reply ∷ replies) run same =
     let rest = runs_later mid last events replies run.2 in
     let here : mid.held.status.failures ≡ first.held.status.failures = omega (arith, a.later.failures, rest.failures, same) in
     let there : last.held.status.failures ≡ mid.held.status.failures = omega (arith, here, same) in
-    (mid, record { goes = run.1; ended = met_end first.held a.mid e a.met mid.held.status a.may here }, run_ends mid last events replies run.2 there)
+    (mid, record { goes = run.1; ended = met_end a.fin a.mid e a.met mid.held.status a.may (here ∙ sym (fin_failures e first.held a.fin a.finish)) }, run_ends mid last events replies run.2 there)
 
 -- ---- stops
 
@@ -154,20 +154,20 @@ module _ (events : List Event) (replies : List Reply) (disk last_disk : Disk) (s
       run_ends (start world s.mounted) it.last events replies it.run ended
 
   -- why it ends so
-  cause_of : (s : State) (h mid : Held) (met : Option Mishap) → Ends s met ending.Stopped → MayMeet h mid event.Restart met last_status → last_status.failures ≡ h.status.failures → IsLater h.status last_status
+  cause_of : (s : State) (h fin mid : Held) (met : Option Mishap) → Ends s met ending.Stopped → MayMeet fin mid event.Restart met last_status → last_status.failures ≡ fin.status.failures → IsLater h.status last_status
       → (HasStopped s → IsTrue (has_ended h.status) ⊎ (⊥ ⊎ HasNoMemory replies)) → IsTrue (has_ended last_status) ⊎ HasNoMemory replies ⊎ (met ≡ Some Age)
-  cause_of (Stopped before after) h mid met ends may failed later stops = from (stops tt)
+  cause_of (Stopped before after) h fin mid met ends may failed later stops = from (stops tt)
     where
       from : IsTrue (has_ended h.status) ⊎ (⊥ ⊎ HasNoMemory replies) → IsTrue (has_ended last_status) ⊎ HasNoMemory replies ⊎ (met ≡ Some Age)
       from (inl ended) = inl (later-ended h.status last_status later ended)
       from (inr (inl never)) = absurd never
       from (inr (inr none)) = inr (inl none)
-  cause_of (Running w) h mid None ends may failed later stops = absurd (ends.ends.0 ends.unmounts)
-  cause_of (Running w) h mid (Some Memory) ends may failed later stops = absurd (ends.ends.1 ends.unmounts)
-  cause_of (Running w) h mid (Some Read) ends may failed later stops = inl (uncounted_end h.status last_status failed may)
-  cause_of (Running w) h mid (Some Write) ends may failed later stops = inl (uncounted_end h.status last_status failed may)
-  cause_of (Running w) h mid (Some Space) ends may failed later stops = absurd ends.unmounts
-  cause_of (Running w) h mid (Some Age) ends may failed later stops = inr (inr refl)
+  cause_of (Running w) h fin mid None ends may failed later stops = absurd (ends.ends.0 ends.unmounts)
+  cause_of (Running w) h fin mid (Some Memory) ends may failed later stops = absurd (ends.ends.1 ends.unmounts)
+  cause_of (Running w) h fin mid (Some Read) ends may failed later stops = inl (uncounted_end fin.status last_status failed may)
+  cause_of (Running w) h fin mid (Some Write) ends may failed later stops = inl (uncounted_end fin.status last_status failed may)
+  cause_of (Running w) h fin mid (Some Space) ends may failed later stops = absurd ends.unmounts
+  cause_of (Running w) h fin mid (Some Age) ends may failed later stops = inr (inr refl)
 
   served_cause : (s : Served events replies ending.Stopped disk status last_disk last_status) (world : World) (image : IsLiveImage (reads disk) world) → IsTrue (has_ended last_status) ⊎ HasNoMemory replies ⊎ ((s.served world image).ended.met ≡ Some Age)
   served_cause s world image =
@@ -176,7 +176,7 @@ module _ (events : List Event) (replies : List Reply) (disk last_disk : Disk) (s
       let began : s.mounted.status.failures ≡ status.failures = mount_unfailing s.blocks status s.mounted.status s.costs in
       let rest = runs_later (start world s.mounted) it.last events replies it.run in
       let failed : last_status.failures ≡ it.last.held.status.failures = omega (arith, rest.failures, e.later.failures, same, began) in
-      cause_of it.last.state it.last.held e.mid e.met e.ends e.may failed e.later
+      cause_of it.last.state it.last.held e.fin e.mid e.met e.ends e.may (failed ∙ sym (fin_failures event.Restart it.last.held e.fin e.finish)) e.later
       (stop_cause ⊥ (start world s.mounted) it.last events replies (served_ends ending.Stopped s world image) (λ stopped. absurd stopped))
 
   mount_end : (fault : MountFault) → IsSoOf fault status last_status → FailsAtItsEnd fault last_status

@@ -1,12 +1,12 @@
 -- The last unmount.
-use Rattle.std.proofs.Common.{◌≡◌, ◌≢◌, inl, inr, Bool, true, false, Some, None, refl, sym, ap, subst, ◌∙◌}
+use Rattle.std.proofs.Common.{◌≡◌, ◌≢◌, inl, inr, Bool, true, false, Option, Some, None, Err, refl, sym, ap, subst, ◌∙◌}
 use Rattle.std.specs.FinMap as map
 use Rattle.std.proofs.lemmas.Bool.{true≢false}
 use Rattle.sn_device.specs.Disk.{Disk}
 use Rattle.sn_device.specs.Crash.{LeavesOnly}
 use Rattle.sn_device.specs.declared.status.Status.{Status}
-use Rattle.sn_device.proofs.CrashLemmas.{LeavesOnly-start, LeavesOnly-weaker}
-use Rattle.sn_block.proofs.CountLemmas.{later-is, later-same}
+use Rattle.sn_device.proofs.CrashLemmas.{LeavesOnly-join, LeavesOnly-start, LeavesOnly-weaker}
+use Rattle.sn_block.proofs.CountLemmas.{later-is, later-join, later-same}
 use Rattle.sn_model.specs.declared.call.Event.TheVariants as event
 use Rattle.sn_model.specs.declared.mount.End.{End}
 use Rattle.sn_model.specs.declared.mount.End.TheVariants as ending
@@ -18,15 +18,18 @@ use Rattle.sn_model.specs.Machine.{Running, Stopped, Memory, Read, Write, Age, r
 use Rattle.sn_model.specs.Settling.{settle}
 use Rattle.sn_model.specs.Tests.{plain}
 use Rattle.sn_model.specs.World.{World}
-use Rattle.sn_held.specs.Held.{Held, RunsReady}
+use Rattle.sn_held.specs.Held.{Going, Held, RunsReady}
+use Rattle.sn_cp_progress.specs.Meaning.{RunsWith}
+use Rattle.sn_cp_progress.proofs.MeaningLemmas.{runs_with}
 use Rattle.sn_held.specs.Images.{IsImage}
 use Rattle.sn_held.specs.Moments.{ShowsState}
 use Rattle.sn_held.proofs.EventLemmas.{live_show}
 use Rattle.sn_cp_whole.specs.declared.fault.PointFault.{PointFault}
 use Rattle.sn_cp_whole.specs.declared.fault.PointFault.TheVariants as point
 use Rattle.sn_fs.specs.Answers.{HasMadePoint}
-use Rattle.sn_fs.specs.Pointing.{IsUnpointed, errno_of_point}
-use Rattle.sn_fs.specs.Unmounting.{HasUnmounted, IsRefusedTo, IsUnmountedTo}
+use Rattle.sn_fs.specs.Pointing.{FinishesSo, IsUnpointed, errno_of_point}
+use Rattle.sn_fs.proofs.FinishLemmas.{IsFin, is_fin, one_finish}
+use Rattle.sn_fs.specs.Unmounting.{HasUnmounted, IsRefusedFor, IsRefusedTo, IsUnmountedTo}
 use Rattle.sn_fs.proofs.PointLemmas.{fails_read, made_point, settled_all}
 use Rattle.sn_run.specs.Ending.{EndsSo, IsEnded, end_for}
 
@@ -40,10 +43,28 @@ is_memory errno apart e =
     apart (ap (λ (r : Refusal). r.errno) same)
 
 -- what is so of the world that is held is so of the one that is meant
-in_its_world : (last : Held) (end : End) (disk : Disk) (status : Status) → (RunsReady last last.world last.base → last.world.frozen ≡ map.empty → IsEnded (Running last.world) last end disk status) → EndsSo end last false disk status
+in_its_world : (last : Held) (end : End) (disk : Disk) (status : Status) → (RunsWith last.point last last.world → last.world.frozen ≡ map.empty → IsEnded (Running last.world) last end disk status) → EndsSo end last false disk status
 in_its_world last end disk status f (Running w) m =
-    subst (λ (x : World). IsEnded (Running x) last end disk status) m.1.runs.is (f (subst (λ (x : World). RunsReady last x last.base) (sym m.1.runs.is) m.1) (ap (λ (x : World). x.frozen) m.1.runs.is ∙ m.2))
+    let is = (runs_with last w last.point m.1).is in
+    subst (λ (x : World). IsEnded (Running x) last end disk status) is (f (subst (λ (x : World). RunsWith last.point last x) (sym is) m.1) (ap (λ (x : World). x.frozen) is ∙ m.2))
 in_its_world last end disk status f (Stopped before after) m = absurd (true≢false (sym m.0))
+
+-- what ends behind the point in progress, once that is finished
+ended_behind : (last fin : Held) → IsFin last fin → last.world.frozen ≡ map.empty → (end : End) (disk : Disk) (status : Status) → IsEnded (Running fin.world) fin end disk status → IsEnded (Running last.world) last end disk status
+ended_behind last fin f bare end disk status e = subst (λ (w : World). IsEnded (Running w) last end disk status) f.world (record {
+  met = e.met;
+  ends = e.ends;
+  fin = e.fin;
+  finish = one_finish event.Restart last fin e.fin f tt e.finish;
+  mid = e.mid;
+  point = e.point;
+  may = e.may;
+  lasts = LeavesOnly-join last.disk fin.disk disk (ShowsState (Running fin.world))
+      (LeavesOnly-weaker last.disk fin.disk (λ c. IsImage c (settle last.world)) (ShowsState (Running fin.world))
+      (λ c im. record { image = subst (λ (w : World). IsImage c (settle w)) (sym f.world) im; frozen = ap (λ (w : World). w.frozen) f.world ∙ bare }) f.moments) e.lasts;
+  later = later-join last.status fin.status status f.later e.later;
+  costs = e.costs;
+})
 
 -- one that has stopped calls nothing
 pub ends_stopped : (last : Held) → EndsSo ending.Stopped last true last.disk last.status
@@ -51,6 +72,8 @@ ends_stopped last (Running w) m = absurd (true≢false m.0)
 ends_stopped last (Stopped before after) m = record {
   met = None;
   ends = record { reply = refused Estopped; unmounts = refl; ends = (done_is_refused Estopped, is_memory Estopped (λ e. cc e)) };
+  fin = last;
+  finish = inl refl;
   mid = last;
   point = inl refl;
   may = refl;
@@ -61,23 +84,25 @@ ends_stopped last (Stopped before after) m = record {
 
 -- one that is made
 pub ends_clean : (last : Held) (disk : Disk) (status : Status) → HasUnmounted last disk status → EndsSo ending.Clean last false disk status
-ends_clean last disk status unmounts = in_its_world last ending.Clean disk status (λ r bare. at (unmounts r) bare)
+ends_clean last disk status unmounts = in_its_world last ending.Clean disk status (λ r bare. let u = unmounts r in let f = is_fin last u.fin u.finish r in ended_behind last u.fin f bare ending.Clean disk status (at u (ap (λ (w : World). w.frozen) f.world ∙ bare)))
   where
-    at : IsUnmountedTo last disk status → last.world.frozen ≡ map.empty → IsEnded (Running last.world) last ending.Clean disk status
+    at : (u : IsUnmountedTo last disk status) → u.fin.world.frozen ≡ map.empty → IsEnded (Running u.fin.world) u.fin ending.Clean disk status
     at u bare =
         let p = u.pointed in
-        let made : HasMadePoint event.Restart last u.mid = made_point event.Restart last u.mid tt p in
-        let over : IsEnded (Running last.world) last ending.Clean u.mid.disk u.mid.status = record {
+        let made : HasMadePoint event.Restart u.fin u.mid = made_point event.Restart u.fin u.mid tt p in
+        let over : IsEnded (Running u.fin.world) u.fin ending.Clean u.mid.disk u.mid.status = record {
           met = None;
           ends = record { reply = answer.Done; unmounts = refl; ends = refl };
+          fin = u.fin;
+          finish = inl refl;
           mid = u.mid;
           point = inr made;
           may = ap (λ (s : Status). s.failures) p.costs;
-          lasts = settled_all event.Restart last u.mid p bare;
-          later = later-is _ _ last.status u.mid.status p.costs;
+          lasts = settled_all event.Restart u.fin u.mid p bare;
+          later = later-is _ _ u.fin.status u.mid.status p.costs;
           costs = (made, refl);
         } in
-        subst (λ (s : Status). IsEnded (Running last.world) last ending.Clean disk s) u.status_is (subst (λ (d : Disk). IsEnded (Running last.world) last ending.Clean d u.mid.status) u.disk_is over)
+        subst (λ (s : Status). IsEnded (Running u.fin.world) u.fin ending.Clean disk s) u.status_is (subst (λ (d : Disk). IsEnded (Running u.fin.world) u.fin ending.Clean d u.mid.status) u.disk_is over)
 
 -- ---- one that is refused
 
@@ -89,6 +114,8 @@ module _ (last : Held) (r : RunsReady last last.world last.base) (bare : last.wo
   ends_refused point.Memory new is = subst (λ (h : Held). IsEnded (Running last.world) last ending.Memory h.disk h.status) (sym is) (record {
     met = Some Memory;
     ends = record { reply = refused Enomem; unmounts = refl; ends = refl };
+    fin = last;
+    finish = inl refl;
     mid = last;
     point = inl refl;
     may = refl;
@@ -99,6 +126,8 @@ module _ (last : Held) (r : RunsReady last last.world last.base) (bare : last.wo
   ends_refused point.Age new is = subst (λ (h : Held). IsEnded (Running last.world) last ending.Stopped h.disk h.status) (sym is.0) (record {
     met = Some Age;
     ends = record { reply = refused Elimit; unmounts = refl; ends = (done_is_refused Elimit, is_memory Elimit (λ e. cc e)) };
+    fin = last;
+    finish = inl refl;
     mid = last;
     point = inl refl;
     may = (tt, is.1, refl);
@@ -111,6 +140,8 @@ module _ (last : Held) (r : RunsReady last last.world last.base) (bare : last.wo
       subst (λ (d : Disk). IsEnded (Running last.world) last ending.Stopped d new.status) (sym (ap (λ (h : Held). h.disk) is.0)) (record {
         met = Some Read;
         ends = record { reply = refused Eio; unmounts = refl; ends = (done_is_refused Eio, is_memory Eio (λ e. cc e)) };
+        fin = last;
+        finish = inl refl;
         mid = last;
         point = inl refl;
         may = told.0;
@@ -122,18 +153,45 @@ module _ (last : Held) (r : RunsReady last last.world last.base) (bare : last.wo
   ends_refused point.Device new cut = record {
     met = Some Write;
     ends = record { reply = refused Eio; unmounts = refl; ends = (done_is_refused Eio, is_memory Eio (λ e. cc e)) };
+    fin = last;
+    finish = inl refl;
     mid = last;
     point = inl refl;
     may = cut.failed;
     lasts = LeavesOnly-weaker last.disk new.disk (λ c. IsImage c (settle last.world)) (ShowsState (Running last.world)) (λ c im. record { image = im; frozen = bare }) cut.moments;
     later = cut.later;
-    costs = record { needed = tt; built = cut.built; builds = cut.builds; costs = cut.costs };
+    costs = inl (record { needed = tt; built = cut.built; builds = cut.builds; costs = cut.costs });
   }
+
+-- the point in progress was cut off
+ends_cut : (last : Held) → last.world.frozen ≡ map.empty → (fault : PointFault) (new : Held) → FinishesSo (Err fault) last.point last new → IsEnded (Running last.world) last (end_for (errno_of_point fault)) new.disk new.status
+ends_cut last bare fault new so = told last.point so
+  where
+    told : (at : Option Going) → FinishesSo (Err fault) at last new → IsEnded (Running last.world) last (end_for (errno_of_point fault)) new.disk new.status
+    told None never = absurd never
+    told (Some going) (is, cut) = subst (λ (f : PointFault). IsEnded (Running last.world) last (end_for (errno_of_point f)) new.disk new.status) (sym is) (record {
+      met = Some Write;
+      ends = record { reply = refused Eio; unmounts = refl; ends = (done_is_refused Eio, is_memory Eio (λ e. cc e)) };
+      fin = last;
+      finish = inl refl;
+      mid = last;
+      point = inl refl;
+      may = cut.failed;
+      lasts = LeavesOnly-weaker last.disk new.disk (λ c. IsImage c (settle last.world)) (ShowsState (Running last.world)) (λ c im. record { image = im; frozen = bare }) cut.moments;
+      later = cut.later;
+      costs = inr (record { needed = tt; going = cut.going; is = cut.is; costs = cut.costs });
+    })
+
+ends_for : (last : Held) (fault : PointFault) (new : Held) → RunsWith last.point last last.world → last.world.frozen ≡ map.empty → IsRefusedFor fault last new → IsEnded (Running last.world) last (end_for (errno_of_point fault)) new.disk new.status
+ends_for last fault new r bare (inl cut) = ends_cut last bare fault new cut
+ends_for last fault new r bare (inr (fin, so, unpointed)) =
+    let f = is_fin last fin so r in
+    ended_behind last fin f bare (end_for (errno_of_point fault)) new.disk new.status (ends_refused fin f.ready (ap (λ (w : World). w.frozen) f.world ∙ bare) fault new unpointed)
 
 ends_by : (last new : Held) (errno : Errno) (has_stopped : Bool) → IsRefusedTo errno last new has_stopped → EndsSo (end_for errno) last false new.disk new.status
 ends_by last new errno has_stopped refuses =
     subst (λ (x : Errno). EndsSo (end_for x) last false new.disk new.status) (sym refuses.told)
-    (in_its_world last (end_for (errno_of_point refuses.fault)) new.disk new.status (λ r bare. ends_refused last r bare refuses.fault new (refuses.unpointed r)))
+    (in_its_world last (end_for (errno_of_point refuses.fault)) new.disk new.status (λ r bare. ends_for last refuses.fault new r bare (refuses.unpointed r)))
 
 -- it had stopped before, or not
 pub ends_either : (last new : Held) (errno : Errno) (had has : Bool) → (had ≡ false → IsRefusedTo errno last new has) → (had ≡ true → (errno ≡ Estopped) × (new ≡ last) × (has ≡ true)) → EndsSo (end_for errno) last had new.disk new.status

@@ -22,6 +22,7 @@ use Rattle.sn_model.specs.Settling.{settle}
 use Rattle.sn_model.specs.World.{World}
 use Rattle.sn_core.proofs.RestartLemmas.{restart_numbers}
 use Rattle.sn_held.specs.Held.{Held}
+use Rattle.sn_cp_progress.specs.Meaning.{RunsWith}
 use Rattle.sn_held.specs.Images.{IsImage, IsLiveImage}
 use Rattle.sn_held.specs.Moments.{LastsOver, ShowsState}
 use Rattle.sn_examine.specs.Failing.{IsSoOf}
@@ -36,7 +37,8 @@ use Rattle.sn_fs.specs.Answers.{Answers, AnswersFrom, CostsMountOf, CostsRestart
 use Rattle.sn_fs.specs.Mounting.{IsLeft, WritesToMount}
 use Rattle.sn_fs.specs.Pointing.{IsPointed}
 use Rattle.sn_fs.specs.Unmounting.{HasUnmounted, IsUnmountedTo}
-use Rattle.sn_fs.proofs.PointLemmas.{in_its_world, made_point, none_failed, settled_all, some_failed}
+use Rattle.sn_fs.proofs.FinishLemmas.{IsFin, behind_finish, is_fin}
+use Rattle.sn_fs.proofs.PointLemmas.{in_any_world, made_point, none_failed, settled_all, some_failed}
 use Rattle.sn_run.specs.Restarting.{IsNotRemounted, IsRemounted, IsWholeDisk, Remounts}
 use Rattle.sn_run.specs.Runs.{LacksRoot}
 use Rattle.sn_run.proofs.CutLemmas.{found_settled}
@@ -94,6 +96,8 @@ module _ (old new : Held) (whole : AreSectors (reads old.disk)) where
           let it = m.mounts.runs world image in
           record {
             met = None;
+            fin = old;
+            finish = inl refl;
             mid = old;
             point = inl refl;
             may = mount_unfailing old.status new.status m.costs;
@@ -104,9 +108,11 @@ module _ (old new : Held) (whole : AreSectors (reads old.disk)) where
             writes = inr m.mounts.touched;
             begins = it.leaves;
             numbers = m.mounts.none_kept;
+            since = m.mounts.none_since;
             room = it.room;
             later = mount_later old.status new.status m.costs;
             costs = m.costs;
+            steps = tt;
             works = tt;
           }
 
@@ -142,6 +148,8 @@ module _ (old mid new : Held) (whole : AreSectors (reads mid.disk)) (p : IsPoint
       let P = λ (c : Contents). ShowsState (Running old.world) c ⊎ ShowsState (Running (settle old.world)) c in
       record {
         met = None;
+        fin = old;
+        finish = inl refl;
         mid = mid;
         point = inr point_made;
         may = none_failed old.status mid.status new.status same_failures (mount_unfailing mid.status new.status m.costs);
@@ -155,9 +163,11 @@ module _ (old mid new : Held) (whole : AreSectors (reads mid.disk)) (p : IsPoint
         writes = inr (point_made, inr m.mounts.touched);
         begins = it.leaves;
         numbers = restart_numbers old.world (settle old.world) mid.kept new.kept refl m.mounts.none_kept;
+        since = m.mounts.none_since;
         room = it.room;
         later = later-join old.status mid.status new.status point_later (mount_later mid.status new.status m.costs);
         costs = (point_made, m.costs);
+        steps = tt;
         works = tt;
       }
 
@@ -216,6 +226,8 @@ module _ (old new : Held) (f : MountFault) (disk : IsWholeDisk old.status old.di
           let all = unmounted_over f old new before after world disk.whole n.left means.1 here so in
           record {
             met = Some met.0;
+            fin = old;
+            finish = inl refl;
             mid = old;
             point = inl refl;
             may = met.2;
@@ -229,9 +241,11 @@ module _ (old new : Held) (f : MountFault) (disk : IsWholeDisk old.status old.di
             writes = writes_to_mount f old.status.sectors old.disk new.disk n.left.touched;
             begins = tt;
             numbers = tt;
+            since = tt;
             room = tt;
             later = n.later;
             costs = n.costs;
+            steps = tt;
             works = tt;
           }
 
@@ -253,6 +267,8 @@ module _ (old mid new : Held) (disk : IsWholeDisk mid.status mid.disk) (p : IsPo
       let P = λ (c : Contents). ShowsState (Running old.world) c ⊎ ShowsState next c in
       record {
         met = Some met.0;
+        fin = old;
+        finish = inl refl;
         mid = mid;
         point = inr made;
         may = met.2;
@@ -268,9 +284,11 @@ module _ (old mid new : Held) (disk : IsWholeDisk mid.status mid.disk) (p : IsPo
         writes = inr (made, writes_to_mount f mid.status.sectors mid.disk new.disk n.left.touched);
         begins = tt;
         numbers = tt;
+        since = tt;
         room = tt;
         later = later-join old.status mid.status new.status (point_later old mid new disk.whole p bare) n.later;
         costs = met.3;
+        steps = tt;
         works = tt;
       }
 
@@ -291,16 +309,22 @@ restart_stopped old new has reply r = told r.1
 
 -- of one that was unmounted first
 pub restart_running : (old new : Held) (has : Bool) (reply : Reply) (disk : Disk) (status : Status) → HasUnmounted old disk status → Remounts reply status disk new has → Answers event.Restart reply old false new has
-restart_running old new has reply disk status unmounts r = in_its_world event.Restart old new reply has (λ ready bare. at (unmounts ready) bare)
+restart_running old new has reply disk status unmounts r = in_any_world event.Restart old new reply has (λ runs bare. at runs (unmounts runs) bare)
   where
-    at : IsUnmountedTo old disk status → old.world.frozen ≡ map.empty → AnswersFrom (Running old.world) event.Restart reply old new has
-    at u bare = told whole_r.1
+    at : RunsWith old.point old old.world → IsUnmountedTo old disk status → old.world.frozen ≡ map.empty → AnswersFrom (Running old.world) event.Restart reply old new has
+    at runs u bare = behind_finish event.Restart old u.fin new f tt bare reply has tt tt (told whole_r.1)
       where
+        f : IsFin old u.fin
+        f = is_fin old u.fin u.finish runs
+
+        bare_still : u.fin.world.frozen ≡ map.empty
+        bare_still = ap (λ (w : World). w.frozen) f.world ∙ bare
+
         whole_r : Remounts reply u.mid.status u.mid.disk new has
         whole_r = subst (λ (s : Status). Remounts reply s u.mid.disk new has) (sym u.status_is) (subst (λ (d : Disk). Remounts reply status d new has) (sym u.disk_is) r)
 
-        told : Remounted u.mid.status u.mid.disk new has reply → AnswersFrom (Running old.world) event.Restart reply old new has
-        told (inl (is, m)) = subst (λ (x : Reply). AnswersFrom (Running old.world) event.Restart x old new has) (sym is) (remounted_from old u.mid new whole_r.0.whole u.pointed bare has m)
+        told : Remounted u.mid.status u.mid.disk new has reply → AnswersFrom (Running u.fin.world) event.Restart reply u.fin new has
+        told (inl (is, m)) = subst (λ (x : Reply). AnswersFrom (Running u.fin.world) event.Restart x u.fin new has) (sym is) (remounted_from u.fin u.mid new whole_r.0.whole u.pointed bare_still has m)
         told (inr (f, is, n)) =
-            subst (λ (x : Reply). AnswersFrom (Running old.world) event.Restart x old new has) (sym is)
-            (subst (λ (b : Bool). AnswersFrom (Running old.world) event.Restart (answer.Unmounted f) old new b) (sym n.stopped) (unmounted_behind old u.mid new whole_r.0 u.pointed bare f has n))
+            subst (λ (x : Reply). AnswersFrom (Running u.fin.world) event.Restart x u.fin new has) (sym is)
+            (subst (λ (b : Bool). AnswersFrom (Running u.fin.world) event.Restart (answer.Unmounted f) u.fin new b) (sym n.stopped) (unmounted_behind u.fin u.mid new whole_r.0 u.pointed bare_still f has n))

@@ -1,5 +1,5 @@
 -- Whole runs.
-use Rattle.std.proofs.Common.{◌≡◌, ◌⊎◌, ◌≤◌, ◌*◌, ℕ, inl, inr, Bool, false, List, [], ◌∷◌, ◌++◌, refl, sym, subst}
+use Rattle.std.proofs.Common.{◌≡◌, ◌⊎◌, ◌≤◌, ◌*◌, ℕ, inl, inr, Bool, false, None, List, [], ◌∷◌, ◌++◌, refl, sym, subst}
 use Rattle.sn_device.specs.Sectors.{Contents}
 use Rattle.sn_device.specs.Disk.{Disk, reads}
 use Rattle.sn_device.specs.Crash.{Touches}
@@ -13,13 +13,14 @@ use Rattle.sn_model.specs.declared.mount.End.{End}
 use Rattle.sn_model.specs.declared.mount.End.TheVariants as ending
 use Rattle.sn_model.specs.declared.mount.MountFault.{MountFault}
 use Rattle.sn_model.specs.declared.reply.Reply.{Reply}
-use Rattle.sn_model.specs.Machine.{Running, Stopped, Anything, CutRun, Lacks, Life, WholeRun}
+use Rattle.sn_model.specs.Machine.{Running, Anything, CutRun, Lacks, Life, WholeRun}
 use Rattle.sn_model.specs.World.{World, new_world}
 use Rattle.sn_log.specs.Places.{first_of}
 use Rattle.sn_core.proofs.StepLemmas.{run_more}
 use Rattle.sn_room.specs.Rooms.{fresh}
 use Rattle.sn_sound.specs.Disks.{IsOfDevice}
-use Rattle.sn_held.specs.Held.{Held, Means}
+use Rattle.sn_held.specs.Held.{Held}
+use Rattle.sn_cp_progress.specs.Meaning.{Means}
 use Rattle.sn_held.specs.Images.{IsLiveImage}
 use Rattle.sn_held.proofs.EventLemmas.{images_one}
 use Rattle.sn_mount.specs.Recovering.{LeavesTheWorld}
@@ -85,7 +86,7 @@ module _ (events : List Event) (replies : List Reply) (disk last_disk : Disk) (s
 
 -- a device alone
 abbrev bare : Disk → Status → Held
-bare disk status = record { world = new_world; kept = λ number. false; room = fresh 0; at = first_of 256 1; base = no_base; disk = disk; status = status }
+bare disk status = record { world = new_world; kept = λ number. false; kept_since = λ number. false; room = fresh 0; at = first_of 256 1; base = no_base; point = None; disk = disk; status = status }
 
 module _ (events : List Event) (replies : List Reply) (disk last_disk : Disk) (status last_status : Status) (world : World) (device : IsOfDevice status.sectors (reads disk)) (image : IsLiveImage (reads disk) world) where
   served_leaves : (end : End) (mounted : Held) → IsServed world events replies end disk mounted last_disk last_status → LeavesItsRun world events replies disk last_disk

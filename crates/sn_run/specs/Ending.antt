@@ -10,31 +10,34 @@ use Rattle.sn_model.specs.declared.mount.End.TheVariants as ending
 use Rattle.sn_model.specs.declared.reply.Errno.{Errno}
 use Rattle.sn_model.specs.declared.reply.Errno.TheVariants.{Enomem}
 use Rattle.sn_model.specs.Machine.{State, Running, Stopped, Mishap, Memory, Read, Write, Space, Age, Ends}
-use Rattle.sn_held.specs.Held.{Held, Means}
+use Rattle.sn_held.specs.Held.{Held}
+use Rattle.sn_cp_progress.specs.Meaning.{Means}
 use Rattle.sn_held.specs.Moments.{ShowsState}
 use Rattle.sn_examine.specs.Failing.{CostsAtMost}
-use Rattle.sn_fs.specs.Answers.{HasMadePoint, IsBehindPoint, IsCutPoint, MayMeet}
+use Rattle.sn_fs.specs.Answers.{HasMadePoint, IsBehindFinish, IsBehindPoint, IsCutAtPoint, MayMeet}
 
--- What an unmount costs is its point; where that isn't made, what a step would. One that has stopped calls nothing.
+-- What an unmount costs, behind the point in progress, is its own point; where that isn't made, what a call would whose point isn't. One that has stopped calls nothing.
 abbrev pub CostsUnmount : State → Held → Held → Option Mishap → Status → Type 0
 CostsUnmount (Running w) old mid None new = HasMadePoint event.Restart old mid × (new ≡ mid.status)
 CostsUnmount (Running w) old mid (Some Memory) new = new ≡ old.status
 CostsUnmount (Running w) old mid (Some Read) new = CostsAtMost 0 0 old.status new
-CostsUnmount (Running w) old mid (Some Write) new = IsCutPoint old event.Restart new
+CostsUnmount (Running w) old mid (Some Write) new = IsCutAtPoint old event.Restart new
 CostsUnmount (Running w) old mid (Some Space) new = ⊥
 CostsUnmount (Running w) old mid (Some Age) new = new ≡ old.status
 CostsUnmount (Stopped before after) old mid met new = new ≡ old.status
 
--- The last unmount is answered, which makes this end, and at no moment does a crash leave anything else than before it. What it met with has a cause.
+-- The last unmount is answered, which makes this end, and at no moment does a crash leave anything else than before it. The point in progress is finished first. What it met with has a cause.
 pub record IsEnded (s : State) (last : Held) (end : End) (last_disk : Disk) (last_status : Status) : Type 0 where
   pub met : Option Mishap
   pub ends : Ends s met end
+  pub fin : Held
+  pub finish : IsBehindFinish event.Restart last fin
   pub mid : Held
-  pub point : IsBehindPoint event.Restart last mid
-  pub may : MayMeet last mid event.Restart met last_status
+  pub point : IsBehindPoint event.Restart fin mid
+  pub may : MayMeet fin mid event.Restart met last_status
   pub lasts : LeavesOnly last.disk last_disk (ShowsState s)
   pub later : IsLater last.status last_status
-  pub costs : CostsUnmount s last mid met last_status
+  pub costs : CostsUnmount s fin mid met last_status
 
 -- from each state that is meant
 abbrev pub EndsSo : End → Held → Bool → Disk → Status → Type 0

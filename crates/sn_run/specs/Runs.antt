@@ -16,7 +16,8 @@ use Rattle.sn_model.specs.declared.reply.Reply.{Reply}
 use Rattle.sn_model.specs.Machine.{State, Running, Anything, CutRun, Holds, RunBy, WholeRun}
 use Rattle.sn_model.specs.World.{World}
 use Rattle.sn_sound.specs.Verdicts.{HasNoVerdict}
-use Rattle.sn_held.specs.Held.{Held, Means}
+use Rattle.sn_held.specs.Held.{Held}
+use Rattle.sn_cp_progress.specs.Meaning.{Means}
 use Rattle.sn_held.specs.Images.{IsLiveImage}
 use Rattle.sn_held.specs.Room.{HasRoomOf}
 use Rattle.sn_examine.specs.Failing.{IsSoOf}

@@ -1,5 +1,5 @@
 -- What serves events, as what it holds.
-use Rattle.std.specs.Prelude.{Bool, true, false, [], replicate}
+use Rattle.std.specs.Prelude.{Bool, true, false, None, [], replicate}
 use Rattle.sn_device.specs.declared.device.Device.{Ghosts}
 use Rattle.sn_model.specs.World.{new_world}
 use Rattle.sn_log.specs.Places.{first_of}
@@ -20,7 +20,7 @@ module _ {D : Type 0} {g : Ghosts D} where
   -- One that isn't mounted has its device alone: its world, its room, its place in the log and what is kept for a point say nothing.
   abbrev pub standing : Server D g → Held
   standing (Mounted fs) = held fs
-  standing (Unmounted device) = record { world = new_world; kept = λ number. false; room = fresh 0; at = first_of 256 1; base = no_base; disk = g.disk device; status = g.status device }
+  standing (Unmounted device) = record { world = new_world; kept = λ number. false; kept_since = λ number. false; room = fresh 0; at = first_of 256 1; base = no_base; point = None; disk = g.disk device; status = g.status device }
 
   abbrev pub is_stopped : Server D g → Bool
   is_stopped (Mounted fs) = has_stopped fs

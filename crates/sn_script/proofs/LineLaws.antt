@@ -24,7 +24,7 @@ use Rattle.sn_words.specs.Reading.{IsRead, number_below}
 use Rattle.sn_script.specs.Reading.{call_of, event_of, line_event, lone_event_of}
 use Rattle.sn_words.proofs.Options.{passed, both_true}
 use Rattle.sn_words.proofs.Numbers.{number_again, number_takes}
-use Rattle.sn_words.proofs.Bytes.{Within, Within-wider, Within-join, decimal_within, graphic_within, Lacks, Lacks-append, lacks_outside, parts_join}
+use Rattle.sn_words.proofs.Bytes.{Within, Within-wider, Within-join, decimal_within, graphic_within, Lacks, lacks_outside, parts_join}
 use Rattle.sn_words.proofs.FieldLaws.{want_graphic, kind_graphic}
 use Rattle.sn_words.proofs.FlagLaws.{flags_graphic, content_graphic}
 use Rattle.sn_script.proofs.CallLaws.{call_takes, call_again}
@@ -249,12 +249,6 @@ pub first_bad : (script line others : List ℕ) → script ≡ line ++ 10 ∷ ot
 first_bad script line others cut lacks none e more h same =
     let p = line_front e line others more h (recursion_from_All (λ b. eqb b 10 ≡ false) line lacks) (sym cut ∙ same) in
     let read = sym (line_again e h) ∙ ap line_event (sym p.0) ∙ none in
-    absurd cc
-
-pub no_line : (script : List ℕ) → All (λ b. eqb b 10 ≡ false) script → BeginsBadly script
-no_line script lacks e more h same =
-    let whole : Lacks 10 (text_of e ++ 10 ∷ more) = subst (Lacks 10) (same ∙ line_then e more) (recursion_from_All (λ b. eqb b 10 ≡ false) script lacks) in
-    let head : eqb 10 10 ≡ false = (Lacks-append 10 (text_of e) (10 ∷ more) whole).0 in
     absurd cc
 
 pub nothing_read : (fault : ReadFault) (read : Option Event) → fault ≡ Bad → IsRead {X = Event} {Y = Event} (λ e. e) (Err fault) read → read ≡ None

@@ -6,6 +6,9 @@ use sn_acl::{Acl, Cred, MAX_GROUPS, Mode, Permissions, Tag, check, inherit};
 use sn_table::{Case, Report};
 use std::alloc::Global;
 
+/// Compares access decisions, memberships, texts, entries, modes, inheritance and rights with the answers of the seven
+/// tables, which are by hand from acl(5) and POSIX.1-2017. An error is a table that can't be read or is misspelt,
+/// output that can't be written, or a want of memory; a wrong answer is counted and printed.
 pub fn run(report: &mut Report<'_>) -> Result<()> {
     report.table("acl_check.txt", decision)?;
     report.table("acl_members.txt", membership)?;

@@ -5,6 +5,7 @@ use sn_acl::{Acl, Entry, Permissions, Tag};
 use sn_table::Case;
 use std::alloc::Global;
 
+/// The ACL that a word of a table spells, in the short text form of acl(5). An error where it spells none.
 pub fn acl_of(word: &str) -> Result<Acl> {
     match Acl::parse(word.as_bytes()) {
         Some(acl) => Ok(acl),
@@ -12,6 +13,7 @@ pub fn acl_of(word: &str) -> Result<Acl> {
     }
 }
 
+/// The rights of three letters, as `r-x`. An error where a word spells none.
 pub fn rights_of(word: &str) -> Result<Permissions> {
     Permissions::parse(word.as_bytes()).context(format_args!("no rights: {word}"))
 }

@@ -9,6 +9,9 @@ use sn_table::{Report, Tally};
 use std::alloc::Global;
 use std::str;
 
+/// Compares the replies of the plain run to each script of `data/` with those beside its lines, which follow from
+/// `docs/RULES.md`; then makes one run in which a call that is refused memory is made again. An error is a table that
+/// can't be read, output that can't be written, or a run that ends for want of memory.
 pub fn run(report: &mut Report<'_>) -> Result<()> {
     report.script("run_calls.txt", replies_to)?;
     report.script("run_hidden.txt", replies_to)?;

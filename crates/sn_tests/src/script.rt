@@ -6,6 +6,9 @@ use sn_script::{SCRIPT_MAX, ScriptFault, read_script};
 use sn_table::{Case, Report, Tally};
 use std::alloc::Global;
 
+/// Compares what lines and scripts are read as with two tables, by hand from `docs/SCRIPT.md`, and the line that is
+/// told of scripts at the bound of their bytes and one byte over it. An error is a table that can't be read, output
+/// that can't be written, or a want of memory.
 pub fn run(report: &mut Report<'_>) -> Result<()> {
     report.table("script_lines.txt", line)?;
     report.table("scripts.txt", script)?;

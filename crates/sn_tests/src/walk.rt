@@ -10,6 +10,9 @@ use std::str;
 
 type Outcome = Result<Walked, Failure<WalkRefusal, AllocError>>;
 
+/// Compares the names of paths, and where walks over the small trees end and what they look up, with two tables, by
+/// hand from POSIX.1-2017 and `docs/RULES.md`. An error is a table that can't be read, output that can't be written, or
+/// a want of memory.
 pub fn run(report: &mut Report<'_>) -> Result<()> {
     report.table("paths.txt", path)?;
     report.table("walks.txt", walked)

@@ -111,6 +111,9 @@ impl OpenFile for Fake<'_> {
     }
 }
 
+/// Compares the answers of a device over a file in memory, whose calls are counted, cut short and failed, with
+/// `calls.txt`, which follows from the rules at the head of sn_filedev. An error is a table that can't be read, a step
+/// that is none, output that can't be written, or a want of memory.
 pub fn run(report: &mut Report<'_>) -> Result<()> {
     report.table("calls.txt", answers)
 }

@@ -14,6 +14,9 @@ const IMAGE: &str = "blocks.image";
 
 type FileBlocks = Blocks<FileDevice<File>>;
 
+/// Compares the answers of blocks over a file in the current folder with `file.txt`, whose answers are those of a file
+/// that works. The file is removed behind each case. An error is one of the system, a step that is none, a table that
+/// can't be read, or a want of memory.
 pub fn run(report: &mut Report<'_>) -> Result<()> {
     let rt = report.runtime();
     report.table("file.txt", |alloc, case| steps(rt, alloc, case))

@@ -12,6 +12,9 @@ use std::{fs, io};
 // In the current folder.
 const FILE: &str = "bytes.image";
 
+/// Compares the answers of devices over files that are no images, are not there or are on a full disk, with
+/// `files.txt`: what Linux gives for them. An error is one of the system that no answer tells, a call that is none, a
+/// table that can't be read, or a want of memory.
 pub fn run(report: &mut Report<'_>) -> Result<()> {
     let rt = report.runtime();
     report.table("files.txt", |alloc, case| answers(rt, alloc, case))

@@ -8,6 +8,9 @@ use sn_device::{MemDevice, SECTOR_SIZE, Sector};
 use sn_table::{Case, Report, number_of, push_number, push_word};
 use std::alloc::{AllocError, Global};
 
+/// Compares the answers of blocks over the device in memory, which fails and crashes as the steps say, with
+/// `blocks.txt`, and what the faults print with `faults.txt`. An error is a step that is none, a table that can't be
+/// read, output that can't be written, or a want of memory.
 pub fn run(report: &mut Report<'_>) -> Result<()> {
     report.table("blocks.txt", steps)?;
     report.table("faults.txt", text_of)

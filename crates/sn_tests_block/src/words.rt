@@ -5,6 +5,7 @@ use sn_block::Block;
 use sn_device::{Fault, Fill, SECTOR_SIZE, Sector};
 use sn_table::{number_of, push_word};
 
+/// The byte that a word spells in hexadecimal, as `a5`. An error where it spells none below 256.
 pub fn byte_of(word: &str) -> Result<u8> {
     u8::from_str_radix(word, 16).context("no byte")
 }
@@ -22,6 +23,8 @@ pub fn push_sectors(bytes: &mut Vec<u8>, word: &str) -> Result<()> {
     Ok(())
 }
 
+/// What a crash leaves of a sector that wasn't synced: `old`, `new`, `zero`, `one`, `junk`, or `seed:N` for what N
+/// draws of each sector. An error for any other word.
 pub fn fill_of(word: &str) -> Result<Fill> {
     match word {
         "old" => Ok(Fill::Old),
@@ -40,6 +43,7 @@ fn seeded(word: &str) -> Result<Fill> {
     }
 }
 
+/// Appends `ok`, or `fault` where the device failed, behind a space unless the text is empty.
 pub fn push_answer(text: &mut String, answer: Result<(), Fault>) -> Result<()> {
     push_word(text, answer_word(answer.is_ok()))
 }
@@ -57,6 +61,7 @@ pub fn push_block(text: &mut String, block: &Block) -> Result<()> {
     Ok(())
 }
 
+/// Appends the first byte of a sector as two digits, and a `~` where another byte of it differs.
 pub fn push_sector(text: &mut String, sector: &[u8]) -> Result<()> {
     let first = sector.first().copied().unwrap_or(0);
     write!(text, "{first:02x}")?;

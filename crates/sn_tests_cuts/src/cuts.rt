@@ -6,13 +6,14 @@
 //! doesn't fit, and makes a root first; so do the mounts, of what they find in the log.
 
 use crate::directories::{ALL, make, present};
-use crate::inheriting::inheriting_device;
+use crate::inheriting::inheriting_disk;
 use anyhow::{Result, bail};
-use sn_device::{Device, Fill, MemDevice};
+use sn_device::Fill;
 use sn_model::MountFault;
-use sn_mounted::{FILLS, Mounted, crashed, remounted};
+use sn_mounted::{Disk, FILLS};
 use sn_table::{Report, Tally};
 use std::alloc::Global;
+use std::ops::Range;
 
 /// The writes of a mount, of the records, and of the root but for its new blocks. Of a record: the directory's body in two
 /// sectors, the gate behind it, and its own gate. Of the root: one that clears the other half of the log, eight of the map, one
@@ -44,26 +45,6 @@ const TWICE: u32 = 60;
 
 const MOUNT_WRITES: u32 = 101;
 
-/// A disk, of which each case has a copy.
-#[derive(Drop)]
-struct Image {
-    bytes: Vec<u8>,
-}
-
-impl Image {
-    fn of(alloc: Global, device: &MemDevice) -> Result<Image> {
-        let mut bytes = Vec::new(alloc);
-        for sector in device.contents() {
-            bytes.extend_from_slice(sector)?;
-        }
-        Ok(Image { bytes })
-    }
-
-    fn copy(&self, alloc: Global) -> Result<MemDevice> {
-        Ok(MemDevice::from_bytes(alloc, self.bytes.as_slice())?)
-    }
-}
-
 /// Where the device fails.
 #[derive(Clone, Copy)]
 enum Cut {
@@ -73,61 +54,106 @@ enum Cut {
     Failure(u32),
 }
 
-fn set(device: &mut MemDevice, cut: Cut) {
+fn cut_at(disk: &mut Disk, cut: Cut) -> Result<()> {
     match cut {
-        Cut::Stop(count) => device.stop_at(u64::from(count)),
-        Cut::Failure(count) => device.fail_at(u64::from(count) + 1),
+        Cut::Stop(count) => disk.stop_at(u64::from(count)),
+        Cut::Failure(count) => disk.fail_behind(count),
     }
 }
 
+/// Compares what crashes leave of lists and of mounts. Calls without an end are an error.
 pub fn run(report: &mut Report<'_>) -> Result<()> {
     let image = first_image(report.alloc())?;
-    let writes = whole(report, &image)?;
-    let tally = lists(report, &image, 0, FILLED)?;
+    run_on(report, image.as_slice())
+}
+
+fn run_on(report: &mut Report<'_>, image: &[u8]) -> Result<()> {
+    let writes = whole(report, image)?;
+    let tally = lists(report, image, 0, FILLED)?;
     report.add("calls cut short", tally)?;
-    let tally = lists(report, &image, FILLS, FILLS + TORN)?;
+    let tally = lists(report, image, FILLS, FILLS + TORN)?;
     report.add("calls cut short that tear sectors", tally)?;
-    let tally = failures(report, &image)?;
+    let tally = failures(report, image)?;
     report.add("calls of which one of the device fails", tally)?;
-    run_mounts(report, &image, writes)
+    run_mounts(report, image, writes)
+}
+
+/// The bytes of a disk, all of them.
+fn image_of(disk: &Disk) -> Result<Vec<u8>> {
+    disk.bytes(0, usize::MAX)
 }
 
 /// The disk of the list: what is made inherits a long ACL, and the log is empty.
-fn first_image(alloc: Global) -> Result<Image> {
-    let mounted = remounted(alloc, inheriting_device(alloc)?)?;
-    Image::of(alloc, &mounted.into_device().crash(Fill::Old))
+fn first_image(alloc: Global) -> Result<Vec<u8>> {
+    let mut disk = inheriting_disk(alloc)?;
+    disk.remount()?;
+    disk.crash(Fill::Old)?;
+    image_of(&disk)
+}
+
+/// What is counted of mounts that are cut short.
+#[derive(Clone, Copy)]
+struct Mounts {
+    filled: Tally,
+    torn: Tally,
+    failed: Tally,
+    twice: Tally,
 }
 
 /// Mounts that are cut short, of what parts of the list left.
-fn run_mounts(report: &mut Report<'_>, image: &Image, writes: u32) -> Result<()> {
-    let (mut filled, mut torn) = (Tally::new(), Tally::new());
-    let (mut failed, mut twice) = (Tally::new(), Tally::new());
+fn run_mounts(report: &mut Report<'_>, image: &[u8], writes: u32) -> Result<()> {
+    let none = Tally::new();
+    let mut mounts = Mounts {
+        filled: none,
+        torn: none,
+        failed: none,
+        twice: none,
+    };
     for part in 0..PARTS + 1 {
-        let stop = stop_of(writes, part);
-        let left = life(report.alloc(), image, Cut::Stop(stop), crash_for(part))?;
-        let left = Image::of(report.alloc(), &left.device)?;
-        mounts(report, &mut filled, &left, 0, FILLED)?;
-        mounts(report, &mut torn, &left, FILLS, FILLS + TORN)?;
-        failed_mounts(report, &mut failed, &left)?;
-        mounts_again(report, &mut twice, &left, part)?;
+        let left = left_of(report.alloc(), image, stop_of(writes, part), part)?;
+        look_at(report, &mut mounts, left.as_slice(), part)?;
     }
-    report.add("mounts cut short", filled)?;
-    report.add("mounts cut short that tear sectors", torn)?;
-    report.add("mounts of which one call of the device fails", failed)?;
-    report.add("mounts cut short twice", twice)
+    report.add("mounts cut short", mounts.filled)?;
+    report.add("mounts cut short that tear sectors", mounts.torn)?;
+    report.add(
+        "mounts of which one call of the device fails",
+        mounts.failed,
+    )?;
+    report.add("mounts cut short twice", mounts.twice)
+}
+
+/// What a part of the list left, behind so many writes.
+fn left_of(alloc: Global, image: &[u8], stop: u32, part: u32) -> Result<Vec<u8>> {
+    let mut disk = Disk::of_bytes(alloc, image)?;
+    live(&mut disk, Cut::Stop(stop), crash_for(part))?;
+    image_of(&disk)
+}
+
+fn look_at(report: &Report<'_>, mounts: &mut Mounts, left: &[u8], part: u32) -> Result<()> {
+    let wanted = found_of(report.alloc(), left)?;
+    mounts_by(report, &mut mounts.filled, left, 0..FILLED, wanted)?;
+    mounts_by(report, &mut mounts.torn, left, FILLS..FILLS + TORN, wanted)?;
+    failed_mounts(report, &mut mounts.failed, left, wanted)?;
+    mounts_again(report, &mut mounts.twice, left, part, wanted)
 }
 
 /// All is made where nothing is cut short, with the writes that the records and the root need. How many these are.
-fn whole(report: &mut Report<'_>, image: &Image) -> Result<u32> {
-    let alloc = report.alloc();
-    let mut mounted = remounted(alloc, image.copy(alloc)?)?;
-    let made = make(alloc, &mut mounted, 0)?;
-    let writes = mounted.into_device().status().writes;
+fn whole(report: &mut Report<'_>, image: &[u8]) -> Result<u32> {
+    let (made, writes) = made_whole(report.alloc(), image)?;
     let mut tally = Tally::new();
     let is_right = made == Some(ALL) && are_right(writes);
     tally.check(report.runtime(), is_right, &[])?;
     report.add("writes of calls that aren't cut short", tally)?;
     Ok((writes % 10_000) as u32)
+}
+
+/// How many were made, and with how many writes.
+fn made_whole(alloc: Global, image: &[u8]) -> Result<(Option<usize>, u64)> {
+    let mut disk = Disk::of_bytes(alloc, image)?;
+    disk.remount()?;
+    let made = make(&mut disk, 0)?;
+    disk.unmount()?;
+    Ok((made, disk.writes()?))
 }
 
 fn are_right(writes: u64) -> bool {
@@ -137,43 +163,38 @@ fn are_right(writes: u64) -> bool {
         && blocks <= MOST_BLOCKS
 }
 
-/// What a crash left of a life, how many directories were acknowledged before, and whether the device failed.
-#[derive(Drop)]
-struct Left {
-    device: MemDevice,
+/// What a life came to: how many directories were acknowledged, where the answers were right, and whether the device failed.
+#[derive(Clone, Copy)]
+struct Life {
     acknowledged: Option<usize>,
     was_cut: bool,
 }
 
 /// Mounts the disk, makes the list until the device fails, and crashes.
-fn life(alloc: Global, image: &Image, cut: Cut, crash: u32) -> Result<Left> {
-    let mut device = image.copy(alloc)?;
-    set(&mut device, cut);
-    match Mounted::new(alloc, device) {
-        Ok(mounted) => making_life(alloc, mounted, crash),
-        Err(unmounted) => {
-            let acknowledged = (unmounted.fault == MountFault::Device).then_some(0);
-            left_by(alloc, unmounted.device, acknowledged, crash)
-        }
-    }
+fn live(disk: &mut Disk, cut: Cut, crash: u32) -> Result<Life> {
+    cut_at(disk, cut)?;
+    let acknowledged = match disk.mount()? {
+        None => make(disk, 0)?,
+        Some(fault) => (fault == MountFault::Device).then_some(0),
+    };
+    end(disk, acknowledged, crash)
 }
 
-fn making_life(alloc: Global, mounted: Mounted, crash: u32) -> Result<Left> {
-    let mut mounted = mounted;
-    let acknowledged = make(alloc, &mut mounted, 0)?;
-    left_by(alloc, mounted.into_device(), acknowledged, crash)
+/// Mounts the disk, asks for nothing, and crashes.
+fn mount_once(disk: &mut Disk, cut: Cut, crash: u32) -> Result<Life> {
+    cut_at(disk, cut)?;
+    let is_right = match disk.mount()? {
+        None => true,
+        Some(fault) => fault == MountFault::Device,
+    };
+    end(disk, is_right.then_some(0), crash)
 }
 
-fn left_by(
-    alloc: Global,
-    device: MemDevice,
-    acknowledged: Option<usize>,
-    crash: u32,
-) -> Result<Left> {
-    let was_cut = device.status().failures > 0;
-    let device = crashed(alloc, device, crash)?;
-    Ok(Left {
-        device,
+fn end(disk: &mut Disk, acknowledged: Option<usize>, crash: u32) -> Result<Life> {
+    disk.unmount()?;
+    let was_cut = disk.has_failed()?;
+    disk.crash_by(crash)?;
+    Ok(Life {
         acknowledged,
         was_cut,
     })
@@ -189,22 +210,17 @@ fn may_follow(acknowledged: Option<usize>, found: Option<usize>) -> bool {
     }
 }
 
-/// How many of the list are on a device that has no fault, where it mounts.
-fn found_on(alloc: Global, device: MemDevice) -> Result<Option<usize>> {
-    match Mounted::new(alloc, device) {
-        Ok(mounted) => found_in(alloc, mounted),
-        Err(_) => Ok(None),
+/// How many of the list are on a disk that has no fault, where it mounts.
+fn found(disk: &mut Disk) -> Result<Option<usize>> {
+    match disk.mount()? {
+        None => present(disk),
+        Some(_) => Ok(None),
     }
 }
 
-fn found_in(alloc: Global, mounted: Mounted) -> Result<Option<usize>> {
-    let mut mounted = mounted;
-    present(alloc, &mut mounted)
-}
-
-/// The same behind one more crash.
-fn found_behind(alloc: Global, device: MemDevice, crash: u32) -> Result<Option<usize>> {
-    found_on(alloc, crashed(alloc, device, crash)?)
+fn found_of(alloc: Global, image: &[u8]) -> Result<Option<usize>> {
+    let mut disk = Disk::of_bytes(alloc, image)?;
+    found(&mut disk)
 }
 
 /// Whether a case was right, and whether the device failed in it.
@@ -215,49 +231,34 @@ struct Outcome {
 }
 
 /// A life that is cut short, a mount of what a crash left, and one more crash.
-fn list_behind(alloc: Global, image: &Image, cut: Cut, crash: u32) -> Result<Outcome> {
-    let Left {
-        device,
-        acknowledged,
-        was_cut,
-    } = life(alloc, image, cut, crash)?;
-    let is_right = match Mounted::new(alloc, device) {
-        Ok(mounted) => is_left_right(alloc, mounted, acknowledged, crash)?,
-        Err(_) => false,
-    };
-    Ok(Outcome { is_right, was_cut })
+fn list_behind(alloc: Global, image: &[u8], cut: Cut, crash: u32) -> Result<Outcome> {
+    let mut disk = Disk::of_bytes(alloc, image)?;
+    list_on(&mut disk, cut, crash)
 }
 
-fn is_left_right(
-    alloc: Global,
-    mounted: Mounted,
-    acknowledged: Option<usize>,
-    crash: u32,
-) -> Result<bool> {
-    let mut mounted = mounted;
-    let found = present(alloc, &mut mounted)?;
-    let is_rest_right = is_rest_right(alloc, mounted.into_device(), found.unwrap_or(0), crash)?;
-    Ok(may_follow(acknowledged, found) && is_rest_right)
+fn list_on(disk: &mut Disk, cut: Cut, crash: u32) -> Result<Outcome> {
+    let life = live(disk, cut, crash)?;
+    let found = found(disk)?;
+    let may_follow = may_follow(life.acknowledged, found);
+    Ok(Outcome {
+        is_right: may_follow && is_rest_right(disk, found.unwrap_or(0), crash)?,
+        was_cut: life.was_cut,
+    })
 }
 
 /// A crash, the rest of the list, and one more crash.
-fn is_rest_right(alloc: Global, device: MemDevice, from: usize, crash: u32) -> Result<bool> {
-    let device = crashed(alloc, device, crash.saturating_add(SECOND))?;
-    match Mounted::new(alloc, device) {
-        Ok(mounted) => is_rest_made(alloc, mounted, from, crash),
-        Err(_) => Ok(false),
+fn is_rest_right(disk: &mut Disk, from: usize, crash: u32) -> Result<bool> {
+    disk.crash_by(crash.saturating_add(SECOND))?;
+    if disk.mount()?.is_some() {
+        return Ok(false);
     }
-}
-
-fn is_rest_made(alloc: Global, mounted: Mounted, from: usize, crash: u32) -> Result<bool> {
-    let mut mounted = mounted;
-    let made = make(alloc, &mut mounted, from)?;
-    let found = found_behind(alloc, mounted.into_device(), crash)?;
-    Ok(made == Some(ALL) && found == Some(ALL))
+    let made = make(disk, from)?;
+    disk.crash_by(crash)?;
+    Ok(made == Some(ALL) && found(disk)? == Some(ALL))
 }
 
 /// The list cut short at each write, with each of these crashes.
-fn lists(report: &Report<'_>, image: &Image, first: u32, end: u32) -> Result<Tally> {
+fn lists(report: &Report<'_>, image: &[u8], first: u32, end: u32) -> Result<Tally> {
     let mut tally = Tally::new();
     for crash in first..end {
         lists_of(report, &mut tally, image, crash)?;
@@ -265,7 +266,7 @@ fn lists(report: &Report<'_>, image: &Image, first: u32, end: u32) -> Result<Tal
     Ok(tally)
 }
 
-fn lists_of(report: &Report<'_>, tally: &mut Tally, image: &Image, crash: u32) -> Result<()> {
+fn lists_of(report: &Report<'_>, tally: &mut Tally, image: &[u8], crash: u32) -> Result<()> {
     for number in 0..MOST_CALLS {
         let outcome = list_behind(report.alloc(), image, Cut::Stop(number), crash)?;
         tally.check(report.runtime(), outcome.is_right, &[number, crash])?;
@@ -286,7 +287,7 @@ fn crash_for(number: u32) -> u32 {
 }
 
 /// The list with each call of the device failing in turn.
-fn failures(report: &Report<'_>, image: &Image) -> Result<Tally> {
+fn failures(report: &Report<'_>, image: &[u8]) -> Result<Tally> {
     let mut tally = Tally::new();
     for number in 0..MOST_CALLS {
         let cut = Cut::Failure(number);
@@ -299,32 +300,20 @@ fn failures(report: &Report<'_>, image: &Image) -> Result<Tally> {
     bail!("there is no end of calls")
 }
 
-/// What is left of a mount that is cut short by a crash, and whether the device failed.
-fn mounted_once(alloc: Global, device: MemDevice, cut: Cut, crash: u32) -> Result<Left> {
-    let mut device = device;
-    set(&mut device, cut);
-    match Mounted::new(alloc, device) {
-        Ok(mounted) => left_by(alloc, mounted.into_device(), Some(0), crash),
-        Err(unmounted) => {
-            let acknowledged = (unmounted.fault == MountFault::Device).then_some(0);
-            left_by(alloc, unmounted.device, acknowledged, crash)
-        }
-    }
-}
-
 /// A mount of what a life left that is cut short: whether as much is found.
 fn mount_between(
     alloc: Global,
-    left: &Image,
+    left: &[u8],
     cut: Cut,
     crash: u32,
     wanted: Option<usize>,
 ) -> Result<Outcome> {
-    let again = mounted_once(alloc, left.copy(alloc)?, cut, crash)?;
-    let found = found_on(alloc, again.device)?;
+    let mut disk = Disk::of_bytes(alloc, left)?;
+    let life = mount_once(&mut disk, cut, crash)?;
+    let found = found(&mut disk)?;
     Ok(Outcome {
-        is_right: again.acknowledged.is_some() && wanted.is_some() && wanted == found,
-        was_cut: again.was_cut,
+        is_right: life.acknowledged.is_some() && wanted.is_some() && wanted == found,
+        was_cut: life.was_cut,
     })
 }
 
@@ -334,15 +323,14 @@ fn stop_of(writes: u32, part: u32) -> u32 {
 }
 
 /// The mounts of what a life left, cut short at each write with each of these crashes.
-fn mounts(
+fn mounts_by(
     report: &Report<'_>,
     tally: &mut Tally,
-    left: &Image,
-    first: u32,
-    end: u32,
+    left: &[u8],
+    crashes: Range<u32>,
+    wanted: Option<usize>,
 ) -> Result<()> {
-    let wanted = found_on(report.alloc(), left.copy(report.alloc())?)?;
-    for crash in first..end {
+    for crash in crashes {
         mounts_of(report, tally, left, crash, wanted)?;
     }
     Ok(())
@@ -351,7 +339,7 @@ fn mounts(
 fn mounts_of(
     report: &Report<'_>,
     tally: &mut Tally,
-    left: &Image,
+    left: &[u8],
     crash: u32,
     wanted: Option<usize>,
 ) -> Result<()> {
@@ -366,12 +354,15 @@ fn mounts_of(
 }
 
 /// The same with each call of the device failing in turn.
-fn failed_mounts(report: &Report<'_>, tally: &mut Tally, left: &Image) -> Result<()> {
-    let alloc = report.alloc();
-    let wanted = found_on(alloc, left.copy(alloc)?)?;
+fn failed_mounts(
+    report: &Report<'_>,
+    tally: &mut Tally,
+    left: &[u8],
+    wanted: Option<usize>,
+) -> Result<()> {
     for again in 0..MOST_CALLS {
         let cut = Cut::Failure(again);
-        let outcome = mount_between(alloc, left, cut, crash_for(again), wanted)?;
+        let outcome = mount_between(report.alloc(), left, cut, crash_for(again), wanted)?;
         tally.check(report.runtime(), outcome.is_right, &[again])?;
         if !outcome.was_cut {
             return Ok(());
@@ -381,8 +372,13 @@ fn failed_mounts(report: &Report<'_>, tally: &mut Tally, left: &Image) -> Result
 }
 
 /// Two mounts of it that are cut short, each with a crash behind it.
-fn mounts_again(report: &Report<'_>, tally: &mut Tally, left: &Image, part: u32) -> Result<()> {
-    let wanted = found_on(report.alloc(), left.copy(report.alloc())?)?;
+fn mounts_again(
+    report: &Report<'_>,
+    tally: &mut Tally,
+    left: &[u8],
+    part: u32,
+    wanted: Option<usize>,
+) -> Result<()> {
     for number in 0..TWICE / PARTS {
         let number = part.saturating_add(number.saturating_mul(PARTS));
         let found = found_behind_two(report.alloc(), left, number)?;
@@ -392,20 +388,11 @@ fn mounts_again(report: &Report<'_>, tally: &mut Tally, left: &Image, part: u32)
     Ok(())
 }
 
-fn found_behind_two(alloc: Global, left: &Image, number: u32) -> Result<Option<usize>> {
-    let once = Cut::Stop(number % MOUNT_WRITES);
-    let again = mounted_once(
-        alloc,
-        left.copy(alloc)?,
-        once,
-        crash_for(number.saturating_add(1)),
-    )?;
-    let twice = Cut::Stop(number / 3 % MOUNT_WRITES);
-    let again = mounted_once(
-        alloc,
-        again.device,
-        twice,
-        crash_for(number.saturating_add(2)),
-    )?;
-    found_on(alloc, again.device)
+fn found_behind_two(alloc: Global, left: &[u8], number: u32) -> Result<Option<usize>> {
+    let mut disk = Disk::of_bytes(alloc, left)?;
+    for (stop, behind) in [(number, 1), (number / 3, 2)] {
+        let cut = Cut::Stop(stop % MOUNT_WRITES);
+        mount_once(&mut disk, cut, crash_for(number.saturating_add(behind)))?;
+    }
+    found(&mut disk)
 }

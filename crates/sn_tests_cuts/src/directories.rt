@@ -1,9 +1,7 @@
 //! A list of directories that is made, and how much of it is there.
 
 use anyhow::Result;
-use sn_model::Reply;
-use sn_mounted::{Mounted, line_of, number_of, stat};
-use std::alloc::Global;
+use sn_mounted::Disk;
 
 /// How many directories are made.
 pub const ALL: usize = 7;
@@ -37,8 +35,8 @@ fn answer_of(line: &str) -> Answer {
     }
 }
 
-fn tried(alloc: Global, mounted: &mut Mounted, path: &str, mode: u16) -> Result<Answer> {
-    let line = mounted.mkdir(alloc, path, mode)?;
+fn tried(disk: &mut Disk, path: &str, mode: u16) -> Result<Answer> {
+    let line = disk.mkdir(path, mode)?;
     Ok(answer_of(line.as_str()))
 }
 
@@ -52,9 +50,9 @@ fn behind_failure(answer: Answer) -> Answer {
 }
 
 /// What the making of a directory answers. Where it fails it is tried once more.
-fn made(alloc: Global, mounted: &mut Mounted, path: &str, mode: u16) -> Result<Answer> {
-    match tried(alloc, mounted, path, mode)? {
-        Answer::Failed => Ok(behind_failure(tried(alloc, mounted, path, mode)?)),
+fn made(disk: &mut Disk, path: &str, mode: u16) -> Result<Answer> {
+    match tried(disk, path, mode)? {
+        Answer::Failed => Ok(behind_failure(tried(disk, path, mode)?)),
         answer => Ok(answer),
     }
 }
@@ -102,14 +100,14 @@ impl Progress {
 
 /// Logs in, and makes the directories from a place of the list on. How many of the list are there then
 /// that were acknowledged, where the answers are right.
-pub fn make(alloc: Global, mounted: &mut Mounted, from: usize) -> Result<Option<usize>> {
-    mounted.login(alloc)?;
+pub fn make(disk: &mut Disk, from: usize) -> Result<Option<usize>> {
+    disk.login()?;
     let mut progress = Progress {
         count: from,
         has_ended: false,
     };
     for (path, mode, _status) in DIRECTORIES.iter().skip(from) {
-        match progress.behind(made(alloc, mounted, path, *mode)?) {
+        match progress.behind(made(disk, path, *mode)?) {
             Some(next) => progress = next,
             None => return Ok(None),
         }
@@ -135,27 +133,16 @@ fn found_in(line: &str, status: &str, is_numbered: bool) -> Found {
     }
 }
 
-fn found_by(alloc: Global, reply: &Reply, number: u16, status: &str) -> Result<Found> {
-    let line = line_of(alloc, reply)?;
-    let is_numbered = number_of(reply) == Some(number);
+fn looked_at(disk: &mut Disk, path: &str, number: u16, status: &str) -> Result<Found> {
+    let is_numbered = disk.number(path)? == Some(number);
+    let line = disk.stat(path)?;
     Ok(found_in(line.as_str(), status, is_numbered))
-}
-
-fn looked_at(
-    alloc: Global,
-    mounted: &mut Mounted,
-    path: &str,
-    number: u16,
-    status: &str,
-) -> Result<Found> {
-    let reply = mounted.call(0, &stat(alloc, path)?);
-    found_by(alloc, &reply, number, status)
 }
 
 /// Logs in, and asks for each directory. How many of the list are there, where these are the first of
 /// it, each as it was made, and of the others there is none.
-pub fn present(alloc: Global, mounted: &mut Mounted) -> Result<Option<usize>> {
-    mounted.login(alloc)?;
+pub fn present(disk: &mut Disk) -> Result<Option<usize>> {
+    disk.login()?;
     let mut progress = Progress {
         count: 0,
         has_ended: false,
@@ -163,7 +150,7 @@ pub fn present(alloc: Global, mounted: &mut Mounted) -> Result<Option<usize>> {
     for (at, (path, _mode, status)) in DIRECTORIES.iter().enumerate() {
         // The first of them has the number 3.
         let number = 3 + (at % 100) as u16;
-        match progress.at(looked_at(alloc, mounted, path, number, status)?) {
+        match progress.at(looked_at(disk, path, number, status)?) {
             Some(next) => progress = next,
             None => return Ok(None),
         }

@@ -3,9 +3,9 @@
 //! Its log has one record, by which the root directory has that ACL. The bytes are those of
 //! docs/FORMAT.md.
 
-use anyhow::{Result, ensure};
-use sn_device::{Device, Fill, MemDevice, SECTOR_SIZE, Sector};
-use sn_mounted::least_device;
+use anyhow::Result;
+use sn_device::{Fill, SECTOR_SIZE, Sector};
+use sn_mounted::Disk;
 use std::alloc::Global;
 
 /// The first place of the log of epoch 1.
@@ -54,16 +54,15 @@ fn gate() -> Sector {
     gate
 }
 
-fn put(device: &mut MemDevice, at: u64, sector: &Sector) -> Result<()> {
-    ensure!(at < device.sectors(), "a smaller device");
-    let is_written = device.write(at, sector).is_ok();
-    ensure!(is_written, "no memory for a write");
-    Ok(())
+/// The disk, which isn't mounted, and on which nothing is unsynced. Too little memory is an error.
+pub fn inheriting_disk(alloc: Global) -> Result<Disk> {
+    let mut disk = Disk::least(alloc)?;
+    put_record(&mut disk)?;
+    Ok(disk)
 }
 
-pub fn inheriting_device(alloc: Global) -> Result<MemDevice> {
-    let mut device = least_device(alloc)?;
-    put(&mut device, GATE, &gate())?;
-    put(&mut device, GATE + 1, &body())?;
-    Ok(device.crash(Fill::New))
+fn put_record(disk: &mut Disk) -> Result<()> {
+    disk.write(GATE, &gate())?;
+    disk.write(GATE + 1, &body())?;
+    disk.crash(Fill::New)
 }

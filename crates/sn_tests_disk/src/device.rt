@@ -6,6 +6,9 @@ use sn_device::{Device, Fill, MemDevice, SECTOR_SIZE, Sector};
 use sn_table::{Case, Report, Tally};
 use std::alloc::Global;
 
+/// Compares the answers of the device in memory with `device.txt`, whose answers are by hand, and looks whether the
+/// journal that stands here keeps its body through a crash and wipes its sectors. An error is a step that is none, a
+/// table that can't be read, output that can't be written, or a want of memory.
 pub fn run(report: &mut Report<'_>) -> Result<()> {
     report.table("device.txt", steps)?;
     let journal = journal_cases(report)?;

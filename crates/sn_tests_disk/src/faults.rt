@@ -29,6 +29,9 @@ const READS: u32 = 24;
 // A sync, the reads, and in parts the gate, the log, the body, the log and the gate, each with a sync.
 const CALLS: u32 = 1 + READS + 2 + 2 + 9 + 2 + 2;
 
+/// Fails each read of a search for the newest root, and each call of a root's replacement, in turn: a failed read is
+/// told and the next search finds the root; behind a failed call and a crash the old root is there or the new one, and
+/// another point follows. An error is an answer that the tests can't go on from, or a want of memory.
 pub fn run(report: &mut Report<'_>) -> Result<()> {
     let reads = reads(report)?;
     report.add("a failure at each read", reads)?;

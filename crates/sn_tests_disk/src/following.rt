@@ -27,6 +27,8 @@ fn root_in(case: Case<'_>) -> Result<RootBody> {
     Ok(root)
 }
 
+/// What a case of `following.txt` comes to: `GENERATION EPOCH` of the next root and whether its tree is the same, or
+/// `none` past the last age. An error where the case has no ages below 2^64 or no kind.
 pub fn following(alloc: Global, case: Case<'_>) -> Result<String> {
     let kind = kind_of(case.word(2)?)?;
     let root = root_in(case)?;

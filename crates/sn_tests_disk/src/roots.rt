@@ -73,6 +73,7 @@ pub fn disk_of(alloc: Global, image: &[u8]) -> Result<Blocks<MemDevice>> {
     blocks_of(alloc, MemDevice::from_bytes(alloc, image)?)
 }
 
+/// The blocks of a device, none of them read yet. An error where there is no memory to keep one.
 pub fn blocks_of(alloc: Global, device: MemDevice) -> Result<Blocks<MemDevice>> {
     Ok(Blocks::new(alloc, device).map_err(AllocError::from)?)
 }

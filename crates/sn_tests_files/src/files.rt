@@ -14,6 +14,9 @@ const NAMES: [&str; 2] = ["a.image", "b.image"];
 
 type FileDevices = Vec<FileDevice<Opened>>;
 
+/// Compares what comes of opening, locking, making and saving files in the current folder with `files.txt`, which
+/// follows from flock(2), open(2) and the head of sn_filedev. Each case's files are removed behind it. An error is one
+/// of the system that no answer tells, a step that is none, a table that can't be read, or a want of memory.
 pub fn run(report: &mut Report<'_>) -> Result<()> {
     let rt = report.runtime();
     report.table("files.txt", |alloc, case| answers(rt, alloc, case))

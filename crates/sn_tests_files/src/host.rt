@@ -17,6 +17,7 @@ pub struct Host<'a> {
 }
 
 impl<'a> Host<'a> {
+    /// The files of the system, of which no sync fails by itself until `fail` is called.
     pub fn new(rt: &'a HostRuntime) -> Self {
         Host {
             rt,

@@ -9,6 +9,8 @@ use std::alloc::Global;
 /// What a block holds before it is written whole.
 pub const DIRTY: Block = [0xa5; BLOCK_SIZE];
 
+/// The block whose runs of bytes a case spells, with zeros elsewhere. An error where a word is no run, or a run goes
+/// past the 4,096 bytes.
 pub fn block_of(alloc: Global, words: &str) -> Result<Block> {
     let mut block = [0; BLOCK_SIZE];
     fill(alloc, &mut block, words)?;

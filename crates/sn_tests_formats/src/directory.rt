@@ -9,6 +9,8 @@ use sn_table::Case;
 use std::alloc::Global;
 use std::str;
 
+/// The entries of the block that a case spells, each as `NUMBER NAME, `, and `end`; or `refused` where it is no
+/// directory block. An error where a name isn't text.
 pub fn directory_block(alloc: Global, case: Case<'_>) -> Result<String> {
     let block = block_of(alloc, case.text())?;
     match DirectoryBlock::decode(&block) {

@@ -24,6 +24,8 @@ fn refused(alloc: Global) -> Result<String> {
     Ok(String::from_str(alloc, "refused")?)
 }
 
+/// How many blocks the superblock that a case spells tells of, or `refused` where it is none. An error where it isn't
+/// encoded again as it stood there.
 pub fn superblock(alloc: Global, case: Case<'_>) -> Result<String> {
     let block = block_of(alloc, case.text())?;
     let Some(superblock) = Superblock::decode(&block) else {
@@ -36,6 +38,8 @@ pub fn superblock(alloc: Global, case: Case<'_>) -> Result<String> {
     Ok(format!(in alloc; "{blocks} blocks")?)
 }
 
+/// The version, ages, inode file and snapshots of the root body that a case spells, or `refused` where it is none. An
+/// error where it isn't encoded again as it stood there.
 pub fn root_body(alloc: Global, case: Case<'_>) -> Result<String> {
     let block = block_of(alloc, case.text())?;
     let Some(body) = RootBody::decode(&block) else {
@@ -117,6 +121,7 @@ fn range_of(alloc: Global, places: &Places, area: Area) -> Result<String> {
     Ok(format!(in alloc; "{first} to {last}")?)
 }
 
+/// The word of a case as the name of a snapshot, or `refused` where it is none.
 pub fn snapshot_name(alloc: Global, case: Case<'_>) -> Result<String> {
     let word = case.bytes(alloc)?;
     match SnapshotName::parse(word.as_slice()) {

@@ -38,10 +38,12 @@ pub enum Ending {
     Failed,
 }
 
+/// The places of the disk that all cases of the log have, of `BLOCKS` blocks.
 pub fn places() -> Result<Places> {
     Places::new(BLOCKS).context("no disk of so many blocks")
 }
 
+/// The blocks of a device, none of them read yet. An error where there is no memory to keep one.
 pub fn blocks_of(alloc: Global, device: MemDevice) -> Result<Blocks<MemDevice>> {
     Ok(Blocks::new(alloc, device).map_err(AllocError::from)?)
 }

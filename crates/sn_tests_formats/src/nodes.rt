@@ -9,6 +9,8 @@ use sn_table::Case;
 use std::alloc::Global;
 use std::str;
 
+/// What the inode record that a case spells says, `unused` where it is none in use, or `refused` where it is no record.
+/// An error where it isn't encoded again as it stood there, or its inline bytes aren't text.
 pub fn record(alloc: Global, case: Case<'_>) -> Result<String> {
     let mut bytes = [0; INODE_SIZE];
     fill(alloc, &mut bytes, case.text())?;
@@ -46,6 +48,7 @@ fn push_inode(text: &mut String, inode: &Inode) -> Result<()> {
     Ok(write!(text, ", ACL block {acl_block}, size {size}")?)
 }
 
+/// The word that the tables have for a kind: `file` or `directory`.
 pub fn kind_word(kind: Kind) -> &'static str {
     match kind {
         Kind::File => "file",

@@ -26,6 +26,8 @@ fn push_words(case: Case<'_>, digits: &mut String) -> Result<()> {
     Ok(())
 }
 
+/// The change that the payload of a case spells, in words, or `refused` where it spells none. An error where the change
+/// isn't put as it stood there, or has a name or bytes that aren't text.
 pub fn payload(alloc: Global, case: Case<'_>) -> Result<String> {
     let bytes = bytes_of(alloc, case)?;
     spelled(alloc, bytes.as_slice())

@@ -2,12 +2,12 @@
 //!
 //! What is wanted is a tree, the same at the next mount, or the block of the half that is damaged.
 
-use anyhow::{Result, ensure};
+use anyhow::Result;
 use rand_core::Rng;
 use rand_pcg::Pcg32;
-use sn_device::{Device, Fill, MemDevice, SECTOR_SIZE, Sector};
+use sn_device::{Fill, SECTOR_SIZE, Sector};
 use sn_model::{Damage, MountFault};
-use sn_mounted::{Mounted, new_device, remounted};
+use sn_mounted::Disk;
 use sn_table::{Report, Tally};
 use std::alloc::Global;
 
@@ -29,6 +29,7 @@ struct Ending {
     is_right: bool,
 }
 
+/// Compares what two mounts of each half find. A mount that fails where nothing was changed is an error.
 pub fn run(report: &mut Report<'_>) -> Result<()> {
     let mut trees = Tally::new();
     let mut damaged = Tally::new();
@@ -41,7 +42,7 @@ fn halves(report: &Report<'_>, trees: &mut Tally, damaged: &mut Tally) -> Result
     let rt = report.runtime();
     let mut random = Pcg32::new(1, 0);
     for half in 0..HALVES {
-        let ending = mounted_twice(report.alloc(), &mut random)?;
+        let ending = ending_of(report.alloc(), &mut random)?;
         if ending.is_tree {
             trees.check(rt, ending.is_right, &[half])?;
         } else {
@@ -52,51 +53,43 @@ fn halves(report: &Report<'_>, trees: &mut Tally, damaged: &mut Tally) -> Result
 }
 
 /// What a half that is drawn comes to at two mounts.
-fn mounted_twice(alloc: Global, random: &mut Pcg32) -> Result<Ending> {
-    let device = drawn(alloc, random)?;
-    match Mounted::new(alloc, device) {
-        Ok(mounted) => Ok(Ending {
+fn ending_of(alloc: Global, random: &mut Pcg32) -> Result<Ending> {
+    let mut disk = Disk::large(alloc)?;
+    draw(&mut disk, random)?;
+    mounted_twice(alloc, &mut disk)
+}
+
+fn mounted_twice(alloc: Global, disk: &mut Disk) -> Result<Ending> {
+    match disk.mount()? {
+        None => Ok(Ending {
             is_tree: true,
-            is_right: is_tree_kept(alloc, mounted)?,
+            is_right: is_tree_kept(alloc, disk)?,
         }),
-        Err(unmounted) => Ok(Ending {
+        Some(fault) => Ok(Ending {
             is_tree: false,
-            is_right: is_damaged_again(alloc, unmounted.device, unmounted.fault),
+            is_right: is_of_half(fault) && is_damaged_again(disk, fault)?,
         }),
     }
 }
 
-fn drawn(alloc: Global, random: &mut Pcg32) -> Result<MemDevice> {
-    let mut device = filled(alloc, random)?;
-    change_some(&mut device, random)?;
-    Ok(device.crash(Fill::New))
+fn is_tree_kept(alloc: Global, disk: &mut Disk) -> Result<bool> {
+    let told = told(alloc, disk)?;
+    disk.crash(Fill::Old)?;
+    is_tree_again(alloc, disk, told.as_str())
 }
 
-fn is_tree_kept(alloc: Global, mounted: Mounted) -> Result<bool> {
-    let mut mounted = mounted;
-    let told = told(alloc, &mut mounted)?;
-    is_tree_again(alloc, mounted.into_device(), told.as_str())
-}
-
-fn is_tree_again(alloc: Global, device: MemDevice, told: &str) -> Result<bool> {
-    match Mounted::new(alloc, device.crash(Fill::Old)) {
-        Ok(mounted) => is_told_by(alloc, mounted, told),
-        Err(_) => Ok(false),
+fn is_tree_again(alloc: Global, disk: &mut Disk, wanted: &str) -> Result<bool> {
+    if disk.mount()?.is_some() {
+        return Ok(false);
     }
-}
-
-fn is_told_by(alloc: Global, mounted: Mounted, wanted: &str) -> Result<bool> {
-    let mut mounted = mounted;
-    let told = told(alloc, &mut mounted)?;
+    let told = told(alloc, disk)?;
     Ok(told.as_str() == wanted)
 }
 
-/// Whether a fault is that of a damage in the half, and comes again.
-fn is_damaged_again(alloc: Global, device: MemDevice, fault: MountFault) -> bool {
-    match Mounted::new(alloc, device.crash(Fill::Old)) {
-        Ok(_) => false,
-        Err(unmounted) => is_of_half(fault) && unmounted.fault == fault,
-    }
+/// Whether a fault comes again.
+fn is_damaged_again(disk: &mut Disk, fault: MountFault) -> Result<bool> {
+    disk.crash(Fill::Old)?;
+    Ok(disk.mount()? == Some(fault))
 }
 
 fn is_of_half(fault: MountFault) -> bool {
@@ -110,19 +103,18 @@ fn is_of_half(fault: MountFault) -> bool {
 }
 
 /// What is told of each directory that may be there.
-fn told(alloc: Global, mounted: &mut Mounted) -> Result<String> {
+fn told(alloc: Global, disk: &mut Disk) -> Result<String> {
+    disk.login()?;
     let mut lines = String::new(alloc);
-    mounted.login(alloc)?;
-    push_told(alloc, mounted, &mut lines)?;
+    for path in &PATHS {
+        push_told(disk, path, &mut lines)?;
+    }
     Ok(lines)
 }
 
-fn push_told(alloc: Global, mounted: &mut Mounted, lines: &mut String) -> Result<()> {
-    for path in &PATHS {
-        let line = mounted.stat(alloc, path)?;
-        lines.push_str(line.as_str())?;
-    }
-    Ok(())
+fn push_told(disk: &mut Disk, path: &str, lines: &mut String) -> Result<()> {
+    let line = disk.stat(path)?;
+    Ok(lines.push_str(line.as_str())?)
 }
 
 /// One of the four, or one in them.
@@ -135,19 +127,16 @@ fn path(random: &mut Pcg32) -> &'static str {
     PATHS[at as usize]
 }
 
-/// A device with a log of drawn directories. Some calls are refused, and leave no record.
-fn filled(alloc: Global, random: &mut Pcg32) -> Result<MemDevice> {
-    let mut mounted = remounted(alloc, new_device(alloc)?)?;
-    mounted.login(alloc)?;
-    make_some(alloc, &mut mounted, random)?;
-    Ok(mounted.into_device())
-}
-
-fn make_some(alloc: Global, mounted: &mut Mounted, random: &mut Pcg32) -> Result<()> {
+/// Makes drawn directories, and changes some of the log. Some calls are refused, and leave no record.
+fn draw(disk: &mut Disk, random: &mut Pcg32) -> Result<()> {
+    disk.remount()?;
+    disk.login()?;
     for _ in 0..random.next_u32() % 20 {
-        mounted.mkdir(alloc, path(random), 0o755)?;
+        disk.mkdir(path(random), 0o755)?;
     }
-    Ok(())
+    disk.unmount()?;
+    change_some(disk, random)?;
+    disk.crash(Fill::New)
 }
 
 /// A place of the half, more often than not one of the first.
@@ -160,23 +149,18 @@ fn some_place(random: &mut Pcg32) -> u32 {
 }
 
 /// Draws a few sectors of the half, and in each of them a byte of its head, or all of them.
-fn change_some(device: &mut MemDevice, random: &mut Pcg32) -> Result<()> {
+fn change_some(disk: &mut Disk, random: &mut Pcg32) -> Result<()> {
     for _ in 0..random.next_u32() % 4 {
         let at = FIRST + u64::from(some_place(random));
-        change_sector(device, at, random)?;
+        change_sector(disk, at, random)?;
     }
     Ok(())
 }
 
-fn change_sector(device: &mut MemDevice, at: u64, random: &mut Pcg32) -> Result<()> {
-    let mut sector = [0; SECTOR_SIZE];
-    ensure!(at < device.sectors(), "no such sector");
-    let is_read = device.read(at, &mut sector).is_ok();
+fn change_sector(disk: &mut Disk, at: u64, random: &mut Pcg32) -> Result<()> {
+    let mut sector = disk.read(at)?;
     change(&mut sector, random);
-    ensure!(at < device.sectors(), "no such sector");
-    let is_written = device.write(at, &sector).is_ok();
-    ensure!(is_read && is_written, "a device without a fault");
-    Ok(())
+    disk.write(at, &sector)
 }
 
 fn change(sector: &mut Sector, random: &mut Pcg32) {

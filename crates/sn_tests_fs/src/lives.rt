@@ -1,16 +1,17 @@
-//! The table of lives that a crash cuts short.
+//! Crashes at each write of a mount and a mkdir.
 
 use anyhow::{Context, Result, bail};
-use sn_device::{Fill, MemDevice};
-use sn_model::Call;
-use sn_mounted::{Mounted, least_device, login, mkdir, remounted, stat};
+use sn_device::Fill;
+use sn_mounted::Disk;
 use sn_table::{Case, Report};
 use std::alloc::Global;
 
+/// Compares what lives answer and leave. A word of the table that is no life is an error.
 pub fn run(report: &mut Report<'_>) -> Result<()> {
     report.table("stops.txt", stops)
 }
 
+/// The fill of its word; any other word is an error.
 pub fn fill_of(word: &str) -> Result<Fill> {
     Ok(match word {
         "old" => Fill::Old,
@@ -30,86 +31,65 @@ struct Life {
 }
 
 fn life_of(word: &str) -> Result<Life> {
-    let (stop, fill) = word
-        .split_once(':')
-        .context(format_args!("no fill in: {word}"))?;
-    let stop = stop.parse().context("a number")?;
-    let fill = fill_of(fill)?;
-    Ok(Life { stop, fill })
+    let (stop, fill) = word.split_once(':').context("no fill of a life")?;
+    Ok(Life {
+        stop: stop.parse()?,
+        fill: fill_of(fill)?,
+    })
 }
 
 /// What the first life answers, and what is found in the end.
 fn stops(alloc: Global, case: Case<'_>) -> Result<String> {
+    let mut disk = Disk::least(alloc)?;
+    told(alloc, &mut disk, case)
+}
+
+fn told(alloc: Global, disk: &mut Disk, case: Case<'_>) -> Result<String> {
     let mut text = String::new(alloc);
-    push_lives(alloc, case.text(), &mut text)?;
+    push_lives(disk, case.text(), &mut text)?;
     Ok(text)
 }
 
-fn push_lives(alloc: Global, lives: &str, text: &mut String) -> Result<()> {
-    let mut lives = lives.split_ascii_whitespace();
-    let first = life_of(lives.next().context("no life")?)?;
-    let mut device = first_life(alloc, first, text)?;
-    for word in lives {
-        device = later_life(alloc, device, life_of(word)?);
+fn push_lives(disk: &mut Disk, lives: &str, text: &mut String) -> Result<()> {
+    for (number, word) in lives.split_ascii_whitespace().enumerate() {
+        push_life(disk, life_of(word)?, number == 0, text)?;
     }
-    push_found(alloc, device, text)
+    push_found(disk, text)
 }
 
-fn first_life(alloc: Global, life: Life, text: &mut String) -> Result<MemDevice> {
-    let mut device = least_device(alloc)?;
-    device.stop_at(life.stop);
-    let device = push_first(alloc, device, text)?;
-    Ok(device.crash(life.fill))
+fn push_life(disk: &mut Disk, life: Life, is_first: bool, text: &mut String) -> Result<()> {
+    disk.stop_at(life.stop)?;
+    push_mount(disk, is_first, text)?;
+    disk.crash(life.fill)
 }
 
-/// Mounts a device, and asks for `/x`.
-fn push_first(alloc: Global, device: MemDevice, text: &mut String) -> Result<MemDevice> {
-    match Mounted::new(alloc, device) {
-        Ok(mounted) => push_answers(alloc, mounted, text),
-        Err(unmounted) => {
-            text.push_str("unmounted, ")?;
-            Ok(unmounted.device)
-        }
+/// Mounts the disk, and asks for `/x` in the first life. Of a later mount nothing is asked.
+fn push_mount(disk: &mut Disk, is_first: bool, text: &mut String) -> Result<()> {
+    match (disk.mount()?, is_first) {
+        (_, false) => Ok(()),
+        (Some(_), true) => Ok(text.push_str("unmounted, ")?),
+        (None, true) => push_first(disk, text),
     }
 }
 
 /// The answers to a login and the making of `/x`.
-fn push_answers(alloc: Global, mounted: Mounted, text: &mut String) -> Result<MemDevice> {
-    let mut mounted = mounted;
-    push_told(alloc, &mut mounted, &login(alloc)?, text)?;
-    text.push_str(", ")?;
-    push_told(alloc, &mut mounted, &mkdir(alloc, "/x", 0o755)?, text)?;
-    text.push_str(", ")?;
-    Ok(mounted.into_device())
-}
-
-fn push_told(alloc: Global, mounted: &mut Mounted, call: &Call, text: &mut String) -> Result<()> {
-    let line = mounted.told(alloc, call)?;
-    push_text(text, line.as_str())
-}
-
-/// A line without its end.
-fn push_text(text: &mut String, line: &str) -> Result<()> {
-    for part in line.lines() {
-        text.push_str(part)?;
+fn push_first(disk: &mut Disk, text: &mut String) -> Result<()> {
+    for line in ["0 login 0 0 -", "0 mkdir /x 0755"] {
+        push_told(disk, line, text)?;
+        text.push_str(", ")?;
     }
     Ok(())
 }
 
-/// A mount that nothing is asked of.
-fn later_life(alloc: Global, device: MemDevice, life: Life) -> MemDevice {
-    let mut device = device;
-    device.stop_at(life.stop);
-    let device = match Mounted::new(alloc, device) {
-        Ok(mounted) => mounted.into_device(),
-        Err(unmounted) => unmounted.device,
-    };
-    device.crash(life.fill)
+/// The answer to a line, without its end.
+fn push_told(disk: &mut Disk, line: &str, text: &mut String) -> Result<()> {
+    let told = disk.ask(line)?;
+    Ok(text.push_str(told.as_str().trim_end())?)
 }
 
-/// Whether `/x` is on a device.
-fn push_found(alloc: Global, device: MemDevice, text: &mut String) -> Result<()> {
-    let mut mounted = remounted(alloc, device)?;
-    mounted.login(alloc)?;
-    push_told(alloc, &mut mounted, &stat(alloc, "/x")?, text)
+/// Whether `/x` is on a disk.
+fn push_found(disk: &mut Disk, text: &mut String) -> Result<()> {
+    disk.remount()?;
+    disk.login()?;
+    push_told(disk, "0 stat /x", text)
 }

@@ -1,9 +1,9 @@
-//! Devices of too few sectors, a log that fills several times over, and a disk that is full.
+//! Disks of too few sectors, a log that fills several times over, and a disk that is full.
+
 use anyhow::Result;
-use sn_device::{Fill, MemDevice};
-use sn_mkfs::mkfs;
-use sn_model::{MountFault, Reply};
-use sn_mounted::{Mounted, least_device, line_of, mkdir, new_device, number_of, remounted, stat};
+use sn_device::Fill;
+use sn_model::MountFault;
+use sn_mounted::Disk;
 use sn_table::{Report, Tally};
 use std::alloc::Global;
 
@@ -23,6 +23,7 @@ const FIRST_BEHIND: u32 = 125;
 /// names in the root directory, and 96 of the names in others. The next of them takes one more.
 const FULL: u32 = 194;
 
+/// Compares what mounts of disks of several sizes say, and what is on disks that are filled.
 pub fn run(report: &mut Report<'_>) -> Result<()> {
     let tally = sizes(report)?;
     report.add("devices by their size", tally)?;
@@ -44,58 +45,70 @@ fn sizes(report: &Report<'_>) -> Result<Tally> {
 
 /// The fault of a mount of so many sectors, which are formatted where they are enough for a disk.
 fn fault_of(alloc: Global, sectors: u32) -> Result<Option<MountFault>> {
-    let device = match mkfs(alloc, MemDevice::new(alloc, u64::from(sectors))?, BLOCKS) {
-        Ok(device) => device,
-        Err(unformatted) => unformatted.device,
-    };
-    match Mounted::new(alloc, device) {
-        Ok(_) => Ok(None),
-        Err(unmounted) => Ok(Some(unmounted.fault)),
-    }
+    let mut disk = Disk::formatted(alloc, sectors, BLOCKS)?;
+    disk.mount()
 }
 
 /// Each of so many directories is made, and is there behind a crash with its number; and so is one more.
 fn directories(report: &Report<'_>) -> Result<Tally> {
-    let alloc = report.alloc();
+    let mut disk = Disk::large(report.alloc())?;
+    directories_on(report, &mut disk)
+}
+
+fn directories_on(report: &Report<'_>, disk: &mut Disk) -> Result<Tally> {
     let mut tally = Tally::new();
-    let mut mounted = remounted(alloc, new_device(alloc)?)?;
-    mounted.login(alloc)?;
-    for line in ["0 open /f wc 0600", "0 unlink /f", "0 close 0"] {
-        mounted.asked(alloc, line)?;
-    }
-    fill(report, &mut tally, &mut mounted)?;
-    let mut mounted = remounted(alloc, mounted.into_device().crash(Fill::Junk))?;
-    find(report, &mut tally, &mut mounted)?;
+    make_and_drop(disk)?;
+    make_all(report, &mut tally, disk)?;
+    disk.crash(Fill::Junk)?;
+    find_all(report, &mut tally, disk)?;
     Ok(tally)
+}
+
+/// Mounts the disk, and makes a file whose number is kept back.
+fn make_and_drop(disk: &mut Disk) -> Result<()> {
+    disk.remount()?;
+    disk.login()?;
+    for line in ["0 open /f wc 0600", "0 unlink /f", "0 close 0"] {
+        disk.ask(line)?;
+    }
+    Ok(())
+}
+
+fn make_all(report: &Report<'_>, tally: &mut Tally, disk: &mut Disk) -> Result<()> {
+    for number in 0..MADE {
+        let is_right = is_made(report.alloc(), disk, number)?;
+        tally.check(report.runtime(), is_right, &[number])?;
+    }
+    Ok(())
+}
+
+fn find_all(report: &Report<'_>, tally: &mut Tally, disk: &mut Disk) -> Result<()> {
+    disk.remount()?;
+    disk.login()?;
+    for number in 0..MADE + 1 {
+        let is_right = if number < MADE {
+            is_there(report.alloc(), disk, number)?
+        } else {
+            is_made(report.alloc(), disk, number)?
+        };
+        tally.check(report.runtime(), is_right, &[number])?;
+    }
+    Ok(())
 }
 
 fn path_of(alloc: Global, number: u32) -> Result<String> {
     Ok(format!(in alloc; "/{number}")?)
 }
 
-fn fill(report: &Report<'_>, tally: &mut Tally, mounted: &mut Mounted) -> Result<()> {
-    let alloc = report.alloc();
-    for number in 0..MADE {
-        let is_right = is_made(alloc, mounted, path_of(alloc, number)?.as_str())?;
-        tally.check(report.runtime(), is_right, &[number])?;
-    }
-    Ok(())
+fn is_made(alloc: Global, disk: &mut Disk, number: u32) -> Result<bool> {
+    let path = path_of(alloc, number)?;
+    is_answered(disk, path.as_str(), "ok\n")
 }
 
-fn find(report: &Report<'_>, tally: &mut Tally, mounted: &mut Mounted) -> Result<()> {
-    let alloc = report.alloc();
-    mounted.login(alloc)?;
-    for number in 0..MADE {
-        let is_right = is_numbered(alloc, mounted, number)?;
-        tally.check(report.runtime(), is_right, &[number])?;
-    }
-    let is_right = is_made(alloc, mounted, path_of(alloc, MADE)?.as_str())?;
-    tally.check(report.runtime(), is_right, &[MADE])?;
-    Ok(())
-}
-
-fn is_made(alloc: Global, mounted: &mut Mounted, path: &str) -> Result<bool> {
-    mounted.is_told(alloc, &mkdir(alloc, path, 0o755)?, "ok\n")
+/// Whether the making of a directory is answered so.
+fn is_answered(disk: &mut Disk, path: &str, wanted: &str) -> Result<bool> {
+    let told = disk.mkdir(path, 0o755)?;
+    Ok(told.as_str() == wanted)
 }
 
 /// The number of a directory: 3 is that of the file until the half is full.
@@ -110,30 +123,33 @@ fn wanted_number(number: u32) -> u32 {
 }
 
 /// Whether a directory is there, with its number.
-fn is_numbered(alloc: Global, mounted: &mut Mounted, number: u32) -> Result<bool> {
+fn is_there(alloc: Global, disk: &mut Disk, number: u32) -> Result<bool> {
     let path = path_of(alloc, number)?;
-    let reply = mounted.call(0, &stat(alloc, path.as_str())?);
-    is_status(alloc, &reply, wanted_number(number))
+    is_numbered(disk, path.as_str(), wanted_number(number))
 }
 
-fn is_status(alloc: Global, reply: &Reply, number: u32) -> Result<bool> {
-    let line = line_of(alloc, reply)?;
-    let is_numbered = number_of(reply).map(u32::from) == Some(number);
-    Ok(is_numbered && line.as_str() == "ok d 0755 1 0 0 0\n")
+fn is_numbered(disk: &mut Disk, path: &str, number: u32) -> Result<bool> {
+    if disk.number(path)?.map(u32::from) != Some(number) {
+        return Ok(false);
+    }
+    let told = disk.stat(path)?;
+    Ok(told.as_str() == "ok d 0755 1 0 0 0\n")
 }
 
 /// Directories up to the last that the disk takes, and those that it doesn't take any more, also behind a crash. Where two of
 /// them go, two others are made.
 fn full_disk(report: &Report<'_>) -> Result<Tally> {
-    let alloc = report.alloc();
+    let mut disk = Disk::least(report.alloc())?;
+    full_disk_on(report, &mut disk)
+}
+
+fn full_disk_on(report: &Report<'_>, disk: &mut Disk) -> Result<Tally> {
     let mut tally = Tally::new();
-    let mut mounted = remounted(alloc, least_device(alloc)?)?;
-    fill_up(report, &mut tally, &mut mounted, 0)?;
-    let mut mounted = remounted(alloc, mounted.into_device().crash(Fill::One))?;
-    fill_up(report, &mut tally, &mut mounted, FULL)?;
+    fill_up(report, &mut tally, disk, 0)?;
+    disk.crash(Fill::One)?;
+    fill_up(report, &mut tally, disk, FULL)?;
     for round in 0..3 {
-        let is_right = is_replaced(alloc, &mut mounted)?;
-        tally.check(report.runtime(), is_right, &[round])?;
+        tally.check(report.runtime(), is_replaced(disk)?, &[round])?;
     }
     Ok(tally)
 }
@@ -148,25 +164,29 @@ fn nested_path(alloc: Global, number: u32) -> Result<String> {
     }
 }
 
-/// Makes those from one on, of which the last two aren't taken.
-fn fill_up(report: &Report<'_>, tally: &mut Tally, mounted: &mut Mounted, from: u32) -> Result<()> {
-    let alloc = report.alloc();
-    mounted.login(alloc)?;
+/// Mounts the disk, and makes those from one on, of which the last two aren't taken.
+fn fill_up(report: &Report<'_>, tally: &mut Tally, disk: &mut Disk, from: u32) -> Result<()> {
+    disk.remount()?;
+    disk.login()?;
     for number in from..FULL + 2 {
-        let path = nested_path(alloc, number.min(FULL))?;
-        let line = mounted.mkdir(alloc, path.as_str(), 0o755)?;
-        let wanted = if number < FULL {
-            "ok\n"
-        } else {
-            "err ENOSPC\n"
-        };
-        tally.check(report.runtime(), line.as_str() == wanted, &[number])?;
+        let is_right = is_taken_right(report.alloc(), disk, number)?;
+        tally.check(report.runtime(), is_right, &[number])?;
     }
     Ok(())
 }
 
+fn is_taken_right(alloc: Global, disk: &mut Disk, number: u32) -> Result<bool> {
+    let wanted = if number < FULL {
+        "ok\n"
+    } else {
+        "err ENOSPC\n"
+    };
+    let path = nested_path(alloc, number.min(FULL))?;
+    is_answered(disk, path.as_str(), wanted)
+}
+
 /// The last two go, and are made again; and no more are.
-fn is_replaced(alloc: Global, mounted: &mut Mounted) -> Result<bool> {
+fn is_replaced(disk: &mut Disk) -> Result<bool> {
     let script = [
         ("0 rmdir /96/d", "ok\n"),
         ("0 rmdir /96", "ok\n"),
@@ -175,8 +195,7 @@ fn is_replaced(alloc: Global, mounted: &mut Mounted) -> Result<bool> {
         ("0 mkdir /97 0755", "err ENOSPC\n"),
     ];
     for (line, wanted) in script {
-        let reply = mounted.asked(alloc, line)?;
-        if line_of(alloc, &reply)?.as_str() != wanted {
+        if !disk.is_told(line, wanted)? {
             return Ok(false);
         }
     }

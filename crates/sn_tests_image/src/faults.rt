@@ -1,9 +1,10 @@
 //! Each call of the device failing in turn.
 
-use crate::mounting::mounted;
+use crate::checking::checked;
+use crate::formatting::formatted;
+use crate::mounting::recovered;
 use anyhow::{Result, bail, ensure};
 use sn_block::Blocks;
-use sn_check::check;
 use sn_device::MemDevice;
 use sn_mkfs::{MkfsFault, Unformatted, mkfs};
 use sn_model::MountFault;
@@ -23,6 +24,7 @@ enum Task {
     Check,
 }
 
+/// Compares what each call of the device that fails is told as. Too little memory is an error.
 pub fn run(report: &mut Report<'_>) -> Result<()> {
     let formats = formats(report)?;
     report.add("a failure at each call of a format", formats)?;
@@ -59,25 +61,17 @@ fn formats(report: &Report<'_>) -> Result<Tally> {
 
 /// Why a task isn't done, if it isn't.
 fn perform(alloc: Global, device: MemDevice, task: Task) -> Result<Option<MountFault>> {
-    match task {
-        Task::Mount => match mounted(alloc, device)? {
-            Ok(_) => Ok(None),
-            Err(fault) => Ok(Some(fault)),
-        },
-        Task::Check => {
-            let mut blocks = Blocks::new(alloc, device).map_err(AllocError::from)?;
-            match check(alloc, &mut blocks) {
-                Ok(_) => Ok(None),
-                Err(fault) => Ok(Some(fault)),
-            }
-        }
-    }
+    let mut blocks = Blocks::new(alloc, device).map_err(AllocError::from)?;
+    Ok(match task {
+        Task::Mount => recovered(alloc, &mut blocks).err(),
+        Task::Check => checked(alloc, &mut blocks).err(),
+    })
 }
 
 /// The same of a formatted device whose next calls are counted up to one that fails.
 fn perform_failing(alloc: Global, task: Task, call: u64) -> Result<Option<MountFault>> {
     ensure!(call > 0, "calls are counted from 1");
-    let Ok(mut device) = mkfs(alloc, MemDevice::new(alloc, 2_048)?, 256) else {
+    let Ok(mut device) = formatted(alloc, 2_048, 256)? else {
         bail!("no format");
     };
     device.fail_at(call);

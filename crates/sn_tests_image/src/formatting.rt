@@ -36,17 +36,19 @@ pub fn bytes(alloc: Global, case: Case<'_>) -> Result<String> {
     let sectors = number(words.next())?;
     let blocks = number(words.next())?;
     match formatted(alloc, sectors, blocks)? {
-        Ok(mut device) => {
-            let at = number(words.next())?;
-            let count = number(words.next())?;
-            run_of(alloc, &mut device, at, count)
-        }
+        Ok(mut device) => run_of(alloc, &mut device, words.next(), words.next()),
         Err(fault) => Ok(format!(in alloc; "{fault}")?),
     }
 }
 
 /// So many bytes from one on, within a sector.
-fn run_of(alloc: Global, device: &mut MemDevice, at: u32, count: u32) -> Result<String> {
+fn run_of(
+    alloc: Global,
+    device: &mut MemDevice,
+    at: Option<&str>,
+    count: Option<&str>,
+) -> Result<String> {
+    let (at, count) = (number(at)?, number(count)?);
     let sector = sector(device, u64::from(at / 512))?;
     let begin = (at % 512) as usize;
     let run = sector

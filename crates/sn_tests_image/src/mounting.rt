@@ -52,13 +52,18 @@ pub fn found(alloc: Global, case: Case<'_>) -> Result<String> {
 }
 
 /// Mounts a device.
-pub fn mounted(alloc: Global, device: MemDevice) -> Result<Result<FoundWorld, MountFault>> {
+fn mounted(alloc: Global, device: MemDevice) -> Result<Result<FoundWorld, MountFault>> {
     let mut blocks = Blocks::new(alloc, device).map_err(AllocError::from)?;
-    match recover(alloc, &mut blocks) {
-        Ok(recovered) => Ok(Ok(FoundWorld {
+    Ok(recovered(alloc, &mut blocks))
+}
+
+/// The world that a mount finds, or why there is none: of it nothing is promised, since it is compared.
+pub fn recovered(alloc: Global, blocks: &mut Blocks<MemDevice>) -> Result<FoundWorld, MountFault> {
+    match recover(alloc, blocks) {
+        Ok(recovered) => Ok(FoundWorld {
             world: recovered.world,
-        })),
-        Err(fault) => Ok(Err(fault)),
+        }),
+        Err(fault) => Err(fault),
     }
 }
 
@@ -102,14 +107,23 @@ fn put(device: &mut MemDevice, at: u32, run: &[u8]) -> Result<()> {
 
 /// The lines of the replies, one behind the other.
 fn told(alloc: Global, world: &mut FoundWorld) -> Result<String> {
+    let questions = read_script(alloc, QUESTIONS)?;
+    told_of(alloc, world, questions.as_slice())
+}
+
+fn told_of(alloc: Global, world: &mut FoundWorld, questions: &[Event]) -> Result<String> {
     let mut text = String::new(alloc);
-    for event in &read_script(alloc, QUESTIONS)? {
-        let reply = world.answer(alloc, event);
-        let line = print_replies(alloc, slice::from_ref(&reply))?;
+    for question in questions {
         if !text.is_empty() {
             text.push_str("; ")?;
         }
-        text.push_str(str::from_utf8(line.as_slice())?.trim_end())?;
+        let reply = world.answer(alloc, question);
+        push_line(alloc, &reply, &mut text)?;
     }
     Ok(text)
+}
+
+fn push_line(alloc: Global, reply: &Reply, text: &mut String) -> Result<()> {
+    let line = print_replies(alloc, slice::from_ref(reply))?;
+    Ok(text.push_str(str::from_utf8(line.as_slice())?.trim_end())?)
 }

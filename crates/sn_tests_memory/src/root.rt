@@ -11,6 +11,7 @@ use std::alloc::AllocError;
 #[derive(Drop)]
 pub struct Root;
 
+/// What a node of this owner has: group 0, no special bits, mode 0744 and no default ACL.
 pub fn ownership(owner: u32) -> Ownership {
     Ownership {
         owner,

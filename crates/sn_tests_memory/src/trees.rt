@@ -17,6 +17,7 @@ pub struct Trees {
 }
 
 impl Trees {
+    /// The root directory alone, seen through two overlays without a change.
     pub fn new(alloc: Global) -> Self {
         Trees {
             alloc,

@@ -3,9 +3,8 @@
 use crate::sectors::{EPOCH, half_of};
 use anyhow::Result;
 use rand_pcg::Pcg32;
-use sn_device::MemDevice;
 use sn_drawn::{below, is_once_in, plain_name, push_copy};
-use sn_mounted::{Mounted, new_device, remounted};
+use sn_mounted::Disk;
 use sn_reading::Records;
 use std::alloc::Global;
 
@@ -63,25 +62,21 @@ pub fn payloads(alloc: Global, random: &mut Pcg32) -> Result<Vec<Vec<u8>>> {
     payloads_in(alloc, half.as_slice())
 }
 
+/// The half behind drawn calls.
 fn called_half(alloc: Global, random: &mut Pcg32) -> Result<Vec<u8>> {
-    let device = called(alloc, random)?;
-    half_of(alloc, &device)
+    let mut disk = Disk::large(alloc)?;
+    ask_some(alloc, &mut disk, random)?;
+    half_of(&disk)
 }
 
-/// A device behind drawn calls.
-fn called(alloc: Global, random: &mut Pcg32) -> Result<MemDevice> {
-    let mut mounted = remounted(alloc, new_device(alloc)?)?;
-    mounted.login(alloc)?;
-    ask_some(alloc, &mut mounted, random)?;
-    Ok(mounted.into_device())
-}
-
-fn ask_some(alloc: Global, mounted: &mut Mounted, random: &mut Pcg32) -> Result<()> {
+fn ask_some(alloc: Global, disk: &mut Disk, random: &mut Pcg32) -> Result<()> {
+    disk.remount()?;
+    disk.login()?;
     for _ in 0..below(random, 24) {
         let line = line(alloc, random)?;
-        mounted.asked(alloc, line.as_str())?;
+        disk.ask(line.as_str())?;
     }
-    Ok(())
+    disk.unmount()
 }
 
 fn payloads_in(alloc: Global, half: &[u8]) -> Result<Vec<Vec<u8>>> {

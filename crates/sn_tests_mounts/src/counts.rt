@@ -173,6 +173,7 @@ fn add(report: &mut Report<'_>, tally: Option<&Tally>, front: &str, text: &str) 
 }
 
 impl Counts {
+    /// Of no halves yet. Too little memory is an error.
     pub fn new(alloc: Global) -> Result<Counts> {
         let ends = tallies(alloc, ENDS.len())?;
         Ok(Counts {

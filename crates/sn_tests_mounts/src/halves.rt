@@ -7,10 +7,10 @@ use crate::sectors::{EPOCH, FIRST_BLOCK, change_some, close_second_root, draw, h
 use crate::trees::{is_made, is_tree};
 use anyhow::Result;
 use rand_pcg::Pcg32;
-use sn_device::{Fill, MemDevice};
+use sn_device::Fill;
 use sn_drawn::{below, is_once_in, payloads, push_copy};
 use sn_model::{Damage, MountFault};
-use sn_mounted::{Mounted, new_device};
+use sn_mounted::Disk;
 use sn_reading::{Reading, read_half};
 use sn_table::Report;
 use std::alloc::Global;
@@ -20,6 +20,8 @@ const HALVES: u32 = 10_000;
 /// So many halves begin with the records of one list of calls.
 const TURN: u32 = 8;
 
+/// Compares what mounts of all halves find with what is read, and prints how many came to each end. An end that never came up
+/// is an error.
 pub fn run(report: &mut Report<'_>) -> Result<()> {
     let mut counts = Counts::new(report.alloc())?;
     count_all(report, &mut counts)?;
@@ -28,9 +30,9 @@ pub fn run(report: &mut Report<'_>) -> Result<()> {
 
 fn count_all(report: &Report<'_>, counts: &mut Counts) -> Result<()> {
     let mut random = Pcg32::new(1, 0);
-    let mut device = new_device(report.alloc())?;
+    let mut disk = Disk::large(report.alloc())?;
     for turn in 0..HALVES / TURN {
-        device = take_turn(report, counts, device, &mut random, turn * TURN)?;
+        take_turn(report, counts, &mut disk, &mut random, turn * TURN)?;
     }
     Ok(())
 }
@@ -39,29 +41,16 @@ fn count_all(report: &Report<'_>, counts: &mut Counts) -> Result<()> {
 fn take_turn(
     report: &Report<'_>,
     counts: &mut Counts,
-    device: MemDevice,
+    disk: &mut Disk,
     random: &mut Pcg32,
     first: u32,
-) -> Result<MemDevice> {
+) -> Result<()> {
     let made = calls::payloads(report.alloc(), random)?;
-    count_some(report, counts, device, made.as_slice(), random, first)
-}
-
-fn count_some(
-    report: &Report<'_>,
-    counts: &mut Counts,
-    device: MemDevice,
-    made: &[Vec<u8>],
-    random: &mut Pcg32,
-    first: u32,
-) -> Result<MemDevice> {
-    let mut device = device;
-    for half in 0..TURN {
-        draw_half(report.alloc(), &mut device, made, random)?;
-        let half = first.saturating_add(half);
-        device = compared(report, counts, device.crash(Fill::New), half)?;
+    for half in first..first.saturating_add(TURN) {
+        draw_half(report.alloc(), disk, made.as_slice(), random)?;
+        compare(report, counts, disk, half)?;
     }
-    Ok(device)
+    Ok(())
 }
 
 fn copy_of(alloc: Global, list: &[Vec<u8>]) -> Result<Vec<Vec<u8>>> {
@@ -74,44 +63,39 @@ fn copy_of(alloc: Global, list: &[Vec<u8>]) -> Result<Vec<Vec<u8>>> {
 
 /// A half of random sectors, of the records of real calls, or of drawn ones, and some of it changed. It is that of the
 /// first root, whose tree is empty.
-fn draw_half(
-    alloc: Global,
-    device: &mut MemDevice,
-    made: &[Vec<u8>],
-    random: &mut Pcg32,
-) -> Result<()> {
-    close_second_root(device)?;
+fn draw_half(alloc: Global, disk: &mut Disk, made: &[Vec<u8>], random: &mut Pcg32) -> Result<()> {
+    close_second_root(disk)?;
     match below(random, 8) {
-        0 => draw(device, random)?,
-        kind => draw_list(alloc, device, made, random, kind < 4)?,
+        0 => draw(disk, random)?,
+        kind => draw_list(alloc, disk, made, random, kind < 4)?,
     }
     if is_once_in(random, 2) {
-        change_some(device, random)?;
+        change_some(disk, random)?;
     }
     Ok(())
 }
 
 fn draw_list(
     alloc: Global,
-    device: &mut MemDevice,
+    disk: &mut Disk,
     made: &[Vec<u8>],
     random: &mut Pcg32,
     is_made: bool,
 ) -> Result<()> {
     let mut list = list_of(alloc, made, random, is_made)?;
-    lay_changed(alloc, device, &mut list, random)
+    lay_changed(alloc, disk, &mut list, random)
 }
 
 fn lay_changed(
     alloc: Global,
-    device: &mut MemDevice,
+    disk: &mut Disk,
     list: &mut Vec<Vec<u8>>,
     random: &mut Pcg32,
 ) -> Result<()> {
     if is_once_in(random, 2) {
         change_list(alloc, list, random)?;
     }
-    lay_list(alloc, device, list, random)
+    lay_list(alloc, disk, list, random)
 }
 
 fn list_of(
@@ -128,39 +112,35 @@ fn list_of(
 }
 
 /// Reads the half plainly, mounts it twice, makes a directory the second time, and counts it.
-fn compared(
-    report: &Report<'_>,
-    counts: &mut Counts,
-    device: MemDevice,
-    half: u32,
-) -> Result<MemDevice> {
-    let bytes = half_of(report.alloc(), &device)?;
-    read_and_compared(report, counts, device, bytes.as_slice(), half)
+fn compare(report: &Report<'_>, counts: &mut Counts, disk: &mut Disk, half: u32) -> Result<()> {
+    disk.crash(Fill::New)?;
+    let bytes = half_of(disk)?;
+    compare_bytes(report, counts, disk, bytes.as_slice(), half)
 }
 
-fn read_and_compared(
+fn compare_bytes(
     report: &Report<'_>,
     counts: &mut Counts,
-    device: MemDevice,
+    disk: &mut Disk,
     bytes: &[u8],
     half: u32,
-) -> Result<MemDevice> {
+) -> Result<()> {
     let reading = read_half(report.alloc(), bytes, EPOCH)?;
-    let (is_right, device) = is_mounted_twice(report.alloc(), device, &reading, half)?;
-    counts.count(report.runtime(), &reading, is_right, half)?;
-    Ok(device)
+    let is_right = is_mounted_twice(report.alloc(), disk, &reading, half)?;
+    counts.count(report.runtime(), &reading, is_right, half)
 }
 
 fn is_mounted_twice(
     alloc: Global,
-    device: MemDevice,
+    disk: &mut Disk,
     reading: &Reading<'_>,
     half: u32,
-) -> Result<(bool, MemDevice)> {
-    let (is_right, device) = is_mounted(alloc, device, reading, false)?;
-    let fill = Fill::Seeded(u64::from(half));
-    let (is_kept, device) = is_mounted(alloc, device.crash(fill), reading, true)?;
-    Ok((is_right && is_kept, device))
+) -> Result<bool> {
+    let is_right = is_mounted(alloc, disk, reading, false)?;
+    disk.crash(Fill::Seeded(u64::from(half)))?;
+    let is_kept = is_mounted(alloc, disk, reading, true)?;
+    disk.unmount()?;
+    Ok(is_right && is_kept)
 }
 
 /// The fault of a half that is damaged.
@@ -171,45 +151,21 @@ fn fault_of(reading: &Reading<'_>) -> MountFault {
     }
 }
 
-/// Whether a mount finds what was read plainly, where it is wanted a directory can be made there, and the device.
-fn is_mounted(
-    alloc: Global,
-    device: MemDevice,
-    reading: &Reading<'_>,
-    makes: bool,
-) -> Result<(bool, MemDevice)> {
-    match Mounted::new(alloc, device) {
-        Ok(mounted) => is_mounted_right(alloc, mounted, reading, makes),
-        Err(unmounted) => {
-            let is_right = !reading.outcome.is_tree() && unmounted.fault == fault_of(reading);
-            Ok((is_right, unmounted.device))
-        }
+/// Whether a mount finds what was read plainly, and where it is wanted a directory can be made there.
+fn is_mounted(alloc: Global, disk: &mut Disk, reading: &Reading<'_>, makes: bool) -> Result<bool> {
+    match disk.mount()? {
+        None => is_read(alloc, disk, reading, makes),
+        Some(fault) => Ok(!reading.outcome.is_tree() && fault == fault_of(reading)),
     }
-}
-
-fn is_mounted_right(
-    alloc: Global,
-    mounted: Mounted,
-    reading: &Reading<'_>,
-    makes: bool,
-) -> Result<(bool, MemDevice)> {
-    let mut mounted = mounted;
-    let is_right = is_read(alloc, &mut mounted, reading, makes)?;
-    Ok((is_right, mounted.into_device()))
 }
 
 /// Whether what is mounted is what was read, and where it is wanted a directory can be made there.
-fn is_read(
-    alloc: Global,
-    mounted: &mut Mounted,
-    reading: &Reading<'_>,
-    makes: bool,
-) -> Result<bool> {
-    if !reading.outcome.is_tree() || !is_tree(alloc, mounted, &reading.tree)? {
+fn is_read(alloc: Global, disk: &mut Disk, reading: &Reading<'_>, makes: bool) -> Result<bool> {
+    if !reading.outcome.is_tree() || !is_tree(alloc, disk, &reading.tree)? {
         return Ok(false);
     }
     if makes {
-        return is_made(alloc, mounted, reading);
+        return is_made(disk, reading);
     }
     Ok(true)
 }

@@ -3,8 +3,9 @@
 use crate::sectors::{EPOCH, PLACES, put};
 use anyhow::Result;
 use rand_pcg::Pcg32;
-use sn_device::{MemDevice, SECTOR_SIZE, Sector};
+use sn_device::{SECTOR_SIZE, Sector};
 use sn_drawn::{below, is_once_in, payload, push_copy};
+use sn_mounted::Disk;
 use std::alloc::Global;
 
 /// The attributes of the root directory, as a new disk has them.
@@ -113,7 +114,7 @@ fn fill_up(alloc: Global, list: &mut Vec<Vec<u8>>, random: &mut Pcg32) -> Result
 /// Lays a list of payloads, which now and then is filled up.
 pub fn lay_list(
     alloc: Global,
-    device: &mut MemDevice,
+    disk: &mut Disk,
     list: &mut Vec<Vec<u8>>,
     random: &mut Pcg32,
 ) -> Result<()> {
@@ -122,7 +123,7 @@ pub fn lay_list(
     } else {
         one_of(random, list.len().saturating_mul(3))
     };
-    lay(alloc, device, list.as_slice(), odd, random)
+    lay(alloc, disk, list.as_slice(), odd, random)
 }
 
 /// Changes one field of a head.
@@ -154,7 +155,7 @@ fn spell(body: &mut Vec<u8>, head: Head, payload: &[u8]) -> Result<()> {
 }
 
 /// Puts a body behind a gate, and answers the place behind it.
-fn put_body(device: &mut MemDevice, place: u64, body: &[u8]) -> Result<u64> {
+fn put_body(disk: &mut Disk, place: u64, body: &[u8]) -> Result<u64> {
     let mut place = place;
     for bytes in body.chunks_exact(SECTOR_SIZE) {
         place = place.saturating_add(1);
@@ -163,29 +164,23 @@ fn put_body(device: &mut MemDevice, place: u64, body: &[u8]) -> Result<u64> {
         }
         let mut sector = [0; SECTOR_SIZE];
         sector.copy_from_slice(bytes);
-        put(device, place, &sector)?;
+        put(disk, place, &sector)?;
     }
     Ok(place.saturating_add(1))
 }
 
 /// Lays a record at a place, and answers the one behind it.
-fn lay_one(
-    alloc: Global,
-    device: &mut MemDevice,
-    place: u64,
-    head: Head,
-    payload: &[u8],
-) -> Result<u64> {
+fn lay_one(alloc: Global, disk: &mut Disk, place: u64, head: Head, payload: &[u8]) -> Result<u64> {
     let body = body(alloc, head, payload)?;
-    put(device, place, &gate())?;
-    put_body(device, place, body.as_slice())
+    put(disk, place, &gate())?;
+    put_body(disk, place, body.as_slice())
 }
 
 /// Lays the payloads as records from the first place on, one of them, where there is one at `odd`, with a head
 /// that isn't its own. Behind them stands a closed gate, or now and then what stood there.
 fn lay(
     alloc: Global,
-    device: &mut MemDevice,
+    disk: &mut Disk,
     payloads: &[Vec<u8>],
     odd: usize,
     random: &mut Pcg32,
@@ -201,11 +196,11 @@ fn lay(
             change_head(&mut head, random);
         }
         if place < PLACES {
-            place = lay_one(alloc, device, place, head, payload.as_slice())?;
+            place = lay_one(alloc, disk, place, head, payload.as_slice())?;
         }
     }
     if place < PLACES && !is_once_in(random, 12) {
-        put(device, place, &[0; SECTOR_SIZE])?;
+        put(disk, place, &[0; SECTOR_SIZE])?;
     }
     Ok(())
 }

@@ -3,9 +3,9 @@
 use anyhow::{Result, ensure};
 use rand_core::Rng;
 use rand_pcg::Pcg32;
-use sn_device::{Device, MemDevice, SECTOR_SIZE, Sector};
+use sn_device::{SECTOR_SIZE, Sector};
 use sn_drawn::{below, is_once_in};
-use std::alloc::Global;
+use sn_mounted::Disk;
 
 /// The epoch of the records.
 pub const EPOCH: u64 = 1;
@@ -26,47 +26,19 @@ const SECOND_GATE: u64 = 25;
 const RANDOM: u64 = 12;
 
 /// The bytes of the half, as reads give them.
-pub fn half_of(alloc: Global, device: &MemDevice) -> Result<Vec<u8>> {
-    let mut half = Vec::new(alloc);
-    for sector in device
-        .contents()
-        .iter()
-        .skip(FIRST as usize)
-        .take(PLACES as usize)
-    {
-        half.extend_from_slice(sector)?;
-    }
-    Ok(half)
+pub fn half_of(disk: &Disk) -> Result<Vec<u8>> {
+    disk.bytes(FIRST as usize, PLACES as usize)
 }
 
-/// Writes a sector of the half.
-pub fn put(device: &mut MemDevice, place: u64, sector: &Sector) -> Result<()> {
-    ensure!(
-        place < PLACES && FIRST + PLACES <= device.sectors(),
-        "no place {place}"
-    );
-    let is_written = device.write(FIRST + place, sector).is_ok();
-    ensure!(is_written, "a device without a fault");
-    Ok(())
+/// Writes a sector of the half. A place that it doesn't have is an error.
+pub fn put(disk: &mut Disk, place: u64, sector: &Sector) -> Result<()> {
+    ensure!(place < PLACES, "no place {place}");
+    disk.write(FIRST + place, sector)
 }
 
 /// Lets the first root count again, and its empty tree, which the mount that made the second one has left as it was.
-pub fn close_second_root(device: &mut MemDevice) -> Result<()> {
-    ensure!(SECOND_GATE < device.sectors(), "no gate");
-    let is_written = device.write(SECOND_GATE, &[0; SECTOR_SIZE]).is_ok();
-    ensure!(is_written, "a device without a fault");
-    Ok(())
-}
-
-fn get(device: &mut MemDevice, place: u64) -> Result<Sector> {
-    ensure!(
-        place < PLACES && FIRST + PLACES <= device.sectors(),
-        "no place {place}"
-    );
-    let mut sector = [0; SECTOR_SIZE];
-    let is_read = device.read(FIRST + place, &mut sector).is_ok();
-    ensure!(is_read, "a device without a fault");
-    Ok(sector)
+pub fn close_second_root(disk: &mut Disk) -> Result<()> {
+    disk.write(SECOND_GATE, &[0; SECTOR_SIZE])
 }
 
 /// Bytes that are random, behind the front of a gate or of a body more often than not.
@@ -89,9 +61,9 @@ fn random_sector(random: &mut Pcg32) -> Sector {
 }
 
 /// A half that begins with random sectors.
-pub fn draw(device: &mut MemDevice, random: &mut Pcg32) -> Result<()> {
+pub fn draw(disk: &mut Disk, random: &mut Pcg32) -> Result<()> {
     for place in 0..RANDOM {
-        put(device, place, &random_sector(random))?;
+        put(disk, place, &random_sector(random))?;
     }
     Ok(())
 }
@@ -105,17 +77,19 @@ fn change(sector: &mut Sector, random: &mut Pcg32) {
     }
 }
 
+/// A place of the half, more often than not one of the first.
+fn some_place(random: &mut Pcg32) -> u64 {
+    let most = if is_once_in(random, 4) { 256 } else { 32 };
+    u64::from(below(random, most))
+}
+
 /// Draws a few sectors of the half, and in each of them a byte of its head, or all of them.
-pub fn change_some(device: &mut MemDevice, random: &mut Pcg32) -> Result<()> {
+pub fn change_some(disk: &mut Disk, random: &mut Pcg32) -> Result<()> {
     for _ in 0..below(random, 4) {
-        let place = if is_once_in(random, 4) {
-            below(random, 256)
-        } else {
-            below(random, 32)
-        };
-        let mut sector = get(device, u64::from(place))?;
+        let at = FIRST.saturating_add(some_place(random));
+        let mut sector = disk.read(at)?;
         change(&mut sector, random);
-        put(device, u64::from(place), &sector)?;
+        disk.write(at, &sector)?;
     }
     Ok(())
 }

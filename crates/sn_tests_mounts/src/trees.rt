@@ -1,10 +1,10 @@
-//! A tree that was read plainly, beside one that is mounted.
+//! A tree that was read plainly, beside one that is disk.
 
 use crate::lines::{access_line, default_line, status_line};
 use anyhow::Result;
 use sn_drawn::NAMES;
-use sn_model::{AclKind, Call, Reply, Word};
-use sn_mounted::{Mounted, line_of, number_of, stat};
+use sn_model::AclKind;
+use sn_mounted::Disk;
 use sn_reading::{Kind, Link, Name, Node, Reading, Tree};
 use std::alloc::Global;
 use std::str;
@@ -41,90 +41,69 @@ fn under(alloc: Global, name: &str, path: &str) -> Result<String> {
     Ok(format!(in alloc; "/{name}{path}")?)
 }
 
-fn getacl(alloc: Global, path: &str, kind: AclKind) -> Result<Call> {
-    Ok(Call::GetAcl {
-        path: Word::new(alloc, path.as_bytes())?,
-        kind,
-    })
-}
-
 /// The node is there under a path, with its number and its ACLs.
 fn is_there(
     alloc: Global,
-    mounted: &mut Mounted,
+    disk: &mut Disk,
     tree: &Tree<'_>,
     path: &str,
     node: &Node<'_>,
 ) -> Result<bool> {
-    let has_status = has_status(alloc, mounted, tree, path, node)?;
-    let has_access = has_access(alloc, mounted, path, node)?;
-    let has_default = has_default(alloc, mounted, path, node)?;
+    let has_status = has_status(alloc, disk, tree, path, node)?;
+    let has_access = has_access(alloc, disk, path, node)?;
+    let has_default = has_default(alloc, disk, path, node)?;
     Ok(has_status && has_access && has_default)
 }
 
 fn has_status(
     alloc: Global,
-    mounted: &mut Mounted,
+    disk: &mut Disk,
     tree: &Tree<'_>,
     path: &str,
     node: &Node<'_>,
 ) -> Result<bool> {
     let wanted = status_line(alloc, tree, node)?;
-    let reply = stat_reply(alloc, mounted, path)?;
-    is_status(alloc, &reply, node.number, wanted.as_str())
+    is_status(disk, path, node.number, wanted.as_str())
 }
 
-fn stat_reply(alloc: Global, mounted: &mut Mounted, path: &str) -> Result<Reply> {
-    let call = stat(alloc, path)?;
-    Ok(mounted.call(0, &call))
+fn is_status(disk: &mut Disk, path: &str, number: u16, wanted: &str) -> Result<bool> {
+    if disk.number(path)? != Some(number) {
+        return Ok(false);
+    }
+    let told = disk.stat(path)?;
+    Ok(told.as_str() == wanted)
 }
 
-fn is_status(alloc: Global, reply: &Reply, number: u16, wanted: &str) -> Result<bool> {
-    let line = line_of(alloc, reply)?;
-    Ok(line.as_str() == wanted && number_of(reply) == Some(number))
-}
-
-fn has_access(alloc: Global, mounted: &mut Mounted, path: &str, node: &Node<'_>) -> Result<bool> {
+fn has_access(alloc: Global, disk: &mut Disk, path: &str, node: &Node<'_>) -> Result<bool> {
     let wanted = access_line(alloc, &node.attributes)?;
-    has_acl(alloc, mounted, path, AclKind::Access, wanted.as_str())
+    has_acl(disk, path, AclKind::Access, wanted.as_str())
 }
 
-fn has_default(alloc: Global, mounted: &mut Mounted, path: &str, node: &Node<'_>) -> Result<bool> {
+fn has_default(alloc: Global, disk: &mut Disk, path: &str, node: &Node<'_>) -> Result<bool> {
     let wanted = default_line(alloc, node)?;
-    has_acl(alloc, mounted, path, AclKind::Default, wanted.as_str())
+    has_acl(disk, path, AclKind::Default, wanted.as_str())
 }
 
-fn has_acl(
-    alloc: Global,
-    mounted: &mut Mounted,
-    path: &str,
-    kind: AclKind,
-    wanted: &str,
-) -> Result<bool> {
-    let call = getacl(alloc, path, kind)?;
-    mounted.is_told(alloc, &call, wanted)
+fn has_acl(disk: &mut Disk, path: &str, kind: AclKind, wanted: &str) -> Result<bool> {
+    let told = disk.acl(path, kind)?;
+    Ok(told.as_str() == wanted)
 }
 
 /// Of the names that are drawn a directory has no other than those of the tree.
-fn has_no_other(
-    alloc: Global,
-    mounted: &mut Mounted,
-    tree: &Tree<'_>,
-    directory: u16,
-) -> Result<bool> {
+fn has_no_other(alloc: Global, disk: &mut Disk, tree: &Tree<'_>, directory: u16) -> Result<bool> {
     let path = path_of(alloc, tree, directory)?;
-    are_others_absent(alloc, mounted, tree, directory, path.as_str())
+    are_others_absent(alloc, disk, tree, directory, path.as_str())
 }
 
 fn are_others_absent(
     alloc: Global,
-    mounted: &mut Mounted,
+    disk: &mut Disk,
     tree: &Tree<'_>,
     directory: u16,
     path: &str,
 ) -> Result<bool> {
     for name in NAMES {
-        if !has_name(tree, directory, name) && !is_absent(alloc, mounted, path, name)? {
+        if !has_name(tree, directory, name) && !is_absent(alloc, disk, path, name)? {
             return Ok(false);
         }
     }
@@ -139,37 +118,32 @@ fn has_name(tree: &Tree<'_>, directory: u16, name: &str) -> bool {
     tree.object(&link).is_some()
 }
 
-fn is_absent(alloc: Global, mounted: &mut Mounted, above: &str, name: &str) -> Result<bool> {
+fn is_absent(alloc: Global, disk: &mut Disk, above: &str, name: &str) -> Result<bool> {
     let path = format!(in alloc; "{above}/{name}")?;
-    is_no_entry(alloc, mounted, path.as_str())
+    is_no_entry(disk, path.as_str())
 }
 
-fn is_no_entry(alloc: Global, mounted: &mut Mounted, path: &str) -> Result<bool> {
-    let call = stat(alloc, path)?;
-    mounted.is_told(alloc, &call, "err ENOENT\n")
+fn is_no_entry(disk: &mut Disk, path: &str) -> Result<bool> {
+    let told = disk.stat(path)?;
+    Ok(told.as_str() == "err ENOENT\n")
 }
 
 /// Each name of the tree is there, with what it stands for.
-fn has_names(alloc: Global, mounted: &mut Mounted, tree: &Tree<'_>) -> Result<bool> {
+fn has_names(alloc: Global, disk: &mut Disk, tree: &Tree<'_>) -> Result<bool> {
     for name in tree.names() {
-        if !is_name_there(alloc, mounted, tree, name)? {
+        if !is_name_there(alloc, disk, tree, name)? {
             return Ok(false);
         }
     }
     Ok(true)
 }
 
-fn is_name_there(
-    alloc: Global,
-    mounted: &mut Mounted,
-    tree: &Tree<'_>,
-    name: &Name<'_>,
-) -> Result<bool> {
+fn is_name_there(alloc: Global, disk: &mut Disk, tree: &Tree<'_>, name: &Name<'_>) -> Result<bool> {
     let Some(node) = tree.node(name.number) else {
         return Ok(false);
     };
     let path = path_under(alloc, tree, name.link)?;
-    is_there(alloc, mounted, tree, path.as_str(), &node)
+    is_there(alloc, disk, tree, path.as_str(), &node)
 }
 
 fn path_under(alloc: Global, tree: &Tree<'_>, link: Link<'_>) -> Result<String> {
@@ -179,28 +153,23 @@ fn path_under(alloc: Global, tree: &Tree<'_>, link: Link<'_>) -> Result<String> 
 }
 
 /// Whether what is mounted is the tree, as far as the user 0 is told.
-pub fn is_tree(alloc: Global, mounted: &mut Mounted, tree: &Tree<'_>) -> Result<bool> {
-    mounted.login(alloc)?;
+pub fn is_tree(alloc: Global, disk: &mut Disk, tree: &Tree<'_>) -> Result<bool> {
+    disk.login()?;
     for node in tree.nodes() {
-        if !is_node_there(alloc, mounted, tree, node)? {
+        if !is_node_there(alloc, disk, tree, node)? {
             return Ok(false);
         }
     }
-    has_names(alloc, mounted, tree)
+    has_names(alloc, disk, tree)
 }
 
 /// A directory has no other names than those of the tree, and the root directory is there.
-fn is_node_there(
-    alloc: Global,
-    mounted: &mut Mounted,
-    tree: &Tree<'_>,
-    node: &Node<'_>,
-) -> Result<bool> {
-    if node.kind == Kind::Directory && !has_no_other(alloc, mounted, tree, node.number)? {
+fn is_node_there(alloc: Global, disk: &mut Disk, tree: &Tree<'_>, node: &Node<'_>) -> Result<bool> {
+    if node.kind == Kind::Directory && !has_no_other(alloc, disk, tree, node.number)? {
         return Ok(false);
     }
     if node.number == 2 {
-        return is_there(alloc, mounted, tree, "/", node);
+        return is_there(alloc, disk, tree, "/", node);
     }
     Ok(true)
 }
@@ -226,16 +195,15 @@ fn made_line(reading: &Reading<'_>) -> &'static str {
 
 /// Whether a directory is made behind the records, and gets the least number that is free: files without names
 /// have gone.
-pub fn is_made(alloc: Global, mounted: &mut Mounted, reading: &Reading<'_>) -> Result<bool> {
+pub fn is_made(disk: &mut Disk, reading: &Reading<'_>) -> Result<bool> {
     let wanted = made_line(reading);
-    let line = mounted.mkdir(alloc, "/new", 0o700)?;
-    if wanted != "ok\n" {
-        return Ok(line.as_str() == wanted);
+    if !is_answered(disk, wanted)? {
+        return Ok(false);
     }
-    Ok(line.as_str() == wanted && has_number(alloc, mounted, free_number(&reading.tree))?)
+    Ok(wanted != "ok\n" || disk.number("/new")? == free_number(&reading.tree))
 }
 
-fn has_number(alloc: Global, mounted: &mut Mounted, number: Option<u16>) -> Result<bool> {
-    let reply = stat_reply(alloc, mounted, "/new")?;
-    Ok(number_of(&reply) == number)
+fn is_answered(disk: &mut Disk, wanted: &str) -> Result<bool> {
+    let told = disk.mkdir("/new", 0o700)?;
+    Ok(told.as_str() == wanted)
 }

@@ -36,6 +36,7 @@ fn is_step(calls: &[Call]) -> bool {
 }
 
 impl Counts {
+    /// No crash, no step and no point counted yet.
     pub fn new() -> Counts {
         Counts {
             parts: [Tally::new(); 7],

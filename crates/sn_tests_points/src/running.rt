@@ -202,6 +202,7 @@ impl Running {
         status.writes.saturating_add(status.syncs)
     }
 
+    /// How much of the point is written, and how much of that is synced.
     pub fn stage(&self) -> Stage {
         self.point.stage()
     }

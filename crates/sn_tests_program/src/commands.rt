@@ -2,9 +2,9 @@
 //!
 //! A line of `commands.txt` is `WORDS => STATUS, LINE, LINE..`: the status that the words end with, and the lines that they
 //! write: those of standard output, of standard error, and those that a person is told. Or it makes a file: `NAME << LINE|LINE..`
-//! a script of these lines, `NAME from OTHER LENGTH` the front of another file, `NAME with OTHER COUNT` another file and so many
-//! zeros behind it, `NAME set OFFSET BYTE` one byte of it anew, `NAME put OFFSET HEX` several. `examples/images.txt` has such lines
-//! too, for a gallery of images.
+//! a script of these lines, of which one may end in `HEX*COUNT` for so many such bytes, `NAME from OTHER LENGTH` the front of
+//! another file, `NAME with OTHER COUNT` another file and so many zeros behind it, `NAME set OFFSET BYTE` one byte of it anew,
+//! `NAME put OFFSET HEX` several. `examples/images.txt` has such lines too, for a gallery of images.
 
 use crate::ended::Ended;
 use anyhow::{Context, Result, bail};
@@ -33,12 +33,26 @@ fn ends(rt: &HostRuntime, words: &str, wanted: &str) -> Result<bool> {
     Ok(is_right)
 }
 
+/// Adds a line to a script. Where it ends in `HEX*COUNT` it gets that so many times.
+fn add_line(script: &mut String, line: &str) -> Result<()> {
+    let Some((front, count)) = line.split_once('*') else {
+        return Ok(writeln!(script, "{line}")?);
+    };
+    let (front, byte) = front.rsplit_once(' ').context("no word before it")?;
+    let count: usize = count.parse()?;
+    write!(script, "{front} ")?;
+    for _ in 0..count {
+        script.push_str(byte)?;
+    }
+    Ok(writeln!(script)?)
+}
+
 /// Writes a script.
 fn write_script(rt: &HostRuntime, name: &str, lines: &str) -> Result<()> {
     let mut script = String::new(rt.alloc());
     for line in lines.split('|') {
         if !line.is_empty() {
-            writeln!(script, "{line}")?;
+            add_line(&mut script, line)?;
         }
     }
     Ok(fs::write(rt, name, script.as_str())?)

@@ -13,6 +13,7 @@ pub struct Ended {
 }
 
 impl Ended {
+    /// A run of the program on the words of a command line, without its own name.
     pub fn of_words<S: AsStr>(rt: &HostRuntime, words: &[S]) -> Ended {
         let mut out = Vec::new(rt.alloc());
         let mut err = Vec::new(rt.alloc());
@@ -37,6 +38,7 @@ impl Ended {
         }
     }
 
+    /// Whether it ended with this status and wrote this to standard output and standard error, byte by byte.
     pub fn is(&self, status: u8, out: &[u8], err: &[u8]) -> bool {
         self.status == status && self.out.as_slice() == out && self.err.as_slice() == err
     }

@@ -1,20 +1,17 @@
 //! Events as lines of text.
 
-use anyhow::{Context, Result, ensure};
+use anyhow::{Result, ensure};
 use sn_device::MemDevice;
 use sn_model::{End, Event, Reply};
-use sn_mounted::new_device;
+use sn_mounted::{event_of, new_device};
 use sn_replies::print_replies;
 use sn_run::{Ran, Unwatched, run};
-use sn_script::read_script;
 use std::alloc::Global;
 use std::str;
 
-/// The event of a script's line.
-pub fn event_of(alloc: Global, line: &str) -> Result<Event> {
-    let script = format!(in alloc; "{line}\n")?;
-    let mut events = read_script(alloc, script.as_str().as_bytes())?;
-    events.pop().context(format_args!("no event: {line}"))
+/// What a run of events on a device comes to: of it nothing is promised, since it is compared.
+pub fn ran(alloc: Global, device: MemDevice, events: &[Event]) -> Ran<MemDevice> {
+    run(alloc, device, events, &mut Unwatched)
 }
 
 /// The events of a text, one a line.
@@ -29,12 +26,7 @@ pub fn events_of(alloc: Global, text: &str) -> Result<Vec<Event>> {
 /// A line for each event of a run on a new disk, which has to end well.
 pub fn replies(alloc: Global, text: &str) -> Result<String> {
     let events = events_of(alloc, text)?;
-    let Ran { replies, end, .. } = run(
-        alloc,
-        new_device(alloc)?,
-        events.as_slice(),
-        &mut Unwatched,
-    );
+    let Ran { replies, end, .. } = ran(alloc, new_device(alloc)?, events.as_slice());
     ensure!(end == End::Clean, "no memory for the run");
     lines_of(alloc, replies.as_slice())
 }
@@ -48,6 +40,6 @@ pub fn lines_of(alloc: Global, replies: &[Reply]) -> Result<String> {
 /// A line for each event of a run on a device, or none where it isn't mounted.
 pub fn found_on(alloc: Global, device: MemDevice, text: &str) -> Result<String> {
     let events = events_of(alloc, text)?;
-    let Ran { replies, .. } = run(alloc, device, events.as_slice(), &mut Unwatched);
+    let Ran { replies, .. } = ran(alloc, device, events.as_slice());
     lines_of(alloc, replies.as_slice())
 }

@@ -71,6 +71,8 @@ fn is_out_kept_in_use(rt: &HostRuntime) -> Result<bool> {
     Ok(cut.is(1, b"err EBADF\n", b"snapfs: file\n") && bytes.as_slice() == b"in use".as_slice())
 }
 
+/// Compares images that are made, and those that are in use, with what they have to be. A file that can't be read or written
+/// is an error.
 pub fn run(report: &mut Report<'_>) -> Result<()> {
     let rt = report.runtime();
     let device = least_device(report.alloc())?;

@@ -8,9 +8,10 @@ use sn_run::{Ran, Unwatched};
 use sn_table::{Report, Tally};
 use std::alloc::Global;
 
-/// Two directories, with a restart behind each, and a step and a `sync` behind the first; and what is there in the end.
+/// Two directories, with a restart behind each, and two steps and a `sync`, which finishes them, behind the first; and what is
+/// there in the end.
 const EVENTS: &str =
-    "0 login 0 0 -\n0 mkdir /a 0755\nstep\n0 sync\nrestart\n0 login 0 0 -\n0 mkdir /b 0755\nrestart\n0 login 0 0 -\n0 stat /a\n0 stat /b\n";
+    "0 login 0 0 -\n0 mkdir /a 0755\nstep\nstep\n0 sync\nrestart\n0 login 0 0 -\n0 mkdir /b 0755\nrestart\n0 login 0 0 -\n0 stat /a\n0 stat /b\n";
 
 /// No run of these events makes as many calls of its device.
 const MOST_CALLS: u64 = 1_000;
@@ -58,9 +59,9 @@ impl Course {
         is_first && is_refused(reply, Errno::Eio)
     }
 
-    /// A step or a `sync` is done, or it is refused.
+    /// A `sync` is done, and a step isn't the last, or it is refused.
     fn steps(&mut self, reply: &Reply) -> bool {
-        matches!(reply, Reply::Done | Reply::Progress(Progress::Done)) || self.makes_no_root(reply)
+        matches!(reply, Reply::Done | Reply::Progress(Progress::More)) || self.makes_no_root(reply)
     }
 
     /// A session is opened, unless it is open still.

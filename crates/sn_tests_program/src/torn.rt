@@ -4,13 +4,14 @@
 //! second alone, also in the unmount with which each run ends. Some records take several sectors, so that a crash may
 //! leave one of them without another, or a part of one. Steps, restarts, unmounts and calls that don't fit make roots.
 
-use crate::events::{events_of, found_on, lines_of as lines_of_replies};
+use crate::events::{events_of, found_on, lines_of as lines_of_replies, ran};
 use anyhow::{Result, ensure};
 use sn_device::{Device, MemDevice};
-use sn_model::{End, Event};
+use sn_model::{End, Event, Reply};
 use sn_mounted::{FILLS, crashed, least_device, new_device};
-use sn_run::{Ran, Unwatched, run};
+use sn_run::Ran;
 use std::alloc::Global;
+use std::ops::Range;
 
 /// What is asked behind a crash: attributes, lists of entries, names and bytes.
 const ASKED: &str =
@@ -109,17 +110,28 @@ fn run_whole(alloc: Global, plan: Plan, events: &[Event], least: u64) -> Result<
         replies,
         end,
         device,
-    } = run(alloc, device_of(alloc, plan)?, events, &mut Unwatched);
+    } = ran(alloc, device_of(alloc, plan)?, events);
     ensure!(end == End::Clean, "no memory for a run");
     let unmounted = device.status().writes;
-    let said = lines_of_replies(alloc, replies.as_slice())?;
-    let writes = answered_behind(alloc, plan, events, said.as_str(), least, unmounted)?;
+    let writes = writes_of(alloc, plan, events, replies, least..unmounted)?;
     let found = found_on(alloc, device, ASKED)?;
     Ok(Whole {
         found,
         writes,
         unmounted,
     })
+}
+
+/// How many writes are made up to the last of some events, with these replies: a number in a range, or the end of it.
+fn writes_of(
+    alloc: Global,
+    plan: Plan,
+    events: &[Event],
+    replies: Vec<Reply>,
+    writes: Range<u64>,
+) -> Result<u64> {
+    let said = lines_of_replies(alloc, replies.as_slice())?;
+    answered_behind(alloc, plan, events, said.as_str(), writes.start, writes.end)
 }
 
 /// The least number of writes behind which all events are answered so. With more writes no event is answered otherwise, so
@@ -149,9 +161,7 @@ fn answered_behind(
 
 /// Whether a run of which so many writes succeed is mounted, and answers so.
 fn says(alloc: Global, plan: Plan, events: &[Event], stop: u64, said: &str) -> Result<bool> {
-    let mut device = device_of(alloc, plan)?;
-    device.stop_at(stop);
-    let Ran { replies, end, .. } = run(alloc, device, events, &mut Unwatched);
+    let Ran { replies, end, .. } = run_short(alloc, plan, events, stop)?;
     let lines = lines_of_replies(alloc, replies.as_slice())?;
     Ok(matches!(end, End::Clean | End::Stopped) && lines.as_str() == said)
 }
@@ -211,7 +221,7 @@ fn wrong_behind(
 ) -> Result<u32> {
     let mut wrong = 0_u32;
     for number in 0..plan.crashes {
-        let device = cut_short(alloc, plan, events, stop)?;
+        let Ran { device, .. } = run_short(alloc, plan, events, stop)?;
         let left = crashed(alloc, device, crash_of(plan, number))?;
         if !is_right(alloc, left, step, stop)? {
             wrong = wrong.saturating_add(1);
@@ -229,12 +239,11 @@ fn crash_of(plan: Plan, number: u32) -> u32 {
     }
 }
 
-/// The device behind a run of which so many writes succeed, and no later call.
-fn cut_short(alloc: Global, plan: Plan, events: &[Event], stop: u64) -> Result<MemDevice> {
+/// A run of which so many writes succeed, and no later call.
+fn run_short(alloc: Global, plan: Plan, events: &[Event], stop: u64) -> Result<Ran<MemDevice>> {
     let mut device = device_of(alloc, plan)?;
     device.stop_at(stop);
-    let Ran { device, .. } = run(alloc, device, events, &mut Unwatched);
-    Ok(device)
+    Ok(ran(alloc, device, events))
 }
 
 fn is_right(alloc: Global, device: MemDevice, step: &Step, stop: u64) -> Result<bool> {

@@ -150,6 +150,8 @@ fn push_listed(all: &[ListedName], text: &mut String) -> Result<()> {
     Ok(())
 }
 
+/// Appends a name, or its first letter, `*` and its length where it has `LONG` bytes or more. An error where it isn't
+/// text.
 pub fn push_name(name: &[u8], text: &mut String) -> Result<()> {
     let count = name.len();
     if count < LONG {

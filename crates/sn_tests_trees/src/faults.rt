@@ -67,6 +67,9 @@ const TAKEN: [(Call, u32); 4] = [
     (Call::Remove, 1),
 ];
 
+/// Fails each read in turn of each call over trees, inodes and directories: the call tells it, and is right when it is
+/// made again. Then makes each plan with 0 to 3 free blocks: it is refused just where they are too few. An error is a
+/// fault that no case can have, or a want of memory.
 pub fn run(report: &mut Report<'_>) -> Result<()> {
     let image = image(report.alloc())?;
     let tally = reads(report, &image)?;

@@ -14,7 +14,7 @@ use Rattle.sn_tree.specs.Drafts.{Draft}
 use Rattle.sn_tree.specs.declared.fault.PlanFault.{PlanFault}
 use Rattle.sn_tree.specs.declared.fault.PlanFault.TheVariants.{Full, Tree}
 use Rattle.sn_tree_read.specs.declared.fault.TreeFault.TheVariants.{Damaged}
-use Rattle.sn_cp_nodes.specs.Built.{IsSafeGround, KeepsReach}
+use Rattle.sn_cp_nodes.specs.Built.{KeepsReach}
 use Rattle.sn_cp_build.specs.declared.building.Built.{Built}
 use Rattle.sn_cp_build.proofs.FrozenLemmas.{told_kept}
 use Rattle.sn_cp_build.specs.Building.{IsTreePlanned}

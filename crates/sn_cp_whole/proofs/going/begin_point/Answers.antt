@@ -52,16 +52,16 @@ returns-clause-begins g c told h world rr =
     (gate_stays _ _ c.other-slot.result p.gate _ _ begins.touched begins.synced ((λ i. gate_in (reads (same i)) (c.other-slot.ensures i)) ∙ c.in-Ok.ensures.gate told)) in (
       leaves _ world _ rr p.built p.next p.gate well builds c.in-Ok.ensures.spelled c.in-Ok.ensures.next _ _ same begins whole,
       goes_on _ world _ rr p.built p.next p.gate well builds c.in-Ok.ensures.spelled c.in-Ok.ensures.next _ _ same begins whole
-          (record { point = c.new.result; free = c.count_free_from-free.result; since = p.changed }) _ work c.new.ensures.within stands free c.in-Ok.ensures.empty c.in-Ok-begin.ensures.turned,
+          (record { point = c.new.result; free = c.count_free_from-free.result }) (layer_of p.changed) _ work c.new.ensures.within stands free c.in-Ok.ensures.empty c.in-Ok-begin.ensures.turned,
     )
 
 pub returns-clause-going : goal.returns-clause-going
 returns-clause-going g c =
     let p = c.in-Ok.planned in
     let n_is = c.places-places.ensures ∙ ap (λ (at : LogPosition). at.blocks) c.position.ensures in
-    is_going _ c.places-places.result c.args.base.now p.built p.next c.other-slot.result p.gate (record { point = c.new.result; free = c.count_free_from-free.result; since = p.changed })
+    is_going _ c.places-places.result c.args.base.now p.built p.next c.other-slot.result p.gate (record { point = c.new.result; free = c.count_free_from-free.result })
     n_is c.blocks-blocks.ensures.valid (c.requires.base.words ∙ sym n_is) c.in-Ok.ensures.well c.in-Ok.ensures.spelled c.in-Ok.ensures.next c.other-slot.ensures
-    c.new.ensures.work c.new.ensures.stage c.new.ensures.within (c.count_free_from-free.ensures ∙ ap (free_data p.built.map) c.start.ensures) c.in-Ok.ensures.empty
+    c.new.ensures.work c.new.ensures.stage c.new.ensures.within (c.count_free_from-free.ensures ∙ ap (free_data p.built.map) c.start.ensures)
 
 pub returns-clause-stands : goal.returns-clause-stands
 returns-clause-stands g c told =

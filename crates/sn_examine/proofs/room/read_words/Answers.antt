@@ -1,5 +1,4 @@
 use Rattle.std.proofs.Common.{sym, subst}
-use Rattle.sn_model.specs.declared.mount.MountFault.{MountFault}
 use Rattle.sn_examine.specs.Rooms.{IsNoDamage}
 use Rattle.sn_examine.proofs.RoomLemmas.{read_is_none}
 use Rattle.sn_examine.proofs.room.read_words.Goals as goal

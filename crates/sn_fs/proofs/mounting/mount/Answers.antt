@@ -1,4 +1,4 @@
-use Rattle.std.proofs.Common.{false, sym, ap, subst}
+use Rattle.std.proofs.Common.{false, None, refl, sym, ap, subst}
 use Rattle.sn_device.specs.Disk.{Disk}
 use Rattle.sn_block.specs.Lending.{device_of}
 use Rattle.sn_model.specs.declared.mount.MountFault.TheVariants.{Memory}
@@ -10,11 +10,11 @@ use Rattle.sn_fs.proofs.mounting.mount.Goals as goal
 pub returns-in-Ok-recover-clause-mounted : goal.returns-in-Ok-recover-clause-mounted
 returns-in-Ok-recover-clause-mounted g c told =
     let r = c.in-Ok-recover.field-0 in
-    let h = holding g.D.Device c.recover.new.blocks r.log r.world r.room r.base in
+    let h = holding g.D.Device c.recover.new.blocks r.log r.world r.room r.base None in
     let old = g.D.Device.disk (device_of c.in-Ok.blocks) in
     let sectors = (g.D.Device.status (device_of c.in-Ok.blocks)).sectors in
     subst (λ (d : _). Mounts (g.D.Device.status d).sectors (g.D.Device.disk d) h false) c.in-Ok.ensures.device
-    (mounts sectors old h (c.in-Ok-recover.ensures.recovers told) (c.in-Ok-recover.ensures.clean told) c.in-Ok-recover.ensures.kept)
+    (mounts sectors old h (c.in-Ok-recover.ensures.recovers told) (c.in-Ok-recover.ensures.clean told) c.in-Ok-recover.ensures.kept c.in-Ok-recover.ensures.since refl)
 
 pub returns-in-Err-recover-clause-unmounted : goal.returns-in-Err-recover-clause-unmounted
 returns-in-Err-recover-clause-unmounted g c told =

@@ -1,4 +1,4 @@
-use Rattle.std.proofs.Common.{inl, inr, refl, sym, subst, ◌∙◌}
+use Rattle.std.proofs.Common.{inl, inr, refl}
 use Rattle.sn_run.proofs.server.remount.Goals as goal
 
 pub returns-in-Ok-clause-mounts : goal.returns-in-Ok-clause-mounts

@@ -7,7 +7,7 @@ use Rattle.sn_model.specs.Settling.{dropped, dropped_if, is_abandoned}
 use Rattle.sn_model.specs.World.{World}
 use Rattle.sn_model.proofs.LoseLemmas.{dropped_once, still_abandoned}
 use Rattle.sn_core.specs.Numbering.{has_gone}
-use Rattle.sn_core.specs.Plain.{kept_of, world_of}
+use Rattle.sn_core.specs.Plain.{kept_of, kept_since_of, world_of}
 use Rattle.sn_core.proofs.NumberLemmas.{abandoned_there, gone_by, kept_more}
 use Rattle.sn_core.proofs.ToldLemmas.{tells_if, told_all, told_few}
 use Rattle.sn_core.proofs.world.PlainWorld.drop_each_closed.Goals as goal
@@ -29,6 +29,8 @@ loop-number-preserved c =
       gone = λ n h. by_now (gone_by start mid number n (ap (λ (w : World). has_gone start w n) (sym e) ∙ h));
       kept = λ n. kept_more start mid number (kept_of c.args.self.now) (kept_of c.loop-number.self) (kept_of c.drop_if_closed.new.self) (λ h. (c.loop-number.invariant.left number h).0) c.loop-number.invariant.kept c.drop_if_closed.ensures.kept n
           ∙ sym (ap (λ (w : World). has_gone start w n || kept_of c.args.self.now n) e);
+      since = λ n. kept_more start mid number (kept_since_of c.args.self.now) (kept_since_of c.loop-number.self) (kept_since_of c.drop_if_closed.new.self) (λ h. (c.loop-number.invariant.left number h).0) c.loop-number.invariant.since c.drop_if_closed.ensures.since n
+          ∙ sym (ap (λ (w : World). has_gone start w n || kept_since_of c.args.self.now n) e);
       told = subst (λ (w : World). TellsGone start.live w.live c.drop_if_closed.new.dropped.items) (sym e)
           (subst (TellsGone start.live (dropped_if mid number).live) (sym c.drop_if_closed.ensures.told)
           (tells_if start mid number true c.loop-number.dropped.items (λ h. abandoned_there start number (c.loop-number.invariant.left number h).0) c.loop-number.invariant.told));

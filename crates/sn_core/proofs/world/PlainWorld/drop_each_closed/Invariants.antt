@@ -5,7 +5,7 @@ use Rattle.sn_changed.specs.Dropped.{TellsGone}
 use Rattle.sn_model.specs.Settling.{dropped, is_abandoned}
 use Rattle.sn_core.specs.Called.{AreNumbers}
 use Rattle.sn_core.specs.Numbering.{has_gone}
-use Rattle.sn_core.specs.Plain.{kept_of, world_of}
+use Rattle.sn_core.specs.Plain.{kept_of, kept_since_of, world_of}
 use Rattle.sn_core.proofs.world.PlainWorld.drop_each_closed.Given as goal
 
 -- none of those so far is abandoned any more
@@ -19,4 +19,5 @@ invariant-loop-number l = record {
   closed : All (λ file. file.by_close ≡ true) l.dropped.items;
   few : array_vec_len l.dropped ≤ l.number-index;
   kept : (n : ℕ) → kept_of l.self n ≡ (has_gone (world_of l.fn.self) (world_of l.self) n || kept_of l.fn.self n);
+  since : (n : ℕ) → kept_since_of l.self n ≡ (has_gone (world_of l.fn.self) (world_of l.self) n || kept_since_of l.fn.self n);
 }

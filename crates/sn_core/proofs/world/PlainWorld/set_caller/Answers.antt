@@ -5,7 +5,7 @@ use Rattle.sn_desc.specs.InUse.{live_in}
 use Rattle.sn_model.specs.Settling.{dropped, is_held}
 use Rattle.sn_model.specs.World.{World}
 use Rattle.sn_core.specs.Numbering.{has_closed, has_gone}
-use Rattle.sn_core.specs.Plain.{kept_of, world_of}
+use Rattle.sn_core.specs.Plain.{kept_of, kept_since_of, world_of}
 use Rattle.sn_core.specs.Told.{dropped_lost}
 use Rattle.sn_core.proofs.CallerLemmas.{live_after, turned_lost, turned_numbers}
 use Rattle.sn_core.proofs.ToldLemmas.{caller_closed, caller_tells, closed_lost, lost_descriptors, lost_few, lost_world}
@@ -34,6 +34,18 @@ returns-clause-kept c n =
     ∙ ap (λ (b : Bool). b || kept_of c.args.self.now n)
     (closed_lost old turned mid c.turn-released.result.items c.as_slice.result.now c.as_slice.ensures.value live c.turn-released.ensures.released c.turn-released.ensures.held c.drop_each_closed-dropped.ensures.gone c.drop_each_closed-dropped.ensures.left c.args.lost n)
     ∙ sym (ap (λ (w : World). has_closed old w n || kept_of c.args.self.now n) c.drop_lost.ensures.world)
+
+pub returns-clause-since : goal.returns-clause-since
+returns-clause-since c n =
+    let old = world_of c.args.self.now in
+    let turned = world_of c.turn-released.new.self in
+    let mid = world_of c.drop_each_closed-dropped.new.self in
+    let live = live_after old turned c.args.session c.args.caller c.turn-released.ensures.world in
+    c.drop_lost.ensures.since n ∙ c.drop_each_closed-dropped.ensures.since n
+    ∙ ap (λ (k : ℕ → Bool). has_gone turned mid n || k n) c.turn-released.ensures.since
+    ∙ ap (λ (b : Bool). b || kept_since_of c.args.self.now n)
+    (closed_lost old turned mid c.turn-released.result.items c.as_slice.result.now c.as_slice.ensures.value live c.turn-released.ensures.released c.turn-released.ensures.held c.drop_each_closed-dropped.ensures.gone c.drop_each_closed-dropped.ensures.left c.args.lost n)
+    ∙ sym (ap (λ (w : World). has_closed old w n || kept_since_of c.args.self.now n) c.drop_lost.ensures.world)
 
 pub returns-clause-told : goal.returns-clause-told
 returns-clause-told c =

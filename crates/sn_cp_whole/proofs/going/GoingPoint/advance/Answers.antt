@@ -1,7 +1,7 @@
 use Rattle.sn_block.specs.Lending.{device_of}
 use Rattle.sn_cp.specs.Points.{stage_of, work_of}
 use Rattle.sn_cp_whole.specs.Going.{with_disk}
-use Rattle.sn_cp_whole.proofs.GoingLemmas.{advanced, before_opening, stepped}
+use Rattle.sn_cp_whole.proofs.GoingLemmas.{advanced, before_opening, stands_next, stepped, within_next}
 use Rattle.sn_cp_whole.proofs.going.GoingPoint.advance.Goals as goal
 
 pub returns-clause-goes_on : goal.returns-clause-goes_on
@@ -12,3 +12,11 @@ returns-clause-goes_on g c told h world frozen on =
 
 pub returns-clause-touched : goal.returns-clause-touched
 returns-clause-touched g c told = stepped (work_of c.args.self.now.point) (stage_of c.args.self.now.point) c.requires.within c.advance.result _ _ (c.advance.ensures.bytes told)
+
+pub returns-clause-within : goal.returns-clause-within
+returns-clause-within g c =
+    let old = c.args.self.now.point in
+    within_next old c.advance.new.self c.requires.whole c.requires.within c.requires.more c.advance.result c.advance.ensures.same c.advance.ensures.onward
+
+pub returns-clause-stands : goal.returns-clause-stands
+returns-clause-stands g c told = stands_next c.args.self.now.point c.advance.new.self c.advance.result _ c.advance.ensures.same c.advance.ensures.onward (c.advance.ensures.bytes told).next

@@ -1,14 +1,13 @@
-use Rattle.std.proofs.Common.{Bool, Err, Ok, false, true, sym, ap, subst, ◌∙◌}
-use Rattle.sn_held.specs.Held.{Held}
+use Rattle.std.proofs.Common.{Bool, false, sym, ap, subst, ◌∙◌}
 use Rattle.sn_model.specs.declared.call.Event.TheVariants.{Call}
-use Rattle.sn_model.specs.declared.reply.Errno.TheVariants.{Enospc, Estopped}
+use Rattle.sn_model.specs.declared.reply.Errno.TheVariants.{Estopped}
 use Rattle.sn_model.specs.declared.reply.Reply.{Reply}
 use Rattle.sn_model.specs.Machine.{refused}
 use Rattle.sn_fs.specs.Answers.{Answers}
 use Rattle.sn_fs.specs.Filesystem.{has_stopped, held}
-use Rattle.sn_fs.specs.Pointing.{Points, errno_of_point}
+use Rattle.sn_fs.specs.Pointing.{errno_of_point}
 use Rattle.sn_fs.proofs.CallLemmas.{stopped_answers}
-use Rattle.sn_fs.proofs.PointLemmas.{call_behind, call_unpointed, call_without_room}
+use Rattle.sn_fs.proofs.FinishLemmas.{call_after_finish, call_cut}
 use Rattle.sn_fs.proofs.fs.Fs.call.Goals as goal
 
 pub returns-then-self-clause-answered : goal.returns-then-self-clause-answered
@@ -17,6 +16,13 @@ returns-then-self-clause-answered g c told =
     let e = Call c.args.session c.args.call.now in
     subst (λ (r : Reply). Answers e r h c.args.self.now.has_stopped h c.args.self.now.has_stopped) (sym c.refused.ensures)
     (subst (λ (b : Bool). Answers e (refused Estopped) h b h b) (sym c.if-self.true) (stopped_answers h c.args.session c.args.call.now))
+
+pub returns-then-is_between-clause-answered : goal.returns-then-is_between-clause-answered
+returns-then-is_between-clause-answered g c told =
+    let h = held c.args.self.now in
+    let e = Call c.args.session c.args.call.now in
+    let new = c.serve_between.new.self in
+    subst (λ (b : Bool). Answers e c.serve_between.result h b (held new) (has_stopped new)) (sym c.if-self.false) (c.serve_between.ensures.answered told)
 
 pub returns-in-Some-clause-answered : goal.returns-in-Some-clause-answered
 returns-in-Some-clause-answered g c told =
@@ -29,38 +35,19 @@ pub returns-in-Err-clause-answered : goal.returns-in-Err-clause-answered
 returns-in-Err-clause-answered g c told =
     let h = held c.args.self.now in
     let e = Call c.args.session c.args.call.now in
-    let new = held c.make_point.new.self in
-    let stopped = has_stopped c.make_point.new.self in
+    let new = held c.finish.new.self in
+    let stopped = has_stopped c.finish.new.self in
     let fault = c.in-Err.fault in
-    let lacks = c.in_default.ensures.served told in
-    let points = subst (λ (x : Held). Points (Err fault) x new) lacks.1 (c.in-Err.ensures.points told) in
-    let a = call_unpointed h new c.args.session c.args.call.now fault lacks.2 (c.requires.whole c.if-self.false) lacks.0 points in
+    let a = call_cut h (held c.serve.new.self) new c.args.session c.args.call.now fault (c.requires.whole c.if-self.false) (c.in_default.ensures.served told) (c.in-Err.ensures.finishes told) in
     subst (λ (r : Reply). Answers e r h c.args.self.now.has_stopped new stopped) (sym (c.refused-in-Err.ensures ∙ ap refused c.errno_of.ensures))
     (subst (λ (b : Bool). Answers e (refused (errno_of_point fault)) h b new stopped) (sym c.if-self.false)
     (subst (λ (b : Bool). Answers e (refused (errno_of_point fault)) h false new b) (sym c.in-Err.ensures.stopped) a))
 
-pub returns-in-Some-serve-clause-answered : goal.returns-in-Some-serve-clause-answered
-returns-in-Some-serve-clause-answered g c told =
+pub returns-clause-answered : goal.returns-clause-answered
+returns-clause-answered g c told =
     let h = held c.args.self.now in
     let e = Call c.args.session c.args.call.now in
-    let mid = held c.make_point.new.self in
-    let new = c.serve-2.new.self in
-    let lacks = c.in_default.ensures.served told in
-    let points = subst (λ (x : Held). Points (Ok tt) x mid) lacks.1 (c.in_default-make_point.ensures.points told) in
-    subst (λ (b : Bool). Answers e c.in-Some-serve.reply h b (held new) (has_stopped new)) (sym c.if-self.false)
-    (call_behind h mid (held new) c.args.session c.args.call.now c.in-Some-serve.reply (has_stopped new) lacks.0 points (c.in-Some-serve.ensures.served told))
-
-pub returns-in-None-clause-answered : goal.returns-in-None-clause-answered
-returns-in-None-clause-answered g c told =
-    let h = held c.args.self.now in
-    let e = Call c.args.session c.args.call.now in
-    let mid = held c.make_point.new.self in
-    let new = held c.serve-2.new.self in
-    let stopped = has_stopped c.serve-2.new.self in
-    let lacks = c.in_default.ensures.served told in
-    let points = subst (λ (x : Held). Points (Ok tt) x mid) lacks.1 (c.in_default-make_point.ensures.points told) in
-    let whole = c.make_point.ensures.sound.whole c.in_default-make_point.ensures.stopped in
-    let a = call_without_room c.payloads_fit.ensures h mid new c.args.session c.args.call.now whole lacks.0 points (c.in-None.ensures.served told) in
-    subst (λ (r : Reply). Answers e r h c.args.self.now.has_stopped new stopped) (sym c.refused-in-None.ensures)
-    (subst (λ (b : Bool). Answers e (refused Enospc) h b new stopped) (sym c.if-self.false)
-    (subst (λ (b : Bool). Answers e (refused Enospc) h false new b) (sym c.in-None.ensures.running) a))
+    let new = c.serve_between-2.new.self in
+    let reply = c.serve_between-2.result in
+    subst (λ (b : Bool). Answers e reply h b (held new) (has_stopped new)) (sym c.if-self.false)
+    (call_after_finish h (held c.serve.new.self) (held c.finish.new.self) (held new) c.args.session c.args.call.now reply (has_stopped new) (c.in_default.ensures.served told) (c.in_default-finish.ensures.finishes told) (c.serve_between-2.ensures.answered told))

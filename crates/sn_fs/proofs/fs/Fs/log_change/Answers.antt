@@ -10,6 +10,8 @@ returns-in-Ok-append-clause-made g c =
     record {
       made = record { tree = made.0; applied = made.1; world = made.2 };
       kept = c.in-Ok.ensures.kept;
+      since = c.in-Ok.ensures.since;
+      point = refl;
       charged = c.log.ensures;
       at = c.in-Ok-append.ensures.moves;
       base = λ i. record { slot = c.args.self.now.base.slot; root = c.args.self.now.base.root; words = c.args.self.now.base.map; changed = c.in-Ok.ensures.layer i };

@@ -1,5 +1,5 @@
-use Rattle.std.proofs.Common.{◌≡◌, ℕ, ◌+◌, ◌-◌, ◌^◌, ◌≤◌, Bool, false, Option, Some, refl, sym, ap, subst, ◌∙◌, arith}
-use Rattle.std.specs.Prelude.{if◌then◌else◌, is_some}
+use Rattle.std.proofs.Common.{◌≡◌, ℕ, ◌+◌, ◌-◌, ◌^◌, ◌≤◌, Bool, false, Some, refl, sym, ap, subst, ◌∙◌, arith}
+use Rattle.std.specs.Prelude.{is_some}
 use Rattle.sn_limits.specs.Versions.{version_1}
 use Rattle.sn_model.specs.declared.reply.Errno.TheVariants.{Enomem}
 use Rattle.sn_model.specs.declared.reply.Reply.{Reply}
@@ -12,19 +12,23 @@ use Rattle.sn_model.specs.World.{World}
 use Rattle.sn_model.specs.Worlds.{IsWorld}
 use Rattle.sn_desc.specs.InUse.{live_in}
 use Rattle.sn_core.specs.Called.{CanTurn, HasRoom}
-use Rattle.sn_core.specs.Plain.{kept_of, room_of, world_of}
+use Rattle.sn_core.specs.Plain.{room_of, world_of}
 use Rattle.sn_core.specs.Served.{HasNumber}
 use Rattle.sn_core.proofs.StepLemmas.{choosing, chosen_becomes, chosen_lost, chosen_turns, chosen_whole, has_number, none_made, served_whole}
 use Rattle.sn_overlay.specs.Needs.{nameless_in}
-use Rattle.sn_model.specs.declared.outcome.Caller.{Caller}
-use Rattle.sn_room.specs.Rooms.{RoomCounts, fits}
+use Rattle.sn_room.specs.Rooms.{RoomCounts}
 use Rattle.sn_held.specs.Held.{Held}
+use Rattle.sn_block.specs.Lending.{device_of}
+use Rattle.sn_device.specs.Crash.{Touches}
+use Rattle.sn_log.specs.Places.{base_at}
+use Rattle.sn_ondisk.specs.LogHalf.{InHalf}
 use Rattle.sn_fs.specs.Changing.{FailsChange, IsLogged, errno_of}
 use Rattle.sn_fs.specs.Filesystem.{held}
+use Rattle.sn_fs.specs.Mounted.{going_in}
 use Rattle.sn_fs.specs.Serving.{Serves, Turns, reply_to}
 use Rattle.sn_fs.proofs.CallLemmas.{fewer_left, lacking, made_serves, told_serves, undecided_serves, unmade_serves, unprepared_serves}
 use Rattle.sn_fs.proofs.DecisionLemmas.{can_be_made}
-use Rattle.sn_fs.proofs.ServeLemmas.{HasRoomFor, based_still, lacks_nothing, made_over, one_at_most, room_fewer, room_kept, same_twice, some_lack, still_same, within_still}
+use Rattle.sn_fs.proofs.ServeLemmas.{HasRoomFor, lacks_nothing, made_over, one_at_most, room_fewer, room_kept, same_twice, some_lack, stands_same, still_based, still_same, still_stands, within_still}
 use Rattle.sn_fs.proofs.fs.Fs.serve.Goals as goal
 
 pub returns-in-Err-clause-served : goal.returns-in-Err-clause-served
@@ -73,7 +77,7 @@ returns-then-lacks-clause-served g c told =
     let o = c.in-Ok.outcome in
     let same = c.in-Ok-prepare.ensures.held in
     let chosen = choosing p.world h.world p.kept h.kept o c.choose-change.result (ap (λ (x : Held). x.world) same) (ap (λ (x : Held). x.kept) same) c.choose-change.ensures in
-    let fitting = c.fits-fits.ensures.exact ∙ ap (λ (n : ℕ). fits version_1 h.room n o) c.nameless.ensures in (
+    let fitting = c.fits-fits.ensures.exact in (
       lacking h c.args.session c.args.call.now o c.choose-change.result c.in-Some.change c.in-Ok.ensures.numbers (c.requires.sound.whole c.requires.running) c.in-Ok.ensures.decided chosen c.in-Some.is
           (some_lack h p o c.in-Some.change c.fits-fits.result c.lacks.result same fitting c.if-lacks.true c.lacks.ensures),
       same,
@@ -89,7 +93,7 @@ returns-in-Err-log_change-clause-served g c told =
     let after = held c.log_change.new.self in
     let same = c.in-Ok-prepare.ensures.held in
     let chosen = choosing p.world h.world p.kept h.kept o c.choose-change.result (ap (λ (x : Held). x.world) same) (ap (λ (x : Held). x.kept) same) c.choose-change.ensures in
-    let fitting = c.fits-fits.ensures.exact ∙ ap (λ (n : ℕ). fits version_1 h.room n o) c.nameless.ensures in
+    let fitting = c.fits-fits.ensures.exact in
     let all = lacks_nothing h p o c.in-Some.change c.fits-fits.result c.lacks.result same fitting c.if-lacks.false c.lacks.ensures in
     let made = subst (λ (x : Held). FailsChange g.D.Device.tells_bytes fault c.in-Some.change x after) same c.in-Err-log_change.ensures.made in
     let fails = subst (λ (b : Bool). FailsChange b fault c.in-Some.change h after) told made in
@@ -110,8 +114,9 @@ returns-in-Err-log_change-clause-sound g c =
       within = λ goes_on. within_still c.args.self.now.log.blocks c.log_change.new.self.log.blocks _ _ (failed.blocks ∙ ap (λ (x : Held). x.at.blocks) prepared.held) (failed.sectors ∙ ap (λ (x : Held). x.status.sectors) prepared.held) (c.requires.sound.within running);
       whole = λ goes_on. subst (λ (x : Held). IsWorld version_1 x.world) (sym (same goes_on)) (c.requires.sound.whole running);
       parked = λ goes_on. subst (λ (x : Held). x.room.dropped + nameless_in x.world.live ≤ 2 ^ 33) (sym (same goes_on)) (c.requires.sound.parked running);
-      based = λ goes_on. based_still c.args.self.now.log c.log_change.new.self.log c.args.self.now.base c.log_change.new.self.base (failed.blocks ∙ ap (λ (x : Held). x.at.blocks) prepared.held) (failed.epoch ∙ ap (λ (x : Held). x.at.epoch) prepared.held)
+      based = λ goes_on. still_based c.args.self.now.going c.log_change.new.self.going c.args.self.now.log c.log_change.new.self.log c.args.self.now.base c.log_change.new.self.base (failed.going ∙ prepared.going) (failed.blocks ∙ ap (λ (x : Held). x.at.blocks) prepared.held) (failed.epoch ∙ ap (λ (x : Held). x.at.epoch) prepared.held)
           (same_twice c.args.self.now.base c.prepare.new.self.base c.log_change.new.self.base prepared.base failed.base) (c.requires.sound.based running);
+      stands = λ goes_on told. stands_same c.args.self.now.going c.log_change.new.self.going _ _ (failed.going ∙ prepared.going) (ap (λ (x : Held). x.disk) (same goes_on)) (c.requires.sound.stands running told);
       drops = λ goes_on. room_kept _ c.prepare.new.self.base.changed c.log_change.new.self.base.changed
           (subst (λ (x : Held). HasRoomFor x c.prepare.new.self.base.changed) (sym (same goes_on)) prepared.kept) (failed.kept (sym c.stops-self.ensures ∙ goes_on));
     }
@@ -179,7 +184,7 @@ returns-in-Ok-log_change-clause-served g c told =
     let chosen = choosing p.world h.world p.kept h.kept o picked (ap (λ (x : Held). x.world) same) (ap (λ (x : Held). x.kept) same) c.choose-change.ensures in
     let mid = held c.log_change.new.self in
     let new = held c.turn.new.self in
-    let fitting = c.fits-fits.ensures.exact ∙ ap (λ (n : ℕ). fits version_1 h.room n o) c.nameless.ensures in
+    let fitting = c.fits-fits.ensures.exact in
     let all = lacks_nothing h p o c.in-Some.change c.fits-fits.result c.lacks.result same fitting c.if-lacks.false c.lacks.ensures in
     let logged = subst (λ (b : Bool). IsLogged b c.in-Some.change o.charge h mid) told (subst (λ (x : Held). IsLogged g.D.Device.tells_bytes c.in-Some.change o.charge x mid) same c.in-Ok-log_change.ensures.made) in
     let a = made_serves h c.args.session c.args.call.now o picked c.in-Some.change c.in-Ok.ensures.numbers whole c.in-Ok.ensures.decided chosen c.in-Some.is c.changed_laws.ensures.changes mid new c.requires.alone logged all c.turn.ensures.turned in
@@ -197,12 +202,13 @@ returns-in-Ok-log_change-clause-sound g c =
     let mid = c.log_change.new.self in
     let logged = c.in-Ok-log_change.ensures in
     let m = made_over h.world p.world h.kept p.kept picked (room_of c.prepare.new.self.world) mid.world c.in-Some.change (ap (λ (x : Held). x.world) same) (ap (λ (x : Held). x.kept) same) c.in-Some.is logged.made.made logged.made.kept logged.room in
-    let fitting = c.fits-fits.ensures.exact ∙ ap (λ (n : ℕ). fits version_1 h.room n o) c.nameless.ensures in
+    let fitting = c.fits-fits.ensures.exact in
     let running = c.requires.running in
     let new = held c.turn.new.self in
     let turned = c.turn.ensures.turned in
     let turn = λ (w : World). dropped (with_caller w c.args.session picked.caller) in
     let blocks = ap (λ (x : Held). x.at.blocks) turned.is ∙ logged.blocks ∙ ap (λ (x : Held). x.at.blocks) same in
+    let going_is = c.turn.ensures.going ∙ logged.going ∙ c.in-Ok-prepare.ensures.going in
     let served = subst (λ (w : World). Becomes version_1 h.world c.args.session (decision version_1 h.world c.args.session c.args.call.now) o.told w) (sym (ap (λ (x : Held). x.world) turned.is ∙ ap turn m.world))
     (chosen_becomes h.world h.kept c.args.session c.args.call.now o picked m.tree c.in-Ok.ensures.numbers whole c.in-Ok.ensures.decided chosen m.done) in
     record {
@@ -216,8 +222,10 @@ returns-in-Ok-log_change-clause-sound g c =
         ap (λ (x : Held). x.room.dropped) same,
         c.fits-fits.ensures.within (fitting ∙ (lacks_nothing h p o c.in-Some.change c.fits-fits.result c.lacks.result same fitting c.if-lacks.false c.lacks.ensures).fits),
       );
-      based = λ _. based_still c.args.self.now.log c.turn.new.self.log c.args.self.now.base c.turn.new.self.base blocks (ap (λ (x : Held). x.at.epoch) turned.is ∙ logged.epoch ∙ ap (λ (x : Held). x.at.epoch) same)
+      based = λ _. still_based c.args.self.now.going c.turn.new.self.going c.args.self.now.log c.turn.new.self.log c.args.self.now.base c.turn.new.self.base going_is blocks (ap (λ (x : Held). x.at.epoch) turned.is ∙ logged.epoch ∙ ap (λ (x : Held). x.at.epoch) same)
           (same_twice c.args.self.now.base mid.base c.turn.new.self.base (same_twice c.args.self.now.base c.prepare.new.self.base mid.base c.in-Ok-prepare.ensures.base logged.base) c.turn.ensures.base) (c.requires.sound.based running);
+      stands = λ _ told. still_stands c.args.self.now.going c.turn.new.self.going c.args.self.now.log c.args.self.now.base _ _ going_is (c.requires.sound.based running) (g.met.D.Device.whole (device_of c.args.self.now.blocks) told)
+          (subst (Touches (InHalf (base_at h.at)) h.disk) (sym (ap (λ (x : Held). x.disk) turned.is)) (subst (λ (x : Held). Touches (InHalf (base_at x.at)) x.disk (held mid).disk) same (logged.made.touched told))) (c.requires.sound.stands running told);
       drops = λ _. c.turn.ensures.drops;
     }
 
@@ -297,7 +305,19 @@ returns-in-None-clause-sound g c =
         fewer_left h.world c.args.session picked.caller,
         c.requires.sound.parked running,
       );
-      based = λ _. based_still c.args.self.now.log c.turn-in-None.new.self.log c.args.self.now.base c.turn-in-None.new.self.base blocks (ap (λ (x : Held). x.at.epoch) turned.is ∙ ap (λ (x : Held). x.at.epoch) same)
+      based = λ _. still_based c.args.self.now.going c.turn-in-None.new.self.going c.args.self.now.log c.turn-in-None.new.self.log c.args.self.now.base c.turn-in-None.new.self.base (c.turn-in-None.ensures.going ∙ c.in-Ok-prepare.ensures.going) blocks (ap (λ (x : Held). x.at.epoch) turned.is ∙ ap (λ (x : Held). x.at.epoch) same)
           (same_twice c.args.self.now.base c.prepare.new.self.base c.turn-in-None.new.self.base c.in-Ok-prepare.ensures.base c.turn-in-None.ensures.base) (c.requires.sound.based running);
+      stands = λ _ told. stands_same c.args.self.now.going c.turn-in-None.new.self.going _ _ (c.turn-in-None.ensures.going ∙ c.in-Ok-prepare.ensures.going) (ap (λ (x : Held). x.disk) turned.is ∙ ap (λ (x : Held). x.disk) same) (c.requires.sound.stands running told);
       drops = λ _. c.turn-in-None.ensures.drops;
     }
+
+-- ---- the point in progress stays
+
+pub returns-in-Err-log_change-clause-point : goal.returns-in-Err-log_change-clause-point
+returns-in-Err-log_change-clause-point g c = ap going_in (c.in-Err-log_change.ensures.going ∙ c.in-Ok-prepare.ensures.going)
+
+pub returns-in-Ok-log_change-clause-point : goal.returns-in-Ok-log_change-clause-point
+returns-in-Ok-log_change-clause-point g c = ap going_in (c.turn.ensures.going ∙ c.in-Ok-log_change.ensures.going ∙ c.in-Ok-prepare.ensures.going)
+
+pub returns-in-None-clause-point : goal.returns-in-None-clause-point
+returns-in-None-clause-point g c = ap going_in (c.turn-in-None.ensures.going ∙ c.in-Ok-prepare.ensures.going)

@@ -1,4 +1,4 @@
-use Rattle.std.proofs.Common.{Bool, Err, Ok, false, true, sym, ap, subst, ◌∙◌}
+use Rattle.std.proofs.Common.{Bool, false, sym, ap, subst, ◌∙◌}
 use Rattle.sn_model.specs.declared.call.Event.TheVariants.{Call}
 use Rattle.sn_model.specs.declared.reply.Reply.{Reply}
 use Rattle.sn_model.specs.Machine.{refused}
@@ -6,7 +6,7 @@ use Rattle.sn_fs.specs.Answers.{Answers, AsksFirst}
 use Rattle.sn_fs.specs.Filesystem.{has_stopped, held}
 use Rattle.sn_fs.specs.Pointing.{errno_of_point}
 use Rattle.sn_fs.specs.Serving.{reply_to}
-use Rattle.sn_fs.proofs.AskLemmas.{asked_behind, asked_unpointed}
+use Rattle.sn_fs.proofs.AskLemmas.{asked_behind, asked_cut, asked_unpointed}
 use Rattle.sn_fs.proofs.CallLemmas.{undecided_serves}
 use Rattle.sn_fs.proofs.fs.Fs.sync.Goals as goal
 
@@ -18,6 +18,20 @@ returns-in-Err-clause-answered g c told =
     (subst (λ (b : Bool). Answers e (reply_to c.in-Err.error) h b h b) (sym c.requires.running)
     (λ s m. (undecided_serves h c.args.session c.args.call.now c.in-Err.error c.in-Err.ensures.decided s m).answers))
 
+-- the point in progress was cut off
+pub returns-in-Err-finish-clause-answered : goal.returns-in-Err-finish-clause-answered
+returns-in-Err-finish-clause-answered g c told =
+    let h = held c.args.self.now in
+    let e = Call c.args.session c.args.call.now in
+    let new = held c.finish.new.self in
+    let stopped = has_stopped c.finish.new.self in
+    let fault = c.in-Err-finish.fault in
+    let asked : AsksFirst h c.args.session c.args.call.now = record { asks = c.requires.asks; outcome = c.in-Ok.outcome; decided = c.in-Ok.ensures.decided } in
+    subst (λ (r : Reply). Answers e r h c.args.self.now.has_stopped new stopped) (sym (c.refused.ensures ∙ ap refused c.errno_of.ensures))
+    (subst (λ (b : Bool). Answers e (refused (errno_of_point fault)) h b new stopped) (sym c.requires.running)
+    (subst (λ (b : Bool). Answers e (refused (errno_of_point fault)) h false new b) (sym c.in-Err-finish.ensures.stopped)
+    (asked_cut h new c.args.session c.args.call.now fault asked (c.requires.sound.whole c.requires.running) (c.in-Err-finish.ensures.finishes told))))
+
 pub returns-in-Ok-make_point-clause-answered : goal.returns-in-Ok-make_point-clause-answered
 returns-in-Ok-make_point-clause-answered g c told =
     let h = held c.args.self.now in
@@ -27,7 +41,7 @@ returns-in-Ok-make_point-clause-answered g c told =
     let asked : AsksFirst h c.args.session c.args.call.now = record { asks = c.requires.asks; outcome = o; decided = c.in-Ok.ensures.decided } in
     subst (λ (b : Bool). Answers e o.told h b new (has_stopped c.make_point.new.self)) (sym c.requires.running)
     (subst (λ (b : Bool). Answers e o.told h false new b) (sym c.in-Ok-make_point.ensures.stopped)
-    (asked_behind h new c.args.session c.args.call.now asked (c.requires.sound.whole c.requires.running) (c.in-Ok-make_point.ensures.points told)))
+    (asked_behind h (held c.finish.new.self) new c.args.session c.args.call.now asked (c.requires.sound.whole c.requires.running) (c.in_default.ensures.finishes told) (c.in-Ok-make_point.ensures.points told)))
 
 pub returns-in-Err-make_point-clause-answered : goal.returns-in-Err-make_point-clause-answered
 returns-in-Err-make_point-clause-answered g c told =
@@ -37,7 +51,7 @@ returns-in-Err-make_point-clause-answered g c told =
     let stopped = has_stopped c.make_point.new.self in
     let fault = c.in-Err-make_point.fault in
     let asked : AsksFirst h c.args.session c.args.call.now = record { asks = c.requires.asks; outcome = c.in-Ok.outcome; decided = c.in-Ok.ensures.decided } in
-    subst (λ (r : Reply). Answers e r h c.args.self.now.has_stopped new stopped) (sym (c.refused.ensures ∙ ap refused c.errno_of.ensures))
+    subst (λ (r : Reply). Answers e r h c.args.self.now.has_stopped new stopped) (sym (c.refused-in-Err-make_point.ensures ∙ ap refused c.errno_of-in-Err-make_point.ensures))
     (subst (λ (b : Bool). Answers e (refused (errno_of_point fault)) h b new stopped) (sym c.requires.running)
     (subst (λ (b : Bool). Answers e (refused (errno_of_point fault)) h false new b) (sym c.in-Err-make_point.ensures.stopped)
-    (asked_unpointed h new c.args.session c.args.call.now fault asked (c.requires.sound.whole c.requires.running) (c.in-Err-make_point.ensures.points told))))
+    (asked_unpointed h (held c.finish.new.self) new c.args.session c.args.call.now fault asked (c.requires.sound.whole c.requires.running) (c.in_default.ensures.finishes told) (c.in-Err-make_point.ensures.points told))))

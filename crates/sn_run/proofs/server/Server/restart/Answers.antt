@@ -1,4 +1,4 @@
-use Rattle.std.proofs.Common.{◌≡◌, Bool, false, true, sym, ap, subst, ◌∙◌}
+use Rattle.std.proofs.Common.{Bool, false, sym, ap, subst, ◌∙◌}
 use Rattle.sn_device.specs.Disk.{Disk}
 use Rattle.sn_device.specs.declared.status.Status.{Status}
 use Rattle.sn_model.specs.declared.call.Event.TheVariants.{Restart}
@@ -7,7 +7,7 @@ use Rattle.sn_model.specs.Machine.{refused}
 use Rattle.sn_fs.specs.Answers.{Answers}
 use Rattle.sn_fs.specs.Filesystem.{has_stopped, held}
 use Rattle.sn_fs.specs.Pointing.{errno_of_point}
-use Rattle.sn_fs.proofs.PointLemmas.{unpointed_restart}
+use Rattle.sn_fs.proofs.FinishLemmas.{restart_refused}
 use Rattle.sn_run.specs.declared.server.Server.{Server}
 use Rattle.sn_run.specs.Restarting.{Remounts}
 use Rattle.sn_run.specs.Servers.{is_stopped, standing}
@@ -56,4 +56,4 @@ returns-in-Err-clause-answered g c told =
     (subst (λ (r : Reply). Answers Restart r old (has_stopped c.in-Mounted.fs) new (has_stopped s.fs)) (sym (c.refused.ensures ∙ ap refused refuses.told))
     (subst (λ (b : Bool). Answers Restart (refused (errno_of_point refuses.fault)) old b new (has_stopped s.fs)) (sym running)
     (subst (λ (b : Bool). Answers Restart (refused (errno_of_point refuses.fault)) old false new b) (sym refuses.stops)
-    (unpointed_restart old new refuses.fault refuses.unpointed))))
+    (restart_refused old new refuses.fault refuses.unpointed))))

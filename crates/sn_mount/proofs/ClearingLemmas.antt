@@ -1,17 +1,14 @@
 -- What a mount leaves that clears the place where the log goes on.
-use Rattle.std.proofs.Common.{◌≡◌, inl, inr, ℕ, ◌+◌, ◌^◌, ◌<◌, ◌≤◌, ◌==◌, ◌||◌, Bool, true, false, if◌then◌else◌, nat_le, List, [], ◌∷◌, ◌++◌, Result, slice_index, refl, sym, ap, subst, ◌∙◌, leb-false, arith}
-use Rattle.sn_device.specs.Sectors.{Contents, AreSectors, Single}
+use Rattle.std.proofs.Common.{◌≡◌, inl, inr, ℕ, ◌+◌, ◌^◌, ◌<◌, ◌≤◌, ◌==◌, ◌||◌, Bool, true, false, if◌then◌else◌, nat_le, List, [], ◌∷◌, Result, slice_index, refl, sym, ap, subst, ◌∙◌, leb-false, arith}
+use Rattle.sn_device.specs.Sectors.{Contents, Single}
 use Rattle.sn_device.specs.Disk.{Disk, Always, IsSynced, reads}
 use Rattle.sn_device.specs.Crash.{LeavesOnly, Touches}
-use Rattle.sn_device.specs.declared.status.Status.{Status}
-use Rattle.sn_device.proofs.CrashLemmas.{Always-reads, Always-synced, LeavesOnly-now, LeavesOnly-weaker, Touches-within}
-use Rattle.sn_limits.specs.declared.limits.Limits.{Limits}
+use Rattle.sn_device.proofs.CrashLemmas.{Always-synced, LeavesOnly-weaker, Touches-within}
 use Rattle.sn_layout.specs.Superblock.{superblock_bytes}
-use Rattle.sn_limits.specs.Versions.{version_1}
 use Rattle.sn_model.specs.declared.change.Change.{Change}
 use Rattle.sn_model.specs.World.{World}
 use Rattle.sn_ondisk.specs.Blocks.{block_at}
-use Rattle.sn_ondisk.specs.Gates.{IsClosed, gate_at}
+use Rattle.sn_ondisk.specs.Gates.{gate_at}
 use Rattle.sn_ondisk.specs.LogHalf.{HasNoLater, InHalf, Leads, Replays, ReplaysTo, base_of, cleared_sector}
 use Rattle.sn_ondisk.specs.MapCopy.{HasMap}
 use Rattle.sn_ondisk.proofs.PlaceLemmas.{halves_apart}
@@ -19,19 +16,11 @@ use Rattle.sn_ondisk.specs.Trees.{Store, store_of}
 use Rattle.sn_ondisk.proofs.OneLemmas.{epoch_is}
 use Rattle.sn_log.specs.Clearing.{Clears}
 use Rattle.sn_log.specs.Places.{LogPosition, base_at, payloads_of}
-use Rattle.sn_image.specs.Image.{image}
-use Rattle.sn_image.proofs.SoundNodeLemmas.{only_version}
-use Rattle.sn_opening.specs.Covering.{MakesCover}
 use Rattle.sn_opening.specs.Opens.{IsDisk, Opens, Shows}
-use Rattle.sn_opening.proofs.CoveringLemmas.{replay_covers}
 use Rattle.sn_opening.proofs.LogLemmas.{of_position}
 use Rattle.sn_opening.proofs.OpeningLemmas.{half_lies}
-use Rattle.sn_sound.specs.Charges.{Fits, charges_from}
-use Rattle.sn_sound.specs.Maps.{free_blocks}
 use Rattle.sn_sound.proofs.StandingLemmas.{lies_in_data}
-use Rattle.sn_held.specs.Held.{GoesOn, Kept, Runs}
 use Rattle.sn_held.specs.Images.{EndsAt, IsImage}
-use Rattle.sn_held.specs.Room.{room_of_image}
 use Rattle.sn_held.proofs.HeldLemmas.{Rests, each_half, image_shown, rests_stay}
 
 -- the sector that clears a place lies in the half
@@ -174,54 +163,3 @@ module _ (mid new : Disk) (w : World) (im : IsImage (reads mid) w) (at : LogPosi
       LeavesOnly-weaker mid new IsKept (λ d. IsImage d w)
       (λ d k. image_shown n s o.slot o.root words o.older o.newer w o.older_spelled o.newer_spelled im.sound o.stands im.fits im.age d k.0 k.1 k.2 k.3 k.4)
       (kept ends)
-
-  goes_on : EndsAt c w im at → Always new (λ d. IsClosed d (base_at at + at.place)) → GoesOn at o.root o.older o.newer new
-  goes_on (in_n, inl (none, in_epoch, count, ends)) closed =
-      let stay = LeavesOnly-now mid new (λ d. ReplaysTo d (base_at at) at.epoch (payloads_of o.older) at.place) (ends_stay o.older ends) in
-      inl (none, in_epoch, λ d crash. record { count = count; ready = record { leads = (stay d crash).leads; closed = closed d crash } })
-  goes_on (in_n, inr (in_epoch, count, ends)) closed =
-      let stay = LeavesOnly-now mid new (λ d. ReplaysTo d (base_at at) at.epoch (payloads_of o.newer) at.place) (ends_stay o.newer ends) in
-      inr (in_epoch, λ d crash. record { count = count; ready = record { leads = (stay d crash).leads; closed = closed d crash } })
-
-  -- once it is closed, the mount runs over the world
-  pub cleared_runs : EndsAt c w im at → Always new (λ d. IsClosed d (base_at at + at.place)) → AreSectors (reads new) → (keeps_back : ℕ → Bool) (base : Kept) (status : Status)
-      → Runs (record { world = w; kept = keeps_back; room = room_of_image c w im; at = at; base = base; disk = new; status = status }) w
-  cleared_runs ends closed whole keeps_back base status =
-      let now = LeavesOnly-now mid new IsKept (kept ends) in
-      let same : record at { blocks = n } ≡ at = λ i. record at { blocks = sym ends.0 i } in
-      subst (λ (p : LogPosition). Runs (record { world = w; kept = keeps_back; room = room_of_image c w im; at = p; base = base; disk = new; status = status }) w) same (record {
-        is = refl;
-        store = s;
-        slot = o.slot;
-        root = o.root;
-        words = words;
-        older = o.older;
-        newer = o.newer;
-        older_spelled = o.older_spelled;
-        newer_spelled = o.newer_spelled;
-        limits = sym (only_version o.root.limits o.shown.newest.body.fits.version);
-        formatted = λ d crash. (now d crash).1;
-        stands = record {
-          disk = Always-reads new (IsDisk n) whole (λ d crash. (now d crash).0);
-          shows = λ d crash. (now d crash).4;
-          map = λ d crash. (now d crash).2;
-          sound = im.sound;
-        };
-        none_later = λ epoch d crash. (now d crash).3 epoch;
-        log = subst (λ (p : LogPosition). GoesOn p o.root o.older o.newer new) (sym same) (goes_on ends closed);
-        cover = covers;
-        charged = record {
-          free = refl;
-          charged = ap (λ (l : Limits). charges_from l (o.older ++ o.newer) (image s o.root.inode_file)) (sym (only_version o.root.limits o.shown.newest.body.fits.version));
-          parked = omega arith;
-          fits = subst (λ (l : Limits). Fits l (o.older ++ o.newer) (image s o.root.inode_file) (free_blocks n s o.root)) (sym (only_version o.root.limits o.shown.newest.body.fits.version)) im.fits;
-        };
-        age = im.age;
-        frozen = ap (λ (x : World). x.frozen) o.stands.settles;
-      })
-    where
-      covers : MakesCover version_1 (o.older ++ o.newer) (image s o.root.inode_file) w.live
-      covers =
-          subst (λ (l : Limits). MakesCover l (o.older ++ o.newer) (image s o.root.inode_file) w.live) (sym (only_version o.root.limits o.shown.newest.body.fits.version))
-          (subst (MakesCover o.root.limits (o.older ++ o.newer) (image s o.root.inode_file)) (sym (ap (λ (x : World). x.live) o.stands.settles))
-          (replay_covers o.root.limits (o.older ++ o.newer) (image s o.root.inode_file) o.stands.tree o.stands.applied))

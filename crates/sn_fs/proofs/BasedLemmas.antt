@@ -1,0 +1,37 @@
+-- What a mounted file system without a point in progress is based on.
+use Rattle.std.proofs.Common.{◌≡◌, false, Option, None, Some, is_some, refl, ap}
+use Rattle.std.proofs.lemmas.Bool.{true≢false}
+use Rattle.sn_cp_whole.specs.Going.{going_of}
+use Rattle.sn_cp_whole.specs.Planning.{IsBaseAt}
+use Rattle.sn_cp_whole.specs.declared.base.PointBase.{PointBase}
+use Rattle.sn_cp_whole.specs.declared.going.GoingPoint.{GoingPoint}
+use Rattle.sn_device.specs.Disk.{Disk}
+use Rattle.sn_log.specs.Places.{LogPosition}
+use Rattle.sn_overlay.specs.declared.overlay.Overlay.{Overlay}
+use Rattle.sn_fs.specs.Mounted.{IsBased, StandsThere, going_in}
+
+none_going : {A : Type 0} (going : GoingPoint) → going_in (Some going) ≡ None → A
+none_going going none = let never : Some (going_of going) ≡ None = none in absurd cc
+
+pub none_there : (going : Option GoingPoint) → going ≡ None → going_in going ≡ None
+none_there going none = ap going_in none
+
+pub none_in : (going : Option GoingPoint) → is_some going ≡ false → going_in going ≡ None
+none_in None e = refl
+none_in (Some going) e = absurd (true≢false e)
+
+pub based_none : (going : Option GoingPoint) (at : LogPosition) (base : PointBase) → going_in going ≡ None → IsBaseAt at base → IsBased going at base
+based_none None at base none is = is
+based_none (Some going) at base none is = none_going going none
+
+pub base_none : (going : Option GoingPoint) (at : LogPosition) (base : PointBase) → going_in going ≡ None → IsBased going at base → IsBaseAt at base
+base_none None at base none is = is
+base_none (Some going) at base none is = none_going going none
+
+pub stands_none : (going : Option GoingPoint) (d : Disk) → going_in going ≡ None → StandsThere going d
+stands_none None d none = tt
+stands_none (Some going) d none = none_going going none
+
+-- whatever has changed since
+pub with_changes : (at : LogPosition) (base : PointBase) (changed : Overlay) → IsBaseAt at base → IsBaseAt at (record base { changed = changed })
+with_changes at base changed is = record { body = is.body; words = is.words; epoch = is.epoch }

@@ -1,0 +1,249 @@
+-- What a step answers.
+use Rattle.std.proofs.Common.{◌≡◌, ◌⊎◌, inl, inr, false, true, Some, None, Err, Ok, refl, sym, ap, subst, arith}
+use Rattle.std.specs.FinMap as map
+use Rattle.std.proofs.lemmas.Bool.{true≢false}
+use Rattle.sn_limits.specs.Versions.{version_1}
+use Rattle.sn_model.specs.declared.call.Event.TheVariants as event
+use Rattle.sn_model.specs.declared.reply.Errno.TheVariants.{Eio, Elimit, Enomem, Estopped}
+use Rattle.sn_model.specs.declared.reply.Progress.{Progress}
+use Rattle.sn_model.specs.declared.reply.Progress.TheVariants as progress
+use Rattle.sn_model.specs.declared.reply.Reply.TheVariants as answer
+use Rattle.sn_model.specs.Machine.{Mishap, Running, Stopped, Memory, Read, Write, Age, EventStep, errno_of, refused}
+use Rattle.sn_model.specs.Settling.{settle}
+use Rattle.sn_block.specs.Effects.{Nowhere}
+use Rattle.sn_block.proofs.CountLemmas.{later-is, later-same}
+use Rattle.sn_core.proofs.NumberLemmas.{step_numbers}
+use Rattle.sn_device.specs.Crash.{LeavesOnly}
+use Rattle.sn_device.specs.declared.status.Status.{Status}
+use Rattle.sn_device.proofs.CrashLemmas.{LeavesOnly-now, LeavesOnly-weaker, Touches-start}
+use Rattle.sn_held.specs.Held.{Held}
+use Rattle.sn_held.specs.Images.{IsImage, IsLiveImage}
+use Rattle.sn_held.specs.Moments.{LastsOver, ShowsState}
+use Rattle.sn_held.proofs.EventLemmas.{live_show}
+use Rattle.sn_cp.specs.declared.stage.Stage.TheVariants.{Bodied}
+use Rattle.sn_cp_progress.specs.Meaning.{RunsWith}
+use Rattle.sn_cp_progress.proofs.MeaningLemmas.{counted_with, runs_with, stays_lasts}
+use Rattle.sn_cp_whole.specs.declared.fault.PointFault.{PointFault}
+use Rattle.sn_cp_whole.specs.declared.fault.PointFault.TheVariants as point
+use Rattle.sn_block.specs.Counts.{FailsRead}
+use Rattle.sn_fs.specs.Answers.{Answers, AnswersFrom, Costs, IsBesideRoot, MayMeet}
+use Rattle.sn_fs.specs.Pointing.{Advances, IsAdvancedTo, IsBegunTo, IsCutStep, IsFinishedTo, IsUnbegun, errno_of_point, stops_for}
+use Rattle.sn_fs.proofs.PointLemmas.{fails_read, in_any_world, not_more, running_between}
+
+pub stopped_step : (h : Held) → Answers event.Step (refused Estopped) h true h true
+stopped_step h (Running w) m = absurd (true≢false m.0)
+stopped_step h (Stopped before after) m = record {
+  met = None;
+  fin = h;
+  finish = inl refl;
+  mid = h;
+  point = inl refl;
+  may = refl;
+  next = Stopped before after;
+  step = (refl, refl);
+  means = m;
+  lasts = stays_lasts h true (Stopped before after) m;
+  writes = Touches-start Nowhere h.disk;
+  begins = tt;
+  numbers = tt;
+  since = tt;
+  room = tt;
+  later = later-same h.status h.status refl;
+  costs = refl;
+  steps = tt;
+  works = λ more. absurd (not_more Estopped more);
+}
+
+done_is_not_more : answer.Progress progress.Done ≡ answer.Progress progress.More → ⊥
+done_is_not_more e = cc
+
+-- a crash leaves the settled world on the way, and so it does behind it
+goes_on_lasting : (old new : Held) → LeavesOnly old.disk new.disk (λ c. IsImage c (settle old.world)) → RunsWith new.point new old.world → old.world.frozen ≡ map.empty → LastsOver (Running old.world) (Running old.world) old.disk new.disk
+goes_on_lasting old new moments runs bare = record {
+  moments = LeavesOnly-weaker old.disk new.disk (λ d. IsImage d (settle old.world)) (λ d. ShowsState (Running old.world) d ⊎ ShowsState (Running old.world) d) (λ d im. inl (record { image = im; frozen = bare })) moments;
+  answered = live_show new old.world (runs_with new old.world new.point runs) bare;
+}
+
+-- it has begun a point
+begun_step : (old new : Held) → IsBegunTo old new → old.world.frozen ≡ map.empty → AnswersFrom (Running old.world) event.Step (answer.Progress progress.More) old new false
+begun_step old new b bare = record {
+  met = None;
+  fin = old;
+  finish = inl refl;
+  mid = old;
+  point = inl refl;
+  may = ap (λ (s : Status). s.failures) b.begun.costs;
+  next = Running old.world;
+  step = (inl refl, refl);
+  means = (refl, b.runs, bare);
+  lasts = goes_on_lasting old new b.moments b.runs bare;
+  writes = b.touched;
+  begins = tt;
+  numbers = record { next = (step_numbers old.world old.kept).next; keeps = b.begun.kept };
+  since = tt;
+  room = tt;
+  later = later-is 1 1 old.status new.status b.begun.costs;
+  costs = tt;
+  steps = inl b.begun;
+  works = λ more. (
+    omega (arith, ap (λ (s : Status). s.writes) b.begun.costs),
+    omega (arith, ap (λ (s : Status). s.writes) b.begun.costs),
+    omega (arith, ap (λ (s : Status). s.syncs) b.begun.costs),
+  );
+}
+
+-- it has gone on with one
+advanced_step : (old new : Held) → IsAdvancedTo old new → old.world.frozen ≡ map.empty → AnswersFrom (Running old.world) event.Step (answer.Progress progress.More) old new false
+advanced_step old new a bare = record {
+  met = None;
+  fin = old;
+  finish = inl refl;
+  mid = old;
+  point = inl refl;
+  may = ap (λ (s : Status). s.failures) a.gone.costs;
+  next = Running old.world;
+  step = (inl refl, refl);
+  means = (refl, a.runs, bare);
+  lasts = goes_on_lasting old new a.moments a.runs bare;
+  writes = a.touched;
+  begins = tt;
+  numbers = record { next = (step_numbers old.world old.kept).next; keeps = λ n. ap (λ (h : Held). h.kept n) a.gone.held };
+  since = tt;
+  room = tt;
+  later = later-is _ _ old.status new.status a.gone.costs;
+  costs = tt;
+  steps = inr a.gone;
+  works = λ more. a.some;
+}
+
+-- it has finished one
+ended_step : (old new : Held) (f : IsFinishedTo old new) → f.finished.going.stage ≡ Bodied → old.world.frozen ≡ map.empty → AnswersFrom (Running old.world) event.Step (answer.Progress progress.Done) old new false
+ended_step old new f last bare =
+    let runs = running_between new old.world f.finished.point f.runs in
+    record {
+      met = None;
+      fin = new;
+      finish = inr (tt, f.finished);
+      mid = new;
+      point = inl refl;
+      may = refl;
+      next = Running old.world;
+      step = (inr refl, refl);
+      means = (refl, runs, bare);
+      lasts = goes_on_lasting old new f.moments runs bare;
+      writes = Touches-start (IsBesideRoot new) new.disk;
+      begins = tt;
+      numbers = step_numbers old.world new.kept;
+      since = tt;
+      room = tt;
+      later = later-is _ _ old.status new.status f.finished.costs;
+      costs = tt;
+      steps = record { finished = f.finished; last = last };
+      works = λ more. absurd (done_is_not_more more);
+    }
+
+-- it was refused, and nothing has changed
+refused_step : (old : Held) (m : Mishap) → RunsWith old.point old old.world → old.world.frozen ≡ map.empty → MayMeet old old event.Step (Some m) old.status → EventStep version_1 (Running old.world) event.Step (Some m) (refused (errno_of m)) (Running old.world)
+    → Costs (Running old.world) old old event.Step (Some m) old.status → AnswersFrom (Running old.world) event.Step (refused (errno_of m)) old old false
+refused_step old m runs bare may step costs = record {
+  met = Some m;
+  fin = old;
+  finish = inl refl;
+  mid = old;
+  point = inl refl;
+  may = may;
+  next = Running old.world;
+  step = step;
+  means = (refl, runs, bare);
+  lasts = stays_lasts old false (Running old.world) (refl, runs, bare);
+  writes = Touches-start (IsBesideRoot old) old.disk;
+  begins = tt;
+  numbers = step_numbers old.world old.kept;
+  since = tt;
+  room = refl;
+  later = later-same old.status old.status refl;
+  costs = costs;
+  steps = tt;
+  works = λ more. absurd (not_more (errno_of m) more);
+}
+
+-- but what the device counts
+unread_step : (old new : Held) → RunsWith old.point old old.world → old.world.frozen ≡ map.empty → new ≡ record old { status = new.status } → FailsRead old.status new.status → AnswersFrom (Running old.world) event.Step (refused Eio) old new false
+unread_step old new runs bare is fails =
+    let told = fails_read old.status new.status fails in
+    subst (λ (h : Held). AnswersFrom (Running old.world) event.Step (refused Eio) old h false) (sym is) (record {
+      met = Some Read;
+      fin = old;
+      finish = inl refl;
+      mid = old;
+      point = inl refl;
+      may = told.0;
+      next = Running old.world;
+      step = record { told = refl; same = refl };
+      means = (refl, counted_with old.point old old.world new.status runs, bare);
+      lasts = stays_lasts old false (Running old.world) (refl, runs, bare);
+      writes = Touches-start (IsBesideRoot old) old.disk;
+      begins = tt;
+      numbers = step_numbers old.world old.kept;
+      since = tt;
+      room = refl;
+      later = told.1;
+      costs = told.2;
+      steps = tt;
+      works = λ more. absurd (not_more Eio more);
+    })
+
+-- it was cut off
+cut_step : (old new : Held) → IsCutStep old new → old.world.frozen ≡ map.empty → AnswersFrom (Running old.world) event.Step (refused Eio) old new true
+cut_step old new cut bare =
+    let either : LeavesOnly old.disk new.disk (λ d. IsLiveImage d (settle old.world) ⊎ IsLiveImage d (settle old.world)) =
+    LeavesOnly-weaker old.disk new.disk (λ d. IsImage d (settle old.world)) (λ d. IsLiveImage d (settle old.world) ⊎ IsLiveImage d (settle old.world)) (λ d im. inl (record { image = im; frozen = bare })) cut.moments in
+    let now = LeavesOnly-now old.disk new.disk (λ d. IsLiveImage d (settle old.world) ⊎ IsLiveImage d (settle old.world)) either in
+    record {
+      met = Some Write;
+      fin = old;
+      finish = inl refl;
+      mid = old;
+      point = inl refl;
+      may = cut.failed;
+      next = Stopped (settle old.world) (settle old.world);
+      step = record { told = refl; left = refl };
+      means = (refl, now);
+      lasts = record {
+        moments = LeavesOnly-weaker old.disk new.disk (λ d. IsLiveImage d (settle old.world) ⊎ IsLiveImage d (settle old.world))
+            (λ d. ShowsState (Running old.world) d ⊎ ShowsState (Stopped (settle old.world) (settle old.world)) d) (λ d h. inr h) either;
+        answered = now;
+      };
+      writes = cut.touched;
+      begins = tt;
+      numbers = tt;
+      since = tt;
+      room = tt;
+      later = cut.later;
+      costs = cut.costs;
+      steps = tt;
+      works = λ more. absurd (not_more Eio more);
+    }
+
+unmade_step : (old new : Held) (fault : PointFault) → RunsWith old.point old old.world → old.world.frozen ≡ map.empty → IsUnbegun fault old new → AnswersFrom (Running old.world) event.Step (refused (errno_of_point fault)) old new (stops_for fault)
+unmade_step old new point.Memory runs bare is =
+    subst (λ (h : Held). AnswersFrom (Running old.world) event.Step (refused Enomem) old h false) (sym is) (refused_step old Memory runs bare refl (record { told = refl; same = refl }) refl)
+unmade_step old new point.Age runs bare is =
+    subst (λ (h : Held). AnswersFrom (Running old.world) event.Step (refused Elimit) old h false) (sym is.0) (refused_step old Age runs bare (tt, is.1, refl) (record { told = refl; same = refl }) refl)
+unmade_step old new point.Read runs bare is = unread_step old new runs bare is.0 is.1
+unmade_step old new point.Damaged runs bare is = absurd is
+unmade_step old new point.Device runs bare is = cut_step old new is bare
+
+made_step : (old new : Held) (p : Progress) → RunsWith old.point old old.world → old.world.frozen ≡ map.empty → Advances (Ok p) old new → AnswersFrom (Running old.world) event.Step (answer.Progress p) old new false
+made_step old new progress.More runs bare made = either (made runs)
+  where
+    either : IsBegunTo old new ⊎ IsAdvancedTo old new → AnswersFrom (Running old.world) event.Step (answer.Progress progress.More) old new false
+    either (inl b) = begun_step old new b bare
+    either (inr a) = advanced_step old new a bare
+made_step old new progress.Done runs bare made = let ends = made runs in ended_step old new ends.0 ends.1 bare
+
+pub step_answers : (old new : Held) (p : Progress) → Advances (Ok p) old new → Answers event.Step (answer.Progress p) old false new false
+step_answers old new p made = in_any_world event.Step old new (answer.Progress p) false (λ r bare. made_step old new p r bare made)
+
+pub step_refused : (old new : Held) (fault : PointFault) → Advances (Err fault) old new → Answers event.Step (refused (errno_of_point fault)) old false new (stops_for fault)
+step_refused old new fault unmade = in_any_world event.Step old new (refused (errno_of_point fault)) (stops_for fault) (λ r bare. unmade_step old new fault r bare (unmade r))

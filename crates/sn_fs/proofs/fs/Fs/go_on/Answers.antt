@@ -1,0 +1,88 @@
+use Rattle.std.proofs.Common.{Some, refl, sym, ap, subst, ◌∙◌, arith}
+use Rattle.sn_block.specs.Lending.{device_of}
+use Rattle.sn_block.proofs.CountLemmas.{later-calls}
+use Rattle.sn_cp.specs.Points.{Work, stage_of, work_of}
+use Rattle.sn_cp.specs.Steps.{IsWhole}
+use Rattle.sn_cp_progress.proofs.MeaningLemmas.{on_with}
+use Rattle.sn_cp_progress.specs.Meaning.{progress_over}
+use Rattle.sn_cp_whole.specs.Going.{going_of}
+use Rattle.sn_cp_whole.proofs.RecoverLemmas.{point_apart}
+use Rattle.sn_device.proofs.CrashLemmas.{Touches-start}
+use Rattle.sn_device.specs.declared.status.Status.{Status}
+use Rattle.sn_fs.specs.Answers.{IsBesideRoot}
+use Rattle.sn_fs.specs.Filesystem.{held, with_point}
+use Rattle.sn_fs.proofs.BeginLemmas.{step_writes}
+use Rattle.sn_fs.proofs.fs.Fs.go_on.Goals as goal
+
+pub advance-requires-clause-disk : goal.advance-requires-clause-disk
+advance-requires-clause-disk g c = let is = c.requires.sound.based c.requires.running in let within = c.requires.sound.within c.requires.running in omega (arith, within, is.blocks)
+
+pub advance-requires-clause-whole : goal.advance-requires-clause-whole
+advance-requires-clause-whole g c = (c.requires.sound.based c.requires.running).whole
+
+pub advance-requires-clause-within : goal.advance-requires-clause-within
+advance-requires-clause-within g c = (c.requires.sound.based c.requires.running).within
+
+pub advance-requires-clause-stands : goal.advance-requires-clause-stands
+advance-requires-clause-stands g c told = c.requires.sound.stands c.requires.running told
+
+pub returns-in-Ok-clause-goes_on : goal.returns-in-Ok-clause-goes_on
+returns-in-Ok-clause-goes_on g c told r =
+    let old = held (with_point c.args.self.now c.args.going) in
+    let after = c.advance.new.self in
+    let status = g.D.Device.status (device_of c.advance.new.blocks) in
+    let is = c.requires.sound.based c.requires.running in
+    let some = step_writes (work_of c.args.going.point) (stage_of c.args.going.point) is.within in
+    let e = c.in-Ok.ensures in
+    let on = e.goes_on told old old.world r.0 r.1 in
+    let writes = ap (λ (s : Status). s.writes) e.counts.done in
+    let syncs = ap (λ (s : Status). s.syncs) e.counts.done in
+    record {
+      gone = record {
+        going = going_of c.args.going;
+        is = refl;
+        more = c.requires.more;
+        held = λ i. record old { point = Some (record { work = e.same.0 i; stage = e.onward i; free = e.same.1 i }); disk = g.D.Device.disk (device_of c.advance.new.blocks); status = status };
+        costs = e.counts.done;
+      };
+      some = (omega (arith, writes, some.0), omega (arith, writes, some.1), omega (arith, syncs, some.2));
+      moments = on.0;
+      touched = point_apart (work_of c.args.going.point) is.whole c.args.self.now.base.slot is.slot c.args.self.now.log.blocks old.disk old.disk _ is.blocks (Touches-start (IsBesideRoot old) old.disk) (e.touched told);
+      runs = (r.0, on_with _ old.world (progress_over (going_of after) r.0) old.kept old.kept_since (Some (going_of after)) status on.1);
+    }
+
+pub returns-in-Ok-clause-sound : goal.returns-in-Ok-clause-sound
+returns-in-Ok-clause-sound g c =
+    let running = c.requires.running in
+    let is = c.requires.sound.based running in
+    let e = c.in-Ok.ensures in
+    record {
+      within = λ _. omega (arith, c.requires.sound.within running, e.counts.sectors);
+      whole = λ _. c.requires.sound.whole running;
+      parked = λ _. c.requires.sound.parked running;
+      based = λ _. record {
+        whole = subst (λ (w : Work). IsWhole w) (sym e.same.0) is.whole;
+        within = e.within;
+        blocks = ap (λ (w : Work). w.blocks) e.same.0 ∙ is.blocks;
+        slot = is.slot ∙ sym (ap (λ (w : Work). w.slot) e.same.0);
+        epoch = is.epoch ∙ sym (ap (λ (w : Work). w.plan.next.epoch) e.same.0);
+      };
+      stands = λ _ told. e.stands told;
+      drops = λ _. c.requires.sound.drops running;
+    }
+
+pub returns-in-Err-clause-goes_on : goal.returns-in-Err-clause-goes_on
+returns-in-Err-clause-goes_on g c told r =
+    let old = held (with_point c.args.self.now c.args.going) in
+    let is = c.requires.sound.based c.requires.running in
+    let some = step_writes (work_of c.args.going.point) (stage_of c.args.going.point) is.within in
+    let e = c.in-Err.ensures in (
+      refl,
+      record {
+        touched = point_apart (work_of c.args.going.point) is.whole c.args.self.now.base.slot is.slot c.args.self.now.log.blocks old.disk old.disk _ is.blocks (Touches-start (IsBesideRoot old) old.disk) (e.touched told);
+        moments = (e.goes_on told old old.world r.0 r.1).0;
+        failed = e.counts.cause;
+        later = later-calls _ _ _ _ _ e.counts;
+        costs = record { writes = let most = e.counts.writes.1 in omega (arith, most, some.1); syncs = let most = e.counts.syncs.1 in omega (arith, most, some.2) };
+      },
+    )
