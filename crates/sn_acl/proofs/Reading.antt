@@ -116,12 +116,6 @@ first-read text entry rest reads (e ∷ es) = λ valid is.
     let found = reads e (more_text es) (entry-behind (e ∷ es) [] e es valid refl) is in
     (es, ap (λ x. x ∷ es) (sym found.0), found.1)
 
--- nothing is read only where the text is that of no valid ACL
-pub none-read : (text : List ℕ) → ((e : Entry) (more : List ℕ) → is_entry e ≡ true → text ≡ entry_text e ++ more → ⊥)
-    → (es : List Entry) → IsValid es → text ≡ acl_text es → ⊥
-none-read text none [] = λ valid is. absurd (omega (arith, valid.objects.user_obj))
-none-read text none (e ∷ es) = λ valid is. none e (more_text es) (entry-behind (e ∷ es) [] e es valid refl) is
-
 -- behind a comma there is one more entry
 comma : (rest : List ℕ) (tail : List ℕ) (others : List Entry) → rest ≡ 44 ∷ tail → rest ≡ more_text others
     → (e : Entry) × (os : List Entry) × (others ≡ e ∷ os) × (tail ≡ entry_text e ++ more_text os)

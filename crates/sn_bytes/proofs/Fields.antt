@@ -2,8 +2,7 @@
 use Rattle.std.proofs.Common.{◌≡◌, ℕ, zero, suc, ◌+◌, ◌-◌, ◌*◌, ◌^◌, ◌<◌, ◌≤◌, Bool, true, false, Option, Some, None, List, [], ◌∷◌, ◌++◌, length, take, drop, get_or, All, refl, sym, ap, ◌∙◌, append_assoc, length-append, arith}
 use Rattle.std.specs.Int.{w16, w32, w64, from_le_bytes}
 use Rattle.std.proofs.lemmas.Nat.{le_bytes_2, le_bytes_4, le_bytes_8}
-use Rattle.std.proofs.lemmas.List.{append-nil, take_at, drop_at, length-replicate, length-take-le, length-drop, drop-drop, drop-append-le, take-append-drop}
-use Rattle.std.proofs.lemmas.Grind.{flat_map-append}
+use Rattle.std.proofs.lemmas.List.{take_at, drop_at, length-replicate, length-take-le, length-drop, drop-drop, drop-append-le, take-append-drop}
 use Rattle.std.proofs.lemmas.List.Concat.{flat_map-cons}
 use Rattle.byteorder.specs.Endian.{little_number}
 use Rattle.byteorder.specs.Numbers.{length-bytes_low_first, little_number-reads_back}
@@ -118,10 +117,6 @@ same_lists n (x ∷ xs) (y ∷ ys) a b len fits-x fits-y e =
 pub AreNumbers-from : (n : ℕ) (xs : List ℕ) → ((i : ℕ) → i < length xs → get_or xs i 0 < 256 ^ n) → AreNumbers n xs
 AreNumbers-from n [] h = tt
 AreNumbers-from n (x ∷ xs) h = (h 0 (omega arith), AreNumbers-from n xs (λ i lt. h (suc i) (omega arith)))
-
--- one number more
-pub numbers_more : (n : ℕ) (xs : List ℕ) (x : ℕ) → numbers_bytes n (xs ++ x ∷ []) ≡ numbers_bytes n xs ++ number_bytes n x
-numbers_more n xs x = flat_map-append (number_bytes n) xs (x ∷ []) ∙ ap (λ (r : List ℕ). numbers_bytes n xs ++ r) (append-nil (number_bytes n x))
 
 -- ---- writing
 

@@ -38,15 +38,6 @@ none_gone : (o : Option Node) → (is_some o && is_none o) ≡ true → ⊥
 none_gone None e = true≢false (sym e)
 none_gone (Some x) e = true≢false (sym e)
 
-pub tells_none : (tree : Tree) → TellsGone tree tree []
-tells_none tree = record {
-  each = λ number. (λ c. absurd (omega (arith, c.1)), λ e. absurd (none_gone (fin.get tree.nodes number) e));
-  once = λ i j d low high. absurd (omega (arith, high));
-}
-
-pub same_tells : (old new after : Tree) (files : List DroppedFile) → after ≡ new → TellsGone old new files → TellsGone old after files
-same_tells old new after files same tells = subst (λ (t : Tree). TellsGone old t files) (sym same) tells
-
 module _ (old mid : Tree) (files : List DroppedFile) (file : DroppedFile) (tells : TellsGone old mid files) (was : is_some (fin.get old.nodes file.number) ≡ true) (there : is_some (fin.get mid.nodes file.number) ≡ true) where
   abbrev left : Tree
   left = take_node mid file.number

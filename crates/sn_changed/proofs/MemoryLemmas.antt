@@ -32,10 +32,6 @@ seen_is tree number (Some node) a default size e f g =
     let same : attributes_of tree number node ≡ a = cc e in
     λ i. Some (seen_as (sym same i) (f i) (g i))
 
-pub none_seen : (tree : Tree) (number : ℕ) (found : Option Node) → option_map (attributes_of tree number) found ≡ None → option_map (seen_of tree number) found ≡ None
-none_seen tree number None e = refl
-none_seen tree number (Some node) e = cc e
-
 -- bytes that were read, and zeros behind them
 pub read_piece : (bytes read : List ℕ) (index : ℕ) → read ≡ take 4096 (drop (index * 4096) bytes) → read ++ drop (length read) (replicate 4096 0) ≡ piece 4096 bytes index
 read_piece bytes read index is = ext_get_or 0 _ _ (long ∙ sym (length-piece 4096 bytes index)) (λ at within. told at (omega (arith, within, long)) (cases_lt at (length read)))

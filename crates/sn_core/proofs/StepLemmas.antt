@@ -1,5 +1,5 @@
 -- What a call comes to once its tests have passed.
-use Rattle.std.proofs.Common.{◌≡◌, ℕ, Bool, true, false, not, ◌&&◌, ◌||◌, List, [], ◌∷◌, ◌++◌, Option, Some, None, Result, Ok, Err, is_none, is_some, refl, sym, ap, subst, ◌∙◌, inl, inr, lit≤}
+use Rattle.std.proofs.Common.{◌≡◌, ℕ, Bool, true, false, not, ◌&&◌, ◌||◌, List, [], ◌∷◌, ◌++◌, Option, Some, None, Result, Ok, Err, is_none, is_some, refl, sym, ap, subst, ◌∙◌, inl, lit≤}
 use Rattle.std.specs.FinMap as map
 use Rattle.std.specs.Prelude.{IsOk}
 use Rattle.std.proofs.lemmas.Bool.{true≢false}
@@ -16,8 +16,7 @@ use Rattle.sn_model.specs.declared.outcome.Pending.TheVariants.{Nothing, Makes, 
 use Rattle.sn_model.specs.declared.reply.Refusal.{Refusal}
 use Rattle.sn_model.specs.declared.reply.Reply.{Reply}
 use Rattle.sn_model.specs.declared.reply.Errno.TheVariants.{Enomem}
-use Rattle.sn_model.specs.declared.reply.Progress.TheVariants.{Done as Ended}
-use Rattle.sn_model.specs.declared.reply.Reply.TheVariants.{Done, Progress, Refused}
+use Rattle.sn_model.specs.declared.reply.Reply.TheVariants.{Done, Refused}
 use Rattle.sn_model.specs.Calls.{Ready, outcome_of, ready}
 use Rattle.sn_model.specs.Changes.{apply, made}
 use Rattle.sn_model.specs.Machine.{Memory, OfMemory, Run, RunBy, Running}
@@ -42,7 +41,7 @@ use Rattle.sn_model.proofs.StayLemmas.{change_stays, none_stays}
 use Rattle.sn_model.proofs.TreeLemmas.{tree_kept}
 use Rattle.sn_model.proofs.WorldLemmas.{step_world}
 use Rattle.sn_core.proofs.CallerLemmas.{can_turn, can_turn_filled}
-use Rattle.sn_core.proofs.NumberLemmas.{FilesStay, and_not_false, and_not_true, closed_same, done_stay, kept_by, made_keeps, made_stays, old_keeps, only_made, or_false, same_numbers, same_stay, step_numbers, was_there}
+use Rattle.sn_core.proofs.NumberLemmas.{FilesStay, and_not_false, and_not_true, closed_same, done_stay, kept_by, made_keeps, made_stays, old_keeps, only_made, or_false, same_numbers, same_stay, was_there}
 use Rattle.sn_core.proofs.RestartLemmas.{restart_numbers}
 use Rattle.sn_core.specs.declared.choosing.Chosen.{Chosen}
 use Rattle.sn_core.specs.declared.world.PlainWorld.{PlainWorld}
@@ -301,10 +300,6 @@ memory_step old new session c takes passed same none = record {
   step = (Some Memory, tt, ((takes, passed), record { told = refl; same = ap (λ (w : World). Running w) same }));
   numbers = same_numbers session c old.world new.world old.kept new.kept same none;
 }
-
--- a step, and a restart
-pub point_step : (old : Numbered) → PlainStep old event.Step (Progress Ended) old
-point_step old = record { step = (None, tt, (inr refl, refl)); numbers = step_numbers old.world old.kept }
 
 pub restart_step : (old new : Numbered) → new.world ≡ settle old.world → ((n : ℕ) → new.kept n ≡ false) → PlainStep old event.Restart Done new
 restart_step old new settled none = record { step = (None, tt, (refl, ap (λ (w : World). Running w) settled)); numbers = restart_numbers old.world new.world old.kept new.kept settled none }

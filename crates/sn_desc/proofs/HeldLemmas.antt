@@ -1,5 +1,5 @@
 -- How many descriptors a live file has, by the places and by the finite map.
-use Rattle.std.proofs.Common.{◌≡◌, ℕ, zero, suc, ◌+◌, ◌==◌, Bool, true, false, nat_lt, cond, List, [], ◌∷◌, Option, Some, None, length, get_or, replicate, count_by, refl, sym, ap, ◌∙◌, arith}
+use Rattle.std.proofs.Common.{◌≡◌, ℕ, zero, suc, ◌+◌, ◌==◌, Bool, false, nat_lt, cond, List, [], ◌∷◌, Option, Some, None, length, get_or, replicate, count_by, refl, sym, ap, ◌∙◌, arith}
 use Rattle.std.specs.FinMap as map
 use Rattle.std.specs.Option.{option_map}
 use Rattle.std.proofs.lemmas.Bool.{lt-ltb, ne_eqb}
@@ -9,9 +9,8 @@ use Rattle.sn_walk.specs.declared.object.Home.{Home}
 use Rattle.sn_walk.specs.declared.object.Home.TheVariants.{Live, Frozen}
 use Rattle.sn_model.proofs.CountLemmas.{count, count_inserted, count_none}
 use Rattle.sn_model.proofs.HeldLemmas.{descriptors_total, exact_descriptors, held_count, is_holder}
-use Rattle.sn_model.specs.Settling.{is_of_live}
 use Rattle.sn_model.specs.World.{Descriptor, descriptor_cmp}
-use Rattle.sn_model.specs.Descriptors.{Descriptors, is_held_in, released_at}
+use Rattle.sn_model.specs.Descriptors.{is_held_in, released_at}
 use Rattle.sn_desc.specs.declared.open_file.OpenFile.{OpenFile}
 use Rattle.sn_desc.specs.Closing.{released_if}
 use Rattle.sn_desc.specs.Holders.{IsCounted, has_live, holders_of, is_live, is_live_file, live_places, one}

@@ -1,5 +1,5 @@
 -- Files under the keys of places, as a slab changes at one key.
-use Rattle.std.proofs.Common.{◌≡◌, ◌≢◌, ◌⊎◌, inl, inr, ℕ, ◌<◌, true, List, [], ◌∷◌, Option, Some, None, is_some, length, get_or, set, replicate, zero, suc, refl, sym, ap, ◌∙◌, arith}
+use Rattle.std.proofs.Common.{◌≡◌, ◌≢◌, inl, inr, ℕ, ◌<◌, true, List, [], ◌∷◌, Option, Some, None, is_some, length, get_or, set, replicate, zero, suc, refl, sym, ap, ◌∙◌, arith}
 use Rattle.std.proofs.lemmas.Bool.{true≢false, cases_eq}
 use Rattle.std.proofs.lemmas.List.{get_or-set_same, get_or-set_other, set-get_or}
 use Rattle.slab.specs.Slab.{Slab, get, Updates}
@@ -119,13 +119,6 @@ module _ (old new : Slab OpenFile) (keys : List (Option ℕ)) (place key : ℕ) 
       there : (p k : ℕ) → get_or (set keys place None) p None ≡ Some k → is_some (get new k) ≡ true
       there p k e = ap is_some (updates.others k (λ same. moved p k e (h.apart p place key (was p k e ∙ ap (λ (n : ℕ). Some n) same) own))) ∙ h.there p k (was p k e)
 
-  pub change_placed : (file : OpenFile) → slot ≡ Some file → get_or keys place None ≡ Some key → IsPlaced new keys
-  change_placed file is own = record { there = λ p k e. there p k e (cases_eq k key); apart = h.apart }
-    where
-      there : (p k : ℕ) → get_or keys p None ≡ Some k → (k ≡ key) ⊎ (k ≢ key) → is_some (get new k) ≡ true
-      there p k e (inl same) = ap (λ (n : ℕ). is_some (get new n)) same ∙ ap is_some (updates.changed ∙ is)
-      there p k e (inr away) = ap is_some (updates.others k away) ∙ h.there p k e
-
 -- a place without a key has no file, and stays so
 pub still_none : (files : Slab OpenFile) (keys : List (Option ℕ)) (place : ℕ) → get_or keys place None ≡ None → files_under files keys ≡ set (files_under files keys) place None
 still_none files keys place none =
@@ -134,6 +127,3 @@ still_none files keys place none =
 -- what is at a place with a key, and at one without
 pub key_has : (files : Slab OpenFile) (keys : List (Option ℕ)) (place key : ℕ) → get_or keys place None ≡ Some key → get_or (files_under files keys) place None ≡ get files key
 key_has files keys place key own = at_place files keys place ∙ ap (file_under files) own
-
-pub key_lacks : (files : Slab OpenFile) (keys : List (Option ℕ)) (place : ℕ) → get_or keys place None ≡ None → get_or (files_under files keys) place None ≡ None
-key_lacks files keys place none = at_place files keys place ∙ ap (file_under files) none

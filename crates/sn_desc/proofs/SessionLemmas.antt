@@ -122,12 +122,6 @@ module _ (table : Descriptors) (session fd : ℕ) where
   pub closing_err : (e : Refusal) → descriptor_at table session fd ≡ Err e → Err e ≡ closing table session fd
   closing_err e is = sym (ap (λ (x : Result Descriptor Refusal). x >>= (λ d. Ok (released (closed table session fd) d))) is)
 
-  pub asked_ok : (ask : Descriptor → Result Descriptor Refusal) (d : Descriptor) (x : Result Descriptor Refusal) → descriptor_at table session fd ≡ Ok d → ask d ≡ x → (descriptor_at table session fd >>= ask) ≡ x
-  asked_ok ask d x is then = ap (λ (y : Result Descriptor Refusal). y >>= ask) is ∙ then
-
-  pub asked_err : (ask : Descriptor → Result Descriptor Refusal) (e : Refusal) → descriptor_at table session fd ≡ Err e → (descriptor_at table session fd >>= ask) ≡ Err e
-  asked_err ask e is = ap (λ (y : Result Descriptor Refusal). y >>= ask) is
-
   module _ (limits : Limits) (offset : ℕ) where
     abbrev moves_after : Result Descriptor Refusal → Result Descriptors Refusal
     moves_after x = x >>= (λ _. is_offset limits offset >>= (λ _. Ok (moved_to table session fd offset)))

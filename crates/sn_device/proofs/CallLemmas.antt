@@ -1,7 +1,7 @@
 -- The calls of a device, one lemma for each, whatever their answer.
-use Rattle.std.proofs.Common.{◌≡◌, ◌⊎◌, inl, inr, ⊎_elim, ℕ, List, slice_set, Result, Ok, Err, OnOk, sym, ap, subst, arith}
+use Rattle.std.proofs.Common.{◌≡◌, ◌⊎◌, inl, inr, ⊎_elim, ℕ, List, Result, Ok, Err, OnOk, sym, subst, arith}
 use Rattle.sn_device.specs.Sectors.{Contents}
-use Rattle.sn_device.specs.Disk.{Moment, Disk, reads, IsSynced, next, written, synced, MayLeave}
+use Rattle.sn_device.specs.Disk.{Moment, Disk, next, written, synced, MayLeave}
 use Rattle.sn_device.specs.Device.{Writes, Syncs}
 use Rattle.sn_device.specs.Crash.{LeavesOnly, Touches}
 use Rattle.sn_device.specs.declared.status.Status.{Status}
@@ -28,16 +28,6 @@ module _ {T E : Type 0} where
   pub OnOk-sync : (r : Result T E) (old new : Disk) (status : Status) (Q : Type 0) → Syncs r old new status → (new ≡ next old (synced old.present) → Q) → OnOk r Q
   OnOk-sync (Ok x) old new status Q call then = then call.done
   OnOk-sync (Err e) old new status Q call then = tt
-
-  -- after one, nothing is unsynced and reads give what they gave
-  pub IsSynced-sync : (r : Result T E) (old new : Disk) (status : Status) → Syncs r old new status → OnOk r (IsSynced new × (reads new ≡ reads old))
-  IsSynced-sync r old new status call =
-      OnOk-sync r old new status (IsSynced new × (reads new ≡ reads old)) call (λ done. (ap (λ (d : Disk). d.present.unsynced) done, ap (λ (d : Disk). d.present.sectors) done))
-
-  -- after a write that succeeds, reads give the bytes in its sector
-  pub reads-write : (at : ℕ) (bytes : List ℕ) (r : Result T E) (old new : Disk) (status : Status) → Writes at bytes r old new status → OnOk r (reads new ≡ slice_set (reads old) at bytes)
-  reads-write at bytes (Ok x) old new status call = ap (λ (d : Disk). d.present.sectors) call.done
-  reads-write at bytes (Err e) old new status call = tt
 
   module _ (P : Contents → Type 0) where
     -- a write after which a crash leaves what has P

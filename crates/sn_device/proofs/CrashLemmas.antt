@@ -2,7 +2,7 @@
 use Rattle.std.proofs.Common.{◌≡◌, ◌≢◌, ◌⊎◌, inl, inr, ⊎_elim, ℕ, ◌-◌, ◌<◌, ◌≤◌, List, [], ◌∷◌, ◌++◌, length, take, slice_set, Contains, refl, sym, ◌∙◌, ap, subst, arith}
 use Rattle.std.proofs.lemmas.List.{length-set, get_or-set_same, get_or-set_other, get_or_past, set_past}
 use Rattle.std.proofs.lemmas.Bool.{cases_eq, cases_lt}
-use Rattle.sn_device.specs.Sectors.{Contents, sector_at, AreSectors, AgreesOutside, AgreesOn, DependsOn, AreDisjoint, IsWithin, Union}
+use Rattle.sn_device.specs.Sectors.{Contents, sector_at, AreSectors, AgreesOutside, DependsOn, AreDisjoint, IsWithin, Union}
 use Rattle.sn_device.specs.Disk.{Moment, Disk, clock, reads, IsSynced, Always, next, written, synced, MayLeave, CrashNow, MayLeaveAtOne, CrashSince}
 use Rattle.sn_device.specs.Crash.{FollowsBy, LeavesOnly, TouchesOnly, AllTouchOnly, Touches}
 use Rattle.sn_device.proofs.SectorLemmas.{AreSectors-set, Contains-more, Contains-first, Contains-cases}
@@ -46,13 +46,6 @@ LeavesOnly-join old mid new P first second = record {
 
 pub LeavesOnly-weaker : (old new : Disk) (P Q : Contents → Type 0) → ((c : Contents) → P c → Q c) → LeavesOnly old new P → LeavesOnly old new Q
 LeavesOnly-weaker old new P Q weaker run = record { follows = run.follows; each = λ c since. weaker c (run.each c since) }
-
--- for a run that began earlier
-pub LeavesOnly-earlier : (old new : Disk) (P : Contents → Type 0) (t : ℕ) (c : Contents) → LeavesOnly old new P → t ≤ clock old → CrashSince new t c → CrashSince old t c ⊎ P c
-LeavesOnly-earlier old new P t c run before since = ⊎_elim
-    (λ later. inr (run.each c (CrashSince-later run.follows.0 old new (clock old) c run.follows.1 (omega arith) (inl later))))
-    (λ earlier. inl earlier)
-    (CrashSince-follows run.follows.0 old new t c run.follows.1 before since)
 
 -- what holds at every moment holds now
 pub LeavesOnly-now : (old new : Disk) (P : Contents → Type 0) → LeavesOnly old new P → Always new P
@@ -136,25 +129,6 @@ module _ (F : ℕ → Type 0) where
     follows = FollowsBy-join first.since second.since old mid new first.follows second.follows;
     each = AllTouchOnly-append old.present second.since first.since (AllTouchOnly-from old.present mid.present second.since (Touches-present old mid first) second.each) first.each;
   }
-
--- That the sectors of a set are as they were depends on those alone.
-pub DependsOn-AgreesOn : (F : ℕ → Type 0) (s : Contents) → DependsOn F (AgreesOn F s)
-DependsOn-AgreesOn F s c d whole_c whole_d same agrees = record {
-  count = same.count ∙ agrees.count;
-  same = λ i is_in. same.same i is_in ∙ agrees.same i is_in;
-}
-
-module _ (F G : ℕ → Type 0) (P : Contents → Type 0) where
-  -- a fact of some sectors is one of more
-  pub DependsOn-within : IsWithin F G → DependsOn F P → DependsOn G P
-  DependsOn-within within depends c d whole_c whole_d agrees =
-      depends c d whole_c whole_d (record { count = agrees.count; same = λ i is_in. agrees.same i (within i is_in) })
-
-  pub DependsOn-both : (Q : Contents → Type 0) → DependsOn F P → DependsOn G Q → DependsOn (Union F G) (λ c. P c × Q c)
-  DependsOn-both Q first second c d whole_c whole_d agrees both = (
-    first c d whole_c whole_d (record { count = agrees.count; same = λ i is_in. agrees.same i (inl is_in) }) both.0,
-    second c d whole_c whole_d (record { count = agrees.count; same = λ i is_in. agrees.same i (inr is_in) }) both.1,
-  )
 
 -- these sectors of c, and the others of s
 mixed : List ℕ → Contents → Contents → Contents
@@ -303,6 +277,3 @@ Always-synced d P is_synced here c now = subst P (sym (IsSynced-only d c is_sync
 -- what always holds holds of what reads give
 pub Always-reads : (d : Disk) (P : Contents → Type 0) → AreSectors (reads d) → Always d P → P (reads d)
 Always-reads d P whole here = here (reads d) (CrashNow-contents d whole)
-
-pub Always-weaker : (d : Disk) (P Q : Contents → Type 0) → ((c : Contents) → P c → Q c) → Always d P → Always d Q
-Always-weaker d P Q weaker here c now = weaker c (here c now)

@@ -4,4 +4,3 @@ pub mod DiskLemmas
 pub mod FillLemmas
 pub mod MemoryLemmas
 pub mod SectorLemmas
-pub mod StatusLemmas

@@ -52,21 +52,8 @@ Run-single at n i is_in j same = subst (Run at n) (sym same) is_in
 pub Run-within : (at n from m : ℕ) → from ≤ at → at + n ≤ from + m → IsWithin (Run at n) (Run from m)
 Run-within at n from m low high i is_in = (omega arith, omega arith)
 
-pub AreDisjoint-runs : (at n from m : ℕ) → at + n ≤ from → AreDisjoint (Run at n) (Run from m)
-AreDisjoint-runs at n from m apart i first second = omega arith
-
-pub AreDisjoint-swap : (F G : ℕ → Type 0) → AreDisjoint F G → AreDisjoint G F
-AreDisjoint-swap F G apart i is_G is_F = apart i is_F is_G
-
-pub AreDisjoint-union : (F G H : ℕ → Type 0) → AreDisjoint F H → AreDisjoint G H → AreDisjoint (Union F G) H
-AreDisjoint-union F G H first second i (inl is_F) is_H = first i is_F is_H
-AreDisjoint-union F G H first second i (inr is_G) is_H = second i is_G is_H
-
 -- Contents that agree outside a set.
 module _ (F : ℕ → Type 0) where
-  pub AgreesOutside-refl : (c : Contents) → AgreesOutside F c c
-  AgreesOutside-refl c = record { count = refl; same = λ i out. refl }
-
   pub AgreesOutside-set : (c : Contents) (at : ℕ) (bytes : List ℕ) → F at → AgreesOutside F c (slice_set c at bytes)
   AgreesOutside-set c at bytes is_in = record {
     count = length-set c at bytes;

@@ -14,14 +14,6 @@ use Rattle.sn_dir_change.specs.declared.standing.Sought.{Sought}
 use Rattle.sn_dir_change.proofs.ChangeLemmas.{times_joined}
 use Rattle.sn_dir_change.proofs.WayLemmas.{all_from}
 
-pub parted_none : (names : List Link) → AreParted names [] [] []
-parted_none names = record {
-  listed = λ c (k, within, is). absurd (omega (arith, within));
-  stand = λ c (k, within, is). absurd (omega (arith, within));
-  wait = λ c (k, within, is). absurd (omega (arith, within));
-  count = λ name. omega arith;
-}
-
 module _ (names : List Link) (changes standing waiting : List NameChange) (change : NameChange) (parted : AreParted names changes standing waiting) where
   earlier : (c : NameChange) → Contains changes c → Contains (changes ++ change ∷ []) c
   earlier c there = Contains-append_left changes (change ∷ []) c there

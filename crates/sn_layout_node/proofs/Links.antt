@@ -81,9 +81,6 @@ both_true : (a b : Bool) → (a && b) ≡ true → (a ≡ true) × (b ≡ true)
 both_true true b e = (refl, e)
 both_true false b e = absurd cc
 
-pub begins_long : (bytes : List ℕ) → begins_link bytes ≡ true → 3 ≤ length bytes
-begins_long bytes e = leb-true 3 (length bytes) (both_true (nat_le 3 (length bytes)) (nat_le 2 (little_number 2 bytes)) e).0
-
 pub begins_least : (old new : List ℕ) (n : ℕ) → begins_link old ≡ true → n < 256 ^ 2 → old ≡ number_bytes 2 n ++ new → 2 ≤ n
 begins_least old new n e fits spelled =
     let least = leb-true 2 (little_number 2 old) (both_true (nat_le 3 (length old)) (nat_le 2 (little_number 2 old)) e).1 in

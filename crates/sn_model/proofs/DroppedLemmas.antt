@@ -16,7 +16,6 @@ use Rattle.sn_model.specs.Settling.{dropped, is_held, is_nameless, without_namel
 use Rattle.sn_model.specs.Tree.{Node, Tree, names_for}
 use Rattle.sn_model.specs.World.{Descriptor, World, tree_in, trees_of}
 use Rattle.sn_model.specs.Worlds.{IsOpenFile, IsSession, IsWorld}
-use Rattle.sn_model.proofs.ChainLemmas.{some_same}
 use Rattle.sn_model.proofs.DropLemmas.{dropping_tree, without_was}
 use Rattle.sn_model.proofs.HeldLemmas.{held_at, held_by}
 use Rattle.sn_model.proofs.MoveLemmas.{is_kind, kind_at, some_node}
@@ -31,9 +30,6 @@ pub record IsUndropped (limits : Limits) (world : World) : Type 0 where
   pub count : length world.sessions ≡ 64
   pub callers : AllByRecursion IsSession world.sessions
   pub open_files : (session fd : ℕ) (d : Descriptor) → map.get world.descriptors (session, fd) ≡ Some d → IsOpenFile limits world session fd d
-
-pub undropped : (limits : Limits) (world : World) → IsWorld limits world → IsUndropped limits world
-undropped limits world w = record { live = w.live; frozen = w.frozen; snapshot_names = w.snapshot_names; few_snapshots = w.few_snapshots; count = w.count; callers = w.callers; open_files = w.open_files }
 
 -- a file that is held stays
 kept : (held : ℕ → Bool) (tree : Tree) (n : ℕ) → held n ≡ true → map.get (without_nameless held tree).nodes n ≡ map.get tree.nodes n

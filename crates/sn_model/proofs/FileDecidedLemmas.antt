@@ -1,5 +1,5 @@
 -- What the calls on descriptors come to.
-use Rattle.std.proofs.Common.{◌≡◌, ◌⊎◌, inl, inr, ℕ, zero, suc, ◌+◌, ◌-◌, ◌*◌, ◌==◌, ◌&&◌, ◌<◌, ◌≤◌, Bool, true, false, cond, nat_le, nat_lt, List, [], ◌∷◌, Option, Some, None, Result, Ok, Err, length, take, drop, is_some, refl, sym, ap, subst, ◌∙◌, arith, ltb-true, lt-ltb, eqb-true}
+use Rattle.std.proofs.Common.{◌≡◌, ℕ, zero, suc, ◌+◌, ◌-◌, ◌==◌, ◌<◌, ◌≤◌, Bool, true, false, cond, nat_le, nat_lt, List, [], ◌∷◌, Option, Some, None, Ok, Err, length, take, drop, is_some, refl, sym, ap, subst, ◌∙◌, arith, lt-ltb}
 use Rattle.std.specs.Prelude.{IsSomeAnd}
 use Rattle.std.specs.FinMap as map
 use Rattle.std.specs.List.{list_all}
@@ -15,9 +15,8 @@ use Rattle.sn_model.specs.declared.call.Call.{Call}
 use Rattle.sn_model.specs.declared.call.Call.TheVariants as call
 use Rattle.sn_model.specs.declared.change.Change.TheVariants.{SetSize, Write}
 use Rattle.sn_model.specs.declared.reply.Errno.TheVariants.{Ebadf, Efbig, Einval}
-use Rattle.sn_model.specs.declared.reply.Refusal.{Refusal}
 use Rattle.sn_model.specs.declared.reply.Reply.TheVariants as reply
-use Rattle.sn_model.specs.Changes.{apply, cut, is_file, written}
+use Rattle.sn_model.specs.Changes.{cut, is_file, written}
 use Rattle.sn_model.specs.Descriptors.{Descriptors, descriptor_at, for_reading, for_writing, found as found_in, is_offset, readable_at, writable_at}
 use Rattle.sn_model.specs.FileCalls.{bytes_argument, bytes_of, close_outcome, count_argument, cuts, file_charge, ftruncate_outcome, is_size, logout_outcome, open_bytes, read_outcome, reads, seek_outcome, write_offset, write_outcome, write_some, writes}
 use Rattle.sn_model.specs.NameTree.{HasKind, IsTree}
@@ -25,12 +24,12 @@ use Rattle.sn_model.specs.Outcomes.{Closes, LogsOut, Moves, Outcome, tells, turn
 use Rattle.sn_model.specs.Tests.{plain}
 use Rattle.sn_model.specs.Tree.{Node, Tree}
 use Rattle.sn_model.specs.World.{Descriptor, World, tree_in, trees_of}
-use Rattle.sn_model.specs.Worlds.{IsOpenFile, IsWorld}
+use Rattle.sn_model.specs.Worlds.{IsWorld}
 use Rattle.sn_model.proofs.ChainLemmas.{and_both}
 use Rattle.sn_model.proofs.DecisionLemmas.{ok, same_ok}
 use Rattle.sn_model.proofs.MoveLemmas.{some_node}
 use Rattle.sn_model.proofs.OutcomeLemmas.{IsDecided, done, told, turned}
-use Rattle.sn_model.proofs.PartLemmas.{cut_of, fits_file, is_file_at, written_of}
+use Rattle.sn_model.proofs.PartLemmas.{cut_of, is_file_at, written_of}
 
 -- ---- tests that have passed
 

@@ -1,5 +1,5 @@
 -- The calls on descriptors ask for no entry's right: they are refused with other errors.
-use Rattle.std.proofs.Common.{◌≡◌, ℕ, ◌+◌, ◌==◌, Bool, true, false, cond, nat_le, List, Option, None, Some, Result, Ok, Err, length, take, drop}
+use Rattle.std.proofs.Common.{◌≡◌, ℕ, ◌+◌, ◌==◌, Bool, true, false, cond, nat_le, List, Option, None, Some, Err, length, take, drop}
 use Rattle.std.specs.FinMap as map
 use Rattle.sn_limits.specs.declared.limits.Limits.{Limits}
 use Rattle.sn_walk.specs.Chains.{◌>>=◌}

@@ -1,5 +1,5 @@
 -- Files that a change leaves without a name.
-use Rattle.std.proofs.Common.{◌≡◌, ◌≢◌, ◌⊎◌, inl, inr, ℕ, ◌==◌, ◌&&◌, ◌||◌, not, Bool, true, false, cond, List, Option, Some, None, refl, sym, ap, subst, ◌∙◌, true≢false}
+use Rattle.std.proofs.Common.{◌≡◌, ◌≢◌, ◌⊎◌, inl, inr, ℕ, ◌||◌, not, Bool, true, false, cond, List, Option, Some, None, refl, sym, ap, ◌∙◌, true≢false}
 use Rattle.std.specs.Cmp.{nat_cmp_total}
 use Rattle.std.specs.FinMap as map
 use Rattle.std.proofs.lemmas.Map.Lookups.{exact_unsigned}
@@ -10,17 +10,16 @@ use Rattle.sn_model.specs.declared.change.Change.{Change}
 use Rattle.sn_model.specs.declared.change.Change.TheVariants.{Make, AddLink, Remove, Rename, Write, SetSize, SetAttributes}
 use Rattle.sn_model.specs.declared.change.Ownership.{Ownership}
 use Rattle.sn_model.specs.declared.link.Link.{Link}
-use Rattle.sn_model.specs.Changes.{apply, is_vacant, put_link, replaced, take_link, take_node}
+use Rattle.sn_model.specs.Changes.{apply, replaced, take_node}
 use Rattle.sn_model.specs.Covers.{IsUnnamed}
 use Rattle.sn_model.specs.NameTree.{HasKind}
-use Rattle.sn_model.specs.Outcomes.{Pending, Nothing, Makes, Does}
-use Rattle.sn_model.specs.Settling.{OnlyLost, dropped, dropped_if, is_abandoned, is_held, is_nameless, loses, without_nameless}
-use Rattle.sn_model.specs.Steps.{IsNumberFor, with_live}
+use Rattle.sn_model.specs.Settling.{OnlyLost, dropped, dropped_if, is_abandoned, is_held, is_nameless, loses}
+use Rattle.sn_model.specs.Steps.{with_live}
 use Rattle.sn_model.specs.Tree.{Node, Tree, link_to, names_for}
 use Rattle.sn_model.specs.World.{World}
 use Rattle.sn_model.specs.Worlds.{IsWorld}
 use Rattle.sn_model.proofs.ChainLemmas.{and_both, and_left, and_right, not_true, some_same}
-use Rattle.sn_model.proofs.DroppedLemmas.{AllHeld, all_held, dropped_same}
+use Rattle.sn_model.proofs.DroppedLemmas.{all_held, dropped_same}
 use Rattle.sn_model.proofs.KeepLemmas.{vacant_absent}
 use Rattle.sn_model.proofs.LinkLemmas.{exact_links, links_total}
 use Rattle.sn_model.proofs.MapLemmas.{same_or_apart, get_inserted, get_left, get_other, get_removed}

@@ -22,7 +22,7 @@ use Rattle.sn_model.specs.NameTree.{HasKind, IsTree}
 use Rattle.sn_model.specs.Settling.{is_nameless, settled, settle}
 use Rattle.sn_model.specs.Steps.{decision}
 use Rattle.sn_model.specs.Machine as machine
-use Rattle.sn_model.specs.Machine.{State, Running, Stopped, Mishap, Anything, IsAnswered, IsCutOff, IsRefused, IsStopped, IsUnmounted, CallStep, EventStep, PointFails, PointStep, RestartStep, MountStep, StepOf, Run, Left, LeftIn, CutRun, Life, refused}
+use Rattle.sn_model.specs.Machine.{State, Running, Stopped, Mishap, Anything, IsAnswered, IsCutOff, IsRefused, IsStopped, IsUnmounted, CallStep, EventStep, PointFails, PointStep, RestartStep, MountStep, Run, Left, LeftIn, CutRun, Life, refused}
 use Rattle.sn_model.specs.Worlds.{IsCall, IsEvent, IsFound, IsSettled, IsState, IsWorld}
 use Rattle.sn_model.proofs.MoveLemmas.{some_node}
 use Rattle.sn_model.proofs.SettlingLemmas.{nameless_file, get_without}

@@ -1,11 +1,9 @@
 -- The calls on files by their names refuse with EACCES only what the access rule denies.
-use Rattle.std.proofs.Common.{◌≡◌, ◌⊎◌, inl, inr, ℕ, ◌+◌, ◌*◌, ◌||◌, ◌&&◌, not, Bool, true, false, cond, List, [], ◌∷◌, Option, Some, None, Result, Ok, Err, refl, sym, ap, subst, ◌∙◌, arith, ◌==◌}
-use Rattle.std.specs.Prelude.{take}
+use Rattle.std.proofs.Common.{◌≡◌, ◌⊎◌, inl, inr, ℕ, Bool, true, false, cond, List, [], ◌∷◌, Option, Some, None, Result, Ok, Err, refl, sym, ap, ◌∙◌, arith}
 use Rattle.sn_acl.specs.Credential.{Credential}
 use Rattle.sn_acl.specs.declared.modes.Mode.{Mode}
 use Rattle.sn_limits.specs.declared.limits.Limits.{Limits}
 use Rattle.sn_walk.specs.declared.object.Home.{Home}
-use Rattle.sn_walk.specs.declared.object.Home.TheVariants.{Live}
 use Rattle.sn_walk.specs.declared.object.Object.{Object}
 use Rattle.sn_walk.specs.declared.object.Object.TheVariants as object
 use Rattle.sn_walk.specs.declared.view.Attributes.{Attributes}
@@ -14,7 +12,7 @@ use Rattle.sn_walk.specs.declared.walking.Walked.{Walked}
 use Rattle.sn_walk.specs.declared.walking.Walked.TheVariants.{Root, Name}
 use Rattle.sn_walk.specs.Chains.{◌>>=◌}
 use Rattle.sn_walk.specs.Objects.{number_of, root}
-use Rattle.sn_walk.specs.Views.{ViewedTrees, attributes_at, is_directory}
+use Rattle.sn_walk.specs.Views.{ViewedTrees, is_directory}
 use Rattle.sn_walk.specs.Walks.{found_at, walk_of}
 use Rattle.sn_model.specs.declared.reply.Errno.{Errno}
 use Rattle.sn_model.specs.declared.reply.Errno.TheVariants.{Eacces, Eexist, Eisdir, Emfile, Enoent, Eperm}
@@ -24,18 +22,17 @@ use Rattle.sn_model.specs.declared.session.Session.{Session}
 use Rattle.sn_model.specs.AccessCalls.{live_if}
 use Rattle.sn_model.specs.Calls.{seen}
 use Rattle.sn_model.specs.Denials.{at_place}
-use Rattle.sn_model.specs.Descriptors.{Descriptors, given, first_without, next_descriptor}
+use Rattle.sn_model.specs.Descriptors.{Descriptors, given, next_descriptor}
 use Rattle.sn_model.specs.FileCalls.{OpenFlags, access_of, creating, file, file_of, new_file, no_directory, not_exclusive, open_absent, open_found, open_outcome, open_there, opens_new, opens_there, unlink_outcome, unlinks}
-use Rattle.sn_model.specs.Outcomes.{Outcome}
 use Rattle.sn_model.specs.Seen.{last_name, parent_of}
 use Rattle.sn_model.specs.Tests.{granted, has_room, live, may_remove, plain, prefix, sticky, there, write, writable_parent}
 use Rattle.sn_model.specs.Tree.{viewed}
 use Rattle.sn_model.specs.World.{World, trees_of, viewed_trees}
-use Rattle.sn_model.proofs.AccessCallLemmas.{found_has, there_is}
+use Rattle.sn_model.proofs.AccessCallLemmas.{found_has}
 use Rattle.sn_model.proofs.AccessDenialLemmas.{found_led, found_there, live_if_other, rule_other}
-use Rattle.sn_model.proofs.DecisionLemmas.{ok, same_ok}
+use Rattle.sn_model.proofs.DecisionLemmas.{ok}
 use Rattle.sn_model.proofs.DenialLemmas.{IsDeniedAt, bind_err, granted_denied, live_other, prefix_denied, prefix_ok, room_other, there_other, walk_led}
-use Rattle.sn_model.proofs.OtherLemmas.{plain_other, refuses, tested_other}
+use Rattle.sn_model.proofs.OtherLemmas.{plain_other, refuses}
 
 abbrev pass : Result (Unit {0}) Refusal
 pass = Ok tt

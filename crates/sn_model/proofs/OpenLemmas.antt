@@ -1,6 +1,6 @@
 -- What the calls on files by their names come to.
-use Rattle.std.proofs.Common.{◌≡◌, ℕ, zero, suc, ◌+◌, ◌*◌, ◌&&◌, ◌||◌, not, ◌<◌, Bool, true, false, cond, List, [], ◌∷◌, Option, Some, None, Result, Ok, Err, is_none, is_some, refl, sym, ap, subst, ◌∙◌, ◌⊎◌, inr, arith, true≢false}
-use Rattle.std.specs.Prelude.{IsSomeAnd, slice_get}
+use Rattle.std.proofs.Common.{◌≡◌, ℕ, zero, suc, ◌+◌, ◌*◌, ◌&&◌, ◌||◌, ◌<◌, Bool, true, false, cond, List, [], ◌∷◌, Option, Some, None, Result, Ok, Err, is_some, refl, sym, ap, subst, ◌∙◌, inr, arith, true≢false}
+use Rattle.std.specs.Prelude.{IsSomeAnd}
 use Rattle.std.specs.FinMap as map
 use Rattle.std.specs.Option.{option_map}
 use Rattle.std.proofs.lemmas.Bool.{le-leb}
@@ -20,34 +20,34 @@ use Rattle.sn_walk.specs.declared.walking.Walked.TheVariants.{Root, Name}
 use Rattle.sn_walk.specs.Chains.{◌>>=◌}
 use Rattle.sn_walk.specs.Objects.{number_of}
 use Rattle.sn_walk.specs.Paths.{last_after}
-use Rattle.sn_walk.specs.Views.{ViewedTrees, attributes_at, child_of, hides, is_directory, is_hidden_name, is_snapshot}
+use Rattle.sn_walk.specs.Views.{ViewedTrees, attributes_at, child_of, is_directory, is_hidden_name, is_snapshot}
 use Rattle.sn_walk.specs.Walks.{EndsAt, found_as, found_at, found_last, walk_of}
 use Rattle.sn_walk.proofs.ChainLemmas.{bind_ok}
 use Rattle.sn_walk.proofs.WalkLemmas.{ends_at}
 use Rattle.sn_model.specs.declared.call.Call.{Call}
 use Rattle.sn_model.specs.declared.call.Call.TheVariants as call
-use Rattle.sn_model.specs.declared.change.Change.TheVariants.{Remove, SetSize}
+use Rattle.sn_model.specs.declared.change.Change.TheVariants.{Remove}
 use Rattle.sn_model.specs.declared.reply.Errno.{Errno}
-use Rattle.sn_model.specs.declared.reply.Errno.TheVariants.{Eexist, Einval, Eisdir, Emfile, Enoent, Eperm}
+use Rattle.sn_model.specs.declared.reply.Errno.TheVariants.{Einval, Eisdir, Enoent, Eperm}
 use Rattle.sn_model.specs.declared.reply.Refusal.{Refusal}
 use Rattle.sn_model.specs.declared.reply.Reply.TheVariants as reply
 use Rattle.sn_model.specs.declared.session.Session.{Session}
 use Rattle.sn_model.specs.AccessCalls.{live_if}
 use Rattle.sn_model.specs.Calls.{seen}
-use Rattle.sn_model.specs.Changes.{cut, is_file, node_with, made, removed, take_link}
+use Rattle.sn_model.specs.Changes.{cut, is_file, made, removed, take_link}
 use Rattle.sn_model.specs.Charges.{charge_for}
-use Rattle.sn_model.specs.Descriptors.{Descriptors, descriptor_for, first_without, given, next_descriptor}
-use Rattle.sn_model.specs.FileCalls.{OpenFlags, access_of, are_flags, creating, file, file_charge, file_of, flags_argument, new_file, no_directory, not_exclusive, open_absent, open_found, open_outcome, open_there, opens_new, opens_there, or_not, unlink_outcome, unlinks}
-use Rattle.sn_model.specs.NameTree.{HasKind, IsTree}
-use Rattle.sn_model.specs.Outcomes.{Outcome, Opens, OpensNew, turns}
+use Rattle.sn_model.specs.Descriptors.{first_without, given, next_descriptor}
+use Rattle.sn_model.specs.FileCalls.{OpenFlags, access_of, are_flags, creating, file, file_of, flags_argument, new_file, no_directory, not_exclusive, open_absent, open_found, open_outcome, open_there, opens_new, opens_there, or_not, unlink_outcome, unlinks}
+use Rattle.sn_model.specs.NameTree.{HasKind}
+use Rattle.sn_model.specs.Outcomes.{Outcome, Opens}
 use Rattle.sn_model.specs.Seen.{last_name, parent_of}
 use Rattle.sn_model.specs.Steps.{IsNumber}
 use Rattle.sn_model.specs.Tests.{granted, has_room, live, logged_in, plain, prefix, sticky, there, writable_parent}
 use Rattle.sn_model.specs.Tree.{Node, Tree, attributes_of, link_to, viewed}
 use Rattle.sn_model.specs.World.{World, tree_in, trees_of, viewed_if, viewed_trees}
-use Rattle.sn_model.specs.Worlds.{IsLoggedIn, IsWorld}
+use Rattle.sn_model.specs.Worlds.{IsWorld}
 use Rattle.sn_model.proofs.AccessCallLemmas.{found_has, there_is}
-use Rattle.sn_model.proofs.DecisionLemmas.{HasPlace, default_at, granted_at, hidden_apart, live_node, ok, room_is, same_ok, seen_node, walked_ok}
+use Rattle.sn_model.proofs.DecisionLemmas.{HasPlace, default_at, granted_at, live_node, ok, room_is, same_ok, seen_node, walked_ok}
 use Rattle.sn_model.proofs.MoveLemmas.{is_kind, some_node}
 use Rattle.sn_model.proofs.ChargeLemmas.{remove_pays}
 use Rattle.sn_model.proofs.OutcomeLemmas.{IsDecided, IsOpening, done, turned}

@@ -1,18 +1,16 @@
 -- No other call changes which names are there.
-use Rattle.std.proofs.Common.{◌≡◌, ℕ, false, Some, Result, Ok, Err, refl, sym, ap, ◌∙◌, ◌⊎◌, inl, inr}
+use Rattle.std.proofs.Common.{◌≡◌, ℕ, false, Some, Result, Ok, Err, refl, sym, ap, ◌∙◌, inl, inr}
 use Rattle.std.specs.FinMap as map
 use Rattle.sn_limits.specs.declared.limits.Limits.{Limits}
 use Rattle.sn_model.specs.declared.call.Call.{Call}
 use Rattle.sn_model.specs.declared.change.Change.{Change}
 use Rattle.sn_model.specs.declared.change.Change.TheVariants.{Make, AddLink, Remove, Rename, Write, SetSize, SetAttributes}
-use Rattle.sn_model.specs.declared.link.Link.{Link}
 use Rattle.sn_model.specs.declared.reply.Refusal.{Refusal}
 use Rattle.sn_model.specs.declared.reply.Reply.{Reply}
 use Rattle.sn_model.specs.Changes.{apply}
 use Rattle.sn_model.specs.NameLaws.{changes_names}
 use Rattle.sn_model.specs.Outcomes.{Pending, Nothing, Makes, Does, Caller, Stays, LogsIn, SetsUmask, LogsOut, Opens, OpensNew, Closes, Moves, Outcome}
-use Rattle.sn_model.specs.Settling.{dropped}
-use Rattle.sn_model.specs.Steps.{Becomes, Comes, Step, changed, decision, with_caller, with_live}
+use Rattle.sn_model.specs.Steps.{Becomes, Step, changed, decision, with_caller, with_live}
 use Rattle.sn_model.specs.Tree.{Tree, link_cmp}
 use Rattle.sn_model.specs.World.{World}
 use Rattle.sn_model.proofs.DecidedLemmas.{decided_is}

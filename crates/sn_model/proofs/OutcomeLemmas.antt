@@ -1,10 +1,8 @@
 -- What is so of whatever a call comes to.
-use Rattle.std.proofs.Common.{◌≡◌, ℕ, ◌<◌, ◌≤◌, ◌*◌, ◌+◌, true, false, List, Ok, length, refl, sym, ap, subst, arith}
-use Rattle.std.specs.Prelude.{IsSomeAnd, is_none, is_some, slice_get}
-use Rattle.sn_limits.specs.declared.kind.Kind.{Kind}
+use Rattle.std.proofs.Common.{◌≡◌, ℕ, ◌<◌, ◌≤◌, true, false, Ok, length, refl}
+use Rattle.std.specs.Prelude.{IsSomeAnd, is_none, is_some}
 use Rattle.sn_limits.specs.declared.kind.Kind.TheVariants.{File}
 use Rattle.sn_limits.specs.declared.limits.Limits.{Limits}
-use Rattle.sn_walk.specs.declared.object.Home.{Home}
 use Rattle.sn_walk.specs.declared.object.Home.TheVariants.{Live}
 use Rattle.sn_model.specs.declared.call.Call.{Call}
 use Rattle.sn_model.specs.declared.change.Change.{Change}

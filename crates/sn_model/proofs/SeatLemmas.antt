@@ -1,5 +1,5 @@
 -- Who is logged in under the number of a session.
-use Rattle.std.proofs.Common.{◌≡◌, ℕ, Bool, true, false, cond, Option, Some, None, Result, Ok, Err, nat_lt, refl, ap, ◌∙◌}
+use Rattle.std.proofs.Common.{◌≡◌, ℕ, Bool, true, false, cond, Option, Some, None, Ok, Err, nat_lt, ap, ◌∙◌}
 use Rattle.std.specs.Prelude.{slice_get}
 use Rattle.sn_walk.proofs.ChainLemmas.{bind_ok}
 use Rattle.sn_model.specs.declared.reply.Errno.TheVariants.{Einval}

@@ -1,6 +1,6 @@
 -- What umask leaves.
-use Rattle.std.proofs.Common.{◌≡◌, ℕ, Option, Result, Ok, Err, inl, inr, sym, ap, subst, ◌∙◌}
-use Rattle.std.specs.Prelude.{slice_get, slice_set}
+use Rattle.std.proofs.Common.{◌≡◌, ℕ, Option, Result, Ok, inl, inr, sym, ap, subst, ◌∙◌}
+use Rattle.std.specs.Prelude.{slice_set}
 use Rattle.sn_acl.specs.declared.modes.Mode.{Mode}
 use Rattle.sn_limits.specs.declared.limits.Limits.{Limits}
 use Rattle.sn_walk.specs.Chains.{◌>>=◌}

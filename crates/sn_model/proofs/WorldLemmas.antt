@@ -27,7 +27,7 @@ use Rattle.sn_limits.specs.declared.limits.Limits.{Limits}
 use Rattle.sn_model.specs.Descriptors.{Descriptors, at_offset, closed, descriptor_for, moved_if, opened, without_session}
 use Rattle.sn_model.specs.Outcomes.{Pending, Nothing, Makes, Does, Caller, Stays, LogsIn, SetsUmask, LogsOut, Opens, OpensNew, Closes, Moves, Outcome}
 use Rattle.sn_model.specs.Steps.{Becomes, Comes, IsNumberFor, Step, changed, decision, filled, masked, with_caller, with_descriptors, with_live}
-use Rattle.sn_model.specs.Worlds.{IsCaller, IsSession, IsCall, IsOpenFile, IsWorld}
+use Rattle.sn_model.specs.Worlds.{IsSession, IsCall, IsOpenFile, IsWorld}
 use Rattle.sn_model.proofs.LinkLemmas.{exact_links, links_total}
 use Rattle.sn_model.proofs.MapLemmas.{same_or_apart, get_inserted, get_other, get_was}
 use Rattle.sn_model.proofs.CountLemmas.{count_none}

@@ -1,5 +1,5 @@
 -- The numbers that a new node can get: the search for one, and what a change leaves taken.
-use Rattle.std.proofs.Common.{◌≡◌, ◌≢◌, ◌⊎◌, inl, inr, ℕ, zero, suc, ◌+◌, ◌-◌, ◌<◌, ◌≤◌, Bool, true, false, cond, ◌||◌, ◌==◌, Option, Some, None, Result, Ok, Err, is_some, is_none, min, max, nat_le, refl, sym, ap, subst, ◌∙◌, arith, add-zero, nat_lt, List, [], set}
+use Rattle.std.proofs.Common.{◌≡◌, ◌≢◌, ◌⊎◌, inl, inr, ℕ, zero, suc, ◌+◌, ◌-◌, ◌<◌, ◌≤◌, Bool, true, false, cond, ◌||◌, ◌==◌, Option, Some, None, Result, Ok, Err, is_some, is_none, min, max, nat_le, refl, sym, ap, subst, ◌∙◌, arith, add-zero, nat_lt, List, []}
 use Rattle.std.specs.Option.{option_or}
 use Rattle.std.specs.Ordering.{nat_cmp, eq_by_cmp}
 use Rattle.std.specs.Cmp.{nat_cmp_total}
@@ -206,9 +206,6 @@ by_kept false b e = e
 pub none_taken : (tree : Tree) (kept : ℕ → Bool) → AreTaken tree kept 2
 none_taken tree kept = record { low = omega arith; high = omega arith; taken = λ k low high. absurd (omega arith) }
 
-pub more_taken : (tree : Tree) (kept : ℕ → Bool) (next end : ℕ) → AreTaken tree kept next → next ≤ end → end ≤ 65536 → ((k : ℕ) → next ≤ k → k < end → is_taken tree kept k ≡ true) → AreTaken tree kept end
-more_taken tree kept next end h more high passed = record { low = omega (arith, h.low); high = high; taken = taken_below tree kept next end h passed }
-
 module _ (tree after : Tree) (kept : ℕ → Bool) (next : ℕ) (h : AreTaken tree kept next) where
   -- a number that was taken still is, where it isn't the one that lost its node
   still : (lost : Option ℕ) → KeepsNodes tree after lost → (n : ℕ) → (lost ≡ Some n → is_taken after kept n ≡ true) → is_taken tree kept n ≡ true → is_taken after kept n ≡ true
@@ -258,7 +255,3 @@ taken_closed tree kept kept' next number is h = record { low = h.low; high = h.h
     told : (n : ℕ) → is_taken tree kept n ≡ true → (n ≡ number) ⊎ (n ≢ number) → is_taken (take_node tree number) kept' n ≡ true
     told n was (inl q) = by_kept (is_some (map.get (map.remove tree.nodes number) n)) (kept' n) (is n ∙ by_node (n == number) (kept n) (eq-eqb n number q))
     told n was (inr q) = ap (λ (o : Option Node). is_some o || kept' n) (get_left nat_cmp_total exact_unsigned tree.nodes number n q) ∙ left n was (is_some (map.get tree.nodes n)) refl
-
--- nothing but what is kept back matters
-pub same_taken : (tree : Tree) (kept kept' : ℕ → Bool) (next : ℕ) → ((n : ℕ) → kept' n ≡ kept n) → AreTaken tree kept next → AreTaken tree kept' next
-same_taken tree kept kept' next is h = record { low = h.low; high = h.high; taken = λ n low high. ap (λ b. is_some (map.get tree.nodes n) || b) (is n) ∙ h.taken n low high }

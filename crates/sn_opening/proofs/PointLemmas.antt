@@ -92,9 +92,6 @@ module _ (n epoch : ℕ) (old new : Disk) (whole : AreSectors (reads old)) (touc
   reads_agree : AgreesOutside (InHalf (base_of n epoch)) (reads old) (reads new)
   reads_agree = (Touches-present (InHalf (base_of n epoch)) old new touched).others
 
-  in_blocks : List Written → ℕ → Type 0
-  in_blocks blocks i = IsIn n Data (i / 8)
-
   holds_depend : (blocks : List Written) → AllByRecursion (λ (b : Written). IsIn n Data b.0) blocks → DependsOn (λ i. IsIn n Data (i / 8)) (λ c. HoldsAll (store_of c) blocks)
   holds_depend [] lie c d whole_c whole_d agrees holds = tt
   holds_depend (b ∷ bs) lie c d whole_c whole_d agrees holds = (

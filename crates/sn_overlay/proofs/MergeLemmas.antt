@@ -319,10 +319,6 @@ module _ (older newer : Layer) (ho : IsLayer older) (hn : IsLayer newer) where
       zeros = λ n s index at e b k. zeros_over n s index at (map.get older.nodes n) (map.get newer.nodes n) refl refl (sym (get-merge_nodes older newer n) ∙ e) b k;
     }
 
-  some_over : (old new : Option NodeChange) → is_some old ≡ true → is_some (nodes_over old new) ≡ true
-  some_over old None h = h
-  some_over old (Some c) h = refl
-
   kept_some : {X : Type 0} (x y : Option X) (old new : Option NodeChange) (hidden : Bool) → (is_some x ≡ true → is_some new ≡ true) → (is_some y ≡ true → is_some old ≡ true) → is_some (kept_under x hidden y) ≡ true → is_some (nodes_over old new) ≡ true
   kept_some x y old (Some c) hidden f g h = refl
   kept_some (Some x) y old None hidden f g h = absurd (true≢false (sym (f refl)))

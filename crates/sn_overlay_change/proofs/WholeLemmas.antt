@@ -130,9 +130,6 @@ sound_changing layer tree number f keeps h = sound_change layer tree number f (m
 pub keeps_same : KeepsBytes (λ state. state)
 keeps_same = record { size = λ s. refl; cut = λ s. refl; kind = λ s. refl; owned = λ s e. refl }
 
-keeps_less : KeepsBytes one_name_less
-keeps_less = record { size = λ s. refl; cut = λ s. refl; kind = λ s. refl; owned = λ s e. refl }
-
 pub sound_touching : (layer : Layer) (tree : Tree) (number : ℕ) → IsSoundLayer layer tree → IsSoundLayer (touching tree number layer) tree
 sound_touching layer tree number h = sound_changing layer tree number (λ state. state) keeps_same h
 

@@ -15,7 +15,7 @@ use Rattle.sn_layout.specs.Gate.{gate_of, gate_bytes}
 use Rattle.sn_layout.specs.RootBody.{IsRootBody, root_body_bytes}
 use Rattle.sn_layout.specs.Places.{gate_sector, other_slot, half_of_epoch}
 use Rattle.sn_ondisk.specs.Blocks.{InBlock, bytes_at}
-use Rattle.sn_ondisk.specs.Gates.{gate_at, IsOpen, IsClosed}
+use Rattle.sn_ondisk.specs.Gates.{IsOpen, IsClosed}
 use Rattle.sn_ondisk.specs.LogHalf.{Replays, InHalf, base_of}
 use Rattle.sn_ondisk.specs.Roots.{body_block, HasRoot, IsNewest, HasNext, InRoots}
 use Rattle.sn_ondisk.specs.Shown.{Shown, InShown}
@@ -170,11 +170,6 @@ module _ (c d : Contents) (slot kept : Slot) (root next : RootBody) (same : othe
 -- a gate that was written is open
 pub open_written : (c : Contents) (slot : Slot) → 32 ≤ length c → IsOpen (with_gate slot Open c) (gate_sector slot)
 open_written c slot room = ap (λ (s : List ℕ). slice_index s 0) (get_or-set_same c (gate_sector slot) (gate_bytes Open) [] (omega (arith, room, gate_below slot)))
-
-pub closed_written : (c : Contents) (slot : Slot) → 32 ≤ length c → IsClosed (with_gate slot Closed c) (gate_sector slot)
-closed_written c slot room opened =
-    let zero_there : gate_at (with_gate slot Closed c) (gate_sector slot) ≡ 0 = ap (λ (s : List ℕ). slice_index s 0) (get_or-set_same c (gate_sector slot) (gate_bytes Closed) [] (omega (arith, room, gate_below slot))) in
-    omega (arith, zero_there, opened)
 
 module _ {T E : Type 0} (slot : Slot) (next : RootBody) (result : Result T E) (old new : Disk) (whole : AreSectors (reads old)) (room : 32 ≤ length (reads old)) (body : Always old (λ c. HasRoot c slot next)) (opens : OpensSlot slot result old new) where
   F : ℕ → Type 0

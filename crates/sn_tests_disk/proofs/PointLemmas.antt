@@ -1,6 +1,6 @@
 -- What a write to the log leaves of a slot.
 use Rattle.std.proofs.Common.{◌≡◌, ℕ, ◌≤◌, sym, subst, arith}
-use Rattle.sn_device.specs.Sectors.{Contents, AreSectors, Single}
+use Rattle.sn_device.specs.Sectors.{AreSectors, Single}
 use Rattle.sn_device.specs.Disk.{Disk, Always, reads, IsSynced}
 use Rattle.sn_device.specs.Crash.{Touches}
 use Rattle.sn_device.proofs.CrashLemmas.{Always-kept, Always-synced}

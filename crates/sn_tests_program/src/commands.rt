@@ -1,12 +1,12 @@
 //! Commands on files, one after the other.
 //!
 //! A line of `commands.txt` is `WORDS => STATUS, LINE, LINE..`: the status that the words end with, and the lines that they
-//! write: those of standard output, of standard error, and those that a person is told. Or it makes a file: `NAME << LINE|LINE..`
-//! a script of these lines, of which one may end in `HEX*COUNT` for so many such bytes, `NAME from OTHER LENGTH` the front of
-//! another file, `NAME with OTHER COUNT` another file and so many zeros behind it, `NAME set OFFSET BYTE` one byte of it anew,
-//! `NAME put OFFSET HEX` several. `examples/images.txt` has such lines too, for a gallery of images.
+//! write: those of standard output, of standard error, and those that a person is left with. Or it makes a file:
+//! `NAME << LINE|LINE..` a script of these lines, of which one may end in `HEX*COUNT` for so many such bytes, `NAME from OTHER
+//! LENGTH` the front of another file, `NAME with OTHER COUNT` another file and so many zeros behind it, `NAME set OFFSET BYTE`
+//! one byte of it anew, `NAME put OFFSET HEX` several. `examples/images.txt` has such lines too, for a gallery of images.
 
-use crate::ended::Ended;
+use crate::ended::{Ended, staying};
 use anyhow::{Context, Result, bail};
 use sn_table::{Report, Tally};
 use std::{fs, str};
@@ -14,8 +14,13 @@ use std::{fs, str};
 /// The status of an end and its lines, behind commas.
 fn told(rt: &HostRuntime, ended: &Ended) -> Result<String> {
     let mut text = format!(in rt.alloc(); "{}", ended.status)?;
-    for written in [&ended.out, &ended.err, &ended.person] {
-        for line in str::from_utf8(written.as_slice())?.lines() {
+    let person = staying(str::from_utf8(ended.person.as_slice())?);
+    for written in [
+        str::from_utf8(ended.out.as_slice())?,
+        str::from_utf8(ended.err.as_slice())?,
+        person,
+    ] {
+        for line in written.lines() {
             write!(text, ", {line}")?;
         }
     }

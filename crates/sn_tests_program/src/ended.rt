@@ -8,8 +8,20 @@ pub struct Ended {
     pub status: u8,
     pub out: Vec<u8>,
     pub err: Vec<u8>,
-    /// What a person was told.
+    /// All that was written for a person.
     pub person: Vec<u8>,
+}
+
+/// How a terminal is told to take its line away.
+const ERASE: &str = "\x1b[K";
+
+/// What stays on a terminal of all that was written for a person: not the line of how far a run is, which comes once a
+/// second and is taken away at the end, so that it depends on the machine's time.
+pub fn staying(person: &str) -> &str {
+    match person.rsplit_once(ERASE) {
+        Some((_, rest)) => rest,
+        None => person,
+    }
 }
 
 impl Ended {

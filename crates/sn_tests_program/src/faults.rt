@@ -1,11 +1,12 @@
 //! How faults are told: the line of each, and outputs that take nothing.
 
+use crate::ended::staying;
 use sn_mkfs::MkfsFault;
 use sn_model::{Damage, MountFault};
 use sn_program::{Fault, Which, program, tell};
 use sn_script::ScriptFault;
 use std::io::{ErrorKind, Write};
-use std::{fs, io};
+use std::{fs, io, str};
 
 const FAULTS: [(Fault, &str, u8); 8] = [
     (Fault::Usage, "snapfs: usage\n", 2),
@@ -85,7 +86,8 @@ fn holds_where_closed(rt: &HostRuntime) -> bool {
     let unwritten = program(rt, &SCRIPT, &mut Closed, &mut err, &mut person);
     let untold = program(rt, &["run"], &mut Closed, &mut Closed, &mut Closed);
     let is_told = err.as_slice() == b"snapfs: file\n".as_slice()
-        && person.as_slice() == b"snapfs: standard output: broken pipe\n".as_slice();
+        && str::from_utf8(person.as_slice()).map(staying)
+            == Ok("snapfs: standard output: broken pipe\n");
     unwritten == 1 && is_told && untold == 2
 }
 

@@ -1,5 +1,5 @@
 -- Dirty blocks whose indices rise, and what they make of the data blocks.
-use Rattle.std.proofs.Common.{◌≡◌, ◌≢◌, ⊎_elim, ℕ, zero, suc, ◌+◌, ◌-◌, ◌*◌, ◌<◌, ◌≤◌, ◌&&◌, ◌==◌, Bool, true, false, List, [], ◌∷◌, ◌++◌, length, get_or, replicate, map, refl, sym, ap, subst, ◌∙◌, arith, if◌then◌else◌}
+use Rattle.std.proofs.Common.{◌≡◌, ◌≢◌, ⊎_elim, ℕ, zero, suc, ◌+◌, ◌-◌, ◌*◌, ◌<◌, ◌≤◌, ◌&&◌, ◌==◌, Bool, true, false, List, [], ◌∷◌, ◌++◌, length, replicate, map, refl, sym, ap, subst, ◌∙◌, arith, if◌then◌else◌}
 use Rattle.std.specs.Prelude.{nat_lt, Option, Some, None, IfSome, option_to_list}
 use Rattle.std.specs.List.{flat_map, AllByRecursion}
 use Rattle.std.proofs.Math.Nat.{mul-le-mul_left}
@@ -255,26 +255,7 @@ straddles-once b e keep = told (nat_lt b keep && nat_lt keep e)
     told true = omega arith
     told false = omega arith
 
-pub most_added-whole : (depth b e keep : ℕ) (ds : List DirtyBlock) → most_added depth b e keep ds ≤ (depth + 1) * (length ds + 1)
-most_added-whole depth b e keep ds =
-    let x = length ds - length (after e ds) in
-    let y = straddles b e keep in
-    let large : (depth + 1) * x ≤ (depth + 1) * length ds = mul-le-mul_left (depth + 1) (let few : x ≤ length ds = omega arith in few) in
-    let small : depth * y ≤ depth * 1 = mul-le-mul_left depth (straddles-once b e keep) in
-    summed depth x y (length ds) large small
-  where
-    summed : (depth x y n : ℕ) → (depth + 1) * x ≤ (depth + 1) * n → depth * y ≤ depth * 1 → (depth + 1) * x + depth * y ≤ (depth + 1) * (n + 1)
-    summed depth x y n large small = omega (arith, large, small)
-
 -- ---- the first of the dirty blocks
-
-pub clean_at : (ds : List DirtyBlock) (d : DirtyBlock) (end : ℕ) → d ≡ get_or ds 0 d → end ≤ d.index → (least : ℕ) → IsFrom least ds → IsFrom end ds
-clean_at [] d end is past least rise = tt
-clean_at (x ∷ xs) d end is past least rise = (subst (λ (y : DirtyBlock). end ≤ y.index) is past, rise.1)
-
-pub clean_none : (ds : List DirtyBlock) (end : ℕ) → length ds ≡ 0 → (least : ℕ) → IsFrom least ds → IsFrom end ds
-clean_none [] end none least rise = tt
-clean_none (x ∷ xs) end none least rise = absurd (omega (arith, none))
 
 pub used_at : (ds : List DirtyBlock) (d : DirtyBlock) (end : ℕ) → 0 < length ds → d ≡ get_or ds 0 d → d.index < end → length (after end ds) < length ds
 used_at [] d end some is low = absurd (omega (arith, some))

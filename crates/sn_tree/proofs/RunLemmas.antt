@@ -1,5 +1,5 @@
 -- Runs of pointers that stay, which are passed over at once.
-use Rattle.std.proofs.Common.{◌≡◌, ◌⊎◌, ⊎_elim, ℕ, ◌+◌, ◌-◌, ◌*◌, ◌/◌, ◌<◌, ◌≤◌, min, List, [], ◌∷◌, ◌++◌, length, get_or, take, drop, refl, sym, ap, subst, ◌∙◌, arith}
+use Rattle.std.proofs.Common.{◌≡◌, ◌⊎◌, ⊎_elim, ℕ, ◌+◌, ◌-◌, ◌*◌, ◌<◌, ◌≤◌, min, List, [], ◌∷◌, ◌++◌, length, get_or, take, drop, sym, ap, subst, ◌∙◌, arith}
 use Rattle.std.specs.Prelude.{◌^◌}
 use Rattle.std.proofs.Math.Nat.{mul-le-mul_left}
 use Rattle.std.proofs.Math.Seq.{take-add}
@@ -22,27 +22,9 @@ pub kept_first : (keep : ℕ) (ds : List DirtyBlock) (d : DirtyBlock) → 0 < le
 kept_first keep [] d some is = absurd (omega (arith, some))
 kept_first keep (x ∷ xs) d some is = ap (λ (y : DirtyBlock). min keep y.index) is
 
-pub kept_none : (keep : ℕ) (ds : List DirtyBlock) → length ds ≡ 0 → keep ≡ kept_until keep ds
-kept_none keep [] none = refl
-kept_none keep (x ∷ xs) none = absurd (omega (arith, none))
-
 pub kept_within : (keep : ℕ) (ds : List DirtyBlock) → kept_until keep ds ≤ keep
 kept_within keep [] = omega arith
 kept_within keep (d ∷ ds) = omega arith
-
-pub kept_clean : (keep end least : ℕ) (ds : List DirtyBlock) → end ≤ kept_until keep ds → IsFrom least ds → IsFrom end ds
-kept_clean keep end least [] within rise = tt
-kept_clean keep end least (d ∷ ds) within rise = (omega (arith, within), rise.1)
-
--- where a run ends, of as many pointers of a width as end before an index
-pub run_within : (until at width count n : ℕ) → 0 < width → n ≡ min ((until - at) / width) count → 0 < n → at + n * width ≤ until
-run_within until at width count n wide is some =
-    let x = until - at in
-    let few : n ≤ x / width = omega (arith, is) in
-    let long : width * n ≤ width * (x / width) = mul-le-mul_left width few in
-    let whole : width * (x / width) ≤ x = omega (arith, wide) in
-    let least : width * 1 ≤ width * n = mul-le-mul_left width (let one : 1 ≤ n = omega (arith, some) in one) in
-    omega (arith, long, whole, least, wide)
 
 pub run_at : (base k n width : ℕ) → base + k * width + n * width ≡ base + (k + n) * width
 run_at base k n width = omega arith

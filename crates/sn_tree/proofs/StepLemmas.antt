@@ -1,7 +1,7 @@
 -- Steps of a plan: of one pointer, of pointers one after the other, of one level more.
-use Rattle.std.proofs.Common.{◌≡◌, ◌≢◌, ◌⊎◌, inl, inr, ⊎_elim, ℕ, suc, ◌+◌, ◌-◌, ◌*◌, ◌<◌, ◌≤◌, ◌==◌, Bool, true, false, List, [], ◌∷◌, ◌++◌, length, replicate, refl, sym, ap, subst, ◌∙◌, arith, append_assoc, if◌then◌else◌}
+use Rattle.std.proofs.Common.{◌≡◌, ◌≢◌, ◌⊎◌, inl, inr, ⊎_elim, ℕ, suc, ◌+◌, ◌-◌, ◌*◌, ◌<◌, ◌≤◌, List, [], ◌∷◌, ◌++◌, length, replicate, refl, sym, ap, subst, ◌∙◌, arith, append_assoc}
 use Rattle.std.specs.Prelude.{◌^◌, Result, Ok, Err, IfOk, Option, Some, None, IfSome, IfNone, IsNone, IsSome}
-use Rattle.std.proofs.lemmas.Bool.{cases_lt, eqb-true}
+use Rattle.std.proofs.lemmas.Bool.{cases_lt}
 use Rattle.std.proofs.lemmas.List.{append-nil, length-append, nil_from_length}
 use Rattle.sn_alloc.specs.Taking.{free_data}
 use Rattle.sn_image.specs.Reach.{block_reach}
@@ -237,36 +237,6 @@ added-grown d a x = length-append d.added a
 
 pub released-grown : (d : Draft) (a : List NewBlock) (x : List ℕ) → length (grown d a x).released ≡ length d.released + length x
 released-grown d a x = length-append d.released x
-
-reaches_none : (p : ℕ) → length (block_reach p) ≡ 0 → p ≡ 0
-reaches_none p none = either (p == 0) refl none
-  where
-    either : (b : Bool) → (p == 0) ≡ b → length (if b then [] else p ∷ []) ≡ 0 → p ≡ 0
-    either true is none = eqb-true p 0 is
-    either false is none = absurd (omega (arith, none))
-
-module _ (old new : Draft) (p : ℕ) where
-  pub leaf_still : (result : Result ℕ PlanFault) (dirty : Option DirtyBlock) → (IsNone dirty → IfOk result (λ n. (n ≡ 0) × (new ≡ grown old [] (block_reach p)))) → IfSome dirty (λ (d : DirtyBlock). IfOk result (λ n. IsPut old new p n d.bytes.value))
-      → IfOk result (λ n. new ≡ old → n ≡ p)
-  leaf_still (Err fault) dirty cut put = tt
-  leaf_still (Ok n) None cut put = λ same.
-      let w = cut refl in
-      let count = ap (λ (d : Draft). length d.released) (sym same ∙ w.1) in
-      w.0 ∙ sym (reaches_none p (omega (arith, count, released-grown old [] (block_reach p))))
-  leaf_still (Ok n) (Some d) cut put = λ same.
-      let count = ap (λ (d : Draft). length d.added) (sym same ∙ put.grew) in
-      absurd (omega (arith, count, added-grown old (put.block ∷ []) (block_reach p)))
-
-  pub above_still : (between : Draft) (news : List ℕ) (a : List NewBlock) (x : List ℕ) (result : Result ℕ PlanFault) → between ≡ grown old a x → IfOk result (IsReplaced between new p news) → IfOk result (λ n. new ≡ old → n ≡ p)
-  above_still between news a x (Err fault) grew replaced = tt
-  above_still between news a x (Ok n) grew (are, inl dropped) = λ same.
-      let count = ap (λ (d : Draft). length d.released) (sym same ∙ dropped.2) in
-      let before = ap (λ (d : Draft). length d.released) grew in
-      dropped.1 ∙ sym (reaches_none p (omega (arith, count, released-grown between [] (block_reach p), before, released-grown old a x)))
-  above_still between news a x (Ok n) grew (are, inr (filled, put)) = λ same.
-      let count = ap (λ (d : Draft). length d.added) (sym same ∙ put.grew) in
-      let before = ap (λ (d : Draft). length d.added) grew in
-      absurd (omega (arith, count, added-grown between (put.block ∷ []) (block_reach p), before, added-grown old a x))
 
 -- two steps that come to nothing each do
 pub nothing_grown : (old between new : Draft) (a b : List NewBlock) (x y : List ℕ) → between ≡ grown old a x → new ≡ grown between b y → length new.added ≡ length old.added → length new.released ≡ length old.released → (between ≡ old) × (new ≡ between)

@@ -1,5 +1,5 @@
 -- The bytes of a tree, read block by block.
-use Rattle.std.proofs.Common.{◌≡◌, ◌⊎◌, inl, inr, ℕ, ◌+◌, ◌-◌, ◌/◌, ◌%◌, ◌<◌, ◌≤◌, true, List, [], ◌++◌, length, take, drop, replicate, slice_index, sym, ap, subst, ◌∙◌, arith, length-append}
+use Rattle.std.proofs.Common.{◌≡◌, ◌⊎◌, inl, inr, ℕ, ◌+◌, ◌-◌, ◌/◌, ◌%◌, ◌<◌, ◌≤◌, true, List, ◌++◌, length, take, drop, replicate, slice_index, sym, ap, subst, ◌∙◌, arith, length-append}
 use Rattle.std.proofs.lemmas.Bool.{cases_lt}
 use Rattle.std.proofs.lemmas.List.{get_or_append_left, get_or-append-add, get_or-take, get_or-drop, take_all, drop-replicate, take-replicate}
 use Rattle.sn_layout.specs.Bytes.{zeros}
@@ -25,9 +25,6 @@ zero_part bytes block from count long len is_len is_long room are =
     ap (λ (b : List ℕ). b ++ replicate (long - len) 0) (take_all long bytes (omega (arith, is_len, is_long)))
     ∙ ap (λ (n : ℕ). bytes ++ replicate n 0) more
     ∙ ap (λ (b : List ℕ). bytes ++ b) (sym part)
-
-pub read_none : (sectors : ℕ) (s : Store) (tree : BlockTree) (offset : ℕ) → IsReadTo sectors s tree offset []
-read_none sectors s tree offset = record { each = λ k within. absurd (omega (arith, within)); lies = λ k within. absurd (omega (arith, within)) }
 
 -- bytes of one block more
 module _ (sectors : ℕ) (s : Store) (tree : BlockTree) (offset at count : ℕ) (bytes block : List ℕ) (so_far : at ≡ offset + length bytes) (room : at % 4096 + count ≤ 4096) (part-long : length (take count (drop (at % 4096) block)) ≡ count) where

@@ -47,10 +47,6 @@ ok x = Ok x
 same_ok : {A : Type 0} (x y : A) → ok x ≡ Ok y → x ≡ y
 same_ok x y e = cc
 
-present_some : (place : ℕ) (o : Option Object) (x : Object) → present place o ≡ Ok x → o ≡ Some x
-present_some place None x e = cc
-present_some place (Some y) x e = ap (λ (z : Object). Some z) (same_ok y x e)
-
 -- what admits a caller is a directory
 admitted_directory : (cred : Credential) (place : ℕ) (o : Option Attributes) (u : Unit {0}) → admitted cred place o ≡ Ok u → IsSomeAnd o (λ a. a.kind ≡ Directory)
 admitted_directory cred place None u e = cc

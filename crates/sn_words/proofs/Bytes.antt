@@ -56,10 +56,6 @@ lacks_outside low high c [] out h = tt
 lacks_outside low high c (b ∷ bytes) out h =
     (not_equal b c (eqb b c) (eqb-true b c) (λ e. omega arith), lacks_outside low high c bytes out h.1)
 
-pub Lacks-append : (c : ℕ) (xs ys : List ℕ) → Lacks c (xs ++ ys) → Lacks c ys
-Lacks-append c [] ys h = h
-Lacks-append c (x ∷ xs) ys h = Lacks-append c xs ys h.1
-
 -- what was joined by a byte that no part has is cut into these parts
 pub parts_join : (c : ℕ) (w : List ℕ) (ws : List (List ℕ)) → AllByRecursion (Lacks c) (w ∷ ws) → parts c (join_with_byte c (w ∷ ws)) ≡ w ∷ ws
 parts_join c w [] h = parts_last c w (All-from_recursion (λ b. eqb b c ≡ false) w h.0)

@@ -1,4 +1,4 @@
-use Rattle.sn_model.proofs.DecidedLemmas.{IsDecided, decided_is}
+use Rattle.sn_model.proofs.DecidedLemmas.{decided_is}
 use Rattle.sn_model.proofs.laws.decided_changes_pay.Goals as goal
 
 pub returns : goal.returns

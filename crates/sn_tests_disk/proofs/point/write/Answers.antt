@@ -1,4 +1,4 @@
-use Rattle.std.proofs.Common.{◌≤◌, arith}
+use Rattle.std.proofs.Common.{arith}
 use Rattle.sn_block.specs.Lending.{device_of}
 use Rattle.sn_block.proofs.EffectLemmas.{OnOk-always}
 use Rattle.sn_tests_disk.proofs.PointLemmas.{closed_beside, body_beside}

@@ -1,4 +1,4 @@
-use Rattle.std.proofs.Common.{ap, ◌∙◌, rules}
+use Rattle.std.proofs.Common.{ap, ◌∙◌}
 use Rattle.sn_desc.specs.InUse.{descriptors_in}
 use Rattle.sn_desc.specs.OpenFiles.{room_of}
 use Rattle.sn_desc.proofs.PlaceLemmas.{none_in}
