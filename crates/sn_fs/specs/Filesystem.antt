@@ -4,7 +4,7 @@ use Rattle.sn_device.specs.declared.device.Device.{Ghosts}
 use Rattle.sn_fs.specs.declared.fs.Fs.{Fs}
 use Rattle.sn_cp_whole.specs.declared.going.GoingPoint.{GoingPoint}
 use Rattle.sn_held.specs.Held.{Held}
-use Rattle.sn_fs.specs.Mounted.{IsMounted, holding}
+use Rattle.sn_events.specs.Mounted.{IsMounted, holding}
 use Rattle.sn_block.specs.Lending.{device_of}
 
 module _ {D : Type 0} {g : Ghosts D} where

@@ -1,9 +1,1 @@
-pub mod Answers
-pub mod Changing
-pub mod Dropping
 pub mod Filesystem
-pub mod Mounted
-pub mod Mounting
-pub mod Pointing
-pub mod Serving
-pub mod Unmounting

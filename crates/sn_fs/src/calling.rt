@@ -5,7 +5,7 @@ ghost use Rattle.sn_model.specs.Steps.{asks_for_point};
 ghost use Rattle.sn_model.specs.World.{World};
 ghost use Rattle.sn_sound.specs.Maps.{free_blocks};
 ghost use Rattle.sn_model.specs.declared.call.Event.TheVariants as event;
-ghost use Rattle.sn_fs.specs.Answers.{Answers};
+ghost use Rattle.sn_events.specs.Answers.{Answers};
 ghost use Rattle.sn_fs.specs.Filesystem.{IsFs, has_stopped, held};
 
 use crate::Fs;

@@ -9,13 +9,13 @@ ghost use Rattle.sn_model.specs.NameTree.{IsTree};
 ghost use Rattle.sn_overlay.specs.Needs.{counts};
 ghost use Rattle.sn_overlay.specs.Overlays.{HasRoom, TakesRoom};
 ghost use Rattle.sn_record.specs.Payload.{IsSpelled};
-ghost use Rattle.sn_fs.specs.Changing.{Changes, stops};
+ghost use Rattle.sn_events.specs.Changing.{Changes, stops};
 ghost use Rattle.sn_fs.specs.Filesystem.{has_stopped, held};
-ghost use Rattle.sn_fs.specs.Mounted.{IsSameRoot};
+ghost use Rattle.sn_events.specs.Mounted.{IsSameRoot};
 
 use crate::Fs;
-use crate::fault::ChangeFault;
 use sn_device::Device;
+use sn_events::ChangeFault;
 use sn_model::Change;
 
 impl<D: Device> Fs<D> {

@@ -21,12 +21,10 @@
 //!   crash leaves an image of it, also where the mount fails. Only a disk without a fault is mounted; a mount fails for the
 //!   cause that a check tells (`IsCause` of `sn_check`).
 //!
-//! The way through: `sn_held` says what is meant, and of what the disk is an image. `specs/Answers.antt` says what an event
-//! leads to, `Serving.antt` a call without a point, `Changing.antt` what a change does in memory and on the disk,
-//! `Pointing.antt` a point, `Unmounting.antt` the one of an unmount, `Mounting.antt` what a mount makes of a disk. A call is
-//! decided by `sn_core`; `serving` asks whether it lacks something and does it, `changing` makes its change in memory, which
-//! takes all the memory, and then appends its record, `pointing` makes points of what changed since the root, whole or in
-//! steps, by `sn_cp_whole`, and `calling` puts them together; `unmounting` makes the last one, and a mount is `sn_mount`'s.
+//! The way through: `sn_held` says what is meant, and of what the disk is an image, `sn_events` what each event leads to. A
+//! call is decided by `sn_core`; `serving` asks whether it lacks something and does it, `changing` makes its change in memory,
+//! which takes all the memory, and then appends its record, `pointing` makes points of what changed since the root, whole or
+//! in steps, by `sn_cp_whole`, and `calling` puts them together; `unmounting` makes the last one, and a mount is `sn_mount`'s.
 //!
 //! What the sources leave open is decided in `docs/DECISIONS.md`, under "Mount and calls over a device".
 //!
@@ -39,7 +37,6 @@
 
 mod calling;
 mod changing;
-mod fault;
 mod found;
 mod fs;
 mod mounting;

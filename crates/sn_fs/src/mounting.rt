@@ -4,7 +4,7 @@ ghost use Rattle.sn_block.specs.Counts.{IsLater};
 ghost use Rattle.sn_examine.specs.Failing.{IsSoOf};
 ghost use Rattle.sn_mount.specs.Costs.{CostsFew, CostsMount};
 ghost use Rattle.sn_fs.specs.Filesystem.{IsFs, has_stopped, held};
-ghost use Rattle.sn_fs.specs.Mounting.{IsLeft, Mounts};
+ghost use Rattle.sn_events.specs.Mounting.{IsLeft, Mounts};
 
 use crate::Fs;
 use crate::found::Unmounted;

@@ -3,9 +3,9 @@ ghost use Rattle.std.specs.Prelude.{◌≡◌, ◌≢◌, false, true, None, IsT
 ghost use Rattle.sn_cp.specs.Points.{stage_of};
 ghost use Rattle.sn_cp.specs.declared.stage.Stage.TheVariants.{Bodied};
 ghost use Rattle.sn_model.specs.declared.call.Event.TheVariants as event;
-ghost use Rattle.sn_fs.specs.Answers.{Answers, left_of};
+ghost use Rattle.sn_events.specs.Answers.{Answers, left_of};
 ghost use Rattle.sn_fs.specs.Filesystem.{IsFs, has_stopped, held, with_point};
-ghost use Rattle.sn_fs.specs.Pointing.{Advances, Begins, Finishes, GoesOn, Points, errno_of_point, stops_for, stops_point};
+ghost use Rattle.sn_events.specs.Pointing.{Advances, Begins, Finishes, GoesOn, Points, errno_of_point, stops_for, stops_point};
 
 use crate::Fs;
 use crate::serving::refused;

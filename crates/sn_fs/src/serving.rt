@@ -14,10 +14,10 @@ ghost use Rattle.sn_overlay.specs.Overlays.{HasRoom};
 ghost use Rattle.sn_record.specs.Payload.{IsSpelled};
 ghost use Rattle.sn_sound.specs.Logs.{HasAgeLeft};
 ghost use Rattle.sn_room.specs.Rooms.{charged_behind};
-ghost use Rattle.sn_fs.specs.Answers.{is_fitting};
+ghost use Rattle.sn_events.specs.Answers.{is_fitting};
 ghost use Rattle.sn_fs.specs.Filesystem.{IsFs, has_stopped, held};
-ghost use Rattle.sn_fs.specs.Mounted.{IsSameRoot};
-ghost use Rattle.sn_fs.specs.Serving.{Serves, TellsLack, Turns, reply_to};
+ghost use Rattle.sn_events.specs.Mounted.{IsSameRoot};
+ghost use Rattle.sn_events.specs.Serving.{Serves, TellsLack, Turns, reply_to};
 
 use crate::Fs;
 use sn_changed::{changed_laws, drop_each};

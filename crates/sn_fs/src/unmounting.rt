@@ -7,10 +7,10 @@ ghost use Rattle.sn_model.specs.NameTree.{IsTree};
 ghost use Rattle.sn_model.specs.Settling.{settled};
 ghost use Rattle.sn_model.specs.declared.reply.Errno.TheVariants.{Estopped};
 ghost use Rattle.sn_overlay.specs.Overlays.{layer_of};
-ghost use Rattle.sn_fs.specs.Dropping.{DropsFiles};
+ghost use Rattle.sn_events.specs.Dropping.{DropsFiles};
 ghost use Rattle.sn_fs.specs.Filesystem.{IsFs, has_stopped, held};
-ghost use Rattle.sn_fs.specs.Pointing.{stops_point};
-ghost use Rattle.sn_fs.specs.Unmounting.{HasUnmounted, IsRefusedTo, PointsLast};
+ghost use Rattle.sn_events.specs.Pointing.{stops_point};
+ghost use Rattle.sn_events.specs.Unmounting.{HasUnmounted, IsRefusedTo, PointsLast};
 
 use crate::Fs;
 use crate::pointing::{errno_of, stops};

@@ -21,7 +21,7 @@ use Rattle.sn_held.specs.Held.{Held}
 use Rattle.sn_held.specs.Images.{IsLiveImage}
 use Rattle.sn_examine.specs.Failing.{HasFailed, IsSoOf}
 use Rattle.sn_mount.specs.Costs.{CostsMount}
-use Rattle.sn_fs.specs.Answers.{MayMeet}
+use Rattle.sn_events.specs.Answers.{MayMeet}
 use Rattle.sn_run.specs.Causes.{FailsAtItsEnd, GoesOrEnds, HasCauses, HasNoMemory, IsFailure, ServedToItsEnd}
 use Rattle.sn_run.specs.Runs.{Goes, RunsTo, Served, Standing, start}
 use Rattle.sn_run.proofs.FailureLemmas.{fin_failures, runs_later}

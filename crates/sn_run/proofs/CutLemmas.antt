@@ -18,7 +18,7 @@ use Rattle.sn_model.specs.Settling.{settle, settled}
 use Rattle.sn_model.specs.Steps.{Becomes}
 use Rattle.sn_model.specs.Tree.{Tree}
 use Rattle.sn_model.specs.World.{World}
-use Rattle.sn_fs.proofs.UnmountLemmas.{settled_twice, settles_twice}
+use Rattle.sn_events.proofs.UnmountLemmas.{settled_twice, settles_twice}
 use Rattle.sn_ondisk.specs.Trees.{store_of}
 use Rattle.sn_opening.specs.Worlds.{frozen_of}
 use Rattle.sn_held.specs.Images.{IsLiveImage}

@@ -26,11 +26,11 @@ use Rattle.sn_held.specs.Moments.{ShowsState}
 use Rattle.sn_held.proofs.EventLemmas.{live_show}
 use Rattle.sn_cp_whole.specs.declared.fault.PointFault.{PointFault}
 use Rattle.sn_cp_whole.specs.declared.fault.PointFault.TheVariants as point
-use Rattle.sn_fs.specs.Answers.{HasMadePoint}
-use Rattle.sn_fs.specs.Pointing.{FinishesSo, IsUnpointed, errno_of_point}
-use Rattle.sn_fs.proofs.FinishLemmas.{IsFin, is_fin, one_finish}
-use Rattle.sn_fs.specs.Unmounting.{HasUnmounted, IsRefusedFor, IsRefusedTo, IsUnmountedTo}
-use Rattle.sn_fs.proofs.PointLemmas.{fails_read, made_point, settled_all}
+use Rattle.sn_events.specs.Answers.{HasMadePoint}
+use Rattle.sn_events.specs.Pointing.{FinishesSo, IsUnpointed, errno_of_point}
+use Rattle.sn_events.proofs.FinishLemmas.{IsFin, is_fin, one_finish}
+use Rattle.sn_events.specs.Unmounting.{HasUnmounted, IsRefusedFor, IsRefusedTo, IsUnmountedTo}
+use Rattle.sn_events.proofs.PointLemmas.{fails_read, made_point, settled_all}
 use Rattle.sn_run.specs.Ending.{EndsSo, IsEnded, end_for}
 
 done_is_refused : (errno : Errno) → refused errno ≡ answer.Done → ⊥

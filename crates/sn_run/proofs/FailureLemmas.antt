@@ -11,7 +11,7 @@ use Rattle.sn_model.specs.declared.reply.Reply.{Reply}
 use Rattle.sn_model.specs.Machine.{State, Mishap, Memory, Read, Write, Space, Age, EventStep, Run, RunBy}
 use Rattle.sn_held.specs.Held.{Held}
 use Rattle.sn_examine.specs.Failing.{HasFailed}
-use Rattle.sn_fs.specs.Answers.{IsBehindFinish, MayMeet}
+use Rattle.sn_events.specs.Answers.{IsBehindFinish, MayMeet}
 use Rattle.sn_run.specs.Laws.{Unfailing}
 use Rattle.sn_run.specs.Runs.{Goes, Standing}
 

@@ -33,12 +33,12 @@ use Rattle.sn_sound.specs.Verdicts.{IsFaulty}
 use Rattle.sn_sound.proofs.VerdictLemmas.{never_both}
 use Rattle.sn_examine.proofs.ImageLemmas.{image_clean}
 use Rattle.sn_check.specs.Verdicts.{IsCause}
-use Rattle.sn_fs.specs.Answers.{Answers, AnswersFrom, CostsMountOf, CostsRestart, HasMadePoint, MayMeet}
-use Rattle.sn_fs.specs.Mounting.{IsLeft, WritesToMount}
-use Rattle.sn_fs.specs.Pointing.{IsPointed}
-use Rattle.sn_fs.specs.Unmounting.{HasUnmounted, IsUnmountedTo}
-use Rattle.sn_fs.proofs.FinishLemmas.{IsFin, behind_finish, is_fin}
-use Rattle.sn_fs.proofs.PointLemmas.{in_any_world, made_point, none_failed, settled_all, some_failed}
+use Rattle.sn_events.specs.Answers.{Answers, AnswersFrom, CostsMountOf, CostsRestart, HasMadePoint, MayMeet}
+use Rattle.sn_events.specs.Mounting.{IsLeft, WritesToMount}
+use Rattle.sn_events.specs.Pointing.{IsPointed}
+use Rattle.sn_events.specs.Unmounting.{HasUnmounted, IsUnmountedTo}
+use Rattle.sn_events.proofs.FinishLemmas.{IsFin, behind_finish, is_fin}
+use Rattle.sn_events.proofs.PointLemmas.{in_any_world, made_point, none_failed, settled_all, some_failed}
 use Rattle.sn_run.specs.Restarting.{IsNotRemounted, IsRemounted, IsWholeDisk, Remounts}
 use Rattle.sn_run.specs.Runs.{LacksRoot}
 use Rattle.sn_run.proofs.CutLemmas.{found_settled}

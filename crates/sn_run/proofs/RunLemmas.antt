@@ -24,8 +24,8 @@ use Rattle.sn_cp_progress.specs.Meaning.{Means}
 use Rattle.sn_held.specs.Images.{IsLiveImage}
 use Rattle.sn_held.proofs.EventLemmas.{images_one}
 use Rattle.sn_mount.specs.Recovering.{LeavesTheWorld}
-use Rattle.sn_fs.specs.Answers.{Answers}
-use Rattle.sn_fs.specs.Mounting.{Mounts}
+use Rattle.sn_events.specs.Answers.{Answers}
+use Rattle.sn_events.specs.Mounting.{Mounts}
 use Rattle.sn_run.specs.Ending.{EndsSo, IsLastEnd}
 use Rattle.sn_run.specs.Servers.{no_base}
 use Rattle.sn_run.specs.Laws.{LivesOn}

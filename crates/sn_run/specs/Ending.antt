@@ -14,7 +14,7 @@ use Rattle.sn_held.specs.Held.{Held}
 use Rattle.sn_cp_progress.specs.Meaning.{Means}
 use Rattle.sn_held.specs.Moments.{ShowsState}
 use Rattle.sn_examine.specs.Failing.{CostsAtMost}
-use Rattle.sn_fs.specs.Answers.{HasMadePoint, IsBehindFinish, IsBehindPoint, IsCutAtPoint, MayMeet}
+use Rattle.sn_events.specs.Answers.{HasMadePoint, IsBehindFinish, IsBehindPoint, IsCutAtPoint, MayMeet}
 
 -- What an unmount costs, behind the point in progress, is its own point; where that isn't made, what a call would whose point isn't. One that has stopped calls nothing.
 abbrev pub CostsUnmount : State → Held → Held → Option Mishap → Status → Type 0

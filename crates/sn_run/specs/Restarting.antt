@@ -10,8 +10,8 @@ use Rattle.sn_model.specs.declared.reply.Reply.TheVariants as answer
 use Rattle.sn_held.specs.Held.{Held}
 use Rattle.sn_examine.specs.Failing.{IsSoOf}
 use Rattle.sn_mount.specs.Costs.{CostsFew}
-use Rattle.sn_fs.specs.Answers.{CostsMountOf}
-use Rattle.sn_fs.specs.Mounting.{IsLeft, Mounts}
+use Rattle.sn_events.specs.Answers.{CostsMountOf}
+use Rattle.sn_events.specs.Mounting.{IsLeft, Mounts}
 
 -- the disk of a device, with all its sectors
 pub record IsWholeDisk (status : Status) (disk : Disk) : Type 0 where

@@ -24,8 +24,8 @@ use Rattle.sn_examine.specs.Failing.{IsSoOf}
 use Rattle.sn_examine.specs.Laws.{IsSomeClean}
 use Rattle.sn_mount.specs.Costs.{CostsFew, CostsMount}
 use Rattle.sn_mount.specs.Recovering.{KeepsTheRoot, LeavesTheWorld, OfImage}
-use Rattle.sn_fs.specs.Answers.{AnswersFrom}
-use Rattle.sn_fs.specs.Mounting.{IsLeft}
+use Rattle.sn_events.specs.Answers.{AnswersFrom}
+use Rattle.sn_events.specs.Mounting.{IsLeft}
 use Rattle.sn_run.specs.Ending.{IsEnded}
 
 -- where a run stands between two events: the state of the machine, and what is held

@@ -2,7 +2,7 @@
 ghost use Rattle.std.specs.Prelude.{◌≡◌, IsTrue};
 ghost use Rattle.sn_model.specs.declared.call.Event.TheVariants as event;
 ghost use Rattle.sn_model.specs.Machine as machine;
-ghost use Rattle.sn_fs.specs.Answers.{Answers};
+ghost use Rattle.sn_events.specs.Answers.{Answers};
 ghost use Rattle.sn_run.specs.Ending.{EndsSo, IsLastEnd, end_for};
 ghost use Rattle.sn_run.specs.Restarting.{Remounts};
 ghost use Rattle.sn_run.specs.Servers.{IsServer, is_stopped, standing};

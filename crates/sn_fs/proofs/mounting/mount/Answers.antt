@@ -2,9 +2,9 @@ use Rattle.std.proofs.Common.{false, None, refl, sym, ap, subst}
 use Rattle.sn_device.specs.Disk.{Disk}
 use Rattle.sn_block.specs.Lending.{device_of}
 use Rattle.sn_model.specs.declared.mount.MountFault.TheVariants.{Memory}
-use Rattle.sn_fs.specs.Mounted.{holding}
-use Rattle.sn_fs.specs.Mounting.{IsLeft, Mounts}
-use Rattle.sn_fs.proofs.MountLemmas.{is_left, mounts, refused_memory}
+use Rattle.sn_events.specs.Mounted.{holding}
+use Rattle.sn_events.specs.Mounting.{IsLeft, Mounts}
+use Rattle.sn_events.proofs.MountLemmas.{is_left, mounts, refused_memory}
 use Rattle.sn_fs.proofs.mounting.mount.Goals as goal
 
 pub returns-in-Ok-recover-clause-mounted : goal.returns-in-Ok-recover-clause-mounted

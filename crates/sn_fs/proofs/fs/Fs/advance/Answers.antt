@@ -2,9 +2,9 @@ use Rattle.std.proofs.Common.{sym, ap, ◌∙◌}
 use Rattle.std.proofs.lemmas.Result.{err_from_is_err_and}
 use Rattle.sn_cp_whole.specs.Going.{going_of}
 use Rattle.sn_fs.specs.Filesystem.{held, with_point}
-use Rattle.sn_fs.specs.Mounted.{going_in}
-use Rattle.sn_fs.proofs.BasedLemmas.{none_there}
-use Rattle.sn_fs.proofs.BeginLemmas.{begun_advances, cut_advances, ended_advances, gone_advances, unbegun_advances, unended_advances}
+use Rattle.sn_events.specs.Mounted.{going_in}
+use Rattle.sn_events.proofs.BasedLemmas.{none_there}
+use Rattle.sn_events.proofs.BeginLemmas.{begun_advances, cut_advances, ended_advances, gone_advances, unbegun_advances, unended_advances}
 use Rattle.sn_fs.proofs.fs.Fs.advance.Goals as goal
 
 -- ---- where none is in progress

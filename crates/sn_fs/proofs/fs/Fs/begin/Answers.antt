@@ -15,9 +15,9 @@ use Rattle.sn_overlay.specs.Needs.{counts, nameless_in}
 use Rattle.sn_overlay.specs.Overlays.{HasRoom, layer_of}
 use Rattle.sn_room.specs.Rooms.{RoomCounts, begun}
 use Rattle.sn_fs.specs.Filesystem.{held}
-use Rattle.sn_fs.specs.Mounted.{IsBased}
-use Rattle.sn_fs.proofs.BasedLemmas.{base_none, stands_none}
-use Rattle.sn_fs.proofs.BeginLemmas.{unbegun}
+use Rattle.sn_events.specs.Mounted.{IsBased}
+use Rattle.sn_events.proofs.BasedLemmas.{base_none, stands_none}
+use Rattle.sn_events.proofs.BeginLemmas.{unbegun}
 use Rattle.sn_fs.proofs.fs.Fs.begin.Goals as goal
 
 pub begin_point-requires-clause-base : goal.begin_point-requires-clause-base

@@ -3,11 +3,11 @@ use Rattle.sn_model.specs.declared.call.Event.TheVariants.{Call}
 use Rattle.sn_model.specs.declared.reply.Errno.TheVariants.{Estopped}
 use Rattle.sn_model.specs.declared.reply.Reply.{Reply}
 use Rattle.sn_model.specs.Machine.{refused}
-use Rattle.sn_fs.specs.Answers.{Answers}
+use Rattle.sn_events.specs.Answers.{Answers}
 use Rattle.sn_fs.specs.Filesystem.{has_stopped, held}
-use Rattle.sn_fs.specs.Pointing.{errno_of_point}
-use Rattle.sn_fs.proofs.CallLemmas.{stopped_answers}
-use Rattle.sn_fs.proofs.FinishLemmas.{call_after_finish, call_cut}
+use Rattle.sn_events.specs.Pointing.{errno_of_point}
+use Rattle.sn_events.proofs.CallLemmas.{stopped_answers}
+use Rattle.sn_events.proofs.FinishLemmas.{call_after_finish, call_cut}
 use Rattle.sn_fs.proofs.fs.Fs.call.Goals as goal
 
 pub returns-then-self-clause-answered : goal.returns-then-self-clause-answered

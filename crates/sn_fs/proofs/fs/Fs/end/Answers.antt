@@ -17,10 +17,10 @@ use Rattle.sn_model.specs.Worlds.{IsWorld}
 use Rattle.sn_overlay.specs.Needs.{counts, nameless_in}
 use Rattle.sn_overlay.specs.Overlays.{HasRoom, layer_of}
 use Rattle.sn_room.specs.Rooms.{done as done_room}
-use Rattle.sn_fs.specs.Answers.{IsBesideRoot}
+use Rattle.sn_events.specs.Answers.{IsBesideRoot}
 use Rattle.sn_fs.specs.Filesystem.{held, with_point}
-use Rattle.sn_fs.specs.Mounted.{going_in}
-use Rattle.sn_fs.proofs.BasedLemmas.{based_none, stands_none}
+use Rattle.sn_events.specs.Mounted.{going_in}
+use Rattle.sn_events.proofs.BasedLemmas.{based_none, stands_none}
 use Rattle.sn_fs.proofs.fs.Fs.end.Goals as goal
 
 pub finish-requires-clause-disk : goal.finish-requires-clause-disk

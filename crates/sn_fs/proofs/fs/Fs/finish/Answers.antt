@@ -1,9 +1,9 @@
 use Rattle.std.proofs.Common.{◌≡◌, Option, None, sym, subst, ◌∙◌}
 use Rattle.sn_cp_whole.specs.declared.going.GoingPoint.{GoingPoint}
 use Rattle.sn_fs.specs.Filesystem.{IsFs, held}
-use Rattle.sn_fs.specs.Pointing.{Finishes}
-use Rattle.sn_fs.proofs.BasedLemmas.{none_there}
-use Rattle.sn_fs.proofs.FinishLemmas.{none_finishes}
+use Rattle.sn_events.specs.Pointing.{Finishes}
+use Rattle.sn_events.proofs.BasedLemmas.{none_there}
+use Rattle.sn_events.proofs.FinishLemmas.{none_finishes}
 use Rattle.sn_fs.proofs.fs.Fs.finish.Goals as goal
 
 pub end-requires-clause-sound : goal.end-requires-clause-sound

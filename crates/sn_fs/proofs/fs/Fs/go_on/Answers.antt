@@ -9,9 +9,9 @@ use Rattle.sn_cp_whole.specs.Going.{going_of}
 use Rattle.sn_cp_whole.proofs.RecoverLemmas.{point_apart}
 use Rattle.sn_device.proofs.CrashLemmas.{Touches-start}
 use Rattle.sn_device.specs.declared.status.Status.{Status}
-use Rattle.sn_fs.specs.Answers.{IsBesideRoot}
+use Rattle.sn_events.specs.Answers.{IsBesideRoot}
 use Rattle.sn_fs.specs.Filesystem.{held, with_point}
-use Rattle.sn_fs.proofs.BeginLemmas.{step_writes}
+use Rattle.sn_events.proofs.BeginLemmas.{step_writes}
 use Rattle.sn_fs.proofs.fs.Fs.go_on.Goals as goal
 
 pub advance-requires-clause-disk : goal.advance-requires-clause-disk

@@ -1,5 +1,5 @@
 use Rattle.std.proofs.Common.{not, ap, ◌∙◌}
-use Rattle.sn_fs.proofs.BasedLemmas.{none_in}
+use Rattle.sn_events.proofs.BasedLemmas.{none_in}
 use Rattle.sn_fs.proofs.fs.Fs.is_between.Goals as goal
 
 pub returns : goal.returns

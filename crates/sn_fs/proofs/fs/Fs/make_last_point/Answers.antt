@@ -16,12 +16,12 @@ use Rattle.sn_cp_whole.specs.Planning.{kept_in}
 use Rattle.sn_cp_whole.specs.declared.base.PointBase.{PointBase}
 use Rattle.sn_device.specs.Crash.{LeavesOnly}
 use Rattle.sn_held.specs.Images.{IsImage}
-use Rattle.sn_fs.specs.Dropping.{DropsFiles}
+use Rattle.sn_events.specs.Dropping.{DropsFiles}
 use Rattle.sn_fs.specs.Filesystem.{held}
-use Rattle.sn_fs.specs.Mounted.{IsBased}
-use Rattle.sn_fs.proofs.BasedLemmas.{base_none, stands_none, with_changes}
-use Rattle.sn_fs.proofs.PointLemmas.{not_device, point_unmade}
-use Rattle.sn_fs.proofs.UnmountLemmas.{last, ready_as, settles_twice}
+use Rattle.sn_events.specs.Mounted.{IsBased}
+use Rattle.sn_events.proofs.BasedLemmas.{base_none, stands_none, with_changes}
+use Rattle.sn_events.proofs.PointLemmas.{not_device, point_unmade}
+use Rattle.sn_events.proofs.UnmountLemmas.{last, ready_as, settles_twice}
 use Rattle.sn_fs.proofs.fs.Fs.make_last_point.Goals as goal
 
 pub drop_files-requires : goal.drop_files-requires

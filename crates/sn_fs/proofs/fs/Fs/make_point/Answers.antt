@@ -16,9 +16,9 @@ use Rattle.sn_cp_whole.specs.Making.{with_parts}
 use Rattle.sn_cp_whole.specs.Planning.{kept_in}
 use Rattle.sn_cp_whole.specs.declared.base.PointBase.{PointBase}
 use Rattle.sn_fs.specs.Filesystem.{held}
-use Rattle.sn_fs.specs.Mounted.{IsBased}
-use Rattle.sn_fs.proofs.BasedLemmas.{base_none, based_none, stands_none}
-use Rattle.sn_fs.proofs.PointLemmas.{not_device, point_unmade}
+use Rattle.sn_events.specs.Mounted.{IsBased}
+use Rattle.sn_events.proofs.BasedLemmas.{base_none, based_none, stands_none}
+use Rattle.sn_events.proofs.PointLemmas.{not_device, point_unmade}
 use Rattle.sn_fs.proofs.fs.Fs.make_point.Goals as goal
 
 pub make_point-requires-clause-base : goal.make_point-requires-clause-base

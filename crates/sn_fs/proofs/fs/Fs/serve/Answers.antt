@@ -22,13 +22,13 @@ use Rattle.sn_block.specs.Lending.{device_of}
 use Rattle.sn_device.specs.Crash.{Touches}
 use Rattle.sn_log.specs.Places.{base_at}
 use Rattle.sn_ondisk.specs.LogHalf.{InHalf}
-use Rattle.sn_fs.specs.Changing.{FailsChange, IsLogged, errno_of}
+use Rattle.sn_events.specs.Changing.{FailsChange, IsLogged, errno_of}
 use Rattle.sn_fs.specs.Filesystem.{held}
-use Rattle.sn_fs.specs.Mounted.{going_in}
-use Rattle.sn_fs.specs.Serving.{Serves, Turns, reply_to}
-use Rattle.sn_fs.proofs.CallLemmas.{fewer_left, lacking, made_serves, told_serves, undecided_serves, unmade_serves, unprepared_serves}
-use Rattle.sn_fs.proofs.DecisionLemmas.{can_be_made}
-use Rattle.sn_fs.proofs.ServeLemmas.{HasRoomFor, lacks_nothing, made_over, one_at_most, room_fewer, room_kept, same_twice, some_lack, stands_same, still_based, still_same, still_stands, within_still}
+use Rattle.sn_events.specs.Mounted.{going_in}
+use Rattle.sn_events.specs.Serving.{Serves, Turns, reply_to}
+use Rattle.sn_events.proofs.CallLemmas.{fewer_left, lacking, made_serves, told_serves, undecided_serves, unmade_serves, unprepared_serves}
+use Rattle.sn_events.proofs.DecisionLemmas.{can_be_made}
+use Rattle.sn_events.proofs.ServeLemmas.{HasRoomFor, lacks_nothing, made_over, one_at_most, room_fewer, room_kept, same_twice, some_lack, stands_same, still_based, still_same, still_stands, within_still}
 use Rattle.sn_fs.proofs.fs.Fs.serve.Goals as goal
 
 pub returns-in-Err-clause-served : goal.returns-in-Err-clause-served

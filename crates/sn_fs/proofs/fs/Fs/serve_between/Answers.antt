@@ -4,10 +4,10 @@ use Rattle.sn_model.specs.declared.call.Event.TheVariants.{Call}
 use Rattle.sn_model.specs.declared.reply.Errno.TheVariants.{Enospc}
 use Rattle.sn_model.specs.declared.reply.Reply.{Reply}
 use Rattle.sn_model.specs.Machine.{refused}
-use Rattle.sn_fs.specs.Answers.{Answers}
+use Rattle.sn_events.specs.Answers.{Answers}
 use Rattle.sn_fs.specs.Filesystem.{has_stopped, held}
-use Rattle.sn_fs.specs.Pointing.{Points, errno_of_point}
-use Rattle.sn_fs.proofs.PointLemmas.{call_behind, call_unpointed, call_without_room}
+use Rattle.sn_events.specs.Pointing.{Points, errno_of_point}
+use Rattle.sn_events.proofs.PointLemmas.{call_behind, call_unpointed, call_without_room}
 use Rattle.sn_fs.proofs.fs.Fs.serve_between.Goals as goal
 
 pub make_point-requires-clause-between : goal.make_point-requires-clause-between

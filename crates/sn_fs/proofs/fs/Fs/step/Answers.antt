@@ -4,10 +4,10 @@ use Rattle.sn_model.specs.declared.reply.Errno.TheVariants.{Estopped}
 use Rattle.sn_model.specs.declared.reply.Reply.{Reply}
 use Rattle.sn_model.specs.declared.reply.Reply.TheVariants.{Progress}
 use Rattle.sn_model.specs.Machine.{refused}
-use Rattle.sn_fs.specs.Answers.{Answers}
+use Rattle.sn_events.specs.Answers.{Answers}
 use Rattle.sn_fs.specs.Filesystem.{has_stopped, held}
-use Rattle.sn_fs.specs.Pointing.{errno_of_point}
-use Rattle.sn_fs.proofs.StepLemmas.{step_answers, step_refused, stopped_step}
+use Rattle.sn_events.specs.Pointing.{errno_of_point}
+use Rattle.sn_events.proofs.StepLemmas.{step_answers, step_refused, stopped_step}
 use Rattle.sn_fs.proofs.fs.Fs.step.Goals as goal
 
 pub returns-then-self-clause-answered : goal.returns-then-self-clause-answered

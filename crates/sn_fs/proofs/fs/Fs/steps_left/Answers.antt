@@ -2,8 +2,8 @@ use Rattle.std.proofs.Common.{Option, sym, ap, subst, ◌∙◌}
 use Rattle.sn_cp.specs.Points.{stage_of, work_of}
 use Rattle.sn_cp.proofs.CountLemmas.{stage_within}
 use Rattle.sn_cp_whole.specs.declared.going.GoingPoint.{GoingPoint}
-use Rattle.sn_fs.specs.Answers.{left_of}
-use Rattle.sn_fs.specs.Mounted.{IsBased, going_in}
+use Rattle.sn_events.specs.Answers.{left_of}
+use Rattle.sn_events.specs.Mounted.{IsBased, going_in}
 use Rattle.sn_fs.proofs.fs.Fs.steps_left.Goals as goal
 
 pub steps_left-requires-clause-whole : goal.steps_left-requires-clause-whole

@@ -2,12 +2,12 @@ use Rattle.std.proofs.Common.{Bool, false, sym, ap, subst, ◌∙◌}
 use Rattle.sn_model.specs.declared.call.Event.TheVariants.{Call}
 use Rattle.sn_model.specs.declared.reply.Reply.{Reply}
 use Rattle.sn_model.specs.Machine.{refused}
-use Rattle.sn_fs.specs.Answers.{Answers, AsksFirst}
+use Rattle.sn_events.specs.Answers.{Answers, AsksFirst}
 use Rattle.sn_fs.specs.Filesystem.{has_stopped, held}
-use Rattle.sn_fs.specs.Pointing.{errno_of_point}
-use Rattle.sn_fs.specs.Serving.{reply_to}
-use Rattle.sn_fs.proofs.AskLemmas.{asked_behind, asked_cut, asked_unpointed}
-use Rattle.sn_fs.proofs.CallLemmas.{undecided_serves}
+use Rattle.sn_events.specs.Pointing.{errno_of_point}
+use Rattle.sn_events.specs.Serving.{reply_to}
+use Rattle.sn_events.proofs.AskLemmas.{asked_behind, asked_cut, asked_unpointed}
+use Rattle.sn_events.proofs.CallLemmas.{undecided_serves}
 use Rattle.sn_fs.proofs.fs.Fs.sync.Goals as goal
 
 pub returns-in-Err-clause-answered : goal.returns-in-Err-clause-answered

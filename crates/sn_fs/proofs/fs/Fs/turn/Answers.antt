@@ -9,7 +9,7 @@ use Rattle.sn_model.specs.World.{World}
 use Rattle.sn_overlay.specs.Overlays.{layer_of}
 use Rattle.sn_room.specs.Rooms.{dropping}
 use Rattle.sn_fs.specs.Filesystem.{held}
-use Rattle.sn_fs.specs.Mounted.{going_in}
+use Rattle.sn_events.specs.Mounted.{going_in}
 use Rattle.sn_fs.proofs.fs.Fs.turn.Goals as goal
 
 pub returns-clause-turned : goal.returns-clause-turned

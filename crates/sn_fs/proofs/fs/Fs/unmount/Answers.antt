@@ -4,8 +4,8 @@ use Rattle.sn_device.specs.Disk.{Disk}
 use Rattle.sn_device.specs.declared.status.Status.{Status}
 use Rattle.sn_cp_whole.specs.declared.fault.PointFault.TheVariants as point
 use Rattle.sn_fs.specs.Filesystem.{held}
-use Rattle.sn_fs.specs.Unmounting.{HasUnmounted}
-use Rattle.sn_fs.proofs.FinishLemmas.{is_fin}
+use Rattle.sn_events.specs.Unmounting.{HasUnmounted}
+use Rattle.sn_events.proofs.FinishLemmas.{is_fin}
 use Rattle.sn_fs.proofs.fs.Fs.unmount.Goals as goal
 
 pub returns-then-fs-clause-refused : goal.returns-then-fs-clause-refused

@@ -3,9 +3,9 @@ use Rattle.sn_model.specs.declared.call.Event.TheVariants.{Call}
 use Rattle.sn_model.specs.declared.reply.Errno.TheVariants.{Estopped}
 use Rattle.sn_model.specs.declared.reply.Reply.{Reply}
 use Rattle.sn_model.specs.Machine.{refused}
-use Rattle.sn_fs.specs.Answers.{Answers}
+use Rattle.sn_events.specs.Answers.{Answers}
 use Rattle.sn_fs.specs.Filesystem.{has_stopped, held}
-use Rattle.sn_fs.proofs.CallLemmas.{stopped_answers}
+use Rattle.sn_events.proofs.CallLemmas.{stopped_answers}
 use Rattle.sn_run.specs.declared.server.Server.{Server}
 use Rattle.sn_run.specs.Servers.{is_stopped, standing}
 use Rattle.sn_run.proofs.server.Server.call.Goals as goal

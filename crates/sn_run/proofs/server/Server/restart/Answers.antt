@@ -4,10 +4,10 @@ use Rattle.sn_device.specs.declared.status.Status.{Status}
 use Rattle.sn_model.specs.declared.call.Event.TheVariants.{Restart}
 use Rattle.sn_model.specs.declared.reply.Reply.{Reply}
 use Rattle.sn_model.specs.Machine.{refused}
-use Rattle.sn_fs.specs.Answers.{Answers}
+use Rattle.sn_events.specs.Answers.{Answers}
 use Rattle.sn_fs.specs.Filesystem.{has_stopped, held}
-use Rattle.sn_fs.specs.Pointing.{errno_of_point}
-use Rattle.sn_fs.proofs.FinishLemmas.{restart_refused}
+use Rattle.sn_events.specs.Pointing.{errno_of_point}
+use Rattle.sn_events.proofs.FinishLemmas.{restart_refused}
 use Rattle.sn_run.specs.declared.server.Server.{Server}
 use Rattle.sn_run.specs.Restarting.{Remounts}
 use Rattle.sn_run.specs.Servers.{is_stopped, standing}

@@ -34,12 +34,12 @@ use Rattle.sn_held.specs.Images.{IsLiveImage}
 use Rattle.sn_held.specs.Moments.{ShowsState}
 use Rattle.sn_held.proofs.EventLemmas.{live_show}
 use Rattle.sn_cp_whole.specs.declared.fault.PointFault.{PointFault}
-use Rattle.sn_fs.specs.Answers.{Answers, AnswersFrom, AsksFirst, HasMadePoint, HasNoChange}
-use Rattle.sn_fs.specs.Pointing.{Finishes, IsPointed, Points, errno_of_point, stops_for}
-use Rattle.sn_fs.proofs.CallLemmas.{nothing_dropped, stays_since}
-use Rattle.sn_fs.proofs.DecisionLemmas.{has_no_change}
-use Rattle.sn_fs.proofs.FinishLemmas.{behind_finish, cut_finish, is_fin}
-use Rattle.sn_fs.proofs.PointLemmas.{PointEvent, in_any_world, made_point, refused_costs, running_between, settled_all, unmade_in_call, unpointed_answers}
+use Rattle.sn_events.specs.Answers.{Answers, AnswersFrom, AsksFirst, HasMadePoint, HasNoChange}
+use Rattle.sn_events.specs.Pointing.{Finishes, IsPointed, Points, errno_of_point, stops_for}
+use Rattle.sn_events.proofs.CallLemmas.{nothing_dropped, stays_since}
+use Rattle.sn_events.proofs.DecisionLemmas.{has_no_change}
+use Rattle.sn_events.proofs.FinishLemmas.{behind_finish, cut_finish, is_fin}
+use Rattle.sn_events.proofs.PointLemmas.{PointEvent, in_any_world, made_point, refused_costs, running_between, settled_all, unmade_in_call, unpointed_answers}
 
 is_sync : (c : Call) → asks_for_point c ≡ true → c ≡ call.Sync
 is_sync (call.Login uid gid groups) e = absurd (true≢false (sym e))

@@ -22,11 +22,11 @@ use Rattle.sn_held.proofs.EventLemmas.{runs_show}
 use Rattle.sn_cp_progress.specs.Meaning.{RunsWith}
 use Rattle.sn_cp_whole.specs.declared.fault.PointFault.{PointFault}
 use Rattle.sn_cp_whole.specs.declared.fault.PointFault.TheVariants as point
-use Rattle.sn_fs.specs.Answers.{Answers, AnswersFrom, IsBehindFinish, NeedsPoint, StepsIn, Works}
-use Rattle.sn_fs.specs.Pointing.{Finishes, FinishesSo, errno_of_point, stops_for}
-use Rattle.sn_fs.specs.Serving.{Serves}
-use Rattle.sn_fs.specs.Unmounting.{IsRefusedFor}
-use Rattle.sn_fs.proofs.PointLemmas.{PointEvent, call_point, in_any_world, is_cut, running_between, unmount_point, unpointed_restart}
+use Rattle.sn_events.specs.Answers.{Answers, AnswersFrom, IsBehindFinish, NeedsPoint, StepsIn, Works}
+use Rattle.sn_events.specs.Pointing.{Finishes, FinishesSo, errno_of_point, stops_for}
+use Rattle.sn_events.specs.Serving.{Serves}
+use Rattle.sn_events.specs.Unmounting.{IsRefusedFor}
+use Rattle.sn_events.proofs.PointLemmas.{PointEvent, call_point, in_any_world, is_cut, running_between, unmount_point, unpointed_restart}
 
 -- It is finished, where there was one: what runs is ready for another, and each crash has left the settled world.
 pub record IsFin (old fin : Held) : Type 0 where

@@ -56,13 +56,13 @@ use Rattle.sn_held.specs.Moments.{ShowsState}
 use Rattle.sn_sound.specs.Logs.{HasAgeLeft}
 use Rattle.sn_held.proofs.RoomLemmas.{drops_leave_fewer}
 use Rattle.sn_held.proofs.EventLemmas.{left_of_tree, live_show, runs_lasts, still_none, stops_between, stops_lasts}
-use Rattle.sn_fs.specs.Answers.{Answers, AsksFirst, Costs, HasAll, IsChangeOf, Lacks, LacksFirst, MayMeet, NumbersIn, RoomIn, SinceIn, Writes, fits_with, is_fitting, writes_of}
-use Rattle.sn_fs.specs.Changing.{FailsChange, IsLogged, errno_of, stops}
-use Rattle.sn_fs.specs.Serving.{DropsFiles, Serves, ServesFrom, ServesTo, Turns, reply_to}
-use Rattle.sn_fs.specs.declared.fault.ChangeFault.{ChangeFault}
-use Rattle.sn_fs.specs.declared.fault.ChangeFault.TheVariants as fault
+use Rattle.sn_events.specs.Answers.{Answers, AsksFirst, Costs, HasAll, IsChangeOf, Lacks, LacksFirst, MayMeet, NumbersIn, RoomIn, SinceIn, Writes, fits_with, is_fitting, writes_of}
+use Rattle.sn_events.specs.Changing.{FailsChange, IsLogged, errno_of, stops}
+use Rattle.sn_events.specs.Serving.{DropsFiles, Serves, ServesFrom, ServesTo, Turns, reply_to}
+use Rattle.sn_events.specs.declared.fault.ChangeFault.{ChangeFault}
+use Rattle.sn_events.specs.declared.fault.ChangeFault.TheVariants as fault
 use Rattle.sn_changed.proofs.DecidedLemmas.{logged_keep_nameless}
-use Rattle.sn_fs.proofs.DecisionLemmas.{CanBeMade, can_be_made, charge_of_change, has_no_change, is_charged, is_logged, refused_none}
+use Rattle.sn_events.proofs.DecisionLemmas.{CanBeMade, can_be_made, charge_of_change, has_no_change, is_charged, is_logged, refused_none}
 
 -- no node is new
 stays_numbers : (session : ℕ) (c : Call) (met : Option Mishap) (s : State) (kept : ℕ → Bool) → NumbersIn (event.Call session c) met s kept s kept

@@ -15,15 +15,15 @@ use Rattle.sn_numbers.specs.Numbers.{kept_after, since_after}
 use Rattle.sn_ondisk.specs.LogHalf.{InHalf}
 use Rattle.sn_log.specs.Places.{base_at, behind}
 use Rattle.sn_block.specs.Counts.{IsLater, called}
-use Rattle.sn_fs.specs.Answers.{writes_of}
+use Rattle.sn_events.specs.Answers.{writes_of}
 use Rattle.sn_held.specs.Events.{LeavesEither, LeavesMore}
 use Rattle.sn_held.specs.Held.{Held, Kept}
 use Rattle.sn_overlay.specs.Merges.{merge}
 use Rattle.sn_overlay_change.specs.ChangeLayers.{layer_of_change}
 use Rattle.sn_room.specs.Rooms.{logged}
 use Rattle.sn_examine.specs.Failing.{CostsAtMost, HasFailed}
-use Rattle.sn_fs.specs.declared.fault.ChangeFault.{ChangeFault}
-use Rattle.sn_fs.specs.declared.fault.ChangeFault.TheVariants.{Memory, Device}
+use Rattle.sn_events.specs.declared.fault.ChangeFault.{ChangeFault}
+use Rattle.sn_events.specs.declared.fault.ChangeFault.TheVariants.{Memory, Device}
 
 -- the world with the change
 pub record IsMade (change : Change) (old new : World) : Type 0 where

@@ -1,5 +1,5 @@
 -- What a step answers.
-use Rattle.std.proofs.Common.{◌≡◌, ◌⊎◌, inl, inr, false, true, Some, None, Err, Ok, refl, sym, ap, subst, arith}
+use Rattle.std.proofs.Common.{◌≡◌, ◌⊎◌, inl, inr, ℕ, ◌+◌, ◌<◌, ◌≤◌, false, true, Some, None, Err, Ok, refl, sym, ap, subst, arith}
 use Rattle.std.specs.FinMap as map
 use Rattle.std.proofs.lemmas.Bool.{true≢false}
 use Rattle.sn_limits.specs.Versions.{version_1}
@@ -13,7 +13,7 @@ use Rattle.sn_model.specs.Settling.{settle}
 use Rattle.sn_block.specs.Effects.{Nowhere}
 use Rattle.sn_block.proofs.CountLemmas.{later-is, later-same}
 use Rattle.sn_core.proofs.NumberLemmas.{step_numbers}
-use Rattle.sn_device.specs.Crash.{LeavesOnly}
+use Rattle.sn_device.specs.Crash.{LeavesOnly, Touches}
 use Rattle.sn_device.specs.declared.status.Status.{Status}
 use Rattle.sn_device.proofs.CrashLemmas.{LeavesOnly-now, LeavesOnly-weaker, Touches-start}
 use Rattle.sn_held.specs.Held.{Held}
@@ -25,10 +25,10 @@ use Rattle.sn_cp_progress.specs.Meaning.{RunsWith}
 use Rattle.sn_cp_progress.proofs.MeaningLemmas.{counted_with, runs_with, stays_lasts}
 use Rattle.sn_cp_whole.specs.declared.fault.PointFault.{PointFault}
 use Rattle.sn_cp_whole.specs.declared.fault.PointFault.TheVariants as point
-use Rattle.sn_block.specs.Counts.{FailsRead}
-use Rattle.sn_fs.specs.Answers.{Answers, AnswersFrom, Costs, IsBesideRoot, MayMeet}
-use Rattle.sn_fs.specs.Pointing.{Advances, IsAdvancedTo, IsBegunTo, IsCutStep, IsFinishedTo, IsUnbegun, errno_of_point, stops_for}
-use Rattle.sn_fs.proofs.PointLemmas.{fails_read, in_any_world, not_more, running_between}
+use Rattle.sn_block.specs.Counts.{FailsRead, called}
+use Rattle.sn_events.specs.Answers.{Answers, AnswersFrom, Costs, HasBegun, HasGoneOn, IsBesideRoot, MayMeet}
+use Rattle.sn_events.specs.Pointing.{Advances, IsAdvancedTo, IsBegunTo, IsCutStep, IsFinishedTo, IsUnbegun, errno_of_point, stops_for}
+use Rattle.sn_events.proofs.PointLemmas.{fails_read, in_any_world, not_more, running_between}
 
 pub stopped_step : (h : Held) → Answers event.Step (refused Estopped) h true h true
 stopped_step h (Running w) m = absurd (true≢false m.0)
@@ -64,57 +64,41 @@ goes_on_lasting old new moments runs bare = record {
   answered = live_show new old.world (runs_with new old.world new.point runs) bare;
 }
 
--- it has begun a point
-begun_step : (old new : Held) → IsBegunTo old new → old.world.frozen ≡ map.empty → AnswersFrom (Running old.world) event.Step (answer.Progress progress.More) old new false
-begun_step old new b bare = record {
+-- it has begun a point, or gone on with one
+more_step : (writes syncs : ℕ) (old new : Held) → HasBegun old new ⊎ HasGoneOn old new → ((n : ℕ) → new.kept n ≡ old.kept n) → new.status ≡ called writes syncs old.status
+    → (old.status.writes < new.status.writes) × (new.status.writes ≤ old.status.writes + 8) × (new.status.syncs ≤ old.status.syncs + 1)
+    → LeavesOnly old.disk new.disk (λ c. IsImage c (settle old.world)) → Touches (IsBesideRoot old) old.disk new.disk → RunsWith new.point new old.world → old.world.frozen ≡ map.empty
+    → AnswersFrom (Running old.world) event.Step (answer.Progress progress.More) old new false
+more_step writes syncs old new made kept costs some moments touched runs bare = record {
   met = None;
   fin = old;
   finish = inl refl;
   mid = old;
   point = inl refl;
-  may = ap (λ (s : Status). s.failures) b.begun.costs;
+  may = ap (λ (s : Status). s.failures) costs;
   next = Running old.world;
   step = (inl refl, refl);
-  means = (refl, b.runs, bare);
-  lasts = goes_on_lasting old new b.moments b.runs bare;
-  writes = b.touched;
+  means = (refl, runs, bare);
+  lasts = goes_on_lasting old new moments runs bare;
+  writes = touched;
   begins = tt;
-  numbers = record { next = (step_numbers old.world old.kept).next; keeps = b.begun.kept };
+  numbers = record { next = (step_numbers old.world old.kept).next; keeps = kept };
   since = tt;
   room = tt;
-  later = later-is 1 1 old.status new.status b.begun.costs;
+  later = later-is writes syncs old.status new.status costs;
   costs = tt;
-  steps = inl b.begun;
-  works = λ more. (
-    omega (arith, ap (λ (s : Status). s.writes) b.begun.costs),
-    omega (arith, ap (λ (s : Status). s.writes) b.begun.costs),
-    omega (arith, ap (λ (s : Status). s.syncs) b.begun.costs),
-  );
+  steps = made;
+  works = λ more. some;
 }
 
--- it has gone on with one
+begun_step : (old new : Held) → IsBegunTo old new → old.world.frozen ≡ map.empty → AnswersFrom (Running old.world) event.Step (answer.Progress progress.More) old new false
+begun_step old new b bare =
+    let writes = ap (λ (s : Status). s.writes) b.begun.costs in
+    let syncs = ap (λ (s : Status). s.syncs) b.begun.costs in
+    more_step 1 1 old new (inl b.begun) b.begun.kept b.begun.costs (omega (arith, writes), omega (arith, writes), omega (arith, syncs)) b.moments b.touched b.runs bare
+
 advanced_step : (old new : Held) → IsAdvancedTo old new → old.world.frozen ≡ map.empty → AnswersFrom (Running old.world) event.Step (answer.Progress progress.More) old new false
-advanced_step old new a bare = record {
-  met = None;
-  fin = old;
-  finish = inl refl;
-  mid = old;
-  point = inl refl;
-  may = ap (λ (s : Status). s.failures) a.gone.costs;
-  next = Running old.world;
-  step = (inl refl, refl);
-  means = (refl, a.runs, bare);
-  lasts = goes_on_lasting old new a.moments a.runs bare;
-  writes = a.touched;
-  begins = tt;
-  numbers = record { next = (step_numbers old.world old.kept).next; keeps = λ n. ap (λ (h : Held). h.kept n) a.gone.held };
-  since = tt;
-  room = tt;
-  later = later-is _ _ old.status new.status a.gone.costs;
-  costs = tt;
-  steps = inr a.gone;
-  works = λ more. a.some;
-}
+advanced_step old new a bare = more_step _ _ old new (inr a.gone) (λ n. ap (λ (h : Held). h.kept n) a.gone.held) a.gone.costs a.some a.moments a.touched a.runs bare
 
 -- it has finished one
 ended_step : (old new : Held) (f : IsFinishedTo old new) → f.finished.going.stage ≡ Bodied → old.world.frozen ≡ map.empty → AnswersFrom (Running old.world) event.Step (answer.Progress progress.Done) old new false

@@ -7,11 +7,11 @@ use Rattle.sn_model.specs.declared.mount.MountFault.{MountFault}
 use Rattle.sn_model.specs.declared.mount.MountFault.TheVariants.{Memory}
 use Rattle.sn_model.specs.World.{World}
 use Rattle.sn_held.specs.Held.{Going, Held, RunsReady}
-use Rattle.sn_fs.proofs.PointLemmas.{running_between}
+use Rattle.sn_events.proofs.PointLemmas.{running_between}
 use Rattle.sn_mount.specs.Recovering.{IsRecovered, KeepsTheWorld, OfImage, WritesAtFault, KeepsTheRoot}
 use Rattle.sn_examine.specs.Laws.{IsSomeClean}
 use Rattle.sn_check.specs.Verdicts.{IsCause}
-use Rattle.sn_fs.specs.Mounting.{IsLeft, Mounts}
+use Rattle.sn_events.specs.Mounting.{IsLeft, Mounts}
 
 pub mounts : (sectors : ℕ) (old : Disk) (h : Held) → KeepsTheRoot sectors old h.disk × OfImage old (IsRecovered h.at h.world h.room h.base old h.disk) → IsSomeClean sectors (reads old) → ((number : ℕ) → h.kept number ≡ false) → ((number : ℕ) → h.kept_since number ≡ false) → h.point ≡ None → Mounts sectors old h false
 mounts sectors old h r clean none none_since between = record {

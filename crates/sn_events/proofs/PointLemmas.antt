@@ -48,11 +48,11 @@ use Rattle.sn_cp_whole.specs.declared.fault.PointFault.{PointFault}
 use Rattle.sn_cp_whole.specs.declared.fault.PointFault.TheVariants as point
 use Rattle.sn_cp_whole.proofs.RecoverLemmas.{half_apart}
 use Rattle.sn_examine.specs.Failing.{CostsAtMost, HasFailed, HasNotFailed}
-use Rattle.sn_fs.specs.Answers.{Answers, AnswersFrom, Begins, BuildsOf, Costs, CostsCall, DoesNotFit, HasMadePoint, IsBesideRoot, IsChangeOf, IsLastRoot, Lacks, LacksFirst, MayMeet, HasNoChange, IsCutAtPoint, IsRecorded, NeedsPoint, NumbersIn, RoomIn, RoomOfCall, SinceIn, StepsIn, Works, Writes, is_fitting}
-use Rattle.sn_fs.specs.Pointing.{IsPointed, IsUnpointed, Points, errno_of_point, stops_for}
-use Rattle.sn_fs.specs.Serving.{Serves, ServesFrom, ServesTo}
-use Rattle.sn_fs.proofs.CallLemmas.{comes, next_with}
-use Rattle.sn_fs.proofs.DecisionLemmas.{CanBeMade, can_be_made, is_charged}
+use Rattle.sn_events.specs.Answers.{Answers, AnswersFrom, Begins, BuildsOf, Costs, CostsCall, DoesNotFit, HasMadePoint, IsBesideRoot, IsChangeOf, IsLastRoot, Lacks, LacksFirst, MayMeet, HasNoChange, IsCutAtPoint, IsRecorded, NeedsPoint, NumbersIn, RoomIn, RoomOfCall, SinceIn, StepsIn, Works, Writes, is_fitting}
+use Rattle.sn_events.specs.Pointing.{IsPointed, IsUnpointed, Points, errno_of_point, stops_for}
+use Rattle.sn_events.specs.Serving.{Serves, ServesFrom, ServesTo}
+use Rattle.sn_events.proofs.CallLemmas.{comes, next_with}
+use Rattle.sn_events.proofs.DecisionLemmas.{CanBeMade, can_be_made, is_charged}
 
 -- what is so of the world that is held is so of the one that is meant
 pub in_any_world : (e : Event) (old new : Held) (reply : Reply) (has_stopped : Bool) → (RunsWith old.point old old.world → old.world.frozen ≡ map.empty → AnswersFrom (Running old.world) e reply old new has_stopped) → Answers e reply old false new has_stopped

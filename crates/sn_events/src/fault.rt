@@ -1,19 +1,20 @@
 //! Why a change isn't made.
 ghost use Rattle.std.specs.Prelude.{◌≡◌};
-ghost use Rattle.sn_fs.specs.Changing.{errno_of, stops};
+ghost use Rattle.sn_events.specs.Changing.{errno_of, stops};
 
 use sn_model::Errno;
 
 /// Why a change isn't made.
 #[derive(Clone, Copy, PartialEq, Eq)]
-pub(crate) enum ChangeFault {
+pub enum ChangeFault {
+    /// No memory is left for it: nothing has changed.
     Memory,
-    /// The device failed while its record was written.
+    /// The device failed while its record was written: what stands on the disk isn't known.
     Device,
 }
 
 impl ChangeFault {
-    /// What a call is refused with.
+    /// What a call is refused with: ENOMEM or EIO.
     pub fn errno(self) -> Errno
         ensures { result ≡ errno_of self }
     {
@@ -23,7 +24,7 @@ impl ChangeFault {
         }
     }
 
-    /// Whether it stops the mount.
+    /// Whether it stops the mount, as a failure of the device does.
     pub fn stops(self) -> bool
         ensures { result ≡ stops self }
     {

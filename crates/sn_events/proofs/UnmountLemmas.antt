@@ -16,8 +16,8 @@ use Rattle.sn_held.proofs.EventLemmas.{drops_ready}
 use Rattle.sn_overlay.specs.Layers.{Layer}
 use Rattle.sn_overlay.specs.Needs.{nameless_in}
 use Rattle.sn_room.specs.Rooms.{RoomCounts, dropping}
-use Rattle.sn_fs.specs.Dropping.{DropsFiles}
-use Rattle.sn_fs.proofs.CallLemmas.{figures}
+use Rattle.sn_events.specs.Dropping.{DropsFiles}
+use Rattle.sn_events.proofs.CallLemmas.{figures}
 
 pub settled_twice : (tree : Tree) → settled (settled tree) ≡ settled tree
 settled_twice tree = sym (settle_alike tree (settled tree) (dropping_kept tree tree (λ _. false) (covers_itself tree)))

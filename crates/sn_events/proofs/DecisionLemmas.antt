@@ -25,7 +25,7 @@ use Rattle.sn_core.specs.declared.choosing.Chosen.{Chosen}
 use Rattle.sn_core.specs.Served.{Chooses}
 use Rattle.sn_opening.proofs.SpelledLemmas.{applied_spelled, old_spelled}
 use Rattle.sn_record.specs.Payload.{IsSpelled}
-use Rattle.sn_fs.specs.Answers.{HasNoChange}
+use Rattle.sn_events.specs.Answers.{HasNoChange}
 
 -- a change that was chosen is the one that is pending
 abbrev IsPicked : Tree → (ℕ → Bool) → Pending → Change → Type 0

@@ -7,7 +7,7 @@ use Rattle.sn_model.specs.declared.reply.Errno.{Errno}
 use Rattle.sn_cp_progress.specs.Meaning.{RunsWith}
 use Rattle.sn_cp_whole.specs.declared.fault.PointFault.{PointFault}
 use Rattle.sn_held.specs.Held.{Held, RunsReady}
-use Rattle.sn_fs.specs.Pointing.{FinishesSo, IsPointed, IsUnpointed, errno_of_point, stops_for}
+use Rattle.sn_events.specs.Pointing.{FinishesSo, IsPointed, IsUnpointed, errno_of_point, stops_for}
 
 -- The point in progress was finished, and then the whole point of an unmount left this disk, and the device has counted it.
 pub record IsUnmountedTo (old : Held) (disk : Disk) (status : Status) : Type 0 where

@@ -23,8 +23,8 @@ use Rattle.sn_held.specs.Held.{Held}
 use Rattle.sn_cp_progress.specs.Meaning.{Means}
 use Rattle.sn_log.specs.Places.{HasRoom, base_at}
 use Rattle.sn_sound.specs.Logs.{HasAgeLeft}
-use Rattle.sn_fs.specs.Answers.{AnswersFrom, IsTried, LacksFirst}
-pub use Rattle.sn_fs.specs.Dropping.{DropsFiles}
+use Rattle.sn_events.specs.Answers.{AnswersFrom, IsTried, LacksFirst}
+pub use Rattle.sn_events.specs.Dropping.{DropsFiles}
 
 -- what a call is answered that comes to nothing
 abbrev pub reply_to : CallError → Reply

@@ -47,8 +47,8 @@ use Rattle.sn_cp_whole.specs.Making.{most_syncs, most_writes, syncs_of_point, wr
 use Rattle.sn_examine.specs.Failing.{CostsAtMost, HasFailed, HasNotFailed}
 use Rattle.sn_mount.specs.Costs.{CostsFew, CostsMount}
 use Rattle.sn_mount.specs.Recovering.{LeavesTheWorld}
-use Rattle.sn_fs.specs.Dropping.{DropsFiles}
-use Rattle.sn_fs.specs.Mounting.{WritesToMount}
+use Rattle.sn_events.specs.Dropping.{DropsFiles}
+use Rattle.sn_events.specs.Mounting.{WritesToMount}
 
 -- the change that a call comes to
 pub record IsChangeOf (world : World) (kept : ℕ → Bool) (session : ℕ) (c : Call) (change : Change) : Type 0 where

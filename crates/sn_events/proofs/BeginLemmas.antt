@@ -19,8 +19,8 @@ use Rattle.sn_held.specs.Held.{Going, Held}
 use Rattle.sn_model.specs.declared.reply.Progress.TheVariants as progress
 use Rattle.sn_cp.specs.Counting.{syncs_left, writes_left}
 use Rattle.sn_cp_progress.specs.Meaning.{RunsWith}
-use Rattle.sn_fs.specs.Answers.{IsBesideRoot, IsLastRoot}
-use Rattle.sn_fs.specs.Pointing.{Advances, Begins, Finishes, FinishesSo, GoesOn, IsUnbegun}
+use Rattle.sn_events.specs.Answers.{IsBesideRoot, IsLastRoot}
+use Rattle.sn_events.specs.Pointing.{Advances, Begins, Finishes, FinishesSo, GoesOn, IsUnbegun}
 
 -- It wasn't begun.
 pub unbegun : (old : Held) (at : LogPosition) (d : Disk) (status : Status) (fault : PointFault) → BeginsPoint (Err fault) old.world old old.base at old.disk d → at ≡ old.at → HasCauseFor fault old.status status → IsLater old.status status → status.writes ≤ old.status.writes + 1 → status.syncs ≤ old.status.syncs + 1

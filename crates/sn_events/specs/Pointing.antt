@@ -26,7 +26,7 @@ use Rattle.sn_cp_whole.specs.Making.{most_syncs, most_writes, syncs_of_point, wr
 use Rattle.sn_cp_whole.specs.declared.fault.PointFault.{PointFault}
 use Rattle.sn_cp_whole.specs.declared.fault.PointFault.TheVariants.{Memory, Age, Read, Damaged, Device}
 use Rattle.sn_examine.specs.Failing.{CostsAtMost, HasFailed}
-use Rattle.sn_fs.specs.Answers.{BuildsOf, HasBegun, HasFinished, HasGoneOn, IsBesideRoot, IsLastRoot, world_behind}
+use Rattle.sn_events.specs.Answers.{BuildsOf, HasBegun, HasFinished, HasGoneOn, IsBesideRoot, IsLastRoot, world_behind}
 
 -- A point was made of what runs, beside the root that counted: a crash at any moment leaves the settled world. This world runs on over the next root.
 pub record IsPointedTo (world_after : World) (Builds : Layer → Type 0) (old new : Held) : Type 0 where

@@ -8,7 +8,7 @@ use Rattle.sn_cp_whole.specs.declared.going.GoingPoint.{GoingPoint}
 use Rattle.sn_device.specs.Disk.{Disk}
 use Rattle.sn_log.specs.Places.{LogPosition}
 use Rattle.sn_overlay.specs.declared.overlay.Overlay.{Overlay}
-use Rattle.sn_fs.specs.Mounted.{IsBased, StandsThere, going_in}
+use Rattle.sn_events.specs.Mounted.{IsBased, StandsThere, going_in}
 
 none_going : {A : Type 0} (going : GoingPoint) → going_in (Some going) ≡ None → A
 none_going going none = let never : Some (going_of going) ≡ None = none in absurd cc
