@@ -23,7 +23,7 @@ use Rattle.sn_held.specs.Events.{IsOfTree, LeavesMore}
 use Rattle.sn_held.specs.Held.{CarriesOn, Going, Held, Kept, Runs}
 use Rattle.sn_held.specs.Moments.{LastsOver, ShowsState}
 use Rattle.sn_held.specs.Room.{HasRoomFor}
-use Rattle.sn_held.proofs.EventLemmas.{appends_ready, drops_ready, live_show, ready_with}
+use Rattle.sn_held.proofs.EventLemmas.{appends_ready, drops_ready, live_show, ready_with, runs_beside}
 use Rattle.sn_cp_progress.specs.Meaning.{HasRoomWith, Means, RunsWith, progress_over}
 use Rattle.sn_cp_progress.specs.Progress.{Progress, RunsOn}
 use Rattle.sn_cp_progress.proofs.CallLemmas.{appends_go_on, drops_go_on}
@@ -83,30 +83,11 @@ drops_with (Some going) h world next kept since count base (frozen, on) of count
 
 -- whatever numbers are kept back, and whatever the device has counted
 pub on_with : (h : Held) (world : World) (p : Progress) (kept since : ℕ → Bool) (point : Option Going) (status : Status) → RunsOn h world p → RunsOn (record h { kept = kept; kept_since = since; point = point; status = status }) world p
+unfolding runs_beside
 on_with h world p kept since point status on =
-    let r = on.runs in
     let q = on.point in
     record {
-      runs = record {
-        is = r.is;
-        store = r.store;
-        slot = r.slot;
-        root = r.root;
-        words = r.words;
-        older = r.older;
-        newer = r.newer;
-        older_spelled = r.older_spelled;
-        newer_spelled = r.newer_spelled;
-        limits = r.limits;
-        formatted = r.formatted;
-        stands = r.stands;
-        none_later = r.none_later;
-        log = r.log;
-        cover = r.cover;
-        charged = r.charged;
-        age = r.age;
-        frozen = r.frozen;
-      };
+      runs = runs_beside h world kept since h.base point status on.runs;
       point = record {
         of = q.of;
         within = q.within;

@@ -269,32 +269,36 @@ module _ (old new : Held) (w next : World) (change : Change) (tree : Tree) (r : 
 
 -- ---- what makes a mount ready for a point
 
--- whatever numbers are kept back, whatever was kept for the point before, and whatever the device has counted
+-- whatever numbers are kept back, whatever is kept for a point, and whatever the device has counted
+pub runs_beside : (h : Held) (w : World) (kept since : ℕ → Bool) (base : Kept) (point : Option Going) (status : Status) → Runs h w → Runs (record h { kept = kept; kept_since = since; base = base; point = point; status = status }) w
+runs_beside h w kept since base point status r = record {
+  is = r.is;
+  store = r.store;
+  slot = r.slot;
+  root = r.root;
+  words = r.words;
+  older = r.older;
+  newer = r.newer;
+  older_spelled = r.older_spelled;
+  newer_spelled = r.newer_spelled;
+  limits = r.limits;
+  formatted = r.formatted;
+  stands = r.stands;
+  none_later = r.none_later;
+  log = r.log;
+  cover = r.cover;
+  charged = r.charged;
+  age = r.age;
+  frozen = r.frozen;
+}
+
+-- so it stays ready for a point of what is kept
 pub ready_with : (h : Held) (w : World) (k : Kept) (kept since : ℕ → Bool) (base : Kept) (point : Option Going) (status : Status) → RunsReady h w k → RunsReady (record h { kept = kept; kept_since = since; base = base; point = point; status = status }) w k
+unfolding runs_beside
 ready_with h w k kept since base point status ready =
-    let r = ready.runs in
     let is = ready.ready in
     record {
-      runs = record {
-        is = r.is;
-        store = r.store;
-        slot = r.slot;
-        root = r.root;
-        words = r.words;
-        older = r.older;
-        newer = r.newer;
-        older_spelled = r.older_spelled;
-        newer_spelled = r.newer_spelled;
-        limits = r.limits;
-        formatted = r.formatted;
-        stands = r.stands;
-        none_later = r.none_later;
-        log = r.log;
-        cover = r.cover;
-        charged = r.charged;
-        age = r.age;
-        frozen = r.frozen;
-      };
+      runs = runs_beside h w kept since base point status ready.runs;
       ready = record {
         between = record { none_newer = is.between.none_newer; epoch = is.between.epoch; ready = is.between.ready; synced = is.between.synced };
         slot = is.slot;
