@@ -1,5 +1,5 @@
 -- Files that go, as they are told.
-use Rattle.std.proofs.Common.{◌≡◌, ℕ, ◌+◌, ◌≤◌, Bool, true, false, cond, List, [], ◌∷◌, ◌++◌, Option, Some, None, length, get_or, Contains, is_some, refl, sym, subst, ◌∙◌, arith, length-append}
+use Rattle.std.proofs.Common.{◌≡◌, ℕ, ◌+◌, ◌≤◌, Bool, true, false, ◌||◌, cond, List, [], ◌∷◌, ◌++◌, Option, Some, None, length, get_or, Contains, is_some, refl, sym, ap, subst, ◌∙◌, arith, length-append}
 use Rattle.std.specs.Prelude.{All}
 use Rattle.std.specs.FinMap as map
 use Rattle.std.proofs.lemmas.List.{get_or-map}
@@ -83,6 +83,13 @@ module _ (old turned mid : World) (numbers seen : List ℕ) (same : seen ≡ num
   pub closed_lost : (lost : Option ℕ) (n : ℕ) → has_gone turned mid n ≡ has_closed old (dropped_lost mid lost) n
   closed_lost None n = closed_none old turned mid numbers seen same live tells held gone left n
   closed_lost (Some number) n = closed_one old turned mid numbers seen same live tells held gone left number n
+
+  -- so whatever numbers were kept back, those of files that it has closed are so too
+  pub closed_kept : (lost : Option ℕ) (new : World) (kept before now : ℕ → Bool) (n : ℕ) → new ≡ dropped_lost mid lost → kept ≡ before → now n ≡ (has_gone turned mid n || kept n) → now n ≡ (has_closed old new n || before n)
+  closed_kept lost new kept before now n is same gives =
+      gives ∙ ap (λ (k : ℕ → Bool). has_gone turned mid n || k n) same
+      ∙ ap (λ (b : Bool). b || before n) (closed_lost lost n)
+      ∙ sym (ap (λ (w : World). has_closed old w n || before n) is)
 
   -- what is left to nobody was there
   was_there : (n : ℕ) → is_abandoned mid n ≡ true → is_some (map.get old.live.nodes n) ≡ true

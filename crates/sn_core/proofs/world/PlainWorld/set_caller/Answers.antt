@@ -1,14 +1,13 @@
-use Rattle.std.proofs.Common.{◌≡◌, ◌||◌, ℕ, Bool, length, sym, ap, subst, ◌∙◌, arith}
+use Rattle.std.proofs.Common.{◌≡◌, length, sym, ap, subst, ◌∙◌, arith}
 use Rattle.std.specs.Prelude.{All}
 use Rattle.sn_changed.specs.Dropped.{TellsGone}
 use Rattle.sn_desc.specs.InUse.{live_in}
 use Rattle.sn_model.specs.Settling.{dropped, is_held}
 use Rattle.sn_model.specs.World.{World}
-use Rattle.sn_core.specs.Numbering.{has_closed, has_gone}
 use Rattle.sn_core.specs.Plain.{kept_of, kept_since_of, world_of}
 use Rattle.sn_core.specs.Told.{dropped_lost}
 use Rattle.sn_core.proofs.CallerLemmas.{live_after, turned_lost, turned_numbers}
-use Rattle.sn_core.proofs.ToldLemmas.{caller_closed, caller_tells, closed_lost, lost_descriptors, lost_few, lost_world}
+use Rattle.sn_core.proofs.ToldLemmas.{caller_closed, caller_tells, closed_kept, lost_descriptors, lost_few, lost_world}
 use Rattle.sn_core.proofs.world.PlainWorld.set_caller.Goals as goal
 
 pub drop_each_closed-dropped-requires-clause-numbers : goal.drop_each_closed-dropped-requires-clause-numbers
@@ -29,11 +28,8 @@ returns-clause-kept c n =
     let turned = world_of c.turn-released.new.self in
     let mid = world_of c.drop_each_closed-dropped.new.self in
     let live = live_after old turned c.args.session c.args.caller c.turn-released.ensures.world in
-    c.drop_lost.ensures.kept n ∙ c.drop_each_closed-dropped.ensures.kept n
-    ∙ ap (λ (k : ℕ → Bool). has_gone turned mid n || k n) c.turn-released.ensures.kept
-    ∙ ap (λ (b : Bool). b || kept_of c.args.self.now n)
-    (closed_lost old turned mid c.turn-released.result.items c.as_slice.result.now c.as_slice.ensures.value live c.turn-released.ensures.released c.turn-released.ensures.held c.drop_each_closed-dropped.ensures.gone c.drop_each_closed-dropped.ensures.left c.args.lost n)
-    ∙ sym (ap (λ (w : World). has_closed old w n || kept_of c.args.self.now n) c.drop_lost.ensures.world)
+    closed_kept old turned mid c.turn-released.result.items c.as_slice.result.now c.as_slice.ensures.value live c.turn-released.ensures.released c.turn-released.ensures.held c.drop_each_closed-dropped.ensures.gone c.drop_each_closed-dropped.ensures.left c.args.lost
+    (world_of c.drop_lost.new.self) (kept_of c.turn-released.new.self) (kept_of c.args.self.now) (kept_of c.drop_lost.new.self) n c.drop_lost.ensures.world c.turn-released.ensures.kept (c.drop_lost.ensures.kept n ∙ c.drop_each_closed-dropped.ensures.kept n)
 
 pub returns-clause-since : goal.returns-clause-since
 returns-clause-since c n =
@@ -41,11 +37,8 @@ returns-clause-since c n =
     let turned = world_of c.turn-released.new.self in
     let mid = world_of c.drop_each_closed-dropped.new.self in
     let live = live_after old turned c.args.session c.args.caller c.turn-released.ensures.world in
-    c.drop_lost.ensures.since n ∙ c.drop_each_closed-dropped.ensures.since n
-    ∙ ap (λ (k : ℕ → Bool). has_gone turned mid n || k n) c.turn-released.ensures.since
-    ∙ ap (λ (b : Bool). b || kept_since_of c.args.self.now n)
-    (closed_lost old turned mid c.turn-released.result.items c.as_slice.result.now c.as_slice.ensures.value live c.turn-released.ensures.released c.turn-released.ensures.held c.drop_each_closed-dropped.ensures.gone c.drop_each_closed-dropped.ensures.left c.args.lost n)
-    ∙ sym (ap (λ (w : World). has_closed old w n || kept_since_of c.args.self.now n) c.drop_lost.ensures.world)
+    closed_kept old turned mid c.turn-released.result.items c.as_slice.result.now c.as_slice.ensures.value live c.turn-released.ensures.released c.turn-released.ensures.held c.drop_each_closed-dropped.ensures.gone c.drop_each_closed-dropped.ensures.left c.args.lost
+    (world_of c.drop_lost.new.self) (kept_since_of c.turn-released.new.self) (kept_since_of c.args.self.now) (kept_since_of c.drop_lost.new.self) n c.drop_lost.ensures.world c.turn-released.ensures.since (c.drop_lost.ensures.since n ∙ c.drop_each_closed-dropped.ensures.since n)
 
 pub returns-clause-told : goal.returns-clause-told
 returns-clause-told c =
