@@ -214,7 +214,8 @@ impl Disk {
         line_of(self.alloc, &reply)
     }
 
-    fn answer(&mut self, event: &Event) -> Result<String> {
+    /// The line of the reply to a call or a step. A restart is an error.
+    pub fn answer(&mut self, event: &Event) -> Result<String> {
         match event {
             Event::Call { session, call } => self.told(*session, call),
             Event::Step => self.told_of_step(),

@@ -1,0 +1,317 @@
+//! Drawn lists of calls with steps of consistency points between them, cut short.
+//!
+//! A schedule is drawn from its number: calls on a few paths, so that they meet, and as many steps. What each leaves is looked
+//! at behind a crash; then the same list is cut short at writes of it, the disk crashes, and so does the mount behind it, up to
+//! twice. What is found then has to be what stood behind the last event that was answered as in the whole list, or behind the
+//! one in flight.
+
+use anyhow::{Context, Result};
+use rand_core::Rng;
+use rand_pcg::Pcg32;
+use sn_device::Fill;
+use sn_model::Event;
+use sn_mounted::{Disk, FILLS, event_of};
+use sn_table::{Report, Tally};
+use std::alloc::Global;
+use std::ops::Range;
+
+/// How many events a schedule has behind the login.
+const EVENTS: u32 = 14;
+
+/// A record of so many bytes takes two sectors, a longer file several blocks.
+const SHORT: usize = 600;
+
+const LONG: usize = 9_000;
+
+/// What a schedule is drawn from: a step as often as a call.
+const CALLS: [&str; 24] = [
+    "0 mkdir /a 0755",
+    "0 mkdir /a/b 0711",
+    "0 mkdir /c 0700",
+    "0 rmdir /a/b",
+    "0 rmdir /c",
+    "0 open /f rwc 0640",
+    "0 open /a/g rwc 0644",
+    "0 open /a/g rwct 0644",
+    "0 write 0 414243",
+    "0 write 1 61626364",
+    "0 seek 0 5000",
+    "0 ftruncate 0 100",
+    "0 close 0",
+    "0 close 1",
+    "0 unlink /f",
+    "0 unlink /a/g",
+    "0 link /f /a/h",
+    "0 unlink /a/h",
+    "0 rename /f /a/g",
+    "0 rename /a/g /f",
+    "0 rename /c /a/b",
+    "0 chmod /a 0700",
+    "0 setacl /a a u::rwx,u:1001:r-x,g::r-x,m::rwx,o::---",
+    "0 sync",
+];
+
+/// What is asked behind a crash: names, attributes, lists of entries and bytes.
+const ASKED: [&str; 16] = [
+    "0 login 0 0 -",
+    "0 readdir /",
+    "0 readdir /a",
+    "0 readdir /a/b",
+    "0 stat /a",
+    "0 getacl /a a",
+    "0 stat /a/b",
+    "0 stat /c",
+    "0 stat /f",
+    "0 stat /a/g",
+    "0 stat /a/h",
+    "0 open /f r",
+    "0 read 0 65536",
+    "0 open /a/g r",
+    "0 read 1 65536",
+    "0 mkdir /z 0700",
+];
+
+/// How many schedules the gate tries, and behind how many numbers of writes it cuts each short.
+const SCHEDULES: u32 = 100;
+
+const CUTS: u32 = 8;
+
+/// How many kinds of crashes there are.
+const CRASHES: u32 = 7;
+
+/// A mount behind a crash is cut short in its first so many writes.
+const MOUNT_WRITES: u32 = 48;
+
+/// How an event is answered where nothing fails, and what is found behind a crash then.
+#[derive(Drop)]
+struct Left {
+    told: String,
+    found: String,
+}
+
+/// A schedule, what each of its events leaves where nothing fails, and how many writes all make. The first of what is left is
+/// that of a mount without an event.
+#[derive(Drop)]
+struct Schedule {
+    number: u32,
+    events: Vec<Event>,
+    behind: Vec<Left>,
+    writes: u32,
+}
+
+/// A crash behind so many writes, which leaves what this number says of the sectors that weren't synced.
+#[derive(Clone, Copy)]
+struct Crash {
+    stop: u32,
+    number: u32,
+}
+
+/// One of so many, from 0 up.
+fn drawn(random: &mut Pcg32, count: u32) -> u32 {
+    random.next_u32().checked_rem(count).unwrap_or(0)
+}
+
+/// A write of so many bytes to the descriptor 0.
+fn write_of(alloc: Global, count: usize) -> Result<Event> {
+    let mut line = String::from_str(alloc, "0 write 0 ")?;
+    for _ in 0..count {
+        line.push_str("78")?;
+    }
+    event_of(alloc, line.as_str())
+}
+
+/// A step as often as a call, and now and then a long write.
+fn event_from(alloc: Global, random: &mut Pcg32) -> Result<Event> {
+    if drawn(random, 2) == 0 {
+        return Ok(Event::Step);
+    }
+    match drawn(random, 24) {
+        0 => write_of(alloc, SHORT),
+        1 => write_of(alloc, LONG),
+        _ => call_from(alloc, random),
+    }
+}
+
+fn call_from(alloc: Global, random: &mut Pcg32) -> Result<Event> {
+    let at = drawn(random, CALLS.len() as u32) as usize;
+    event_of(alloc, CALLS.get(at).context("no such call")?)
+}
+
+/// The login, and the events that are drawn from a number.
+fn events_of(alloc: Global, number: u32) -> Result<Vec<Event>> {
+    let mut random = Pcg32::new(u64::from(number), 1);
+    let mut events = Vec::new(alloc);
+    events.push(event_of(alloc, "0 login 0 0 -")?)?;
+    for _ in 0..EVENTS {
+        events.push(event_from(alloc, &mut random)?)?;
+    }
+    Ok(events)
+}
+
+/// What is found on a disk behind a crash.
+fn found_on(alloc: Global, disk: &mut Disk) -> Result<String> {
+    let mut found = String::new(alloc);
+    disk.remount()?;
+    for line in ASKED {
+        let told = disk.ask(line)?;
+        found.push_str(told.as_str())?;
+    }
+    Ok(found)
+}
+
+/// How the last of some events is answered, on a disk that is mounted for them.
+fn told_last(alloc: Global, disk: &mut Disk, events: &[Event]) -> Result<String> {
+    let mut told = String::new(alloc);
+    disk.remount()?;
+    for event in events {
+        told = disk.answer(event)?;
+    }
+    Ok(told)
+}
+
+/// What some events leave, and how many writes they make with their mount.
+fn left_by(alloc: Global, image: &[u8], events: &[Event]) -> Result<(Left, u32)> {
+    let mut disk = Disk::of_bytes(alloc, image)?;
+    let told = told_last(alloc, &mut disk, events)?;
+    disk.unmount()?;
+    let writes = disk.writes()?;
+    disk.crash(Fill::Old)?;
+    let found = found_on(alloc, &mut disk)?;
+    Ok((Left { told, found }, u32::try_from(writes)?))
+}
+
+/// What is left by each front of a schedule's events, the empty one first.
+fn schedule_of(alloc: Global, image: &[u8], number: u32) -> Result<Schedule> {
+    let mut schedule = Schedule {
+        number,
+        events: events_of(alloc, number)?,
+        behind: Vec::new(alloc),
+        writes: 0,
+    };
+    for count in 0..schedule.events.len() + 1 {
+        let (left, writes) = left_by(alloc, image, &schedule.events.as_slice()[..count])?;
+        schedule.behind.push(left)?;
+        schedule.writes = writes;
+    }
+    Ok(schedule)
+}
+
+/// How many events are answered as in the whole schedule, on a disk that may fail in their course.
+fn answered(disk: &mut Disk, schedule: &Schedule) -> Result<usize> {
+    if disk.mount()?.is_some() {
+        return Ok(0);
+    }
+    let mut count = 0_usize;
+    for (event, behind) in schedule.events.iter().zip(schedule.behind.iter().skip(1)) {
+        let told = disk.answer(event)?;
+        if told.as_str() != behind.told.as_str() {
+            break;
+        }
+        count = count.saturating_add(1);
+    }
+    Ok(count)
+}
+
+/// Mounts that are cut short too, none, one, or two behind one another.
+fn mounts_between(disk: &mut Disk, crash: Crash) -> Result<()> {
+    let mut random = Pcg32::new(u64::from(crash.number), u64::from(crash.stop));
+    for _ in 0..drawn(&mut random, 3) {
+        disk.stop_at(u64::from(drawn(&mut random, MOUNT_WRITES)))?;
+        disk.mount()?;
+        disk.crash_by(drawn(&mut random, FILLS))?;
+    }
+    Ok(())
+}
+
+/// Whether this is found where so many events were answered: what the last of them left, or the next one.
+fn is_left(schedule: &Schedule, answered: usize, found: &str) -> bool {
+    schedule
+        .behind
+        .iter()
+        .skip(answered)
+        .take(2)
+        .any(|behind| behind.found.as_str() == found)
+}
+
+/// Whether a schedule that is cut short leaves what it may.
+fn is_right(alloc: Global, image: &[u8], schedule: &Schedule, crash: Crash) -> Result<bool> {
+    let mut disk = Disk::of_bytes(alloc, image)?;
+    disk.stop_at(u64::from(crash.stop))?;
+    let answered = answered(&mut disk, schedule)?;
+    disk.crash_by(crash.number)?;
+    mounts_between(&mut disk, crash)?;
+    let found = found_on(alloc, &mut disk)?;
+    Ok(is_left(schedule, answered, found.as_str()))
+}
+
+/// Each of the five fills of one kind, one by a seed, and one that tears sectors.
+fn crash_at(stop: u32, kind: u32) -> Crash {
+    let number = match kind {
+        0..5 => kind,
+        5 => 5 + stop % (FILLS - 5),
+        _ => FILLS.saturating_add(stop),
+    };
+    Crash { stop, number }
+}
+
+/// Cuts a schedule short once, and prints its number, the writes and the crash where it leaves what it may not.
+fn cut(
+    report: &Report<'_>,
+    tally: &mut Tally,
+    image: &[u8],
+    schedule: &Schedule,
+    crash: Crash,
+) -> Result<()> {
+    let is_right = is_right(report.alloc(), image, schedule, crash)?;
+    let case = [schedule.number, crash.stop, crash.number];
+    tally.check(report.runtime(), is_right, &case)?;
+    Ok(())
+}
+
+/// Cuts a schedule short behind some numbers of writes that are drawn.
+fn cut_at_some(report: &Report<'_>, tally: &mut Tally, image: &[u8], number: u32) -> Result<()> {
+    let schedule = schedule_of(report.alloc(), image, number)?;
+    let mut random = Pcg32::new(u64::from(number), 2);
+    for _ in 0..CUTS {
+        let stop = drawn(&mut random, schedule.writes.saturating_add(1));
+        let crash = crash_at(stop, drawn(&mut random, CRASHES));
+        cut(report, tally, image, &schedule, crash)?;
+    }
+    Ok(())
+}
+
+/// Cuts a schedule short behind each number of its writes, by a crash of each kind.
+fn cut_at_each(report: &Report<'_>, tally: &mut Tally, image: &[u8], number: u32) -> Result<()> {
+    let schedule = schedule_of(report.alloc(), image, number)?;
+    let all = schedule.writes.saturating_add(1).saturating_mul(CRASHES);
+    for place in 0..all {
+        let crash = crash_at(place / CRASHES, place % CRASHES);
+        cut(report, tally, image, &schedule, crash)?;
+    }
+    Ok(())
+}
+
+/// A disk of the fewest blocks, as it is formatted.
+fn image_of(alloc: Global) -> Result<Vec<u8>> {
+    Disk::least(alloc)?.bytes(0, usize::MAX)
+}
+
+/// The schedules of the gate.
+pub fn run(report: &mut Report<'_>) -> Result<()> {
+    let image = image_of(report.alloc())?;
+    let mut tally = Tally::new();
+    for number in 0..SCHEDULES {
+        cut_at_some(report, &mut tally, image.as_slice(), number)?;
+    }
+    report.add("schedules of calls and steps, cut short", tally)
+}
+
+/// Those of these numbers, by hand, cut short wherever they can be.
+pub fn sweep(report: &mut Report<'_>, numbers: Range<u32>) -> Result<()> {
+    let image = image_of(report.alloc())?;
+    let mut tally = Tally::new();
+    for number in numbers {
+        cut_at_each(report, &mut tally, image.as_slice(), number)?;
+    }
+    report.add("schedules of calls and steps, cut short everywhere", tally)
+}
