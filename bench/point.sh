@@ -1,13 +1,14 @@
 #!/bin/bash
 # Times calls between consistency points, and the points, over devices in memory, by runs of the program `measure_runs`. Run by
-# hand; it takes some minutes and half a gigabyte of memory.
+# hand; it takes some minutes and ten gigabytes of memory.
 #
 # Prints what a call costs that makes or takes away a directory, where no point comes between, in trees of 100, 10,000 and
 # 60,000 directories, by a hundred of them in each; and what a point costs behind 1, 10 and 100 such calls, in these trees,
 # and on disks of 4,096, 16,384 and 65,536 blocks. Each time is the least of twenty rounds of one run. A tree of 100 is in one
 # directory of the root, the others in a hundred and in six hundred: the root's names are looked up for each call, and not read
-# by a point. Then what a run pauses for one event while a point of a disk of 65,536 blocks is made in steps, with a call behind
-# each sixteenth of them: its first step, which builds it, the longest further step and the longest of the calls.
+# by a point. Then what a run pauses for one event while a point of more than 1,000 blocks is made in steps, with a call behind
+# each sixteenth of them, on a disk of 1,048,576 blocks, whose map has so many: its first step, which builds it, the longest
+# further step and the longest of the calls, each beside the whole point in one event.
 set -eu
 top=$(cd "$(dirname "$0")/.." && pwd)
 work=$(mktemp -d)
@@ -35,5 +36,5 @@ END {
 "$top/bench/out/measure_runs" pauses > "$work/pauses"
 awk '
 {
-    printf "a point of %d steps: its first step %.1f us, the longest further step %.2f of that, the longest call between %.2f\n", $1, $3 / 1000, $4 / $3, $5 / $3
+    printf "a point of %d steps: in one event %.1f us; its first step %.3f of that, the longest further step %.4f, the longest call between %.4f\n", $1, $2 / 1000, $3 / $2, $4 / $2, $5 / $2
 }' "$work/pauses"

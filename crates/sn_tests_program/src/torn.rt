@@ -8,7 +8,7 @@ use crate::events::{events_of, found_on, lines_of as lines_of_replies, ran};
 use anyhow::{Result, ensure};
 use sn_device::{Device, MemDevice};
 use sn_model::{End, Event, Reply};
-use sn_mounted::{FILLS, crashed, least_device, new_device};
+use sn_mounted::{FILLS, crashed, least_device, small_device};
 use sn_run::Ran;
 use std::alloc::Global;
 use std::ops::Range;
@@ -26,7 +26,7 @@ struct Plan {
 }
 
 /// On a disk on which events fill nothing.
-const LARGE: Plan = Plan {
+const SMALL: Plan = Plan {
     is_least: false,
     crashes: 7,
     filled: 5,
@@ -62,7 +62,7 @@ struct Whole {
 /// A line for each event of a text: how many writes it makes, how many crashes in it left what they may not, and
 /// what is there behind it.
 pub fn torn(alloc: Global, text: &str) -> Result<String> {
-    torn_by(alloc, LARGE, text)
+    torn_by(alloc, SMALL, text)
 }
 
 /// The same on the least disk.
@@ -100,7 +100,7 @@ fn device_of(alloc: Global, plan: Plan) -> Result<MemDevice> {
     if plan.is_least {
         least_device(alloc)
     } else {
-        new_device(alloc)
+        small_device(alloc)
     }
 }
 
