@@ -1,8 +1,9 @@
 -- A block whose names changed.
-use Rattle.std.proofs.Common.{◌≡◌, ℕ, Bool, true, false, List, [], ◌∷◌, ◌++◌, append-nil, Option, Some, None, refl, sym, subst, ◌∙◌, arith}
+use Rattle.std.proofs.Common.{◌≡◌, ℕ, ◌+◌, ◌<◌, ◌≤◌, length, Bool, true, false, List, [], ◌∷◌, ◌++◌, append-nil, Option, Some, None, refl, sym, subst, ◌∙◌, arith}
 use Rattle.std.specs.Prelude.{is_some, IfSome}
+use Rattle.std.proofs.lemmas.Bool.{true≢false}
 use Rattle.sn_layout.proofs.Reading.{each_more}
-use Rattle.sn_layout_node.specs.Directory.{Link, IsLink, AreLinks, Spells, IsDirectoryBlock, number_of, without}
+use Rattle.sn_layout_node.specs.Directory.{Link, IsLink, AreLinks, Spells, IsDirectoryBlock, links_bytes, number_of, without}
 use Rattle.sn_layout_node.proofs.Changes.{length-more, each_without}
 use Rattle.sn_image.specs.Names.{names_in}
 use Rattle.sn_image.proofs.DecodeLemmas.{directory_read}
@@ -39,3 +40,11 @@ numbered_fits name (Some n) links are is some = fits_in_place links (record { nu
 pub change_fits : (links less : List Link) (change : NameChange) → less ≡ without change.name.now links → AreLinks links → IsChange change → is_some (number_of change.name.now links) ≡ true → AreLinks (less ++ link_for change)
 change_fits links less change made are is some =
     subst (λ (ls : List Link). AreLinks (ls ++ link_for change)) (sym made) (numbered_fits change.name.now change.number links are is some)
+
+too_long : (links : List Link) (room : ℕ) (name : List ℕ) (number : Option ℕ) → 4096 ≤ length (links_bytes links) + room → is_some number ≡ true → room < length name + 3 → AreLinks (links ++ numbered name number) → ⊥
+too_long links room name None least some more fits = true≢false (sym some)
+too_long links room name (Some n) least some more fits = omega (arith, fits.room, length-more links (record { number = n; name = name }), least, more)
+
+-- a name that takes more than is left
+pub no_room : (links : List Link) (room : ℕ) (change : NameChange) → 4096 ≤ length (links_bytes links) + room → (is_some change.number ≡ true) × (room < length change.name.now + 3) → AreLinks (links ++ link_for change) → ⊥
+no_room links room change least more fits = too_long links room change.name.now change.number least more.0 more.1 fits

@@ -27,7 +27,7 @@ each_joined : (xs ys : List Link) → AllByRecursion IsLink xs → AllByRecursio
 each_joined [] ys left right = right
 each_joined (x ∷ xs) ys left right = (left.0, each_joined xs ys left.1 right)
 
-length-bytes : (xs ys : List Link) → length (links_bytes (xs ++ ys)) ≡ length (links_bytes xs) + length (links_bytes ys)
+pub length-bytes : (xs ys : List Link) → length (links_bytes (xs ++ ys)) ≡ length (links_bytes xs) + length (links_bytes ys)
 length-bytes xs ys = ap (λ (bs : List ℕ). length bs) (flat_map-append link_bytes xs ys) ∙ length-append (links_bytes xs) (links_bytes ys)
 
 abbrev gone_in : List Link → NameChange → Type 0

@@ -38,7 +38,7 @@ fn filled(change: &NameChange<'_>, waiting: &mut Vec<NameChange<'_>>) -> Block
     let mut block = [0; BLOCK_SIZE];
     DirectoryBlock::clear(&mut block);
     put(&mut block, change);
-    put_waiting(&mut block, waiting);
+    put_waiting(&mut block, BLOCK_SIZE, waiting);
     block
 }
 

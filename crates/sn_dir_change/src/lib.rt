@@ -16,7 +16,8 @@
 //! where no change is left. `IsUnderWay` is what holds between two blocks. What still waits behind the last
 //! block fills new ones, one after the other, so a directory that grows has few blocks for its names
 //! (`IsSizeWith`): by `size_laws` it stays within the largest size. Each block's names are marked first
-//! (`name_marks`), so that a change costs a block that doesn't have its name one look, and not one at each name.
+//! (`name_marks`), and beside each change stands which mark is that of its name, so that it costs a block that
+//! doesn't have the name one look, and not one at each name.
 //!
 //! The way through: `amend` changes one name in one block, `pass` all of them, `standing` tells which names
 //! the directory has, `pending` are the changes still to be made, `through` goes over the blocks, `fill` makes

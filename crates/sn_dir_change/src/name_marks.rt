@@ -3,7 +3,9 @@ ghost use Rattle.std.specs.Prelude.{◌≡◌, ◌<◌, ◌-◌, false, is_some,
 ghost use Rattle.sn_layout_node.specs.Directory.{number_of};
 ghost use Rattle.sn_dir_change.specs.NameMarks.{AreMarked, hash_of};
 
+use crate::NameChange;
 use sn_layout_node::DirectoryBlock;
+use std::marker::Model;
 
 // How many marks there are: few names of one block share one.
 const MARKS: usize = 4096;
@@ -27,6 +29,41 @@ fn hash(name: &[u8]) -> usize
     hash
 }
 
+/// A change beside which mark is that of its name, so that each block is one look.
+#[derive(Drop)]
+pub(crate) struct MarkedChange<'a> {
+    change: NameChange<'a>,
+    mark: usize,
+}
+
+impl<'a> Model for MarkedChange<'a> {
+    ghost use Rattle.std.specs.Prelude.{◌≡◌, ◌<◌};
+    ghost use Rattle.sn_dir_change.specs.NameMarks.{hash_of};
+    ghost use Rattle.sn_dir_change.specs.declared.name_change.NameChange.{NameChange as TheChange};
+
+    ghost Value = { TheChange };
+
+    ghost view = { λ marked. marked.change };
+
+    ghost invariant = { λ marked. (marked.mark ≡ hash_of marked.change.name.now) × (marked.mark < 4096) };
+}
+
+impl<'a> MarkedChange<'a> {
+    pub fn of(change: NameChange<'a>) -> Self
+        ensures { result ≡ change.entry }
+    {
+        let mark = hash(change.name);
+        MarkedChange { change, mark }
+    }
+
+    /// The change by itself.
+    pub fn change(&self) -> NameChange<'a>
+        ensures { result ≡ self.now }
+    {
+        self.change
+    }
+}
+
 impl NameMarks {
     /// The marks of the names of a block.
     pub fn of(names: &DirectoryBlock<'_>) -> Self
@@ -39,21 +76,21 @@ impl NameMarks {
         NameMarks { marks }
     }
 
-    /// Whether the mark of a name is there.
-    pub fn may_have(&self, name: &[u8]) -> bool
-        ensures { result ≡ slice_index_or self.now.marks (hash_of name.now) false }
+    /// Whether the mark of a change's name is there.
+    pub fn may_have(&self, change: &MarkedChange<'_>) -> bool
+        ensures { result ≡ slice_index_or self.now.marks (hash_of change.now.name.now) false }
     {
-        self.marks[hash(name)]
+        self.marks[change.mark]
     }
 
-    /// Whether the block has a name.
-    pub fn has(&self, names: &DirectoryBlock<'_>, name: &[u8]) -> bool
+    /// Whether the block has a change's name.
+    pub fn has(&self, names: &DirectoryBlock<'_>, change: &MarkedChange<'_>) -> bool
         requires { AreMarked self.now.marks names.now }
-        ensures { result ≡ is_some (number_of name.now names.now) }
+        ensures { result ≡ is_some (number_of change.now.name.now names.now) }
     {
-        if !self.may_have(name) {
+        if !self.may_have(change) {
             return false;
         }
-        names.find(name).is_some()
+        names.find(change.change.name).is_some()
     }
 }

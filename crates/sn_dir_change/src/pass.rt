@@ -1,6 +1,6 @@
 //! The changes of the names of one block.
-ghost use Rattle.std.specs.Prelude.{◌≡◌, ◌+◌, ◌++◌, ◌<◌, ◌≤◌, false, List, Contains, length, IsTrue};
-ghost use Rattle.sn_layout_node.specs.Directory.{Link, IsDirectoryBlock};
+ghost use Rattle.std.specs.Prelude.{◌≡◌, ◌+◌, ◌++◌, ◌<◌, ◌≤◌, if◌then◌else◌, false, List, Contains, length, IsTrue};
+ghost use Rattle.sn_layout_node.specs.Directory.{Link, IsDirectoryBlock, links_bytes};
 ghost use Rattle.sn_image.specs.Names.{names_in};
 ghost use Rattle.sn_dir_change.specs.Changes.{AreLinkChanges};
 ghost use Rattle.sn_dir_change.specs.NameMarks.{AreMarked};
@@ -8,13 +8,13 @@ ghost use Rattle.sn_dir_change.specs.UnderWay.{AreFull, AreGone, IsLinkFrom, IsU
 ghost use Rattle.sn_dir_change.specs.declared.name_change.NameChange.{NameChange as TheChange};
 
 use crate::NameChange;
-use crate::amend::{amend_marked, put};
-use crate::name_marks::NameMarks;
+use crate::amend::{amend_marked, put_within};
+use crate::name_marks::{MarkedChange, NameMarks};
 use crate::pending::Pending;
-use sn_layout::Block;
+use sn_layout::{BLOCK_SIZE, Block};
 
 // Makes the changes of the names that stand in a block, whose names are marked.
-fn amend_standing(block: &mut Block, marks: &NameMarks, standing: &mut Vec<NameChange<'_>>)
+fn amend_standing(block: &mut Block, marks: &NameMarks, standing: &mut Vec<MarkedChange<'_>>)
     requires block { IsDirectoryBlock block.old }
     requires marks { AreMarked marks.now.marks (names_in block.old) }
     requires changes { AreLinkChanges standing.old.items }
@@ -38,9 +38,17 @@ fn amend_standing(block: &mut Block, marks: &NameMarks, standing: &mut Vec<NameC
     }
 }
 
-/// Puts the names that wait into a block, as far as there is room.
-pub(crate) fn put_waiting(block: &mut Block, waiting: &mut Vec<NameChange<'_>>)
+// How many bytes may be left in a block, if so many were before: a name that is taken out may leave more.
+fn room_behind(amended: bool, room: usize) -> usize
+    ensures { result ≡ (if amended then 4096 else room) }
+{
+    if amended { BLOCK_SIZE } else { room }
+}
+
+/// Puts the names that wait into a block, as far as there is room. No more than so many bytes are left.
+pub(crate) fn put_waiting(block: &mut Block, room: usize, waiting: &mut Vec<NameChange<'_>>)
     requires block { IsDirectoryBlock block.old }
+    requires room { 4096 ≤ length (links_bytes (names_in block.old)) + room }
     requires changes { AreLinkChanges waiting.old.items }
     ensures way { (changes standing : List TheChange) (front back old : List Link)
         → IsUnderWay changes standing waiting.old.items front (front ++ names_in block.old ++ back) old
@@ -60,7 +68,7 @@ pub(crate) fn put_waiting(block: &mut Block, waiting: &mut Vec<NameChange<'_>>)
 {
     let mut k = 0;
     while k < waiting.len() {
-        if put(block, &waiting[k]) {
+        if put_within(block, room, &waiting[k]) {
             waiting.remove(k);
         } else {
             k += 1;
@@ -69,11 +77,17 @@ pub(crate) fn put_waiting(block: &mut Block, waiting: &mut Vec<NameChange<'_>>)
 }
 
 /// Makes the changes of the names that stand in a block, and puts those that wait behind the others as
-/// far as there is room: so a name is put where one was taken out. The names of the block are marked. Answers
-/// whether it is changed.
-pub(crate) fn change_names(block: &mut Block, marks: &NameMarks, pending: &mut Pending<'_>) -> bool
+/// far as there is room: so a name is put where one was taken out. The names of the block are marked, and no more
+/// than so many bytes are left. Answers whether it is changed.
+pub(crate) fn change_names(
+    block: &mut Block,
+    marks: &NameMarks,
+    room: usize,
+    pending: &mut Pending<'_>,
+) -> bool
     requires block { IsDirectoryBlock block.old }
     requires marks { AreMarked marks.now.marks (names_in block.old) }
+    requires room { 4096 ≤ length (links_bytes (names_in block.old)) + room }
     requires standing { AreLinkChanges pending.old.standing.items }
     requires waiting { AreLinkChanges pending.old.waiting.items }
     ensures way { (changes : List TheChange) (front back old : List Link)
@@ -94,6 +108,7 @@ pub(crate) fn change_names(block: &mut Block, marks: &NameMarks, pending: &mut P
     let standing = pending.standing.len();
     let waiting = pending.waiting.len();
     amend_standing(block, marks, &mut pending.standing);
-    put_waiting(block, &mut pending.waiting);
-    pending.standing.len() < standing || pending.waiting.len() < waiting
+    let amended = pending.standing.len() < standing;
+    put_waiting(block, room_behind(amended, room), &mut pending.waiting);
+    amended || pending.waiting.len() < waiting
 }

@@ -16,6 +16,7 @@ ghost use Rattle.sn_dir_change.specs.UnderWay.{AreParted, IsUnderWay};
 ghost use Rattle.sn_dir_change.specs.declared.name_change.NameChange.{NameChange as TheChange};
 
 use crate::NameChange;
+use crate::name_marks::MarkedChange;
 use crate::standing::{Sought, seek};
 use sn_block::Blocks;
 use sn_device::Device;
@@ -27,13 +28,27 @@ use std::alloc::{AllocError, Global};
 #[derive(Drop)]
 pub(crate) struct Pending<'a> {
     /// Those of names that the directory has.
-    pub standing: Vec<NameChange<'a>>,
+    pub standing: Vec<MarkedChange<'a>>,
     /// Those of names that it doesn't have, and is to have.
     pub waiting: Vec<NameChange<'a>>,
 }
 
-// Puts a change behind the others.
-fn note<'a>(list: &mut Vec<NameChange<'a>>, change: &NameChange<'a>) -> Result<(), AllocError>
+// Puts a change behind those of names that stand.
+fn note_standing<'a>(
+    list: &mut Vec<MarkedChange<'a>>,
+    change: &NameChange<'a>,
+) -> Result<(), AllocError>
+    ensures { OnOk result (list.new.items ≡ list.old.items ++ change.now ∷ []) }
+{
+    list.push(MarkedChange::of(*change))?;
+    Ok(())
+}
+
+// Puts a change behind those of names that don't.
+fn note_waiting<'a>(
+    list: &mut Vec<NameChange<'a>>,
+    change: &NameChange<'a>,
+) -> Result<(), AllocError>
     ensures { OnOk result (list.new.items ≡ list.old.items ++ change.now ∷ []) }
 {
     list.push(*change)?;
@@ -67,12 +82,12 @@ impl<'a> Pending<'a> {
         ensures puts { ArePuts self.old.waiting.items → OnOk result (ArePuts self.new.waiting.items) }
     {
         if stands {
-            return note(&mut self.standing, change);
+            return note_standing(&mut self.standing, change);
         }
         if change.number.is_none() {
             return Ok(());
         }
-        note(&mut self.waiting, change)
+        note_waiting(&mut self.waiting, change)
     }
 
     // Parts changes whose names were looked for.
@@ -91,7 +106,7 @@ impl<'a> Pending<'a> {
     {
         let mut pending = Pending::none(alloc);
         for sought in list {
-            pending.add(&sought.change, sought.stands)?;
+            pending.add(&sought.change.change(), sought.stands)?;
         }
         Ok(pending)
     }

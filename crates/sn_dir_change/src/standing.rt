@@ -13,7 +13,7 @@ ghost use Rattle.sn_dir_change.specs.Standing.{change_of, seen, seen_too};
 ghost use Rattle.sn_dir_change.specs.declared.standing.Sought.{Sought as TheSought};
 
 use crate::NameChange;
-use crate::name_marks::NameMarks;
+use crate::name_marks::{MarkedChange, NameMarks};
 use sn_block::Blocks;
 use sn_device::Device;
 use sn_dir::{block_count, decoded, fetch_block};
@@ -23,23 +23,20 @@ use sn_tree_read::TreeFault;
 use std::alloc::{AllocError, Global};
 
 /// A change whose name is looked for.
-#[derive(Clone, Copy)]
+#[derive(Drop)]
 pub(crate) struct Sought<'a> {
-    pub change: NameChange<'a>,
+    pub change: MarkedChange<'a>,
     /// Whether one of the blocks that were gone through has the name.
     pub stands: bool,
 }
 
 impl<'a> Sought<'a> {
-    // It, with one more block gone through.
-    fn seen_in(self, names: &DirectoryBlock<'_>, marks: &NameMarks) -> Self
+    // Looks for it in one more block.
+    fn look_in(&mut self, names: &DirectoryBlock<'_>, marks: &NameMarks)
         requires { AreMarked marks.now.marks names.now }
-        ensures { result ≡ seen_too names.now self.entry }
+        ensures { self.new ≡ seen_too names.now self.old }
     {
-        Sought {
-            change: self.change,
-            stands: self.stands || marks.has(names, self.change.name),
-        }
+        self.stands = self.stands || marks.has(names, &self.change);
     }
 }
 
@@ -50,7 +47,7 @@ fn unseen<'a>(alloc: Global, changes: &[NameChange<'a>]) -> Result<Vec<Sought<'a
     let mut list = Vec::new(alloc);
     for change in changes {
         list.push(Sought {
-            change: *change,
+            change: MarkedChange::of(*change),
             stands: false,
         })?;
     }
@@ -70,7 +67,7 @@ fn note_names(names: &DirectoryBlock<'_>, list: &mut [Sought<'_>])
 {
     let marks = NameMarks::of(names);
     for sought in list.iter_mut() {
-        *sought = sought.seen_in(names, &marks);
+        sought.look_in(names, &marks);
     }
 }
 

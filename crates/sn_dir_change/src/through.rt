@@ -65,9 +65,11 @@ fn pass_block<D: Device>(
         return Ok(());
     }
     fetch_block(blocks, tree, i)?;
-    let marks = NameMarks::of(&decoded(blocks.fetched())?);
+    let names = decoded(blocks.fetched())?;
+    let marks = NameMarks::of(&names);
+    let room = names.room();
     let mut bytes = *blocks.fetched();
-    if change_names(&mut bytes, &marks, pending) {
+    if change_names(&mut bytes, &marks, room, pending) {
         push_dirty(alloc, dirty, i, bytes)?;
     }
     Ok(())

@@ -1,6 +1,6 @@
-use Rattle.std.proofs.Common.{◌≡◌, ◌++◌, ◌-◌, ◌≤◌, List, length, take}
+use Rattle.std.proofs.Common.{◌≡◌, ◌+◌, ◌++◌, ◌-◌, ◌≤◌, List, length, take}
 use Rattle.std.specs.Prelude.{Contains}
-use Rattle.sn_layout_node.specs.Directory.{Link, IsDirectoryBlock}
+use Rattle.sn_layout_node.specs.Directory.{Link, IsDirectoryBlock, links_bytes}
 use Rattle.sn_image.specs.Names.{names_in}
 use Rattle.sn_dir_change.specs.Changes.{AreLinkChanges}
 use Rattle.sn_dir_change.specs.UnderWay.{AreFull, AreGone, IsLinkFrom, IsUnderWay}
@@ -10,6 +10,7 @@ use Rattle.sn_dir_change.proofs.pass.put_waiting.Given as goal
 abbrev pub invariant-loop-k : goal.invariant-loop-k
 invariant-loop-k l = record {
   block : IsDirectoryBlock l.block;
+  room : 4096 ≤ length (links_bytes (names_in l.block)) + l.room;
   changes : AreLinkChanges l.waiting.items;
   within : l.k ≤ length l.waiting.items;
   fewer : length l.waiting.items ≤ length l.initial.waiting.items;

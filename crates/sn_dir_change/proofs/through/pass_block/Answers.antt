@@ -1,9 +1,9 @@
-use Rattle.std.proofs.Common.{◌≡◌, ◌+◌, List, length, ap, refl, sym, subst, ◌∙◌, arith}
+use Rattle.std.proofs.Common.{◌≡◌, ◌+◌, ◌≤◌, List, length, ap, refl, sym, subst, ◌∙◌, arith}
 use Rattle.std.proofs.lemmas.Bool.{eqb-true}
 use Rattle.sn_device.specs.Disk.{reads}
 use Rattle.sn_block.specs.Lending.{device_of}
 use Rattle.sn_ondisk.specs.Trees.{store_of, data_block}
-use Rattle.sn_layout_node.specs.Directory.{Link}
+use Rattle.sn_layout_node.specs.Directory.{Link, links_bytes}
 use Rattle.sn_dir.proofs.BlockLemmas.{names_read}
 use Rattle.sn_dir_change.specs.NameMarks.{AreMarked}
 use Rattle.sn_dir_change.proofs.ThroughLemmas.{through_pushed, through_kept, none_gone, none_full}
@@ -40,5 +40,11 @@ returns-else-change_names-clause-through g c = λ changes bound through.
 pub change_names-requires-clause-marks : goal.change_names-requires-clause-marks
 change_names-requires-clause-marks g c =
     subst (λ (links : List Link). AreMarked c.of-marks.result.marks links)
-    (names_read c.fetched.result.now c.fetched-2.result.now _ (c.fetched.ensures.value ∙ sym c.fetched-2.ensures.value) c.in_ok-decoded.ensures.spelled)
+    (names_read c.fetched.result.now c.fetched-2.result.now _ (c.fetched.ensures.value ∙ sym c.fetched-2.ensures.value) c.in_ok-names.ensures.spelled)
     c.of-marks.ensures
+
+pub change_names-requires-clause-room : goal.change_names-requires-clause-room
+change_names-requires-clause-room g c =
+    subst (λ (links : List Link). 4096 ≤ length (links_bytes links) + c.room-room.result)
+    (names_read c.fetched.result.now c.fetched-2.result.now _ (c.fetched.ensures.value ∙ sym c.fetched-2.ensures.value) c.in_ok-names.ensures.spelled)
+    (omega (arith, c.room-room.ensures))
