@@ -270,7 +270,7 @@ module _ (old new : Held) (w next : World) (change : Change) (tree : Tree) (r : 
 -- ---- what makes a mount ready for a point
 
 -- whatever numbers are kept back, whatever is kept for a point, and whatever the device has counted
-pub runs_beside : (h : Held) (w : World) (kept since : ℕ → Bool) (base : Kept) (point : Option Going) (status : Status) → Runs h w → Runs (record h { kept = kept; kept_since = since; base = base; point = point; status = status }) w
+unfoldable pub runs_beside : (h : Held) (w : World) (kept since : ℕ → Bool) (base : Kept) (point : Option Going) (status : Status) → Runs h w → Runs (record h { kept = kept; kept_since = since; base = base; point = point; status = status }) w
 runs_beside h w kept since base point status r = record {
   is = r.is;
   store = r.store;
