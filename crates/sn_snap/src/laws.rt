@@ -1,0 +1,26 @@
+//! The laws that the definitions of `specs/` keep. The functions do nothing: their clauses are the laws.
+ghost use Rattle.sn_snap.specs.Laws.{OneBitIsTaken, OtherNamesOutlive, OtherNamesStay, PutAndTakenIsNothing, RootBodiesHoldCatalogues, RootBodiesLetOneGo, RootBodiesTakeOneMore, VersionsHaveTheBits};
+
+/// The snapshots of each root body are a catalogue.
+pub fn root_bodies_hold_catalogues()
+    ensures { RootBodiesHoldCatalogues }
+{}
+
+/// A root body stays one with a new snapshot, and without one.
+pub fn root_bodies_stay()
+    ensures with { RootBodiesTakeOneMore }
+    ensures without { RootBodiesLetOneGo }
+{}
+
+/// Each version has a bit for each snapshot that it allows.
+pub fn versions_have_the_bits()
+    ensures { VersionsHaveTheBits }
+{}
+
+/// A change leaves what other names stand for, and their bits; one that is taken back leaves all as it was.
+pub fn changes_leave_the_others()
+    ensures with { OtherNamesStay }
+    ensures without { OtherNamesOutlive }
+    ensures bits { OneBitIsTaken }
+    ensures taken_back { PutAndTakenIsNothing }
+{}

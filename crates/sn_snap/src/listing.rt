@@ -1,0 +1,33 @@
+//! The names, sorted.
+ghost use Rattle.std.specs.Prelude.{◌≡◌, position};
+ghost use Rattle.std.specs.Cmp.Lexicographic.{slice_cmp};
+ghost use Rattle.std.specs.FinMap as map;
+ghost use Rattle.std.specs.Ordering.{is_gt, nat_cmp};
+ghost use Rattle.sn_snap.specs.Catalogue.{IsCatalogue, catalogue};
+
+use arrayvec::ArrayVec;
+use sn_layout::{SNAPSHOT_ROOM, Snapshots};
+use sn_limits::SnapshotName;
+
+/// The names of the snapshots, sorted by their bytes.
+pub fn names(snapshots: &Snapshots) -> ArrayVec<SnapshotName, SNAPSHOT_ROOM>
+    requires { IsCatalogue snapshots.now }
+    ensures { result.items ≡ map.keys (catalogue snapshots.now) }
+{
+    let mut names = ArrayVec::new();
+    for snapshot in snapshots.as_slice() {
+        let place = first_greater(&names, &snapshot.name).unwrap_or(names.len());
+        names.insert(place, snapshot.name.copy());
+    }
+    names
+}
+
+// Where the first of the names stands that is greater.
+fn first_greater(names: &[SnapshotName], name: &SnapshotName) -> Option<usize>
+    ensures { result ≡ position (λ other. is_gt (slice_cmp nat_cmp other name.now)) names.now }
+{
+    let name = name.as_bytes();
+    names
+        .iter()
+        .position(|other| other.as_bytes().cmp(name).is_gt())
+}
