@@ -34,6 +34,10 @@ RootBodiesLetOneGo = (body : RootBody) (name : List ℕ) → IsRootBody body
 abbrev pub VersionsHaveTheBits : Type 0
 VersionsHaveTheBits = (version : ℕ) (limits : Limits) → limits_of version ≡ Some limits → limits.snapshots ≤ limits.largest_bit
 
+-- a root body has room for each of them
+abbrev pub VersionsHaveTheRoom : Type 0
+VersionsHaveTheRoom = (version : ℕ) (limits : Limits) → limits_of version ≡ Some limits → limits.snapshots ≤ 31
+
 -- What another name stands for stays, its bit with it: with one more snapshot, and without one.
 abbrev pub OtherNamesStay : Type 0
 OtherNamesStay = (s : Snapshot) (snapshots : List Snapshot) (other : List ℕ) → other ≢ s.name → map.get (catalogue snapshots) s.name ≡ None

@@ -1,5 +1,5 @@
 //! The laws that the definitions of `specs/` keep. The functions do nothing: their clauses are the laws.
-ghost use Rattle.sn_snap.specs.Laws.{OneBitIsTaken, OtherNamesOutlive, OtherNamesStay, PutAndTakenIsNothing, RootBodiesHoldCatalogues, RootBodiesLetOneGo, RootBodiesTakeOneMore, VersionsHaveTheBits};
+ghost use Rattle.sn_snap.specs.Laws.{OneBitIsTaken, OtherNamesOutlive, OtherNamesStay, PutAndTakenIsNothing, RootBodiesHoldCatalogues, RootBodiesLetOneGo, RootBodiesTakeOneMore, VersionsHaveTheBits, VersionsHaveTheRoom};
 
 /// The snapshots of each root body are a catalogue.
 pub fn root_bodies_hold_catalogues()
@@ -12,9 +12,10 @@ pub fn root_bodies_stay()
     ensures without { RootBodiesLetOneGo }
 {}
 
-/// Each version has a bit for each snapshot that it allows.
-pub fn versions_have_the_bits()
-    ensures { VersionsHaveTheBits }
+/// Each version has a bit for each snapshot that it allows, and a root body has room for it.
+pub fn versions_fit()
+    ensures bits { VersionsHaveTheBits }
+    ensures room { VersionsHaveTheRoom }
 {}
 
 /// A change leaves what other names stand for, and their bits; one that is taken back leaves all as it was.

@@ -26,6 +26,6 @@ mod listing;
 pub use changing::{with, without};
 pub use finding::{find, free_bit};
 pub use laws::{
-    changes_leave_the_others, root_bodies_hold_catalogues, root_bodies_stay, versions_have_the_bits,
+    changes_leave_the_others, root_bodies_hold_catalogues, root_bodies_stay, versions_fit,
 };
 pub use listing::names;
