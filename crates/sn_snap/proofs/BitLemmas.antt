@@ -1,12 +1,12 @@
 -- The first gap of rising bits is the least bit that is free.
 use Rattle.std.proofs.Common.{◌≡◌, ℕ, suc, ◌<◌, ◌≤◌, ◌+◌, Bool, true, false, cond, not, List, [], ◌∷◌, length, drop, get_or, drop-cons, add-one, refl, sym, ap, ◌∙◌, arith}
 use Rattle.std.specs.Prelude.{nat_lt, ◌==◌}
-use Rattle.std.proofs.lemmas.Bool.{eqb-false, lt-ltb, ltb-false, ltb-true, ne_eqb}
+use Rattle.std.specs.Cmp.Derive.{both_true}
+use Rattle.std.proofs.lemmas.Bool.{and_parts, eqb-false, lt-ltb, ltb-false, ltb-true, ne_eqb, not-true}
 use Rattle.std.proofs.lemmas.List.{drop_all}
 use Rattle.sn_layout.specs.declared.snapshot.Snapshot.{Snapshot}
 use Rattle.sn_layout.specs.Snapshot.{are_rising, has_no_bit}
 use Rattle.sn_snap.specs.Catalogue.{IsLeastFree}
-use Rattle.sn_snap.proofs.ChangeLemmas.{both, not_true, together}
 
 -- the least bit above one before them all that none has
 abbrev pub gap_after : ℕ → List Snapshot → ℕ
@@ -23,9 +23,9 @@ pub record IsGap (before : ℕ) (snapshots : List Snapshot) (bit : ℕ) : Type 0
 below_all : (before bit : ℕ) (snapshots : List Snapshot) → are_rising before snapshots ≡ true → bit ≤ before → has_no_bit bit snapshots ≡ true
 below_all before bit [] rising low = refl
 below_all before bit (s ∷ more) rising low =
-    let parts = both (nat_lt before s.bit) (are_rising s.bit more) rising in
+    let parts = and_parts (nat_lt before s.bit) (are_rising s.bit more) rising in
     let less : before < s.bit = ltb-true before s.bit parts.0 in
-    together (not (s.bit == bit)) (has_no_bit bit more)
+    both_true {s = not (s.bit == bit)} {t = has_no_bit bit more}
     (ap not (ne_eqb s.bit bit (λ e. omega (arith, e, less))))
     (below_all s.bit bit more parts.1 (omega (arith, less)))
 
@@ -36,7 +36,7 @@ gap_first before s more true e less rising next =
     let far : suc before < s.bit = ltb-true (suc before) s.bit e in
     record {
       above = omega arith;
-      free = together (not (s.bit == suc before)) (has_no_bit (suc before) more) (ap not (ne_eqb s.bit (suc before) (λ same. omega (arith, same, far)))) (below_all s.bit (suc before) more rising (omega (arith, far)));
+      free = both_true {s = not (s.bit == suc before)} {t = has_no_bit (suc before) more} (ap not (ne_eqb s.bit (suc before) (λ same. omega (arith, same, far)))) (below_all s.bit (suc before) more rising (omega (arith, far)));
       least = λ other high free. omega (arith, high);
       near = omega arith;
     }
@@ -45,11 +45,11 @@ gap_first before s more false e less rising next =
     let rest = next (ap (λ b. are_rising b more) (sym here) ∙ rising) in
     record {
       above = omega (arith, rest.above);
-      free = together (not (s.bit == gap_after (suc before) more)) (has_no_bit (gap_after (suc before) more) more)
+      free = both_true {s = not (s.bit == gap_after (suc before) more)} {t = has_no_bit (gap_after (suc before) more) more}
           (ap not (ne_eqb s.bit (gap_after (suc before) more) (λ same. omega (arith, same, here, rest.above)))) rest.free;
       least = λ other high free.
-          let parts = both (not (s.bit == other)) (has_no_bit other more) free in
-          let apart : s.bit ≡ other → ⊥ = eqb-false s.bit other (not_true (s.bit == other) parts.0) in
+          let parts = and_parts (not (s.bit == other)) (has_no_bit other more) free in
+          let apart : s.bit ≡ other → ⊥ = eqb-false s.bit other (not-true (s.bit == other) parts.0) in
           rest.least other (omega (arith, high, here, apart)) parts.1;
       near = omega (arith, rest.near);
     }
@@ -57,7 +57,7 @@ gap_first before s more false e less rising next =
 pub gap_is : (before : ℕ) (snapshots : List Snapshot) → are_rising before snapshots ≡ true → IsGap before snapshots (gap_after before snapshots)
 gap_is before [] rising = record { above = omega arith; free = refl; least = λ other high free. omega (arith, high); near = omega arith }
 gap_is before (s ∷ more) rising =
-    let parts = both (nat_lt before s.bit) (are_rising s.bit more) rising in
+    let parts = and_parts (nat_lt before s.bit) (are_rising s.bit more) rising in
     gap_first before s more (nat_lt (suc before) s.bit) refl (ltb-true before s.bit parts.0) parts.1 (λ next. gap_is (suc before) more next)
 
 pub least_free : (snapshots : List Snapshot) (bit : ℕ) → are_rising 0 snapshots ≡ true → bit ≡ gap_after 0 snapshots → IsLeastFree snapshots bit

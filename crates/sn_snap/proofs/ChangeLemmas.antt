@@ -1,24 +1,14 @@
 -- What stays of a list of snapshots with one more, or without one.
-use Rattle.std.proofs.Common.{◌≡◌, ℕ, zero, suc, ◌<◌, ◌≤◌, Bool, true, false, cond, not, ◌||◌, ◌&&◌, List, [], ◌∷◌, length, get_or, refl, sym, ap, ap₂, ◌∙◌, arith, true≢false}
+use Rattle.std.proofs.Common.{◌≡◌, ℕ, zero, suc, ◌<◌, ◌≤◌, Bool, true, false, cond, not, ◌||◌, ◌&&◌, List, [], ◌∷◌, length, get_or, refl, sym, ap, ap₂, ◌∙◌, arith}
 use Rattle.std.specs.Prelude.{nat_le, nat_lt, remove}
 use Rattle.std.specs.List.{AllByRecursion, list_all, list_any, filter}
 use Rattle.std.specs.Str.{bytes_eq}
-use Rattle.std.proofs.lemmas.Bool.{cond_both, lt-ltb, ltb-true}
+use Rattle.std.specs.Cmp.Derive.{both_true}
+use Rattle.std.proofs.lemmas.Bool.{and_parts, cond_both, lt-ltb, ltb-true, not-true, or_parts}
 use Rattle.sn_layout.specs.declared.snapshot.Snapshot.{Snapshot}
 use Rattle.sn_layout.specs.Snapshot.{are_distinct, are_rising, with_snapshot}
 use Rattle.sn_snap.specs.Catalogue.{others_than}
-use Rattle.sn_snap.proofs.NameLemmas.{has_name, itself, neither, other_way, same_bytes}
-
-pub both : (a b : Bool) → (a && b) ≡ true → (a ≡ true) × (b ≡ true)
-both true b e = (refl, e)
-both false b e = absurd (true≢false (sym e))
-
-pub together : (a b : Bool) → a ≡ true → b ≡ true → (a && b) ≡ true
-together a b x y = rw (x, y) refl
-
-pub not_true : (b : Bool) → not b ≡ true → b ≡ false
-not_true true e = absurd (true≢false (sym e))
-not_true false e = refl
+use Rattle.sn_snap.proofs.NameLemmas.{has_name, itself, other_way, same_bytes}
 
 -- ---- one snapshot more
 
@@ -63,15 +53,15 @@ each_with P s (first ∷ more) one all =
 pub distinct_with : (s : Snapshot) (snapshots : List Snapshot) → are_distinct snapshots ≡ true → has_name s.name snapshots ≡ false → are_distinct (with_snapshot s snapshots) ≡ true
 distinct_with s [] distinct new = refl
 distinct_with s (first ∷ more) distinct new =
-    let parts = both (not (has_name first.name more)) (are_distinct more) distinct in
-    let apart = neither (bytes_eq s.name first.name) (has_name s.name more) new in
+    let parts = and_parts (not (has_name first.name more)) (are_distinct more) distinct in
+    let apart = or_parts (bytes_eq s.name first.name) (has_name s.name more) new in
     let still : has_name first.name (with_snapshot s more) ≡ false =
     list_any-with (λ other. bytes_eq first.name other.name) s more
     ∙ ap (λ b. b || has_name first.name more) (other_way first.name s.name ∙ apart.0)
-    ∙ not_true (has_name first.name more) parts.0 in
+    ∙ not-true (has_name first.name more) parts.0 in
     cond_both (nat_le first.bit s.bit) (first ∷ with_snapshot s more) (s ∷ first ∷ more) (λ l. are_distinct l ≡ true)
-    (λ _. together (not (has_name first.name (with_snapshot s more))) (are_distinct (with_snapshot s more)) (ap not still) (distinct_with s more parts.1 apart.1))
-    (λ _. together (not (has_name s.name (first ∷ more))) (are_distinct (first ∷ more)) (ap not new) distinct)
+    (λ _. both_true {s = not (has_name first.name (with_snapshot s more))} {t = are_distinct (with_snapshot s more)} (ap not still) (distinct_with s more parts.1 apart.1))
+    (λ _. both_true {s = not (has_name s.name (first ∷ more))} {t = are_distinct (first ∷ more)} (ap not new) distinct)
 
 -- ---- one less
 
@@ -79,7 +69,7 @@ distinct_with s (first ∷ more) distinct new =
 pub all_others : (name : List ℕ) (snapshots : List Snapshot) → has_name name snapshots ≡ false → others_than name snapshots ≡ snapshots
 all_others name [] new = refl
 all_others name (s ∷ more) new =
-    let apart = neither (bytes_eq name s.name) (has_name name more) new in
+    let apart = or_parts (bytes_eq name s.name) (has_name name more) new in
     ap (λ b. cond (not b) (s ∷ others_than name more) (others_than name more)) apart.0 ∙ ap (λ l. s ∷ l) (all_others name more apart.1)
 
 -- the first that has the name is the only one
@@ -87,18 +77,18 @@ pub remove-named : (name : List ℕ) (snapshots : List Snapshot) (i : ℕ) (d : 
     → bytes_eq name (get_or snapshots i d).name ≡ true → ((k : ℕ) → k < i → bytes_eq name (get_or snapshots k d).name ≡ false) → remove snapshots i ≡ others_than name snapshots
 remove-named name [] i d distinct within hit before = absurd (omega arith)
 remove-named name (s ∷ more) zero d distinct within hit before =
-    let parts = both (not (has_name s.name more)) (are_distinct more) distinct in
-    let alone : has_name name more ≡ false = ap (λ n. has_name n more) (same_bytes name s.name hit) ∙ not_true (has_name s.name more) parts.0 in
+    let parts = and_parts (not (has_name s.name more)) (are_distinct more) distinct in
+    let alone : has_name name more ≡ false = ap (λ n. has_name n more) (same_bytes name s.name hit) ∙ not-true (has_name s.name more) parts.0 in
     sym (ap (λ b. cond (not b) (s ∷ others_than name more) (others_than name more)) hit ∙ all_others name more alone)
 remove-named name (s ∷ more) (suc i) d distinct within hit before =
-    let parts = both (not (has_name s.name more)) (are_distinct more) distinct in
+    let parts = and_parts (not (has_name s.name more)) (are_distinct more) distinct in
     ap (λ l. s ∷ l) (remove-named name more i d parts.1 (omega arith) hit (λ k lt. before (suc k) (omega arith)))
     ∙ sym (ap (λ b. cond (not b) (s ∷ others_than name more) (others_than name more)) (before 0 (omega arith)))
 
 pub put_and_taken : (s : Snapshot) (snapshots : List Snapshot) → has_name s.name snapshots ≡ false → others_than s.name (with_snapshot s snapshots) ≡ snapshots
 put_and_taken s [] new = ap (λ b. cond (not b) (s ∷ []) []) (itself s.name)
 put_and_taken s (first ∷ more) new =
-    let apart = neither (bytes_eq s.name first.name) (has_name s.name more) new in
+    let apart = or_parts (bytes_eq s.name first.name) (has_name s.name more) new in
     cond_both (nat_le first.bit s.bit) (first ∷ with_snapshot s more) (s ∷ first ∷ more) (λ l. others_than s.name l ≡ first ∷ more)
     (λ _. ap (λ b. cond (not b) (first ∷ others_than s.name (with_snapshot s more)) (others_than s.name (with_snapshot s more))) apart.0
     ∙ ap (λ l. first ∷ l) (put_and_taken s more apart.1))
@@ -108,16 +98,16 @@ module _ (p : Snapshot → Bool) where
   pub list_any-filter : (q : Snapshot → Bool) (snapshots : List Snapshot) → list_any q snapshots ≡ false → list_any q (filter p snapshots) ≡ false
   list_any-filter q [] e = refl
   list_any-filter q (s ∷ more) e =
-      let parts = neither (q s) (list_any q more) e in
+      let parts = or_parts (q s) (list_any q more) e in
       let rest = list_any-filter q more parts.1 in
       cond_both (p s) (s ∷ filter p more) (filter p more) (λ l. list_any q l ≡ false) (λ _. ap₂ (λ a b. a || b) parts.0 rest) (λ _. rest)
 
   pub list_all-filter : (q : Snapshot → Bool) (snapshots : List Snapshot) → list_all q snapshots ≡ true → list_all q (filter p snapshots) ≡ true
   list_all-filter q [] e = refl
   list_all-filter q (s ∷ more) e =
-      let parts = both (q s) (list_all q more) e in
+      let parts = and_parts (q s) (list_all q more) e in
       let rest = list_all-filter q more parts.1 in
-      cond_both (p s) (s ∷ filter p more) (filter p more) (λ l. list_all q l ≡ true) (λ _. together (q s) (list_all q (filter p more)) parts.0 rest) (λ _. rest)
+      cond_both (p s) (s ∷ filter p more) (filter p more) (λ l. list_all q l ≡ true) (λ _. both_true {s = q s} {t = list_all q (filter p more)} parts.0 rest) (λ _. rest)
 
   pub each_filter : (P : Snapshot → Type 0) (snapshots : List Snapshot) → AllByRecursion P snapshots → AllByRecursion P (filter p snapshots)
   each_filter P [] all = tt
@@ -134,25 +124,25 @@ module _ (p : Snapshot → Bool) where
   pub distinct_filter : (snapshots : List Snapshot) → are_distinct snapshots ≡ true → are_distinct (filter p snapshots) ≡ true
   distinct_filter [] distinct = refl
   distinct_filter (s ∷ more) distinct =
-      let parts = both (not (has_name s.name more)) (are_distinct more) distinct in
+      let parts = and_parts (not (has_name s.name more)) (are_distinct more) distinct in
       let rest = distinct_filter more parts.1 in
-      let alone = list_any-filter (λ other. bytes_eq s.name other.name) more (not_true (has_name s.name more) parts.0) in
+      let alone = list_any-filter (λ other. bytes_eq s.name other.name) more (not-true (has_name s.name more) parts.0) in
       cond_both (p s) (s ∷ filter p more) (filter p more) (λ l. are_distinct l ≡ true)
-      (λ _. together (not (has_name s.name (filter p more))) (are_distinct (filter p more)) (ap not alone) rest)
+      (λ _. both_true {s = not (has_name s.name (filter p more))} {t = are_distinct (filter p more)} (ap not alone) rest)
       (λ _. rest)
 
   lower : (a b : ℕ) (snapshots : List Snapshot) → a ≤ b → are_rising b snapshots ≡ true → are_rising a snapshots ≡ true
   lower a b [] le rising = refl
   lower a b (s ∷ more) le rising =
-      let parts = both (nat_lt b s.bit) (are_rising s.bit more) rising in
-      together (nat_lt a s.bit) (are_rising s.bit more) (lt-ltb a s.bit (omega (arith, ltb-true b s.bit parts.0))) parts.1
+      let parts = and_parts (nat_lt b s.bit) (are_rising s.bit more) rising in
+      both_true {s = nat_lt a s.bit} {t = are_rising s.bit more} (lt-ltb a s.bit (omega (arith, ltb-true b s.bit parts.0))) parts.1
 
   pub rising_filter : (before : ℕ) (snapshots : List Snapshot) → are_rising before snapshots ≡ true → are_rising before (filter p snapshots) ≡ true
   rising_filter before [] rising = refl
   rising_filter before (s ∷ more) rising =
-      let parts = both (nat_lt before s.bit) (are_rising s.bit more) rising in
+      let parts = and_parts (nat_lt before s.bit) (are_rising s.bit more) rising in
       let rest = rising_filter s.bit more parts.1 in
       let less : before < s.bit = ltb-true before s.bit parts.0 in
       cond_both (p s) (s ∷ filter p more) (filter p more) (λ l. are_rising before l ≡ true)
-      (λ _. together (nat_lt before s.bit) (are_rising s.bit (filter p more)) parts.0 rest)
+      (λ _. both_true {s = nat_lt before s.bit} {t = are_rising s.bit (filter p more)} parts.0 rest)
       (λ _. lower before s.bit (filter p more) (omega (arith, less)) rest)

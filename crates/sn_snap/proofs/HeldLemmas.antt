@@ -2,7 +2,8 @@
 use Rattle.std.proofs.Common.{◌≡◌, ◌∙◌, ℕ, ◌<◌, ◌≤◌, Bool, true, not, ◌&&◌, List, length, arith}
 use Rattle.std.specs.Prelude.{nat_le}
 use Rattle.std.specs.Str.{bytes_eq}
-use Rattle.std.proofs.lemmas.Bool.{le-leb, leb-true}
+use Rattle.std.specs.Cmp.Derive.{both_true}
+use Rattle.std.proofs.lemmas.Bool.{and_parts, le-leb, leb-true}
 use Rattle.sn_limits.specs.declared.limits.Limits.{Limits}
 use Rattle.sn_layout.specs.declared.root.RootBody.{RootBody}
 use Rattle.sn_layout.specs.declared.snapshot.Snapshot.{Snapshot}
@@ -12,7 +13,7 @@ use Rattle.sn_layout.proofs.Inserting.{rising_with}
 use Rattle.sn_snap.specs.Catalogue.{IsCatalogue, entry_of, others_than}
 use Rattle.sn_snap.specs.Laws.{IsNew}
 use Rattle.sn_snap.proofs.NameLemmas.{absent}
-use Rattle.sn_snap.proofs.ChangeLemmas.{both, distinct_filter, distinct_with, each_filter, each_with, length-filter, length-with, list_all-filter, list_all-with, rising_filter, together}
+use Rattle.sn_snap.proofs.ChangeLemmas.{distinct_filter, distinct_with, each_filter, each_with, length-filter, length-with, list_all-filter, list_all-with, rising_filter}
 
 -- the four tests of snapshots that a disk can hold
 record Tests (limits : Limits) (snapshots : List Snapshot) : Type 0 where
@@ -26,9 +27,9 @@ tests_of limits snapshots are =
     let few = nat_le (length snapshots) limits.snapshots in
     let rising = are_rising 0 snapshots in
     let within = are_within limits.largest_bit snapshots in
-    let third = both (few && rising && within) (are_distinct snapshots) are.held in
-    let second = both (few && rising) within third.0 in
-    let first = both few rising second.0 in
+    let third = and_parts (few && rising && within) (are_distinct snapshots) are.held in
+    let second = and_parts (few && rising) within third.0 in
+    let first = and_parts few rising second.0 in
     record { few = leb-true (length snapshots) limits.snapshots first.0; rising = first.1; within = second.1; distinct = third.1 }
 
 held_by : (limits : Limits) (snapshots : List Snapshot) → Tests limits snapshots
@@ -37,8 +38,8 @@ held_by limits snapshots are =
     let few = nat_le (length snapshots) limits.snapshots in
     let rising = are_rising 0 snapshots in
     let within = are_within limits.largest_bit snapshots in
-    together (few && rising && within) (are_distinct snapshots)
-    (together (few && rising) within (together few rising (le-leb (length snapshots) limits.snapshots are.few) are.rising) are.within)
+    both_true {s = few && rising && within} {t = are_distinct snapshots}
+    (both_true {s = few && rising} {t = within} (both_true {s = few} {t = rising} (le-leb (length snapshots) limits.snapshots are.few) are.rising) are.within)
     are.distinct
 
 pub catalogue_with : (s : Snapshot) (snapshots : List Snapshot) → IsCatalogue snapshots → IsNew s snapshots → IsCatalogue (with_snapshot s snapshots)
@@ -63,7 +64,7 @@ held_with limits s snapshots are one new room bit =
       held = held_by limits (with_snapshot s snapshots) (record {
         few = omega (arith, length-with s snapshots);
         rising = is.rising;
-        within = list_all-with (λ x. nat_le x.bit limits.largest_bit) s snapshots ∙ together (nat_le s.bit limits.largest_bit) (are_within limits.largest_bit snapshots) (le-leb s.bit limits.largest_bit bit) tests.within;
+        within = list_all-with (λ x. nat_le x.bit limits.largest_bit) s snapshots ∙ both_true {s = nat_le s.bit limits.largest_bit} {t = are_within limits.largest_bit snapshots} (le-leb s.bit limits.largest_bit bit) tests.within;
         distinct = is.distinct;
       });
     }

@@ -10,15 +10,11 @@ use Rattle.std.specs.FinMap as fin
 use Rattle.std.specs.FinMap.{IsAntisymmetric, nat_cmp-IsAntisymmetric, slice_cmp-IsAntisymmetric}
 use Rattle.std.specs.FinMap.Entries.{find, find-where_key, where_key}
 use Rattle.std.specs.Str.{bytes_eq}
-use Rattle.std.proofs.lemmas.Bool.{cond_both}
+use Rattle.std.proofs.lemmas.Bool.{cond_both, or_parts}
 use Rattle.std.proofs.lemmas.Slice.Eq.{bytes_eq-Decides}
 use Rattle.sn_layout.specs.declared.snapshot.Snapshot.{Snapshot}
 use Rattle.sn_layout.specs.Snapshot.{with_snapshot}
 use Rattle.sn_snap.specs.Catalogue.{by_name, others_than}
-
-pub neither : (a b : Bool) → (a || b) ≡ false → (a ≡ false) × (b ≡ false)
-neither true b e = absurd (true≢false e)
-neither false b e = (refl, e)
 
 -- the order of names
 abbrev pub by_bytes : List ℕ → List ℕ → Ordering
@@ -105,7 +101,7 @@ module _ {X : Type 0} (f : Snapshot → X) where
       → find by_bytes q (told_by (with_snapshot s snapshots)) ≡ cond (eq_by_cmp by_bytes q s.name) (Some (f s)) (find by_bytes q (told_by snapshots))
   found_with s [] q new = refl
   found_with s (first ∷ more) q new =
-      let apart = neither (bytes_eq s.name first.name) (has_name s.name more) new in
+      let apart = or_parts (bytes_eq s.name first.name) (has_name s.name more) new in
       cond_both (nat_le first.bit s.bit) (first ∷ with_snapshot s more) (s ∷ first ∷ more) (λ l. find by_bytes q (told_by l) ≡ cond (eq_by_cmp by_bytes q s.name) (Some (f s)) (find by_bytes q (told_by (first ∷ more))))
       (λ _. ap (cond (eq_by_cmp by_bytes q first.name) (Some (f first))) (found_with s more q apart.1)
       ∙ swapped (eq_by_cmp by_bytes q first.name) (eq_by_cmp by_bytes q s.name) (Some (f first)) (Some (f s)) (find by_bytes q (told_by more)) (not_both q first.name s.name apart.0))

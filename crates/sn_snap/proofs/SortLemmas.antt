@@ -8,15 +8,14 @@ use Rattle.std.specs.Ordering.{eq_by_cmp, is_eq, is_gt, ordering_reverse}
 use Rattle.std.specs.FinMap as fin
 use Rattle.std.specs.FinMap.Entries.{by_order, put}
 use Rattle.std.specs.Str.{bytes_eq}
-use Rattle.std.proofs.lemmas.Bool.{ltb-false}
+use Rattle.std.proofs.lemmas.Bool.{and_parts, ltb-false, not-true, or_parts}
 use Rattle.std.proofs.lemmas.List.{map-append, take_more}
 use Rattle.std.proofs.lemmas.List.Folds.{list_any_at}
 use Rattle.std.proofs.lemmas.List.Sums.{prefix_len-le-length}
 use Rattle.sn_layout.specs.declared.snapshot.Snapshot.{Snapshot}
 use Rattle.sn_layout.specs.Snapshot.{are_distinct}
 use Rattle.sn_snap.specs.Catalogue.{by_name}
-use Rattle.sn_snap.proofs.NameLemmas.{by_bytes, get_is, has_name, names_total, neither, other_way, same_names, told_by, unfound}
-use Rattle.sn_snap.proofs.ChangeLemmas.{both, not_true}
+use Rattle.sn_snap.proofs.NameLemmas.{by_bytes, get_is, has_name, names_total, other_way, same_names, told_by, unfound}
 
 -- the first place, or else the end
 pub place_or_end : (p : List ℕ → Bool) (names : List (List ℕ)) → unwrap_or (position p names) (length names) ≡ position_or_len p names
@@ -51,7 +50,7 @@ module _ {X : Type 0} where
       → map (λ x. x.0) (put by_bytes k v es) ≡ insert (map (λ x. x.0) es) (place_among k (map (λ x. x.0) es)) k
   names-put k v [] new = refl
   names-put k v (e ∷ es) new =
-      let apart = neither (eq_by_cmp by_bytes k e.0) (list_any (eq_by_cmp by_bytes k) (map (λ x. x.0) es)) new in
+      let apart = or_parts (eq_by_cmp by_bytes k e.0) (list_any (eq_by_cmp by_bytes k) (map (λ x. x.0) es)) new in
       put_first k v e es (by_bytes k e.0) refl apart.0 (names-put k v es apart.1)
 
 none_at : (p : Snapshot → Bool) (snapshots : List Snapshot) (i : ℕ) (d : Snapshot) → i < length snapshots → list_any p snapshots ≡ false → p (get_or snapshots i d) ≡ false
@@ -66,10 +65,10 @@ front_apart : (snapshots : List Snapshot) (i : ℕ) (d : Snapshot) → are_disti
 front_apart [] i d distinct within = absurd (omega arith)
 front_apart (s ∷ more) zero d distinct within = refl
 front_apart (s ∷ more) (suc i) d distinct within =
-    let parts = both (not (has_name s.name more)) (are_distinct more) distinct in
+    let parts = and_parts (not (has_name s.name more)) (are_distinct more) distinct in
     let name = (get_or more i d).name in
     ap₂ (λ a b. a || b)
-    (other_way name s.name ∙ none_at (λ other. bytes_eq s.name other.name) more i d (omega arith) (not_true (has_name s.name more) parts.0))
+    (other_way name s.name ∙ none_at (λ other. bytes_eq s.name other.name) more i d (omega arith) (not-true (has_name s.name more) parts.0))
     (front_apart more i d parts.1 (omega arith))
 
 -- one more snapshot's name goes to its place
