@@ -1,0 +1,4 @@
+pub mod Nodes
+pub mod Roots
+pub mod ViewLaws
+pub mod Views

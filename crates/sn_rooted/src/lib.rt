@@ -1,0 +1,37 @@
+//! Reading on demand: the trees of files and directories that a root on disk denotes, look-up by look-up.
+//!
+//! The model is that of `sn_image`, which says for any blocks at all what tree a root denotes, and that of
+//! `sn_model`, which says what is seen of a tree. Over a device that tells its bytes, and where the root is
+//! sound there (`IsSoundOn`), each answer is what that tree says: a node's attributes, a default ACL, the
+//! number under a name, the names of a directory in order, bytes of a file. `Damaged` never comes then. The
+//! number under a name and a default ACL are exact on any image. Whatever the device tells, the calls are
+//! safe and end, and write nothing.
+//!
+//! Nothing is kept of a tree. A look-up reads the inode of the number and what it needs behind that: the ACL
+//! block, the blocks of names up to the one that has the name, the blocks of the bytes. It reads them in
+//! place, in the cache of `sn_block`, and takes memory for names and bytes that it answers, and for blocks
+//! that aren't kept.
+//!
+//! The way through: `nodes` reads what is known of a node, `directories` names, `files` bytes, all of the tree
+//! of one inode file, which `file_in` finds in a root. `view` shows walks and decisions all trees of a root,
+//! the live one and those of its snapshots. `specs/Roots` says which trees these are and when they are
+//! sound, `specs/Views` what look-ups do to the device and what the cause of a fault is.
+//!
+//! What the sources leave open is decided in `docs/DECISIONS.md`, under "Reading a root on demand".
+//!
+//! ```text
+//! let attributes = attributes(blocks, &root.limits, &root.inode_file, number)?;
+//! let mut view = RootedView { blocks, root: &root };
+//! let walked = walk(&mut view, &cred, &path)?;
+//! ```
+#![tactic(auto)]
+
+mod directories;
+mod files;
+mod nodes;
+mod view;
+
+pub use directories::{link, names};
+pub use files::read;
+pub use nodes::{attributes, default_acl};
+pub use view::{RootedView, file_in};

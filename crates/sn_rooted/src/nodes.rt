@@ -1,0 +1,84 @@
+//! The node of a number, without its bytes and names.
+ghost use Rattle.std.specs.Prelude.{◌≡◌, Err, IsTrue, IfOk};
+ghost use Rattle.sn_block.specs.Lending.{device_of};
+ghost use Rattle.sn_model.specs.Tree.{viewed};
+ghost use Rattle.sn_tree_read.specs.Counts.{CountsTree};
+ghost use Rattle.sn_tree_read.specs.declared.fault.TreeFault.TheVariants.{Damaged};
+ghost use Rattle.sn_rooted.specs.Roots.{IsSoundOn, tree_on};
+ghost use Rattle.sn_rooted.specs.Nodes.{attributes_in};
+
+use sn_acl::Acl;
+use sn_block::Blocks;
+use sn_device::Device;
+use sn_inode::{acls, get, inode_laws};
+use sn_layout::BlockTree;
+use sn_layout_acl::NamedEntries;
+use sn_layout_node::Inode;
+use sn_limits::{Kind, Limits};
+use sn_tree_read::TreeFault;
+use sn_walk::Attributes;
+
+// What is known of an inode's node, with the entries of its access ACL that mode bits don't hold.
+fn attributes_in(inode: &Inode, access: &NamedEntries) -> Attributes
+    ensures { result ≡ attributes_in inode.now access.now }
+{
+    Attributes {
+        kind: inode.kind,
+        set_gid: inode.set_gid,
+        sticky: inode.sticky,
+        owner: inode.owner,
+        group: inode.group,
+        acl: access.join(inode.objects),
+        links: inode.links,
+        size: match inode.kind {
+            Kind::File => inode.content.size(),
+            Kind::Directory => 0,
+        },
+    }
+}
+
+/// What is known of the node that a number has in a root's tree, `None` where none has it. `file` is the
+/// root's inode file. Where the root is sound, `Damaged` never comes. Memory is taken for blocks that
+/// aren't kept.
+pub fn attributes<D: Device>(
+    blocks: &mut Blocks<D>,
+    limits: &Limits,
+    file: &BlockTree,
+    number: u16,
+) -> Result<Option<Attributes>, TreeFault>
+    ensures found { IsTrue D.tells_bytes → IsSoundOn blocks.old limits.now file.now
+        → IfOk result (λ attributes. attributes ≡ (viewed (tree_on blocks.old file.now)).node number) }
+    ensures damaged { IsTrue D.tells_bytes → IsSoundOn blocks.old limits.now file.now → result ≡ Err Damaged → ⊥ }
+    ensures same { IsTrue D.tells_bytes → D.disk (device_of blocks.new) ≡ D.disk (device_of blocks.old) }
+    ensures counts { CountsTree result (D.status (device_of blocks.old)) (D.status (device_of blocks.new)) }
+{
+    inode_laws();
+    let Some(inode) = get(blocks, limits, file, number)? else {
+        return Ok(None);
+    };
+    let acls = acls(blocks, &inode)?;
+    Ok(Some(attributes_in(&inode, &acls.access)))
+}
+
+/// The default ACL of the node that a number has in a root's tree, `None` where it has none, as a file, or
+/// where no node has the number. Where the root is sound, `Damaged` never comes. Memory is taken for blocks
+/// that aren't kept.
+pub fn default_acl<D: Device>(
+    blocks: &mut Blocks<D>,
+    limits: &Limits,
+    file: &BlockTree,
+    number: u16,
+) -> Result<Option<Acl>, TreeFault>
+    ensures found { IsTrue D.tells_bytes
+        → IfOk result (λ acl. acl ≡ (viewed (tree_on blocks.old file.now)).default_acl number) }
+    ensures damaged { IsTrue D.tells_bytes → IsSoundOn blocks.old limits.now file.now → result ≡ Err Damaged → ⊥ }
+    ensures same { IsTrue D.tells_bytes → D.disk (device_of blocks.new) ≡ D.disk (device_of blocks.old) }
+    ensures counts { CountsTree result (D.status (device_of blocks.old)) (D.status (device_of blocks.new)) }
+{
+    inode_laws();
+    let Some(inode) = get(blocks, limits, file, number)? else {
+        return Ok(None);
+    };
+    let acls = acls(blocks, &inode)?;
+    Ok(acls.default)
+}
