@@ -82,11 +82,12 @@ const CRASHES: u32 = 7;
 /// A mount behind a crash is cut short in its first so many writes.
 const MOUNT_WRITES: u32 = 48;
 
-/// How an event is answered where nothing fails, and what is found behind a crash then.
+/// How an event is answered where nothing fails, what is found behind a crash then, and how many writes were made up to it.
 #[derive(Drop)]
 struct Left {
     told: String,
     found: String,
+    writes: u32,
 }
 
 /// A schedule, what each of its events leaves where nothing fails, and how many writes all make. The first of what is left is
@@ -137,62 +138,80 @@ fn call_from(alloc: Global, random: &mut Pcg32) -> Result<Event> {
     event_of(alloc, CALLS.get(at).context("no such call")?)
 }
 
-/// The login, and the events that are drawn from a number.
-fn events_of(alloc: Global, number: u32) -> Result<Vec<Event>> {
+/// Adds the login, and the events that are drawn from a number.
+fn draw(alloc: Global, number: u32, events: &mut Vec<Event>) -> Result<()> {
     let mut random = Pcg32::new(u64::from(number), 1);
-    let mut events = Vec::new(alloc);
-    events.push(event_of(alloc, "0 login 0 0 -")?)?;
+    add_event(alloc, "0 login 0 0 -", events)?;
     for _ in 0..EVENTS {
-        events.push(event_from(alloc, &mut random)?)?;
+        let event = event_from(alloc, &mut random)?;
+        events.push(event)?;
     }
-    Ok(events)
+    Ok(())
 }
 
-/// What is found on a disk behind a crash.
-fn found_on(alloc: Global, disk: &mut Disk) -> Result<String> {
-    let mut found = String::new(alloc);
+fn add_event(alloc: Global, line: &str, events: &mut Vec<Event>) -> Result<()> {
+    let event = event_of(alloc, line)?;
+    Ok(events.push(event)?)
+}
+
+/// Adds what is found on a disk behind a crash.
+fn find(disk: &mut Disk, found: &mut String) -> Result<()> {
     disk.remount()?;
     for line in ASKED {
-        let told = disk.ask(line)?;
-        found.push_str(told.as_str())?;
+        add_told(disk, line, found)?;
     }
-    Ok(found)
+    Ok(())
 }
 
-/// How the last of some events is answered, on a disk that is mounted for them.
-fn told_last(alloc: Global, disk: &mut Disk, events: &[Event]) -> Result<String> {
-    let mut told = String::new(alloc);
+fn add_told(disk: &mut Disk, line: &str, found: &mut String) -> Result<()> {
+    let told = disk.ask(line)?;
+    Ok(found.push_str(told.as_str())?)
+}
+
+/// Runs some events on a disk, and looks at what they leave.
+fn look(disk: &mut Disk, events: &[Event], left: &mut Left) -> Result<()> {
     disk.remount()?;
     for event in events {
-        told = disk.answer(event)?;
+        left.told = disk.answer(event)?;
     }
-    Ok(told)
-}
-
-/// What some events leave, and how many writes they make with their mount.
-fn left_by(alloc: Global, image: &[u8], events: &[Event]) -> Result<(Left, u32)> {
-    let mut disk = Disk::of_bytes(alloc, image)?;
-    let told = told_last(alloc, &mut disk, events)?;
     disk.unmount()?;
-    let writes = disk.writes()?;
+    left.writes = u32::try_from(disk.writes()?)?;
     disk.crash(Fill::Old)?;
-    let found = found_on(alloc, &mut disk)?;
-    Ok((Left { told, found }, u32::try_from(writes)?))
+    find(disk, &mut left.found)
 }
 
-/// What is left by each front of a schedule's events, the empty one first.
+/// What some events leave.
+fn left_by(alloc: Global, image: &[u8], events: &[Event]) -> Result<Left> {
+    let mut disk = Disk::of_bytes(alloc, image)?;
+    let mut left = Left {
+        told: String::new(alloc),
+        found: String::new(alloc),
+        writes: 0,
+    };
+    look(&mut disk, events, &mut left)?;
+    Ok(left)
+}
+
+/// Adds what is left by each front of a schedule's events, the empty one first.
+fn look_at_each(alloc: Global, image: &[u8], schedule: &mut Schedule) -> Result<()> {
+    for count in 0..schedule.events.len() + 1 {
+        let left = left_by(alloc, image, &schedule.events.as_slice()[..count])?;
+        schedule.writes = left.writes;
+        schedule.behind.push(left)?;
+    }
+    Ok(())
+}
+
+/// The schedule of a number.
 fn schedule_of(alloc: Global, image: &[u8], number: u32) -> Result<Schedule> {
     let mut schedule = Schedule {
         number,
-        events: events_of(alloc, number)?,
+        events: Vec::new(alloc),
         behind: Vec::new(alloc),
         writes: 0,
     };
-    for count in 0..schedule.events.len() + 1 {
-        let (left, writes) = left_by(alloc, image, &schedule.events.as_slice()[..count])?;
-        schedule.behind.push(left)?;
-        schedule.writes = writes;
-    }
+    draw(alloc, number, &mut schedule.events)?;
+    look_at_each(alloc, image, &mut schedule)?;
     Ok(schedule)
 }
 
@@ -233,14 +252,26 @@ fn is_left(schedule: &Schedule, answered: usize, found: &str) -> bool {
         .any(|behind| behind.found.as_str() == found)
 }
 
+/// Cuts a schedule short on a disk, and adds what is found. How many events were answered.
+fn find_behind(
+    disk: &mut Disk,
+    schedule: &Schedule,
+    crash: Crash,
+    found: &mut String,
+) -> Result<usize> {
+    disk.stop_at(u64::from(crash.stop))?;
+    let answered = answered(disk, schedule)?;
+    disk.crash_by(crash.number)?;
+    mounts_between(disk, crash)?;
+    find(disk, found)?;
+    Ok(answered)
+}
+
 /// Whether a schedule that is cut short leaves what it may.
 fn is_right(alloc: Global, image: &[u8], schedule: &Schedule, crash: Crash) -> Result<bool> {
     let mut disk = Disk::of_bytes(alloc, image)?;
-    disk.stop_at(u64::from(crash.stop))?;
-    let answered = answered(&mut disk, schedule)?;
-    disk.crash_by(crash.number)?;
-    mounts_between(&mut disk, crash)?;
-    let found = found_on(alloc, &mut disk)?;
+    let mut found = String::new(alloc);
+    let answered = find_behind(&mut disk, schedule, crash, &mut found)?;
     Ok(is_left(schedule, answered, found.as_str()))
 }
 
