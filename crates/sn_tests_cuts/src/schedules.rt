@@ -24,52 +24,51 @@ const SHORT: usize = 600;
 const LONG: usize = 9_000;
 
 /// What a schedule is drawn from: a step as often as a call.
-const CALLS: [&str; 24] = [
-    "0 mkdir /a 0755",
-    "0 mkdir /a/b 0711",
-    "0 mkdir /c 0700",
-    "0 rmdir /a/b",
-    "0 rmdir /c",
-    "0 open /f rwc 0640",
-    "0 open /a/g rwc 0644",
-    "0 open /a/g rwct 0644",
-    "0 write 0 414243",
-    "0 write 1 61626364",
-    "0 seek 0 5000",
-    "0 ftruncate 0 100",
-    "0 close 0",
-    "0 close 1",
-    "0 unlink /f",
-    "0 unlink /a/g",
-    "0 link /f /a/h",
-    "0 unlink /a/h",
-    "0 rename /f /a/g",
-    "0 rename /a/g /f",
-    "0 rename /c /a/b",
-    "0 chmod /a 0700",
-    "0 setacl /a a u::rwx,u:1001:r-x,g::r-x,m::rwx,o::---",
-    "0 sync",
-];
+const CALLS: &str = "0 mkdir /a 0755\n\
+    0 mkdir /a/b 0711\n\
+    0 mkdir /c 0700\n\
+    0 rmdir /a/b\n\
+    0 rmdir /c\n\
+    0 open /f rwc 0640\n\
+    0 open /a/g rwc 0644\n\
+    0 open /a/g rwct 0644\n\
+    0 write 0 414243\n\
+    0 write 1 61626364\n\
+    0 seek 0 5000\n\
+    0 ftruncate 0 100\n\
+    0 close 0\n\
+    0 close 1\n\
+    0 unlink /f\n\
+    0 unlink /a/g\n\
+    0 link /f /a/h\n\
+    0 unlink /a/h\n\
+    0 rename /f /a/g\n\
+    0 rename /a/g /f\n\
+    0 rename /c /a/b\n\
+    0 chmod /a 0700\n\
+    0 setacl /a a u::rwx,u:1001:r-x,g::r-x,m::rwx,o::---\n\
+    0 sync";
+
+/// How many these are.
+const CALL_COUNT: u32 = 24;
 
 /// What is asked behind a crash: names, attributes, lists of entries and bytes.
-const ASKED: [&str; 16] = [
-    "0 login 0 0 -",
-    "0 readdir /",
-    "0 readdir /a",
-    "0 readdir /a/b",
-    "0 stat /a",
-    "0 getacl /a a",
-    "0 stat /a/b",
-    "0 stat /c",
-    "0 stat /f",
-    "0 stat /a/g",
-    "0 stat /a/h",
-    "0 open /f r",
-    "0 read 0 65536",
-    "0 open /a/g r",
-    "0 read 1 65536",
-    "0 mkdir /z 0700",
-];
+const ASKED: &str = "0 login 0 0 -\n\
+    0 readdir /\n\
+    0 readdir /a\n\
+    0 readdir /a/b\n\
+    0 stat /a\n\
+    0 getacl /a a\n\
+    0 stat /a/b\n\
+    0 stat /c\n\
+    0 stat /f\n\
+    0 stat /a/g\n\
+    0 stat /a/h\n\
+    0 open /f r\n\
+    0 read 0 65536\n\
+    0 open /a/g r\n\
+    0 read 1 65536\n\
+    0 mkdir /z 0700";
 
 /// How many schedules the gate tries, and behind how many numbers of writes it cuts each short.
 const SCHEDULES: u32 = 100;
@@ -134,8 +133,8 @@ fn event_from(alloc: Global, random: &mut Pcg32) -> Result<Event> {
 }
 
 fn call_from(alloc: Global, random: &mut Pcg32) -> Result<Event> {
-    let at = drawn(random, CALLS.len() as u32) as usize;
-    event_of(alloc, CALLS.get(at).context("no such call")?)
+    let at = drawn(random, CALL_COUNT) as usize;
+    event_of(alloc, CALLS.lines().nth(at).context("no such call")?)
 }
 
 /// Adds the login, and the events that are drawn from a number.
@@ -157,7 +156,7 @@ fn add_event(alloc: Global, line: &str, events: &mut Vec<Event>) -> Result<()> {
 /// Adds what is found on a disk behind a crash.
 fn find(disk: &mut Disk, found: &mut String) -> Result<()> {
     disk.remount()?;
-    for line in ASKED {
+    for line in ASKED.lines() {
         add_told(disk, line, found)?;
     }
     Ok(())
