@@ -1,0 +1,4 @@
+pub mod TestLemmas
+pub mod ReadLemmas
+pub mod ContentLemmas
+pub mod MoveLemmas

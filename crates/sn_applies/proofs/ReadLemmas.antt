@@ -1,0 +1,96 @@
+-- What is read of a node decides the tests of it.
+use Rattle.std.proofs.Common.{◌≡◌, ℕ, Bool, true, false, cond, ◌&&◌, ◌||◌, ◌==◌, nat_lt, nat_le, Option, Some, None, is_some, is_none, refl, sym, ap, ◌∙◌}
+use Rattle.std.specs.Option.{option_map}
+use Rattle.std.specs.FinMap as map
+use Rattle.sn_limits.specs.declared.kind.Kind.{Kind}
+use Rattle.sn_limits.specs.declared.kind.Kind.TheVariants.{File, Directory}
+use Rattle.sn_limits.specs.declared.limits.Limits.{Limits}
+use Rattle.sn_walk.specs.Views.{is_directory}
+use Rattle.sn_model.specs.Chains.{◌>>=◌, only_if}
+use Rattle.sn_model.specs.Changes.{is_file, directory_at, file_at, is_free_number}
+use Rattle.sn_model.specs.Tree.{Node, Tree, link_count, names_in, names_for}
+use Rattle.sn_overlay.specs.declared.node.SeenNode.{SeenNode}
+use Rattle.sn_overlay.specs.Seen.{seen_of}
+use Rattle.sn_applies.specs.declared.reads.Standing.{Standing}
+use Rattle.sn_applies.specs.Tests.{file_names, losing, losing_kind, standing_of}
+
+abbrev standing : Tree → ℕ → Node → Standing
+standing tree number node = record { kind = node.kind; links = link_count node.kind (names_for tree number) }
+
+abbrev standing_by : Tree → ℕ → Option Node → Option Standing
+standing_by tree number found = option_map (λ (node : SeenNode). record { kind = node.kind; links = node.links }) (option_map (seen_of tree number) found)
+
+-- the names of a file
+abbrev pub names_by : Option Standing → Option ℕ
+names_by None = None
+names_by (Some s) = cond (is_file s.kind) (Some s.links) None
+
+pub names_seen : (tree : Tree) (number : ℕ) → file_names tree number ≡ names_by (standing_of tree number)
+names_seen tree number = told (map.get tree.nodes number)
+  where
+    by_kind : (node : Node) (kind : Kind) → ((only_if (is_file kind) >>= (λ _. Some node)) >>= (λ _. Some (names_for tree number))) ≡ cond (is_file kind) (Some (link_count kind (names_for tree number))) None
+    by_kind node File = refl
+    by_kind node Directory = refl
+
+    told : (o : Option Node) → ((o >>= (λ node. only_if (is_file node.kind) >>= (λ _. Some node))) >>= (λ _. Some (names_for tree number))) ≡ names_by (standing_by tree number o)
+    told None = refl
+    told (Some node) = by_kind node node.kind
+
+-- whether it is a directory
+abbrev pub directory_by : Option Standing → Bool
+directory_by None = false
+directory_by (Some s) = is_directory s.kind
+
+pub directory_seen : (tree : Tree) (number : ℕ) → is_some (directory_at tree number) ≡ directory_by (standing_of tree number)
+directory_seen tree number = told (map.get tree.nodes number)
+  where
+    by_kind : (node : Node) (kind : Kind) → is_some (only_if (is_directory kind) >>= (λ _. Some node)) ≡ is_directory kind
+    by_kind node File = refl
+    by_kind node Directory = refl
+
+    told : (o : Option Node) → is_some (o >>= (λ node. only_if (is_directory node.kind) >>= (λ _. Some node))) ≡ directory_by (standing_by tree number o)
+    told None = refl
+    told (Some node) = by_kind node node.kind
+
+-- whether a node can give its number to another one
+abbrev pub free_by : Option Standing → Bool
+free_by None = true
+free_by (Some s) = is_file s.kind && s.links == 0
+
+pub free_seen : (limits : Limits) (tree : Tree) (number : ℕ) → is_free_number limits tree number ≡ (nat_lt 2 number && nat_le number limits.largest_number && free_by (standing_of tree number))
+free_seen limits tree number = ap (λ b. nat_lt 2 number && nat_le number limits.largest_number && b) (told (map.get tree.nodes number))
+  where
+    by_kind : (node : Node) (kind : Kind) → (is_some (only_if (is_file kind) >>= (λ _. Some node)) && names_for tree number == 0) ≡ (is_file kind && link_count kind (names_for tree number) == 0)
+    by_kind node File = refl
+    by_kind node Directory = refl
+
+    told : (o : Option Node) → (is_none o || (is_some (o >>= (λ node. only_if (is_file node.kind) >>= (λ _. Some node))) && names_for tree number == 0)) ≡ free_by (standing_by tree number o)
+    told None = refl
+    told (Some node) = by_kind node node.kind
+
+-- what can lose its name
+abbrev pub losing_by : Option Standing → ℕ → Option Kind
+losing_by None names = None
+losing_by (Some s) names = losing_kind s.kind names
+
+pub losing_seen : (tree : Tree) (number : ℕ) → losing tree number ≡ losing_by (standing_of tree number) (names_in tree number)
+losing_seen tree number = told (map.get tree.nodes number)
+  where
+    told : (o : Option Node) → (o >>= (λ node. losing_kind node.kind (names_in tree number))) ≡ losing_by (standing_by tree number o) (names_in tree number)
+    told None = refl
+    told (Some node) = refl
+
+-- a node that was read
+pub node_seen : (tree : Tree) (number : ℕ) (s : Standing) → standing_of tree number ≡ Some s → (node : Node) × (map.get tree.nodes number ≡ Some node) × (standing tree number node ≡ s)
+node_seen tree number s = told (map.get tree.nodes number) refl
+  where
+    told : (o : Option Node) → map.get tree.nodes number ≡ o → standing_by tree number o ≡ Some s → (node : Node) × (map.get tree.nodes number ≡ Some node) × (standing tree number node ≡ s)
+    told None g e = cc
+    told (Some node) g e = (node, g, cc)
+
+pub nothing_seen : (tree : Tree) (number : ℕ) → standing_of tree number ≡ None → map.get tree.nodes number ≡ None
+nothing_seen tree number = told (map.get tree.nodes number) refl
+  where
+    told : (o : Option Node) → map.get tree.nodes number ≡ o → standing_by tree number o ≡ None → map.get tree.nodes number ≡ None
+    told None g e = g
+    told (Some node) g e = cc
