@@ -1,7 +1,6 @@
 -- Where bytes, a size and owners can be set.
 use Rattle.std.proofs.Common.{◌≡◌, ℕ, ◌+◌, ◌<◌, ◌&&◌, Bool, true, false, nat_le, nat_lt, List, length, get_or, Option, Some, None, is_some, refl, sym, ap, ◌∙◌}
 use Rattle.std.specs.List.{list_all}
-use Rattle.std.specs.FinMap as map
 use Rattle.sn_limits.specs.declared.limits.Limits.{Limits}
 use Rattle.sn_model.specs.declared.change.Ownership.{Ownership}
 use Rattle.sn_model.specs.Chains.{◌>>=◌, only_if}
@@ -11,7 +10,6 @@ use Rattle.sn_model.proofs.ByteLemmas.{all_bytes}
 use Rattle.sn_applies.specs.declared.reads.Standing.{Standing}
 use Rattle.sn_applies.specs.Tests.{file_names, standing_of}
 use Rattle.sn_applies.proofs.ReadLemmas.{node_seen, nothing_seen}
-use Rattle.sn_applies.proofs.TestLemmas.{some_if, some_then}
 
 -- a test of a file and a result behind it
 of_file : (tree : Tree) (number : ℕ) (b : Bool) (f : Node → Tree) → is_some (file_at tree number >>= (λ node. only_if b >>= (λ _. Some (f node)))) ≡ (is_some (file_names tree number) && b)

@@ -15,7 +15,7 @@ use Rattle.sn_model.specs.Chains.{◌>>=◌, only_if}
 use Rattle.sn_model.specs.Changes.{directory_at, exchanged, has_room_for, is_at_or_below, is_new_name, moved, put_link, renamed, replaced, same_number, take_link}
 use Rattle.sn_model.specs.NameTree.{HasKind, IsHierarchy}
 use Rattle.sn_model.specs.Tree.{Node, Tree, link_cmp, link_count, link_to, names_in, names_for}
-use Rattle.sn_model.proofs.ChainLemmas.{some_bind, some_same}
+use Rattle.sn_model.proofs.ChainLemmas.{some_same}
 use Rattle.sn_model.proofs.CountLemmas.{count_removed}
 use Rattle.sn_model.proofs.LinkLemmas.{exact_links, links_total}
 use Rattle.sn_model.proofs.MapLemmas.{get_left, get_was}

@@ -7,7 +7,7 @@ use Rattle.sn_limits.specs.declared.limits.Limits.{Limits}
 use Rattle.sn_limits.specs.Names.{is_name}
 use Rattle.sn_walk.specs.Views.{is_directory, is_hidden_name}
 use Rattle.sn_model.specs.declared.link.Link.{Link}
-use Rattle.sn_model.specs.Chains.{◌>>=◌, only_if}
+use Rattle.sn_model.specs.Chains.{◌>>=◌}
 use Rattle.sn_model.specs.Changes.{directory_at, file_at, same_kind}
 use Rattle.sn_model.specs.Seen.{is_below}
 use Rattle.sn_model.specs.Tree.{Tree, names_in, names_for}

@@ -23,11 +23,7 @@ struct Moving {
 }
 
 // Whether what has the new name can lose it to a node of this kind, if anything has it.
-fn gives_way<T: NamedTree>(
-    tree: &mut T,
-    kind: Kind,
-    target: Option<u16>,
-) -> Result<bool, T::Fault>
+fn gives_way<T: NamedTree>(tree: &mut T, kind: Kind, target: Option<u16>) -> Result<bool, T::Fault>
     requires { T.holds tree.old }
     ensures kept { T.holds tree.new }
     ensures follows { T.follows tree.old tree.new }

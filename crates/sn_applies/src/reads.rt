@@ -36,10 +36,7 @@ pub(crate) fn standing_of<T: NamedTree>(
 }
 
 // How many names a file has, if the number is one's.
-pub(crate) fn file_names<T: NamedTree>(
-    tree: &mut T,
-    number: u16,
-) -> Result<Option<u16>, T::Fault>
+pub(crate) fn file_names<T: NamedTree>(tree: &mut T, number: u16) -> Result<Option<u16>, T::Fault>
     requires { T.holds tree.old }
     ensures kept { T.holds tree.new }
     ensures follows { T.follows tree.old tree.new }
@@ -105,7 +102,11 @@ pub(crate) fn losing<T: NamedTree>(tree: &mut T, number: u16) -> Result<Option<K
         Kind::File => Ok(Some(Kind::File)),
         Kind::Directory => {
             let names = tree.names_in(number)?;
-            Ok(if names == 0 { Some(Kind::Directory) } else { None })
+            Ok(if names == 0 {
+                Some(Kind::Directory)
+            } else {
+                None
+            })
         }
     }
 }

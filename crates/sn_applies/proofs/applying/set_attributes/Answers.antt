@@ -1,4 +1,4 @@
-use Rattle.std.proofs.Common.{◌≡◌, sym, ◌∙◌}
+use Rattle.std.proofs.Common.{sym, ◌∙◌}
 use Rattle.sn_applies.proofs.ContentLemmas.{owned_none, owned_some}
 use Rattle.sn_applies.proofs.applying.set_attributes.Goals as goal
 

@@ -1,4 +1,4 @@
-use Rattle.std.proofs.Common.{◌≡◌, ◌&&◌, nat_le, Option, is_some, sym, ap, ◌∙◌}
+use Rattle.std.proofs.Common.{◌&&◌, nat_le, is_some, sym, ap, ◌∙◌}
 use Rattle.sn_applies.proofs.ContentLemmas.{cut_tested}
 use Rattle.sn_applies.proofs.applying.set_size.Goals as goal
 

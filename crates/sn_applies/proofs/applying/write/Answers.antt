@@ -1,4 +1,4 @@
-use Rattle.std.proofs.Common.{◌≡◌, ◌+◌, ◌&&◌, nat_lt, nat_le, length, Option, is_some, arith, sym, ap, ◌∙◌}
+use Rattle.std.proofs.Common.{◌+◌, ◌&&◌, nat_lt, nat_le, length, is_some, arith, sym, ap, ◌∙◌}
 use Rattle.sn_applies.proofs.ContentLemmas.{written_tested}
 use Rattle.sn_applies.proofs.applying.write.Goals as goal
 

@@ -1,7 +1,5 @@
-use Rattle.std.proofs.Common.{◌≡◌, Bool, IfOk, is_some, sym, ap, subst, ◌∙◌}
-use Rattle.sn_model.specs.Changes.{renamed}
-use Rattle.sn_model.specs.NameTree.{IsHierarchy}
-use Rattle.sn_model.specs.Tree.{Tree, link_to}
+use Rattle.std.proofs.Common.{sym, ◌∙◌}
+use Rattle.sn_model.specs.Tree.{link_to}
 use Rattle.sn_applies.proofs.MoveLemmas.{renamed_none, renamed_later}
 use Rattle.sn_applies.proofs.moving.rename.Goals as goal
 
