@@ -2,7 +2,7 @@
 //! [`sn_program::program`], which does the rest.
 #![tactic(auto)]
 
-use sn_program::{Fault, Person, program, tell};
+use sn_program::{Person, ProgramFault, program, tell};
 use std::env::Env;
 use std::process::ExitCode;
 use std::{env, io};
@@ -13,10 +13,10 @@ fn words<R: Env + AllocGlobal>(rt: &R) -> io::Result<Vec<String>> {
 }
 
 /// Words that aren't text are no command.
-fn fault_of(error: io::Error) -> Fault {
+fn fault_of(error: io::Error) -> ProgramFault {
     match error.kind() {
-        io::ErrorKind::OutOfMemory => Fault::Memory,
-        _ => Fault::Usage,
+        io::ErrorKind::OutOfMemory => ProgramFault::Memory,
+        _ => ProgramFault::Usage,
     }
 }
 

@@ -2,14 +2,9 @@
 ghost use Rattle.std.specs.Prelude.{◌≡◌, ◌<◌, [], length, IsTrue, IfOk, OnOk, Some};
 
 use lru::LruCache;
+use sn_limits::Block;
 use std::alloc::{AllocError, Global};
 use std::num::NonZeroUsize;
-
-/// The bytes of a block.
-pub const BLOCK_SIZE: usize = 4096;
-
-/// What is in one block: eight sectors.
-pub type Block = [u8; 4096];
 
 const KEPT_BLOCKS: usize = 256;
 

@@ -48,5 +48,5 @@ pub mod examples;
 mod fault;
 
 pub use blocks::Blocks;
-pub use cache::{BLOCK_SIZE, Block};
 pub use fault::ReadFault;
+pub use sn_limits::{BLOCK_SIZE, Block};

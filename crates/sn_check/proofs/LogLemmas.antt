@@ -14,7 +14,7 @@ use Rattle.sn_model.specs.Tree.{Tree}
 use Rattle.sn_model.proofs.ListLemmas.{lists_join}
 use Rattle.sn_ondisk.specs.LogHalf.{HasNoLater, base_of}
 use Rattle.sn_ondisk.specs.Trees.{store_of}
-use Rattle.sn_log.specs.Places.{LogPosition}
+use Rattle.sn_log.specs.Positions.{LogPosition}
 use Rattle.sn_image.specs.Image.{image}
 use Rattle.sn_image.proofs.SoundNodeLemmas.{only_version}
 use Rattle.sn_overlay.specs.Needs.{nameless_in}

@@ -26,16 +26,20 @@ pub fn test_disk<D: Device>(alloc: Global, blocks: &mut Blocks<D>) -> Result<u32
     ensures reads { WritesNothing (D.status (device_of blocks.old)) (D.status (device_of blocks.new)) }
     ensures failed { FailsAs result (D.status (device_of blocks.old)) (D.status (device_of blocks.new)) }
 {
-    let DiskRoot { places, slot, root } = match find_newest(blocks) {
+    let DiskRoot {
+        geometry,
+        slot,
+        root,
+    } = match find_newest(blocks) {
         Ok(found) => found,
         Err(fault) => return Err(fault),
     };
-    let free = match count_free(alloc, blocks, places, slot, &root) {
+    let free = match count_free(alloc, blocks, geometry, slot, &root) {
         Ok(free) => free,
         Err(fault) => return Err(fault),
     };
-    let body = places.start(Area::RootBody(slot));
-    match check_log(alloc, blocks, places, &root, body, free) {
+    let body = geometry.start(Area::RootBody(slot));
+    match check_log(alloc, blocks, geometry, &root, body, free) {
         Ok(()) => Ok(free),
         Err(fault) => Err(fault),
     }

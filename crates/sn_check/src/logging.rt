@@ -15,7 +15,7 @@ ghost use Rattle.sn_check.specs.Logs.{HasLogged, IsOfLog, IsOver};
 use sn_block::Blocks;
 use sn_device::Device;
 use sn_examine::{is_to_recover, load_world, none_later, replay_both, test_age};
-use sn_layout::{Area, LogHalf, Places, RootBody};
+use sn_layout::{Area, Geometry, LogHalf, RootBody};
 use sn_limits::Limits;
 use sn_log::Buffer;
 use sn_model::{Damage, MountFault};
@@ -39,15 +39,15 @@ pub(crate) struct Logged {
 fn replay_log<D: Device>(
     alloc: Global,
     blocks: &mut Blocks<D>,
-    places: Places,
+    geometry: Geometry,
     root: &RootBody,
     body: u32,
 ) -> Result<Logged, MountFault>
     requires fits { IsRootBody root.now }
-    requires room { 8 * places ≤ (D.status (device_of blocks.old)).sectors }
-    requires sound { IsTrue D.tells_bytes → IsSound root.now.limits places (store_of (reads (D.disk (device_of blocks.old)))) root.now.inode_file }
-    ensures logged { IsTrue D.tells_bytes → IfOk result (λ l. HasLogged places (reads (D.disk (device_of blocks.old))) root.now l.charges l.dropped l.recovers) }
-    ensures fault { IsTrue D.tells_bytes → IfErr result (λ f. (free : ℕ) → IsDamageOf (IsOfLog places (reads (D.disk (device_of blocks.old))) root.now free) f) }
+    requires room { 8 * geometry ≤ (D.status (device_of blocks.old)).sectors }
+    requires sound { IsTrue D.tells_bytes → IsSound root.now.limits geometry (store_of (reads (D.disk (device_of blocks.old)))) root.now.inode_file }
+    ensures logged { IsTrue D.tells_bytes → IfOk result (λ l. HasLogged geometry (reads (D.disk (device_of blocks.old))) root.now l.charges l.dropped l.recovers) }
+    ensures fault { IsTrue D.tells_bytes → IfErr result (λ f. (free : ℕ) → IsDamageOf (IsOfLog geometry (reads (D.disk (device_of blocks.old))) root.now free) f) }
     ensures same { IsTrue D.tells_bytes → D.disk (device_of blocks.new) ≡ D.disk (device_of blocks.old) }
     ensures idle { OnOk result (D.status (device_of blocks.new) ≡ D.status (device_of blocks.old)) }
     ensures reads { WritesNothing (D.status (device_of blocks.old)) (D.status (device_of blocks.new)) }
@@ -61,7 +61,7 @@ fn replay_log<D: Device>(
         Err(fault) => return Err(fault),
     };
     let dropped = world.nameless();
-    let replayed = match replay_both(alloc, blocks, &mut buffer, &mut world, places, root.epoch) {
+    let replayed = match replay_both(alloc, blocks, &mut buffer, &mut world, geometry, root.epoch) {
         Ok(replayed) => replayed,
         Err(fault) => return Err(fault),
     };
@@ -75,19 +75,21 @@ fn replay_log<D: Device>(
 
 /// Damaged where what is logged is charged more than is free, which is told of the half of the root's epoch.
 fn test_charges(
-    places: Places,
+    geometry: Geometry,
     root: &RootBody,
     free: u32,
     logged: &Logged,
 ) -> Result<(), MountFault>
     ensures covered { OnOk result (is_covered version_1 (mounted free logged.now.charges logged.now.dropped) ≡ true) }
-    ensures over { IfErr result (λ f. IsOver f places root.now free logged.now.charges logged.now.dropped) }
+    ensures over { IfErr result (λ f. IsOver f geometry root.now free logged.now.charges logged.now.dropped) }
 {
     match Room::mounted(&Limits::VERSION_1, free, logged.charges, logged.dropped) {
         Some(_) => Ok(()),
         None => Err(MountFault::Damaged {
             damage: Damage::Log,
-            block: places.range(Area::Log(LogHalf::of_epoch(root.epoch))).start,
+            block: geometry
+                .range(Area::Log(LogHalf::of_epoch(root.epoch)))
+                .start,
         }),
     }
 }
@@ -98,34 +100,34 @@ fn test_charges(
 pub(crate) fn check_log<D: Device>(
     alloc: Global,
     blocks: &mut Blocks<D>,
-    places: Places,
+    geometry: Geometry,
     root: &RootBody,
     body: u32,
     free: u32,
 ) -> Result<(), MountFault>
     requires fits { IsRootBody root.now }
-    requires room { 8 * places ≤ (D.status (device_of blocks.old)).sectors }
-    requires sound { IsTrue D.tells_bytes → IsSound root.now.limits places (store_of (reads (D.disk (device_of blocks.old)))) root.now.inode_file }
-    ensures sound { IsTrue D.tells_bytes → OnOk result (HasSoundLog places (reads (D.disk (device_of blocks.old))) root.now free) }
-    ensures fault { IsTrue D.tells_bytes → IfErr result (IsDamageOf (IsOfLog places (reads (D.disk (device_of blocks.old))) root.now free)) }
+    requires room { 8 * geometry ≤ (D.status (device_of blocks.old)).sectors }
+    requires sound { IsTrue D.tells_bytes → IsSound root.now.limits geometry (store_of (reads (D.disk (device_of blocks.old)))) root.now.inode_file }
+    ensures sound { IsTrue D.tells_bytes → OnOk result (HasSoundLog geometry (reads (D.disk (device_of blocks.old))) root.now free) }
+    ensures fault { IsTrue D.tells_bytes → IfErr result (IsDamageOf (IsOfLog geometry (reads (D.disk (device_of blocks.old))) root.now free)) }
     ensures same { IsTrue D.tells_bytes → D.disk (device_of blocks.new) ≡ D.disk (device_of blocks.old) }
     ensures idle { OnOk result (D.status (device_of blocks.new) ≡ D.status (device_of blocks.old)) }
     ensures reads { WritesNothing (D.status (device_of blocks.old)) (D.status (device_of blocks.new)) }
     ensures failed { FailsAs result (D.status (device_of blocks.old)) (D.status (device_of blocks.new)) }
 {
-    match none_later(blocks, places, root.epoch + 1) {
+    match none_later(blocks, geometry, root.epoch + 1) {
         Ok(()) => {}
         Err(fault) => return Err(fault),
     }
-    let logged = match replay_log(alloc, blocks, places, root, body) {
+    let logged = match replay_log(alloc, blocks, geometry, root, body) {
         Ok(logged) => logged,
         Err(fault) => return Err(fault),
     };
-    match test_charges(places, root, free, &logged) {
+    match test_charges(geometry, root, free, &logged) {
         Ok(()) => {}
         Err(fault) => return Err(fault),
     }
-    match test_age(places, root, logged.recovers) {
+    match test_age(geometry, root, logged.recovers) {
         Ok(()) => Ok(()),
         Err(fault) => Err(fault),
     }

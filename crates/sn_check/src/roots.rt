@@ -14,7 +14,7 @@ use crate::fault::fault_of_check;
 use sn_block::Blocks;
 use sn_check_roots::check_roots;
 use sn_device::Device;
-use sn_layout::{Area, Places, RootBody, Slot};
+use sn_layout::{Area, Geometry, RootBody, Slot};
 use sn_model::MountFault;
 use std::alloc::Global;
 
@@ -23,23 +23,23 @@ use std::alloc::Global;
 pub(crate) fn count_free<D: Device>(
     alloc: Global,
     blocks: &mut Blocks<D>,
-    places: Places,
+    geometry: Geometry,
     slot: Slot,
     root: &RootBody,
 ) -> Result<u32, MountFault>
     requires fits { IsRootBody root.now }
-    requires room { 8 * places ≤ (D.status (device_of blocks.old)).sectors }
-    ensures sound { IsTrue D.tells_bytes → OnOk result (IsSoundRoot places (store_of (reads (D.disk (device_of blocks.old)))) root.now
-        (map_word places (reads (D.disk (device_of blocks.old))) slot)) }
-    ensures free { IsTrue D.tells_bytes → IfOk result (λ free. free ≡ free_blocks places (store_of (reads (D.disk (device_of blocks.old)))) root.now) }
-    ensures fault { IsTrue D.tells_bytes → IfErr result (IsDamageOf (IsFirstOf places (reads (D.disk (device_of blocks.old))) slot root.now)) }
+    requires room { 8 * geometry ≤ (D.status (device_of blocks.old)).sectors }
+    ensures sound { IsTrue D.tells_bytes → OnOk result (IsSoundRoot geometry (store_of (reads (D.disk (device_of blocks.old)))) root.now
+        (map_word geometry (reads (D.disk (device_of blocks.old))) slot)) }
+    ensures free { IsTrue D.tells_bytes → IfOk result (λ free. free ≡ free_blocks geometry (store_of (reads (D.disk (device_of blocks.old)))) root.now) }
+    ensures fault { IsTrue D.tells_bytes → IfErr result (IsDamageOf (IsFirstOf geometry (reads (D.disk (device_of blocks.old))) slot root.now)) }
     ensures same { IsTrue D.tells_bytes → D.disk (device_of blocks.new) ≡ D.disk (device_of blocks.old) }
     ensures idle { OnOk result (D.status (device_of blocks.new) ≡ D.status (device_of blocks.old)) }
     ensures reads { WritesNothing (D.status (device_of blocks.old)) (D.status (device_of blocks.new)) }
     ensures failed { FailsAs result (D.status (device_of blocks.old)) (D.status (device_of blocks.new)) }
 {
-    match check_roots(alloc, blocks, places, slot, root) {
-        Ok(map) => Ok(map.count_free_from(places.range(Area::Data).start)),
+    match check_roots(alloc, blocks, geometry, slot, root) {
+        Ok(map) => Ok(map.count_free_from(geometry.range(Area::Data).start)),
         Err(fault) => Err(fault_of_check(fault)),
     }
 }

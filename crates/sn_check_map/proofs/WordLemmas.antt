@@ -4,11 +4,11 @@ use Rattle.std.proofs.lemmas.Bool.{cases_lt}
 use Rattle.std.proofs.lemmas.List.{get_or_append_left, get_or-append_right, take_all}
 use Rattle.byteorder.specs.Endian.{little_number}
 use Rattle.sn_device.specs.Sectors.{Contents, AreSectors}
-use Rattle.sn_layout.specs.declared.places.Slot.{Slot}
-use Rattle.sn_layout.specs.declared.places.Area.TheVariants.{MapCopy}
+use Rattle.sn_layout.specs.declared.geometry.Slot.{Slot}
+use Rattle.sn_layout.specs.declared.geometry.Area.TheVariants.{MapCopy}
 use Rattle.sn_layout.specs.Bytes.{AreNumbers, numbers_bytes}
-use Rattle.sn_layout.specs.declared.places.Slot.TheVariants.{A, B}
-use Rattle.sn_layout.specs.Places.{end_of, start_of, map_blocks}
+use Rattle.sn_layout.specs.declared.geometry.Slot.TheVariants.{A, B}
+use Rattle.sn_layout.specs.Geometry.{end_of, start_of, map_blocks}
 use Rattle.sn_model.specs.declared.mount.Damage.{Damage}
 use Rattle.sn_ondisk.specs.Blocks.{block_at, bytes_at, numbers_in}
 use Rattle.sn_ondisk.specs.MapCopy.{map_bytes, map_word, map_words}

@@ -1,7 +1,7 @@
 -- What the marks of all roots have to say of a copy of the map.
 use Rattle.std.specs.Prelude.{◌≢◌, ℕ, ◌^◌, ◌<◌, List, [], ◌∷◌, ◌++◌, replicate, slice_index, Contains}
 use Rattle.sn_device.specs.Sectors.{Contents}
-use Rattle.sn_layout.specs.declared.places.Slot.{Slot}
+use Rattle.sn_layout.specs.declared.geometry.Slot.{Slot}
 use Rattle.sn_layout.specs.declared.root.RootBody.{RootBody}
 use Rattle.sn_model.specs.declared.mount.Damage.{Damage}
 use Rattle.sn_ondisk.specs.MapCopy.{map_word}

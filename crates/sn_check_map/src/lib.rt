@@ -13,7 +13,7 @@
 //!
 //! ```text
 //! for root in roots { check_root(alloc, blocks, &mut map, root, ..)?; }
-//! check_map(blocks, places, slot, &map)?;
+//! check_map(blocks, geometry, slot, &map)?;
 //! ```
 #![tactic(auto)]
 

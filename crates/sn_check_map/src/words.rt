@@ -9,7 +9,7 @@ ghost use Rattle.sn_check_map.specs.Words.{HasOther, HasOtherWord, HasWords, IsO
 
 use sn_block::{Blocks, ReadFault};
 use sn_device::Device;
-use sn_layout::{Area, Places, Slot, WORDS_PER_BLOCK, read_map_words};
+use sn_layout::{Area, Geometry, Slot, WORDS_PER_BLOCK, read_map_words};
 use sn_map::Map;
 use sn_marks::CheckFault;
 use sn_model::Damage;
@@ -86,22 +86,22 @@ fn check_words<D: Device>(
 /// it stands for.
 pub fn check_map<D: Device>(
     blocks: &mut Blocks<D>,
-    places: Places,
+    geometry: Geometry,
     slot: Slot,
     map: &Map,
 ) -> Result<(), CheckFault>
-    requires words { length map.now ≡ places }
-    requires room { 8 * places ≤ (D.status (device_of blocks.old)).sectors }
-    ensures words { IsTrue D.tells_bytes → OnOk result (HasWords places (reads (D.disk (device_of blocks.old))) slot map.now) }
+    requires words { length map.now ≡ geometry }
+    requires room { 8 * geometry ≤ (D.status (device_of blocks.old)).sectors }
+    ensures words { IsTrue D.tells_bytes → OnOk result (HasWords geometry (reads (D.disk (device_of blocks.old))) slot map.now) }
     ensures fault { IsTrue D.tells_bytes → IfErr result (λ fault. Tells fault
-        (HasOtherWord places (reads (D.disk (device_of blocks.old))) slot map.now)) }
+        (HasOtherWord geometry (reads (D.disk (device_of blocks.old))) slot map.now)) }
     ensures same { IsTrue D.tells_bytes → D.disk (device_of blocks.new) ≡ D.disk (device_of blocks.old) }
     ensures counts { CountsCheck result (D.status (device_of blocks.old)) (D.status (device_of blocks.new)) }
 {
     // It tells how large a disk can be.
-    places.blocks();
-    let copy = places.range(Area::MapCopy(slot));
-    for i in 0..places.map_blocks() {
+    geometry.blocks();
+    let copy = geometry.range(Area::MapCopy(slot));
+    for i in 0..geometry.map_blocks() {
         check_words(blocks, map, copy.start + i, i * WORDS_PER_BLOCK as u32)?;
     }
     Ok(())

@@ -53,12 +53,12 @@ fn check_acls<D: Device>(
     root: &RootBit,
     inode: &Inode,
 ) -> Result<(), CheckFault>
-    requires words { length map.old ≡ root.now.places }
-    requires room { 8 * root.now.places ≤ (D.status (device_of blocks.old)).sectors }
-    ensures marks { OnOk result (Marks root.now.places root.now.bit (block_reach inode.now.acl_block) map.old map.new) }
+    requires words { length map.old ≡ root.now.geometry }
+    requires room { 8 * root.now.geometry ≤ (D.status (device_of blocks.old)).sectors }
+    ensures marks { OnOk result (Marks root.now.geometry root.now.bit (block_reach inode.now.acl_block) map.old map.new) }
     ensures acls { IsTrue D.tells_bytes → OnOk result (HasAcls
         (store_of (reads (D.disk (device_of blocks.old)))) inode.now) }
-    ensures fault { IsTrue D.tells_bytes → IfErr result (λ fault. Tells fault (IsWrong root.now.places root.now.bit
+    ensures fault { IsTrue D.tells_bytes → IfErr result (λ fault. Tells fault (IsWrong root.now.geometry root.now.bit
         (block_reach inode.now.acl_block) map.old (λ block. (block ≡ inode.now.acl_block)
         × (HasAcls (store_of (reads (D.disk (device_of blocks.old)))) inode.now → ⊥)))) }
     ensures words { length map.new ≡ length map.old }
@@ -107,13 +107,13 @@ fn check_tree<D: Device>(
     top: u32,
 ) -> Result<(), CheckFault>
     requires whole { kind ≡ Directory → tree.now.size % 4096 ≡ 0 }
-    requires words { length map.old ≡ root.now.places }
-    requires room { 8 * root.now.places ≤ (D.status (device_of blocks.old)).sectors }
-    ensures marks { IsTrue D.tells_bytes → OnOk result (Marks root.now.places root.now.bit
+    requires words { length map.old ≡ root.now.geometry }
+    requires room { 8 * root.now.geometry ≤ (D.status (device_of blocks.old)).sectors }
+    ensures marks { IsTrue D.tells_bytes → OnOk result (Marks root.now.geometry root.now.bit
         (content_reach (store_of (reads (D.disk (device_of blocks.old)))) (Tree tree.now)) map.old map.new) }
     ensures sound { IsTrue D.tells_bytes → OnOk result (IsSoundContent limits.now
         (store_of (reads (D.disk (device_of blocks.old)))) kind (Tree tree.now)) }
-    ensures fault { IsTrue D.tells_bytes → IfErr result (λ fault. Tells fault (IsWrong root.now.places root.now.bit
+    ensures fault { IsTrue D.tells_bytes → IfErr result (λ fault. Tells fault (IsWrong root.now.geometry root.now.bit
         (content_reach (store_of (reads (D.disk (device_of blocks.old)))) (Tree tree.now)) map.old
         (IsContentFault limits.now (store_of (reads (D.disk (device_of blocks.old)))) kind (Tree tree.now)
         (names_by (store_of (reads (D.disk (device_of blocks.old)))) kind (Tree tree.now)) top))) }
@@ -138,13 +138,13 @@ fn check_content<D: Device>(
     top: u32,
 ) -> Result<(), CheckFault>
     requires content { IsContent limits.now inode.now.kind inode.now.content }
-    requires words { length map.old ≡ root.now.places }
-    requires room { 8 * root.now.places ≤ (D.status (device_of blocks.old)).sectors }
-    ensures marks { IsTrue D.tells_bytes → OnOk result (Marks root.now.places root.now.bit
+    requires words { length map.old ≡ root.now.geometry }
+    requires room { 8 * root.now.geometry ≤ (D.status (device_of blocks.old)).sectors }
+    ensures marks { IsTrue D.tells_bytes → OnOk result (Marks root.now.geometry root.now.bit
         (content_reach (store_of (reads (D.disk (device_of blocks.old)))) inode.now.content) map.old map.new) }
     ensures sound { IsTrue D.tells_bytes → OnOk result (IsSoundContent limits.now
         (store_of (reads (D.disk (device_of blocks.old)))) inode.now.kind inode.now.content) }
-    ensures fault { IsTrue D.tells_bytes → IfErr result (λ fault. Tells fault (IsWrong root.now.places root.now.bit
+    ensures fault { IsTrue D.tells_bytes → IfErr result (λ fault. Tells fault (IsWrong root.now.geometry root.now.bit
         (content_reach (store_of (reads (D.disk (device_of blocks.old)))) inode.now.content) map.old
         (IsContentFault limits.now (store_of (reads (D.disk (device_of blocks.old)))) inode.now.kind inode.now.content
         (names_by (store_of (reads (D.disk (device_of blocks.old)))) inode.now.kind inode.now.content) top))) }
@@ -171,13 +171,13 @@ fn check_used<D: Device>(
     top: u32,
 ) -> Result<(), CheckFault>
     requires valid { IsInode limits.now inode.now }
-    requires words { length map.old ≡ root.now.places }
-    requires room { 8 * root.now.places ≤ (D.status (device_of blocks.old)).sectors }
-    ensures marks { IsTrue D.tells_bytes → OnOk result (Marks root.now.places root.now.bit
+    requires words { length map.old ≡ root.now.geometry }
+    requires room { 8 * root.now.geometry ≤ (D.status (device_of blocks.old)).sectors }
+    ensures marks { IsTrue D.tells_bytes → OnOk result (Marks root.now.geometry root.now.bit
         (inode_reach (store_of (reads (D.disk (device_of blocks.old)))) (Some inode.now)) map.old map.new) }
     ensures sound { IsTrue D.tells_bytes → OnOk result (IsSoundInode limits.now
         (store_of (reads (D.disk (device_of blocks.old)))) inode.now) }
-    ensures fault { IsTrue D.tells_bytes → IfErr result (λ fault. Tells fault (IsWrong root.now.places root.now.bit
+    ensures fault { IsTrue D.tells_bytes → IfErr result (λ fault. Tells fault (IsWrong root.now.geometry root.now.bit
         (inode_reach (store_of (reads (D.disk (device_of blocks.old)))) (Some inode.now)) map.old
         (IsInodeFault limits.now (store_of (reads (D.disk (device_of blocks.old)))) inode.now top))) }
     ensures words { length map.new ≡ length map.old }
@@ -227,15 +227,15 @@ pub(crate) fn check_inode<D: Device>(
     body: u32,
     number: u16,
 ) -> Result<(), CheckFault>
-    requires words { length map.old ≡ root.now.places }
-    requires room { 8 * root.now.places ≤ (D.status (device_of blocks.old)).sectors }
+    requires words { length map.old ≡ root.now.geometry }
+    requires room { 8 * root.now.geometry ≤ (D.status (device_of blocks.old)).sectors }
     requires lies { IsTrue D.tells_bytes → TreeLies (D.status (device_of blocks.old)).sectors
         (store_of (reads (D.disk (device_of blocks.old)))) file.now }
-    ensures marks { IsTrue D.tells_bytes → OnOk result (Marks root.now.places root.now.bit
+    ensures marks { IsTrue D.tells_bytes → OnOk result (Marks root.now.geometry root.now.bit
         (reach_at (store_of (reads (D.disk (device_of blocks.old)))) file.now number) map.old map.new) }
     ensures sound { IsTrue D.tells_bytes → OnOk result (IsSoundNumber limits.now
         (store_of (reads (D.disk (device_of blocks.old)))) file.now number) }
-    ensures fault { IsTrue D.tells_bytes → IfErr result (λ fault. Tells fault (IsWrong root.now.places root.now.bit
+    ensures fault { IsTrue D.tells_bytes → IfErr result (λ fault. Tells fault (IsWrong root.now.geometry root.now.bit
         (reach_at (store_of (reads (D.disk (device_of blocks.old)))) file.now number) map.old
         (IsMisspelt limits.now (store_of (reads (D.disk (device_of blocks.old)))) file.now body))) }
     ensures words { length map.new ≡ length map.old }

@@ -20,7 +20,7 @@
 //! What the sources leave open is decided in `docs/DECISIONS.md`, under "The image check".
 //!
 //! ```text
-//! let root = RootBit { places, bit: 0 };
+//! let root = RootBit { geometry, bit: 0 };
 //! check_root(alloc, blocks, map, &root, &limits, &inode_file, body)?;
 //! ```
 #![tactic(auto)]

@@ -42,15 +42,15 @@ fn check_inodes<D: Device>(
     body: u32,
 ) -> Result<(), CheckFault>
     requires file { IsInodeFile limits.now file.now }
-    requires words { length map.old ≡ root.now.places }
-    requires room { 8 * root.now.places ≤ (D.status (device_of blocks.old)).sectors }
+    requires words { length map.old ≡ root.now.geometry }
+    requires room { 8 * root.now.geometry ≤ (D.status (device_of blocks.old)).sectors }
     requires lies { IsTrue D.tells_bytes → TreeLies (D.status (device_of blocks.old)).sectors
         (store_of (reads (D.disk (device_of blocks.old)))) file.now }
-    ensures marks { IsTrue D.tells_bytes → OnOk result (Marks root.now.places root.now.bit
+    ensures marks { IsTrue D.tells_bytes → OnOk result (Marks root.now.geometry root.now.bit
         (flat_map (reach_at (store_of (reads (D.disk (device_of blocks.old)))) file.now) (numbers file.now)) map.old map.new) }
     ensures sound { IsTrue D.tells_bytes → OnOk result ((number : ℕ) → 2 ≤ number → number < file.now.size / 128
         → IsSoundNumber limits.now (store_of (reads (D.disk (device_of blocks.old)))) file.now number) }
-    ensures fault { IsTrue D.tells_bytes → IfErr result (λ fault. Tells fault (IsWrong root.now.places root.now.bit
+    ensures fault { IsTrue D.tells_bytes → IfErr result (λ fault. Tells fault (IsWrong root.now.geometry root.now.bit
         (flat_map (reach_at (store_of (reads (D.disk (device_of blocks.old)))) file.now) (numbers file.now)) map.old
         (IsMisspelt limits.now (store_of (reads (D.disk (device_of blocks.old)))) file.now body))) }
     ensures words { length map.new ≡ length map.old }
@@ -75,15 +75,15 @@ fn check_records<D: Device>(
     body: u32,
 ) -> Result<(), CheckFault>
     requires file { IsInodeFile limits.now file.now }
-    requires words { length map.old ≡ root.now.places }
-    requires room { 8 * root.now.places ≤ (D.status (device_of blocks.old)).sectors }
+    requires words { length map.old ≡ root.now.geometry }
+    requires room { 8 * root.now.geometry ≤ (D.status (device_of blocks.old)).sectors }
     requires lies { IsTrue D.tells_bytes → TreeLies (D.status (device_of blocks.old)).sectors
         (store_of (reads (D.disk (device_of blocks.old)))) file.now }
-    ensures marks { IsTrue D.tells_bytes → OnOk result (Marks root.now.places root.now.bit
+    ensures marks { IsTrue D.tells_bytes → OnOk result (Marks root.now.geometry root.now.bit
         (flat_map (reach_at (store_of (reads (D.disk (device_of blocks.old)))) file.now) (numbers file.now)) map.old map.new) }
     ensures sound { IsTrue D.tells_bytes → OnOk result (HasSoundRecords limits.now
         (store_of (reads (D.disk (device_of blocks.old)))) file.now) }
-    ensures fault { IsTrue D.tells_bytes → IfErr result (λ fault. Tells fault (IsWrong root.now.places root.now.bit
+    ensures fault { IsTrue D.tells_bytes → IfErr result (λ fault. Tells fault (IsWrong root.now.geometry root.now.bit
         (flat_map (reach_at (store_of (reads (D.disk (device_of blocks.old)))) file.now) (numbers file.now)) map.old
         (IsMisspelt limits.now (store_of (reads (D.disk (device_of blocks.old)))) file.now body))) }
     ensures words { length map.new ≡ length map.old }
@@ -106,13 +106,13 @@ fn check_file<D: Device>(
     body: u32,
 ) -> Result<(), CheckFault>
     requires file { IsInodeFile limits.now file.now }
-    requires words { length map.old ≡ root.now.places }
-    requires room { 8 * root.now.places ≤ (D.status (device_of blocks.old)).sectors }
-    ensures marks { IsTrue D.tells_bytes → OnOk result (Marks root.now.places root.now.bit
+    requires words { length map.old ≡ root.now.geometry }
+    requires room { 8 * root.now.geometry ≤ (D.status (device_of blocks.old)).sectors }
+    ensures marks { IsTrue D.tells_bytes → OnOk result (Marks root.now.geometry root.now.bit
         (reach (store_of (reads (D.disk (device_of blocks.old)))) file.now) map.old map.new) }
-    ensures sound { IsTrue D.tells_bytes → OnOk result (IsSoundButLinks limits.now root.now.places
+    ensures sound { IsTrue D.tells_bytes → OnOk result (IsSoundButLinks limits.now root.now.geometry
         (store_of (reads (D.disk (device_of blocks.old)))) file.now) }
-    ensures fault { IsTrue D.tells_bytes → IfErr result (λ fault. Tells fault (IsWrong root.now.places root.now.bit
+    ensures fault { IsTrue D.tells_bytes → IfErr result (λ fault. Tells fault (IsWrong root.now.geometry root.now.bit
         (reach (store_of (reads (D.disk (device_of blocks.old)))) file.now) map.old
         (IsMisspelt limits.now (store_of (reads (D.disk (device_of blocks.old)))) file.now body))) }
     ensures words { length map.new ≡ length map.old }
@@ -139,13 +139,13 @@ pub fn check_root<D: Device>(
     body: u32,
 ) -> Result<(), CheckFault>
     requires clear { IsTrue D.tells_bytes → (block : ℕ) → bit_at (slice_index map.old block) root.now.bit ≡ 0 }
-    requires words { length map.old ≡ root.now.places }
-    requires room { 8 * root.now.places ≤ (D.status (device_of blocks.old)).sectors }
-    ensures sound { IsTrue D.tells_bytes → OnOk result (IsSoundButLinks limits.now root.now.places
+    requires words { length map.old ≡ root.now.geometry }
+    requires room { 8 * root.now.geometry ≤ (D.status (device_of blocks.old)).sectors }
+    ensures sound { IsTrue D.tells_bytes → OnOk result (IsSoundButLinks limits.now root.now.geometry
         (store_of (reads (D.disk (device_of blocks.old)))) file.now) }
-    ensures marks { IsTrue D.tells_bytes → OnOk result (Marks root.now.places root.now.bit
+    ensures marks { IsTrue D.tells_bytes → OnOk result (Marks root.now.geometry root.now.bit
         (reach (store_of (reads (D.disk (device_of blocks.old)))) file.now) map.old map.new) }
-    ensures fault { IsTrue D.tells_bytes → IfErr result (λ fault. Tells fault (StandsInRoot limits.now root.now.places
+    ensures fault { IsTrue D.tells_bytes → IfErr result (λ fault. Tells fault (StandsInRoot limits.now root.now.geometry
         (store_of (reads (D.disk (device_of blocks.old)))) file.now body)) }
     ensures words { length map.new ≡ length map.old }
     ensures same { IsTrue D.tells_bytes → D.disk (device_of blocks.new) ≡ D.disk (device_of blocks.old) }

@@ -20,17 +20,17 @@ use sn_census::Census;
 use sn_check_map::{check_map, set_laws};
 use sn_check_root::root_laws;
 use sn_device::Device;
-use sn_layout::{Area, Places, RootBody, Slot};
+use sn_layout::{Area, Geometry, RootBody, Slot};
 use sn_map::Map;
 use sn_marks::CheckFault;
 use std::alloc::Global;
 
 // A map without marks.
-fn blank_map(alloc: Global, places: Places) -> Result<Map, CheckFault>
-    ensures map { IfOk result (λ map. map ≡ replicate places 0) }
+fn blank_map(alloc: Global, geometry: Geometry) -> Result<Map, CheckFault>
+    ensures map { IfOk result (λ map. map ≡ replicate geometry 0) }
     ensures fault { IfErr result (λ fault. fault ≡ Read Memory) }
 {
-    match Map::new(alloc, places.blocks()) {
+    match Map::new(alloc, geometry.blocks()) {
         Ok(map) => Ok(map),
         Err(_) => Err(CheckFault::Read(ReadFault::Memory)),
     }
@@ -55,27 +55,27 @@ fn new_census(alloc: Global) -> Result<Census, CheckFault>
 fn check_marks<D: Device>(
     alloc: Global,
     blocks: &mut Blocks<D>,
-    places: Places,
+    geometry: Geometry,
     slot: Slot,
     root: &RootBody,
 ) -> Result<Map, CheckFault>
     requires fits { IsRootBody root.now }
-    requires room { 8 * places ≤ (D.status (device_of blocks.old)).sectors }
-    ensures words { IsTrue D.tells_bytes → IfOk result (λ map. HasWords places (reads (D.disk (device_of blocks.old))) slot map) }
-    ensures marked { IsTrue D.tells_bytes → IfOk result (λ map. AreMarked places (reads (D.disk (device_of blocks.old))) slot root.now) }
-    ensures count { IfOk result (λ map. length map ≡ places) }
-    ensures fault { IsTrue D.tells_bytes → IfErr result (λ fault. Tells fault (IsFirstOf places (reads (D.disk (device_of blocks.old))) slot root.now)) }
+    requires room { 8 * geometry ≤ (D.status (device_of blocks.old)).sectors }
+    ensures words { IsTrue D.tells_bytes → IfOk result (λ map. HasWords geometry (reads (D.disk (device_of blocks.old))) slot map) }
+    ensures marked { IsTrue D.tells_bytes → IfOk result (λ map. AreMarked geometry (reads (D.disk (device_of blocks.old))) slot root.now) }
+    ensures count { IfOk result (λ map. length map ≡ geometry) }
+    ensures fault { IsTrue D.tells_bytes → IfErr result (λ fault. Tells fault (IsFirstOf geometry (reads (D.disk (device_of blocks.old))) slot root.now)) }
     ensures same { IsTrue D.tells_bytes → D.disk (device_of blocks.new) ≡ D.disk (device_of blocks.old) }
     ensures counts { CountsCheck result (D.status (device_of blocks.old)) (D.status (device_of blocks.new)) }
 {
     // Where words are those of the marks of all roots, they tell what the roots reach.
     set_laws();
     root_laws();
-    let body = places.start(Area::RootBody(slot));
-    let mut map = blank_map(alloc, places)?;
-    mark_roots(alloc, blocks, &mut map, places, root, body)?;
+    let body = geometry.start(Area::RootBody(slot));
+    let mut map = blank_map(alloc, geometry)?;
+    mark_roots(alloc, blocks, &mut map, geometry, root, body)?;
     words_law(map.words());
-    check_map(blocks, places, slot, &map)?;
+    check_map(blocks, geometry, slot, &map)?;
     Ok(map)
 }
 
@@ -86,25 +86,25 @@ fn check_marks<D: Device>(
 pub fn check_roots<D: Device>(
     alloc: Global,
     blocks: &mut Blocks<D>,
-    places: Places,
+    geometry: Geometry,
     slot: Slot,
     root: &RootBody,
 ) -> Result<Map, CheckFault>
     requires fits { IsRootBody root.now }
-    requires room { 8 * places ≤ (D.status (device_of blocks.old)).sectors }
-    ensures sound { IsTrue D.tells_bytes → IfOk result (λ map. IsSoundRoot places (store_of (reads (D.disk (device_of blocks.old)))) root.now
-        (map_word places (reads (D.disk (device_of blocks.old))) slot)) }
-    ensures words { IsTrue D.tells_bytes → IfOk result (λ map. HasWords places (reads (D.disk (device_of blocks.old))) slot map) }
-    ensures count { IfOk result (λ map. length map ≡ places) }
-    ensures fault { IsTrue D.tells_bytes → IfErr result (λ fault. Tells fault (IsFirstOf places (reads (D.disk (device_of blocks.old))) slot root.now)) }
+    requires room { 8 * geometry ≤ (D.status (device_of blocks.old)).sectors }
+    ensures sound { IsTrue D.tells_bytes → IfOk result (λ map. IsSoundRoot geometry (store_of (reads (D.disk (device_of blocks.old)))) root.now
+        (map_word geometry (reads (D.disk (device_of blocks.old))) slot)) }
+    ensures words { IsTrue D.tells_bytes → IfOk result (λ map. HasWords geometry (reads (D.disk (device_of blocks.old))) slot map) }
+    ensures count { IfOk result (λ map. length map ≡ geometry) }
+    ensures fault { IsTrue D.tells_bytes → IfErr result (λ fault. Tells fault (IsFirstOf geometry (reads (D.disk (device_of blocks.old))) slot root.now)) }
     ensures same { IsTrue D.tells_bytes → D.disk (device_of blocks.new) ≡ D.disk (device_of blocks.old) }
     ensures counts { CountsCheck result (D.status (device_of blocks.old)) (D.status (device_of blocks.new)) }
 {
     // A root is sound with its links, and what stands makes it unsound.
     root_laws();
-    let map = check_marks(alloc, blocks, places, slot, root)?;
+    let map = check_marks(alloc, blocks, geometry, slot, root)?;
     let mut census = new_census(alloc)?;
-    let body = places.start(Area::RootBody(slot));
-    link_roots(&mut census, blocks, places, root, body)?;
+    let body = geometry.start(Area::RootBody(slot));
+    link_roots(&mut census, blocks, geometry, root, body)?;
     Ok(map)
 }

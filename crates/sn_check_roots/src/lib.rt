@@ -15,7 +15,7 @@
 //!
 //! ```text
 //! let newest = newest(&mut blocks)?;
-//! let map = check_roots(alloc, &mut blocks, places, newest.slot, &newest.root)?;
+//! let map = check_roots(alloc, &mut blocks, geometry, newest.slot, &newest.root)?;
 //! ```
 #![tactic(auto)]
 

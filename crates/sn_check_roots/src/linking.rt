@@ -14,20 +14,20 @@ use crate::rooted::{root_at, root_count};
 use sn_block::Blocks;
 use sn_census::{Census, count_links};
 use sn_device::Device;
-use sn_layout::{Places, RootBody};
+use sn_layout::{Geometry, RootBody};
 use sn_marks::CheckFault;
 
 /// Counts the names of all roots, which were checked but for their links. The first fault found so is told.
 pub(crate) fn link_roots<D: Device>(
     census: &mut Census,
     blocks: &mut Blocks<D>,
-    places: Places,
+    geometry: Geometry,
     root: &RootBody,
     body: u32,
 ) -> Result<(), CheckFault>
     requires fits { IsRootBody root.now }
-    requires room { 8 * places ≤ (D.status (device_of blocks.old)).sectors }
-    requires checked { IsTrue D.tells_bytes → AreChecked places (store_of (reads (D.disk (device_of blocks.old)))) root.now (rooted_in root.now) }
+    requires room { 8 * geometry ≤ (D.status (device_of blocks.old)).sectors }
+    requires checked { IsTrue D.tells_bytes → AreChecked geometry (store_of (reads (D.disk (device_of blocks.old)))) root.now (rooted_in root.now) }
     ensures linked { IsTrue D.tells_bytes → OnOk result (AreLinked (store_of (reads (D.disk (device_of blocks.old)))) (rooted_in root.now)) }
     ensures fault { IsTrue D.tells_bytes → IfErr result (λ fault. Tells fault (λ damage block. OfSome root.now (λ r. StandsInLinks
         (store_of (reads (D.disk (device_of blocks.old)))) r.inodes body damage block))) }

@@ -16,7 +16,7 @@ use sn_block::Blocks;
 use sn_check_map::set_laws;
 use sn_check_root::check_root;
 use sn_device::Device;
-use sn_layout::{Places, RootBody};
+use sn_layout::{Geometry, RootBody};
 use sn_map::Map;
 use sn_marks::{CheckFault, RootBit};
 use std::alloc::Global;
@@ -27,18 +27,18 @@ pub(crate) fn mark_roots<D: Device>(
     alloc: Global,
     blocks: &mut Blocks<D>,
     map: &mut Map,
-    places: Places,
+    geometry: Geometry,
     root: &RootBody,
     body: u32,
 ) -> Result<(), CheckFault>
     requires fits { IsRootBody root.now }
-    requires blank { map.old ≡ replicate places 0 }
-    requires room { 8 * places ≤ (D.status (device_of blocks.old)).sectors }
+    requires blank { map.old ≡ replicate geometry 0 }
+    requires room { 8 * geometry ≤ (D.status (device_of blocks.old)).sectors }
     ensures sets { IsTrue D.tells_bytes → OnOk result (AreSets (store_of (reads (D.disk (device_of blocks.old)))) (rooted_in root.now) map.new) }
-    ensures checked { IsTrue D.tells_bytes → OnOk result (AreChecked places (store_of (reads (D.disk (device_of blocks.old)))) root.now (rooted_in root.now)) }
-    ensures fault { IsTrue D.tells_bytes → IfErr result (λ fault. Tells fault (λ damage block. OfSome root.now (λ r. StandsInRoot root.now.limits places
+    ensures checked { IsTrue D.tells_bytes → OnOk result (AreChecked geometry (store_of (reads (D.disk (device_of blocks.old)))) root.now (rooted_in root.now)) }
+    ensures fault { IsTrue D.tells_bytes → IfErr result (λ fault. Tells fault (λ damage block. OfSome root.now (λ r. StandsInRoot root.now.limits geometry
         (store_of (reads (D.disk (device_of blocks.old)))) r.inodes body damage block))) }
-    ensures words { length map.new ≡ places }
+    ensures words { length map.new ≡ geometry }
     ensures same { IsTrue D.tells_bytes → D.disk (device_of blocks.new) ≡ D.disk (device_of blocks.old) }
     ensures counts { CountsCheck result (D.status (device_of blocks.old)) (D.status (device_of blocks.new)) }
 {
@@ -47,7 +47,7 @@ pub(crate) fn mark_roots<D: Device>(
     for i in 0..root_count(root) {
         let it = root_at(root, i);
         let bit = RootBit {
-            places,
+            geometry,
             bit: it.bit,
         };
         check_root(alloc, blocks, map, &bit, &root.limits, &it.file, body)?;

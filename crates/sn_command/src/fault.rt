@@ -1,11 +1,11 @@
 ghost use Rattle.std.specs.Prelude.{◌≡◌, ◌↔◌};
 ghost use Rattle.clap.specs.Values.{kind_of};
 ghost use Rattle.clap.specs.declared.error.ErrorKind.TheVariants as kind;
-ghost use Rattle.sn_words.specs.declared.fault.ReadFault.TheVariants as reading;
+ghost use Rattle.sn_words.specs.declared.fault.SpellingFault.TheVariants as reading;
 ghost use Rattle.sn_command.specs.declared.fault.WordsFault.TheVariants as fault;
 
 use clap::error::ErrorKind;
-use sn_words::ReadFault;
+use sn_words::SpellingFault;
 use std::alloc::AllocError;
 use thiserror::Error;
 
@@ -38,13 +38,13 @@ impl From<AllocError> for WordsFault {
     }
 }
 
-impl From<ReadFault> for WordsFault {
+impl From<SpellingFault> for WordsFault {
     ghost from_gives = { λ read given. (given ≡ fault.Memory) ↔ (read ≡ reading.Memory) };
 
-    fn from(fault: ReadFault) -> WordsFault {
+    fn from(fault: SpellingFault) -> WordsFault {
         match fault {
-            ReadFault::Bad => WordsFault::Usage,
-            ReadFault::Memory => WordsFault::Memory,
+            SpellingFault::Bad => WordsFault::Usage,
+            SpellingFault::Memory => WordsFault::Memory,
         }
     }
 }

@@ -31,8 +31,8 @@ use Rattle.sn_model.specs.Worlds.{IsCall, IsWorld}
 use Rattle.sn_numbers.specs.Numbers.{kept_after}
 use Rattle.sn_numbers.proofs.FreeLemmas.{next_is_number}
 use Rattle.sn_plain.specs.Plain.{Applies}
-use Rattle.sn_plain.specs.declared.error.ApplyError.{ApplyError}
-use Rattle.sn_plain.specs.declared.error.ApplyError.TheVariants as lack
+use Rattle.sn_plain.specs.declared.fault.ApplyError.{ApplyError}
+use Rattle.sn_plain.specs.declared.fault.ApplyError.TheVariants as lack
 use Rattle.sn_walk.proofs.ChainLemmas.{bind_ok}
 use Rattle.sn_model.proofs.DecidedLemmas.{IsDecided, decided_is}
 use Rattle.sn_model.proofs.LoseLemmas.{done_loss, made_loss, no_loss}

@@ -19,14 +19,14 @@ use Rattle.sn_limits.specs.Versions.{version_1}
 use Rattle.sn_model.specs.Calls.{ready}
 use Rattle.sn_model.specs.Settling.{loses}
 use Rattle.sn_model.specs.Steps.{Becomes, TakesMemory, decision, filled, with_live}
-use Rattle.sn_plain.specs.declared.error.ApplyError.{ApplyError}
-use Rattle.sn_plain.specs.declared.error.ApplyError.TheVariants as lack
+use Rattle.sn_plain.specs.declared.fault.ApplyError.{ApplyError}
+use Rattle.sn_plain.specs.declared.fault.ApplyError.TheVariants as lack
 use Rattle.sn_numbers.specs.Numbers.{next_number}
 use Rattle.sn_core.specs.Numbering.{Numbers}
 use Rattle.sn_core.specs.PlainRuns.{Numbered}
 use Rattle.sn_core.specs.declared.choosing.Chosen.{Chosen}
-use Rattle.sn_core.specs.declared.error.CallError.{CallError}
-use Rattle.sn_core.specs.declared.error.CallError.TheVariants.{Refused, Memory}
+use Rattle.sn_core.specs.declared.fault.CallError.{CallError}
+use Rattle.sn_core.specs.declared.fault.CallError.TheVariants.{Refused, Memory}
 
 -- what a decision failed with
 abbrev pub as_error : {F : Type 0} → Failure Refusal F → CallError

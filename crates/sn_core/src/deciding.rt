@@ -7,7 +7,7 @@ ghost use Rattle.sn_model.specs.Worlds.{IsCall};
 ghost use Rattle.sn_core.specs.Served.{Decides, answer_of};
 
 use crate::PlainWorld;
-use crate::error::CallError;
+use crate::fault::CallError;
 use sn_acl::{Cred, Mode, Permissions};
 use sn_core_decide as decide;
 use sn_core_decide::{

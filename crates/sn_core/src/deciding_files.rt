@@ -11,7 +11,7 @@ ghost use Rattle.sn_core.specs.Served.{Decides};
 
 use crate::PlainWorld;
 use crate::deciding::decided;
-use crate::error::CallError;
+use crate::fault::CallError;
 use sn_core_decide as decide;
 use sn_core_decide::{
     bytes_argument, count_argument, flags_argument, new_mode_argument, path_argument,
@@ -19,7 +19,7 @@ use sn_core_decide::{
 use sn_desc::OpenFile;
 use sn_limits::Limits;
 use sn_model::{
-    Bytes, Caller, Change, Content, Errno, OpenFlags, Outcome, Pending, Refusal, Reply, Word,
+    Bytes, Caller, Change, Errno, FileData, OpenFlags, Outcome, Pending, Refusal, Reply, Word,
 };
 use sn_walk::Home;
 use std::alloc::{AllocError, Global};
@@ -206,7 +206,7 @@ impl PlainWorld {
         };
         Ok(turns(
             Caller::Moves { fd, offset },
-            Reply::Content(Content::new(bytes)),
+            Reply::Content(FileData::new(bytes)),
         ))
     }
 
@@ -242,7 +242,7 @@ impl PlainWorld {
         &self,
         session: u32,
         fd: u32,
-        bytes: &'a Content,
+        bytes: &'a FileData,
     ) -> Result<Outcome<'a>, CallError>
         ensures { Decides (world_of self.now) session (call.Write fd bytes.now) result }
     {

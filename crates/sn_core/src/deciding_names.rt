@@ -7,7 +7,7 @@ ghost use Rattle.sn_core.specs.Served.{Decides};
 
 use crate::PlainWorld;
 use crate::deciding::decided;
-use crate::error::CallError;
+use crate::fault::CallError;
 use sn_core_decide::path_argument;
 use sn_core_names as decide;
 use sn_limits::Limits;

@@ -24,7 +24,7 @@ mod choosing;
 mod deciding;
 mod deciding_files;
 mod deciding_names;
-mod error;
+mod fault;
 mod numbering;
 mod overlaying;
 mod plain;
@@ -32,6 +32,6 @@ mod view;
 mod world;
 
 pub use choosing::Chosen;
-pub use error::CallError;
+pub use fault::CallError;
 pub use plain::run_plain;
 pub use world::PlainWorld;

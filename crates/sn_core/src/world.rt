@@ -15,7 +15,7 @@ ghost use Rattle.sn_numbers.specs.Live.{live_of};
 ghost use Rattle.sn_numbers.specs.Numbers.{kept_after, since_after};
 
 use crate::choosing::Chosen;
-use crate::error::CallError;
+use crate::fault::CallError;
 use crate::view::PlainView;
 use sn_desc::Sessions;
 use sn_limits::Limits;

@@ -4,7 +4,7 @@ ghost use Rattle.sn_model.specs.AccessCalls as calls;
 ghost use Rattle.sn_model.specs.Outcomes.{tells};
 ghost use Rattle.sn_walk.specs.Gives.{Gives, IfFault};
 
-use crate::checks::{by_owner, full, granted, has_acl, live, live_if, to_group, to_owner};
+use crate::rights::{by_owner, full, granted, has_acl, live, live_if, to_group, to_owner};
 use sn_acl::{Acl, Cred, Mode};
 use sn_limits::{Kind, Limits};
 use sn_model::{

@@ -3,12 +3,12 @@ ghost use Rattle.sn_model.specs.Calls.{mkdir_outcome, stat_outcome, new_director
 ghost use Rattle.sn_walk.specs.Gives.{Gives, IfFault};
 ghost use Rattle.sn_core_decide.specs.Views.{seen_by};
 
-use crate::checks::{full, given_in, live, not_present, prefix, writable_parent};
+use crate::rights::{full, given_in, live, not_present, prefix, writable_parent};
 use crate::view::CallView;
 use sn_acl::{Acl, Inherited, Mode, inherit};
 use sn_limits::{Kind, Limits};
 use sn_model::{
-    Bytes, Caller, Outcome, Ownership, PathNumber, Pending, Refusal, Reply, Session, Status,
+    Bytes, Caller, FileStatus, Outcome, Ownership, PathNumber, Pending, Refusal, Reply, Session,
 };
 use sn_walk::{Attributes, Failure, Path, TreeView};
 
@@ -70,10 +70,10 @@ pub fn mkdir<'a, V: CallView>(
     })
 }
 
-fn status_of(number: u16, a: &Attributes) -> Status
+fn status_of(number: u16, a: &Attributes) -> FileStatus
     ensures { result ≡ status_of number a.now }
 {
-    Status {
+    FileStatus {
         kind: a.kind,
         set_gid: a.set_gid,
         sticky: a.sticky,

@@ -8,7 +8,7 @@ ghost use Rattle.sn_walk.specs.declared.walking.Walked.{Walked};
 ghost use Rattle.sn_core_decide.specs.Unlinking.{unlink_in};
 ghost use Rattle.sn_core_decide.specs.Views.{seen_by};
 
-use crate::checks::{
+use crate::rights::{
     given_in, granted, live, live_if, no_directory, parent_of, prefix, sticky, there,
     writable_parent,
 };

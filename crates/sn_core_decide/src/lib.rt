@@ -4,8 +4,8 @@
 //! A decision makes a call's tests in their order, as `sn_model` lists them ([`mkdir`], [`stat`]),
 //! and answers the model's [`Outcome`](sn_model::Outcome). Beside a refusal there may be a fault of
 //! the view: then nothing is known of the call. [`CallView`] is what a decision asks beside a walk.
-//! `checks` has the tests, each once for all calls; `decisions`, `access_calls` and `file_calls` have the
-//! calls, and `sn_core_names` has those on names and listings.
+//! `arguments` and `rights` have the tests, each once for all calls; `decisions`, `access_calls` and
+//! `file_calls` have the calls, and `sn_core_names` has those on names and listings.
 //!
 //! What the sources leave open is decided in `docs/DECISIONS.md`, under "Decisions of calls".
 //!
@@ -16,17 +16,21 @@
 #![tactic(auto)]
 
 mod access_calls;
-mod checks;
+mod arguments;
 mod decisions;
 mod file_calls;
+mod rights;
 mod view;
 
 pub use access_calls::{access, chmod, chown, getacl, setacl, umask};
-pub use checks::{
-    acl_argument, by_owner, bytes_argument, count_argument, flags_argument, full, granted, has_acl,
-    id_argument, live, live_if, mode_bits_argument, new_mode_argument, no_directory, not_present,
-    one_tree, parent_of, path_argument, prefix, sticky, there, to_group, to_owner, writable_parent,
+pub use arguments::{
+    acl_argument, bytes_argument, count_argument, flags_argument, id_argument, mode_bits_argument,
+    new_mode_argument, path_argument,
 };
 pub use decisions::{mkdir, stat};
 pub use file_calls::{open, unlink};
+pub use rights::{
+    by_owner, full, granted, has_acl, live, live_if, no_directory, not_present, one_tree,
+    parent_of, prefix, sticky, there, to_group, to_owner, writable_parent,
+};
 pub use view::CallView;

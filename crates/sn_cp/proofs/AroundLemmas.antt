@@ -3,9 +3,9 @@ use Rattle.std.proofs.Common.{◌≡◌, inl, inr, ℕ, ◌+◌, ◌<◌, ◌≤
 use Rattle.sn_device.specs.Sectors.{AreDisjoint, Single}
 use Rattle.sn_layout.specs.declared.gate.Gate.{Gate}
 use Rattle.sn_layout.specs.declared.gate.Gate.TheVariants.{Open, Closed}
-use Rattle.sn_layout.specs.declared.places.Slot.{Slot}
-use Rattle.sn_layout.specs.declared.places.Slot.TheVariants.{A, B}
-use Rattle.sn_layout.specs.Places.{gate_sector, other_slot}
+use Rattle.sn_layout.specs.declared.geometry.Slot.{Slot}
+use Rattle.sn_layout.specs.declared.geometry.Slot.TheVariants.{A, B}
+use Rattle.sn_layout.specs.Geometry.{gate_sector, other_slot}
 use Rattle.sn_ondisk.specs.Blocks.{InBlock}
 use Rattle.sn_ondisk.specs.MapCopy.{InMap}
 use Rattle.sn_ondisk.specs.Roots.{body_block}

@@ -3,7 +3,7 @@ use Rattle.std.proofs.Common.{◌≡◌, ℕ, ◌+◌, ◌<◌, ◌≤◌, Bool,
 use Rattle.std.proofs.lemmas.Bool.{ltb-false, ltb-true}
 use Rattle.sn_layout.specs.declared.gate.Gate.{Gate}
 use Rattle.sn_layout.specs.declared.gate.Gate.TheVariants.{Open, Closed}
-use Rattle.sn_layout.specs.Places.{map_blocks}
+use Rattle.sn_layout.specs.Geometry.{map_blocks}
 use Rattle.sn_root.specs.Replacing.{closing_writes}
 use Rattle.sn_cp.specs.Points.{Work}
 use Rattle.sn_cp.specs.Steps.{IsWhole, IsWithin, next_stage, syncs_of, with_map, writes_of}

@@ -7,10 +7,10 @@ use Rattle.sn_device.specs.Crash.{Touches}
 use Rattle.sn_device.proofs.CrashLemmas.{Always-kept}
 use Rattle.sn_layout.specs.declared.gate.Gate.{Gate}
 use Rattle.sn_layout.specs.declared.gate.Gate.TheVariants.{Open, Closed}
-use Rattle.sn_layout.specs.declared.places.Area.TheVariants.{Data, MapCopy}
-use Rattle.sn_layout.specs.declared.places.Slot.{Slot}
-use Rattle.sn_layout.specs.declared.places.Slot.TheVariants.{A, B}
-use Rattle.sn_layout.specs.Places.{IsIn, start_of, gate_sector}
+use Rattle.sn_layout.specs.declared.geometry.Area.TheVariants.{Data, MapCopy}
+use Rattle.sn_layout.specs.declared.geometry.Slot.{Slot}
+use Rattle.sn_layout.specs.declared.geometry.Slot.TheVariants.{A, B}
+use Rattle.sn_layout.specs.Geometry.{IsIn, start_of, gate_sector}
 use Rattle.sn_ondisk.specs.Blocks.{InBlock}
 use Rattle.sn_ondisk.specs.Gates.{IsClosed}
 use Rattle.sn_ondisk.specs.MapCopy.{HasMap}

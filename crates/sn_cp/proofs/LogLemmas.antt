@@ -5,16 +5,16 @@ use Rattle.sn_device.specs.Disk.{Disk, Always, IsSynced, reads}
 use Rattle.sn_device.specs.Crash.{LeavesOnly, Touches}
 use Rattle.sn_device.proofs.CrashLemmas.{Always-reads, Touches-within}
 use Rattle.sn_block.proofs.EffectLemmas.{OnOk-then}
-use Rattle.sn_layout.specs.declared.places.LogHalf.{LogHalf}
-use Rattle.sn_layout.specs.declared.places.Slot.{Slot}
+use Rattle.sn_layout.specs.declared.geometry.LogHalf.{LogHalf}
+use Rattle.sn_layout.specs.declared.geometry.Slot.{Slot}
 use Rattle.sn_layout.specs.declared.root.RootBody.{RootBody}
-use Rattle.sn_layout.specs.Places.{half_of_epoch}
+use Rattle.sn_layout.specs.Geometry.{half_of_epoch}
 use Rattle.sn_model.specs.declared.change.Change.{Change}
 use Rattle.sn_ondisk.specs.Gates.{gate_at}
 use Rattle.sn_ondisk.specs.LogHalf.{HasNoLater, InHalf, Replays, ReplaysTo, base_of, cleared_sector}
 use Rattle.sn_ondisk.specs.Trees.{Store}
 use Rattle.sn_log.specs.Clearing.{Clears}
-use Rattle.sn_log.specs.Places.{LogPosition, half_base}
+use Rattle.sn_log.specs.Positions.{LogPosition, half_base}
 use Rattle.sn_root.specs.Slots.{gate_in}
 use Rattle.sn_root.proofs.ReplacingLemmas.{log_and_gate}
 use Rattle.sn_opening.specs.Opens.{LieInData, Shows}
@@ -95,11 +95,11 @@ module _ {T E : Type 0} (at : LogPosition) (result : Result T E) (old new : Disk
   }
 
 -- the half that is cleared is that of the next epoch
-half_is : (at : LogPosition) (places epoch : ℕ) (half : LogHalf) → at.blocks ≡ places → half ≡ half_of_epoch epoch → epoch ≡ at.epoch + 1 → half_base places half ≡ base_of at.blocks (at.epoch + 1)
-half_is at places epoch half same is next =
-    ap (half_base places) is ∙ ap (λ (e : ℕ). half_base places (half_of_epoch e)) next ∙ ap (λ (n : ℕ). half_base n (half_of_epoch (at.epoch + 1))) (sym same)
+half_is : (at : LogPosition) (geometry epoch : ℕ) (half : LogHalf) → at.blocks ≡ geometry → half ≡ half_of_epoch epoch → epoch ≡ at.epoch + 1 → half_base geometry half ≡ base_of at.blocks (at.epoch + 1)
+half_is at geometry epoch half same is next =
+    ap (half_base geometry) is ∙ ap (λ (e : ℕ). half_base geometry (half_of_epoch e)) next ∙ ap (λ (n : ℕ). half_base n (half_of_epoch (at.epoch + 1))) (sym same)
 
-pub begins_from : {T E : Type 0} (at : LogPosition) (places epoch : ℕ) (half : LogHalf) → at.blocks ≡ places → half ≡ half_of_epoch epoch → epoch ≡ at.epoch + 1
-    → (result : Result T E) (old new : Disk) → AreSectors (reads old) → Clears (half_base places half) 0 result old new → Begins at result old new
-begins_from at places epoch half same is next result old new sectors clears =
-    begins at result old new sectors (subst (λ (base : ℕ). Clears base 0 result old new) (half_is at places epoch half same is next) clears)
+pub begins_from : {T E : Type 0} (at : LogPosition) (geometry epoch : ℕ) (half : LogHalf) → at.blocks ≡ geometry → half ≡ half_of_epoch epoch → epoch ≡ at.epoch + 1
+    → (result : Result T E) (old new : Disk) → AreSectors (reads old) → Clears (half_base geometry half) 0 result old new → Begins at result old new
+begins_from at geometry epoch half same is next result old new sectors clears =
+    begins at result old new sectors (subst (λ (base : ℕ). Clears base 0 result old new) (half_is at geometry epoch half same is next) clears)

@@ -5,13 +5,13 @@ use Rattle.sn_device.specs.Disk.{Disk, Always, reads}
 use Rattle.sn_device.specs.Crash.{LeavesOnly, Touches}
 use Rattle.sn_device.proofs.CrashLemmas.{Always-kept, LeavesOnly-now, LeavesOnly-touched}
 use Rattle.sn_block.proofs.EffectLemmas.{OnOk-then}
-use Rattle.sn_layout.specs.declared.places.Area.TheVariants.{Data, Log, MapCopy}
-use Rattle.sn_layout.specs.declared.places.LogHalf.{LogHalf}
-use Rattle.sn_layout.specs.declared.places.LogHalf.TheVariants.{Zero, One}
-use Rattle.sn_layout.specs.declared.places.Slot.{Slot}
-use Rattle.sn_layout.specs.declared.places.Slot.TheVariants.{A, B}
+use Rattle.sn_layout.specs.declared.geometry.Area.TheVariants.{Data, Log, MapCopy}
+use Rattle.sn_layout.specs.declared.geometry.LogHalf.{LogHalf}
+use Rattle.sn_layout.specs.declared.geometry.LogHalf.TheVariants.{Zero, One}
+use Rattle.sn_layout.specs.declared.geometry.Slot.{Slot}
+use Rattle.sn_layout.specs.declared.geometry.Slot.TheVariants.{A, B}
 use Rattle.sn_layout.specs.declared.root.RootBody.{RootBody}
-use Rattle.sn_layout.specs.Places.{IsIn, half_of_epoch, map_blocks, start_of}
+use Rattle.sn_layout.specs.Geometry.{IsIn, half_of_epoch, map_blocks, start_of}
 use Rattle.sn_model.specs.declared.change.Change.{Change}
 use Rattle.sn_ondisk.specs.Blocks.{InBlock, InBlocks}
 use Rattle.sn_ondisk.specs.LogHalf.{HasNoLater, InHalf, base_of}
@@ -21,7 +21,7 @@ use Rattle.sn_ondisk.specs.TreeLaws.{SameIn}
 use Rattle.sn_ondisk.specs.Trees.{Store, store_of}
 use Rattle.sn_ondisk.proofs.LogLemmas.{ReplaysTo-same}
 use Rattle.sn_ondisk.proofs.PlaceLemmas.{areas_apart, halves_are}
-use Rattle.sn_log.specs.Places.{payloads_of}
+use Rattle.sn_log.specs.Positions.{payloads_of}
 use Rattle.sn_root.specs.Replacing.{LeavesEither}
 use Rattle.sn_opening.specs.Opens.{InShows, LieInData, Shows}
 use Rattle.sn_opening.specs.Points.{HoldsAll, StandsAt, Written}

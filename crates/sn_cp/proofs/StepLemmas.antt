@@ -12,9 +12,9 @@ use Rattle.sn_block.specs.Effects.{Nowhere, SyncsAll, WritesRun}
 use Rattle.sn_block.proofs.EffectLemmas.{OnOk-then}
 use Rattle.sn_layout.specs.declared.gate.Gate.{Gate}
 use Rattle.sn_layout.specs.declared.gate.Gate.TheVariants.{Open, Closed}
-use Rattle.sn_layout.specs.declared.places.Area.TheVariants.{Data, MapCopy}
+use Rattle.sn_layout.specs.declared.geometry.Area.TheVariants.{Data, MapCopy}
 use Rattle.sn_layout.specs.MapCopy.{map_block_bytes}
-use Rattle.sn_layout.specs.Places.{IsIn, gate_sector, start_of, map_blocks}
+use Rattle.sn_layout.specs.Geometry.{IsIn, gate_sector, start_of, map_blocks}
 use Rattle.sn_ondisk.specs.Blocks.{InBlock}
 use Rattle.sn_ondisk.specs.MapLaws.{words_of_block}
 use Rattle.sn_ondisk.specs.Trees.{store_of}

@@ -2,12 +2,12 @@
 use Rattle.std.specs.Prelude.{◌≡◌, ℕ, ◌+◌, List, [], Result, OnOk}
 use Rattle.sn_device.specs.Disk.{Disk, Always, IsSynced}
 use Rattle.sn_device.specs.Crash.{LeavesOnly, Touches}
-use Rattle.sn_layout.specs.declared.places.Slot.{Slot}
+use Rattle.sn_layout.specs.declared.geometry.Slot.{Slot}
 use Rattle.sn_layout.specs.declared.root.RootBody.{RootBody}
 use Rattle.sn_model.specs.declared.change.Change.{Change}
 use Rattle.sn_ondisk.specs.LogHalf.{HasNoLater, InHalf, base_of}
 use Rattle.sn_ondisk.specs.Trees.{Store}
-use Rattle.sn_log.specs.Places.{IsReadyAt, LogPosition, first_of}
+use Rattle.sn_log.specs.Positions.{IsReadyAt, LogPosition, first_of}
 use Rattle.sn_opening.specs.Opens.{LieInData, Shows}
 use Rattle.sn_opening.specs.Worlds.{all_reach}
 

@@ -2,7 +2,7 @@
 use Rattle.std.specs.Prelude.{ℕ, ◌==◌, if◌then◌else◌, map}
 use Rattle.sn_device.specs.Disk.{Disk, IsSynced}
 use Rattle.sn_layout.specs.declared.gate.Gate.{Gate}
-use Rattle.sn_layout.specs.declared.places.Slot.{Slot}
+use Rattle.sn_layout.specs.declared.geometry.Slot.{Slot}
 use Rattle.sn_opening.specs.Points.{HasReached, IsStored, Plan, Written}
 use Rattle.sn_opening.specs.Points as far
 use Rattle.sn_tree.specs.declared.new_block.NewBlock.{NewBlock}
@@ -21,7 +21,7 @@ abbrev pub written_by : NewBlock → Written
 written_by block = (block.number, block.bytes.value)
 
 abbrev pub work_of : Point → Work
-work_of p = record { blocks = p.places; slot = p.slot; gate = p.gate; plan = record { blocks = map written_by p.blocks.items; words = p.map; next = p.next } }
+work_of p = record { blocks = p.geometry; slot = p.slot; gate = p.gate; plan = record { blocks = map written_by p.blocks.items; words = p.map; next = p.next } }
 
 abbrev pub stage_of : Point → Stage
 stage_of p = p.stage

@@ -4,9 +4,9 @@ use Rattle.sn_device.specs.Sectors.{Contents, AreDisjoint, AreSectors, Union}
 use Rattle.sn_device.specs.Disk.{Disk, Always, reads}
 use Rattle.sn_device.specs.Crash.{LeavesOnly, Touches}
 use Rattle.sn_device.specs.declared.device.Fault.{Fault}
-use Rattle.sn_layout.specs.declared.places.Slot.{Slot}
+use Rattle.sn_layout.specs.declared.geometry.Slot.{Slot}
 use Rattle.sn_layout.specs.declared.root.RootBody.{RootBody}
-use Rattle.sn_layout.specs.Places.{other_slot}
+use Rattle.sn_layout.specs.Geometry.{other_slot}
 use Rattle.sn_model.specs.declared.change.Change.{Change}
 use Rattle.sn_model.specs.Changes.{apply_all}
 use Rattle.sn_model.specs.Tree.{Tree}
@@ -16,7 +16,7 @@ use Rattle.sn_ondisk.specs.MapCopy.{HasMap, InMap}
 use Rattle.sn_ondisk.specs.Shown.{Shown}
 use Rattle.sn_ondisk.specs.TreeLaws.{SameIn}
 use Rattle.sn_ondisk.specs.Trees.{Store, store_of}
-use Rattle.sn_log.specs.Places.{payloads_of}
+use Rattle.sn_log.specs.Positions.{payloads_of}
 use Rattle.sn_root.specs.Replacing.{LeavesEither}
 use Rattle.sn_opening.specs.Opens.{LieInData, Opens, Shows}
 use Rattle.sn_opening.specs.PointLaws.{NextStands}

@@ -8,8 +8,8 @@ use Rattle.sn_device.specs.Crash.{Touches}
 use Rattle.sn_layout.specs.Bytes.{AreNumbers}
 use Rattle.sn_layout.specs.declared.gate.Gate.{Gate}
 use Rattle.sn_layout.specs.declared.gate.Gate.TheVariants.{Open, Closed}
-use Rattle.sn_layout.specs.declared.places.Area.TheVariants.{Data, MapCopy}
-use Rattle.sn_layout.specs.Places.{IsDiskSize, IsIn, start_of, map_blocks, gate_sector}
+use Rattle.sn_layout.specs.declared.geometry.Area.TheVariants.{Data, MapCopy}
+use Rattle.sn_layout.specs.Geometry.{IsDiskSize, IsIn, start_of, map_blocks, gate_sector}
 use Rattle.sn_layout.specs.RootBody.{IsRootBody}
 use Rattle.sn_block.specs.Effects.{Nowhere}
 use Rattle.sn_ondisk.specs.Blocks.{InBlock}

@@ -3,12 +3,12 @@ ghost use Rattle.std.specs.Prelude.{◌≡◌, ◌+◌, ◌*◌, ◌^◌, ◌<�
 ghost use Rattle.sn_block.specs.Lending.{device_of};
 ghost use Rattle.sn_block.specs.declared.fault.ReadFault.TheVariants.{Memory};
 ghost use Rattle.sn_log.specs.Clearing.{CountsClearing};
-ghost use Rattle.sn_log.specs.Places.{first_of};
+ghost use Rattle.sn_log.specs.Positions.{first_of};
 ghost use Rattle.sn_cp.specs.Beginning.{Begins};
 
 use sn_block::{Blocks, ReadFault};
 use sn_device::Device;
-use sn_layout::{LogHalf, Places};
+use sn_layout::{Geometry, LogHalf};
 use sn_log::{Log, close_half};
 
 /// Clears the first place of the half that the root's own epoch doesn't have, and turns the log to it: what is logged
@@ -16,11 +16,11 @@ use sn_log::{Log, close_half};
 /// write. Where it isn't done, the log goes on as it did.
 pub fn begin<D: Device>(
     blocks: &mut Blocks<D>,
-    places: Places,
+    geometry: Geometry,
     log: &mut Log,
 ) -> Result<(), ReadFault>
-    requires room { 8 * places ≤ (D.status (device_of blocks.old)).sectors }
-    requires same { log.old.blocks ≡ places }
+    requires room { 8 * geometry ≤ (D.status (device_of blocks.old)).sectors }
+    requires same { log.old.blocks ≡ geometry }
     requires epoch { log.old.epoch + 1 < 2 ^ 64 }
     ensures bytes { IsTrue D.tells_bytes → Begins log.old result
         (D.disk (device_of blocks.old)) (D.disk (device_of blocks.new)) }
@@ -31,7 +31,7 @@ pub fn begin<D: Device>(
     ensures stays { OnErr result (log.new ≡ log.old) }
 {
     let epoch = log.position().epoch() + 1;
-    match close_half(blocks, places, LogHalf::of_epoch(epoch)) {
+    match close_half(blocks, geometry, LogHalf::of_epoch(epoch)) {
         Ok(()) => {}
         Err(fault) => return Err(fault),
     }

@@ -36,7 +36,7 @@
 //! What the sources leave open is decided in `docs/DECISIONS.md`, under "Steps of a consistency point".
 //!
 //! ```text
-//! begin(&mut blocks, places, &mut log)?;
+//! begin(&mut blocks, geometry, &mut log)?;
 //! while point.steps_left() > 1 {
 //!     point.advance(&mut blocks)?;
 //!     log.append(&mut blocks, &change)?;

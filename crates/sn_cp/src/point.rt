@@ -13,14 +13,14 @@ ghost use Rattle.sn_cp.specs.declared.stage.Stage.TheVariants.{Done};
 use crate::stage::Stage;
 use sn_block::Blocks;
 use sn_device::{Device, Fault};
-use sn_layout::{Gate, Places, RootBody, Slot};
+use sn_layout::{Gate, Geometry, RootBody, Slot};
 use sn_map::Map;
 use sn_tree::NewBlock;
 
 /// A consistency point that was built: all that it writes is in memory, so that a step neither reads nor takes memory.
 #[derive(Drop)]
 pub struct Point {
-    pub(crate) places: Places,
+    pub(crate) geometry: Geometry,
     pub(crate) blocks: Vec<NewBlock>,
     pub(crate) map: Map,
     pub(crate) next: RootBody,
@@ -33,14 +33,14 @@ pub struct Point {
 impl Point {
     /// A point that writes these blocks, these words of the map and this root, into a slot whose gate is so.
     pub fn new(
-        places: Places,
+        geometry: Geometry,
         blocks: Vec<NewBlock>,
         words: Map,
         next: RootBody,
         slot: Slot,
         gate: Gate,
     ) -> Point
-        ensures work { work_of result ≡ record { blocks = places; slot = slot; gate = gate; plan = record { blocks = map written_by blocks.items; words = words; next = next } } }
+        ensures work { work_of result ≡ record { blocks = geometry; slot = slot; gate = gate; plan = record { blocks = map written_by blocks.items; words = words; next = next } } }
         ensures stage { stage_of result ≡ first_stage (length blocks.items) }
         ensures within { IsWithin (work_of result) (stage_of result) }
         ensures stands { (d : Disk) → Always d (λ c. gate_in c slot ≡ gate) → StandsAtStage (work_of result) (stage_of result) d }
@@ -51,7 +51,7 @@ impl Point {
             Stage::Blocks(0)
         };
         Point {
-            places,
+            geometry,
             blocks,
             map: words,
             next,
@@ -76,7 +76,7 @@ impl Point {
         match self.stage {
             Stage::Blocks(k) if k + 1 < self.blocks.len() => Stage::Blocks(k + 1),
             Stage::Blocks(_) => Stage::MapBlocks(0),
-            Stage::MapBlocks(k) if u64::from(k) + 1 < u64::from(self.places.map_blocks()) => {
+            Stage::MapBlocks(k) if u64::from(k) + 1 < u64::from(self.geometry.map_blocks()) => {
                 Stage::MapBlocks(k + 1)
             }
             Stage::MapBlocks(_) => match self.gate {
@@ -121,7 +121,7 @@ impl Point {
         requires stage { IsStageOf (work_of self.now) (stage_of self.now) }
         ensures { result ≡ steps_left (work_of self.now) (stage_of self.now) }
     {
-        let map = u64::from(self.places.map_blocks());
+        let map = u64::from(self.geometry.map_blocks());
         match self.stage {
             Stage::Blocks(k) => (self.blocks.len() - k) as u64 + map + self.root_steps(),
             Stage::MapBlocks(k) => map - u64::from(k) + self.root_steps(),

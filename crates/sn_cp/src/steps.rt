@@ -56,12 +56,12 @@ impl Point {
             (D.status (device_of blocks.old)) (D.status (device_of blocks.new)) }
     {
         let block = map_block(self.map.words(), k);
-        let start = self.places.range(Area::MapCopy(self.slot)).start;
+        let start = self.geometry.range(Area::MapCopy(self.slot)).start;
         match blocks.write_block(start + k, &block) {
             Ok(()) => {}
             Err(fault) => return Err(fault),
         }
-        if k + 1 < self.places.map_blocks() {
+        if k + 1 < self.geometry.map_blocks() {
             return Ok(());
         }
         blocks.sync()

@@ -13,8 +13,8 @@ use Rattle.sn_image.specs.Reach.{block_reach, inode_reach, reach, reach_at}
 use Rattle.sn_image.specs.Sound.{IsPlaced, IsSound}
 use Rattle.sn_image.proofs.ListLemmas.{none_in}
 use Rattle.sn_image.proofs.ReachLemmas.{reach_part}
-use Rattle.sn_layout.specs.Places.{start_of}
-use Rattle.sn_layout.specs.declared.places.Area.TheVariants.{Data}
+use Rattle.sn_layout.specs.Geometry.{start_of}
+use Rattle.sn_layout.specs.declared.geometry.Area.TheVariants.{Data}
 use Rattle.sn_layout.specs.declared.tree.BlockTree.{BlockTree}
 use Rattle.sn_layout_node.specs.declared.content.Content.{Content}
 use Rattle.sn_layout_node.specs.declared.content.Content.TheVariants.{Inline, Tree}

@@ -8,8 +8,8 @@ use Rattle.sn_image.specs.Reach.{reach}
 use Rattle.sn_image.specs.Sound.{IsInodeFile, IsSound}
 use Rattle.sn_inode.specs.Changes.{IsWith}
 use Rattle.sn_inode.specs.declared.changes.InodeChange.{InodeChange}
-use Rattle.sn_layout.specs.Places.{start_of}
-use Rattle.sn_layout.specs.declared.places.Area.TheVariants.{Data}
+use Rattle.sn_layout.specs.Geometry.{start_of}
+use Rattle.sn_layout.specs.declared.geometry.Area.TheVariants.{Data}
 use Rattle.sn_layout.specs.declared.tree.BlockTree.{BlockTree}
 use Rattle.sn_limits.specs.declared.limits.Limits.{Limits}
 use Rattle.sn_ondisk.specs.TreeLaws.{SameIn}

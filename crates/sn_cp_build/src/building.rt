@@ -5,9 +5,9 @@ ghost use Rattle.sn_alloc.specs.Taking.{IsFreeData, free_data};
 ghost use Rattle.sn_device.specs.Disk.{reads};
 ghost use Rattle.sn_image.specs.Reach.{reach};
 ghost use Rattle.sn_block.specs.Lending.{device_of};
-ghost use Rattle.sn_layout.specs.Places.{start_of};
+ghost use Rattle.sn_layout.specs.Geometry.{start_of};
 ghost use Rattle.sn_layout.specs.RootBody.{IsRootBody};
-ghost use Rattle.sn_layout.specs.declared.places.Area.TheVariants.{Data};
+ghost use Rattle.sn_layout.specs.declared.geometry.Area.TheVariants.{Data};
 ghost use Rattle.sn_limits.specs.Versions.{limits_of};
 ghost use Rattle.sn_ondisk.specs.Trees.{store_of};
 ghost use Rattle.sn_overlay.specs.Needs.{need};
@@ -26,7 +26,7 @@ use sn_alloc::BlockAllocator;
 use sn_block::Blocks;
 use sn_device::Device;
 use sn_inode::{inode_laws, is_inode_file, with};
-use sn_layout::{Area, BlockTree, Places, RootBody};
+use sn_layout::{Area, BlockTree, Geometry, RootBody};
 use sn_limits::Limits;
 use sn_map::Map;
 use sn_overlay::Overlay;
@@ -107,29 +107,29 @@ fn finished(build: Build, inode_file: BlockTree) -> Result<Built, PlanFault>
 pub fn build<D: Device>(
     alloc: Global,
     blocks: &mut Blocks<D>,
-    places: Places,
+    geometry: Geometry,
     root: &RootBody,
     map: &Map,
     mut changes: Overlay,
 ) -> Result<Built, PlanFault>
     requires root { IsRootBody root.now }
-    requires words { length map.now ≡ places }
-    ensures well { IfOk result (IsWellBuilt places root.now.limits map.now (layer_of changes)) }
-    ensures builds { IsTrue D.tells_bytes → IfOk result (Builds places root.now.limits
+    requires words { length map.now ≡ geometry }
+    ensures well { IfOk result (IsWellBuilt geometry root.now.limits map.now (layer_of changes)) }
+    ensures builds { IsTrue D.tells_bytes → IfOk result (Builds geometry root.now.limits
         (store_of (reads (D.disk (device_of blocks.old)))) root.now.inode_file map.now (layer_of changes)) }
-    ensures full { IsTrue D.tells_bytes → result ≡ Err Full → IsGround root.now.limits places
+    ensures full { IsTrue D.tells_bytes → result ≡ Err Full → IsGround root.now.limits geometry
         (store_of (reads (D.disk (device_of blocks.old)))) root.now.inode_file (layer_of changes)
-        → need root.now.limits (layer_of changes) ≤ free_data map.now (start_of places Data) → ⊥ }
-    ensures damaged { IsTrue D.tells_bytes → result ≡ Err (Tree Damaged) → IsGround root.now.limits places
+        → need root.now.limits (layer_of changes) ≤ free_data map.now (start_of geometry Data) → ⊥ }
+    ensures damaged { IsTrue D.tells_bytes → result ≡ Err (Tree Damaged) → IsGround root.now.limits geometry
         (store_of (reads (D.disk (device_of blocks.old)))) root.now.inode_file (layer_of changes)
         → TellsBlocks map.now (reach (store_of (reads (D.disk (device_of blocks.old)))) root.now.inode_file)
-        → 8 * places ≤ (D.status (device_of blocks.old)).sectors → ⊥ }
+        → 8 * geometry ≤ (D.status (device_of blocks.old)).sectors → ⊥ }
     ensures same { IsTrue D.tells_bytes → D.disk (device_of blocks.new) ≡ D.disk (device_of blocks.old) }
     ensures counts { CountsPlan result (D.status (device_of blocks.old)) (D.status (device_of blocks.new)) }
 {
     // A disk has blocks, so each block that is reached or was added has a word.
-    places.blocks();
-    let first = places.start(Area::Data);
+    geometry.blocks();
+    let first = geometry.start(Area::Data);
     let mut build = Build::new(alloc, BlockAllocator::new(alloc, map.try_clone()?, first));
     let inode_file = plan_tree(
         alloc,

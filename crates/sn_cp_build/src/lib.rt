@@ -22,7 +22,7 @@
 //! What the sources leave open is decided in `docs/DECISIONS.md`, under "Building a whole tree".
 //!
 //! ```text
-//! let built = build(alloc, &mut blocks, places, &root, &map, changes)?;
+//! let built = build(alloc, &mut blocks, geometry, &root, &map, changes)?;
 //! let root = RootBody { inode_file: built.inode_file, .. };
 //! ```
 #![tactic(auto)]

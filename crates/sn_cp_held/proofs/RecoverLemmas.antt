@@ -12,9 +12,9 @@ use Rattle.sn_changed.specs.Changed.{HasChanged}
 use Rattle.sn_image.specs.Image.{image}
 use Rattle.sn_image.proofs.SoundNodeLemmas.{only_version}
 use Rattle.sn_layout.specs.declared.gate.Gate.{Gate}
-use Rattle.sn_layout.specs.declared.places.Slot.{Slot}
+use Rattle.sn_layout.specs.declared.geometry.Slot.{Slot}
 use Rattle.sn_layout.specs.declared.root.RootBody.{RootBody}
-use Rattle.sn_layout.specs.Places.{other_slot}
+use Rattle.sn_layout.specs.Geometry.{other_slot}
 use Rattle.sn_layout.specs.Superblock.{superblock_bytes}
 use Rattle.sn_limits.specs.declared.limits.Limits.{Limits}
 use Rattle.sn_limits.specs.Versions.{version_1}
@@ -64,7 +64,7 @@ use Rattle.sn_cp_held.proofs.WholeLemmas.{later_weaker, no_later_depends}
 -- what no step touches: the superblock, the map of the slot that counts, and the first places of the log's halves
 record Around (n : ℕ) (slot : Slot) (words : List ℕ) (epoch : ℕ) (c : Contents) : Type 0 where
   disk : IsDisk n c
-  formatted : block_at c 0 ≡ superblock_bytes (record { places = n })
+  formatted : block_at c 0 ≡ superblock_bytes (record { geometry = n })
   map : HasMap n c slot words
   own : HasNoLater c (base_of n epoch) (epoch + 1)
   other : HasNoLater c (base_of n (epoch + 1)) (epoch + 1)

@@ -6,11 +6,11 @@ use Rattle.sn_device.specs.Disk.{Disk, Always, reads}
 use Rattle.sn_device.specs.Crash.{LeavesOnly, Touches}
 use Rattle.sn_device.proofs.CrashLemmas.{Always-kept, Always-reads, LeavesOnly-now, LeavesOnly-touched}
 use Rattle.sn_block.proofs.EffectLemmas.{OnOk-both, OnOk-then}
-use Rattle.sn_layout.specs.declared.places.Slot.{Slot}
+use Rattle.sn_layout.specs.declared.geometry.Slot.{Slot}
 use Rattle.sn_layout.specs.Superblock.{superblock_bytes}
 use Rattle.sn_limits.specs.declared.limits.Limits.{Limits}
 use Rattle.sn_limits.specs.Versions.{version_1}
-use Rattle.sn_log.specs.Places.{IsReadyAt, first_of}
+use Rattle.sn_log.specs.Positions.{IsReadyAt, first_of}
 use Rattle.sn_model.specs.declared.change.Change.{Change}
 use Rattle.sn_model.specs.Changes.{apply_all}
 use Rattle.sn_model.specs.Settling.{settle}
@@ -96,7 +96,7 @@ module _ (h : Held) (world : World) (r : Runs h world) where
   lie = lies_in_data n r.store r.root (slice_index r.words) r.stands.sound
 
   -- where the root is shown with its own records, and none of the next epoch
-  root_image : r.newer ≡ [] → (c : Contents) → IsDisk n c → block_at c 0 ≡ superblock_bytes (record { places = n }) → HasMap n c r.slot r.words → ((epoch : ℕ) → HasNoLater c (base_of n epoch) (r.root.epoch + 1))
+  root_image : r.newer ≡ [] → (c : Contents) → IsDisk n c → block_at c 0 ≡ superblock_bytes (record { geometry = n }) → HasMap n c r.slot r.words → ((epoch : ℕ) → HasNoLater c (base_of n epoch) (r.root.epoch + 1))
       → Shows n r.store r.slot r.root r.older [] c → IsImage c (settle world)
   root_image none_newer =
       image_shown n r.store r.slot r.root r.words r.older [] (settle world) r.older_spelled (subst AreSpelled none_newer r.newer_spelled) r.stands.sound

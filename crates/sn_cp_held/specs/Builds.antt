@@ -4,10 +4,10 @@ use Rattle.sn_alloc.specs.Taking.{free_data}
 use Rattle.sn_device.specs.Disk.{reads}
 use Rattle.sn_device.specs.Sectors.{Contents}
 use Rattle.sn_layout.specs.Bytes.{AreNumbers}
-use Rattle.sn_layout.specs.Places.{other_slot, start_of}
+use Rattle.sn_layout.specs.Geometry.{other_slot, start_of}
 use Rattle.sn_layout.specs.RootBody.{IsRootBody}
 use Rattle.sn_layout.specs.declared.gate.Gate.{Gate}
-use Rattle.sn_layout.specs.declared.places.Area.TheVariants.{Data}
+use Rattle.sn_layout.specs.declared.geometry.Area.TheVariants.{Data}
 use Rattle.sn_layout.specs.declared.root.RootBody.{RootBody}
 use Rattle.sn_image.specs.Image.{image}
 use Rattle.sn_image.specs.Reach.{reach}

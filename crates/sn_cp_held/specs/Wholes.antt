@@ -3,12 +3,12 @@ use Rattle.std.specs.Prelude.{◌≡◌, ℕ, ◌+◌, ◌*◌, ◌≤◌, List,
 use Rattle.sn_changed.specs.Changed.{HasChanged}
 use Rattle.sn_device.specs.Sectors.{Contents}
 use Rattle.sn_device.specs.Disk.{Disk, Always}
-use Rattle.sn_layout.specs.Places.{other_slot}
+use Rattle.sn_layout.specs.Geometry.{other_slot}
 use Rattle.sn_layout.specs.Superblock.{superblock_bytes}
 use Rattle.sn_image.specs.Image.{image}
-use Rattle.sn_layout.specs.declared.places.Slot.{Slot}
+use Rattle.sn_layout.specs.declared.geometry.Slot.{Slot}
 use Rattle.sn_limits.specs.Versions.{version_1}
-use Rattle.sn_log.specs.Places.{IsReadyAt, first_of}
+use Rattle.sn_log.specs.Positions.{IsReadyAt, first_of}
 use Rattle.sn_model.specs.declared.change.Change.{Change}
 use Rattle.sn_model.specs.NameTree.{IsTree}
 use Rattle.sn_model.specs.World.{World}
@@ -44,7 +44,7 @@ pub record IsOfLive (h : Held) (world : World) (r : Runs h world) (w : Work) (ro
 -- What no step of a point touches, on a disk of so many blocks: the superblock, the map of the slot that counts, the half of the root's epoch, which begins with no record of a later one, and that of the next, which is ready for its first.
 pub record StandsAround (n : ℕ) (slot : Slot) (words : List ℕ) (epoch : ℕ) (c : Contents) : Type 0 where
   pub disk : IsDisk n c
-  pub formatted : block_at c 0 ≡ superblock_bytes (record { places = n })
+  pub formatted : block_at c 0 ≡ superblock_bytes (record { geometry = n })
   pub map : HasMap n c slot words
   pub none_later : HasNoLater c (base_of n epoch) epoch
   pub ready : IsReadyAt (first_of n (epoch + 1)) [] c

@@ -6,7 +6,7 @@ use Rattle.sn_device.specs.Crash.{LeavesOnly, Touches}
 use Rattle.sn_device.proofs.CrashLemmas.{Always-kept, Always-reads, LeavesOnly-now}
 use Rattle.sn_layout.specs.declared.root.RootBody.{RootBody}
 use Rattle.sn_limits.specs.Versions.{version_1}
-use Rattle.sn_log.specs.Places.{IsReadyAt, base_at, behind}
+use Rattle.sn_log.specs.Positions.{IsReadyAt, base_at, behind}
 use Rattle.sn_model.specs.declared.change.Change.{Change}
 use Rattle.sn_model.specs.Changes.{apply}
 use Rattle.sn_model.specs.Charges.{charge_for}

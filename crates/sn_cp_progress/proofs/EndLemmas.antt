@@ -11,7 +11,7 @@ use Rattle.sn_device.proofs.CrashLemmas.{Always-reads}
 use Rattle.sn_block.proofs.EffectLemmas.{OnOk-both}
 use Rattle.sn_limits.specs.declared.limits.Limits.{Limits}
 use Rattle.sn_limits.specs.Versions.{version_1}
-use Rattle.sn_log.specs.Places.{first_of, payloads_of}
+use Rattle.sn_log.specs.Positions.{first_of, payloads_of}
 use Rattle.sn_model.specs.declared.change.Change.{Change}
 use Rattle.sn_model.specs.Changes.{apply_all}
 use Rattle.sn_model.specs.Settling.{settle}
@@ -63,23 +63,23 @@ module _ (h : Held) (world : World) (k : Kept) (ready : RunsReady h world k) (w 
   abbrev old : Runs h world
   old = ready.runs
 
-  abbrev places : ℕ
-  places = h.at.blocks
+  abbrev geometry : ℕ
+  geometry = h.at.blocks
 
   none_newer : old.newer ≡ []
   none_newer = ready.ready.between.none_newer
 
   one_on : old.root.epoch + 1 < 256 ^ 8
-  one_on = let fits = (Always-reads d (Shows places old.store old.slot old.root old.older []) whole has.shows).shown.newest.body.fits.epoch.most in omega (arith, fits)
+  one_on = let fits = (Always-reads d (Shows geometry old.store old.slot old.root old.older []) whole has.shows).shown.newest.body.fits.epoch.most in omega (arith, fits)
 
-  none_later : (epoch : ℕ) → Always d (λ c. HasNoLater c (base_of places epoch) (old.root.epoch + 1))
+  none_later : (epoch : ℕ) → Always d (λ c. HasNoLater c (base_of geometry epoch) (old.root.epoch + 1))
   none_later epoch c crash =
       let around = has.around c crash in
-      each_half places old.root.epoch (λ (b : ℕ). HasNoLater c b (old.root.epoch + 1))
-      (later_weaker c (base_of places old.root.epoch) old.root.epoch (old.root.epoch + 1) (omega arith) around.none_later)
-      (ready_no_later places c (first_of places (old.root.epoch + 1)) [] (old.root.epoch + 1) (old.root.epoch + 1) around.disk refl refl (omega arith) one_on around.ready) epoch
+      each_half geometry old.root.epoch (λ (b : ℕ). HasNoLater c b (old.root.epoch + 1))
+      (later_weaker c (base_of geometry old.root.epoch) old.root.epoch (old.root.epoch + 1) (omega arith) around.none_later)
+      (ready_no_later geometry c (first_of geometry (old.root.epoch + 1)) [] (old.root.epoch + 1) (old.root.epoch + 1) around.disk refl refl (omega arith) one_on around.ready) epoch
 
-  begins_runs : Runs (record h { room = begun h.room; at = first_of places (old.root.epoch + 1); base = record k { changed = no_changes }; disk = d }) world
+  begins_runs : Runs (record h { room = begun h.room; at = first_of geometry (old.root.epoch + 1); base = record k { changed = no_changes }; disk = d }) world
   begins_runs = record {
     is = old.is;
     store = old.store;
@@ -93,7 +93,7 @@ module _ (h : Held) (world : World) (k : Kept) (ready : RunsReady h world k) (w 
     limits = old.limits;
     formatted = λ c crash. (has.around c crash).formatted;
     stands = record {
-      disk = Always-reads d (IsDisk places) whole (λ c crash. (has.around c crash).disk);
+      disk = Always-reads d (IsDisk geometry) whole (λ c crash. (has.around c crash).disk);
       shows = has.shows;
       map = λ c crash. (has.around c crash).map;
       sound = old.stands.sound;
@@ -103,15 +103,15 @@ module _ (h : Held) (world : World) (k : Kept) (ready : RunsReady h world k) (w 
     cover = subst (λ (ns : List Change). MakesCover version_1 (old.older ++ ns) (image old.store old.root.inode_file) world.live) none_newer old.cover;
     charged = record {
       free = old.charged.free;
-      charged = (subst (λ (ns : List Change). IsCharged h.room places old.store old.root (old.older ++ ns) world.live) none_newer old.charged).charged;
+      charged = (subst (λ (ns : List Change). IsCharged h.room geometry old.store old.root (old.older ++ ns) world.live) none_newer old.charged).charged;
       parked = old.charged.parked;
-      fits = (subst (λ (ns : List Change). IsCharged h.room places old.store old.root (old.older ++ ns) world.live) none_newer old.charged).fits;
+      fits = (subst (λ (ns : List Change). IsCharged h.room geometry old.store old.root (old.older ++ ns) world.live) none_newer old.charged).fits;
     };
     age = subst (λ (ns : List Change). IsToRecover (old.older ++ ns) (image old.store old.root.inode_file) → HasAgeLeft old.root) none_newer old.age;
     frozen = old.frozen;
   }
 
-  begins_on : RunsOn (record h { room = begun h.room; at = first_of places (old.root.epoch + 1); base = record k { changed = no_changes }; disk = d }) world (record { work = w; stage = stage; frozen = world.live; free = free })
+  begins_on : RunsOn (record h { room = begun h.room; at = first_of geometry (old.root.epoch + 1); base = record k { changed = no_changes }; disk = d }) world (record { work = w; stage = stage; frozen = world.live; free = free })
   unfolding begins_runs
   begins_on = record {
     runs = begins_runs;

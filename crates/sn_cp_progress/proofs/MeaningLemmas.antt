@@ -6,7 +6,7 @@ use Rattle.sn_device.specs.Crash.{Touches}
 use Rattle.sn_device.specs.declared.status.Status.{Status}
 use Rattle.sn_device.proofs.CrashLemmas.{LeavesOnly-start}
 use Rattle.sn_limits.specs.Versions.{version_1}
-use Rattle.sn_log.specs.Places.{base_at, behind}
+use Rattle.sn_log.specs.Positions.{base_at, behind}
 use Rattle.sn_model.specs.declared.change.Change.{Change}
 use Rattle.sn_model.specs.Changes.{apply}
 use Rattle.sn_model.specs.Charges.{charge_for}

@@ -9,10 +9,10 @@ use Rattle.sn_device.proofs.CrashLemmas.{Always-reads, LeavesOnly-now, LeavesOnl
 use Rattle.sn_block.proofs.EffectLemmas.{OnOk-then}
 use Rattle.sn_layout.specs.declared.gate.Gate.{Gate}
 use Rattle.sn_layout.specs.declared.gate.Gate.TheVariants.{Open, Closed}
-use Rattle.sn_layout.specs.declared.places.Slot.{Slot}
-use Rattle.sn_layout.specs.Places.{map_blocks}
+use Rattle.sn_layout.specs.declared.geometry.Slot.{Slot}
+use Rattle.sn_layout.specs.Geometry.{map_blocks}
 use Rattle.sn_layout.specs.Superblock.{superblock_bytes}
-use Rattle.sn_log.specs.Places.{IsReadyAt, LogPosition, base_at, payloads_of}
+use Rattle.sn_log.specs.Positions.{IsReadyAt, LogPosition, base_at, payloads_of}
 use Rattle.sn_model.specs.declared.change.Change.{Change}
 use Rattle.sn_model.specs.Settling.{settle}
 use Rattle.sn_model.specs.World.{World}
@@ -45,7 +45,7 @@ use Rattle.sn_cp_progress.specs.Progress.{InProgress, Progress, RunsOn}
 -- the superblock, the map of the slot that counts, the half of the root's epoch, which begins with no record of a later one, and that of the next, whose records are these
 pub record LiesAround (n : ℕ) (slot : Slot) (words : List ℕ) (epoch : ℕ) (at : LogPosition) (newer : List Change) (c : Contents) : Type 0 where
   pub disk : IsDisk n c
-  pub formatted : block_at c 0 ≡ superblock_bytes (record { places = n })
+  pub formatted : block_at c 0 ≡ superblock_bytes (record { geometry = n })
   pub map : HasMap n c slot words
   pub none_later : HasNoLater c (base_of n epoch) epoch
   pub ready : IsReadyAt at newer c

@@ -2,11 +2,11 @@
 use Rattle.std.specs.Prelude.{◌≡◌, ℕ, ◌+◌, slice_index}
 use Rattle.sn_changed.specs.Changed.{HasChanged}
 use Rattle.sn_device.specs.Disk.{Always}
-use Rattle.sn_layout.specs.Places.{other_slot}
-use Rattle.sn_layout.specs.declared.places.Slot.{Slot}
+use Rattle.sn_layout.specs.Geometry.{other_slot}
+use Rattle.sn_layout.specs.declared.geometry.Slot.{Slot}
 use Rattle.sn_layout.specs.declared.root.RootBody.{RootBody}
 use Rattle.sn_limits.specs.Versions.{version_1}
-use Rattle.sn_log.specs.Places.{IsReadyAt}
+use Rattle.sn_log.specs.Positions.{IsReadyAt}
 use Rattle.sn_model.specs.NameTree.{IsTree}
 use Rattle.sn_model.specs.Tree.{Tree}
 use Rattle.sn_model.specs.World.{World}

@@ -15,14 +15,14 @@ use Rattle.sn_device.specs.declared.status.Status.{Status}
 use Rattle.sn_device.proofs.CrashLemmas.{Always-synced, LeavesOnly-start, Touches-present}
 use Rattle.sn_layout.specs.declared.gate.Gate.{Gate}
 use Rattle.sn_layout.specs.declared.gate.Gate.TheVariants.{Open, Closed}
-use Rattle.sn_layout.specs.declared.places.Area.TheVariants.{Data}
-use Rattle.sn_layout.specs.declared.places.Slot.{Slot}
+use Rattle.sn_layout.specs.declared.geometry.Area.TheVariants.{Data}
+use Rattle.sn_layout.specs.declared.geometry.Slot.{Slot}
 use Rattle.sn_layout.specs.declared.root.RootBody.{RootBody}
 use Rattle.sn_layout.specs.Gate.{gate_of}
-use Rattle.sn_layout.specs.Places.{IsDiskSize, gate_sector, map_blocks, other_slot, start_of}
+use Rattle.sn_layout.specs.Geometry.{IsDiskSize, gate_sector, map_blocks, other_slot, start_of}
 use Rattle.sn_layout.specs.RootBody.{IsRootBody}
 use Rattle.sn_limits.specs.declared.limits.Limits.{Limits}
-use Rattle.sn_log.specs.Places.{LogPosition, first_of}
+use Rattle.sn_log.specs.Positions.{LogPosition, first_of}
 use Rattle.sn_model.specs.Settling.{settle}
 use Rattle.sn_model.specs.World.{World}
 use Rattle.sn_ondisk.specs.LogHalf.{InHalf, base_of}

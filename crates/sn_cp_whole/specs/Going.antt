@@ -6,9 +6,9 @@ use Rattle.sn_device.specs.Crash.{LeavesOnly}
 use Rattle.sn_device.specs.Disk.{Disk}
 use Rattle.sn_device.specs.declared.device.Fault.{Fault}
 use Rattle.sn_device.specs.declared.status.Status.{Status}
-use Rattle.sn_layout.specs.declared.places.Area.TheVariants.{Data}
-use Rattle.sn_layout.specs.Places.{other_slot, start_of}
-use Rattle.sn_log.specs.Places.{LogPosition}
+use Rattle.sn_layout.specs.declared.geometry.Area.TheVariants.{Data}
+use Rattle.sn_layout.specs.Geometry.{other_slot, start_of}
+use Rattle.sn_log.specs.Positions.{LogPosition}
 use Rattle.sn_model.specs.Settling.{settle}
 use Rattle.sn_model.specs.Tree.{Tree}
 use Rattle.sn_model.specs.World.{World}

@@ -8,9 +8,9 @@ use Rattle.sn_device.specs.Status.{has_ended}
 use Rattle.sn_device.specs.declared.status.Status.{Status}
 use Rattle.sn_layout.specs.declared.gate.Gate.{Gate}
 use Rattle.sn_layout.specs.declared.gate.Gate.TheVariants.{Open}
-use Rattle.sn_layout.specs.declared.places.Area.TheVariants.{Data}
-use Rattle.sn_layout.specs.Places.{map_blocks, start_of}
-use Rattle.sn_log.specs.Places.{LogPosition}
+use Rattle.sn_layout.specs.declared.geometry.Area.TheVariants.{Data}
+use Rattle.sn_layout.specs.Geometry.{map_blocks, start_of}
+use Rattle.sn_log.specs.Positions.{LogPosition}
 use Rattle.sn_model.specs.Settling.{settle}
 use Rattle.sn_model.specs.World.{World}
 use Rattle.sn_room.specs.Rooms.{RoomCounts, fresh}

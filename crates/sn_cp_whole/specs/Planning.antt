@@ -4,7 +4,7 @@ use Rattle.sn_device.specs.declared.status.Status.{Status}
 use Rattle.sn_layout.specs.Bytes.{AreNumbers}
 use Rattle.sn_layout.specs.RootBody.{IsRootBody}
 use Rattle.sn_layout.specs.declared.root.RootBody.{RootBody}
-use Rattle.sn_log.specs.Places.{LogPosition}
+use Rattle.sn_log.specs.Positions.{LogPosition}
 use Rattle.sn_overlay.specs.Overlays.{layer_of}
 use Rattle.sn_root.specs.Following.{epochs_of, following}
 use Rattle.sn_root.specs.declared.following.PointKind.{PointKind}

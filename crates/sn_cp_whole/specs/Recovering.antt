@@ -8,8 +8,8 @@ use Rattle.sn_device.specs.declared.status.Status.{Status}
 use Rattle.sn_image.specs.Image.{image}
 use Rattle.sn_layout.specs.declared.gate.Gate.{Gate}
 use Rattle.sn_layout.specs.declared.gate.Gate.TheVariants.{Open}
-use Rattle.sn_layout.specs.declared.places.Slot.{Slot}
-use Rattle.sn_layout.specs.Places.{gate_sector, map_blocks}
+use Rattle.sn_layout.specs.declared.geometry.Slot.{Slot}
+use Rattle.sn_layout.specs.Geometry.{gate_sector, map_blocks}
 use Rattle.sn_model.specs.World.{World}
 use Rattle.sn_ondisk.specs.Blocks.{InBlock}
 use Rattle.sn_ondisk.specs.MapCopy.{InMap}

@@ -10,9 +10,9 @@ ghost use Rattle.sn_cp.specs.declared.stage.Stage.TheVariants.{Bodied};
 ghost use Rattle.sn_cp_progress.specs.Meaning.{progress_over};
 ghost use Rattle.sn_cp_progress.specs.Progress.{RunsOn};
 ghost use Rattle.sn_device.specs.Crash.{Touches};
-ghost use Rattle.sn_layout.specs.Places.{other_slot};
+ghost use Rattle.sn_layout.specs.Geometry.{other_slot};
 ghost use Rattle.sn_held.specs.Held.{Held, RunsReady};
-ghost use Rattle.sn_log.specs.Places.{first_of};
+ghost use Rattle.sn_log.specs.Positions.{first_of};
 ghost use Rattle.sn_model.specs.Tree.{Tree};
 ghost use Rattle.sn_model.specs.World.{World};
 ghost use Rattle.sn_overlay.specs.Overlays.{HasRoom, layer_of, no_changes};
@@ -74,27 +74,27 @@ pub fn begin_point<D: Device>(
     ensures drops { IfOk result (λ begins. HasRoom begins.since (record { nodes = drops; names = 0; blocks = 0 })) }
     ensures stays { OnErr result (log.new ≡ log.old) }
 {
-    let places = log.position().places();
+    let geometry = log.position().geometry();
     // It bounds the disk.
-    let _blocks = places.blocks();
+    let _blocks = geometry.blocks();
     let Planned {
         next,
         built,
         gate,
         changed,
-    } = match plan(alloc, blocks, places, base, PointKind::Ordinary, drops) {
+    } = match plan(alloc, blocks, geometry, base, PointKind::Ordinary, drops) {
         Ok(planned) => planned,
         Err(fault) => return Err(fault),
     };
-    let free = built.map.count_free_from(places.start(Area::Data));
-    match begin(blocks, places, log) {
+    let free = built.map.count_free_from(geometry.start(Area::Data));
+    match begin(blocks, geometry, log) {
         Ok(()) => {}
         Err(ReadFault::Memory) => return Err(PointFault::Memory),
         Err(ReadFault::Device) => return Err(PointFault::Device),
     }
     let slot = base.slot.other();
     let going = GoingPoint {
-        point: Point::new(places, built.blocks, built.map, next, slot, gate),
+        point: Point::new(geometry, built.blocks, built.map, next, slot, gate),
         free,
     };
     Ok(Begun {

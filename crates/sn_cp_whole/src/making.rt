@@ -3,7 +3,7 @@ ghost use Rattle.std.specs.Prelude.{◌≡◌, ◌≢◌, ◌*◌, ◌+◌, ◌�
 ghost use Rattle.sn_block.specs.Lending.{device_of};
 ghost use Rattle.sn_device.specs.Crash.{Touches};
 ghost use Rattle.sn_held.specs.Held.{Held, RunsReady};
-ghost use Rattle.sn_log.specs.Places.{first_of};
+ghost use Rattle.sn_log.specs.Positions.{first_of};
 ghost use Rattle.sn_sound.specs.Logs.{HasAgeLeft};
 ghost use Rattle.sn_root.specs.declared.following.PointKind.TheVariants.{Ordinary as OrdinaryPoint};
 ghost use Rattle.sn_model.specs.World.{World};

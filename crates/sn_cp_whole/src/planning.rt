@@ -3,7 +3,7 @@ ghost use Rattle.std.specs.Prelude.{◌≡◌, ◌*◌, ◌≤◌, ◌↔◌, le
 ghost use Rattle.sn_device.specs.Disk.{reads};
 ghost use Rattle.sn_block.specs.Lending.{device_of};
 ghost use Rattle.sn_layout.specs.Bytes.{AreNumbers};
-ghost use Rattle.sn_layout.specs.Places.{other_slot};
+ghost use Rattle.sn_layout.specs.Geometry.{other_slot};
 ghost use Rattle.sn_layout.specs.RootBody.{IsRootBody};
 ghost use Rattle.sn_ondisk.specs.Trees.{store_of};
 ghost use Rattle.sn_overlay.specs.Overlays.{HasRoom, layer_of, no_changes};
@@ -18,7 +18,7 @@ use crate::{PointBase, PointFault};
 use sn_block::{Blocks, ReadFault};
 use sn_cp_build::{Built, build};
 use sn_device::Device;
-use sn_layout::{Area, Block, Gate, LARGEST_AGE, LogHalf, Places, RootBody, Slot};
+use sn_layout::{Area, Block, Gate, Geometry, LARGEST_AGE, LogHalf, RootBody, Slot};
 use sn_overlay::Overlay;
 use sn_root::{PointKind, next_root, read_gate};
 use sn_tree::{NewBlock, PlanFault};
@@ -118,20 +118,20 @@ fn with_inode_file(root: RootBody, built: &Built) -> RootBody
 fn plan_tree<D: Device>(
     alloc: Global,
     blocks: &mut Blocks<D>,
-    places: Places,
+    geometry: Geometry,
     base: &PointBase,
     kind: PointKind,
 ) -> Result<(RootBody, Built), PointFault>
-    requires disk { 8 * places ≤ (D.status (device_of blocks.old)).sectors }
+    requires disk { 8 * geometry ≤ (D.status (device_of blocks.old)).sectors }
     requires body { IsRootBody base.now.root }
-    requires words { length base.now.map ≡ places }
+    requires words { length base.now.map ≡ geometry }
     ensures next { IfOk result (λ made. IsNextRoot kind base.now.root made.1 made.0) }
     ensures spelled { IfOk result (λ made. IsSpellable made.1) }
-    ensures well { IfOk result (λ made. IsWellBuilt places base.now.root.limits base.now.map (layer_of base.now.changed) made.1) }
-    ensures builds { IsTrue D.tells_bytes → IfOk result (λ made. Builds places base.now.root.limits
+    ensures well { IfOk result (λ made. IsWellBuilt geometry base.now.root.limits base.now.map (layer_of base.now.changed) made.1) }
+    ensures builds { IsTrue D.tells_bytes → IfOk result (λ made. Builds geometry base.now.root.limits
         (store_of (reads (D.disk (device_of blocks.old)))) base.now.root.inode_file base.now.map (layer_of base.now.changed) made.1) }
     ensures aged { result ≡ Err AgePoint → HasAgeFor kind base.now.root → ⊥ }
-    ensures damaged { IsTrue D.tells_bytes → result ≡ Err DamagedPoint → CanBeBuilt places (store_of (reads (D.disk (device_of blocks.old)))) (kept_in base.now) → ⊥ }
+    ensures damaged { IsTrue D.tells_bytes → result ≡ Err DamagedPoint → CanBeBuilt geometry (store_of (reads (D.disk (device_of blocks.old)))) (kept_in base.now) → ⊥ }
     ensures same { IsTrue D.tells_bytes → D.disk (device_of blocks.new) ≡ D.disk (device_of blocks.old) }
     ensures idle { OnOk result (D.status (device_of blocks.new) ≡ D.status (device_of blocks.old)) }
     ensures cause { IfErr result (λ fault. HasCauseToStop fault (D.status (device_of blocks.old)) (D.status (device_of blocks.new))) }
@@ -142,7 +142,7 @@ fn plan_tree<D: Device>(
     let Ok(changed) = base.changed.copy(alloc) else {
         return Err(PointFault::Memory);
     };
-    match build(alloc, blocks, places, &base.root, &base.map, changed) {
+    match build(alloc, blocks, geometry, &base.root, &base.map, changed) {
         Ok(built) => {
             words_fit(built.map.words());
             blocks_fit(built.blocks.as_slice());
@@ -169,11 +169,11 @@ pub fn empty_overlay(alloc: Global, drops: u16) -> Result<Overlay, PointFault>
 /// stand in, which is cleared: so what can't be read is met before the first write.
 fn read_ahead<D: Device>(
     blocks: &mut Blocks<D>,
-    places: Places,
+    geometry: Geometry,
     slot: Slot,
     epoch: u64,
 ) -> Result<Gate, PointFault>
-    requires disk { 8 * places ≤ (D.status (device_of blocks.old)).sectors }
+    requires disk { 8 * geometry ≤ (D.status (device_of blocks.old)).sectors }
     ensures gate { IsTrue D.tells_bytes → IfOk result (λ gate. gate_in (reads (D.disk (device_of blocks.old))) slot ≡ gate) }
     ensures same { IsTrue D.tells_bytes → D.disk (device_of blocks.new) ≡ D.disk (device_of blocks.old) }
     ensures idle { OnOk result (D.status (device_of blocks.new) ≡ D.status (device_of blocks.old)) }
@@ -185,7 +185,7 @@ fn read_ahead<D: Device>(
         Ok(gate) => gate,
         Err(fault) => return Err(read_fault(fault)),
     };
-    match blocks.read_block(places.start(Area::Log(LogHalf::of_epoch(epoch)))) {
+    match blocks.read_block(geometry.start(Area::Log(LogHalf::of_epoch(epoch)))) {
         Ok(_) => Ok(gate),
         Err(fault) => Err(read_fault(fault)),
     }
@@ -195,29 +195,29 @@ fn read_ahead<D: Device>(
 pub(crate) fn plan<D: Device>(
     alloc: Global,
     blocks: &mut Blocks<D>,
-    places: Places,
+    geometry: Geometry,
     base: &PointBase,
     kind: PointKind,
     drops: u16,
 ) -> Result<Planned, PointFault>
-    requires disk { 8 * places ≤ (D.status (device_of blocks.old)).sectors }
+    requires disk { 8 * geometry ≤ (D.status (device_of blocks.old)).sectors }
     requires body { IsRootBody base.now.root }
-    requires words { length base.now.map ≡ places }
+    requires words { length base.now.map ≡ geometry }
     ensures next { IfOk result (λ p. IsNextRoot kind base.now.root p.built p.next) }
     ensures spelled { IfOk result (λ p. IsSpellable p.built) }
-    ensures well { IfOk result (λ p. IsWellBuilt places base.now.root.limits base.now.map (layer_of base.now.changed) p.built) }
-    ensures builds { IsTrue D.tells_bytes → IfOk result (λ p. Builds places base.now.root.limits
+    ensures well { IfOk result (λ p. IsWellBuilt geometry base.now.root.limits base.now.map (layer_of base.now.changed) p.built) }
+    ensures builds { IsTrue D.tells_bytes → IfOk result (λ p. Builds geometry base.now.root.limits
         (store_of (reads (D.disk (device_of blocks.old)))) base.now.root.inode_file base.now.map (layer_of base.now.changed) p.built) }
     ensures gate { IsTrue D.tells_bytes → IfOk result (λ p. gate_in (reads (D.disk (device_of blocks.old))) (other_slot base.now.slot) ≡ p.gate) }
     ensures empty { IfOk result (λ p. layer_of p.changed ≡ no_changes) }
     ensures room { IfOk result (λ p. HasRoom p.changed (record { nodes = drops; names = 0; blocks = 0 })) }
     ensures aged { result ≡ Err AgePoint → HasAgeFor kind base.now.root → ⊥ }
-    ensures damaged { IsTrue D.tells_bytes → result ≡ Err DamagedPoint → CanBeBuilt places (store_of (reads (D.disk (device_of blocks.old)))) (kept_in base.now) → ⊥ }
+    ensures damaged { IsTrue D.tells_bytes → result ≡ Err DamagedPoint → CanBeBuilt geometry (store_of (reads (D.disk (device_of blocks.old)))) (kept_in base.now) → ⊥ }
     ensures same { IsTrue D.tells_bytes → D.disk (device_of blocks.new) ≡ D.disk (device_of blocks.old) }
     ensures idle { OnOk result (D.status (device_of blocks.new) ≡ D.status (device_of blocks.old)) }
     ensures cause { IfErr result (λ fault. HasCauseToStop fault (D.status (device_of blocks.old)) (D.status (device_of blocks.new))) }
 {
-    let (next, built) = match plan_tree(alloc, blocks, places, base, kind) {
+    let (next, built) = match plan_tree(alloc, blocks, geometry, base, kind) {
         Ok(made) => made,
         Err(fault) => return Err(fault),
     };
@@ -225,7 +225,7 @@ pub(crate) fn plan<D: Device>(
         Ok(changed) => changed,
         Err(fault) => return Err(fault),
     };
-    match read_ahead(blocks, places, base.slot.other(), next.epoch) {
+    match read_ahead(blocks, geometry, base.slot.other(), next.epoch) {
         Ok(gate) => Ok(Planned {
             next,
             built,

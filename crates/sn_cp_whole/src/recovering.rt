@@ -21,7 +21,7 @@ use crate::{PointBase, PointFault};
 use sn_block::Blocks;
 use sn_cp::Point;
 use sn_device::Device;
-use sn_layout::Places;
+use sn_layout::Geometry;
 use sn_root::PointKind;
 use std::alloc::Global;
 
@@ -31,42 +31,42 @@ use std::alloc::Global;
 pub fn make_recovery<D: Device>(
     alloc: Global,
     blocks: &mut Blocks<D>,
-    places: Places,
+    geometry: Geometry,
     base: &PointBase,
     drops: u16,
 ) -> Result<PointBase, PointFault>
-    requires disk { 8 * places ≤ (D.status (device_of blocks.old)).sectors }
+    requires disk { 8 * geometry ≤ (D.status (device_of blocks.old)).sectors }
     requires synced { IsTrue D.tells_bytes → IsSynced (D.disk (device_of blocks.old)) }
     requires body { IsRootBody base.now.root }
-    requires words { length base.now.map ≡ places }
+    requires words { length base.now.map ≡ geometry }
     ensures recovery { IsTrue D.tells_bytes → (world : World) (im : IsImage (reads (D.disk (device_of blocks.old))) world)
-        → im.blocks ≡ places → HasReplayed (D.disk (device_of blocks.old)) world im (kept_in base.now)
-        → MakesRecovery result places world (D.disk (device_of blocks.old)) (D.disk (device_of blocks.new)) }
-    ensures touched { IsTrue D.tells_bytes → Touches (IsApart places base.now.slot) (D.disk (device_of blocks.old)) (D.disk (device_of blocks.new)) }
-    ensures costs { CostsSteps result places (need base.now.root.limits (layer_of base.now.changed))
+        → im.blocks ≡ geometry → HasReplayed (D.disk (device_of blocks.old)) world im (kept_in base.now)
+        → MakesRecovery result geometry world (D.disk (device_of blocks.old)) (D.disk (device_of blocks.new)) }
+    ensures touched { IsTrue D.tells_bytes → Touches (IsApart geometry base.now.slot) (D.disk (device_of blocks.old)) (D.disk (device_of blocks.new)) }
+    ensures costs { CostsSteps result geometry (need base.now.root.limits (layer_of base.now.changed))
         (D.status (device_of blocks.old)) (D.status (device_of blocks.new)) }
     ensures unwritten { IsTrue D.tells_bytes → IfErr result (λ fault. fault ≢ DevicePoint → D.disk (device_of blocks.new) ≡ D.disk (device_of blocks.old)) }
-    ensures damaged { IsTrue D.tells_bytes → result ≡ Err DamagedPoint → CanBeBuilt places (store_of (reads (D.disk (device_of blocks.old)))) (kept_in base.now) → ⊥ }
+    ensures damaged { IsTrue D.tells_bytes → result ≡ Err DamagedPoint → CanBeBuilt geometry (store_of (reads (D.disk (device_of blocks.old)))) (kept_in base.now) → ⊥ }
     ensures aged { result ≡ Err AgePoint → HasAgeLeft base.now.root → ⊥ }
     ensures body { IfOk result (λ next. IsRootBody next.root) }
-    ensures words { IfOk result (λ next. length next.map ≡ places) }
+    ensures words { IfOk result (λ next. length next.map ≡ geometry) }
     ensures epoch { IfOk result (λ next. next.root.epoch ≡ base.now.root.epoch + 2) }
     ensures empty { IfOk result (λ next. layer_of next.changed ≡ no_changes) }
     ensures drops { IfOk result (λ next. HasRoom next.changed (record { nodes = drops; names = 0; blocks = 0 })) }
 {
     // It bounds the disk.
-    let _blocks = places.blocks();
+    let _blocks = geometry.blocks();
     let Planned {
         next,
         built,
         gate,
         changed,
-    } = match plan(alloc, blocks, places, base, PointKind::Recovery, drops) {
+    } = match plan(alloc, blocks, geometry, base, PointKind::Recovery, drops) {
         Ok(planned) => planned,
         Err(fault) => return Err(fault),
     };
     let slot = base.slot.other();
-    let mut point = Point::new(places, built.blocks, built.map, next, slot, gate);
+    let mut point = Point::new(geometry, built.blocks, built.map, next, slot, gate);
     let Ok(()) = point.finish(blocks) else {
         return Err(PointFault::Device);
     };

@@ -1,5 +1,5 @@
 pub mod KeyLemmas
-pub mod PlaceLemmas
+pub mod SeatLemmas
 pub mod HeldLemmas
 pub mod ReleaseLemmas
 pub mod SessionLemmas

@@ -152,7 +152,7 @@ more_released old table new session fd numbers more told h was is_new is_told is
 pub held_before : (table new : Descriptors) (session fd : ℕ) → new ≡ closed table session fd → (number : ℕ) → is_held_in new number ≡ true → is_held_in table number ≡ true
 held_before table new session fd is number e = still_held table (session, fd) number (sym (ap (λ (t : Descriptors). is_held_in t number) is) ∙ e)
 
--- one place for each descriptor is enough
+-- one seat for each descriptor is enough
 pub pushed_few : (numbers more : List ℕ) (told : Option ℕ) (fd : ℕ) → more ≡ pushed numbers told → length numbers ≤ fd → length more ≤ fd + 1
 pushed_few numbers more None fd is few = omega (arith, ap length is, few)
 pushed_few numbers more (Some n) fd is few = omega (arith, ap length is, length-append numbers (n ∷ []), few)

@@ -1,4 +1,4 @@
--- Descriptors of sessions, by the places that their files have.
+-- Descriptors of sessions, by the seats that their files have.
 use Rattle.std.proofs.Common.{◌≡◌, ◌≢◌, ◌⊎◌, inl, inr, ℕ, ◌+◌, ◌*◌, ◌<◌, ◌≤◌, ◌&&◌, Bool, true, false, nat_lt, cond, List, Option, Some, None, Result, Ok, Err, is_some, length, get_or, set, refl, sym, ap, ◌∙◌, arith, zero-add, Bor}
 use Rattle.std.specs.FinMap as map
 use Rattle.std.specs.Option.{option_copied, option_map}
@@ -16,33 +16,33 @@ use Rattle.sn_model.specs.World.{Descriptor}
 use Rattle.sn_desc.specs.Closing.{closing, released_if}
 use Rattle.sn_desc.specs.declared.open_file.OpenFile.{OpenFile}
 use Rattle.sn_desc.specs.Files.{with_offset}
-use Rattle.sn_desc.specs.InUse.{descriptor_of, descriptors_in, place_of}
+use Rattle.sn_desc.specs.InUse.{descriptor_of, descriptors_in, seat_of}
 use Rattle.sn_model.proofs.HeldLemmas.{descriptors_total, exact_descriptors}
-use Rattle.sn_desc.proofs.PlaceLemmas.{get_far, get_past, get_placed, moved_is, put_is, taken_is}
+use Rattle.sn_desc.proofs.SeatLemmas.{get_far, get_past, get_seated, moved_is, put_is, taken_is}
 
--- a place, and the session and number that it is of
-pub record IsPlaceOf (session fd place : ℕ) : Type 0 where
+-- a seat, and the session and number that it is of
+pub record IsSeatOf (session fd seat : ℕ) : Type 0 where
   pub first : session < 64
   pub few : fd < 64
-  pub is : place ≡ session * 64 + fd
+  pub is : seat ≡ session * 64 + fd
 
-pub place_found : (session fd place : ℕ) → place_of session fd ≡ Some place → IsPlaceOf session fd place
-place_found session fd place e = split (nat_lt session 64 && nat_lt fd 64) refl
+pub seat_found : (session fd seat : ℕ) → seat_of session fd ≡ Some seat → IsSeatOf session fd seat
+seat_found session fd seat e = split (nat_lt session 64 && nat_lt fd 64) refl
   where
-    split : (b : Bool) → (nat_lt session 64 && nat_lt fd 64) ≡ b → IsPlaceOf session fd place
+    split : (b : Bool) → (nat_lt session 64 && nat_lt fd 64) ≡ b → IsSeatOf session fd seat
     split true f = record {
       first = ltb-true session 64 (and_left _ _ f);
       few = ltb-true fd 64 (and_right _ _ f);
-      is = sym (some_same (session * 64 + fd) place (sym (ap (λ b. cond b (Some (session * 64 + fd)) None) f) ∙ e));
+      is = sym (some_same (session * 64 + fd) seat (sym (ap (λ b. cond b (Some (session * 64 + fd)) None) f) ∙ e));
     }
-    split false f = let never : None ≡ Some place = sym (ap (λ b. cond b (Some (session * 64 + fd)) None) f) ∙ e in absurd cc
+    split false f = let never : None ≡ Some seat = sym (ap (λ b. cond b (Some (session * 64 + fd)) None) f) ∙ e in absurd cc
 
 module _ (files : List (Option OpenFile)) (session fd : ℕ) (all : length files ≡ 4096) where
-  within : (place : ℕ) → IsPlaceOf session fd place → session * 64 + fd < length files
+  within : (seat : ℕ) → IsSeatOf session fd seat → session * 64 + fd < length files
   within place p = omega (arith, all, p.first, p.few)
 
-  -- what has no place isn't open
-  pub absent : place_of session fd ≡ None → map.get (descriptors_in files) (session, fd) ≡ None
+  -- what has no seat isn't open
+  pub absent : seat_of session fd ≡ None → map.get (descriptors_in files) (session, fd) ≡ None
   absent e = split (nat_lt session 64) refl (nat_lt fd 64) refl
     where
       split : (a : Bool) → nat_lt session 64 ≡ a → (b : Bool) → nat_lt fd 64 ≡ b → map.get (descriptors_in files) (session, fd) ≡ None
@@ -50,17 +50,17 @@ module _ (files : List (Option OpenFile)) (session fd : ℕ) (all : length files
       split true f false g = get_far files session fd (ltb-false fd 64 g)
       split true f true g = let never : Some (session * 64 + fd) ≡ None = sym (λ i. cond (f i && g i) (Some (session * 64 + fd)) None) ∙ e in absurd cc
 
-  module _ (place : ℕ) (is : place_of session fd ≡ Some place) where
-    at : IsPlaceOf session fd place
-    at = place_found session fd place is
+  module _ (seat : ℕ) (is : seat_of session fd ≡ Some seat) where
+    at : IsSeatOf session fd seat
+    at = seat_found session fd seat is
 
-    pub there : map.get (descriptors_in files) (session, fd) ≡ option_map descriptor_of (get_or files place None)
-    there = get_placed files session fd at.few ∙ ap (λ (n : ℕ). option_map descriptor_of (get_or files n None)) (sym at.is)
+    pub there : map.get (descriptors_in files) (session, fd) ≡ option_map descriptor_of (get_or files seat None)
+    there = get_seated files session fd at.few ∙ ap (λ (n : ℕ). option_map descriptor_of (get_or files n None)) (sym at.is)
 
-    pub closes : descriptors_in (set files place None) ≡ closed (descriptors_in files) session fd
+    pub closes : descriptors_in (set files seat None) ≡ closed (descriptors_in files) session fd
     closes = ap (λ (n : ℕ). descriptors_in (set files n None)) at.is ∙ taken_is files session fd at.few (within place at)
 
-    pub moves : (offset : ℕ) → descriptors_in (set files place (option_map (with_offset offset) (get_or files place None))) ≡ moved_to (descriptors_in files) session fd offset
+    pub moves : (offset : ℕ) → descriptors_in (set files seat (option_map (with_offset offset) (get_or files seat None))) ≡ moved_to (descriptors_in files) session fd offset
     moves offset = ap (λ (n : ℕ). descriptors_in (set files n (option_map (with_offset offset) (get_or files n None)))) at.is ∙ moved_is files session fd at.few offset (within place at)
 
 -- a file is opened where nothing is open
@@ -73,7 +73,7 @@ module _ (files : List (Option OpenFile)) (session fd : ℕ) (all : length files
   none_of (Some f) e = let never : Some (descriptor_of f) ≡ None = e in absurd cc
 
   pub vacant : map.get (descriptors_in files) (session, fd) ≡ None → get_or files (session * 64 + fd) None ≡ None
-  vacant none = none_of (get_or files (session * 64 + fd) None) (sym (get_placed files session fd few) ∙ none)
+  vacant none = none_of (get_or files (session * 64 + fd) None) (sym (get_seated files session fd few) ∙ none)
 
 -- to close what isn't open changes nothing
 pub closed_none : (table : Descriptors) (session fd : ℕ) → map.get table (session, fd) ≡ None → table ≡ closed table session fd

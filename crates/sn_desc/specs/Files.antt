@@ -1,13 +1,13 @@
--- What is open by place, and how many more files there is room for.
+-- What is open by seat, and how many more files there is room for.
 use Rattle.std.specs.Prelude.{ℕ, List, Option}
-use Rattle.sn_desc.specs.Places.{files_under, room_in}
+use Rattle.sn_desc.specs.Seats.{files_under, room_in}
 use Rattle.sn_desc.specs.declared.open_file.OpenFile.{OpenFile}
-use Rattle.sn_desc.specs.declared.places.Places.{Places}
+use Rattle.sn_desc.specs.declared.geometry.Seats.{Seats}
 
-abbrev pub files_at : Places → List (Option OpenFile)
+abbrev pub files_at : Seats → List (Option OpenFile)
 files_at p = files_under p.files p.keys.items
 
-abbrev pub room_at : Places → ℕ
+abbrev pub room_at : Seats → ℕ
 room_at p = room_in p.files
 
 abbrev pub with_offset : ℕ → OpenFile → OpenFile

@@ -22,15 +22,15 @@ abbrev pub has_live : Option OpenFile → Bool
 has_live None = false
 has_live (Some file) = is_live file.home
 
--- so many places have it
+-- so many seats have it
 abbrev pub holders_of : ℕ → List (Option OpenFile) → ℕ
 holders_of number files = count_by (is_live_file number) files
 
--- so many places have a file of the live tree
-abbrev pub live_places : List (Option OpenFile) → ℕ
-live_places files = count_by has_live files
+-- so many seats have a file of the live tree
+abbrev pub live_seats : List (Option OpenFile) → ℕ
+live_seats files = count_by has_live files
 
 pub record IsCounted (files : List (Option OpenFile)) (holders : List ℕ) : Type 0 where
-  pub places : length files ≡ 4096
+  pub seats : length files ≡ 4096
   pub numbers : length holders ≡ 65536
   pub counted : (number : ℕ) → number < 65536 → slice_index holders number ≡ holders_of number files

@@ -11,18 +11,18 @@ use Rattle.sn_desc.specs.Holders.{is_live}
 abbrev pub descriptor_of : OpenFile → Descriptor
 descriptor_of f = record { home = f.home; number = f.number; readable = f.readable; writable = f.writable; appends = f.appends; offset = f.offset }
 
--- the descriptors whose files lie at places from one on: each session has 64 places
-unfoldable pub placed_from : ℕ → List (Option OpenFile) → Descriptors
-placed_from place [] = map.empty
-placed_from place (None ∷ rest) = placed_from (place + 1) rest
-placed_from place (Some file ∷ rest) = map.insert (placed_from (place + 1) rest) (place / 64, place % 64) (descriptor_of file)
+-- the descriptors whose files lie at seats from one on: each session has 64 seats
+unfoldable pub seated_from : ℕ → List (Option OpenFile) → Descriptors
+seated_from seat [] = map.empty
+seated_from seat (None ∷ rest) = seated_from (seat + 1) rest
+seated_from seat (Some file ∷ rest) = map.insert (seated_from (seat + 1) rest) (seat / 64, seat % 64) (descriptor_of file)
 
 abbrev pub descriptors_in : List (Option OpenFile) → Descriptors
-descriptors_in files = placed_from 0 files
+descriptors_in files = seated_from 0 files
 
--- the place of a descriptor, where a session can have one with that number
-abbrev pub place_of : ℕ → ℕ → Option ℕ
-place_of session fd = if nat_lt session 64 && nat_lt fd 64 then Some (session * 64 + fd) else None
+-- the seat of a descriptor, where a session can have one with that number
+abbrev pub seat_of : ℕ → ℕ → Option ℕ
+seat_of session fd = if nat_lt session 64 && nat_lt fd 64 then Some (session * 64 + fd) else None
 
 -- how many descriptors have live files
 abbrev pub live_in : Descriptors → ℕ

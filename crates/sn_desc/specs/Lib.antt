@@ -1,4 +1,4 @@
-pub mod Places
+pub mod Seats
 pub mod Files
 pub mod Holders
 pub mod OpenFiles

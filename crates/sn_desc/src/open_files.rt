@@ -1,29 +1,29 @@
 ghost use Rattle.std.specs.Prelude.{◌≡◌, ◌-◌, ◌<◌, ◌≤◌, ◌↔◌, ℕ, IsTrue, replicate, length, slice_index_or, slice_set, option_copied, nat_lt, count_by, None, Some, IsOk, IfOk, OnOk};
 ghost use Rattle.std.specs.Option.{option_map};
-ghost use Rattle.sn_desc.specs.Holders.{IsCounted, is_live_file, live_places};
+ghost use Rattle.sn_desc.specs.Holders.{IsCounted, is_live_file, live_seats};
 ghost use Rattle.sn_desc.specs.Files.{files_at, with_offset, room_at};
 
 use crate::holders;
 use crate::open_file::OpenFile;
-use crate::places::Places;
+use crate::seats::Seats;
 use sn_walk::Home;
 use std::alloc::{AllocError, Global};
 
-/// How many places there are.
-pub(crate) const PLACES: usize = 4096;
+/// How many seats there are.
+pub(crate) const SEATS: usize = 4096;
 
 /// How many numbers a file can have.
 const NUMBERS: usize = 65_536;
 
-/// Open files by their places, with how many there are of each live file.
+/// Open files by their seats, with how many there are of each live file.
 #[derive(Drop)]
 pub(crate) struct OpenFiles {
-    places: Places,
+    seats: Seats,
     holders: Vec<u16>,
-    /// How many places have a file of the live tree.
+    /// How many seats have a file of the live tree.
     live: u16,
-    ghost counted: { IsCounted (files_at places) holders.items },
-    ghost live_counted: { live ≡ live_places (files_at places) },
+    ghost counted: { IsCounted (files_at seats) holders.items },
+    ghost live_counted: { live ≡ live_seats (files_at seats) },
 }
 
 impl OpenFiles {
@@ -34,35 +34,35 @@ impl OpenFiles {
         ensures files { IfOk result (λ f. files_of f ≡ replicate 4096 None) }
     {
         Ok(OpenFiles {
-            places: Places::new(alloc, PLACES)?,
+            seats: Seats::new(alloc, SEATS)?,
             holders: vec![in alloc; 0; NUMBERS]?,
             live: 0,
         })
     }
 
-    /// The file that is open at a place; `None` also behind the last place.
-    pub fn get(&self, place: usize) -> Option<&OpenFile>
-        ensures { option_copied result ≡ slice_index_or (files_of self.now) place None }
+    /// The file that is open at a seat; `None` also behind the last seat.
+    pub fn get(&self, seat: usize) -> Option<&OpenFile>
+        ensures { option_copied result ≡ slice_index_or (files_of self.now) seat None }
     {
-        self.places.get(place)
+        self.seats.get(seat)
     }
 
-    /// Whether a file of this tree is open at a place.
-    fn is_open_in(&self, home: &Home, place: usize) -> bool
-        ensures { IsTrue result ↔ IsOpenIn home.now (slice_index_or (files_of self.now) place None) }
+    /// Whether a file of this tree is open at a seat.
+    fn is_open_in(&self, home: &Home, seat: usize) -> bool
+        ensures { IsTrue result ↔ IsOpenIn home.now (slice_index_or (files_of self.now) seat None) }
     {
-        match self.get(place) {
+        match self.get(seat) {
             Some(file) => file.is_in(home),
             None => false,
         }
     }
 
-    /// Whether a file of this tree is open at any place. It passes over the places once.
+    /// Whether a file of this tree is open at any seat. It passes over the seats once.
     pub fn has_open(&self, home: &Home) -> bool
-        ensures { IsTrue result ↔ ((place : ℕ) × IsOpenIn home.now (slice_index_or (files_of self.now) place None)) }
+        ensures { IsTrue result ↔ ((seat : ℕ) × IsOpenIn home.now (slice_index_or (files_of self.now) seat None)) }
     {
-        for place in 0..PLACES {
-            if self.is_open_in(home, place) {
+        for seat in 0..SEATS {
+            if self.is_open_in(home, seat) {
                 return true;
             }
         }
@@ -76,9 +76,9 @@ impl OpenFiles {
         self.holders[number as usize]
     }
 
-    /// How many places have a file of the live tree.
+    /// How many seats have a file of the live tree.
     pub fn live(&self) -> u16
-        ensures { result ≡ live_places (files_of self.now) }
+        ensures { result ≡ live_seats (files_of self.now) }
     {
         self.live
     }
@@ -100,39 +100,39 @@ impl OpenFiles {
         ensures room { room_of self.old ≤ room_of self.new }
         ensures there_already { 0 < room_of self.old → IsOk result }
     {
-        self.places.reserve()
+        self.seats.reserve()
     }
 
-    /// Opens a file at a place that has none.
-    pub fn open(&mut self, place: usize, file: OpenFile)
-        requires within { place < 4096 }
-        requires vacant { slice_index_or (files_of self.old) place None ≡ None }
+    /// Opens a file at a seat that has none.
+    pub fn open(&mut self, seat: usize, file: OpenFile)
+        requires within { seat < 4096 }
+        requires vacant { slice_index_or (files_of self.old) seat None ≡ None }
         requires room { 0 < room_of self.old }
-        ensures files { files_of self.new ≡ slice_set (files_of self.old) place (Some file) }
+        ensures files { files_of self.new ≡ slice_set (files_of self.old) seat (Some file) }
         ensures room { room_of self.new ≡ room_of self.old - 1 }
     {
         holders::add(self.holders.as_mut_slice(), &file);
         self.live += holders::live(&file);
-        self.places.put(place, file);
+        self.seats.put(seat, file);
     }
 
-    /// Closes what is at a place, and tells the live file that this was the last descriptor of.
-    pub fn close(&mut self, place: usize) -> Option<u16>
-        ensures files { files_of self.new ≡ slice_set (files_of self.old) place None }
-        ensures released { result ≡ released_file (files_of self.new) (slice_index_or (files_of self.old) place None) }
+    /// Closes what is at a seat, and tells the live file that this was the last descriptor of.
+    pub fn close(&mut self, seat: usize) -> Option<u16>
+        ensures files { files_of self.new ≡ slice_set (files_of self.old) seat None }
+        ensures released { result ≡ released_file (files_of self.new) (slice_index_or (files_of self.old) seat None) }
         ensures room { room_of self.old ≤ room_of self.new }
     {
-        let file = self.places.take(place)?;
+        let file = self.seats.take(seat)?;
         holders::remove(self.holders.as_mut_slice(), &file);
         self.live -= holders::live(&file);
         self.released(&file)
     }
 
-    /// Moves the offset of what is open at a place, if anything is.
-    pub fn set_offset(&mut self, place: usize, offset: u64)
-        ensures files { files_of self.new ≡ slice_set (files_of self.old) place (option_map (with_offset offset) (slice_index_or (files_of self.old) place None)) }
+    /// Moves the offset of what is open at a seat, if anything is.
+    pub fn set_offset(&mut self, seat: usize, offset: u64)
+        ensures files { files_of self.new ≡ slice_set (files_of self.old) seat (option_map (with_offset offset) (slice_index_or (files_of self.old) seat None)) }
         ensures room { room_of self.new ≡ room_of self.old }
     {
-        self.places.set_offset(place, offset)
+        self.seats.set_offset(seat, offset)
     }
 }

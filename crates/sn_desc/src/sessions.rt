@@ -9,7 +9,7 @@ ghost use Rattle.sn_walk.specs.Gives.{Answers};
 ghost use Rattle.arrayvec.specs.ArrayVec.{array_vec_len};
 ghost use Rattle.sn_desc.specs.Closing.{AreReleased, closing, pushed, released_if};
 ghost use Rattle.sn_desc.specs.Seeking.{Seeks};
-ghost use Rattle.sn_desc.specs.InUse.{HasOpen, descriptor_of, in_world, live_in, nothing_in_use, place_of};
+ghost use Rattle.sn_desc.specs.InUse.{HasOpen, descriptor_of, in_world, live_in, nothing_in_use, seat_of};
 
 use crate::open_file::OpenFile;
 use crate::open_files::OpenFiles;
@@ -48,9 +48,9 @@ fn free_sessions(alloc: Global) -> Result<Vec<Option<Session>>, AllocError>
     Ok(sessions)
 }
 
-/// The place of a descriptor, where a session can have one with this number.
-fn place_of(session: u32, fd: u32) -> Option<usize>
-    ensures { result ≡ place_of session fd }
+/// The seat of a descriptor, where a session can have one with this number.
+fn seat_of(session: u32, fd: u32) -> Option<usize>
+    ensures { result ≡ seat_of session fd }
 {
     if session < SESSIONS && fd < DESCRIPTORS {
         return Some(session as usize * 64 + fd as usize);
@@ -58,7 +58,7 @@ fn place_of(session: u32, fd: u32) -> Option<usize>
     None
 }
 
-/// Sets the umask of whoever is logged in at a place.
+/// Sets the umask of whoever is logged in at a seat.
 fn set_mask(slot: &mut Option<Session>, mask: Mode)
     ensures { slot.new ≡ masked mask (Some slot.old) }
 {
@@ -141,7 +141,7 @@ impl Sessions {
     fn file(&self, session: u32, fd: u32) -> Option<&OpenFile>
         ensures { option_map descriptor_of (option_copied result) ≡ finite.get (in_use_of self.now).descriptors (session, fd) }
     {
-        self.files.get(place_of(session, fd)?)
+        self.files.get(seat_of(session, fd)?)
     }
 
     /// What is open under a descriptor. It is EBADF where nothing is.
@@ -211,8 +211,8 @@ impl Sessions {
     {
         match self.next_descriptor(session) {
             Ok(fd) => {
-                let place = session as usize * 64 + fd as usize;
-                self.files.open(place, file);
+                let seat = session as usize * 64 + fd as usize;
+                self.files.open(seat, file);
                 Ok(fd)
             }
             Err(refusal) => Err(refusal),
@@ -225,7 +225,7 @@ impl Sessions {
         ensures released { result ≡ released_if (closed (in_use_of self.old).descriptors session fd) (finite.get (in_use_of self.old).descriptors (session, fd)) }
         ensures room { (in_use_of self.old).room ≤ (in_use_of self.new).room }
     {
-        self.files.close(place_of(session, fd)?)
+        self.files.close(seat_of(session, fd)?)
     }
 
     /// Closes a descriptor, and tells the live file that no descriptor has any more. It is EBADF where
@@ -244,8 +244,8 @@ impl Sessions {
     pub fn set_offset(&mut self, session: u32, fd: u32, offset: u64)
         ensures { in_use_of self.new ≡ record (in_use_of self.old) { descriptors = moved_to (in_use_of self.old).descriptors session fd offset } }
     {
-        if let Some(place) = place_of(session, fd) {
-            self.files.set_offset(place, offset);
+        if let Some(seat) = seat_of(session, fd) {
+            self.files.set_offset(seat, offset);
         }
     }
 

@@ -7,14 +7,9 @@ ghost use Rattle.sn_device.specs.Status.{has_ended, one_write, one_sync, Counts,
 ghost use Rattle.sn_device.specs.Device.{Writes, Syncs};
 
 use crate::Status;
+use sn_limits::Sector;
 use std::error::Error;
 use std::fmt;
-
-/// The bytes of a sector.
-pub const SECTOR_SIZE: usize = 512;
-
-/// What is in one sector.
-pub type Sector = [u8; 512];
 
 /// The device has failed, or has come to its end.
 #[derive(Clone, Copy, Debug, PartialEq, Eq)]

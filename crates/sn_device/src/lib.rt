@@ -62,9 +62,10 @@ mod memory;
 mod plan;
 mod status;
 
-pub use device::{Device, Fault, SECTOR_SIZE, Sector};
+pub use device::{Device, Fault};
 pub use fill::Fill;
 pub use laws::crash_laws;
 pub use memory::MemDevice;
 pub use plan::{Plan, Stop};
+pub use sn_limits::{SECTOR_SIZE, Sector};
 pub use status::Status;

@@ -24,4 +24,5 @@ mod naming;
 mod tree;
 
 pub use drawing::draw_changes;
-pub use tree::{Attributes, Block, Entry, FileBlock, Kind, Name, Node, ROOT, Tree};
+pub use sn_limits::Block;
+pub use tree::{Attributes, Entry, FileBlock, Kind, Name, Node, ROOT, Tree};

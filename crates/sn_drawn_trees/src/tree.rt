@@ -1,12 +1,10 @@
 //! A tree of files and directories, as lists.
 
+use sn_limits::Block;
 use std::alloc::{AllocError, Global};
 
 /// The number of the root directory.
 pub const ROOT: u16 = 2;
-
-/// What is in one block of a file.
-pub type Block = [u8; 4096];
 
 /// What a node is.
 #[derive(Clone, Copy, PartialEq, Eq)]

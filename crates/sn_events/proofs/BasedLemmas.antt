@@ -6,7 +6,7 @@ use Rattle.sn_cp_whole.specs.Planning.{IsBaseAt}
 use Rattle.sn_cp_whole.specs.declared.base.PointBase.{PointBase}
 use Rattle.sn_cp_whole.specs.declared.going.GoingPoint.{GoingPoint}
 use Rattle.sn_device.specs.Disk.{Disk}
-use Rattle.sn_log.specs.Places.{LogPosition}
+use Rattle.sn_log.specs.Positions.{LogPosition}
 use Rattle.sn_overlay.specs.declared.overlay.Overlay.{Overlay}
 use Rattle.sn_events.specs.Mounted.{IsBased, StandsThere, going_in}
 

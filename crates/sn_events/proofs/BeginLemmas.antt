@@ -4,8 +4,8 @@ use Rattle.sn_block.specs.Counts.{IsLater}
 use Rattle.sn_device.specs.Crash.{Touches}
 use Rattle.sn_device.specs.Disk.{Disk}
 use Rattle.sn_device.specs.declared.status.Status.{Status}
-use Rattle.sn_layout.specs.Places.{map_blocks}
-use Rattle.sn_log.specs.Places.{LogPosition}
+use Rattle.sn_layout.specs.Geometry.{map_blocks}
+use Rattle.sn_log.specs.Positions.{LogPosition}
 use Rattle.sn_cp.specs.Points.{Work}
 use Rattle.sn_cp.specs.Steps.{IsWithin, syncs_of, writes_of}
 use Rattle.sn_cp.specs.declared.stage.Stage.{Stage}

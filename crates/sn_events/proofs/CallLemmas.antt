@@ -30,8 +30,8 @@ use Rattle.sn_model.specs.World.{World}
 use Rattle.sn_model.specs.Worlds.{IsCall, IsWorld}
 use Rattle.sn_core.specs.declared.choosing.Chosen.{Chosen}
 use Rattle.sn_core.specs.Served.{Chooses, HasNone}
-use Rattle.sn_core.specs.declared.error.CallError.{CallError}
-use Rattle.sn_core.specs.declared.error.CallError.TheVariants as lack
+use Rattle.sn_core.specs.declared.fault.CallError.{CallError}
+use Rattle.sn_core.specs.declared.fault.CallError.TheVariants as lack
 use Rattle.sn_core.specs.Numbering.{gives_kept, has_closed}
 use Rattle.sn_numbers.specs.Numbers.{since_after}
 use Rattle.sn_core.proofs.NumberLemmas.{and_not_false, kept_by, same_numbers}
@@ -47,7 +47,7 @@ use Rattle.sn_device.specs.Crash.{Touches}
 use Rattle.sn_device.proofs.CrashLemmas.{LeavesOnly-start, Touches-start}
 use Rattle.sn_block.specs.Effects.{Nowhere}
 use Rattle.sn_ondisk.specs.LogHalf.{InHalf}
-use Rattle.sn_log.specs.Places.{base_at, behind}
+use Rattle.sn_log.specs.Positions.{base_at, behind}
 use Rattle.sn_held.specs.Events.{IsOfTree, LeavesEither, LeavesMore}
 use Rattle.sn_held.specs.Held.{CarriesOn, Going, Held, Kept}
 use Rattle.sn_cp_progress.specs.Meaning.{HasRoomWith, Means, RunsWith}

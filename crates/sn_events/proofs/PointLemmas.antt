@@ -33,7 +33,7 @@ use Rattle.sn_device.specs.Crash.{LeavesOnly, Touches}
 use Rattle.sn_device.proofs.CrashLemmas.{LeavesOnly-join, LeavesOnly-now, LeavesOnly-weaker, Touches-join, Touches-start, Touches-within}
 use Rattle.sn_record.specs.Payload.{IsSpelled, PayloadsFit}
 use Rattle.sn_ondisk.specs.LogHalf.{InHalf}
-use Rattle.sn_log.specs.Places.{HasRoom, LogPosition, base_at, first_of}
+use Rattle.sn_log.specs.Positions.{HasRoom, LogPosition, base_at, first_of}
 use Rattle.sn_room.specs.Rooms.{RoomCounts}
 use Rattle.sn_held.specs.Held.{Going, Held, Kept, RunsReady}
 use Rattle.sn_cp_progress.specs.Meaning.{RunsWith}

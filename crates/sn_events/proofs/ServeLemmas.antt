@@ -3,12 +3,12 @@ use Rattle.std.proofs.Common.{◌≡◌, ℕ, ◌*◌, ◌≤◌, Bool, true, fa
 use Rattle.sn_limits.specs.Versions.{version_1}
 use Rattle.sn_layout.specs.RootBody.{IsRootBody}
 use Rattle.sn_layout.specs.declared.root.RootBody.{RootBody}
-use Rattle.sn_log.specs.Places.{LogPosition, base_at}
+use Rattle.sn_log.specs.Positions.{LogPosition, base_at}
 use Rattle.sn_ondisk.specs.LogHalf.{InHalf, base_of}
 use Rattle.sn_device.specs.Crash.{Touches}
 use Rattle.sn_device.specs.Disk.{Disk, reads}
 use Rattle.sn_device.specs.Sectors.{AreSectors}
-use Rattle.sn_layout.specs.Places.{other_slot}
+use Rattle.sn_layout.specs.Geometry.{other_slot}
 use Rattle.sn_model.specs.declared.change.Change.{Change}
 use Rattle.sn_model.specs.declared.outcome.Outcome.{Outcome}
 use Rattle.sn_model.specs.World.{World}

@@ -22,7 +22,7 @@ use Rattle.sn_block.specs.Counts.{IsLater, called}
 use Rattle.sn_block.specs.Effects.{Nowhere}
 use Rattle.sn_ondisk.specs.LogHalf.{InHalf, body_sectors}
 use Rattle.sn_record.specs.Payload.{payload_bytes}
-use Rattle.sn_log.specs.Places.{HasRoom, base_at, first_of}
+use Rattle.sn_log.specs.Positions.{HasRoom, base_at, first_of}
 use Rattle.sn_core.specs.Numbering.{Numbers, gives_kept, has_closed}
 use Rattle.sn_core.specs.declared.choosing.Chosen.{Chosen}
 use Rattle.sn_core.specs.Served.{Chooses}

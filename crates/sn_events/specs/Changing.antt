@@ -13,7 +13,7 @@ use Rattle.sn_model.specs.declared.reply.Errno.{Errno}
 use Rattle.sn_model.specs.declared.reply.Errno.TheVariants.{Enomem, Eio}
 use Rattle.sn_numbers.specs.Numbers.{kept_after, since_after}
 use Rattle.sn_ondisk.specs.LogHalf.{InHalf}
-use Rattle.sn_log.specs.Places.{base_at, behind}
+use Rattle.sn_log.specs.Positions.{base_at, behind}
 use Rattle.sn_block.specs.Counts.{IsLater, called}
 use Rattle.sn_events.specs.Answers.{writes_of}
 use Rattle.sn_held.specs.Events.{LeavesEither, LeavesMore}

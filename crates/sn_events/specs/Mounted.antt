@@ -3,12 +3,12 @@ use Rattle.std.specs.Prelude.{◌≡◌, ◌+◌, ◌*◌, ◌^◌, ◌≤◌, B
 use Rattle.sn_device.specs.declared.device.Device.{Ghosts}
 use Rattle.sn_device.specs.declared.status.Status.{Status}
 use Rattle.sn_device.specs.Disk.{Disk}
-use Rattle.sn_layout.specs.Places.{other_slot}
+use Rattle.sn_layout.specs.Geometry.{other_slot}
 use Rattle.sn_limits.specs.Versions.{version_1}
 use Rattle.sn_model.specs.Worlds.{IsWorld}
 use Rattle.sn_block.specs.Lending.{device_of}
 use Rattle.sn_block.specs.declared.blocks.Blocks.{Blocks}
-use Rattle.sn_log.specs.Places.{LogPosition}
+use Rattle.sn_log.specs.Positions.{LogPosition}
 use Rattle.sn_core.specs.declared.world.PlainWorld.{PlainWorld}
 use Rattle.sn_core.specs.Plain.{kept_of, kept_since_of, world_of}
 use Rattle.sn_desc.specs.InUse.{live_in}

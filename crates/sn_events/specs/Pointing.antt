@@ -2,7 +2,7 @@
 use Rattle.std.specs.Prelude.{◌≡◌, ◌⊎◌, ℕ, ◌+◌, ◌<◌, ◌≤◌, Bool, true, false, Option, None, Some, Result, Ok, Err}
 use Rattle.sn_device.specs.Crash.{LeavesOnly, Touches}
 use Rattle.sn_layout.specs.declared.gate.Gate.{Gate}
-use Rattle.sn_log.specs.Places.{first_of}
+use Rattle.sn_log.specs.Positions.{first_of}
 use Rattle.sn_model.specs.declared.reply.Errno.{Errno}
 use Rattle.sn_model.specs.declared.reply.Progress.{Progress}
 use Rattle.sn_model.specs.declared.reply.Progress.TheVariants as progress

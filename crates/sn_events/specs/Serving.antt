@@ -7,8 +7,8 @@ use Rattle.sn_model.specs.declared.outcome.Caller.{Caller}
 use Rattle.sn_model.specs.declared.reply.Errno.TheVariants.{Enomem}
 use Rattle.sn_model.specs.declared.reply.Reply.{Reply}
 use Rattle.sn_model.specs.declared.reply.Reply.TheVariants as answer
-use Rattle.sn_core.specs.declared.error.CallError.{CallError}
-use Rattle.sn_core.specs.declared.error.CallError.TheVariants as lack
+use Rattle.sn_core.specs.declared.fault.CallError.{CallError}
+use Rattle.sn_core.specs.declared.fault.CallError.TheVariants as lack
 use Rattle.sn_device.specs.Crash.{Touches}
 use Rattle.sn_device.specs.declared.status.Status.{Status}
 use Rattle.sn_ondisk.specs.LogHalf.{InHalf}
@@ -21,7 +21,7 @@ use Rattle.sn_overlay.specs.Needs.{nameless_in}
 use Rattle.sn_room.specs.Rooms.{dropping}
 use Rattle.sn_held.specs.Held.{Held}
 use Rattle.sn_cp_progress.specs.Meaning.{Means}
-use Rattle.sn_log.specs.Places.{HasRoom, base_at}
+use Rattle.sn_log.specs.Positions.{HasRoom, base_at}
 use Rattle.sn_sound.specs.Logs.{HasAgeLeft}
 use Rattle.sn_events.specs.Answers.{AnswersFrom, IsTried, LacksFirst}
 pub use Rattle.sn_events.specs.Dropping.{DropsFiles}

@@ -8,7 +8,7 @@ use Rattle.sn_overlay.specs.Layers.{Layer}
 use Rattle.sn_overlay.specs.Overlays.{no_changes}
 use Rattle.sn_changed.specs.Changed.{HasChanged}
 use Rattle.sn_limits.specs.Versions.{version_1}
-use Rattle.sn_log.specs.Places.{LogPosition}
+use Rattle.sn_log.specs.Positions.{LogPosition}
 use Rattle.sn_examine.specs.Both.{Replays, ReplaysBoth, in_newer}
 use Rattle.sn_examine.specs.Replaying.{Breaks, LeadsOn}
 

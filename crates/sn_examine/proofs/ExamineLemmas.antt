@@ -1,7 +1,7 @@
 -- What the parts of a disk that are read first say of it.
 use Rattle.std.proofs.Common.{ℕ, Err, refl}
 use Rattle.sn_device.specs.Sectors.{Contents}
-use Rattle.sn_layout.specs.declared.places.LogHalf.TheVariants.{One}
+use Rattle.sn_layout.specs.declared.geometry.LogHalf.TheVariants.{One}
 use Rattle.sn_block.specs.declared.fault.ReadFault.{ReadFault}
 use Rattle.sn_block.specs.declared.fault.ReadFault.TheVariants as read
 use Rattle.sn_model.specs.declared.mount.MountFault.{MountFault}

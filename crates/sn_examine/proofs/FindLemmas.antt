@@ -4,10 +4,10 @@ use Rattle.std.proofs.lemmas.List.{nil_from_length}
 use Rattle.sn_device.specs.Sectors.{Contents}
 use Rattle.sn_limits.specs.declared.limits.Limits.{Limits}
 use Rattle.sn_limits.specs.Versions.{version_1}
-use Rattle.sn_layout.specs.Places.{start_of}
+use Rattle.sn_layout.specs.Geometry.{start_of}
 use Rattle.sn_layout.specs.RootBody.{IsRootBody}
-use Rattle.sn_layout.specs.declared.places.Area.TheVariants.{RootBody as Body}
-use Rattle.sn_layout.specs.declared.places.Slot.{Slot}
+use Rattle.sn_layout.specs.declared.geometry.Area.TheVariants.{RootBody as Body}
+use Rattle.sn_layout.specs.declared.geometry.Slot.{Slot}
 use Rattle.sn_layout.specs.declared.root.RootBody.{RootBody}
 use Rattle.sn_model.specs.declared.mount.Damage.{Damage}
 use Rattle.sn_model.specs.declared.mount.Damage.TheVariants.{Log}
@@ -26,7 +26,7 @@ use Rattle.sn_ondisk.specs.LogHalf.{HasNoLater, Replays as ReplaysPayloads, base
 use Rattle.sn_ondisk.specs.Roots.{IsNewest}
 use Rattle.sn_ondisk.specs.Trees.{store_of}
 use Rattle.sn_ondisk.proofs.OneRootLemmas.{newest_is_one}
-use Rattle.sn_log.specs.Places.{LogPosition, payloads_of}
+use Rattle.sn_log.specs.Positions.{LogPosition, payloads_of}
 use Rattle.sn_image.specs.Image.{image}
 use Rattle.sn_image.specs.Sound.{IsSound}
 use Rattle.sn_image.proofs.SoundNodeLemmas.{only_version}

@@ -8,11 +8,11 @@ use Rattle.byteorder.specs.Endian.{little_number}
 use Rattle.sn_device.specs.Sectors.{AreSectors, Contents, sector_at}
 use Rattle.sn_layout.specs.Bytes.{AreNumbers, numbers_bytes}
 use Rattle.sn_layout.proofs.Fields.{IsBytes}
-use Rattle.sn_layout.specs.declared.places.Area.TheVariants.{MapCopy}
-use Rattle.sn_layout.specs.declared.places.Slot.{Slot}
-use Rattle.sn_layout.specs.declared.places.Slot.TheVariants.{A, B}
+use Rattle.sn_layout.specs.declared.geometry.Area.TheVariants.{MapCopy}
+use Rattle.sn_layout.specs.declared.geometry.Slot.{Slot}
+use Rattle.sn_layout.specs.declared.geometry.Slot.TheVariants.{A, B}
 use Rattle.sn_layout.specs.declared.root.RootBody.{RootBody}
-use Rattle.sn_layout.specs.Places.{map_blocks, start_of}
+use Rattle.sn_layout.specs.Geometry.{map_blocks, start_of}
 use Rattle.sn_layout_node.specs.Indirect.{numbers_of}
 use Rattle.sn_layout_node.proofs.Numbers.{numbers_fit, numbers_read}
 use Rattle.sn_limits.specs.declared.limits.Limits.{Limits}

@@ -20,9 +20,9 @@ use Rattle.sn_model.specs.Chains.{◌>>=◌}
 use Rattle.sn_model.specs.Changes.{apply, apply_all}
 use Rattle.sn_model.specs.Tree.{Tree}
 use Rattle.sn_model.proofs.ListLemmas.{lists_join}
-use Rattle.sn_log.specs.Places.{LogPosition, IsBehind, base_at, behind, first_of}
+use Rattle.sn_log.specs.Positions.{LogPosition, IsBehind, base_at, behind, first_of}
 use Rattle.sn_log.specs.Replaying.{Finds}
-use Rattle.sn_log.specs.declared.replay.Found.TheVariants.{Change, Misspelt}
+use Rattle.sn_log.specs.declared.replay.NextRecord.TheVariants.{Change, Misspelt}
 use Rattle.sn_opening.proofs.CoveringLemmas.{applied_one}
 use Rattle.sn_opening.proofs.SpelledLemmas.{spelled_more}
 use Rattle.sn_sound.specs.Charges.{charges_from}

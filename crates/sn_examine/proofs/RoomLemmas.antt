@@ -7,12 +7,12 @@ use Rattle.std.proofs.Math.Seq.{take-add}
 use Rattle.std.proofs.lemmas.Slice.{take-put_mid}
 use borrow.Rule.Slice.PartMut.{put_mid}
 use Rattle.sn_device.specs.Sectors.{AreSectors, Contents}
-use Rattle.sn_layout.specs.declared.places.Area.TheVariants.{Data, MapCopy}
-use Rattle.sn_layout.specs.declared.places.Slot.{Slot}
+use Rattle.sn_layout.specs.declared.geometry.Area.TheVariants.{Data, MapCopy}
+use Rattle.sn_layout.specs.declared.geometry.Slot.{Slot}
 use Rattle.sn_layout.specs.declared.root.RootBody.{RootBody}
 use Rattle.sn_layout.specs.Bytes.{AreNumbers}
 use Rattle.sn_layout.specs.MapCopy.{map_block_bytes}
-use Rattle.sn_layout.specs.Places.{end_of, start_of}
+use Rattle.sn_layout.specs.Geometry.{end_of, start_of}
 use Rattle.sn_image.proofs.PieceLemmas.{all_drop, all_take}
 use Rattle.sn_ondisk.specs.Blocks.{block_at}
 use Rattle.sn_ondisk.specs.MapLaws.{words_of_block}

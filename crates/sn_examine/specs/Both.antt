@@ -6,7 +6,7 @@ use Rattle.sn_model.specs.declared.mount.Damage.TheVariants.{Log}
 use Rattle.sn_model.specs.declared.mount.MountFault.{MountFault}
 use Rattle.sn_model.specs.declared.mount.MountFault.TheVariants as fault
 use Rattle.sn_model.specs.Tree.{Tree}
-use Rattle.sn_log.specs.Places.{LogPosition}
+use Rattle.sn_log.specs.Positions.{LogPosition}
 use Rattle.sn_sound.specs.Logs.{BreaksAt}
 use Rattle.sn_examine.specs.Replaying.{HasAll}
 use Rattle.sn_examine.specs.declared.replaying.Replayed.{Replayed}

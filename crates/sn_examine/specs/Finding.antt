@@ -2,7 +2,7 @@
 use Rattle.std.specs.Prelude.{◌≡◌, ℕ, ◌+◌, ◌*◌, ◌≤◌, Bool, true, List, ◌++◌}
 use Rattle.sn_changed.specs.Changed.{HasChanged}
 use Rattle.sn_device.specs.Sectors.{Contents}
-use Rattle.sn_layout.specs.declared.places.Slot.{Slot}
+use Rattle.sn_layout.specs.declared.geometry.Slot.{Slot}
 use Rattle.sn_layout.specs.declared.root.RootBody.{RootBody}
 use Rattle.sn_layout.specs.declared.tree.BlockTree.{BlockTree}
 use Rattle.sn_limits.specs.Versions.{version_1}
@@ -15,7 +15,7 @@ use Rattle.sn_ondisk.specs.LogHalf.{HasNoLater, base_of}
 use Rattle.sn_ondisk.specs.MapCopy.{HasMap}
 use Rattle.sn_ondisk.specs.Roots.{IsNewest}
 use Rattle.sn_ondisk.specs.Trees.{store_of}
-use Rattle.sn_log.specs.Places.{LogPosition}
+use Rattle.sn_log.specs.Positions.{LogPosition}
 use Rattle.sn_image.specs.Image.{image}
 use Rattle.sn_image.specs.Sound.{IsSound}
 use Rattle.sn_sound.specs.Disks.{IsFormatted}

@@ -6,5 +6,5 @@ pub mod Both
 pub mod Rooms
 pub mod Finding
 pub mod Ages
-pub mod Found
+pub mod FoundDisk
 pub mod Laws

@@ -1,9 +1,9 @@
 -- Why a disk isn't mounted.
 use Rattle.std.specs.Prelude.{◌≡◌, ℕ, List, Result, IfErr, slice_index}
 use Rattle.sn_device.specs.Sectors.{Contents}
-use Rattle.sn_layout.specs.Places.{start_of}
-use Rattle.sn_layout.specs.declared.places.Area.TheVariants.{MapCopy, RootBody as Body}
-use Rattle.sn_layout.specs.declared.places.Slot.{Slot}
+use Rattle.sn_layout.specs.Geometry.{start_of}
+use Rattle.sn_layout.specs.declared.geometry.Area.TheVariants.{MapCopy, RootBody as Body}
+use Rattle.sn_layout.specs.declared.geometry.Slot.{Slot}
 use Rattle.sn_layout.specs.declared.root.RootBody.{RootBody}
 use Rattle.sn_model.specs.declared.mount.Damage.{Damage}
 use Rattle.sn_model.specs.declared.mount.Damage.TheVariants.{Root, Pointer, ReachedTwice, MapWord, Misspelt, Links, Log}

@@ -11,7 +11,7 @@ use Rattle.sn_model.specs.Changes.{apply_all}
 use Rattle.sn_model.specs.Tree.{Tree}
 use Rattle.sn_overlay.specs.Layers.{Layer}
 use Rattle.sn_ondisk.specs.LogHalf.{Stops}
-use Rattle.sn_log.specs.Places.{LogPosition, IsBehind, base_at}
+use Rattle.sn_log.specs.Positions.{LogPosition, IsBehind, base_at}
 use Rattle.sn_opening.specs.Spelled.{AreSpelled}
 use Rattle.sn_sound.specs.Charges.{charges_from}
 use Rattle.sn_sound.specs.Logs.{BreaksAt}

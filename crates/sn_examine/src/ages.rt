@@ -3,7 +3,7 @@ ghost use Rattle.std.specs.Prelude.{◌≡◌, ◌⊎◌, ◌↔◌, ◌<◌, tr
 ghost use Rattle.sn_sound.specs.Logs.{HasAgeLeft};
 ghost use Rattle.sn_examine.specs.Ages.{IsAged};
 
-use sn_layout::{Area, LARGEST_AGE, LogHalf, Places, RootBody};
+use sn_layout::{Area, Geometry, LARGEST_AGE, LogHalf, RootBody};
 use sn_model::{Damage, MountFault};
 
 /// Whether something is to recover on top of a root: a record is logged, or a file has no name.
@@ -22,14 +22,16 @@ fn has_age_left(root: &RootBody) -> bool
 }
 
 /// Damaged where something is to recover and no age is left for that, which is told of the half of the root's epoch.
-pub fn test_age(places: Places, root: &RootBody, recovers: bool) -> Result<(), MountFault>
+pub fn test_age(geometry: Geometry, root: &RootBody, recovers: bool) -> Result<(), MountFault>
     ensures left { OnOk result (recovers ≡ true → HasAgeLeft root.now) }
-    ensures aged { IfErr result (λ f. IsAged f places root.now recovers) }
+    ensures aged { IfErr result (λ f. IsAged f geometry root.now recovers) }
 {
     if recovers && !has_age_left(root) {
         return Err(MountFault::Damaged {
             damage: Damage::Log,
-            block: places.range(Area::Log(LogHalf::of_epoch(root.epoch))).start,
+            block: geometry
+                .range(Area::Log(LogHalf::of_epoch(root.epoch)))
+                .start,
         });
     }
     Ok(())

@@ -15,7 +15,7 @@ use crate::replaying::{Replayed, replay_epoch};
 use sn_block::Blocks;
 use sn_core::PlainWorld;
 use sn_device::Device;
-use sn_layout::Places;
+use sn_layout::Geometry;
 use sn_log::Buffer;
 use sn_model::MountFault;
 use sn_overlay::Overlay;
@@ -28,24 +28,24 @@ pub fn replay_both<D: Device>(
     blocks: &mut Blocks<D>,
     buffer: &mut Buffer,
     world: &mut PlainWorld,
-    places: Places,
+    geometry: Geometry,
     epoch: u64,
 ) -> Result<Replayed, MountFault>
     requires whole { IsTree version_1 (world_of world.old).live }
-    requires disk { 8 * places ≤ (D.status (device_of blocks.old)).sectors }
+    requires disk { 8 * geometry ≤ (D.status (device_of blocks.old)).sectors }
     requires epoch { epoch ≤ 2 ^ 62 }
-    ensures replayed { IsTrue D.tells_bytes → ReplaysBoth result (reads (D.disk (device_of blocks.old))) (world_of world.old).live places epoch (world_of world.new).live }
+    ensures replayed { IsTrue D.tells_bytes → ReplaysBoth result (reads (D.disk (device_of blocks.old))) (world_of world.old).live geometry epoch (world_of world.new).live }
     ensures changed { IfOk result (λ r. LeadsOn no_changes (world_of world.old).live 0 (layer_of r.changed) (world_of world.new).live r.charges) }
     ensures rest { world_of world.new ≡ with_live (world_of world.old) (world_of world.new).live }
     ensures whole { IsTree version_1 (world_of world.new).live }
-    ensures blocks { IfOk result (λ r. r.at.blocks ≡ places) }
+    ensures blocks { IfOk result (λ r. r.at.blocks ≡ geometry) }
     ensures same { IsTrue D.tells_bytes → D.disk (device_of blocks.new) ≡ D.disk (device_of blocks.old) }
     ensures idle { OnOk result (D.status (device_of blocks.new) ≡ D.status (device_of blocks.old)) }
     ensures reads { WritesNothing (D.status (device_of blocks.old)) (D.status (device_of blocks.new)) }
     ensures failed { FailsAs result (D.status (device_of blocks.old)) (D.status (device_of blocks.new)) }
 {
     let changed = Overlay::new(alloc);
-    let older = match replay_epoch(alloc, blocks, buffer, world, changed, places, epoch) {
+    let older = match replay_epoch(alloc, blocks, buffer, world, changed, geometry, epoch) {
         Ok(replayed) => replayed,
         Err(fault) => return Err(fault),
     };
@@ -55,7 +55,7 @@ pub fn replay_both<D: Device>(
         buffer,
         world,
         older.changed,
-        places,
+        geometry,
         epoch + 1,
     ) {
         Ok(replayed) => replayed,

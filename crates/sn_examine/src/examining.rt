@@ -7,7 +7,7 @@ ghost use Rattle.sn_ondisk.specs.LogHalf.{HasNoLater, base_of};
 ghost use Rattle.sn_ondisk.specs.Roots.{IsNewest};
 ghost use Rattle.sn_sound.specs.Disks.{IsFormatted};
 ghost use Rattle.sn_sound.specs.Verdicts.{IsSomeSize};
-ghost use Rattle.sn_log.specs.Places.{half_base};
+ghost use Rattle.sn_log.specs.Positions.{half_base};
 ghost use Rattle.sn_examine.specs.Examining.{IsLaterIn, IsOfRoots, SomeIsLater};
 ghost use Rattle.sn_examine.specs.Failing.{FailsAs, WritesNothing};
 ghost use Rattle.sn_examine.specs.Refusing.{RefusesAs};
@@ -15,7 +15,7 @@ ghost use Rattle.sn_examine.specs.Refusing.{RefusesAs};
 use crate::fault::{fault_of, root_fault};
 use sn_block::Blocks;
 use sn_device::Device;
-use sn_layout::{Area, LogHalf, Places, Superblock};
+use sn_layout::{Area, Geometry, LogHalf, Superblock};
 use sn_log::has_no_later;
 use sn_model::{Damage, MountFault};
 use sn_root::{NewestRoot, newest};
@@ -24,7 +24,7 @@ use sn_root::{NewestRoot, newest};
 const LEAST_SECTORS: u64 = 2_048;
 
 /// How large the disk is, by its superblock. `NotFormatted` where that is misspelt, or the device has fewer sectors.
-pub(crate) fn disk_size<D: Device>(blocks: &mut Blocks<D>) -> Result<Places, MountFault>
+pub(crate) fn disk_size<D: Device>(blocks: &mut Blocks<D>) -> Result<Geometry, MountFault>
     ensures found { IsTrue D.tells_bytes → IfOk result (λ n. IsFormatted (D.status (device_of blocks.old)).sectors (reads (D.disk (device_of blocks.old))) n) }
     ensures within { IfOk result (λ n. 8 * n ≤ (D.status (device_of blocks.old)).sectors) }
     ensures least { OnOk result (2048 ≤ (D.status (device_of blocks.old)).sectors) }
@@ -46,10 +46,10 @@ pub(crate) fn disk_size<D: Device>(blocks: &mut Blocks<D>) -> Result<Places, Mou
     let Some(superblock) = Superblock::decode(block) else {
         return Err(MountFault::NotFormatted);
     };
-    if 8 * u64::from(superblock.places.blocks()) > sectors {
+    if 8 * u64::from(superblock.geometry.blocks()) > sectors {
         return Err(MountFault::NotFormatted);
     }
-    Ok(superblock.places)
+    Ok(superblock.geometry)
 }
 
 /// The root that counts.
@@ -75,23 +75,23 @@ pub(crate) fn newest_root<D: Device>(blocks: &mut Blocks<D>) -> Result<NewestRoo
 /// that epoch begins. It is told of the half's first block.
 fn none_later_in<D: Device>(
     blocks: &mut Blocks<D>,
-    places: Places,
+    geometry: Geometry,
     half: LogHalf,
     epoch: u64,
 ) -> Result<(), MountFault>
-    requires disk { 8 * places ≤ (D.status (device_of blocks.old)).sectors }
-    ensures none { IsTrue D.tells_bytes → OnOk result (HasNoLater (reads (D.disk (device_of blocks.old))) (half_base places half) epoch) }
-    ensures later { IsTrue D.tells_bytes → IfErr result (λ f. IsLaterIn f (reads (D.disk (device_of blocks.old))) places half epoch) }
+    requires disk { 8 * geometry ≤ (D.status (device_of blocks.old)).sectors }
+    ensures none { IsTrue D.tells_bytes → OnOk result (HasNoLater (reads (D.disk (device_of blocks.old))) (half_base geometry half) epoch) }
+    ensures later { IsTrue D.tells_bytes → IfErr result (λ f. IsLaterIn f (reads (D.disk (device_of blocks.old))) geometry half epoch) }
     ensures same { IsTrue D.tells_bytes → D.disk (device_of blocks.new) ≡ D.disk (device_of blocks.old) }
     ensures idle { OnOk result (D.status (device_of blocks.new) ≡ D.status (device_of blocks.old)) }
     ensures reads { WritesNothing (D.status (device_of blocks.old)) (D.status (device_of blocks.new)) }
     ensures failed { FailsAs result (D.status (device_of blocks.old)) (D.status (device_of blocks.new)) }
 {
-    match has_no_later(blocks, places, half, epoch) {
+    match has_no_later(blocks, geometry, half, epoch) {
         Ok(true) => Ok(()),
         Ok(false) => Err(MountFault::Damaged {
             damage: Damage::Log,
-            block: places.range(Area::Log(half)).start,
+            block: geometry.range(Area::Log(half)).start,
         }),
         Err(fault) => Err(fault_of(fault)),
     }
@@ -101,22 +101,22 @@ fn none_later_in<D: Device>(
 /// half's first block.
 pub fn none_later<D: Device>(
     blocks: &mut Blocks<D>,
-    places: Places,
+    geometry: Geometry,
     epoch: u64,
 ) -> Result<(), MountFault>
-    requires disk { 8 * places ≤ (D.status (device_of blocks.old)).sectors }
-    ensures none { IsTrue D.tells_bytes → OnOk result ((e : ℕ) → HasNoLater (reads (D.disk (device_of blocks.old))) (base_of places e) epoch) }
-    ensures later { IsTrue D.tells_bytes → IfErr result (λ f. SomeIsLater f (reads (D.disk (device_of blocks.old))) places epoch) }
+    requires disk { 8 * geometry ≤ (D.status (device_of blocks.old)).sectors }
+    ensures none { IsTrue D.tells_bytes → OnOk result ((e : ℕ) → HasNoLater (reads (D.disk (device_of blocks.old))) (base_of geometry e) epoch) }
+    ensures later { IsTrue D.tells_bytes → IfErr result (λ f. SomeIsLater f (reads (D.disk (device_of blocks.old))) geometry epoch) }
     ensures same { IsTrue D.tells_bytes → D.disk (device_of blocks.new) ≡ D.disk (device_of blocks.old) }
     ensures idle { OnOk result (D.status (device_of blocks.new) ≡ D.status (device_of blocks.old)) }
     ensures reads { WritesNothing (D.status (device_of blocks.old)) (D.status (device_of blocks.new)) }
     ensures failed { FailsAs result (D.status (device_of blocks.old)) (D.status (device_of blocks.new)) }
 {
-    match none_later_in(blocks, places, LogHalf::Zero, epoch) {
+    match none_later_in(blocks, geometry, LogHalf::Zero, epoch) {
         Ok(()) => {}
         Err(fault) => return Err(fault),
     }
-    match none_later_in(blocks, places, LogHalf::One, epoch) {
+    match none_later_in(blocks, geometry, LogHalf::One, epoch) {
         Ok(()) => Ok(()),
         Err(fault) => Err(fault),
     }

@@ -24,7 +24,7 @@
 //! What the sources leave open is decided in `docs/DECISIONS.md`, under "Mount of a root".
 //!
 //! ```text
-//! let Found { root, map, at, world, changed, room, .. } = find(alloc, &mut blocks, &mut buffer)?;
+//! let FoundDisk { root, map, at, world, changed, room, .. } = find(alloc, &mut blocks, &mut buffer)?;
 //! ```
 #![tactic(auto)]
 
@@ -42,7 +42,7 @@ pub use ages::{is_to_recover, test_age};
 pub use both::replay_both;
 pub use examining::none_later;
 pub use fault::fault_of;
-pub use finding::{DiskRoot, Found, find, find_newest, find_root};
+pub use finding::{DiskRoot, FoundDisk, find, find_newest, find_root};
 pub use laws::image_laws;
 pub use loading::load_world;
 pub use replaying::Replayed;

@@ -16,8 +16,8 @@ use sn_block::Blocks;
 use sn_changed::changed_laws;
 use sn_core::PlainWorld;
 use sn_device::Device;
-use sn_layout::Places;
-use sn_log::{Buffer, Found, Position, Replay};
+use sn_layout::Geometry;
+use sn_log::{Buffer, NextRecord, Position, Replay};
 use sn_model::{Damage, MountFault};
 use sn_overlay::Overlay;
 use sn_plain::ApplyError;
@@ -65,7 +65,7 @@ pub(crate) fn replay_next<D: Device>(
     // It bounds the place.
     let _place = at.place();
     match replay.next(blocks, buffer) {
-        Ok(Found::Change(change)) => {
+        Ok(NextRecord::Change(change)) => {
             let charge = world.charge(&change);
             changed_laws();
             match world.apply_beside(alloc, &change, changed, 0) {
@@ -80,8 +80,8 @@ pub(crate) fn replay_next<D: Device>(
                 }),
             }
         }
-        Ok(Found::End) => Ok(false),
-        Ok(Found::Misspelt { block }) => Err(MountFault::Damaged {
+        Ok(NextRecord::End) => Ok(false),
+        Ok(NextRecord::Misspelt { block }) => Err(MountFault::Damaged {
             damage: Damage::Log,
             block,
         }),
@@ -97,24 +97,24 @@ pub(crate) fn replay_epoch<D: Device>(
     buffer: &mut Buffer,
     world: &mut PlainWorld,
     mut changed: Overlay,
-    places: Places,
+    geometry: Geometry,
     epoch: u64,
 ) -> Result<Replayed, MountFault>
     requires whole { IsTree version_1 (world_of world.old).live }
-    requires disk { 8 * places ≤ (D.status (device_of blocks.old)).sectors }
-    ensures replayed { IsTrue D.tells_bytes → ReplaysAll result (reads (D.disk (device_of blocks.old))) (world_of world.old).live places epoch (world_of world.new).live }
+    requires disk { 8 * geometry ≤ (D.status (device_of blocks.old)).sectors }
+    ensures replayed { IsTrue D.tells_bytes → ReplaysAll result (reads (D.disk (device_of blocks.old))) (world_of world.old).live geometry epoch (world_of world.new).live }
     ensures rest { world_of world.new ≡ with_live (world_of world.old) (world_of world.new).live }
     ensures whole { IsTree version_1 (world_of world.new).live }
     ensures changed { IfOk result (λ r. LeadsOn (layer_of changed) (world_of world.old).live 0 (layer_of r.changed) (world_of world.new).live r.charges) }
     ensures few { IfOk result (λ r. r.charges ≤ 2 ^ 72) }
-    ensures blocks { IfOk result (λ r. r.at.blocks ≡ places) }
+    ensures blocks { IfOk result (λ r. r.at.blocks ≡ geometry) }
     ensures epoch { IfOk result (λ r. r.at.epoch ≡ epoch) }
     ensures same { IsTrue D.tells_bytes → D.disk (device_of blocks.new) ≡ D.disk (device_of blocks.old) }
     ensures idle { OnOk result (D.status (device_of blocks.new) ≡ D.status (device_of blocks.old)) }
     ensures reads { WritesNothing (D.status (device_of blocks.old)) (D.status (device_of blocks.new)) }
     ensures failed { FailsAs result (D.status (device_of blocks.old)) (D.status (device_of blocks.new)) }
 {
-    let mut replay = Replay::new(places, epoch);
+    let mut replay = Replay::new(geometry, epoch);
     let mut charges = 0;
     let mut more = true;
     while more {

@@ -12,7 +12,7 @@ ghost use Rattle.sn_examine.specs.Rooms.{FindsRoom, IsNoDamage, IsUncovered};
 use crate::fault::fault_of;
 use sn_block::Blocks;
 use sn_device::Device;
-use sn_layout::{Area, LogHalf, Places, RootBody, Slot, WORDS_PER_BLOCK, read_map_words};
+use sn_layout::{Area, Geometry, LogHalf, RootBody, Slot, WORDS_PER_BLOCK, read_map_words};
 use sn_limits::Limits;
 use sn_map::Map;
 use sn_model::{Damage, MountFault};
@@ -47,20 +47,20 @@ fn read_words<D: Device>(
 /// Reads the words of a slot's copy of the map, block by block.
 fn fill_words<D: Device>(
     blocks: &mut Blocks<D>,
-    places: Places,
+    geometry: Geometry,
     slot: Slot,
     words: &mut [u32],
 ) -> Result<(), MountFault>
-    requires disk { 8 * places ≤ (D.status (device_of blocks.old)).sectors }
-    requires count { length words.old ≡ places }
-    ensures words { IsTrue D.tells_bytes → OnOk result ((all : List ℕ) → HasMap places (reads (D.disk (device_of blocks.old))) slot all → words.new ≡ all) }
+    requires disk { 8 * geometry ≤ (D.status (device_of blocks.old)).sectors }
+    requires count { length words.old ≡ geometry }
+    ensures words { IsTrue D.tells_bytes → OnOk result ((all : List ℕ) → HasMap geometry (reads (D.disk (device_of blocks.old))) slot all → words.new ≡ all) }
     ensures fault { IfErr result IsNoDamage }
     ensures same { IsTrue D.tells_bytes → D.disk (device_of blocks.new) ≡ D.disk (device_of blocks.old) }
     ensures idle { OnOk result (D.status (device_of blocks.new) ≡ D.status (device_of blocks.old)) }
     ensures reads { WritesNothing (D.status (device_of blocks.old)) (D.status (device_of blocks.new)) }
     ensures failed { FailsAs result (D.status (device_of blocks.old)) (D.status (device_of blocks.new)) }
 {
-    let first = places.range(Area::MapCopy(slot)).start;
+    let first = geometry.range(Area::MapCopy(slot)).start;
     let mut at = 0;
     while at < words.len() {
         let end = words.len().min(at + WORDS_PER_BLOCK);
@@ -78,22 +78,22 @@ fn fill_words<D: Device>(
 pub fn read_map<D: Device>(
     alloc: Global,
     blocks: &mut Blocks<D>,
-    places: Places,
+    geometry: Geometry,
     slot: Slot,
 ) -> Result<Map, MountFault>
-    requires disk { 8 * places ≤ (D.status (device_of blocks.old)).sectors }
-    ensures words { IsTrue D.tells_bytes → IfOk result (λ map. (words : List ℕ) → HasMap places (reads (D.disk (device_of blocks.old))) slot words → map ≡ words) }
-    ensures count { IfOk result (λ map. length map ≡ places) }
+    requires disk { 8 * geometry ≤ (D.status (device_of blocks.old)).sectors }
+    ensures words { IsTrue D.tells_bytes → IfOk result (λ map. (words : List ℕ) → HasMap geometry (reads (D.disk (device_of blocks.old))) slot words → map ≡ words) }
+    ensures count { IfOk result (λ map. length map ≡ geometry) }
     ensures fault { IfErr result IsNoDamage }
     ensures same { IsTrue D.tells_bytes → D.disk (device_of blocks.new) ≡ D.disk (device_of blocks.old) }
     ensures idle { OnOk result (D.status (device_of blocks.new) ≡ D.status (device_of blocks.old)) }
     ensures reads { WritesNothing (D.status (device_of blocks.old)) (D.status (device_of blocks.new)) }
     ensures failed { FailsAs result (D.status (device_of blocks.old)) (D.status (device_of blocks.new)) }
 {
-    let Ok(mut words) = Vec::from_elem(alloc, 0, places.blocks() as usize) else {
+    let Ok(mut words) = Vec::from_elem(alloc, 0, geometry.blocks() as usize) else {
         return Err(MountFault::Memory);
     };
-    match fill_words(blocks, places, slot, words.as_mut_slice()) {
+    match fill_words(blocks, geometry, slot, words.as_mut_slice()) {
         Ok(()) => Ok(Map::from_words(words)),
         Err(fault) => Err(fault),
     }
@@ -104,33 +104,35 @@ pub fn read_map<D: Device>(
 pub(crate) fn find_room<D: Device>(
     alloc: Global,
     blocks: &mut Blocks<D>,
-    places: Places,
+    geometry: Geometry,
     slot: Slot,
     root: &RootBody,
     charges: u128,
     dropped: u32,
 ) -> Result<(Map, Room), MountFault>
-    requires disk { 8 * places ≤ (D.status (device_of blocks.old)).sectors }
-    ensures words { IsTrue D.tells_bytes → IfOk result (λ r. (words : List ℕ) → HasMap places (reads (D.disk (device_of blocks.old))) slot words → r.0 ≡ words) }
-    ensures count { IfOk result (λ r. length r.0 ≡ places) }
-    ensures room { IsTrue D.tells_bytes → IfOk result (λ r. FindsRoom places (reads (D.disk (device_of blocks.old))) slot root.now charges dropped r.1) }
+    requires disk { 8 * geometry ≤ (D.status (device_of blocks.old)).sectors }
+    ensures words { IsTrue D.tells_bytes → IfOk result (λ r. (words : List ℕ) → HasMap geometry (reads (D.disk (device_of blocks.old))) slot words → r.0 ≡ words) }
+    ensures count { IfOk result (λ r. length r.0 ≡ geometry) }
+    ensures room { IsTrue D.tells_bytes → IfOk result (λ r. FindsRoom geometry (reads (D.disk (device_of blocks.old))) slot root.now charges dropped r.1) }
     ensures few { IfOk result (λ r. r.1.dropped ≤ 2 ^ 32) }
-    ensures uncovered { IsTrue D.tells_bytes → IfErr result (λ f. IsUncovered f places (reads (D.disk (device_of blocks.old))) slot root.now charges dropped) }
+    ensures uncovered { IsTrue D.tells_bytes → IfErr result (λ f. IsUncovered f geometry (reads (D.disk (device_of blocks.old))) slot root.now charges dropped) }
     ensures same { IsTrue D.tells_bytes → D.disk (device_of blocks.new) ≡ D.disk (device_of blocks.old) }
     ensures idle { OnOk result (D.status (device_of blocks.new) ≡ D.status (device_of blocks.old)) }
     ensures reads { WritesNothing (D.status (device_of blocks.old)) (D.status (device_of blocks.new)) }
     ensures failed { FailsAs result (D.status (device_of blocks.old)) (D.status (device_of blocks.new)) }
 {
-    let map = match read_map(alloc, blocks, places, slot) {
+    let map = match read_map(alloc, blocks, geometry, slot) {
         Ok(map) => map,
         Err(fault) => return Err(fault),
     };
-    let free = map.count_free_from(places.range(Area::Data).start);
+    let free = map.count_free_from(geometry.range(Area::Data).start);
     match Room::mounted(&Limits::VERSION_1, free, charges, dropped) {
         Some(room) => Ok((map, room)),
         None => Err(MountFault::Damaged {
             damage: Damage::Log,
-            block: places.range(Area::Log(LogHalf::of_epoch(root.epoch))).start,
+            block: geometry
+                .range(Area::Log(LogHalf::of_epoch(root.epoch)))
+                .start,
         }),
     }
 }

@@ -1,11 +1,10 @@
 ghost use Rattle.std.specs.Prelude.{◌≡◌, ℕ, ◌+◌, ◌≤◌, length, slice_index};
 ghost use Rattle.sn_file_bytes.specs.Blocks.{cut_at, over};
 
-/// How many bytes a block has.
-pub(crate) const BLOCK_SIZE: u64 = 4096;
+use sn_limits::{BLOCK_SIZE, Block};
 
-/// What is in one block.
-pub(crate) type Block = [u8; 4096];
+/// How many bytes a block has, as offsets count them.
+pub(crate) const BLOCK_BYTES: u64 = BLOCK_SIZE as u64;
 
 /// A block that nothing was written to.
 pub(crate) const ZEROS: Block = [0; 4096];

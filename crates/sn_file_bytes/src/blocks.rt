@@ -1,6 +1,7 @@
 ghost use Rattle.std.specs.Prelude.{◌≡◌, ◌≢◌, ℕ, ◌+◌, ◌/◌, ◌%◌, ◌≤◌, ◌<◌, ◌^◌, ◌&&◌, ◌==◌, ◌++◌, ◌-◌, ◌*◌, true, length, nat_lt, nat_le, OnOk, if◌then◌else◌};
 
-use crate::block::{self, BLOCK_SIZE, Block, ZEROS};
+use crate::block::{self, BLOCK_BYTES, ZEROS};
+use sn_limits::Block;
 use std::alloc::{AllocError, Global};
 use std::collections::BTreeMap;
 
@@ -57,8 +58,8 @@ impl Blocks {
         ensures bytes { (k : ℕ) → byte_of self.new k ≡ over (byte_of self.old) at piece.now k }
         ensures kept { (i : ℕ) → has_block self.old i ≡ true → has_block self.new i ≡ true }
     {
-        if let Some(block) = self.map.get_mut(&(at / BLOCK_SIZE)) {
-            block::put(block, (at % BLOCK_SIZE) as usize, piece);
+        if let Some(block) = self.map.get_mut(&(at / BLOCK_BYTES)) {
+            block::put(block, (at % BLOCK_BYTES) as usize, piece);
         }
     }
 
@@ -66,8 +67,8 @@ impl Blocks {
     fn clear_piece(&mut self, at: u64)
         ensures { (k : ℕ) → byte_of self.new k ≡ (if k / 4096 == at / 4096 && nat_le (at % 4096) (k % 4096) then 0 else byte_of self.old k) }
     {
-        if let Some(block) = self.map.get_mut(&(at / BLOCK_SIZE)) {
-            block::clear_from(block, (at % BLOCK_SIZE) as usize);
+        if let Some(block) = self.map.get_mut(&(at / BLOCK_BYTES)) {
+            block::clear_from(block, (at % BLOCK_BYTES) as usize);
         }
     }
 
@@ -82,7 +83,7 @@ impl Blocks {
     pub fn cut(&mut self, size: u64)
         ensures { (k : ℕ) → byte_of self.new k ≡ cut_at (byte_of self.old) size k }
     {
-        self.drop_from(size.div_ceil(BLOCK_SIZE));
+        self.drop_from(size.div_ceil(BLOCK_BYTES));
         self.clear_piece(size);
     }
 
@@ -95,7 +96,7 @@ impl Blocks {
         let mut done = 0;
         while done < bytes.len() {
             let at = offset + done as u64;
-            let room = (BLOCK_SIZE - at % BLOCK_SIZE) as usize;
+            let room = (BLOCK_BYTES - at % BLOCK_BYTES) as usize;
             let count = room.min(bytes.len() - done);
             self.put_piece(at, &bytes[done..done + count]);
             done += count;
@@ -109,9 +110,9 @@ impl Blocks {
         ensures some { 0 < length result.now }
         ensures few { length result.now ≤ count }
     {
-        let from = (at % BLOCK_SIZE) as usize;
-        let room = count.min(BLOCK_SIZE - at % BLOCK_SIZE) as usize;
-        match self.map.get(&(at / BLOCK_SIZE)) {
+        let from = (at % BLOCK_BYTES) as usize;
+        let room = count.min(BLOCK_BYTES - at % BLOCK_BYTES) as usize;
+        match self.map.get(&(at / BLOCK_BYTES)) {
             Some(block) => &block[from..from + room],
             None => &ZEROS[from..from + room],
         }

@@ -1,7 +1,7 @@
 ghost use Rattle.std.specs.Prelude.{◌≡◌, ◌+◌, ◌<◌, ◌^◌, [], length, take, drop, IfOk, OnOk, OnErr};
 ghost use Rattle.sn_model.specs.Changes.{overwritten, resized};
 
-use crate::block::BLOCK_SIZE;
+use crate::block::BLOCK_BYTES;
 use crate::blocks::Blocks;
 use std::alloc::{AllocError, Global};
 use std::marker::Model;
@@ -66,7 +66,7 @@ impl FileBytes {
     {
         let end = offset + bytes.len() as u64;
         self.blocks
-            .fill(alloc, offset / BLOCK_SIZE, end.div_ceil(BLOCK_SIZE))?;
+            .fill(alloc, offset / BLOCK_BYTES, end.div_ceil(BLOCK_BYTES))?;
         self.blocks.put(offset, bytes);
         self.size = self.size.max(end);
         Ok(())

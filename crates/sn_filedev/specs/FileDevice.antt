@@ -2,7 +2,7 @@
 use Rattle.std.specs.Prelude.{[], Bool}
 use Rattle.sn_device.specs.Disk.{Disk}
 use Rattle.sn_device.specs.declared.status.Status.{Status}
-use Rattle.sn_filedev.specs.declared.block.Block.{Block}
+use Rattle.sn_filedev.specs.declared.block.LastBlock.{LastBlock}
 use Rattle.sn_filedev.specs.declared.file.FileDevice.{FileDevice}
 use Rattle.sn_filedev.specs.declared.gathered.Gathered.{Gathered}
 
@@ -11,7 +11,7 @@ abbrev pub status_of : {F : Type 0} → FileDevice F → Status
 status_of d = d.status
 
 -- the block that was read last
-abbrev pub block_of : {F : Type 0} → FileDevice F → Block
+abbrev pub block_of : {F : Type 0} → FileDevice F → LastBlock
 block_of d = d.block
 
 -- the sectors that wait to be handed to the file

@@ -1,4 +1,4 @@
-pub mod Block
+pub mod LastBlock
 pub mod FileDevice
 pub mod Gathered
 pub mod Runs

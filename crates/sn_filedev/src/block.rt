@@ -5,21 +5,19 @@ use sn_device::{SECTOR_SIZE, Sector};
 use std::io;
 use std::os::unix::fs::FileExt;
 
-pub const BLOCK_SECTORS: u64 = 8;
-
 #[derive(Drop)]
-pub struct Block {
+pub struct LastBlock {
     /// Which block of the file it is, if it is one.
     pub number: Option<u64>,
     pub bytes: [u8; 4096],
 }
 
-impl Block {
+impl LastBlock {
     /// Holds no block yet.
     pub fn new() -> Self
         ensures { result.number ≡ None }
     {
-        Block {
+        LastBlock {
             number: None,
             bytes: [0; 4096],
         }

@@ -4,12 +4,13 @@ ghost use Rattle.std.specs.Option.{ForSome};
 ghost use Rattle.sn_device.specs.Status.{uncalled, one_write, one_sync, Counts, CountsOrEnds};
 ghost use Rattle.sn_filedev.specs.Runs.{IsApart};
 ghost use Rattle.sn_filedev.specs.Gathered.{Gathers};
-ghost use Rattle.sn_filedev.specs.Block.{Shows};
+ghost use Rattle.sn_filedev.specs.LastBlock.{Shows};
 ghost use Rattle.std.proofs.lemmas.Bool.{false≢true};
 
-use crate::block::{BLOCK_SECTORS, Block};
+use crate::block::LastBlock;
 use crate::gathered::Gathered;
 use sn_device::{Device, Fault, SECTOR_SIZE, Sector, Status};
+use sn_limits::SECTORS_PER_BLOCK;
 use std::alloc::Global;
 use std::fs::OpenFile;
 use std::io;
@@ -22,7 +23,7 @@ pub struct FileDevice<F: FileExt + OpenFile> {
     file: F,
     status: Status,
     gathered: Gathered,
-    block: Block,
+    block: LastBlock,
     // The file's own sync failed. The system may have dropped what it couldn't write, and a later
     // sync of the file wouldn't tell.
     is_lost: bool,
@@ -76,7 +77,7 @@ impl<F: FileExt + OpenFile + Drop> FileDevice<F> {
             file,
             status: Status::new(sectors),
             gathered,
-            block: Block::new(),
+            block: LastBlock::new(),
             is_lost: false,
             is_read_only: reads_alone,
         }
@@ -137,11 +138,11 @@ impl<F: FileExt + OpenFile + Drop> FileDevice<F> {
         ensures access { self.new.is_read_only ≡ self.old.is_read_only }
         ensures here { OnOk result (self.new.block.number ≡ Some (at / 8)) }
     {
-        let number = at / BLOCK_SECTORS;
+        let number = at / SECTORS_PER_BLOCK;
         if !self.block.is(number) {
-            let first = number * BLOCK_SECTORS;
-            let count = BLOCK_SECTORS.min(self.status.sectors - first);
-            if self.gathered.overlaps(first, first + BLOCK_SECTORS) {
+            let first = number * SECTORS_PER_BLOCK;
+            let count = SECTORS_PER_BLOCK.min(self.status.sectors - first);
+            if self.gathered.overlaps(first, first + SECTORS_PER_BLOCK) {
                 self.flush()?;
             }
             self.block.read(&self.file, number, count)?;
@@ -160,7 +161,7 @@ impl<F: FileExt + OpenFile + Drop> FileDevice<F> {
         if self.is_read_only {
             return Err(io::ErrorKind::PermissionDenied.into());
         }
-        if self.block.is(at / BLOCK_SECTORS) {
+        if self.block.is(at / SECTORS_PER_BLOCK) {
             self.block.forget();
         }
         if self.gathered.is_followed_by(at) {
@@ -228,7 +229,7 @@ impl<F: FileExt + OpenFile + Drop> Device for FileDevice<F> {
             self.status.count_failure();
             return Err(Fault);
         }
-        self.block.copy_to(at % BLOCK_SECTORS, sector);
+        self.block.copy_to(at % SECTORS_PER_BLOCK, sector);
         Ok(())
     }
 

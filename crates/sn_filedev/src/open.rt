@@ -3,11 +3,11 @@
 ghost use Rattle.std.specs.Prelude.{◌≡◌, ◌*◌, true, false, IfOk};
 ghost use Rattle.sn_device.specs.Status.{uncalled};
 
-use crate::block::BLOCK_SECTORS;
 use crate::file::FileDevice;
 use crate::gathered::Gathered;
 use crate::lock::{LockFile, locked};
 use sn_device::{SECTOR_SIZE, Sector};
+use sn_limits::SECTORS_PER_BLOCK;
 use std::alloc::Global;
 use std::fs::{Files, Metadata, OpenFile, OpenOptions};
 use std::os::unix::fs::{FileExt, MetadataExt, OpenOptionsExt};
@@ -66,7 +66,7 @@ impl<F: FileExt + OpenFile + LockFile + Drop> FileDevice<F> {
     {
         let gathered = Gathered::new(alloc)?;
         let file = open_uncut(files, &path)?;
-        let sectors = BLOCK_SECTORS * u64::from(blocks);
+        let sectors = SECTORS_PER_BLOCK * u64::from(blocks);
         empty_to(alloc, files, path, &file, sectors * SECTOR_SIZE as u64)?;
         Ok(FileDevice::over(file, gathered, sectors, false))
     }

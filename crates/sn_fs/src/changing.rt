@@ -4,7 +4,7 @@ ghost use Rattle.sn_block.specs.Lending.{device_of};
 ghost use Rattle.sn_core.specs.Plain.{room_of, world_of};
 ghost use Rattle.sn_desc.specs.InUse.{live_in};
 ghost use Rattle.sn_limits.specs.Versions.{version_1};
-ghost use Rattle.sn_log.specs.Places.{HasRoom as HasLogRoom};
+ghost use Rattle.sn_log.specs.Positions.{HasRoom as HasLogRoom};
 ghost use Rattle.sn_model.specs.NameTree.{IsTree};
 ghost use Rattle.sn_overlay.specs.Needs.{counts};
 ghost use Rattle.sn_overlay.specs.Overlays.{HasRoom, TakesRoom};

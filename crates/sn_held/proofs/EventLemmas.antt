@@ -24,7 +24,7 @@ use Rattle.sn_model.proofs.OtherCallLemmas.{caller_live}
 use Rattle.sn_ondisk.specs.LogHalf.{InHalf}
 use Rattle.sn_ondisk.specs.Trees.{Store}
 use Rattle.sn_record.specs.Payload.{IsSpelled}
-use Rattle.sn_log.specs.Places.{IsReadyAt, base_at, behind}
+use Rattle.sn_log.specs.Positions.{IsReadyAt, base_at, behind}
 use Rattle.sn_image.specs.Image.{image}
 use Rattle.sn_opening.specs.Covering.{MakesCover}
 use Rattle.sn_opening.specs.Opens.{IsDisk, Opens}

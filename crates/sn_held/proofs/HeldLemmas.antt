@@ -4,12 +4,12 @@ use Rattle.sn_device.specs.Sectors.{Contents, AreSectors, AreDisjoint, DependsOn
 use Rattle.sn_device.specs.Disk.{Disk, Always, reads}
 use Rattle.sn_device.specs.Crash.{LeavesOnly, Touches}
 use Rattle.sn_device.proofs.CrashLemmas.{LeavesOnly-touched}
-use Rattle.sn_layout.specs.declared.places.Area.TheVariants.{Log}
-use Rattle.sn_layout.specs.declared.places.LogHalf.{LogHalf}
-use Rattle.sn_layout.specs.declared.places.LogHalf.TheVariants.{Zero, One}
-use Rattle.sn_layout.specs.declared.places.Slot.{Slot}
+use Rattle.sn_layout.specs.declared.geometry.Area.TheVariants.{Log}
+use Rattle.sn_layout.specs.declared.geometry.LogHalf.{LogHalf}
+use Rattle.sn_layout.specs.declared.geometry.LogHalf.TheVariants.{Zero, One}
+use Rattle.sn_layout.specs.declared.geometry.Slot.{Slot}
 use Rattle.sn_layout.specs.declared.root.RootBody.{RootBody}
-use Rattle.sn_layout.specs.Places.{half_of_epoch, start_of}
+use Rattle.sn_layout.specs.Geometry.{half_of_epoch, start_of}
 use Rattle.sn_layout.specs.Superblock.{superblock_bytes}
 use Rattle.sn_model.specs.declared.change.Change.{Change}
 use Rattle.sn_model.specs.World.{World}
@@ -26,7 +26,7 @@ use Rattle.sn_ondisk.proofs.MapLemmas.{HasMap-same}
 use Rattle.sn_ondisk.proofs.OneLemmas.{epoch_is}
 use Rattle.sn_ondisk.proofs.PlaceLemmas.{areas_apart, half_from, halves_of}
 use Rattle.sn_ondisk.proofs.RootLemmas.{IsNewest-same}
-use Rattle.sn_log.specs.Places.{LogPosition, IsReadyAt, payloads_of}
+use Rattle.sn_log.specs.Positions.{LogPosition, IsReadyAt, payloads_of}
 use Rattle.sn_opening.specs.Opens.{IsDisk, LieInData, Shows}
 use Rattle.sn_opening.specs.Spelled.{AreSpelled}
 use Rattle.sn_opening.specs.Worlds.{StandsFor, all_reach}
@@ -45,7 +45,7 @@ use Rattle.sn_held.proofs.RoomLemmas.{fits_same, image_same}
 -- the superblock, the root with its map and its blocks, and the records of the epoch whose half stays
 pub record Rests (n : ℕ) (s : Store) (slot : Slot) (root : RootBody) (words : List ℕ) (epoch : ℕ) (kept : List Change) (c : Contents) : Type 0 where
   pub disk : IsDisk n c
-  pub spelled : block_at c 0 ≡ superblock_bytes (record { places = n })
+  pub spelled : block_at c 0 ≡ superblock_bytes (record { geometry = n })
   pub newest : IsNewest c slot root
   pub same : SameIn (all_reach s root) s (store_of c)
   pub map : HasMap n c slot words
@@ -139,7 +139,7 @@ module _ (n : ℕ) (s : Store) (slot : Slot) (root : RootBody) (words : List ℕ
 module _ (n : ℕ) (s : Store) (slot : Slot) (root : RootBody) (words : List ℕ) (older newer : List Change) (world : World)
     (older_spelled : AreSpelled older) (newer_spelled : AreSpelled newer) (sound : IsSoundRoot n s root (slice_index words)) (stands : StandsFor s root (older ++ newer) world)
     (fits : Fits root.limits (older ++ newer) (image s root.inode_file) (free_blocks n s root)) (age : IsToRecover (older ++ newer) (image s root.inode_file) → HasAgeLeft root) where
-  pub image_shown : (c : Contents) → IsDisk n c → block_at c 0 ≡ superblock_bytes (record { places = n }) → HasMap n c slot words → ((epoch : ℕ) → HasNoLater c (base_of n epoch) (root.epoch + 1)) → Shows n s slot root older newer c → IsImage c world
+  pub image_shown : (c : Contents) → IsDisk n c → block_at c 0 ≡ superblock_bytes (record { geometry = n }) → HasMap n c slot words → ((epoch : ℕ) → HasNoLater c (base_of n epoch) (root.epoch + 1)) → Shows n s slot root older newer c → IsImage c world
   image_shown c disk spelled map none shows = record {
     blocks = n;
     disk = disk;

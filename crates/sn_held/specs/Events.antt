@@ -6,7 +6,7 @@ use Rattle.sn_model.specs.declared.change.Change.{Change}
 use Rattle.sn_model.specs.Settling.{without_nameless}
 use Rattle.sn_model.specs.Tree.{Tree}
 use Rattle.sn_model.specs.World.{World}
-use Rattle.sn_log.specs.Places.{LogPosition, IsReadyAt, behind}
+use Rattle.sn_log.specs.Positions.{LogPosition, IsReadyAt, behind}
 
 -- Another world has this live tree, but for files without names, and the same frozen trees.
 pub record IsOfTree (w : World) (tree : Tree) (next : World) : Type 0 where

@@ -3,7 +3,7 @@ use Rattle.std.specs.Prelude.{◌≡◌, ◌⊎◌, ℕ, ◌+◌, Bool, List, []
 use Rattle.sn_changed.specs.Changed.{HasChanged}
 use Rattle.sn_device.specs.Disk.{Disk, Always, IsSynced}
 use Rattle.sn_device.specs.declared.status.Status.{Status}
-use Rattle.sn_layout.specs.declared.places.Slot.{Slot}
+use Rattle.sn_layout.specs.declared.geometry.Slot.{Slot}
 use Rattle.sn_layout.specs.declared.root.RootBody.{RootBody}
 use Rattle.sn_layout.specs.Superblock.{superblock_bytes}
 use Rattle.sn_limits.specs.Versions.{version_1}
@@ -14,7 +14,7 @@ use Rattle.sn_model.specs.World.{World}
 use Rattle.sn_ondisk.specs.Blocks.{block_at}
 use Rattle.sn_ondisk.specs.LogHalf.{HasNoLater, base_of}
 use Rattle.sn_ondisk.specs.Trees.{Store}
-use Rattle.sn_log.specs.Places.{LogPosition, IsReadyAt}
+use Rattle.sn_log.specs.Positions.{LogPosition, IsReadyAt}
 use Rattle.sn_image.specs.Image.{image}
 use Rattle.sn_opening.specs.Covering.{MakesCover}
 use Rattle.sn_opening.specs.Spelled.{AreSpelled}
@@ -70,7 +70,7 @@ pub record Runs (h : Held) (world : World) : Type 0 where
   pub older_spelled : AreSpelled older
   pub newer_spelled : AreSpelled newer
   pub limits : root.limits ≡ version_1
-  pub formatted : Always h.disk (λ c. block_at c 0 ≡ superblock_bytes (record { places = h.at.blocks }))
+  pub formatted : Always h.disk (λ c. block_at c 0 ≡ superblock_bytes (record { geometry = h.at.blocks }))
   pub stands : RootStands h.at.blocks h.disk store slot root words older newer
   pub none_later : (epoch : ℕ) → Always h.disk (λ c. HasNoLater c (base_of h.at.blocks epoch) (root.epoch + 1))
   pub log : GoesOn h.at root older newer h.disk

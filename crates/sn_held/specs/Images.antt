@@ -5,7 +5,7 @@ use Rattle.sn_device.specs.Sectors.{Contents}
 use Rattle.sn_layout.specs.Superblock.{superblock_bytes}
 use Rattle.sn_model.specs.World.{World}
 use Rattle.sn_ondisk.specs.Blocks.{block_at}
-use Rattle.sn_log.specs.Places.{LogPosition, base_at, payloads_of}
+use Rattle.sn_log.specs.Positions.{LogPosition, base_at, payloads_of}
 use Rattle.sn_ondisk.specs.LogHalf.{HasNoLater, ReplaysTo, base_of}
 use Rattle.sn_ondisk.specs.MapCopy.{HasMap}
 use Rattle.sn_ondisk.specs.Trees.{store_of}
@@ -19,7 +19,7 @@ use Rattle.sn_sound.specs.Maps.{IsSoundRoot, free_blocks}
 pub record IsImage (c : Contents) (world : World) : Type 0 where
   pub blocks : ℕ
   pub disk : IsDisk blocks c
-  pub spelled : block_at c 0 ≡ superblock_bytes (record { places = blocks })
+  pub spelled : block_at c 0 ≡ superblock_bytes (record { geometry = blocks })
   pub opens : Opens blocks c world
   -- the words of its map
   pub words : List ℕ

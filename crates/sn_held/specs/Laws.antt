@@ -14,7 +14,7 @@ use Rattle.sn_model.specs.World.{World}
 use Rattle.sn_ondisk.specs.LogHalf.{InHalf}
 use Rattle.sn_record.specs.Payload.{IsSpelled}
 use Rattle.sn_sound.specs.Logs.{HasAgeLeft}
-use Rattle.sn_log.specs.Places.{base_at, behind}
+use Rattle.sn_log.specs.Positions.{base_at, behind}
 use Rattle.sn_held.specs.Events.{IsOfTree, LeavesEither, LeavesMore}
 use Rattle.sn_held.specs.Held.{CarriesOn, Held, Kept, Runs, RunsReady}
 use Rattle.sn_held.specs.Images.{IsImage}

@@ -7,9 +7,9 @@ use Rattle.std.proofs.lemmas.List.{length-take, length-replicate}
 use Rattle.sn_device.specs.Sectors.{Contents, AreSectors, sector_at}
 use Rattle.sn_device.proofs.SectorLemmas.{Contains-first, Contains-more}
 use Rattle.sn_layout.specs.Bytes.{zeros}
-use Rattle.sn_layout.specs.Places.{IsIn}
+use Rattle.sn_layout.specs.Geometry.{IsIn}
 use Rattle.sn_layout.specs.Pointers.{levels_of}
-use Rattle.sn_layout.specs.declared.places.Area.TheVariants.{Data}
+use Rattle.sn_layout.specs.declared.geometry.Area.TheVariants.{Data}
 use Rattle.sn_layout.specs.declared.tree.BlockTree.{BlockTree}
 use Rattle.sn_layout_node.specs.Inode.{size_of}
 use Rattle.sn_layout_node.specs.declared.content.Content.{Content}

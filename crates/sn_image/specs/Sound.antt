@@ -19,10 +19,10 @@ use Rattle.std.specs.Str.{bytes_eq}
 use Rattle.sn_limits.specs.declared.kind.Kind.{Kind}
 use Rattle.sn_limits.specs.declared.kind.Kind.TheVariants.{File, Directory}
 use Rattle.sn_limits.specs.declared.limits.Limits.{Limits}
-use Rattle.sn_layout.specs.declared.places.Area.TheVariants.{Data}
+use Rattle.sn_layout.specs.declared.geometry.Area.TheVariants.{Data}
 use Rattle.sn_layout.specs.declared.tree.BlockTree.{BlockTree}
 use Rattle.sn_layout.specs.Bytes.{zeros}
-use Rattle.sn_layout.specs.Places.{IsIn}
+use Rattle.sn_layout.specs.Geometry.{IsIn}
 use Rattle.sn_layout.specs.Pointers.{levels_of}
 use Rattle.sn_layout_acl.specs.AclBlock.{IsAclBlock, acl_block_bytes}
 use Rattle.sn_layout_acl.specs.declared.acl_block.AclBlock.{AclBlock}

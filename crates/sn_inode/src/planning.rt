@@ -62,6 +62,8 @@ pub fn with<D: Device>(
     ensures with { IfOk result (λ new. IsWith (IsTrue D.tells_bytes) limits.now
         (store_of (reads (D.disk (device_of blocks.old)))) file.now new changes.now build.old build.new) }
     ensures larger { IfOk result (λ new. file.now.size ≤ new.size) }
+    ensures size { 0 < length changes.now → IfOk result (λ new. new.size
+        ≡ max file.now.size (4096 * (slice_index (numbers_in changes.now) (length changes.now - 1) / 32 + 1))) }
     ensures file { (limits.now.largest_number + 1) % 32 ≡ 0 → IfOk result (λ new. IsInodeFile limits.now new) }
     ensures full { IsTooFull result build.old (3 * length changes.now + 2) }
     ensures damaged { IsTrue D.tells_bytes → result ≡ Err (Tree Damaged) → IsUnreadable limits.now

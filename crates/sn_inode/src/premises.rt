@@ -29,10 +29,10 @@ fn can_set(kind: Kind, change: &AclChange) -> bool
     }
 }
 
-fn is_new(limits: &Limits, record: &RecordChange) -> bool
-    ensures { IsTrue result ↔ IsNew limits.now record.now }
+fn is_new(limits: &Limits, change: &RecordChange) -> bool
+    ensures { IsTrue result ↔ IsNew limits.now change.now }
 {
-    match record {
+    match change {
         RecordChange::Unused => true,
         RecordChange::Used(inode, acls) => inode.is_valid(limits) && can_set(inode.kind, acls),
     }

@@ -1,7 +1,7 @@
 pub mod BlockTree
 pub mod Gate
 pub mod MapCopy
-pub mod Places
+pub mod Geometry
 pub mod Pointers
 pub mod RootBody
 pub mod Snapshot

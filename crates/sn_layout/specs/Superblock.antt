@@ -8,4 +8,4 @@ abbrev pub magic : List ℕ
 magic = 0x53 ∷ 0x4e ∷ 0x41 ∷ 0x50 ∷ 0x46 ∷ 0x53 ∷ 0x59 ∷ 0x53 ∷ []
 
 abbrev pub superblock_bytes : Superblock → List ℕ
-superblock_bytes superblock = magic ++ number_bytes 4 superblock.places ++ zeros 4084
+superblock_bytes superblock = magic ++ number_bytes 4 superblock.geometry ++ zeros 4084

@@ -6,7 +6,7 @@
 //! block is the value's spelling, and `only` that a block which is a value's spelling is read as
 //! that value. A value that no block is read as is not encoded. No call takes memory.
 //!
-//! The way through: `places` (areas of a disk), `superblock`, `gate`, `map_copy`, `pointers` and
+//! The way through: `geometry` (areas of a disk), `superblock`, `gate`, `map_copy`, `pointers` and
 //! `tree` (a root of blocks), `snapshot` and `snapshots`, `root`, whose limits and names are those
 //! of `sn_limits`. What reads and writes the bytes is `sn_bytes`, which comes with this crate.
 //!
@@ -14,14 +14,13 @@
 //!
 //! ```text
 //! let superblock = Superblock::decode(&block)?;
-//! let map = superblock.places.range(Area::MapCopy(Slot::A));
+//! let map = superblock.geometry.range(Area::MapCopy(Slot::A));
 //! ```
 #![tactic(auto)]
 
-mod block;
 mod gate;
+mod geometry;
 mod map_copy;
-mod places;
 mod pointers;
 mod root;
 mod snapshot;
@@ -29,13 +28,13 @@ mod snapshots;
 mod superblock;
 mod tree;
 
-pub use block::{BLOCK_SIZE, Block, SECTOR_SIZE, SECTORS_PER_BLOCK, Sector};
 pub use gate::Gate;
+pub use geometry::{Area, Geometry, LARGEST_DISK, LogHalf, SMALLEST_DISK, Slot};
 pub use map_copy::{WORDS_PER_BLOCK, put_map_words, read_map_words};
-pub use places::{Area, LARGEST_DISK, LogHalf, Places, SMALLEST_DISK, Slot};
 pub use pointers::{POINTERS, Pointers};
 pub use root::{LARGEST_AGE, RootBody};
 pub use sn_bytes::{Reader, put_bytes, put_u8, put_u16, put_u32, put_u32s, put_u64, put_zeros};
+pub use sn_limits::{BLOCK_SIZE, Block, SECTOR_SIZE, SECTORS_PER_BLOCK, Sector};
 pub use snapshot::Snapshot;
 pub use snapshots::{SNAPSHOT_ROOM, Snapshots};
 pub use superblock::Superblock;

@@ -5,7 +5,7 @@
 //! | 12 | zeros |
 ghost use Rattle.std.specs.Prelude.{◌≡◌, Some, IfSome};
 
-use crate::{Block, Places};
+use crate::{Block, Geometry};
 use sn_bytes::{Reader, put_bytes, put_u32, put_zeros};
 
 const MAGIC: [u8; 8] = *b"SNAPFSYS";
@@ -13,12 +13,12 @@ const MAGIC: [u8; 8] = *b"SNAPFSYS";
 /// What the first block says of its disk.
 #[derive(Clone, Copy, PartialEq, Eq)]
 pub struct Superblock {
-    pub places: Places,
+    pub geometry: Geometry,
 }
 
 impl Superblock {
     ghost use Rattle.sn_layout.specs.Superblock.{superblock_bytes};
-    ghost use Rattle.sn_layout.specs.Places.{IsDiskSize};
+    ghost use Rattle.sn_layout.specs.Geometry.{IsDiskSize};
     ghost use Rattle.sn_layout.specs.declared.superblock.Superblock.{Superblock as TheSuperblock};
 
     /// Makes the block the spelling of this superblock: all its 4,096 bytes are written.
@@ -26,23 +26,23 @@ impl Superblock {
         ensures { block.new ≡ superblock_bytes self.now }
     {
         let at = put_bytes(block, 0, &MAGIC);
-        let at = put_u32(block, at, self.places.blocks());
+        let at = put_u32(block, at, self.geometry.blocks());
         put_zeros(block, at, 4084);
     }
 
     /// The superblock that the block spells.
     pub fn decode(block: &Block) -> Option<Self>
-        ensures found { IfSome result (λ superblock. IsDiskSize superblock.places × (block.now ≡ superblock_bytes superblock)) }
-        ensures only { (superblock : TheSuperblock) → IsDiskSize superblock.places → block.now ≡ superblock_bytes superblock → result ≡ Some superblock }
+        ensures found { IfSome result (λ superblock. IsDiskSize superblock.geometry × (block.now ≡ superblock_bytes superblock)) }
+        ensures only { (superblock : TheSuperblock) → IsDiskSize superblock.geometry → block.now ≡ superblock_bytes superblock → result ≡ Some superblock }
     {
         let mut reader = Reader::new(block);
         if !reader.are(&MAGIC) {
             return None;
         }
-        let places = Places::new(reader.u32())?;
+        let geometry = Geometry::new(reader.u32())?;
         if !reader.are_zeros(4084) {
             return None;
         }
-        Some(Superblock { places })
+        Some(Superblock { geometry })
     }
 }

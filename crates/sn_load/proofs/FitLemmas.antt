@@ -34,8 +34,8 @@ use Rattle.sn_model.proofs.PartLemmas.{HasRoomFor, is_directory_at, is_file_at, 
 use Rattle.sn_image.proofs.SoundNodeLemmas.{only_version}
 use Rattle.sn_plain.specs.Added.{file_added, is_unused}
 use Rattle.sn_plain.specs.Plain.{Applies}
-use Rattle.sn_plain.specs.declared.error.ApplyError.{ApplyError}
-use Rattle.sn_plain.specs.declared.error.ApplyError.TheVariants.{CannotApply, Memory}
+use Rattle.sn_plain.specs.declared.fault.ApplyError.{ApplyError}
+use Rattle.sn_plain.specs.declared.fault.ApplyError.TheVariants.{CannotApply, Memory}
 use Rattle.sn_tree_read.specs.declared.fault.TreeFault.{TreeFault}
 use Rattle.sn_tree_read.specs.declared.fault.TreeFault.TheVariants.{Damaged}
 use Rattle.sn_load.specs.Steps.{applied}

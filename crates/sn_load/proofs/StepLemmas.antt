@@ -33,7 +33,7 @@ use Rattle.sn_image.specs.Inodes.{inode_at}
 use Rattle.sn_image.specs.Image.{file_bytes, node_of, node_at}
 use Rattle.sn_plain.specs.Added.{file_added}
 use Rattle.sn_plain.specs.Plain.{Applies}
-use Rattle.sn_plain.specs.declared.error.ApplyError.{ApplyError}
+use Rattle.sn_plain.specs.declared.fault.ApplyError.{ApplyError}
 use Rattle.sn_plain.proofs.AddedLemmas.{added_is}
 use Rattle.sn_tree_read.specs.Reads.{IsPart, IsOutside}
 use Rattle.sn_tree_read.specs.declared.fault.TreeFault.{TreeFault}

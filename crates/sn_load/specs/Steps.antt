@@ -10,8 +10,8 @@ use Rattle.sn_layout_node.specs.declared.content.Content.{Content}
 use Rattle.sn_model.specs.declared.link.Link.{Link}
 use Rattle.sn_model.specs.Changes.{overwritten}
 use Rattle.sn_model.specs.Tree.{Node, Tree, link_cmp, link_to}
-use Rattle.sn_plain.specs.declared.error.ApplyError.{ApplyError}
-use Rattle.sn_plain.specs.declared.error.ApplyError.TheVariants.{CannotApply, Memory}
+use Rattle.sn_plain.specs.declared.fault.ApplyError.{ApplyError}
+use Rattle.sn_plain.specs.declared.fault.ApplyError.TheVariants.{CannotApply, Memory}
 use Rattle.sn_ondisk.specs.Trees.{Store}
 use Rattle.sn_tree_read.specs.Reads.{IsPart, IsOutside}
 use Rattle.sn_tree_read.specs.declared.fault.TreeFault.{TreeFault}

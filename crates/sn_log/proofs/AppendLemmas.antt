@@ -17,7 +17,7 @@ use Rattle.sn_ondisk.proofs.AppendLemmas.{append_adds}
 use Rattle.sn_block.specs.Effects.{WritesSynced}
 use Rattle.sn_block.proofs.EffectLemmas.{OnOk-both, OnOk-then}
 use Rattle.sn_record.specs.Payload.{IsSpelled, payload_bytes}
-use Rattle.sn_log.specs.Places.{LogPosition, base_at, payloads_of, behind, HasRoom, IsReadyAt}
+use Rattle.sn_log.specs.Positions.{LogPosition, base_at, payloads_of, behind, HasRoom, IsReadyAt}
 use Rattle.sn_log.specs.Appending.{Appends, WritesBehind}
 
 pub payloads-more : (changes : List Change) (change : Change) → payloads_of (changes ++ change ∷ []) ≡ payloads_of changes ++ payload_bytes change ∷ []

@@ -10,7 +10,7 @@ use Rattle.sn_layout.proofs.Fields.{length-number_bytes, same_numbers}
 use Rattle.sn_ondisk.proofs.OneLemmas.{same_width}
 use Rattle.sn_log.specs.declared.body.Head.{Head}
 use Rattle.sn_log.specs.Heads.{IsHead, head_bytes}
-use Rattle.sn_log.specs.Places.{LogPosition, base_at}
+use Rattle.sn_log.specs.Positions.{LogPosition, base_at}
 use Rattle.sn_log.specs.Replaying.{HasNext, Looks}
 
 -- a number is read back from its bytes

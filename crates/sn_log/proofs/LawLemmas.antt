@@ -8,11 +8,11 @@ use Rattle.sn_ondisk.specs.LogHalf.{HasRecord, Leads, Stops, base_of, place_afte
 use Rattle.sn_ondisk.specs.OneAnswer.{IsOnDisk}
 use Rattle.sn_ondisk.proofs.OneLemmas.{record_is_one}
 use Rattle.sn_record.specs.Payload.{IsSpelled, payload_bytes, PayloadsDiffer}
-use Rattle.sn_log.specs.Places.{LogPosition, payloads_of}
+use Rattle.sn_log.specs.Positions.{LogPosition, payloads_of}
 use Rattle.sn_log.specs.Replaying.{Finds}
 use Rattle.sn_log.specs.Laws.{IsNextOf, ReplayFindsTheNext}
-use Rattle.sn_log.specs.declared.replay.Found.{Found}
-use Rattle.sn_log.specs.declared.replay.Found.TheVariants.{Change, End, Misspelt}
+use Rattle.sn_log.specs.declared.replay.NextRecord.{NextRecord}
+use Rattle.sn_log.specs.declared.replay.NextRecord.TheVariants.{Change, End, Misspelt}
 use Rattle.sn_log.proofs.HeadLemmas.{epoch-there}
 
 module _ (differ : PayloadsDiffer) (c : Contents) (blocks epoch : ℕ) (on_disk : IsOnDisk c (base_of blocks epoch)) where
@@ -31,7 +31,7 @@ module _ (differ : PayloadsDiffer) (c : Contents) (blocks epoch : ℕ) (on_disk 
       let long : 8 ≤ length (sector_at c (base + place + 1)) = omega (arith, (on_disk.whole (base + place + 1) within).size) in
       other (epoch-there c (position place sequence) payload long body)
 
-  one-more : (p q : TheChange) (ps qs : List TheChange) (found : Found) → p ≡ q → IsNextOf ps qs found → IsNextOf (p ∷ ps) (q ∷ qs) found
+  one-more : (p q : TheChange) (ps qs : List TheChange) (found : NextRecord) → p ≡ q → IsNextOf ps qs found → IsNextOf (p ∷ ps) (q ∷ qs) found
   one-more p q ps qs (Change change) same next = (next.0, ap (λ x. x ∷ qs) (sym same) ∙ ap (λ xs. p ∷ xs) next.1)
   one-more p q ps qs End same next = ap (λ x. x ∷ qs) (sym same) ∙ ap (λ xs. p ∷ xs) next
   one-more p q ps qs (Misspelt block) same next = next
@@ -39,7 +39,7 @@ module _ (differ : PayloadsDiffer) (c : Contents) (blocks epoch : ℕ) (on_disk 
   same-change : (place m n : ℕ) (p q : TheChange) → IsSpelled p → IsSpelled q → HasRecord c base epoch place m (payload_bytes p) → HasRecord c base epoch place n (payload_bytes q) → p ≡ q
   same-change place m n p q spelled-p spelled-q one two = differ p q spelled-p spelled-q (record_is_one c base place epoch epoch m n (payload_bytes p) (payload_bytes q) one two)
 
-  go : (place sequence here end : ℕ) (before changes : List TheChange) (found : Found) → AllByRecursion IsSpelled before → AllByRecursion IsSpelled changes
+  go : (place sequence here end : ℕ) (before changes : List TheChange) (found : NextRecord) → AllByRecursion IsSpelled before → AllByRecursion IsSpelled changes
       → Leads c base epoch place sequence (payloads_of before) here → Leads c base epoch place sequence (payloads_of changes) end → Stops c base epoch end
       → Finds c (position here (sequence + length before)) found → IsNextOf before changes found
   go place sequence here end [] [] (Change change) spelled-b spelled-c one two stops found =

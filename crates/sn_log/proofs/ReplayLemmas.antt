@@ -11,7 +11,7 @@ use Rattle.sn_ondisk.specs.LogHalf.{HasRecord, Leads, body_bytes, body_sectors, 
 use Rattle.sn_ondisk.proofs.LogLemmas.{Leads-append}
 use Rattle.sn_ondisk.proofs.OneLemmas.{record_is_one}
 use Rattle.sn_record.specs.Payload.{IsSpelled, payload_bytes}
-use Rattle.sn_log.specs.Places.{LogPosition, base_at, behind, payloads_of, IsBehind}
+use Rattle.sn_log.specs.Positions.{LogPosition, base_at, behind, payloads_of, IsBehind}
 use Rattle.sn_log.specs.Replaying.{HasNext, Fills}
 use Rattle.sn_log.specs.Heads.{head_bytes}
 use Rattle.sn_log.proofs.HeadLemmas.{head_of, length-head}

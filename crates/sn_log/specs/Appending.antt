@@ -8,7 +8,7 @@ use Rattle.sn_layout.specs.declared.gate.Gate.TheVariants.{Open, Closed}
 use Rattle.sn_model.specs.declared.change.Change.{Change}
 use Rattle.sn_ondisk.specs.Blocks.{bytes_at}
 use Rattle.sn_ondisk.specs.LogHalf.{InHalf}
-use Rattle.sn_log.specs.Places.{LogPosition, base_at, behind, IsReadyAt}
+use Rattle.sn_log.specs.Positions.{LogPosition, base_at, behind, IsReadyAt}
 
 -- The record of a change is appended at a position. Whatever the answer, no sector of another half was touched, and where each crash left these changes, one at any moment leaves them, or them with the new one. At `Ok` each crash leaves the new one too, nothing is unsynced, and its gate and the next one are whole sectors, with zeros behind the first byte.
 pub record Appends {T E : Type 0} (at : LogPosition) (change : Change) (result : Result T E) (old new : Disk) : Type 0 where

@@ -2,5 +2,5 @@ pub mod Appending
 pub mod Clearing
 pub mod Heads
 pub mod Laws
-pub mod Places
+pub mod Positions
 pub mod Replaying

@@ -5,29 +5,29 @@ use Rattle.sn_model.specs.declared.change.Change.{Change as TheChange}
 use Rattle.sn_ondisk.specs.Gates.{IsOpen}
 use Rattle.sn_ondisk.specs.LogHalf.{HasRecord, Stops}
 use Rattle.sn_record.specs.Payload.{IsSpelled, payload_bytes}
-use Rattle.sn_log.specs.Places.{LogPosition, base_at, behind}
-use Rattle.sn_log.specs.declared.replay.Found.{Found}
-use Rattle.sn_log.specs.declared.replay.Found.TheVariants.{Change, End, Misspelt}
+use Rattle.sn_log.specs.Positions.{LogPosition, base_at, behind}
+use Rattle.sn_log.specs.declared.replay.NextRecord.{NextRecord}
+use Rattle.sn_log.specs.declared.replay.NextRecord.TheVariants.{Change, End, Misspelt}
 
 -- behind the gate at the position a record with this payload stands, as the next of its epoch
 abbrev pub HasNext : Contents → LogPosition → List ℕ → Type 0
 HasNext c at payload = HasRecord c (base_at at) at.epoch at.place at.count payload
 
 -- A change is found where its record stands behind an open gate, the end where replay stops, and a misspelt record where it doesn't stop and no change has its record.
-abbrev pub Finds : Contents → LogPosition → Found → Type 0
+abbrev pub Finds : Contents → LogPosition → NextRecord → Type 0
 Finds c at (Change change) = IsOpen c (base_at at + at.place) × IsSpelled change × HasNext c at (payload_bytes change)
 Finds c at End = Stops c (base_at at) at.epoch at.place
 Finds c at (Misspelt block) =
     (Stops c (base_at at) at.epoch at.place → ⊥) × ((change : TheChange) → IsSpelled change → HasNext c at (payload_bytes change) → ⊥) × (block ≡ (base_at at + at.place) / 8)
 
 -- what was found, as the changes that it adds
-abbrev pub changes_in : Found → List TheChange
+abbrev pub changes_in : NextRecord → List TheChange
 changes_in (Change change) = change ∷ []
 changes_in End = []
 changes_in (Misspelt block) = []
 
 -- the position behind what was found there
-abbrev pub position_after : LogPosition → Found → LogPosition
+abbrev pub position_after : LogPosition → NextRecord → LogPosition
 position_after at (Change change) = behind at change
 position_after at End = at
 position_after at (Misspelt block) = at

@@ -4,7 +4,7 @@ ghost use Rattle.sn_block.specs.Counts.{CountsCalls};
 ghost use Rattle.sn_block.specs.Lending.{device_of};
 ghost use Rattle.sn_ondisk.specs.LogHalf.{body_sectors};
 ghost use Rattle.sn_record.specs.Payload.{IsSpelled, payload_bytes};
-ghost use Rattle.sn_log.specs.Places.{HasRoom};
+ghost use Rattle.sn_log.specs.Positions.{HasRoom};
 ghost use Rattle.sn_log.specs.Appending.{Appends, WritesBehind};
 
 use crate::Position;

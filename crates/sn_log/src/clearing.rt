@@ -2,14 +2,14 @@
 ghost use Rattle.std.specs.Prelude.{◌≡◌, ◌+◌, ◌*◌, ◌≤◌, ◌==◌, ◌||◌, if◌then◌else◌, nat_le, slice_index, Err, IsTrue};
 ghost use Rattle.sn_block.specs.Lending.{device_of};
 ghost use Rattle.sn_block.specs.declared.fault.ReadFault.TheVariants.{Memory};
-ghost use Rattle.sn_log.specs.Places.{half_base};
+ghost use Rattle.sn_log.specs.Positions.{half_base};
 ghost use Rattle.sn_log.specs.Clearing.{Clears, CountsClearing};
 
 use crate::position::LAST_GATE;
 use crate::sectors::{first_block, read_sector};
 use sn_block::{Blocks, ReadFault};
 use sn_device::Device;
-use sn_layout::{Gate, LogHalf, Places, Sector};
+use sn_layout::{Gate, Geometry, LogHalf, Sector};
 
 // The place that is written to clear this one, of whose gate the sector is given.
 fn cleared_place(gate: &Sector, place: u64) -> u64
@@ -28,19 +28,19 @@ fn cleared_place(gate: &Sector, place: u64) -> u64
 /// is left alone where a record has room behind it, since a torn write might open it over a whole body.
 pub fn clear<D: Device>(
     blocks: &mut Blocks<D>,
-    places: Places,
+    geometry: Geometry,
     half: LogHalf,
     place: u64,
 ) -> Result<(), ReadFault>
     requires place { place ≤ 255 }
-    requires disk { 8 * places ≤ (D.status (device_of blocks.old)).sectors }
-    ensures disk { IsTrue D.tells_bytes → Clears (half_base places half) place result
+    requires disk { 8 * geometry ≤ (D.status (device_of blocks.old)).sectors }
+    ensures disk { IsTrue D.tells_bytes → Clears (half_base geometry half) place result
         (D.disk (device_of blocks.old)) (D.disk (device_of blocks.new)) }
     ensures counts { CountsClearing result
         (D.status (device_of blocks.old)) (D.status (device_of blocks.new)) }
     ensures memory { IsTrue D.tells_bytes → result ≡ Err Memory → D.disk (device_of blocks.new) ≡ D.disk (device_of blocks.old) }
 {
-    let start = first_block(places, half);
+    let start = first_block(geometry, half);
     let mut gate = [0; 512];
     read_sector(blocks, start, place, &mut gate)?;
     let at = 8 * u64::from(start) + cleared_place(&gate, place);
@@ -51,15 +51,15 @@ pub fn clear<D: Device>(
 /// Clears the first place of a half.
 pub fn close_half<D: Device>(
     blocks: &mut Blocks<D>,
-    places: Places,
+    geometry: Geometry,
     half: LogHalf,
 ) -> Result<(), ReadFault>
-    requires { 8 * places ≤ (D.status (device_of blocks.old)).sectors }
-    ensures disk { IsTrue D.tells_bytes → Clears (half_base places half) 0 result
+    requires { 8 * geometry ≤ (D.status (device_of blocks.old)).sectors }
+    ensures disk { IsTrue D.tells_bytes → Clears (half_base geometry half) 0 result
         (D.disk (device_of blocks.old)) (D.disk (device_of blocks.new)) }
     ensures counts { CountsClearing result
         (D.status (device_of blocks.old)) (D.status (device_of blocks.new)) }
     ensures memory { IsTrue D.tells_bytes → result ≡ Err Memory → D.disk (device_of blocks.new) ≡ D.disk (device_of blocks.old) }
 {
-    clear(blocks, places, half, 0)
+    clear(blocks, geometry, half, 0)
 }

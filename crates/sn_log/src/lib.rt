@@ -22,7 +22,7 @@
 //!   bytes. A mount asks it of both halves, since such a record would count once its epoch begins.
 //! - [`Log::turn`] goes to another epoch in memory alone.
 //!
-//! The way through: `specs/Places.antt`, `Appending.antt`, `Replaying.antt` and `Clearing.antt` have
+//! The way through: `specs/Positions.antt`, `Appending.antt`, `Replaying.antt` and `Clearing.antt` have
 //! the words of the clauses, `Laws.antt` the law. `log` and `replay` have the two types, `appending` the writes of an append
 //! in their order, `body` what a record is spelled with, `sectors` what is read, `later` the test of a first
 //! place, and `clearing` the rule for a place that is to count no longer.
@@ -31,15 +31,15 @@
 //!
 //! ```text
 //! let mut buffer = Buffer::new(alloc)?;
-//! let mut replay = Replay::new(places, epoch);
+//! let mut replay = Replay::new(geometry, epoch);
 //! loop {
 //!     match replay.next(&mut blocks, &mut buffer)? {
-//!         Found::Change(change) => tree.apply(&change)?,
-//!         Found::End => break,
-//!         Found::Misspelt { block } => return Err(Damaged { block }),
+//!         NextRecord::Change(change) => tree.apply(&change)?,
+//!         NextRecord::End => break,
+//!         NextRecord::Misspelt { block } => return Err(Damaged { block }),
 //!     }
 //! }
-//! clear(&mut blocks, places, LogHalf::of_epoch(epoch), replay.position().place())?;
+//! clear(&mut blocks, geometry, LogHalf::of_epoch(epoch), replay.position().place())?;
 //! let mut log = Log::new(replay.position(), buffer);
 //! if log.has_room(&change) {
 //!     log.append(&mut blocks, &change)?;
@@ -64,4 +64,4 @@ pub use later::has_no_later;
 pub use laws::replay_finds_the_next;
 pub use log::Log;
 pub use position::Position;
-pub use replay::{Found, Replay};
+pub use replay::{NextRecord, Replay};

@@ -4,7 +4,7 @@ ghost use Rattle.sn_block.specs.Counts.{CountsCalls};
 ghost use Rattle.sn_block.specs.Lending.{device_of};
 ghost use Rattle.sn_ondisk.specs.LogHalf.{body_sectors};
 ghost use Rattle.sn_record.specs.Payload.{IsSpelled, payload_bytes};
-ghost use Rattle.sn_log.specs.Places.{first_of, behind, HasRoom};
+ghost use Rattle.sn_log.specs.Positions.{first_of, behind, HasRoom};
 ghost use Rattle.sn_log.specs.Appending.{Appends};
 
 use crate::appending::append_at;
@@ -24,7 +24,7 @@ pub struct Log {
 }
 
 impl Model for Log {
-    ghost use Rattle.sn_log.specs.Places.{LogPosition};
+    ghost use Rattle.sn_log.specs.Positions.{LogPosition};
 
     ghost Value = { LogPosition };
 

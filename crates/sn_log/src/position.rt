@@ -1,9 +1,9 @@
 //! Places of the log.
 ghost use Rattle.std.specs.Prelude.{◌≡◌, ◌+◌, ◌*◌, ◌/◌, ◌≤◌, ◌<◌, ◌↔◌, IsTrue};
-ghost use Rattle.sn_log.specs.Places.{first_of, base_at};
+ghost use Rattle.sn_log.specs.Positions.{first_of, base_at};
 
 use crate::sectors::first_block;
-use sn_layout::{LogHalf, Places};
+use sn_layout::{Geometry, LogHalf};
 use std::marker::Model;
 
 /// The last place at which a record has room.
@@ -16,7 +16,7 @@ pub(crate) const LAST_PLACE: u64 = 255;
 /// sector of that half, and behind how many records.
 #[derive(Clone, Copy, PartialEq, Eq)]
 pub struct Position {
-    places: Places,
+    geometry: Geometry,
     epoch: u64,
     place: u64,
     count: u32,
@@ -24,42 +24,42 @@ pub struct Position {
 
 impl Model for Position {
     ghost use Rattle.std.specs.Prelude.{◌≤◌};
-    ghost use Rattle.sn_log.specs.Places.{LogPosition};
+    ghost use Rattle.sn_log.specs.Positions.{LogPosition};
 
     ghost Value = { LogPosition };
 
-    ghost view = { λ p. record { blocks = p.places; epoch = p.epoch; place = p.place; count = p.count } };
+    ghost view = { λ p. record { blocks = p.geometry; epoch = p.epoch; place = p.place; count = p.count } };
 
     ghost invariant = { λ p. (p.place ≤ 255) × (p.count ≤ p.place) };
 
-    ghost inverse = { λ p. record { places = p.blocks; epoch = p.epoch; place = p.place; count = p.count } };
+    ghost inverse = { λ p. record { geometry = p.blocks; epoch = p.epoch; place = p.place; count = p.count } };
 }
 
 impl Position {
     /// The first place of an epoch.
-    pub fn first(places: Places, epoch: u64) -> Self
-        ensures { result ≡ first_of places epoch }
+    pub fn first(geometry: Geometry, epoch: u64) -> Self
+        ensures { result ≡ first_of geometry epoch }
     {
         Position {
-            places,
+            geometry,
             epoch,
             place: 0,
             count: 0,
         }
     }
 
-    /// The places of the disk's areas.
-    pub fn places(self) -> Places
+    /// The geometry of the disk.
+    pub fn geometry(self) -> Geometry
         ensures { result ≡ self.blocks }
     {
-        self.places
+        self.geometry
     }
 
     /// How many blocks the disk has.
     pub fn blocks(self) -> u32
         ensures { result ≡ self.blocks }
     {
-        self.places.blocks()
+        self.geometry.blocks()
     }
 
     /// The epoch whose records are read or appended.
@@ -88,7 +88,7 @@ impl Position {
     pub(crate) fn turned(self, epoch: u64) -> Self
         ensures { result ≡ first_of self.blocks epoch }
     {
-        Position::first(self.places, epoch)
+        Position::first(self.geometry, epoch)
     }
 
     /// The first block of the half.
@@ -97,7 +97,7 @@ impl Position {
         ensures within { 8 * result + 256 ≤ 8 * self.blocks }
         ensures few { result < 1048576 }
     {
-        first_block(self.places, LogHalf::of_epoch(self.epoch))
+        first_block(self.geometry, LogHalf::of_epoch(self.epoch))
     }
 
     /// The block of the gate.
@@ -121,7 +121,7 @@ impl Position {
         ensures { result ≡ record self { place = self.place + sectors + 1; count = self.count + 1 } }
     {
         Position {
-            places: self.places,
+            geometry: self.geometry,
             epoch: self.epoch,
             place: self.place + sectors + 1,
             count: self.count + 1,

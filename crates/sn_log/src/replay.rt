@@ -4,7 +4,7 @@ ghost use Rattle.sn_device.specs.Disk.{reads};
 ghost use Rattle.sn_block.specs.Counts.{CountsRead};
 ghost use Rattle.sn_block.specs.Lending.{device_of};
 ghost use Rattle.sn_model.specs.declared.change.Change.{Change as TheChange};
-ghost use Rattle.sn_log.specs.Places.{first_of, IsBehind};
+ghost use Rattle.sn_log.specs.Positions.{first_of, IsBehind};
 ghost use Rattle.sn_log.specs.Replaying.{Finds, Fills, Looks, position_after, changes_in};
 
 use crate::body::{HEAD_SIZE, Head, is_body, sectors_of};
@@ -13,13 +13,13 @@ use crate::sectors::{read_sector, read_sectors};
 use crate::{Buffer, Position};
 use sn_block::{Blocks, ReadFault};
 use sn_device::Device;
-use sn_layout::{Gate, Places, Reader, SECTOR_SIZE};
+use sn_layout::{Gate, Geometry, Reader, SECTOR_SIZE};
 use sn_model::Change;
 use sn_record::{PAYLOAD_MAX, decode};
 use std::marker::Model;
 
 /// What stands at a position of the log.
-pub enum Found<'a> {
+pub enum NextRecord<'a> {
     /// The next record of the epoch. Its names and bytes are lent from the buffer.
     Change(Change<'a>),
     /// No further record of the epoch.
@@ -38,7 +38,7 @@ pub struct Replay {
 }
 
 impl Model for Replay {
-    ghost use Rattle.sn_log.specs.Places.{LogPosition};
+    ghost use Rattle.sn_log.specs.Positions.{LogPosition};
 
     ghost Value = { LogPosition };
 
@@ -47,11 +47,11 @@ impl Model for Replay {
 
 impl Replay {
     /// From the first place of an epoch on.
-    pub fn new(places: Places, epoch: u64) -> Self
-        ensures { result ≡ first_of places epoch }
+    pub fn new(geometry: Geometry, epoch: u64) -> Self
+        ensures { result ≡ first_of geometry epoch }
     {
         Replay {
-            position: Position::first(places, epoch),
+            position: Position::first(geometry, epoch),
         }
     }
 
@@ -68,7 +68,7 @@ impl Replay {
         &mut self,
         blocks: &mut Blocks<D>,
         buffer: &'a mut Buffer,
-    ) -> Result<Found<'a>, ReadFault>
+    ) -> Result<NextRecord<'a>, ReadFault>
         requires disk { 8 * self.old.blocks ≤ (D.status (device_of blocks.old)).sectors }
         ensures found { IsTrue D.tells_bytes → IfOk result
             (λ found. Finds (reads (D.disk (device_of blocks.old))) self.old found) }
@@ -84,7 +84,7 @@ impl Replay {
     {
         let position = self.position;
         let Some(size) = look(blocks, position)? else {
-            return Ok(Found::End);
+            return Ok(NextRecord::End);
         };
         let is_body = fill(blocks, position, size, &mut buffer.body)?;
         let change = if is_body {
@@ -93,12 +93,12 @@ impl Replay {
             None
         };
         let Some(change) = change else {
-            return Ok(Found::Misspelt {
+            return Ok(NextRecord::Misspelt {
                 block: position.block(),
             });
         };
         self.position = position.behind(sectors_of(&change));
-        Ok(Found::Change(change))
+        Ok(NextRecord::Change(change))
     }
 }
 

@@ -6,11 +6,11 @@ ghost use Rattle.sn_block.specs.Counts.{CountsRead};
 ghost use Rattle.sn_block.specs.Lending.{device_of};
 ghost use Rattle.sn_layout.specs.Gate.{gate_of, gate_bytes};
 ghost use Rattle.sn_ondisk.specs.Blocks.{bytes_at};
-ghost use Rattle.sn_log.specs.Places.{half_base};
+ghost use Rattle.sn_log.specs.Positions.{half_base};
 
 use sn_block::{Blocks, ReadFault};
 use sn_device::Device;
-use sn_layout::{Area, Gate, LogHalf, Places, SECTOR_SIZE, Sector};
+use sn_layout::{Area, Gate, Geometry, LogHalf, SECTOR_SIZE, Sector};
 
 /// The sector of a gate.
 pub(crate) fn sector_of(gate: Gate) -> Sector
@@ -23,12 +23,12 @@ pub(crate) fn sector_of(gate: Gate) -> Sector
 }
 
 /// The first block of a half.
-pub(crate) fn first_block(places: Places, half: LogHalf) -> u32
-    ensures start { 8 * result ≡ half_base places half }
-    ensures within { 8 * result + 256 ≤ 8 * places }
+pub(crate) fn first_block(geometry: Geometry, half: LogHalf) -> u32
+    ensures start { 8 * result ≡ half_base geometry half }
+    ensures within { 8 * result + 256 ≤ 8 * geometry }
     ensures few { result < 1048576 }
 {
-    places.range(Area::Log(half)).start
+    geometry.range(Area::Log(half)).start
 }
 
 /// Copies the sector at a place of the half that begins with the block `start`.

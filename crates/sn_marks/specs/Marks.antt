@@ -1,8 +1,8 @@
 -- Which blocks were gone through, marked in the words of a map.
 use Rattle.std.specs.Prelude.{◌≡◌, ◌≢◌, ℕ, ◌+◌, ◌≤◌, List, slice_index, Contains}
 use Rattle.std.specs.Int.{bit_at}
-use Rattle.sn_layout.specs.declared.places.Area.TheVariants.{Data}
-use Rattle.sn_layout.specs.Places.{IsIn}
+use Rattle.sn_layout.specs.declared.geometry.Area.TheVariants.{Data}
+use Rattle.sn_layout.specs.Geometry.{IsIn}
 use Rattle.sn_model.specs.declared.mount.Damage.{Damage}
 use Rattle.sn_model.specs.declared.mount.Damage.TheVariants.{Pointer, ReachedTwice}
 use Rattle.sn_ondisk.specs.Counts.{times}

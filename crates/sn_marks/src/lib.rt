@@ -18,7 +18,7 @@
 //! What the sources leave open is decided in `docs/DECISIONS.md`, under "The image check".
 //!
 //! ```text
-//! let root = RootBit { places, bit: 0 };
+//! let root = RootBit { geometry, bit: 0 };
 //! mark(map, &root, inode.acl_block)?;
 //! mark_tree(blocks, map, &root, &tree, record_block)?;
 //! ```

@@ -7,14 +7,14 @@ ghost use Rattle.sn_marks.specs.Fault.{Tells};
 ghost use Rattle.sn_marks.specs.declared.fault.CheckFault.TheVariants.{Read};
 
 use crate::CheckFault;
-use sn_layout::Places;
+use sn_layout::Geometry;
 use sn_map::Map;
 use sn_model::Damage;
 
 /// The bit that a root has in the words of a map, on a disk with its areas at these places.
 #[derive(Clone, Copy)]
 pub struct RootBit {
-    pub places: Places,
+    pub geometry: Geometry,
     pub bit: u32,
     ghost in_word: { bit < 32 },
 }
@@ -23,9 +23,9 @@ pub struct RootBit {
 /// `Pointer`, and one to a block that is marked already `ReachedTwice`; both are told of its block, and
 /// leave the map as it was.
 pub fn mark(map: &mut Map, root: &RootBit, pointer: u32) -> Result<(), CheckFault>
-    requires { length map.old ≡ root.now.places }
-    ensures marks { OnOk result (Marks root.now.places root.now.bit (block_reach pointer) map.old map.new) }
-    ensures fault { IfErr result (λ fault. Tells fault (IsAstray root.now.places root.now.bit (block_reach pointer) map.old)) }
+    requires { length map.old ≡ root.now.geometry }
+    ensures marks { OnOk result (Marks root.now.geometry root.now.bit (block_reach pointer) map.old map.new) }
+    ensures fault { IfErr result (λ fault. Tells fault (IsAstray root.now.geometry root.now.bit (block_reach pointer) map.old)) }
     ensures read { (fault : TheFault) → result ≢ Err (Read fault) }
     ensures err { OnErr result (map.new ≡ map.old) }
     ensures words { length map.new ≡ length map.old }
@@ -33,7 +33,7 @@ pub fn mark(map: &mut Map, root: &RootBit, pointer: u32) -> Result<(), CheckFaul
     if pointer == 0 {
         return Ok(());
     }
-    if !root.places.is_data(pointer) {
+    if !root.geometry.is_data(pointer) {
         return Err(CheckFault::Damaged {
             damage: Damage::Pointer,
             block: pointer,

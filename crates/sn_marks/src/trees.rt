@@ -89,11 +89,11 @@ fn mark_below<D: Device>(
 ) -> Result<(), CheckFault>
     requires height { spot.height ≤ 3 }
     requires reach { spot.first + 4096 * 1024 ^ spot.height ≤ 2 ^ 62 }
-    requires words { length map.old ≡ root.now.places }
-    requires room { 8 * root.now.places ≤ (D.status (device_of blocks.old)).sectors }
-    ensures walked { IsTrue D.tells_bytes → OnOk result (IsWalked root.now.places root.now.bit
+    requires words { length map.old ≡ root.now.geometry }
+    requires room { 8 * root.now.geometry ≤ (D.status (device_of blocks.old)).sectors }
+    ensures walked { IsTrue D.tells_bytes → OnOk result (IsWalked root.now.geometry root.now.bit
         (store_of (reads (D.disk (device_of blocks.old)))) size spot.height spot.first (pointer ∷ []) map.old map.new) }
-    ensures fault { IsTrue D.tells_bytes → IfErr result (λ fault. Tells fault (IsBroken root.now.places root.now.bit
+    ensures fault { IsTrue D.tells_bytes → IfErr result (λ fault. Tells fault (IsBroken root.now.geometry root.now.bit
         (store_of (reads (D.disk (device_of blocks.old)))) size spot.height spot.first (pointer ∷ []) spot.holder map.old)) }
     ensures words { length map.new ≡ length map.old }
     ensures same { IsTrue D.tells_bytes → D.disk (device_of blocks.new) ≡ D.disk (device_of blocks.old) }
@@ -138,11 +138,11 @@ fn mark_indirect<D: Device>(
     requires height { spot.height ≤ 3 }
     requires count { length pointers.now ≡ 1024 }
     requires reach { spot.first + 1024 * (4096 * 1024 ^ spot.height) ≤ 2 ^ 62 }
-    requires words { length map.old ≡ root.now.places }
-    requires room { 8 * root.now.places ≤ (D.status (device_of blocks.old)).sectors }
-    ensures walked { IsTrue D.tells_bytes → OnOk result (IsWalked root.now.places root.now.bit
+    requires words { length map.old ≡ root.now.geometry }
+    requires room { 8 * root.now.geometry ≤ (D.status (device_of blocks.old)).sectors }
+    ensures walked { IsTrue D.tells_bytes → OnOk result (IsWalked root.now.geometry root.now.bit
         (store_of (reads (D.disk (device_of blocks.old)))) size spot.height spot.first pointers.now map.old map.new) }
-    ensures fault { IsTrue D.tells_bytes → IfErr result (λ fault. Tells fault (IsBroken root.now.places root.now.bit
+    ensures fault { IsTrue D.tells_bytes → IfErr result (λ fault. Tells fault (IsBroken root.now.geometry root.now.bit
         (store_of (reads (D.disk (device_of blocks.old)))) size spot.height spot.first pointers.now spot.holder map.old)) }
     ensures words { length map.new ≡ length map.old }
     ensures same { IsTrue D.tells_bytes → D.disk (device_of blocks.new) ≡ D.disk (device_of blocks.old) }
@@ -170,12 +170,12 @@ pub fn mark_tree<D: Device>(
     tree: &BlockTree,
     top: u32,
 ) -> Result<(), CheckFault>
-    requires words { length map.old ≡ root.now.places }
-    requires room { 8 * root.now.places ≤ (D.status (device_of blocks.old)).sectors }
-    ensures marks { IsTrue D.tells_bytes → OnOk result (Marks root.now.places root.now.bit
+    requires words { length map.old ≡ root.now.geometry }
+    requires room { 8 * root.now.geometry ≤ (D.status (device_of blocks.old)).sectors }
+    ensures marks { IsTrue D.tells_bytes → OnOk result (Marks root.now.geometry root.now.bit
         (tree_reach (store_of (reads (D.disk (device_of blocks.old)))) tree.now) map.old map.new) }
     ensures ends { IsTrue D.tells_bytes → OnOk result (EndsAtSize (store_of (reads (D.disk (device_of blocks.old)))) tree.now) }
-    ensures fault { IsTrue D.tells_bytes → IfErr result (λ fault. Tells fault (StandsInTree root.now.places root.now.bit
+    ensures fault { IsTrue D.tells_bytes → IfErr result (λ fault. Tells fault (StandsInTree root.now.geometry root.now.bit
         (store_of (reads (D.disk (device_of blocks.old)))) tree.now top map.old)) }
     ensures words { length map.new ≡ length map.old }
     ensures same { IsTrue D.tells_bytes → D.disk (device_of blocks.new) ≡ D.disk (device_of blocks.old) }

@@ -5,8 +5,8 @@ use Rattle.std.proofs.lemmas.Bool.{cases_eq, cases_lt, leb-true, ltb-true, ne_eq
 use Rattle.std.proofs.lemmas.List.{get_or-replicate, get_or_past, length-replicate, take-append-drop, take-append-le, drop-append-le, take-replicate, drop-replicate, take_at, drop_at, drop-drop}
 use Rattle.sn_limits.specs.Versions.{version_1}
 use Rattle.sn_layout.specs.Bytes.{Puts, number_bytes, zeros}
-use Rattle.sn_layout.specs.Places.{start_of}
-use Rattle.sn_layout.specs.declared.places.Area.TheVariants.{Data}
+use Rattle.sn_layout.specs.Geometry.{start_of}
+use Rattle.sn_layout.specs.declared.geometry.Area.TheVariants.{Data}
 use Rattle.sn_layout.proofs.Fields.{length-zeros}
 use Rattle.sn_layout_node.specs.Inode.{IsInode, inode_bytes}
 use Rattle.sn_layout_node.specs.declared.inode.Inode.{Inode}

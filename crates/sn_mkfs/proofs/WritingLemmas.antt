@@ -6,12 +6,12 @@ use Rattle.std.proofs.lemmas.List.{append-nil, drop-replicate, drop_at, length-r
 use Rattle.sn_device.specs.Sectors.{Contents, AreSectors, AgreesOutside, Run, sector_at}
 use Rattle.sn_layout.specs.Bytes.{AreNumbers, number_bytes, numbers_bytes, zeros}
 use Rattle.sn_layout.specs.MapCopy.{map_block_bytes}
-use Rattle.sn_layout.specs.Places.{IsDiskSize, half_of_epoch, map_blocks, start_of}
+use Rattle.sn_layout.specs.Geometry.{IsDiskSize, half_of_epoch, map_blocks, start_of}
 use Rattle.sn_layout.specs.Superblock.{superblock_bytes}
-use Rattle.sn_layout.specs.declared.places.Area.TheVariants.{Data, Log}
-use Rattle.sn_layout.specs.declared.places.LogHalf.{LogHalf}
-use Rattle.sn_layout.specs.declared.places.LogHalf.TheVariants.{Zero, One}
-use Rattle.sn_layout.specs.declared.places.Slot.TheVariants.{A}
+use Rattle.sn_layout.specs.declared.geometry.Area.TheVariants.{Data, Log}
+use Rattle.sn_layout.specs.declared.geometry.LogHalf.{LogHalf}
+use Rattle.sn_layout.specs.declared.geometry.LogHalf.TheVariants.{Zero, One}
+use Rattle.sn_layout.specs.declared.geometry.Slot.TheVariants.{A}
 use Rattle.sn_layout.proofs.Records.{zero_numbers}
 use Rattle.sn_ondisk.specs.Blocks.{bytes_at}
 use Rattle.sn_ondisk.specs.Gates.{IsClosed, gate_at}
@@ -94,7 +94,7 @@ module _ (c : Contents) (total : ℕ) (whole : AreSectors c) (long : total ≤ l
 module _ (n total : ℕ) (size : IsDiskSize n) (covers : total ≡ 8 * start_of n Data)
     (c1 c2 c3 c4 : Contents) (whole : AreSectors c1) (long : 8 * n ≤ length c1)
     (blank : bytes_at c1 0 total ≡ replicate (512 * total) 0)
-    (to2 : AgreesOutside (Run 0 8) c1 c2) (superblock : bytes_at c2 0 8 ≡ superblock_bytes (record { places = n }))
+    (to2 : AgreesOutside (Run 0 8) c1 c2) (superblock : bytes_at c2 0 8 ≡ superblock_bytes (record { geometry = n }))
     (to3 : AgreesOutside (Run (8 * start_of n Data) 8) c2 c3) (inodes : bytes_at c3 (8 * start_of n Data) 8 ≡ inode_block)
     (to4 : AgreesOutside (Run (8 * marked_block n) 8) c3 c4) (map : bytes_at c4 (8 * marked_block n) 8 ≡ marked_bytes n) where
   all_there : total ≤ length c1

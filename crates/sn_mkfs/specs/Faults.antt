@@ -2,7 +2,7 @@
 use Rattle.std.specs.Prelude.{◌⊎◌, ℕ, ◌+◌, ◌*◌, ◌<◌, ◌≤◌, IsTrue}
 use Rattle.sn_device.specs.Status.{has_ended}
 use Rattle.sn_device.specs.declared.status.Status.{Status}
-use Rattle.sn_layout.specs.Places.{IsDiskSize}
+use Rattle.sn_layout.specs.Geometry.{IsDiskSize}
 use Rattle.sn_block.specs.Counts.{IsLater}
 use Rattle.sn_mkfs.specs.Writing.{format_writes}
 

@@ -4,10 +4,10 @@ use Rattle.sn_limits.specs.Versions.{version_1}
 use Rattle.sn_limits.specs.declared.kind.Kind.TheVariants.{Directory}
 use Rattle.sn_device.specs.Sectors.{Contents}
 use Rattle.sn_layout.specs.Bytes.{zeros}
-use Rattle.sn_layout.specs.Places.{start_of, gate_sector}
+use Rattle.sn_layout.specs.Geometry.{start_of, gate_sector}
 use Rattle.sn_layout.specs.Superblock.{superblock_bytes}
-use Rattle.sn_layout.specs.declared.places.Area.TheVariants.{Data}
-use Rattle.sn_layout.specs.declared.places.Slot.TheVariants.{A, B}
+use Rattle.sn_layout.specs.declared.geometry.Area.TheVariants.{Data}
+use Rattle.sn_layout.specs.declared.geometry.Slot.TheVariants.{A, B}
 use Rattle.sn_layout.specs.declared.root.RootBody.{RootBody}
 use Rattle.sn_layout.specs.declared.tree.BlockTree.{BlockTree}
 use Rattle.sn_layout_node.specs.Inode.{inode_bytes}
@@ -51,7 +51,7 @@ fresh_words n = replicate (start_of n Data) 0 ++ 1 ∷ replicate (n - start_of n
 
 -- What stands on the disk beside slot A: the superblock, the inode file, the block map, and no record in either half of the log. Slot B is closed.
 pub record IsPrepared (n : ℕ) (c : Contents) : Type 0 where
-  pub superblock : block_at c 0 ≡ superblock_bytes (record { places = n })
+  pub superblock : block_at c 0 ≡ superblock_bytes (record { geometry = n })
   pub other : IsClosed c (gate_sector B)
   pub inodes : block_at c (start_of n Data) ≡ inode_block
   pub map : HasMap n c A (fresh_words n)

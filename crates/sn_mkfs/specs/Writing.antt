@@ -1,9 +1,9 @@
 -- What formatting writes beside zeros.
 use Rattle.std.specs.Prelude.{ℕ, ◌+◌, ◌*◌, ◌/◌, ◌%◌, List, replicate, slice_set}
 use Rattle.sn_layout.specs.MapCopy.{map_block_bytes}
-use Rattle.sn_layout.specs.Places.{start_of}
-use Rattle.sn_layout.specs.declared.places.Area.TheVariants.{Data, MapCopy}
-use Rattle.sn_layout.specs.declared.places.Slot.TheVariants.{A}
+use Rattle.sn_layout.specs.Geometry.{start_of}
+use Rattle.sn_layout.specs.declared.geometry.Area.TheVariants.{Data, MapCopy}
+use Rattle.sn_layout.specs.declared.geometry.Slot.TheVariants.{A}
 
 -- the block of slot A's map copy that has the word of the first data block
 abbrev pub marked_block : ℕ → ℕ

@@ -1,9 +1,9 @@
 //! Formatting of a device.
 ghost use Rattle.std.specs.Prelude.{◌≡◌, ◌≢◌, ◌↔◌, ◌+◌, ◌-◌, ◌*◌, ◌≤◌, IsTrue, IsSome, IfSome, IfOk, IfErr};
 ghost use Rattle.sn_device.specs.Disk.{IsSynced, reads};
-ghost use Rattle.sn_layout.specs.Places.{start_of};
-ghost use Rattle.sn_layout.specs.declared.places.Area.TheVariants.{Data};
-ghost use Rattle.sn_layout.specs.declared.places.Slot.TheVariants.{A};
+ghost use Rattle.sn_layout.specs.Geometry.{start_of};
+ghost use Rattle.sn_layout.specs.declared.geometry.Area.TheVariants.{Data};
+ghost use Rattle.sn_layout.specs.declared.geometry.Slot.TheVariants.{A};
 ghost use Rattle.sn_model.specs.World.{new_world};
 ghost use Rattle.sn_block.specs.Counts.{called};
 ghost use Rattle.sn_ondisk.specs.Trees.{store_of};
@@ -20,7 +20,7 @@ use crate::writing::format;
 use crate::{MkfsFault, Unformatted};
 use sn_block::Blocks;
 use sn_device::Device;
-use sn_layout::{Places, SECTORS_PER_BLOCK};
+use sn_layout::{Geometry, SECTORS_PER_BLOCK};
 use std::alloc::Global;
 
 /// Formats the first so many blocks of a device, of 4,096 bytes each: it then holds an empty root
@@ -46,7 +46,7 @@ pub fn mkfs<D: Device>(alloc: Global, device: D, blocks: u32) -> Result<D, Unfor
     ensures failed { IfErr result (λ unformatted. unformatted.fault ≡ mkfs_fault.Device
         → IsCutOff blocks (D.status device) (D.status unformatted.device)) }
 {
-    let Some(places) = places_on(blocks, device.sectors()) else {
+    let Some(geometry) = places_on(blocks, device.sectors()) else {
         return Err(Unformatted {
             fault: MkfsFault::Size,
             device,
@@ -61,7 +61,7 @@ pub fn mkfs<D: Device>(alloc: Global, device: D, blocks: u32) -> Result<D, Unfor
             });
         }
     };
-    let result = format(&mut blocks, places);
+    let result = format(&mut blocks, geometry);
     let device = blocks.into_device();
     match result {
         Ok(()) => Ok(device),
@@ -73,13 +73,13 @@ pub fn mkfs<D: Device>(alloc: Global, device: D, blocks: u32) -> Result<D, Unfor
 }
 
 // Where things lie on a disk of so many blocks, if a device of so many sectors has room for it.
-fn places_on(blocks: u32, sectors: u64) -> Option<Places>
+fn places_on(blocks: u32, sectors: u64) -> Option<Geometry>
     ensures some { IsSome result ↔ HasRoom sectors blocks }
-    ensures value { IfSome result (λ places. places ≡ blocks) }
+    ensures value { IfSome result (λ geometry. geometry ≡ blocks) }
 {
-    let places = Places::new(blocks)?;
+    let geometry = Geometry::new(blocks)?;
     if sectors < SECTORS_PER_BLOCK * u64::from(blocks) {
         return None;
     }
-    Some(places)
+    Some(geometry)
 }

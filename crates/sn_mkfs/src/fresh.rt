@@ -7,19 +7,19 @@ ghost use Rattle.sn_mkfs.specs.Fresh.{fresh_root as the_fresh_root, inode_block 
 
 use sn_acl::{Mode, Permissions};
 use sn_layout::{
-    Area, BLOCK_SIZE, Block, BlockTree, Places, Pointers, RootBody, Snapshots, put_bytes,
+    Area, BLOCK_SIZE, Block, BlockTree, Geometry, Pointers, RootBody, Snapshots, put_bytes,
 };
 use sn_layout_node::{Content, INODE_SIZE, Inode, InodeRecord};
 use sn_limits::{Kind, Limits};
 use sn_walk::ROOT_NUMBER;
 
 /// The first root of a disk: its inode file is the first block of the data area.
-pub fn fresh_root(places: Places) -> RootBody
-    ensures value { result ≡ the_fresh_root places }
+pub fn fresh_root(geometry: Geometry) -> RootBody
+    ensures value { result ≡ the_fresh_root geometry }
     ensures fits { IsRootBody result }
 {
     let mut pointers = Pointers::default();
-    pointers.set(0, places.start(Area::Data));
+    pointers.set(0, geometry.start(Area::Data));
     RootBody {
         limits: Limits::VERSION_1,
         generation: 1,

@@ -11,7 +11,7 @@
 //! The way through: `specs/Fresh.antt` has the formatted disk part by part, `specs/Faults.antt` what a
 //! fault says. `fresh` has the first root and its directory, `writing` what is written, in which order,
 //! and `formatting` the call. A caller that asks for the number of blocks before it has a device asks
-//! `sn_layout::Places::new`. `proofs/` shows first that the parts make up such a disk, and then that it
+//! `sn_layout::Geometry::new`. `proofs/` shows first that the parts make up such a disk, and then that it
 //! opens to the new world and is sound.
 //!
 //! What the sources leave open is decided in `docs/DECISIONS.md`, under "Formatting".

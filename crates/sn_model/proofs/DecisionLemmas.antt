@@ -25,7 +25,7 @@ use Rattle.sn_walk.proofs.WalkLemmas.{ends_at}
 use Rattle.sn_model.specs.declared.reply.Access.{Access}
 use Rattle.sn_model.specs.declared.reply.Errno.TheVariants.{Elimit}
 use Rattle.sn_model.specs.declared.reply.Refusal.{Refusal}
-use Rattle.sn_model.specs.declared.reply.Status.{Status}
+use Rattle.sn_model.specs.declared.reply.FileStatus.{FileStatus}
 use Rattle.sn_model.specs.declared.session.Session.{Session}
 use Rattle.sn_model.specs.Tree.{Tree, Node, attributes_of, link_to, names_in, least_unused, viewed}
 use Rattle.sn_model.specs.World.{World, trees_of, viewed_trees}
@@ -162,7 +162,7 @@ mkdir_is limits world s names mode o e =
       made = made_as limits world s names mode d.0 p.0 x.0 o r.2 x.2 x.1;
     }
 
-pub stat_is : (world : World) (s : Session) (names : List (List ℕ)) (o : Outcome) → stat_outcome (viewed_trees (trees_of world)) s names ≡ Ok o → (answer : Status) × (o ≡ tells (reply.Status answer))
+pub stat_is : (world : World) (s : Session) (names : List (List ℕ)) (o : Outcome) → stat_outcome (viewed_trees (trees_of world)) s names ≡ Ok o → (answer : FileStatus) × (o ≡ tells (reply.Status answer))
 unfolding stat_outcome
 stat_is world s names o e =
     let x = bind_ok (full (viewed_trees (trees_of world)) s.cred 1 names) (λ (x : Found). ok (tells (reply.Status (status_of (number_of x.object) x.attributes)))) o e in

@@ -13,7 +13,7 @@ use Rattle.sn_model.specs.declared.call.Call.TheVariants as call
 use Rattle.sn_model.specs.declared.reply.Access as access
 use Rattle.sn_model.specs.declared.reply.Refusal.{Refusal}
 use Rattle.sn_model.specs.declared.reply.Reply.TheVariants.{Done, Status}
-use Rattle.sn_model.specs.declared.reply.Status as status
+use Rattle.sn_model.specs.declared.reply.FileStatus as status
 use Rattle.sn_limits.specs.declared.limits.Limits.{Limits}
 use Rattle.sn_model.specs.declared.change.Ownership.{Ownership}
 use Rattle.sn_model.specs.Outcomes.{Outcome, tells, opens, makes}
@@ -107,7 +107,7 @@ mkdir_outcome limits seen session names mode = do
   _ ← seen.room directory
   Ok (makes (2 * limits.inode_charge + limits.block_charge) (link_to directory (last_name names)) Directory (new_directory session mode parent ((seen.trees.tree Live).default_acl directory)))
 
-abbrev pub status_of : ℕ → Attributes → status.Status
+abbrev pub status_of : ℕ → Attributes → status.FileStatus
 status_of number a = record {
   kind = a.kind;
   set_gid = a.set_gid;

@@ -1,4 +1,4 @@
-use crate::{Access, AclKind, Content, Groups, OpenFlags, Word};
+use crate::{Access, AclKind, FileData, Groups, OpenFlags, Word};
 
 /// What a session asks for.
 #[derive(Drop)]
@@ -93,7 +93,7 @@ pub enum Call {
     /// POSIX.1-2017 write(): bytes to the descriptor's offset, or to the file's end, 65,536 at the most.
     Write {
         fd: u32,
-        bytes: Content,
+        bytes: FileData,
     },
     /// POSIX.1-2017 lseek() with SEEK_SET.
     Seek {

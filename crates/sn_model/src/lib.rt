@@ -61,10 +61,10 @@ pub use laws::{
     test_is_below, umask_sets_the_mask, writes_of_nothing_do_nothing,
 };
 pub use link::Link;
-pub use lists::{Content, Names, StoredAcl};
+pub use lists::{FileData, Names, StoredAcl};
 pub use mount::{Damage, End, MountFault};
 pub use moving::Moving;
 pub use outcome::{Caller, Outcome, Pending};
-pub use reply::{Access, Denial, Errno, PathNumber, Progress, Refusal, Reply, Rule, Status};
+pub use reply::{Access, Denial, Errno, FileStatus, PathNumber, Progress, Refusal, Reply, Rule};
 pub use session::Session;
 pub use word::Word;

@@ -8,11 +8,11 @@ use std::marker::Model;
 
 /// The bytes that a read gave, or that a write brings.
 #[derive(Drop)]
-pub struct Content {
+pub struct FileData {
     bytes: Vec<u8>,
 }
 
-impl Model for Content {
+impl Model for FileData {
     ghost use Rattle.std.specs.Prelude.{ℕ, List};
 
     ghost Value = { List ℕ };
@@ -20,12 +20,12 @@ impl Model for Content {
     ghost view = { λ c. c.bytes.items };
 }
 
-impl Content {
+impl FileData {
     /// Keeps these bytes as an answer.
-    pub fn new(bytes: Vec<u8>) -> Content
+    pub fn new(bytes: Vec<u8>) -> FileData
         ensures { result ≡ bytes.items }
     {
-        Content { bytes }
+        FileData { bytes }
     }
 
     /// The bytes, as they were read.

@@ -1,6 +1,6 @@
 ghost use Rattle.std.specs.Prelude.{◌≡◌};
 
-use crate::{Content, MountFault, Names, StoredAcl};
+use crate::{FileData, MountFault, Names, StoredAcl};
 use sn_acl::{Mode, Tag};
 use sn_limits::Kind;
 use std::marker::Model;
@@ -134,7 +134,7 @@ impl Refusal {
 
 /// What stat answers.
 #[derive(Clone, Copy, PartialEq, Eq, Hash)]
-pub struct Status {
+pub struct FileStatus {
     pub kind: Kind,
     /// S_ISGID.
     pub set_gid: bool,
@@ -169,8 +169,8 @@ pub enum Reply {
     /// The descriptor of open(), the bytes that write() wrote, the offset of lseek().
     Number(u64),
     /// read(): none at the end of the file or past it.
-    Content(Content),
-    Status(Status),
+    Content(FileData),
+    Status(FileStatus),
     /// Of a directory or of the snapshots, in the order of their bytes.
     Names(Names),
     /// The ACL that was asked for. A directory may have no default ACL.

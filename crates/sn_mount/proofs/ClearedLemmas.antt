@@ -16,15 +16,15 @@ use Rattle.sn_device.specs.Crash.{LeavesOnly, Touches}
 use Rattle.sn_device.specs.declared.status.Status.{Status}
 use Rattle.sn_device.proofs.CrashLemmas.{Always-reads, Always-synced, LeavesOnly-join, LeavesOnly-now, LeavesOnly-weaker, Touches-join, Touches-within}
 use Rattle.sn_block.specs.Effects.{Nowhere}
-use Rattle.sn_layout.specs.declared.places.Area.TheVariants.{Data}
-use Rattle.sn_layout.specs.declared.places.Slot.{Slot}
+use Rattle.sn_layout.specs.declared.geometry.Area.TheVariants.{Data}
+use Rattle.sn_layout.specs.declared.geometry.Slot.{Slot}
 use Rattle.sn_layout.specs.declared.root.RootBody.{RootBody}
-use Rattle.sn_layout.specs.Places.{start_of}
+use Rattle.sn_layout.specs.Geometry.{start_of}
 use Rattle.sn_layout.specs.Superblock.{superblock_bytes}
 use Rattle.sn_limits.specs.declared.limits.Limits.{Limits}
 use Rattle.sn_limits.specs.Versions.{version_1}
 use Rattle.sn_log.specs.Clearing.{Clears}
-use Rattle.sn_log.specs.Places.{IsReadyAt, LogPosition, first_of, payloads_of}
+use Rattle.sn_log.specs.Positions.{IsReadyAt, LogPosition, first_of, payloads_of}
 use Rattle.sn_map.specs.Free.{is_free_word}
 use Rattle.sn_model.specs.declared.change.Change.{Change}
 use Rattle.sn_model.specs.declared.mount.MountFault.{MountFault}
@@ -258,7 +258,7 @@ module _ (d : Disk) (w : World) (n : ℕ) (k : Kept) (over : IsImageOver d w n k
       older_spelled = opened.older_spelled;
       newer_spelled = opened.newer_spelled;
       limits = sym limits_one;
-      formatted = Always-synced d (λ c. block_at c 0 ≡ superblock_bytes (record { places = its.blocks })) over.synced its.spelled;
+      formatted = Always-synced d (λ c. block_at c 0 ≡ superblock_bytes (record { geometry = its.blocks })) over.synced its.spelled;
       stands = record {
         disk = its.disk;
         shows = Always-synced d (Shows its.blocks store opened.slot opened.root opened.older opened.newer) over.synced (record { shown = opened.shown; same = λ block among. refl });

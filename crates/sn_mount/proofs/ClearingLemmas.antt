@@ -15,7 +15,7 @@ use Rattle.sn_ondisk.proofs.PlaceLemmas.{halves_apart}
 use Rattle.sn_ondisk.specs.Trees.{Store, store_of}
 use Rattle.sn_ondisk.proofs.OneLemmas.{epoch_is}
 use Rattle.sn_log.specs.Clearing.{Clears}
-use Rattle.sn_log.specs.Places.{LogPosition, base_at, payloads_of}
+use Rattle.sn_log.specs.Positions.{LogPosition, base_at, payloads_of}
 use Rattle.sn_opening.specs.Opens.{IsDisk, Opens, Shows}
 use Rattle.sn_opening.proofs.LogLemmas.{of_position}
 use Rattle.sn_opening.proofs.OpeningLemmas.{half_lies}
@@ -115,7 +115,7 @@ module _ (mid new : Disk) (w : World) (im : IsImage (reads mid) w) (at : LogPosi
 
   -- the contents at a moment, by which half is written
   abbrev IsKept : Contents → Type 0
-  IsKept d = IsDisk n d × (block_at d 0 ≡ superblock_bytes (record { places = n })) × HasMap n d o.slot words × ((epoch : ℕ) → HasNoLater d (base_of n epoch) (o.root.epoch + 1)) × Shows n s o.slot o.root o.older o.newer d
+  IsKept d = IsDisk n d × (block_at d 0 ≡ superblock_bytes (record { geometry = n })) × HasMap n d o.slot words × ((epoch : ℕ) → HasNoLater d (base_of n epoch) (o.root.epoch + 1)) × Shows n s o.slot o.root o.older o.newer d
 
   kept_older : at.blocks ≡ n → at.epoch ≡ o.root.epoch → ReplaysTo c (base_at at) at.epoch (payloads_of o.older) at.place → LeavesOnly mid new IsKept
   kept_older in_n in_epoch ends =

@@ -13,10 +13,10 @@ use Rattle.sn_device.proofs.CrashLemmas.{Always-synced, LeavesOnly-start, Touche
 use Rattle.sn_block.specs.Effects.{Nowhere}
 use Rattle.sn_block.specs.declared.fault.ReadFault.{ReadFault}
 use Rattle.sn_block.specs.declared.fault.ReadFault.TheVariants as read
-use Rattle.sn_layout.specs.declared.places.Area.TheVariants.{MapCopy}
-use Rattle.sn_layout.specs.declared.places.Slot.{Slot}
+use Rattle.sn_layout.specs.declared.geometry.Area.TheVariants.{MapCopy}
+use Rattle.sn_layout.specs.declared.geometry.Slot.{Slot}
 use Rattle.sn_layout.specs.declared.root.RootBody.{RootBody}
-use Rattle.sn_layout.specs.Places.{start_of}
+use Rattle.sn_layout.specs.Geometry.{start_of}
 use Rattle.sn_limits.specs.declared.limits.Limits.{Limits}
 use Rattle.sn_limits.specs.Versions.{version_1}
 use Rattle.sn_model.specs.declared.change.Change.{Change}
@@ -37,7 +37,7 @@ use Rattle.sn_ondisk.specs.MapCopy.{HasMap}
 use Rattle.sn_ondisk.specs.Roots.{IsNewest}
 use Rattle.sn_ondisk.specs.Shown.{Shown}
 use Rattle.sn_ondisk.specs.Trees.{Store, store_of}
-use Rattle.sn_log.specs.Places.{LogPosition, payloads_of}
+use Rattle.sn_log.specs.Positions.{LogPosition, payloads_of}
 use Rattle.sn_image.specs.Image.{image}
 use Rattle.sn_image.proofs.SoundNodeLemmas.{only_version}
 use Rattle.sn_opening.specs.Opens.{IsDisk, Opens, Shows}

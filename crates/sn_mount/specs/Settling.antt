@@ -5,8 +5,8 @@ use Rattle.sn_changed.specs.Changed.{HasChanged}
 use Rattle.sn_changed.specs.declared.dropped.DroppedFile.{DroppedFile}
 use Rattle.sn_device.specs.Crash.{LeavesOnly}
 use Rattle.sn_device.specs.Disk.{Disk, reads}
-use Rattle.sn_layout.specs.declared.places.Area.TheVariants.{MapCopy}
-use Rattle.sn_layout.specs.Places.{start_of}
+use Rattle.sn_layout.specs.declared.geometry.Area.TheVariants.{MapCopy}
+use Rattle.sn_layout.specs.Geometry.{start_of}
 use Rattle.sn_limits.specs.Versions.{version_1}
 use Rattle.sn_model.specs.declared.mount.Damage.TheVariants.{MapWord}
 use Rattle.sn_model.specs.declared.mount.MountFault.{MountFault}

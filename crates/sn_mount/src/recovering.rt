@@ -7,7 +7,7 @@ ghost use Rattle.sn_core.specs.Plain.{kept_of, kept_since_of, world_of};
 ghost use Rattle.sn_cp_whole.specs.Making.{room_over};
 ghost use Rattle.sn_cp_whole.specs.Planning.{IsBaseAt, kept_in};
 ghost use Rattle.sn_limits.specs.Versions.{version_1};
-ghost use Rattle.sn_log.specs.Places.{first_of};
+ghost use Rattle.sn_log.specs.Positions.{first_of};
 ghost use Rattle.sn_model.specs.Worlds.{IsWorld};
 ghost use Rattle.sn_desc.specs.InUse.{live_in};
 ghost use Rattle.sn_overlay.specs.Needs.{counts, nameless_in};
@@ -62,20 +62,20 @@ pub fn recover<D: Device>(alloc: Global, blocks: &mut Blocks<D>) -> Result<Recov
         Ok(found) => found,
         Err(fault) => return Err(fault),
     };
-    let places = found.places;
+    let geometry = found.geometry;
     let recovers = found.recovers;
     let Ok(Settled { world, base }) = settle(alloc, found) else {
         return Err(MountFault::Memory);
     };
     // It bounds the files without names.
     let _nameless = world.nameless();
-    let base = match make_root(alloc, blocks, places, base, recovers) {
+    let base = match make_root(alloc, blocks, geometry, base, recovers) {
         Ok(base) => base,
         Err(fault) => return Err(fault),
     };
-    let at = Position::first(places, base.root.epoch);
-    let room = Room::fresh(base.map.count_free_from(places.start(Area::Data)));
-    match clear(blocks, places, LogHalf::of_epoch(base.root.epoch), 0) {
+    let at = Position::first(geometry, base.root.epoch);
+    let room = Room::fresh(base.map.count_free_from(geometry.start(Area::Data)));
+    match clear(blocks, geometry, LogHalf::of_epoch(base.root.epoch), 0) {
         Ok(()) => Ok(Recovered {
             log: Log::new(at, buffer),
             world,

@@ -8,7 +8,7 @@ ghost use Rattle.sn_cp_whole.specs.declared.fault.PointFault.TheVariants.{Age as
 ghost use Rattle.sn_device.specs.Crash.{Touches};
 ghost use Rattle.sn_device.specs.Disk.{IsSynced};
 ghost use Rattle.sn_examine.specs.Failing.{FailsAs};
-ghost use Rattle.sn_examine.specs.Found.{kept_of as kept_found};
+ghost use Rattle.sn_examine.specs.FoundDisk.{kept_of as kept_found};
 ghost use Rattle.sn_layout.specs.RootBody.{IsRootBody};
 ghost use Rattle.sn_limits.specs.Versions.{version_1};
 ghost use Rattle.sn_model.specs.NameTree.{IsTree};
@@ -24,8 +24,8 @@ use sn_changed::{DroppedFile, drop_each};
 use sn_core::PlainWorld;
 use sn_cp_whole::{PointBase, PointFault, empty_overlay, make_recovery};
 use sn_device::Device;
-use sn_examine::Found;
-use sn_layout::{Area, Places};
+use sn_examine::FoundDisk;
+use sn_layout::{Area, Geometry};
 use sn_model::{Damage, MountFault};
 use std::alloc::{AllocError, Global};
 
@@ -71,14 +71,14 @@ pub fn nameless_files(alloc: Global, world: &PlainWorld) -> Result<Vec<DroppedFi
 }
 
 /// Drops the files that no name stands for, from the world and from what changed of the root's tree.
-pub(crate) fn settle(alloc: Global, found: Found) -> Result<Settled, AllocError>
+pub(crate) fn settle(alloc: Global, found: FoundDisk) -> Result<Settled, AllocError>
     requires { IsTree version_1 (world_of found.world).live }
     ensures world { IfOk result (λ s. world_of s.world ≡ settle (world_of found.world)) }
     ensures kept { IfOk result (λ s. (number : ℕ) → kept_of s.world number ≡ false) }
     ensures since { IfOk result (λ s. (number : ℕ) → kept_since_of s.world number ≡ false) }
     ensures changed { IfOk result (λ s. SettlesChanges (kept_found found) (world_of found.world).live (kept_in s.base)) }
 {
-    let Found {
+    let FoundDisk {
         slot,
         root,
         map,
@@ -129,23 +129,23 @@ fn mount_fault(fault: PointFault, map: u32) -> MountFault
 pub(crate) fn make_root<D: Device>(
     alloc: Global,
     blocks: &mut Blocks<D>,
-    places: Places,
+    geometry: Geometry,
     base: PointBase,
     recovers: bool,
 ) -> Result<PointBase, MountFault>
-    requires disk { 8 * places ≤ (D.status (device_of blocks.old)).sectors }
+    requires disk { 8 * geometry ≤ (D.status (device_of blocks.old)).sectors }
     requires synced { IsTrue D.tells_bytes → IsSynced (D.disk (device_of blocks.old)) }
     requires body { IsRootBody base.root }
-    requires words { length base.map ≡ places }
+    requires words { length base.map ≡ geometry }
     requires age { recovers ≡ true → HasAgeLeft base.root }
-    ensures makes { IsTrue D.tells_bytes → MakesRoot result places (kept_in base) recovers (D.disk (device_of blocks.old)) (D.disk (device_of blocks.new)) }
-    ensures none { IsTrue D.tells_bytes → IfErr result (λ f. IsNoRoot f places (kept_in base) (D.disk (device_of blocks.old)) (D.disk (device_of blocks.new))) }
-    ensures touched { IsTrue D.tells_bytes → Touches (IsApart places base.slot) (D.disk (device_of blocks.old)) (D.disk (device_of blocks.new)) }
+    ensures makes { IsTrue D.tells_bytes → MakesRoot result geometry (kept_in base) recovers (D.disk (device_of blocks.old)) (D.disk (device_of blocks.new)) }
+    ensures none { IsTrue D.tells_bytes → IfErr result (λ f. IsNoRoot f geometry (kept_in base) (D.disk (device_of blocks.old)) (D.disk (device_of blocks.new))) }
+    ensures touched { IsTrue D.tells_bytes → Touches (IsApart geometry base.slot) (D.disk (device_of blocks.old)) (D.disk (device_of blocks.new)) }
     ensures body { IfOk result (λ next. IsRootBody next.root) }
-    ensures words { IfOk result (λ next. length next.map ≡ places) }
+    ensures words { IfOk result (λ next. length next.map ≡ geometry) }
     ensures empty { IfOk result (λ next. layer_of next.changed ≡ no_changes) }
     ensures drops { IfOk result (λ next. HasRoom next.changed (record { nodes = 0; names = 0; blocks = 0 })) }
-    ensures costs { CostsRoot result places (D.status (device_of blocks.old)) (D.status (device_of blocks.new)) }
+    ensures costs { CostsRoot result geometry (D.status (device_of blocks.old)) (D.status (device_of blocks.new)) }
     ensures failed { FailsAs result (D.status (device_of blocks.old)) (D.status (device_of blocks.new)) }
 {
     if !recovers {
@@ -154,8 +154,8 @@ pub(crate) fn make_root<D: Device>(
             Err(_) => Err(MountFault::Memory),
         };
     }
-    match make_recovery(alloc, blocks, places, &base, 0) {
+    match make_recovery(alloc, blocks, geometry, &base, 0) {
         Ok(next) => Ok(next),
-        Err(fault) => Err(mount_fault(fault, places.start(Area::MapCopy(base.slot)))),
+        Err(fault) => Err(mount_fault(fault, geometry.start(Area::MapCopy(base.slot)))),
     }
 }

@@ -7,7 +7,7 @@ use crate::tears::crashed;
 use anyhow::{Result, bail, ensure};
 use sn_device::{Device, Fill, MemDevice, SECTOR_SIZE, Sector};
 use sn_mkfs::mkfs;
-use sn_model::{AclKind, Call, Content, Event, MountFault, Reply};
+use sn_model::{AclKind, Call, Event, FileData, MountFault, Reply};
 use std::alloc::Global;
 use std::mem;
 
@@ -272,7 +272,7 @@ impl Disk {
 
     /// The line of the reply of session 0 to a write of so many bytes, all of them this one.
     pub fn write_all(&mut self, fd: u32, byte: u8, count: usize) -> Result<String> {
-        let bytes = Content::new(Vec::from_elem(self.alloc, byte, count)?);
+        let bytes = FileData::new(Vec::from_elem(self.alloc, byte, count)?);
         self.told(0, &Call::Write { fd, bytes })
     }
 }

@@ -4,12 +4,12 @@ use Rattle.std.proofs.lemmas.Bool.{cases_lt}
 use Rattle.std.proofs.lemmas.Grind.{flat_map-append}
 use Rattle.std.proofs.lemmas.List.{append-nil, nil_from_length, take_all, drop_all, drop-drop, length-drop, length-take-le, take-append-drop, replicate-append-replicate}
 use Rattle.sn_device.specs.Sectors.{Contents, AreSectors}
-use Rattle.sn_layout.specs.declared.places.Slot.{Slot}
-use Rattle.sn_layout.specs.declared.places.Slot.TheVariants.{A, B}
-use Rattle.sn_layout.specs.declared.places.Area.TheVariants.{MapCopy}
+use Rattle.sn_layout.specs.declared.geometry.Slot.{Slot}
+use Rattle.sn_layout.specs.declared.geometry.Slot.TheVariants.{A, B}
+use Rattle.sn_layout.specs.declared.geometry.Area.TheVariants.{MapCopy}
 use Rattle.sn_layout.specs.Bytes.{AreNumbers, number_bytes, numbers_bytes, zeros}
 use Rattle.sn_layout.specs.MapCopy.{map_block_bytes}
-use Rattle.sn_layout.specs.Places.{start_of, end_of, map_blocks}
+use Rattle.sn_layout.specs.Geometry.{start_of, end_of, map_blocks}
 use Rattle.sn_layout.proofs.Fields.{length-numbers_bytes, length-zeros, same_fronts}
 use Rattle.sn_layout.proofs.Records.{zero_numbers}
 use Rattle.sn_ondisk.specs.Blocks.{bytes_at, block_at}

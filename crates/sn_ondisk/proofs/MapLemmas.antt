@@ -3,10 +3,10 @@ use Rattle.std.proofs.Common.{◌≡◌, ℕ, zero, suc, ◌+◌, ◌-◌, ◌*�
 use Rattle.std.proofs.lemmas.Bool.{cases_lt}
 use Rattle.std.proofs.lemmas.List.{get_or_append_left, get_or-append_right, get_or_past, get_or-replicate, length-replicate, take_at}
 use Rattle.sn_device.specs.Sectors.{Contents}
-use Rattle.sn_layout.specs.declared.places.Slot.{Slot}
-use Rattle.sn_layout.specs.declared.places.Area.TheVariants.{MapCopy}
+use Rattle.sn_layout.specs.declared.geometry.Slot.{Slot}
+use Rattle.sn_layout.specs.declared.geometry.Area.TheVariants.{MapCopy}
 use Rattle.sn_layout.specs.Bytes.{AreNumbers, numbers_bytes}
-use Rattle.sn_layout.specs.Places.{start_of, map_blocks}
+use Rattle.sn_layout.specs.Geometry.{start_of, map_blocks}
 use Rattle.sn_ondisk.specs.Blocks.{numbers_in}
 use Rattle.sn_ondisk.specs.MapCopy.{HasMap, map_bytes, map_words, map_word}
 use Rattle.sn_ondisk.proofs.BlockLemmas.{AreSame, bytes_at-same, numbers_in-numbers_bytes}

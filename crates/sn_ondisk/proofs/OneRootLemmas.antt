@@ -1,10 +1,10 @@
 -- A slot has one root body, and a disk one newest root.
 use Rattle.std.proofs.Common.{◌≡◌, ⊎_elim, ℕ, ◌+◌, List, refl, sym, ◌∙◌, ap, subst, arith}
 use Rattle.sn_device.specs.Sectors.{Contents}
-use Rattle.sn_layout.specs.declared.places.Slot.{Slot}
-use Rattle.sn_layout.specs.declared.places.Slot.TheVariants.{A, B}
+use Rattle.sn_layout.specs.declared.geometry.Slot.{Slot}
+use Rattle.sn_layout.specs.declared.geometry.Slot.TheVariants.{A, B}
 use Rattle.sn_layout.specs.declared.root.RootBody.{RootBody}
-use Rattle.sn_layout.specs.Places.{other_slot}
+use Rattle.sn_layout.specs.Geometry.{other_slot}
 use Rattle.sn_layout.proofs.Spelled.{same_root_bodies}
 use Rattle.sn_ondisk.specs.Roots.{HasRoot, IsOlder, IsNewest}
 use Rattle.sn_ondisk.specs.Shown.{Shown}

@@ -1,11 +1,11 @@
 -- What a disk shows, whatever the gate of a slot comes to hold.
 use Rattle.std.proofs.Common.{◌≢◌, ◌⊎◌, inl, inr, ⊎_elim, ℕ, ◌+◌, ◌<◌, ◌≤◌, List, [], ◌∷◌, ◌++◌, length, arith}
 use Rattle.sn_device.specs.Sectors.{Contents, AgreesOutside, AgreesOn, Single}
-use Rattle.sn_layout.specs.declared.places.Slot.{Slot}
-use Rattle.sn_layout.specs.declared.places.LogHalf.{LogHalf}
-use Rattle.sn_layout.specs.declared.places.LogHalf.TheVariants.{Zero, One}
-use Rattle.sn_layout.specs.declared.places.Area.TheVariants.{Log}
-use Rattle.sn_layout.specs.Places.{start_of, gate_sector, half_of_epoch, other_slot}
+use Rattle.sn_layout.specs.declared.geometry.Slot.{Slot}
+use Rattle.sn_layout.specs.declared.geometry.LogHalf.{LogHalf}
+use Rattle.sn_layout.specs.declared.geometry.LogHalf.TheVariants.{Zero, One}
+use Rattle.sn_layout.specs.declared.geometry.Area.TheVariants.{Log}
+use Rattle.sn_layout.specs.Geometry.{start_of, gate_sector, half_of_epoch, other_slot}
 use Rattle.sn_layout.specs.declared.root.RootBody.{RootBody}
 use Rattle.sn_ondisk.specs.Roots.{body_block, IsNewest, HasNext}
 use Rattle.sn_ondisk.specs.LogHalf.{HasRecord, HasPending, Replays, place_after, base_of}

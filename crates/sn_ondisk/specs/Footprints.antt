@@ -1,7 +1,7 @@
 -- On which sectors each reading depends: writes elsewhere leave it as it is.
 use Rattle.std.specs.Prelude.{◌≡◌, ℕ, ◌+◌, List}
 use Rattle.sn_device.specs.Sectors.{DependsOn, Run}
-use Rattle.sn_layout.specs.declared.places.Slot.{Slot}
+use Rattle.sn_layout.specs.declared.geometry.Slot.{Slot}
 use Rattle.sn_layout.specs.declared.root.RootBody.{RootBody}
 use Rattle.sn_ondisk.specs.Blocks.{block_at, InBlock}
 use Rattle.sn_ondisk.specs.Roots.{body_block, HasRoot, IsNewest, InRoots}

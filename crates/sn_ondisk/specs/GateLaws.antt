@@ -3,9 +3,9 @@ use Rattle.std.specs.Prelude.{◌⊎◌, ℕ, ◌+◌, List, [], ◌∷◌, ◌+
 use Rattle.sn_device.specs.Sectors.{Contents, AreSectors, AgreesOutside, Single, Run}
 use Rattle.sn_device.specs.Disk.{Disk, Always, reads}
 use Rattle.sn_device.specs.Crash.{Touches, LeavesOnly}
-use Rattle.sn_layout.specs.declared.places.Slot.{Slot}
+use Rattle.sn_layout.specs.declared.geometry.Slot.{Slot}
 use Rattle.sn_layout.specs.declared.root.RootBody.{RootBody}
-use Rattle.sn_layout.specs.Places.{gate_sector, other_slot}
+use Rattle.sn_layout.specs.Geometry.{gate_sector, other_slot}
 use Rattle.sn_ondisk.specs.Blocks.{InBlock}
 use Rattle.sn_ondisk.specs.Gates.{IsOpen, IsClosed}
 use Rattle.sn_ondisk.specs.Roots.{body_block, IsNewest, HasNext}

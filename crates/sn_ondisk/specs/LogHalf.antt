@@ -2,9 +2,9 @@
 use Rattle.std.specs.Prelude.{◌≡◌, ◌≢◌, ◌⊎◌, ℕ, ◌+◌, ◌-◌, ◌*◌, ◌/◌, ◌≤◌, ◌==◌, nat_le, ◌||◌, if◌then◌else◌, List, [], ◌∷◌, ◌++◌, length, take}
 use Rattle.byteorder.specs.Endian.{little_number}
 use Rattle.sn_device.specs.Sectors.{Contents, sector_at, Run}
-use Rattle.sn_layout.specs.declared.places.Area.TheVariants.{Log}
+use Rattle.sn_layout.specs.declared.geometry.Area.TheVariants.{Log}
 use Rattle.sn_layout.specs.Bytes.{number_bytes, zeros}
-use Rattle.sn_layout.specs.Places.{start_of, half_of_epoch}
+use Rattle.sn_layout.specs.Geometry.{start_of, half_of_epoch}
 use Rattle.sn_ondisk.specs.Blocks.{bytes_at}
 use Rattle.sn_ondisk.specs.Gates.{gate_at, IsOpen, IsClosed}
 

@@ -1,10 +1,10 @@
 -- The copies of the block map, one for each slot: a word of four bytes for each block, in which each root that reaches the block has a bit.
 use Rattle.std.specs.Prelude.{◌≡◌, ℕ, ◌-◌, ◌*◌, List, ◌++◌, length, replicate, slice_index}
 use Rattle.sn_device.specs.Sectors.{Contents, Run}
-use Rattle.sn_layout.specs.declared.places.Slot.{Slot}
-use Rattle.sn_layout.specs.declared.places.Area.TheVariants.{MapCopy}
+use Rattle.sn_layout.specs.declared.geometry.Slot.{Slot}
+use Rattle.sn_layout.specs.declared.geometry.Area.TheVariants.{MapCopy}
 use Rattle.sn_layout.specs.Bytes.{AreNumbers, numbers_bytes}
-use Rattle.sn_layout.specs.Places.{start_of, map_blocks}
+use Rattle.sn_layout.specs.Geometry.{start_of, map_blocks}
 use Rattle.sn_ondisk.specs.Blocks.{bytes_at, numbers_in}
 
 -- the bytes of a slot's copy, on a disk of n blocks

@@ -1,7 +1,7 @@
 -- Each reading of a disk has one answer.
 use Rattle.std.specs.Prelude.{◌≡◌, ℕ, ◌+◌, ◌^◌, ◌<◌, ◌≤◌, List, [], length}
 use Rattle.sn_device.specs.Sectors.{Contents, AreSectors}
-use Rattle.sn_layout.specs.declared.places.Slot.{Slot}
+use Rattle.sn_layout.specs.declared.geometry.Slot.{Slot}
 use Rattle.sn_layout.specs.declared.root.RootBody.{RootBody}
 use Rattle.sn_ondisk.specs.LogHalf.{HasRecord, IsReady, ReplaysTo, HasNoLater, epoch_at, base_of}
 use Rattle.sn_ondisk.specs.Roots.{HasRoot, IsNewest}

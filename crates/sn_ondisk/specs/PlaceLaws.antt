@@ -1,9 +1,9 @@
 -- Where roots, map copies and log halves lie.
 use Rattle.std.specs.Prelude.{◌≡◌, ◌≢◌, ℕ, ◌+◌, ◌*◌, ◌/◌}
 use Rattle.sn_device.specs.Sectors.{AreDisjoint}
-use Rattle.sn_layout.specs.declared.places.Slot.{Slot}
-use Rattle.sn_layout.specs.declared.places.Area.TheVariants.{RootBody, Gates, Log}
-use Rattle.sn_layout.specs.Places.{IsIn, start_of, end_of, gate_sector, half_of_epoch, other_slot}
+use Rattle.sn_layout.specs.declared.geometry.Slot.{Slot}
+use Rattle.sn_layout.specs.declared.geometry.Area.TheVariants.{RootBody, Gates, Log}
+use Rattle.sn_layout.specs.Geometry.{IsIn, start_of, end_of, gate_sector, half_of_epoch, other_slot}
 use Rattle.sn_ondisk.specs.LogHalf.{InHalf, base_of}
 use Rattle.sn_ondisk.specs.MapCopy.{InMap}
 use Rattle.sn_ondisk.specs.Roots.{body_block, InRoots}

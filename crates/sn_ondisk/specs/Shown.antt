@@ -1,7 +1,7 @@
 -- What a disk shows: its newest root and the records that belong on top of it.
 use Rattle.std.specs.Prelude.{ℕ, ◌+◌, List}
 use Rattle.sn_device.specs.Sectors.{Contents, Union}
-use Rattle.sn_layout.specs.declared.places.Slot.{Slot}
+use Rattle.sn_layout.specs.declared.geometry.Slot.{Slot}
 use Rattle.sn_layout.specs.declared.root.RootBody.{RootBody}
 use Rattle.sn_ondisk.specs.LogHalf.{Replays, InHalf, base_of}
 use Rattle.sn_ondisk.specs.Roots.{IsNewest, InRoots}

@@ -4,16 +4,16 @@ use Rattle.sn_device.specs.Sectors.{Contents, AreSectors, AreDisjoint, DependsOn
 use Rattle.sn_device.specs.Disk.{Disk, Always, reads}
 use Rattle.sn_device.specs.Crash.{LeavesOnly, Touches}
 use Rattle.sn_device.proofs.CrashLemmas.{LeavesOnly-now, LeavesOnly-touched}
-use Rattle.sn_layout.specs.declared.places.Area.TheVariants.{Data, Log}
-use Rattle.sn_layout.specs.declared.places.LogHalf.{LogHalf}
-use Rattle.sn_layout.specs.declared.places.LogHalf.TheVariants.{Zero, One}
-use Rattle.sn_layout.specs.declared.places.Slot.{Slot}
+use Rattle.sn_layout.specs.declared.geometry.Area.TheVariants.{Data, Log}
+use Rattle.sn_layout.specs.declared.geometry.LogHalf.{LogHalf}
+use Rattle.sn_layout.specs.declared.geometry.LogHalf.TheVariants.{Zero, One}
+use Rattle.sn_layout.specs.declared.geometry.Slot.{Slot}
 use Rattle.sn_layout.specs.declared.root.RootBody.{RootBody}
-use Rattle.sn_layout.specs.Places.{start_of, end_of, half_of_epoch}
+use Rattle.sn_layout.specs.Geometry.{start_of, end_of, half_of_epoch}
 use Rattle.sn_model.specs.declared.change.Change.{Change}
 use Rattle.sn_model.specs.World.{World}
 use Rattle.sn_record.specs.Payload.{IsSpelled}
-use Rattle.sn_log.specs.Places.{LogPosition, IsReadyAt, base_at, behind, payloads_of}
+use Rattle.sn_log.specs.Positions.{LogPosition, IsReadyAt, base_at, behind, payloads_of}
 use Rattle.sn_ondisk.specs.Blocks.{InBlocks}
 use Rattle.sn_ondisk.specs.LogHalf.{Replays, ReplaysTo, HasNoLater, InHalf, base_of}
 use Rattle.sn_ondisk.specs.Roots.{IsNewest, InRoots}

@@ -9,13 +9,13 @@ use Rattle.std.specs.FinMap.Entries.{find}
 use Rattle.std.specs.Str.{bytes_eq}
 use Rattle.std.proofs.lemmas.List.Elements.{Contains-append_left, Contains-append_right}
 use Rattle.sn_device.specs.Sectors.{Contents, DependsOn}
-use Rattle.sn_layout.specs.declared.places.Area.TheVariants.{Log}
-use Rattle.sn_layout.specs.declared.places.LogHalf.{LogHalf}
-use Rattle.sn_layout.specs.declared.places.LogHalf.TheVariants.{Zero, One}
-use Rattle.sn_layout.specs.declared.places.Slot.{Slot}
+use Rattle.sn_layout.specs.declared.geometry.Area.TheVariants.{Log}
+use Rattle.sn_layout.specs.declared.geometry.LogHalf.{LogHalf}
+use Rattle.sn_layout.specs.declared.geometry.LogHalf.TheVariants.{Zero, One}
+use Rattle.sn_layout.specs.declared.geometry.Slot.{Slot}
 use Rattle.sn_layout.specs.declared.root.RootBody.{RootBody}
 use Rattle.sn_layout.specs.declared.snapshot.Snapshot.{Snapshot}
-use Rattle.sn_layout.specs.Places.{IsDiskSize, end_of, half_of_epoch}
+use Rattle.sn_layout.specs.Geometry.{IsDiskSize, end_of, half_of_epoch}
 use Rattle.sn_model.specs.declared.change.Change.{Change}
 use Rattle.sn_model.specs.Tree.{Tree}
 use Rattle.sn_model.specs.World.{World}
@@ -25,7 +25,7 @@ use Rattle.sn_model.specs.Settling.{settle, settled}
 use Rattle.sn_model.proofs.ChainLemmas.{some_same}
 use Rattle.sn_model.proofs.ListLemmas.{lists_join, covers_itself}
 use Rattle.sn_model.proofs.SettlingLemmas.{dropping_kept, settle_alike}
-use Rattle.sn_log.specs.Places.{payloads_of}
+use Rattle.sn_log.specs.Positions.{payloads_of}
 use Rattle.sn_ondisk.specs.Blocks.{InBlocks}
 use Rattle.sn_ondisk.specs.LogHalf.{base_of}
 use Rattle.sn_ondisk.specs.OneAnswer.{IsOnDisk}

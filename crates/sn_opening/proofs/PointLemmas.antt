@@ -5,10 +5,10 @@ use Rattle.sn_device.specs.Sectors.{Contents, AreSectors, AgreesOutside, AreDisj
 use Rattle.sn_device.specs.Disk.{Disk, Always, reads}
 use Rattle.sn_device.specs.Crash.{LeavesOnly, Touches}
 use Rattle.sn_device.proofs.CrashLemmas.{LeavesOnly-touched, Always-kept, Touches-present}
-use Rattle.sn_layout.specs.declared.places.Area.TheVariants.{Data, MapCopy}
-use Rattle.sn_layout.specs.declared.places.Slot.{Slot}
+use Rattle.sn_layout.specs.declared.geometry.Area.TheVariants.{Data, MapCopy}
+use Rattle.sn_layout.specs.declared.geometry.Slot.{Slot}
 use Rattle.sn_layout.specs.declared.root.RootBody.{RootBody}
-use Rattle.sn_layout.specs.Places.{IsIn, start_of, map_blocks, gate_sector, other_slot, half_of_epoch}
+use Rattle.sn_layout.specs.Geometry.{IsIn, start_of, map_blocks, gate_sector, other_slot, half_of_epoch}
 use Rattle.sn_model.specs.declared.change.Change.{Change}
 use Rattle.sn_model.specs.World.{World}
 use Rattle.sn_ondisk.specs.Blocks.{InBlocks, block_at}

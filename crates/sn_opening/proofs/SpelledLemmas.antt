@@ -25,7 +25,7 @@ use Rattle.sn_model.proofs.PartLemmas.{IsRenamed, cut_is, directory_is, file_is,
 use Rattle.sn_layout_acl.specs.AclBlock.{IsDefault}
 use Rattle.sn_record.specs.Payload.{IsOwnership, IsSpelled, payload_bytes}
 use Rattle.sn_record.proofs.OneSpelling.{one_spelling}
-use Rattle.sn_log.specs.Places.{payloads_of}
+use Rattle.sn_log.specs.Positions.{payloads_of}
 use Rattle.sn_opening.specs.Spelled.{AreSpelled}
 
 -- ---- lists of changes

@@ -8,10 +8,10 @@ use Rattle.sn_device.specs.Crash.{Touches}
 use Rattle.sn_device.proofs.CrashLemmas.{Touches-present, Always-synced, Always-reads}
 use Rattle.sn_layout.specs.Bytes.{AreNumbers}
 use Rattle.sn_layout.specs.MapCopy.{map_block_bytes}
-use Rattle.sn_layout.specs.declared.places.Area.TheVariants.{Data, MapCopy}
-use Rattle.sn_layout.specs.declared.places.Slot.{Slot}
-use Rattle.sn_layout.specs.declared.places.Slot.TheVariants.{A, B}
-use Rattle.sn_layout.specs.Places.{IsIn, start_of, map_blocks}
+use Rattle.sn_layout.specs.declared.geometry.Area.TheVariants.{Data, MapCopy}
+use Rattle.sn_layout.specs.declared.geometry.Slot.{Slot}
+use Rattle.sn_layout.specs.declared.geometry.Slot.TheVariants.{A, B}
+use Rattle.sn_layout.specs.Geometry.{IsIn, start_of, map_blocks}
 use Rattle.sn_ondisk.specs.Blocks.{InBlock, block_at}
 use Rattle.sn_ondisk.specs.MapCopy.{HasMap}
 use Rattle.sn_ondisk.specs.MapLaws.{words_of_block}
@@ -19,7 +19,7 @@ use Rattle.sn_ondisk.specs.Trees.{Store, store_of}
 use Rattle.sn_ondisk.proofs.BlockLemmas.{bytes_at-same}
 use Rattle.sn_ondisk.proofs.MapBlockLemmas.{blocks_make}
 use Rattle.sn_layout.specs.declared.root.RootBody.{RootBody}
-use Rattle.sn_log.specs.Places.{payloads_of}
+use Rattle.sn_log.specs.Positions.{payloads_of}
 use Rattle.sn_model.specs.declared.change.Change.{Change}
 use Rattle.sn_model.specs.Tree.{Tree}
 use Rattle.sn_ondisk.specs.Shown.{Shown}

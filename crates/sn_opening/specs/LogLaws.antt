@@ -3,12 +3,12 @@ use Rattle.std.specs.Prelude.{◌≡◌, ◌⊎◌, ℕ, ◌+◌, ◌^◌, ◌<�
 use Rattle.sn_device.specs.Sectors.{Contents, AreSectors}
 use Rattle.sn_device.specs.Disk.{Disk, Always, reads}
 use Rattle.sn_device.specs.Crash.{LeavesOnly, Touches}
-use Rattle.sn_layout.specs.declared.places.Slot.{Slot}
+use Rattle.sn_layout.specs.declared.geometry.Slot.{Slot}
 use Rattle.sn_layout.specs.declared.root.RootBody.{RootBody}
 use Rattle.sn_model.specs.declared.change.Change.{Change}
 use Rattle.sn_model.specs.World.{World}
 use Rattle.sn_record.specs.Payload.{IsSpelled}
-use Rattle.sn_log.specs.Places.{LogPosition, IsReadyAt, base_at, behind}
+use Rattle.sn_log.specs.Positions.{LogPosition, IsReadyAt, base_at, behind}
 use Rattle.sn_ondisk.specs.LogHalf.{ReplaysTo, HasNoLater, InHalf, base_of}
 use Rattle.sn_ondisk.specs.Trees.{Store}
 use Rattle.sn_opening.specs.Spelled.{AreSpelled}

@@ -1,13 +1,13 @@
 -- What a disk opens to: the newest root with the changes of its log.
 use Rattle.std.specs.Prelude.{ℕ, ◌*◌, ◌≤◌, List, ◌++◌, length, Contains}
 use Rattle.sn_device.specs.Sectors.{Contents, AreSectors, Union}
-use Rattle.sn_layout.specs.Places.{IsDiskSize, IsIn}
-use Rattle.sn_layout.specs.declared.places.Area.TheVariants.{Data}
-use Rattle.sn_layout.specs.declared.places.Slot.{Slot}
+use Rattle.sn_layout.specs.Geometry.{IsDiskSize, IsIn}
+use Rattle.sn_layout.specs.declared.geometry.Area.TheVariants.{Data}
+use Rattle.sn_layout.specs.declared.geometry.Slot.{Slot}
 use Rattle.sn_layout.specs.declared.root.RootBody.{RootBody}
 use Rattle.sn_model.specs.declared.change.Change.{Change}
 use Rattle.sn_model.specs.World.{World}
-use Rattle.sn_log.specs.Places.{payloads_of}
+use Rattle.sn_log.specs.Positions.{payloads_of}
 use Rattle.sn_opening.specs.Spelled.{AreSpelled}
 use Rattle.sn_ondisk.specs.Blocks.{InBlocks}
 use Rattle.sn_ondisk.specs.Shown.{Shown, InShown}

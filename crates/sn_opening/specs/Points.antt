@@ -5,9 +5,9 @@ use Rattle.std.specs.List.Sorted.{IsStrictlyIncreasing}
 use Rattle.sn_device.specs.Sectors.{Contents}
 use Rattle.sn_device.specs.Disk.{Disk, Always, reads}
 use Rattle.sn_layout.specs.MapCopy.{map_block_bytes}
-use Rattle.sn_layout.specs.Places.{IsIn, start_of, map_blocks, gate_sector}
-use Rattle.sn_layout.specs.declared.places.Area.TheVariants.{Data, MapCopy}
-use Rattle.sn_layout.specs.declared.places.Slot.{Slot}
+use Rattle.sn_layout.specs.Geometry.{IsIn, start_of, map_blocks, gate_sector}
+use Rattle.sn_layout.specs.declared.geometry.Area.TheVariants.{Data, MapCopy}
+use Rattle.sn_layout.specs.declared.geometry.Slot.{Slot}
 use Rattle.sn_layout.specs.declared.root.RootBody.{RootBody}
 use Rattle.sn_layout.specs.RootBody.{IsRootBody}
 use Rattle.sn_model.specs.Tree.{Tree}

@@ -1,9 +1,3 @@
-/// The bytes of a block.
-pub const BLOCK_SIZE: usize = 4096;
-
-/// What is in one block of a file.
-pub type Block = [u8; 4096];
-
 /// Which block of a file: the file's number, and how many of its blocks come before it.
 #[derive(Clone, Copy, PartialEq, Eq, PartialOrd, Ord)]
 pub struct FileBlock {

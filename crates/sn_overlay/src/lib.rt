@@ -42,7 +42,7 @@ mod sorted;
 mod through;
 
 pub use below::Below;
-pub use file_block::{BLOCK_SIZE, Block, FileBlock};
+pub use file_block::FileBlock;
 pub use laws::{
     changes_are_paid, drops_are_paid, drops_stay_paid, layers_show_names, layers_show_nodes,
     merges_are_layers, merges_count, merges_fit, merges_lie, merges_show_both, merges_stay_paid,
@@ -50,4 +50,5 @@ pub use laws::{
 };
 pub use node::{NodeChange, NodeState, SeenNode};
 pub use overlay::Overlay;
+pub use sn_limits::{BLOCK_SIZE, Block};
 pub use through::Through;

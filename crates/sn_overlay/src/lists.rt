@@ -4,8 +4,8 @@ ghost use Rattle.std.specs.FinMap.Entries.{where_key};
 ghost use Rattle.sn_overlay.specs.Sorted.{IsSpan};
 
 use crate::FileBlock;
-use crate::file_block::Block;
 use crate::sorted::SortedMap;
+use sn_limits::Block;
 use sn_model::Link;
 use std::alloc::{AllocError, Global};
 use std::ops::Range;

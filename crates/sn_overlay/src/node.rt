@@ -2,8 +2,7 @@ ghost use Rattle.std.specs.Prelude.{◌≡◌};
 ghost use Rattle.std.specs.Option.{option_copied};
 ghost use Rattle.sn_overlay.specs.Layers.{hides_block, hides_names};
 
-use crate::file_block::BLOCK_SIZE;
-use sn_limits::Kind;
+use sn_limits::{BLOCK_SIZE, Kind};
 use sn_model::Ownership;
 
 /// What became of a node since an overlay began.

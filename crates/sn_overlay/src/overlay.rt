@@ -7,9 +7,9 @@ ghost use Rattle.sn_overlay.specs.Merges.{merge};
 ghost use Rattle.sn_overlay.specs.Overlays.{layer_of, no_changes, HasRoom, TakesRoom, sizes_of, and_drops, gone, with_node, with_name, with_block};
 ghost use Rattle.sn_overlay.specs.Sorted.{bytes_by_file_block};
 
-use crate::file_block::Block;
 use crate::sorted::SortedMap;
 use crate::{FileBlock, NodeChange};
+use sn_limits::Block;
 use sn_model::Link;
 use std::alloc::{AllocError, Global};
 

@@ -4,9 +4,9 @@ ghost use Rattle.std.specs.Option.{option_copied};
 ghost use Rattle.std.specs.FinMap.Entries.{find, put, is_sorted};
 ghost use Rattle.sn_overlay.specs.Sorted.{FindsKey, newer_value, put_each, bytes_by_file_block};
 
-use crate::file_block::Block;
 use crate::node::{hides_block, hides_names};
 use crate::{FileBlock, NodeChange};
+use sn_limits::Block;
 use sn_model::{Link, Word};
 use std::alloc::{AllocError, Global};
 

@@ -2,8 +2,8 @@
 use Rattle.std.specs.Prelude.{◌≡◌, Result, Ok, Err, Option, Some, None}
 use Rattle.sn_model.specs.Tree.{Tree}
 use Rattle.sn_plain.specs.Stored.{tree_with}
-use Rattle.sn_plain.specs.declared.error.ApplyError.{ApplyError}
-use Rattle.sn_plain.specs.declared.error.ApplyError.TheVariants.{CannotApply, Memory}
+use Rattle.sn_plain.specs.declared.fault.ApplyError.{ApplyError}
+use Rattle.sn_plain.specs.declared.fault.ApplyError.TheVariants.{CannotApply, Memory}
 use Rattle.sn_plain.specs.declared.tree.PlainTree.{PlainTree}
 
 abbrev pub tree_of : PlainTree → Tree

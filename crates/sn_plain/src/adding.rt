@@ -1,7 +1,7 @@
 ghost use Rattle.std.specs.Prelude.{◌≡◌, is_some};
 ghost use Rattle.sn_plain.specs.Added.{AddedFilesKeepTheTree, file_added, is_unused};
 
-use crate::error::ApplyError;
+use crate::fault::ApplyError;
 use crate::making::{after_use, new_node};
 use crate::tests::is_ownership;
 use crate::tree::PlainTree;

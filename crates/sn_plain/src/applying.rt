@@ -4,7 +4,7 @@ ghost use Rattle.sn_model.specs.NameTree.{IsTree};
 ghost use Rattle.sn_model.specs.Tree.{link_to};
 ghost use Rattle.sn_limits.specs.declared.limits.Limits.{Limits};
 
-use crate::error::ApplyError;
+use crate::fault::ApplyError;
 use crate::tree::PlainTree;
 use sn_limits::Limits;
 use sn_model::{Bytes, Change, Link, Word};

@@ -20,7 +20,7 @@
 mod adding;
 mod applying;
 mod charging;
-mod error;
+mod fault;
 mod linking;
 mod making;
 mod moving;
@@ -32,5 +32,5 @@ mod tree;
 mod writing;
 
 pub use adding::adding_laws;
-pub use error::ApplyError;
+pub use fault::ApplyError;
 pub use tree::PlainTree;

@@ -6,7 +6,7 @@ ghost use Rattle.sn_model.specs.NameTree.{IsTree};
 ghost use Rattle.sn_model.specs.Settling.{is_nameless};
 ghost use Rattle.sn_model.specs.Tree.{names_in, names_for};
 
-use crate::error::ApplyError;
+use crate::fault::ApplyError;
 use crate::tree::PlainTree;
 use sn_limits::Limits;
 use sn_model::Link;

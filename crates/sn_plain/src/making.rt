@@ -3,7 +3,7 @@ ghost use Rattle.sn_model.specs.Changes.{made, node_with, owned};
 ghost use Rattle.sn_model.specs.Tree.{names_in, names_for};
 ghost use Rattle.sn_nodes.specs.Stored.{node_of, owned_by, IsFresh};
 
-use crate::error::ApplyError;
+use crate::fault::ApplyError;
 use crate::tests::is_ownership;
 use crate::tree::PlainTree;
 use sn_file_bytes::FileBytes;

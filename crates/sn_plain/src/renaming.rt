@@ -7,7 +7,7 @@ ghost use Rattle.sn_model.specs.NameTree.{HasKind, IsHierarchy, IsTree};
 ghost use Rattle.sn_model.specs.Seen.{is_below};
 ghost use Rattle.sn_model.specs.Tree.{Node, names_in, names_for};
 
-use crate::error::ApplyError;
+use crate::fault::ApplyError;
 use crate::moving::{clear, move_link};
 use crate::tests::is_hidden_name;
 use crate::tree::PlainTree;

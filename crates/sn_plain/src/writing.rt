@@ -1,7 +1,7 @@
 ghost use Rattle.std.specs.Prelude.{◌≡◌, ◌+◌, ◌<◌, ◌≤◌, ◌^◌, ◌&&◌, length, is_some, nat_lt, nat_le, IsTrue};
 ghost use Rattle.sn_model.specs.Changes.{cut, written};
 
-use crate::error::ApplyError;
+use crate::fault::ApplyError;
 use crate::tree::PlainTree;
 use sn_limits::Limits;
 use std::alloc::Global;

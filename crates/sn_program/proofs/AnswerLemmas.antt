@@ -6,7 +6,7 @@ use Rattle.sn_check.specs.declared.verdict.Verdict.TheVariants.{Clean}
 use Rattle.sn_program.specs.Tasks.{BeginsToSayRun, BeginsToSayVerdict}
 use Rattle.sn_program.specs.declared.ending.Ending.{Ending}
 use Rattle.sn_program.specs.declared.ending.Ending.TheVariants.{Told}
-use Rattle.sn_program.specs.declared.fault.Fault.{Fault}
+use Rattle.sn_program.specs.declared.fault.ProgramFault.{ProgramFault}
 use Rattle.sn_program.proofs.OutputLemmas.{appends_none}
 
 pub on_err : {T E P : Type 0} (r : Result T E) → P → OnErr r P
@@ -21,5 +21,5 @@ pub verdict_begins : (o : Option (List ℕ)) → BeginsToSayVerdict o o
 verdict_begins o = (Clean 0, (0, appends_none o))
 
 -- what is so of an ending is so of one with a fault that is told
-pub told_so : (r : Result Ending Fault) (why : Fault) (P : Ending → Type 0) → r ≡ Ok (Told why) → IfOk r P → P (Told why)
-told_so r why P is h = subst (λ (x : Result Ending Fault). IfOk x P) is h
+pub told_so : (r : Result Ending ProgramFault) (why : ProgramFault) (P : Ending → Type 0) → r ≡ Ok (Told why) → IfOk r P → P (Told why)
+told_so r why P is h = subst (λ (x : Result Ending ProgramFault). IfOk x P) is h

@@ -27,7 +27,7 @@ use Rattle.sn_program.specs.Answers.{AreEventsOf, IsRun}
 use Rattle.sn_program.specs.Copies.{IsCutShort}
 use Rattle.sn_program.specs.Fault.{IsOfFile, fault_in, outcome_of}
 use Rattle.sn_program.specs.Tasks.{BeginsToSay, IsToldOf, LeavesOfCopy, Says}
-use Rattle.sn_program.specs.declared.fault.Fault.{Fault}
+use Rattle.sn_program.specs.declared.fault.ProgramFault.{ProgramFault}
 
 -- behind the last reply
 at_last : (s : State) (events : List Event) (said replies : List Reply) (old new : Disk) → LeavesFrom s events said replies old new → Always new (ShowsCut s events (said ++ replies))
@@ -74,7 +74,7 @@ cut_short copy stopped last status stopped_status last_status how end events rep
     }
 
 -- the fault of a run goes before that of writing its replies
-tells : (end : End) (written : Result (Unit {0}) Fault) (Whole : Type 0) → OnOk written Whole → IfErr written IsOfFile → IsToldOf end (fault_in (outcome_of end written)) Whole
+tells : (end : End) (written : Result (Unit {0}) ProgramFault) (Whole : Type 0) → OnOk written Whole → IfErr written IsOfFile → IsToldOf end (fault_in (outcome_of end written)) Whole
 tells ending.Clean (Ok x) Whole whole of_file = (refl, whole)
 tells ending.Clean (Err why) Whole whole of_file = inr (refl, of_file)
 tells ending.Stopped written Whole whole of_file = inl refl
@@ -82,7 +82,7 @@ tells ending.Memory written Whole whole of_file = inl refl
 tells (ending.Mount m) written Whole whole of_file = inl refl
 
 -- what a run on a copy of an image leaves, whose replies were written or not
-pub leaves : (contents : Contents) (copy : Disk) (status : Status) (how : Fill) (end : End) (events : List Event) (replies : List Reply) (left : Contents) (written : Result (Unit {0}) Fault) (told : Option Fault) (old new : Option (List ℕ))
+pub leaves : (contents : Contents) (copy : Disk) (status : Status) (how : Fill) (end : End) (events : List Event) (replies : List Reply) (left : Contents) (written : Result (Unit {0}) ProgramFault) (told : Option ProgramFault) (old new : Option (List ℕ))
     → copy ≡ first contents → status ≡ uncalled (length contents) → AreEventsOf None events → IsCutShort copy status how end events replies left
     → OnOk written (Says replies old new) → BeginsToSay replies old new → IfErr written IsOfFile → told ≡ fault_in (outcome_of end written) → LeavesOfCopy how told old new
 leaves contents copy status how end events replies left written told old new same_disk same_status read cut whole front of_file said =
@@ -98,5 +98,5 @@ leaves contents copy status how end events replies left written told old new sam
         cut = subst (λ (d : Disk). IsCutShort d (uncalled (length contents)) how end events replies left) same_disk counted;
       };
       front = front;
-      tells = subst (λ (t : Option Fault). IsToldOf end t (Says replies old new)) (sym said) (tells end written (Says replies old new) whole of_file);
+      tells = subst (λ (t : Option ProgramFault). IsToldOf end t (Says replies old new)) (sym said) (tells end written (Says replies old new) whole of_file);
     }

@@ -10,8 +10,8 @@ use Rattle.sn_model.specs.declared.call.Event.{Event}
 use Rattle.sn_script.specs.Scripts.{IsFirstBad, IsScript}
 use Rattle.sn_script.specs.declared.fault.ScriptFault.{ScriptFault}
 use Rattle.sn_script.specs.declared.fault.ScriptFault.TheVariants as reading
-use Rattle.sn_program.specs.declared.fault.Fault.{Fault}
-use Rattle.sn_program.specs.declared.fault.Fault.TheVariants as fault
+use Rattle.sn_program.specs.declared.fault.ProgramFault.{ProgramFault}
+use Rattle.sn_program.specs.declared.fault.ProgramFault.TheVariants as fault
 use Rattle.sn_program.specs.Answers.{AreEventsOf, IsOf}
 use Rattle.sn_program.specs.Fault.{IsOfFile, IsOfScript, IsUnread}
 
@@ -44,21 +44,21 @@ bad_all None script Told read bad = tt
 bad_all (Some all) script Told read bad = λ n e. subst (λ (s : List ℕ). IsFirstBad s (n + 1)) (short_all (Some all) script read (bad n e).1) (bad n e).0
 
 -- the fault of a script, as the program tells it
-pub told_of_script : {T : Type 0} (r : Result T Fault) (why : ScriptFault) → IsErrAnd r (λ given. given ≡ fault.Script why) → IfErr r (λ given. IsUnread given ⊎ IsOfScript given)
+pub told_of_script : {T : Type 0} (r : Result T ProgramFault) (why : ScriptFault) → IsErrAnd r (λ given. given ≡ fault.Script why) → IfErr r (λ given. IsUnread given ⊎ IsOfScript given)
 told_of_script (Ok x) why is = absurd is
 told_of_script (Err given) (reading.Line n) is = inr (n, is)
 told_of_script (Err given) reading.Memory is = inl (inr is)
 
-pub told_of_file : {T : Type 0} (r : Result T Fault) (given : Fault) → IsErrAnd r (λ why. why ≡ given) → IsOfFile given → IfErr r (λ why. IsUnread why ⊎ IsOfScript why)
+pub told_of_file : {T : Type 0} (r : Result T ProgramFault) (given : ProgramFault) → IsErrAnd r (λ why. why ≡ given) → IsOfFile given → IfErr r (λ why. IsUnread why ⊎ IsOfScript why)
 told_of_file (Ok x) given is file = absurd is
 told_of_file (Err why) given is file = inl (inl (subst IsOfFile (sym is) file))
 
 -- which fault of a script was told
-pub script_told : {T : Type 0} (r : Result T Fault) (why of : ScriptFault) → IsErrAnd r (λ given. given ≡ fault.Script why) → IsErrOf r (fault.Script of) → why ≡ of
+pub script_told : {T : Type 0} (r : Result T ProgramFault) (why of : ScriptFault) → IsErrAnd r (λ given. given ≡ fault.Script why) → IsErrOf r (fault.Script of) → why ≡ of
 script_told {T} (Ok x) why of is told = absurd is
 script_told {T} (Err given) why of is told = same given why of is told
   where
-    same : (given : Fault) (why of : ScriptFault) → given ≡ fault.Script why → IsErrOf {T = T} (Err given) (fault.Script of) → why ≡ of
+    same : (given : ProgramFault) (why of : ScriptFault) → given ≡ fault.Script why → IsErrOf {T = T} (Err given) (fault.Script of) → why ≡ of
     same given why of p q = cc
 
 same_fault : {T : Type 0} (a b : ScriptFault) → ◌≡◌ {A = Result T ScriptFault} (Err a) (Err b) → a ≡ b

@@ -5,34 +5,34 @@ use Rattle.sn_model.specs.declared.mount.End.TheVariants as end
 use Rattle.sn_script.specs.declared.fault.ScriptFault.TheVariants as reading
 use Rattle.sn_command.specs.declared.fault.WordsFault.{WordsFault}
 use Rattle.sn_command.specs.declared.fault.WordsFault.TheVariants as words
-use Rattle.sn_program.specs.declared.fault.Fault.{Fault}
-use Rattle.sn_program.specs.declared.fault.Fault.TheVariants as fault
+use Rattle.sn_program.specs.declared.fault.ProgramFault.{ProgramFault}
+use Rattle.sn_program.specs.declared.fault.ProgramFault.TheVariants as fault
 
-abbrev pub status_of : Fault → ℕ
+abbrev pub status_of : ProgramFault → ℕ
 status_of fault.Usage = 2
 status_of _ = 1
 
 -- only a clean end is no fault
-abbrev pub fault_of : End → Result (Unit {0}) Fault
+abbrev pub fault_of : End → Result (Unit {0}) ProgramFault
 fault_of end.Clean = Ok tt
 fault_of end.Stopped = Err fault.Stopped
 fault_of end.Memory = Err fault.Memory
 fault_of (end.Mount m) = Err (fault.Mount m)
 
 -- the fault of a run goes before that of writing its replies
-abbrev pub outcome_of : End → Result (Unit {0}) Fault → Result (Unit {0}) Fault
+abbrev pub outcome_of : End → Result (Unit {0}) ProgramFault → Result (Unit {0}) ProgramFault
 outcome_of end.Clean written = written
 outcome_of end.Stopped written = Err fault.Stopped
 outcome_of end.Memory written = Err fault.Memory
 outcome_of (end.Mount m) written = Err (fault.Mount m)
 
 -- the fault of an outcome
-abbrev pub fault_in : Result (Unit {0}) Fault → Option Fault
+abbrev pub fault_in : Result (Unit {0}) ProgramFault → Option ProgramFault
 fault_in (Ok x) = None
 fault_in (Err why) = Some why
 
 -- a file or an output failed, or memory did on the way
-abbrev pub IsOfFile : Fault → Type 0
+abbrev pub IsOfFile : ProgramFault → Type 0
 IsOfFile (fault.File which error) = Unit {0}
 IsOfFile fault.Memory = Unit {0}
 IsOfFile fault.Usage = ⊥
@@ -42,14 +42,14 @@ IsOfFile (fault.Format why) = ⊥
 IsOfFile fault.Stopped = ⊥
 
 -- a script's file failed, or memory did, also in the reading of its lines
-abbrev pub IsUnread : Fault → Type 0
+abbrev pub IsUnread : ProgramFault → Type 0
 IsUnread given = IsOfFile given ⊎ (given ≡ fault.Script reading.Memory)
 
 -- a line of a script is bad, or there are too many bytes
-abbrev pub IsOfScript : Fault → Type 0
+abbrev pub IsOfScript : ProgramFault → Type 0
 IsOfScript given = (n : ℕ) × (given ≡ fault.Script (reading.Line n))
 
 -- the words are no command, or there was no memory to read them
-abbrev pub fault_of_words : WordsFault → Fault
+abbrev pub fault_of_words : WordsFault → ProgramFault
 fault_of_words words.Usage = fault.Usage
 fault_of_words words.Memory = fault.Memory

@@ -23,7 +23,7 @@ use Rattle.sn_replies.specs.Replies.{reply_line}
 use Rattle.sn_program.specs.Answers.{AppendsFront, AreEventsOf}
 use Rattle.sn_program.specs.Copies.{IsCutShort}
 use Rattle.sn_program.specs.Fault.{IsOfFile, fault_of}
-use Rattle.sn_program.specs.declared.fault.Fault.{Fault}
+use Rattle.sn_program.specs.declared.fault.ProgramFault.{ProgramFault}
 use Rattle.sn_program.specs.declared.ending.Ending.{Ending}
 use Rattle.sn_program.specs.declared.ending.Ending.TheVariants.{Done, Told, Damaged}
 
@@ -58,12 +58,12 @@ pub record IsOfCopy (how : Fill) (end : End) (replies : List Reply) : Type 0 whe
   pub cut : IsCutShort (first copy) (uncalled (length copy)) how end events replies left
 
 -- the fault that is told of a run that ended so, whose replies were written or not
-abbrev pub IsToldOf : End → Option Fault → Type 0 → Type 0
+abbrev pub IsToldOf : End → Option ProgramFault → Type 0 → Type 0
 IsToldOf end None written = (end ≡ ending.Clean) × written
 IsToldOf end (Some why) written = (fault_of end ≡ Err why) ⊎ ((end ≡ ending.Clean) × IsOfFile why)
 
 -- the replies of such a run were written, all of them where no fault is told
-pub record LeavesOfCopy (how : Fill) (told : Option Fault) (old new : Option (List ℕ)) : Type 0 where
+pub record LeavesOfCopy (how : Fill) (told : Option ProgramFault) (old new : Option (List ℕ)) : Type 0 where
   pub end : End
   pub replies : List Reply
   pub cut : IsOfCopy how end replies
@@ -91,7 +91,7 @@ ComesOfCopy how (Damaged damage block) old new = ⊥
 abbrev pub SaysVerdict : Ending → Option (List ℕ) → Option (List ℕ) → Type 0
 SaysVerdict Done old new = (free : ℕ) × Appends old new (verdict_line (verdict.Clean free))
 SaysVerdict (Told why) old new = ⊥
-SaysVerdict (Damaged damage block) old new = Appends old new (verdict_line (verdict.Fault damage block))
+SaysVerdict (Damaged damage block) old new = Appends old new (verdict_line (verdict.ProgramFault damage block))
 
 -- What a task that was done leaves on the output, by what came of it. Of which bytes a file had, and so of the replies of a run on one and of what a check finds in one, nothing can be said; an image that is made is answered by `ok`. A fault is told of what was done only where that was to cut a run short.
 abbrev pub Leaves : Task → Ending → Option (List ℕ) → Option (List ℕ) → Type 0
@@ -101,12 +101,12 @@ Leaves (task.StopAt cut how image script out) came old new = ComesOfCopy how cam
 Leaves (task.Check image) came old new = SaysVerdict came old new
 
 -- with a fault that is told, or without one
-abbrev pub came_of : Option Fault → Ending
+abbrev pub came_of : Option ProgramFault → Ending
 came_of None = Done
 came_of (Some why) = Told why
 
 -- what the words ask for was done
-abbrev pub IsDone : List (List ℕ) → Option Fault → Option (List ℕ) → Option (List ℕ) → Type 0
+abbrev pub IsDone : List (List ℕ) → Option ProgramFault → Option (List ℕ) → Option (List ℕ) → Type 0
 IsDone words told old new = (asked : Task) × AsksFor words asked × Leaves asked (came_of told) old new
 
 -- a check was asked for and done, and the image is damaged

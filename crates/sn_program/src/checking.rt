@@ -5,10 +5,10 @@ ghost use Rattle.sn_check.specs.Verdicts.{IsRight};
 ghost use Rattle.sn_device.specs.Disk.{reads};
 ghost use Rattle.sn_model.specs.declared.mount.MountFault.{MountFault as Why};
 ghost use Rattle.sn_program.specs.Tasks.{BeginsToSayVerdict, verdict_line};
-ghost use Rattle.sn_program.specs.declared.fault.Fault.TheVariants as fault;
+ghost use Rattle.sn_program.specs.declared.fault.ProgramFault.TheVariants as fault;
 ghost use Rattle.sn_sound.specs.Verdicts.{HasNoVerdict};
 
-use crate::fault::Fault;
+use crate::fault::ProgramFault;
 use crate::output::write_verdict;
 use sn_block::Blocks;
 use sn_check::{Verdict, check};
@@ -22,7 +22,7 @@ pub fn check_on<D: Device + Drop, W: Write>(
     alloc: Global,
     device: D,
     out: &mut W,
-) -> Result<Verdict, Fault>
+) -> Result<Verdict, ProgramFault>
     ensures verdict { IsTrue D.tells_bytes → IfOk result (IsRight (D.status device).sectors (reads (D.disk device))) }
     ensures none { IsTrue D.tells_bytes → (why : Why) → IsErrOf result (fault.Mount why) → HasNoVerdict (D.status device).sectors (reads (D.disk device)) why }
 
@@ -32,11 +32,11 @@ pub fn check_on<D: Device + Drop, W: Write>(
     ensures words { IfErr result (λ why. why ≢ fault.Usage) }
 {
     let Ok(mut blocks) = Blocks::new(alloc, device) else {
-        return Err(Fault::Mount(MountFault::Memory));
+        return Err(ProgramFault::Mount(MountFault::Memory));
     };
     let verdict = match check(alloc, &mut blocks) {
         Ok(verdict) => verdict,
-        Err(fault) => return Err(Fault::Mount(fault)),
+        Err(fault) => return Err(ProgramFault::Mount(fault)),
     };
     match write_verdict(alloc, verdict, out) {
         Ok(()) => Ok(verdict),

@@ -4,7 +4,7 @@ ghost use Rattle.std.specs.declared.option.Option.{Option};
 ghost use Rattle.std.specs.Io.KnownBytes.{Keeps};
 ghost use Rattle.sn_device.specs.Memory.{contents_of, disk_of, first, status_of};
 ghost use Rattle.sn_device.specs.Status.{uncalled};
-ghost use Rattle.sn_layout.specs.Places.{IsDiskSize};
+ghost use Rattle.sn_layout.specs.Geometry.{IsDiskSize};
 ghost use Rattle.sn_mkfs.specs.declared.fault.MkfsFault.TheVariants as mkfs_fault;
 ghost use Rattle.sn_model.specs.declared.mount.Damage.{Damage as Kind};
 ghost use Rattle.sn_model.specs.declared.reply.Reply.TheVariants as answer_of;
@@ -12,14 +12,14 @@ ghost use Rattle.sn_program.specs.Answers.{AreEventsOf};
 ghost use Rattle.sn_program.specs.Fault.{IsOfFile, fault_in, outcome_of};
 ghost use Rattle.sn_program.specs.Fault.{status_of as exit_of};
 ghost use Rattle.sn_program.specs.Tasks.{AsksToStop, Begins, BeginsOfCopy, BeginsToSay, BeginsToSayRun, BeginsToSayVerdict, HasBegun, IsDamaged, IsDone, IsStop, Leaves, LeavesOfCopy, Says, SaysRun, SaysVerdict, came_of};
-ghost use Rattle.sn_program.specs.declared.fault.Fault.{Fault as Why};
-ghost use Rattle.sn_program.specs.declared.fault.Fault.TheVariants as fault;
+ghost use Rattle.sn_program.specs.declared.fault.ProgramFault.{ProgramFault as Why};
+ghost use Rattle.sn_program.specs.declared.fault.ProgramFault.TheVariants as fault;
 ghost use Rattle.sn_program.specs.declared.ending.Ending.TheVariants as ended;
 
 use crate::checking::check_on;
 use crate::copy::{CutShort, answer_cut};
 use crate::ending::Ending;
-use crate::fault::{Fault, Which, on_file, tell};
+use crate::fault::{ProgramFault, Which, on_file, tell};
 use crate::output::write_replies;
 use crate::person::{advise, explain};
 use crate::progress::Progress;
@@ -29,7 +29,7 @@ use sn_check::Verdict;
 use sn_command::{Task, parse};
 use sn_device::{Fill, MemDevice};
 use sn_filedev::{FileDevice, LockFile};
-use sn_layout::Places;
+use sn_layout::Geometry;
 use sn_mkfs::{MkfsFault, mkfs};
 use sn_model::{End, Event, Reply};
 use sn_run::Watch;
@@ -49,12 +49,12 @@ fn make_image<F: FileExt + OpenFile + LockFile + Read + Drop, R: Files<File = F>
     rt: &R,
     image: &str,
     blocks: u32,
-) -> Result<(), Fault>
+) -> Result<(), ProgramFault>
     ensures size { IsErrOf result (fault.Format mkfs_fault.Size) ↔ (IsDiskSize blocks → ⊥) }
     ensures words { IfErr result (λ why. why ≢ fault.Usage) }
 {
-    if Places::new(blocks).is_none() {
-        return Err(Fault::Format(MkfsFault::Size));
+    if Geometry::new(blocks).is_none() {
+        return Err(ProgramFault::Format(MkfsFault::Size));
     }
     let device = on_file(
         Which::Image,
@@ -62,7 +62,7 @@ fn make_image<F: FileExt + OpenFile + LockFile + Read + Drop, R: Files<File = F>
     )?;
     match mkfs(rt.alloc(), device, blocks) {
         Ok(_) => Ok(()),
-        Err(unformatted) => Err(Fault::Format(unformatted.fault)),
+        Err(unformatted) => Err(ProgramFault::Format(unformatted.fault)),
     }
 }
 
@@ -71,7 +71,7 @@ fn format<
     F: FileExt + OpenFile + LockFile + Read + Drop,
     R: Files<File = F> + AllocGlobal,
     W: Write,
->(rt: &R, image: &str, blocks: u32, out: &mut W) -> Result<(), Fault>
+>(rt: &R, image: &str, blocks: u32, out: &mut W) -> Result<(), ProgramFault>
     ensures done { OnOk result (Says (answer_of.Done ∷ []) (W.contents out.old) (W.contents out.new)) }
     ensures front { OnErr result (BeginsToSay (answer_of.Done ∷ []) (W.contents out.old) (W.contents out.new)) }
     ensures words { IfErr result (λ why. why ≢ fault.Usage) }
@@ -84,7 +84,7 @@ fn format<
 fn events_at<F: FileExt + OpenFile + Read + Drop, R: Files<File = F> + AllocGlobal>(
     rt: &R,
     script: &str,
-) -> Result<Vec<Event>, Fault>
+) -> Result<Vec<Event>, ProgramFault>
     ensures read { IfOk result (λ events. AreEventsOf None events.items) }
     ensures words { IfErr result (λ why. why ≢ fault.Usage) }
 {
@@ -98,7 +98,7 @@ fn run_on<
     R: Files<File = F> + AllocGlobal,
     W: Write,
     L: Watch,
->(rt: &R, image: &str, script: &str, out: &mut W, watch: &mut L) -> Result<(), Fault>
+>(rt: &R, image: &str, script: &str, out: &mut W, watch: &mut L) -> Result<(), ProgramFault>
     ensures done { OnOk result (SaysRun (W.contents out.old) (W.contents out.new)) }
     ensures front { OnErr result (BeginsToSayRun (W.contents out.old) (W.contents out.new)) }
     ensures words { IfErr result (λ why. why ≢ fault.Usage) }
@@ -113,7 +113,7 @@ fn run_on<
 fn copy_of<F: FileExt + OpenFile + Drop>(
     alloc: Global,
     image: &mut FileDevice<F>,
-) -> Result<MemDevice, Fault>
+) -> Result<MemDevice, ProgramFault>
     ensures whole { IfOk result (λ d. disk_of d ≡ first (contents_of d)) }
     ensures status { IfOk result (λ d. status_of d ≡ uncalled (length (contents_of d))) }
     ensures faults { IfErr result IsOfFile }
@@ -136,7 +136,7 @@ fn copy_and_read<F: FileExt + OpenFile + LockFile + Read + Drop, R: Files<File =
     rt: &R,
     image: &str,
     script: &str,
-) -> Result<Copied<F>, Fault>
+) -> Result<Copied<F>, ProgramFault>
     ensures read { IfOk result (λ c. AreEventsOf None c.events.items) }
     ensures whole { IfOk result (λ c. disk_of c.copy ≡ first (contents_of c.copy)) }
     ensures status { IfOk result (λ c. status_of c.copy ≡ uncalled (length (contents_of c.copy))) }
@@ -156,17 +156,17 @@ fn copy_and_read<F: FileExt + OpenFile + LockFile + Read + Drop, R: Files<File =
 }
 
 /// The fault where what is left can't be saved: that of the run goes before it.
-fn unsaved(end: End, error: io::Error) -> Fault
+fn unsaved(end: End, error: io::Error) -> ProgramFault
     ensures { result ≢ fault.Usage }
 {
-    match Fault::of_end(end) {
-        Ok(()) => Fault::of_file(Which::Saved, error),
+    match ProgramFault::of_end(end) {
+        Ok(()) => ProgramFault::of_file(Which::Saved, error),
         Err(fault) => fault,
     }
 }
 
 /// The fault that is told of a run whose remains were saved.
-fn told_of(end: End, written: Result<(), Fault>) -> Option<Fault>
+fn told_of(end: End, written: Result<(), ProgramFault>) -> Option<ProgramFault>
     ensures { result ≡ fault_in (outcome_of end written) }
 {
     match outcome(end, written) {
@@ -191,7 +191,7 @@ fn cut_short<
     saved: &str,
     out: &mut W,
     watch: &mut L,
-) -> Result<Option<Fault>, Fault>
+) -> Result<Option<ProgramFault>, ProgramFault>
     ensures done { IfOk result (λ told. LeavesOfCopy fill told (W.contents out.old) (W.contents out.new)) }
     ensures front { OnErr result (BeginsOfCopy fill (W.contents out.old) (W.contents out.new)) }
     ensures words { IfErr result (λ why. why ≢ fault.Usage) }
@@ -218,7 +218,7 @@ fn check_image<
     F: FileExt + OpenFile + LockFile + Read + Drop,
     R: Files<File = F> + AllocGlobal,
     W: Write,
->(rt: &R, image: &str, out: &mut W) -> Result<Ending, Fault>
+>(rt: &R, image: &str, out: &mut W) -> Result<Ending, ProgramFault>
     ensures done { IfOk result (λ came. SaysVerdict came (W.contents out.old) (W.contents out.new)) }
     ensures front { OnErr result (BeginsToSayVerdict (W.contents out.old) (W.contents out.new)) }
     ensures words { IfErr result (λ why. why ≢ fault.Usage) }
@@ -238,7 +238,7 @@ fn check_image<
 }
 
 /// Of what was done nothing is told.
-fn quietly(done: Result<(), Fault>) -> Result<Ending, Fault>
+fn quietly(done: Result<(), ProgramFault>) -> Result<Ending, ProgramFault>
     ensures done { IfOk result (λ came. (came ≡ ended.Done) × IsOk done) }
     ensures failed { IfErr result (λ why. done ≡ Err why) }
 {
@@ -254,7 +254,7 @@ fn execute<
     R: Files<File = F> + AllocGlobal,
     W: Write,
     L: Watch,
->(rt: &R, task: Task<'_>, out: &mut W, watch: &mut L) -> Result<Ending, Fault>
+>(rt: &R, task: Task<'_>, out: &mut W, watch: &mut L) -> Result<Ending, ProgramFault>
     ensures done { IfOk result (λ came. Leaves task.entry came (W.contents out.old) (W.contents out.new)) }
     ensures front { OnErr result (Keeps (W.contents out.old) (W.contents out.new) ⊎ Begins task.entry (W.contents out.old) (W.contents out.new)) }
     ensures words { IfErr result (λ why. why ≢ fault.Usage) }
@@ -278,7 +278,12 @@ fn execute<
 }
 
 /// Tells a fault of a task, a person also of which file it is. Gives the exit status.
-fn tell_of<E: Write, P: Write>(fault: Fault, task: Task<'_>, err: &mut E, person: &mut P) -> u8
+fn tell_of<E: Write, P: Write>(
+    fault: ProgramFault,
+    task: Task<'_>,
+    err: &mut E,
+    person: &mut P,
+) -> u8
     ensures { result ≡ exit_of fault }
 {
     let status = tell(fault, err);
@@ -340,6 +345,6 @@ pub fn program<
 {
     match parse(rt.alloc(), words) {
         Ok(task) => perform(rt, task, out, err, person),
-        Err(fault) => tell(Fault::from(fault), err),
+        Err(fault) => tell(ProgramFault::from(fault), err),
     }
 }

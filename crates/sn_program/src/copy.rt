@@ -7,7 +7,7 @@ ghost use Rattle.sn_program.specs.Copies.{IsCutShort};
 ghost use Rattle.sn_program.specs.Fault.{IsOfFile};
 ghost use Rattle.sn_program.specs.Tasks.{lines_of};
 
-use crate::fault::Fault;
+use crate::fault::ProgramFault;
 use crate::run::{Answered, answer};
 use sn_device::{Fill, MemDevice};
 use sn_model::{End, Event, Reply};
@@ -20,7 +20,7 @@ use std::io::Write;
 pub struct CutShort {
     pub replies: Vec<Reply>,
     pub end: End,
-    pub written: Result<(), Fault>,
+    pub written: Result<(), ProgramFault>,
     pub left: MemDevice,
 }
 

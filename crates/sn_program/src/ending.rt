@@ -1,6 +1,6 @@
 //! What comes of a task.
 
-use crate::fault::Fault;
+use crate::fault::ProgramFault;
 use sn_model::Damage;
 
 /// What came of a task that was done.
@@ -9,7 +9,7 @@ pub enum Ending {
     /// All that was asked for.
     Done,
     /// A run was cut short, and ended with a fault, which is told.
-    Told(Fault),
+    Told(ProgramFault),
     /// A check found that the image is damaged.
     Damaged { damage: Damage, block: u32 },
 }

@@ -1,6 +1,6 @@
 ghost use Rattle.std.specs.Prelude.{◌≡◌, Ok, IfOk, IfErr};
 ghost use Rattle.sn_program.specs.Fault.{status_of, fault_of, fault_of_words, IsOfFile};
-ghost use Rattle.sn_program.specs.declared.fault.Fault.TheVariants as fault;
+ghost use Rattle.sn_program.specs.declared.fault.ProgramFault.TheVariants as fault;
 
 use sn_command::WordsFault;
 use sn_mkfs::MkfsFault;
@@ -25,7 +25,7 @@ pub enum Which {
 /// Why the program ends without having done all that was asked. The text is the line on standard
 /// error, behind `snapfs: `.
 #[derive(Clone, Copy, Debug, Error)]
-pub enum Fault {
+pub enum ProgramFault {
     #[error("usage")]
     Usage,
     #[error(transparent)]
@@ -46,14 +46,14 @@ pub enum Fault {
     Stopped,
 }
 
-impl Fault {
+impl ProgramFault {
     /// What an error of a file comes to: want of memory is one of the program.
-    pub fn of_file(which: Which, error: io::Error) -> Fault
+    pub fn of_file(which: Which, error: io::Error) -> ProgramFault
         ensures { IsOfFile result }
     {
         match error.kind() {
-            io::ErrorKind::OutOfMemory => Fault::Memory,
-            _ => Fault::File { which, error },
+            io::ErrorKind::OutOfMemory => ProgramFault::Memory,
+            _ => ProgramFault::File { which, error },
         }
     }
 
@@ -62,66 +62,66 @@ impl Fault {
         ensures { result ≡ status_of self }
     {
         match self {
-            Fault::Usage => 2,
+            ProgramFault::Usage => 2,
             _ => 1,
         }
     }
 
     /// What an end of a run other than a clean one comes to.
-    pub fn of_end(end: End) -> Result<(), Fault>
+    pub fn of_end(end: End) -> Result<(), ProgramFault>
         ensures { result ≡ fault_of end }
     {
         match end {
             End::Clean => Ok(()),
-            End::Stopped => Err(Fault::Stopped),
-            End::Memory => Err(Fault::Memory),
-            End::Mount(fault) => Err(Fault::Mount(fault)),
+            End::Stopped => Err(ProgramFault::Stopped),
+            End::Memory => Err(ProgramFault::Memory),
+            End::Mount(fault) => Err(ProgramFault::Mount(fault)),
         }
     }
 }
 
 /// What was done with a file of the command.
-pub(crate) fn on_file<T>(which: Which, done: io::Result<T>) -> Result<T, Fault>
+pub(crate) fn on_file<T>(which: Which, done: io::Result<T>) -> Result<T, ProgramFault>
     ensures done { IfOk result (λ found. done ≡ Ok found) }
     ensures failed { IfErr result IsOfFile }
 {
     match done {
         Ok(found) => Ok(found),
-        Err(error) => Err(Fault::of_file(which, error)),
+        Err(error) => Err(ProgramFault::of_file(which, error)),
     }
 }
 
 /// Writes the fault's line, and gives the exit status, which also holds where the line can't be written.
-pub fn tell<W: Write>(fault: Fault, err: &mut W) -> u8
+pub fn tell<W: Write>(fault: ProgramFault, err: &mut W) -> u8
     ensures { result ≡ status_of fault }
 {
     let _ = writeln!(err, "snapfs: {fault}");
     fault.status()
 }
 
-impl From<AllocError> for Fault {
+impl From<AllocError> for ProgramFault {
     ghost from_gives = { λ _ given. given ≡ fault.Memory };
 
-    fn from(_error: AllocError) -> Fault {
-        Fault::Memory
+    fn from(_error: AllocError) -> ProgramFault {
+        ProgramFault::Memory
     }
 }
 
-impl From<WordsFault> for Fault {
+impl From<WordsFault> for ProgramFault {
     ghost from_gives = { λ words given. given ≡ fault_of_words words };
 
-    fn from(fault: WordsFault) -> Fault {
+    fn from(fault: WordsFault) -> ProgramFault {
         match fault {
-            WordsFault::Usage => Fault::Usage,
-            WordsFault::Memory => Fault::Memory,
+            WordsFault::Usage => ProgramFault::Usage,
+            WordsFault::Memory => ProgramFault::Memory,
         }
     }
 }
 
-impl From<ScriptFault> for Fault {
+impl From<ScriptFault> for ProgramFault {
     ghost from_gives = { λ script given. given ≡ fault.Script script };
 
-    fn from(fault: ScriptFault) -> Fault {
-        Fault::Script(fault)
+    fn from(fault: ScriptFault) -> ProgramFault {
+        ProgramFault::Script(fault)
     }
 }

@@ -7,7 +7,7 @@
 //! bytes. The device over an image's file doesn't, so that of a run on one [`program`] says only that lines of replies were
 //! written. A run that is cut short runs on a copy in memory, by [`answer_cut`], and its clauses speak of that copy and of what a
 //! crash leaves of it (`specs/Copies`). An image is made by `sn_mkfs`, and checked by `sn_check`: [`check_on`] says
-//! what that comes to over every device that tells its bytes. Each fault is a [`Fault`], whose text is the line on
+//! what that comes to over every device that tells its bytes. Each fault is a [`ProgramFault`], whose text is the line on
 //! standard error and whose status the shell sees. `specs/Tasks` says what is left of what the words ask for.
 //!
 //! What the sources leave open is decided in `docs/DECISIONS.md`, under "Scripts and the program".
@@ -32,7 +32,7 @@ pub use checking::check_on;
 pub use command::program;
 pub use copy::{CutShort, answer_cut};
 pub use ending::Ending;
-pub use fault::{Fault, Which, tell};
+pub use fault::{ProgramFault, Which, tell};
 pub use person::Person;
 pub use run::{Answered, answer, outcome};
 pub use script::read_events;

@@ -6,7 +6,7 @@ ghost use Rattle.sn_program.specs.Answers.{AppendsFront};
 ghost use Rattle.sn_program.specs.Fault.{IsOfFile};
 ghost use Rattle.sn_program.specs.Tasks.{verdict_line};
 
-use crate::fault::{Fault, Which, on_file};
+use crate::fault::{ProgramFault, Which, on_file};
 use sn_check::Verdict;
 use sn_model::Reply;
 use sn_replies::print_replies;
@@ -55,7 +55,7 @@ pub(crate) fn write_replies<W: Write>(
     alloc: Global,
     replies: &[Reply],
     out: &mut W,
-) -> Result<(), Fault>
+) -> Result<(), ProgramFault>
     ensures written { OnOk result (Appends (W.contents out.old) (W.contents out.new) (flat_map reply_line replies.now)) }
     ensures front { AppendsFront (W.contents out.old) (W.contents out.new) (flat_map reply_line replies.now) }
     ensures faults { IfErr result IsOfFile }
@@ -82,7 +82,7 @@ pub(crate) fn write_verdict<W: Write>(
     alloc: Global,
     verdict: Verdict,
     out: &mut W,
-) -> Result<(), Fault>
+) -> Result<(), ProgramFault>
     ensures written { OnOk result (Appends (W.contents out.old) (W.contents out.new) (verdict_line verdict)) }
     ensures front { AppendsFront (W.contents out.old) (W.contents out.new) (verdict_line verdict) }
     ensures faults { IfErr result IsOfFile }

@@ -1,6 +1,6 @@
 //! What is told to a person alone, and not to programs that read what snapfs writes.
 
-use crate::fault::{Fault, Which};
+use crate::fault::{ProgramFault, Which};
 use sn_command::Task;
 use sn_model::Damage;
 use std::io;
@@ -55,8 +55,8 @@ fn name_of<'a>(which: Which, task: Task<'a>) -> &'a str {
 }
 
 /// Tells which file it was that failed in a task, and the system's reason.
-pub(crate) fn explain<P: Write>(fault: Fault, task: Task<'_>, person: &mut P) {
-    if let Fault::File { which, error } = fault {
+pub(crate) fn explain<P: Write>(fault: ProgramFault, task: Task<'_>, person: &mut P) {
+    if let ProgramFault::File { which, error } = fault {
         let _ = writeln!(person, "snapfs: {}: {error}", name_of(which, task));
     }
 }

@@ -6,7 +6,7 @@ ghost use Rattle.sn_program.specs.Answers.{AppendsFront, IsRun};
 ghost use Rattle.sn_program.specs.Fault.{IsOfFile, outcome_of};
 ghost use Rattle.sn_program.specs.Tasks.{lines_of};
 
-use crate::fault::Fault;
+use crate::fault::ProgramFault;
 use crate::output::write_replies;
 use sn_device::Device;
 use sn_model::{End, Event};
@@ -18,7 +18,7 @@ use std::io::Write;
 #[derive(Drop)]
 pub struct Answered<D: Device> {
     pub ran: Ran<D>,
-    pub written: Result<(), Fault>,
+    pub written: Result<(), ProgramFault>,
 }
 
 /// Runs events on a device, and writes the replies, also where the run doesn't end well.
@@ -46,9 +46,9 @@ pub fn answer<D: Device, W: Write, L: Watch>(
 }
 
 /// What a run comes to: its own fault goes before one of writing.
-pub fn outcome(end: End, written: Result<(), Fault>) -> Result<(), Fault>
+pub fn outcome(end: End, written: Result<(), ProgramFault>) -> Result<(), ProgramFault>
     ensures { result ≡ outcome_of end written }
 {
-    Fault::of_end(end)?;
+    ProgramFault::of_end(end)?;
     written
 }

@@ -4,9 +4,9 @@ ghost use Rattle.sn_script.specs.Scripts.{IsFirstBad};
 ghost use Rattle.sn_script.specs.declared.fault.ScriptFault.TheVariants as reading;
 ghost use Rattle.sn_program.specs.Answers.{AreEventsOf};
 ghost use Rattle.sn_program.specs.Fault.{IsOfFile, IsOfScript, IsUnread};
-ghost use Rattle.sn_program.specs.declared.fault.Fault.TheVariants as fault;
+ghost use Rattle.sn_program.specs.declared.fault.ProgramFault.TheVariants as fault;
 
-use crate::fault::{Fault, Which, on_file};
+use crate::fault::{ProgramFault, Which, on_file};
 use sn_model::Event;
 use sn_script::{SCRIPT_MAX, read_script};
 use std::alloc::Global;
@@ -23,7 +23,7 @@ fn take_bytes<R: Read + Drop>(alloc: Global, reader: R) -> io::Result<Vec<u8>>
 }
 
 /// The same, of the command's script.
-fn read_bytes<R: Read + Drop>(alloc: Global, reader: R) -> Result<Vec<u8>, Fault>
+fn read_bytes<R: Read + Drop>(alloc: Global, reader: R) -> Result<Vec<u8>, ProgramFault>
     ensures read { IfOk result (λ bytes. IfSome (R.remaining reader) (λ all. bytes.items ≡ take 16777217 all)) }
     ensures faults { IfErr result IsOfFile }
 {
@@ -31,7 +31,7 @@ fn read_bytes<R: Read + Drop>(alloc: Global, reader: R) -> Result<Vec<u8>, Fault
 }
 
 /// The events of the script that a reader has left to give, all of it.
-pub fn read_events<R: Read + Drop>(alloc: Global, reader: R) -> Result<Vec<Event>, Fault>
+pub fn read_events<R: Read + Drop>(alloc: Global, reader: R) -> Result<Vec<Event>, ProgramFault>
     // What is read is spelled so, and has at most 16,777,216 bytes.
     ensures found { IfOk result (λ events. AreEventsOf (R.remaining reader) events.items) }
 

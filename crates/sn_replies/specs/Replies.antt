@@ -8,7 +8,7 @@ use Rattle.sn_limits.specs.declared.kind.Kind.{Kind}
 use Rattle.sn_limits.specs.declared.kind.Kind.TheVariants.{File, Directory}
 use Rattle.sn_model.specs.declared.reply.Reply.{Reply}
 use Rattle.sn_model.specs.declared.reply.Reply.TheVariants as reply
-use Rattle.sn_model.specs.declared.reply.Status.{Status}
+use Rattle.sn_model.specs.declared.reply.FileStatus.{FileStatus}
 use Rattle.sn_model.specs.Texts.{mount_fault_text, progress_text, refusal_text}
 use Rattle.sn_words.specs.Fields.{content_word, octal}
 
@@ -21,11 +21,11 @@ bit true value = value
 bit false value = 0
 
 -- the permission bits with S_ISGID and S_ISVTX
-abbrev pub status_mode : Status → ℕ
+abbrev pub status_mode : FileStatus → ℕ
 status_mode s = bit s.set_gid 1024 + bit s.sticky 512 + mode_bits s.mode
 
 -- the number of the object isn't told
-abbrev pub status_line : Status → List ℕ
+abbrev pub status_line : FileStatus → List ℕ
 status_line s = codes "ok " ++ kind_name s.kind ++ codes " " ++ octal (status_mode s) ++ codes " " ++ decimal s.links
     ++ codes " " ++ decimal s.owner ++ codes " " ++ decimal s.group ++ codes " " ++ decimal s.size ++ codes "\n"
 

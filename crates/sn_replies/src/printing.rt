@@ -4,7 +4,7 @@ ghost use Rattle.sn_words.specs.Fields.{octal, content_word};
 ghost use Rattle.sn_replies.specs.Replies.{kind_name, status_mode, status_line, name_text, names_line, some_acl_text, reply_line};
 
 use sn_limits::Kind;
-use sn_model::{Content, Names, Reply, Status, StoredAcl};
+use sn_model::{FileData, FileStatus, Names, Reply, StoredAcl};
 use std::alloc::{AllocError, Global};
 use std::io;
 use std::io::Write;
@@ -19,7 +19,7 @@ fn kind_name(kind: Kind) -> &'static str
 }
 
 /// The bits of <sys/stat.h>.
-fn status_mode(status: &Status) -> u16
+fn status_mode(status: &FileStatus) -> u16
     ensures value { result ≡ status_mode status.now }
     ensures within { result < 4096 }
 {
@@ -42,10 +42,10 @@ fn push_octal(text: &mut Vec<u8>, number: u16) -> io::Result<()>
     )
 }
 
-fn push_status(text: &mut Vec<u8>, status: &Status) -> io::Result<()>
+fn push_status(text: &mut Vec<u8>, status: &FileStatus) -> io::Result<()>
     ensures { OnOk result (text.new.items ≡ text.old.items ++ status_line status.now) }
 {
-    let Status {
+    let FileStatus {
         links,
         owner,
         group,
@@ -67,7 +67,7 @@ fn push_mode(text: &mut Vec<u8>, bits: u16) -> io::Result<()>
     writeln!(text)
 }
 
-fn push_content(alloc: Global, text: &mut Vec<u8>, content: &Content) -> io::Result<()>
+fn push_content(alloc: Global, text: &mut Vec<u8>, content: &FileData) -> io::Result<()>
     ensures { OnOk result (text.new.items ≡ text.old.items ++ codes "ok " ++ content_word content.now ++ codes "\n") }
 {
     let bytes = content.as_bytes();

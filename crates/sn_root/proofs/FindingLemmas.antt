@@ -2,22 +2,22 @@
 use Rattle.std.proofs.Common.{◌≡◌, ◌≢◌, ⊎_elim, ◌<◌, None, Result, Ok, Err, refl, sym, ◌∙◌, ap, arith}
 use Rattle.sn_device.specs.Sectors.{Contents}
 use Rattle.sn_limits.specs.Versions.{limits_of}
-use Rattle.sn_layout.specs.declared.places.Slot.{Slot}
-use Rattle.sn_layout.specs.declared.places.Slot.TheVariants.{A, B}
+use Rattle.sn_layout.specs.declared.geometry.Slot.{Slot}
+use Rattle.sn_layout.specs.declared.geometry.Slot.TheVariants.{A, B}
 use Rattle.sn_layout.specs.declared.root.RootBody.{RootBody}
-use Rattle.sn_layout.specs.Places.{gate_sector, other_slot}
+use Rattle.sn_layout.specs.Geometry.{gate_sector, other_slot}
 use Rattle.sn_ondisk.specs.Gates.{IsOpen}
 use Rattle.sn_ondisk.specs.Roots.{HasRoot, IsNewest}
 use Rattle.sn_ondisk.proofs.OneRootLemmas.{root_is_one, newest_is_one}
-use Rattle.sn_root.specs.Held.{Holds}
+use Rattle.sn_root.specs.Carried.{Holds}
 use Rattle.sn_root.specs.Slots.{gate_in, version_at, IsUnknown, IsMisspelt}
 use Rattle.sn_root.specs.Finding.{HasNewest, AreKnown, AreEqual, IsDamaged, Finds, IsRead}
-use Rattle.sn_root.specs.declared.slots.Held.{Held}
-use Rattle.sn_root.specs.declared.slots.Held.TheVariants.{Nothing, UnknownVersion as Unknown, Misspelt as Wrong, Root}
+use Rattle.sn_root.specs.declared.slots.Carried.{Carried}
+use Rattle.sn_root.specs.declared.slots.Carried.TheVariants.{Nothing, UnknownVersion as Unknown, Misspelt as Wrong, Root}
 use Rattle.sn_root.specs.declared.fault.RootFault.{RootFault}
 use Rattle.sn_root.specs.declared.fault.RootFault.TheVariants.{NoOpenRoot, UnknownVersion, Damaged, Read}
-use Rattle.sn_root.specs.declared.fault.Damage.{Damage}
-use Rattle.sn_root.specs.declared.fault.Damage.TheVariants.{Misspelt, EqualGenerations}
+use Rattle.sn_root.specs.declared.fault.RootDamage.{RootDamage}
+use Rattle.sn_root.specs.declared.fault.RootDamage.TheVariants.{Misspelt, EqualGenerations}
 use Rattle.sn_root.specs.declared.finding.NewestRoot.{NewestRoot}
 use Rattle.sn_root.proofs.SlotLemmas.{root_known}
 
@@ -27,13 +27,13 @@ held_root : (c : Contents) (slot : Slot) (root : RootBody) → Holds c slot (Roo
 held_root c slot root holds = record { fits = holds.1.0; bytes = holds.1.1 }
 
 -- a slot that holds no unknown version has a known one, if it is open
-held_known : (c : Contents) (slot : Slot) (held : Held) → held ≢ Unknown → Holds c slot held → IsOpen c (gate_sector slot) → limits_of (version_at c slot) ≢ None
+held_known : (c : Contents) (slot : Slot) (held : Carried) → held ≢ Unknown → Holds c slot held → IsOpen c (gate_sector slot) → limits_of (version_at c slot) ≢ None
 held_known c slot Nothing other holds opened = absurd (holds opened)
 held_known c slot Unknown other holds opened = absurd (other refl)
 held_known c slot Wrong other holds opened = holds.1.0
 held_known c slot (Root root) other holds opened = root_known c slot root (held_root c slot root holds)
 
-both_known : (c : Contents) (a b : Held) → a ≢ Unknown → b ≢ Unknown → Holds c A a → Holds c B b → AreKnown c
+both_known : (c : Contents) (a b : Carried) → a ≢ Unknown → b ≢ Unknown → Holds c A a → Holds c B b → AreKnown c
 both_known c a b one other in_a in_b A opened = held_known c A a one in_a opened
 both_known c a b one other in_a in_b B opened = held_known c B b other in_b opened
 
@@ -41,13 +41,13 @@ held_misspelt : (c : Contents) (slot : Slot) → Holds c slot Wrong → IsMisspe
 held_misspelt c slot holds = record { is_open = holds.0; none = λ root body. holds.1.1 root body.fits body.bytes }
 
 -- a slot that holds something else isn't misspelt
-not_misspelt : (c : Contents) (slot : Slot) (held : Held) → held ≢ Unknown → held ≢ Wrong → Holds c slot held → IsMisspelt c slot → ⊥
+not_misspelt : (c : Contents) (slot : Slot) (held : Carried) → held ≢ Unknown → held ≢ Wrong → Holds c slot held → IsMisspelt c slot → ⊥
 not_misspelt c slot Nothing known right holds misspelt = holds misspelt.is_open
 not_misspelt c slot Unknown known right holds misspelt = known refl
 not_misspelt c slot Wrong known right holds misspelt = right refl
 not_misspelt c slot (Root root) known right holds misspelt = misspelt.none root (held_root c slot root holds)
 
-pub misspelt_beside : (c : Contents) (b : Held) → b ≢ Unknown → Holds c A Wrong → Holds c B b → Finds c (Err (Damaged (Misspelt A)))
+pub misspelt_beside : (c : Contents) (b : Carried) → b ≢ Unknown → Holds c A Wrong → Holds c B b → Finds c (Err (Damaged (Misspelt A)))
 misspelt_beside c b known in_a in_b = (both_known c Wrong b (λ e. cc) known in_a in_b, held_misspelt c A in_a)
 
 pub beside_misspelt : (c : Contents) (root : RootBody) → Holds c A (Root root) → Holds c B Wrong → Finds c (Err (Damaged (Misspelt B)))
@@ -90,7 +90,7 @@ newest_not_equal : (c : Contents) (slot : Slot) (root : RootBody) → IsNewest c
 newest_not_equal c A root newest equal = not_equal c A root equal.one equal.other newest (equal.are_open B) equal.has_one equal.has_other equal.same
 newest_not_equal c B root newest equal = not_equal c B root equal.other equal.one newest (equal.are_open A) equal.has_other equal.has_one (sym equal.same)
 
-newest_not_damaged : (c : Contents) (slot : Slot) (root : RootBody) (damage : Damage) → IsNewest c slot root → IsDamaged c damage → ⊥
+newest_not_damaged : (c : Contents) (slot : Slot) (root : RootBody) (damage : RootDamage) → IsNewest c slot root → IsDamaged c damage → ⊥
 newest_not_damaged c slot root (Misspelt A) newest wrong = let has = open_has c slot A root newest wrong.is_open in wrong.none has.0 has.1
 newest_not_damaged c slot root (Misspelt B) newest wrong = let has = open_has c slot B root newest wrong.0.is_open in wrong.0.none has.0 has.1
 newest_not_damaged c slot root EqualGenerations newest equal = newest_not_equal c slot root newest equal
@@ -99,12 +99,12 @@ newest_known : (c : Contents) (slot place : Slot) (root : RootBody) → IsNewest
 newest_known c slot place root newest unknown = let has = open_has c slot place root newest unknown.is_open in root_known c place has.0 has.1 unknown.version
 
 -- a damage stands in an open slot
-damaged_open : (c : Contents) (damage : Damage) → IsDamaged c damage → (slot : Slot) × IsOpen c (gate_sector slot)
+damaged_open : (c : Contents) (damage : RootDamage) → IsDamaged c damage → (slot : Slot) × IsOpen c (gate_sector slot)
 damaged_open c (Misspelt A) wrong = (A, wrong.is_open)
 damaged_open c (Misspelt B) wrong = (B, wrong.0.is_open)
 damaged_open c EqualGenerations equal = (A, equal.are_open A)
 
-damage_is_one : (c : Contents) (one other : Damage) → IsDamaged c one → IsDamaged c other → one ≡ other
+damage_is_one : (c : Contents) (one other : RootDamage) → IsDamaged c one → IsDamaged c other → one ≡ other
 damage_is_one c (Misspelt A) (Misspelt A) f g = refl
 damage_is_one c (Misspelt A) (Misspelt B) f g = absurd (g.1 f)
 damage_is_one c (Misspelt A) EqualGenerations f g = absurd (f.none g.one g.has_one)
@@ -140,6 +140,6 @@ finding_is_one c (Err UnknownVersion) (Err (Read e)) r s f g = absurd (s e refl)
 finding_is_one c (Err (Damaged d)) (Ok y) r s f g = absurd (newest_not_damaged c y.slot y.root d g.newest f.1)
 finding_is_one c (Err (Damaged d)) (Err NoOpenRoot) r s f g = let at = damaged_open c d f.1 in absurd (g at.0 at.1)
 finding_is_one c (Err (Damaged d)) (Err UnknownVersion) r s f g = absurd (f.0 g.0 g.1.is_open g.1.version)
-finding_is_one c (Err (Damaged d)) (Err (Damaged e)) r s f g = ap (λ (x : Damage). Err (Damaged x)) (damage_is_one c d e f.1 g.1)
+finding_is_one c (Err (Damaged d)) (Err (Damaged e)) r s f g = ap (λ (x : RootDamage). Err (Damaged x)) (damage_is_one c d e f.1 g.1)
 finding_is_one c (Err (Damaged d)) (Err (Read e)) r s f g = absurd (s e refl)
 finding_is_one c (Err (Read d)) other r s f g = absurd (r d refl)

@@ -8,12 +8,12 @@ use Rattle.sn_device.proofs.SectorLemmas.{AgreesOutside-set}
 use Rattle.sn_device.proofs.CrashLemmas.{LeavesOnly-torn, LeavesOnly-touched, LeavesOnly-join, LeavesOnly-now, LeavesOnly-weaker, Always-kept, Always-synced, Always-reads, Touches-join, Touches-within}
 use Rattle.sn_layout.specs.declared.gate.Gate.{Gate}
 use Rattle.sn_layout.specs.declared.gate.Gate.TheVariants.{Open, Closed}
-use Rattle.sn_layout.specs.declared.places.Slot.{Slot}
-use Rattle.sn_layout.specs.declared.places.Slot.TheVariants.{A, B}
+use Rattle.sn_layout.specs.declared.geometry.Slot.{Slot}
+use Rattle.sn_layout.specs.declared.geometry.Slot.TheVariants.{A, B}
 use Rattle.sn_layout.specs.declared.root.RootBody.{RootBody}
 use Rattle.sn_layout.specs.Gate.{gate_of, gate_bytes}
 use Rattle.sn_layout.specs.RootBody.{IsRootBody, root_body_bytes}
-use Rattle.sn_layout.specs.Places.{gate_sector, other_slot, half_of_epoch}
+use Rattle.sn_layout.specs.Geometry.{gate_sector, other_slot, half_of_epoch}
 use Rattle.sn_ondisk.specs.Blocks.{InBlock, bytes_at}
 use Rattle.sn_ondisk.specs.Gates.{IsOpen, IsClosed}
 use Rattle.sn_ondisk.specs.LogHalf.{Replays, InHalf, base_of}

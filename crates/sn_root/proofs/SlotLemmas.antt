@@ -6,10 +6,10 @@ use Rattle.byteorder.specs.Numbers.{little_number-reads_back}
 use Rattle.sn_device.specs.Sectors.{Contents, AreSectors, sector_at}
 use Rattle.sn_limits.specs.Versions.{limits_of}
 use Rattle.sn_layout.specs.Bytes.{number_bytes, zeros}
-use Rattle.sn_layout.specs.Places.{gate_sector}
+use Rattle.sn_layout.specs.Geometry.{gate_sector}
 use Rattle.sn_layout.specs.RootBody.{root_body_bytes}
 use Rattle.sn_layout.specs.declared.gate.Gate.TheVariants.{Open}
-use Rattle.sn_layout.specs.declared.places.Slot.{Slot}
+use Rattle.sn_layout.specs.declared.geometry.Slot.{Slot}
 use Rattle.sn_layout.specs.declared.root.RootBody.{RootBody}
 use Rattle.sn_layout.proofs.Roots.{known}
 use Rattle.sn_ondisk.specs.Blocks.{bytes_at, block_at}

@@ -4,10 +4,10 @@ use Rattle.sn_device.specs.Sectors.{Contents}
 use Rattle.sn_device.specs.declared.status.Status.{Status}
 use Rattle.sn_limits.specs.Versions.{limits_of}
 use Rattle.std.specs.Prelude.{None}
-use Rattle.sn_layout.specs.declared.places.Slot.{Slot}
-use Rattle.sn_layout.specs.declared.places.Slot.TheVariants.{A, B}
+use Rattle.sn_layout.specs.declared.geometry.Slot.{Slot}
+use Rattle.sn_layout.specs.declared.geometry.Slot.TheVariants.{A, B}
 use Rattle.sn_layout.specs.declared.root.RootBody.{RootBody}
-use Rattle.sn_layout.specs.Places.{gate_sector, other_slot}
+use Rattle.sn_layout.specs.Geometry.{gate_sector, other_slot}
 use Rattle.sn_ondisk.specs.Gates.{IsOpen, IsClosed}
 use Rattle.sn_ondisk.specs.Roots.{HasRoot, IsNewest}
 use Rattle.sn_block.specs.Counts.{FailsRead}
@@ -16,8 +16,8 @@ use Rattle.sn_block.specs.declared.fault.ReadFault.TheVariants.{Device, Memory}
 use Rattle.sn_root.specs.Slots.{gate_in, version_at, IsUnknown, IsMisspelt}
 use Rattle.sn_root.specs.declared.fault.RootFault.{RootFault}
 use Rattle.sn_root.specs.declared.fault.RootFault.TheVariants.{NoOpenRoot, UnknownVersion, Damaged, Read}
-use Rattle.sn_root.specs.declared.fault.Damage.{Damage}
-use Rattle.sn_root.specs.declared.fault.Damage.TheVariants.{Misspelt, EqualGenerations}
+use Rattle.sn_root.specs.declared.fault.RootDamage.{RootDamage}
+use Rattle.sn_root.specs.declared.fault.RootDamage.TheVariants.{Misspelt, EqualGenerations}
 use Rattle.sn_root.specs.declared.finding.NewestRoot.{NewestRoot}
 
 -- The newest root is this one, and the other slot's gate is so.
@@ -39,7 +39,7 @@ pub record AreEqual (c : Contents) : Type 0 where
   pub same : one.generation ≡ other.generation
 
 -- Where both slots are misspelt, slot A is told.
-abbrev pub IsDamaged : Contents → Damage → Type 0
+abbrev pub IsDamaged : Contents → RootDamage → Type 0
 IsDamaged c (Misspelt A) = IsMisspelt c A
 IsDamaged c (Misspelt B) = IsMisspelt c B × (IsMisspelt c A → ⊥)
 IsDamaged c EqualGenerations = AreEqual c

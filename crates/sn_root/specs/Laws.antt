@@ -4,9 +4,9 @@ use Rattle.sn_device.specs.Sectors.{Contents, AreSectors}
 use Rattle.sn_device.specs.Disk.{Disk, Always, reads}
 use Rattle.sn_device.specs.Crash.{Touches}
 use Rattle.sn_layout.specs.declared.gate.Gate.{Gate}
-use Rattle.sn_layout.specs.declared.places.Slot.{Slot}
+use Rattle.sn_layout.specs.declared.geometry.Slot.{Slot}
 use Rattle.sn_layout.specs.declared.root.RootBody.{RootBody}
-use Rattle.sn_layout.specs.Places.{gate_sector}
+use Rattle.sn_layout.specs.Geometry.{gate_sector}
 use Rattle.sn_ondisk.specs.Gates.{IsClosed}
 use Rattle.sn_ondisk.specs.LogHalf.{InHalf, base_of}
 use Rattle.sn_ondisk.specs.Roots.{HasRoot}

@@ -1,7 +1,7 @@
 pub mod Fault
 pub mod Finding
 pub mod Following
-pub mod Held
+pub mod Carried
 pub mod Laws
 pub mod Replacing
 pub mod Slots

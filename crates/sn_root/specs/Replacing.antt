@@ -5,10 +5,10 @@ use Rattle.sn_device.specs.Disk.{Disk, reads, IsSynced, Always}
 use Rattle.sn_device.specs.Crash.{Touches, LeavesOnly}
 use Rattle.sn_layout.specs.declared.gate.Gate.{Gate}
 use Rattle.sn_layout.specs.declared.gate.Gate.TheVariants.{Open, Closed}
-use Rattle.sn_layout.specs.declared.places.Slot.{Slot}
+use Rattle.sn_layout.specs.declared.geometry.Slot.{Slot}
 use Rattle.sn_layout.specs.declared.root.RootBody.{RootBody}
 use Rattle.sn_layout.specs.Gate.{gate_bytes}
-use Rattle.sn_layout.specs.Places.{gate_sector, other_slot}
+use Rattle.sn_layout.specs.Geometry.{gate_sector, other_slot}
 use Rattle.sn_block.specs.Effects.{Nowhere}
 use Rattle.sn_ondisk.specs.Blocks.{InBlock}
 use Rattle.sn_ondisk.specs.Gates.{IsOpen, IsClosed}

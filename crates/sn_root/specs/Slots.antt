@@ -4,10 +4,10 @@ use Rattle.byteorder.specs.Endian.{little_number}
 use Rattle.sn_limits.specs.Versions.{limits_of}
 use Rattle.sn_device.specs.Sectors.{Contents, sector_at}
 use Rattle.sn_layout.specs.declared.gate.Gate.{Gate}
-use Rattle.sn_layout.specs.declared.places.Slot.{Slot}
+use Rattle.sn_layout.specs.declared.geometry.Slot.{Slot}
 use Rattle.sn_layout.specs.declared.root.RootBody.{RootBody}
 use Rattle.sn_layout.specs.Gate.{gate_of}
-use Rattle.sn_layout.specs.Places.{gate_sector}
+use Rattle.sn_layout.specs.Geometry.{gate_sector}
 use Rattle.sn_ondisk.specs.Blocks.{block_at}
 use Rattle.sn_ondisk.specs.Gates.{IsOpen}
 use Rattle.sn_ondisk.specs.Roots.{body_block, HasRoot}

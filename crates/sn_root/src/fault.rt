@@ -14,33 +14,33 @@ pub(crate) const GATES_BLOCK: u32 = 3;
 
 /// What is wrong with the slots that are open, where each of them names a version that is read.
 #[derive(Clone, Copy, PartialEq, Eq)]
-pub enum Damage {
+pub enum RootDamage {
     /// This slot's block spells no root body.
     Misspelt(Slot),
     /// Both have roots of one generation, so that none is the newer.
     EqualGenerations,
 }
 
-impl Damage {
+impl RootDamage {
     /// The block that it is told of: 1 or 2 for a body, and 3, that of the gates, for both.
     pub fn block(self) -> u32
         ensures { result ≡ block_of self }
     {
         match self {
-            Damage::Misspelt(slot) => body_block(slot),
-            Damage::EqualGenerations => GATES_BLOCK,
+            RootDamage::Misspelt(slot) => body_block(slot),
+            RootDamage::EqualGenerations => GATES_BLOCK,
         }
     }
 }
 
-impl fmt::Display for Damage {
+impl fmt::Display for RootDamage {
     ghost output = { λ damage. Some (damage_text damage) };
 
     fn fmt<W: fmt::Write>(&self, f: &mut fmt::Formatter<W>) -> fmt::Result {
         match self {
-            Damage::Misspelt(Slot::A) => write!(f, "the root in block 1 is damaged"),
-            Damage::Misspelt(Slot::B) => write!(f, "the root in block 2 is damaged"),
-            Damage::EqualGenerations => write!(f, "both roots have one generation"),
+            RootDamage::Misspelt(Slot::A) => write!(f, "the root in block 1 is damaged"),
+            RootDamage::Misspelt(Slot::B) => write!(f, "the root in block 2 is damaged"),
+            RootDamage::EqualGenerations => write!(f, "both roots have one generation"),
         }
     }
 }
@@ -54,7 +54,7 @@ pub enum RootFault {
     /// An open slot names a version that isn't read.
     UnknownVersion,
     /// An open slot is damaged, or both together are.
-    Damaged(Damage),
+    Damaged(RootDamage),
     /// A block couldn't be read.
     Read(ReadFault),
 }
@@ -72,10 +72,10 @@ impl fmt::Display for RootFault {
     }
 }
 
-impl From<Damage> for RootFault {
+impl From<RootDamage> for RootFault {
     ghost from_gives = { λ damage fault. fault ≡ DamagedFault damage };
 
-    fn from(damage: Damage) -> RootFault {
+    fn from(damage: RootDamage) -> RootFault {
         RootFault::Damaged(damage)
     }
 }

@@ -3,14 +3,14 @@ ghost use Rattle.std.specs.Prelude.{◌≡◌, ◌≤◌, IsTrue, IfOk};
 ghost use Rattle.sn_device.specs.Sectors.{Contents};
 ghost use Rattle.sn_device.specs.Disk.{reads};
 ghost use Rattle.sn_layout.specs.RootBody.{IsRootBody};
-ghost use Rattle.sn_layout.specs.declared.places.Slot.TheVariants.{A as SlotA, B as SlotB};
+ghost use Rattle.sn_layout.specs.declared.geometry.Slot.TheVariants.{A as SlotA, B as SlotB};
 ghost use Rattle.sn_block.specs.Lending.{device_of};
-ghost use Rattle.sn_root.specs.declared.slots.Held.TheVariants.{Nothing as HeldNothing, Root as HeldRoot};
-ghost use Rattle.sn_root.specs.Held.{Holds, Fits};
+ghost use Rattle.sn_root.specs.declared.slots.Carried.TheVariants.{Nothing as HeldNothing, Root as HeldRoot};
+ghost use Rattle.sn_root.specs.Carried.{Holds, Fits};
 ghost use Rattle.sn_root.specs.Finding.{Finds, IsRead, CountsFinding};
 
-use crate::slots::{Held, look, read_gates};
-use crate::{Damage, RootFault};
+use crate::slots::{Carried, look, read_gates};
+use crate::{RootDamage, RootFault};
 use sn_block::Blocks;
 use sn_device::Device;
 use sn_layout::{Gate, RootBody, Slot};
@@ -40,47 +40,47 @@ pub fn newest<D: Device>(blocks: &mut Blocks<D>) -> Result<NewestRoot, RootFault
 }
 
 // Which of the two counts. Versions come before what the bodies spell, and slot A before slot B.
-fn choose(a: Held, b: Held) -> Result<NewestRoot, RootFault>
+fn choose(a: Carried, b: Carried) -> Result<NewestRoot, RootFault>
     ensures finds { (c : Contents) → Holds c SlotA a → Holds c SlotB b → Finds c result }
     ensures read { IsRead result }
     ensures fits { Fits a → Fits b → IfOk result (λ newest. IsRootBody newest.root) }
 {
     match a {
-        Held::Nothing => choose_b(b),
-        Held::UnknownVersion => Err(RootFault::UnknownVersion),
-        Held::Misspelt => match b {
-            Held::UnknownVersion => Err(RootFault::UnknownVersion),
-            _ => Err(RootFault::Damaged(Damage::Misspelt(Slot::A))),
+        Carried::Nothing => choose_b(b),
+        Carried::UnknownVersion => Err(RootFault::UnknownVersion),
+        Carried::Misspelt => match b {
+            Carried::UnknownVersion => Err(RootFault::UnknownVersion),
+            _ => Err(RootFault::Damaged(RootDamage::Misspelt(Slot::A))),
         },
-        Held::Root(root) => choose_beside(root, b),
+        Carried::Root(root) => choose_beside(root, b),
     }
 }
 
 // What counts where slot A is closed.
-fn choose_b(b: Held) -> Result<NewestRoot, RootFault>
+fn choose_b(b: Carried) -> Result<NewestRoot, RootFault>
     ensures finds { (c : Contents) → Holds c SlotA HeldNothing → Holds c SlotB b → Finds c result }
     ensures read { IsRead result }
     ensures fits { Fits b → IfOk result (λ newest. IsRootBody newest.root) }
 {
     match b {
-        Held::Nothing => Err(RootFault::NoOpenRoot),
-        Held::UnknownVersion => Err(RootFault::UnknownVersion),
-        Held::Misspelt => Err(RootFault::Damaged(Damage::Misspelt(Slot::B))),
-        Held::Root(root) => Ok(newest_in(Slot::B, root, Gate::Closed)),
+        Carried::Nothing => Err(RootFault::NoOpenRoot),
+        Carried::UnknownVersion => Err(RootFault::UnknownVersion),
+        Carried::Misspelt => Err(RootFault::Damaged(RootDamage::Misspelt(Slot::B))),
+        Carried::Root(root) => Ok(newest_in(Slot::B, root, Gate::Closed)),
     }
 }
 
 // What counts beside a root in slot A.
-fn choose_beside(root: RootBody, b: Held) -> Result<NewestRoot, RootFault>
+fn choose_beside(root: RootBody, b: Carried) -> Result<NewestRoot, RootFault>
     ensures finds { (c : Contents) → Holds c SlotA (HeldRoot root) → Holds c SlotB b → Finds c result }
     ensures read { IsRead result }
     ensures fits { IsRootBody root → Fits b → IfOk result (λ newest. IsRootBody newest.root) }
 {
     match b {
-        Held::Nothing => Ok(newest_in(Slot::A, root, Gate::Closed)),
-        Held::UnknownVersion => Err(RootFault::UnknownVersion),
-        Held::Misspelt => Err(RootFault::Damaged(Damage::Misspelt(Slot::B))),
-        Held::Root(other) => newer(root, other),
+        Carried::Nothing => Ok(newest_in(Slot::A, root, Gate::Closed)),
+        Carried::UnknownVersion => Err(RootFault::UnknownVersion),
+        Carried::Misspelt => Err(RootFault::Damaged(RootDamage::Misspelt(Slot::B))),
+        Carried::Root(other) => newer(root, other),
     }
 }
 
@@ -99,7 +99,7 @@ fn newer(one: RootBody, other: RootBody) -> Result<NewestRoot, RootFault>
     ensures fits { IsRootBody one → IsRootBody other → IfOk result (λ newest. IsRootBody newest.root) }
 {
     if one.generation == other.generation {
-        return Err(RootFault::Damaged(Damage::EqualGenerations));
+        return Err(RootFault::Damaged(RootDamage::EqualGenerations));
     }
     if one.generation > other.generation {
         Ok(newest_in(Slot::A, one, Gate::Open))

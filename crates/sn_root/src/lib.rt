@@ -43,7 +43,7 @@ mod laws;
 mod replacing;
 mod slots;
 
-pub use fault::{Damage, RootFault};
+pub use fault::{RootDamage, RootFault};
 pub use finding::{NewestRoot, newest};
 pub use following::{PointKind, next_root};
 pub use laws::{finding_is_one, log_keeps_slots};

@@ -2,7 +2,7 @@
 ghost use Rattle.std.specs.Prelude.{◌≡◌, ◌+◌, ◌≤◌, IsTrue};
 ghost use Rattle.sn_device.specs.Disk.{Always};
 ghost use Rattle.sn_layout.specs.RootBody.{IsRootBody};
-ghost use Rattle.sn_layout.specs.Places.{gate_sector};
+ghost use Rattle.sn_layout.specs.Geometry.{gate_sector};
 ghost use Rattle.sn_layout.specs.declared.root.RootBody.{RootBody as TheRootBody};
 ghost use Rattle.sn_ondisk.specs.Gates.{IsClosed};
 ghost use Rattle.sn_ondisk.specs.Roots.{HasRoot};
@@ -16,7 +16,7 @@ ghost use Rattle.sn_root.specs.Replacing.{closing_writes, ClosesSlot, WritesBody
 use crate::slots::body_block;
 use sn_block::Blocks;
 use sn_device::{Device, Fault};
-use sn_layout::{BLOCK_SIZE, Gate, Places, RootBody, SECTOR_SIZE, Slot};
+use sn_layout::{BLOCK_SIZE, Gate, Geometry, RootBody, SECTOR_SIZE, Slot};
 
 /// Closes the gate of the slot that is to be replaced, where it is open, and syncs. A gate that is closed
 /// is left alone: behind it a whole body may stand that never counted, and a torn write might open it.
@@ -112,5 +112,5 @@ fn write_gate<D: Device>(blocks: &mut Blocks<D>, slot: Slot, gate: Gate) -> Resu
 {
     let mut sector = [0; SECTOR_SIZE];
     gate.encode(&mut sector);
-    blocks.write_synced(Places::gate(slot), &sector)
+    blocks.write_synced(Geometry::gate(slot), &sector)
 }

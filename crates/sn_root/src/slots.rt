@@ -1,12 +1,12 @@
 //! What each of the two slots holds.
 ghost use Rattle.std.specs.Prelude.{◌≡◌, ◌+◌, ◌*◌, ◌<◌, ◌≤◌, take, drop, length, IsTrue, IfOk, OnOk};
 ghost use Rattle.sn_device.specs.Disk.{reads};
-ghost use Rattle.sn_layout.specs.declared.places.Slot.TheVariants.{A as SlotA, B as SlotB};
+ghost use Rattle.sn_layout.specs.declared.geometry.Slot.TheVariants.{A as SlotA, B as SlotB};
 ghost use Rattle.sn_ondisk.specs.Roots.{body_block as block_of_body};
 ghost use Rattle.sn_block.specs.Lending.{device_of};
 ghost use Rattle.sn_block.specs.Counts.{CountsRead};
 ghost use Rattle.sn_root.specs.Slots.{gate_in};
-ghost use Rattle.sn_root.specs.Held.{Spells, Holds, Fits};
+ghost use Rattle.sn_root.specs.Carried.{Spells, Holds, Fits};
 
 use crate::fault::GATES_BLOCK;
 use sn_block::{Block, Blocks, ReadFault};
@@ -27,7 +27,7 @@ pub(crate) fn body_block(slot: Slot) -> u32
 
 /// What a slot holds, as far as it counts.
 #[derive(Drop)]
-pub(crate) enum Held {
+pub(crate) enum Carried {
     /// Its gate is closed, and its body isn't looked at.
     Nothing,
     /// A body of a version that isn't read.
@@ -37,18 +37,18 @@ pub(crate) enum Held {
     Root(RootBody),
 }
 
-impl Held {
+impl Carried {
     // What the block of an open slot holds.
     fn of_block(block: &Block) -> Self
         ensures spells { Spells block.now result }
         ensures fits { Fits result }
     {
         if Limits::of_version(RootBody::version(block)).is_none() {
-            return Held::UnknownVersion;
+            return Carried::UnknownVersion;
         }
         match RootBody::decode(block) {
-            Some(root) => Held::Root(root),
-            None => Held::Misspelt,
+            Some(root) => Carried::Root(root),
+            None => Carried::Misspelt,
         }
     }
 }
@@ -97,7 +97,7 @@ pub(crate) fn look<D: Device>(
     blocks: &mut Blocks<D>,
     slot: Slot,
     gate: Gate,
-) -> Result<Held, ReadFault>
+) -> Result<Carried, ReadFault>
     requires room { 32 ≤ (D.status (device_of blocks.old)).sectors }
     ensures held { IsTrue D.tells_bytes → gate_in (reads (D.disk (device_of blocks.old))) slot ≡ gate
         → IfOk result (λ held. Holds (reads (D.disk (device_of blocks.old))) slot held) }
@@ -106,10 +106,10 @@ pub(crate) fn look<D: Device>(
     ensures counts { CountsRead result (D.status (device_of blocks.old)) (D.status (device_of blocks.new)) }
 {
     match gate {
-        Gate::Closed => Ok(Held::Nothing),
+        Gate::Closed => Ok(Carried::Nothing),
         Gate::Open => {
             let block = blocks.read_block(body_block(slot))?;
-            Ok(Held::of_block(block))
+            Ok(Carried::of_block(block))
         }
     }
 }

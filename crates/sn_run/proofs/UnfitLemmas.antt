@@ -1,7 +1,7 @@
 -- A mount of a disk without a root.
 use Rattle.std.proofs.Common.{◌≡◌, ◌⊎◌, inl, inr, ℕ, List, [], refl}
 use Rattle.sn_device.specs.Sectors.{Contents}
-use Rattle.sn_layout.specs.declared.places.Slot.{Slot}
+use Rattle.sn_layout.specs.declared.geometry.Slot.{Slot}
 use Rattle.sn_layout.specs.declared.root.RootBody.{RootBody}
 use Rattle.sn_limits.specs.Versions.{version_1}
 use Rattle.sn_model.specs.declared.call.Event.{Event}
@@ -13,9 +13,9 @@ use Rattle.sn_model.specs.declared.reply.Reply.{Reply}
 use Rattle.sn_model.specs.Machine.{Anything, HasNoMount, Lacks, Memory, Read, Serves}
 use Rattle.sn_ondisk.specs.Roots.{IsNewest}
 use Rattle.sn_root.specs.Finding.{AreKnown, IsDamaged}
-use Rattle.sn_root.specs.declared.fault.Damage.{Damage as RootDamage}
-use Rattle.sn_root.specs.declared.fault.Damage.TheVariants.{Misspelt, EqualGenerations}
-use Rattle.sn_layout.specs.declared.places.Slot.TheVariants.{A, B}
+use Rattle.sn_root.specs.declared.fault.RootDamage.{RootDamage}
+use Rattle.sn_root.specs.declared.fault.RootDamage.TheVariants.{Misspelt, EqualGenerations}
+use Rattle.sn_layout.specs.declared.geometry.Slot.TheVariants.{A, B}
 use Rattle.sn_sound.specs.Disks.{IsFormatted}
 use Rattle.sn_sound.specs.Verdicts.{IsFaulty, IsFirst, IsRootFault, IsSomeSize}
 use Rattle.sn_sound.proofs.VerdictLemmas.{rooted_verdict}

@@ -2,8 +2,8 @@
 use Rattle.std.specs.Prelude.{Bool, true, false, None, [], replicate}
 use Rattle.sn_device.specs.declared.device.Device.{Ghosts}
 use Rattle.sn_model.specs.World.{new_world}
-use Rattle.sn_log.specs.Places.{first_of}
-use Rattle.sn_layout.specs.declared.places.Slot.TheVariants.{A}
+use Rattle.sn_log.specs.Positions.{first_of}
+use Rattle.sn_layout.specs.declared.geometry.Slot.TheVariants.{A}
 use Rattle.sn_limits.specs.Versions.{version_1}
 use Rattle.sn_overlay.specs.Overlays.{no_changes}
 use Rattle.sn_held.specs.Held.{Held, Kept}

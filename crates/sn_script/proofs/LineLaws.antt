@@ -18,8 +18,8 @@ use Rattle.sn_model.specs.Texts.{access_text}
 use Rattle.sn_words.specs.Fields.{parts, octal, id_word, numbers_word, is_word, kind_word, flags_word, mode_words, IsFileMode}
 use Rattle.sn_script.specs.Lines.{name_of, arguments_of, words_of, line_of, IsCall, IsEvent}
 use Rattle.sn_script.specs.Scripts.{BeginsBadly}
-use Rattle.sn_words.specs.declared.fault.ReadFault.{ReadFault}
-use Rattle.sn_words.specs.declared.fault.ReadFault.TheVariants.{Bad, Memory}
+use Rattle.sn_words.specs.declared.fault.SpellingFault.{SpellingFault}
+use Rattle.sn_words.specs.declared.fault.SpellingFault.TheVariants.{Bad, Memory}
 use Rattle.sn_words.specs.Reading.{IsRead, number_below}
 use Rattle.sn_script.specs.Reading.{call_of, event_of, line_event, lone_event_of}
 use Rattle.sn_words.proofs.Options.{passed, both_true}
@@ -251,6 +251,6 @@ first_bad script line others cut lacks none e more h same =
     let read = sym (line_again e h) ∙ ap line_event (sym p.0) ∙ none in
     absurd cc
 
-pub nothing_read : (fault : ReadFault) (read : Option Event) → fault ≡ Bad → IsRead {X = Event} {Y = Event} (λ e. e) (Err fault) read → read ≡ None
+pub nothing_read : (fault : SpellingFault) (read : Option Event) → fault ≡ Bad → IsRead {X = Event} {Y = Event} (λ e. e) (Err fault) read → read ≡ None
 nothing_read Bad read is gives = gives
 nothing_read Memory read is gives = absurd cc

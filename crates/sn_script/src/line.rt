@@ -4,7 +4,7 @@ ghost use Rattle.sn_script.specs.Reading.{login_of, bare_of, umask_of, chown_of,
 
 use crate::arguments::{descriptor, descriptor_and_number, path, path_and_mode, paths};
 use sn_model::{Call, Event};
-use sn_words::ReadFault;
+use sn_words::SpellingFault;
 use sn_words::cut::parts;
 use sn_words::field::{acl_kind, content, file_mode, flags, groups, id, number, octal, want, word};
 use std::alloc::Global;
@@ -62,11 +62,11 @@ const STEP: &[u8] = b"step";
 const RESTART: &[u8] = b"restart";
 
 #[tactic(auto, unfolding(crate::specs::Reading::login_of))]
-fn login(alloc: Global, arguments: &[&[u8]]) -> Result<Call, ReadFault>
+fn login(alloc: Global, arguments: &[&[u8]]) -> Result<Call, SpellingFault>
     ensures { IsRead (λ c. c) result (login_of (map (λ w. w.now) arguments.now)) }
 {
     let &[uid, gid, others] = arguments else {
-        return Err(ReadFault::Bad);
+        return Err(SpellingFault::Bad);
     };
     let uid = number(uid)?;
     let gid = number(gid)?;
@@ -76,33 +76,33 @@ fn login(alloc: Global, arguments: &[&[u8]]) -> Result<Call, ReadFault>
 
 /// A call without arguments.
 #[tactic(auto, unfolding(crate::specs::Reading::bare_of))]
-fn bare(call: Call, arguments: &[&[u8]]) -> Result<Call, ReadFault>
+fn bare(call: Call, arguments: &[&[u8]]) -> Result<Call, SpellingFault>
     ensures { IsRead (λ c. c) result (bare_of call (map (λ w. w.now) arguments.now)) }
 {
     if arguments.is_empty() {
         Ok(call)
     } else {
-        Err(ReadFault::Bad)
+        Err(SpellingFault::Bad)
     }
 }
 
 #[tactic(auto, unfolding(crate::specs::Reading::umask_of))]
-fn umask(arguments: &[&[u8]]) -> Result<Call, ReadFault>
+fn umask(arguments: &[&[u8]]) -> Result<Call, SpellingFault>
     ensures { IsRead (λ c. c) result (umask_of (map (λ w. w.now) arguments.now)) }
 {
     let &[mask] = arguments else {
-        return Err(ReadFault::Bad);
+        return Err(SpellingFault::Bad);
     };
     let mask = octal(mask)?;
     Ok(Call::Umask { mask })
 }
 
 #[tactic(auto, unfolding(crate::specs::Reading::chown_of))]
-fn chown(alloc: Global, arguments: &[&[u8]]) -> Result<Call, ReadFault>
+fn chown(alloc: Global, arguments: &[&[u8]]) -> Result<Call, SpellingFault>
     ensures { IsRead (λ c. c) result (chown_of (map (λ w. w.now) arguments.now)) }
 {
     let &[path, uid, gid] = arguments else {
-        return Err(ReadFault::Bad);
+        return Err(SpellingFault::Bad);
     };
     let path = word(alloc, path)?;
     let uid = id(uid)?;
@@ -111,11 +111,11 @@ fn chown(alloc: Global, arguments: &[&[u8]]) -> Result<Call, ReadFault>
 }
 
 #[tactic(auto, unfolding(crate::specs::Reading::access_of))]
-fn access(alloc: Global, arguments: &[&[u8]]) -> Result<Call, ReadFault>
+fn access(alloc: Global, arguments: &[&[u8]]) -> Result<Call, SpellingFault>
     ensures { IsRead (λ c. c) result (access_of (map (λ w. w.now) arguments.now)) }
 {
     let &[path, rights] = arguments else {
-        return Err(ReadFault::Bad);
+        return Err(SpellingFault::Bad);
     };
     let path = word(alloc, path)?;
     let want = want(rights)?;
@@ -123,11 +123,11 @@ fn access(alloc: Global, arguments: &[&[u8]]) -> Result<Call, ReadFault>
 }
 
 #[tactic(auto, unfolding(crate::specs::Reading::getacl_of))]
-fn getacl(alloc: Global, arguments: &[&[u8]]) -> Result<Call, ReadFault>
+fn getacl(alloc: Global, arguments: &[&[u8]]) -> Result<Call, SpellingFault>
     ensures { IsRead (λ c. c) result (getacl_of (map (λ w. w.now) arguments.now)) }
 {
     let &[path, kind] = arguments else {
-        return Err(ReadFault::Bad);
+        return Err(SpellingFault::Bad);
     };
     let path = word(alloc, path)?;
     let kind = acl_kind(kind)?;
@@ -135,11 +135,11 @@ fn getacl(alloc: Global, arguments: &[&[u8]]) -> Result<Call, ReadFault>
 }
 
 #[tactic(auto, unfolding(crate::specs::Reading::setacl_of))]
-fn setacl(alloc: Global, arguments: &[&[u8]]) -> Result<Call, ReadFault>
+fn setacl(alloc: Global, arguments: &[&[u8]]) -> Result<Call, SpellingFault>
     ensures { IsRead (λ c. c) result (setacl_of (map (λ w. w.now) arguments.now)) }
 {
     let &[path, kind, acl] = arguments else {
-        return Err(ReadFault::Bad);
+        return Err(SpellingFault::Bad);
     };
     let path = word(alloc, path)?;
     let kind = acl_kind(kind)?;
@@ -148,11 +148,11 @@ fn setacl(alloc: Global, arguments: &[&[u8]]) -> Result<Call, ReadFault>
 }
 
 #[tactic(auto, unfolding(crate::specs::Reading::open_of))]
-fn open(alloc: Global, arguments: &[&[u8]]) -> Result<Call, ReadFault>
+fn open(alloc: Global, arguments: &[&[u8]]) -> Result<Call, SpellingFault>
     ensures { IsRead (λ c. c) result (open_of (map (λ w. w.now) arguments.now)) }
 {
     let &[path, letters, ref others @ ..] = arguments else {
-        return Err(ReadFault::Bad);
+        return Err(SpellingFault::Bad);
     };
     let path = word(alloc, path)?;
     let flags = flags(letters)?;
@@ -161,11 +161,11 @@ fn open(alloc: Global, arguments: &[&[u8]]) -> Result<Call, ReadFault>
 }
 
 #[tactic(auto, unfolding(crate::specs::Reading::write_of))]
-fn write(alloc: Global, arguments: &[&[u8]]) -> Result<Call, ReadFault>
+fn write(alloc: Global, arguments: &[&[u8]]) -> Result<Call, SpellingFault>
     ensures { IsRead (λ c. c) result (write_of (map (λ w. w.now) arguments.now)) }
 {
     let &[fd, digits] = arguments else {
-        return Err(ReadFault::Bad);
+        return Err(SpellingFault::Bad);
     };
     let fd = number(fd)?;
     let bytes = content(alloc, digits)?;
@@ -174,7 +174,7 @@ fn write(alloc: Global, arguments: &[&[u8]]) -> Result<Call, ReadFault>
 
 /// A call on descriptors.
 #[tactic(auto, unfolding(crate::specs::Reading::file_call_of))]
-fn file_call(alloc: Global, name: &[u8], arguments: &[&[u8]]) -> Result<Call, ReadFault>
+fn file_call(alloc: Global, name: &[u8], arguments: &[&[u8]]) -> Result<Call, SpellingFault>
     ensures { IsRead (λ c. c) result (file_call_of name.now (map (λ w. w.now) arguments.now)) }
 {
     if name == OPEN {
@@ -199,12 +199,12 @@ fn file_call(alloc: Global, name: &[u8], arguments: &[&[u8]]) -> Result<Call, Re
         let (fd, size) = descriptor_and_number(arguments)?;
         return Ok(Call::Ftruncate { fd, size });
     }
-    Err(ReadFault::Bad)
+    Err(SpellingFault::Bad)
 }
 
 /// A call of modes, owners and ACLs, or on descriptors.
 #[tactic(auto, unfolding(crate::specs::Reading::access_call_of))]
-fn access_call(alloc: Global, name: &[u8], arguments: &[&[u8]]) -> Result<Call, ReadFault>
+fn access_call(alloc: Global, name: &[u8], arguments: &[&[u8]]) -> Result<Call, SpellingFault>
     ensures { IsRead (λ c. c) result (access_call_of name.now (map (λ w. w.now) arguments.now)) }
 {
     if name == CHMOD {
@@ -228,7 +228,7 @@ fn access_call(alloc: Global, name: &[u8], arguments: &[&[u8]]) -> Result<Call, 
 
 /// A call on one path alone, or of modes, owners and ACLs, or on descriptors.
 #[tactic(auto, unfolding(crate::specs::Reading::path_call_of))]
-fn path_call(alloc: Global, name: &[u8], arguments: &[&[u8]]) -> Result<Call, ReadFault>
+fn path_call(alloc: Global, name: &[u8], arguments: &[&[u8]]) -> Result<Call, SpellingFault>
     ensures { IsRead (λ c. c) result (path_call_of name.now (map (λ w. w.now) arguments.now)) }
 {
     if name == RMDIR {
@@ -252,7 +252,7 @@ fn path_call(alloc: Global, name: &[u8], arguments: &[&[u8]]) -> Result<Call, Re
 
 /// A call on names, or of the other groups.
 #[tactic(auto, unfolding(crate::specs::Reading::name_call_of))]
-fn name_call(alloc: Global, name: &[u8], arguments: &[&[u8]]) -> Result<Call, ReadFault>
+fn name_call(alloc: Global, name: &[u8], arguments: &[&[u8]]) -> Result<Call, SpellingFault>
     ensures { IsRead (λ c. c) result (name_call_of name.now (map (λ w. w.now) arguments.now)) }
 {
     if name == MKDIR {
@@ -271,7 +271,7 @@ fn name_call(alloc: Global, name: &[u8], arguments: &[&[u8]]) -> Result<Call, Re
 }
 
 #[tactic(auto, unfolding(crate::specs::Reading::call_of))]
-fn call(alloc: Global, name: &[u8], arguments: &[&[u8]]) -> Result<Call, ReadFault>
+fn call(alloc: Global, name: &[u8], arguments: &[&[u8]]) -> Result<Call, SpellingFault>
     ensures { IsRead (λ c. c) result (call_of name.now (map (λ w. w.now) arguments.now)) }
 {
     if name == LOGIN {
@@ -291,7 +291,7 @@ fn call(alloc: Global, name: &[u8], arguments: &[&[u8]]) -> Result<Call, ReadFau
 
 /// The events that are no calls of a session.
 #[tactic(auto, unfolding(crate::specs::Reading::lone_event_of))]
-fn lone_event(name: &[u8]) -> Result<Event, ReadFault>
+fn lone_event(name: &[u8]) -> Result<Event, SpellingFault>
     ensures { IsRead (λ e. e) result (lone_event_of name.now) }
 {
     if name == STEP {
@@ -300,18 +300,18 @@ fn lone_event(name: &[u8]) -> Result<Event, ReadFault>
     if name == RESTART {
         return Ok(Event::Restart);
     }
-    Err(ReadFault::Bad)
+    Err(SpellingFault::Bad)
 }
 
 #[tactic(auto, unfolding(crate::specs::Reading::event_of))]
-fn event_of_words(alloc: Global, words: &[&[u8]]) -> Result<Event, ReadFault>
+fn event_of_words(alloc: Global, words: &[&[u8]]) -> Result<Event, SpellingFault>
     ensures { IsRead (λ e. e) result (event_of (map (λ w. w.now) words.now)) }
 {
     if let &[name] = words {
         return lone_event(name);
     }
     let &[session, name, ref arguments @ ..] = words else {
-        return Err(ReadFault::Bad);
+        return Err(SpellingFault::Bad);
     };
     let session = number(session)?;
     let call = call(alloc, name, arguments)?;
@@ -320,11 +320,11 @@ fn event_of_words(alloc: Global, words: &[&[u8]]) -> Result<Event, ReadFault>
 
 /// The event of a line that comes without its end.
 #[tactic(auto, unfolding(crate::specs::Reading::line_event))]
-pub(crate) fn event(alloc: Global, line: &[u8]) -> Result<Event, ReadFault>
+pub(crate) fn event(alloc: Global, line: &[u8]) -> Result<Event, SpellingFault>
     ensures { IsRead (λ e. e) result (line_event line.now) }
 {
     let Some(words) = parts::<MAX_WORDS>(line, b' ') else {
-        return Err(ReadFault::Bad);
+        return Err(SpellingFault::Bad);
     };
     event_of_words(alloc, words.as_slice())
 }

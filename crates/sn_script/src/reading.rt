@@ -6,7 +6,7 @@ ghost use Rattle.sn_model.specs.declared.call.Event.{Event};
 use crate::fault::ScriptFault;
 use crate::line::event;
 use sn_model::Event;
-use sn_words::ReadFault;
+use sn_words::SpellingFault;
 use sn_words::cut::cut;
 use std::alloc::Global;
 
@@ -14,12 +14,12 @@ use std::alloc::Global;
 pub const SCRIPT_MAX: usize = 16_777_216;
 
 /// The event of the first line, and the lines after it.
-fn first_event(alloc: Global, script: &[u8]) -> Result<(Event, &[u8]), ReadFault>
+fn first_event(alloc: Global, script: &[u8]) -> Result<(Event, &[u8]), SpellingFault>
     ensures found { IfOk result (λ first. IsEvent first.0 × (script.now ≡ line_of first.0 ++ first.1.now)) }
-    ensures bad { IsErrOf result ReadFault.Bad → BeginsBadly script.now }
+    ensures bad { IsErrOf result SpellingFault.Bad → BeginsBadly script.now }
 {
     let Some((line, others)) = cut(script, b'\n') else {
-        return Err(ReadFault::Bad);
+        return Err(SpellingFault::Bad);
     };
     let event = event(alloc, line)?;
     Ok((event, others))
@@ -50,8 +50,8 @@ pub fn read_script(alloc: Global, script: &[u8]) -> Result<Vec<Event>, ScriptFau
                 events.push(event)?;
                 rest = others;
             }
-            Err(ReadFault::Bad) => return Err(ScriptFault::Line(events.len() + 1)),
-            Err(ReadFault::Memory) => return Err(ScriptFault::Memory),
+            Err(SpellingFault::Bad) => return Err(ScriptFault::Line(events.len() + 1)),
+            Err(SpellingFault::Memory) => return Err(ScriptFault::Memory),
         }
     }
     Ok(events)

@@ -2,7 +2,7 @@
 use Rattle.std.proofs.Common.{◌≡◌, inl, inr, ℕ, ◌+◌, List, ◌∷◌, ◌++◌, Option, Some, None, refl, sym, ap, subst, ◌∙◌, arith}
 use Rattle.sn_device.specs.Sectors.{Contents}
 use Rattle.sn_limits.specs.declared.limits.Limits.{Limits}
-use Rattle.sn_layout.specs.declared.places.Slot.{Slot}
+use Rattle.sn_layout.specs.declared.geometry.Slot.{Slot}
 use Rattle.sn_layout.specs.Bytes.{number_bytes, zeros}
 use Rattle.sn_layout.specs.Superblock.{magic, superblock_bytes}
 use Rattle.sn_layout.proofs.Fields.{same_fronts, same_numbers}
@@ -23,8 +23,8 @@ use Rattle.sn_ondisk.specs.Roots.{body_block}
 use Rattle.sn_ondisk.specs.Trees.{store_of}
 use Rattle.sn_ondisk.proofs.OneLemmas.{replay_is_one}
 use Rattle.sn_image.specs.Image.{image}
-use Rattle.sn_log.specs.Places.{base_at, payloads_of}
-use Rattle.sn_log.specs.declared.replay.Found.TheVariants as found
+use Rattle.sn_log.specs.Positions.{base_at, payloads_of}
+use Rattle.sn_log.specs.declared.replay.NextRecord.TheVariants as found
 use Rattle.sn_log.proofs.LawLemmas.{replay-finds}
 use Rattle.sn_opening.specs.Opens.{IsDisk, Opens}
 use Rattle.sn_opening.specs.Worlds.{frozen_of}
@@ -155,7 +155,7 @@ image_holds sectors c image =
 -- a disk is formatted for one number of blocks
 pub one_size : (sectors : ℕ) (c : Contents) (n m : ℕ) → IsFormatted sectors c n → IsFormatted sectors c m → n ≡ m
 one_size sectors c n m a b =
-    let bytes : superblock_bytes (record { places = n }) ≡ superblock_bytes (record { places = m }) = sym a.spelled ∙ b.spelled in
+    let bytes : superblock_bytes (record { geometry = n }) ≡ superblock_bytes (record { geometry = m }) = sym a.spelled ∙ b.spelled in
     let rest = (same_fronts magic magic (number_bytes 4 n ++ zeros 4084) (number_bytes 4 m ++ zeros 4084) refl bytes).1 in
     (same_numbers 4 n m (zeros 4084) (zeros 4084) (omega (arith, a.size.most)) (omega (arith, b.size.most)) rest).0
 

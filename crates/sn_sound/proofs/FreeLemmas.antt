@@ -10,9 +10,9 @@ use Rattle.std.proofs.lemmas.Nat.Bits.{bit_at-zero, bit_at-trailing_zeros}
 use Rattle.sn_ondisk.specs.Trees.{Store}
 use Rattle.sn_image.specs.Reach.{reach}
 use Rattle.sn_image.proofs.ListLemmas.{range-from}
-use Rattle.sn_layout.specs.declared.places.Area.TheVariants.{Data}
+use Rattle.sn_layout.specs.declared.geometry.Area.TheVariants.{Data}
 use Rattle.sn_layout.specs.declared.root.RootBody.{RootBody}
-use Rattle.sn_layout.specs.Places.{start_of, map_blocks}
+use Rattle.sn_layout.specs.Geometry.{start_of, map_blocks}
 use Rattle.sn_sound.specs.Maps.{Rooted, IsReachedBy, IsSetOfRoots, IsSoundRoot, free_blocks, is_reached, rooted_in}
 
 any_has : {A : Type 0} (p : A → Bool) (xs : List A) (x : A) → Contains xs x → p x ≡ true → list_any p xs ≡ true

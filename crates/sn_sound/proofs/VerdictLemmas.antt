@@ -1,10 +1,10 @@
 -- A clean disk has one verdict.
 use Rattle.std.proofs.Common.{◌≡◌, ◌⊎◌, inl, inr, ⊎_elim, ℕ, refl, ap, subst, arith}
 use Rattle.sn_device.specs.Sectors.{Contents}
-use Rattle.sn_layout.specs.declared.places.Slot.{Slot}
-use Rattle.sn_layout.specs.declared.places.Slot.TheVariants.{A, B}
+use Rattle.sn_layout.specs.declared.geometry.Slot.{Slot}
+use Rattle.sn_layout.specs.declared.geometry.Slot.TheVariants.{A, B}
 use Rattle.sn_layout.specs.declared.root.RootBody.{RootBody}
-use Rattle.sn_layout.specs.Places.{gate_sector}
+use Rattle.sn_layout.specs.Geometry.{gate_sector}
 use Rattle.sn_model.specs.declared.mount.Damage.{Damage}
 use Rattle.sn_model.specs.declared.mount.MountFault.{MountFault}
 use Rattle.sn_model.specs.declared.mount.MountFault.TheVariants as mount
@@ -12,8 +12,8 @@ use Rattle.sn_ondisk.specs.Gates.{IsOpen}
 use Rattle.sn_ondisk.specs.Roots.{HasRoot, IsNewest}
 use Rattle.sn_ondisk.proofs.OneRootLemmas.{newest_is_one, root_is_one}
 use Rattle.sn_root.specs.Finding.{AreEqual, IsDamaged}
-use Rattle.sn_root.specs.declared.fault.Damage.{Damage as RootDamage}
-use Rattle.sn_root.specs.declared.fault.Damage.TheVariants.{Misspelt, EqualGenerations}
+use Rattle.sn_root.specs.declared.fault.RootDamage.{RootDamage}
+use Rattle.sn_root.specs.declared.fault.RootDamage.TheVariants.{Misspelt, EqualGenerations}
 use Rattle.sn_root.proofs.SlotLemmas.{root_known}
 use Rattle.sn_sound.specs.Disks.{IsFormatted, IsOfDevice}
 use Rattle.sn_sound.specs.Verdicts.{HasNoVerdict, IsClean, IsFaulty, IsFirst, IsRootFault, Stands}

@@ -16,7 +16,7 @@ use Rattle.sn_limits.specs.SnapshotName.{is_snapshot_name}
 use Rattle.sn_limits.specs.Versions.{version_1}
 use Rattle.sn_limits.specs.declared.limits.Limits.{Limits}
 use Rattle.sn_walk.specs.declared.object.Home.TheVariants.{Live}
-use Rattle.sn_layout.specs.declared.places.Slot.{Slot}
+use Rattle.sn_layout.specs.declared.geometry.Slot.{Slot}
 use Rattle.sn_layout.specs.declared.root.RootBody.{RootBody}
 use Rattle.sn_layout.specs.declared.snapshot.Snapshot.{Snapshot}
 use Rattle.sn_layout.specs.Snapshot.{IsSnapshot, are_distinct, are_rising, are_within}

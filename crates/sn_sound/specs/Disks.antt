@@ -1,9 +1,9 @@
 -- When a disk is sound: nothing that a check looks for is wrong with it.
 use Rattle.std.specs.Prelude.{◌≡◌, ℕ, ◌*◌, ◌≤◌, length}
 use Rattle.sn_device.specs.Sectors.{Contents, AreSectors}
-use Rattle.sn_layout.specs.declared.places.Slot.{Slot}
+use Rattle.sn_layout.specs.declared.geometry.Slot.{Slot}
 use Rattle.sn_layout.specs.declared.root.RootBody.{RootBody}
-use Rattle.sn_layout.specs.Places.{IsDiskSize}
+use Rattle.sn_layout.specs.Geometry.{IsDiskSize}
 use Rattle.sn_layout.specs.Superblock.{superblock_bytes}
 use Rattle.sn_model.specs.World.{World}
 use Rattle.sn_ondisk.specs.Blocks.{block_at}
@@ -22,7 +22,7 @@ pub record IsOfDevice (sectors : ℕ) (c : Contents) : Type 0 where
 -- The disk is formatted for so many blocks, and the device has them.
 pub record IsFormatted (sectors : ℕ) (c : Contents) (n : ℕ) : Type 0 where
   pub size : IsDiskSize n
-  pub spelled : block_at c 0 ≡ superblock_bytes (record { places = n })
+  pub spelled : block_at c 0 ≡ superblock_bytes (record { geometry = n })
   pub room : 8 * n ≤ sectors
 
 -- The disk has this newest root in this slot, and is sound.

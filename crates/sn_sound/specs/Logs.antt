@@ -2,18 +2,18 @@
 use Rattle.std.specs.Prelude.{◌≡◌, ◌≢◌, ◌⊎◌, ℕ, ◌+◌, ◌/◌, ◌^◌, ◌≤◌, List, [], ◌++◌, Some, None}
 use Rattle.sn_device.specs.Sectors.{Contents}
 use Rattle.sn_limits.specs.declared.limits.Limits.{Limits}
-use Rattle.sn_layout.specs.declared.places.Area.TheVariants.{Log}
+use Rattle.sn_layout.specs.declared.geometry.Area.TheVariants.{Log}
 use Rattle.sn_layout.specs.declared.root.RootBody.{RootBody}
-use Rattle.sn_layout.specs.Places.{start_of, half_of_epoch}
+use Rattle.sn_layout.specs.Geometry.{start_of, half_of_epoch}
 use Rattle.sn_model.specs.declared.change.Change.{Change}
 use Rattle.sn_model.specs.Changes.{apply, apply_all}
 use Rattle.sn_model.specs.Tree.{Tree}
 use Rattle.sn_ondisk.specs.LogHalf.{base_of, HasNoLater, Replays}
 use Rattle.sn_ondisk.specs.Trees.{store_of}
 use Rattle.sn_image.specs.Image.{image}
-use Rattle.sn_log.specs.Places.{LogPosition, IsBehind, base_at, payloads_of}
+use Rattle.sn_log.specs.Positions.{LogPosition, IsBehind, base_at, payloads_of}
 use Rattle.sn_log.specs.Replaying.{Finds}
-use Rattle.sn_log.specs.declared.replay.Found.TheVariants as found
+use Rattle.sn_log.specs.declared.replay.NextRecord.TheVariants as found
 use Rattle.sn_opening.specs.Spelled.{AreSpelled}
 use Rattle.sn_overlay.specs.Needs.{nameless_in}
 use Rattle.sn_sound.specs.Charges.{Fits}

@@ -1,7 +1,7 @@
 -- The root that a mounted file system stands on, and the log on top of it.
 use Rattle.std.specs.Prelude.{◌≡◌, ℕ, ◌+◌, List, ◌++◌, Some, slice_index}
 use Rattle.sn_device.specs.Disk.{Disk, Always, reads}
-use Rattle.sn_layout.specs.declared.places.Slot.{Slot}
+use Rattle.sn_layout.specs.declared.geometry.Slot.{Slot}
 use Rattle.sn_layout.specs.declared.root.RootBody.{RootBody}
 use Rattle.sn_model.specs.declared.change.Change.{Change}
 use Rattle.sn_model.specs.Changes.{apply_all}

@@ -1,9 +1,9 @@
 -- What is wrong with a disk, group by group, and what a check is to answer.
 use Rattle.std.specs.Prelude.{◌≡◌, ◌⊎◌, ℕ, ◌*◌, ◌<◌, Contains}
 use Rattle.sn_device.specs.Sectors.{Contents}
-use Rattle.sn_layout.specs.declared.places.Slot.{Slot}
+use Rattle.sn_layout.specs.declared.geometry.Slot.{Slot}
 use Rattle.sn_layout.specs.declared.root.RootBody.{RootBody}
-use Rattle.sn_layout.specs.Places.{map_blocks, gate_sector}
+use Rattle.sn_layout.specs.Geometry.{map_blocks, gate_sector}
 use Rattle.sn_model.specs.declared.mount.Damage.{Damage}
 use Rattle.sn_model.specs.declared.mount.Damage.TheVariants.{Root, Pointer, ReachedTwice, MapWord, Misspelt, Links, Log}
 use Rattle.sn_model.specs.declared.mount.MountFault.{MountFault}
@@ -15,7 +15,7 @@ use Rattle.sn_ondisk.specs.Trees.{store_of}
 use Rattle.sn_root.specs.Fault.{block_of}
 use Rattle.sn_root.specs.Finding.{AreKnown, IsDamaged}
 use Rattle.sn_root.specs.Slots.{IsUnknown}
-use Rattle.sn_root.specs.declared.fault.Damage.{Damage as RootDamage}
+use Rattle.sn_root.specs.declared.fault.RootDamage.{RootDamage}
 use Rattle.sn_sound.specs.Disks.{IsFormatted, IsSoundDisk}
 use Rattle.sn_sound.specs.Faults.{LeadsOut, IsReachedTwice, IsMisspelt, IsLinkFault}
 use Rattle.sn_sound.specs.Logs.{IsLogFault}

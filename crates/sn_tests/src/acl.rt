@@ -20,9 +20,9 @@ pub fn run(report: &mut Report<'_>) -> Result<()> {
 }
 
 /// The caller whose user, group and groups stand at these places.
-fn caller_of(alloc: Global, case: Case<'_>, places: [usize; 3]) -> Result<Cred> {
-    let (user, group) = (case.number(places[0])?, case.number(places[1])?);
-    let groups = case.numbers(alloc, places[2])?;
+fn caller_of(alloc: Global, case: Case<'_>, geometry: [usize; 3]) -> Result<Cred> {
+    let (user, group) = (case.number(geometry[0])?, case.number(geometry[1])?);
+    let groups = case.numbers(alloc, geometry[2])?;
     ensure!(groups.len() <= MAX_GROUPS, "too many groups");
     Ok(Cred::new(user, group, groups.as_slice()))
 }

@@ -4,8 +4,8 @@ use anyhow::{Context, Result};
 use sn_acl::{Acl, Mode, Permissions, Tag};
 use sn_limits::Kind;
 use sn_model::{
-    Access, Content, Damage, Denial, Errno, MountFault, Names, PathNumber, Progress, Refusal,
-    Reply, Rule, Status, StoredAcl, Word,
+    Access, Damage, Denial, Errno, FileData, FileStatus, MountFault, Names, PathNumber, Progress,
+    Refusal, Reply, Rule, StoredAcl, Word,
 };
 use sn_replies::print_replies;
 use sn_table::Report;
@@ -49,7 +49,7 @@ const RULES: [Rule; 10] = [
     Rule::NotMember,
 ];
 
-const FILE: Status = Status {
+const FILE: FileStatus = FileStatus {
     kind: Kind::File,
     set_gid: true,
     sticky: false,
@@ -65,7 +65,7 @@ const FILE: Status = Status {
     number: 9,
 };
 
-const DIRECTORY: Status = Status {
+const DIRECTORY: FileStatus = FileStatus {
     kind: Kind::Directory,
     set_gid: false,
     sticky: true,
@@ -146,7 +146,7 @@ fn print_texts(report: &Report<'_>) -> Result<()> {
 
 fn print_content(report: &Report<'_>, bytes: &[u8]) -> Result<()> {
     let bytes = Vec::from_slice(report.alloc(), bytes)?;
-    print(report, Reply::Content(Content::new(bytes)))
+    print(report, Reply::Content(FileData::new(bytes)))
 }
 
 fn print_names(report: &Report<'_>, names: &[&[u8]]) -> Result<()> {

@@ -8,7 +8,7 @@ use sn_block::{Blocks, ReadFault};
 use sn_cp_build::{Built, build};
 use sn_device::MemDevice;
 use sn_drawn_disks::{part, put};
-use sn_layout::{Area, BlockTree, Places, Pointers, RootBody, Snapshots};
+use sn_layout::{Area, BlockTree, Geometry, Pointers, RootBody, Snapshots};
 use sn_limits::Limits;
 use sn_map::Map;
 use sn_overlay::Overlay;
@@ -22,7 +22,7 @@ pub struct Disk {
     pub words: Vec<u32>,
     bytes: Vec<u8>,
     file: BlockTree,
-    places: Places,
+    geometry: Geometry,
 }
 
 /// What a build answers.
@@ -52,10 +52,10 @@ fn root_of(file: &BlockTree) -> Result<RootBody>
     Ok(root)
 }
 
-fn map_of(alloc: Global, places: Places, words: &[u32]) -> Result<Map>
-    ensures { IfOk result (λ map. length map ≡ places) }
+fn map_of(alloc: Global, geometry: Geometry, words: &[u32]) -> Result<Map>
+    ensures { IfOk result (λ map. length map ≡ geometry) }
 {
-    if words.len() != places.blocks() as usize {
+    if words.len() != geometry.blocks() as usize {
         bail!("another number of words");
     }
     Ok(Map::from_words(Vec::from_slice(alloc, words)?))
@@ -107,8 +107,8 @@ fn has_bytes(device: &MemDevice, bytes: &[u8]) -> bool {
 impl Disk {
     /// Of so many blocks, with an empty tree.
     pub fn new(alloc: Global, blocks: u32) -> Result<Disk> {
-        let places = Places::new(blocks).context("no such disk")?;
-        let first = places.start(Area::Data);
+        let geometry = Geometry::new(blocks).context("no such disk")?;
+        let first = geometry.start(Area::Data);
         let pointers = first_pointer(first);
         Ok(Disk {
             words: new_words(alloc, blocks, first)?,
@@ -117,13 +117,13 @@ impl Disk {
                 size: 4096,
                 pointers,
             },
-            places,
+            geometry,
         })
     }
 
     /// The first block of the data area.
     pub fn first(&self) -> u32 {
-        self.places.start(Area::Data)
+        self.geometry.start(Area::Data)
     }
 
     /// How many blocks are free.
@@ -190,8 +190,8 @@ impl Disk {
         words: &[u32],
     ) -> Result<Answer> {
         let root = root_of(&self.file)?;
-        let map = map_of(alloc, self.places, words)?;
-        let built = build(alloc, blocks, self.places, &root, &map, changes);
+        let map = map_of(alloc, self.geometry, words)?;
+        let built = build(alloc, blocks, self.geometry, &root, &map, changes);
         Ok(answer_of(built))
     }
 

@@ -3,7 +3,7 @@
 //! before it, and from the law that the log leaves slots alone.
 ghost use Rattle.std.specs.Prelude.{◌≡◌, ◌≤◌, IsTrue, IfOk, OnOk};
 ghost use Rattle.sn_device.specs.Disk.{Always};
-ghost use Rattle.sn_layout.specs.Places.{gate_sector, other_slot};
+ghost use Rattle.sn_layout.specs.Geometry.{gate_sector, other_slot};
 ghost use Rattle.sn_layout.specs.RootBody.{IsRootBody};
 ghost use Rattle.sn_ondisk.specs.Gates.{IsClosed};
 ghost use Rattle.sn_ondisk.specs.Roots.{HasRoot};

@@ -2,7 +2,7 @@
 
 use crate::block::{DIRTY, block_of, ensure_same, push_pointers};
 use anyhow::{Result, bail, ensure};
-use sn_layout::{Area, Block, BlockTree, LogHalf, Places, RootBody, Slot, Snapshot, Superblock};
+use sn_layout::{Area, Block, BlockTree, Geometry, LogHalf, RootBody, Slot, Snapshot, Superblock};
 use sn_limits::SnapshotName;
 use sn_table::Case;
 use std::alloc::Global;
@@ -34,7 +34,7 @@ pub fn superblock(alloc: Global, case: Case<'_>) -> Result<String> {
     let mut again = DIRTY;
     superblock.encode(&mut again);
     ensure_same(again == block, case)?;
-    let blocks = superblock.places.blocks();
+    let blocks = superblock.geometry.blocks();
     Ok(format!(in alloc; "{blocks} blocks")?)
 }
 
@@ -101,22 +101,22 @@ fn name_of(area: Area) -> Result<&'static str> {
 
 /// The blocks of an area on a disk of so many, or the area of a block.
 pub fn place(alloc: Global, case: Case<'_>) -> Result<String> {
-    let Some(places) = Places::new(case.number(0)?) else {
+    let Some(geometry) = Geometry::new(case.number(0)?) else {
         return Ok(String::from_str(alloc, "no disk")?);
     };
     match case.word(1)? {
-        "block" => Ok(String::from_str(alloc, area_at(&places, case.number(2)?)?)?),
-        name => range_of(alloc, &places, area_of(name)?),
+        "block" => Ok(String::from_str(alloc, area_at(&geometry, case.number(2)?)?)?),
+        name => range_of(alloc, &geometry, area_of(name)?),
     }
 }
 
-fn area_at(places: &Places, block: u32) -> Result<&'static str> {
-    ensure!(block < places.blocks(), "no such block");
-    name_of(places.area_of(block))
+fn area_at(geometry: &Geometry, block: u32) -> Result<&'static str> {
+    ensure!(block < geometry.blocks(), "no such block");
+    name_of(geometry.area_of(block))
 }
 
-fn range_of(alloc: Global, places: &Places, area: Area) -> Result<String> {
-    let range = places.range(area);
+fn range_of(alloc: Global, geometry: &Geometry, area: Area) -> Result<String> {
+    let range = geometry.range(area);
     let (first, last) = (range.start, range.end - 1);
     Ok(format!(in alloc; "{first} to {last}")?)
 }

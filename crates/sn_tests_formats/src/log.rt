@@ -3,8 +3,8 @@
 use anyhow::{Context, Result, bail, ensure};
 use sn_block::{Blocks, ReadFault};
 use sn_device::{MemDevice, SECTOR_SIZE, Sector};
-use sn_layout::{LogHalf, Places};
-use sn_log::{Buffer, Found, Log, Position, Replay, clear};
+use sn_layout::{Geometry, LogHalf};
+use sn_log::{Buffer, Log, NextRecord, Position, Replay, clear};
 use sn_model::{Bytes, Change};
 use sn_record::is_valid;
 use std::alloc::{AllocError, Global};
@@ -38,9 +38,9 @@ pub enum Ending {
     Failed,
 }
 
-/// The places of the disk that all cases of the log have, of `BLOCKS` blocks.
-pub fn places() -> Result<Places> {
-    Places::new(BLOCKS).context("no disk of so many blocks")
+/// The geometry of the disk that all cases of the log have, of `BLOCKS` blocks.
+pub fn geometry() -> Result<Geometry> {
+    Geometry::new(BLOCKS).context("no disk of so many blocks")
 }
 
 /// The blocks of a device, none of them read yet. An error where there is no memory to keep one.
@@ -124,13 +124,13 @@ pub fn clear_place(
     half: LogHalf,
     place: u64,
 ) -> Result<Result<(), ReadFault>> {
-    let places = places()?;
+    let geometry = geometry()?;
     ensure!(place <= 255, "no such place");
     ensure!(
-        8 * u64::from(places.blocks()) <= blocks.sectors(),
+        8 * u64::from(geometry.blocks()) <= blocks.sectors(),
         "a smaller device"
     );
-    Ok(clear(blocks, places, half, place))
+    Ok(clear(blocks, geometry, half, place))
 }
 
 /// What one call of replay found: a record by its number, or the end.
@@ -150,13 +150,13 @@ fn next_of(
     );
     let place = replay.position().place();
     Ok(match replay.next(blocks, buffer) {
-        Ok(Found::Change(Change::SetSize { size, .. })) => Step::Record(size),
-        Ok(Found::Change(Change::Write { bytes, .. })) => {
+        Ok(NextRecord::Change(Change::SetSize { size, .. })) => Step::Record(size),
+        Ok(NextRecord::Change(Change::Write { bytes, .. })) => {
             Step::Record(bytes.as_slice().len() as u64)
         }
-        Ok(Found::Change(_)) => Step::Record(0),
-        Ok(Found::End) => Step::Last(Ending::End { place }),
-        Ok(Found::Misspelt { block }) => Step::Last(Ending::Misspelt { block }),
+        Ok(NextRecord::Change(_)) => Step::Record(0),
+        Ok(NextRecord::End) => Step::Last(Ending::End { place }),
+        Ok(NextRecord::Misspelt { block }) => Step::Last(Ending::Misspelt { block }),
         Err(ReadFault::Device) => Step::Last(Ending::Failed),
         Err(ReadFault::Memory) => bail!("no memory for a block"),
     })
@@ -180,7 +180,7 @@ fn replay_all(
     found: &mut Vec<u64>,
 ) -> Result<(Ending, Position)> {
     let mut buffer = Buffer::new(alloc)?;
-    let mut replay = Replay::new(places()?, epoch);
+    let mut replay = Replay::new(geometry()?, epoch);
     for _ in 0..256 {
         match next_of(&mut replay, blocks, &mut buffer)? {
             Step::Record(number) => found.push(number)?,

@@ -1,8 +1,8 @@
 //! The table of appends, replays and crashes.
 
 use crate::log::{
-    Added, Appended, Ending, append, blocks_of, clear_place, log_at, new_blocks, places, replayed,
-    sector_at,
+    Added, Appended, Ending, append, blocks_of, clear_place, geometry, log_at, new_blocks,
+    replayed, sector_at,
 };
 use anyhow::{Context, Result, bail, ensure};
 use sn_block::{Blocks, ReadFault};
@@ -43,7 +43,7 @@ pub fn steps(alloc: Global, case: Case<'_>) -> Result<String> {
 }
 
 fn take_steps(alloc: Global, case: Case<'_>, text: &mut String) -> Result<()> {
-    let mut log = log_at(alloc, Position::first(places()?, 1))?;
+    let mut log = log_at(alloc, Position::first(geometry()?, 1))?;
     take_all(alloc, case, &mut log, text)
 }
 

@@ -5,11 +5,11 @@ use Rattle.std.specs.List.{AllByRecursion}
 use Rattle.std.specs.List.Sorted.{IsStrictlyIncreasing}
 use Rattle.std.proofs.lemmas.Bool.{leb-true, ltb-true}
 use Rattle.sn_layout.specs.Bytes.{AreNumbers}
-use Rattle.sn_layout.specs.Places.{IsDiskSize, IsIn, end_of, start_of}
+use Rattle.sn_layout.specs.Geometry.{IsDiskSize, IsIn, end_of, start_of}
 use Rattle.sn_layout.specs.RootBody.{IsRootBody}
 use Rattle.sn_layout.specs.declared.gate.Gate.{Gate}
-use Rattle.sn_layout.specs.declared.places.Area.TheVariants.{Data}
-use Rattle.sn_layout.specs.declared.places.Slot.{Slot}
+use Rattle.sn_layout.specs.declared.geometry.Area.TheVariants.{Data}
+use Rattle.sn_layout.specs.declared.geometry.Slot.{Slot}
 use Rattle.sn_layout.specs.declared.root.RootBody.{RootBody}
 use Rattle.sn_opening.specs.Points.{Written, numbers_written}
 use Rattle.sn_tree.specs.declared.new_block.NewBlock.{NewBlock}

@@ -1,7 +1,7 @@
 -- Where the new blocks of a point lie.
 use Rattle.std.specs.Prelude.{ℕ, List, [], ◌∷◌, Bool, true, ◌&&◌, nat_le, nat_lt}
-use Rattle.sn_layout.specs.Places.{end_of, start_of}
-use Rattle.sn_layout.specs.declared.places.Area.TheVariants.{Data}
+use Rattle.sn_layout.specs.Geometry.{end_of, start_of}
+use Rattle.sn_layout.specs.declared.geometry.Area.TheVariants.{Data}
 use Rattle.sn_tree.specs.declared.new_block.NewBlock.{NewBlock}
 
 -- in the data area of a disk of so many blocks

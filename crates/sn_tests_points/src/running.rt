@@ -1,7 +1,7 @@
 //! A point that runs, with the log beside it.
 ghost use Rattle.std.specs.Prelude.{◌≡◌, IfOk, length, true};
 ghost use Rattle.sn_layout.specs.Bytes.{AreNumbers};
-ghost use Rattle.sn_layout.specs.Places.{IsDiskSize};
+ghost use Rattle.sn_layout.specs.Geometry.{IsDiskSize};
 ghost use Rattle.sn_layout.specs.RootBody.{IsRootBody};
 ghost use Rattle.sn_cp.specs.Points.{work_of};
 ghost use Rattle.sn_tests_points.specs.Placed.{are_placed};
@@ -13,7 +13,7 @@ use sn_block::Blocks;
 use sn_cp::{Point, Stage};
 use sn_device::Device;
 use sn_drawn_disks::{DrawnDisk, Geometry, Slot, block_of, number_at, part, put};
-use sn_layout::{BLOCK_SIZE, Block, Gate, Places, RootBody};
+use sn_layout::{BLOCK_SIZE, Block, Gate, Geometry, RootBody};
 use sn_log::{Buffer, Log, Position};
 use sn_map::Map;
 use sn_record::decode;
@@ -24,7 +24,7 @@ use std::marker::Model;
 /// A point of a drawn disk, over a device that keeps its calls.
 #[derive(Drop)]
 pub struct Running {
-    places: Places,
+    geometry: Geometry,
     point: Point,
     blocks: Blocks<Tape>,
     log: Log,
@@ -39,16 +39,16 @@ impl Model for Running {
 
     ghost view = { λ r. tt };
 
-    ghost invariant = { λ r. IsRunning r.places r.point r.log.blocks (status_of (device_of r.blocks)).sectors };
+    ghost invariant = { λ r. IsRunning r.geometry r.point r.log.blocks (status_of (device_of r.blocks)).sectors };
 }
 
 /// Whether each block lies in the data area and above the one before it.
-fn are_placed(places: Places, blocks: &[NewBlock]) -> bool
-    ensures { result ≡ are_placed places 0 blocks.now }
+fn are_placed(geometry: Geometry, blocks: &[NewBlock]) -> bool
+    ensures { result ≡ are_placed geometry 0 blocks.now }
 {
     let mut before = 0;
     for block in blocks {
-        if block.number <= before || !places.is_data(block.number) {
+        if block.number <= before || !geometry.is_data(block.number) {
             return false;
         }
         before = block.number;
@@ -63,11 +63,11 @@ fn block_from(bytes: &[u8]) -> Block {
 }
 
 /// The new blocks of a drawn point.
-fn blocks_of(alloc: Global, places: Places, drawn: &DrawnDisk) -> Result<Vec<NewBlock>>
-    ensures { IfOk result (λ blocks. are_placed places 0 blocks.items ≡ true) }
+fn blocks_of(alloc: Global, geometry: Geometry, drawn: &DrawnDisk) -> Result<Vec<NewBlock>>
+    ensures { IfOk result (λ blocks. are_placed geometry 0 blocks.items ≡ true) }
 {
     let blocks = new_blocks(alloc, drawn)?;
-    if !are_placed(places, blocks.as_slice()) {
+    if !are_placed(geometry, blocks.as_slice()) {
         bail!("blocks out of place");
     }
     Ok(blocks)
@@ -93,11 +93,11 @@ fn fit(words: &[u32])
 }
 
 /// The map that a drawn point writes.
-fn map_of(alloc: Global, places: Places, drawn: &DrawnDisk) -> Result<Map>
-    ensures { IfOk result (λ map. IsDiskSize places × ((length map ≡ places) × AreNumbers 4 map)) }
+fn map_of(alloc: Global, geometry: Geometry, drawn: &DrawnDisk) -> Result<Map>
+    ensures { IfOk result (λ map. IsDiskSize geometry × ((length map ≡ geometry) × AreNumbers 4 map)) }
 {
     let words = words_of(alloc, drawn)?;
-    if words.len() != places.blocks() as usize {
+    if words.len() != geometry.blocks() as usize {
         bail!("another number of words");
     }
     fit(words.as_slice());
@@ -137,24 +137,24 @@ fn slot_of(slot: Slot) -> sn_layout::Slot {
 }
 
 /// A drawn point, where nothing of it is written yet.
-fn point_of(alloc: Global, places: Places, drawn: &DrawnDisk) -> Result<Point>
-    ensures { IfOk result (λ point. CanGoOn point × ((work_of point).blocks ≡ places)) }
+fn point_of(alloc: Global, geometry: Geometry, drawn: &DrawnDisk) -> Result<Point>
+    ensures { IfOk result (λ point. CanGoOn point × ((work_of point).blocks ≡ geometry)) }
 {
     let next = next_of(drawn)?;
-    let map = map_of(alloc, places, drawn)?;
-    let blocks = blocks_of(alloc, places, drawn)?;
+    let map = map_of(alloc, geometry, drawn)?;
+    let blocks = blocks_of(alloc, geometry, drawn)?;
     let slot = slot_of(drawn.slot.other());
     let gate = if drawn.is_other_open {
         Gate::Open
     } else {
         Gate::Closed
     };
-    Ok(Point::new(places, blocks, map, next, slot, gate))
+    Ok(Point::new(geometry, blocks, map, next, slot, gate))
 }
 
-fn places_of(drawn: &DrawnDisk) -> Result<Places> {
+fn places_of(drawn: &DrawnDisk) -> Result<Geometry> {
     let blocks = Geometry::read(drawn.before.as_slice()).blocks();
-    Places::new((blocks % (1 << 32)) as u32).context("no disk")
+    Geometry::new((blocks % (1 << 32)) as u32).context("no disk")
 }
 
 /// A device of the drawn disk as it is when the point begins.
@@ -163,33 +163,33 @@ fn device_of(alloc: Global, drawn: &DrawnDisk) -> Result<Blocks<Tape>> {
     Ok(Blocks::new(alloc, tape).map_err(AllocError::from)?)
 }
 
-fn log_of(alloc: Global, places: Places, epoch: u64) -> Result<Log>
-    ensures { IfOk result (λ log. log.blocks ≡ places) }
+fn log_of(alloc: Global, geometry: Geometry, epoch: u64) -> Result<Log>
+    ensures { IfOk result (λ log. log.blocks ≡ geometry) }
 {
     let buffer = Buffer::new(alloc)?;
-    Ok(Log::new(Position::first(places, epoch), buffer))
+    Ok(Log::new(Position::first(geometry, epoch), buffer))
 }
 
 impl Running {
     /// The point of a drawn disk, where nothing of it is written yet.
     pub fn new(alloc: Global, drawn: &DrawnDisk) -> Result<Running> {
-        let places = places_of(drawn)?;
-        let point = point_of(alloc, places, drawn)?;
-        Running::with(alloc, drawn, places, point)
+        let geometry = places_of(drawn)?;
+        let point = point_of(alloc, geometry, drawn)?;
+        Running::with(alloc, drawn, geometry, point)
     }
 
-    fn with(alloc: Global, drawn: &DrawnDisk, places: Places, point: Point) -> Result<Running>
+    fn with(alloc: Global, drawn: &DrawnDisk, geometry: Geometry, point: Point) -> Result<Running>
         requires point { CanGoOn point }
-        requires place { (work_of point).blocks ≡ places }
+        requires place { (work_of point).blocks ≡ geometry }
     {
-        let log = log_of(alloc, places, drawn.epoch)?;
+        let log = log_of(alloc, geometry, drawn.epoch)?;
         let blocks = device_of(alloc, drawn)?;
         ensure!(
-            blocks.sectors() >= 8 * u64::from(places.blocks()),
+            blocks.sectors() >= 8 * u64::from(geometry.blocks()),
             "a smaller device"
         );
         Ok(Running {
-            places,
+            geometry,
             point,
             blocks,
             log,
@@ -210,7 +210,7 @@ impl Running {
     /// Begins the point in the log.
     pub fn begin(&mut self) -> Result<()> {
         ensure!(self.log.position().epoch() < u64::MAX, "no next epoch");
-        if sn_cp::begin(&mut self.blocks, self.places, &mut self.log).is_err() {
+        if sn_cp::begin(&mut self.blocks, self.geometry, &mut self.log).is_err() {
             bail!("a device without a fault");
         }
         Ok(())

@@ -14,8 +14,8 @@ use Rattle.std.specs.Prelude.{Err}
 use Rattle.arrayvec.specs.declared.array_vec.ArrayVec.{ArrayVec}
 use Rattle.sn_model.specs.Chains.{◌>>=◌}
 use Rattle.sn_model.proofs.ChainLemmas.{bind_some, some_same}
-use Rattle.sn_words.specs.declared.fault.ReadFault.{ReadFault}
-use Rattle.sn_words.specs.declared.fault.ReadFault.TheVariants.{Bad, Memory}
+use Rattle.sn_words.specs.declared.fault.SpellingFault.{SpellingFault}
+use Rattle.sn_words.specs.declared.fault.SpellingFault.TheVariants.{Bad, Memory}
 use Rattle.sn_words.specs.Reading.{IsRead, number_below, numbers_of}
 use Rattle.sn_words.proofs.Parts.{texts}
 use Rattle.sn_words.proofs.Options.{passed, both_true, none_from}
@@ -61,7 +61,7 @@ number_none_narrower limit wide word bound le none = number_none limit word (λ 
     let contrary = sym none ∙ other in
     absurd cc)
 
-pub fault_narrower : (fault : ReadFault) (limit wide : ℕ) (word : List ℕ) → wide ≤ 2 ^ 64 → limit ≤ wide → IsRead {X = ℕ} {Y = ℕ} (λ n. n) (Err fault) (number_below wide word)
+pub fault_narrower : (fault : SpellingFault) (limit wide : ℕ) (word : List ℕ) → wide ≤ 2 ^ 64 → limit ≤ wide → IsRead {X = ℕ} {Y = ℕ} (λ n. n) (Err fault) (number_below wide word)
     → IsRead {X = ℕ} {Y = ℕ} (λ n. n) (Err fault) (number_below limit word)
 fault_narrower Bad limit wide word bound le none = number_none_narrower limit wide word bound le none
 fault_narrower Memory limit wide word bound le none = tt
@@ -123,7 +123,7 @@ loop_goes_on front n i words d total lt e so_far =
     let ahead = words_ahead words i d lt in
     one_more front n (get_or words i d).now (texts (drop (i + 1) words)) total e (ap (λ (t : List (List ℕ)). with_front front (numbers_of t)) (sym ahead) ∙ so_far)
 
-pub loop_refuses : (fault : ReadFault) (front : List ℕ) (i : ℕ) (words : List (Bor (List ℕ))) (d : Bor (List ℕ)) (total : Option (List ℕ)) → i < length words
+pub loop_refuses : (fault : SpellingFault) (front : List ℕ) (i : ℕ) (words : List (Bor (List ℕ))) (d : Bor (List ℕ)) (total : Option (List ℕ)) → i < length words
     → IsRead {X = ℕ} {Y = ℕ} (λ n. n) (Err fault) (number_below (2 ^ 32) (get_or words i d).now)
     → with_front front (numbers_of (texts (drop i words))) ≡ total → IsRead {X = ArrayVec ℕ 32 (Unit {0})} {Y = List ℕ} (λ ns. ns.items) (Err fault) total
 loop_refuses Memory front i words d total lt e so_far = tt

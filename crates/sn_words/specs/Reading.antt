@@ -9,12 +9,12 @@ use Rattle.sn_model.specs.declared.reply.Access.{Access}
 use Rattle.sn_model.specs.declared.argument.AclKind.{AclKind}
 use Rattle.sn_model.specs.declared.argument.AclKind.TheVariants.{Access as OfAccess, Default as OfDefault}
 use Rattle.sn_model.specs.declared.argument.OpenFlags.{OpenFlags}
-use Rattle.sn_words.specs.declared.fault.ReadFault.{ReadFault}
-use Rattle.sn_words.specs.declared.fault.ReadFault.TheVariants.{Bad, Memory}
+use Rattle.sn_words.specs.declared.fault.SpellingFault.{SpellingFault}
+use Rattle.sn_words.specs.declared.fault.SpellingFault.TheVariants.{Bad, Memory}
 use Rattle.sn_words.specs.Fields.{content_word, is_word, parts}
 
 -- what a function returned, seen by view, is what reading gives, unless memory ran out
-abbrev pub IsRead : {X Y : Type 0} → (X → Y) → Result X ReadFault → Option Y → Type 0
+abbrev pub IsRead : {X Y : Type 0} → (X → Y) → Result X SpellingFault → Option Y → Type 0
 IsRead view (Ok x) read = read ≡ Some (view x)
 IsRead view (Err Bad) read = read ≡ None
 IsRead view (Err Memory) read = Unit {0}

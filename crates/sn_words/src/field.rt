@@ -5,60 +5,60 @@ ghost use Rattle.sn_words.specs.Fields.{is_word};
 ghost use Rattle.sn_words.specs.Reading.{IsRead, number_below, octal_digit_of, octal_of, right_of, want_of, kind_named, numbers_of, groups_of, id_of, word_of, letter_of, flags_of, file_mode_of, content_of};
 
 use crate::cut::parts;
-use crate::fault::ReadFault;
+use crate::fault::SpellingFault;
 use arrayvec::ArrayVec;
 use hex::FromHexError;
 use itoa::Buffer;
 use sn_acl::MAX_GROUPS;
-use sn_model::{Access, AclKind, Content, Groups, OpenFlags, Word};
+use sn_model::{Access, AclKind, FileData, Groups, OpenFlags, Word};
 use std::alloc::Global;
 
 /// A decimal number of 64 bits, without leading zeros.
-pub fn long_number(word: &[u8]) -> Result<u64, ReadFault>
+pub fn long_number(word: &[u8]) -> Result<u64, SpellingFault>
     ensures { IsRead (λ n. n) result (number_below (2 ^ 64) word.now) }
 {
     let Ok(text) = str::from_utf8(word) else {
-        return Err(ReadFault::Bad);
+        return Err(SpellingFault::Bad);
     };
     let Ok(number) = text.parse::<u64>() else {
-        return Err(ReadFault::Bad);
+        return Err(SpellingFault::Bad);
     };
     let mut buffer = Buffer::new();
     if buffer.format(number).as_bytes() == word {
         Ok(number)
     } else {
-        Err(ReadFault::Bad)
+        Err(SpellingFault::Bad)
     }
 }
 
 /// A decimal number of 32 bits, without leading zeros.
-pub fn number(word: &[u8]) -> Result<u32, ReadFault>
+pub fn number(word: &[u8]) -> Result<u32, SpellingFault>
     ensures { IsRead (λ n. n) result (number_below (2 ^ 32) word.now) }
 {
     let number = long_number(word)?;
     match u32::try_from(number) {
         Ok(number) => Ok(number),
-        Err(_) => Err(ReadFault::Bad),
+        Err(_) => Err(SpellingFault::Bad),
     }
 }
 
-fn octal_digit(byte: u8) -> Result<u16, ReadFault>
+fn octal_digit(byte: u8) -> Result<u16, SpellingFault>
     ensures { IsRead (λ n. n) result (octal_digit_of byte) }
 {
     if b'0' <= byte && byte <= b'7' {
         Ok(u16::from(byte - b'0'))
     } else {
-        Err(ReadFault::Bad)
+        Err(SpellingFault::Bad)
     }
 }
 
 /// Four octal digits.
 #[tactic(auto, unfolding(crate::specs::Reading::octal_of))]
-pub fn octal(word: &[u8]) -> Result<u16, ReadFault>
+pub fn octal(word: &[u8]) -> Result<u16, SpellingFault>
     ensures { IsRead (λ n. n) result (octal_of word.now) }
 {
     let &[first, second, third, fourth] = word else {
-        return Err(ReadFault::Bad);
+        return Err(SpellingFault::Bad);
     };
     let first = octal_digit(first)?;
     let second = octal_digit(second)?;
@@ -68,7 +68,7 @@ pub fn octal(word: &[u8]) -> Result<u16, ReadFault>
 }
 
 /// Whether a letter stands there, and not a dash.
-fn right(letter: u8, byte: u8) -> Result<bool, ReadFault>
+fn right(letter: u8, byte: u8) -> Result<bool, SpellingFault>
     ensures { IsRead (λ b. b) result (right_of letter byte) }
 {
     if byte == letter {
@@ -76,17 +76,17 @@ fn right(letter: u8, byte: u8) -> Result<bool, ReadFault>
     } else if byte == b'-' {
         Ok(false)
     } else {
-        Err(ReadFault::Bad)
+        Err(SpellingFault::Bad)
     }
 }
 
 /// Three letters of `r`, `w` and `x`, with a dash for each right that isn't asked.
 #[tactic(auto, unfolding(crate::specs::Reading::want_of))]
-pub fn want(word: &[u8]) -> Result<Access, ReadFault>
+pub fn want(word: &[u8]) -> Result<Access, SpellingFault>
     ensures { IsRead (λ a. a) result (want_of word.now) }
 {
     let &[read, write, execute] = word else {
-        return Err(ReadFault::Bad);
+        return Err(SpellingFault::Bad);
     };
     let read = right(b'r', read)?;
     let write = right(b'w', write)?;
@@ -100,24 +100,24 @@ pub fn want(word: &[u8]) -> Result<Access, ReadFault>
 
 /// `a` or `d`.
 #[tactic(auto, unfolding(crate::specs::Reading::kind_named))]
-pub fn acl_kind(word: &[u8]) -> Result<AclKind, ReadFault>
+pub fn acl_kind(word: &[u8]) -> Result<AclKind, SpellingFault>
     ensures { IsRead (λ k. k) result (kind_named word.now) }
 {
     match word {
         b"a" => Ok(AclKind::Access),
         b"d" => Ok(AclKind::Default),
-        _ => Err(ReadFault::Bad),
+        _ => Err(SpellingFault::Bad),
     }
 }
 
 /// A word of printable bytes.
-pub fn word(alloc: Global, bytes: &[u8]) -> Result<Word, ReadFault>
+pub fn word(alloc: Global, bytes: &[u8]) -> Result<Word, SpellingFault>
     ensures { IsRead (λ w. w) result (word_of bytes.now) }
 {
     if is_word(bytes) {
         Ok(Word::new(alloc, bytes)?)
     } else {
-        Err(ReadFault::Bad)
+        Err(SpellingFault::Bad)
     }
 }
 
@@ -133,7 +133,7 @@ fn is_graphic(bytes: &[u8]) -> bool
     bytes.iter().all(|byte| byte.is_ascii_graphic())
 }
 
-fn numbers(words: &[&[u8]]) -> Result<ArrayVec<u32, MAX_GROUPS>, ReadFault>
+fn numbers(words: &[&[u8]]) -> Result<ArrayVec<u32, MAX_GROUPS>, SpellingFault>
     requires { length words.now ≤ 32 }
     ensures { IsRead (λ ns. ns.items) result (numbers_of (map (λ w. w.now) words.now)) }
 {
@@ -146,14 +146,14 @@ fn numbers(words: &[&[u8]]) -> Result<ArrayVec<u32, MAX_GROUPS>, ReadFault>
 
 /// Group numbers joined by commas, or a dash for none.
 #[tactic(auto, unfolding(crate::specs::Reading::groups_of))]
-pub fn groups(alloc: Global, word: &[u8]) -> Result<Groups, ReadFault>
+pub fn groups(alloc: Global, word: &[u8]) -> Result<Groups, SpellingFault>
     ensures { IsRead (λ g. g) result (groups_of word.now) }
 {
     if let b"-" = word {
         return Ok(Groups::new(alloc, &[])?);
     }
     let Some(words) = parts::<MAX_GROUPS>(word, b',') else {
-        return Err(ReadFault::Bad);
+        return Err(SpellingFault::Bad);
     };
     let numbers = numbers(words.as_slice())?;
     Ok(Groups::new(alloc, numbers.as_slice())?)
@@ -161,7 +161,7 @@ pub fn groups(alloc: Global, word: &[u8]) -> Result<Groups, ReadFault>
 
 /// The number of a user or a group, or a dash for none.
 #[tactic(auto, unfolding(crate::specs::Reading::id_of))]
-pub fn id(word: &[u8]) -> Result<Option<u32>, ReadFault>
+pub fn id(word: &[u8]) -> Result<Option<u32>, SpellingFault>
     ensures { IsRead (λ n. n) result (id_of word.now) }
 {
     if let b"-" = word {
@@ -183,7 +183,7 @@ fn letter(letter: u8, text: &[u8]) -> (bool, &[u8])
 
 /// One or more of the letters `rwacxt`, each at most once and in this order.
 #[tactic(auto, unfolding(crate::specs::Reading::flags_of))]
-pub fn flags(word: &[u8]) -> Result<OpenFlags, ReadFault>
+pub fn flags(word: &[u8]) -> Result<OpenFlags, SpellingFault>
     ensures { IsRead (λ f. f) result (flags_of word.now) }
 {
     let (read, rest) = letter(b'r', word);
@@ -193,7 +193,7 @@ pub fn flags(word: &[u8]) -> Result<OpenFlags, ReadFault>
     let (exclusive, rest) = letter(b'x', rest);
     let (truncate, rest) = letter(b't', rest);
     if word.is_empty() || !rest.is_empty() {
-        return Err(ReadFault::Bad);
+        return Err(SpellingFault::Bad);
     }
     Ok(OpenFlags {
         read,
@@ -207,32 +207,32 @@ pub fn flags(word: &[u8]) -> Result<OpenFlags, ReadFault>
 
 /// The mode behind the flags where a file may be made, and 0 where none is.
 #[tactic(auto, unfolding(crate::specs::Reading::file_mode_of))]
-pub fn file_mode(creates: bool, words: &[&[u8]]) -> Result<u16, ReadFault>
+pub fn file_mode(creates: bool, words: &[&[u8]]) -> Result<u16, SpellingFault>
     ensures { IsRead (λ m. m) result (file_mode_of creates (map (λ w. w.now) words.now)) }
 {
     match (creates, words) {
         (true, &[mode]) => octal(mode),
         (false, &[]) => Ok(0),
-        _ => Err(ReadFault::Bad),
+        _ => Err(SpellingFault::Bad),
     }
 }
 
 /// Bytes in hexadecimal, or a dash for none.
 #[tactic(auto, unfolding(crate::specs::Reading::content_of))]
-pub fn content(alloc: Global, word: &[u8]) -> Result<Content, ReadFault>
+pub fn content(alloc: Global, word: &[u8]) -> Result<FileData, SpellingFault>
     ensures { IsRead (λ c. c) result (content_of word.now) }
 {
     if let b"-" = word {
-        return Ok(Content::new(Vec::new(alloc)));
+        return Ok(FileData::new(Vec::new(alloc)));
     }
     let bytes = match hex::decode(alloc, word) {
         Ok(bytes) => bytes,
-        Err(FromHexError::OutOfMemory) => return Err(ReadFault::Memory),
-        Err(_) => return Err(ReadFault::Bad),
+        Err(FromHexError::OutOfMemory) => return Err(SpellingFault::Memory),
+        Err(_) => return Err(SpellingFault::Bad),
     };
     // A dash alone spells no bytes, and lower case alone the others.
     if bytes.is_empty() || hex::encode(alloc, bytes.as_slice())?.as_bytes() != word {
-        return Err(ReadFault::Bad);
+        return Err(SpellingFault::Bad);
     }
-    Ok(Content::new(bytes))
+    Ok(FileData::new(bytes))
 }

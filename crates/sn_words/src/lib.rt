@@ -17,4 +17,4 @@ pub mod cut;
 mod fault;
 pub mod field;
 
-pub use fault::ReadFault;
+pub use fault::SpellingFault;

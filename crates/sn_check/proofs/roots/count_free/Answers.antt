@@ -12,7 +12,7 @@ use Rattle.sn_check.proofs.roots.count_free.Goals as goal
 
 pub returns-in-Ok-clause-free : goal.returns-in-Ok-clause-free
 returns-in-Ok-clause-free g c told =
-    free_is c.args.places (reads (g.D.Device.disk (device_of c.args.blocks.now))) c.args.slot c.args.root.now c.in-Ok.map c.count_free_from.result (c.in-Ok.ensures.sound told) (c.in-Ok.ensures.words told) c.in-Ok.ensures.count
+    free_is c.args.geometry (reads (g.D.Device.disk (device_of c.args.blocks.now))) c.args.slot c.args.root.now c.in-Ok.map c.count_free_from.result (c.in-Ok.ensures.sound told) (c.in-Ok.ensures.words told) c.in-Ok.ensures.count
     (omega (arith, c.range.ensures.start, c.range.ensures.within, c.range.ensures.end)) (c.count_free_from.ensures ∙ ap (λ (k : ℕ). count_by is_free_word (drop k c.in-Ok.map)) c.range.ensures.start)
 
 pub returns-in-Ok-clause-reads : goal.returns-in-Ok-clause-reads
@@ -20,7 +20,7 @@ returns-in-Ok-clause-reads g c = same_reads _ _ c.in-Ok.ensures.counts.done
 
 pub returns-in-Err-clause-fault : goal.returns-in-Err-clause-fault
 returns-in-Err-clause-fault g c told =
-    let first = IsFirstOf c.args.places (reads (g.D.Device.disk (device_of c.args.blocks.now))) c.args.slot c.args.root.now in
+    let first = IsFirstOf c.args.geometry (reads (g.D.Device.disk (device_of c.args.blocks.now))) c.args.slot c.args.root.now in
     subst (IsDamageOf first) (sym c.fault_of_check.ensures) (check_tells c.in-Err.fault first (c.in-Err.ensures.fault told))
 
 pub returns-in-Err-clause-reads : goal.returns-in-Err-clause-reads

@@ -8,5 +8,5 @@ abbrev pub invariant-loop-i : goal.invariant-loop-i
 invariant-loop-i g l = record {
   same : IsTrue g.D.Device.tells_bytes → g.D.Device.disk (device_of l.blocks) ≡ g.D.Device.disk (device_of l.initial.blocks);
   status : g.D.Device.status (device_of l.blocks) ≡ g.D.Device.status (device_of l.initial.blocks);
-  first : IsTrue g.D.Device.tells_bytes → HasFirst l.fn.places (reads (g.D.Device.disk (device_of l.initial.blocks))) l.fn.slot l.map l.i;
+  first : IsTrue g.D.Device.tells_bytes → HasFirst l.fn.geometry (reads (g.D.Device.disk (device_of l.initial.blocks))) l.fn.slot l.map l.i;
 }

@@ -20,8 +20,8 @@ pub returns-in_err-mark-clause-fault : goal.returns-in_err-mark-clause-fault
 returns-in_err-mark-clause-fault g c told =
     let s = store_of (reads (g.D.Device.disk (device_of c.args.blocks.now))) in
     let p = err_from_is_err_and c.from_residual.result c.from_residual.ensures.1 in
-    rw (p.1, p.2) (tells_weaker c.in_err-mark.field-0.0 (IsAstray c.args.root.now.places c.args.root.now.bit (block_reach c.args.inode.now.acl_block) c.args.map.now)
-    (IsWrong c.args.root.now.places c.args.root.now.bit (block_reach c.args.inode.now.acl_block) c.args.map.now (λ block. (block ≡ c.args.inode.now.acl_block) × (HasAcls s c.args.inode.now → ⊥)))
+    rw (p.1, p.2) (tells_weaker c.in_err-mark.field-0.0 (IsAstray c.args.root.now.geometry c.args.root.now.bit (block_reach c.args.inode.now.acl_block) c.args.map.now)
+    (IsWrong c.args.root.now.geometry c.args.root.now.bit (block_reach c.args.inode.now.acl_block) c.args.map.now (λ block. (block ≡ c.args.inode.now.acl_block) × (HasAcls s c.args.inode.now → ⊥)))
     (λ damage block wrong. wrong_astray _ _ _ _ _ damage block wrong)
     c.in_err-mark.ensures.fault)
 
@@ -40,8 +40,8 @@ pub returns-clause-fault : goal.returns-clause-fault
 returns-clause-fault g c told =
     let s = store_of (reads (g.D.Device.disk (device_of c.args.blocks.now))) in
     let n = (g.D.Device.status (device_of c.args.blocks.now)).sectors in
-    let lies = acls_lie c.args.root.now.places c.args.root.now.bit n c.args.inode.now.acl_block c.args.map.now c.mark.new.map c.requires.room c.in_ok-mark.ensures.marks in
+    let lies = acls_lie c.args.root.now.geometry c.args.root.now.bit n c.args.inode.now.acl_block c.args.map.now c.mark.new.map c.requires.room c.in_ok-mark.ensures.marks in
     told_weaker c.test_acls.result (Breaks (CanReadAcls n s c.args.inode.now) c.args.inode.now.acl_block)
-    (IsWrong c.args.root.now.places c.args.root.now.bit (block_reach c.args.inode.now.acl_block) c.args.map.now (λ block. (block ≡ c.args.inode.now.acl_block) × (HasAcls s c.args.inode.now → ⊥)))
+    (IsWrong c.args.root.now.geometry c.args.root.now.bit (block_reach c.args.inode.now.acl_block) c.args.map.now (λ block. (block ≡ c.args.inode.now.acl_block) × (HasAcls s c.args.inode.now → ⊥)))
     (λ damage block broken. wrong_rule _ _ _ _ _ _ _ damage block (acls_wrong n s c.args.inode.now lies) broken)
     (c.test_acls.ensures.fault told)

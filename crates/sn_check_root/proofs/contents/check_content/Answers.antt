@@ -18,8 +18,8 @@ use Rattle.sn_check_root.proofs.contents.check_content.Goals as goal
 pub returns-in-Inline-clause-marks : goal.returns-in-Inline-clause-marks
 returns-in-Inline-clause-marks g c told =
     let s = store_of (reads (g.D.Device.disk (device_of c.args.blocks.now))) in
-    subst (λ (it : Content). Marks c.args.root.now.places c.args.root.now.bit (content_reach s it) c.args.map.now c.args.map.now) (sym c.in-Inline.is)
-    (marks_none c.args.root.now.places c.args.root.now.bit [] c.args.map.now (λ x. refl))
+    subst (λ (it : Content). Marks c.args.root.now.geometry c.args.root.now.bit (content_reach s it) c.args.map.now c.args.map.now) (sym c.in-Inline.is)
+    (marks_none c.args.root.now.geometry c.args.root.now.bit [] c.args.map.now (λ x. refl))
 
 pub returns-in-Inline-clause-sound : goal.returns-in-Inline-clause-sound
 returns-in-Inline-clause-sound g c told =
@@ -37,7 +37,7 @@ check_tree-requires g c = record {
 pub returns-in-Tree-clause-marks : goal.returns-in-Tree-clause-marks
 returns-in-Tree-clause-marks g c told =
     let s = store_of (reads (g.D.Device.disk (device_of c.args.blocks.now))) in
-    on_ok_weaker c.check_tree.result (λ marks. subst (λ (it : Content). Marks c.args.root.now.places c.args.root.now.bit (content_reach s it) c.args.map.now c.check_tree.new.map) (sym c.in-Tree.is) marks) (c.check_tree.ensures.marks told)
+    on_ok_weaker c.check_tree.result (λ marks. subst (λ (it : Content). Marks c.args.root.now.geometry c.args.root.now.bit (content_reach s it) c.args.map.now c.check_tree.new.map) (sym c.in-Tree.is) marks) (c.check_tree.ensures.marks told)
 
 pub returns-in-Tree-clause-sound : goal.returns-in-Tree-clause-sound
 returns-in-Tree-clause-sound g c told =
@@ -47,7 +47,7 @@ returns-in-Tree-clause-sound g c told =
 pub returns-in-Tree-clause-fault : goal.returns-in-Tree-clause-fault
 returns-in-Tree-clause-fault g c told =
     let s = store_of (reads (g.D.Device.disk (device_of c.args.blocks.now))) in
-    let Whole = λ (it : Content). IsWrong c.args.root.now.places c.args.root.now.bit (content_reach s it) c.args.map.now (IsContentFault c.args.limits.now s c.args.inode.now.kind it (names_by s c.args.inode.now.kind it) c.args.top) in
+    let Whole = λ (it : Content). IsWrong c.args.root.now.geometry c.args.root.now.bit (content_reach s it) c.args.map.now (IsContentFault c.args.limits.now s c.args.inode.now.kind it (names_by s c.args.inode.now.kind it) c.args.top) in
     told_weaker c.check_tree.result _ (Whole c.args.inode.now.content)
     (λ damage block wrong. subst (λ (it : Content). Whole it damage block) (sym c.in-Tree.is) wrong)
     (c.check_tree.ensures.fault told)

@@ -22,7 +22,7 @@ returns-in_err-top-clause-fault g c told =
     let s = store_of (reads (g.D.Device.disk (device_of c.args.blocks.now))) in
     let p = err_from_is_err_and c.from_residual.result c.from_residual.ensures.1 in
     rw (p.1, p.2) (tells_weaker c.in_err-top.field-0.0 (λ damage block. ⊥)
-    (IsWrong c.args.root.now.places c.args.root.now.bit (reach_at s c.args.file.now c.args.number) c.args.map.now (IsMisspelt c.args.limits.now s c.args.file.now c.args.body))
+    (IsWrong c.args.root.now.geometry c.args.root.now.bit (reach_at s c.args.file.now c.args.number) c.args.map.now (IsMisspelt c.args.limits.now s c.args.file.now c.args.body))
     (λ damage block never. absurd never) (c.in_err-top.ensures.fault told))
 
 pub returns-in_err-inode-clause-fault : goal.returns-in_err-inode-clause-fault
@@ -33,7 +33,7 @@ returns-in_err-inode-clause-fault g c told =
     let p = err_from_is_err_and c.from_residual-in_err-inode.result c.from_residual-in_err-inode.ensures.1 in
     rw (p.1, p.2) (tells_weaker c.in_err-inode.field-0.0
     (Breaks (CanReadRecord c.args.limits.now n s c.args.file.now c.args.number) c.in_ok-top.top)
-    (IsWrong c.args.root.now.places c.args.root.now.bit (reach_at s c.args.file.now c.args.number) c.args.map.now (IsMisspelt c.args.limits.now s c.args.file.now c.args.body))
+    (IsWrong c.args.root.now.geometry c.args.root.now.bit (reach_at s c.args.file.now c.args.number) c.args.map.now (IsMisspelt c.args.limits.now s c.args.file.now c.args.body))
     (λ damage block broken. wrong_rule _ _ _ _ _ _ _ damage block (record_wrong c.args.limits.now s c.args.file.now c.args.number c.args.body n c.in_ok-top.top (c.requires.lies told) (c.in_ok-top.ensures.block told ∙ ap (record_block s c.args.file.now c.args.body) c.from.ensures)) broken)
     (at_start _ _ _ _ _ stays (λ (m : ℕ) (q : Store). Tells c.in_err-inode.field-0.0 (Breaks (CanReadRecord c.args.limits.now m q c.args.file.now c.args.number) c.in_ok-top.top)) told (c.in_err-inode.ensures.fault told)))
 
@@ -42,8 +42,8 @@ returns-in-None-clause-marks g c told =
     let s = store_of (reads (g.D.Device.disk (device_of c.args.blocks.now))) in
     let stays = stays_one _ _ _ _ _ c.in_ok-top.ensures.counts.done c.record_block.ensures.same in
     let none = sym (at_start _ _ _ _ _ stays (λ (m : ℕ) (q : Store). None ≡ inode_at q c.args.file.now c.args.number) told (sym c.in-None.is ∙ c.in_ok-inode.ensures.inode told)) in
-    subst (λ (xs : List ℕ). Marks c.args.root.now.places c.args.root.now.bit xs c.args.map.now c.args.map.now) (reach_of c.args.limits.now s c.args.file.now c.args.number None none)
-    (marks_none c.args.root.now.places c.args.root.now.bit [] c.args.map.now (λ x. refl))
+    subst (λ (xs : List ℕ). Marks c.args.root.now.geometry c.args.root.now.bit xs c.args.map.now c.args.map.now) (reach_of c.args.limits.now s c.args.file.now c.args.number None none)
+    (marks_none c.args.root.now.geometry c.args.root.now.bit [] c.args.map.now (λ x. refl))
 
 pub returns-in-None-clause-sound : goal.returns-in-None-clause-sound
 returns-in-None-clause-sound g c told =
@@ -62,8 +62,8 @@ returns-in-Some-clause-marks g c told =
     let same : r ≡ s = ap (λ (d : Disk). store_of (reads d)) (c.inode_of.ensures.same told ∙ c.record_block.ensures.same told) in
     let some = sym (at_start _ _ _ _ _ stays (λ (m : ℕ) (q : Store). Some c.in-Some.inode ≡ inode_at q c.args.file.now c.args.number) told (sym c.in-Some.is ∙ c.in_ok-inode.ensures.inode told)) in
     on_ok_weaker c.check_used.result
-    (λ (marks : Marks c.args.root.now.places c.args.root.now.bit (inode_reach r (Some c.in-Some.inode)) c.args.map.now c.check_used.new.map).
-    subst (λ (xs : List ℕ). Marks c.args.root.now.places c.args.root.now.bit xs c.args.map.now c.check_used.new.map)
+    (λ (marks : Marks c.args.root.now.geometry c.args.root.now.bit (inode_reach r (Some c.in-Some.inode)) c.args.map.now c.check_used.new.map).
+    subst (λ (xs : List ℕ). Marks c.args.root.now.geometry c.args.root.now.bit xs c.args.map.now c.check_used.new.map)
     (ap (λ (q : Store). inode_reach q (Some c.in-Some.inode)) same ∙ reach_of c.args.limits.now s c.args.file.now c.args.number (Some c.in-Some.inode) some) marks)
     (c.check_used.ensures.marks told)
 
@@ -88,11 +88,11 @@ returns-in-Some-clause-fault g c told =
     let stays = stays_one _ _ _ _ _ c.in_ok-top.ensures.counts.done c.record_block.ensures.same in
     let same : r ≡ s = ap (λ (d : Disk). store_of (reads d)) (c.inode_of.ensures.same told ∙ c.record_block.ensures.same told) in
     let some = sym (at_start _ _ _ _ _ stays (λ (m : ℕ) (q : Store). Some c.in-Some.inode ≡ inode_at q c.args.file.now c.args.number) told (sym c.in-Some.is ∙ c.in_ok-inode.ensures.inode told)) in
-    let Whole = λ (q : Store). IsWrong c.args.root.now.places c.args.root.now.bit (inode_reach q (Some c.in-Some.inode)) c.args.map.now (IsInodeFault c.args.limits.now q c.in-Some.inode c.in_ok-top.top) in
+    let Whole = λ (q : Store). IsWrong c.args.root.now.geometry c.args.root.now.bit (inode_reach q (Some c.in-Some.inode)) c.args.map.now (IsInodeFault c.args.limits.now q c.in-Some.inode c.in_ok-top.top) in
     told_weaker c.check_used.result (Whole r)
-    (IsWrong c.args.root.now.places c.args.root.now.bit (reach_at s c.args.file.now c.args.number) c.args.map.now (IsMisspelt c.args.limits.now s c.args.file.now c.args.body))
+    (IsWrong c.args.root.now.geometry c.args.root.now.bit (reach_at s c.args.file.now c.args.number) c.args.map.now (IsMisspelt c.args.limits.now s c.args.file.now c.args.body))
     (λ damage block wrong.
-    subst (λ (xs : List ℕ). IsWrong c.args.root.now.places c.args.root.now.bit xs c.args.map.now (IsMisspelt c.args.limits.now s c.args.file.now c.args.body) damage block) (reach_of c.args.limits.now s c.args.file.now c.args.number (Some c.in-Some.inode) some)
+    subst (λ (xs : List ℕ). IsWrong c.args.root.now.geometry c.args.root.now.bit xs c.args.map.now (IsMisspelt c.args.limits.now s c.args.file.now c.args.body) damage block) (reach_of c.args.limits.now s c.args.file.now c.args.number (Some c.in-Some.inode) some)
     (wrong_weaker _ _ _ _ _ _ damage block
     (λ x found. inode_wrong c.args.limits.now s c.args.file.now c.args.number c.args.body c.in-Some.inode c.in_ok-top.top x some (c.in_ok-top.ensures.block told ∙ ap (record_block s c.args.file.now c.args.body) c.from.ensures) found)
     (subst (λ (q : Store). Whole q damage block) same wrong)))

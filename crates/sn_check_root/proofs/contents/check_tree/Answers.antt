@@ -24,7 +24,7 @@ check_kind-requires g c = record {
       let n = (g.D.Device.status (device_of c.args.blocks.now)).sectors in
       let stays = stays_one _ _ _ _ _ c.in_ok-mark_tree.ensures.counts.done c.mark_tree.ensures.same in
       at_now _ _ _ _ _ stays (λ (m : ℕ) (q : Store). TreeLies m q c.args.tree.now) told
-      (tree_lies c.args.root.now.places c.args.root.now.bit c.read_laws.ensures.blocks n s c.args.tree.now c.args.map.now c.mark_tree.new.map c.requires.room (c.in_ok-mark_tree.ensures.marks told));
+      (tree_lies c.args.root.now.geometry c.args.root.now.bit c.read_laws.ensures.blocks n s c.args.tree.now c.args.map.now c.mark_tree.new.map c.requires.room (c.in_ok-mark_tree.ensures.marks told));
 }
 
 pub returns-in_err-mark_tree-clause-fault : goal.returns-in_err-mark_tree-clause-fault
@@ -32,8 +32,8 @@ returns-in_err-mark_tree-clause-fault g c told =
     let s = store_of (reads (g.D.Device.disk (device_of c.args.blocks.now))) in
     let p = err_from_is_err_and c.from_residual.result c.from_residual.ensures.1 in
     rw (p.1, p.2) (tells_weaker c.in_err-mark_tree.field-0.0
-    (StandsInTree c.args.root.now.places c.args.root.now.bit s c.args.tree.now c.args.top c.args.map.now)
-    (IsWrong c.args.root.now.places c.args.root.now.bit (tree_reach s c.args.tree.now) c.args.map.now (IsContentFault c.args.limits.now s c.args.kind (Tree c.args.tree.now) (names_by s c.args.kind (Tree c.args.tree.now)) c.args.top))
+    (StandsInTree c.args.root.now.geometry c.args.root.now.bit s c.args.tree.now c.args.top c.args.map.now)
+    (IsWrong c.args.root.now.geometry c.args.root.now.bit (tree_reach s c.args.tree.now) c.args.map.now (IsContentFault c.args.limits.now s c.args.kind (Tree c.args.tree.now) (names_by s c.args.kind (Tree c.args.tree.now)) c.args.top))
     (λ damage block wrong. wrong_tree _ _ s c.args.tree.now c.args.top _ _ damage block (λ x found. tree_wrong c.args.limits.now s c.args.kind c.args.tree.now _ c.args.top x found) wrong)
     (c.in_err-mark_tree.ensures.fault told))
 
@@ -57,7 +57,7 @@ returns-clause-fault g c told =
     let same : r ≡ s = ap (λ (d : Disk). store_of (reads d)) (c.mark_tree.ensures.same told) in
     told_weaker c.check_kind.result
     (IsSpeltWrong (IsContentFault c.args.limits.now r c.args.kind (Tree c.args.tree.now) (names_by r c.args.kind (Tree c.args.tree.now)) c.args.top))
-    (IsWrong c.args.root.now.places c.args.root.now.bit (tree_reach s c.args.tree.now) c.args.map.now (IsContentFault c.args.limits.now s c.args.kind (Tree c.args.tree.now) (names_by s c.args.kind (Tree c.args.tree.now)) c.args.top))
+    (IsWrong c.args.root.now.geometry c.args.root.now.bit (tree_reach s c.args.tree.now) c.args.map.now (IsContentFault c.args.limits.now s c.args.kind (Tree c.args.tree.now) (names_by s c.args.kind (Tree c.args.tree.now)) c.args.top))
     (λ damage block wrong. wrong_spelt _ _ _ _ _ _ damage block
     (λ x found. subst (λ (q : Store). IsContentFault c.args.limits.now q c.args.kind (Tree c.args.tree.now) (names_by q c.args.kind (Tree c.args.tree.now)) c.args.top x) same found) wrong)
     (c.check_kind.ensures.fault told)

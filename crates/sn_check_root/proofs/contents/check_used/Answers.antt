@@ -19,8 +19,8 @@ returns-in_err-check_acls-clause-fault g c told =
     let s = store_of (reads (g.D.Device.disk (device_of c.args.blocks.now))) in
     let p = err_from_is_err_and c.from_residual.result c.from_residual.ensures.1 in
     rw (p.1, p.2) (tells_weaker c.in_err-check_acls.field-0.0
-    (IsWrong c.args.root.now.places c.args.root.now.bit (block_reach c.args.inode.now.acl_block) c.args.map.now (λ block. (block ≡ c.args.inode.now.acl_block) × (HasAcls s c.args.inode.now → ⊥)))
-    (IsWrong c.args.root.now.places c.args.root.now.bit (block_reach c.args.inode.now.acl_block ++ content_reach s c.args.inode.now.content) c.args.map.now (IsInodeFault c.args.limits.now s c.args.inode.now c.args.top))
+    (IsWrong c.args.root.now.geometry c.args.root.now.bit (block_reach c.args.inode.now.acl_block) c.args.map.now (λ block. (block ≡ c.args.inode.now.acl_block) × (HasAcls s c.args.inode.now → ⊥)))
+    (IsWrong c.args.root.now.geometry c.args.root.now.bit (block_reach c.args.inode.now.acl_block ++ content_reach s c.args.inode.now.content) c.args.map.now (IsInodeFault c.args.limits.now s c.args.inode.now c.args.top))
     (λ damage block wrong. wrong_front _ _ _ _ _ _ _ damage block (λ x found. inl found) wrong)
     (c.in_err-check_acls.ensures.fault told))
 
@@ -30,9 +30,9 @@ returns-clause-marks g c told =
     let r = store_of (reads (g.D.Device.disk (device_of c.check_acls.new.blocks))) in
     let same : r ≡ s = ap (λ (d : Disk). store_of (reads d)) (c.check_acls.ensures.same told) in
     on_ok_weaker c.check_content.result
-    (λ (marks : Marks c.args.root.now.places c.args.root.now.bit (content_reach r c.args.inode.now.content) c.check_acls.new.map c.check_content.new.map).
-    marks_append c.args.root.now.places c.args.root.now.bit (block_reach c.args.inode.now.acl_block) (content_reach s c.args.inode.now.content) c.args.map.now c.check_acls.new.map c.check_content.new.map c.in_ok-check_acls.ensures.marks
-    (subst (λ (q : Store). Marks c.args.root.now.places c.args.root.now.bit (content_reach q c.args.inode.now.content) c.check_acls.new.map c.check_content.new.map) same marks))
+    (λ (marks : Marks c.args.root.now.geometry c.args.root.now.bit (content_reach r c.args.inode.now.content) c.check_acls.new.map c.check_content.new.map).
+    marks_append c.args.root.now.geometry c.args.root.now.bit (block_reach c.args.inode.now.acl_block) (content_reach s c.args.inode.now.content) c.args.map.now c.check_acls.new.map c.check_content.new.map c.in_ok-check_acls.ensures.marks
+    (subst (λ (q : Store). Marks c.args.root.now.geometry c.args.root.now.bit (content_reach q c.args.inode.now.content) c.check_acls.new.map c.check_content.new.map) same marks))
     (c.check_content.ensures.marks told)
 
 pub returns-clause-sound : goal.returns-clause-sound
@@ -52,10 +52,10 @@ returns-clause-fault g c told =
     let s = store_of (reads (g.D.Device.disk (device_of c.args.blocks.now))) in
     let r = store_of (reads (g.D.Device.disk (device_of c.check_acls.new.blocks))) in
     let same : r ≡ s = ap (λ (d : Disk). store_of (reads d)) (c.check_acls.ensures.same told) in
-    let Whole = λ (q : Store). IsWrong c.args.root.now.places c.args.root.now.bit (content_reach q c.args.inode.now.content) c.check_acls.new.map
+    let Whole = λ (q : Store). IsWrong c.args.root.now.geometry c.args.root.now.bit (content_reach q c.args.inode.now.content) c.check_acls.new.map
     (IsContentFault c.args.limits.now q c.args.inode.now.kind c.args.inode.now.content (names_by q c.args.inode.now.kind c.args.inode.now.content) c.args.top) in
     told_weaker c.check_content.result (Whole r)
-    (IsWrong c.args.root.now.places c.args.root.now.bit (block_reach c.args.inode.now.acl_block ++ content_reach s c.args.inode.now.content) c.args.map.now (IsInodeFault c.args.limits.now s c.args.inode.now c.args.top))
+    (IsWrong c.args.root.now.geometry c.args.root.now.bit (block_reach c.args.inode.now.acl_block ++ content_reach s c.args.inode.now.content) c.args.map.now (IsInodeFault c.args.limits.now s c.args.inode.now c.args.top))
     (λ damage block wrong. wrong_back _ _ _ _ _ _ _ _ damage block (λ x found. inr found) c.in_ok-check_acls.ensures.marks
     (subst (λ (q : Store). Whole q damage block) same wrong))
     (c.check_content.ensures.fault told)

@@ -22,10 +22,10 @@ check_records-requires g c =
     record {
       file = c.requires.file;
       words = c.mark_tree.ensures.words ∙ c.requires.words;
-      room = subst (λ (status : Status). 8 * c.args.root.now.places ≤ status.sectors) (sym stays.status) c.requires.room;
+      room = subst (λ (status : Status). 8 * c.args.root.now.geometry ≤ status.sectors) (sym stays.status) c.requires.room;
       lies = λ told.
           at_now _ _ _ _ _ stays (λ (m : ℕ) (q : Store). TreeLies m q c.args.file.now) told
-          (tree_lies c.args.root.now.places c.args.root.now.bit c.read_laws.ensures.blocks _ _ c.args.file.now c.args.map.now c.mark_tree.new.map c.requires.room (c.in_ok-mark_tree.ensures.marks told));
+          (tree_lies c.args.root.now.geometry c.args.root.now.bit c.read_laws.ensures.blocks _ _ c.args.file.now c.args.map.now c.mark_tree.new.map c.requires.room (c.in_ok-mark_tree.ensures.marks told));
     }
 
 pub returns-in_err-mark_tree-clause-fault : goal.returns-in_err-mark_tree-clause-fault
@@ -33,9 +33,9 @@ returns-in_err-mark_tree-clause-fault g c told =
     let s = store_of (reads (g.D.Device.disk (device_of c.args.blocks.now))) in
     let p = err_from_is_err_and c.from_residual.result c.from_residual.ensures.1 in
     rw (p.1, p.2) (tells_weaker c.in_err-mark_tree.field-0.0
-    (StandsInTree c.args.root.now.places c.args.root.now.bit s c.args.file.now c.args.body c.args.map.now)
-    (IsWrong c.args.root.now.places c.args.root.now.bit (reach s c.args.file.now) c.args.map.now (IsMisspelt c.args.limits.now s c.args.file.now c.args.body))
-    (λ damage block wrong. tree_astray c.args.limits.now s c.args.file.now c.args.root.now.places c.args.root.now.bit c.args.map.now c.args.body damage block wrong)
+    (StandsInTree c.args.root.now.geometry c.args.root.now.bit s c.args.file.now c.args.body c.args.map.now)
+    (IsWrong c.args.root.now.geometry c.args.root.now.bit (reach s c.args.file.now) c.args.map.now (IsMisspelt c.args.limits.now s c.args.file.now c.args.body))
+    (λ damage block wrong. tree_astray c.args.limits.now s c.args.file.now c.args.root.now.geometry c.args.root.now.bit c.args.map.now c.args.body damage block wrong)
     (c.in_err-mark_tree.ensures.fault told))
 
 pub returns-clause-marks : goal.returns-clause-marks
@@ -43,9 +43,9 @@ returns-clause-marks g c told =
     let s = store_of (reads (g.D.Device.disk (device_of c.args.blocks.now))) in
     let r = store_of (reads (g.D.Device.disk (device_of c.mark_tree.new.blocks))) in
     let same : r ≡ s = ap (λ (d : Disk). store_of (reads d)) (c.mark_tree.ensures.same told) in
-    let Part = λ (q : Store). Marks c.args.root.now.places c.args.root.now.bit (flat_map (reach_at q c.args.file.now) (numbers c.args.file.now)) c.mark_tree.new.map c.check_records.new.map in
+    let Part = λ (q : Store). Marks c.args.root.now.geometry c.args.root.now.bit (flat_map (reach_at q c.args.file.now) (numbers c.args.file.now)) c.mark_tree.new.map c.check_records.new.map in
     on_ok_weaker c.check_records.result
-    (λ (marks : Part r). reach_marked c.args.limits.now s c.args.file.now c.args.root.now.places c.args.root.now.bit c.args.map.now c.mark_tree.new.map c.check_records.new.map (c.in_ok-mark_tree.ensures.marks told) (subst Part same marks))
+    (λ (marks : Part r). reach_marked c.args.limits.now s c.args.file.now c.args.root.now.geometry c.args.root.now.bit c.args.map.now c.mark_tree.new.map c.check_records.new.map (c.in_ok-mark_tree.ensures.marks told) (subst Part same marks))
     (c.check_records.ensures.marks told)
 
 pub returns-clause-sound : goal.returns-clause-sound
@@ -53,16 +53,16 @@ returns-clause-sound g c told =
     let s = store_of (reads (g.D.Device.disk (device_of c.args.blocks.now))) in
     let r = store_of (reads (g.D.Device.disk (device_of c.mark_tree.new.blocks))) in
     let same : r ≡ s = ap (λ (d : Disk). store_of (reads d)) (c.mark_tree.ensures.same told) in
-    root_checked c.args.limits.now s r c.args.file.now c.args.root.now.places c.args.root.now.bit c.args.map.now c.mark_tree.new.map c.check_records.new.map same c.requires.file (c.in_ok-mark_tree.ensures.ends told) (c.in_ok-mark_tree.ensures.marks told) c.check_records.result (c.check_records.ensures.sound told) (c.check_records.ensures.marks told)
+    root_checked c.args.limits.now s r c.args.file.now c.args.root.now.geometry c.args.root.now.bit c.args.map.now c.mark_tree.new.map c.check_records.new.map same c.requires.file (c.in_ok-mark_tree.ensures.ends told) (c.in_ok-mark_tree.ensures.marks told) c.check_records.result (c.check_records.ensures.sound told) (c.check_records.ensures.marks told)
 
 pub returns-clause-fault : goal.returns-clause-fault
 returns-clause-fault g c told =
     let s = store_of (reads (g.D.Device.disk (device_of c.args.blocks.now))) in
     let r = store_of (reads (g.D.Device.disk (device_of c.mark_tree.new.blocks))) in
     let same : r ≡ s = ap (λ (d : Disk). store_of (reads d)) (c.mark_tree.ensures.same told) in
-    let Part = λ (q : Store). IsWrong c.args.root.now.places c.args.root.now.bit (flat_map (reach_at q c.args.file.now) (numbers c.args.file.now)) c.mark_tree.new.map (IsMisspelt c.args.limits.now q c.args.file.now c.args.body) in
+    let Part = λ (q : Store). IsWrong c.args.root.now.geometry c.args.root.now.bit (flat_map (reach_at q c.args.file.now) (numbers c.args.file.now)) c.mark_tree.new.map (IsMisspelt c.args.limits.now q c.args.file.now c.args.body) in
     told_weaker c.check_records.result (Part r)
-    (IsWrong c.args.root.now.places c.args.root.now.bit (reach s c.args.file.now) c.args.map.now (IsMisspelt c.args.limits.now s c.args.file.now c.args.body))
-    (λ damage block wrong. records_astray c.args.limits.now s c.args.file.now c.args.root.now.places c.args.root.now.bit c.args.map.now c.mark_tree.new.map c.args.body damage block (c.in_ok-mark_tree.ensures.marks told)
+    (IsWrong c.args.root.now.geometry c.args.root.now.bit (reach s c.args.file.now) c.args.map.now (IsMisspelt c.args.limits.now s c.args.file.now c.args.body))
+    (λ damage block wrong. records_astray c.args.limits.now s c.args.file.now c.args.root.now.geometry c.args.root.now.bit c.args.map.now c.mark_tree.new.map c.args.body damage block (c.in_ok-mark_tree.ensures.marks told)
     (subst (λ (q : Store). Part q damage block) same wrong))
     (c.check_records.ensures.fault told)

@@ -22,7 +22,7 @@ check_inodes-requires g c =
     record {
       file = c.requires.file;
       words = c.requires.words;
-      room = subst (λ (status : Status). 8 * c.args.root.now.places ≤ status.sectors) (sym stays.status) c.requires.room;
+      room = subst (λ (status : Status). 8 * c.args.root.now.geometry ≤ status.sectors) (sym stays.status) c.requires.room;
       lies = λ told. at_now _ _ _ _ _ stays (λ (m : ℕ) (q : Store). TreeLies m q c.args.file.now) told (c.requires.lies told);
     }
 
@@ -31,13 +31,13 @@ check_top-requires g c =
     let first = stays_one _ _ _ _ _ c.in_ok-check_reserved.ensures.counts.done c.check_reserved.ensures.same in
     let second = stays_one _ _ _ _ _ c.in_ok-check_inodes.ensures.counts.done c.check_inodes.ensures.same in
     let stays = stays_more _ _ _ _ _ _ _ first c.in_ok-check_inodes.ensures.counts.done c.check_inodes.ensures.same in
-    let room = subst (λ (status : Status). 8 * c.args.root.now.places ≤ status.sectors) (sym first.status) c.requires.room in
+    let room = subst (λ (status : Status). 8 * c.args.root.now.geometry ≤ status.sectors) (sym first.status) c.requires.room in
     record {
       lies = λ told. at_now _ _ _ _ _ stays (λ (m : ℕ) (q : Store). TreeLies m q c.args.file.now) told (c.requires.lies told);
       sound = λ told. at_now _ _ _ _ _ second (λ (m : ℕ) (q : Store). IsSoundNumber c.args.limits.now q c.args.file.now 2) told
           (c.in_ok-check_inodes.ensures.sound told 2 (omega arith) (omega (arith, c.requires.file.least)));
       reached = λ told. at_now _ _ _ _ _ second (λ (m : ℕ) (q : Store). (block : ℕ) → Contains (reach_at q c.args.file.now 2) block → 8 * block + 8 ≤ m) told
-          (root_data c.args.limits.now _ c.args.file.now c.args.root.now.places c.args.root.now.bit c.args.map.now c.check_inodes.new.map c.args.map.now _ c.requires.file room (c.in_ok-check_inodes.ensures.marks told));
+          (root_data c.args.limits.now _ c.args.file.now c.args.root.now.geometry c.args.root.now.bit c.args.map.now c.check_inodes.new.map c.args.map.now _ c.requires.file room (c.in_ok-check_inodes.ensures.marks told));
     }
 
 pub returns-in_err-check_reserved-clause-fault : goal.returns-in_err-check_reserved-clause-fault
@@ -46,14 +46,14 @@ returns-in_err-check_reserved-clause-fault g c told =
     let p = err_from_is_err_and c.from_residual.result c.from_residual.ensures.1 in
     rw (p.1, p.2) (tells_weaker c.in_err-check_reserved.field-0.0
     (IsSpeltWrong (IsMisspelt c.args.limits.now s c.args.file.now c.args.body))
-    (IsWrong c.args.root.now.places c.args.root.now.bit (flat_map (reach_at s c.args.file.now) (numbers c.args.file.now)) c.args.map.now (IsMisspelt c.args.limits.now s c.args.file.now c.args.body))
+    (IsWrong c.args.root.now.geometry c.args.root.now.bit (flat_map (reach_at s c.args.file.now) (numbers c.args.file.now)) c.args.map.now (IsMisspelt c.args.limits.now s c.args.file.now c.args.body))
     (λ damage block wrong. wrong_spelt _ _ _ _ _ _ damage block (λ x found. found) wrong)
     (c.in_err-check_reserved.ensures.fault told))
 
 pub returns-in_err-check_inodes-clause-fault : goal.returns-in_err-check_inodes-clause-fault
 returns-in_err-check_inodes-clause-fault g c told =
     let first = stays_one _ _ _ _ _ c.in_ok-check_reserved.ensures.counts.done c.check_reserved.ensures.same in
-    let Part = λ (q : Store). IsWrong c.args.root.now.places c.args.root.now.bit (flat_map (reach_at q c.args.file.now) (numbers c.args.file.now)) c.args.map.now (IsMisspelt c.args.limits.now q c.args.file.now c.args.body) in
+    let Part = λ (q : Store). IsWrong c.args.root.now.geometry c.args.root.now.bit (flat_map (reach_at q c.args.file.now) (numbers c.args.file.now)) c.args.map.now (IsMisspelt c.args.limits.now q c.args.file.now c.args.body) in
     let p = err_from_is_err_and c.from_residual-in_err-check_inodes.result c.from_residual-in_err-check_inodes.ensures.1 in
     rw (p.1, p.2)
     (at_start _ _ _ _ _ first (λ (n : ℕ) (q : Store). Tells c.in_err-check_inodes.field-0.0 (Part q)) told (c.in_err-check_inodes.ensures.fault told))
@@ -61,7 +61,7 @@ returns-in_err-check_inodes-clause-fault g c told =
 pub returns-clause-marks : goal.returns-clause-marks
 returns-clause-marks g c told =
     let first = stays_one _ _ _ _ _ c.in_ok-check_reserved.ensures.counts.done c.check_reserved.ensures.same in
-    let Part = λ (q : Store). Marks c.args.root.now.places c.args.root.now.bit (flat_map (reach_at q c.args.file.now) (numbers c.args.file.now)) c.args.map.now c.check_inodes.new.map in
+    let Part = λ (q : Store). Marks c.args.root.now.geometry c.args.root.now.bit (flat_map (reach_at q c.args.file.now) (numbers c.args.file.now)) c.args.map.now c.check_inodes.new.map in
     on_ok_weaker c.check_top.result (λ done. at_start _ _ _ _ _ first (λ (n : ℕ) (q : Store). Part q) told (c.in_ok-check_inodes.ensures.marks told)) (c.check_top.ensures.root told)
 
 pub returns-clause-sound : goal.returns-clause-sound
@@ -81,6 +81,6 @@ returns-clause-fault g c told =
     let same : r ≡ s = ap (λ (d : Disk). store_of (reads d)) (c.check_inodes.ensures.same told ∙ c.check_reserved.ensures.same told) in
     told_weaker c.check_top.result
     (IsSpeltWrong (IsMisspelt c.args.limits.now r c.args.file.now c.args.body))
-    (IsWrong c.args.root.now.places c.args.root.now.bit (flat_map (reach_at s c.args.file.now) (numbers c.args.file.now)) c.args.map.now (IsMisspelt c.args.limits.now s c.args.file.now c.args.body))
+    (IsWrong c.args.root.now.geometry c.args.root.now.bit (flat_map (reach_at s c.args.file.now) (numbers c.args.file.now)) c.args.map.now (IsMisspelt c.args.limits.now s c.args.file.now c.args.body))
     (λ damage block wrong. wrong_spelt _ _ _ _ _ _ damage block (λ x found. subst (λ (q : Store). IsMisspelt c.args.limits.now q c.args.file.now c.args.body x) same found) wrong)
     (c.check_top.ensures.fault told)

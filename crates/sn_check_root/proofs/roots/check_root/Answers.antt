@@ -23,14 +23,14 @@ check_file-requires g c = record {
 pub returns-then-not-is_inode_file-clause-fault : goal.returns-then-not-is_inode_file-clause-fault
 returns-then-not-is_inode_file-clause-fault g c told =
     let s = store_of (reads (g.D.Device.disk (device_of c.args.blocks.now))) in
-    subst (λ (f : CheckFault). Tells f (StandsInRoot c.args.limits.now c.args.root.now.places s c.args.file.now c.args.body)) (sym c.misspelt.ensures)
+    subst (λ (f : CheckFault). Tells f (StandsInRoot c.args.limits.now c.args.root.now.geometry s c.args.file.now c.args.body)) (sym c.misspelt.ensures)
     (fault.size (λ is. true≢false (sym (c.is_inode_file.ensures.1 is) ∙ c.if-not-is_inode_file.true)))
 
 pub returns-clause-fault : goal.returns-clause-fault
 returns-clause-fault g c told =
     let s = store_of (reads (g.D.Device.disk (device_of c.args.blocks.now))) in
     told_weaker c.check_file.result
-    (IsWrong c.args.root.now.places c.args.root.now.bit (reach s c.args.file.now) c.args.map.now (IsMisspelt c.args.limits.now s c.args.file.now c.args.body))
-    (StandsInRoot c.args.limits.now c.args.root.now.places s c.args.file.now c.args.body)
-    (λ damage block wrong. stands c.args.limits.now s c.args.file.now c.args.body c.args.root.now.places c.args.root.now.bit c.args.map.now (c.requires.clear told) damage block wrong)
+    (IsWrong c.args.root.now.geometry c.args.root.now.bit (reach s c.args.file.now) c.args.map.now (IsMisspelt c.args.limits.now s c.args.file.now c.args.body))
+    (StandsInRoot c.args.limits.now c.args.root.now.geometry s c.args.file.now c.args.body)
+    (λ damage block wrong. stands c.args.limits.now s c.args.file.now c.args.body c.args.root.now.geometry c.args.root.now.bit c.args.map.now (c.requires.clear told) damage block wrong)
     (c.check_file.ensures.fault told)

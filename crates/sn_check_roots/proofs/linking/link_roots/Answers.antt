@@ -30,7 +30,7 @@ count_links-requires g c =
     let r : Rooted = record { bit = c.root_at-it.result.bit; inodes = c.root_at-it.result.file } in
     record {
       checked = λ told. at_now _ _ _ _ _ c.loop-i.invariant.stays (λ n q. IsChecked c.args.root.now.limits n q r.inodes) told
-          (record { blocks = c.args.places; room = c.requires.room; sound = c.requires.checked told r (root_within c.args.root.now c.loop-i.i r within (c.root_at-it.ensures.root r)) });
+          (record { blocks = c.args.geometry; room = c.requires.room; sound = c.requires.checked told r (root_within c.args.root.now c.loop-i.i r within (c.root_at-it.ensures.root r)) });
     }
 
 pub loop-i-preserved : goal.loop-i-preserved

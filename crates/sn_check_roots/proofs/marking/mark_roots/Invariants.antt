@@ -9,6 +9,6 @@ use Rattle.sn_check_roots.proofs.marking.mark_roots.Given as goal
 abbrev pub invariant-loop-i : goal.invariant-loop-i
 invariant-loop-i g l = record {
   stays : Stays g.D.Device.tells_bytes (g.D.Device.status (device_of l.initial.blocks)) (g.D.Device.status (device_of l.blocks)) (g.D.Device.disk (device_of l.initial.blocks)) (g.D.Device.disk (device_of l.blocks));
-  words : length l.map ≡ l.places;
-  done : IsTrue g.D.Device.tells_bytes → AreDone l.places (store_of (reads (g.D.Device.disk (device_of l.initial.blocks)))) l.root l.i l.map;
+  words : length l.map ≡ l.geometry;
+  done : IsTrue g.D.Device.tells_bytes → AreDone l.geometry (store_of (reads (g.D.Device.disk (device_of l.initial.blocks)))) l.root l.i l.map;
 }

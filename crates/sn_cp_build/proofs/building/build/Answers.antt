@@ -5,8 +5,8 @@ use Rattle.sn_alloc.specs.Taking.{free_data}
 use Rattle.sn_device.specs.Disk.{reads}
 use Rattle.sn_block.specs.Lending.{device_of}
 use Rattle.sn_image.specs.Reach.{reach}
-use Rattle.sn_layout.specs.Places.{start_of}
-use Rattle.sn_layout.specs.declared.places.Area.TheVariants.{Data}
+use Rattle.sn_layout.specs.Geometry.{start_of}
+use Rattle.sn_layout.specs.declared.geometry.Area.TheVariants.{Data}
 use Rattle.sn_ondisk.specs.Trees.{store_of}
 use Rattle.sn_overlay.specs.Needs.{need}
 use Rattle.sn_overlay.specs.Overlays.{layer_of}
@@ -24,26 +24,26 @@ use Rattle.sn_cp_build.proofs.building.build.Goals as goal
 pub returns-clause-well : goal.returns-clause-well
 returns-clause-well g c =
     let s = store_of (reads (g.D.Device.disk (device_of c.args.blocks.now))) in
-    let first = begun_is c.args.map.now c.in_ok-try_clone.field-0 (start_of c.args.places Data) c.start-first.result c.new.result c.new-build.result c.in_ok-try_clone.ensures c.start-first.ensures c.new.ensures c.new-build.ensures in
+    let first = begun_is c.args.map.now c.in_ok-try_clone.field-0 (start_of c.args.geometry Data) c.start-first.result c.new.result c.new-build.result c.in_ok-try_clone.ensures c.start-first.ensures c.new.ensures c.new-build.ensures in
     let plan = subst (λ (d : Draft). IsTreePlanned (IsTrue g.D.Device.tells_bytes) c.args.root.now.limits s c.args.root.now.inode_file (layer_of c.args.changes) c.in_ok-inode_file.inode_file d c.plan_tree.new.build) first c.in_ok-inode_file.ensures.planned in
-    well_built (IsTrue g.D.Device.tells_bytes) c.args.places c.args.root.now.limits s c.args.root.now.inode_file (layer_of c.args.changes) c.in_ok-inode_file.inode_file c.args.map.now c.plan_tree.new.build plan
+    well_built (IsTrue g.D.Device.tells_bytes) c.args.geometry c.args.root.now.limits s c.args.root.now.inode_file (layer_of c.args.changes) c.in_ok-inode_file.inode_file c.args.map.now c.plan_tree.new.build plan
     c.finished.ensures.free c.finished.ensures.rise c.finished.result c.finished.ensures.file c.finished.ensures.blocks c.finished.ensures.bits
 
 pub returns-clause-builds : goal.returns-clause-builds
 returns-clause-builds g c = λ told.
     let s = store_of (reads (g.D.Device.disk (device_of c.args.blocks.now))) in
-    let first = begun_is c.args.map.now c.in_ok-try_clone.field-0 (start_of c.args.places Data) c.start-first.result c.new.result c.new-build.result c.in_ok-try_clone.ensures c.start-first.ensures c.new.ensures c.new-build.ensures in
+    let first = begun_is c.args.map.now c.in_ok-try_clone.field-0 (start_of c.args.geometry Data) c.start-first.result c.new.result c.new-build.result c.in_ok-try_clone.ensures c.start-first.ensures c.new.ensures c.new-build.ensures in
     let plan = subst (λ (d : Draft). IsTreePlanned (IsTrue g.D.Device.tells_bytes) c.args.root.now.limits s c.args.root.now.inode_file (layer_of c.args.changes) c.in_ok-inode_file.inode_file d c.plan_tree.new.build) first c.in_ok-inode_file.ensures.planned in
-    all_builds (IsTrue g.D.Device.tells_bytes) c.args.places c.args.root.now.limits s c.args.root.now.inode_file (layer_of c.args.changes) c.in_ok-inode_file.inode_file c.args.map.now c.plan_tree.new.build plan
+    all_builds (IsTrue g.D.Device.tells_bytes) c.args.geometry c.args.root.now.limits s c.args.root.now.inode_file (layer_of c.args.changes) c.in_ok-inode_file.inode_file c.args.map.now c.plan_tree.new.build plan
     c.finished.ensures.free c.finished.ensures.rise told c.requires.words c.finished.result c.finished.ensures.file c.finished.ensures.blocks c.finished.ensures.bits
 
 pub returns-in_err-inode_file-clause-full : goal.returns-in_err-inode_file-clause-full
 returns-in_err-inode_file-clause-full g c = λ told full ground enough.
     let p = err_from_is_err_and c.from_residual-in_err-inode_file.result c.from_residual-in_err-inode_file.ensures.1 in
     let fault : c.in_err-inode_file.field-0.0 ≡ Full = cc (p.1, p.2) in
-    let first = begun_is c.args.map.now c.in_ok-try_clone.field-0 (start_of c.args.places Data) c.start-first.result c.new.result c.new-build.result c.in_ok-try_clone.ensures c.start-first.ensures c.new.ensures c.new-build.ensures in
-    let less = c.in_err-inode_file.ensures.full told (ap (λ f. Err f) fault) c.args.places ground in
-    let here : free_data c.args.map.now (start_of c.args.places Data) < 0 + need c.args.root.now.limits (layer_of c.args.changes) =
+    let first = begun_is c.args.map.now c.in_ok-try_clone.field-0 (start_of c.args.geometry Data) c.start-first.result c.new.result c.new-build.result c.in_ok-try_clone.ensures c.start-first.ensures c.new.ensures c.new-build.ensures in
+    let less = c.in_err-inode_file.ensures.full told (ap (λ f. Err f) fault) c.args.geometry ground in
+    let here : free_data c.args.map.now (start_of c.args.geometry Data) < 0 + need c.args.root.now.limits (layer_of c.args.changes) =
     subst (λ (d : Draft). free_data d.words d.first < length d.added + need c.args.root.now.limits (layer_of c.args.changes)) first less in
     omega (arith, here, enough)
 
@@ -58,16 +58,16 @@ returns-in_err-inode_file-clause-damaged g c = λ told damaged ground tells room
     let fault : c.in_err-inode_file.field-0.0 ≡ Tree Damaged = cc (p.1, p.2) in
     let s = store_of (reads (g.D.Device.disk (device_of c.args.blocks.now))) in
     let file = c.args.root.now.inode_file in
-    let first = begun_is c.args.map.now c.in_ok-try_clone.field-0 (start_of c.args.places Data) c.start-first.result c.new.result c.new-build.result c.in_ok-try_clone.ensures c.start-first.ensures c.new.ensures c.new-build.ensures in
-    let kept : KeepsReach s file (begun c.args.map.now (start_of c.args.places Data)) = λ block among. told_kept c.args.map.now (reach s file) (start_of c.args.places Data) block tells among in
-    c.in_err-inode_file.ensures.damaged told (ap (λ f. Err f) fault) c.args.places
+    let first = begun_is c.args.map.now c.in_ok-try_clone.field-0 (start_of c.args.geometry Data) c.start-first.result c.new.result c.new-build.result c.in_ok-try_clone.ensures c.start-first.ensures c.new.ensures c.new-build.ensures in
+    let kept : KeepsReach s file (begun c.args.map.now (start_of c.args.geometry Data)) = λ block among. told_kept c.args.map.now (reach s file) (start_of c.args.geometry Data) block tells among in
+    c.in_err-inode_file.ensures.damaged told (ap (λ f. Err f) fault) c.args.geometry
     (record { ground = ground; room = room; kept = subst (KeepsReach s file) (sym first) kept })
 
 pub returns-clause-damaged : goal.returns-clause-damaged
 returns-clause-damaged g c = λ told damaged ground tells room.
     let s = store_of (reads (g.D.Device.disk (device_of c.args.blocks.now))) in
-    let first = begun_is c.args.map.now c.in_ok-try_clone.field-0 (start_of c.args.places Data) c.start-first.result c.new.result c.new-build.result c.in_ok-try_clone.ensures c.start-first.ensures c.new.ensures c.new-build.ensures in
+    let first = begun_is c.args.map.now c.in_ok-try_clone.field-0 (start_of c.args.geometry Data) c.start-first.result c.new.result c.new-build.result c.in_ok-try_clone.ensures c.start-first.ensures c.new.ensures c.new-build.ensures in
     let plan = subst (λ (d : Draft). IsTreePlanned (IsTrue g.D.Device.tells_bytes) c.args.root.now.limits s c.args.root.now.inode_file (layer_of c.args.changes) c.in_ok-inode_file.inode_file d c.plan_tree.new.build) first c.in_ok-inode_file.ensures.planned in
     c.finished.ensures.damaged damaged
-    (released_within (IsTrue g.D.Device.tells_bytes) c.args.places c.args.root.now.limits s c.args.root.now.inode_file (layer_of c.args.changes) c.in_ok-inode_file.inode_file c.args.map.now c.plan_tree.new.build plan
+    (released_within (IsTrue g.D.Device.tells_bytes) c.args.geometry c.args.root.now.limits s c.args.root.now.inode_file (layer_of c.args.changes) c.in_ok-inode_file.inode_file c.args.map.now c.plan_tree.new.build plan
     c.finished.ensures.free c.finished.ensures.rise told c.requires.words (omega (arith, c.blocks-2.ensures.valid.least)) ground tells)

@@ -4,9 +4,9 @@ use Rattle.sn_block.specs.Lending.{device_of}
 use Rattle.sn_cp_build.specs.Building.{Builds, IsWellBuilt}
 use Rattle.sn_cp_held.specs.Builds.{CanBeBuilt, plan_of}
 use Rattle.sn_device.specs.Disk.{reads}
-use Rattle.sn_layout.specs.declared.places.Area.TheVariants.{Data}
-use Rattle.sn_layout.specs.Places.{start_of}
-use Rattle.sn_log.specs.Places.{LogPosition}
+use Rattle.sn_layout.specs.declared.geometry.Area.TheVariants.{Data}
+use Rattle.sn_layout.specs.Geometry.{start_of}
+use Rattle.sn_log.specs.Positions.{LogPosition}
 use Rattle.sn_ondisk.specs.Trees.{store_of}
 use Rattle.sn_overlay.specs.Overlays.{layer_of}
 use Rattle.sn_root.specs.Slots.{gate_in}
@@ -17,7 +17,7 @@ use Rattle.sn_cp_whole.proofs.going.begin_point.Goals as goal
 
 pub returns-in-Err-clause-begins : goal.returns-in-Err-clause-begins
 returns-in-Err-clause-begins g c told h world rr =
-    let n_is = c.places-places.ensures ∙ ap (λ (at : LogPosition). at.blocks) c.position.ensures in
+    let n_is = c.geometry-geometry.ensures ∙ ap (λ (at : LogPosition). at.blocks) c.position.ensures in
     nothing_written _ world _ rr h c.plan.result c.in-Err.fault _ _ c.in-Err.is (c.in-Err.ensures.same told)
     (λ e can. c.plan.ensures.damaged told e (subst (λ (n : ℕ). CanBeBuilt n (store_of (reads (g.D.Device.disk (device_of c.args.blocks.now)))) (kept_in c.args.base.now)) (sym n_is) can))
 
@@ -40,7 +40,7 @@ pub returns-clause-begins : goal.returns-clause-begins
 returns-clause-begins g c told h world rr =
     let base = c.args.base.now in
     let p = c.in-Ok.planned in
-    let n_is = c.places-places.ensures ∙ ap (λ (at : LogPosition). at.blocks) c.position.ensures in
+    let n_is = c.geometry-geometry.ensures ∙ ap (λ (at : LogPosition). at.blocks) c.position.ensures in
     let well = subst (λ (n : ℕ). IsWellBuilt n base.root.limits base.map (layer_of base.changed) p.built) n_is c.in-Ok.ensures.well in
     let builds = subst (λ (n : ℕ). Builds n base.root.limits (store_of (reads (g.D.Device.disk (device_of c.args.blocks.now)))) base.root.inode_file base.map (layer_of base.changed) p.built) n_is (c.in-Ok.ensures.builds told) in
     let begins = c.in-Ok-begin.ensures.bytes told in
@@ -58,8 +58,8 @@ returns-clause-begins g c told h world rr =
 pub returns-clause-going : goal.returns-clause-going
 returns-clause-going g c =
     let p = c.in-Ok.planned in
-    let n_is = c.places-places.ensures ∙ ap (λ (at : LogPosition). at.blocks) c.position.ensures in
-    is_going _ c.places-places.result c.args.base.now p.built p.next c.other-slot.result p.gate (record { point = c.new.result; free = c.count_free_from-free.result })
+    let n_is = c.geometry-geometry.ensures ∙ ap (λ (at : LogPosition). at.blocks) c.position.ensures in
+    is_going _ c.geometry-geometry.result c.args.base.now p.built p.next c.other-slot.result p.gate (record { point = c.new.result; free = c.count_free_from-free.result })
     n_is c.blocks-blocks.ensures.valid (c.requires.base.words ∙ sym n_is) c.in-Ok.ensures.well c.in-Ok.ensures.spelled c.in-Ok.ensures.next c.other-slot.ensures
     c.new.ensures.work c.new.ensures.stage c.new.ensures.within (c.count_free_from-free.ensures ∙ ap (free_data p.built.map) c.start.ensures)
 

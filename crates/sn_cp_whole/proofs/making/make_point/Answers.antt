@@ -5,7 +5,7 @@ use Rattle.sn_device.proofs.CrashLemmas.{LeavesOnly-join}
 use Rattle.sn_held.specs.Images.{IsImage}
 use Rattle.sn_held.specs.Held.{Held, RunsReady}
 use Rattle.sn_held.proofs.EventLemmas.{ready_with}
-use Rattle.sn_log.specs.Places.{LogPosition}
+use Rattle.sn_log.specs.Positions.{LogPosition}
 use Rattle.sn_device.specs.Disk.{Disk}
 use Rattle.sn_overlay.specs.Overlays.{layer_of}
 use Rattle.sn_cp_whole.specs.declared.base.PointBase.{PointBase}

@@ -41,7 +41,7 @@ finish-requires-clause-whole g c =
     let base = c.args.base.now in
     let p = c.in-Ok.planned in
     subst (λ (w : Work). IsWhole w) (sym c.new-point.ensures.work)
-    (whole_work c.args.places base.root.limits base.map (layer_of base.changed) p.built p.next c.other-slot.result p.gate c.blocks-blocks.ensures.valid c.requires.words c.in-Ok.ensures.well c.in-Ok.ensures.spelled c.in-Ok.ensures.next.body)
+    (whole_work c.args.geometry base.root.limits base.map (layer_of base.changed) p.built p.next c.other-slot.result p.gate c.blocks-blocks.ensures.valid c.requires.words c.in-Ok.ensures.well c.in-Ok.ensures.spelled c.in-Ok.ensures.next.body)
 
 pub finish-requires-clause-stands : goal.finish-requires-clause-stands
 finish-requires-clause-stands g c told =
@@ -64,8 +64,8 @@ pub returns-in_default-clause-touched : goal.returns-in_default-clause-touched
 returns-in_default-clause-touched g c told =
     let base = c.args.base.now in
     let p = c.in-Ok.planned in
-    writes_apart (record { blocks = c.args.places; slot = c.other-slot.result; gate = p.gate; plan = plan_of p.built p.next })
-    (whole_work c.args.places base.root.limits base.map (layer_of base.changed) p.built p.next c.other-slot.result p.gate c.blocks-blocks.ensures.valid c.requires.words c.in-Ok.ensures.well c.in-Ok.ensures.spelled c.in-Ok.ensures.next.body)
+    writes_apart (record { blocks = c.args.geometry; slot = c.other-slot.result; gate = p.gate; plan = plan_of p.built p.next })
+    (whole_work c.args.geometry base.root.limits base.map (layer_of base.changed) p.built p.next c.other-slot.result p.gate c.blocks-blocks.ensures.valid c.requires.words c.in-Ok.ensures.well c.in-Ok.ensures.spelled c.in-Ok.ensures.next.body)
     base.slot (sym c.other-slot.ensures) _ _ _ _ _ c.new-point.ensures.work (c.in-Ok.ensures.same told) (c.in_default.ensures.bytes told)
 
 pub returns-in_default-clause-costs : goal.returns-in_default-clause-costs
@@ -94,8 +94,8 @@ pub returns-clause-touched : goal.returns-clause-touched
 returns-clause-touched g c told =
     let base = c.args.base.now in
     let p = c.in-Ok.planned in
-    writes_apart (record { blocks = c.args.places; slot = c.other-slot.result; gate = p.gate; plan = plan_of p.built p.next })
-    (whole_work c.args.places base.root.limits base.map (layer_of base.changed) p.built p.next c.other-slot.result p.gate c.blocks-blocks.ensures.valid c.requires.words c.in-Ok.ensures.well c.in-Ok.ensures.spelled c.in-Ok.ensures.next.body)
+    writes_apart (record { blocks = c.args.geometry; slot = c.other-slot.result; gate = p.gate; plan = plan_of p.built p.next })
+    (whole_work c.args.geometry base.root.limits base.map (layer_of base.changed) p.built p.next c.other-slot.result p.gate c.blocks-blocks.ensures.valid c.requires.words c.in-Ok.ensures.well c.in-Ok.ensures.spelled c.in-Ok.ensures.next.body)
     base.slot (sym c.other-slot.ensures) _ _ _ _ _ c.new-point.ensures.work (c.in-Ok.ensures.same told) (c.in-Ok-finish.ensures.bytes told)
 
 pub returns-clause-costs : goal.returns-clause-costs

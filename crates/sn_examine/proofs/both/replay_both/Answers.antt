@@ -11,8 +11,8 @@ returns-in-Err-replay_epoch-clause-replayed g c told =
     let disk = g.D.Device.disk (device_of c.args.blocks.now) in
     let middle = (world_of c.replay_epoch.new.world).live in
     let f = c.in-Err-replay_epoch.fault in
-    let breaks = subst (λ (d : Disk). Breaks f (reads d) middle c.args.places (c.args.epoch + 1)) (c.in-Ok.ensures.same told) (c.in-Err-replay_epoch.ensures.replayed told) in
-    newer_fails f (reads disk) (world_of c.args.world.now).live c.args.places c.args.epoch c.in-Ok.replayed.at middle (world_of c.replay_epoch-2.new.world).live c.in-Ok.replayed.charges
+    let breaks = subst (λ (d : Disk). Breaks f (reads d) middle c.args.geometry (c.args.epoch + 1)) (c.in-Ok.ensures.same told) (c.in-Err-replay_epoch.ensures.replayed told) in
+    newer_fails f (reads disk) (world_of c.args.world.now).live c.args.geometry c.args.epoch c.in-Ok.replayed.at middle (world_of c.replay_epoch-2.new.world).live c.in-Ok.replayed.charges
     (record { blocks = c.in-Ok.ensures.blocks; of_epoch = c.in-Ok.ensures.epoch; all = c.in-Ok.ensures.replayed told }) breaks
 
 pub returns-then-count-eq0-clause-replayed : goal.returns-then-count-eq0-clause-replayed

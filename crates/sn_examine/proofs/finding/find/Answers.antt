@@ -28,7 +28,7 @@ returns-in-Err-load_world-clause-refuses g c told =
     let body = c.range-body.result.start in
     let sized = subst (λ (s : Status). IsUnsound s.sectors (reads (g.D.Device.disk (device_of c.find_root.new.blocks))) found.root.inode_file f) c.in-Ok.ensures.idle (c.in-Err-load_world.ensures.unsound told) in
     let unsound = subst (λ (d : Disk). IsUnsound (g.D.Device.status device).sectors (reads d) found.root.inode_file f) (c.in-Ok.ensures.same told) sized in
-    tree_refuses (g.D.Device.status device).sectors (reads (g.D.Device.disk device)) found.places found.slot found.root (g.met.D.Device.count device told) f body c.range-body.ensures.start has.formatted has.newest c.in-Err-load_world.ensures.fault unsound
+    tree_refuses (g.D.Device.status device).sectors (reads (g.D.Device.disk device)) found.geometry found.slot found.root (g.met.D.Device.count device told) f body c.range-body.ensures.start has.formatted has.newest c.in-Err-load_world.ensures.fault unsound
 
 pub returns-in-Err-replay_both-clause-refuses : goal.returns-in-Err-replay_both-clause-refuses
 returns-in-Err-replay_both-clause-refuses g c told =
@@ -38,10 +38,10 @@ returns-in-Err-replay_both-clause-refuses g c told =
     let f = c.in-Err-replay_both.fault in
     let tree = (world_of c.replay_both.new.world).live in
     let same = c.in-Ok-load_world.ensures.same told ∙ c.in-Ok.ensures.same told in
-    let is = subst (λ (d : Disk). ReplaysBoth (Err f) (reads d) (world_of c.in-Ok-load_world.world).live found.places found.root.epoch tree) same (c.in-Err-replay_both.ensures.replayed told) in
+    let is = subst (λ (d : Disk). ReplaysBoth (Err f) (reads d) (world_of c.in-Ok-load_world.world).live found.geometry found.root.epoch tree) same (c.in-Err-replay_both.ensures.replayed told) in
     let live = c.in-Ok-load_world.ensures.live told ∙ ap (λ (d : Disk). image (store_of (reads d)) found.root.inode_file) (c.in-Ok.ensures.same told) in
-    both_refuses (g.D.Device.status device).sectors (reads (g.D.Device.disk device)) found.places found.slot found.root (g.met.D.Device.count device told) f tree has.formatted has.newest
-    (subst (λ (t : Tree). ReplaysBoth (Err f) (reads (g.D.Device.disk device)) t found.places found.root.epoch tree) live is)
+    both_refuses (g.D.Device.status device).sectors (reads (g.D.Device.disk device)) found.geometry found.slot found.root (g.met.D.Device.count device told) f tree has.formatted has.newest
+    (subst (λ (t : Tree). ReplaysBoth (Err f) (reads (g.D.Device.disk device)) t found.geometry found.root.epoch tree) live is)
 
 pub returns-in-Err-find_room-clause-refuses : goal.returns-in-Err-find_room-clause-refuses
 returns-in-Err-find_room-clause-refuses g c told =
@@ -53,12 +53,12 @@ returns-in-Err-find_room-clause-refuses g c told =
     let tree = (world_of c.replay_both.new.world).live in
     let disk = reads (g.D.Device.disk device) in
     let same = c.in-Ok-load_world.ensures.same told ∙ c.in-Ok.ensures.same told in
-    let is = subst (λ (d : Disk). HasBoth (reads d) (world_of c.in-Ok-load_world.world).live found.places found.root.epoch r.at tree r.charges) same (c.in-Ok-replay_both.ensures.replayed told) in
+    let is = subst (λ (d : Disk). HasBoth (reads d) (world_of c.in-Ok-load_world.world).live found.geometry found.root.epoch r.at tree r.charges) same (c.in-Ok-replay_both.ensures.replayed told) in
     let live = c.in-Ok-load_world.ensures.live told ∙ ap (λ (d : Disk). image (store_of (reads d)) found.root.inode_file) (c.in-Ok.ensures.same told) in
-    let both = subst (λ (t : Tree). HasBoth disk t found.places found.root.epoch r.at tree r.charges) live is in
-    let over = subst (λ (d : Disk). IsUncovered f found.places (reads d) found.slot found.root r.charges c.nameless-dropped.result) (c.in-Ok-replay_both.ensures.same told ∙ same) (c.in-Err-find_room.ensures.uncovered told) in
-    uncovered_refuses (g.D.Device.status device).sectors disk found.places found.slot found.root (g.met.D.Device.count device told) f r.at tree r.charges has.formatted has.newest both
-    (subst (λ (n : ℕ). IsUncovered f found.places disk found.slot found.root r.charges n) (c.nameless-dropped.ensures ∙ ap nameless_in live) over)
+    let both = subst (λ (t : Tree). HasBoth disk t found.geometry found.root.epoch r.at tree r.charges) live is in
+    let over = subst (λ (d : Disk). IsUncovered f found.geometry (reads d) found.slot found.root r.charges c.nameless-dropped.result) (c.in-Ok-replay_both.ensures.same told ∙ same) (c.in-Err-find_room.ensures.uncovered told) in
+    uncovered_refuses (g.D.Device.status device).sectors disk found.geometry found.slot found.root (g.met.D.Device.count device told) f r.at tree r.charges has.formatted has.newest both
+    (subst (λ (n : ℕ). IsUncovered f found.geometry disk found.slot found.root r.charges n) (c.nameless-dropped.ensures ∙ ap nameless_in live) over)
 
 pub returns-in-Err-test_age-clause-refuses : goal.returns-in-Err-test_age-clause-refuses
 returns-in-Err-test_age-clause-refuses g c told =
@@ -69,11 +69,11 @@ returns-in-Err-test_age-clause-refuses g c told =
     let tree = (world_of c.replay_both.new.world).live in
     let disk = reads (g.D.Device.disk device) in
     let same = c.in-Ok-load_world.ensures.same told ∙ c.in-Ok.ensures.same told in
-    let is = subst (λ (d : Disk). HasBoth (reads d) (world_of c.in-Ok-load_world.world).live found.places found.root.epoch r.at tree r.charges) same (c.in-Ok-replay_both.ensures.replayed told) in
+    let is = subst (λ (d : Disk). HasBoth (reads d) (world_of c.in-Ok-load_world.world).live found.geometry found.root.epoch r.at tree r.charges) same (c.in-Ok-replay_both.ensures.replayed told) in
     let live = c.in-Ok-load_world.ensures.live told ∙ ap (λ (d : Disk). image (store_of (reads d)) found.root.inode_file) (c.in-Ok.ensures.same told) in
-    let both = subst (λ (t : Tree). HasBoth disk t found.places found.root.epoch r.at tree r.charges) live is in
-    aged_refuses (g.D.Device.status device).sectors disk found.places found.slot found.root (g.met.D.Device.count device told) c.in-Err-test_age.fault r.at tree r.charges both c.is_to_recover-recovers.result has.formatted has.newest
-    (tells_recovery disk (image (store_of disk) found.root.inode_file) found.places found.root.epoch r.at tree r.charges both c.is_to_recover-recovers.result c.nameless-dropped.result (c.nameless-dropped.ensures ∙ ap nameless_in live)
+    let both = subst (λ (t : Tree). HasBoth disk t found.geometry found.root.epoch r.at tree r.charges) live is in
+    aged_refuses (g.D.Device.status device).sectors disk found.geometry found.slot found.root (g.met.D.Device.count device told) c.in-Err-test_age.fault r.at tree r.charges both c.is_to_recover-recovers.result has.formatted has.newest
+    (tells_recovery disk (image (store_of disk) found.root.inode_file) found.geometry found.root.epoch r.at tree r.charges both c.is_to_recover-recovers.result c.nameless-dropped.result (c.nameless-dropped.ensures ∙ ap nameless_in live)
     (λ e. subst (λ (n : ℕ). (0 < n) ⊎ (0 < c.nameless-dropped.result)) c.count.ensures (c.is_to_recover-recovers.ensures.some e))
     (λ e. let none = c.is_to_recover-recovers.ensures.none e in (sym c.count.ensures ∙ none.0, none.1)))
     c.in-Err-test_age.ensures.aged
@@ -87,16 +87,16 @@ returns-clause-found g c told =
     let world = world_of c.replay_both.new.world in
     let disk = reads (g.D.Device.disk device) in
     let same = c.in-Ok-load_world.ensures.same told ∙ c.in-Ok.ensures.same told in
-    let is = subst (λ (d : Disk). HasBoth (reads d) (world_of c.in-Ok-load_world.world).live found.places found.root.epoch r.at world.live r.charges) same (c.in-Ok-replay_both.ensures.replayed told) in
+    let is = subst (λ (d : Disk). HasBoth (reads d) (world_of c.in-Ok-load_world.world).live found.geometry found.root.epoch r.at world.live r.charges) same (c.in-Ok-replay_both.ensures.replayed told) in
     let live = c.in-Ok-load_world.ensures.live told ∙ ap (λ (d : Disk). image (store_of (reads d)) found.root.inode_file) (c.in-Ok.ensures.same told) in
-    let both = subst (λ (t : Tree). HasBoth disk t found.places found.root.epoch r.at world.live r.charges) live is in
+    let both = subst (λ (t : Tree). HasBoth disk t found.geometry found.root.epoch r.at world.live r.charges) live is in
     let all = c.in-Ok-replay_both.ensures.same told ∙ same in
     let k : Kept = record { slot = found.slot; root = found.root; words = c.in-Ok-find_room.found.0; changed = layer_of r.changed } in
-    has_found (g.D.Device.status device).sectors disk found.places k r.at world c.in-Ok-find_room.found.1 c.is_to_recover-recovers.result r.charges c.nameless-dropped.result c.in-Ok-replay_both.ensures.blocks has
-    (λ words h. c.in-Ok-find_room.ensures.words told words (subst (λ (d : Disk). HasMap found.places (reads d) found.slot words) (sym all) h))
+    has_found (g.D.Device.status device).sectors disk found.geometry k r.at world c.in-Ok-find_room.found.1 c.is_to_recover-recovers.result r.charges c.nameless-dropped.result c.in-Ok-replay_both.ensures.blocks has
+    (λ words h. c.in-Ok-find_room.ensures.words told words (subst (λ (d : Disk). HasMap found.geometry (reads d) found.slot words) (sym all) h))
     both
     (subst (λ (t : Tree). LeadsOn no_changes t 0 (layer_of r.changed) world.live r.charges) live c.in-Ok-replay_both.ensures.changed)
-    (subst (λ (d : Disk). FindsRoom found.places (reads d) found.slot found.root r.charges c.nameless-dropped.result c.in-Ok-find_room.found.1) all (c.in-Ok-find_room.ensures.room told))
+    (subst (λ (d : Disk). FindsRoom found.geometry (reads d) found.slot found.root r.charges c.nameless-dropped.result c.in-Ok-find_room.found.1) all (c.in-Ok-find_room.ensures.room told))
     (c.nameless-dropped.ensures ∙ ap nameless_in live)
     (λ e. subst (λ (n : ℕ). (0 < n) ⊎ (0 < c.nameless-dropped.result)) c.count.ensures (c.is_to_recover-recovers.ensures.some e))
     (λ e. let none = c.is_to_recover-recovers.ensures.none e in (sym c.count.ensures ∙ none.0, none.1))

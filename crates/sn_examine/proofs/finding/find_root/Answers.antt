@@ -10,5 +10,5 @@ returns-in-Err-none_later-clause-refuses g c told =
     let device = device_of c.args.blocks.now in
     let newest = c.in-Ok.newest in
     let f = c.in-Err-none_later.fault in
-    later_refuses (g.D.Device.status device).sectors (reads (g.D.Device.disk device)) newest.places newest.slot newest.root (g.met.D.Device.count device told) f (c.in-Ok.ensures.formatted told) (c.in-Ok.ensures.newest told)
-    (subst (λ (d : Disk). SomeIsLater f (reads d) newest.places (newest.root.epoch + 1)) (c.in-Ok.ensures.same told) (c.in-Err-none_later.ensures.later told))
+    later_refuses (g.D.Device.status device).sectors (reads (g.D.Device.disk device)) newest.geometry newest.slot newest.root (g.met.D.Device.count device told) f (c.in-Ok.ensures.formatted told) (c.in-Ok.ensures.newest told)
+    (subst (λ (d : Disk). SomeIsLater f (reads d) newest.geometry (newest.root.epoch + 1)) (c.in-Ok.ensures.same told) (c.in-Err-none_later.ensures.later told))

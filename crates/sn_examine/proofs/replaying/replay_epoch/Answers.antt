@@ -1,7 +1,7 @@
 use Rattle.std.proofs.Common.{rules, ◌≡◌, ℕ, ◌+◌, ◌-◌, ◌<◌, ◌≤◌, Bool, true, false, if◌then◌else◌, refl, sym, ap, subst, arith}
 use Rattle.sn_device.specs.Disk.{reads}
 use Rattle.sn_block.specs.Lending.{device_of}
-use Rattle.sn_log.specs.Places.{LogPosition}
+use Rattle.sn_log.specs.Positions.{LogPosition}
 use Rattle.sn_core.specs.Plain.{world_of}
 use Rattle.sn_examine.specs.Replaying.{HasReplayed}
 use Rattle.sn_examine.proofs.ReplayLemmas.{starts}
@@ -12,7 +12,7 @@ loop-more-init g c =
     let first = c.new-replay.ensures in
     let from = (world_of c.args.world.now).live in
     record {
-      replayed = λ told. subst (λ (p : LogPosition). HasReplayed (reads (g.D.Device.disk (device_of c.args.blocks.now))) from p from 0) (sym first) (starts (reads (g.D.Device.disk (device_of c.args.blocks.now))) from c.args.places c.args.epoch);
+      replayed = λ told. subst (λ (p : LogPosition). HasReplayed (reads (g.D.Device.disk (device_of c.args.blocks.now))) from p from 0) (sym first) (starts (reads (g.D.Device.disk (device_of c.args.blocks.now))) from c.args.geometry c.args.epoch);
       changed = λ root before has. has;
       few = omega arith;
       rest = refl;

@@ -18,7 +18,7 @@ invariant-loop-more g l = record {
   few : l.charges ≤ 2 ^ 64 * l.replay.place;
   rest : world_of l.world ≡ with_live (world_of l.fn.world) (world_of l.world).live;
   whole : IsTree version_1 (world_of l.world).live;
-  blocks : l.replay.blocks ≡ l.fn.places;
+  blocks : l.replay.blocks ≡ l.fn.geometry;
   epoch : l.replay.epoch ≡ l.fn.epoch;
   same : IsTrue g.D.Device.tells_bytes → g.D.Device.disk (device_of l.blocks) ≡ g.D.Device.disk (device_of l.fn.blocks);
   status : g.D.Device.status (device_of l.blocks) ≡ g.D.Device.status (device_of l.fn.blocks);

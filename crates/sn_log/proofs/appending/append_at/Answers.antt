@@ -5,7 +5,7 @@ use Rattle.sn_device.specs.Disk.{reads}
 use Rattle.sn_ondisk.specs.LogHalf.{body_sectors, body_bytes}
 use Rattle.sn_record.specs.Payload.{payload_bytes}
 use Rattle.sn_block.specs.Lending.{device_of}
-use Rattle.sn_log.specs.Places.{base_at}
+use Rattle.sn_log.specs.Positions.{base_at}
 use Rattle.sn_log.proofs.AppendLemmas.{append-failed-at, append-done-at}
 use Rattle.sn_log.proofs.appending.append_at.Goals as goal
 

@@ -7,14 +7,14 @@ use Rattle.sn_layout.specs.Gate.{gate_of}
 use Rattle.sn_ondisk.specs.Gates.{IsClosed, IsOpen}
 use Rattle.sn_ondisk.specs.LogHalf.{epoch_at}
 use Rattle.sn_ondisk.proofs.BlockLemmas.{gate_read}
-use Rattle.sn_log.specs.Places.{half_base}
+use Rattle.sn_log.specs.Positions.{half_base}
 use Rattle.sn_log.proofs.LaterLemmas.{epoch_read}
 use Rattle.sn_log.proofs.later.has_no_later.Goals as goal
 
 pub returns-clause-told : goal.returns-clause-told
 returns-clause-told g c told =
     let before = reads (g.D.Device.disk (device_of c.args.blocks.now)) in
-    let base = half_base c.args.places c.args.half in
+    let base = half_base c.args.geometry c.args.half in
     let start = c.first_block-start.result in
     let first : 8 * start + 0 ≡ base = omega (arith, c.first_block-start.ensures.start) in
     let second : 8 * start + 1 ≡ base + 0 + 1 = omega (arith, c.first_block-start.ensures.start) in

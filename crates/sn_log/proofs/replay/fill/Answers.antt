@@ -2,7 +2,7 @@ use Rattle.std.proofs.Common.{◌≡◌, ℕ, ◌+◌, ◌*◌, ◌/◌, ◌≤�
 use Rattle.sn_device.specs.Disk.{reads}
 use Rattle.sn_ondisk.specs.LogHalf.{body_bytes}
 use Rattle.sn_block.specs.Lending.{device_of}
-use Rattle.sn_log.specs.Places.{base_at}
+use Rattle.sn_log.specs.Positions.{base_at}
 use Rattle.sn_log.proofs.ReplayLemmas.{filled}
 use Rattle.sn_log.proofs.replay.fill.Goals as goal
 

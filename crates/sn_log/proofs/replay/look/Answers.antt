@@ -5,7 +5,7 @@ use Rattle.sn_ondisk.specs.Gates.{IsOpen}
 use Rattle.sn_layout.specs.Gate.{gate_of}
 use Rattle.sn_ondisk.proofs.BlockLemmas.{gate_read}
 use Rattle.sn_block.specs.Lending.{device_of}
-use Rattle.sn_log.specs.Places.{base_at}
+use Rattle.sn_log.specs.Positions.{base_at}
 use Rattle.sn_log.proofs.HeadLemmas.{look-stops, look-finds}
 use Rattle.sn_log.proofs.replay.look.Goals as goal
 

@@ -2,8 +2,8 @@ use Rattle.std.proofs.Common.{◌*◌, ◌≤◌, ◌∙◌, length, sym, subst,
 use Rattle.sn_device.specs.Disk.{reads}
 use Rattle.sn_device.specs.Sectors.{Run}
 use Rattle.sn_device.proofs.CrashLemmas.{Touches-present}
-use Rattle.sn_layout.specs.Places.{IsDiskSize, start_of}
-use Rattle.sn_layout.specs.declared.places.Area.TheVariants.{Data}
+use Rattle.sn_layout.specs.Geometry.{IsDiskSize, start_of}
+use Rattle.sn_layout.specs.declared.geometry.Area.TheVariants.{Data}
 use Rattle.sn_block.proofs.EffectLemmas.{OnOk-always}
 use Rattle.sn_block.specs.Lending.{device_of}
 use Rattle.sn_mkfs.specs.Writing.{marked_block}
@@ -13,7 +13,7 @@ use Rattle.sn_mkfs.proofs.writing.lay_out.Goals as goal
 
 pub returns-clause-laid_out : goal.returns-clause-laid_out
 returns-clause-laid_out g c told =
-    let n = c.args.places in
+    let n = c.args.geometry in
     let size : IsDiskSize n = search rules in
     let blank = c.in_ok-zero_range.ensures.disk told in
     let superblock = c.in_ok-write_superblock.ensures.disk told in

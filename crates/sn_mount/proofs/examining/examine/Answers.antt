@@ -4,7 +4,7 @@ use Rattle.sn_device.specs.declared.status.Status.{Status}
 use Rattle.sn_block.specs.Lending.{device_of}
 use Rattle.sn_core.specs.Plain.{world_of}
 use Rattle.sn_examine.specs.Finding.{HasFound}
-use Rattle.sn_examine.specs.Found.{kept_of}
+use Rattle.sn_examine.specs.FoundDisk.{kept_of}
 use Rattle.sn_examine.specs.Refusing.{Refuses}
 use Rattle.sn_mount.proofs.CauseLemmas.{refused_cause}
 use Rattle.sn_mount.proofs.examining.examine.Goals as goal

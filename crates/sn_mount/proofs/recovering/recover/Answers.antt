@@ -8,11 +8,11 @@ use Rattle.sn_cp_whole.specs.Recovering.{IsApart}
 use Rattle.sn_device.specs.Crash.{Touches}
 use Rattle.sn_device.specs.Sectors.{Contents}
 use Rattle.sn_block.specs.Effects.{Nowhere}
-use Rattle.sn_layout.specs.declared.places.Area.TheVariants.{Data}
-use Rattle.sn_layout.specs.Places.{start_of}
+use Rattle.sn_layout.specs.declared.geometry.Area.TheVariants.{Data}
+use Rattle.sn_layout.specs.Geometry.{start_of}
 use Rattle.sn_limits.specs.Versions.{version_1}
 use Rattle.sn_log.specs.Clearing.{Clears}
-use Rattle.sn_log.specs.Places.{LogPosition, first_of, half_base}
+use Rattle.sn_log.specs.Positions.{LogPosition, first_of, half_base}
 use Rattle.sn_model.specs.declared.mount.MountFault.{MountFault}
 use Rattle.sn_model.specs.Settling.{settle}
 use Rattle.sn_model.specs.World.{World, new_world}
@@ -26,7 +26,7 @@ use Rattle.sn_overlay.specs.Overlays.{HasRoom}
 use Rattle.sn_held.proofs.RoomLemmas.{settled_has_none}
 use Rattle.sn_room.specs.Rooms.{RoomCounts, fresh}
 use Rattle.sn_examine.specs.Finding.{HasFound}
-use Rattle.sn_examine.specs.Found.{kept_of}
+use Rattle.sn_examine.specs.FoundDisk.{kept_of}
 use Rattle.sn_examine.specs.Laws.{IsSomeClean}
 use Rattle.sn_check.specs.Verdicts.{IsCause}
 use Rattle.sn_mount.specs.Costs.{CostsMount}
@@ -54,16 +54,16 @@ returns-in-Ok-clear-clause-recovers g c told =
     let count : length (reads mid) ≡ sectors = g.met.D.Device.count device told ∙ same in
     let f = subst (λ (n : ℕ). HasFound n (reads mid) (kept_of found) at (world_of found.world) found.room found.recovers) same (c.in-Ok-examine.ensures.found told) in
     let makes = subst (λ (n : ℕ). MakesRoot c.make_root.result n (kept_in c.in-Ok-settle.field-0.base) found.recovers mid rooted) (sym c.in-Ok-examine.ensures.blocks)
-    (subst (λ (d : Disk). MakesRoot c.make_root.result found.places (kept_in c.in-Ok-settle.field-0.base) found.recovers d rooted) (c.in-Ok-examine.ensures.same told) (c.make_root.ensures.makes told)) in
+    (subst (λ (d : Disk). MakesRoot c.make_root.result found.geometry (kept_in c.in-Ok-settle.field-0.base) found.recovers d rooted) (c.in-Ok-examine.ensures.same told) (c.make_root.ensures.makes told)) in
     let half = c.of_epoch.result in
-    let here : half_base found.places half ≡ base_of at.blocks base2.root.epoch = ap (λ (p : ℕ). half_base p half) (sym c.in-Ok-examine.ensures.blocks) ∙ ap (half_base at.blocks) c.of_epoch.ensures in
+    let here : half_base found.geometry half ≡ base_of at.blocks base2.root.epoch = ap (λ (p : ℕ). half_base p half) (sym c.in-Ok-examine.ensures.blocks) ∙ ap (half_base at.blocks) c.of_epoch.ensures in
     let clears = subst (λ (b : ℕ). Clears b 0 c.clear.result rooted new) here (c.clear.ensures.disk told) in
     let done = c.in-Ok-clear.ensures.disk told in
     let closed = subst (λ (b : ℕ). Always new (λ x. IsClosed x (b + 0))) here done.closed in
     let settles = c.in-Ok-settle.ensures.changed in
     let whole = g.met.D.Device.whole device told in
     let touched = touches_apart at.blocks base2.root.epoch found.slot mid rooted new c.clear.result
-    (subst (λ (n : ℕ). Touches (IsApart n found.slot) mid rooted) (sym c.in-Ok-examine.ensures.blocks) (subst (λ (d : Disk). Touches (IsApart found.places found.slot) d rooted) (c.in-Ok-examine.ensures.same told) (rw settles.slot at (c.make_root.ensures.touched told)))) clears in (
+    (subst (λ (n : ℕ). Touches (IsApart n found.slot) mid rooted) (sym c.in-Ok-examine.ensures.blocks) (subst (λ (d : Disk). Touches (IsApart found.geometry found.slot) d rooted) (c.in-Ok-examine.ensures.same told) (rw settles.slot at (c.make_root.ensures.touched told)))) clears in (
       root_kept sectors mid (kept_of found) at (world_of found.world) found.room found.recovers f count whole sync.synced _ settles c.in-Ok-examine.ensures.whole old new sync.touched sync.same touched,
       λ w is. recovered sectors old mid rooted new (kept_of found) at (world_of found.world) found.room found.recovers f count whole sync.synced _ settles c.in-Ok-examine.ensures.whole sync.touched sync.same c.make_root.result makes w is.image is.frozen
           base2 c.in-Ok-make_root.is c.clear.result clears _ _ _
@@ -102,21 +102,21 @@ pub returns-in-Ok-clear-clause-done : goal.returns-in-Ok-clear-clause-done
 returns-in-Ok-clear-clause-done g c =
     let is = c.new-in-Ok-clear.ensures ∙ c.first-at.ensures in
     subst (λ (n : ℕ). CostsMount n (g.D.Device.status (device_of c.args.blocks.now)) (g.D.Device.status (device_of c.clear.new.blocks))) (sym (ap (λ (p : LogPosition). p.blocks) is))
-    (mount_costs c.in-Ok-examine.found.places (g.D.Device.status (device_of c.args.blocks.now)) (g.D.Device.status (device_of c.sync.new.self)) (g.D.Device.status (device_of c.examine.new.blocks)) (g.D.Device.status (device_of c.make_root.new.blocks)) (g.D.Device.status (device_of c.clear.new.blocks)) c.in-Ok-sync.ensures.counts.done c.in-Ok-examine.ensures.idle c.in-Ok-make_root.ensures.costs.done c.in-Ok-clear.ensures.counts.done)
+    (mount_costs c.in-Ok-examine.found.geometry (g.D.Device.status (device_of c.args.blocks.now)) (g.D.Device.status (device_of c.sync.new.self)) (g.D.Device.status (device_of c.examine.new.blocks)) (g.D.Device.status (device_of c.make_root.new.blocks)) (g.D.Device.status (device_of c.clear.new.blocks)) c.in-Ok-sync.ensures.counts.done c.in-Ok-examine.ensures.idle c.in-Ok-make_root.ensures.costs.done c.in-Ok-clear.ensures.counts.done)
 
 pub returns-in-Ok-clear-clause-costs : goal.returns-in-Ok-clear-clause-costs
 returns-in-Ok-clear-clause-costs g c =
-    few_costs c.in-Ok-examine.found.places (g.D.Device.status (device_of c.args.blocks.now)) (g.D.Device.status (device_of c.sync.new.self)) (g.D.Device.status (device_of c.examine.new.blocks)) (g.D.Device.status (device_of c.make_root.new.blocks)) (g.D.Device.status (device_of c.clear.new.blocks)) (omega (arith, c.in-Ok-examine.ensures.within, c.in-Ok-sync.ensures.counts.sectors)) (omega (arith, c.in-Ok-sync.ensures.counts.writes), omega (arith, c.in-Ok-sync.ensures.counts.syncs)) c.in-Ok-examine.ensures.idle
+    few_costs c.in-Ok-examine.found.geometry (g.D.Device.status (device_of c.args.blocks.now)) (g.D.Device.status (device_of c.sync.new.self)) (g.D.Device.status (device_of c.examine.new.blocks)) (g.D.Device.status (device_of c.make_root.new.blocks)) (g.D.Device.status (device_of c.clear.new.blocks)) (omega (arith, c.in-Ok-examine.ensures.within, c.in-Ok-sync.ensures.counts.sectors)) (omega (arith, c.in-Ok-sync.ensures.counts.writes), omega (arith, c.in-Ok-sync.ensures.counts.syncs)) c.in-Ok-examine.ensures.idle
     (c.in-Ok-make_root.ensures.costs.writes, c.in-Ok-make_root.ensures.costs.syncs) (c.in-Ok-clear.ensures.counts.writes, c.in-Ok-clear.ensures.counts.syncs)
 
 pub returns-in-Err-clear-clause-costs : goal.returns-in-Err-clear-clause-costs
 returns-in-Err-clear-clause-costs g c =
-    few_costs c.in-Ok-examine.found.places (g.D.Device.status (device_of c.args.blocks.now)) (g.D.Device.status (device_of c.sync.new.self)) (g.D.Device.status (device_of c.examine.new.blocks)) (g.D.Device.status (device_of c.make_root.new.blocks)) (g.D.Device.status (device_of c.clear.new.blocks)) (omega (arith, c.in-Ok-examine.ensures.within, c.in-Ok-sync.ensures.counts.sectors)) (omega (arith, c.in-Ok-sync.ensures.counts.writes), omega (arith, c.in-Ok-sync.ensures.counts.syncs)) c.in-Ok-examine.ensures.idle
+    few_costs c.in-Ok-examine.found.geometry (g.D.Device.status (device_of c.args.blocks.now)) (g.D.Device.status (device_of c.sync.new.self)) (g.D.Device.status (device_of c.examine.new.blocks)) (g.D.Device.status (device_of c.make_root.new.blocks)) (g.D.Device.status (device_of c.clear.new.blocks)) (omega (arith, c.in-Ok-examine.ensures.within, c.in-Ok-sync.ensures.counts.sectors)) (omega (arith, c.in-Ok-sync.ensures.counts.writes), omega (arith, c.in-Ok-sync.ensures.counts.syncs)) c.in-Ok-examine.ensures.idle
     (c.in-Ok-make_root.ensures.costs.writes, c.in-Ok-make_root.ensures.costs.syncs) (c.in-Err-clear.ensures.counts.writes, c.in-Err-clear.ensures.counts.syncs)
 
 pub returns-in-Err-make_root-clause-costs : goal.returns-in-Err-make_root-clause-costs
 returns-in-Err-make_root-clause-costs g c =
-    few_costs c.in-Ok-examine.found.places (g.D.Device.status (device_of c.args.blocks.now)) (g.D.Device.status (device_of c.sync.new.self)) (g.D.Device.status (device_of c.examine.new.blocks)) (g.D.Device.status (device_of c.make_root.new.blocks)) (g.D.Device.status (device_of c.make_root.new.blocks)) (omega (arith, c.in-Ok-examine.ensures.within, c.in-Ok-sync.ensures.counts.sectors)) (omega (arith, c.in-Ok-sync.ensures.counts.writes), omega (arith, c.in-Ok-sync.ensures.counts.syncs)) c.in-Ok-examine.ensures.idle
+    few_costs c.in-Ok-examine.found.geometry (g.D.Device.status (device_of c.args.blocks.now)) (g.D.Device.status (device_of c.sync.new.self)) (g.D.Device.status (device_of c.examine.new.blocks)) (g.D.Device.status (device_of c.make_root.new.blocks)) (g.D.Device.status (device_of c.make_root.new.blocks)) (omega (arith, c.in-Ok-examine.ensures.within, c.in-Ok-sync.ensures.counts.sectors)) (omega (arith, c.in-Ok-sync.ensures.counts.writes), omega (arith, c.in-Ok-sync.ensures.counts.syncs)) c.in-Ok-examine.ensures.idle
     (c.in-Err-make_root.ensures.costs.writes, c.in-Err-make_root.ensures.costs.syncs) (omega arith, omega arith)
 
 pub returns-in-Err-clear-clause-recovers : goal.returns-in-Err-clear-clause-recovers
@@ -135,15 +135,15 @@ returns-in-Err-clear-clause-recovers g c told =
     let count : length (reads mid) ≡ sectors = g.met.D.Device.count device told ∙ same in
     let f = subst (λ (n : ℕ). HasFound n (reads mid) (kept_of found) at (world_of found.world) found.room found.recovers) same (c.in-Ok-examine.ensures.found told) in
     let makes = subst (λ (n : ℕ). MakesRoot c.make_root.result n (kept_in c.in-Ok-settle.field-0.base) found.recovers mid rooted) (sym c.in-Ok-examine.ensures.blocks)
-    (subst (λ (d : Disk). MakesRoot c.make_root.result found.places (kept_in c.in-Ok-settle.field-0.base) found.recovers d rooted) (c.in-Ok-examine.ensures.same told) (c.make_root.ensures.makes told)) in
+    (subst (λ (d : Disk). MakesRoot c.make_root.result found.geometry (kept_in c.in-Ok-settle.field-0.base) found.recovers d rooted) (c.in-Ok-examine.ensures.same told) (c.make_root.ensures.makes told)) in
     let half = c.of_epoch.result in
-    let here : half_base found.places half ≡ base_of at.blocks base2.root.epoch = ap (λ (p : ℕ). half_base p half) (sym c.in-Ok-examine.ensures.blocks) ∙ ap (half_base at.blocks) c.of_epoch.ensures in
+    let here : half_base found.geometry half ≡ base_of at.blocks base2.root.epoch = ap (λ (p : ℕ). half_base p half) (sym c.in-Ok-examine.ensures.blocks) ∙ ap (half_base at.blocks) c.of_epoch.ensures in
     let clears = subst (λ (b : ℕ). Clears b 0 c.clear.result rooted new) here (c.clear.ensures.disk told) in
     let settles = c.in-Ok-settle.ensures.changed in
     let whole = g.met.D.Device.whole device told in
     let fault = c.in-Err-clear.fault in
     let touched = touches_apart at.blocks base2.root.epoch found.slot mid rooted new c.clear.result
-    (subst (λ (n : ℕ). Touches (IsApart n found.slot) mid rooted) (sym c.in-Ok-examine.ensures.blocks) (subst (λ (d : Disk). Touches (IsApart found.places found.slot) d rooted) (c.in-Ok-examine.ensures.same told) (rw settles.slot at (c.make_root.ensures.touched told)))) clears in
+    (subst (λ (n : ℕ). Touches (IsApart n found.slot) mid rooted) (sym c.in-Ok-examine.ensures.blocks) (subst (λ (d : Disk). Touches (IsApart found.geometry found.slot) d rooted) (c.in-Ok-examine.ensures.same told) (rw settles.slot at (c.make_root.ensures.touched told)))) clears in
     let kept = root_kept sectors mid (kept_of found) at (world_of found.world) found.room found.recovers f count whole sync.synced _ settles c.in-Ok-examine.ensures.whole old new sync.touched sync.same touched in (
       subst (IsCause sectors (reads old)) (sym c.fault_of.ensures) (read_cause fault sectors (reads old)),
       subst (λ (x : MountFault). WritesAtFault x sectors old new) (sym c.fault_of.ensures) (read_writes fault sectors old new kept),
@@ -165,13 +165,13 @@ returns-in-Err-make_root-clause-recovers g c told =
     let count : length (reads mid) ≡ sectors = g.met.D.Device.count device told ∙ same in
     let f = subst (λ (n : ℕ). HasFound n (reads mid) (kept_of found) at (world_of found.world) found.room found.recovers) same (c.in-Ok-examine.ensures.found told) in
     let makes = subst (λ (n : ℕ). MakesRoot c.make_root.result n (kept_in c.in-Ok-settle.field-0.base) found.recovers mid rooted) (sym c.in-Ok-examine.ensures.blocks)
-    (subst (λ (d : Disk). MakesRoot c.make_root.result found.places (kept_in c.in-Ok-settle.field-0.base) found.recovers d rooted) (c.in-Ok-examine.ensures.same told) (c.make_root.ensures.makes told)) in
+    (subst (λ (d : Disk). MakesRoot c.make_root.result found.geometry (kept_in c.in-Ok-settle.field-0.base) found.recovers d rooted) (c.in-Ok-examine.ensures.same told) (c.make_root.ensures.makes told)) in
     let settles = c.in-Ok-settle.ensures.changed in
     let whole = g.met.D.Device.whole device told in
     let fault = c.in-Err-make_root.fault in
     let none = subst (λ (n : ℕ). IsNoRoot fault n (kept_in c.in-Ok-settle.field-0.base) mid rooted) (sym c.in-Ok-examine.ensures.blocks)
-    (subst (λ (d : Disk). IsNoRoot fault found.places (kept_in c.in-Ok-settle.field-0.base) d rooted) (c.in-Ok-examine.ensures.same told) (c.in-Err-make_root.ensures.none told)) in
-    let touched = subst (λ (n : ℕ). Touches (IsApart n found.slot) mid rooted) (sym c.in-Ok-examine.ensures.blocks) (subst (λ (d : Disk). Touches (IsApart found.places found.slot) d rooted) (c.in-Ok-examine.ensures.same told) (rw settles.slot at (c.make_root.ensures.touched told))) in
+    (subst (λ (d : Disk). IsNoRoot fault found.geometry (kept_in c.in-Ok-settle.field-0.base) d rooted) (c.in-Ok-examine.ensures.same told) (c.in-Err-make_root.ensures.none told)) in
+    let touched = subst (λ (n : ℕ). Touches (IsApart n found.slot) mid rooted) (sym c.in-Ok-examine.ensures.blocks) (subst (λ (d : Disk). Touches (IsApart found.geometry found.slot) d rooted) (c.in-Ok-examine.ensures.same told) (rw settles.slot at (c.make_root.ensures.touched told))) in
     let kept = root_kept sectors mid (kept_of found) at (world_of found.world) found.room found.recovers f count whole sync.synced _ settles c.in-Ok-examine.ensures.whole old rooted sync.touched sync.same touched in (
       subst (λ (x : Contents). IsCause sectors x fault) sync.same
           (refused_cause fault sectors (reads mid) (record { whole = whole; count = count }) (subst (λ (n : ℕ). IsSomeClean n (reads mid)) same (c.in-Ok-examine.ensures.clean told))

@@ -11,7 +11,7 @@ pub returns-in-Ok-clause-makes : goal.returns-in-Ok-clause-makes
 returns-in-Ok-clause-makes g c told world im in_n replayed stays =
     let d = g.D.Device.disk (device_of c.args.blocks.now) in (
       LeavesOnly-start d (λ x. IsImage x world) (Always-synced d (λ x. IsImage x world) (c.requires.synced told) im),
-      subst (λ (layer : Layer). IsImageOver d world c.args.places (record { slot = c.args.base.slot; root = c.args.base.root; words = c.args.base.map; changed = layer })) (sym c.in-Ok.ensures.empty) (stays c.if-not-recovers.true),
+      subst (λ (layer : Layer). IsImageOver d world c.args.geometry (record { slot = c.args.base.slot; root = c.args.base.root; words = c.args.base.map; changed = layer })) (sym c.in-Ok.ensures.empty) (stays c.if-not-recovers.true),
     )
 
 pub returns-in-Err-clause-makes : goal.returns-in-Err-clause-makes
@@ -24,4 +24,4 @@ returns-in-Ok-make_recovery-clause-makes g c told world im in_n replayed stays =
 
 pub returns-clause-makes : goal.returns-clause-makes
 returns-clause-makes g c told world im in_n replayed stays =
-    (unmade_leaves c.in-Err-make_recovery.fault c.args.places world _ _ (c.requires.synced told) im (c.in-Err-make_recovery.ensures.recovery told world im in_n replayed), tt)
+    (unmade_leaves c.in-Err-make_recovery.fault c.args.geometry world _ _ (c.requires.synced told) im (c.in-Err-make_recovery.ensures.recovery told world im in_n replayed), tt)

@@ -2,7 +2,7 @@ use Rattle.std.proofs.Common.{ℕ, ◌+◌, ◌∙◌, List, length, Err, ap, su
 use Rattle.std.specs.Prelude.{IsErrOf}
 use Rattle.sn_script.specs.declared.fault.ScriptFault.{ScriptFault}
 use Rattle.sn_script.specs.declared.fault.ScriptFault.TheVariants as reading
-use Rattle.sn_program.specs.declared.fault.Fault.TheVariants as fault
+use Rattle.sn_program.specs.declared.fault.ProgramFault.TheVariants as fault
 use Rattle.sn_program.proofs.ReaderLemmas.{IsRead, bad_all, found_all, long_all, not_long, script_told, told_of_file, told_of_script}
 use Rattle.sn_program.proofs.script.read_events.Goals as goal
 

@@ -1,9 +1,9 @@
 use Rattle.std.proofs.Common.{◌≡◌, sym, ◌∙◌, subst}
 use Rattle.sn_device.specs.Disk.{Disk, reads}
-use Rattle.sn_layout.specs.declared.places.Slot.TheVariants.{A, B}
+use Rattle.sn_layout.specs.declared.geometry.Slot.TheVariants.{A, B}
 use Rattle.sn_block.specs.Lending.{device_of}
 use Rattle.sn_root.specs.Slots.{gate_in}
-use Rattle.sn_root.specs.Held.{Holds}
+use Rattle.sn_root.specs.Carried.{Holds}
 use Rattle.sn_root.proofs.finding.newest.Goals as goal
 
 pub returns-clause-found : goal.returns-clause-found

@@ -1,7 +1,7 @@
 use Rattle.std.proofs.Common.{◌≡◌}
 use Rattle.sn_device.specs.Sectors.{Single}
 use Rattle.sn_device.proofs.CrashLemmas.{Always-kept}
-use Rattle.sn_layout.specs.Places.{gate_sector}
+use Rattle.sn_layout.specs.Geometry.{gate_sector}
 use Rattle.sn_ondisk.specs.Blocks.{InBlock}
 use Rattle.sn_ondisk.specs.Gates.{IsClosed}
 use Rattle.sn_ondisk.specs.LogHalf.{InHalf, base_of}

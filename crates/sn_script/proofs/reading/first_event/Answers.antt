@@ -1,6 +1,6 @@
 use Rattle.std.proofs.lemmas.Result.{err_from_is_err_and}
 use Rattle.std.proofs.Common.{◌≡◌}
-use Rattle.sn_words.specs.declared.fault.ReadFault.TheVariants.{Bad}
+use Rattle.sn_words.specs.declared.fault.SpellingFault.TheVariants.{Bad}
 use Rattle.sn_script.specs.Reading.{line_event}
 use Rattle.sn_script.proofs.LineLaws.{first_found, first_bad, nothing_read}
 use Rattle.sn_script.proofs.reading.first_event.Goals as goal

@@ -1,4 +1,4 @@
-use Rattle.sn_layout.specs.Places.{other_slot}
+use Rattle.sn_layout.specs.Geometry.{other_slot}
 use Rattle.sn_tests_disk.proofs.PointLemmas.{gate_synced}
 use Rattle.sn_tests_disk.proofs.point.mounted.Goals as goal
 

@@ -8,7 +8,7 @@ use Rattle.sn_desc.specs.InUse.{InUse}
 use Rattle.sn_desc.specs.OpenFiles.{files_of}
 use Rattle.sn_desc.specs.Sessions.{in_use_of}
 use Rattle.sn_desc.proofs.LogoutLemmas.{all_none, without_none, without_own}
-use Rattle.sn_desc.proofs.PlaceLemmas.{get_past}
+use Rattle.sn_desc.proofs.SeatLemmas.{get_past}
 use Rattle.sn_desc.proofs.sessions.Sessions.clear.Goals as goal
 
 pub loop-session-preserved : goal.loop-session-preserved
@@ -46,4 +46,4 @@ returns-clause-in_use c =
   where
     split : (s fd : ℕ) (b : Bool) → nat_lt s 64 ≡ b → map.get (in_use_of c.loop-session.self).descriptors (s, fd) ≡ None
     split s fd true e = let low = ltb-true s 64 e in c.loop-session.invariant.closed s fd (omega (arith, low))
-    split s fd false e = get_past (files_of c.loop-session.self.files) s fd c.loop-session.self.files.counted.places (ltb-false s 64 e)
+    split s fd false e = get_past (files_of c.loop-session.self.files) s fd c.loop-session.self.files.counted.seats (ltb-false s 64 e)

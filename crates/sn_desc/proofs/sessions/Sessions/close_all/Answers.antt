@@ -4,7 +4,7 @@ use Rattle.sn_desc.specs.InUse.{InUse, live_in}
 use Rattle.sn_desc.specs.OpenFiles.{files_of}
 use Rattle.sn_desc.specs.Sessions.{in_use_of}
 use Rattle.sn_desc.proofs.LogoutLemmas.{all_below, more_below, none_below}
-use Rattle.sn_desc.proofs.PlaceLemmas.{get_far}
+use Rattle.sn_desc.proofs.SeatLemmas.{get_far}
 use Rattle.sn_desc.proofs.ReleaseLemmas.{held_before, more_released, none_released, pushed_few, released_live}
 use Rattle.sn_desc.proofs.sessions.Sessions.close_all.Goals as goal
 

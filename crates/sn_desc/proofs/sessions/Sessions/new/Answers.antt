@@ -1,7 +1,7 @@
 use Rattle.std.proofs.Common.{ap, ◌∙◌}
 use Rattle.sn_desc.specs.InUse.{descriptors_in}
 use Rattle.sn_desc.specs.OpenFiles.{room_of}
-use Rattle.sn_desc.proofs.PlaceLemmas.{none_in}
+use Rattle.sn_desc.proofs.SeatLemmas.{none_in}
 use Rattle.sn_desc.proofs.sessions.Sessions.new.Goals as goal
 
 pub returns : goal.returns

@@ -8,7 +8,7 @@ use Rattle.sn_cp_whole.specs.Going.{going_of}
 use Rattle.sn_desc.specs.InUse.{live_in}
 use Rattle.sn_held.specs.Held.{Held}
 use Rattle.sn_limits.specs.Versions.{version_1}
-use Rattle.sn_log.specs.Places.{LogPosition}
+use Rattle.sn_log.specs.Positions.{LogPosition}
 use Rattle.sn_model.specs.World.{World}
 use Rattle.sn_model.specs.Worlds.{IsWorld}
 use Rattle.sn_overlay.specs.Needs.{counts, nameless_in}

@@ -3,7 +3,7 @@ use Rattle.sn_block.specs.Lending.{device_of}
 use Rattle.sn_core.specs.Plain.{world_of}
 use Rattle.sn_desc.specs.InUse.{live_in}
 use Rattle.sn_held.proofs.EventLemmas.{ready_with}
-use Rattle.sn_log.specs.Places.{LogPosition}
+use Rattle.sn_log.specs.Positions.{LogPosition}
 use Rattle.sn_model.specs.declared.call.Event.TheVariants.{Restart}
 use Rattle.sn_model.specs.Settling.{settle, settled}
 use Rattle.sn_model.specs.World.{World}

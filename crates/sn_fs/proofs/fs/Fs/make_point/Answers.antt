@@ -8,7 +8,7 @@ use Rattle.sn_limits.specs.Versions.{version_1}
 use Rattle.sn_model.specs.World.{World}
 use Rattle.sn_model.specs.declared.call.Event.TheVariants.{Step}
 use Rattle.sn_model.specs.Worlds.{IsWorld}
-use Rattle.sn_log.specs.Places.{LogPosition}
+use Rattle.sn_log.specs.Positions.{LogPosition}
 use Rattle.sn_overlay.specs.Needs.{counts, nameless_in}
 use Rattle.sn_overlay.specs.Overlays.{HasRoom}
 use Rattle.sn_room.specs.Rooms.{RoomCounts, fresh}

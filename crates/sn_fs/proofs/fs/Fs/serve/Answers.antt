@@ -20,7 +20,7 @@ use Rattle.sn_room.specs.Rooms.{RoomCounts}
 use Rattle.sn_held.specs.Held.{Held}
 use Rattle.sn_block.specs.Lending.{device_of}
 use Rattle.sn_device.specs.Crash.{Touches}
-use Rattle.sn_log.specs.Places.{base_at}
+use Rattle.sn_log.specs.Positions.{base_at}
 use Rattle.sn_ondisk.specs.LogHalf.{InHalf}
 use Rattle.sn_events.specs.Changing.{FailsChange, IsLogged, errno_of}
 use Rattle.sn_fs.specs.Filesystem.{held}

@@ -3,7 +3,7 @@ use Rattle.sn_device.specs.Disk.{Disk, reads}
 use Rattle.sn_layout.proofs.Fields.{some_none}
 use Rattle.sn_record.specs.Payload.{IsSpelled, payload_bytes}
 use Rattle.sn_block.specs.Lending.{device_of}
-use Rattle.sn_log.specs.Places.{IsBehind, behind}
+use Rattle.sn_log.specs.Positions.{IsBehind, behind}
 use Rattle.sn_log.specs.Replaying.{HasNext, Looks, Fills}
 use Rattle.sn_log.proofs.ReplayLemmas.{no-change, behind-more}
 use Rattle.sn_log.proofs.replay.Replay.next.Goals as goal

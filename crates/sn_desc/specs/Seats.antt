@@ -1,4 +1,4 @@
--- Open files in a slab, and the keys of the places that have one.
+-- Open files in a slab, and the keys of the seats that have one.
 use Rattle.std.specs.Prelude.{◌≡◌, ℕ, ◌-◌, true, List, map, Option, None, Some, is_some, slice_index_or}
 use Rattle.slab.specs.Slab.{Slab, get, slab_len}
 use Rattle.sn_desc.specs.declared.open_file.OpenFile.{OpenFile}
@@ -14,7 +14,7 @@ files_under files keys = map (file_under files) keys
 abbrev pub room_in : Slab OpenFile → ℕ
 room_in files = files.capacity - slab_len files
 
--- each key of a place has a file, and no two places have one key
-pub record IsPlaced (files : Slab OpenFile) (keys : List (Option ℕ)) : Type 0 where
-  pub there : (place key : ℕ) → slice_index_or keys place None ≡ Some key → is_some (get files key) ≡ true
+-- each key of a seat has a file, and no two seats have one key
+pub record IsSeatd (files : Slab OpenFile) (keys : List (Option ℕ)) : Type 0 where
+  pub there : (seat key : ℕ) → slice_index_or keys seat None ≡ Some key → is_some (get files key) ≡ true
   pub apart : (a b key : ℕ) → slice_index_or keys a None ≡ Some key → slice_index_or keys b None ≡ Some key → a ≡ b

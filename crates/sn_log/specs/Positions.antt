@@ -1,9 +1,9 @@
 -- Where in the log reading or appending goes on.
 use Rattle.std.specs.Prelude.{◌≡◌, ℕ, ◌+◌, ◌*◌, ◌≤◌, List, length, map}
 use Rattle.sn_device.specs.Sectors.{Contents}
-use Rattle.sn_layout.specs.declared.places.LogHalf.{LogHalf}
-use Rattle.sn_layout.specs.declared.places.Area.TheVariants.{Log}
-use Rattle.sn_layout.specs.Places.{start_of}
+use Rattle.sn_layout.specs.declared.geometry.LogHalf.{LogHalf}
+use Rattle.sn_layout.specs.declared.geometry.Area.TheVariants.{Log}
+use Rattle.sn_layout.specs.Geometry.{start_of}
 use Rattle.sn_model.specs.declared.change.Change.{Change}
 use Rattle.sn_ondisk.specs.LogHalf.{Leads, IsReady, base_of, place_after}
 use Rattle.sn_record.specs.Payload.{payload_bytes}

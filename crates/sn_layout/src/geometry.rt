@@ -9,7 +9,7 @@
 //! | 36 + 2M to 67 + 2M | log half 1 |
 //! | 68 + 2M to N - 1 | data area |
 ghost use Rattle.std.specs.Prelude.{◌≡◌, ℕ, ◌+◌, ◌*◌, ◌<◌, ◌≤◌, ◌↔◌, IsSome, IfSome, IsTrue};
-ghost use Rattle.sn_layout.specs.Places.{IsDiskSize, Follow, areas};
+ghost use Rattle.sn_layout.specs.Geometry.{IsDiskSize, Follow, areas};
 
 use crate::{SECTORS_PER_BLOCK, WORDS_PER_BLOCK};
 use std::marker::Model;
@@ -32,7 +32,7 @@ pub enum Slot {
 }
 
 impl Slot {
-    ghost use Rattle.sn_layout.specs.Places.{other_slot};
+    ghost use Rattle.sn_layout.specs.Geometry.{other_slot};
 
     /// The slot that this one isn't.
     pub fn other(self) -> Self
@@ -53,7 +53,7 @@ pub enum LogHalf {
 }
 
 impl LogHalf {
-    ghost use Rattle.sn_layout.specs.Places.{half_of_epoch};
+    ghost use Rattle.sn_layout.specs.Geometry.{half_of_epoch};
 
     /// The half that the records of an epoch stand in: those of even epochs in half 0.
     pub fn of_epoch(epoch: u64) -> Self
@@ -81,13 +81,13 @@ pub enum Area {
 
 /// Where things lie on a disk of so many blocks.
 #[derive(Clone, Copy, PartialEq, Eq, Hash)]
-pub struct Places {
+pub struct Geometry {
     blocks: u32,
 }
 
-impl Model for Places {
+impl Model for Geometry {
     ghost use Rattle.std.specs.Prelude.{ℕ};
-    ghost use Rattle.sn_layout.specs.Places.{IsDiskSize};
+    ghost use Rattle.sn_layout.specs.Geometry.{IsDiskSize};
 
     ghost Value = { ℕ };
 
@@ -98,18 +98,18 @@ impl Model for Places {
     ghost inverse = { λ n. record { blocks = n } };
 }
 
-impl Places {
-    ghost use Rattle.sn_layout.specs.Places.{IsDiskSize, IsIn, start_of, end_of, map_blocks, gate_sector};
-    ghost use Rattle.sn_layout.specs.declared.places.Area.TheVariants.{Data};
-    ghost use Rattle.sn_layout.specs.declared.places.Area.{Area as AnArea};
+impl Geometry {
+    ghost use Rattle.sn_layout.specs.Geometry.{IsDiskSize, IsIn, start_of, end_of, map_blocks, gate_sector};
+    ghost use Rattle.sn_layout.specs.declared.geometry.Area.TheVariants.{Data};
+    ghost use Rattle.sn_layout.specs.declared.geometry.Area.{Area as AnArea};
 
     /// `None` for a number of blocks that no disk has.
     pub fn new(blocks: u32) -> Option<Self>
         ensures valid { IsSome result ↔ IsDiskSize blocks }
-        ensures value { IfSome result (λ places. places ≡ blocks) }
+        ensures value { IfSome result (λ geometry. geometry ≡ blocks) }
     {
         if blocks >= SMALLEST_DISK && blocks <= LARGEST_DISK {
-            Some(Places { blocks })
+            Some(Geometry { blocks })
         } else {
             None
         }

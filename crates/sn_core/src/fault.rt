@@ -1,5 +1,5 @@
 ghost use Rattle.std.specs.Prelude.{◌≡◌};
-ghost use Rattle.sn_core.specs.declared.error.CallError.TheVariants.{Memory, Refused};
+ghost use Rattle.sn_core.specs.declared.fault.CallError.TheVariants.{Memory, Refused};
 
 use sn_model::Refusal;
 use sn_walk::Failure;

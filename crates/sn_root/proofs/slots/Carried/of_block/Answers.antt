@@ -2,7 +2,7 @@ use Rattle.std.proofs.Common.{◌≡◌, sym, ap, ◌∙◌, arith}
 use Rattle.byteorder.specs.Endian.{little_number}
 use Rattle.sn_limits.specs.Versions.{limits_of}
 use Rattle.sn_root.proofs.SlotLemmas.{version_read, none_of, some_of}
-use Rattle.sn_root.proofs.slots.Held.of_block.Goals as goal
+use Rattle.sn_root.proofs.slots.Carried.of_block.Goals as goal
 
 pub returns-then-is_none-clause-spells : goal.returns-then-is_none-clause-spells
 returns-then-is_none-clause-spells c =

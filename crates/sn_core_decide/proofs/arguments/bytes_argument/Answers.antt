@@ -2,7 +2,7 @@ use Rattle.std.proofs.Common.{◌≡◌, true, nat_le, nat_lt, length, refl, ari
 use Rattle.std.specs.List.{list_all}
 use Rattle.std.proofs.lemmas.Bool.{le-leb}
 use Rattle.sn_model.proofs.ByteLemmas.{all_bytes}
-use Rattle.sn_core_decide.proofs.checks.bytes_argument.Goals as goal
+use Rattle.sn_core_decide.proofs.arguments.bytes_argument.Goals as goal
 
 pub returns : goal.returns
 returns c =

@@ -1,5 +1,5 @@
 ghost use Rattle.std.specs.Prelude.{◌≡◌};
-ghost use Rattle.sn_plain.specs.declared.error.ApplyError.TheVariants.{Memory};
+ghost use Rattle.sn_plain.specs.declared.fault.ApplyError.TheVariants.{Memory};
 
 use std::alloc::AllocError;
 

@@ -1,11 +1,11 @@
 -- Where things lie on a disk of n blocks.
 use Rattle.std.specs.Prelude.{◌≡◌, ℕ, ◌+◌, ◌*◌, ◌/◌, ◌%◌, ◌<◌, ◌≤◌, ◌==◌, if◌then◌else◌, List, [], ◌∷◌}
-use Rattle.sn_layout.specs.declared.places.Area.{Area}
-use Rattle.sn_layout.specs.declared.places.Area.TheVariants.{Superblock, RootBody, Gates, MapCopy, Log, Data}
-use Rattle.sn_layout.specs.declared.places.Slot.{Slot}
-use Rattle.sn_layout.specs.declared.places.Slot.TheVariants.{A, B}
-use Rattle.sn_layout.specs.declared.places.LogHalf.{LogHalf}
-use Rattle.sn_layout.specs.declared.places.LogHalf.TheVariants.{Zero, One}
+use Rattle.sn_layout.specs.declared.geometry.Area.{Area}
+use Rattle.sn_layout.specs.declared.geometry.Area.TheVariants.{Superblock, RootBody, Gates, MapCopy, Log, Data}
+use Rattle.sn_layout.specs.declared.geometry.Slot.{Slot}
+use Rattle.sn_layout.specs.declared.geometry.Slot.TheVariants.{A, B}
+use Rattle.sn_layout.specs.declared.geometry.LogHalf.{LogHalf}
+use Rattle.sn_layout.specs.declared.geometry.LogHalf.TheVariants.{Zero, One}
 
 -- the sizes that a disk can have, in blocks
 pub record IsDiskSize (n : ℕ) : Type 0 where
