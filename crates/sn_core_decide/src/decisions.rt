@@ -3,6 +3,7 @@ ghost use Rattle.sn_model.specs.Calls.{mkdir_outcome, stat_outcome, new_director
 ghost use Rattle.sn_walk.specs.Gives.{Gives, IfFault};
 ghost use Rattle.sn_core_decide.specs.Views.{seen_by};
 
+use crate::charges::name_charge;
 use crate::rights::{full, given_in, live, not_present, prefix, writable_parent};
 use crate::view::CallView;
 use sn_acl::{Acl, Inherited, Mode, inherit};
@@ -58,7 +59,7 @@ pub fn mkdir<'a, V: CallView>(
     let attributes = writable_parent(view, &caller.cred, PathNumber::FIRST, place, &parent)?;
     let default_acl = given_in(view, directory)?;
     Ok(Outcome {
-        charge: 2 * u64::from(limits.inode_charge) + u64::from(limits.block_charge),
+        charge: name_charge(limits),
         change: Pending::Makes {
             directory,
             name: Bytes::new(path.last().unwrap_or(b"")),

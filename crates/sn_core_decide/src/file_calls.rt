@@ -8,6 +8,7 @@ ghost use Rattle.sn_walk.specs.declared.walking.Walked.{Walked};
 ghost use Rattle.sn_core_decide.specs.Unlinking.{unlink_in};
 ghost use Rattle.sn_core_decide.specs.Views.{seen_by};
 
+use crate::charges::{name_charge, size_charge, unlink_charge};
 use crate::rights::{
     given_in, granted, live, live_if, no_directory, parent_of, prefix, sticky, there,
     writable_parent,
@@ -51,13 +52,6 @@ fn file(found: &Found) -> Result<(Home, u16), Refusal>
     }
 }
 
-/// The charge for a file and one of its blocks.
-fn file_charge(limits: &Limits) -> u64
-    ensures { result ≡ calls.file_charge limits.now 1 }
-{
-    u64::from(limits.inode_charge) + u64::from(limits.block_charge)
-}
-
 /// What the opening of a file that is there comes to.
 fn opens_there(
     limits: &Limits,
@@ -77,7 +71,7 @@ fn opens_there(
     let told = Reply::Number(u64::from(fd));
     if flags.truncate {
         return Outcome {
-            charge: file_charge(limits),
+            charge: size_charge(limits),
             change: Pending::Does(Change::SetSize { number, size: 0 }),
             caller,
             told,
@@ -167,7 +161,7 @@ fn open_in<'a, V: CallView>(
     let attributes = writable_parent(view, &caller.cred, PathNumber::FIRST, place, parent)?;
     let default_acl = given_in(view, directory)?;
     Ok(Outcome {
-        charge: 2 * u64::from(limits.inode_charge) + u64::from(limits.block_charge),
+        charge: name_charge(limits),
         change: Pending::Makes {
             directory,
             name: Bytes::new(path.last().unwrap_or(b"")),
@@ -249,7 +243,7 @@ fn unlink_in<'a, V: TreeView>(
     let attributes = writable_parent(view, &caller.cred, PathNumber::FIRST, place, directory)?;
     sticky(&caller.cred, PathNumber::FIRST, &attributes, found)?;
     Ok(Outcome {
-        charge: 3 * u64::from(limits.inode_charge) + u64::from(limits.block_charge),
+        charge: unlink_charge(limits),
         change: Pending::Does(Change::Remove {
             directory: directory.number(),
             name: Bytes::new(path.last().unwrap_or(b"")),

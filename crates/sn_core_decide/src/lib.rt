@@ -4,8 +4,9 @@
 //! A decision makes a call's tests in their order, as `sn_model` lists them ([`mkdir`], [`stat`]),
 //! and answers the model's [`Outcome`](sn_model::Outcome). Beside a refusal there may be a fault of
 //! the view: then nothing is known of the call. [`CallView`] is what a decision asks beside a walk.
-//! `arguments` and `rights` have the tests, each once for all calls; `decisions`, `access_calls` and
-//! `file_calls` have the calls, and `sn_core_names` has those on names and listings.
+//! `arguments` and `rights` have the tests, each once for all calls, and `charges` what calls are charged;
+//! `decisions`, `access_calls` and `file_calls` have the calls, and `sn_core_names` has those on names and
+//! listings.
 //!
 //! What the sources leave open is decided in `docs/DECISIONS.md`, under "Decisions of calls".
 //!
@@ -17,6 +18,7 @@
 
 mod access_calls;
 mod arguments;
+mod charges;
 mod decisions;
 mod file_calls;
 mod rights;
@@ -27,6 +29,7 @@ pub use arguments::{
     acl_argument, bytes_argument, count_argument, flags_argument, id_argument, mode_bits_argument,
     new_mode_argument, path_argument,
 };
+pub use charges::{name_charge, rename_charge, size_charge, unlink_charge};
 pub use decisions::{mkdir, stat};
 pub use file_calls::{open, unlink};
 pub use rights::{

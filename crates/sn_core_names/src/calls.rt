@@ -6,8 +6,8 @@ ghost use Rattle.sn_walk.specs.Gives.{Gives, IfFault};
 ghost use Rattle.sn_core_decide.specs.Views.{seen_by};
 
 use sn_core_decide::{
-    CallView, full, granted, live, no_directory, not_present, one_tree, parent_of, prefix, sticky,
-    there, writable_parent,
+    CallView, full, granted, live, name_charge, no_directory, not_present, one_tree, parent_of,
+    prefix, sticky, there, writable_parent,
 };
 use sn_limits::{Kind, Limits};
 use sn_model::{
@@ -98,7 +98,7 @@ fn rmdir_in<'a, V: CallView>(
     sticky(&caller.cred, PathNumber::FIRST, &attributes, found)?;
     empty(view, number)?;
     Ok(does(
-        2 * u64::from(limits.inode_charge) + u64::from(limits.block_charge),
+        name_charge(limits),
         Change::Remove {
             directory: parent.number(),
             name: Bytes::new(path.last().unwrap_or(b"")),
@@ -150,7 +150,7 @@ fn link_in<'a, V: CallView>(
     may_link(limits, found)?;
     view.has_room_for_name(parent.number())?;
     Ok(does(
-        2 * u64::from(limits.inode_charge) + u64::from(limits.block_charge),
+        name_charge(limits),
         Change::AddLink {
             directory: parent.number(),
             name: Bytes::new(new.last().unwrap_or(b"")),

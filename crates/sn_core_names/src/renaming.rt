@@ -7,7 +7,9 @@ ghost use Rattle.sn_core_decide.specs.Views.{seen_by};
 use crate::calls::{does, empty};
 use crate::view::MoveView;
 use sn_acl::Cred;
-use sn_core_decide::{CallView, live, one_tree, parent_of, prefix, sticky, there, writable_parent};
+use sn_core_decide::{
+    CallView, live, one_tree, parent_of, prefix, rename_charge, sticky, there, writable_parent,
+};
 use sn_limits::{Kind, Limits};
 use sn_model::{
     Bytes, Caller, Change, Errno, Moving, Outcome, PathNumber, Pending, Refusal, Reply, Session,
@@ -192,7 +194,7 @@ fn moved_in<'a, V: CallView>(
     gives_way(view, &caller.cred, to, moving)?;
     room_to_move(view, moving)?;
     Ok(does(
-        5 * u64::from(limits.inode_charge) + 2 * u64::from(limits.block_charge),
+        rename_charge(limits),
         Change::Rename {
             old_directory: moving.old_directory.number(),
             old_name: Bytes::new(old.last().unwrap_or(b"")),
