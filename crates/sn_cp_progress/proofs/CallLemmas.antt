@@ -11,7 +11,7 @@ use Rattle.sn_model.specs.declared.change.Change.{Change}
 use Rattle.sn_model.specs.Changes.{apply}
 use Rattle.sn_model.specs.Charges.{charge_for}
 use Rattle.sn_model.specs.NameTree.{IsHierarchy, IsTree}
-use Rattle.sn_model.specs.Settling.{settle, without_nameless}
+use Rattle.sn_model.specs.Settling.{settle}
 use Rattle.sn_model.specs.Tree.{Tree}
 use Rattle.sn_model.specs.World.{World}
 use Rattle.sn_ondisk.specs.LogHalf.{HasNoLater, InHalf, base_of}
@@ -20,7 +20,7 @@ use Rattle.sn_ondisk.proofs.PlaceLemmas.{halves_apart}
 use Rattle.sn_image.specs.Image.{image}
 use Rattle.sn_opening.specs.Covering.{MakesCover}
 use Rattle.sn_opening.specs.Opens.{IsDisk}
-use Rattle.sn_opening.proofs.CoveringLemmas.{dropping_covers, one_more_covers}
+use Rattle.sn_opening.proofs.CoveringLemmas.{one_more_covers}
 use Rattle.sn_opening.proofs.LogLemmas.{of_position}
 use Rattle.sn_opening.proofs.SpelledLemmas.{spelled_more}
 use Rattle.sn_overlay.specs.Needs.{nameless_in}
@@ -31,17 +31,13 @@ use Rattle.sn_held.specs.Events.{IsOfTree, LeavesEither, LeavesMore}
 use Rattle.sn_held.specs.Held.{CarriesOn, Held, Kept, Runs}
 use Rattle.sn_held.specs.Images.{IsImage}
 use Rattle.sn_held.specs.Room.{HasRoomFor, IsCharged}
-use Rattle.sn_held.proofs.EventLemmas.{disk_always, leaves_either}
+use Rattle.sn_held.proofs.EventLemmas.{disk_always, dropped_runs, leaves_either, left_covers}
 use Rattle.sn_held.proofs.HeldLemmas.{Rests, newer_none, newer_shows, rests_stay}
 use Rattle.sn_held.proofs.RoomLemmas.{one_more_charged, one_more_fits}
 use Rattle.sn_cp.proofs.LogLemmas.{log_keeps}
 use Rattle.sn_cp_held.proofs.WholeLemmas.{no_later_depends}
 use Rattle.sn_cp_progress.specs.Progress.{Progress, RunsOn}
 use Rattle.sn_cp_progress.proofs.StepLemmas.{lie}
-
--- changes that cover a tree cover it without files that have no name
-left_covers : (changes : List Change) (from tree live : Tree) (held : ℕ → Bool) → live ≡ without_nameless held tree → MakesCover version_1 changes from tree → MakesCover version_1 changes from live
-left_covers changes from tree live held e m = subst (MakesCover version_1 changes from) (sym e) (dropping_covers version_1 changes from tree held m)
 
 -- ---- a change that is appended
 
@@ -163,37 +159,13 @@ appends_go_on old new world next p change tree ro spelled applied of hierarchy h
 -- ---- files without names that go
 
 module _ (h : Held) (world next : World) (p : Progress) (kept since : ℕ → Bool) (count : ℕ) (base : Kept) (ro : RunsOn h world p) (of : IsOfTree world world.live next) (counted : nameless_in world.live ≤ nameless_in next.live + count) where
-  drop_runs : Runs (record h { world = next; kept = kept; kept_since = since; room = dropping count h.room; base = base }) next
-  drop_runs =
-      let r = ro.runs in
-      record {
-        is = refl;
-        store = r.store;
-        slot = r.slot;
-        root = r.root;
-        words = r.words;
-        older = r.older;
-        newer = r.newer;
-        older_spelled = r.older_spelled;
-        newer_spelled = r.newer_spelled;
-        limits = r.limits;
-        formatted = r.formatted;
-        stands = r.stands;
-        none_later = r.none_later;
-        log = r.log;
-        cover = left_covers (r.older ++ r.newer) (image r.store r.root.inode_file) world.live next.live of.held of.live r.cover;
-        frozen = of.frozen ∙ r.frozen;
-        charged = record { free = r.charged.free; charged = r.charged.charged; parked = omega (arith, r.charged.parked, counted); fits = r.charged.fits };
-        age = r.age;
-      }
-
   module _ (carried : CarriesOn h.base world.live h.room.charged_since base next.live h.room.charged_since) (hierarchic : IsTree version_1 next.live) where
     drop_on : RunsOn (record h { world = next; kept = kept; kept_since = since; room = dropping count h.room; base = base }) next p
-    unfolding drop_runs
+    unfolding dropped_runs
     drop_on =
         let q = ro.point in
         record {
-          runs = drop_runs;
+          runs = dropped_runs h world next kept since count base ro.runs of counted;
           point = record {
             of = q.of;
             within = q.within;

@@ -102,11 +102,11 @@ left_of_tree w session caller tree = record {
   frozen = caller_frozen (with_live w tree) session caller;
 }
 
-left_covers : (changes : List Change) (from tree live : Tree) (held : ℕ → Bool) → live ≡ without_nameless held tree → MakesCover version_1 changes from tree → MakesCover version_1 changes from live
+pub left_covers : (changes : List Change) (from tree live : Tree) (held : ℕ → Bool) → live ≡ without_nameless held tree → MakesCover version_1 changes from tree → MakesCover version_1 changes from live
 left_covers changes from tree live held e m = subst (MakesCover version_1 changes from) (sym e) (dropping_covers version_1 changes from tree held m)
 
 -- files without names that go change nothing of the disk
-pub dropped_runs : (h : Held) (w next : World) (kept since : ℕ → Bool) (count : ℕ) (base : Kept) → Runs h w → IsOfTree w w.live next → nameless_in w.live ≤ nameless_in next.live + count → Runs (record h { world = next; kept = kept; kept_since = since; room = dropping count h.room; base = base }) next
+unfoldable pub dropped_runs : (h : Held) (w next : World) (kept since : ℕ → Bool) (count : ℕ) (base : Kept) → Runs h w → IsOfTree w w.live next → nameless_in w.live ≤ nameless_in next.live + count → Runs (record h { world = next; kept = kept; kept_since = since; room = dropping count h.room; base = base }) next
 dropped_runs h w next kept since count base r of counted = record {
   is = refl;
   store = r.store;
