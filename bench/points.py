@@ -25,7 +25,7 @@ from wrong_bodies import TOP, below  # noqa: E402
 NAME = "sn_tests_points"
 PROGRAM = TOP / "crates" / NAME / "out" / NAME
 STEPS, POINT = "sn_cp/src/steps.rt", "sn_cp/src/point.rt"
-CLEARED = "8 * u64::from(self.places.range(Area::Log(sn_layout::LogHalf::of_epoch(self.next.epoch))).start)"
+CLEARED = "8 * u64::from(self.geometry.range(Area::Log(sn_layout::LogHalf::of_epoch(self.next.epoch))).start)"
 FAULTS = {
     "a block is written where a root reaches it": [
         (STEPS, "        blocks.write_block(block.number, &block.bytes)\n",
@@ -37,14 +37,14 @@ FAULTS = {
     "the gate is opened before the body's sync": [
         (STEPS, "        write_body(blocks, self.slot, &self.next)\n",
          "        let mut block = [0; BLOCK_SIZE];\n        self.next.encode(&mut block);\n"
-         "        blocks.write_block(self.places.range(Area::RootBody(self.slot)).start, &block)\n")],
+         "        blocks.write_block(self.geometry.range(Area::RootBody(self.slot)).start, &block)\n")],
     "the map's last block isn't synced": [(STEPS, "        blocks.sync()\n", "        Ok(())\n")],
     "a step clears the half of the next epoch again": [
         (STEPS, "        write_body(blocks, self.slot, &self.next)\n",
          f"        blocks.write_sector({CLEARED}, &[0; 512])?;\n        write_body(blocks, self.slot, &self.next)\n")],
     "done before the gate's sync": [
         (STEPS, "        open_slot(blocks, self.slot)\n",
-         "        blocks.write_sector(sn_layout::Places::gate(self.slot), &[1; 512])\n")],
+         "        blocks.write_sector(sn_layout::Geometry::gate(self.slot), &[1; 512])\n")],
     "a step without a write": [
         (POINT, "                Gate::Closed => Stage::Shut,\n", "                Gate::Closed => Stage::Stored,\n")],
     "a closed gate is closed again": [

@@ -11,7 +11,7 @@ use sn_device::Device;
 use sn_layout::{Geometry, LogHalf};
 use sn_log::{Log, close_half};
 
-/// Clears the first place of the half that the root's own epoch doesn't have, and turns the log to it: what is logged
+/// Clears the first place of the half that the root's own epoch doesn't have, and has the log go on there: what is logged
 /// from then on, while the point runs, comes behind its root. It reads a gate, so memory may be refused, before its one
 /// write. Where it isn't done, the log goes on as it did.
 pub fn begin<D: Device>(
@@ -35,6 +35,6 @@ pub fn begin<D: Device>(
         Ok(()) => {}
         Err(fault) => return Err(fault),
     }
-    log.turn(epoch);
+    log.go_to_epoch(epoch);
     Ok(())
 }

@@ -14,7 +14,7 @@
 //! [`Point::finish`] makes all that are left and says so of them together: what was touched, exact counts, and that a
 //! crash at any moment leaves the root that was newest or the next one (`Finishes`). [`Point::steps_left`] tells how many
 //! they are. [`begin`] comes first where calls go on in the course of the point: it clears the half of the log that the
-//! next epoch has, and turns the log to it.
+//! next epoch has, and has the log go on there.
 //!
 //! What the disk shows is said by laws, on a disk of the point's own size and beside a root that is given:
 //! - [`shown_laws`]: until the gate is opened a crash at any moment of a step leaves that root with its records, in the

@@ -20,7 +20,7 @@
 //!   closed after each crash.
 //! - [`has_no_later`]: whether a record of a later epoch stands at the first place of a half, exactly over any
 //!   bytes. A mount asks it of both halves, since such a record would count once its epoch begins.
-//! - [`Log::turn`] goes to another epoch in memory alone.
+//! - [`Log::go_to_epoch`] goes to another epoch in memory alone.
 //!
 //! The way through: `specs/Positions.antt`, `Appending.antt`, `Replaying.antt` and `Clearing.antt` have
 //! the words of the clauses, `Laws.antt` the law. `log` and `replay` have the two types, `appending` the writes of an append

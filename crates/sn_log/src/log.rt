@@ -78,9 +78,9 @@ impl Log {
     }
 
     /// Goes on at the first place of an epoch. It touches no device.
-    pub fn turn(&mut self, epoch: u64)
+    pub fn go_to_epoch(&mut self, epoch: u64)
         ensures { self.new ≡ first_of self.old.blocks epoch }
     {
-        self.position = self.position.turned(epoch);
+        self.position = self.position.at_epoch(epoch);
     }
 }

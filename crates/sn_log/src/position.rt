@@ -85,7 +85,7 @@ impl Position {
     }
 
     /// The first place of another epoch on this disk.
-    pub(crate) fn turned(self, epoch: u64) -> Self
+    pub(crate) fn at_epoch(self, epoch: u64) -> Self
         ensures { result ≡ first_of self.blocks epoch }
     {
         Position::first(self.geometry, epoch)

@@ -53,7 +53,7 @@ fn take_all(alloc: Global, case: Case<'_>, log: &mut Log, text: &mut String) -> 
         let (step, value) = word.split_once('=').unwrap_or((word, ""));
         match step {
             "fail" | "stop" | "crash" => blocks = over_device(alloc, blocks, step, value)?,
-            "turn" => log.turn(number_of(value)?),
+            "turn" => log.go_to_epoch(number_of(value)?),
             _ => take_step(alloc, &mut blocks, log, (step, value), text)?,
         }
         ensure!(!blocks.status().is_spent, "no memory for a call");
