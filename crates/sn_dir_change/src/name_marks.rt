@@ -49,6 +49,7 @@ impl<'a> Model for MarkedChange<'a> {
 }
 
 impl<'a> MarkedChange<'a> {
+    /// A change with the mark of its name.
     pub fn of(change: NameChange<'a>) -> Self
         ensures { result ≡ change.entry }
     {
