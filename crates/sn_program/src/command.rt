@@ -25,6 +25,7 @@ use crate::person::{advise, explain};
 use crate::progress::Progress;
 use crate::run::{Answered, answer, outcome};
 use crate::script::read_events;
+use crate::watched::{WatchReads, WatchedDevice};
 use sn_check::Verdict;
 use sn_command::{Task, parse};
 use sn_device::{Fill, MemDevice};
@@ -213,12 +214,14 @@ fn cut_short<
     }
 }
 
-/// Checks the image at a path, which is locked for other readers as long as it is open, and says what was found.
+/// Checks the image at a path, which is locked for other readers as long as it is open, and says what was found. Somebody
+/// is shown how much of it has been read.
 fn check_image<
     F: FileExt + OpenFile + LockFile + Read + Drop,
     R: Files<File = F> + AllocGlobal,
     W: Write,
->(rt: &R, image: &str, out: &mut W) -> Result<Ending, ProgramFault>
+    L: WatchReads,
+>(rt: &R, image: &str, out: &mut W, watch: &mut L) -> Result<Ending, ProgramFault>
     ensures done { IfOk result (λ came. SaysVerdict came (W.contents out.old) (W.contents out.new)) }
     ensures front { OnErr result (BeginsToSayVerdict (W.contents out.old) (W.contents out.new)) }
     ensures words { IfErr result (λ why. why ≢ fault.Usage) }
@@ -230,7 +233,7 @@ fn check_image<
         Ok(device) => device,
         Err(fault) => return Err(fault),
     };
-    match check_on(rt.alloc(), device, out) {
+    match check_on(rt.alloc(), WatchedDevice::new(device, watch), out) {
         Ok(Verdict::Clean { .. }) => Ok(Ending::Done),
         Ok(Verdict::Fault { damage, block }) => Ok(Ending::Damaged { damage, block }),
         Err(fault) => Err(fault),
@@ -253,7 +256,7 @@ fn execute<
     F: FileExt + OpenFile + LockFile + Read + Drop,
     R: Files<File = F> + AllocGlobal,
     W: Write,
-    L: Watch,
+    L: Watch + WatchReads,
 >(rt: &R, task: Task<'_>, out: &mut W, watch: &mut L) -> Result<Ending, ProgramFault>
     ensures done { IfOk result (λ came. Leaves task.entry came (W.contents out.old) (W.contents out.new)) }
     ensures front { OnErr result (Keeps (W.contents out.old) (W.contents out.new) ⊎ Begins task.entry (W.contents out.old) (W.contents out.new)) }
@@ -273,7 +276,7 @@ fn execute<
             Ok(Some(fault)) => Ok(Ending::Told(fault)),
             Err(fault) => Err(fault),
         },
-        Task::Check { image } => check_image(rt, image, out),
+        Task::Check { image } => check_image(rt, image, out, watch),
     }
 }
 

@@ -1,11 +1,13 @@
-//! What a person sees of a long run.
+//! What a person sees of a long run, and of a long check.
 
+use crate::watched::WatchReads;
 use sn_run::Watch;
 use std::io::Write;
 use std::time::{Clock, Instant};
 
-/// Tells once a second how many lines of a script have been answered, in one line that each time stands in the
-/// place of the one before. A run of less than a second tells nothing, and neither does one whose clock fails.
+/// Tells once a second how far it is, in one line that each time stands in the place of the one before: how many lines of
+/// a script have been answered, or how much of an image has been read. What takes less than a second tells nothing, and
+/// neither does anything where the clock fails.
 #[derive(Drop)]
 pub(crate) struct Progress<'a, C: Clock, P: Write> {
     clock: &'a C,
@@ -30,6 +32,17 @@ impl<'a, C: Clock, P: Write> Progress<'a, C, P> {
         Some(self.begun?.elapsed(self.clock).ok()?.as_secs())
     }
 
+    /// Whether a second has begun of which nothing was told.
+    fn is_due(&mut self) -> bool {
+        match self.seconds() {
+            Some(seconds) if seconds > self.told => {
+                self.told = seconds;
+                true
+            }
+            _ => false,
+        }
+    }
+
     /// Takes the line away, if there is one.
     pub(crate) fn end(self) {
         if self.told > 0 {
@@ -41,12 +54,18 @@ impl<'a, C: Clock, P: Write> Progress<'a, C, P> {
 
 impl<C: Clock, P: Write> Watch for Progress<'_, C, P> {
     fn answered(&mut self, done: usize, all: usize) {
-        if let Some(seconds) = self.seconds() {
-            if seconds > self.told {
-                self.told = seconds;
-                let _ = write!(self.person, "\r\x1b[Ksnapfs: {done} of {all} lines");
-                let _ = self.person.flush();
-            }
+        if self.is_due() {
+            let _ = write!(self.person, "\r\x1b[Ksnapfs: {done} of {all} lines");
+            let _ = self.person.flush();
+        }
+    }
+}
+
+impl<C: Clock, P: Write> WatchReads for Progress<'_, C, P> {
+    fn has_read(&mut self, sectors: u64) {
+        if self.is_due() {
+            let _ = write!(self.person, "\r\x1b[Ksnapfs: {} KiB read", sectors / 2);
+            let _ = self.person.flush();
         }
     }
 }
