@@ -2,7 +2,7 @@
 use Rattle.std.specs.Prelude.{ℕ, List, Option}
 use Rattle.sn_desc.specs.Seats.{files_under, room_in}
 use Rattle.sn_desc.specs.declared.open_file.OpenFile.{OpenFile}
-use Rattle.sn_desc.specs.declared.geometry.Seats.{Seats}
+use Rattle.sn_desc.specs.declared.seats.Seats.{Seats}
 
 abbrev pub files_at : Seats → List (Option OpenFile)
 files_at p = files_under p.files p.keys.items
