@@ -39,7 +39,7 @@ seat_found session fd seat e = split (nat_lt session 64 && nat_lt fd 64) refl
 
 module _ (files : List (Option OpenFile)) (session fd : ℕ) (all : length files ≡ 4096) where
   within : (seat : ℕ) → IsSeatOf session fd seat → session * 64 + fd < length files
-  within place p = omega (arith, all, p.first, p.few)
+  within seat p = omega (arith, all, p.first, p.few)
 
   -- what has no seat isn't open
   pub absent : seat_of session fd ≡ None → map.get (descriptors_in files) (session, fd) ≡ None
@@ -58,10 +58,10 @@ module _ (files : List (Option OpenFile)) (session fd : ℕ) (all : length files
     there = get_seated files session fd at.few ∙ ap (λ (n : ℕ). option_map descriptor_of (get_or files n None)) (sym at.is)
 
     pub closes : descriptors_in (set files seat None) ≡ closed (descriptors_in files) session fd
-    closes = ap (λ (n : ℕ). descriptors_in (set files n None)) at.is ∙ taken_is files session fd at.few (within place at)
+    closes = ap (λ (n : ℕ). descriptors_in (set files n None)) at.is ∙ taken_is files session fd at.few (within seat at)
 
     pub moves : (offset : ℕ) → descriptors_in (set files seat (option_map (with_offset offset) (get_or files seat None))) ≡ moved_to (descriptors_in files) session fd offset
-    moves offset = ap (λ (n : ℕ). descriptors_in (set files n (option_map (with_offset offset) (get_or files n None)))) at.is ∙ moved_is files session fd at.few offset (within place at)
+    moves offset = ap (λ (n : ℕ). descriptors_in (set files n (option_map (with_offset offset) (get_or files n None)))) at.is ∙ moved_is files session fd at.few offset (within seat at)
 
 -- a file is opened where nothing is open
 module _ (files : List (Option OpenFile)) (session fd : ℕ) (all : length files ≡ 4096) (first : session < 64) (few : fd < 64) where
