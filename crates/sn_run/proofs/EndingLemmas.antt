@@ -6,6 +6,7 @@ use Rattle.sn_device.specs.Disk.{Disk}
 use Rattle.sn_device.specs.Crash.{LeavesOnly}
 use Rattle.sn_device.specs.declared.status.Status.{Status}
 use Rattle.sn_device.proofs.CrashLemmas.{LeavesOnly-join, LeavesOnly-start, LeavesOnly-weaker}
+use Rattle.sn_block.specs.Counts.{IsLater}
 use Rattle.sn_block.proofs.CountLemmas.{later-is, later-join, later-same}
 use Rattle.sn_model.specs.declared.call.Event.TheVariants as event
 use Rattle.sn_model.specs.declared.mount.End.{End}
@@ -26,7 +27,7 @@ use Rattle.sn_held.specs.Moments.{ShowsState}
 use Rattle.sn_held.proofs.EventLemmas.{live_show}
 use Rattle.sn_cp_whole.specs.declared.fault.PointFault.{PointFault}
 use Rattle.sn_cp_whole.specs.declared.fault.PointFault.TheVariants as point
-use Rattle.sn_events.specs.Answers.{HasMadePoint}
+use Rattle.sn_events.specs.Answers.{HasMadePoint, IsCutAtPoint, MayMeet}
 use Rattle.sn_events.specs.Pointing.{FinishesSo, IsUnpointed, errno_of_point}
 use Rattle.sn_events.proofs.FinishLemmas.{IsFin, is_fin, one_finish}
 use Rattle.sn_events.specs.Unmounting.{HasUnmounted, IsRefusedFor, IsRefusedTo, IsUnmountedTo}
@@ -104,6 +105,24 @@ ends_clean last disk status unmounts = in_its_world last ending.Clean disk statu
         } in
         subst (λ (s : Status). IsEnded (Running u.fin.world) u.fin ending.Clean disk s) u.status_is (subst (λ (d : Disk). IsEnded (Running u.fin.world) u.fin ending.Clean d u.mid.status) u.disk_is over)
 
+-- ---- one that is cut off
+
+-- the device failed while a point was made or finished, at no moment of which a crash leaves another world
+ends_cut_off : (last new : Held) → last.world.frozen ≡ map.empty → MayMeet last last event.Restart (Some Write) new.status → LeavesOnly last.disk new.disk (λ c. IsImage c (settle last.world))
+    → IsLater last.status new.status → IsCutAtPoint last event.Restart new.status → IsEnded (Running last.world) last ending.Stopped new.disk new.status
+ends_cut_off last new bare may moments later costs = record {
+  met = Some Write;
+  ends = record { reply = refused Eio; unmounts = refl; ends = (done_is_refused Eio, is_memory Eio (λ e. cc e)) };
+  fin = last;
+  finish = inl refl;
+  mid = last;
+  point = inl refl;
+  may = may;
+  lasts = LeavesOnly-weaker last.disk new.disk (λ c. IsImage c (settle last.world)) (ShowsState (Running last.world)) (λ c im. record { image = im; frozen = bare }) moments;
+  later = later;
+  costs = costs;
+}
+
 -- ---- one that is refused
 
 module _ (last : Held) (r : RunsReady last last.world last.base) (bare : last.world.frozen ≡ map.empty) where
@@ -150,18 +169,7 @@ module _ (last : Held) (r : RunsReady last last.world last.base) (bare : last.wo
         costs = told.2;
       })
   ends_refused point.Damaged new is = absurd is
-  ends_refused point.Device new cut = record {
-    met = Some Write;
-    ends = record { reply = refused Eio; unmounts = refl; ends = (done_is_refused Eio, is_memory Eio (λ e. cc e)) };
-    fin = last;
-    finish = inl refl;
-    mid = last;
-    point = inl refl;
-    may = cut.failed;
-    lasts = LeavesOnly-weaker last.disk new.disk (λ c. IsImage c (settle last.world)) (ShowsState (Running last.world)) (λ c im. record { image = im; frozen = bare }) cut.moments;
-    later = cut.later;
-    costs = inl (record { needed = tt; built = cut.built; builds = cut.builds; costs = cut.costs });
-  }
+  ends_refused point.Device new cut = ends_cut_off last new bare cut.failed cut.moments cut.later (inl (record { needed = tt; built = cut.built; builds = cut.builds; costs = cut.costs }))
 
 -- the point in progress was cut off
 ends_cut : (last : Held) → last.world.frozen ≡ map.empty → (fault : PointFault) (new : Held) → FinishesSo (Err fault) last.point last new → IsEnded (Running last.world) last (end_for (errno_of_point fault)) new.disk new.status
@@ -169,18 +177,8 @@ ends_cut last bare fault new so = told last.point so
   where
     told : (at : Option Going) → FinishesSo (Err fault) at last new → IsEnded (Running last.world) last (end_for (errno_of_point fault)) new.disk new.status
     told None never = absurd never
-    told (Some going) (is, cut) = subst (λ (f : PointFault). IsEnded (Running last.world) last (end_for (errno_of_point f)) new.disk new.status) (sym is) (record {
-      met = Some Write;
-      ends = record { reply = refused Eio; unmounts = refl; ends = (done_is_refused Eio, is_memory Eio (λ e. cc e)) };
-      fin = last;
-      finish = inl refl;
-      mid = last;
-      point = inl refl;
-      may = cut.failed;
-      lasts = LeavesOnly-weaker last.disk new.disk (λ c. IsImage c (settle last.world)) (ShowsState (Running last.world)) (λ c im. record { image = im; frozen = bare }) cut.moments;
-      later = cut.later;
-      costs = inr (record { needed = tt; going = cut.going; is = cut.is; costs = cut.costs });
-    })
+    told (Some going) (is, cut) = subst (λ (f : PointFault). IsEnded (Running last.world) last (end_for (errno_of_point f)) new.disk new.status) (sym is)
+      (ends_cut_off last new bare cut.failed cut.moments cut.later (inr (record { needed = tt; going = cut.going; is = cut.is; costs = cut.costs })))
 
 ends_for : (last : Held) (fault : PointFault) (new : Held) → RunsWith last.point last last.world → last.world.frozen ≡ map.empty → IsRefusedFor fault last new → IsEnded (Running last.world) last (end_for (errno_of_point fault)) new.disk new.status
 ends_for last fault new r bare (inl cut) = ends_cut last bare fault new cut
