@@ -12,6 +12,9 @@ use Rattle.sn_ondisk.proofs.CountLemmas.{among_times, times_among}
 use Rattle.sn_tree.specs.Drafts.{numbers_of}
 use Rattle.sn_tree.specs.declared.new_block.NewBlock.{NewBlock}
 use Rattle.sn_cp_build.specs.Bits.{TellsBlocks, PutsBits, MakesUp, BitsFollow}
+use Rattle.sn_cp_build.specs.Edits.{EditsBits}
+use Rattle.sn_cp_build.specs.declared.edits.SnapshotEdit.{SnapshotEdit}
+use Rattle.sn_cp_build.proofs.EditLemmas.{edited_before}
 
 pub puts_none : (bit : ℕ) (words : List ℕ) → PutsBits bit [] words words
 puts_none bit words = record {
@@ -107,11 +110,13 @@ module _ (was is added released old middle new : List ℕ) (makes : MakesUp was 
   pub tells_new : TellsBlocks new is
   tells_new block = (was_reached block, is_set block)
 
-pub bits_follow : (added released old middle new : List ℕ) → PutsBits 1 added old middle → PutsBits 0 released middle new → BitsFollow added released old new
-bits_follow added released old middle new set unset = record {
-  as_many = unset.as_many ∙ set.as_many;
-  others = λ block k other. unset.others block k other ∙ set.others block k other;
-  tells = λ was is makes tells. tells_new was is added released old middle new makes set unset tells;
+pub bits_follow : (added released old middle put new : List ℕ) (e : SnapshotEdit) → PutsBits 1 added old middle → PutsBits 0 released middle put → EditsBits e put new → BitsFollow added released e old new
+bits_follow added released old middle put new e set unset edits = record {
+  as_many = edits.as_many ∙ unset.as_many ∙ set.as_many;
+  snapshots = edited_before e old put new (λ block k other. unset.others block k other ∙ set.others block k other) edits.snapshots;
+  tells = λ was is makes tells block.
+      let told = tells_new was is added released old middle put makes set unset tells block in
+      (λ one. told.0 (sym (edits.live block) ∙ one), λ among. edits.live block ∙ told.1 among);
 }
 
 -- a block of a list has what all have

@@ -1,3 +1,4 @@
+pub mod EditLemmas
 pub mod BitLemmas
 pub mod SumLemmas
 pub mod ListedLemmas

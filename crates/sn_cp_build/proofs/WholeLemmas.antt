@@ -31,6 +31,7 @@ use Rattle.sn_cp_build.specs.Bits.{BitsFollow, MakesUp, TellsBlocks}
 use Rattle.sn_cp_build.specs.Building.{Builds, IsFrozen, IsTreePlanned, IsWellBuilt}
 use Rattle.sn_cp_build.specs.Planned.{AreBuilt, numbers_of}
 use Rattle.sn_cp_build.specs.declared.building.Built.{Built}
+use Rattle.sn_cp_build.specs.declared.edits.SnapshotEdit.{SnapshotEdit}
 use Rattle.sn_cp_build.proofs.FrozenLemmas.{added, grew, makes_up, released, sound, told_kept, tree, within}
 use Rattle.sn_cp_build.proofs.NeedLemmas.{few_needed}
 
@@ -117,20 +118,20 @@ module _ (Told : Type 0) (n : ℕ) (limits : Limits) (s : Store) (file : BlockTr
           (All-contains (IsFreeData words (start_of n Data)) (blocks_of blocks) block free_blocks (times_among block (blocks_of blocks) (omega (arith, not, some)))).within)
           (cases_lt 0 (times block (reach s file)))
 
-  module _ (built : Built) (file_is : built.inode_file ≡ new) (blocks_are : built.blocks.items ≡ after.added) (bits : BitsFollow (blocks_of after.added) after.released after.words built.map) where
+  module _ (edit : SnapshotEdit) (built : Built) (file_is : built.inode_file ≡ new) (blocks_are : built.blocks.items ≡ after.added) (bits : BitsFollow (blocks_of after.added) after.released edit after.words built.map) where
     items_are : built.blocks.items ≡ blocks
     items_are = blocks_are ∙ added_is
 
-    follow : BitsFollow (blocks_of blocks) gone words built.map
-    follow = subst (λ (d : Draft). BitsFollow (blocks_of d.added) d.released d.words built.map) grown_is bits
+    follow : BitsFollow (blocks_of blocks) gone edit words built.map
+    follow = subst (λ (d : Draft). BitsFollow (blocks_of d.added) d.released edit d.words built.map) grown_is bits
 
-    one_well : IsWellBuilt n limits words layer built
+    one_well : IsWellBuilt n limits words layer edit built
     one_well = record {
       free = subst (λ (bs : List NewBlock). All (IsFreeData words (start_of n Data)) (blocks_of bs)) (sym items_are) free_blocks;
       rise = subst (λ (bs : List NewBlock). IsStrictlyIncreasing (blocks_of bs)) (sym items_are) rising_blocks;
       few = subst (λ (bs : List NewBlock). length bs ≤ need limits layer) (sym items_are) (few_needed limits layer Told s file new (begun words (start_of n Data)) after plan);
       as_many = follow.as_many;
-      other_bits = follow.others;
+      snapshots = follow.snapshots;
     }
 
     one_builds : Told → length words ≡ n → Builds n limits s file words layer built
@@ -146,15 +147,15 @@ module _ (Told : Type 0) (n : ℕ) (limits : Limits) (s : Store) (file : BlockTr
         } in
         subst (λ (file_then : BlockTree). IsFrozen n limits s file layer (record built { inode_file = file_then }) r) (sym file_is) frozen
 
-  pub well_built : (result : Result Built PlanFault) → IfOk result (λ (built : Built). built.inode_file ≡ new) → IfOk result (λ (built : Built). built.blocks.items ≡ after.added)
-      → IfOk result (λ (built : Built). BitsFollow (blocks_of after.added) after.released after.words built.map) → IfOk result (IsWellBuilt n limits words layer)
-  well_built (Err fault) file_is blocks_are bits = tt
-  well_built (Ok built) file_is blocks_are bits = one_well built file_is blocks_are bits
+  pub well_built : (edit : SnapshotEdit) (result : Result Built PlanFault) → IfOk result (λ (built : Built). built.inode_file ≡ new) → IfOk result (λ (built : Built). built.blocks.items ≡ after.added)
+      → IfOk result (λ (built : Built). BitsFollow (blocks_of after.added) after.released edit after.words built.map) → IfOk result (IsWellBuilt n limits words layer edit)
+  well_built edit (Err fault) file_is blocks_are bits = tt
+  well_built edit (Ok built) file_is blocks_are bits = one_well edit built file_is blocks_are bits
 
-  pub all_builds : Told → length words ≡ n → (result : Result Built PlanFault) → IfOk result (λ (built : Built). built.inode_file ≡ new) → IfOk result (λ (built : Built). built.blocks.items ≡ after.added)
-      → IfOk result (λ (built : Built). BitsFollow (blocks_of after.added) after.released after.words built.map) → IfOk result (Builds n limits s file words layer)
-  all_builds told long (Err fault) file_is blocks_are bits = tt
-  all_builds told long (Ok built) file_is blocks_are bits = one_builds built file_is blocks_are bits told long
+  pub all_builds : Told → length words ≡ n → (edit : SnapshotEdit) (result : Result Built PlanFault) → IfOk result (λ (built : Built). built.inode_file ≡ new) → IfOk result (λ (built : Built). built.blocks.items ≡ after.added)
+      → IfOk result (λ (built : Built). BitsFollow (blocks_of after.added) after.released edit after.words built.map) → IfOk result (Builds n limits s file words layer)
+  all_builds told long edit (Err fault) file_is blocks_are bits = tt
+  all_builds told long edit (Ok built) file_is blocks_are bits = one_builds edit built file_is blocks_are bits told long
 
 -- the draft with which a build begins
 pub begun_is : (words cloned : List ℕ) (place first : ℕ) (t : Taking) (draft : Draft) → cloned ≡ words → first ≡ place → t ≡ nothing_taken cloned first → draft ≡ record { words = t.words; first = t.first; added = []; released = [] } → draft ≡ begun words place

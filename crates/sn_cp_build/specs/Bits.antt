@@ -2,6 +2,8 @@
 use Rattle.std.specs.Prelude.{◌≡◌, ◌≢◌, ◌↔◌, ℕ, ◌+◌, ◌≤◌, List, length, slice_index, Contains}
 use Rattle.std.specs.Int.{bit_at}
 use Rattle.sn_ondisk.specs.Counts.{times}
+use Rattle.sn_cp_build.specs.Edits.{IsEdited}
+use Rattle.sn_cp_build.specs.declared.edits.SnapshotEdit.{SnapshotEdit}
 
 -- Bit 0 of a block's word is set exactly if the block is among these.
 abbrev pub TellsBlocks : List ℕ → List ℕ → Type 0
@@ -20,8 +22,8 @@ pub record MakesUp (was is added released : List ℕ) : Type 0 where
   pub once : (block : ℕ) → times block was + times block added ≤ 1
   pub no_zero : times 0 is + times 0 was + times 0 added ≡ 0
 
--- The map tells what is reached where it told what was, and nothing but bit 0 changed.
-pub record BitsFollow (added released old new : List ℕ) : Type 0 where
+-- The map tells what is reached where it told what was, and the bits of snapshots are edited.
+pub record BitsFollow (added released : List ℕ) (edit : SnapshotEdit) (old new : List ℕ) : Type 0 where
   pub as_many : length new ≡ length old
-  pub others : (block k : ℕ) → k ≢ 0 → bit_at (slice_index new block) k ≡ bit_at (slice_index old block) k
+  pub snapshots : IsEdited edit old new
   pub tells : (was is : List ℕ) → MakesUp was is added released → TellsBlocks old was → TellsBlocks new is

@@ -1,6 +1,5 @@
 -- What is built of a layer over the tree of an inode file.
-use Rattle.std.specs.Prelude.{◌≡◌, ◌≢◌, ◌⊎◌, ℕ, ◌≤◌, List, length, slice_index, All, Contains}
-use Rattle.std.specs.Int.{bit_at}
+use Rattle.std.specs.Prelude.{◌≡◌, ◌⊎◌, ℕ, ◌≤◌, List, length, All, Contains}
 use Rattle.std.specs.List.Sorted.{IsStrictlyIncreasing}
 use Rattle.sn_alloc.specs.Taking.{IsFreeData}
 use Rattle.sn_image.specs.Image.{image}
@@ -20,8 +19,10 @@ use Rattle.sn_tree.specs.Drafts.{Draft, numbers_of as blocks_of}
 use Rattle.sn_tree.specs.Plans.{Holds}
 use Rattle.sn_cp_nodes.specs.Built.{IsGround}
 use Rattle.sn_cp_build.specs.Bits.{TellsBlocks}
+use Rattle.sn_cp_build.specs.Edits.{IsEdited}
 use Rattle.sn_cp_build.specs.Planned.{AreBuilt, numbers_of}
 use Rattle.sn_cp_build.specs.declared.building.Built.{Built}
+use Rattle.sn_cp_build.specs.declared.edits.SnapshotEdit.{SnapshotEdit}
 
 -- A tree was planned: its nodes one after the other, and then the inode file with what became of their inodes.
 pub record IsTreePlanned (Told : Type 0) (limits : Limits) (s : Store) (file : BlockTree) (layer : Layer) (new : BlockTree) (old_draft new_draft : Draft) : Type 0 where
@@ -39,13 +40,13 @@ pub record IsFrozen (n : ℕ) (limits : Limits) (s : Store) (file : BlockTree) (
   pub bits : TellsBlocks built.map (reach r built.inode_file)
   pub within : (block : ℕ) → Contains (reach r built.inode_file) block → Contains (reach s file) block ⊎ Contains (blocks_of built.blocks.items) block
 
--- What stands whatever the device tells: the new blocks were free, rise, and are no more than the layer needs; of the map bit 0 alone changes.
-pub record IsWellBuilt (n : ℕ) (limits : Limits) (words : List ℕ) (layer : Layer) (built : Built) : Type 0 where
+-- What stands whatever the device tells: the new blocks were free, rise, and are no more than the layer needs; of the map nothing changes but bit 0 and what the edit says of the bits of snapshots.
+pub record IsWellBuilt (n : ℕ) (limits : Limits) (words : List ℕ) (layer : Layer) (edit : SnapshotEdit) (built : Built) : Type 0 where
   pub free : All (IsFreeData words (start_of n Data)) (blocks_of built.blocks.items)
   pub rise : IsStrictlyIncreasing (blocks_of built.blocks.items)
   pub few : length built.blocks.items ≤ need limits layer
   pub as_many : length built.map ≡ length words
-  pub other_bits : (block k : ℕ) → k ≢ 0 → bit_at (slice_index built.map block) k ≡ bit_at (slice_index words block) k
+  pub snapshots : IsEdited edit words built.map
 
 -- Over a sound root whose map tells in bit 0 what it reaches, and a layer that shows a name tree, the new inode file is what is wanted in each store that has the new blocks and agrees with the old one in what the old root reaches: so writes elsewhere don't matter.
 abbrev pub Builds : ℕ → Limits → Store → BlockTree → List ℕ → Layer → Built → Type 0

@@ -1,3 +1,4 @@
+pub mod Edits
 pub mod Bits
 pub mod Planned
 pub mod Building

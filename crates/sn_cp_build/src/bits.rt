@@ -5,6 +5,7 @@ ghost use Rattle.sn_tree.specs.declared.fault.PlanFault.TheVariants.{Tree};
 ghost use Rattle.sn_tree_read.specs.declared.fault.TreeFault.TheVariants.{Damaged};
 ghost use Rattle.sn_cp_build.specs.Bits.{PutsBits, BitsFollow};
 
+use crate::edits::SnapshotEdit;
 use sn_map::Map;
 use sn_tree::{NewBlock, PlanFault};
 use sn_tree_read::TreeFault;
@@ -38,11 +39,16 @@ fn has_words(map: &Map, blocks: &[u32]) -> bool
 }
 
 /// Makes bit 0 that of a new tree: it is set for each block that was added, and then unset for each that was
-/// released, so that a block that was added and released again has it unset. `Damaged` comes exactly where a
-/// block that was released has no word in the map.
-pub(crate) fn put_bits(map: &mut Map, added: &[NewBlock], released: &[u32]) -> Result<(), PlanFault>
+/// released, so that a block that was added and released again has it unset. Last the bits of snapshots are edited.
+/// `Damaged` comes exactly where a block that was released has no word in the map.
+pub(crate) fn put_bits(
+    map: &mut Map,
+    added: &[NewBlock],
+    released: &[u32],
+    edit: SnapshotEdit,
+) -> Result<(), PlanFault>
     requires { All (λ (b : ℕ). b < length map.old) (numbers_of added.now) }
-    ensures bits { OnOk result (BitsFollow (numbers_of added.now) released.now map.old map.new) }
+    ensures bits { OnOk result (BitsFollow (numbers_of added.now) released.now edit map.old map.new) }
     ensures damaged { (result ≡ Err (Tree Damaged)) ↔ (All (λ (b : ℕ). b < length map.old) released.now → ⊥) }
     ensures fault { IfErr result (λ fault. fault ≡ Tree Damaged) }
 {
@@ -51,5 +57,6 @@ pub(crate) fn put_bits(map: &mut Map, added: &[NewBlock], released: &[u32]) -> R
     }
     set_added(map, added);
     unset_released(map, released);
+    edit.apply(map);
     Ok(())
 }

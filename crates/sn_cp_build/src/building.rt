@@ -21,6 +21,7 @@ ghost use Rattle.sn_cp_build.specs.Bits.{BitsFollow, TellsBlocks};
 ghost use Rattle.sn_cp_build.specs.Building.{IsTreePlanned, IsWellBuilt, Builds};
 
 use crate::bits::put_bits;
+use crate::edits::SnapshotEdit;
 use crate::nodes::plan_nodes;
 use sn_alloc::BlockAllocator;
 use sn_block::Blocks;
@@ -41,7 +42,7 @@ pub struct Built {
     pub inode_file: BlockTree,
     /// The new blocks, their numbers rising.
     pub blocks: Vec<NewBlock>,
-    /// The map in which bit 0 tells what the new inode file reaches.
+    /// The map in which bit 0 tells what the new inode file reaches, and the bits of snapshots are edited.
     pub map: Map,
 }
 
@@ -79,19 +80,19 @@ fn plan_tree<D: Device>(
 }
 
 // The new blocks and the map of a tree that was planned.
-fn finished(build: Build, inode_file: BlockTree) -> Result<Built, PlanFault>
+fn finished(build: Build, inode_file: BlockTree, edit: SnapshotEdit) -> Result<Built, PlanFault>
     ensures file { IfOk result (λ built. built.inode_file ≡ inode_file) }
     ensures blocks { IfOk result (λ built. built.blocks.items ≡ build.added) }
     ensures free { All (IsFreeData build.words build.first) (numbers_of build.added) }
     ensures rise { IsStrictlyIncreasing (numbers_of build.added) }
-    ensures bits { IfOk result (λ built. BitsFollow (numbers_of build.added) build.released build.words built.map) }
+    ensures bits { IfOk result (λ built. BitsFollow (numbers_of build.added) build.released edit build.words built.map) }
     ensures damaged { result ≡ Err (Tree Damaged) → All (λ (b : ℕ). b < length build.words) build.released → ⊥ }
     ensures fault { IfErr result (λ fault. fault ≡ Tree Damaged) }
 {
     build.added();
     let (allocator, blocks, released) = build.into_parts();
     let mut map = allocator.give_up();
-    put_bits(&mut map, blocks.as_slice(), released.as_slice())?;
+    put_bits(&mut map, blocks.as_slice(), released.as_slice(), edit)?;
     Ok(Built {
         inode_file,
         blocks,
@@ -100,10 +101,11 @@ fn finished(build: Build, inode_file: BlockTree) -> Result<Built, PlanFault>
 }
 
 /// Builds the tree that is seen through an overlay over that of a root: its new blocks, and the map in which bit 0
-/// tells what it reaches. It only reads. `Full` comes where there are too few free blocks, over a sound root only where
+/// tells what it reaches. Of the bits of snapshots only the edited one changes: a snapshot that is frozen reaches what
+/// the new tree does. It only reads. `Full` comes where there are too few free blocks, over a sound root only where
 /// they are fewer than the overlay needs, and `Damaged` where what was read can't be used, over a sound root never: one
-/// whose blocks lie on the device, with a map that tells in bit 0 what it reaches. After an error there is nothing to
-/// undo.
+/// whose blocks lie on the device, with a map that tells in bit 0 what it reaches. What a snapshot alone reaches that
+/// goes isn't free yet. After an error there is nothing to undo.
 pub fn build<D: Device>(
     alloc: Global,
     blocks: &mut Blocks<D>,
@@ -111,10 +113,11 @@ pub fn build<D: Device>(
     root: &RootBody,
     map: &Map,
     mut changes: Overlay,
+    edit: SnapshotEdit,
 ) -> Result<Built, PlanFault>
     requires root { IsRootBody root.now }
     requires words { length map.now ≡ geometry }
-    ensures well { IfOk result (IsWellBuilt geometry root.now.limits map.now (layer_of changes)) }
+    ensures well { IfOk result (IsWellBuilt geometry root.now.limits map.now (layer_of changes) edit) }
     ensures builds { IsTrue D.tells_bytes → IfOk result (Builds geometry root.now.limits
         (store_of (reads (D.disk (device_of blocks.old)))) root.now.inode_file map.now (layer_of changes)) }
     ensures full { IsTrue D.tells_bytes → result ≡ Err Full → IsGround root.now.limits geometry
@@ -139,5 +142,5 @@ pub fn build<D: Device>(
         &root.inode_file,
         &mut changes,
     )?;
-    finished(build, inode_file)
+    finished(build, inode_file, edit)
 }

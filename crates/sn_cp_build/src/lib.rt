@@ -9,26 +9,30 @@
 //!   exactly what it reaches (`IsFrozen`). This asks for a sound inode file, a map that tells what that reaches, and a
 //!   layer that lies over its tree and shows a name tree.
 //! - Whatever the device tells, the new blocks were free, rise, and are no more than the layer needs, and of the map bit 0
-//!   alone changes (`IsWellBuilt`).
+//!   alone changes but for an edit of snapshots (`IsWellBuilt`): the bit of one that is frozen becomes what bit 0 then is,
+//!   and that of one that goes is cleared (`IsEdited`).
 //! - Over such a ground it is never `Full` where what the layer needs is free, and never `Damaged` where the disk's blocks
 //!   lie on the device.
 //!
 //! The way through: `nodes` plans the nodes of the layer one after the other by `build_node` of `sn_cp_nodes`, each with
 //! the blocks that it takes out of the overlay (`AreBuilt`). `building` then plans the inode file with what became of
 //! their inodes, by `with` of `sn_inode` (`IsTreePlanned`). `bits` puts the map: bit 0 is set for each block that was
-//! added, and then unset for each that was released, so that a block that one plan added and another released has it unset
-//! (`BitsFollow`). `specs/Bits`, `specs/Planned` and `specs/Building` have these words, in this order.
+//! added, and then unset for each that was released, so that a block that one plan added and another released has it unset;
+//! last `edits` changes the bits of snapshots (`BitsFollow`). `specs/Edits`, `specs/Bits`, `specs/Planned` and
+//! `specs/Building` have these words, in this order.
 //!
 //! What the sources leave open is decided in `docs/DECISIONS.md`, under "Building a whole tree".
 //!
 //! ```text
-//! let built = build(alloc, &mut blocks, geometry, &root, &map, changes)?;
+//! let built = build(alloc, &mut blocks, geometry, &root, &map, changes, SnapshotEdit::None)?;
 //! let root = RootBody { inode_file: built.inode_file, .. };
 //! ```
 #![tactic(auto)]
 
 mod bits;
 mod building;
+mod edits;
 mod nodes;
 
 pub use building::{Built, build};
+pub use edits::{SnapshotBit, SnapshotEdit};

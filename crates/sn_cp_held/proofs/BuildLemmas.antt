@@ -215,7 +215,7 @@ module _ (n : ℕ) (s : Store) (root : RootBody) (words : List ℕ) (layer : Lay
     frozen_bit : (block k : ℕ) → block < 1024 * map_blocks n → k ≢ 0 → (bit_at (slice_index built.map block) k ≡ 1) ↔ IsReachedBy r (rooted_in next) block k
     frozen_bit block k within other = (
       λ is.
-          let by = ((of.sound.map block within).bits k).0 (sym (of.well.other_bits block k other) ∙ is) in
+          let by = ((of.sound.map block within).bits k).0 (sym (of.well.snapshots.others block k other) ∙ is) in
           let among = frozen_only s root k by.inodes other by.among in
           record {
             inodes = by.inodes;
@@ -224,7 +224,7 @@ module _ (n : ℕ) (s : Store) (root : RootBody) (words : List ℕ) (layer : Lay
           },
       λ by.
           let among = frozen_root_same k (record { bit = k; inodes = by.inodes }) (frozen_only r next k by.inodes other by.among) in
-          of.well.other_bits block k other ∙ ((of.sound.map block within).bits k).1 (record {
+          of.well.snapshots.others block k other ∙ ((of.sound.map block within).bits k).1 (record {
             inodes = by.inodes;
             among = more_among (record { bit = 0; inodes = root.inode_file }) (map frozen_root root.snapshots) (record { bit = k; inodes = by.inodes }) among;
             reached = subst (λ (blocks : List ℕ). Contains blocks block) (frozen_reaches (record { bit = k; inodes = by.inodes }) among) by.reached;

@@ -29,6 +29,7 @@ use Rattle.sn_cp_nodes.specs.Built.{IsGround}
 use Rattle.sn_cp_build.specs.Bits.{TellsBlocks}
 use Rattle.sn_cp_build.specs.Building.{Builds, IsWellBuilt}
 use Rattle.sn_cp_build.specs.declared.building.Built.{Built}
+use Rattle.sn_cp_build.specs.declared.edits.SnapshotEdit.TheVariants.{None as NoEdit}
 use Rattle.sn_cp.specs.Points.{Work, written_by}
 use Rattle.sn_cp_held.specs.Wholes.{IsOfLive}
 
@@ -36,13 +37,13 @@ use Rattle.sn_cp_held.specs.Wholes.{IsOfLive}
 abbrev pub plan_of : Built → RootBody → Plan
 plan_of built next = record { blocks = map written_by built.blocks.items; words = built.map; next = next }
 
--- A build over a root that is sound with its snapshots and its map, of a layer that shows a name tree, and the root that follows on it with the new inode file.
+-- A build over a root that is sound with its snapshots and its map, of a layer that shows a name tree, which leaves the snapshots, and the root that follows on it with the new inode file.
 pub record IsOfBuild (n : ℕ) (s : Store) (root : RootBody) (words : List ℕ) (layer : Layer) (built : Built) (next : RootBody) : Type 0 where
   pub sound : IsSoundRoot n s root (slice_index words)
   pub count : length words ≡ n
   pub tells : TellsBlocks words (reach s root.inode_file)
   pub ground : IsGround root.limits n s root.inode_file layer
-  pub well : IsWellBuilt n root.limits words layer built
+  pub well : IsWellBuilt n root.limits words layer NoEdit built
   pub builds : Builds n root.limits s root.inode_file words layer built
   pub numbers : (block : ℕ) → slice_index built.map block < 2 ^ 32
   pub whole : (b : Written) → Contains (map written_by built.blocks.items) b → length b.1 ≡ 4096
@@ -59,7 +60,7 @@ LeavesAge Recovery next = Unit {0}
 
 -- What `build` tells of a live tree on a disk of n blocks with these contents, and the root that follows on it with the new inode file, for a point of this kind.
 pub record IsBuiltOf (n : ℕ) (c : Contents) (kind : PointKind) (k : Kept) (built : Built) (next : RootBody) : Type 0 where
-  pub well : IsWellBuilt n k.root.limits k.words k.changed built
+  pub well : IsWellBuilt n k.root.limits k.words k.changed NoEdit built
   pub builds : Builds n k.root.limits (store_of c) k.root.inode_file k.words k.changed built
   pub numbers : AreNumbers 4 built.map
   pub whole : (b : Written) → Contains (map written_by built.blocks.items) b → length b.1 ≡ 4096

@@ -48,6 +48,7 @@ use Rattle.sn_cp.specs.Steps.{IsWhole, IsWithin, StandsAtStage}
 use Rattle.sn_cp.specs.declared.stage.Stage.{Stage}
 use Rattle.sn_cp.specs.declared.stage.Stage.TheVariants.{Blocks, MapBlocks}
 use Rattle.sn_cp_build.specs.Building.{Builds, IsWellBuilt}
+use Rattle.sn_cp_build.specs.declared.edits.SnapshotEdit.TheVariants.{None as NoEdit}
 use Rattle.sn_cp_build.specs.declared.building.Built.{Built}
 use Rattle.sn_cp_held.specs.Builds.{CanBeBuilt, IsBuiltOf, plan_of, room_behind, work_for}
 use Rattle.sn_cp_held.specs.Wholes.{HasBegun, IsOfLive}
@@ -68,7 +69,7 @@ use Rattle.sn_cp_whole.specs.declared.fault.PointFault.TheVariants as fault
 -- ---- what is planned
 
 -- it is a point that can be made on any device
-pub whole_work : (n : ℕ) (limits : Limits) (words : List ℕ) (layer : Layer) (built : Built) (next : RootBody) (slot : Slot) (gate : Gate) → IsDiskSize n → length words ≡ n → IsWellBuilt n limits words layer built → IsSpellable built → IsRootBody next
+pub whole_work : (n : ℕ) (limits : Limits) (words : List ℕ) (layer : Layer) (built : Built) (next : RootBody) (slot : Slot) (gate : Gate) → IsDiskSize n → length words ≡ n → IsWellBuilt n limits words layer NoEdit built → IsSpellable built → IsRootBody next
     → IsWhole (record { blocks = n; slot = slot; gate = gate; plan = plan_of built next })
 whole_work n limits words layer built next slot gate size count well spelled body = record {
   size = size;
@@ -106,7 +107,7 @@ module _ (h : Held) (world : World) (k : Kept) (rr : RunsReady h world k) where
   pub begins_leave : {T E : Type 0} (result : Result T E) (planned d : Disk) → planned ≡ h.disk → Begins h.at result planned d → LeavesOnly h.disk d (λ c. IsImage c (settle world))
   begins_leave result planned d same begins = begin_leaves h world rr.runs result d rr.ready.between (subst (λ (e : Disk). Begins h.at result e d) same begins)
 
-  module _ (built : Built) (next : RootBody) (gate : Gate) (well : IsWellBuilt h.at.blocks k.root.limits k.words k.changed built)
+  module _ (built : Built) (next : RootBody) (gate : Gate) (well : IsWellBuilt h.at.blocks k.root.limits k.words k.changed NoEdit built)
       (builds : Builds h.at.blocks k.root.limits (store_of (reads h.disk)) k.root.inode_file k.words k.changed built) (spelled : IsSpellable built) (follows : IsNextRoot Ordinary k.root built next) where
     is_built : IsBuiltOf h.at.blocks (reads h.disk) Ordinary k built next
     is_built = record { well = well; builds = builds; numbers = spelled.numbers; whole = whole_written built.blocks.items spelled.whole; body = follows.body; is = follows.is; age = follows.age }
@@ -152,7 +153,7 @@ written_count [] = refl
 written_count (x ∷ xs) = omega (arith, written_count xs)
 
 -- what is planned is what goes on
-pub is_going : (n m : ℕ) (base : PointBase) (built : Built) (next : RootBody) (slot : Slot) (gate : Gate) (going : GoingPoint) → m ≡ n → IsDiskSize m → length base.map ≡ m → IsWellBuilt m base.root.limits base.map (layer_of base.changed) built → IsSpellable built
+pub is_going : (n m : ℕ) (base : PointBase) (built : Built) (next : RootBody) (slot : Slot) (gate : Gate) (going : GoingPoint) → m ≡ n → IsDiskSize m → length base.map ≡ m → IsWellBuilt m base.root.limits base.map (layer_of base.changed) NoEdit built → IsSpellable built
     → IsNextRoot Ordinary base.root built next → slot ≡ other_slot base.slot → work_of going.point ≡ record { blocks = m; slot = slot; gate = gate; plan = plan_of built next } → stage_of going.point ≡ first_stage (length built.blocks.items)
     → IsWithin (work_of going.point) (stage_of going.point) → going.free ≡ free_data built.map (start_of m Data) → IsGoing n base going
 is_going n m base built next slot gate going in_n size count well spelled follows other is first within free =

@@ -42,6 +42,7 @@ use Rattle.sn_cp.proofs.AroundLemmas.{stays_apart}
 use Rattle.sn_cp.proofs.FrameLemmas.{body_low, gate_low, map_start}
 use Rattle.sn_cp.proofs.StepLemmas.{lies_at}
 use Rattle.sn_cp_build.specs.Building.{Builds, IsWellBuilt}
+use Rattle.sn_cp_build.specs.declared.edits.SnapshotEdit.TheVariants.{None as NoEdit}
 use Rattle.sn_cp_build.specs.declared.building.Built.{Built}
 use Rattle.sn_cp_held.specs.Builds.{CanBeBuilt, IsBuiltOf, plan_of, work_for}
 use Rattle.sn_cp_held.specs.Recovering.{HasReplayed, IsRecovered}
@@ -67,7 +68,7 @@ module _ (old : Disk) (world : World) (im : IsImage (reads old) world) (k : Kept
       subst (λ (e : Disk). LeavesOnly old e (λ c. IsImage c world)) (sym same)
       (LeavesOnly-start old (λ c. IsImage c world) (Always-synced old (λ c. IsImage c world) r.synced im))
 
-  module _ (built : Built) (next : RootBody) (gate : Gate) (well : IsWellBuilt im.blocks k.root.limits k.words k.changed built)
+  module _ (built : Built) (next : RootBody) (gate : Gate) (well : IsWellBuilt im.blocks k.root.limits k.words k.changed NoEdit built)
       (builds : Builds im.blocks k.root.limits (store_of (reads old)) k.root.inode_file k.words k.changed built) (spelled : IsSpellable built) (follows : IsNextRoot Recovery k.root built next) where
     is_built : IsBuiltOf im.blocks (reads old) Recovery k built next
     is_built = record { well = well; builds = builds; numbers = spelled.numbers; whole = whole_written built.blocks.items spelled.whole; body = follows.body; is = follows.is; age = follows.age }
@@ -180,7 +181,7 @@ numbers_count [] = refl
 numbers_count (x ∷ xs) = omega (arith, numbers_count xs)
 
 -- there are no more new blocks than blocks
-pub few_blocks : (n : ℕ) (limits : Limits) (words : List ℕ) (layer : Layer) (built : Built) → length words ≡ n → IsWellBuilt n limits words layer built → length built.blocks.items ≤ n
+pub few_blocks : (n : ℕ) (limits : Limits) (words : List ℕ) (layer : Layer) (built : Built) → length words ≡ n → IsWellBuilt n limits words layer NoEdit built → length built.blocks.items ≤ n
 few_blocks n limits words layer built count well = told (length built.blocks.items) refl
   where
     told : (m : ℕ) → length built.blocks.items ≡ m → length built.blocks.items ≤ n

@@ -10,13 +10,14 @@ ghost use Rattle.sn_overlay.specs.Overlays.{HasRoom, layer_of, no_changes};
 ghost use Rattle.sn_root.specs.Following.{following};
 ghost use Rattle.sn_root.specs.Slots.{gate_in};
 ghost use Rattle.sn_cp_build.specs.Building.{Builds, IsWellBuilt};
+ghost use Rattle.sn_cp_build.specs.declared.edits.SnapshotEdit.TheVariants.{None as NoEdit};
 ghost use Rattle.sn_cp_held.specs.Builds.{CanBeBuilt, LeavesAge};
 ghost use Rattle.sn_cp_whole.specs.declared.fault.PointFault.TheVariants.{Age as AgePoint, Damaged as DamagedPoint};
 ghost use Rattle.sn_cp_whole.specs.Planning.{HasAgeFor, HasCauseToStop, IsNextRoot, IsSpellable, IsWholeBlock, kept_in, point_fault_of, read_fault_of};
 
 use crate::{PointBase, PointFault};
 use sn_block::{Blocks, ReadFault};
-use sn_cp_build::{Built, build};
+use sn_cp_build::{Built, SnapshotEdit, build};
 use sn_device::Device;
 use sn_layout::{Area, Block, Gate, Geometry, LARGEST_AGE, LogHalf, RootBody, Slot};
 use sn_overlay::Overlay;
@@ -127,7 +128,7 @@ fn plan_tree<D: Device>(
     requires words { length base.now.map ≡ geometry }
     ensures next { IfOk result (λ made. IsNextRoot kind base.now.root made.1 made.0) }
     ensures spelled { IfOk result (λ made. IsSpellable made.1) }
-    ensures well { IfOk result (λ made. IsWellBuilt geometry base.now.root.limits base.now.map (layer_of base.now.changed) made.1) }
+    ensures well { IfOk result (λ made. IsWellBuilt geometry base.now.root.limits base.now.map (layer_of base.now.changed) NoEdit made.1) }
     ensures builds { IsTrue D.tells_bytes → IfOk result (λ made. Builds geometry base.now.root.limits
         (store_of (reads (D.disk (device_of blocks.old)))) base.now.root.inode_file base.now.map (layer_of base.now.changed) made.1) }
     ensures aged { result ≡ Err AgePoint → HasAgeFor kind base.now.root → ⊥ }
@@ -142,7 +143,15 @@ fn plan_tree<D: Device>(
     let Ok(changed) = base.changed.copy(alloc) else {
         return Err(PointFault::Memory);
     };
-    match build(alloc, blocks, geometry, &base.root, &base.map, changed) {
+    match build(
+        alloc,
+        blocks,
+        geometry,
+        &base.root,
+        &base.map,
+        changed,
+        SnapshotEdit::None,
+    ) {
         Ok(built) => {
             words_fit(built.map.words());
             blocks_fit(built.blocks.as_slice());
@@ -205,7 +214,7 @@ pub(crate) fn plan<D: Device>(
     requires words { length base.now.map ≡ geometry }
     ensures next { IfOk result (λ p. IsNextRoot kind base.now.root p.built p.next) }
     ensures spelled { IfOk result (λ p. IsSpellable p.built) }
-    ensures well { IfOk result (λ p. IsWellBuilt geometry base.now.root.limits base.now.map (layer_of base.now.changed) p.built) }
+    ensures well { IfOk result (λ p. IsWellBuilt geometry base.now.root.limits base.now.map (layer_of base.now.changed) NoEdit p.built) }
     ensures builds { IsTrue D.tells_bytes → IfOk result (λ p. Builds geometry base.now.root.limits
         (store_of (reads (D.disk (device_of blocks.old)))) base.now.root.inode_file base.now.map (layer_of base.now.changed) p.built) }
     ensures gate { IsTrue D.tells_bytes → IfOk result (λ p. gate_in (reads (D.disk (device_of blocks.old))) (other_slot base.now.slot) ≡ p.gate) }

@@ -5,7 +5,7 @@ ghost use Rattle.sn_layout.specs.RootBody.{IsRootBody};
 use crate::reading::{Image, read_image};
 use anyhow::{Context, Result, bail, ensure};
 use sn_block::{Blocks, ReadFault};
-use sn_cp_build::{Built, build};
+use sn_cp_build::{Built, SnapshotBit, SnapshotEdit, build};
 use sn_device::MemDevice;
 use sn_drawn_disks::{part, put};
 use sn_layout::{Area, BlockTree, Geometry, Pointers, RootBody, Snapshots};
@@ -16,10 +16,22 @@ use sn_tree::{NewBlock, PlanFault};
 use sn_tree_read::TreeFault;
 use std::alloc::{AllocError, Global};
 
+/// What a build does to the bits of snapshots.
+#[derive(Clone, Copy)]
+pub enum Edit {
+    None,
+    /// One with this bit is made of the new tree.
+    Freeze(u8),
+    /// The one with this bit goes.
+    Thaw(u8),
+}
+
 /// The bytes of a disk, the inode file of its root, and the words of its map.
 #[derive(Drop)]
 pub struct Disk {
     pub words: Vec<u32>,
+    /// What its builds do to snapshots.
+    pub edit: Edit,
     bytes: Vec<u8>,
     file: BlockTree,
     geometry: Geometry,
@@ -59,6 +71,18 @@ fn map_of(alloc: Global, geometry: Geometry, words: &[u32]) -> Result<Map>
         bail!("another number of words");
     }
     Ok(Map::from_words(Vec::from_slice(alloc, words)?))
+}
+
+fn snapshot_bit(number: u8) -> Result<SnapshotBit> {
+    SnapshotBit::new(number).context("no bit of a snapshot")
+}
+
+fn edit_of(edit: Edit) -> Result<SnapshotEdit> {
+    match edit {
+        Edit::None => Ok(SnapshotEdit::None),
+        Edit::Freeze(number) => Ok(SnapshotEdit::Freeze(snapshot_bit(number)?)),
+        Edit::Thaw(number) => Ok(SnapshotEdit::Thaw(snapshot_bit(number)?)),
+    }
 }
 
 fn answer_of(built: Result<Built, PlanFault>) -> Answer {
@@ -112,6 +136,7 @@ impl Disk {
         let pointers = first_pointer(first);
         Ok(Disk {
             words: new_words(alloc, blocks, first)?,
+            edit: Edit::None,
             bytes: new_bytes(alloc, blocks, first)?,
             file: BlockTree {
                 size: 4096,
@@ -191,7 +216,8 @@ impl Disk {
     ) -> Result<Answer> {
         let root = root_of(&self.file)?;
         let map = map_of(alloc, self.geometry, words)?;
-        let built = build(alloc, blocks, self.geometry, &root, &map, changes);
+        let edit = edit_of(self.edit)?;
+        let built = build(alloc, blocks, self.geometry, &root, &map, changes, edit);
         Ok(answer_of(built))
     }
 

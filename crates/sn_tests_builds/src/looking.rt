@@ -1,6 +1,6 @@
 //! What is wanted of a build, and of the map of its disk.
 
-use crate::building::Answer;
+use crate::building::{Answer, Edit};
 use crate::layering::Layer;
 use crate::reading::Image;
 use sn_cp_build::Built;
@@ -22,10 +22,37 @@ fn times_reached(
     Ok(Some(times))
 }
 
-/// Whether the map tells exactly what is reached, each block once, and its other bits are as they were.
+/// What a bit of a word is to become that was so, where bit 0 becomes this.
+fn wanted_bit(edit: Edit, number: u32, live: u32, before: u32) -> u32 {
+    if number == 0 {
+        return live;
+    }
+    match edit {
+        Edit::Freeze(bit) if u32::from(bit) == number => live,
+        Edit::Thaw(bit) if u32::from(bit) == number => 0,
+        _ => before,
+    }
+}
+
+fn bit_of(word: u32, number: u32) -> u32 {
+    word.wrapping_shr(number) % 2
+}
+
+/// Whether a word became what it is to where a block is reached so often.
+fn is_word_right(edit: Edit, times: u32, before: u32, after: u32) -> bool {
+    let mut is_right = true;
+    for number in 0..32 {
+        let wanted = wanted_bit(edit, number, times, bit_of(before, number));
+        is_right &= bit_of(after, number) == wanted;
+    }
+    is_right
+}
+
+/// Whether the map tells exactly what is reached, each block once, and its other bits are edited so.
 pub fn is_map_right(
     alloc: Global,
     image: &Image,
+    edit: Edit,
     old: &[u32],
     new: &[u32],
 ) -> Result<bool, AllocError> {
@@ -34,7 +61,7 @@ pub fn is_map_right(
     };
     let mut is_right = old.len() == new.len();
     for ((count, before), after) in times.iter().zip(old.iter()).zip(new.iter()) {
-        is_right &= *count == *after % 2 && *before / 2 == *after / 2;
+        is_right &= is_word_right(edit, *count, *before, *after);
     }
     Ok(is_right)
 }

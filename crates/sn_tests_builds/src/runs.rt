@@ -1,6 +1,6 @@
 //! Runs of builds, each over the tree that was built before.
 
-use crate::building::{Answer, Disk};
+use crate::building::{Answer, Disk, Edit};
 use crate::layering::{Layer, layer_between};
 use crate::looking::{are_blocks_right, is_built_of, is_map_right, with_free};
 use crate::tallies::Tallies;
@@ -44,11 +44,24 @@ fn run_seed(alloc: Global, seed: u32, builds: u32, tallies: &mut Tallies) -> Res
         disk: disk_for(alloc, seed)?,
         tree: Tree::new(alloc)?,
     };
-    for _ in 0..builds {
+    for turn in 0..builds {
+        course.disk.edit = edit_at(seed, turn);
         course.step(&mut random, tallies)?;
         course.keep_some(&mut random);
     }
     Ok(())
+}
+
+/// Two snapshots are made in a course, and the first goes again. Bit 1 is that of blocks that are kept by hand.
+fn edit_at(seed: u32, turn: u32) -> Edit {
+    let place = (seed % 30) as u8;
+    let (first, second) = (31 - place, 2 + place);
+    match turn {
+        1 => Edit::Freeze(first),
+        3 => Edit::Freeze(second),
+        4 => Edit::Thaw(first),
+        _ => Edit::None,
+    }
 }
 
 /// Every third disk has so few free blocks that some trees don't fit.
@@ -118,8 +131,13 @@ impl Course {
         let image = self.disk.read(self.alloc)?;
         let is_right = image.tree.is_same(wanted) && image.are_links_right();
         tallies.trees.count(is_right);
-        let is_right = is_map_right(self.alloc, &image, before, self.disk.words.as_slice())?;
-        tallies.maps.count(is_right);
+        let (edit, words) = (self.disk.edit, self.disk.words.as_slice());
+        let is_right = is_map_right(self.alloc, &image, edit, before, words)?;
+        match edit {
+            Edit::None => tallies.maps.count(is_right),
+            Edit::Freeze(_) => tallies.frozen.count(is_right),
+            Edit::Thaw(_) => tallies.thawed.count(is_right),
+        }
         Ok(())
     }
 

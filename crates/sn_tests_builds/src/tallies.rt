@@ -9,6 +9,10 @@ use sn_table::{Report, Tally};
 pub struct Tallies {
     pub trees: Tally,
     pub maps: Tally,
+    /// Maps in which a snapshot was made.
+    pub frozen: Tally,
+    /// Maps in which one went.
+    pub thawed: Tally,
     pub blocks: Tally,
     pub enough: Tally,
     pub too_few: Tally,
@@ -23,6 +27,8 @@ impl Tallies {
         Tallies {
             trees: Tally::new(),
             maps: Tally::new(),
+            frozen: Tally::new(),
+            thawed: Tally::new(),
             blocks: Tally::new(),
             enough: Tally::new(),
             too_few: Tally::new(),
@@ -36,6 +42,8 @@ impl Tallies {
     pub fn report(&self, report: &mut Report<'_>) -> Result<()> {
         report.add("trees", self.trees)?;
         report.add("maps", self.maps)?;
+        report.add("maps with a new snapshot", self.frozen)?;
+        report.add("maps with one snapshot less", self.thawed)?;
         report.add("new blocks", self.blocks)?;
         report.add("disks with enough free blocks", self.enough)?;
         report.add("disks with one too few", self.too_few)?;

@@ -27,7 +27,7 @@ returns-clause-well g c =
     let first = begun_is c.args.map.now c.in_ok-try_clone.field-0 (start_of c.args.geometry Data) c.start-first.result c.new.result c.new-build.result c.in_ok-try_clone.ensures c.start-first.ensures c.new.ensures c.new-build.ensures in
     let plan = subst (λ (d : Draft). IsTreePlanned (IsTrue g.D.Device.tells_bytes) c.args.root.now.limits s c.args.root.now.inode_file (layer_of c.args.changes) c.in_ok-inode_file.inode_file d c.plan_tree.new.build) first c.in_ok-inode_file.ensures.planned in
     well_built (IsTrue g.D.Device.tells_bytes) c.args.geometry c.args.root.now.limits s c.args.root.now.inode_file (layer_of c.args.changes) c.in_ok-inode_file.inode_file c.args.map.now c.plan_tree.new.build plan
-    c.finished.ensures.free c.finished.ensures.rise c.finished.result c.finished.ensures.file c.finished.ensures.blocks c.finished.ensures.bits
+    c.finished.ensures.free c.finished.ensures.rise c.args.edit c.finished.result c.finished.ensures.file c.finished.ensures.blocks c.finished.ensures.bits
 
 pub returns-clause-builds : goal.returns-clause-builds
 returns-clause-builds g c = λ told.
@@ -35,7 +35,7 @@ returns-clause-builds g c = λ told.
     let first = begun_is c.args.map.now c.in_ok-try_clone.field-0 (start_of c.args.geometry Data) c.start-first.result c.new.result c.new-build.result c.in_ok-try_clone.ensures c.start-first.ensures c.new.ensures c.new-build.ensures in
     let plan = subst (λ (d : Draft). IsTreePlanned (IsTrue g.D.Device.tells_bytes) c.args.root.now.limits s c.args.root.now.inode_file (layer_of c.args.changes) c.in_ok-inode_file.inode_file d c.plan_tree.new.build) first c.in_ok-inode_file.ensures.planned in
     all_builds (IsTrue g.D.Device.tells_bytes) c.args.geometry c.args.root.now.limits s c.args.root.now.inode_file (layer_of c.args.changes) c.in_ok-inode_file.inode_file c.args.map.now c.plan_tree.new.build plan
-    c.finished.ensures.free c.finished.ensures.rise told c.requires.words c.finished.result c.finished.ensures.file c.finished.ensures.blocks c.finished.ensures.bits
+    c.finished.ensures.free c.finished.ensures.rise told c.requires.words c.args.edit c.finished.result c.finished.ensures.file c.finished.ensures.blocks c.finished.ensures.bits
 
 pub returns-in_err-inode_file-clause-full : goal.returns-in_err-inode_file-clause-full
 returns-in_err-inode_file-clause-full g c = λ told full ground enough.

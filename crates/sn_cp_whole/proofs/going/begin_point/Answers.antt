@@ -2,6 +2,7 @@ use Rattle.std.proofs.Common.{ℕ, sym, ap, subst, ◌∙◌}
 use Rattle.sn_alloc.specs.Taking.{free_data}
 use Rattle.sn_block.specs.Lending.{device_of}
 use Rattle.sn_cp_build.specs.Building.{Builds, IsWellBuilt}
+use Rattle.sn_cp_build.specs.declared.edits.SnapshotEdit.TheVariants.{None as NoEdit}
 use Rattle.sn_cp_held.specs.Builds.{CanBeBuilt, plan_of}
 use Rattle.sn_device.specs.Disk.{reads}
 use Rattle.sn_layout.specs.declared.geometry.Area.TheVariants.{Data}
@@ -41,7 +42,7 @@ returns-clause-begins g c told h world rr =
     let base = c.args.base.now in
     let p = c.in-Ok.planned in
     let n_is = c.geometry-geometry.ensures ∙ ap (λ (at : LogPosition). at.blocks) c.position.ensures in
-    let well = subst (λ (n : ℕ). IsWellBuilt n base.root.limits base.map (layer_of base.changed) p.built) n_is c.in-Ok.ensures.well in
+    let well = subst (λ (n : ℕ). IsWellBuilt n base.root.limits base.map (layer_of base.changed) NoEdit p.built) n_is c.in-Ok.ensures.well in
     let builds = subst (λ (n : ℕ). Builds n base.root.limits (store_of (reads (g.D.Device.disk (device_of c.args.blocks.now)))) base.root.inode_file base.map (layer_of base.changed) p.built) n_is (c.in-Ok.ensures.builds told) in
     let begins = c.in-Ok-begin.ensures.bytes told in
     let same = c.in-Ok.ensures.same told in

@@ -3,6 +3,7 @@ use Rattle.sn_block.specs.Lending.{device_of}
 use Rattle.sn_cp.specs.Points.{Work}
 use Rattle.sn_cp.specs.Steps.{IsWhole}
 use Rattle.sn_cp_build.specs.Building.{Builds, IsWellBuilt}
+use Rattle.sn_cp_build.specs.declared.edits.SnapshotEdit.TheVariants.{None as NoEdit}
 use Rattle.sn_cp_held.specs.Builds.{CanBeBuilt, plan_of, work_for}
 use Rattle.sn_device.specs.Disk.{Disk, IsSynced, reads}
 use Rattle.sn_device.proofs.CrashLemmas.{Always-synced}
@@ -55,7 +56,7 @@ pub returns-in_default-clause-recovery : goal.returns-in_default-clause-recovery
 returns-in_default-clause-recovery g c told world im in_n r =
     let base = c.args.base.now in
     let p = c.in-Ok.planned in
-    let well = subst (λ (n : ℕ). IsWellBuilt n base.root.limits base.map (layer_of base.changed) p.built) (sym in_n) c.in-Ok.ensures.well in
+    let well = subst (λ (n : ℕ). IsWellBuilt n base.root.limits base.map (layer_of base.changed) NoEdit p.built) (sym in_n) c.in-Ok.ensures.well in
     let builds = subst (λ (n : ℕ). Builds n base.root.limits (store_of (reads (g.D.Device.disk (device_of c.args.blocks.now)))) base.root.inode_file base.map (layer_of base.changed) p.built) (sym in_n) (c.in-Ok.ensures.builds told) in
     leaves_image _ world im _ r p.built p.next p.gate well builds c.in-Ok.ensures.spelled c.in-Ok.ensures.next _ _ (c.in-Ok.ensures.same told) (g.met.D.Device.whole (device_of c.finish.new.blocks) told) _ _
     (c.new-point.ensures.work ∙ (λ i. record { blocks = sym in_n i; slot = c.other-slot.ensures i; gate = p.gate; plan = plan_of p.built p.next })) (c.in_default.ensures.bytes told)
@@ -79,7 +80,7 @@ pub returns-clause-recovery : goal.returns-clause-recovery
 returns-clause-recovery g c told world im in_n r =
     let base = c.args.base.now in
     let p = c.in-Ok.planned in
-    let well = subst (λ (n : ℕ). IsWellBuilt n base.root.limits base.map (layer_of base.changed) p.built) (sym in_n) c.in-Ok.ensures.well in
+    let well = subst (λ (n : ℕ). IsWellBuilt n base.root.limits base.map (layer_of base.changed) NoEdit p.built) (sym in_n) c.in-Ok.ensures.well in
     let builds = subst (λ (n : ℕ). Builds n base.root.limits (store_of (reads (g.D.Device.disk (device_of c.args.blocks.now)))) base.root.inode_file base.map (layer_of base.changed) p.built) (sym in_n) (c.in-Ok.ensures.builds told) in
     let whole = g.met.D.Device.whole (device_of c.finish.new.blocks) told in
     let work = c.new-point.ensures.work ∙ (λ i. record { blocks = sym in_n i; slot = c.other-slot.ensures i; gate = p.gate; plan = plan_of p.built p.next }) in

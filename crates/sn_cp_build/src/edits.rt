@@ -1,0 +1,72 @@
+//! What becomes of the bits of snapshots.
+ghost use Rattle.std.specs.Prelude.{◌≡◌, ◌≤◌, ◌↔◌, IsSome, IfSome};
+ghost use Rattle.sn_cp_build.specs.Edits.{EditsBits};
+
+use sn_map::Map;
+use std::marker::Model;
+
+/// The bit of a snapshot in each word of the map, from 1 to 31: any but that of the live tree. How many of them a root
+/// may use is a matter of its version.
+#[derive(Clone, Copy, PartialEq, Eq)]
+pub struct SnapshotBit {
+    number: u8,
+}
+
+impl Model for SnapshotBit {
+    ghost use Rattle.std.specs.Prelude.{ℕ, ◌≤◌};
+
+    ghost Value = { ℕ };
+
+    ghost view = { λ bit. bit.number };
+
+    ghost invariant = { λ bit. (1 ≤ bit.number) × (bit.number ≤ 31) };
+
+    ghost inverse = { λ n. record { number = n } };
+}
+
+impl SnapshotBit {
+    /// `None` for 0, which is the live tree's, and for what is no bit of a word.
+    pub fn new(number: u8) -> Option<Self>
+        ensures valid { IsSome result ↔ (1 ≤ number) × (number ≤ 31) }
+        ensures value { IfSome result (λ bit. bit ≡ number) }
+    {
+        if number >= 1 && number <= 31 {
+            Some(SnapshotBit { number })
+        } else {
+            None
+        }
+    }
+
+    /// Which bit it is.
+    pub fn number(self) -> u8
+        ensures value { result ≡ self }
+        ensures from_one { 1 ≤ self }
+        ensures within { self ≤ 31 }
+    {
+        self.number
+    }
+}
+
+/// What a build does to the bits of snapshots, once bit 0 tells the new tree.
+#[derive(Clone, Copy, PartialEq, Eq)]
+pub enum SnapshotEdit {
+    /// Nothing: each snapshot keeps what it reaches.
+    None,
+    /// A snapshot of the new tree is made: its bit becomes what bit 0 is, in each word.
+    Freeze(SnapshotBit),
+    /// A snapshot goes: its bit is cleared in each word, and what nothing else reaches is free from this map on.
+    Thaw(SnapshotBit),
+}
+
+impl SnapshotEdit {
+    // Bit 0 stays, as do the bits of other snapshots.
+    pub(crate) fn apply(self, map: &mut Map)
+        ensures { EditsBits self map.old map.new }
+    {
+        match self {
+            SnapshotEdit::None => {}
+            SnapshotEdit::Freeze(bit) => map.copy_bit0_to(u32::from(bit.number())),
+            SnapshotEdit::Thaw(bit) => map.clear_bit(u32::from(bit.number())),
+        }
+    }
+}
