@@ -8,9 +8,6 @@ use std::alloc::Global;
 /// The blocks of a disk whose log is full before its blocks are.
 const BLOCKS: u32 = 4_096;
 
-/// Of one that a list of some events doesn't fill, and that costs a quarter of that to make: the most whose map is one block.
-const SMALL_BLOCKS: u32 = 1_024;
-
 /// And of the least one.
 const LEAST_BLOCKS: u32 = 256;
 
@@ -26,11 +23,6 @@ fn formatted(alloc: Global, blocks: u32) -> Result<MemDevice> {
 /// an error.
 pub fn new_device(alloc: Global) -> Result<MemDevice> {
     formatted(alloc, BLOCKS)
-}
-
-/// A formatted device of 1,024 blocks, on which some events fill nothing. Too little memory is an error.
-pub fn small_device(alloc: Global) -> Result<MemDevice> {
-    formatted(alloc, SMALL_BLOCKS)
 }
 
 /// A formatted device of 256 blocks, the fewest that there may be. Too little memory is an error.

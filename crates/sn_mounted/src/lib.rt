@@ -20,6 +20,6 @@ mod mounted;
 mod tears;
 
 pub use asking::event_of;
-pub use devices::{least_device, new_device, small_device};
+pub use devices::{least_device, new_device};
 pub use disk::Disk;
 pub use tears::{FILLS, crashed};

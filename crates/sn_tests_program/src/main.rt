@@ -47,7 +47,7 @@ fn main(rt: HostRuntime) -> Result<()> {
     report.script("runs.txt", events::replies)?;
     refused::run(&mut report)?;
     report.script("torn.txt", torn::torn)?;
-    report.script("points.txt", torn::torn_in_little_room)?;
+    report.script("points.txt", torn::torn)?;
     report.end()?;
     ensure!(wrong == 0, "cases of the program were wrong");
     Ok(())
