@@ -46,63 +46,97 @@ impl<'a> Step<'a> {
     }
 }
 
-/// A change of names.
-fn naming(step: Step<'_>) -> Result<Option<Change<'_>>> {
-    Ok(Some(match step.part(0)? {
-        "make" => Change::Make {
-            directory: step.short(1)?,
-            name: step.bytes(2)?,
-            number: step.short(3)?,
-            kind: step.kind(4)?,
-            ownership: ownership(7),
-        },
-        "link" => Change::AddLink {
-            directory: step.short(1)?,
-            name: step.bytes(2)?,
-            number: step.short(3)?,
-        },
-        "remove" => Change::Remove {
-            directory: step.short(1)?,
-            name: step.bytes(2)?,
-        },
-        "rename" => Change::Rename {
-            old_directory: step.short(1)?,
-            old_name: step.bytes(2)?,
-            new_directory: step.short(3)?,
-            new_name: step.bytes(4)?,
-        },
-        _ => return Ok(None),
-    }))
+/// The change of a step that makes, names or unnames a node.
+fn naming(step: Step<'_>) -> Result<Change<'_>> {
+    match step.part(0)? {
+        "make" => making(step),
+        "link" => linking(step),
+        "remove" => removing(step),
+        _ => renaming(step),
+    }
 }
 
-/// A change of one node.
-fn changing(step: Step<'_>) -> Result<Option<Change<'_>>> {
-    Ok(Some(match step.part(0)? {
-        "write" => Change::Write {
-            number: step.short(1)?,
-            offset: step.number(2)?,
-            bytes: step.bytes(3)?,
-        },
-        "size" => Change::SetSize {
-            number: step.short(1)?,
-            size: step.number(2)?,
-        },
-        "own" => Change::SetAttributes {
-            number: step.short(1)?,
-            ownership: ownership(9),
-        },
-        _ => return Ok(None),
-    }))
+fn making(step: Step<'_>) -> Result<Change<'_>> {
+    let (directory, number, kind) = (step.short(1)?, step.short(3)?, step.kind(4)?);
+    Ok(Change::Make {
+        directory,
+        name: step.bytes(2)?,
+        number,
+        kind,
+        ownership: ownership(7),
+    })
+}
+
+fn linking(step: Step<'_>) -> Result<Change<'_>> {
+    let (directory, number) = (step.short(1)?, step.short(3)?);
+    Ok(Change::AddLink {
+        directory,
+        name: step.bytes(2)?,
+        number,
+    })
+}
+
+fn removing(step: Step<'_>) -> Result<Change<'_>> {
+    let directory = step.short(1)?;
+    Ok(Change::Remove {
+        directory,
+        name: step.bytes(2)?,
+    })
+}
+
+fn renaming(step: Step<'_>) -> Result<Change<'_>> {
+    let (old_directory, new_directory) = (step.short(1)?, step.short(3)?);
+    Ok(Change::Rename {
+        old_directory,
+        old_name: step.bytes(2)?,
+        new_directory,
+        new_name: step.bytes(4)?,
+    })
+}
+
+/// The change of a step that writes, cuts or gives away a node.
+fn changing(step: Step<'_>) -> Result<Change<'_>> {
+    match step.part(0)? {
+        "write" => writing(step),
+        "size" => sizing(step),
+        _ => owning(step),
+    }
+}
+
+fn writing(step: Step<'_>) -> Result<Change<'_>> {
+    let (number, offset) = (step.short(1)?, step.number(2)?);
+    Ok(Change::Write {
+        number,
+        offset,
+        bytes: step.bytes(3)?,
+    })
+}
+
+fn sizing(step: Step<'_>) -> Result<Change<'_>> {
+    let (number, size) = (step.short(1)?, step.number(2)?);
+    Ok(Change::SetSize { number, size })
+}
+
+fn owning(step: Step<'_>) -> Result<Change<'_>> {
+    let number = step.short(1)?;
+    Ok(Change::SetAttributes {
+        number,
+        ownership: ownership(9),
+    })
 }
 
 /// So many bytes `x` are written at an offset.
 fn fill(alloc: Global, trees: &mut Trees, step: Step<'_>) -> Result<()> {
     let (number, offset, count) = (step.short(1)?, step.number(2)?, step.short(3)?);
     let bytes = vec![in alloc; b'x'; usize::from(count)]?;
+    write(trees, number, offset, bytes.as_slice())
+}
+
+fn write(trees: &mut Trees, number: u16, offset: u64, bytes: &[u8]) -> Result<()> {
     trees.change(&Change::Write {
         number,
         offset,
-        bytes: Bytes::new(bytes.as_slice()),
+        bytes: Bytes::new(bytes),
     })
 }
 
@@ -142,19 +176,14 @@ fn take_blocks(trees: &mut Trees, step: Step<'_>, text: &mut String) -> Result<(
 
 fn take(alloc: Global, trees: &mut Trees, step: Step<'_>, text: &mut String) -> Result<()> {
     match step.part(0)? {
-        "settle" => return trees.settle(),
-        "fill" => return fill(alloc, trees, step),
-        "drop" => return trees.drop_node(step.short(1)?),
-        "take" => return take_blocks(trees, step, text),
-        _ => {}
+        "settle" => trees.settle(),
+        "fill" => fill(alloc, trees, step),
+        "drop" => trees.drop_node(step.short(1)?),
+        "take" => take_blocks(trees, step, text),
+        "make" | "link" | "remove" | "rename" => trees.change(&naming(step)?),
+        "write" | "size" | "own" => trees.change(&changing(step)?),
+        _ => ask(trees, step, text),
     }
-    if let Some(change) = naming(step)? {
-        return trees.change(&change);
-    }
-    if let Some(change) = changing(step)? {
-        return trees.change(&change);
-    }
-    ask(trees, step, text)
 }
 
 /// The answers to the questions of a list of steps.

@@ -5,9 +5,9 @@ use crate::root::Root;
 use anyhow::{Result, bail};
 use sn_limits::{Kind, Limits};
 use sn_model::{Change, Link, Word};
-use sn_overlay::{BLOCK_SIZE, Below, FileBlock, Overlay, SeenNode, Through};
+use sn_overlay::{BLOCK_SIZE, Below, Block, FileBlock, Overlay, SeenNode, Through};
 use sn_overlay_change::of_change;
-use std::alloc::Global;
+use std::alloc::{AllocError, Global};
 
 #[derive(Drop)]
 pub struct Trees {
@@ -28,6 +28,13 @@ impl Trees {
 
     /// Makes the overlay of a change, and lays it over the newer one.
     pub fn change(&mut self, change: &Change<'_>) -> Result<()> {
+        match self.overlay_of(change) {
+            Some(newer) => self.lay_over(newer),
+            None => bail!("no memory for a change"),
+        }
+    }
+
+    fn overlay_of(&self, change: &Change<'_>) -> Option<Overlay> {
         let mut root = Root;
         let mut frozen = Through {
             overlay: &self.bottom,
@@ -37,14 +44,13 @@ impl Trees {
             overlay: &self.top,
             below: &mut frozen,
         };
-        match of_change(self.alloc, &Limits::VERSION_1, &mut shown, change) {
-            Ok(newer) => {
-                self.top.reserve_for(&newer)?;
-                self.top.merge(newer);
-                Ok(())
-            }
-            Err(_) => bail!("no memory for a change"),
-        }
+        of_change(self.alloc, &Limits::VERSION_1, &mut shown, change).ok()
+    }
+
+    fn lay_over(&mut self, newer: Overlay) -> Result<()> {
+        self.top.reserve_for(&newer)?;
+        self.top.merge(newer);
+        Ok(())
     }
 
     /// Lays a copy of the newer overlay over the older one, and begins a newer one.
@@ -74,10 +80,7 @@ impl Trees {
     /// The names of a directory that it has, each as `name=number;`, where a name that is gone has 0.
     pub fn names(&self, directory: u16, text: &mut String) -> Result<()> {
         for (link, number) in self.top.names_of(directory) {
-            for byte in link.name.as_bytes() {
-                text.push(character_of(*byte))?;
-            }
-            write!(text, "={};", number.unwrap_or(0))?;
+            push_name(text, link.name.as_bytes(), number.unwrap_or(0))?;
         }
         Ok(())
     }
@@ -85,14 +88,19 @@ impl Trees {
     /// The indices of the blocks of a file that it had, each with its first byte, as `index=byte;`. They
     /// are taken out.
     pub fn take_blocks(&mut self, file: u16, text: &mut String) -> Result<()> {
-        for (file_block, block) in self.top.take_blocks(self.alloc, file)? {
-            write!(text, "{}={};", file_block.index, character_of(block[0]))?;
-        }
-        Ok(())
+        let taken = self.top.take_blocks(self.alloc, file)?;
+        push_blocks(text, taken.as_slice())
     }
 
     /// A node as `kind:owner:links:size`.
     pub fn node(&self, number: u16, text: &mut String) -> Result<()> {
+        match self.node_at(number)? {
+            None => Ok(text.push_str("none")?),
+            Some(node) => push_node(text, &node),
+        }
+    }
+
+    fn node_at(&self, number: u16) -> Result<Option<SeenNode>, AllocError> {
         let mut root = Root;
         let mut frozen = Through {
             overlay: &self.bottom,
@@ -102,15 +110,19 @@ impl Trees {
             overlay: &self.top,
             below: &mut frozen,
         };
-        match shown.node(number)? {
-            None => text.push_str("none")?,
-            Some(node) => push_node(text, &node)?,
-        }
-        Ok(())
+        shown.node(number)
     }
 
     /// The number that a name stands for.
     pub fn name(&self, directory: u16, name: &str, text: &mut String) -> Result<()> {
+        let link = Link {
+            directory,
+            name: Word::new(self.alloc, name.as_bytes())?,
+        };
+        push_number(text, self.number_of(&link)?)
+    }
+
+    fn number_of(&self, link: &Link) -> Result<Option<u16>, AllocError> {
         let mut root = Root;
         let mut frozen = Through {
             overlay: &self.bottom,
@@ -120,15 +132,7 @@ impl Trees {
             overlay: &self.top,
             below: &mut frozen,
         };
-        let link = Link {
-            directory,
-            name: Word::new(self.alloc, name.as_bytes())?,
-        };
-        match shown.link(&link)? {
-            None => text.push_str("none")?,
-            Some(number) => write!(text, "{number}")?,
-        }
-        Ok(())
+        shown.link(link)
     }
 
     /// So many bytes of a block from a place on, with a dot for each zero.
@@ -139,6 +143,12 @@ impl Trees {
         count: usize,
         text: &mut String,
     ) -> Result<()> {
+        let mut block = [0; BLOCK_SIZE];
+        self.read_block(file_block, &mut block)?;
+        push_bytes(text, &block, from, count)
+    }
+
+    fn read_block(&self, file_block: FileBlock, block: &mut Block) -> Result<(), AllocError> {
         let mut root = Root;
         let mut frozen = Through {
             overlay: &self.bottom,
@@ -148,13 +158,38 @@ impl Trees {
             overlay: &self.top,
             below: &mut frozen,
         };
-        let mut block = [0; BLOCK_SIZE];
-        shown.read_block(file_block, &mut block)?;
-        for byte in block.iter().skip(from).take(count) {
-            text.push(character_of(*byte))?;
-        }
-        Ok(())
+        shown.read_block(file_block, block)
     }
+}
+
+fn push_bytes(text: &mut String, block: &Block, from: usize, count: usize) -> Result<()> {
+    for byte in block.iter().skip(from).take(count) {
+        text.push(character_of(*byte))?;
+    }
+    Ok(())
+}
+
+fn push_name(text: &mut String, name: &[u8], number: u16) -> Result<()> {
+    for byte in name {
+        text.push(character_of(*byte))?;
+    }
+    write!(text, "={number};")?;
+    Ok(())
+}
+
+fn push_blocks(text: &mut String, taken: &[(FileBlock, Box<Block>)]) -> Result<()> {
+    for (file_block, block) in taken {
+        write!(text, "{}={};", file_block.index, character_of(block[0]))?;
+    }
+    Ok(())
+}
+
+fn push_number(text: &mut String, number: Option<u16>) -> Result<()> {
+    match number {
+        None => text.push_str("none")?,
+        Some(number) => write!(text, "{number}")?,
+    }
+    Ok(())
 }
 
 fn push_node(text: &mut String, node: &SeenNode) -> Result<()> {
