@@ -86,9 +86,13 @@ fn image_of(disk: &Disk) -> Result<Vec<u8>> {
 /// The disk of the list: what is made inherits a long ACL, and the log is empty.
 fn first_image(alloc: Global) -> Result<Vec<u8>> {
     let mut disk = inheriting_disk(alloc)?;
+    first_bytes(&mut disk)
+}
+
+fn first_bytes(disk: &mut Disk) -> Result<Vec<u8>> {
     disk.remount()?;
     disk.crash(Fill::Old)?;
-    image_of(&disk)
+    image_of(disk)
 }
 
 /// What is counted of mounts that are cut short.
@@ -109,10 +113,11 @@ fn run_mounts(report: &mut Report<'_>, image: &[u8], writes: u32) -> Result<()> 
         failed: none,
         twice: none,
     };
-    for part in 0..PARTS + 1 {
-        let left = left_of(report.alloc(), image, stop_of(writes, part), part)?;
-        look_at(report, &mut mounts, left.as_slice(), part)?;
-    }
+    look_at_parts(report, &mut mounts, image, writes)?;
+    add_mounts(report, &mounts)
+}
+
+fn add_mounts(report: &mut Report<'_>, mounts: &Mounts) -> Result<()> {
     report.add("mounts cut short", mounts.filled)?;
     report.add("mounts cut short that tear sectors", mounts.torn)?;
     report.add(
@@ -122,11 +127,38 @@ fn run_mounts(report: &mut Report<'_>, image: &[u8], writes: u32) -> Result<()> 
     report.add("mounts cut short twice", mounts.twice)
 }
 
-/// What a part of the list left, behind so many writes.
+fn look_at_parts(
+    report: &Report<'_>,
+    mounts: &mut Mounts,
+    image: &[u8],
+    writes: u32,
+) -> Result<()> {
+    for part in 0..PARTS + 1 {
+        look_at_part(report, mounts, image, stop_of(writes, part), part)?;
+    }
+    Ok(())
+}
+
+/// The mounts of what a part of the list left, behind so many writes.
+fn look_at_part(
+    report: &Report<'_>,
+    mounts: &mut Mounts,
+    image: &[u8],
+    stop: u32,
+    part: u32,
+) -> Result<()> {
+    let left = left_of(report.alloc(), image, stop, part)?;
+    look_at(report, mounts, left.as_slice(), part)
+}
+
 fn left_of(alloc: Global, image: &[u8], stop: u32, part: u32) -> Result<Vec<u8>> {
     let mut disk = Disk::of_bytes(alloc, image)?;
-    live(&mut disk, Cut::Stop(stop), crash_for(part))?;
-    image_of(&disk)
+    left_on(&mut disk, stop, part)
+}
+
+fn left_on(disk: &mut Disk, stop: u32, part: u32) -> Result<Vec<u8>> {
+    live(disk, Cut::Stop(stop), crash_for(part))?;
+    image_of(disk)
 }
 
 fn look_at(report: &Report<'_>, mounts: &mut Mounts, left: &[u8], part: u32) -> Result<()> {
@@ -150,8 +182,12 @@ fn whole(report: &mut Report<'_>, image: &[u8]) -> Result<u32> {
 /// How many were made, and with how many writes.
 fn made_whole(alloc: Global, image: &[u8]) -> Result<(Option<usize>, u64)> {
     let mut disk = Disk::of_bytes(alloc, image)?;
+    make_whole(&mut disk)
+}
+
+fn make_whole(disk: &mut Disk) -> Result<(Option<usize>, u64)> {
     disk.remount()?;
-    let made = make(&mut disk, 0)?;
+    let made = make(disk, 0)?;
     disk.unmount()?;
     Ok((made, disk.writes()?))
 }
@@ -309,8 +345,12 @@ fn mount_between(
     wanted: Option<usize>,
 ) -> Result<Outcome> {
     let mut disk = Disk::of_bytes(alloc, left)?;
-    let life = mount_once(&mut disk, cut, crash)?;
-    let found = found(&mut disk)?;
+    mount_on(&mut disk, cut, crash, wanted)
+}
+
+fn mount_on(disk: &mut Disk, cut: Cut, crash: u32, wanted: Option<usize>) -> Result<Outcome> {
+    let life = mount_once(disk, cut, crash)?;
+    let found = found(disk)?;
     Ok(Outcome {
         is_right: life.acknowledged.is_some() && wanted.is_some() && wanted == found,
         was_cut: life.was_cut,
@@ -390,9 +430,14 @@ fn mounts_again(
 
 fn found_behind_two(alloc: Global, left: &[u8], number: u32) -> Result<Option<usize>> {
     let mut disk = Disk::of_bytes(alloc, left)?;
+    mount_twice(&mut disk, number)?;
+    found(&mut disk)
+}
+
+fn mount_twice(disk: &mut Disk, number: u32) -> Result<()> {
     for (stop, behind) in [(number, 1), (number / 3, 2)] {
         let cut = Cut::Stop(stop % MOUNT_WRITES);
-        mount_once(&mut disk, cut, crash_for(number.saturating_add(behind)))?;
+        mount_once(disk, cut, crash_for(number.saturating_add(behind)))?;
     }
-    found(&mut disk)
+    Ok(())
 }

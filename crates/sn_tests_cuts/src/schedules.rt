@@ -113,11 +113,21 @@ fn drawn(random: &mut Pcg32, count: u32) -> u32 {
 
 /// A write of so many bytes to the descriptor 0.
 fn write_of(alloc: Global, count: usize) -> Result<Event> {
+    let line = write_line(alloc, count)?;
+    event_of(alloc, line.as_str())
+}
+
+fn write_line(alloc: Global, count: usize) -> Result<String> {
     let mut line = String::from_str(alloc, "0 write 0 ")?;
+    push_bytes(count, &mut line)?;
+    Ok(line)
+}
+
+fn push_bytes(count: usize, line: &mut String) -> Result<()> {
     for _ in 0..count {
         line.push_str("78")?;
     }
-    event_of(alloc, line.as_str())
+    Ok(())
 }
 
 /// A step as often as a call, and now and then a long write.
@@ -142,10 +152,14 @@ fn draw(alloc: Global, number: u32, events: &mut Vec<Event>) -> Result<()> {
     let mut random = Pcg32::new(u64::from(number), 1);
     add_event(alloc, "0 login 0 0 -", events)?;
     for _ in 0..EVENTS {
-        let event = event_from(alloc, &mut random)?;
-        events.push(event)?;
+        add_drawn(alloc, &mut random, events)?;
     }
     Ok(())
+}
+
+fn add_drawn(alloc: Global, random: &mut Pcg32, events: &mut Vec<Event>) -> Result<()> {
+    let event = event_from(alloc, random)?;
+    Ok(events.push(event)?)
 }
 
 fn add_event(alloc: Global, line: &str, events: &mut Vec<Event>) -> Result<()> {
@@ -173,32 +187,47 @@ fn look(disk: &mut Disk, events: &[Event], left: &mut Left) -> Result<()> {
     for event in events {
         left.told = disk.answer(event)?;
     }
-    disk.unmount()?;
-    left.writes = u32::try_from(disk.writes()?)?;
-    disk.crash(Fill::Old)?;
+    left.writes = writes_until_crash(disk)?;
     find(disk, &mut left.found)
+}
+
+/// How many writes were made up to a crash, which comes now.
+fn writes_until_crash(disk: &mut Disk) -> Result<u32> {
+    disk.unmount()?;
+    let writes = u32::try_from(disk.writes()?)?;
+    disk.crash(Fill::Old)?;
+    Ok(writes)
 }
 
 /// What some events leave.
 fn left_by(alloc: Global, image: &[u8], events: &[Event]) -> Result<Left> {
-    let mut disk = Disk::of_bytes(alloc, image)?;
     let mut left = Left {
         told: String::new(alloc),
         found: String::new(alloc),
         writes: 0,
     };
-    look(&mut disk, events, &mut left)?;
+    look_on(alloc, image, events, &mut left)?;
     Ok(left)
+}
+
+fn look_on(alloc: Global, image: &[u8], events: &[Event], left: &mut Left) -> Result<()> {
+    let mut disk = Disk::of_bytes(alloc, image)?;
+    look(&mut disk, events, left)
 }
 
 /// Adds what is left by each front of a schedule's events, the empty one first.
 fn look_at_each(alloc: Global, image: &[u8], schedule: &mut Schedule) -> Result<()> {
     for count in 0..schedule.events.len() + 1 {
-        let left = left_by(alloc, image, &schedule.events.as_slice()[..count])?;
-        schedule.writes = left.writes;
-        schedule.behind.push(left)?;
+        look_at_front(alloc, image, schedule, count)?;
     }
     Ok(())
+}
+
+fn look_at_front(alloc: Global, image: &[u8], schedule: &mut Schedule, count: usize) -> Result<()> {
+    let events = schedule.events.as_slice().get(..count);
+    let left = left_by(alloc, image, events.context("no such front")?)?;
+    schedule.writes = left.writes;
+    Ok(schedule.behind.push(left)?)
 }
 
 /// The schedule of a number.
@@ -209,9 +238,18 @@ fn schedule_of(alloc: Global, image: &[u8], number: u32) -> Result<Schedule> {
         behind: Vec::new(alloc),
         writes: 0,
     };
-    draw(alloc, number, &mut schedule.events)?;
-    look_at_each(alloc, image, &mut schedule)?;
+    fill_in(alloc, image, &mut schedule)?;
     Ok(schedule)
+}
+
+fn fill_in(alloc: Global, image: &[u8], schedule: &mut Schedule) -> Result<()> {
+    draw(alloc, schedule.number, &mut schedule.events)?;
+    look_at_each(alloc, image, schedule)
+}
+
+fn is_answered(disk: &mut Disk, event: &Event, wanted: &str) -> Result<bool> {
+    let told = disk.answer(event)?;
+    Ok(told.as_str() == wanted)
 }
 
 /// How many events are answered as in the whole schedule, on a disk that may fail in their course.
@@ -221,8 +259,7 @@ fn answered(disk: &mut Disk, schedule: &Schedule) -> Result<usize> {
     }
     let mut count = 0_usize;
     for (event, behind) in schedule.events.iter().zip(schedule.behind.iter().skip(1)) {
-        let told = disk.answer(event)?;
-        if told.as_str() != behind.told.as_str() {
+        if !is_answered(disk, event, behind.told.as_str())? {
             break;
         }
         count = count.saturating_add(1);
@@ -253,6 +290,17 @@ fn is_left(schedule: &Schedule, answered: usize, found: &str) -> bool {
 
 /// Cuts a schedule short on a disk, and adds what is found. How many events were answered.
 fn find_behind(
+    alloc: Global,
+    image: &[u8],
+    schedule: &Schedule,
+    crash: Crash,
+    found: &mut String,
+) -> Result<usize> {
+    let mut disk = Disk::of_bytes(alloc, image)?;
+    find_on(&mut disk, schedule, crash, found)
+}
+
+fn find_on(
     disk: &mut Disk,
     schedule: &Schedule,
     crash: Crash,
@@ -268,9 +316,8 @@ fn find_behind(
 
 /// Whether a schedule that is cut short leaves what it may.
 fn is_right(alloc: Global, image: &[u8], schedule: &Schedule, crash: Crash) -> Result<bool> {
-    let mut disk = Disk::of_bytes(alloc, image)?;
     let mut found = String::new(alloc);
-    let answered = find_behind(&mut disk, schedule, crash, &mut found)?;
+    let answered = find_behind(alloc, image, schedule, crash, &mut found)?;
     Ok(is_left(schedule, answered, found.as_str()))
 }
 
@@ -301,11 +348,20 @@ fn cut(
 /// Cuts a schedule short behind some numbers of writes that are drawn.
 fn cut_at_some(report: &Report<'_>, tally: &mut Tally, image: &[u8], number: u32) -> Result<()> {
     let schedule = schedule_of(report.alloc(), image, number)?;
-    let mut random = Pcg32::new(u64::from(number), 2);
+    cut_some(report, tally, image, &schedule)
+}
+
+fn cut_some(
+    report: &Report<'_>,
+    tally: &mut Tally,
+    image: &[u8],
+    schedule: &Schedule,
+) -> Result<()> {
+    let mut random = Pcg32::new(u64::from(schedule.number), 2);
     for _ in 0..CUTS {
         let stop = drawn(&mut random, schedule.writes.saturating_add(1));
         let crash = crash_at(stop, drawn(&mut random, CRASHES));
-        cut(report, tally, image, &schedule, crash)?;
+        cut(report, tally, image, schedule, crash)?;
     }
     Ok(())
 }
@@ -313,10 +369,19 @@ fn cut_at_some(report: &Report<'_>, tally: &mut Tally, image: &[u8], number: u32
 /// Cuts a schedule short behind each number of its writes, by a crash of each kind.
 fn cut_at_each(report: &Report<'_>, tally: &mut Tally, image: &[u8], number: u32) -> Result<()> {
     let schedule = schedule_of(report.alloc(), image, number)?;
+    cut_all(report, tally, image, &schedule)
+}
+
+fn cut_all(
+    report: &Report<'_>,
+    tally: &mut Tally,
+    image: &[u8],
+    schedule: &Schedule,
+) -> Result<()> {
     let all = schedule.writes.saturating_add(1).saturating_mul(CRASHES);
     for place in 0..all {
         let crash = crash_at(place / CRASHES, place % CRASHES);
-        cut(report, tally, image, &schedule, crash)?;
+        cut(report, tally, image, schedule, crash)?;
     }
     Ok(())
 }
@@ -329,19 +394,29 @@ fn image_of(alloc: Global) -> Result<Vec<u8>> {
 /// The schedules of the gate.
 pub fn run(report: &mut Report<'_>) -> Result<()> {
     let image = image_of(report.alloc())?;
+    let tally = some(report, image.as_slice())?;
+    report.add("schedules of calls and steps, cut short", tally)
+}
+
+fn some(report: &Report<'_>, image: &[u8]) -> Result<Tally> {
     let mut tally = Tally::new();
     for number in 0..SCHEDULES {
-        cut_at_some(report, &mut tally, image.as_slice(), number)?;
+        cut_at_some(report, &mut tally, image, number)?;
     }
-    report.add("schedules of calls and steps, cut short", tally)
+    Ok(tally)
 }
 
 /// Those of these numbers, by hand, cut short wherever they can be.
 pub fn sweep(report: &mut Report<'_>, numbers: Range<u32>) -> Result<()> {
     let image = image_of(report.alloc())?;
+    let tally = each(report, image.as_slice(), numbers)?;
+    report.add("schedules of calls and steps, cut short everywhere", tally)
+}
+
+fn each(report: &Report<'_>, image: &[u8], numbers: Range<u32>) -> Result<Tally> {
     let mut tally = Tally::new();
     for number in numbers {
-        cut_at_each(report, &mut tally, image.as_slice(), number)?;
+        cut_at_each(report, &mut tally, image, number)?;
     }
-    report.add("schedules of calls and steps, cut short everywhere", tally)
+    Ok(tally)
 }
