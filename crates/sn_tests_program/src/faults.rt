@@ -3,31 +3,35 @@
 use crate::ended::staying;
 use sn_mkfs::MkfsFault;
 use sn_model::{Damage, MountFault};
-use sn_program::{Fault, Which, program, tell};
+use sn_program::{ProgramFault, Which, program, tell};
 use sn_script::ScriptFault;
 use std::io::{ErrorKind, Write};
 use std::{fs, io, str};
 
-const FAULTS: [(Fault, &str, u8); 8] = [
-    (Fault::Usage, "snapfs: usage\n", 2),
+const FAULTS: [(ProgramFault, &str, u8); 8] = [
+    (ProgramFault::Usage, "snapfs: usage\n", 2),
     (
-        Fault::Script(ScriptFault::Line(7)),
+        ProgramFault::Script(ScriptFault::Line(7)),
         "snapfs: script line 7\n",
         1,
     ),
-    (Fault::Script(ScriptFault::Memory), "snapfs: memory\n", 1),
-    (Fault::Memory, "snapfs: memory\n", 1),
-    (Fault::Mount(MountFault::Memory), "snapfs: M5\n", 1),
     (
-        Fault::Mount(MountFault::Damaged {
+        ProgramFault::Script(ScriptFault::Memory),
+        "snapfs: memory\n",
+        1,
+    ),
+    (ProgramFault::Memory, "snapfs: memory\n", 1),
+    (ProgramFault::Mount(MountFault::Memory), "snapfs: M5\n", 1),
+    (
+        ProgramFault::Mount(MountFault::Damaged {
             damage: Damage::Pointer,
             block: 6,
         }),
         "snapfs: M4 C2 6\n",
         1,
     ),
-    (Fault::Format(MkfsFault::Device), "snapfs: K3\n", 1),
-    (Fault::Stopped, "snapfs: stopped\n", 1),
+    (ProgramFault::Format(MkfsFault::Device), "snapfs: K3\n", 1),
+    (ProgramFault::Stopped, "snapfs: stopped\n", 1),
 ];
 
 /// An output that takes nothing.
@@ -68,7 +72,7 @@ impl Write for Narrow {
 }
 
 /// The line of a fault, and the status that it ends with.
-fn is_told(rt: &HostRuntime, fault: Fault, line: &str, status: u8) -> bool {
+fn is_told(rt: &HostRuntime, fault: ProgramFault, line: &str, status: u8) -> bool {
     let mut err = Vec::new(rt.alloc());
     tell(fault, &mut err) == status && err.as_slice() == line.as_bytes()
 }
@@ -93,8 +97,8 @@ fn holds_where_closed(rt: &HostRuntime) -> bool {
 
 /// An error of a file is told by its own line alone, and want of memory by that of the program.
 fn tells_files(rt: &HostRuntime) -> bool {
-    let closed = Fault::of_file(Which::Image, io::Error::from(ErrorKind::NotFound));
-    let refused = Fault::of_file(Which::Script, io::Error::from(ErrorKind::OutOfMemory));
+    let closed = ProgramFault::of_file(Which::Image, io::Error::from(ErrorKind::NotFound));
+    let refused = ProgramFault::of_file(Which::Script, io::Error::from(ErrorKind::OutOfMemory));
     is_told(rt, closed, "snapfs: file\n", 1) && is_told(rt, refused, "snapfs: memory\n", 1)
 }
 
