@@ -178,7 +178,7 @@ ends_cut last bare fault new so = told last.point so
     told : (at : Option Going) → FinishesSo (Err fault) at last new → IsEnded (Running last.world) last (end_for (errno_of_point fault)) new.disk new.status
     told None never = absurd never
     told (Some going) (is, cut) = subst (λ (f : PointFault). IsEnded (Running last.world) last (end_for (errno_of_point f)) new.disk new.status) (sym is)
-      (ends_cut_off last new bare cut.failed cut.moments cut.later (inr (record { needed = tt; going = cut.going; is = cut.is; costs = cut.costs })))
+        (ends_cut_off last new bare cut.failed cut.moments cut.later (inr (record { needed = tt; going = cut.going; is = cut.is; costs = cut.costs })))
 
 ends_for : (last : Held) (fault : PointFault) (new : Held) → RunsWith last.point last last.world → last.world.frozen ≡ map.empty → IsRefusedFor fault last new → IsEnded (Running last.world) last (end_for (errno_of_point fault)) new.disk new.status
 ends_for last fault new r bare (inl cut) = ends_cut last bare fault new cut
