@@ -1,4 +1,4 @@
 pub mod Answers
 pub mod Copies
-pub mod ProgramFault
+pub mod Fault
 pub mod Tasks
