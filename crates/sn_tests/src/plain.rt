@@ -102,11 +102,15 @@ const TWO_OF_EACH: &[u8] =
 /// Whichever allocation is refused, if one is, it costs one reply at the most, and what it was refused
 /// to is done when it is asked for again.
 fn asked_again(report: &Report<'_>) -> Result<Tally> {
-    let events = read_script(report.alloc(), TWO_OF_EACH)?;
-    let is_right = is_honest(report.alloc(), events.as_slice());
+    let is_right = is_run_honest(report.alloc())?;
     let mut tally = Tally::new();
     tally.check(report.runtime(), is_right, &[])?;
     Ok(tally)
+}
+
+fn is_run_honest(alloc: Global) -> Result<bool> {
+    let events = read_script(alloc, TWO_OF_EACH)?;
+    Ok(is_honest(alloc, events.as_slice()))
 }
 
 fn is_honest(alloc: Global, events: &[Event]) -> bool {

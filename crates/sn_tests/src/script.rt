@@ -36,6 +36,11 @@ fn script(alloc: Global, case: Case<'_>) -> Result<String> {
 /// The second line of three, of which the first is right and the third wrong.
 fn line(alloc: Global, case: Case<'_>) -> Result<String> {
     let mut script = two_lines(alloc, case)?;
+    second_of(alloc, &mut script)
+}
+
+/// What the second line of a script of two is read as.
+fn second_of(alloc: Global, script: &mut Vec<u8>) -> Result<String> {
     let read = script.len();
     script.extend_from_slice(b"0 stat\n".as_slice())?;
     match fault_of(alloc, script.as_slice())? {
@@ -84,10 +89,14 @@ fn long_scripts(report: &Report<'_>) -> Result<Tally> {
     Ok(tally)
 }
 
+fn fault_of_ends(alloc: Global, count: usize) -> Result<ScriptFault> {
+    let script = vec![in alloc; b'\n'; count]?;
+    fault_of(alloc, script.as_slice())
+}
+
 /// Whether so many ends of lines are refused for the line with this number.
 fn check_long(report: &Report<'_>, tally: &mut Tally, count: usize, line: u32) -> Result<()> {
-    let script = vec![in report.alloc(); b'\n'; count]?;
-    let fault = fault_of(report.alloc(), script.as_slice())?;
+    let fault = fault_of_ends(report.alloc(), count)?;
     let is_right = fault == ScriptFault::Line(line as usize);
     tally.check(report.runtime(), is_right, &[line])?;
     Ok(())

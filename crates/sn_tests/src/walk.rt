@@ -128,8 +128,8 @@ fn push_at(text: &mut String, word: &str, place: u16) -> Result<()> {
 
 /// Where a caller's path leads, and the look-ups that were made for it.
 fn walked(alloc: Global, case: Case<'_>) -> Result<String> {
-    let caller = Cred::new(case.number(0)?, 50, &[]);
     let path = Path::parse(case.word(1)?.as_bytes())?;
+    let caller = Cred::new(case.number(0)?, 50, &[]);
     let mut trees = SmallTrees {
         alloc,
         looked: String::new(alloc),
