@@ -35,8 +35,17 @@ pub fn push_build(build: &Build, text: &mut String) -> Result<()> {
 /// Writes the new blocks, and sets the map to what is reached then.
 pub fn settled(build: Build, blocks: &mut Blocks<MemDevice>) -> Result<Map> {
     let (allocator, added, released) = build.into_parts();
-    let mut map = allocator.give_up();
-    settle(&mut map, blocks, added.as_slice(), released.as_slice())?;
+    let map = allocator.give_up();
+    settled_map(map, blocks, added.as_slice(), released.as_slice())
+}
+
+fn settled_map(
+    mut map: Map,
+    blocks: &mut Blocks<MemDevice>,
+    added: &[NewBlock],
+    released: &[u32],
+) -> Result<Map> {
+    settle(&mut map, blocks, added, released)?;
     Ok(map)
 }
 

@@ -25,10 +25,18 @@ pub fn answers(alloc: Global, case: Case<'_>) -> Result<String> {
 fn push_answers(alloc: Global, case: Case<'_>, text: &mut String) -> Result<()> {
     let asked = case.word(0)?;
     let mut directory = directory_of(alloc, case)?;
+    push_asked(alloc, &mut directory, asked, text)
+}
+
+fn push_asked(
+    alloc: Global,
+    directory: &mut Directory,
+    asked: &str,
+    text: &mut String,
+) -> Result<()> {
     let tree = directory.tree();
     let mut blocks = directory.image.blocks(alloc)?;
-    push_told(alloc, &mut blocks, &tree, text)?;
-    push_all_found(alloc, &mut blocks, &tree, asked, text)
+    push_told(alloc, &mut blocks, &tree, asked, text)
 }
 
 /// A directory of the blocks of a case's words, all but the first.
@@ -44,10 +52,12 @@ fn push_told(
     alloc: Global,
     blocks: &mut Blocks<MemDevice>,
     tree: &BlockTree,
+    asked: &str,
     text: &mut String,
 ) -> Result<()> {
     push_count(blocks, tree, text)?;
-    push_names(alloc, blocks, tree, text)
+    push_names(alloc, blocks, tree, text)?;
+    push_all_found(alloc, blocks, tree, asked, text)
 }
 
 fn push_all_found(

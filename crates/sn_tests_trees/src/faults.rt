@@ -72,9 +72,13 @@ const TAKEN: [(Call, u32); 4] = [
 /// fault that no case can have, or a want of memory.
 pub fn run(report: &mut Report<'_>) -> Result<()> {
     let image = image(report.alloc())?;
-    let tally = reads(report, &image)?;
+    run_on(report, &image)
+}
+
+fn run_on(report: &mut Report<'_>, image: &Image) -> Result<()> {
+    let tally = reads(report, image)?;
     report.add("a failure at each read", tally)?;
-    let tally = blocks_left(report, &image)?;
+    let tally = blocks_left(report, image)?;
     report.add("blocks that are left", tally)
 }
 
@@ -126,11 +130,16 @@ fn build_with(alloc: Global, left: u32) -> Result<Build> {
 
 fn map_with(alloc: Global, left: u32) -> Result<Map> {
     let mut map = new_map(alloc)?;
-    for block in FIRST..BLOCKS.saturating_sub(left) {
-        ensure!(block < map.len(), "no such block");
-        map.set_word(block, 1);
-    }
+    take_blocks(&mut map, left);
     Ok(map)
+}
+
+fn take_blocks(map: &mut Map, left: u32) {
+    for block in FIRST..BLOCKS.saturating_sub(left) {
+        if block < map.len() {
+            map.set_word(block, 1);
+        }
+    }
 }
 
 /// Whether a call comes to what it should, with so many blocks left, or why it fails.
@@ -197,14 +206,20 @@ fn planned_file(
     blocks: &mut Blocks<MemDevice>,
     left: u32,
 ) -> Result<Result<bool, PlanFault>> {
-    let dirty = change_of(alloc, 131_072, "32/5/9")?;
     let mut build = build_with(alloc, left)?;
-    Ok(
-        match plan(&mut build, blocks, &content(131_072, HOLES), dirty) {
-            Ok(new) => Ok(new.size() == 131_072 && is_built(&build, 2, &[HOLES])),
-            Err(fault) => Err(fault),
-        },
-    )
+    plan_file(alloc, &mut build, blocks)
+}
+
+fn plan_file(
+    alloc: Global,
+    build: &mut Build,
+    blocks: &mut Blocks<MemDevice>,
+) -> Result<Result<bool, PlanFault>> {
+    let dirty = change_of(alloc, 131_072, "32/5/9")?;
+    Ok(match plan(build, blocks, &content(131_072, HOLES), dirty) {
+        Ok(new) => Ok(new.size() == 131_072 && is_built(build, 2, &[HOLES])),
+        Err(fault) => Err(fault),
+    })
 }
 
 fn is_built(build: &Build, added: usize, released: &[u32]) -> bool {
@@ -228,16 +243,15 @@ fn planned_inodes(
 }
 
 fn moved(alloc: Global, inode: Inode, acls: AclBlock) -> Result<Vec<InodeChange>> {
-    let mut changes = Vec::new(alloc);
-    changes.push(InodeChange {
+    let unused = InodeChange {
         number: NUMBER,
         record: RecordChange::Unused,
-    })?;
-    changes.push(InodeChange {
+    };
+    let used = InodeChange {
         number: NUMBER + 1,
         record: RecordChange::Used(inode, AclChange::Set(acls)),
-    })?;
-    Ok(changes)
+    };
+    Ok(Vec::from_array(alloc, [unused, used])?)
 }
 
 fn with_changes(
@@ -307,10 +321,18 @@ fn reads(report: &Report<'_>, image: &Image) -> Result<Tally> {
 /// Whether a call tells that a read failed, or is right where it makes fewer, and is right from then on.
 fn is_told(alloc: Global, image: &Image, (call, count): (Call, u32), read: u32) -> Result<bool> {
     let mut blocks = image.failing_at(alloc, read)?;
-    let first = answer(alloc, call, &mut blocks)?;
-    let second = answer(alloc, call, &mut blocks)?;
-    let wanted = (read > count).then_some(true);
-    Ok(first == wanted && second == Some(true))
+    is_told_once(alloc, &mut blocks, call, read <= count)
+}
+
+fn is_told_once(
+    alloc: Global,
+    blocks: &mut Blocks<MemDevice>,
+    call: Call,
+    fails: bool,
+) -> Result<bool> {
+    let first = answer(alloc, call, blocks)?;
+    let second = answer(alloc, call, blocks)?;
+    Ok(first == (!fails).then_some(true) && second == Some(true))
 }
 
 /// A plan is refused where too few blocks are left, and nowhere else.
@@ -332,7 +354,16 @@ fn is_refused_right(
     left: u32,
 ) -> Result<bool> {
     let mut blocks = image.blocks(alloc)?;
-    match attempt(alloc, call, &mut blocks, left)? {
+    is_right_with(alloc, &mut blocks, (call, needed), left)
+}
+
+fn is_right_with(
+    alloc: Global,
+    blocks: &mut Blocks<MemDevice>,
+    (call, needed): (Call, u32),
+    left: u32,
+) -> Result<bool> {
+    match attempt(alloc, call, blocks, left)? {
         Ok(is_right) => Ok(is_right && left >= needed),
         Err(PlanFault::Full) => Ok(left < needed),
         Err(fault) => bail!("{fault}"),

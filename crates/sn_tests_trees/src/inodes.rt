@@ -31,9 +31,13 @@ pub fn answers(alloc: Global, case: Case<'_>) -> Result<String> {
 fn push_answers(alloc: Global, case: Case<'_>, text: &mut String) -> Result<()> {
     let number = u16::try_from(case.number(0)?)?;
     let file = file(first_of(case.word(1)?));
-    let image = image_of(alloc, case, number)?;
-    let mut blocks = image.blocks(alloc)?;
+    let mut blocks = blocks_of(alloc, case, number)?;
     push_told(&mut blocks, &file, number, text)
+}
+
+fn blocks_of(alloc: Global, case: Case<'_>, number: u16) -> Result<Blocks<MemDevice>> {
+    let image = image_of(alloc, case, number)?;
+    image.blocks(alloc)
 }
 
 fn first_of(word: &str) -> u32 {
@@ -90,20 +94,27 @@ fn push_told(
     text: &mut String,
 ) -> Result<()> {
     match told(get(blocks, &Limits::VERSION_1, file, number))? {
-        Some(Some(inode)) => {
-            push_inode(&inode, text)?;
-            push_acls(blocks, &inode, text)
-        }
+        Some(Some(inode)) => push_both(blocks, &inode, text),
         Some(None) => Ok(text.push_str("none")?),
         None => Ok(text.push_str("damaged")?),
     }
 }
 
-fn push_inode(inode: &Inode, text: &mut String) -> Result<()> {
-    text.push_str(match inode.kind {
+fn push_both(blocks: &mut Blocks<MemDevice>, inode: &Inode, text: &mut String) -> Result<()> {
+    push_inode(inode, text)?;
+    push_content(&inode.content, text)?;
+    push_acls(blocks, inode, text)
+}
+
+fn word_of(kind: Kind) -> &'static str {
+    match kind {
         Kind::File => "file",
         Kind::Directory => "directory",
-    })?;
+    }
+}
+
+fn push_inode(inode: &Inode, text: &mut String) -> Result<()> {
+    text.push_str(word_of(inode.kind))?;
     let mode = inode.objects.bits();
     let links = inode.links;
     let owner = inode.owner;
@@ -115,7 +126,11 @@ fn push_inode(inode: &Inode, text: &mut String) -> Result<()> {
     if inode.sticky {
         text.push_str(" sticky")?;
     }
-    match &inode.content {
+    Ok(())
+}
+
+fn push_content(content: &Content, text: &mut String) -> Result<()> {
+    match content {
         Content::Inline(bytes) => {
             let count = bytes.as_slice().len();
             write!(text, " inline {count}")?;

@@ -31,8 +31,17 @@ pub fn answers(alloc: Global, case: Case<'_>) -> Result<String> {
 
 fn push_answers(alloc: Global, case: Case<'_>, text: &mut String) -> Result<()> {
     let wanted = wanted_of(alloc, case.word(0)?)?;
+    push_changed_of(alloc, case, wanted.as_slice(), text)
+}
+
+fn push_changed_of(
+    alloc: Global,
+    case: Case<'_>,
+    wanted: &[Wanted],
+    text: &mut String,
+) -> Result<()> {
     let mut directory = directory_of(alloc, case)?;
-    push_changed(alloc, &mut directory, wanted.as_slice(), text)
+    push_changed(alloc, &mut directory, wanted, text)
 }
 
 fn push_changed(
@@ -43,8 +52,19 @@ fn push_changed(
 ) -> Result<()> {
     let tree = directory.tree();
     let mut blocks = directory.image.blocks(alloc)?;
+    push_built(alloc, directory, &mut blocks, &tree, wanted, text)
+}
+
+fn push_built(
+    alloc: Global,
+    directory: &Directory,
+    blocks: &mut Blocks<MemDevice>,
+    tree: &BlockTree,
+    wanted: &[Wanted],
+    text: &mut String,
+) -> Result<()> {
     let build = new_build(alloc, directory.map(alloc)?)?;
-    push_outcome(alloc, build, &mut blocks, &tree, wanted, text)
+    push_outcome(alloc, build, blocks, tree, wanted, text)
 }
 
 fn push_outcome(
@@ -144,8 +164,17 @@ fn push_planned(
 ) -> Result<()> {
     let taken = taken_by(alloc, &build)?;
     settled(build, blocks)?;
+    push_settled(blocks, tree, taken.as_str(), text)
+}
+
+fn push_settled(
+    blocks: &mut Blocks<MemDevice>,
+    tree: &BlockTree,
+    taken: &str,
+    text: &mut String,
+) -> Result<()> {
     push_blocks(blocks, tree, text)?;
-    text.push_str(taken.as_str())?;
+    text.push_str(taken)?;
     Ok(())
 }
 

@@ -30,12 +30,26 @@ pub fn plans(alloc: Global, case: Case<'_>) -> Result<String> {
 
 fn push_plans(alloc: Global, case: Case<'_>, text: &mut String) -> Result<()> {
     let shown = case.numbers(alloc, 1)?;
+    push_shown(alloc, case, shown.as_slice(), text)
+}
+
+fn push_shown(alloc: Global, case: Case<'_>, shown: &[u32], text: &mut String) -> Result<()> {
     let mut file = new_file(alloc, case.number(0)?)?;
     for word in case.text().split_ascii_whitespace().skip(2) {
-        push_plan(alloc, &mut file, word, text)?;
-        push_data(&mut file.blocks, &file.tree, shown.as_slice(), text)?;
+        push_step(alloc, &mut file, word, shown, text)?;
     }
     Ok(())
+}
+
+fn push_step(
+    alloc: Global,
+    file: &mut File,
+    word: &str,
+    shown: &[u32],
+    text: &mut String,
+) -> Result<()> {
+    push_plan(alloc, file, word, text)?;
+    push_data(&mut file.blocks, &file.tree, shown, text)
 }
 
 /// A file of a size that is all holes.
@@ -52,12 +66,22 @@ fn new_file(alloc: Global, size: u32) -> Result<File> {
 }
 
 fn push_plan(alloc: Global, file: &mut File, word: &str, text: &mut String) -> Result<()> {
-    let change = change_of(alloc, file.tree.size, word)?;
     let mut build = new_build(alloc, file.taken.try_clone()?)?;
-    file.tree = plan_tree(&mut build, &mut file.blocks, &file.tree, change)?;
-    push_taken(&build, text)?;
+    plan(alloc, &mut build, file, word, text)?;
     file.taken = settled(build, &mut file.blocks)?;
     Ok(())
+}
+
+fn plan(
+    alloc: Global,
+    build: &mut Build,
+    file: &mut File,
+    word: &str,
+    text: &mut String,
+) -> Result<()> {
+    let change = change_of(alloc, file.tree.size, word)?;
+    file.tree = plan_tree(build, &mut file.blocks, &file.tree, change)?;
+    push_taken(build, text)
 }
 
 /// What a plan takes and releases, and how many blocks are left.
