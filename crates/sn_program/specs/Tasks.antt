@@ -91,7 +91,7 @@ ComesOfCopy how (Damaged damage block) old new = ⊥
 abbrev pub SaysVerdict : Ending → Option (List ℕ) → Option (List ℕ) → Type 0
 SaysVerdict Done old new = (free : ℕ) × Appends old new (verdict_line (verdict.Clean free))
 SaysVerdict (Told why) old new = ⊥
-SaysVerdict (Damaged damage block) old new = Appends old new (verdict_line (verdict.ProgramFault damage block))
+SaysVerdict (Damaged damage block) old new = Appends old new (verdict_line (verdict.Fault damage block))
 
 -- What a task that was done leaves on the output, by what came of it. Of which bytes a file had, and so of the replies of a run on one and of what a check finds in one, nothing can be said; an image that is made is answered by `ok`. A fault is told of what was done only where that was to cut a run short.
 abbrev pub Leaves : Task → Ending → Option (List ℕ) → Option (List ℕ) → Type 0
