@@ -12,7 +12,7 @@ use anyhow::{Context, Result, bail, ensure};
 use sn_block::Blocks;
 use sn_cp::{Point, Stage};
 use sn_device::Device;
-use sn_drawn_disks::{DrawnDisk, Geometry, Slot, block_of, number_at, part, put};
+use sn_drawn_disks::{DrawnDisk, Geometry as DrawnGeometry, Slot, block_of, number_at, part, put};
 use sn_layout::{BLOCK_SIZE, Block, Gate, Geometry, RootBody};
 use sn_log::{Buffer, Log, Position};
 use sn_map::Map;
@@ -105,7 +105,7 @@ fn map_of(alloc: Global, geometry: Geometry, drawn: &DrawnDisk) -> Result<Map>
 }
 
 fn words_of(alloc: Global, drawn: &DrawnDisk) -> Result<Vec<u32>> {
-    let geometry = Geometry::read(drawn.after.as_slice());
+    let geometry = DrawnGeometry::read(drawn.after.as_slice());
     let map = geometry.map(drawn.slot.other());
     let size = (geometry.blocks() as usize).saturating_mul(4);
     let mut words = Vec::new(alloc);
@@ -152,8 +152,8 @@ fn point_of(alloc: Global, geometry: Geometry, drawn: &DrawnDisk) -> Result<Poin
     Ok(Point::new(geometry, blocks, map, next, slot, gate))
 }
 
-fn places_of(drawn: &DrawnDisk) -> Result<Geometry> {
-    let blocks = Geometry::read(drawn.before.as_slice()).blocks();
+fn geometry_of(drawn: &DrawnDisk) -> Result<Geometry> {
+    let blocks = DrawnGeometry::read(drawn.before.as_slice()).blocks();
     Geometry::new((blocks % (1 << 32)) as u32).context("no disk")
 }
 
@@ -173,7 +173,7 @@ fn log_of(alloc: Global, geometry: Geometry, epoch: u64) -> Result<Log>
 impl Running {
     /// The point of a drawn disk, where nothing of it is written yet.
     pub fn new(alloc: Global, drawn: &DrawnDisk) -> Result<Running> {
-        let geometry = places_of(drawn)?;
+        let geometry = geometry_of(drawn)?;
         let point = point_of(alloc, geometry, drawn)?;
         Running::with(alloc, drawn, geometry, point)
     }
