@@ -12,10 +12,10 @@ ghost use Rattle.sn_tree_read.specs.declared.fault.TreeFault.TheVariants.{Damage
 ghost use Rattle.sn_rooted.specs.Nodes.{names_if, names_tree};
 ghost use Rattle.sn_rooted.specs.Roots.{IsSoundOn, store_on, tree_on};
 
+use crate::inodes::inode_of;
 use sn_block::Blocks;
 use sn_device::Device;
 use sn_dir::{ListedName, directory_laws, lookup};
-use sn_inode::{get, inode_laws};
 use sn_layout::BlockTree;
 use sn_layout_node::{Content, Inode};
 use sn_limits::{Kind, Limits};
@@ -47,9 +47,8 @@ fn directory_at<D: Device>(
     ensures same { IsTrue D.tells_bytes → D.disk (device_of blocks.new) ≡ D.disk (device_of blocks.old) }
     ensures counts { CountsTree result (D.status (device_of blocks.old)) (D.status (device_of blocks.new)) }
 {
-    inode_laws();
     directory_laws();
-    let Some(inode) = get(blocks, limits, file, number)? else {
+    let Some(inode) = inode_of(blocks, limits, file, number)? else {
         return Ok(None);
     };
     Ok(names_tree(&inode))

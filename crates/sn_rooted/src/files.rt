@@ -8,9 +8,9 @@ ghost use Rattle.sn_tree_read.specs.declared.fault.TreeFault.TheVariants.{Damage
 ghost use Rattle.sn_rooted.specs.Nodes.{bytes_if, file_content};
 ghost use Rattle.sn_rooted.specs.Roots.{IsSoundOn, IsWhole, store_on, tree_on};
 
+use crate::inodes::inode_of;
 use sn_block::Blocks;
 use sn_device::Device;
-use sn_inode::{get, inode_laws};
 use sn_layout::BlockTree;
 use sn_layout_node::{Content, Inode};
 use sn_limits::{Kind, Limits};
@@ -42,9 +42,8 @@ fn file_at<D: Device>(
     ensures same { IsTrue D.tells_bytes → D.disk (device_of blocks.new) ≡ D.disk (device_of blocks.old) }
     ensures counts { CountsTree result (D.status (device_of blocks.old)) (D.status (device_of blocks.new)) }
 {
-    inode_laws();
     read_laws();
-    let Some(inode) = get(blocks, limits, file, number)? else {
+    let Some(inode) = inode_of(blocks, limits, file, number)? else {
         return Ok(None);
     };
     Ok(file_content(inode))

@@ -12,10 +12,11 @@
 //! place, in the cache of `sn_block`, and takes memory for names and bytes that it answers, and for blocks
 //! that aren't kept.
 //!
-//! The way through: `nodes` reads what is known of a node, `directories` names, `files` bytes, all of the tree
-//! of one inode file, which `file_in` finds in a root. `view` shows walks and decisions all trees of a root,
-//! the live one and those of its snapshots. `specs/Roots` says which trees these are and when they are
-//! sound, `specs/Views` what look-ups do to the device and what the cause of a fault is.
+//! The way through: `inodes` reads the inode of a number with its ACLs, `nodes` what is known of a node,
+//! `directories` names, `files` bytes, all of the tree of one inode file, which `file_in` finds in a root.
+//! `view` shows walks and decisions all trees of a root, the live one and those of its snapshots.
+//! `specs/Roots` says which trees these are and when they are sound, `specs/Views` what look-ups do to the
+//! device and what the cause of a fault is.
 //!
 //! What the sources leave open is decided in `docs/DECISIONS.md`, under "Reading a root on demand".
 //!
@@ -28,10 +29,12 @@
 
 mod directories;
 mod files;
+mod inodes;
 mod nodes;
 mod view;
 
 pub use directories::{link, names};
 pub use files::read;
+pub use inodes::{StoredInode, stored_inode};
 pub use nodes::{attributes, default_acl};
 pub use view::{RootedView, file_in};

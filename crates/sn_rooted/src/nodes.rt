@@ -7,10 +7,10 @@ ghost use Rattle.sn_tree_read.specs.declared.fault.TreeFault.TheVariants.{Damage
 ghost use Rattle.sn_rooted.specs.Roots.{IsSoundOn, tree_on};
 ghost use Rattle.sn_rooted.specs.Nodes.{attributes_in};
 
+use crate::stored_inode;
 use sn_acl::Acl;
 use sn_block::Blocks;
 use sn_device::Device;
-use sn_inode::{acls, get, inode_laws};
 use sn_layout::BlockTree;
 use sn_layout_acl::NamedEntries;
 use sn_layout_node::Inode;
@@ -52,12 +52,10 @@ pub fn attributes<D: Device>(
     ensures same { IsTrue D.tells_bytes → D.disk (device_of blocks.new) ≡ D.disk (device_of blocks.old) }
     ensures counts { CountsTree result (D.status (device_of blocks.old)) (D.status (device_of blocks.new)) }
 {
-    inode_laws();
-    let Some(inode) = get(blocks, limits, file, number)? else {
-        return Ok(None);
-    };
-    let acls = acls(blocks, &inode)?;
-    Ok(Some(attributes_in(&inode, &acls.access)))
+    match stored_inode(blocks, limits, file, number)? {
+        Some(stored) => Ok(Some(attributes_in(&stored.inode, &stored.acls.access))),
+        None => Ok(None),
+    }
 }
 
 /// The default ACL of the node that a number has in a root's tree, `None` where it has none, as a file, or
@@ -75,10 +73,8 @@ pub fn default_acl<D: Device>(
     ensures same { IsTrue D.tells_bytes → D.disk (device_of blocks.new) ≡ D.disk (device_of blocks.old) }
     ensures counts { CountsTree result (D.status (device_of blocks.old)) (D.status (device_of blocks.new)) }
 {
-    inode_laws();
-    let Some(inode) = get(blocks, limits, file, number)? else {
-        return Ok(None);
-    };
-    let acls = acls(blocks, &inode)?;
-    Ok(acls.default)
+    match stored_inode(blocks, limits, file, number)? {
+        Some(stored) => Ok(stored.acls.default),
+        None => Ok(None),
+    }
 }

@@ -6,7 +6,7 @@ use Rattle.sn_layout.specs.declared.tree.BlockTree.{BlockTree}
 use Rattle.sn_dir.specs.Blocks.{CanRead}
 use Rattle.sn_rooted.specs.Nodes.{names_if}
 use Rattle.sn_rooted.specs.Roots.{store_on}
-use Rattle.sn_rooted.proofs.RootLemmas.{directory_names, names_read, no_names, records_read, was_damaged}
+use Rattle.sn_rooted.proofs.RootLemmas.{directory_names, names_read, no_names, was_damaged}
 use Rattle.sn_rooted.proofs.directories.directory_at.Goals as goal
 
 pub returns-in_default-clause-names : goal.returns-in_default-clause-names
@@ -15,10 +15,7 @@ returns-in_default-clause-names g c told =
 
 pub returns-in_err-inode-clause-damaged : goal.returns-in_err-inode-clause-damaged
 returns-in_err-inode-clause-damaged g c told root is =
-    let bad = ap (λ f. Err f) (was_damaged _ _ c.from_residual.ensures.1 is) in
-    let disk = g.D.Device.disk (device_of c.args.blocks.now) in
-    c.in_err-inode.ensures.damaged told bad
-    (records_read c.args.limits.now _ (reads disk) c.args.file.now (g.met.D.Device.whole (device_of c.args.blocks.now) told) (g.met.D.Device.count (device_of c.args.blocks.now) told) root c.inode_laws.ensures.inodes c.args.number)
+    c.in_err-inode.ensures.damaged told root (ap (λ f. Err f) (was_damaged _ _ c.from_residual.ensures.1 is))
 
 pub returns-clause-names : goal.returns-clause-names
 returns-clause-names g c told =

@@ -5,7 +5,7 @@ use Rattle.sn_layout_node.specs.Inode.{IsInode}
 use Rattle.sn_layout_node.specs.declared.content.Content.{Content}
 use Rattle.sn_rooted.specs.Nodes.{bytes_if}
 use Rattle.sn_rooted.specs.Roots.{IsWhole, store_on}
-use Rattle.sn_rooted.proofs.RootLemmas.{bytes_read, bytes_shown, no_bytes, records_read, was_damaged}
+use Rattle.sn_rooted.proofs.RootLemmas.{bytes_read, bytes_shown, no_bytes, was_damaged}
 use Rattle.sn_rooted.proofs.files.file_at.Goals as goal
 
 pub returns-in_default-clause-bytes : goal.returns-in_default-clause-bytes
@@ -14,10 +14,7 @@ returns-in_default-clause-bytes g c told =
 
 pub returns-in_err-inode-clause-damaged : goal.returns-in_err-inode-clause-damaged
 returns-in_err-inode-clause-damaged g c told root is =
-    let bad = ap (λ f. Err f) (was_damaged _ _ c.from_residual.ensures.1 is) in
-    let disk = g.D.Device.disk (device_of c.args.blocks.now) in
-    c.in_err-inode.ensures.damaged told bad
-    (records_read c.args.limits.now _ (reads disk) c.args.file.now (g.met.D.Device.whole (device_of c.args.blocks.now) told) (g.met.D.Device.count (device_of c.args.blocks.now) told) root c.inode_laws.ensures.inodes c.args.number)
+    c.in_err-inode.ensures.damaged told root (ap (λ f. Err f) (was_damaged _ _ c.from_residual.ensures.1 is))
 
 pub returns-clause-bytes : goal.returns-clause-bytes
 returns-clause-bytes g c told =
