@@ -1,0 +1,3 @@
+pub mod SeenLemmas
+pub mod TellLemmas
+pub mod WayLemmas
