@@ -1,0 +1,4 @@
+pub mod Looks
+pub mod Counting
+pub mod LookLaws
+pub mod Nodes

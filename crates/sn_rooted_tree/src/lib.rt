@@ -1,0 +1,31 @@
+//! The live tree of a root on a device, as what lies below an overlay, and the table of its directories.
+//!
+//! The model is that of `sn_rooted`: the tree that the root denotes. Over a device that tells its bytes, and where
+//! the root is sound there, each look-up answers what that tree says. Nothing is kept of the tree: a look-up reads
+//! the inode of the number and what it needs behind that, in the cache of `sn_block`.
+//!
+//! Once a look-up has failed, each later one answers its fault and reads nothing. So whoever makes many of them, and
+//! is answered at last, knows by [`RootedTree::fault`] that the device is as it was.
+//!
+//! The way through it:
+//!
+//! 1. `specs/Looks`: what look-ups do to the device, and how a fault stands.
+//! 2. `seeing` reads a node with its ACLs and a block of a file, as overlays show them.
+//! 3. [`RootedTree`], which is a `Below` of `sn_overlay`, and keeps names for `sn_directories`.
+//! 4. [`directories_of`] counts the names of each directory once, and notes which directory each is in.
+//!
+//! What the sources leave open is decided in `docs/DECISIONS.md`, under "Reading a root on demand".
+//!
+//! ```text
+//! let directories = directories_of(alloc, blocks, &root.limits, &root.inode_file)?;
+//! let mut tree = RootedTree { alloc, blocks, root: &root, fault: None };
+//! let mut live = LoggedTree { shown: Through { overlay: &changed, below: &mut tree }, directories: &directories };
+//! ```
+#![tactic(auto)]
+
+mod loading;
+mod rooted;
+mod seeing;
+
+pub use loading::directories_of;
+pub use rooted::RootedTree;
