@@ -5,7 +5,7 @@
 # of 100,000 blocks, on disks of the same size. Of each the time of a build of nothing is apart, which copies the map of
 # that disk. A directory is gone through twice, so its times are also told for each of its blocks. And the most
 # memory that is held at a time while the block of 100,000 is built, over that of a run that builds nothing. Each time
-# is the least of 60 turns.
+# is the least of twelve runs of 60 turns, and that of the block is of a build whose blocks are in the cache.
 set -eu
 top=$(cd "$(dirname "$0")/.." && pwd)
 . "$top/bench/peak.sh"
@@ -14,9 +14,10 @@ trap 'rm -rf "$work"' EXIT
 "$top/bench/program.py" measure_builds
 builds=$top/bench/out/measure_builds
 
-"$builds" time > "$work/times"
+for _ in 1 2 3 4 5 6 7 8 9 10 11 12; do "$builds" time; done > "$work/times"
 awk '
-{ whole[$1, $2] = $3; map[$1, $2] = $4; rest[$1, $2] = $3 - $4; blocks[$2] = $5 }
+function least(one, other) { return one == "" || other < one ? other : one }
+{ whole[$1, $2] = least(whole[$1, $2], $3); map[$1, $2] = least(map[$1, $2], $4); rest[$1, $2] = whole[$1, $2] - map[$1, $2]; blocks[$2] = $5 }
 function told(what, many, few) {
     printf "%s: %.1f us, and the map %.1f us; ", what, rest[many] / 1000, map[many] / 1000
     printf "%.2f of that in %s (%.1f us, and the map %.1f us)\n", rest[many] / rest[few], few_name, rest[few] / 1000, map[few] / 1000
