@@ -21,7 +21,7 @@ pub bytes_at-none : (c : Contents) (at : ℕ) → [] ≡ bytes_at c at 0
 unfolding bytes_at
 bytes_at-none c at = refl
 
--- the bytes are those of the sectors in the run alone
+-- the bytes are those of the sectors in the stretch alone
 pub bytes_at-same : (c d : Contents) (at n : ℕ) → ((i : ℕ) → at ≤ i → i < at + n → sector_at d i ≡ sector_at c i) → bytes_at d at n ≡ bytes_at c at n
 unfolding bytes_at
 bytes_at-same c d at zero same = refl

@@ -2,4 +2,4 @@ pub mod BlockLemmas
 pub mod CacheLemmas
 pub mod CountLemmas
 pub mod EffectLemmas
-pub mod RunLemmas
+pub mod StretchLemmas

@@ -5,7 +5,7 @@ ghost use Rattle.sn_device.specs.Disk.{reads};
 ghost use Rattle.sn_ondisk.specs.Blocks.{block_at};
 ghost use Rattle.sn_block.specs.Cache.{entries_of, Coheres};
 ghost use Rattle.sn_block.specs.Counts.{CountsCalls, CountsRead, FailsRead};
-ghost use Rattle.sn_block.specs.Effects.{WritesSector, WritesRun, WritesSynced, SyncsAll};
+ghost use Rattle.sn_block.specs.Effects.{WritesSector, WritesStretch, WritesSynced, SyncsAll};
 
 use crate::cache::Cache;
 use crate::{Block, ReadFault};
@@ -111,12 +111,12 @@ impl<D: Device> Blocks<D> {
         self.device.write(at, sector)
     }
 
-    /// Writes a run of whole sectors from `at` on, in their order. A fault of one ends it: those before
+    /// Writes a stretch of whole sectors from `at` on, in their order. A fault of one ends it: those before
     /// it are written, and those behind it aren't.
-    pub fn write_run(&mut self, at: u64, bytes: &[u8]) -> Result<(), Fault>
+    pub fn write_stretch(&mut self, at: u64, bytes: &[u8]) -> Result<(), Fault>
         requires whole { length bytes.now % 512 ≡ 0 }
         requires room { at + length bytes.now / 512 ≤ (D.status (device_of self.old)).sectors }
-        ensures disk { IsTrue D.tells_bytes → WritesRun at (length bytes.now / 512) bytes.now result
+        ensures disk { IsTrue D.tells_bytes → WritesStretch at (length bytes.now / 512) bytes.now result
             (D.disk (device_of self.old)) (D.disk (device_of self.new)) }
         ensures counts { CountsCalls (length bytes.now / 512) 0 result
             (D.status (device_of self.old)) (D.status (device_of self.new)) }
@@ -131,20 +131,20 @@ impl<D: Device> Blocks<D> {
         Ok(())
     }
 
-    /// Writes the eight sectors of a block, as `write_run`.
+    /// Writes the eight sectors of a block, as `write_stretch`.
     pub fn write_block(&mut self, number: u32, block: &Block) -> Result<(), Fault>
         requires room { 8 * number + 8 ≤ (D.status (device_of self.old)).sectors }
-        ensures disk { IsTrue D.tells_bytes → WritesRun (8 * number) 8 block.now result
+        ensures disk { IsTrue D.tells_bytes → WritesStretch (8 * number) 8 block.now result
             (D.disk (device_of self.old)) (D.disk (device_of self.new)) }
         ensures counts { CountsCalls 8 0 result (D.status (device_of self.old)) (D.status (device_of self.new)) }
     {
-        self.write_run(8 * u64::from(number), block.as_slice())
+        self.write_stretch(8 * u64::from(number), block.as_slice())
     }
 
-    /// Writes zeros over `count` sectors from `at` on, as `write_run`.
+    /// Writes zeros over `count` sectors from `at` on, as `write_stretch`.
     pub fn zero_range(&mut self, at: u64, count: u64) -> Result<(), Fault>
         requires room { at + count ≤ (D.status (device_of self.old)).sectors }
-        ensures disk { IsTrue D.tells_bytes → WritesRun at count (replicate (512 * count) 0) result
+        ensures disk { IsTrue D.tells_bytes → WritesStretch at count (replicate (512 * count) 0) result
             (D.disk (device_of self.old)) (D.disk (device_of self.new)) }
         ensures counts { CountsCalls count 0 result (D.status (device_of self.old)) (D.status (device_of self.new)) }
     {

@@ -1,6 +1,6 @@
 //! Layers over blocks, as examples. Each is proved over any device from the contracts of `Blocks` alone.
 ghost use Rattle.std.specs.Prelude.{◌≡◌, ◌≢◌, ◌↔◌, ◌+◌, ◌*◌, ◌<◌, ◌≤◌, ℕ, List, IsTrue, IfOk, OnOk, slice_index};
-ghost use Rattle.sn_device.specs.Sectors.{Run, sector_at};
+ghost use Rattle.sn_device.specs.Sectors.{Stretch, sector_at};
 ghost use Rattle.sn_device.specs.Disk.{reads, Always, IsSynced};
 ghost use Rattle.sn_device.specs.Crash.{LeavesOnly, Touches};
 ghost use Rattle.sn_ondisk.specs.Blocks.{block_at};
@@ -32,7 +32,7 @@ pub fn begin_alike<D: Device>(
 pub fn copy_block<D: Device>(blocks: &mut Blocks<D>, from: u32, to: u32) -> Result<(), ReadFault>
     requires from { 8 * from + 8 ≤ (D.status (device_of blocks.old)).sectors }
     requires to { 8 * to + 8 ≤ (D.status (device_of blocks.old)).sectors }
-    ensures touched { IsTrue D.tells_bytes → Touches (Run (8 * to) 8)
+    ensures touched { IsTrue D.tells_bytes → Touches (Stretch (8 * to) 8)
         (D.disk (device_of blocks.old)) (D.disk (device_of blocks.new)) }
     ensures copied { IsTrue D.tells_bytes
         → OnOk result (block_at (reads (D.disk (device_of blocks.new))) to

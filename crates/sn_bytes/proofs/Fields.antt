@@ -120,13 +120,13 @@ AreNumbers-from n (x ∷ xs) h = (h 0 (omega arith), AreNumbers-from n xs (λ i 
 
 -- ---- writing
 
--- what stands behind a place stands behind each later one
+-- what stands behind an offset stands behind each later one
 pub behind : (a b : List ℕ) (next n : ℕ) → next ≤ n → drop next a ≡ drop next b → drop n a ≡ drop n b
 behind a b next n le e =
     let same : next + (n - next) ≡ n = omega arith in
     ap (λ (k : ℕ). drop k a) (sym same) ∙ sym (drop-drop (n - next) next a) ∙ ap (drop (n - next)) e ∙ drop-drop (n - next) next b ∙ ap (λ (k : ℕ). drop k b) same
 
--- what was put at the front of a part of a block that begins at a place
+-- what was put at the front of a part of a block that begins at an offset
 pub puts_part : (block bytes buf : List ℕ) (at k m next : ℕ) → at + k ≤ length block → m ≤ k → length bytes ≡ m → next ≡ at + m → buf ≡ bytes ++ drop m (take k (drop at block)) → Puts block (put_mid at k block buf) at next bytes
 puts_part block bytes buf at k m next within fits len moved e =
     let part = take k (drop at block) in

@@ -1,4 +1,4 @@
-//! Each writes its bytes at a place of the block, and answers the place after them.
+//! Each writes its bytes at an offset of the block, and answers the offset after them.
 ghost use Rattle.std.specs.Prelude.{◌≡◌, ◌+◌, ◌*◌, ◌≤◌, [], ◌∷◌, length};
 ghost use Rattle.sn_bytes.specs.Bytes.{number_bytes, numbers_bytes, zeros, Puts};
 

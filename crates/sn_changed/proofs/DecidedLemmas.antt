@@ -39,7 +39,7 @@ use Rattle.sn_model.specs.declared.outcome.Caller.TheVariants.{Closes, LogsIn, L
 use Rattle.sn_model.specs.declared.outcome.Outcome.{Outcome}
 use Rattle.sn_model.specs.declared.outcome.Pending.{Pending}
 use Rattle.sn_model.specs.declared.outcome.Pending.TheVariants.{Does, Makes, Nothing}
-use Rattle.sn_model.specs.Outcomes.{tells, turns}
+use Rattle.sn_model.specs.Outcomes.{tells, asks}
 use Rattle.sn_model.specs.Seen.{last_name, parent_of}
 use Rattle.sn_model.specs.Settling.{is_nameless}
 use Rattle.sn_model.specs.Steps.{Comes, IsNumberFor, TakesMemory, changed, decision, filled}
@@ -209,7 +209,7 @@ module _ (limits : Limits) (world : World) where
 
   close_gives_none : (session fd : ℕ) → Decided (close_outcome world.descriptors session fd)
   unfolding close_outcome
-  close_gives_none session fd = then (descriptor_at world.descriptors session fd) (λ _. ok (turns (Closes fd) reply.Done)) (λ _. tt)
+  close_gives_none session fd = then (descriptor_at world.descriptors session fd) (λ _. ok (asks (Closes fd) reply.Done)) (λ _. tt)
 
   read_gives_none : (session fd count : ℕ) → Decided (read_outcome world session fd count)
   unfolding read_outcome
@@ -229,8 +229,8 @@ module _ (limits : Limits) (world : World) where
   seek_gives_none : (session fd offset : ℕ) → Decided (seek_outcome limits world.descriptors session fd offset)
   unfolding seek_outcome
   seek_gives_none session fd offset =
-      then (descriptor_at world.descriptors session fd) (λ _. is_offset limits offset >>= (λ to. ok (turns (Moves fd to) (reply.Number to)))) (λ d.
-      then (is_offset limits offset) (λ to. ok (turns (Moves fd to) (reply.Number to))) (λ _. tt))
+      then (descriptor_at world.descriptors session fd) (λ _. is_offset limits offset >>= (λ to. ok (asks (Moves fd to) (reply.Number to)))) (λ d.
+      then (is_offset limits offset) (λ to. ok (asks (Moves fd to) (reply.Number to))) (λ _. tt))
 
   ftruncate_gives_none : (session fd size : ℕ) → Decided (ftruncate_outcome limits world.descriptors session fd size)
   unfolding ftruncate_outcome

@@ -4,7 +4,7 @@ ghost use Rattle.std.specs.Prelude.{◌≡◌, ◌<◌, ◌≤◌, ◌+◌, leng
 ghost use Rattle.sn_limits.specs.Versions.{version_1};
 ghost use Rattle.sn_model.specs.declared.call.Call.TheVariants as call;
 ghost use Rattle.sn_model.specs.FileCalls as calls;
-ghost use Rattle.sn_model.specs.Outcomes.{turns};
+ghost use Rattle.sn_model.specs.Outcomes.{asks};
 ghost use Rattle.sn_desc.specs.InUse.{descriptor_of};
 ghost use Rattle.sn_walk.specs.Gives.{Answers};
 ghost use Rattle.sn_core.specs.Served.{Decides};
@@ -25,8 +25,8 @@ use sn_walk::Home;
 use std::alloc::{AllocError, Global};
 
 /// What a call comes to that changes no tree.
-fn turns(caller: Caller, told: Reply) -> Outcome<'static>
-    ensures { result ≡ turns caller told }
+fn asks(caller: Caller, told: Reply) -> Outcome<'static>
+    ensures { result ≡ asks caller told }
 {
     Outcome {
         charge: 0,
@@ -99,14 +99,14 @@ impl PlainWorld {
         ensures { Decides (world_of self.now) session call.Logout result }
     {
         self.logged_in(session)?;
-        Ok(turns(Caller::LogsOut, Reply::Done))
+        Ok(asks(Caller::LogsOut, Reply::Done))
     }
 
     pub(crate) fn decide_sync(&self, session: u32) -> Result<Outcome<'static>, CallError>
         ensures { Decides (world_of self.now) session call.Sync result }
     {
         self.logged_in(session)?;
-        Ok(turns(Caller::Stays, Reply::Done))
+        Ok(asks(Caller::Stays, Reply::Done))
     }
 
     pub(crate) fn decide_unlink<'a>(
@@ -155,7 +155,7 @@ impl PlainWorld {
     {
         self.logged_in(session)?;
         self.sessions.get(session, fd)?;
-        Ok(turns(Caller::Closes { fd }, Reply::Done))
+        Ok(asks(Caller::Closes { fd }, Reply::Done))
     }
 
     /// How many bytes an open file has.
@@ -204,7 +204,7 @@ impl PlainWorld {
         } else {
             file.offset
         };
-        Ok(turns(
+        Ok(asks(
             Caller::Moves { fd, offset },
             Reply::Content(FileData::new(bytes)),
         ))
@@ -250,7 +250,7 @@ impl PlainWorld {
         let bytes = bytes_argument(bytes.as_bytes())?;
         let file = self.sessions.writable(session, fd)?;
         if bytes.is_empty() {
-            return Ok(turns(Caller::Stays, Reply::Number(0)));
+            return Ok(asks(Caller::Stays, Reply::Number(0)));
         }
         let offset = self.write_offset(file);
         Ok(write_some(fd, file.number, offset, bytes)?)
@@ -270,7 +270,7 @@ impl PlainWorld {
         if offset > Limits::VERSION_1.largest_file {
             return Err(CallError::Refused(Refusal::plain(Errno::Einval)));
         }
-        Ok(turns(Caller::Moves { fd, offset }, Reply::Number(offset)))
+        Ok(asks(Caller::Moves { fd, offset }, Reply::Number(offset)))
     }
 
     #[tactic(auto, unfolding(sn_model::specs::FileCalls::ftruncate_outcome))]

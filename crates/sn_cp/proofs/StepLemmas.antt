@@ -8,7 +8,7 @@ use Rattle.sn_device.specs.Sectors.{Contents, AreSectors, Single}
 use Rattle.sn_device.specs.Disk.{Disk, Always, IsSynced, reads}
 use Rattle.sn_device.specs.Crash.{Touches}
 use Rattle.sn_device.proofs.CrashLemmas.{Touches-join, Touches-within}
-use Rattle.sn_block.specs.Effects.{Nowhere, SyncsAll, WritesRun}
+use Rattle.sn_block.specs.Effects.{Nowhere, SyncsAll, WritesStretch}
 use Rattle.sn_block.proofs.EffectLemmas.{OnOk-then}
 use Rattle.sn_layout.specs.declared.gate.Gate.{Gate}
 use Rattle.sn_layout.specs.declared.gate.Gate.TheVariants.{Open, Closed}
@@ -72,7 +72,7 @@ range_is_words words k from end at to within =
 -- ---- a new block
 
 module _ (w : Work) (whole : IsWhole w) (k : ℕ) (within : k < length w.plan.blocks) (b : Written) (at : StandsAt w.plan.blocks k b) {T E : Type 0} (result : Result T E) (old new : Disk) (sectors : AreSectors (reads old))
-    (stands : StandsAtStage w (Blocks k) old) (writes : WritesRun (8 * b.0) 8 b.1 result old new) where
+    (stands : StandsAtStage w (Blocks k) old) (writes : WritesStretch (8 * b.0) 8 b.1 result old new) where
   block_gate : Always new (λ c. gate_in c w.slot ≡ w.gate)
   block_gate = gate_stays (InBlock b.0) old new sectors writes.touched w.slot w.gate (block_and_gate w.blocks b.0 w.slot (lies_at w.blocks w.plan.blocks k b whole.place at)) stands.gate
 
@@ -102,7 +102,7 @@ module _ (w : Work) (whole : IsWhole w) (k : ℕ) (within : k < length w.plan.bl
 -- ---- a block of the map
 
 module _ (w : Work) (whole : IsWhole w) (k : ℕ) (within : k < map_blocks w.blocks) {T E : Type 0} (result : Result T E) (old mid : Disk) (sectors : AreSectors (reads old))
-    (stands : StandsAtStage w (MapBlocks k) old) (bytes : List ℕ) (is : bytes ≡ map_block_bytes (words_of_block k w.plan.words)) (writes : WritesRun (8 * (start_of w.blocks (MapCopy w.slot) + k)) 8 bytes result old mid) where
+    (stands : StandsAtStage w (MapBlocks k) old) (bytes : List ℕ) (is : bytes ≡ map_block_bytes (words_of_block k w.plan.words)) (writes : WritesStretch (8 * (start_of w.blocks (MapCopy w.slot) + k)) 8 bytes result old mid) where
   map_gate : Always mid (λ c. gate_in c w.slot ≡ w.gate)
   map_gate = gate_stays (InBlock (start_of w.blocks (MapCopy w.slot) + k)) old mid sectors writes.touched w.slot w.gate (map_and_gate w.blocks k w.slot w.slot) stands.gate
 

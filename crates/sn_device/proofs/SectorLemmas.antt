@@ -2,7 +2,7 @@
 use Rattle.std.proofs.Common.{◌≡◌, ◌≢◌, ◌⊎◌, inl, inr, ⊎_elim, ℕ, zero, suc, ◌+◌, ◌<◌, ◌≤◌, List, [], ◌∷◌, ◌++◌, length, replicate, take, drop, slice_index, slice_set, Contains, refl, sym, ◌∙◌, subst, arith}
 use Rattle.std.proofs.lemmas.List.{length-replicate, get_or-replicate, get_or_past, get_or_push, get_or_append_left, length_push, length-take, get_or-take, get_or-drop, length-set, get_or-set_same, get_or-set_other}
 use Rattle.std.proofs.lemmas.Bool.{cases_eq, cases_lt}
-use Rattle.sn_device.specs.Sectors.{Contents, sector_at, IsSector, AreSectors, Single, Run, Union, IsWithin, AreDisjoint, AgreesOutside, AgreesOn}
+use Rattle.sn_device.specs.Sectors.{Contents, sector_at, IsSector, AreSectors, Single, Stretch, Union, IsWithin, AreDisjoint, AgreesOutside, AgreesOn}
 
 pub IsSector-replicate : (byte : ℕ) → byte < 256 → IsSector (replicate 512 byte)
 IsSector-replicate byte fits = record {
@@ -45,12 +45,12 @@ pub Contains-cases : (x : ℕ) (xs : List ℕ) (y : ℕ) → Contains (x ∷ xs)
 Contains-cases x xs y (zero, within, is) = inl (sym is)
 Contains-cases x xs y (suc k, within, is) = inr (k, omega arith, is)
 
--- Runs of sectors.
-pub Run-single : (at n i : ℕ) → Run at n i → IsWithin (Single i) (Run at n)
-Run-single at n i is_in j same = subst (Run at n) (sym same) is_in
+-- Stretches of sectors.
+pub Stretch-single : (at n i : ℕ) → Stretch at n i → IsWithin (Single i) (Stretch at n)
+Stretch-single at n i is_in j same = subst (Stretch at n) (sym same) is_in
 
-pub Run-within : (at n from m : ℕ) → from ≤ at → at + n ≤ from + m → IsWithin (Run at n) (Run from m)
-Run-within at n from m low high i is_in = (omega arith, omega arith)
+pub Stretch-within : (at n from m : ℕ) → from ≤ at → at + n ≤ from + m → IsWithin (Stretch at n) (Stretch from m)
+Stretch-within at n from m low high i is_in = (omega arith, omega arith)
 
 -- Contents that agree outside a set.
 module _ (F : ℕ → Type 0) where

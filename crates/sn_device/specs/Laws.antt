@@ -1,6 +1,6 @@
 -- Laws of what a crash may leave. Where a premise says that reads give whole sectors, it is since a crash leaves nothing else: with others there no content could be left at all, and what holds of each would say nothing.
 use Rattle.std.specs.Prelude.{◌≡◌, ◌⊎◌, ◌↔◌, ℕ, ◌+◌, ◌≤◌, Bool, List, Contains, IsTrue}
-use Rattle.sn_device.specs.Sectors.{Contents, AreSectors, AgreesOutside, AreDisjoint, DependsOn, Single, Run, Union}
+use Rattle.sn_device.specs.Sectors.{Contents, AreSectors, AgreesOutside, AreDisjoint, DependsOn, Single, Stretch, Union}
 use Rattle.sn_device.specs.Disk.{Moment, Disk, clock, reads, IsSynced, Always, next, written, synced, MayLeave, CrashNow, CrashSince}
 use Rattle.sn_device.specs.Crash.{Touches}
 
@@ -29,10 +29,10 @@ WriteTears = (at : ℕ) (bytes : List ℕ) (m : Moment) (c : Contents)
 abbrev pub SyncSettles : Type 0
 SyncSettles = (m : Moment) (c : Contents) → AreSectors m.sectors → MayLeave (synced m) c ↔ (c ≡ m.sectors)
 
--- A crash in the course of calls that write a run of sectors may leave any bytes in those, beside what was unsynced.
-abbrev pub RunTears : Type 0
-RunTears = (at n : ℕ) (old new : Disk) (c : Contents) → Touches (Run at n) old new → CrashSince new (clock old) c
-    → AgreesOutside (Union (Run at n) (Contains old.present.unsynced)) old.present.sectors c
+-- A crash in the course of calls that write a stretch of sectors may leave any bytes in those, beside what was unsynced.
+abbrev pub StretchTears : Type 0
+StretchTears = (at n : ℕ) (old new : Disk) (c : Contents) → Touches (Stretch at n) old new → CrashSince new (clock old) c
+    → AgreesOutside (Union (Stretch at n) (Contains old.present.unsynced)) old.present.sectors c
 
 -- What a crash in the course of calls might have left is what one before them might have left, with any bytes in the sectors that they touched.
 abbrev pub TouchesTear : Type 0
@@ -48,6 +48,6 @@ OthersAreKept = (touched others : List ℕ) (test : Contents → Bool) (old new 
 abbrev pub SyncedIsRead : Type 0
 SyncedIsRead = (d : Disk) (c : Contents) → AreSectors (reads d) → IsSynced d → CrashNow d c ↔ (c ≡ reads d)
 
--- Calls that touch a run of sectors touch each longer run round it.
-abbrev pub RunWidens : Type 0
-RunWidens = (at n from m : ℕ) (old new : Disk) → from ≤ at → at + n ≤ from + m → Touches (Run at n) old new → Touches (Run from m) old new
+-- Calls that touch a stretch of sectors touch each longer run round it.
+abbrev pub StretchWidens : Type 0
+StretchWidens = (at n from m : ℕ) (old new : Disk) → from ≤ at → at + n ≤ from + m → Touches (Stretch at n) old new → Touches (Stretch from m) old new

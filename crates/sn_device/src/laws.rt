@@ -1,5 +1,5 @@
 //! The laws that the definitions of `specs/` keep.
-ghost use Rattle.sn_device.specs.Laws.{NowCounts, OnlyNow, ClockMovesOn, CallAdds, WriteTears, SyncSettles, RunTears, TouchesTear, OthersAreKept, SyncedIsRead, RunWidens};
+ghost use Rattle.sn_device.specs.Laws.{NowCounts, OnlyNow, ClockMovesOn, CallAdds, WriteTears, SyncSettles, StretchTears, TouchesTear, OthersAreKept, SyncedIsRead, StretchWidens};
 
 /// What a crash may leave, as laws over all disks. It does nothing: its contract is what it is for.
 pub fn crash_laws()
@@ -9,9 +9,9 @@ pub fn crash_laws()
     ensures call_adds { CallAdds }
     ensures write_tears { WriteTears }
     ensures sync_settles { SyncSettles }
-    ensures run_tears { RunTears }
+    ensures stretch_tears { StretchTears }
     ensures touches_tear { TouchesTear }
     ensures others_are_kept { OthersAreKept }
     ensures synced_is_read { SyncedIsRead }
-    ensures run_widens { RunWidens }
+    ensures stretch_widens { StretchWidens }
 {}

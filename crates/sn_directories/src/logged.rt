@@ -31,6 +31,7 @@ pub struct LoggedTree<'a, B> {
 
 impl<'a, B: KeepsNames> Below for LoggedTree<'a, B> {
     ghost use Rattle.std.specs.Prelude.{◌≡◌, IsTrue};
+    ghost use Rattle.std.proofs.Common.{refl, ◌∙◌};
     ghost use Rattle.sn_overlay.specs.Layers.{through};
     ghost use Rattle.sn_overlay.specs.Overlays.{layer_of};
     ghost use Rattle.sn_directories.specs.Told.{IsShown};
@@ -43,7 +44,9 @@ impl<'a, B: KeepsNames> Below for LoggedTree<'a, B> {
 
     ghost holds = { λ v. B.holds v.shown.below.now × (IsTrue B.is_told → IsShown (layer_of v.shown.overlay.now) (B.shows v.shown.below.now) v.directories.now) };
 
-    ghost follows = { λ u v. B.follows u.shown.below.now v.shown.below.now };
+    // the tree below is the same one, and shows the same
+    ghost follows = { λ u v. B.follows u.shown.below.now v.shown.below.now × (v.shown.below.ghost_name ≡ u.shown.below.ghost_name)
+        × (IsTrue B.is_told → B.shows v.shown.below.now ≡ B.shows u.shown.below.now) };
 
     ghost causes = { λ u v f. B.causes u.shown.below.now v.shown.below.now f };
 
@@ -59,11 +62,11 @@ impl<'a, B: KeepsNames> Below for LoggedTree<'a, B> {
         self.shown.read_block(file_block, block)
     }
 
-    ghost follows_itself = { λ v. B.follows_itself v.shown.below.now };
+    ghost follows_itself = { λ v. (B.follows_itself v.shown.below.now, refl, λ told. refl) };
 
-    ghost follows_on = { λ u v w p q. B.follows_on u.shown.below.now v.shown.below.now w.shown.below.now p q };
+    ghost follows_on = { λ u v w p q. (B.follows_on u.shown.below.now v.shown.below.now w.shown.below.now p.0 q.0, q.1 ∙ p.1, λ told. q.2 told ∙ p.2 told) };
 
-    ghost causes_later = { λ u v w f p q. B.causes_later u.shown.below.now v.shown.below.now w.shown.below.now f p q };
+    ghost causes_later = { λ u v w f p q. B.causes_later u.shown.below.now v.shown.below.now w.shown.below.now f p.0 q };
 }
 
 impl<'a, B: KeepsNames> NamedTree for LoggedTree<'a, B> {

@@ -11,7 +11,7 @@ use Rattle.std.proofs.lemmas.List.{get_or-drop, get_or-take, length-take}
 use Rattle.std.proofs.lemmas.Nat.{mod_below}
 use Rattle.std.proofs.lemmas.Map.Entries.{lookup-filter-keys}
 use Rattle.sn_file_bytes.specs.Blocks.{Entries, block_at, byte_at, cut_at, in_block, over, values_from}
-use Rattle.sn_file_bytes.proofs.ListLemmas.{cut_in, cut_out, list_is, over_above, over_below, over_in, place_of}
+use Rattle.sn_file_bytes.proofs.ListLemmas.{cut_in, cut_out, list_is, over_above, over_below, over_in, side_of}
 
 -- an offset is one in a block
 pub parts : (k : ℕ) → k ≡ k / 4096 * 4096 + k % 4096
@@ -74,7 +74,7 @@ piece_put es fs at piece box new there u is within k = told (same_or_apart (k / 
     was e = byte_is es k (at / 4096) (k % 4096) (omega (arith, parts k, e)) (low k) ∙ ap (λ (o : Option (Box (List ℕ) Global)). in_block o (k % 4096)) there
 
     inside : k / 4096 ≡ at / 4096 → over (λ j. get_or box.value j 0) (at % 4096) piece (k % 4096) ≡ over (byte_at es) at piece k
-    inside e = split (place_of (at % 4096) (k % 4096) (length piece))
+    inside e = split (side_of (at % 4096) (k % 4096) (length piece))
       where
         split : (k % 4096 < at % 4096) ⊎ (((at % 4096 ≤ k % 4096) × (k % 4096 < at % 4096 + length piece)) ⊎ (at % 4096 + length piece ≤ k % 4096)) → over (λ j. get_or box.value j 0) (at % 4096) piece (k % 4096) ≡ over (byte_at es) at piece k
         split (inl a) = over_below (λ j. get_or box.value j 0) (at % 4096) piece (k % 4096) a ∙ sym (was e) ∙ sym (over_below (byte_at es) at piece k (omega (arith, a, e, parts k, parts at)))
@@ -85,7 +85,7 @@ piece_put es fs at piece box new there u is within k = told (same_or_apart (k / 
         split (inr (inr a)) = over_above (λ j. get_or box.value j 0) (at % 4096) piece (k % 4096) a ∙ sym (was e) ∙ sym (over_above (byte_at es) at piece k (omega (arith, a, e, parts k, parts at)))
 
     outside : k / 4096 ≢ at / 4096 → byte_at es k ≡ over (byte_at es) at piece k
-    outside e = split (place_of at k (length piece))
+    outside e = split (side_of at k (length piece))
       where
         split : (k < at) ⊎ (((at ≤ k) × (k < at + length piece)) ⊎ (at + length piece ≤ k)) → byte_at es k ≡ over (byte_at es) at piece k
         split (inl a) = sym (over_below (byte_at es) at piece k a)

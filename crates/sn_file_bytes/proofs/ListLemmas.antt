@@ -42,9 +42,9 @@ values_join f first (suc m) n =
     let sum : suc (m + n) ≡ suc m + n = omega arith in
     ap (λ xs. f first ∷ xs) (ap (λ k. values_from f (first + 1) m ++ values_from f k n) shift ∙ values_join f (first + 1) m n) ∙ ap (values_from f first) sum
 
--- where a place lies to a list that is put from another on
-pub place_of : (offset k n : ℕ) → (k < offset) ⊎ (((offset ≤ k) × (k < offset + n)) ⊎ (offset + n ≤ k))
-place_of offset k n = told (nat_le offset k) refl (nat_lt k (offset + n)) refl
+-- where an index lies to a list that is put from another on
+pub side_of : (offset k n : ℕ) → (k < offset) ⊎ (((offset ≤ k) × (k < offset + n)) ⊎ (offset + n ≤ k))
+side_of offset k n = told (nat_le offset k) refl (nat_lt k (offset + n)) refl
   where
     told : (a : Bool) → nat_le offset k ≡ a → (b : Bool) → nat_lt k (offset + n) ≡ b → (k < offset) ⊎ (((offset ≤ k) × (k < offset + n)) ⊎ (offset + n ≤ k))
     told false e b f = inl (leb-false offset k e)
@@ -70,7 +70,7 @@ module _ (f : ℕ → ℕ) (size k : ℕ) where
 
 -- a list that is put piece by piece
 pub over_more : (f g h : ℕ → ℕ) (offset done count : ℕ) (new piece : List ℕ) → done + count ≤ length new → piece ≡ take count (drop done new) → ((k : ℕ) → g k ≡ over f offset (take done new) k) → ((k : ℕ) → h k ≡ over g (offset + done) piece k) → (k : ℕ) → h k ≡ over f offset (take (done + count) new) k
-over_more f g h offset done count new piece few is before after k = told (place_of (offset + done) k count)
+over_more f g h offset done count new piece few is before after k = told (side_of (offset + done) k count)
   where
     size : length piece ≡ count
     size = ap length is ∙ length-take-le count (drop done new) (omega (arith, few, length-drop done new))
@@ -82,7 +82,7 @@ over_more f g h offset done count new piece few is before after k = told (place_
     all = length-take-le (done + count) new few
 
     first : k < offset + done → over f offset (take done new) k ≡ over f offset (take (done + count) new) k
-    first low = split (place_of offset k done)
+    first low = split (side_of offset k done)
       where
         split : (k < offset) ⊎ (((offset ≤ k) × (k < offset + done)) ⊎ (offset + done ≤ k)) → over f offset (take done new) k ≡ over f offset (take (done + count) new) k
         split (inl a) = over_below f offset (take done new) k a ∙ sym (over_below f offset (take (done + count) new) k a)
@@ -149,7 +149,7 @@ module _ (f : ℕ → ℕ) (n : ℕ) (zeros : (k : ℕ) → n ≤ k → f k ≡ 
     length-all = omega (arith, length-append (resized bytes offset) (new ++ drop (offset + length new) bytes), length-append new (drop (offset + length new) bytes), length-drop (offset + length new) bytes, length-resized bytes offset, length-values_from f 0 n)
 
     each : (i : ℕ) → get_or all i 0 ≡ g i
-    each i = told (place_of offset i (length new))
+    each i = told (side_of offset i (length new))
       where
         tail : offset ≤ i → get_or all i 0 ≡ get_or (new ++ drop (offset + length new) bytes) (i - offset) 0
         tail a = get_or-append_right (resized bytes offset) (new ++ drop (offset + length new) bytes) offset i 0 (length-resized bytes offset) a
@@ -198,6 +198,6 @@ past_read f n offset count past =
     let none : min (n - offset) count ≡ 0 = omega (arith, past) in
     sym (read_is f n offset count ∙ ap (values_from f offset) none)
 
--- what is under a list that is put matters at each place alone
+-- what is under a list that is put matters at each index alone
 pub over_same : (f g : ℕ → ℕ) (offset : ℕ) (new : List ℕ) (k : ℕ) → f k ≡ g k → over f offset new k ≡ over g offset new k
 over_same f g offset new k e = ap (λ (n : ℕ). cond (nat_le offset k && nat_lt k (offset + length new)) (get_or new (k - offset) 0) n) e

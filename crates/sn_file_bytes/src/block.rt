@@ -9,7 +9,7 @@ pub(crate) const BLOCK_BYTES: u64 = BLOCK_SIZE as u64;
 /// A block that nothing was written to.
 pub(crate) const ZEROS: Block = [0; 4096];
 
-/// Puts bytes into a block, from a place on.
+/// Puts bytes into a block, from an offset on.
 pub(crate) fn put(block: &mut Block, from: usize, piece: &[u8])
     requires { from + length piece.now ≤ 4096 }
     ensures { (i : ℕ) → slice_index block.new i ≡ over (slice_index block.old) from piece.now i }
@@ -17,7 +17,7 @@ pub(crate) fn put(block: &mut Block, from: usize, piece: &[u8])
     block[from..from + piece.len()].copy_from_slice(piece);
 }
 
-/// Puts zeros into a block, from a place on.
+/// Puts zeros into a block, from an offset on.
 pub(crate) fn clear_from(block: &mut Block, from: usize)
     requires { from ≤ 4096 }
     ensures { (i : ℕ) → slice_index block.new i ≡ cut_at (slice_index block.old) from i }

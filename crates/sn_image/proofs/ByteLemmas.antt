@@ -28,9 +28,9 @@ use Rattle.sn_image.proofs.PieceLemmas.{all_append}
 pub byte_found : (s : Store) (content : Content) → ((block : ℕ) → Contains (content_reach s content) block → length (s block) ≡ 4096) → (k : ℕ) → k < size_of content → slice_index (bytes_of s content) k ≡ byte_of s content k
 byte_found s (Inline bytes) long k within = refl
 byte_found s (Tree tree) long k within =
-    let place : 4096 * (k / 4096) + k % 4096 ≡ k = omega arith in
-    let inside : 4096 * (k / 4096) + k % 4096 < tree.size = omega (arith, place, within) in
-    sym (ap (λ (n : ℕ). slice_index (tree_bytes s tree) n) place) ∙ bytes_of_block s tree long (k / 4096) (k % 4096) (omega arith) inside
+    let parts : 4096 * (k / 4096) + k % 4096 ≡ k = omega arith in
+    let inside : 4096 * (k / 4096) + k % 4096 < tree.size = omega (arith, parts, within) in
+    sym (ap (λ (n : ℕ). slice_index (tree_bytes s tree) n) parts) ∙ bytes_of_block s tree long (k / 4096) (k % 4096) (omega arith) inside
 
 -- ---- how many bytes a tree has
 

@@ -12,7 +12,7 @@ use Rattle.sn_layout_node.specs.declared.inode.Inode.{Inode}
 use Rattle.sn_ondisk.specs.Blocks.{numbers_in}
 use Rattle.sn_ondisk.specs.Trees.{Store, data_block}
 
--- the number of n bytes at a place of a record
+-- the number of n bytes at an offset of a record
 abbrev pub number_at : List ℕ → ℕ → ℕ → ℕ
 number_at record_bytes at n = little_number n (drop at record_bytes)
 

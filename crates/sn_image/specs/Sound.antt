@@ -1,9 +1,9 @@
 -- When a root is sound. Each rule of the format has its definition here, in the order in which a check looks:
 -- - each pointer names a block of the data area, and no block is reached twice: `IsPlaced`;
--- - the size of the inode file, and the places past the end of any tree: `IsInodeFile`, `EndsAtSize`;
+-- - the size of the inode file, and the indices past the end of any tree: `IsInodeFile`, `EndsAtSize`;
 -- - the spelling of records, of ACL blocks and of directory blocks: `HasRecords`, `HasAcls`, `HasBlocks`. That the links of
 --   a directory are 1 and those of a file at most 32,767, that bytes lie in the inode up to 64, and that the sixteen pointers
---   of places past the size are 0, is in the spelling of a record; which numbers and names a directory block can have, and
+--   of indices past the size are 0, is in the spelling of a record; which numbers and names a directory block can have, and
 --   that none of them crosses the block, in the spelling of that; that the entries of ACLs are valid and in order, and not
 --   both lists empty, in the spelling of those;
 -- - inodes 0 and 1 are unused, and inode 2 is a directory: `HasRecords`;
@@ -59,7 +59,7 @@ pub record IsInodeFile (limits : Limits) (inodes : BlockTree) : Type 0 where
 abbrev pub span_at : ℕ → ℕ → ℕ
 span_at size depth = 4096 * 1024 ^ (levels_of size - depth)
 
--- On each level the pointers of places wholly past the size are 0, and in the last block the bytes past the size are.
+-- On each level the pointers of indices wholly past the size are 0, and in the last block the bytes past the size are.
 pub record EndsAtSize (s : Store) (tree : BlockTree) : Type 0 where
   pub pointers : (depth i : ℕ) → depth ≤ levels_of tree.size → tree.size ≤ i * span_at tree.size depth → entry s depth tree.pointers i ≡ 0
   pub bytes : (i k : ℕ) → k < 4096 → tree.size ≤ 4096 * i + k → slice_index (data_block s tree i) k ≡ 0

@@ -144,10 +144,10 @@ module _ (old : ℕ → List ℕ) (keep : ℕ) (xs : List StoredRecord) (x : Sto
           ∙ here
           ∙ sym (stored_more xs x number was ∙ ap (λ (b : Bool). if b then record_bytes x.record else bytes_after xs number was) number_is.0)
       told (inl block) (inr not) =
-          let place : (number % 32 ≡ x.number % 32 → ⊥) = (λ e. not.1 (omega (arith, e, block.1))) in
+          let within : (number % 32 ≡ x.number % 32 → ⊥) = (λ e. not.1 (omega (arith, e, block.1))) in
           ap (λ (n : ℕ). record_in (number % 32) (block_after keep (front ++ d ∷ []) n (old n))) block.1
           ∙ ap (record_in (number % 32)) (pushed_here keep (x.number / 32) front d (old (x.number / 32)) is below)
-          ∙ others (number % 32) place
+          ∙ others (number % 32) within
           ∙ ap (record_in (number % 32)) opened
           ∙ ap (λ (n : ℕ). record_in (number % 32) (block_after keep ds n (old n))) (sym block.1)
           ∙ patched number
@@ -161,23 +161,23 @@ pub patched_none : (old : ℕ → List ℕ) (keep : ℕ) → ArePatched old keep
 unfolding bytes_after
 patched_none old keep number = refl
 
--- the same by other names of the block and of the place in it
-pub patched_at : (old : ℕ → List ℕ) (keep : ℕ) (xs : List StoredRecord) (x : StoredRecord) (ds front news : List DirtyBlock) (d : DirtyBlock) (bytes : List ℕ) (index place : ℕ)
-    → index ≡ x.number / 32 → place ≡ x.number % 32 → d.index ≡ index → news ≡ front ++ d ∷ []
+-- the same by other names of the block and of the index in it
+pub patched_at : (old : ℕ → List ℕ) (keep : ℕ) (xs : List StoredRecord) (x : StoredRecord) (ds front news : List DirtyBlock) (d : DirtyBlock) (bytes : List ℕ) (index within : ℕ)
+    → index ≡ x.number / 32 → within ≡ x.number % 32 → d.index ≡ index → news ≡ front ++ d ∷ []
     → All (λ (y : DirtyBlock). y.index < index) front
     → bytes ≡ block_after keep ds index (old index)
     → ((keep i : ℕ) (b : List ℕ) → (i ≡ index → ⊥) → block_after keep front i b ≡ block_after keep ds i b)
-    → record_in place d.bytes.value ≡ record_bytes x.record
-    → ((i : ℕ) → (i ≡ place → ⊥) → record_in i d.bytes.value ≡ record_in i bytes)
+    → record_in within d.bytes.value ≡ record_bytes x.record
+    → ((i : ℕ) → (i ≡ within → ⊥) → record_in i d.bytes.value ≡ record_in i bytes)
     → ArePatched old keep xs ds → ArePatched old keep (xs ++ x ∷ []) news
-patched_at old keep xs x ds front news d bytes index place index_is place_is is made below opened beside here others patched =
+patched_at old keep xs x ds front news d bytes index within index_is within_is is made below opened beside here others patched =
     subst (λ (l : List DirtyBlock). ArePatched old keep (xs ++ x ∷ []) l) (sym made)
     (patched_more old keep xs x ds front d bytes (is ∙ index_is)
     (subst (λ (n : ℕ). All (λ (y : DirtyBlock). y.index < n) front) index_is below)
     (subst (λ (n : ℕ). bytes ≡ block_after keep ds n (old n)) index_is opened)
     (λ i b other. beside keep i b (λ e. other (e ∙ index_is)))
-    (subst (λ (n : ℕ). record_in n d.bytes.value ≡ record_bytes x.record) place_is here)
-    (λ i other. others i (λ e. other (e ∙ place_is)))
+    (subst (λ (n : ℕ). record_in n d.bytes.value ≡ record_bytes x.record) within_is here)
+    (λ i other. others i (λ e. other (e ∙ within_is)))
     patched)
 
 -- one record more, in a store that is known to be the same

@@ -49,44 +49,44 @@ module _ (s : Store) (inodes : BlockTree) (number : ℕ) where
   pub not_needed : (limits : Limits) (sectors : ℕ) → is_number inodes number ≡ false → CanReadRecord limits sectors s inodes number
   not_needed limits sectors not = record { lies = λ is. absurd (true≢false (sym is ∙ not)); spelled = λ is. absurd (true≢false (sym is ∙ not)) }
 
-  module _ (place : ℕ) (at : place ≡ number) where
-    its_record : (block : List ℕ) → block ≡ data_block s inodes (place / 32) → take 128 (drop (128 * (place % 32)) block) ≡ record_at s inodes number
+  module _ (index : ℕ) (at : index ≡ number) where
+    its_record : (block : List ℕ) → block ≡ data_block s inodes (index / 32) → take 128 (drop (128 * (index % 32)) block) ≡ record_at s inodes number
     unfolding record_at
     its_record block same =
         ap (λ (n : ℕ). take 128 (drop (128 * (n % 32)) block)) at
         ∙ ap (λ (b : List ℕ). take 128 (drop (128 * (number % 32)) b)) (same ∙ ap (λ (n : ℕ). data_block s inodes (n / 32)) at)
 
     -- under a hole all records are unused
-    hole_record : data_block s inodes (place / 32) ≡ zeros 4096 → record_at s inodes number ≡ zeros 128
-    hole_record hole = sym (its_record (zeros 4096) (sym hole)) ∙ zeros_in (place % 32) (omega arith)
+    hole_record : data_block s inodes (index / 32) ≡ zeros 4096 → record_at s inodes number ≡ zeros 128
+    hole_record hole = sym (its_record (zeros 4096) (sym hole)) ∙ zeros_in (index % 32) (omega arith)
 
-    pub hole_inode : data_block s inodes (place / 32) ≡ zeros 4096 → is_number inodes number ≡ true → None ≡ inode_at s inodes number
+    pub hole_inode : data_block s inodes (index / 32) ≡ zeros 4096 → is_number inodes number ≡ true → None ≡ inode_at s inodes number
     hole_inode hole is = sym (ap inode_of (hole_record hole) ∙ unused_read) ∙ its_inode is
 
     module _ (limits : Limits) (sectors : ℕ) where
-      can_read : block_lies_on sectors s inodes (place / 32) ≡ true → SpellsRecord limits (record_at s inodes number) → CanReadRecord limits sectors s inodes number
+      can_read : block_lies_on sectors s inodes (index / 32) ≡ true → SpellsRecord limits (record_at s inodes number) → CanReadRecord limits sectors s inodes number
       can_read lies spelled = record { lies = λ is. ap (λ (n : ℕ). block_lies_on sectors s inodes (n / 32)) (sym at) ∙ lies; spelled = λ is. spelled }
 
-      pub hole_read : block_lies_on sectors s inodes (place / 32) ≡ true → data_block s inodes (place / 32) ≡ zeros 4096 → CanReadRecord limits sectors s inodes number
+      pub hole_read : block_lies_on sectors s inodes (index / 32) ≡ true → data_block s inodes (index / 32) ≡ zeros 4096 → CanReadRecord limits sectors s inodes number
       hole_read lies hole = can_read lies (Unused, tt, hole_record hole)
 
-      pub off_not_read : is_number inodes number ≡ true → block_lies_on sectors s inodes (place / 32) ≡ false → CanReadRecord limits sectors s inodes number → ⊥
+      pub off_not_read : is_number inodes number ≡ true → block_lies_on sectors s inodes (index / 32) ≡ false → CanReadRecord limits sectors s inodes number → ⊥
       off_not_read is off can = true≢false (sym (can.lies is) ∙ ap (λ (n : ℕ). block_lies_on sectors s inodes (n / 32)) (sym at) ∙ off)
 
       -- what a record of the block is decoded to
-      module _ (block : List ℕ) (same : block ≡ data_block s inodes (place / 32)) (is : is_number inodes number ≡ true) where
-        pub decoded_inode : (result : Result (Option Inode) TreeFault) → IfOk result (λ (inode : Option Inode). inode ≡ inode_of (take 128 (drop (128 * (place % 32)) block)))
+      module _ (block : List ℕ) (same : block ≡ data_block s inodes (index / 32)) (is : is_number inodes number ≡ true) where
+        pub decoded_inode : (result : Result (Option Inode) TreeFault) → IfOk result (λ (inode : Option Inode). inode ≡ inode_of (take 128 (drop (128 * (index % 32)) block)))
             → IfOk result (λ (inode : Option Inode). inode ≡ inode_at s inodes number)
         decoded_inode (Ok inode) decoded = decoded ∙ ap inode_of (its_record block same) ∙ its_inode is
         decoded_inode (Err fault) decoded = tt
 
-        pub decoded_read : (result : Result (Option Inode) TreeFault) → block_lies_on sectors s inodes (place / 32) ≡ true
-            → OnOk result (SpellsRecord limits (take 128 (drop (128 * (place % 32)) block))) → OnOk result (CanReadRecord limits sectors s inodes number)
+        pub decoded_read : (result : Result (Option Inode) TreeFault) → block_lies_on sectors s inodes (index / 32) ≡ true
+            → OnOk result (SpellsRecord limits (take 128 (drop (128 * (index % 32)) block))) → OnOk result (CanReadRecord limits sectors s inodes number)
         decoded_read (Ok inode) lies spelled = can_read lies (subst (λ (b : List ℕ). SpellsRecord limits b) (its_record block same) spelled)
         decoded_read (Err fault) lies spelled = tt
 
         pub decoded_damaged : (result : Result (Option Inode) TreeFault)
-            → IfErr result (λ (fault : TreeFault). (fault ≡ Damaged) × (SpellsRecord limits (take 128 (drop (128 * (place % 32)) block)) → ⊥))
+            → IfErr result (λ (fault : TreeFault). (fault ≡ Damaged) × (SpellsRecord limits (take 128 (drop (128 * (index % 32)) block)) → ⊥))
             → result ≡ Err Damaged → CanReadRecord limits sectors s inodes number → ⊥
         decoded_damaged (Ok inode) none damaged can = absurd cc
         decoded_damaged (Err fault) none damaged can = none.1 (subst (λ (b : List ℕ). SpellsRecord limits b) (sym (its_record block same)) (can.spelled is))

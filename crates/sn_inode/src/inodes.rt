@@ -70,13 +70,13 @@ pub fn get<D: Device>(
     if !is_number(file, number) {
         return Ok(None);
     }
-    let place = u64::from(number);
-    if !fetch_data(blocks, file, place / RECORDS_PER_BLOCK)? {
+    let index = u64::from(number);
+    if !fetch_data(blocks, file, index / RECORDS_PER_BLOCK)? {
         return Ok(None);
     }
     decoded(
         limits,
         blocks.fetched(),
-        (place % RECORDS_PER_BLOCK) as usize,
+        (index % RECORDS_PER_BLOCK) as usize,
     )
 }

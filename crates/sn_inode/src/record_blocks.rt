@@ -35,7 +35,7 @@ fn block_of(number: u16) -> u64
 }
 
 // Which of the 32 records of its block it is.
-fn place_of(number: u16) -> usize
+fn index_in_block(number: u16) -> usize
     ensures value { result ≡ number % 32 }
     ensures most { result < 32 }
 {
@@ -174,9 +174,9 @@ fn store_record<D: Device>(
     ensures counts { CountsPlan result (D.status (device_of blocks.old)) (D.status (device_of blocks.new)) }
 {
     let index = block_of(stored.number);
-    let place = place_of(stored.number);
+    let within = index_in_block(stored.number);
     let mut bytes = open_block(alloc, blocks, file, dirty, index)?;
-    put_record(limits, &stored.record, &mut bytes, place);
+    put_record(limits, &stored.record, &mut bytes, within);
     dirty.reserve(1)?;
     dirty.push_back_reserved(DirtyBlock { index, bytes });
     Ok(())

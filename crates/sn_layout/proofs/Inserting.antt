@@ -1,9 +1,9 @@
--- A snapshot put in the place of its bit.
+-- A snapshot put at the index of its bit.
 use Rattle.std.proofs.Common.{◌≡◌, ℕ, suc, ◌<◌, Bool, true, false, ◌&&◌, cond, not, List, [], ◌∷◌, refl, ap, arith}
 use Rattle.std.specs.Prelude.{insert, nat_lt, nat_le, ◌==◌}
 use Rattle.std.proofs.lemmas.Bool.{lt-ltb, leb-true, leb-false, eqb-false}
 use Rattle.sn_layout.specs.declared.snapshot.Snapshot.{Snapshot}
-use Rattle.sn_layout.specs.Snapshot.{are_rising, place_of, with_snapshot, has_no_bit}
+use Rattle.sn_layout.specs.Snapshot.{are_rising, index_of, with_snapshot, has_no_bit}
 
 both : (a b : Bool) → (a && b) ≡ true → (a ≡ true) × (b ≡ true)
 both true b e = (refl, e)
@@ -16,12 +16,12 @@ not_true : (b : Bool) → not b ≡ true → b ≡ false
 not_true true e = absurd cc
 not_true false e = refl
 
-placed_first : (b : Bool) (s first : Snapshot) (more : List Snapshot) → insert more (place_of s.bit more) s ≡ with_snapshot s more
-    → insert (first ∷ more) (cond b (suc (place_of s.bit more)) 0) s ≡ cond b (first ∷ with_snapshot s more) (s ∷ first ∷ more)
+placed_first : (b : Bool) (s first : Snapshot) (more : List Snapshot) → insert more (index_of s.bit more) s ≡ with_snapshot s more
+    → insert (first ∷ more) (cond b (suc (index_of s.bit more)) 0) s ≡ cond b (first ∷ with_snapshot s more) (s ∷ first ∷ more)
 placed_first true s first more e = ap (λ (l : List Snapshot). first ∷ l) e
 placed_first false s first more e = refl
 
-pub placed : (s : Snapshot) (list : List Snapshot) → insert list (place_of s.bit list) s ≡ with_snapshot s list
+pub placed : (s : Snapshot) (list : List Snapshot) → insert list (index_of s.bit list) s ≡ with_snapshot s list
 placed s [] = refl
 placed s (first ∷ more) = placed_first (nat_le first.bit s.bit) s first more (placed s more)
 

@@ -40,9 +40,9 @@ are_distinct [] = true
 are_distinct (s ∷ more) = not (list_any (λ other. bytes_eq s.name other.name) more) && are_distinct more
 
 -- how many stand at the front whose bits are not above a bit
-abbrev pub place_of : ℕ → List Snapshot → ℕ
-place_of bit [] = 0
-place_of bit (s ∷ more) = if nat_le s.bit bit then suc (place_of bit more) else 0
+abbrev pub index_of : ℕ → List Snapshot → ℕ
+index_of bit [] = 0
+index_of bit (s ∷ more) = if nat_le s.bit bit then suc (index_of bit more) else 0
 
 -- one more, behind those at the front whose bits are not above its own
 abbrev pub with_snapshot : Snapshot → List Snapshot → List Snapshot

@@ -69,7 +69,7 @@ impl Pointers {
         self.numbers[index] = pointer;
     }
 
-    /// Writes them at a place of a block, and answers the place after them.
+    /// Writes them at an offset of a block, and answers the offset after them.
     pub fn put(&self, block: &mut [u8], at: usize) -> usize
         requires { at + 64 ≤ length block.old }
         ensures bytes { Puts block.old block.new at result (numbers_bytes 4 self.now) }

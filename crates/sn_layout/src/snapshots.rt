@@ -2,7 +2,7 @@ ghost use Rattle.std.specs.Prelude.{◌≡◌, ℕ, ◌+◌, ◌-◌, ◌*◌, �
 ghost use Rattle.std.specs.List.{AllByRecursion, list_any};
 ghost use Rattle.std.specs.Str.{bytes_eq};
 ghost use Rattle.sn_bytes.specs.Bytes.{Puts, zeros};
-ghost use Rattle.sn_layout.specs.Snapshot.{IsSnapshot, snapshots_bytes, place_of, with_snapshot, has_no_bit};
+ghost use Rattle.sn_layout.specs.Snapshot.{IsSnapshot, snapshots_bytes, index_of, with_snapshot, has_no_bit};
 ghost use Rattle.sn_layout.specs.Snapshot as lists;
 ghost use Rattle.sn_layout.specs.declared.snapshot.Snapshot.{Snapshot as TheSnapshot};
 
@@ -67,8 +67,8 @@ impl Snapshots {
         ensures rising { IsTrue (lists.are_rising 0 self.old) → 0 < snapshot.bit → IsTrue (has_no_bit snapshot.bit self.old)
             → IsTrue (lists.are_rising 0 self.new) }
     {
-        let place = place_of(self.as_slice(), snapshot.bit);
-        self.list.insert(place, snapshot);
+        let index = index_of(self.as_slice(), snapshot.bit);
+        self.list.insert(index, snapshot);
     }
 
     /// A copy, which takes no memory.
@@ -113,8 +113,8 @@ impl Default for Snapshots {
     }
 }
 
-fn place_of(snapshots: &[Snapshot], bit: u8) -> usize
-    ensures count { result ≡ place_of bit snapshots.now }
+fn index_of(snapshots: &[Snapshot], bit: u8) -> usize
+    ensures count { result ≡ index_of bit snapshots.now }
     ensures within { result ≤ length snapshots.now }
 {
     let mut count = 0;
@@ -172,7 +172,7 @@ fn are_distinct(snapshots: &[Snapshot]) -> bool
     true
 }
 
-/// Writes them one after the other at a place of a block, and answers the place after them.
+/// Writes them one after the other at an offset of a block, and answers the offset after them.
 pub(crate) fn put_snapshots(block: &mut [u8], at: usize, snapshots: &[Snapshot]) -> usize
     requires { at + 112 * length snapshots.now ≤ length block.old }
     ensures bytes { Puts block.old block.new at result (snapshots_bytes snapshots.now) }

@@ -60,7 +60,7 @@ impl BlockTree {
         self.pointers.as_slice();
     }
 
-    /// Writes it at a place of a block, and answers the place after it.
+    /// Writes it at an offset of a block, and answers the offset after it.
     pub fn put(&self, block: &mut [u8], at: usize) -> usize
         requires { at + 72 ≤ length block.old }
         ensures bytes { Puts block.old block.new at result (tree_bytes self.now) }

@@ -139,17 +139,17 @@ fn put_link(block: &mut [u8], at: usize, name: &[u8], number: u16) -> usize
 
 // A link among others: its number, and which bytes it is.
 #[derive(Clone, Copy)]
-struct Place {
+struct LinkSpan {
     number: u16,
     start: usize,
     end: usize,
 }
 
-fn place_of(links: &[u8], name: &[u8]) -> Option<Place>
+fn span_of(links: &[u8], name: &[u8]) -> Option<LinkSpan>
     requires { AreLinkBytes links.now }
-    ensures found { IfSome result (λ place. number_of name.now (links_of links.now) ≡ Some place.number) }
-    ensures within { IfSome result (λ place. (place.start ≤ place.end) × (place.end ≤ length links.now)) }
-    ensures others { IfSome result (λ place. links_bytes (without name.now (links_of links.now)) ≡ take place.start links.now ++ drop place.end links.now) }
+    ensures found { IfSome result (λ span. number_of name.now (links_of links.now) ≡ Some span.number) }
+    ensures within { IfSome result (λ span. (span.start ≤ span.end) × (span.end ≤ length links.now)) }
+    ensures others { IfSome result (λ span. links_bytes (without name.now (links_of links.now)) ≡ take span.start links.now ++ drop span.end links.now) }
     ensures none { IsNone result → (number_of name.now (links_of links.now) ≡ None) × (without name.now (links_of links.now) ≡ links_of links.now) }
 {
     let mut reader = Reader::new(links);
@@ -157,7 +157,7 @@ fn place_of(links: &[u8], name: &[u8]) -> Option<Place>
         let start = links.len() - reader.remaining();
         let link = next_link(&mut reader);
         if link.name == name {
-            return Some(Place {
+            return Some(LinkSpan {
                 number: link.number,
                 start,
                 end: links.len() - reader.remaining(),
@@ -284,9 +284,9 @@ impl<'a> DirectoryBlock<'a> {
         ensures still { IsDirectoryBlock block.new }
     {
         let size = links_size(&block[..]);
-        let place = place_of(&block[..size], name)?;
-        take_out(block, place.start, place.end, size);
-        Some(place.number)
+        let span = span_of(&block[..size], name)?;
+        take_out(block, span.start, span.end, size);
+        Some(span.number)
     }
 }
 

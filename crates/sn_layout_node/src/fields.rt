@@ -67,7 +67,7 @@ pub fn special_bits_of(number: u8) -> Option<SpecialBits>
     })
 }
 
-/// Writes a kind, and answers the place after it.
+/// Writes a kind, and answers the offset after it.
 pub fn put_kind(block: &mut [u8], at: usize, kind: Kind) -> usize
     requires { at + 1 ≤ length block.old }
     ensures { Puts block.old block.new at result (kind_number kind ∷ []) }
@@ -86,7 +86,7 @@ pub fn read_kind(reader: &mut Reader<'_>) -> Option<Kind>
     kind_of(number)
 }
 
-/// Writes S bits, and answers the place after them.
+/// Writes S bits, and answers the offset after them.
 pub fn put_special_bits(block: &mut [u8], at: usize, bits: SpecialBits) -> usize
     requires { at + 1 ≤ length block.old }
     ensures { Puts block.old block.new at result (flags_number bits.set_gid bits.sticky ∷ []) }

@@ -10,7 +10,7 @@ ghost use Rattle.sn_layout_node.specs.Directory.{name_bytes};
 use sn_layout::{Reader, put_bytes, put_u8};
 use sn_limits::begins_with_name;
 
-/// Writes a name with its length, and answers the place after it.
+/// Writes a name with its length, and answers the offset after it.
 pub fn put_name(block: &mut [u8], at: usize, name: &[u8]) -> usize
     requires name { IsTrue (is_name name.now) }
     requires room { at + 1 + length name.now ≤ length block.old }

@@ -1,11 +1,11 @@
 -- An append, from the writes that it makes.
 use Rattle.std.proofs.Common.{◌≡◌, ◌⊎◌, inl, inr, ⊎_elim, ℕ, ◌+◌, ◌<◌, ◌≤◌, List, [], ◌∷◌, ◌++◌, length, slice_index, slice_set, Result, Ok, Err, refl, sym, ◌∙◌, ap, subst, arith}
 use Rattle.std.proofs.lemmas.List.{get_or-set_same, get_or-set_other, length-set}
-use Rattle.sn_device.specs.Sectors.{Contents, AreSectors, AgreesOutside, Single, Run, sector_at}
+use Rattle.sn_device.specs.Sectors.{Contents, AreSectors, AgreesOutside, Single, Stretch, sector_at}
 use Rattle.sn_device.specs.Disk.{Disk, Always, IsSynced, reads}
 use Rattle.sn_device.specs.Crash.{Touches, LeavesOnly}
 use Rattle.sn_device.proofs.CrashLemmas.{LeavesOnly-touched, LeavesOnly-now, LeavesOnly-weaker, Touches-join, Touches-within, Always-synced, Always-reads}
-use Rattle.sn_device.proofs.SectorLemmas.{Run-within, Run-single}
+use Rattle.sn_device.proofs.SectorLemmas.{Stretch-within, Stretch-single}
 use Rattle.sn_layout.specs.Gate.{gate_bytes}
 use Rattle.sn_layout.specs.declared.gate.Gate.TheVariants.{Open, Closed}
 use Rattle.sn_model.specs.declared.change.Change.{Change}
@@ -54,18 +54,18 @@ module _ (at : LogPosition) (change : Change) (spelled : IsSpelled change) (room
   gate = base + at.place
 
   -- the sectors that are written behind the gate are of the half, apart from what stands there
-  behind_within : (old new : Disk) → Touches (Run (gate + 1) (body_sectors payload + 1)) old new → Touches (InHalf base) old new
-  behind_within old new touched = Touches-within (Run (gate + 1) (body_sectors payload + 1)) (InHalf base) old new (Run-within (gate + 1) (body_sectors payload + 1) base 256 (omega arith) (omega (arith, room))) touched
+  behind_within : (old new : Disk) → Touches (Stretch (gate + 1) (body_sectors payload + 1)) old new → Touches (InHalf base) old new
+  behind_within old new touched = Touches-within (Stretch (gate + 1) (body_sectors payload + 1)) (InHalf base) old new (Stretch-within (gate + 1) (body_sectors payload + 1) base 256 (omega arith) (omega (arith, room))) touched
 
-  behind_kept : (changes : List Change) (old new : Disk) → AreSectors (reads old) → Always old (IsReadyAt at changes) → Touches (Run (gate + 1) (body_sectors payload + 1)) old new → LeavesOnly old new (IsReadyAt at changes)
+  behind_kept : (changes : List Change) (old new : Disk) → AreSectors (reads old) → Always old (IsReadyAt at changes) → Touches (Stretch (gate + 1) (body_sectors payload + 1)) old new → LeavesOnly old new (IsReadyAt at changes)
   behind_kept changes old new whole before touched =
-      LeavesOnly-touched (Run (gate + 1) (body_sectors payload + 1)) (Run base (at.place + 1)) (IsReadyAt at changes)
+      LeavesOnly-touched (Stretch (gate + 1) (body_sectors payload + 1)) (Stretch base (at.place + 1)) (IsReadyAt at changes)
       (λ c d whole_c whole_d agrees is. record { count = is.count; ready = ready-same c d base at.epoch at.place (payloads_of changes) (λ i from to. agrees.same i (from, to)) is.ready })
       (λ i far near. omega (arith, far.0, near.1))
       old new whole before touched
 
   -- the body or the next gate failed
-  pub append-failed : {T E : Type 0} (e : E) (old new : Disk) → AreSectors (reads old) → Touches (Run (gate + 1) (body_sectors payload + 1)) old new → Appends {T = T} at change (Err e) old new
+  pub append-failed : {T E : Type 0} (e : E) (old new : Disk) → AreSectors (reads old) → Touches (Stretch (gate + 1) (body_sectors payload + 1)) old new → Appends {T = T} at change (Err e) old new
   append-failed e old new whole touched = record {
     touched = behind_within old new touched;
     any_moment = λ changes before. LeavesOnly-weaker old new (IsReadyAt at changes) _ (λ c ready. inl ready) (behind_kept changes old new whole before touched);
@@ -76,7 +76,7 @@ module _ (at : LogPosition) (change : Change) (spelled : IsSpelled change) (room
   }
 
   module _ (bytes : List ℕ) (is : bytes ≡ body_bytes at.epoch at.count payload) (fits : (1 ≤ length payload) × (length payload ≤ 65547)) (old mid new : Disk) (whole : AreSectors (reads old)) (whole_mid : AreSectors (reads mid))
-      (inside : gate < length (reads mid)) (touched : Touches (Run (gate + 1) (body_sectors payload + 1)) old mid) (body : bytes_at (reads mid) (gate + 1) (body_sectors payload) ≡ bytes)
+      (inside : gate < length (reads mid)) (touched : Touches (Stretch (gate + 1) (body_sectors payload + 1)) old mid) (body : bytes_at (reads mid) (gate + 1) (body_sectors payload) ≡ bytes)
       (shut : sector_at (reads mid) (gate + 1 + body_sectors payload) ≡ gate_bytes Closed) (synced : IsSynced mid) where
     has_record : HasRecord (reads mid) base at.epoch at.place at.count payload
     has_record = record { least = fits.0; most = fits.1; room = room; bytes = body ∙ is }
@@ -94,7 +94,7 @@ module _ (at : LogPosition) (change : Change) (spelled : IsSpelled change) (room
     module _ {T E : Type 0} (r : Result T E) (opening : WritesSynced gate (gate_bytes Open) r mid new) where
       all_touched : Touches (InHalf base) old new
       all_touched =
-          Touches-join (InHalf base) old mid new (behind_within old mid touched) (Touches-within (Single gate) (InHalf base) mid new (Run-single base 256 gate (omega arith, omega (arith, room))) opening.touched)
+          Touches-join (InHalf base) old mid new (behind_within old mid touched) (Touches-within (Single gate) (InHalf base) mid new (Stretch-single base 256 gate (omega arith, omega (arith, room))) opening.touched)
 
       module _ (changes : List Change) (before : Always old (IsReadyAt at changes)) where
         count : at.count ≡ length changes
@@ -137,9 +137,9 @@ module _ (at : LogPosition) (change : Change) (spelled : IsSpelled change) (room
       }
 
   -- the same, where the gate's sector and the number of sectors are numbers of their own
-  pub append-failed-at : {T E : Type 0} (e : E) (g n : ℕ) (old new : Disk) → g ≡ gate → n ≡ body_sectors payload → AreSectors (reads old) → Touches (Run (g + 1) (n + 1)) old new → Appends {T = T} at change (Err e) old new
+  pub append-failed-at : {T E : Type 0} (e : E) (g n : ℕ) (old new : Disk) → g ≡ gate → n ≡ body_sectors payload → AreSectors (reads old) → Touches (Stretch (g + 1) (n + 1)) old new → Appends {T = T} at change (Err e) old new
   append-failed-at e g n old new here long whole touched =
-      append-failed e old new whole (subst (λ m. Touches (Run (gate + 1) (m + 1)) old new) long (subst (λ x. Touches (Run (x + 1) (n + 1)) old new) here touched))
+      append-failed e old new whole (subst (λ m. Touches (Stretch (gate + 1) (m + 1)) old new) long (subst (λ x. Touches (Stretch (x + 1) (n + 1)) old new) here touched))
 
   pub append-done-at : {T E : Type 0} (g n : ℕ) (bytes sector : List ℕ) (r : Result T E) (old mid new : Disk) → g ≡ gate → n ≡ body_sectors payload → (1 ≤ length payload) × (length payload ≤ 65547)
       → bytes ≡ body_bytes at.epoch at.count payload → AreSectors (reads old) → AreSectors (reads mid) → g < length (reads mid) → {U V : Type 0} {x : U} → WritesBehind {T = U} {E = V} g n bytes (Ok x) old mid

@@ -1,4 +1,4 @@
--- Sectors within blocks, and runs of sectors that are read.
+-- Sectors within blocks, and stretches of sectors that are read.
 use Rattle.std.proofs.Common.{◌≡◌, ℕ, suc, ◌+◌, ◌-◌, ◌*◌, ◌/◌, ◌%◌, ◌<◌, ◌≤◌, List, ◌++◌, length, take, drop, sym, ◌∙◌, ap, arith}
 use Rattle.std.proofs.lemmas.List.{take_at, drop_at}
 use Rattle.std.proofs.lemmas.Slice.{take-put_mid}
@@ -8,12 +8,12 @@ use Rattle.sn_ondisk.specs.Blocks.{bytes_at, block_at}
 use Rattle.sn_ondisk.proofs.BlockLemmas.{bytes_at-more, length-bytes_at}
 use Rattle.sn_block.proofs.BlockLemmas.{bytes_at-push}
 
--- the front of a run of sectors is its first
+-- the front of a stretch of sectors is its first
 pub first-sector : (c : Contents) (at n : ℕ) → length (sector_at c at) ≡ 512 → take 512 (bytes_at c at (suc n)) ≡ sector_at c at
 unfolding bytes_at
 first-sector c at n long = take_at (sector_at c at) (bytes_at c (at + 1) n) 512 long
 
--- one sector of a run
+-- one sector of a stretch
 pub one-sector : (c : Contents) (at n k : ℕ) → AreSectors c → at + n ≤ length c → k < n → take 512 (drop (512 * k) (bytes_at c at n)) ≡ sector_at c (at + k)
 one-sector c at n k whole within before =
     let split : n ≡ k + suc (n - k - 1) = omega (arith, before) in

@@ -1,6 +1,6 @@
 -- What an append does to a disk.
 use Rattle.std.specs.Prelude.{◌≡◌, ◌⊎◌, ℕ, ◌+◌, List, [], ◌∷◌, ◌++◌, Result, OnOk}
-use Rattle.sn_device.specs.Sectors.{Run, sector_at}
+use Rattle.sn_device.specs.Sectors.{Stretch, sector_at}
 use Rattle.sn_device.specs.Disk.{Disk, Always, IsSynced, reads}
 use Rattle.sn_device.specs.Crash.{Touches, LeavesOnly}
 use Rattle.sn_layout.specs.Gate.{gate_bytes}
@@ -23,7 +23,7 @@ pub record Appends {T E : Type 0} (at : LogPosition) (change : Change) (result :
 
 -- A body of n sectors is written behind the gate in the sector `at`, and the gate behind the body closed. Only these sectors were touched. At `Ok` reads give them so, and nothing is unsynced.
 pub record WritesBehind {T E : Type 0} (at n : ℕ) (bytes : List ℕ) (result : Result T E) (old new : Disk) : Type 0 where
-  pub touched : Touches (Run (at + 1) (n + 1)) old new
+  pub touched : Touches (Stretch (at + 1) (n + 1)) old new
   pub body : OnOk result (bytes_at (reads new) (at + 1) n ≡ bytes)
   pub shut : OnOk result (sector_at (reads new) (at + 1 + n) ≡ gate_bytes Closed)
   pub synced : OnOk result (IsSynced new)

@@ -27,7 +27,7 @@ fn write_behind<D: Device>(blocks: &mut Blocks<D>, at: u64, body: &[u8]) -> Resu
     // It bounds the numbers of the sectors.
     let _sectors = blocks.sectors();
     let next = at + 1 + (body.len() / SECTOR_SIZE) as u64;
-    blocks.write_run(at + 1, body)?;
+    blocks.write_stretch(at + 1, body)?;
     blocks.write_sector(next, &sector_of(Gate::Closed))?;
     blocks.sync()
 }

@@ -54,9 +54,9 @@ bit_at-with_bit_other n k bit i lt ne =
     ∙ other_bit (n / 2 ^ k / 2) bit (bit_at n k) k (n % 2 ^ k) i lt (bit_at-lt n k) (mod_below n (2 ^ k) (pow_pos k)) ne
     ∙ ap (λ m. bit_at m i) (split_at_bit n k)
 
--- a bit in place k
-bit_in_place : (b k : ℕ) → b < 2 → bit_at (b * 2 ^ k) k ≡ b
-bit_in_place b k lt = ap (λ m. m % 2) (shl-shr b k) ∙ mod-eq_of_lt lt
+-- a bit that is shifted by k
+shifted_bit : (b k : ℕ) → b < 2 → bit_at (b * 2 ^ k) k ≡ b
+shifted_bit b k lt = ap (λ m. m % 2) (shl-shr b k) ∙ mod-eq_of_lt lt
 
 bit_elsewhere : (b k i : ℕ) → b < 2 → i ≢ k → bit_at (b * 2 ^ k) i ≡ 0
 bit_elsewhere b k i lt ne =
@@ -87,7 +87,7 @@ bit_put word k b fits within lt =
     ∙ same_from_bits (bit_or kept (b * 2 ^ k)) (with_bit word k b) (λ i. elim (cases_eq i k) [
       | inl e ↦
           let cleared = bit_at_clear_same w32 word k within in
-          let placed = bit_in_place b k lt in
+          let placed = shifted_bit b k lt in
           let put = bit_at_or kept (b * 2 ^ k) k in
           let at_k : bit_at (bit_or kept (b * 2 ^ k)) k ≡ b = omega arith in
           ap (bit_at (bit_or kept (b * 2 ^ k))) e ∙ at_k ∙ sym (bit_at-with_bit_same word k b lt) ∙ ap (bit_at (with_bit word k b)) (sym e)

@@ -152,6 +152,17 @@ impl Map {
         }
     }
 
+    /// Makes bit `to` of each word what its bit `from` is: of two roots the one reaches what the other
+    /// reaches.
+    pub fn copy_bit(&mut self, from: u32, to: u32)
+        requires from { from < 32 }
+        requires to { to < 32 }
+        ensures words { self.new ≡ map (with_bit_copied from to) self.old }
+        ensures bits { CopiesBit from to self.old self.new }
+    {
+        lanes::copy_bit(&mut self.words, from, to);
+    }
+
     /// Makes bit k of each word what its bit 0 is: the snapshot with bit k reaches what the live
     /// file system reaches.
     pub fn copy_bit0_to(&mut self, k: u32)
@@ -159,7 +170,7 @@ impl Map {
         ensures words { self.new ≡ map (with_bit_copied 0 k) self.old }
         ensures bits { CopiesBit 0 k self.old self.new }
     {
-        lanes::copy_bit(&mut self.words, 0, k);
+        self.copy_bit(0, k);
     }
 
     /// Makes bit 0 of each word what its bit k is: the live file system reaches what the snapshot
@@ -169,7 +180,7 @@ impl Map {
         ensures words { self.new ≡ map (with_bit_copied k 0) self.old }
         ensures bits { CopiesBit k 0 self.old self.new }
     {
-        lanes::copy_bit(&mut self.words, k, 0);
+        self.copy_bit(k, 0);
     }
 
     /// Makes bit k of each word 0: no block is reached by the snapshot with bit k, and a block that

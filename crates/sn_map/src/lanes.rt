@@ -81,7 +81,7 @@ pub(crate) fn clear_bit(words: &mut [u32], k: u32)
     plain::clear_bit(&mut words[at..], k);
 }
 
-// Bit i says whether word i from a place on is 0.
+// Bit i says whether word i from an index on is 0.
 #[inline(always)]
 fn free_lanes(words: &[u32], at: usize) -> u64
     requires { at + SEARCHED ≤ length words.now }

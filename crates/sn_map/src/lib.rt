@@ -7,7 +7,7 @@
 //!
 //! A `Map` is seen as the list of its words, one for each block. Each pass over the words has as its
 //! contract the list function that it computes: `count_free` counts the words that are 0, `next_free`
-//! is the first place of such a word, and `copy_bit0_to`, `copy_bit_to_0` and `clear_bit` map one bit
+//! is the first index of such a word, and `copy_bit` with its two cases for the live bit, and `clear_bit`, map one bit
 //! of each word. `specs/Free.antt` says what is free, and `specs/Bits.antt` what becomes of a bit.
 //! `block_map` has the type, `lanes` the passes, a vector of words at a time, and `plain` the same
 //! passes a word at a time, to which `lanes` leaves the last words.

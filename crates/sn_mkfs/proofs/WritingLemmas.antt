@@ -3,7 +3,7 @@ use Rattle.std.proofs.Common.{◌≡◌, ◌⊎◌, inl, inr, ⊎_elim, ℕ, zer
 use Rattle.std.specs.Prelude.{slice_index, slice_set}
 use Rattle.std.proofs.lemmas.Grind.{flat_map-append}
 use Rattle.std.proofs.lemmas.List.{append-nil, drop-replicate, drop_at, length-replicate, replicate-append-replicate, set_split, take-replicate, take_at}
-use Rattle.sn_device.specs.Sectors.{Contents, AreSectors, AgreesOutside, Run, sector_at}
+use Rattle.sn_device.specs.Sectors.{Contents, AreSectors, AgreesOutside, Stretch, sector_at}
 use Rattle.sn_layout.specs.Bytes.{AreNumbers, number_bytes, numbers_bytes, zeros}
 use Rattle.sn_layout.specs.MapCopy.{map_block_bytes}
 use Rattle.sn_layout.specs.Geometry.{IsDiskSize, half_of_epoch, map_blocks, start_of}
@@ -94,9 +94,9 @@ module _ (c : Contents) (total : ℕ) (whole : AreSectors c) (long : total ≤ l
 module _ (n total : ℕ) (size : IsDiskSize n) (covers : total ≡ 8 * start_of n Data)
     (c1 c2 c3 c4 : Contents) (whole : AreSectors c1) (long : 8 * n ≤ length c1)
     (blank : bytes_at c1 0 total ≡ replicate (512 * total) 0)
-    (to2 : AgreesOutside (Run 0 8) c1 c2) (superblock : bytes_at c2 0 8 ≡ superblock_bytes (record { geometry = n }))
-    (to3 : AgreesOutside (Run (8 * start_of n Data) 8) c2 c3) (inodes : bytes_at c3 (8 * start_of n Data) 8 ≡ inode_block)
-    (to4 : AgreesOutside (Run (8 * marked_block n) 8) c3 c4) (map : bytes_at c4 (8 * marked_block n) 8 ≡ marked_bytes n) where
+    (to2 : AgreesOutside (Stretch 0 8) c1 c2) (superblock : bytes_at c2 0 8 ≡ superblock_bytes (record { geometry = n }))
+    (to3 : AgreesOutside (Stretch (8 * start_of n Data) 8) c2 c3) (inodes : bytes_at c3 (8 * start_of n Data) 8 ≡ inode_block)
+    (to4 : AgreesOutside (Stretch (8 * marked_block n) 8) c3 c4) (map : bytes_at c4 (8 * marked_block n) 8 ≡ marked_bytes n) where
   all_there : total ≤ length c1
   all_there = omega (arith, covers, long, size.least)
 
@@ -196,7 +196,7 @@ prepared_kept n c d size agrees before = record {
 }
   where
     elsewhere : (i : ℕ) → (i ≡ 24 → ⊥) → (8 ≤ i → 16 ≤ i) → sector_at d i ≡ sector_at c i
-    elsewhere i gate body = agrees.same i (λ is. ⊎_elim (λ (same : i ≡ 24). gate same) (λ (within : Run 8 8 i). absurd (omega (arith, within.0, within.1, body within.0))) is)
+    elsewhere i gate body = agrees.same i (λ is. ⊎_elim (λ (same : i ≡ 24). gate same) (λ (within : Stretch 8 8 i). absurd (omega (arith, within.0, within.1, body within.0))) is)
 
     run : (at k : ℕ) → (at + k ≤ 8) ⊎ (32 ≤ at) → bytes_at d at k ≡ bytes_at c at k
     run at k apart = bytes_at-same c d at k (λ i from to. ⊎_elim

@@ -5,7 +5,7 @@ ghost use Rattle.sn_layout.specs.Geometry.{start_of};
 ghost use Rattle.sn_layout.specs.Superblock.{superblock_bytes};
 ghost use Rattle.sn_layout.specs.declared.geometry.Area.TheVariants.{Data};
 ghost use Rattle.sn_block.specs.Counts.{CountsCalls};
-ghost use Rattle.sn_block.specs.Effects.{WritesRun};
+ghost use Rattle.sn_block.specs.Effects.{WritesStretch};
 ghost use Rattle.sn_block.specs.Lending.{device_of};
 ghost use Rattle.sn_mkfs.specs.Writing.{format_writes, marked_block, marked_bytes};
 ghost use Rattle.sn_mkfs.specs.Fresh.{IsFresh, IsLaidOut, inode_block as the_inode_block};
@@ -53,7 +53,7 @@ fn lay_out<D: Device>(blocks: &mut Blocks<D>, geometry: Geometry) -> Result<(), 
 fn write_superblock<D: Device>(blocks: &mut Blocks<D>, geometry: Geometry) -> Result<(), Fault>
     requires room { 8 * geometry ≤ (D.status (device_of blocks.old)).sectors }
     ensures disk { IsTrue D.tells_bytes
-        → WritesRun 0 8 (superblock_bytes (record { geometry = geometry })) result
+        → WritesStretch 0 8 (superblock_bytes (record { geometry = geometry })) result
         (D.disk (device_of blocks.old)) (D.disk (device_of blocks.new)) }
     ensures counts { CountsCalls 8 0 result
         (D.status (device_of blocks.old)) (D.status (device_of blocks.new)) }
@@ -66,7 +66,7 @@ fn write_superblock<D: Device>(blocks: &mut Blocks<D>, geometry: Geometry) -> Re
 // Writes the one block of the inode file.
 fn write_inodes<D: Device>(blocks: &mut Blocks<D>, geometry: Geometry) -> Result<(), Fault>
     requires room { 8 * geometry ≤ (D.status (device_of blocks.old)).sectors }
-    ensures disk { IsTrue D.tells_bytes → WritesRun (8 * start_of geometry Data) 8 the_inode_block result
+    ensures disk { IsTrue D.tells_bytes → WritesStretch (8 * start_of geometry Data) 8 the_inode_block result
         (D.disk (device_of blocks.old)) (D.disk (device_of blocks.new)) }
     ensures counts { CountsCalls 8 0 result
         (D.status (device_of blocks.old)) (D.status (device_of blocks.new)) }
@@ -79,7 +79,7 @@ fn write_inodes<D: Device>(blocks: &mut Blocks<D>, geometry: Geometry) -> Result
 fn write_map<D: Device>(blocks: &mut Blocks<D>, geometry: Geometry) -> Result<(), Fault>
     requires room { 8 * geometry ≤ (D.status (device_of blocks.old)).sectors }
     ensures disk { IsTrue D.tells_bytes
-        → WritesRun (8 * marked_block geometry) 8 (marked_bytes geometry) result
+        → WritesStretch (8 * marked_block geometry) 8 (marked_bytes geometry) result
         (D.disk (device_of blocks.old)) (D.disk (device_of blocks.new)) }
     ensures counts { CountsCalls 8 0 result
         (D.status (device_of blocks.old)) (D.status (device_of blocks.new)) }

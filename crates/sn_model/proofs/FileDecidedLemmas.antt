@@ -20,7 +20,7 @@ use Rattle.sn_model.specs.Changes.{cut, is_file, written}
 use Rattle.sn_model.specs.Descriptors.{Descriptors, descriptor_at, for_reading, for_writing, found as found_in, is_offset, readable_at, writable_at}
 use Rattle.sn_model.specs.FileCalls.{bytes_argument, bytes_of, close_outcome, count_argument, cuts, file_charge, ftruncate_outcome, is_size, logout_outcome, open_bytes, read_outcome, reads, seek_outcome, write_offset, write_outcome, write_some, writes}
 use Rattle.sn_model.specs.NameTree.{HasKind, IsTree}
-use Rattle.sn_model.specs.Outcomes.{Closes, LogsOut, Moves, Outcome, tells, turns}
+use Rattle.sn_model.specs.Outcomes.{Closes, LogsOut, Moves, Outcome, tells, asks}
 use Rattle.sn_model.specs.Tests.{plain}
 use Rattle.sn_model.specs.Tree.{Node, Tree}
 use Rattle.sn_model.specs.World.{Descriptor, World, tree_in, trees_of}
@@ -136,14 +136,14 @@ module _ (limits : Limits) (world : World) (session : ℕ) where
   pub close_is : (fd : ℕ) (o : Outcome) → close_outcome world.descriptors session fd ≡ Ok o → Decides (call.Close fd) o
   unfolding close_outcome
   close_is fd o e =
-      let p = bind_ok (descriptor_at world.descriptors session fd) (λ _. ok (turns (Closes fd) reply.Done)) o e in
+      let p = bind_ok (descriptor_at world.descriptors session fd) (λ _. ok (asks (Closes fd) reply.Done)) o e in
       subst (Decides (call.Close fd)) (same_ok _ o p.2) (turned limits world session (call.Close fd) (Closes fd) reply.Done (λ r f. cc f) (λ f. cc f) (λ k w. tt))
 
   pub seek_is : (fd offset : ℕ) (o : Outcome) → seek_outcome limits world.descriptors session fd offset ≡ Ok o → Decides (call.Seek fd offset) o
   unfolding seek_outcome
   seek_is fd offset o e =
-      let p = bind_ok (descriptor_at world.descriptors session fd) (λ _. is_offset limits offset >>= (λ to. ok (turns (Moves fd to) (reply.Number to)))) o e in
-      let q = bind_ok (is_offset limits offset) (λ to. ok (turns (Moves fd to) (reply.Number to))) o p.2 in
+      let p = bind_ok (descriptor_at world.descriptors session fd) (λ _. is_offset limits offset >>= (λ to. ok (asks (Moves fd to) (reply.Number to)))) o e in
+      let q = bind_ok (is_offset limits offset) (λ to. ok (asks (Moves fd to) (reply.Number to))) o p.2 in
       subst (Decides (call.Seek fd offset)) (same_ok _ o q.2) (turned limits world session (call.Seek fd offset) (Moves fd q.0) (reply.Number q.0) (λ r f. cc f) (λ f. cc f) (λ k w. offset_is limits offset q.0 q.1))
 
   pub reads_is : (fd argument count : ℕ) (o : Outcome) → read_outcome world session fd count ≡ Ok o → Decides (call.Read fd argument) o

@@ -8,7 +8,7 @@ use Rattle.sn_model.specs.declared.reply.Refusal.{Refusal}
 use Rattle.sn_model.specs.declared.reply.Reply.TheVariants as reply
 use Rattle.sn_model.specs.Descriptors.{Descriptors, descriptor_at, for_reading, for_writing, found as found_in, is_offset, readable_at, writable_at}
 use Rattle.sn_model.specs.FileCalls.{close_outcome, cuts, ftruncate_outcome, is_size, open_bytes, read_outcome, reads, seek_outcome, write_offset, write_outcome, write_some, writes}
-use Rattle.sn_model.specs.Outcomes.{Closes, Moves, Outcome, tells, turns}
+use Rattle.sn_model.specs.Outcomes.{Closes, Moves, Outcome, tells, asks}
 use Rattle.sn_model.specs.World.{Descriptor, World}
 use Rattle.sn_model.proofs.DecisionLemmas.{ok}
 use Rattle.sn_model.proofs.OtherLemmas.{chain_other, plain_other, tested_other}
@@ -35,13 +35,13 @@ module _ (r : Refusal) (is : r.errno ≡ Eacces) where
 
 pub close_other : (table : Descriptors) (session fd : ℕ) (r : Refusal) → r.errno ≡ Eacces → close_outcome table session fd ≡ Err r → ⊥
 unfolding close_outcome
-close_other table session fd r is = chain_other (descriptor_at table session fd) (λ _. ok (turns (Closes fd) reply.Done)) r (at_other r is table session fd) (λ d e. never_refused _ r e)
+close_other table session fd r is = chain_other (descriptor_at table session fd) (λ _. ok (asks (Closes fd) reply.Done)) r (at_other r is table session fd) (λ d e. never_refused _ r e)
 
 pub seek_other : (limits : Limits) (table : Descriptors) (session fd offset : ℕ) (r : Refusal) → r.errno ≡ Eacces → seek_outcome limits table session fd offset ≡ Err r → ⊥
 unfolding seek_outcome
 seek_other limits table session fd offset r is =
-    chain_other (descriptor_at table session fd) (λ _. is_offset limits offset >>= (λ to. ok (turns (Moves fd to) (reply.Number to)))) r (at_other r is table session fd)
-    (λ d. chain_other (is_offset limits offset) (λ to. ok (turns (Moves fd to) (reply.Number to))) r (λ e. tested_other Einval (λ q. cc q) (nat_le offset limits.largest_file) offset r e is) (λ to e. never_refused _ r e))
+    chain_other (descriptor_at table session fd) (λ _. is_offset limits offset >>= (λ to. ok (asks (Moves fd to) (reply.Number to)))) r (at_other r is table session fd)
+    (λ d. chain_other (is_offset limits offset) (λ to. ok (asks (Moves fd to) (reply.Number to))) r (λ e. tested_other Einval (λ q. cc q) (nat_le offset limits.largest_file) offset r e is) (λ to e. never_refused _ r e))
 
 pub read_other : (world : World) (session fd count : ℕ) (r : Refusal) → r.errno ≡ Eacces → read_outcome world session fd count ≡ Err r → ⊥
 unfolding read_outcome

@@ -15,7 +15,7 @@ use Rattle.sn_model.specs.Charges.{IsPaidFor, charge_for}
 use Rattle.sn_model.specs.Descriptors.{next_descriptor}
 use Rattle.sn_model.specs.NameLaws.{changes_names}
 use Rattle.sn_model.specs.NameTree.{HasKind}
-use Rattle.sn_model.specs.Outcomes.{Pending, Nothing, Makes, Does, Caller, Stays, LogsIn, SetsUmask, LogsOut, Opens, OpensNew, Closes, Moves, Outcome, does, is_opening, tells, turns}
+use Rattle.sn_model.specs.Outcomes.{Pending, Nothing, Makes, Does, Caller, Stays, LogsIn, SetsUmask, LogsOut, Opens, OpensNew, Closes, Moves, Outcome, does, is_opening, tells, asks}
 use Rattle.sn_model.specs.Steps.{IsNumberFor, TakesMemory, changed}
 use Rattle.sn_model.specs.Tree.{Tree, least_unused}
 use Rattle.sn_model.specs.World.{World, tree_in, trees_of}
@@ -104,7 +104,7 @@ pub record IsDecided (limits : Limits) (world : World) (session : ℕ) (c : Call
 
 module _ (limits : Limits) (world : World) (session : ℕ) (c : Call) where
   -- a session or its descriptors change, and nothing else
-  pub turned : (caller : Caller) (answer : Reply) → IsAnswer answer → (is_opening caller ≡ true → TakesMemory c) → (IsCall c → IsWorld limits world → FitsCaller limits world session Nothing caller) → IsDecided limits world session c (turns caller answer)
+  pub turned : (caller : Caller) (answer : Reply) → IsAnswer answer → (is_opening caller ≡ true → TakesMemory c) → (IsCall c → IsWorld limits world → FitsCaller limits world session Nothing caller) → IsDecided limits world session c (asks caller answer)
   turned caller answer is opens fits = record { answers = is; left = tt; of_old = tt; keeps = λ h. tt; charged = λ h. tt; pays = refl; takes = tt; opens = opens; applies = λ n l w f. refl; fits = fits }
 
   -- nothing changes

@@ -29,7 +29,7 @@ use Rattle.sn_model.specs.declared.reply.Reply.TheVariants.{Content, Done, Numbe
 use Rattle.sn_model.specs.declared.session.Session.{Session}
 use Rattle.sn_model.specs.AccessCalls.{live_if}
 use Rattle.sn_model.specs.Descriptors.{Descriptors, descriptor_at, is_offset, next_descriptor, readable_at, writable_at}
-use Rattle.sn_model.specs.Outcomes.{Outcome, Makes, Does, Closes, LogsOut, Moves, Opens, OpensNew, does, tells, turns}
+use Rattle.sn_model.specs.Outcomes.{Outcome, Makes, Does, Closes, LogsOut, Moves, Opens, OpensNew, does, tells, asks}
 use Rattle.sn_model.specs.Seen.{Seen, last_name, parent_of}
 use Rattle.sn_model.specs.Tests.{plain, prefix, there, live, granted, writable_parent, sticky}
 use Rattle.sn_model.specs.Tree.{Node as TreeNode}
@@ -94,7 +94,7 @@ abbrev pub opens_there : Limits → OpenFlags → ℕ → Home → ℕ → Outco
 opens_there limits flags fd home number =
     if flags.truncate
     then record { charge = file_charge limits 1; change = Does (SetSize number 0); caller = Opens fd home number flags; told = Number fd }
-    else turns (Opens fd home number flags) (Number fd)
+    else asks (Opens fd home number flags) (Number fd)
 
 -- a new file: its owner is the caller's; its group is a set-gid parent's, else the caller's; its ACL is inherited
 abbrev pub new_file : Session → Mode → Attributes → Option (List Entry) → Ownership
@@ -124,7 +124,7 @@ abbrev pub open_bytes : World → Descriptor → List ℕ
 open_bytes world d = bytes_of (option_and_then (λ tree. map.get tree.nodes d.number) (tree_in (trees_of world) d.home))
 
 abbrev pub reads : ℕ → Descriptor → List ℕ → Outcome
-reads fd d bytes = turns (Moves fd (d.offset + length bytes)) (Content bytes)
+reads fd d bytes = asks (Moves fd (d.offset + length bytes)) (Content bytes)
 
 -- where a write begins: with O_APPEND at the file's end
 abbrev pub write_offset : Descriptor → List ℕ → ℕ
@@ -195,7 +195,7 @@ open_outcome limits seen table number session names flags mode = do
 unfoldable pub close_outcome : Descriptors → ℕ → ℕ → Result Outcome Refusal
 close_outcome table session fd = do
   _ ← descriptor_at table session fd
-  Ok (turns (Closes fd) Done)
+  Ok (asks (Closes fd) Done)
 
 -- read: for reading; no right is asked for again
 unfoldable pub read_outcome : World → ℕ → ℕ → ℕ → Result Outcome Refusal
@@ -220,7 +220,7 @@ unfoldable pub seek_outcome : Limits → Descriptors → ℕ → ℕ → ℕ →
 seek_outcome limits table session fd offset = do
   _ ← descriptor_at table session fd
   to ← is_offset limits offset
-  Ok (turns (Moves fd to) (Number to))
+  Ok (asks (Moves fd to) (Number to))
 
 -- ftruncate: for writing; within the largest file
 unfoldable pub ftruncate_outcome : Limits → Descriptors → ℕ → ℕ → ℕ → Result Outcome Refusal
@@ -243,4 +243,4 @@ unlink_outcome limits trees session names = do
 
 -- logout: all descriptors of the session are closed
 abbrev pub logout_outcome : Outcome
-logout_outcome = turns LogsOut Done
+logout_outcome = asks LogsOut Done

@@ -29,8 +29,8 @@ abbrev pub tells : Reply → Outcome
 tells answer = record { charge = 0; change = Nothing; caller = Stays; told = answer }
 
 -- the session or its descriptors change, and nothing else
-abbrev pub turns : Caller → Reply → Outcome
-turns caller answer = record { charge = 0; change = Nothing; caller = caller; told = answer }
+abbrev pub asks : Caller → Reply → Outcome
+asks caller answer = record { charge = 0; change = Nothing; caller = caller; told = answer }
 
 -- the live tree changes, at this charge, and nothing else
 abbrev pub does : ℕ → Change → Outcome

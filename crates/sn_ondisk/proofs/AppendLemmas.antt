@@ -1,6 +1,6 @@
 -- An append, from what its writes touch to what a crash leaves.
 use Rattle.std.proofs.Common.{◌⊎◌, inl, ℕ, ◌+◌, List, [], ◌∷◌, ◌++◌, length, arith}
-use Rattle.sn_device.specs.Sectors.{Contents, AreSectors, Single, Run}
+use Rattle.sn_device.specs.Sectors.{Contents, AreSectors, Single, Stretch}
 use Rattle.sn_device.specs.Disk.{Disk, Always, reads}
 use Rattle.sn_device.specs.Crash.{Touches, LeavesOnly}
 use Rattle.sn_device.proofs.CrashLemmas.{LeavesOnly-touched, LeavesOnly-now, LeavesOnly-weaker, LeavesOnly-join, CrashSince-before}
@@ -15,10 +15,10 @@ module _ (base epoch place : ℕ) (ps : List (List ℕ)) (p : List ℕ) where
   abbrev Either : Contents → Type 0
   Either c = IsReady c base epoch ps place ⊎ IsReady c base epoch (ps ++ p ∷ []) (place_after place p)
 
-  pub append_adds : (old mid new : Disk) → AreSectors (reads old) → AreSectors (reads mid) → Always old Before → Touches (Run (base + place + 1) (body_sectors p + 1)) old mid
+  pub append_adds : (old mid new : Disk) → AreSectors (reads old) → AreSectors (reads mid) → Always old Before → Touches (Stretch (base + place + 1) (body_sectors p + 1)) old mid
       → Always mid (λ c. HasRecord c base epoch place (length ps) p × IsClosed c (base + place_after place p)) → Touches (Single (base + place)) mid new → LeavesOnly old new Either
   append_adds old mid new whole whole_mid before behind written gate =
-      let first : LeavesOnly old mid Before = LeavesOnly-touched (Run (base + place + 1) (body_sectors p + 1)) (Run base (place + 1)) Before
+      let first : LeavesOnly old mid Before = LeavesOnly-touched (Stretch (base + place + 1) (body_sectors p + 1)) (Stretch base (place + 1)) Before
       (λ c d whole_c whole_d agrees ready. ready-same c d base epoch place ps (λ i from to. agrees.same i (from, to)) ready)
       (λ i far near. omega (arith, far.0, near.1)) old mid whole before behind in
       let second : LeavesOnly mid new Either = record {

@@ -6,7 +6,7 @@ use Rattle.sn_layout.specs.declared.gate.Gate.TheVariants.{Open}
 use Rattle.sn_ondisk.specs.Blocks.{bytes_at, block_at}
 use Rattle.sn_ondisk.specs.Gates.{IsOpen}
 
--- The bytes of a run of sectors are those of its front and then those of the rest.
+-- The bytes of a stretch of sectors are those of its front and then those of the rest.
 abbrev pub BytesFollow : Type 0
 BytesFollow = (c : Contents) (at n m : ℕ) → bytes_at c at (n + m) ≡ bytes_at c at n ++ bytes_at c (at + n) m
 

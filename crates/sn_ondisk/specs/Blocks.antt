@@ -1,7 +1,7 @@
 -- The contents of a disk as bytes, blocks and numbers.
 use Rattle.std.specs.Prelude.{ℕ, zero, suc, ◌+◌, ◌*◌, ◌/◌, List, [], ◌∷◌, ◌++◌, drop, Contains}
 use Rattle.byteorder.specs.Endian.{little_number}
-use Rattle.sn_device.specs.Sectors.{Contents, sector_at, Run}
+use Rattle.sn_device.specs.Sectors.{Contents, sector_at, Stretch}
 
 -- the bytes of n sectors from one on
 unfoldable pub bytes_at : Contents → ℕ → ℕ → List ℕ
@@ -14,7 +14,7 @@ block_at c block = bytes_at c (8 * block) 8
 
 -- the sectors of a block
 abbrev pub InBlock : ℕ → ℕ → Type 0
-InBlock block = Run (8 * block) 8
+InBlock block = Stretch (8 * block) 8
 
 -- the sectors of these blocks
 abbrev pub InBlocks : List ℕ → ℕ → Type 0

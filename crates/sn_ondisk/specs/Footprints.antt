@@ -1,6 +1,6 @@
 -- On which sectors each reading depends: writes elsewhere leave it as it is.
 use Rattle.std.specs.Prelude.{◌≡◌, ℕ, ◌+◌, List}
-use Rattle.sn_device.specs.Sectors.{DependsOn, Run}
+use Rattle.sn_device.specs.Sectors.{DependsOn, Stretch}
 use Rattle.sn_layout.specs.declared.geometry.Slot.{Slot}
 use Rattle.sn_layout.specs.declared.root.RootBody.{RootBody}
 use Rattle.sn_ondisk.specs.Blocks.{block_at, InBlock}
@@ -22,15 +22,15 @@ NewestDependsOnTheRoots = (slot : Slot) (root : RootBody) → DependsOn InRoots 
 
 -- A record, on the sectors of its body.
 abbrev pub RecordsDependOnTheirBody : Type 0
-RecordsDependOnTheirBody = (base epoch place sequence : ℕ) (payload : List ℕ) → DependsOn (Run (base + place + 1) (body_sectors payload)) (λ c. HasRecord c base epoch place sequence payload)
+RecordsDependOnTheirBody = (base epoch place sequence : ℕ) (payload : List ℕ) → DependsOn (Stretch (base + place + 1) (body_sectors payload)) (λ c. HasRecord c base epoch place sequence payload)
 
 -- What an append needs, on the sectors up to the closed gate.
 abbrev pub ReadyDependsOnItsSectors : Type 0
-ReadyDependsOnItsSectors = (base epoch place : ℕ) (payloads : List (List ℕ)) → DependsOn (Run base (place + 1)) (λ c. IsReady c base epoch payloads place)
+ReadyDependsOnItsSectors = (base epoch place : ℕ) (payloads : List (List ℕ)) → DependsOn (Stretch base (place + 1)) (λ c. IsReady c base epoch payloads place)
 
 -- That no later record stands at the first place, on its gate and the sector behind it.
 abbrev pub NoLaterDependsOnTheFirstPlace : Type 0
-NoLaterDependsOnTheFirstPlace = (base epoch : ℕ) → DependsOn (Run base 2) (λ c. HasNoLater c base epoch)
+NoLaterDependsOnTheFirstPlace = (base epoch : ℕ) → DependsOn (Stretch base 2) (λ c. HasNoLater c base epoch)
 
 -- What replay finds, on the half.
 abbrev pub ReplaysDependOnTheHalf : Type 0

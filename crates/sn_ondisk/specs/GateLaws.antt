@@ -1,6 +1,6 @@
 -- What a disk comes to show by the write of one gate, as laws on two contents that agree outside that sector: they hold of a write that a crash tore as of one that was done.
 use Rattle.std.specs.Prelude.{◌⊎◌, ℕ, ◌+◌, List, [], ◌∷◌, ◌++◌, length}
-use Rattle.sn_device.specs.Sectors.{Contents, AreSectors, AgreesOutside, Single, Run}
+use Rattle.sn_device.specs.Sectors.{Contents, AreSectors, AgreesOutside, Single, Stretch}
 use Rattle.sn_device.specs.Disk.{Disk, Always, reads}
 use Rattle.sn_device.specs.Crash.{Touches, LeavesOnly}
 use Rattle.sn_layout.specs.declared.geometry.Slot.{Slot}
@@ -33,7 +33,7 @@ AppendAddsOneOrNone = (base epoch place : ℕ) (payloads : List (List ℕ)) (pay
     → AreSectors (reads old)
     → AreSectors (reads mid)
     → Always old (λ c. IsReady c base epoch payloads place)
-    → Touches (Run (base + place + 1) (body_sectors payload + 1)) old mid
+    → Touches (Stretch (base + place + 1) (body_sectors payload + 1)) old mid
     → Always mid (λ c. HasRecord c base epoch place (length payloads) payload × IsClosed c (base + place_after place payload))
     → Touches (Single (base + place)) mid new
     → LeavesOnly old new (λ c. IsReady c base epoch payloads place ⊎ IsReady c base epoch (payloads ++ payload ∷ []) (place_after place payload))

@@ -1,7 +1,7 @@
 -- A half of the log, 256 sectors from `base` on, as the records of one epoch. A place is counted in sectors from there. At a place stands a record's gate, behind it its body, and behind that the next gate.
 use Rattle.std.specs.Prelude.{◌≡◌, ◌≢◌, ◌⊎◌, ℕ, ◌+◌, ◌-◌, ◌*◌, ◌/◌, ◌≤◌, ◌==◌, nat_le, ◌||◌, if◌then◌else◌, List, [], ◌∷◌, ◌++◌, length, take}
 use Rattle.byteorder.specs.Endian.{little_number}
-use Rattle.sn_device.specs.Sectors.{Contents, sector_at, Run}
+use Rattle.sn_device.specs.Sectors.{Contents, sector_at, Stretch}
 use Rattle.sn_layout.specs.declared.geometry.Area.TheVariants.{Log}
 use Rattle.sn_layout.specs.Bytes.{number_bytes, zeros}
 use Rattle.sn_layout.specs.Geometry.{start_of, half_of_epoch}
@@ -14,7 +14,7 @@ base_of n epoch = 8 * start_of n (Log (half_of_epoch epoch))
 
 -- the sectors of a half
 abbrev pub InHalf : ℕ → ℕ → Type 0
-InHalf base = Run base 256
+InHalf base = Stretch base 256
 
 -- how many sectors the body of a record takes
 abbrev pub body_sectors : List ℕ → ℕ

@@ -1,6 +1,6 @@
 -- The copies of the block map, one for each slot: a word of four bytes for each block, in which each root that reaches the block has a bit.
 use Rattle.std.specs.Prelude.{◌≡◌, ℕ, ◌-◌, ◌*◌, List, ◌++◌, length, replicate, slice_index}
-use Rattle.sn_device.specs.Sectors.{Contents, Run}
+use Rattle.sn_device.specs.Sectors.{Contents, Stretch}
 use Rattle.sn_layout.specs.declared.geometry.Slot.{Slot}
 use Rattle.sn_layout.specs.declared.geometry.Area.TheVariants.{MapCopy}
 use Rattle.sn_layout.specs.Bytes.{AreNumbers, numbers_bytes}
@@ -27,4 +27,4 @@ pub record HasMap (n : ℕ) (c : Contents) (slot : Slot) (words : List ℕ) : Ty
 
 -- the sectors of a slot's copy
 abbrev pub InMap : ℕ → Slot → ℕ → Type 0
-InMap n slot = Run (8 * start_of n (MapCopy slot)) (8 * map_blocks n)
+InMap n slot = Stretch (8 * start_of n (MapCopy slot)) (8 * map_blocks n)

@@ -1,6 +1,6 @@
 -- The two slots of roots, and which of them counts.
 use Rattle.std.specs.Prelude.{◌≡◌, ◌⊎◌, ℕ, ◌<◌}
-use Rattle.sn_device.specs.Sectors.{Contents, Run}
+use Rattle.sn_device.specs.Sectors.{Contents, Stretch}
 use Rattle.sn_layout.specs.declared.geometry.Slot.{Slot}
 use Rattle.sn_layout.specs.declared.geometry.Slot.TheVariants.{A, B}
 use Rattle.sn_layout.specs.declared.root.RootBody.{RootBody}
@@ -37,4 +37,4 @@ pub record HasNext (c : Contents) (slot : Slot) (root next : RootBody) : Type 0 
 
 -- the sectors of the two root bodies and of their gates
 abbrev pub InRoots : ℕ → Type 0
-InRoots = Run 8 18
+InRoots = Stretch 8 18

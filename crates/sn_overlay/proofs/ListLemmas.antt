@@ -157,7 +157,7 @@ module _ {K X : Type 0} (R : K → K → Ordering) (number_of : K → ℕ) (want
       ap (λ rest. e ∷ rest) (around es first end (later e es first end h))
       ∙ sym (ap (λ b. cond (not b) (e ∷ where_key R (λ key. not (eqb (number_of key) wanted)) es) (where_key R (λ key. not (eqb (number_of key) wanted)) es)) (other (number_of e.0) wanted (inl (h.before 0 e (omega arith)))))
 
--- the places where the entries of a number begin and end, as two searches find them
+-- the indices where the entries of a number begin and end, as two searches find them
 pub span_found : {K X : Type 0} (number_of : K → ℕ) (wanted : ℕ) (es : List (K × X)) (first end : ℕ) → first ≤ length es → end ≤ length es
     → IsPartitionPoint (λ e. ltb (number_of e.0) wanted ≡ true) (λ e. ltb (number_of e.0) wanted ≡ false) es first
     → IsPartitionPoint (λ e. leb (number_of e.0) wanted ≡ true) (λ e. leb (number_of e.0) wanted ≡ false) es end → IsSpan number_of wanted es first end

@@ -45,7 +45,7 @@ pub get_or-joined : (width size : ℕ) (pieces : ℕ → List ℕ) (file_block :
 unfolding joined
 get_or-joined width size pieces file_block h = get_or-map-range_with_len (λ p. get_or (pieces (p / width)) (p % width) 0) 0 size file_block file_block 0 h (omega arith)
 
--- the same, where the piece and the place in it are known
+-- the same, where the piece and the offset in it are known
 pub get_or-joined_at : (width size : ℕ) (pieces : ℕ → List ℕ) (index at : ℕ) → at < width → index * width + at < size → get_or (joined width size pieces) (index * width + at) 0 ≡ get_or (pieces index) at 0
 get_or-joined_at width size pieces index at h k =
     get_or-joined width size pieces (index * width + at) k

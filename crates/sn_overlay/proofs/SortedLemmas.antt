@@ -1,4 +1,4 @@
--- What a search of sorted entries finds, and what an insert at that place does.
+-- What a search of sorted entries finds, and what an insert at that index does.
 use Rattle.std.proofs.Common.{◌≡◌, ℕ, zero, suc, ◌<◌, Bool, true, false, cond, ◌&&◌, List, [], ◌∷◌, length, get_or, set, Some, None, Result, Ok, Err, refl, sym, ap, subst, ◌∙◌, add-one, arith, T}
 use Rattle.std.specs.declared.cmp.Ordering.{Ordering}
 use Rattle.std.specs.declared.cmp.Ordering.TheVariants.{Less, Equal, Greater}
@@ -94,7 +94,7 @@ module _ {K X : Type 0} {R : K → K → Ordering} (o : IsTotalOrder R) where
 pub sorted-kept : {K X : Type 0} (R : K → K → Ordering) (p : K → Bool) (es : List (K × X)) → is_sorted R es ≡ true → is_sorted R (where_key R p es) ≡ true
 sorted-kept R p es h = passed _ (is_sorted-where_key R p es (subst T (sym h) tt))
 
--- entries with the same bytes at the same places are sorted alike
+-- entries with the same bytes at the same indices are sorted alike
 module _ {K : Type 0} (R : K → K → Ordering) where
   below-bytes : (x : K) (es : List (K × Box (List ℕ) Global)) → below_all R x (bytes_by_file_block es) ≡ below_all R x es
   below-bytes x [] = refl

@@ -1,4 +1,4 @@
--- Where blocks are kept: in order by their file, and then by their place in it.
+-- Where blocks are kept: in order by their file, and then by their index in it.
 use Rattle.std.specs.Prelude.{ℕ}
 use Rattle.std.specs.declared.cmp.Ordering.{Ordering}
 use Rattle.std.specs.Ordering.{nat_cmp, ordering_then}

@@ -15,7 +15,7 @@ impl SortedMap<Link, Option<u16>> {
     ghost use Rattle.sn_model.specs.Tree.{link_cmp};
 
     // Where the names of a directory stand.
-    fn places_of(&self, directory: u16) -> Range<usize>
+    fn span_of(&self, directory: u16) -> Range<usize>
         ensures { IsSpan (λ link. link.directory) directory self.now.entries.items result.start result.end }
     {
         let start = self
@@ -31,8 +31,8 @@ impl SortedMap<Link, Option<u16>> {
     pub fn names_of(&self, directory: u16) -> &[(Link, Option<u16>)]
         ensures { result.now ≡ where_key link_cmp (λ link. link.directory == directory) self.now.entries.items }
     {
-        let places = self.places_of(directory);
-        &self.entries[places.start..places.end]
+        let span = self.span_of(directory);
+        &self.entries[span.start..span.end]
     }
 }
 
@@ -41,7 +41,7 @@ impl SortedMap<FileBlock, Box<Block>> {
     ghost use Rattle.sn_overlay.specs.Keys.{file_block_cmp};
 
     // Where the blocks of a file stand.
-    fn places_of(&self, file: u16) -> Range<usize>
+    fn span_of(&self, file: u16) -> Range<usize>
         ensures { IsSpan (λ file_block. file_block.file) file self.now.entries.items result.start result.end }
     {
         let start = self.entries.partition_point(|entry| entry.0.file < file);
@@ -61,9 +61,9 @@ impl SortedMap<FileBlock, Box<Block>> {
         ensures len { vec_len self.new.entries ≤ vec_len self.old.entries }
         ensures kept { vec_capacity self.new.entries ≡ vec_capacity self.old.entries }
     {
-        let places = self.places_of(file);
-        let mut taken = Vec::with_capacity(alloc, places.end - places.start)?;
-        for entry in self.entries.drain(places.start..places.end) {
+        let span = self.span_of(file);
+        let mut taken = Vec::with_capacity(alloc, span.end - span.start)?;
+        for entry in self.entries.drain(span.start..span.end) {
             taken.push_reserved(entry);
         }
         Ok(taken)

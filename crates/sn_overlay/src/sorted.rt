@@ -166,7 +166,7 @@ fn copied_link(alloc: Global, link: &Link) -> Result<Link, AllocError>
 }
 
 impl SortedMap<FileBlock, Box<Block>> {
-    /// A copy: the same bytes at the same places.
+    /// A copy: the same bytes at the same indices.
     pub fn copy(&self, alloc: Global) -> Result<Self, AllocError>
         ensures { IfOk result (λ copy. bytes_by_file_block copy.entries.items ≡ bytes_by_file_block self.now.entries.items) }
     {

@@ -61,6 +61,7 @@ pub struct Through<'a, B> {
 
 impl<'a, B: Below> Below for Through<'a, B> {
     ghost use Rattle.std.specs.Prelude.{◌≡◌, IsTrue};
+    ghost use Rattle.std.proofs.Common.{refl, ◌∙◌};
     ghost use Rattle.sn_overlay.specs.Layers.{through};
     ghost use Rattle.sn_overlay.specs.Overlays.{layer_of};
     ghost use Rattle.sn_overlay.specs.Seen.{LiesOver};
@@ -73,7 +74,9 @@ impl<'a, B: Below> Below for Through<'a, B> {
 
     ghost holds = { λ s. B.holds s.below.now × (IsTrue B.is_told → LiesOver (layer_of s.overlay.now) (B.shows s.below.now)) };
 
-    ghost follows = { λ u v. B.follows u.below.now v.below.now };
+    // the tree below is the same one, and shows the same
+    ghost follows = { λ u v. B.follows u.below.now v.below.now × (v.below.ghost_name ≡ u.below.ghost_name)
+        × (IsTrue B.is_told → B.shows v.below.now ≡ B.shows u.below.now) };
 
     ghost causes = { λ u v f. B.causes u.below.now v.below.now f };
 
@@ -104,9 +107,9 @@ impl<'a, B: Below> Below for Through<'a, B> {
         self.below.read_block(file_block, block)
     }
 
-    ghost follows_itself = { λ v. B.follows_itself v.below.now };
+    ghost follows_itself = { λ v. (B.follows_itself v.below.now, refl, λ told. refl) };
 
-    ghost follows_on = { λ u v w p q. B.follows_on u.below.now v.below.now w.below.now p q };
+    ghost follows_on = { λ u v w p q. (B.follows_on u.below.now v.below.now w.below.now p.0 q.0, q.1 ∙ p.1, λ told. q.2 told ∙ p.2 told) };
 
-    ghost causes_later = { λ u v w f p q. B.causes_later u.below.now v.below.now w.below.now f p q };
+    ghost causes_later = { λ u v w f p q. B.causes_later u.below.now v.below.now w.below.now f p.0 q };
 }

@@ -1,7 +1,7 @@
 -- What each part of replacing a root leaves of the disk, whatever a crash tears.
 use Rattle.std.proofs.Common.{◌≡◌, ◌≢◌, ◌⊎◌, inl, inr, ⊎_elim, ℕ, ◌+◌, ◌*◌, ◌<◌, ◌≤◌, List, [], length, slice_index, Result, Err, OnOk, refl, sym, ◌∙◌, ap, subst, arith}
 use Rattle.std.proofs.lemmas.List.{get_or-set_same}
-use Rattle.sn_device.specs.Sectors.{Contents, AreSectors, AgreesOutside, DependsOn, AreDisjoint, Single, Run}
+use Rattle.sn_device.specs.Sectors.{Contents, AreSectors, AgreesOutside, DependsOn, AreDisjoint, Single, Stretch}
 use Rattle.sn_device.specs.Disk.{Disk, Always, reads}
 use Rattle.sn_device.specs.Crash.{Touches}
 use Rattle.sn_device.proofs.SectorLemmas.{AgreesOutside-set}
@@ -24,7 +24,7 @@ use Rattle.sn_ondisk.proofs.PlaceLemmas.{half_from}
 use Rattle.sn_ondisk.proofs.OneRootLemmas.{newest_is_one}
 use Rattle.sn_ondisk.proofs.RootLemmas.{HasRoot-same, IsNewest-same, body_below, gate_from, gate_below, closing_keeps, body_keeps, opening_changes, open_root_is_newest}
 use Rattle.sn_ondisk.proofs.ShownLemmas.{closing_shows, body_shows, opening_shows, shown_depends}
-use Rattle.sn_block.specs.Effects.{Nowhere, SyncsAll, WritesRun}
+use Rattle.sn_block.specs.Effects.{Nowhere, SyncsAll, WritesStretch}
 use Rattle.sn_block.proofs.EffectLemmas.{OnOk-then, OnOk-both, Touches-settled}
 use Rattle.sn_root.specs.Slots.{gate_in}
 use Rattle.sn_root.specs.Replacing.{with_gate, InClosing, WritesBody, OpensSlot, KeepsRoot, ChangesRoot, InReplacing}
@@ -110,10 +110,10 @@ closed_kept slot old new whole closed touched =
 -- its block is written
 module _ (slot : Slot) (number : ℕ) (bytes : List ℕ) (old mid : Disk) (place : number ≡ body_block slot) where
   module _ {T E : Type 0} (wrote_result : Result T E) where
-    pub body_touched : WritesRun (8 * number) 8 bytes wrote_result old mid → Touches (InBlock (body_block slot)) old mid
-    body_touched wrote = subst (λ n. Touches (Run (8 * n) 8) old mid) place wrote.touched
+    pub body_touched : WritesStretch (8 * number) 8 bytes wrote_result old mid → Touches (InBlock (body_block slot)) old mid
+    body_touched wrote = subst (λ n. Touches (Stretch (8 * n) 8) old mid) place wrote.touched
 
-    module _ (whole : AreSectors (reads old)) (closed : Always old (λ c. IsClosed c (gate_sector slot))) (wrote : WritesRun (8 * number) 8 bytes wrote_result old mid) where
+    module _ (whole : AreSectors (reads old)) (closed : Always old (λ c. IsClosed c (gate_sector slot))) (wrote : WritesStretch (8 * number) 8 bytes wrote_result old mid) where
       pub closed_mid : Always mid (λ c. IsClosed c (gate_sector slot))
       closed_mid = closed_kept slot old mid whole closed (body_touched wrote)
 

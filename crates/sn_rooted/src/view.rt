@@ -45,6 +45,7 @@ pub struct RootedView<'a, D: Device> {
 
 impl<'a, D: Device> TreeView for RootedView<'a, D> {
     ghost use Rattle.std.specs.Prelude.{◌≡◌, IsTrue};
+    ghost use Rattle.std.proofs.Common.{refl, ◌∙◌};
     ghost use Rattle.sn_block.specs.Lending.{device_of};
     ghost use Rattle.sn_model.specs.World.{viewed_trees};
     ghost use Rattle.sn_rooted.specs.Roots.{AreSound, store_on, trees_at};
@@ -62,7 +63,8 @@ impl<'a, D: Device> TreeView for RootedView<'a, D> {
 
     // nothing is written, and no count rises but that of failures
     ghost follows = { λ u v. Follows D.tells_bytes (D.status (device_of u.blocks.now)) (D.status (device_of v.blocks.now))
-        (D.disk (device_of u.blocks.now)) (D.disk (device_of v.blocks.now)) u.root.now v.root.now };
+        (D.disk (device_of u.blocks.now)) (D.disk (device_of v.blocks.now)) u.root.now v.root.now
+        × (v.blocks.ghost_name ≡ u.blocks.ghost_name) };
 
     // look-ups leave no trace
     ghost looked_up = { λ looks u v. Unit {0} };
@@ -95,14 +97,17 @@ impl<'a, D: Device> TreeView for RootedView<'a, D> {
         Ok(file.is_some())
     }
 
-    ghost follows_itself = { λ v. follows-itself D.tells_bytes (D.status (device_of v.blocks.now)) (D.disk (device_of v.blocks.now)) v.root.now };
+    ghost follows_itself = { λ v. (follows-itself D.tells_bytes (D.status (device_of v.blocks.now)) (D.disk (device_of v.blocks.now)) v.root.now, refl) };
 
-    ghost follows_on = { λ u v w p q. follows-on D.tells_bytes (D.status (device_of u.blocks.now)) (D.status (device_of v.blocks.now)) (D.status (device_of w.blocks.now))
-        (D.disk (device_of u.blocks.now)) (D.disk (device_of v.blocks.now)) (D.disk (device_of w.blocks.now)) u.root.now v.root.now w.root.now p q };
+    ghost follows_on = { λ u v w p q. (
+      follows-on D.tells_bytes (D.status (device_of u.blocks.now)) (D.status (device_of v.blocks.now)) (D.status (device_of w.blocks.now))
+          (D.disk (device_of u.blocks.now)) (D.disk (device_of v.blocks.now)) (D.disk (device_of w.blocks.now)) u.root.now v.root.now w.root.now p.0 q.0,
+      q.1 ∙ p.1,
+    ) };
 
     ghost looked_up_none = { λ v. tt };
 
     ghost looked_up_more = { λ looks more u v w p q. tt };
 
-    ghost causes_later = { λ u v w f p q. causes-later D.tells_bytes (D.status (device_of u.blocks.now)) (D.status (device_of v.blocks.now)) (D.status (device_of w.blocks.now)) f p.reads q };
+    ghost causes_later = { λ u v w f p q. causes-later D.tells_bytes (D.status (device_of u.blocks.now)) (D.status (device_of v.blocks.now)) (D.status (device_of w.blocks.now)) f p.0.reads q };
 }

@@ -50,6 +50,7 @@ pub struct RootedTree<'a, D: Device> {
 
 impl<'a, D: Device> Below for RootedTree<'a, D> {
     ghost use Rattle.std.specs.Prelude.{◌≡◌, IsTrue, Some};
+    ghost use Rattle.std.proofs.Common.{refl, ◌∙◌};
     ghost use Rattle.sn_block.specs.Lending.{device_of};
     ghost use Rattle.sn_rooted.specs.Roots.{IsSoundOn, tree_on};
     ghost use Rattle.sn_rooted_tree.specs.LookLaws.{looks-itself, looks-on};
@@ -66,7 +67,8 @@ impl<'a, D: Device> Below for RootedTree<'a, D> {
 
     // nothing is written, and nothing is counted but the failure that stands
     ghost follows = { λ u v. Looks D.tells_bytes (D.status (device_of u.blocks.now)) (D.status (device_of v.blocks.now))
-        (D.disk (device_of u.blocks.now)) (D.disk (device_of v.blocks.now)) u.root.now v.root.now u.fault v.fault };
+        (D.disk (device_of u.blocks.now)) (D.disk (device_of v.blocks.now)) u.root.now v.root.now u.fault v.fault
+        × (v.blocks.ghost_name ≡ u.blocks.ghost_name) };
 
     ghost causes = { λ u v f. v.fault ≡ Some f };
 
@@ -115,10 +117,13 @@ impl<'a, D: Device> Below for RootedTree<'a, D> {
         answer
     }
 
-    ghost follows_itself = { λ v. looks-itself D.tells_bytes (D.status (device_of v.blocks.now)) (D.disk (device_of v.blocks.now)) v.root.now v.fault };
+    ghost follows_itself = { λ v. (looks-itself D.tells_bytes (D.status (device_of v.blocks.now)) (D.disk (device_of v.blocks.now)) v.root.now v.fault, refl) };
 
-    ghost follows_on = { λ u v w p q. looks-on D.tells_bytes (D.status (device_of u.blocks.now)) (D.status (device_of v.blocks.now)) (D.status (device_of w.blocks.now))
-        (D.disk (device_of u.blocks.now)) (D.disk (device_of v.blocks.now)) (D.disk (device_of w.blocks.now)) u.root.now v.root.now w.root.now u.fault v.fault w.fault p q };
+    ghost follows_on = { λ u v w p q. (
+      looks-on D.tells_bytes (D.status (device_of u.blocks.now)) (D.status (device_of v.blocks.now)) (D.status (device_of w.blocks.now))
+          (D.disk (device_of u.blocks.now)) (D.disk (device_of v.blocks.now)) (D.disk (device_of w.blocks.now)) u.root.now v.root.now w.root.now u.fault v.fault w.fault p.0 q.0,
+      q.1 ∙ p.1,
+    ) };
 
     ghost causes_later = { λ u v w f p q. q };
 }

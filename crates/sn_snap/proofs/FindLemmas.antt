@@ -1,4 +1,4 @@
--- What the first place of a name tells.
+-- What the first index of a name tells.
 use Rattle.std.proofs.Common.{◌≡◌, ℕ, suc, ◌+◌, Bool, true, false, cond, not, ◌||◌, List, [], ◌∷◌, length, get_or, Some, None, refl, sym, ap, ◌∙◌, arith}
 use Rattle.std.specs.Prelude.{nat_lt, position, remove}
 use Rattle.std.specs.List.{list_any, position_or_len}
@@ -20,12 +20,12 @@ any_here : (b c : Bool) (k n : ℕ) → c ≡ nat_lt k n → (b || c) ≡ nat_lt
 any_here true c k n e = sym (lt-ltb 0 (suc n) (omega arith))
 any_here false c k n e = e ∙ shifted (nat_lt k n) k n refl
 
-list_any-place : (p : Snapshot → Bool) (snapshots : List Snapshot) → list_any p snapshots ≡ nat_lt (position_or_len p snapshots) (length snapshots)
-list_any-place p [] = refl
-list_any-place p (s ∷ more) = any_here (p s) (list_any p more) (position_or_len p more) (length more) (list_any-place p more)
+list_any-index : (p : Snapshot → Bool) (snapshots : List Snapshot) → list_any p snapshots ≡ nat_lt (position_or_len p snapshots) (length snapshots)
+list_any-index p [] = refl
+list_any-index p (s ∷ more) = any_here (p s) (list_any p more) (position_or_len p more) (length more) (list_any-index p more)
 
 nowhere : (p : Snapshot → Bool) (snapshots : List Snapshot) → position p snapshots ≡ None → list_any p snapshots ≡ false
-nowhere p snapshots e = told (nat_lt (position_or_len p snapshots) (length snapshots)) (list_any-place p snapshots) e
+nowhere p snapshots e = told (nat_lt (position_or_len p snapshots) (length snapshots)) (list_any-index p snapshots) e
   where
     told : (b : Bool) → list_any p snapshots ≡ b → cond b (Some (position_or_len p snapshots)) None ≡ None → list_any p snapshots ≡ false
     told true is none = cc

@@ -5,11 +5,11 @@ ghost use Rattle.sn_limits.specs.declared.limits.Limits.{Limits};
 ghost use Rattle.sn_layout.specs.Snapshot.{AreSnapshots, has_no_bit, with_snapshot};
 ghost use Rattle.sn_snap.specs.Catalogue.{IsCatalogue, catalogue, others_than};
 
-use crate::finding::place_of;
+use crate::finding::index_of;
 use sn_layout::{BlockTree, SNAPSHOT_ROOM, Snapshot, Snapshots};
 use sn_limits::SnapshotName;
 
-/// The same with one more snapshot, in the place of its bit. A root body that held them holds these, where its version
+/// The same with one more snapshot, at the index of its bit. A root body that held them holds these, where its version
 /// allows one more and has the bit.
 pub fn with(mut snapshots: Snapshots, name: SnapshotName, bit: u8, tree: BlockTree) -> Snapshots
     requires catalogue { IsCatalogue snapshots }
@@ -37,8 +37,8 @@ pub fn without(mut snapshots: Snapshots, name: &SnapshotName) -> Snapshots
     ensures catalogue { IsCatalogue result }
     ensures held { (limits : Limits) → AreSnapshots limits snapshots → AreSnapshots limits result }
 {
-    if let Some(place) = place_of(snapshots.as_slice(), name) {
-        snapshots.remove(place);
+    if let Some(index) = index_of(snapshots.as_slice(), name) {
+        snapshots.remove(index);
     }
     snapshots
 }

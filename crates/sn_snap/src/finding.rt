@@ -15,8 +15,8 @@ pub fn find<'a>(snapshots: &'a Snapshots, name: &SnapshotName) -> Option<&'a Sna
     ensures name { IfSome result (λ snapshot. snapshot.now.name ≡ name.now) }
 {
     let list = snapshots.as_slice();
-    let place = place_of(list, name)?;
-    Some(&list[place])
+    let index = index_of(list, name)?;
+    Some(&list[index])
 }
 
 /// The least bit from 1 up that no snapshot has. `None` comes exactly where there are as many snapshots as the version
@@ -35,7 +35,7 @@ pub fn free_bit(snapshots: &Snapshots, limits: &Limits) -> Option<u8>
 }
 
 /// Where the first snapshot stands that has the name.
-pub(crate) fn place_of(snapshots: &[Snapshot], name: &SnapshotName) -> Option<usize>
+pub(crate) fn index_of(snapshots: &[Snapshot], name: &SnapshotName) -> Option<usize>
     ensures { result ≡ position (λ snapshot. bytes_eq name.now snapshot.name) snapshots.now }
 {
     let name = name.as_bytes();

@@ -16,8 +16,8 @@ pub fn names(snapshots: &Snapshots) -> ArrayVec<SnapshotName, SNAPSHOT_ROOM>
 {
     let mut names = ArrayVec::new();
     for snapshot in snapshots.as_slice() {
-        let place = first_greater(&names, &snapshot.name).unwrap_or(names.len());
-        names.insert(place, snapshot.name.copy());
+        let index = first_greater(&names, &snapshot.name).unwrap_or(names.len());
+        names.insert(index, snapshot.name.copy());
     }
     names
 }

@@ -34,7 +34,7 @@ fn write<D: Device>(
     let (place, what) = pair_of(value)?;
     match step {
         "sector" | "synced" => write_sector(blocks, step, (place, what), text),
-        "run" => write_run(alloc, blocks, u64::from(number_of(place)?), what, text),
+        "run" => write_stretch(alloc, blocks, u64::from(number_of(place)?), what, text),
         "block" => write_block(blocks, number_of(place)?, what, text),
         "zeros" => zero_range(blocks, number_of(place)?, number_of(what)?, text),
         _ => bail!("no such step"),
@@ -107,7 +107,7 @@ fn write_sector<D: Device>(
     push_answer(text, answer)
 }
 
-fn write_run<D: Device>(
+fn write_stretch<D: Device>(
     alloc: Global,
     blocks: &mut Blocks<D>,
     at: u64,
@@ -119,7 +119,7 @@ fn write_run<D: Device>(
     let (sectors, count) = (blocks.sectors(), bytes.len() / SECTOR_SIZE);
     ensure!(bytes.len() % SECTOR_SIZE == 0, "half a sector");
     ensure!(at <= sectors && count as u64 <= sectors - at, "no room");
-    push_answer(text, blocks.write_run(at, bytes.as_slice()))
+    push_answer(text, blocks.write_stretch(at, bytes.as_slice()))
 }
 
 /// Writes a block whose sectors are made of one byte each, as in `1122334455667788`.

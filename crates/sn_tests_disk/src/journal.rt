@@ -4,7 +4,7 @@
 ghost use Rattle.std.specs.Prelude.{◌≡◌, ◌-◌, ◌<◌, ◌≤◌, None, Some, IsTrue, OnOk};
 ghost use Rattle.sn_device.specs.Status.{HasCause};
 ghost use Rattle.sn_device.specs.Crash.{LeavesOnly, Touches};
-ghost use Rattle.sn_device.specs.Sectors.{Run};
+ghost use Rattle.sn_device.specs.Sectors.{Stretch};
 ghost use Rattle.sn_tests_disk.specs.Journal.{Holds, IsBeforeOrAfter};
 
 use sn_device::{Device, Fault, Sector};
@@ -39,7 +39,7 @@ pub fn wipe<D: Device>(device: &mut D, from: u64, to: u64) -> Result<(), Fault>
     requires order { from ≤ to }
     requires room { to ≤ (D.status device.old).sectors }
     ensures others { IsTrue D.tells_bytes
-        → Touches (Run from (to - from)) (D.disk device.old) (D.disk device.new) }
+        → Touches (Stretch from (to - from)) (D.disk device.old) (D.disk device.new) }
     ensures cause { HasCause result (D.status device.old) (D.status device.new) }
 {
     for at in from..to {

@@ -76,12 +76,12 @@ pub fn changed(alloc: Global, case: Case<'_>) -> Result<MemDevice> {
         bail!("no format");
     };
     for word in words {
-        write_run(alloc, &mut device, word)?;
+        write_stretch(alloc, &mut device, word)?;
     }
     Ok(device)
 }
 
-fn write_run(alloc: Global, device: &mut MemDevice, word: &str) -> Result<()> {
+fn write_stretch(alloc: Global, device: &mut MemDevice, word: &str) -> Result<()> {
     let (at, run) = word.split_once(':').context("no run of bytes")?;
     let at: u32 = at.parse().context("no place")?;
     let run = hex::decode(alloc, run)?;

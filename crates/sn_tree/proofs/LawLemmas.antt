@@ -129,9 +129,9 @@ pub content_byte : (s : Store) (content : Content) (wanted : ℕ → List ℕ) �
     → byte_of s content k ≡ slice_index (wanted (k / 4096)) (k % 4096)
 content_byte s (Inline bytes) wanted form small has k within =
     let first : k / 4096 ≡ 0 = omega (arith, form, within) in
-    let place : k % 4096 ≡ k = omega (arith, form, within) in
+    let low : k % 4096 ≡ k = omega (arith, form, within) in
     ap (λ (b : List ℕ). slice_index b k) has ∙ get_or-take (length bytes) (wanted 0) k 0 within
-    ∙ ap (λ (i : ℕ). slice_index (wanted i) k) (sym first) ∙ ap (slice_index (wanted (k / 4096))) (sym place)
+    ∙ ap (λ (i : ℕ). slice_index (wanted i) k) (sym first) ∙ ap (slice_index (wanted (k / 4096))) (sym low)
 content_byte s (Tree tree) wanted form small has k within =
     let room : tree.size ≤ 65536 * 1024 ^ levels_of tree.size = levels_room tree.size small in
     ap (λ (b : List ℕ). slice_index b (k % 4096)) (has (k / 4096) (omega (arith, room, within)))

@@ -34,7 +34,7 @@ pub record IsReplanned (s : Store) (old new : BlockTree) (keep : ℕ) (dirty : L
   -- what the new tree reaches, with what is released, is what the old one reaches with what is added, each block as often
   pub reach : (r : Store) → SameIn (tree_reach s old) s r → Holds r added → (block : ℕ) → block ≢ 0
       → times block (tree_reach r new) + times block released ≡ times block (tree_reach s old) + times block (numbers_of added)
-  -- where what is wanted ends at the new size, so does the tree: the pointers of places past it are holes, on every level, and in the last block there are zeros
+  -- where what is wanted ends at the new size, so does the tree: the pointers of indices past it are holes, on every level, and in the last block there are zeros
   pub ends : (r : Store) → SameIn (tree_reach s old) s r → Holds r added → EndsAt (data_block s old) new.size keep dirty → EndsAtSize r new
 
 -- A tree was planned, which may take a path of new blocks for each dirty one and one more. Over a device that tells its bytes it is the one that is wanted.

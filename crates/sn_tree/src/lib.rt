@@ -10,7 +10,7 @@
 //! if there is one, the old one if it stays, and else zeros (`block_after`); where one of the first two is
 //! to be, there is a hole only if the old one was one (`IsHole`). What the new tree reaches with what is
 //! released is what the old one reached with what was added, each block as often, so the map's bits follow
-//! from the two lists. Where what is wanted ends at the new size, so does the tree: the pointers of places
+//! from the two lists. Where what is wanted ends at the new size, so does the tree: the pointers of indices
 //! past it are holes, and the bytes past it zeros (`plan_laws` says when that is). The new blocks are at
 //! most a path for each dirty block and one path more (`most_added`).
 //!

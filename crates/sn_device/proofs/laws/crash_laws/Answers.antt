@@ -1,8 +1,8 @@
 use Rattle.std.proofs.Common.{IsTrue, Contains, arith}
 use Rattle.sn_device.proofs.DiskLemmas.{CrashSince-now, CrashSince_clock, CrashSince-next, CrashSince-added, MayLeave-written, MayLeave-torn, MayLeave-synced, MayLeave-settled}
 use Rattle.sn_device.proofs.CrashLemmas.{CrashSince-touched, CrashSince-before, Always-kept, IsSynced-only, IsSynced-reads, Touches-within}
-use Rattle.sn_device.specs.Sectors.{Run}
-use Rattle.sn_device.proofs.SectorLemmas.{Run-within}
+use Rattle.sn_device.specs.Sectors.{Stretch}
+use Rattle.sn_device.proofs.SectorLemmas.{Stretch-within}
 use Rattle.sn_device.proofs.laws.crash_laws.Goals as goal
 
 pub returns-clause-now_counts : goal.returns-clause-now_counts
@@ -20,8 +20,8 @@ returns-clause-write_tears c at bytes m f = (λ left. (MayLeave-written at bytes
 pub returns-clause-sync_settles : goal.returns-clause-sync_settles
 returns-clause-sync_settles c m f whole = (MayLeave-synced m f, MayLeave-settled m f whole)
 
-pub returns-clause-run_tears : goal.returns-clause-run_tears
-returns-clause-run_tears c at n old new f = CrashSince-touched (Run at n) old new f
+pub returns-clause-stretch_tears : goal.returns-clause-stretch_tears
+returns-clause-stretch_tears c at n old new f = CrashSince-touched (Stretch at n) old new f
 
 pub returns-clause-clock_moves_on : goal.returns-clause-clock_moves_on
 returns-clause-clock_moves_on c d m = omega arith
@@ -35,5 +35,5 @@ returns-clause-others_are_kept c touched others test old new whole apart depends
 pub returns-clause-synced_is_read : goal.returns-clause-synced_is_read
 returns-clause-synced_is_read c d f whole is_synced = (IsSynced-only d f is_synced, IsSynced-reads d f whole)
 
-pub returns-clause-run_widens : goal.returns-clause-run_widens
-returns-clause-run_widens c at n from m old new low high = Touches-within (Run at n) (Run from m) old new (Run-within at n from m low high)
+pub returns-clause-stretch_widens : goal.returns-clause-stretch_widens
+returns-clause-stretch_widens c at n from m old new low high = Touches-within (Stretch at n) (Stretch from m) old new (Stretch-within at n from m low high)

@@ -1,6 +1,6 @@
 use Rattle.std.proofs.Common.{◌*◌, ◌≤◌, ◌∙◌, length, sym, subst, rules}
 use Rattle.sn_device.specs.Disk.{reads}
-use Rattle.sn_device.specs.Sectors.{Run}
+use Rattle.sn_device.specs.Sectors.{Stretch}
 use Rattle.sn_device.proofs.CrashLemmas.{Touches-present}
 use Rattle.sn_layout.specs.Geometry.{IsDiskSize, start_of}
 use Rattle.sn_layout.specs.declared.geometry.Area.TheVariants.{Data}
@@ -24,6 +24,6 @@ returns-clause-laid_out g c told =
     subst (λ k. 8 * n ≤ k) (sym (g.met.D.Device.count (device_of c.zero_range.new.self) told ∙ c.zero_range.ensures.counts.sectors)) c.requires.room in
     OnOk-always c.sync.result (subst (IsLaidOut n) (sym (c.sync.ensures.disk told).same)
     (laid_out n c.first_sector.result size c.first_sector.ensures _ _ _ _ whole long blank.done
-    (Touches-present (Run 0 8) _ _ superblock.touched).others superblock.done
-    (Touches-present (Run (8 * start_of n Data) 8) _ _ inodes.touched).others inodes.done
-    (Touches-present (Run (8 * marked_block n) 8) _ _ map.touched).others map.done))
+    (Touches-present (Stretch 0 8) _ _ superblock.touched).others superblock.done
+    (Touches-present (Stretch (8 * start_of n Data) 8) _ _ inodes.touched).others inodes.done
+    (Touches-present (Stretch (8 * marked_block n) 8) _ _ map.touched).others map.done))

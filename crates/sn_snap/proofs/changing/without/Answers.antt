@@ -9,8 +9,8 @@ use Rattle.sn_snap.proofs.changing.without.Goals as goal
 
 taken : (c : goal.After-remove) → c.remove.new.self ≡ others_than c.args.name.now c.args.snapshots
 taken c =
-    let found : position (has c.args.name.now) c.args.snapshots ≡ Some c.in-Some.place = ap (position (has c.args.name.now)) (sym c.as_slice.ensures.value) ∙ sym c.place_of.ensures ∙ c.in-Some.is in
-    c.remove.ensures.others ∙ taken_at c.args.snapshots c.args.name.now c.in-Some.place c.remove.result c.requires.distinct found
+    let found : position (has c.args.name.now) c.args.snapshots ≡ Some c.in-Some.index = ap (position (has c.args.name.now)) (sym c.as_slice.ensures.value) ∙ sym c.index_of.ensures ∙ c.in-Some.is in
+    c.remove.ensures.others ∙ taken_at c.args.snapshots c.args.name.now c.in-Some.index c.remove.result c.requires.distinct found
 
 pub returns-in-Some-clause-list : goal.returns-in-Some-clause-list
 returns-in-Some-clause-list c = taken c
@@ -26,7 +26,7 @@ returns-in-Some-clause-held c = λ limits are. subst (AreSnapshots limits) (sym 
 
 none_left : (c : goal.In_default) → c.args.snapshots ≡ others_than c.args.name.now c.args.snapshots
 none_left c =
-    let none : position (has c.args.name.now) c.args.snapshots ≡ None = ap (position (has c.args.name.now)) (sym c.as_slice.ensures.value) ∙ sym c.place_of.ensures ∙ c.in_default.is in
+    let none : position (has c.args.name.now) c.args.snapshots ≡ None = ap (position (has c.args.name.now)) (sym c.as_slice.ensures.value) ∙ sym c.index_of.ensures ∙ c.in_default.is in
     none_taken c.args.snapshots c.args.name.now none
 
 pub returns-in_default-clause-list : goal.returns-in_default-clause-list

@@ -6,19 +6,19 @@ use Rattle.sn_snap.specs.Catalogue.{entry_of}
 use Rattle.sn_snap.proofs.FindLemmas.{entry_at, has, name_at, no_entry}
 use Rattle.sn_snap.proofs.finding.find.Goals as goal
 
-pub returns-in_err-place-clause-entry : goal.returns-in_err-place-clause-entry
-returns-in_err-place-clause-entry c =
-    let none : position (has c.args.name.now) c.args.snapshots.now ≡ None = ap (position (has c.args.name.now)) (sym c.as_slice-list.ensures.value) ∙ sym c.place_of.ensures ∙ c.in_err-place.was in
+pub returns-in_err-index-clause-entry : goal.returns-in_err-index-clause-entry
+returns-in_err-index-clause-entry c =
+    let none : position (has c.args.name.now) c.args.snapshots.now ≡ None = ap (position (has c.args.name.now)) (sym c.as_slice-list.ensures.value) ∙ sym c.index_of.ensures ∙ c.in_err-index.was in
     ap (λ r. option_map entry_of (option_copied r)) c.from_residual.ensures ∙ sym (no_entry entry_of c.args.snapshots.now c.args.name.now none)
 
-found : (c : goal.After-index-list-place) → position (has c.args.name.now) c.args.snapshots.now ≡ Some c.in_ok-place.place
-found c = ap (position (has c.args.name.now)) (sym c.as_slice-list.ensures.value) ∙ sym c.place_of.ensures ∙ c.in_ok-place.was
+found : (c : goal.After-index-list-index) → position (has c.args.name.now) c.args.snapshots.now ≡ Some c.in_ok-index.index
+found c = ap (position (has c.args.name.now)) (sym c.as_slice-list.ensures.value) ∙ sym c.index_of.ensures ∙ c.in_ok-index.was
 
-item : (c : goal.After-index-list-place) → c.index-list-place.result ≡ get_or c.args.snapshots.now c.in_ok-place.place c.index-list-place.result
-item c = c.index-list-place.is ∙ ap (λ (l : List Snapshot). get_or l c.in_ok-place.place c.index-list-place.result) c.as_slice-list.ensures.value
+item : (c : goal.After-index-list-index) → c.index-list-index.result ≡ get_or c.args.snapshots.now c.in_ok-index.index c.index-list-index.result
+item c = c.index-list-index.is ∙ ap (λ (l : List Snapshot). get_or l c.in_ok-index.index c.index-list-index.result) c.as_slice-list.ensures.value
 
 pub returns-clause-entry : goal.returns-clause-entry
-returns-clause-entry c = sym (entry_at entry_of c.args.snapshots.now c.args.name.now c.in_ok-place.place c.index-list-place.result (found c) (item c))
+returns-clause-entry c = sym (entry_at entry_of c.args.snapshots.now c.args.name.now c.in_ok-index.index c.index-list-index.result (found c) (item c))
 
 pub returns-clause-name : goal.returns-clause-name
-returns-clause-name c = name_at c.args.snapshots.now c.args.name.now c.in_ok-place.place c.index-list-place.result (found c) (item c)
+returns-clause-name c = name_at c.args.snapshots.now c.args.name.now c.in_ok-index.index c.index-list-index.result (found c) (item c)

@@ -3,7 +3,7 @@ use Rattle.std.specs.Prelude.{insert}
 use Rattle.std.specs.FinMap as map
 use Rattle.sn_layout.specs.declared.snapshot.Snapshot.{Snapshot}
 use Rattle.sn_snap.specs.Catalogue.{Entry, catalogue, entry_of}
-use Rattle.sn_snap.proofs.SortLemmas.{goes_to, keys_more, no_keys, place_among}
+use Rattle.sn_snap.proofs.SortLemmas.{goes_to, keys_more, no_keys, index_among}
 use Rattle.sn_snap.proofs.listing.names.Goals as goal
 
 pub loop-snapshot-init : goal.loop-snapshot-init
@@ -21,14 +21,14 @@ loop-snapshot-preserved c =
     let names = map.keys (catalogue (take i list)) in
     let item : s ≡ get_or list i s = c.snapshot-item.is ∙ ap (λ (l : List Snapshot). get_or l i s) c.as_slice-snapshot-items.ensures.value in
     let within : i < length list = omega (arith, c.loop-snapshot-test.true, ap length c.as_slice-snapshot-items.ensures.value) in
-    let place : c.unwrap_or-place.result ≡ place_among s.name held =
-    c.unwrap_or-place.ensures ∙ goes_to s.name held c.deref.result.now c.first_greater.result c.len.result c.deref.ensures.0 c.first_greater.ensures c.len.ensures.value in
+    let index : c.unwrap_or-index.result ≡ index_among s.name held =
+    c.unwrap_or-index.ensures ∙ goes_to s.name held c.deref.result.now c.first_greater.result c.len.result c.deref.ensures.0 c.first_greater.ensures c.len.ensures.value in
     record {
       keys = c.insert.ensures.items
-          ∙ ap (λ p. insert held p c.copy.result) place
-          ∙ ap (insert held (place_among s.name held)) c.copy.ensures
-          ∙ ap (λ l. insert l (place_among s.name l) s.name) c.loop-snapshot.invariant.keys
-          ∙ ap (λ (x : Snapshot). insert names (place_among x.name names) x.name) item
+          ∙ ap (λ p. insert held p c.copy.result) index
+          ∙ ap (insert held (index_among s.name held)) c.copy.ensures
+          ∙ ap (λ l. insert l (index_among s.name l) s.name) c.loop-snapshot.invariant.keys
+          ∙ ap (λ (x : Snapshot). insert names (index_among x.name names) x.name) item
           ∙ sym (keys_more entry_of list i s c.requires.distinct within);
       as_many = omega (arith, c.insert.ensures.len);
     }

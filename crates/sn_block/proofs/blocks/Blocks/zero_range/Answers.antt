@@ -1,7 +1,7 @@
 use Rattle.std.proofs.Common.{◌+◌, ◌*◌, replicate, arith}
 use Rattle.std.proofs.lemmas.Result.{err_from_is_err_and}
 use Rattle.sn_block.specs.Lending.{device_of}
-use Rattle.sn_block.proofs.RunLemmas.{IsWriting-start, IsWriting-next, next-room, touched-next, zeros-sector}
+use Rattle.sn_block.proofs.StretchLemmas.{IsWriting-start, IsWriting-next, next-room, touched-next, zeros-sector}
 use Rattle.sn_block.proofs.blocks.Blocks.zero_range.Goals as goal
 
 pub loop-i-init : goal.loop-i-init

@@ -1,6 +1,6 @@
 use Rattle.std.proofs.Common.{◌*◌, replicate}
 use Rattle.sn_block.specs.Lending.{device_of}
-use Rattle.sn_block.proofs.RunLemmas.{IsWriting}
+use Rattle.sn_block.proofs.StretchLemmas.{IsWriting}
 use Rattle.sn_block.proofs.blocks.Blocks.zero_range.Given as goal
 
 abbrev pub invariant-loop-i : goal.invariant-loop-i

@@ -1,6 +1,6 @@
 use Rattle.std.proofs.Common.{ℕ, ◌+◌, ◌*◌, ◌<◌, ◌≤◌, Ok, List, ap, subst, ◌∙◌}
 use Rattle.std.proofs.lemmas.Bool.{le-ltb, lt-ltb}
-use Rattle.sn_block.specs.Effects.{WritesRun}
+use Rattle.sn_block.specs.Effects.{WritesStretch}
 use Rattle.sn_block.specs.Lending.{device_of}
 use Rattle.sn_device.specs.declared.device.Fault.{Fault}
 use Rattle.sn_layout.specs.MapCopy.{map_block_bytes}
@@ -15,7 +15,7 @@ returns-then-k-map_blocks-clause-bytes g c told =
     let is = c.map_block-block.ensures ∙ ap (λ (ws : List ℕ). map_block_bytes (words_of_block k ws)) c.words.ensures in
     let old = g.D.Device.disk (device_of c.args.blocks.now) in
     let mid = g.D.Device.disk (device_of c.write_block.new.self) in
-    let writes = subst (λ (s : ℕ). WritesRun {E = Fault} (8 * (s + k)) 8 c.map_block-block.result (Ok c.in-Ok.field-0) old mid) c.range-start.ensures.start (c.in-Ok.ensures.disk told) in
+    let writes = subst (λ (s : ℕ). WritesStretch {E = Fault} (8 * (s + k)) 8 c.map_block-block.result (Ok c.in-Ok.field-0) old mid) c.range-start.ensures.start (c.in-Ok.ensures.disk told) in
     let more = lt-ltb (k + 1) _ (subst (λ (m : ℕ). k + 1 < m) c.map_blocks.ensures c.if-k-map_blocks.true) in
     map_steps (work_of c.args.self.now) c.requires.whole k c.requires.within (Ok c.in-Ok.field-0) old mid (g.met.D.Device.whole (device_of c.args.blocks.now) told) (c.requires.stands told) c.map_block-block.result is writes more
 
@@ -26,7 +26,7 @@ returns-clause-bytes g c told =
     let old = g.D.Device.disk (device_of c.args.blocks.now) in
     let mid = g.D.Device.disk (device_of c.write_block.new.self) in
     let whole = g.met.D.Device.whole (device_of c.args.blocks.now) told in
-    let writes = subst (λ (s : ℕ). WritesRun {E = Fault} (8 * (s + k)) 8 c.map_block-block.result (Ok c.in-Ok.field-0) old mid) c.range-start.ensures.start (c.in-Ok.ensures.disk told) in
+    let writes = subst (λ (s : ℕ). WritesStretch {E = Fault} (8 * (s + k)) 8 c.map_block-block.result (Ok c.in-Ok.field-0) old mid) c.range-start.ensures.start (c.in-Ok.ensures.disk told) in
     let last = le-ltb (k + 1) _ (subst (λ (m : ℕ). m ≤ k + 1) c.map_blocks.ensures c.if-k-map_blocks.false) in
     let wrote = map_reached (work_of c.args.self.now) c.requires.whole k c.requires.within (Ok c.in-Ok.field-0) old mid whole (c.requires.stands told) c.map_block-block.result is writes in
     last_steps (work_of c.args.self.now) c.requires.whole k c.requires.within (Ok c.in-Ok.field-0) old mid whole (c.requires.stands told) c.map_block-block.result is writes last wrote c.sync.result (g.D.Device.disk (device_of c.sync.new.self)) (c.sync.ensures.disk told)

@@ -4,5 +4,5 @@ use Rattle.sn_overlay.proofs.ListLemmas.{spanned}
 use Rattle.sn_overlay.proofs.lists.SortedMap+Link+Option+u16.names_of.Goals as goal
 
 pub returns : goal.returns
-returns c = ap (λ es. take (c.places_of-places.result.end - c.places_of-places.result.start) (drop c.places_of-places.result.start es)) c.deref.ensures.value
-    ∙ spanned link_cmp (λ link. link.directory) c.args.directory c.args.self.now.entries.items _ _ c.places_of-places.ensures
+returns c = ap (λ es. take (c.span_of-span.result.end - c.span_of-span.result.start) (drop c.span_of-span.result.start es)) c.deref.ensures.value
+    ∙ spanned link_cmp (λ link. link.directory) c.args.directory c.args.self.now.entries.items _ _ c.span_of-span.ensures

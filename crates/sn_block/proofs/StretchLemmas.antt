@@ -1,13 +1,13 @@
--- Runs of sectors that are written one after another.
+-- Stretches of sectors that are written one after another.
 use Rattle.std.proofs.Common.{◌≡◌, ℕ, ◌+◌, ◌*◌, ◌<◌, ◌≤◌, Bool, IsTrue, Ok, List, [], ◌++◌, length, take, drop, replicate, slice_set, sym, ◌∙◌, ap, arith}
 use Rattle.std.proofs.Math.Seq.{take-add}
 use Rattle.std.proofs.lemmas.List.{get_or-set_same, get_or-set_other, replicate-append-replicate}
-use Rattle.sn_device.specs.Sectors.{Contents, sector_at, Single, Run}
+use Rattle.sn_device.specs.Sectors.{Contents, sector_at, Single, Stretch}
 use Rattle.sn_device.specs.Disk.{Disk, reads}
 use Rattle.sn_device.specs.Crash.{Touches}
 use Rattle.sn_device.specs.declared.status.Status.{Status}
 use Rattle.sn_device.proofs.CrashLemmas.{Touches-start, Touches-join, Touches-within}
-use Rattle.sn_device.proofs.SectorLemmas.{Run-single}
+use Rattle.sn_device.proofs.SectorLemmas.{Stretch-single}
 use Rattle.sn_ondisk.specs.Blocks.{bytes_at}
 use Rattle.sn_block.specs.Counts.{called}
 use Rattle.sn_block.specs.Effects.{WritesSector}
@@ -17,7 +17,7 @@ use Rattle.sn_block.proofs.CountLemmas.{called-none, called-after}
 -- of n sectors i were written, which read as these bytes
 pub record IsWriting (tells : Bool) (at n i : ℕ) (bytes : List ℕ) (old new : Status) (before now : Disk) : Type 0 where
   pub counts : new ≡ called i 0 old
-  pub touched : IsTrue tells → Touches (Run at n) before now
+  pub touched : IsTrue tells → Touches (Stretch at n) before now
   pub done : IsTrue tells → bytes_at (reads now) at i ≡ bytes
 
 bytes_at-written : (c : Contents) (at i : ℕ) (sector : List ℕ) → at + i < length c → bytes_at (slice_set c (at + i) sector) at (i + 1) ≡ bytes_at c at i ++ sector
@@ -36,7 +36,7 @@ zeros-sector i byte = replicate-append-replicate (512 * i) 512 byte ∙ ap (λ n
 pub IsWriting-start : (tells : Bool) (at n : ℕ) (s : Status) (d : Disk) → IsWriting tells at n 0 [] s s d d
 IsWriting-start tells at n s d = record {
   counts = called-none s;
-  touched = λ told. Touches-start (Run at n) d;
+  touched = λ told. Touches-start (Stretch at n) d;
   done = λ told. sym (bytes_at-none (reads d) at);
 }
 
@@ -47,9 +47,9 @@ next-room at n i c old now more room counts count =
     omega arith
 
 module _ (at n i : ℕ) (before now after : Disk) where
-  pub touched-next : i < n → Touches (Run at n) before now → Touches (Single (at + i)) now after → Touches (Run at n) before after
+  pub touched-next : i < n → Touches (Stretch at n) before now → Touches (Single (at + i)) now after → Touches (Stretch at n) before after
   touched-next more so_far wrote =
-      Touches-join (Run at n) before now after so_far (Touches-within (Single (at + i)) (Run at n) now after (Run-single at n (at + i) (omega arith, omega arith)) wrote)
+      Touches-join (Stretch at n) before now after so_far (Touches-within (Single (at + i)) (Stretch at n) now after (Stretch-single at n (at + i) (omega arith, omega arith)) wrote)
 
   -- one sector more
   pub IsWriting-next : {T E : Type 0} (tells : Bool) (bytes sector all : List ℕ) (x : T) (old mid new : Status) → i < n → bytes ++ sector ≡ all → IsWriting tells at n i bytes old mid before now → (IsTrue tells → at + i < length (reads now))

@@ -1,6 +1,6 @@
 use Rattle.std.proofs.Common.{◌≡◌, ◌-◌, ◌≤◌, ◌++◌, length, take, drop}
 use Rattle.sn_layout_node.specs.Directory.{AreLinkBytes, links_bytes, links_of, number_of, without}
-use Rattle.sn_layout_node.proofs.directory.place_of.Given as goal
+use Rattle.sn_layout_node.proofs.directory.span_of.Given as goal
 
 abbrev pub invariant-loop-name : goal.invariant-loop-name
 invariant-loop-name l = record {

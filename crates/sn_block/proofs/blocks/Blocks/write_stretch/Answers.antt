@@ -1,8 +1,8 @@
 use Rattle.std.proofs.Common.{◌+◌, ◌*◌, ◌/◌, ◌-◌, length, take, arith}
 use Rattle.std.proofs.lemmas.Result.{err_from_is_err_and}
 use Rattle.sn_block.specs.Lending.{device_of}
-use Rattle.sn_block.proofs.RunLemmas.{IsWriting-start, IsWriting-next, next-room, touched-next, take-sector}
-use Rattle.sn_block.proofs.blocks.Blocks.write_run.Goals as goal
+use Rattle.sn_block.proofs.StretchLemmas.{IsWriting-start, IsWriting-next, next-room, touched-next, take-sector}
+use Rattle.sn_block.proofs.blocks.Blocks.write_stretch.Goals as goal
 
 pub loop-i-init : goal.loop-i-init
 loop-i-init g c = IsWriting-start g.D.Device.tells_bytes c.args.at (length c.args.bytes.now / 512) _ _

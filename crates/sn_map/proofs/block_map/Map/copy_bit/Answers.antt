@@ -1,7 +1,7 @@
 use Rattle.std.proofs.Common.{arith}
 use Rattle.std.proofs.lemmas.Grind.{common_steps}
 use Rattle.sn_map.proofs.BitsLemmas.{copies_bit}
-use Rattle.sn_map.proofs.block_map.Map.copy_bit0_to.Goals as goal
+use Rattle.sn_map.proofs.block_map.Map.copy_bit.Goals as goal
 
 pub returns-clause-bits : goal.returns-clause-bits
-returns-clause-bits c = copies_bit 0 c.args.k _ _ (grind (arith, common_steps))
+returns-clause-bits c = copies_bit c.args.from c.args.to _ _ (grind (arith, common_steps))

@@ -1,7 +1,7 @@
 use Rattle.std.proofs.Common.{◌*◌, ◌/◌, length, take}
 use Rattle.sn_block.specs.Lending.{device_of}
-use Rattle.sn_block.proofs.RunLemmas.{IsWriting}
-use Rattle.sn_block.proofs.blocks.Blocks.write_run.Given as goal
+use Rattle.sn_block.proofs.StretchLemmas.{IsWriting}
+use Rattle.sn_block.proofs.blocks.Blocks.write_stretch.Given as goal
 
 abbrev pub invariant-loop-i : goal.invariant-loop-i
 invariant-loop-i g l =

@@ -2,7 +2,7 @@ use Rattle.std.proofs.Common.{◌≡◌, true, false, ltb, leb, rules}
 use Rattle.std.specs.List.Sorted.{IsPartitionPoint}
 use Rattle.std.proofs.lemmas.List.Sorted.{IsPartitionPoint-from_clause, IsPartitionedBy-leb, IsPartitionedBy-ltb}
 use Rattle.sn_overlay.proofs.ListLemmas.{span_found, rising-blocks}
-use Rattle.sn_overlay.proofs.lists.SortedMap+FileBlock+Box+Block.places_of.Goals as goal
+use Rattle.sn_overlay.proofs.lists.SortedMap+FileBlock+Box+Block.span_of.Goals as goal
 
 pub returns : goal.returns
 returns c =

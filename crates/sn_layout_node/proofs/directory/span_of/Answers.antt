@@ -3,7 +3,7 @@ use Rattle.std.proofs.lemmas.List.{nil_from_length}
 use Rattle.sn_layout_node.specs.Directory.{Link, link_bytes, links_bytes, links_of, number_of, without}
 use Rattle.sn_layout_node.proofs.Links.{links_of-nil}
 use Rattle.sn_layout_node.proofs.Changes.{first_is, passed, number_other, without_first, without_other, without_none}
-use Rattle.sn_layout_node.proofs.directory.place_of.Goals as goal
+use Rattle.sn_layout_node.proofs.directory.span_of.Goals as goal
 
 pub returns-then-eq-clause-others : goal.returns-then-eq-clause-others
 returns-then-eq-clause-others c =

@@ -1,0 +1,67 @@
+-- A change that is prepared, and laid over.
+use Rattle.std.proofs.Common.{◌≡◌, List, true, false, Option, Some, None, is_some, refl, sym, ap, subst, ◌∙◌, ℕ}
+use Rattle.sn_directories.specs.Told.{IsShown, TellsDirectories}
+use Rattle.sn_directories.specs.declared.table.Counted.{Counted}
+use Rattle.sn_limits.specs.Versions.{version_1}
+use Rattle.sn_model.specs.declared.change.Change.{Change}
+use Rattle.sn_model.specs.ChangeLaws.{ChangesKeepTheTree}
+use Rattle.sn_model.specs.Changes.{apply}
+use Rattle.sn_model.specs.Charges.{charge_for}
+use Rattle.sn_model.specs.NameTree.{IsHierarchy, IsTree}
+use Rattle.sn_model.specs.Tree.{Tree}
+use Rattle.sn_overlay.specs.Laws.{MergesLie, MergesShowBoth}
+use Rattle.sn_overlay.specs.Layers.{Layer, through}
+use Rattle.sn_overlay.specs.Merges.{merge}
+use Rattle.sn_overlay.specs.Overlays.{layer_of}
+use Rattle.sn_overlay.specs.Seen.{LiesOver}
+use Rattle.sn_logged.specs.Laid.{CanBeLaid, IsLaid}
+use Rattle.sn_logged.specs.Moves.{moves_of}
+use Rattle.sn_logged.specs.declared.moving.NameMoves.{NameMoves}
+use Rattle.sn_overlay.specs.declared.overlay.Overlay.{Overlay}
+use Rattle.sn_logged.specs.declared.preparing.Prepared.{Prepared}
+
+pub can_be : {A : Type 0} (o : Option A) → true ≡ is_some o → (x : A) × (o ≡ Some x)
+can_be None e = cc e
+can_be (Some x) e = (x, refl)
+
+pub can_not_be : {A : Type 0} (o : Option A) → false ≡ is_some o → o ≡ None
+can_not_be None e = refl
+can_not_be (Some x) e = cc e
+
+module _ (older : Layer) (below : Tree) (rows next : List Counted) (change : Change) (p : Prepared) (new : Layer) (shown : IsShown older below rows) (can : CanBeLaid p (through older below) change) (is : new ≡ merge older (layer_of p.newer)) where
+  merged : MergesShowBoth → through new below ≡ can.after
+  merged both = ap (λ (l : Layer). through l below) is ∙ both older (layer_of p.newer) below shown.lies.whole can.lies.whole shown.lies.fits can.lies.fits ∙ can.shows
+
+  pub laid : MergesShowBoth → IsLaid (Some p.charge) (through older below) change (through new below)
+  laid both = (can.applied ∙ ap (λ (t : Tree). Some t) (sym (merged both)), can.charged)
+
+  pub still_shown : MergesShowBoth → MergesLie → ChangesKeepTheTree
+      → ((tree after : Tree) (c : Change) → IsTree version_1 tree → p.moves ≡ moves_of tree c → apply version_1 c tree ≡ Some after → TellsDirectories tree rows → TellsDirectories after next) → IsShown new below next
+  still_shown both lie keep notes = record {
+    lies = subst (λ (l : Layer). LiesOver l below) (sym is) (lie older (layer_of p.newer) below shown.lies can.lies);
+    whole = subst (λ (t : Tree). IsTree version_1 t) (sym (merged both)) (keep version_1 change (through older below) can.after shown.whole can.applied);
+    tells = subst (λ (t : Tree). TellsDirectories t next) (sym (merged both)) (notes (through older below) can.after change shown.whole can.moves can.applied shown.tells);
+  }
+
+-- what was prepared over a tree that shows what was shown before
+module _ (now live : Tree) (same : now ≡ live) (change : Change) where
+  pub can_be_laid : (charge : ℕ) (moves : NameMoves) (newer : Overlay) → IsHierarchy live → (after : Tree) → apply version_1 change live ≡ Some after
+      → ((a : Tree) → IsHierarchy now → apply version_1 change now ≡ Some a → through (layer_of newer) now ≡ a)
+      → ((a : Tree) → IsHierarchy now → apply version_1 change now ≡ Some a → LiesOver (layer_of newer) now)
+      → charge ≡ charge_for version_1 live change → moves ≡ moves_of live change → CanBeLaid (record { charge = charge; moves = moves; newer = newer }) live change
+  can_be_laid charge moves newer whole after applied shows lies charged moved =
+      let whole_now = subst IsHierarchy (sym same) whole in
+      let applied_now = ap (apply version_1 change) same ∙ applied in
+      record {
+        after = after;
+        applied = applied;
+        shows = subst (λ (t : Tree). through (layer_of newer) t ≡ after) same (shows after whole_now applied_now);
+        lies = subst (LiesOver (layer_of newer)) same (lies after whole_now applied_now);
+        charged = charged;
+        moves = moved;
+      }
+
+  pub laid_there : (p : Prepared) → IsHierarchy live → true ≡ is_some (apply version_1 change live) → (IsHierarchy now → (a : Tree) → apply version_1 change now ≡ Some a → CanBeLaid p now change) → CanBeLaid p live change
+  laid_there p whole can prepared =
+      let made = can_be (apply version_1 change live) can in
+      subst (λ (t : Tree). CanBeLaid p t change) same (prepared (subst IsHierarchy (sym same) whole) made.0 (ap (apply version_1 change) same ∙ made.1))

@@ -1,0 +1,31 @@
+-- What is prepared for a change of a tree, and what it comes to.
+use Rattle.std.specs.Prelude.{◌≡◌, ℕ, Option, None, Some}
+use Rattle.sn_limits.specs.Versions.{version_1}
+use Rattle.sn_model.specs.declared.change.Change.{Change}
+use Rattle.sn_model.specs.Changes.{apply}
+use Rattle.sn_model.specs.Charges.{charge_for}
+use Rattle.sn_model.specs.Tree.{Tree}
+use Rattle.sn_overlay.specs.Layers.{through}
+use Rattle.sn_overlay.specs.Overlays.{layer_of}
+use Rattle.sn_overlay.specs.Seen.{LiesOver}
+use Rattle.sn_logged.specs.Moves.{moves_of}
+use Rattle.sn_logged.specs.declared.preparing.Prepared.{Prepared}
+
+-- A change can be applied to a tree. Through its overlay, which lies over the tree, the tree is what the change makes of it; it is charged so much, and does so to names.
+pub record CanBeLaid (p : Prepared) (live : Tree) (change : Change) : Type 0 where
+  pub after : Tree
+  pub applied : apply version_1 change live ≡ Some after
+  pub shows : through (layer_of p.newer) live ≡ after
+  pub lies : LiesOver (layer_of p.newer) live
+  pub charged : p.charge ≡ charge_for version_1 live change
+  pub moves : p.moves ≡ moves_of live change
+
+-- or it can't be applied
+abbrev pub IsPrepared : Option Prepared → Tree → Change → Type 0
+IsPrepared None live change = apply version_1 change live ≡ None
+IsPrepared (Some p) live change = CanBeLaid p live change
+
+-- The change was applied to a tree, and is charged so much; or it can't be applied, and the tree is as it was.
+abbrev pub IsLaid : Option ℕ → Tree → Change → Tree → Type 0
+IsLaid None live change after = (apply version_1 change live ≡ None) × (after ≡ live)
+IsLaid (Some charge) live change after = (apply version_1 change live ≡ Some after) × (charge ≡ charge_for version_1 live change)

@@ -1,0 +1,113 @@
+//! What a change is charged.
+ghost use Rattle.std.specs.Prelude.{◌≡◌, ◌+◌, ◌*◌, ◌≤◌, ◌^◌, Some, IsTrue, IfErr, IfOk, if◌then◌else◌};
+ghost use Rattle.std.specs.FinMap as map;
+ghost use Rattle.sn_model.specs.Charges.{charge_for, file_under};
+ghost use Rattle.sn_model.specs.FileCalls.{blocks_spanned};
+ghost use Rattle.sn_model.specs.Tree.{link_to};
+ghost use Rattle.sn_model.specs.declared.link.Link.{Link};
+
+use sn_applies::NamedTree;
+use sn_limits::{Kind, Limits};
+use sn_model::Change;
+
+// How many blocks so many bytes lie in, from an offset on.
+fn blocks_spanned(offset: u64, count: usize) -> u64
+    ensures spanned { result ≡ blocks_spanned offset count }
+    ensures few { result ≤ 2 ^ 53 }
+{
+    let end = u128::from(offset) + count as u128;
+    let last = end.saturating_sub(1) / 4096;
+    (last.saturating_sub(u128::from(offset / 4096)) + 1) as u64
+}
+
+// The charge for a file and so many of its blocks.
+fn file_charge(limits: &Limits, blocks: u64) -> u128
+    requires { blocks ≤ 2 ^ 53 }
+    ensures exact { result ≡ limits.now.inode_charge + limits.now.block_charge * blocks }
+    ensures most { result ≤ limits.now.inode_charge + limits.now.block_charge * 2 ^ 53 }
+{
+    u128::from(limits.inode_charge) + u128::from(limits.block_charge) * u128::from(blocks)
+}
+
+// Whether a number is a file's.
+fn is_file<T: NamedTree>(tree: &mut T, number: u16) -> Result<bool, T::Fault>
+    requires { T.holds tree.old }
+    ensures kept { T.holds tree.new }
+    ensures follows { T.follows tree.old tree.new }
+    ensures same { IsTrue T.is_told → T.shows tree.new ≡ T.shows tree.old }
+    ensures found { IsTrue T.is_told → (link : Link) → map.get (T.shows tree.old).links link ≡ Some number → IfOk result (λ b. file_under (T.shows tree.old) link ≡ (if b then 1 else 0)) }
+    ensures cause { IfErr result (λ f. T.causes tree.old tree.new f) }
+{
+    match tree.node(number) {
+        Ok(Some(node)) => Ok(node.kind == Kind::File),
+        Ok(None) => Ok(false),
+        Err(fault) => Err(fault),
+    }
+}
+
+// Whether a name of a directory is a file's.
+fn is_file_under<T: NamedTree>(tree: &mut T, directory: u16, name: &[u8]) -> Result<bool, T::Fault>
+    requires { T.holds tree.old }
+    ensures kept { T.holds tree.new }
+    ensures follows { T.follows tree.old tree.new }
+    ensures same { IsTrue T.is_told → T.shows tree.new ≡ T.shows tree.old }
+    ensures found { IsTrue T.is_told → IfOk result (λ b. file_under (T.shows tree.old) (link_to directory name.now) ≡ (if b then 1 else 0)) }
+    ensures cause { IfErr result (λ f. T.causes tree.old tree.new f) }
+{
+    match tree.number(directory, name)? {
+        Some(number) => is_file(tree, number),
+        None => Ok(false),
+    }
+}
+
+// A file that loses a name may stay without one, which is charged beside the change.
+fn remove_charge<T: NamedTree>(
+    limits: &Limits,
+    tree: &mut T,
+    directory: u16,
+    name: &[u8],
+) -> Result<u128, T::Fault>
+    requires { T.holds tree.old }
+    ensures kept { T.holds tree.new }
+    ensures follows { T.follows tree.old tree.new }
+    ensures same { IsTrue T.is_told → T.shows tree.new ≡ T.shows tree.old }
+    ensures exact { IsTrue T.is_told → IfOk result (λ n. n ≡ (2 + file_under (T.shows tree.old) (link_to directory name.now)) * limits.now.inode_charge + limits.now.block_charge) }
+    ensures most { IfOk result (λ n. n ≤ 3 * limits.now.inode_charge + limits.now.block_charge) }
+    ensures cause { IfErr result (λ f. T.causes tree.old tree.new f) }
+{
+    let is_file = is_file_under(tree, directory, name)?;
+    let inodes = if is_file { 3 } else { 2 };
+    Ok(inodes * u128::from(limits.inode_charge) + u128::from(limits.block_charge))
+}
+
+/// The blocks that are charged for a change of a tree. It looks a name up at most.
+pub(crate) fn charge<T: NamedTree>(
+    limits: &Limits,
+    tree: &mut T,
+    change: &Change<'_>,
+) -> Result<u128, T::Fault>
+    requires { T.holds tree.old }
+    ensures kept { T.holds tree.new }
+    ensures follows { T.follows tree.old tree.new }
+    ensures same { IsTrue T.is_told → T.shows tree.new ≡ T.shows tree.old }
+    ensures exact { IsTrue T.is_told → IfOk result (λ n. n ≡ charge_for limits.now (T.shows tree.old) change.now) }
+    ensures most { IfOk result (λ n. n ≤ 5 * limits.now.inode_charge + limits.now.block_charge * 2 ^ 53) }
+    ensures cause { IfErr result (λ f. T.causes tree.old tree.new f) }
+{
+    let inode = u128::from(limits.inode_charge);
+    let block = u128::from(limits.block_charge);
+    match change {
+        Change::Make { .. } => Ok(2 * inode + block),
+        Change::AddLink { .. } => Ok(2 * inode + block),
+        Change::Remove { directory, name } => {
+            remove_charge(limits, tree, *directory, name.as_slice())
+        }
+        Change::Rename { .. } => Ok(5 * inode + 2 * block),
+        Change::Write { offset, bytes, .. } => Ok(file_charge(
+            limits,
+            blocks_spanned(*offset, bytes.as_slice().len()),
+        )),
+        Change::SetSize { .. } => Ok(inode + block),
+        Change::SetAttributes { .. } => Ok(inode),
+    }
+}

@@ -1,0 +1,32 @@
+//! Changes that a journal has, laid over a tree that is read.
+//!
+//! A replay makes the changes of a journal one after the other, each of the tree that those before it have left. The
+//! tree isn't in memory: it is a tree below, seen through an overlay of what was replayed so far, with the table of its
+//! directories. Whether the next change can be applied is asked of that (`sn_applies`); if it can, its own overlay
+//! (`sn_overlay_change`) is laid over the older one, and the table goes on with it.
+//!
+//! The model is `apply` and `charge_for` of `sn_model`, over the tree that is seen.
+//!
+//! The way through it:
+//!
+//! 1. `specs/Moves`: what a change does to the names of directories. `specs/Laid`: what is prepared for a change, and
+//!    what a change that was laid over a tree comes to.
+//! 2. `charging` reads what a change is charged, `moving` what it does to names, and notes it in the table.
+//! 3. [`lay_change`], which prepares a change and lays it over.
+//!
+//! What the sources leave open is decided in `docs/DECISIONS.md`, under "What changed since a root".
+//!
+//! ```text
+//! match lay_change(alloc, &mut root, &mut changed, &mut directories, &change)? {
+//!     Some(charge) => charges += charge,
+//!     None => return Err(Fault::CannotApply),
+//! }
+//! ```
+#![tactic(auto)]
+
+mod charging;
+mod laying;
+mod moving;
+mod preparing;
+
+pub use laying::lay_change;

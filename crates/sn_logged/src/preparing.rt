@@ -1,0 +1,81 @@
+//! What is read and grown for a change before it is laid over.
+ghost use Rattle.std.specs.Prelude.{◌≡◌, ◌≤◌, ◌^◌, Some, IsTrue, IfOk, IfSome};
+ghost use Rattle.sn_limits.specs.Versions.{version_1};
+ghost use Rattle.sn_logged.specs.Laid.{CanBeLaid, IsPrepared};
+ghost use Rattle.sn_model.specs.Changes.{apply};
+ghost use Rattle.sn_model.specs.NameTree.{IsHierarchy};
+ghost use Rattle.sn_model.specs.Tree.{Tree};
+ghost use Rattle.sn_overlay_change.specs.Faults.{IfBelow};
+
+use crate::charging::charge;
+use crate::moving::{NameMoves, moves_of};
+use sn_applies::{NamedTree, applies};
+use sn_limits::Limits;
+use sn_model::Change;
+use sn_overlay::Overlay;
+use sn_overlay_change::{LayerFault, of_change};
+use std::alloc::Global;
+
+/// What a change that can be applied is charged, does to names, and makes different.
+#[derive(Drop)]
+pub(crate) struct Prepared {
+    pub charge: u128,
+    pub moves: NameMoves,
+    pub newer: Overlay,
+}
+
+// What is prepared for a change that can be applied.
+fn prepare_possible<T: NamedTree>(
+    alloc: Global,
+    tree: &mut T,
+    change: &Change<'_>,
+) -> Result<Prepared, LayerFault<T::Fault>>
+    requires { T.holds tree.old }
+    ensures kept { T.holds tree.new }
+    ensures follows { T.follows tree.old tree.new }
+    ensures same { IsTrue T.is_told → T.shows tree.new ≡ T.shows tree.old }
+    ensures found { IsTrue T.is_told → IsHierarchy (T.shows tree.old) → (after : Tree) → apply version_1 change.now (T.shows tree.old) ≡ Some after
+        → IfOk result (λ p. CanBeLaid p (T.shows tree.old) change.now) }
+    ensures few { IfOk result (λ p. p.charge ≤ 2 ^ 64) }
+    ensures cause { IfBelow result (λ f. T.causes tree.old tree.new f) }
+{
+    let charge = match charge(&Limits::VERSION_1, tree, change) {
+        Ok(charge) => charge,
+        Err(fault) => return Err(LayerFault::Below(fault)),
+    };
+    let moves = match moves_of(tree, change) {
+        Ok(moves) => moves,
+        Err(fault) => return Err(LayerFault::Below(fault)),
+    };
+    let newer = of_change(alloc, &Limits::VERSION_1, tree, change)?;
+    Ok(Prepared {
+        charge,
+        moves,
+        newer,
+    })
+}
+
+/// What is prepared for a change, `None` where it can't be applied.
+pub(crate) fn prepare<T: NamedTree>(
+    alloc: Global,
+    tree: &mut T,
+    change: &Change<'_>,
+) -> Result<Option<Prepared>, LayerFault<T::Fault>>
+    requires { T.holds tree.old }
+    ensures kept { T.holds tree.new }
+    ensures follows { T.follows tree.old tree.new }
+    ensures same { IsTrue T.is_told → T.shows tree.new ≡ T.shows tree.old }
+    ensures found { IsTrue T.is_told → IsHierarchy (T.shows tree.old) → IfOk result (λ p. IsPrepared p (T.shows tree.old) change.now) }
+    ensures few { IfOk result (λ p. IfSome p (λ prepared. prepared.charge ≤ 2 ^ 64)) }
+    ensures cause { IfBelow result (λ f. T.causes tree.old tree.new f) }
+{
+    match applies(&Limits::VERSION_1, tree, change) {
+        Ok(true) => {}
+        Ok(false) => return Ok(None),
+        Err(fault) => return Err(LayerFault::Below(fault)),
+    }
+    match prepare_possible(alloc, tree, change) {
+        Ok(prepared) => Ok(Some(prepared)),
+        Err(fault) => Err(fault),
+    }
+}
