@@ -148,3 +148,13 @@ module _ (at : LogPosition) (change : Change) (spelled : IsSpelled change) (room
       let written : WritesBehind {T = U} {E = V} gate (body_sectors payload) bytes (Ok x) old mid = subst (λ m. WritesBehind {T = U} {E = V} gate m bytes (Ok x) old mid) long (subst (λ y. WritesBehind {T = U} {E = V} y n bytes (Ok x) old mid) here wrote) in
       append-done bytes is fits old mid new whole whole_mid (subst (λ y. y < length (reads mid)) here inside) written.touched written.body written.shut written.synced r
       (subst (λ s. WritesSynced gate s r mid new) opens (subst (λ y. WritesSynced y sector r mid new) here opening))
+
+-- ---- what an append comes to, whatever it answers beside
+
+pub appends_failing : {T U E : Type 0} (at : LogPosition) (change : Change) (r : Result T E) (q : Result U E) (e : E) (old new : Disk) → r ≡ Err e → q ≡ Err e → Appends at change r old new → Appends at change q old new
+appends_failing at change r q e old new failed fails h = rw fails (record { touched = h.touched; any_moment = h.any_moment; acknowledged = λ changes here. tt; synced = tt; gate = tt; next_gate = tt })
+
+pub appends_done : {T U E : Type 0} (at : LogPosition) (change : Change) (r : Result T E) (x : T) (y : U) (old new : Disk) → r ≡ Ok x → Appends at change r old new → Appends {T = U} {E = E} at change (Ok y) old new
+appends_done {T} {U} {E} at change r x y old new done h =
+    let is : Appends {T = T} {E = E} at change (Ok x) old new = subst (λ (o : Result T E). Appends at change o old new) done h in
+    record { touched = is.touched; any_moment = is.any_moment; acknowledged = is.acknowledged; synced = is.synced; gate = is.gate; next_gate = is.next_gate }

@@ -1,5 +1,5 @@
 //! The writes of an append.
-ghost use Rattle.std.specs.Prelude.{◌≡◌, ◌+◌, ◌*◌, ◌/◌, ◌%◌, ◌≤◌, length, IsTrue};
+ghost use Rattle.std.specs.Prelude.{◌≡◌, ◌+◌, ◌*◌, ◌/◌, ◌%◌, ◌≤◌, length, IsTrue, IfOk};
 ghost use Rattle.sn_block.specs.Counts.{CountsCalls};
 ghost use Rattle.sn_block.specs.Lending.{device_of};
 ghost use Rattle.sn_ondisk.specs.LogHalf.{body_sectors};
@@ -32,13 +32,13 @@ fn write_behind<D: Device>(blocks: &mut Blocks<D>, at: u64, body: &[u8]) -> Resu
     blocks.sync()
 }
 
-/// Appends the record of a change at a position, with room for its body.
+/// Appends the record of a change at a position, with room for its body, and answers how many sectors the body takes.
 pub(crate) fn append_at<D: Device>(
     blocks: &mut Blocks<D>,
     position: Position,
     room: &mut [u8; 66_048],
     change: &Change<'_>,
-) -> Result<(), Fault>
+) -> Result<u64, Fault>
     requires spelled { IsSpelled change.now }
     requires room { HasRoom position change.now }
     requires disk { 8 * position.blocks ≤ (D.status (device_of blocks.old)).sectors }
@@ -46,9 +46,11 @@ pub(crate) fn append_at<D: Device>(
         (D.disk (device_of blocks.old)) (D.disk (device_of blocks.new)) }
     ensures counts { CountsCalls (body_sectors (payload_bytes change.now) + 2) 2 result
         (D.status (device_of blocks.old)) (D.status (device_of blocks.new)) }
+    ensures sectors { IfOk result (λ sectors. sectors ≡ body_sectors (payload_bytes change.now)) }
 {
     let gate = 8 * u64::from(position.start()) + position.place();
     let size = put_body(room, position.epoch(), position.count(), change);
     write_behind(blocks, gate, &room[..size])?;
-    blocks.write_synced(gate, &sector_of(Gate::Open))
+    blocks.write_synced(gate, &sector_of(Gate::Open))?;
+    Ok((size / SECTOR_SIZE) as u64)
 }

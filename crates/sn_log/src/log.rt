@@ -72,8 +72,8 @@ impl Log {
         ensures moves { OnOk result (self.new ≡ behind self.old change.now) }
         ensures stays { OnErr result (self.new ≡ self.old) }
     {
-        append_at(blocks, self.position, &mut self.buffer.body, change)?;
-        self.position = self.position.behind(sectors_of(change));
+        let sectors = append_at(blocks, self.position, &mut self.buffer.body, change)?;
+        self.position = self.position.behind(sectors);
         Ok(())
     }
 
