@@ -36,9 +36,9 @@ use Rattle.sn_overlay.specs.Needs.{levels}
 use Rattle.sn_overlay.specs.declared.file_block.FileBlock.{FileBlock}
 use Rattle.sn_overlay.specs.declared.node.NodeChange.TheVariants.{Changed, Gone}
 use Rattle.sn_overlay.specs.declared.node.NodeState.{NodeState}
-use Rattle.sn_tree.specs.Contents.{IsContentReplanned, IsReleased}
 use Rattle.sn_tree.specs.Drafts.{Draft, grown}
 use Rattle.sn_tree.proofs.StepLemmas.{grown-grown, grown-none}
+use Rattle.sn_content.specs.Contents.{IsContentReplanned, IsReleased}
 use Rattle.sn_cp_nodes.specs.Built.{BuildsNode, StandsFor}
 use Rattle.sn_cp_nodes.specs.Inodes.{IsInodeFor, content_in}
 use Rattle.sn_cp_nodes.specs.Made.{IsBegun, IsContentMade, IsDirectoryMade, IsFileMade, IsGone, IsMadeAs, IsTreeMade, Pair}

@@ -20,7 +20,7 @@ use Rattle.sn_ondisk.proofs.TreeLemmas.{bytes_of_block, entry-level, levels_room
 use Rattle.sn_ondisk.specs.Trees.{Store, data_block, entry, named_by, pointers_at, tree_bytes, tree_reach}
 use Rattle.sn_overlay.specs.Pieces.{joined, piece}
 use Rattle.sn_overlay.proofs.PieceLemmas.{get_or-joined, get_or-piece, length-joined, length-piece}
-use Rattle.sn_tree.specs.Contents.{HasDataBlocks, content_block, inline_block}
+use Rattle.sn_content.specs.Contents.{HasDataBlocks, content_block, inline_block}
 
 -- ---- lists of one length, one after the other
 

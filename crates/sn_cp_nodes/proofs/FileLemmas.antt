@@ -25,12 +25,12 @@ use Rattle.sn_overlay.specs.Sorted.{bytes_by_file_block}
 use Rattle.sn_overlay.specs.declared.node.NodeChange.TheVariants.{Changed}
 use Rattle.sn_overlay.specs.declared.node.NodeState.{NodeState}
 use Rattle.sn_overlay.proofs.PieceLemmas.{joined_alike, length-piece, length-zeros}
-use Rattle.sn_tree.specs.Contents.{HasDataBlocks, IsContentReplanned, content_block}
 use Rattle.sn_tree.specs.Dirty.{block_after}
 use Rattle.sn_tree.specs.Orders.{AreInOrder}
 use Rattle.sn_tree.specs.Plans.{Holds}
 use Rattle.sn_tree.specs.Replanned.{EndsAt}
 use Rattle.sn_tree.specs.declared.new_block.NewBlock.{NewBlock}
+use Rattle.sn_content.specs.Contents.{HasDataBlocks, IsContentReplanned, content_block}
 use Rattle.sn_cp_nodes.specs.Built.{IsGround}
 use Rattle.sn_cp_nodes.specs.Parts.{Blocks, content_of, dirty_of, keep_of}
 use Rattle.sn_cp_nodes.proofs.ByteLemmas.{IsRoomy, content_joined, old_piece}

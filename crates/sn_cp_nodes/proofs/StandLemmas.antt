@@ -32,11 +32,11 @@ use Rattle.sn_overlay.specs.declared.node.NodeChange.{NodeChange}
 use Rattle.sn_overlay.specs.declared.node.NodeChange.TheVariants.{Changed, Gone}
 use Rattle.sn_overlay.specs.declared.node.NodeState.{NodeState}
 use Rattle.sn_overlay.proofs.LayerLemmas.{get-through_nodes}
-use Rattle.sn_tree.specs.Contents.{IsContentReplanned, content_block}
 use Rattle.sn_tree.specs.Orders.{AreInOrder}
 use Rattle.sn_tree.specs.Plans.{Holds}
 use Rattle.sn_tree.specs.Replanned.{EndsAt}
 use Rattle.sn_tree.specs.declared.new_block.NewBlock.{NewBlock}
+use Rattle.sn_content.specs.Contents.{IsContentReplanned, content_block}
 use Rattle.sn_cp_nodes.specs.Built.{IsGround, StandsFor}
 use Rattle.sn_cp_nodes.specs.Inodes.{IsInodeFor}
 use Rattle.sn_cp_nodes.specs.Made.{ChangeThem}

@@ -28,13 +28,13 @@ use Rattle.sn_ondisk.specs.Trees.{Store}
 use Rattle.sn_overlay.specs.Layers.{Layer, through}
 use Rattle.sn_overlay.specs.declared.node.NodeChange.TheVariants.{Changed}
 use Rattle.sn_overlay.specs.declared.node.NodeState.{NodeState}
-use Rattle.sn_tree.specs.Contents.{content_block}
 use Rattle.sn_tree.specs.Drafts.{Draft, grown}
 use Rattle.sn_tree.specs.Plans.{Holds}
 use Rattle.sn_tree.specs.Replanned.{EndsAt}
 use Rattle.sn_tree.specs.declared.new_block.NewBlock.{NewBlock}
 use Rattle.sn_tree.proofs.LawLemmas.{ended_pointers}
 use Rattle.sn_tree.proofs.StepLemmas.{grown-grown}
+use Rattle.sn_content.specs.Contents.{content_block}
 use Rattle.sn_cp_nodes.specs.Built.{IsGround, KeepsReach}
 use Rattle.sn_cp_nodes.specs.Inodes.{AreAclsFor, FitsContent}
 use Rattle.sn_cp_nodes.specs.Made.{HasTaken, IsDirectoryMade, IsFileMade, IsInodeMade, IsMadeAs}

@@ -29,11 +29,11 @@ use Rattle.sn_overlay.specs.Sorted.{bytes_by_file_block}
 use Rattle.sn_overlay.specs.declared.node.NodeChange.{NodeChange}
 use Rattle.sn_overlay.specs.declared.node.NodeChange.TheVariants.{Changed}
 use Rattle.sn_overlay.specs.declared.node.NodeState.{NodeState}
-use Rattle.sn_tree.specs.Contents.{IsContentReplanned}
 use Rattle.sn_tree.specs.Drafts.{Draft}
 use Rattle.sn_tree.specs.Orders.{AreInOrder}
 use Rattle.sn_tree.specs.Plans.{Holds}
 use Rattle.sn_tree.specs.declared.new_block.NewBlock.{NewBlock}
+use Rattle.sn_content.specs.Contents.{IsContentReplanned}
 use Rattle.sn_cp_nodes.specs.Built.{CanBuildNode, IsGround, IsSafeGround, IsTooSmallAt}
 use Rattle.sn_cp_nodes.specs.Made.{ChangeThem}
 use Rattle.sn_cp_nodes.specs.Parts.{Blocks, IsPartOf, Names, content_of, dirty_of, empty_tree, keep_of}

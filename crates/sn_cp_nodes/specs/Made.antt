@@ -24,12 +24,12 @@ use Rattle.sn_limits.specs.declared.kind.Kind.TheVariants.{File, Directory}
 use Rattle.sn_overlay.specs.declared.node.NodeChange.{NodeChange}
 use Rattle.sn_overlay.specs.declared.node.NodeChange.TheVariants.{Changed, Gone}
 use Rattle.sn_overlay.specs.declared.node.NodeState.{NodeState}
-use Rattle.sn_tree.specs.Contents.{IsContentPlanned, IsReleased}
 use Rattle.sn_ondisk.specs.Counts.{times}
 use Rattle.sn_ondisk.specs.Trees.{Store}
 use Rattle.sn_tree.specs.Drafts.{Draft, grown, numbers_of}
 use Rattle.sn_tree.specs.Orders.{AreInOrder}
 use Rattle.sn_tree.specs.Steps.{LeadsOutside}
+use Rattle.sn_content.specs.Contents.{IsContentPlanned, IsReleased}
 use Rattle.sn_cp_nodes.specs.Inodes.{FitsRecord, IsInodeFor}
 use Rattle.sn_cp_nodes.specs.Parts.{Blocks, Names, content_of, dirty_of, empty_tree, keep_of}
 

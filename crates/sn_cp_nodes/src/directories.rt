@@ -17,12 +17,13 @@ ghost use Rattle.sn_cp_nodes.specs.Parts.{empty_tree};
 ghost use Rattle.sn_cp_nodes.specs.Made.{ChangeThem, IsBegun, IsDirectoryMade, IsTooSmall, CanBegin, CanMakeDirectory};
 
 use sn_block::Blocks;
+use sn_content::release_all;
 use sn_device::Device;
 use sn_dir_change::{NameChange, are_changes, change};
 use sn_layout::{BLOCK_SIZE, BlockTree, POINTERS, Pointers};
 use sn_layout_node::Content;
 use sn_model::Link;
-use sn_tree::{Build, PlanFault, release_all};
+use sn_tree::{Build, PlanFault};
 use sn_tree_read::TreeFault;
 use std::alloc::{AllocError, Global};
 

@@ -17,6 +17,7 @@ use crate::directories::directory_content;
 use crate::files::file_content;
 use crate::inodes::inode_for;
 use sn_block::Blocks;
+use sn_content::release_all;
 use sn_device::Device;
 use sn_inode::{InodeChange, RecordChange, get, is_change};
 use sn_layout::BlockTree;
@@ -24,7 +25,7 @@ use sn_layout_node::{Content, InlineBytes, Inode};
 use sn_limits::{Kind, Limits};
 use sn_model::Link;
 use sn_overlay::{Block, FileBlock, NodeChange, NodeState};
-use sn_tree::{Build, PlanFault, release_all};
+use sn_tree::{Build, PlanFault};
 use sn_tree_read::TreeFault;
 use std::alloc::Global;
 

@@ -6,6 +6,7 @@ use crate::inodes::{ACLS, RECORDS, file};
 use crate::tree_changes::change_of;
 use anyhow::{Result, bail, ensure};
 use sn_block::{Blocks, ReadFault};
+use sn_content::plan;
 use sn_device::MemDevice;
 use sn_dir::{count, is_empty, lookup, names};
 use sn_dir_change::{insert, remove};
@@ -16,7 +17,7 @@ use sn_layout_node::{Content, Inode};
 use sn_limits::Limits;
 use sn_map::Map;
 use sn_table::{Report, Tally};
-use sn_tree::{Build, PlanFault, plan};
+use sn_tree::{Build, PlanFault};
 use sn_tree_read::{TreeFault, read};
 use std::alloc::Global;
 

@@ -174,10 +174,6 @@ unfolding pointers_at
 AreHoles-at s zero ps holes = holes
 AreHoles-at s (suc depth) ps holes = AreHoles-flat s (pointers_at s depth ps) (AreHoles-at s depth ps holes)
 
-pub named-zeros : (s : Store) (p : ℕ) → p ≡ 0 → named_by s p ≡ zeros 4096
-unfolding named_by
-named-zeros s p none = ap (λ (b : Bool). if b then zeros 4096 else s p) (eq-eqb p 0 none)
-
 pub named-hole : (hole : List ℕ) (s : Store) (p : ℕ) → p ≡ 0 → named_or hole s p ≡ hole
 unfolding named_or
 named-hole hole s p none = ap (λ (b : Bool). if b then hole else s p) (eq-eqb p 0 none)

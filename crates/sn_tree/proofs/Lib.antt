@@ -15,4 +15,3 @@ pub mod LawLemmas
 pub mod ListLemmas
 pub mod FrontLemmas
 pub mod LevelLemmas
-pub mod ContentLemmas

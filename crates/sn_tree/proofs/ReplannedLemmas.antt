@@ -1,5 +1,5 @@
 -- A tree whose sixteen pointers were planned.
-use Rattle.std.proofs.Common.{◌≡◌, ◌≢◌, ⊎_elim, ℕ, zero, suc, ◌+◌, ◌-◌, ◌*◌, ◌/◌, ◌<◌, ◌≤◌, ◌==◌, Bool, true, false, List, [], ◌∷◌, length, get_or, refl, sym, ap, subst, ◌∙◌, arith, if◌then◌else◌}
+use Rattle.std.proofs.Common.{◌≡◌, ◌≢◌, ⊎_elim, ℕ, zero, suc, ◌+◌, ◌-◌, ◌*◌, ◌/◌, ◌<◌, ◌≤◌, ◌==◌, Bool, true, false, List, [], ◌∷◌, length, get_or, refl, sym, ap, ◌∙◌, arith, if◌then◌else◌}
 use Rattle.std.specs.Prelude.{◌^◌, All}
 use Rattle.std.specs.List.{AllByRecursion}
 use Rattle.std.proofs.lemmas.Bool.{cases_lt, eqb-true, eqb-false, lt-ltb}
@@ -15,14 +15,12 @@ use Rattle.sn_tree.specs.Dirty.{after, block_wanted, block_after, blocks_wanted}
 use Rattle.sn_tree.specs.Fronts.{data_or}
 use Rattle.sn_ondisk.specs.Counts.{times}
 use Rattle.sn_tree.specs.Plans.{DataBlocks, Holds, SameAmong, named_or, contents, PlansTo}
-use Rattle.sn_tree.specs.Drafts.{Draft}
-use Rattle.sn_tree.specs.Steps.{Planned, LeadsOutside}
+use Rattle.sn_tree.specs.Steps.{LeadsOutside}
 use Rattle.sn_tree.specs.Replanned.{IsReplanned}
 use Rattle.sn_tree.specs.declared.new_block.NewBlock.{NewBlock}
 use Rattle.sn_tree.specs.declared.new_block.DirtyBlock.{DirtyBlock}
 use Rattle.sn_ondisk.proofs.CountLemmas.{times_among, times-reach, length-pointers_at}
 use Rattle.sn_tree.proofs.DirtyLemmas.{after-first, named-hole, named-there, named-by}
-use Rattle.sn_tree.proofs.PlanLemmas.{length-contents}
 
 blocks_wanted-at : (hole : List ℕ) (keep base : ℕ) (ds : List DirtyBlock) (xs : List (List ℕ)) (i : ℕ) → i < length xs → get_or (blocks_wanted hole keep ds base xs) i [] ≡ block_wanted hole keep ds (base + i) (get_or xs i [])
 unfolding blocks_wanted
@@ -63,7 +61,7 @@ module _ (s : Store) (tree : BlockTree) where
   unfolding data_block
   data-is i = sym (named-by s (entry s (levels_of tree.size) tree.pointers i))
 
-  data-at : (hole : List ℕ) (depth : ℕ) → depth ≡ levels_of tree.size → length tree.pointers ≡ 16 → (i : ℕ) → i < 16 * 1024 ^ depth → data_or hole s tree i ≡ get_or (contents s depth tree.pointers hole) i []
+  pub data-at : (hole : List ℕ) (depth : ℕ) → depth ≡ levels_of tree.size → length tree.pointers ≡ 16 → (i : ℕ) → i < 16 * 1024 ^ depth → data_or hole s tree i ≡ get_or (contents s depth tree.pointers hole) i []
   data-at hole depth is count i within =
       let many : length (pointers_at s depth tree.pointers) ≡ 16 * 1024 ^ depth = length-pointers_at s depth tree.pointers ∙ ap (λ n. n * 1024 ^ depth) count in
       ap (λ (d : ℕ). named_or hole s (entry s d tree.pointers i)) (sym is)
@@ -141,13 +139,3 @@ tree_outside s tree sectors leads = record {
   among = omega (arith, leads.among, times-reach s tree leads.block leads.some);
   outside = leads.outside;
 }
-
-module _ (Told : Type 0) (s : Store) (old new : BlockTree) (keep : ℕ) (ds left : List DirtyBlock) (before behind : Draft) where
-  pub tree_plans : (end : ℕ) → levels_of new.size ≡ levels_of old.size → length old.pointers ≡ 16 → length new.pointers ≡ 16
-      → (step : Planned Told s (all_pointers s (levels_of old.size) old.pointers) (contents s (levels_of old.size) old.pointers) (levels_of old.size) 0 end keep ds left new.pointers before behind)
-      → Told → IsReplanned s old new keep ds step.added step.released
-  tree_plans end levels of_old of_new step told = replanned s old new keep ds (all_pointers s (levels_of old.size) old.pointers) (contents s (levels_of old.size) old.pointers) step.added step.released of_new
-      (λ hole. length-contents hole s (levels_of old.size) old.pointers ∙ ap (λ n. n * 1024 ^ levels_of old.size) of_old ∙ ap (λ n. 16 * 1024 ^ n) (sym levels))
-      (λ block some. refl)
-      (λ hole i within. sym (data-at s old hole (levels_of old.size) refl of_old i (subst (λ (n : ℕ). i < 16 * 1024 ^ n) levels within)))
-      (subst (λ (n : ℕ). PlansTo s (all_pointers s (levels_of old.size) old.pointers) (contents s (levels_of old.size) old.pointers) n 0 keep ds new.pointers step.added step.released) (sym levels) (step.plans told))

@@ -6,7 +6,6 @@ pub mod Orders
 pub mod Plans
 pub mod Steps
 pub mod Replanned
-pub mod Contents
 pub mod Laws
 pub mod Fronts
 pub mod Runs

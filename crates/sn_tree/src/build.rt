@@ -137,8 +137,8 @@ impl Build {
         Ok(Box::new(*self.added.allocator(), [0; BLOCK_SIZE])?)
     }
 
-    // A block of its own with these bytes.
-    pub(crate) fn boxed(&self, block: &Block) -> Result<Box<Block>, AllocError>
+    /// A block of its own with these bytes, in memory alone: it isn't added. It fails only where memory is short.
+    pub fn boxed(&self, block: &Block) -> Result<Box<Block>, AllocError>
         ensures { IfOk result (λ boxed. boxed.value ≡ block.now) }
     {
         let mut boxed = self.zeros()?;

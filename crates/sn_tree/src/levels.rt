@@ -113,8 +113,11 @@ pub(crate) fn raised<D: Device>(
     Ok(raised)
 }
 
-/// Releases all that these pointers reach, and leaves holes in their place.
-pub(crate) fn cut<D: Device>(
+/// Releases all that pointers reach which stand so many levels above their data blocks, and leaves holes in their
+/// place: `depth` is 0 for pointers to data blocks, and one more for each level of indirect blocks. It takes no block,
+/// so `Full` comes only where more were added than are free. `Damaged` comes only where a block that they reach isn't
+/// on the device. After an error the build can only be given up.
+pub fn release_pointers<D: Device>(
     build: &mut Build,
     blocks: &mut Blocks<D>,
     pointers: &mut [u32],
@@ -154,12 +157,12 @@ fn lower<D: Device>(
     ensures counts { CountsPlan result (D.status (device_of blocks.old)) (D.status (device_of blocks.new)) }
 {
     let mut beside = beside_of(pointers);
-    cut(build, blocks, &mut beside, depth + 1)?;
+    release_pointers(build, blocks, &mut beside, depth + 1)?;
     let copy = copy_below(build, blocks, pointers[0])?;
     let mut below = [0; POINTERS_PER_BLOCK];
     copy.list(&mut below);
     let mut behind = behind_of(&below);
-    cut(build, blocks, &mut behind, depth)?;
+    release_pointers(build, blocks, &mut behind, depth)?;
     build.release(pointers[0])?;
     Ok(front_of(&below))
 }

@@ -14,13 +14,7 @@
 //! past it are holes, and the bytes past it zeros (`plan_laws` says when that is). The new blocks are at
 //! most a path for each dirty block and one path more (`most_added`).
 //!
-//! `plan` says the same of the content of a file, of which up to 64 bytes lie in the inode (`IsContentPlanned`):
-//! there data block 0 has those bytes, with zeros behind them. So where a file grows out of its inode they become
-//! a new block, and where it is cut back the inode gets the first bytes of data block 0. `content_laws` says
-//! that a planned content has each byte that is wanted.
-//!
-//! The way through: `plan` is `plan_inline` where the new bytes fit the inode, `plan_moved` where they leave it,
-//! and else `plan_tree`. `plan_tree` takes the sixteen pointers at the lesser of the old and the new height
+//! The way through: `plan_tree` takes the sixteen pointers at the lesser of the old and the new height
 //! (`lowered`), plans them by `plan_pointers`, and raises them to the new height (`raised`), one level
 //! after the other: the sixteen become the first pointers of an indirect block, with holes behind them.
 //! `plan_pointers` plans each pointer by `plan_pointer`, which copies an indirect block and plans the pointers in the
@@ -28,7 +22,7 @@
 //! its own. A pointer stays where no dirty block lies below it and all below it stays, or it is a hole; a run of
 //! pointers up to the next dirty block, or to the end of what stays, is passed over at once, and one of holes in a
 //! few steps. The copy takes the indirect block's place where a pointer in it changes, and a hole does where all of
-//! its pointers are holes.
+//! its pointers are holes. `release_pointers` is `plan_pointers` where nothing stays and nothing is dirty.
 //!
 //! What the sources leave open is decided in `docs/DECISIONS.md`, under "Planning trees".
 //!
@@ -41,7 +35,6 @@
 
 mod build;
 mod children;
-mod contents;
 mod fault;
 mod indirect_copy;
 mod laws;
@@ -52,8 +45,9 @@ mod pointers;
 mod tree;
 
 pub use build::Build;
-pub use contents::{plan, release_all};
 pub use fault::PlanFault;
-pub use laws::{content_laws, plan_laws};
+pub use laws::plan_laws;
+pub use levels::release_pointers;
 pub use new_block::{DirtyBlock, NewBlock};
+pub use pointers::plan_pointers;
 pub use tree::{Dirty, plan_tree};

@@ -313,8 +313,14 @@ fn plan_copy<D: Device>(
     Ok(())
 }
 
-// The same for pointers that stand side by side, in their place.
-pub(crate) fn plan_pointers<D: Device>(
+/// Plans pointers that stand side by side, so many levels above their data blocks, of which the first has this
+/// index. The new ones take their place. `depth` is 0 for pointers to data blocks, and one more for each level of
+/// indirect blocks. Of the data blocks below them the dirty ones are taken out of the queue, whose indices rise
+/// from `first` on; the others stay where their index is below `keep`, and are cut off where it isn't. `Full` comes
+/// only where fewer blocks are left than a path for each dirty block that is taken out and, where what stays ends
+/// below them, the indirect blocks of one more (`most_added`). `Damaged` comes only where a block that the old
+/// pointers reach isn't on the device. After an error the build can only be given up.
+pub fn plan_pointers<D: Device>(
     build: &mut Build,
     blocks: &mut Blocks<D>,
     dirty: &mut VecDeque<DirtyBlock>,

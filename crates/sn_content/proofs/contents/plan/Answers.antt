@@ -1,0 +1,26 @@
+use Rattle.std.proofs.Common.{IsTrue, ◌<◌, sym, subst, arith}
+use Rattle.sn_device.specs.Disk.{reads}
+use Rattle.sn_block.specs.Lending.{device_of}
+use Rattle.sn_layout_node.specs.declared.content.Content.{Content}
+use Rattle.sn_layout_node.specs.declared.content.Content.TheVariants.{Tree}
+use Rattle.sn_ondisk.specs.Trees.{store_of}
+use Rattle.sn_content.specs.Contents.{IsContentPlanned}
+use Rattle.sn_content.proofs.ContentLemmas.{inline_planned, tree_content_planned}
+use Rattle.sn_content.proofs.contents.plan.Goals as goal
+
+pub returns-then-dirty-clause-planned : goal.returns-then-dirty-clause-planned
+returns-then-dirty-clause-planned g c =
+    let Told = IsTrue g.D.Device.tells_bytes in
+    let s = store_of (reads (g.D.Device.disk (device_of c.args.blocks.now))) in
+    inline_planned Told s c.args.dirty.keep c.args.dirty.blocks.items c.args.build.now c.plan_inline.new.build c.args.content.now c.args.dirty.size c.in_ok-bytes.bytes
+    c.if-dirty.true c.in_ok-bytes.ensures.count c.in_ok-bytes.ensures.bytes c.in_ok-bytes.ensures.released
+
+pub returns-in_ok-tree-in-Tree-clause-planned : goal.returns-in_ok-tree-in-Tree-clause-planned
+returns-in_ok-tree-in-Tree-clause-planned g c =
+    let Told = IsTrue g.D.Device.tells_bytes in
+    let s = store_of (reads (g.D.Device.disk (device_of c.args.blocks.now))) in
+    let items = c.args.dirty.blocks.items in
+    let new = c.in_ok-tree-in-Tree.tree in
+    let more : 64 < new.size = omega (arith, c.if-dirty.false, c.in_ok-tree-in-Tree.ensures.size) in
+    subst (λ (old : Content). IsContentPlanned Told s old (Tree new) c.args.dirty.keep items c.args.build.now c.plan_tree.new.build) (sym c.in-Tree.is)
+    (tree_content_planned Told s c.args.dirty.keep items c.args.build.now c.plan_tree.new.build c.in-Tree.tree new more c.in_ok-tree-in-Tree.ensures.planned)
