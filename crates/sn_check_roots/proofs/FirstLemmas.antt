@@ -26,15 +26,10 @@ use Rattle.sn_check_map.specs.Sets.{AreSets}
 use Rattle.sn_check_map.specs.Words.{HasOtherWord}
 use Rattle.sn_check_map.specs.Words as word
 use Rattle.sn_census.specs.Faults.{StandsInLinks}
-use Rattle.sn_check_roots.specs.First.{AreChecked, AreLinked, AreMarked, IsFirstOf}
+use Rattle.sn_check_roots.specs.First.{AreChecked, AreDone, AreLinked, AreMarked, IsFirstOf}
 use Rattle.sn_check_roots.proofs.RootedLemmas.{at_contains, each_more, own_bit}
 
 -- ---- marks of the first roots
-
--- The first so many roots are sound but for their links, and marked.
-pub record AreDone (n : ℕ) (s : Store) (root : RootBody) (i : ℕ) (words : List ℕ) : Type 0 where
-  pub sets : AreSets s (take i (rooted_in root)) words
-  pub checked : AreChecked n s root (take i (rooted_in root))
 
 pub done_none : (n : ℕ) (s : Store) (root : RootBody) (words : List ℕ) → SetsBegin → words ≡ replicate n 0 → AreDone n s root 0 words
 done_none n s root words begin blank = record { sets = subst (λ (ws : List ℕ). AreSets s [] ws) (sym blank) (begin s n); checked = λ r none. none_in r none }

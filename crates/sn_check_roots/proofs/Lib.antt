@@ -1,2 +1,3 @@
 pub mod RootedLemmas
 pub mod FirstLemmas
+pub mod SeenLemmas

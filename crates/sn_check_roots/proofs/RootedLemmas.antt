@@ -1,9 +1,9 @@
 -- The roots of a disk, in a row, each with a bit above those before it.
-use Rattle.std.proofs.Common.{◌≡◌, ◌≢◌, ⊎_elim, ℕ, zero, suc, ◌+◌, ◌<◌, ◌&&◌, true, List, [], ◌∷◌, length, map, take, get_or, Contains, refl, sym, ap, subst, ◌∙◌, arith}
+use Rattle.std.proofs.Common.{◌≡◌, ◌≢◌, ◌⊎◌, inl, inr, ⊎_elim, ℕ, zero, suc, ◌+◌, ◌<◌, ◌&&◌, true, List, [], ◌∷◌, length, map, take, drop, get_or, Contains, refl, sym, ap, subst, ◌∙◌, arith}
 use Rattle.std.specs.Prelude.{nat_le, nat_lt}
 use Rattle.std.proofs.lemmas.Bool.{and_parts, ltb-true}
-use Rattle.std.proofs.lemmas.List.{take_more}
-use Rattle.std.proofs.lemmas.List.Elements.{Contains-append_cases}
+use Rattle.std.proofs.lemmas.List.{get_or-take, length-take-le, take-append-drop, take_more}
+use Rattle.std.proofs.lemmas.List.Elements.{Contains-append_cases, Contains-append_left}
 use Rattle.sn_layout.specs.RootBody.{IsRootBody}
 use Rattle.sn_layout.specs.Snapshot.{are_distinct, are_rising, are_within}
 use Rattle.sn_layout.specs.declared.root.RootBody.{RootBody}
@@ -40,6 +40,30 @@ rises before (x ∷ rs) rise (suc i) d within =
           (cases x (take i rs) r among),
     )
 
+-- all of them are above what they begin above
+above : (before : ℕ) (rs : List Rooted) → AreRising before rs → (r : Rooted) → Contains rs r → before < r.bit
+unfolding AreRising
+above before [] rise r among = none_in r among
+above before (x ∷ rs) rise r among = ⊎_elim
+    (λ (same : x ≡ r). subst (λ (q : Rooted). before < q.bit) same rise.0)
+    (λ more. omega (arith, rise.0, above x.bit rs rise.1 r more))
+    (cases x rs r among)
+
+-- so two with one bit are the same
+same_rising : (x : Rooted) (rs : List Rooted) → AreRising x.bit rs → (r q : Rooted) → Contains (x ∷ rs) r → Contains (x ∷ rs) q → r.bit ≡ q.bit → r ≡ q
+unfolding AreRising
+same_rising x [] rise r q one two bits = ⊎_elim
+    (λ (a : x ≡ r). ⊎_elim (λ (b : x ≡ q). sym a ∙ b) (λ none. none_in q none) (cases x [] q two))
+    (λ none. none_in r none)
+    (cases x [] r one)
+same_rising x (y ∷ rs) rise r q one two bits = told (same_rising y rs rise.1 r q) (cases x (y ∷ rs) r one) (cases x (y ∷ rs) q two)
+  where
+    told : (Contains (y ∷ rs) r → Contains (y ∷ rs) q → r.bit ≡ q.bit → r ≡ q) → (x ≡ r) ⊎ Contains (y ∷ rs) r → (x ≡ q) ⊎ Contains (y ∷ rs) q → r ≡ q
+    told later (inl a) (inl b) = sym a ∙ b
+    told later (inl a) (inr more) = absurd (omega (arith, bits, ap (λ (p : Rooted). p.bit) a, above x.bit (y ∷ rs) rise q more))
+    told later (inr more) (inl b) = absurd (omega (arith, bits, ap (λ (p : Rooted). p.bit) b, above x.bit (y ∷ rs) rise r more))
+    told later (inr a) (inr b) = later a b bits
+
 module _ (root : RootBody) (fits : IsRootBody root) where
   rise : are_rising 0 root.snapshots ≡ true
   rise =
@@ -58,6 +82,10 @@ module _ (root : RootBody) (fits : IsRootBody root) where
       (λ more. omega (arith, same, w.1 other more))
       (cases (record { bit = 0; inodes = root.inode_file }) (take i (map frozen_root root.snapshots)) other among)
 
+  -- two roots with one bit are the same
+  pub same_root : (r q : Rooted) → Contains (rooted_in root) r → Contains (rooted_in root) q → r.bit ≡ q.bit → r ≡ q
+  same_root r q one two bits = same_rising (record { bit = 0; inodes = root.inode_file }) (map frozen_root root.snapshots) (frozen_rise 0 root.snapshots rise) r q one two bits
+
 -- ---- one of them
 
 -- one of a list is among the first so many and one more
@@ -75,3 +103,13 @@ each_more {A} P xs i x d within is before here r among = ⊎_elim
     (λ none. none_in r none)
     (cases (get_or xs i d) [] r new))
     (Contains-append_cases (take i xs) (get_or xs i d ∷ []) r (subst (λ (ys : List A). Contains ys r) (take_more xs i d within) among))
+
+-- one that stands before another
+pub before_contains : {A : Type 0} (xs : List A) (i j : ℕ) (d : A) → j < i → i < length xs → Contains (take i xs) (get_or xs j d)
+before_contains {A} xs i j d before within =
+    let short : j < length (take i xs) = omega (arith, before, length-take-le i xs (omega (arith, within))) in
+    subst (Contains (take i xs)) (get_or-take i xs j d before) (at_contains (take i xs) j d short)
+
+-- one of the first so many is one of them all
+pub among_all : {A : Type 0} (xs : List A) (i : ℕ) (r : A) → Contains (take i xs) r → Contains xs r
+among_all {A} xs i r among = subst (λ (ys : List A). Contains ys r) (take-append-drop i xs) (Contains-append_left (take i xs) (drop i xs) r among)

@@ -1,5 +1,5 @@
 -- The roots of a disk, group by group.
-use Rattle.std.specs.Prelude.{ℕ, ◌<◌, List, Contains}
+use Rattle.std.specs.Prelude.{ℕ, ◌<◌, List, take, Contains}
 use Rattle.sn_device.specs.Sectors.{Contents}
 use Rattle.sn_layout.specs.declared.geometry.Slot.{Slot}
 use Rattle.sn_layout.specs.declared.root.RootBody.{RootBody}
@@ -10,12 +10,18 @@ use Rattle.sn_image.specs.Sound.{IsLinked}
 use Rattle.sn_sound.specs.Maps.{Rooted, TellsRoots, rooted_in}
 use Rattle.sn_sound.specs.Verdicts.{Stands, group_of}
 use Rattle.sn_check_root.specs.Rules.{IsSoundButLinks}
+use Rattle.sn_check_map.specs.Sets.{AreSets}
 
 -- Each of these roots is sound but for its links.
 abbrev pub AreChecked : ℕ → Store → RootBody → List Rooted → Type 0
 AreChecked n s root roots = (r : Rooted) → Contains roots r → IsSoundButLinks root.limits n s r.inodes
 
--- Each of them is linked.
+-- The first so many roots are sound but for their links, and marked.
+pub record AreDone (n : ℕ) (s : Store) (root : RootBody) (i : ℕ) (words : List ℕ) : Type 0 where
+  pub sets : AreSets s (take i (rooted_in root)) words
+  pub checked : AreChecked n s root (take i (rooted_in root))
+
+-- Each of these roots is linked.
 abbrev pub AreLinked : Store → List Rooted → Type 0
 AreLinked s roots = (r : Rooted) → Contains roots r → IsLinked s r.inodes
 

@@ -7,9 +7,11 @@
 //! fault that is told is one of the first group that has one (`IsFirstOf`). Over a device that tells its bytes
 //! the answer is exact.
 //!
-//! The way through: `rooted` lists the roots with their bits; `marking` checks each but for its links
-//! (`sn_check_root`), which leaves its marks in one map; `sn_check_map` compares that with the copy on the
-//! disk; `linking` counts the names of each root (`sn_census`). `checking` puts them together.
+//! The way through: `rooted` lists the roots with their bits, and tells which earlier one has the same inode
+//! file; `marking` checks each but for its links (`sn_check_root`), which leaves its marks in one map;
+//! `sn_check_map` compares that with the copy on the disk; `linking` counts the names of each root
+//! (`sn_census`). A root whose inode file an earlier one has is read by neither: its marks are copied, and its
+//! links are those of that one. `checking` puts them together.
 //!
 //! What the sources leave open is decided in `docs/DECISIONS.md`, under "The image check".
 //!

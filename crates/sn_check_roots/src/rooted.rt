@@ -1,7 +1,8 @@
 //! The roots of a disk, in a row.
-ghost use Rattle.std.specs.Prelude.{◌≡◌, ◌<◌, length, slice_index_or};
+ghost use Rattle.std.specs.Prelude.{◌≡◌, ◌<◌, length, slice_index_or, IfNone, IfSome};
 ghost use Rattle.sn_layout.specs.RootBody.{IsRootBody};
 ghost use Rattle.sn_sound.specs.Maps.{Rooted as TheRooted, rooted_in};
+ghost use Rattle.sn_check_roots.specs.Seen.{IsFirstSeen, NoneHasFileOf};
 
 use sn_layout::{BlockTree, RootBody};
 
@@ -37,4 +38,20 @@ pub(crate) fn root_at(root: &RootBody, i: usize) -> Rooted
         bit: u32::from(snapshot.bit),
         file: snapshot.tree,
     }
+}
+
+/// The first root before one that has the same inode file. What that one reaches is the same, and as sound.
+pub(crate) fn seen_before(root: &RootBody, i: usize) -> Option<usize>
+    requires fits { IsRootBody root.now }
+    requires within { i < length (rooted_in root.now) }
+    ensures seen { IfSome result (λ j. IsFirstSeen (rooted_in root.now) i j) }
+    ensures new { IfNone result (NoneHasFileOf (rooted_in root.now) i i) }
+{
+    let it = root_at(root, i);
+    for j in 0..i {
+        if root_at(root, j).file == it.file {
+            return Some(j);
+        }
+    }
+    None
 }

@@ -3,7 +3,7 @@ use Rattle.sn_device.specs.Disk.{reads}
 use Rattle.sn_block.specs.Lending.{device_of}
 use Rattle.sn_ondisk.specs.Trees.{store_of}
 use Rattle.sn_check_root.proofs.DeviceLemmas.{Stays}
-use Rattle.sn_check_roots.proofs.FirstLemmas.{AreDone}
+use Rattle.sn_check_roots.specs.First.{AreDone}
 use Rattle.sn_check_roots.proofs.marking.mark_roots.Given as goal
 
 abbrev pub invariant-loop-i : goal.invariant-loop-i
