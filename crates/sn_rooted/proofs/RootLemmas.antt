@@ -1,5 +1,5 @@
 -- What a sound root on a device comes to for one who reads it.
-use Rattle.std.proofs.Common.{◌≡◌, ℕ, ◌+◌, ◌*◌, ◌/◌, ◌<◌, ◌≤◌, Bool, IsTrue, List, [], length, take, drop, Option, Some, None, IfOk, IfSome, Result, Ok, Err, refl, sym, ap, subst, ◌∙◌, arith, Contains}
+use Rattle.std.proofs.Common.{◌≡◌, ℕ, ◌+◌, ◌*◌, ◌/◌, ◌<◌, ◌≤◌, ◌==◌, Bool, IsTrue, false, List, [], length, take, drop, Option, Some, None, IfOk, IfSome, Result, Ok, Err, refl, sym, ap, subst, ◌∙◌, arith, Contains}
 use Rattle.std.specs.Prelude.{IsErrAnd, nat_le, nat_lt}
 use Rattle.std.specs.Option.{option_map, option_and_then}
 use Rattle.std.specs.FinMap as fin
@@ -22,7 +22,8 @@ use Rattle.sn_limits.specs.declared.kind.Kind.{Kind}
 use Rattle.sn_limits.specs.declared.kind.Kind.TheVariants.{File, Directory}
 use Rattle.sn_limits.specs.declared.limits.Limits.{Limits}
 use Rattle.sn_model.specs.FileCalls.{bytes_of as node_bytes}
-use Rattle.sn_model.specs.Tree.{Node, viewed, size_of as node_size}
+use Rattle.sn_model.specs.Settling.{is_nameless}
+use Rattle.sn_model.specs.Tree.{Node, link_count, names_for, viewed, size_of as node_size}
 use Rattle.sn_ondisk.specs.Trees.{Store, store_of}
 use Rattle.sn_image.specs.Acls.{acls_at}
 use Rattle.sn_image.specs.Contents.{bytes_of, content_reach}
@@ -44,7 +45,7 @@ use Rattle.sn_tree_read.specs.Laws.{ReachedBlocksLie}
 use Rattle.sn_tree_read.specs.Reads.{IsOutside}
 use Rattle.sn_tree_read.specs.declared.fault.TreeFault.{TreeFault}
 use Rattle.sn_tree_read.specs.declared.fault.TreeFault.TheVariants.{Damaged}
-use Rattle.sn_rooted.specs.Nodes.{attributes_in, bytes_if, file_content, names_if, names_tree, shown_size}
+use Rattle.sn_rooted.specs.Nodes.{attributes_in, bytes_if, file_content, is_unlinked, names_if, names_tree, shown_size}
 use Rattle.sn_rooted.specs.Roots.{IsSoundRoot, IsWhole}
 
 -- ---- answers
@@ -76,6 +77,9 @@ no_node s file number none = node_found s file number ∙ ap (option_map (node_o
 
 pub nothing_shown : (s : Store) (file : BlockTree) (number : ℕ) → inode_at s file number ≡ None → None ≡ (viewed (image s file)).node number
 nothing_shown s file number none = sym (ap (option_map _) (no_node s file number none))
+
+pub none_nameless : (s : Store) (file : BlockTree) (number : ℕ) → inode_at s file number ≡ None → false ≡ is_nameless (image s file) number (fin.get (image s file).nodes number)
+none_nameless s file number none = sym (ap (is_nameless (image s file) number) (no_node s file number none))
 
 pub no_default : (s : Store) (file : BlockTree) (number : ℕ) → inode_at s file number ≡ None → None ≡ (viewed (image s file)).default_acl number
 no_default s file number none = sym (ap (λ o. option_and_then (λ (node : Node). node.default_acl) o) (no_node s file number none))
@@ -175,6 +179,16 @@ module _ (limits : Limits) (sectors : ℕ) (c : Contents) (file : BlockTree) (ar
           size = shown_long valid i;
         }))
         ∙ sym (ap (option_map _) (node_is s file number inode used))
+
+    -- a file that no link is counted to is one without a name
+    pub nameless_is : is_unlinked inode.kind inode.links ≡ is_nameless (image s file) number (fin.get (image s file).nodes number)
+    unfolding node_of
+    nameless_is = told inode.kind refl ∙ sym (ap (is_nameless (image s file) number) (node_is s file number inode used))
+      where
+        told : (kind : Kind) → inode.kind ≡ kind → is_unlinked inode.kind inode.links ≡ is_nameless (image s file) number (Some (node_of s inode))
+        told File is =
+            rw is (ap (λ (n : ℕ). n == 0) (links_counted limits root.blocks s file root.sound number inode used ∙ ap (λ (k : Kind). link_count k (names_for (image s file) number)) is))
+        told Directory is = rw is refl
 
     -- each block of a directory can be read
     pub names_read : SoundDirectoriesAreRead → IfSome (names_tree inode.kind inode.content) (λ (tree : BlockTree). (i : ℕ) → i < tree.size / 4096 → CanRead sectors s tree i)

@@ -1,5 +1,5 @@
 -- What an inode tells of its node.
-use Rattle.std.specs.Prelude.{ℕ, List, [], Option, None, Some}
+use Rattle.std.specs.Prelude.{ℕ, Bool, false, ◌==◌, List, [], Option, None, Some}
 use Rattle.sn_acl.specs.declared.entries.Entry.{Entry}
 use Rattle.sn_layout.specs.declared.tree.BlockTree.{BlockTree}
 use Rattle.sn_layout_acl.specs.AclBlock.{joined}
@@ -32,6 +32,11 @@ attributes_in inode access = record {
   links = inode.links;
   size = shown_size inode.kind (size_of inode.content);
 }
+
+-- whether no link is counted to a file
+abbrev pub is_unlinked : Kind → ℕ → Bool
+is_unlinked File links = links == 0
+is_unlinked Directory links = false
 
 -- the tree that a directory has its names in; a file has none
 abbrev pub names_tree : Kind → Content → Option BlockTree

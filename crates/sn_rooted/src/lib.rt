@@ -2,10 +2,10 @@
 //!
 //! The model is that of `sn_image`, which says for any blocks at all what tree a root denotes, and that of
 //! `sn_model`, which says what is seen of a tree. Over a device that tells its bytes, and where the root is
-//! sound there (`IsSoundOn`), each answer is what that tree says: a node's attributes, a default ACL, the
-//! number under a name, the names of a directory in order, bytes of a file. `Damaged` never comes then. The
-//! number under a name and a default ACL are exact on any image. Whatever the device tells, the calls are
-//! safe and end, and write nothing.
+//! sound there (`IsSoundOn`), each answer is what that tree says: a node's attributes, whether it is a file
+//! without a name, a default ACL, the number under a name, the names of a directory in order, bytes of a file.
+//! `Damaged` never comes then. The number under a name and a default ACL are exact on any image. Whatever the
+//! device tells, the calls are safe and end, and write nothing.
 //!
 //! Nothing is kept of a tree. A look-up reads the inode of the number and what it needs behind that: the ACL
 //! block, the blocks of names up to the one that has the name, the blocks of the bytes. It reads them in
@@ -36,5 +36,5 @@ mod view;
 pub use directories::{link, names};
 pub use files::read;
 pub use inodes::{StoredInode, stored_inode};
-pub use nodes::{attributes, default_acl};
+pub use nodes::{attributes, default_acl, is_nameless};
 pub use view::{RootedView, file_in};

@@ -1,12 +1,15 @@
 //! The node of a number, without its bytes and names.
 ghost use Rattle.std.specs.Prelude.{◌≡◌, Err, IsTrue, IfOk};
+ghost use Rattle.std.specs.FinMap as fin;
 ghost use Rattle.sn_block.specs.Lending.{device_of};
+ghost use Rattle.sn_model.specs.Settling.{is_nameless};
 ghost use Rattle.sn_model.specs.Tree.{viewed};
 ghost use Rattle.sn_tree_read.specs.Counts.{CountsTree};
 ghost use Rattle.sn_tree_read.specs.declared.fault.TreeFault.TheVariants.{Damaged};
 ghost use Rattle.sn_rooted.specs.Roots.{IsSoundOn, tree_on};
-ghost use Rattle.sn_rooted.specs.Nodes.{attributes_in};
+ghost use Rattle.sn_rooted.specs.Nodes.{attributes_in, is_unlinked};
 
+use crate::inodes::inode_of;
 use crate::stored_inode;
 use sn_acl::Acl;
 use sn_block::Blocks;
@@ -76,5 +79,36 @@ pub fn default_acl<D: Device>(
     match stored_inode(blocks, limits, file, number)? {
         Some(stored) => Ok(stored.acls.default),
         None => Ok(None),
+    }
+}
+
+// Whether an inode is that of a file to which no link is counted.
+fn is_unlinked(inode: &Inode) -> bool
+    ensures { result ≡ is_unlinked inode.now.kind inode.now.links }
+{
+    match inode.kind {
+        Kind::File => inode.links == 0,
+        Kind::Directory => false,
+    }
+}
+
+/// Whether a number has a file in a root's tree that has no name. `file` is the root's inode file, and of the
+/// number only the inode is read. Where the root is sound, `Damaged` never comes. Memory is taken for blocks
+/// that aren't kept.
+pub fn is_nameless<D: Device>(
+    blocks: &mut Blocks<D>,
+    limits: &Limits,
+    file: &BlockTree,
+    number: u16,
+) -> Result<bool, TreeFault>
+    ensures nameless { IsTrue D.tells_bytes → IsSoundOn blocks.old limits.now file.now → IfOk result (λ nameless. nameless
+        ≡ is_nameless (tree_on blocks.old file.now) number (fin.get (tree_on blocks.old file.now).nodes number)) }
+    ensures damaged { IsTrue D.tells_bytes → IsSoundOn blocks.old limits.now file.now → result ≡ Err Damaged → ⊥ }
+    ensures same { IsTrue D.tells_bytes → D.disk (device_of blocks.new) ≡ D.disk (device_of blocks.old) }
+    ensures counts { CountsTree result (D.status (device_of blocks.old)) (D.status (device_of blocks.new)) }
+{
+    match inode_of(blocks, limits, file, number)? {
+        Some(inode) => Ok(is_unlinked(&inode)),
+        None => Ok(false),
     }
 }

@@ -1,4 +1,5 @@
-//! The live tree of a root on a device, as what lies below an overlay, and the table of its directories.
+//! The live tree of a root on a device, as what lies below an overlay, the table of its directories, and how many
+//! of its files have no name.
 //!
 //! The model is that of `sn_rooted`: the tree that the root denotes. Over a device that tells its bytes, and where
 //! the root is sound there, each look-up answers what that tree says. Nothing is kept of the tree: a look-up reads
@@ -13,6 +14,7 @@
 //! 2. `seeing` reads a node with its ACLs and a block of a file, as overlays show them.
 //! 3. [`RootedTree`], which is a `Below` of `sn_overlay`, and keeps names for `sn_directories`.
 //! 4. [`directories_of`] counts the names of each directory once, and notes which directory each is in.
+//! 5. [`nameless_of`] counts the files that have no name.
 //!
 //! What the sources leave open is decided in `docs/DECISIONS.md`, under "Reading a root on demand".
 //!
@@ -24,8 +26,10 @@
 #![tactic(auto)]
 
 mod loading;
+mod nameless;
 mod rooted;
 mod seeing;
 
 pub use loading::directories_of;
+pub use nameless::nameless_of;
 pub use rooted::RootedTree;

@@ -24,7 +24,7 @@ use sn_tree_read::TreeFault;
 use std::alloc::Global;
 
 /// How many numbers there are.
-const NUMBERS: u32 = 65536;
+pub(crate) const NUMBERS: u32 = 65536;
 
 // Notes the directory in which each of these names is.
 fn note_names(directories: &mut Directories, directory: u16, names: &[ListedName])

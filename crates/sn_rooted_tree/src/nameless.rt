@@ -1,0 +1,37 @@
+//! The files of a root's tree without names.
+ghost use Rattle.std.specs.Prelude.{◌≡◌, Err, IsTrue, IfOk};
+ghost use Rattle.sn_block.specs.Lending.{device_of};
+ghost use Rattle.sn_overlay.specs.Needs.{nameless_in};
+ghost use Rattle.sn_rooted.specs.Roots.{IsSoundOn, tree_on};
+ghost use Rattle.sn_tree_read.specs.Counts.{CountsTree};
+ghost use Rattle.sn_tree_read.specs.declared.fault.TreeFault.TheVariants.{Damaged};
+
+use crate::loading::NUMBERS;
+use sn_block::Blocks;
+use sn_device::Device;
+use sn_layout::BlockTree;
+use sn_limits::Limits;
+use sn_rooted::is_nameless;
+use sn_tree_read::TreeFault;
+
+/// How many files of a root's tree have no name. `file` is the root's inode file, and the inode of each number is read
+/// once. Where the root is sound, `Damaged` never comes. Memory is taken for blocks that aren't kept.
+pub fn nameless_of<D: Device>(
+    blocks: &mut Blocks<D>,
+    limits: &Limits,
+    file: &BlockTree,
+) -> Result<u32, TreeFault>
+    ensures count { IsTrue D.tells_bytes → IsSoundOn blocks.old limits.now file.now
+        → IfOk result (λ n. n ≡ nameless_in (tree_on blocks.old file.now)) }
+    ensures damaged { IsTrue D.tells_bytes → IsSoundOn blocks.old limits.now file.now → result ≡ Err Damaged → ⊥ }
+    ensures same { IsTrue D.tells_bytes → D.disk (device_of blocks.new) ≡ D.disk (device_of blocks.old) }
+    ensures counts { CountsTree result (D.status (device_of blocks.old)) (D.status (device_of blocks.new)) }
+{
+    let mut count = 0;
+    for number in 0..NUMBERS {
+        if is_nameless(blocks, limits, file, number as u16)? {
+            count += 1;
+        }
+    }
+    Ok(count)
+}
