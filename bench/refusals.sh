@@ -148,7 +148,17 @@ judge=honest before=fresh
 each_refused "$program" run "$work/image" "$work/script"
 each_refused "$program" stop-at 1000 new "$work/image" "$work/script" "$work/left"
 
-judge=tested before=:
+# A check of an image with records in its log gives its verdict, or none for want of memory.
+verdict() {
+    if [ "$1" = 0 ]; then cmp -s "$work/out" "$work/whole"; else [ "$(cat "$work/err")" = 'snapfs: M5' ] && [ ! -s "$work/out" ]; fi
+}
+fresh
+"$program" stop-at 30 new "$work/image" "$work/script" "$work/logged"
+"$program" check "$work/logged" > "$work/whole"
+judge=verdict before=:
+each_refused "$program" check "$work/logged"
+
+judge=tested
 for crate in sn_tests sn_tests_disk sn_tests_block sn_tests_formats sn_tests_memory sn_tests_trees sn_tests_builds; do
     folder=$top/crates/$crate
     # Some have tens of thousands of allocations, nearly all of them in devices and contents that are made anew.

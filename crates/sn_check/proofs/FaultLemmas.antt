@@ -1,23 +1,15 @@
 -- What faults of the parts make of a check.
-use Rattle.std.proofs.Common.{◌≡◌, ℕ, ◌*◌, ◌≤◌, Err, refl, ap}
-use Rattle.sn_device.specs.Sectors.{Contents}
+use Rattle.std.proofs.Common.{◌≡◌, ℕ, Err, refl, ap}
 use Rattle.sn_device.specs.declared.status.Status.{Status}
 use Rattle.sn_block.specs.Counts.{CountsRead}
 use Rattle.sn_block.specs.declared.fault.ReadFault.{ReadFault}
 use Rattle.sn_block.specs.declared.fault.ReadFault.TheVariants as read
 use Rattle.sn_block.proofs.CountLemmas.{later-same}
-use Rattle.sn_layout.specs.declared.tree.BlockTree.{BlockTree}
-use Rattle.sn_limits.specs.Versions.{version_1}
-use Rattle.sn_image.specs.Sound.{IsSound}
 use Rattle.sn_marks.specs.Fault.{CountsCheck, Tells}
 use Rattle.sn_marks.specs.declared.fault.CheckFault.{CheckFault}
 use Rattle.sn_marks.specs.declared.fault.CheckFault.TheVariants as of_check
 use Rattle.sn_model.specs.declared.mount.Damage.{Damage}
-use Rattle.sn_model.specs.declared.mount.MountFault.{MountFault}
-use Rattle.sn_model.specs.declared.mount.MountFault.TheVariants as fault
-use Rattle.sn_ondisk.specs.Trees.{store_of}
 use Rattle.sn_examine.specs.Failing.{IsSoOf, WritesNothing, read_fault}
-use Rattle.sn_examine.specs.Finding.{IsOfTree, IsUnsound}
 use Rattle.sn_examine.proofs.ReplayLemmas.{read_failed, reads_only}
 use Rattle.sn_check.specs.Faults.{IsDamageOf, fault_of_check}
 
@@ -52,14 +44,3 @@ check_reads T (of_check.Read f) old new counts = reads_only {T = T} (Err f) old 
 pub check_fails : (T : Type 0) (f : CheckFault) (old new : Status) → CountsCheck {T = T} (Err f) old new → IsSoOf (fault_of_check f) old new
 check_fails T (of_check.Damaged damage block) old new counts = ap (λ (s : Status). s.failures) (counts.damaged damage block refl)
 check_fails T (of_check.Read f) old new counts = read_failed {T = T} (Err f) f old new (as_read T f old new counts) refl
-
--- ---- of a tree that was sound
-
--- which is never damaged
-pub tree_tells : (f : MountFault) (body : ℕ) (P : Damage → ℕ → Type 0) (sectors n : ℕ) (c : Contents) (file : BlockTree) → 8 * n ≤ sectors → IsSound version_1 n (store_of c) file → IsOfTree body f → IsUnsound sectors c file f → IsDamageOf P f
-tree_tells (fault.Damaged damage block) body P sectors n c file room sound is unsound = absurd (unsound n room sound)
-tree_tells fault.NotFormatted body P sectors n c file room sound is unsound = is
-tree_tells fault.Version body P sectors n c file room sound is unsound = is
-tree_tells fault.NoRoot body P sectors n c file room sound is unsound = is
-tree_tells fault.Memory body P sectors n c file room sound is unsound = tt
-tree_tells fault.Device body P sectors n c file room sound is unsound = tt

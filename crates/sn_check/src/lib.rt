@@ -6,8 +6,8 @@
 //!
 //! The order is that of the groups: superblock, gates, versions and root bodies, which tell the newest root
 //! (`find_newest` of `sn_examine`); pointers, spelling, map and links of all roots (`check_roots` of `sn_check_roots`);
-//! and then the log on top of the newest root, which is replayed into its tree in memory (`load_world` and `replay_both`
-//! of `sn_examine`), since whether a record can be applied depends on those before it.
+//! and then the log on top of the newest root, which is tried over its tree as it stands on disk (`sn_check_log`), since
+//! whether a record can be applied depends on those before it.
 //!
 //! [`check`] answers with a verdict, and [`test_disk`] with the fault that a mount tells: a mount begins with it.
 //!

@@ -13,11 +13,11 @@ ghost use Rattle.sn_check.specs.Faults.{IsDamageOf};
 ghost use Rattle.sn_check.specs.Logs.{HasLogged, IsOfLog, IsOver};
 
 use sn_block::Blocks;
+use sn_check_log::{CheckedRoot, count_directories, count_nameless, try_both};
 use sn_device::Device;
-use sn_examine::{is_to_recover, load_world, none_later, replay_both, test_age};
+use sn_examine::{is_to_recover, none_later, test_age};
 use sn_layout::{Area, Geometry, LogHalf, RootBody};
 use sn_limits::Limits;
-use sn_log::Buffer;
 use sn_model::{Damage, MountFault};
 use sn_room::Room;
 use std::alloc::Global;
@@ -33,9 +33,9 @@ pub(crate) struct Logged {
     pub(crate) recovers: bool,
 }
 
-/// Reads the tree of a sound root into memory, and replays the records of its epoch and of the next one into it. `body` is
-/// the block of the root body. Damaged is a record that is misspelt or can't be applied, told of the block of its gate;
-/// and a tree that was checked and is misspelt now, since the device gives other bytes than before, told of `body`.
+/// Tries the records of a sound root's epoch and of the next one on its tree, as it stands on the disk. `body` is the block
+/// of the root body. Damaged is a record that is misspelt or can't be applied, told of the block of its gate; and a tree
+/// that was checked and is misspelt now, since the device gives other bytes than before, told of `body`.
 fn replay_log<D: Device>(
     alloc: Global,
     blocks: &mut Blocks<D>,
@@ -53,15 +53,20 @@ fn replay_log<D: Device>(
     ensures reads { WritesNothing (D.status (device_of blocks.old)) (D.status (device_of blocks.new)) }
     ensures failed { FailsAs result (D.status (device_of blocks.old)) (D.status (device_of blocks.new)) }
 {
-    let Ok(mut buffer) = Buffer::new(alloc) else {
-        return Err(MountFault::Memory);
+    let it = CheckedRoot {
+        root,
+        body,
+        geometry,
     };
-    let mut world = match load_world(alloc, blocks, root, body) {
-        Ok(world) => world,
+    let mut directories = match count_directories(alloc, blocks, &it) {
+        Ok(directories) => directories,
         Err(fault) => return Err(fault),
     };
-    let dropped = world.nameless();
-    let replayed = match replay_both(alloc, blocks, &mut buffer, &mut world, geometry, root.epoch) {
+    let dropped = match count_nameless(blocks, &it) {
+        Ok(dropped) => dropped,
+        Err(fault) => return Err(fault),
+    };
+    let replayed = match try_both(alloc, blocks, &it, &mut directories) {
         Ok(replayed) => replayed,
         Err(fault) => return Err(fault),
     };

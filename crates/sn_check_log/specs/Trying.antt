@@ -1,0 +1,30 @@
+-- What trying the log comes to.
+use Rattle.std.specs.Prelude.{ℕ, Result, Ok, Err}
+use Rattle.sn_device.specs.Sectors.{Contents}
+use Rattle.sn_examine.specs.Both.{HasBoth, ReplaysBoth}
+use Rattle.sn_examine.specs.Failing.{read_fault}
+use Rattle.sn_examine.specs.Replaying.{Breaks, HasAll}
+use Rattle.sn_examine.specs.declared.replaying.Replayed.{Replayed}
+use Rattle.sn_model.specs.Tree.{Tree}
+use Rattle.sn_model.specs.declared.mount.Damage.TheVariants.{Misspelt}
+use Rattle.sn_model.specs.declared.mount.MountFault.{MountFault}
+use Rattle.sn_model.specs.declared.mount.MountFault.TheVariants as fault
+use Rattle.sn_overlay.specs.Layers.{through}
+use Rattle.sn_overlay.specs.Overlays.{layer_of}
+use Rattle.sn_tree_read.specs.declared.fault.TreeFault.{TreeFault}
+use Rattle.sn_tree_read.specs.declared.fault.TreeFault.TheVariants.{Read, Damaged}
+
+-- what a failed look-up makes of a check
+abbrev pub fault_of_tree : TreeFault → ℕ → MountFault
+fault_of_tree (Read f) body = read_fault f
+fault_of_tree Damaged body = fault.Damaged Misspelt body
+
+-- The records of an epoch were replayed, all of them, up to the tree that is seen through what changed; or replay fails.
+abbrev pub TriesAll : Result Replayed MountFault → Contents → Tree → ℕ → ℕ → Tree → Type 0
+TriesAll (Ok r) c from n epoch below = HasAll c from r.at (through (layer_of r.changed) below) r.charges
+TriesAll (Err f) c from n epoch below = Breaks f c from n epoch
+
+-- the same of both epochs
+abbrev pub TriesBoth : Result Replayed MountFault → Contents → Tree → ℕ → ℕ → Type 0
+TriesBoth (Ok r) c image n epoch = HasBoth c image n epoch r.at (through (layer_of r.changed) image) r.charges
+TriesBoth (Err f) c image n epoch = ReplaysBoth (Err f) c image n epoch image
