@@ -9,8 +9,7 @@
 # The files are 5,000 of 3,000 bytes in directories of a hundred names each, and 40 of 1 MiB; an image without any stands
 # beside. Both images are written from outside, ours by made_image.py and so by docs/FORMAT.md alone, the other by
 # mkfs.ext4, and both programs have to find them clean. They read from memory, since the images were just written, and
-# take turns; each time is the least of nine. They don't do the same: e2fsck tests checksums, which our images lack, and
-# snapfs reads the bytes of files too, to try the log on them.
+# take turns; each time is the least of nine. They don't do the same: e2fsck tests checksums, which our images lack.
 set -eu
 top=$(cd "$(dirname "$0")/.." && pwd)
 program=${1:-$top/crates/sn_bin/out/sn_bin}

@@ -10,6 +10,9 @@
 # record can't grow; then all after it are `err ESTOPPED`, and `snapfs: stopped` is told; or `snapfs: M6`. Where that comes in
 # the unmount behind the last reply, `snapfs: stopped` alone is told.
 #
+# A check with one refusal, of an image with records in its log, gives the verdict that it gives without it, or
+# `snapfs: memory`, `snapfs: M5` or `snapfs: file`.
+#
 # A test program with one refusal may say that it found no memory, or that the device in memory has come to its end for
 # want of it; that of builds makes one that was refused memory again, of the same root and overlay, and goes on. Each case that it finds wrong has to be so for
 # want of memory, and all else that it prints is what it prints without the refusal.
@@ -148,12 +151,15 @@ judge=honest before=fresh
 each_refused "$program" run "$work/image" "$work/script"
 each_refused "$program" stop-at 1000 new "$work/image" "$work/script" "$work/left"
 
-# A check of an image with records in its log gives its verdict, or none for want of memory.
 verdict() {
-    if [ "$1" = 0 ]; then cmp -s "$work/out" "$work/whole"; else [ "$(cat "$work/err")" = 'snapfs: M5' ] && [ ! -s "$work/out" ]; fi
+    if [ "$1" = 0 ]; then
+        cmp -s "$work/out" "$work/whole"
+    else
+        grep -qxE 'snapfs: (memory|M5|file)' "$work/err" && [ ! -s "$work/out" ]
+    fi
 }
 fresh
-"$program" stop-at 30 new "$work/image" "$work/script" "$work/logged"
+"$program" stop-at 30 new "$work/image" "$work/script" "$work/logged" > "$work/log" 2>&1 || :
 "$program" check "$work/logged" > "$work/whole"
 judge=verdict before=:
 each_refused "$program" check "$work/logged"
