@@ -1,6 +1,6 @@
 -- A directory is made of the tree with which it begins and of its changes.
-use Rattle.std.proofs.Common.{◌≡◌, ◌-◌, ◌*◌, ◌/◌, ◌<◌, ◌≤◌, Bool, List, length, Result, Ok, Err, IfOk, subst}
-use Rattle.sn_dir_change.specs.Changes.{AreChanges, IsChanged, needed_changes}
+use Rattle.std.proofs.Common.{◌≡◌, ◌+◌, ◌-◌, ◌*◌, ◌/◌, ◌<◌, ◌≤◌, Bool, List, length, Result, Ok, Err, IfOk, subst}
+use Rattle.sn_dir_change.specs.Changes.{AreChanges, IsChanged, first_block, needed_changes}
 use Rattle.sn_dir_change.specs.Planned.{AreSpelled, HasChanged, IsDirectoryPlanned}
 use Rattle.sn_dir_change.specs.declared.name_change.NameChange.{NameChange}
 use Rattle.sn_image.specs.Names.{names_of}
@@ -27,7 +27,8 @@ planned_there Told s t tree new changes a b same p = record {
   grew = p.grew;
   few = p.few;
   one_each = p.one_each;
-  needed = λ told. subst (λ (u : Store). length p.dirty ≤ needed_changes (names_of u (Tree tree)) changes) (same told) (p.needed told);
+  needed = λ told. subst (λ (u : Store). length p.dirty ≤ needed_changes (names_of u (Tree tree)) changes + first_block tree) (same told) (p.needed told);
+  first = p.first;
   most = p.most;
   sized = record {
     whole = p.sized.whole;

@@ -1,17 +1,19 @@
 -- From the blocks that are wanted to the tree that is planned.
-use Rattle.std.proofs.Common.{◌≡◌, ⊎_elim, ℕ, ◌+◌, ◌*◌, ◌/◌, ◌<◌, ◌≤◌, List, [], ◌∷◌, ◌++◌, length, sym, ap, subst, ◌∙◌, arith}
+use Rattle.std.proofs.Common.{◌≡◌, ◌≢◌, ⊎_elim, ℕ, ◌+◌, ◌*◌, ◌/◌, ◌<◌, ◌≤◌, ◌==◌, if◌then◌else◌, List, [], ◌∷◌, ◌++◌, Option, Some, length, refl, sym, ap, subst, ◌∙◌, arith}
 use Rattle.std.specs.Prelude.{Contains, Result, IfOk, Ok, Err}
 use Rattle.std.specs.List.{AllByRecursion}
 use Rattle.std.proofs.Math.Nat.{mul-le-mul_left}
 use Rattle.std.proofs.lemmas.Bool.{cases_lt}
 use Rattle.sn_layout.specs.Pointers.{levels_of}
 use Rattle.sn_layout.specs.declared.tree.BlockTree.{BlockTree}
-use Rattle.sn_layout_node.specs.Directory.{Link, AreLinks, IsDirectoryBlock}
+use Rattle.sn_layout_node.specs.Directory.{Link, AreLinks, IsDirectoryBlock, Spells}
 use Rattle.sn_layout_node.specs.declared.content.Content.TheVariants.{Tree}
 use Rattle.sn_ondisk.specs.Trees.{Store, data_block, tree_reach}
 use Rattle.sn_ondisk.specs.TreeLaws.{SameIn}
 use Rattle.sn_ondisk.proofs.TreeLemmas.{levels_room}
 use Rattle.sn_image.specs.Names.{names_in, names_of}
+use Rattle.sn_image.proofs.DecodeLemmas.{directory_read}
+use Rattle.std.proofs.lemmas.List.Elements.{All-pop}
 use Rattle.sn_tree.specs.declared.fault.PlanFault.{PlanFault}
 use Rattle.sn_tree.specs.Drafts.{Draft}
 use Rattle.sn_tree.specs.Dirty.{block_after}
@@ -23,14 +25,14 @@ use Rattle.sn_tree.specs.declared.new_block.NewBlock.{NewBlock}
 use Rattle.sn_tree.specs.declared.new_block.DirtyBlock.{DirtyBlock}
 use Rattle.sn_tree.proofs.LawLemmas.{grown_end}
 use Rattle.sn_image.specs.Sound.{AreOnce}
-use Rattle.sn_dir_change.specs.Changes.{ArePuts, IsChanged, needed_changes}
+use Rattle.sn_dir_change.specs.Changes.{ArePuts, IsChanged, first_block, needed_changes}
 use Rattle.sn_dir_change.specs.UnderWay.{IsUnderWay}
-use Rattle.sn_dir_change.specs.Through.{AreAllDirty, HaveNames, HaveNoRoom, names_to, AreDirty, IsThrough, IsFilled, IsWanted}
+use Rattle.sn_dir_change.specs.Through.{AreAllDirty, HaveNames, HaveNoRoom, names_to, AreDirty, IsPushed, IsThrough, IsFilled, IsWanted}
 use Rattle.sn_dir_change.specs.Planned.{HasRoom, HasChanged, IsDirectoryPlanned, IsSizeWith, IsTooFullFor}
 use Rattle.sn_dir_change.specs.declared.name_change.NameChange.{NameChange}
 use Rattle.sn_dir_change.proofs.FillLemmas.{filled_begun, filled_changed}
 use Rattle.sn_dir_change.proofs.SizeLemmas.{size_with, spelled_after}
-use Rattle.sn_dir_change.proofs.ThroughLemmas.{dirty_none, flat-same, names_from-begin, through_as}
+use Rattle.sn_dir_change.proofs.ThroughLemmas.{dirty_more, dirty_none, flat-same, names_from-begin, names_to-pushed, through_as}
 
 -- ---- the beginning
 
@@ -60,9 +62,39 @@ wanted_is Told s tree changes bound keep count ds room few needed keep_is filled
       most = omega (arith, filled.most, room.whole);
       behind = subst (λ (n : ℕ). AreAllDirty (tree.size / 4096) n ds) (sym whole) filled.behind;
       fit = λ told. subst (λ (n : ℕ). HaveNoRoom s tree n ds) (sym whole) (filled.fit told);
-      some = subst (λ (n : ℕ). HaveNames s tree n ds) (sym whole) filled.some;
+      some = λ j low high later. (subst (λ (n : ℕ). HaveNames s tree n ds) (sym whole) filled.some) j low high;
       names = λ told once. subst (λ (n : ℕ). IsChanged changes (names_of s (Tree tree)) (names_to s tree ds n)) (sym whole) (filled_changed Told s tree changes bound count ds filled told once);
     }
+
+no_dirty : (ds : List DirtyBlock) → AllByRecursion (λ (d : DirtyBlock). d.index < 0) ds → ds ≡ []
+no_dirty [] all = refl
+no_dirty (d ∷ ds) all = let low : d.index < 0 = all.0 in absurd (omega (arith, low))
+
+-- a first block, of no names
+pub first_wanted : (Told : Type 0) (s : Store) (tree : BlockTree) (changes : List NameChange) (size keep : ℕ) (ds new : List DirtyBlock) (bytes : List ℕ) → 0 < length changes → size ≡ 0 → IsPushed 0 bytes ds new → Spells bytes []
+    → IsWanted Told s tree changes size keep ds → IsWanted Told s tree changes 4096 keep new
+first_wanted Told s tree changes size keep ds new bytes some none_yet pushed spells is_wanted =
+    let wanted = subst (λ (n : ℕ). IsWanted Told s tree changes n keep ds) none_yet is_wanted in
+    let d = pushed.block in
+    let none : ds ≡ [] = no_dirty ds wanted.blocks.before in
+    let is : new ≡ d ∷ [] = pushed.last ∙ ap (λ (l : List DirtyBlock). l ++ d ∷ []) none in
+    let empty : tree.size ≡ 0 = omega (arith, wanted.least) in
+    let one : first_block tree ≡ 1 = ap (λ (n : ℕ). if n == 0 then 1 else 0) empty in
+    let no_names : names_in d.bytes.value ≡ [] = ap (λ (b : List ℕ). names_in b) pushed.bytes_are ∙ directory_read bytes [] spells in
+    let names_are : names_to s tree (d ∷ []) 1 ≡ [] = names_to-pushed s tree [] d 0 pushed.index_is (dirty_none 0) ∙ no_names in
+    subst (λ (l : List DirtyBlock). IsWanted Told s tree changes 4096 keep l) (sym is) (record {
+      blocks = dirty_more 0 [] d pushed.index_is (subst IsDirectoryBlock (sym pushed.bytes_are) ([], spells)) (dirty_none 0);
+      few = omega (arith, some);
+      needed = λ told. omega (arith, one);
+      keep_is = wanted.keep_is;
+      whole = omega arith;
+      least = omega (arith, empty);
+      most = omega arith;
+      behind = λ i low high clean. let parts = All-pop (λ (e : DirtyBlock). e.index ≢ i) (d ∷ []) [] (Some d) refl clean in parts.1 (omega (arith, pushed.index_is, high));
+      fit = λ told i j link less past within has fits. omega (arith, less, within);
+      some = λ j low high later. absurd (omega (arith, high, later));
+      names = λ told once. subst (λ (ls : List Link). IsChanged changes (names_of s (Tree tree)) ls) (sym names_are) (subst (λ (l : List DirtyBlock). IsChanged changes (names_of s (Tree tree)) (names_to s tree l 0)) none (wanted.names told once));
+    })
 
 -- ---- the tree of it
 
@@ -112,8 +144,8 @@ module _ (Told : Type 0) (s : Store) (tree new : BlockTree) (changes : List Name
           (subst (λ (n : ℕ). AllByRecursion (EndsBy n) ds) (sym sized) (all_end size ds wanted.blocks.before)));
     }
 
-  pub planned_is : (t : Store) (old_draft new_draft : Draft) → (Told → t ≡ s) → IsPlanned Told t tree new keep ds old_draft new_draft → IsDirectoryPlanned Told s tree new changes old_draft new_draft
-  planned_is t old_draft new_draft still plan =
+  pub planned_is : (t : Store) (old_draft new_draft : Draft) → (0 < length changes → 0 < size) → (Told → t ≡ s) → IsPlanned Told t tree new keep ds old_draft new_draft → IsDirectoryPlanned Told s tree new changes old_draft new_draft
+  planned_is t old_draft new_draft first still plan =
       let here : Told → IsReplanned s tree new keep ds plan.added plan.released = (λ told. subst (λ (q : Store). IsReplanned q tree new keep ds plan.added plan.released) (still told) (plan.plans told)) in
       record {
         dirty = ds;
@@ -123,6 +155,7 @@ module _ (Told : Type 0) (s : Store) (tree new : BlockTree) (changes : List Name
         few = plan.few;
         one_each = wanted.few;
         needed = wanted.needed;
+        first = λ some. omega (arith, sized, first some);
         most = omega (arith, sized, wanted.most);
         sized = subst (λ (n : ℕ). IsSizeWith Told s tree changes n) (sym sized) (size_with Told s tree changes size keep ds wanted);
         plans = λ told. subst (λ (k : ℕ). IsReplanned s tree new k ds plan.added plan.released) wanted.keep_is (here told);
@@ -154,10 +187,10 @@ gone_through Told s r tree changes standing waiting standing' waiting' bound ds 
     (pass (through_as Told r s tree changes bound 0 [] standing waiting (λ told. sym (same told)) (through_begun Told s tree changes standing waiting bound few puts way)))
 
 pub planned_result : (Told : Type 0) (s : Store) (tree : BlockTree) (changes : List NameChange) (size keep : ℕ) (ds : List DirtyBlock) (t : Store) (old_draft new_draft : Draft) (result : Result BlockTree PlanFault)
-    → HasRoom tree (length changes) → IsWanted Told s tree changes size keep ds → (Told → t ≡ s) → IfOk result (λ new. new.size ≡ size) → IfOk result (λ new. IsPlanned Told t tree new keep ds old_draft new_draft)
+    → HasRoom tree (length changes) → IsWanted Told s tree changes size keep ds → (0 < length changes → 0 < size) → (Told → t ≡ s) → IfOk result (λ new. new.size ≡ size) → IfOk result (λ new. IsPlanned Told t tree new keep ds old_draft new_draft)
     → IfOk result (λ new. IsDirectoryPlanned Told s tree new changes old_draft new_draft)
-planned_result Told s tree changes size keep ds t old_draft new_draft (Err fault) room wanted same sized plan = tt
-planned_result Told s tree changes size keep ds t old_draft new_draft (Ok new) room wanted same sized plan = planned_is Told s tree new changes size keep ds sized room wanted t old_draft new_draft same plan
+planned_result Told s tree changes size keep ds t old_draft new_draft (Err fault) room wanted first same sized plan = tt
+planned_result Told s tree changes size keep ds t old_draft new_draft (Ok new) room wanted first same sized plan = planned_is Told s tree new changes size keep ds sized room wanted t old_draft new_draft first same plan
 
 -- and the new blocks can be filled
 pub ready_to_fill : (Told : Type 0) (s r : Store) (tree : BlockTree) (changes standing waiting standing' waiting' : List NameChange) (bound : ℕ) (ds : List DirtyBlock) (keep : ℕ) → keep ≡ tree.size / 4096 → (Told → r ≡ s) → length standing + length waiting ≤ bound → ArePuts waiting

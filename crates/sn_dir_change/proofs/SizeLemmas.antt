@@ -170,7 +170,7 @@ module _ (Told : Type 0) (s : Store) (tree : BlockTree) (changes : List NameChan
       let last = count - 1 in
       let behind : tree.size / 4096 ≤ last = omega (arith, grows, wanted.whole, wanted.least) in
       let within : last < count = omega (arith, low) in
-      let there = wanted.some last behind within in
+      let there = wanted.some last behind within (omega (arith, low)) in
       let here = links_in (block_now s tree ds i) (spelled_now spelled i) in
       let later = links_in (block_now s tree ds last) (spelled_now spelled last) in
       let is = All-contains IsLink (names_in (block_now s tree ds last)) there.0 (All-from_recursion IsLink (names_in (block_now s tree ds last)) later) there.1 in

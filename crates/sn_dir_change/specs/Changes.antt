@@ -1,6 +1,7 @@
 -- Names that are to change, and what the directory has then.
-use Rattle.std.specs.Prelude.{◌≡◌, ◌≢◌, ℕ, ◌≤◌, ◌||◌, Bool, true, List, [], ◌∷◌, Some, None, IfSome, Option, All, Contains, count_by, is_some}
+use Rattle.std.specs.Prelude.{◌≡◌, ◌≢◌, ℕ, ◌≤◌, ◌==◌, ◌||◌, if◌then◌else◌, Bool, true, List, [], ◌∷◌, Some, None, IfSome, Option, All, Contains, count_by, is_some}
 use Rattle.std.specs.Str.{bytes_eq}
+use Rattle.sn_layout.specs.declared.tree.BlockTree.{BlockTree}
 use Rattle.sn_layout_node.specs.Directory.{Link, IsLink, number_of}
 use Rattle.sn_image.specs.Sound.{AreOnce}
 use Rattle.sn_dir_change.specs.declared.name_change.NameChange.{NameChange}
@@ -36,6 +37,10 @@ is_needed names change = is_some change.number || is_some (number_of change.name
 -- how many changes do
 abbrev pub needed_changes : List Link → List NameChange → ℕ
 needed_changes names changes = count_by (is_needed names) changes
+
+-- A directory without a block gets its first one with its first name, also where that name goes again.
+abbrev pub first_block : BlockTree → ℕ
+first_block tree = if tree.size == 0 then 1 else 0
 
 -- Changes of different names.
 pub record AreChanges (changes : List NameChange) : Type 0 where

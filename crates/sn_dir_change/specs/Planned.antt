@@ -18,7 +18,7 @@ use Rattle.sn_tree.specs.declared.fault.PlanFault.TheVariants.{Full}
 use Rattle.sn_tree.specs.declared.new_block.NewBlock.{NewBlock}
 use Rattle.sn_tree.specs.declared.new_block.DirtyBlock.{DirtyBlock}
 use Rattle.sn_dir.specs.Blocks.{IsDamaged}
-use Rattle.sn_dir_change.specs.Changes.{IsChanged, needed_changes}
+use Rattle.sn_dir_change.specs.Changes.{IsChanged, first_block, needed_changes}
 use Rattle.sn_dir_change.specs.declared.name_change.NameChange.{NameChange}
 
 -- A directory's size, with room for so many blocks more in the largest tree.
@@ -61,7 +61,7 @@ pub record HasChanged (s r : Store) (old new : BlockTree) (changes : List NameCh
   -- where the tree ended at its size, so does the new one
   pub ends : EndsAtSize s old → EndsAtSize r new
 
--- A directory was planned with these changes. At most one of its blocks changes for each name, it grows by no more blocks than change and stays small for its names, none is given back, and a path of new blocks for each changed one and one more is the most that is taken. Over a device that tells its bytes none changes for a name that is to go and doesn't stand, and the tree is that of the changed blocks; where no name stood twice it is the directory that is wanted, in any store that has the new blocks and agrees with the old one in the blocks that the old tree reaches.
+-- A directory was planned with these changes. At most one of its blocks changes for each name, it grows by no more blocks than change and stays small for its names, none is given back, and a path of new blocks for each changed one and one more is the most that is taken. It has a block from its first change on. Over a device that tells its bytes no other changes for a name that is to go and doesn't stand, and the tree is that of the changed blocks; where no name stood twice it is the directory that is wanted, in any store that has the new blocks and agrees with the old one in the blocks that the old tree reaches.
 pub record IsDirectoryPlanned (Told : Type 0) (s : Store) (old new : BlockTree) (changes : List NameChange) (old_draft new_draft : Draft) : Type 0 where
   pub dirty : List DirtyBlock
   pub added : List NewBlock
@@ -69,7 +69,8 @@ pub record IsDirectoryPlanned (Told : Type 0) (s : Store) (old new : BlockTree) 
   pub grew : new_draft ≡ grown old_draft added released
   pub few : length added ≤ (levels_of new.size + 1) * (length dirty + 1)
   pub one_each : length dirty ≤ length changes
-  pub needed : Told → length dirty ≤ needed_changes (names_of s (Tree old)) changes
+  pub needed : Told → length dirty ≤ needed_changes (names_of s (Tree old)) changes + first_block old
+  pub first : 0 < length changes → 0 < new.size
   pub most : new.size ≤ old.size + 4096 * length dirty
   pub sized : IsSizeWith Told s old changes new.size
   pub plans : Told → IsReplanned s old new (old.size / 4096) dirty added released

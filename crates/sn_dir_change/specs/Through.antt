@@ -9,7 +9,7 @@ use Rattle.sn_image.specs.Names.{names_in, names_of}
 use Rattle.sn_image.specs.Sound.{AreOnce}
 use Rattle.sn_tree.specs.Dirty.{IsFrom, block_after}
 use Rattle.sn_tree.specs.declared.new_block.DirtyBlock.{DirtyBlock}
-use Rattle.sn_dir_change.specs.Changes.{ArePuts, IsChanged, needed_changes}
+use Rattle.sn_dir_change.specs.Changes.{ArePuts, IsChanged, first_block, needed_changes}
 use Rattle.sn_dir_change.specs.UnderWay.{AreFull, IsUnderWay}
 use Rattle.sn_dir_change.specs.declared.name_change.NameChange.{NameChange}
 
@@ -60,6 +60,10 @@ HaveNoRoom s tree count dirty = (i j : ℕ) (link : Link) → i < j → tree.siz
 abbrev pub HaveNames : Store → BlockTree → ℕ → List DirtyBlock → Type 0
 HaveNames s tree count dirty = (j : ℕ) → tree.size / 4096 ≤ j → j < count → (link : Link) × Contains (names_in (block_now s tree dirty j)) link
 
+-- each new block but the first of all has a name
+abbrev pub HaveLaterNames : Store → BlockTree → ℕ → List DirtyBlock → Type 0
+HaveLaterNames s tree count dirty = (j : ℕ) → tree.size / 4096 ≤ j → j < count → 0 < j → (link : Link) × Contains (names_in (block_now s tree dirty j)) link
+
 -- The names that stood were changed, and the blocks behind the old ones are filled with those that wait.
 pub record IsFilled (Told : Type 0) (s : Store) (tree : BlockTree) (changes : List NameChange) (bound count : ℕ) (dirty : List DirtyBlock) (waiting : List NameChange) : Type 0 where
   pub blocks : AreDirty count dirty
@@ -77,7 +81,7 @@ pub record IsFilled (Told : Type 0) (s : Store) (tree : BlockTree) (changes : Li
 pub record IsWanted (Told : Type 0) (s : Store) (tree : BlockTree) (changes : List NameChange) (size keep : ℕ) (dirty : List DirtyBlock) : Type 0 where
   pub blocks : AreDirty (size / 4096) dirty
   pub few : length dirty ≤ length changes
-  pub needed : Told → length dirty ≤ needed_changes (names_of s (Tree tree)) changes
+  pub needed : Told → length dirty ≤ needed_changes (names_of s (Tree tree)) changes + first_block tree
   pub keep_is : keep ≡ tree.size / 4096
   pub whole : size % 4096 ≡ 0
   pub least : tree.size ≤ size
@@ -85,4 +89,4 @@ pub record IsWanted (Told : Type 0) (s : Store) (tree : BlockTree) (changes : Li
   pub behind : AreAllDirty (tree.size / 4096) (size / 4096) dirty
   pub names : Told → AreOnce (names_of s (Tree tree)) → IsChanged changes (names_of s (Tree tree)) (names_to s tree dirty (size / 4096))
   pub fit : Told → HaveNoRoom s tree (size / 4096) dirty
-  pub some : HaveNames s tree (size / 4096) dirty
+  pub some : HaveLaterNames s tree (size / 4096) dirty

@@ -1,9 +1,10 @@
 //! A directory with other names.
-ghost use Rattle.std.specs.Prelude.{◌≡◌, [], ◌∷◌, ⊤, Some, None, Err, length, IsTrue, IfOk};
+ghost use Rattle.std.specs.Prelude.{◌≡◌, ◌<◌, Bool, [], ◌∷◌, ⊤, Some, None, Err, length, IsTrue, IfOk};
 ghost use Rattle.sn_device.specs.Disk.{reads};
 ghost use Rattle.sn_block.specs.Lending.{device_of};
 ghost use Rattle.sn_layout_node.specs.Directory.{IsLink};
-ghost use Rattle.sn_ondisk.specs.Trees.{store_of};
+ghost use Rattle.sn_layout.specs.declared.tree.BlockTree.{BlockTree as TheTree};
+ghost use Rattle.sn_ondisk.specs.Trees.{Store, store_of};
 ghost use Rattle.sn_tree.specs.Steps.{CountsPlan};
 ghost use Rattle.sn_tree.specs.declared.fault.PlanFault.TheVariants.{Tree};
 ghost use Rattle.sn_tree_read.specs.Counts.{CountsTree};
@@ -16,14 +17,36 @@ ghost use Rattle.sn_dir_change.specs.Through.{IsWanted};
 use crate::NameChange;
 use crate::fill::fill_blocks;
 use crate::pending::parted;
-use crate::through::pass_blocks;
+use crate::through::{pass_blocks, push_dirty};
 use sn_block::{BLOCK_SIZE, Blocks};
 use sn_device::Device;
 use sn_dir::block_count;
 use sn_layout::BlockTree;
+use sn_layout_node::DirectoryBlock;
 use sn_tree::{Build, Dirty, PlanFault, plan_tree};
 use sn_tree_read::TreeFault;
-use std::alloc::Global;
+use std::alloc::{AllocError, Global};
+
+// Gives a directory without a block its first one, of no names, where a name changes: so it has one from its first name
+// on, also where that name is gone again before anything is planned.
+fn with_first(
+    alloc: Global,
+    mut dirty: Dirty,
+    changes: &[NameChange<'_>],
+) -> Result<Dirty, AllocError>
+    ensures wanted { (told : Bool) (s : Store) (tree : TheTree) → IsWanted (IsTrue told) s tree changes.now dirty.size dirty.keep dirty.blocks.items
+        → IfOk result (λ new. IsWanted (IsTrue told) s tree changes.now new.size new.keep new.blocks.items) }
+    ensures first { IfOk result (λ new. 0 < length changes.now → 0 < new.size) }
+{
+    if dirty.size > 0 || changes.is_empty() {
+        return Ok(dirty);
+    }
+    let mut block = [0; BLOCK_SIZE];
+    DirectoryBlock::clear(&mut block);
+    push_dirty(alloc, &mut dirty.blocks, 0, block)?;
+    dirty.size = BLOCK_SIZE as u64;
+    Ok(dirty)
+}
 
 // What the tree is to become: its changed blocks, and those behind the old ones.
 fn wanted<D: Device>(
@@ -37,6 +60,7 @@ fn wanted<D: Device>(
     ensures wanted { IfOk result (λ dirty. IsWanted (IsTrue D.tells_bytes)
         (store_of (reads (D.disk (device_of blocks.old)))) tree.now changes.now
         dirty.size dirty.keep dirty.blocks.items) }
+    ensures first { IfOk result (λ dirty. 0 < length changes.now → 0 < dirty.size) }
     ensures damaged { IsTrue D.tells_bytes → result ≡ Err Damaged
         → IsDamaged (λ names. ⊤) (D.status (device_of blocks.old)).sectors
         (store_of (reads (D.disk (device_of blocks.old)))) tree.now }
@@ -47,17 +71,18 @@ fn wanted<D: Device>(
     let mut dirty = pass_blocks(alloc, blocks, tree, &mut pending)?;
     let keep = block_count(tree);
     let count = fill_blocks(alloc, keep, &mut pending.waiting, &mut dirty)?;
-    Ok(Dirty {
+    let dirty = Dirty {
         size: count * BLOCK_SIZE as u64,
         keep,
         blocks: dirty,
-    })
+    };
+    Ok(with_first(alloc, dirty, changes)?)
 }
 
 /// Plans a directory in which names were set and taken out, each name at most once in the list. A name
 /// that stands is set in its place; one that doesn't is put into a block with room, or into a new block
 /// behind the others where there is none. No block is given back, and at most one changes for each name;
-/// to take out a name that isn't there changes none.
+/// to take out a name that isn't there changes none, but that a directory has a block from its first change on.
 ///
 /// After an error the build can only be given up. `Full` comes only where fewer blocks are left than a
 /// path for each name and one more, in a directory of the size that this one gets, and `Damaged` only where a block of the directory can't be read or one

@@ -12,7 +12,7 @@ returns-clause-planned g c =
     let t = store_of (reads (g.D.Device.disk (device_of c.wanted.new.blocks))) in
     let same : Told → t ≡ s = (λ told. ap (λ (d : Disk). store_of (reads d)) (c.wanted.ensures.same told)) in
     planned_result Told s c.args.tree.now c.args.changes.now c.in_ok-dirty.dirty.size c.in_ok-dirty.dirty.keep c.in_ok-dirty.dirty.blocks.items t c.args.build.now c.plan_tree.new.build c.plan_tree.result
-    c.requires.room c.in_ok-dirty.ensures.wanted same c.plan_tree.ensures.size c.plan_tree.ensures.planned
+    c.requires.room c.in_ok-dirty.ensures.wanted c.in_ok-dirty.ensures.first same c.plan_tree.ensures.size c.plan_tree.ensures.planned
 
 pub plan_tree-requires : goal.plan_tree-requires
 plan_tree-requires g c =

@@ -13,8 +13,8 @@ fill_blocks-requires-clause-room g c =
     (λ told. ap (λ (d : Disk). store_of (reads d)) (c.parted.ensures.same told)) (omega arith) c.in_ok-pending.ensures.puts c.in_ok-pending.ensures.way (c.in_ok-dirty.ensures.through c.args.changes.now bound) in
     omega (arith, ready.few, c.in_ok-pending.ensures.few, c.block_count-keep.ensures.value, c.requires.room.most)
 
-pub overflow_mul-result : goal.overflow_mul-result
-overflow_mul-result g c =
+pub overflow_mul-dirty : goal.overflow_mul-dirty
+overflow_mul-dirty g c =
     let s = store_of (reads (g.D.Device.disk (device_of c.args.blocks.now))) in
     let bound = length c.in_ok-pending.pending.standing.items + length c.in_ok-pending.pending.waiting.items in
     let ready = ready_to_fill (IsTrue g.D.Device.tells_bytes) s _ c.args.tree.now c.args.changes.now _ _ _ _ bound c.in_ok-dirty.dirty.items _ c.block_count-keep.ensures.value
@@ -28,6 +28,6 @@ returns-clause-wanted g c =
     let bound = length c.in_ok-pending.pending.standing.items + length c.in_ok-pending.pending.waiting.items in
     let ready = ready_to_fill (IsTrue g.D.Device.tells_bytes) s _ c.args.tree.now c.args.changes.now _ _ _ _ bound c.in_ok-dirty.dirty.items _ c.block_count-keep.ensures.value
     (λ told. ap (λ (d : Disk). store_of (reads d)) (c.parted.ensures.same told)) (omega arith) c.in_ok-pending.ensures.puts c.in_ok-pending.ensures.way (c.in_ok-dirty.ensures.through c.args.changes.now bound) in
-    wanted_is (IsTrue g.D.Device.tells_bytes) s c.args.tree.now c.args.changes.now bound c.block_count-keep.result c.in_ok-count.count c.fill_blocks.new.dirty.items c.requires.room
+    c.in_ok-with_first.ensures.wanted g.D.Device.tells_bytes s c.args.tree.now (wanted_is (IsTrue g.D.Device.tells_bytes) s c.args.tree.now c.args.changes.now bound c.block_count-keep.result c.in_ok-count.count c.fill_blocks.new.dirty.items c.requires.room
     c.in_ok-pending.ensures.few c.in_ok-pending.ensures.needed c.block_count-keep.ensures.value
-    (c.in_ok-count.ensures.filled g.D.Device.tells_bytes s c.args.tree.now c.args.changes.now bound ready)
+    (c.in_ok-count.ensures.filled g.D.Device.tells_bytes s c.args.tree.now c.args.changes.now bound ready))
