@@ -28,28 +28,21 @@ fn caller_of(alloc: Global, case: Case<'_>, geometry: [usize; 3]) -> Result<Cred
 }
 
 fn decision(alloc: Global, case: Case<'_>) -> Result<String> {
-    match decided(alloc, case)? {
+    match denied_by(alloc, case)? {
         None => Ok(String::from_str(alloc, "granted")?),
         Some(tag) => Ok(format!(in alloc; "denied by {tag}")?),
     }
 }
 
 /// The entry that denies what is wanted.
-fn decided(alloc: Global, case: Case<'_>) -> Result<Option<Tag>> {
+fn denied_by(alloc: Global, case: Case<'_>) -> Result<Option<Tag>> {
+    let (owner, group) = (case.number(1)?, case.number(2)?);
+    let want = rights_of(case.word(6)?)?;
     let acl = acl_of(case.word(0)?)?;
     let caller = caller_of(alloc, case, [3, 4, 5])?;
-    decided_by(case, &acl, &caller)
-}
-
-fn decided_by(case: Case<'_>, acl: &Acl, caller: &Cred) -> Result<Option<Tag>> {
-    let want = rights_of(case.word(6)?)?;
-    Ok(denied_by(acl, caller, case.number(1)?, case.number(2)?, want))
-}
-
-fn denied_by(acl: &Acl, caller: &Cred, owner: u32, group: u32, want: Permissions) -> Option<Tag> {
-    match check(caller, owner, group, acl, want) {
-        Ok(()) => None,
-        Err(entry) => Some(entry.tag),
+    match check(&caller, owner, group, &acl, want) {
+        Ok(()) => Ok(None),
+        Err(entry) => Ok(Some(entry.tag)),
     }
 }
 
@@ -89,20 +82,8 @@ fn mode_at(case: Case<'_>, at: usize) -> Result<Mode> {
 }
 
 fn acl_and_mode(alloc: Global, acl: &Acl) -> Result<String> {
-    let printed = acl.print();
-    text_and_mode(alloc, printed.as_str(), acl.mode().bits())
-}
-
-fn text_and_mode(alloc: Global, acl: &str, mode: u16) -> Result<String> {
-    let mut text = String::from_str(alloc, acl)?;
-    push_mode(&mut text, mode)?;
-    Ok(text)
-}
-
-fn push_mode(text: &mut String, mode: u16) -> Result<()> {
-    text.push_str(" ")?;
-    write!(text, "{mode:03o}")?;
-    Ok(())
+    let mode = acl.mode().bits();
+    Ok(format!(in alloc; "{} {mode:03o}", acl.print().as_str())?)
 }
 
 fn mode_answer(alloc: Global, case: Case<'_>) -> Result<String> {
@@ -147,22 +128,11 @@ fn default_of(word: &str) -> Result<Option<Acl>> {
 
 fn told(alloc: Global, access: &Acl, default: Option<&Acl>) -> Result<String> {
     let access = access.print();
+    let access = access.as_str();
     match default {
-        Some(acl) => told_both(alloc, access.as_str(), acl.print().as_str()),
-        None => told_both(alloc, access.as_str(), "-"),
+        Some(acl) => Ok(format!(in alloc; "{access} {}", acl.print().as_str())?),
+        None => Ok(format!(in alloc; "{access} -")?),
     }
-}
-
-fn told_both(alloc: Global, access: &str, default: &str) -> Result<String> {
-    let mut text = String::from_str(alloc, access)?;
-    push_both(&mut text, default)?;
-    Ok(text)
-}
-
-fn push_both(text: &mut String, default: &str) -> Result<()> {
-    text.push_str(" ")?;
-    text.push_str(default)?;
-    Ok(())
 }
 
 fn rights_answer(alloc: Global, case: Case<'_>) -> Result<String> {
@@ -177,15 +147,10 @@ fn rights_answer(alloc: Global, case: Case<'_>) -> Result<String> {
 
 fn rights_at(case: Case<'_>) -> Result<Option<Permissions>> {
     match case.word(0)? {
-        "bits" => rights_of_bits(case.octal(1)?),
+        "bits" => Ok(Permissions::from_bits(u8::try_from(case.octal(1)?)?)),
         "letters" => Ok(Permissions::parse(case.word(1)?.as_bytes())),
         word => combined(case, word),
     }
-}
-
-fn rights_of_bits(bits: u16) -> Result<Option<Permissions>> {
-    ensure!(bits < 256, "more than a byte");
-    Ok(Permissions::from_bits(bits as u8))
 }
 
 fn combined(case: Case<'_>, word: &str) -> Result<Option<Permissions>> {

@@ -82,16 +82,12 @@ fn push(text: &mut String, words: &str) -> Result<()> {
 }
 
 fn push_number(text: &mut String, before: &str, number: u64) -> Result<()> {
-    text.push_str(before)?;
-    write!(text, " {number}")?;
-    Ok(())
+    Ok(write!(text, "{before} {number}")?)
 }
 
 fn push_word(text: &mut String, before: &str, word: &Word) -> Result<()> {
-    text.push_str(before)?;
-    text.push_str(" ")?;
-    text.push_str(str::from_utf8(word.as_bytes())?)?;
-    Ok(())
+    let word = str::from_utf8(word.as_bytes())?;
+    Ok(write!(text, "{before} {word}")?)
 }
 
 fn push_path(text: &mut String, call: &str, path: &Word) -> Result<()> {
@@ -140,17 +136,17 @@ fn push_open(text: &mut String, path: &Word, flags: OpenFlags, mode: u16) -> Res
 
 /// The names of the flags that are set.
 fn push_flags(text: &mut String, flags: OpenFlags) -> Result<()> {
-    push_if(text, flags.read, " read")?;
-    push_if(text, flags.write, " write")?;
-    push_if(text, flags.append, " append")?;
-    push_if(text, flags.create, " create")?;
-    push_if(text, flags.exclusive, " exclusive")?;
-    push_if(text, flags.truncate, " truncate")
-}
-
-fn push_if(text: &mut String, is_set: bool, name: &str) -> Result<()> {
-    if is_set {
-        text.push_str(name)?;
+    for (is_set, name) in [
+        (flags.read, " read"),
+        (flags.write, " write"),
+        (flags.append, " append"),
+        (flags.create, " create"),
+        (flags.exclusive, " exclusive"),
+        (flags.truncate, " truncate"),
+    ] {
+        if is_set {
+            text.push_str(name)?;
+        }
     }
     Ok(())
 }

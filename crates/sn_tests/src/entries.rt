@@ -2,7 +2,7 @@
 
 use anyhow::{Context, Result, bail};
 use sn_acl::{Acl, Entry, Permissions, Tag};
-use sn_table::Case;
+use sn_table::{Case, number_of, pair_of};
 use std::alloc::Global;
 
 /// The ACL that a word of a table spells, in the short text form of acl(5). An error where it spells none.
@@ -46,11 +46,8 @@ fn tag_of(word: &str) -> Result<Tag> {
 }
 
 fn named_tag(word: &str) -> Result<Tag> {
-    let (kind, number) = word.split_once(':').context("no tag")?;
-    tag_with(kind, number.parse().context("no number")?)
-}
-
-fn tag_with(kind: &str, number: u32) -> Result<Tag> {
+    let (kind, number) = pair_of(word)?;
+    let number = number_of(number)?;
     match kind {
         "user" => Ok(Tag::User(number)),
         "group" => Ok(Tag::Group(number)),

@@ -1,62 +1,49 @@
 //! The file system over maps in memory.
 
-use anyhow::{Context, Result, ensure};
+use anyhow::{Result, ensure};
 use sn_core::run_plain;
-use sn_model::{End, Errno, Event, Reply};
+use sn_model::{End, Errno, Event, Refusal, Reply};
 use sn_replies::print_replies;
 use sn_script::read_script;
 use sn_table::{Report, Tally};
 use std::alloc::Global;
 use std::str;
 
+const TABLES: [&str; 6] = [
+    "run_calls.txt",
+    "run_hidden.txt",
+    "run_restart.txt",
+    "run_numbers.txt",
+    "run_owners.txt",
+    "run_names.txt",
+];
+
 /// Compares the replies of the plain run to each script of `data/` with those beside its lines, which follow from
 /// `docs/RULES.md`; then makes one run in which a call that is refused memory is made again. An error is a table that
 /// can't be read, output that can't be written, or a run that ends for want of memory.
 pub fn run(report: &mut Report<'_>) -> Result<()> {
-    report.script("run_calls.txt", replies_to)?;
-    report.script("run_hidden.txt", replies_to)?;
-    report.script("run_restart.txt", replies_to)?;
-    report.script("run_numbers.txt", replies_to)?;
-    report.script("run_owners.txt", replies_to)?;
-    report.script("run_names.txt", replies_to)?;
+    for table in TABLES {
+        report.script(table, replies_to)?;
+    }
     let again = asked_again(report)?;
     report.add("asked again", again)
 }
 
 fn is_no_memory(reply: &Reply) -> bool {
     match reply {
-        Reply::Refused(refusal) => refusal.errno == Errno::Enomem,
+        Reply::Refused(
+            Refusal {
+                errno: Errno::Enomem,
+                ..
+            },
+        ) => true,
         _ => false,
     }
 }
 
-/// The event of a line.
-fn event_of(alloc: Global, line: &str) -> Result<Event> {
-    let script = format!(in alloc; "{line}\n")?;
-    only_event(alloc, script.as_str())
-}
-
-fn only_event(alloc: Global, script: &str) -> Result<Event> {
-    let mut events = read_script(alloc, script.as_bytes())?;
-    events.pop().context("one event")
-}
-
-fn events_of(alloc: Global, script: &str) -> Result<Vec<Event>> {
-    let mut events = Vec::new(alloc);
-    push_events(alloc, script, &mut events)?;
-    Ok(events)
-}
-
-fn push_events(alloc: Global, script: &str, events: &mut Vec<Event>) -> Result<()> {
-    for line in script.lines() {
-        events.push(event_of(alloc, line)?)?;
-    }
-    Ok(())
-}
-
 /// A line for each reply, with the number of the node where it is a status.
 fn replies_to(alloc: Global, script: &str) -> Result<String> {
-    let events = events_of(alloc, script)?;
+    let events = read_script(alloc, script.as_bytes())?;
     replies_to_all(alloc, events.as_slice())
 }
 
@@ -80,19 +67,17 @@ fn push_replies(alloc: Global, replies: &[Reply], text: &mut String) -> Result<(
 fn push_lines(lines: &str, replies: &[Reply], text: &mut String) -> Result<()> {
     for (line, reply) in lines.lines().zip(replies) {
         ensure!(!is_no_memory(reply), "no memory for a call");
-        text.push_str(line)?;
-        push_node(reply, text)?;
+        push_line(line, reply, text)?;
     }
     Ok(())
 }
 
-/// The number of the node, and the end of the line.
-fn push_node(reply: &Reply, text: &mut String) -> Result<()> {
-    if let Reply::Status(status) = reply {
-        let number = status.number;
-        write!(text, " number {number}")?;
+/// A line with the number of the node, where the reply tells it.
+fn push_line(line: &str, reply: &Reply, text: &mut String) -> Result<()> {
+    match reply {
+        Reply::Status(status) => writeln!(text, "{line} number {}", status.number)?,
+        _ => writeln!(text, "{line}")?,
     }
-    text.push_str("\n")?;
     Ok(())
 }
 
@@ -118,29 +103,9 @@ fn is_honest(alloc: Global, events: &[Event]) -> bool {
     if end != End::Clean {
         return replies.is_empty();
     }
-    let refused = count_refused(replies.as_slice());
-    let told = count_told(replies.as_slice());
+    let refused = replies.iter().filter(|it| is_no_memory(it)).count();
+    let told = replies.iter().filter(|it| is_made(it)).count();
     replies.len() == 5 && refused <= 1 && told >= 1 && told.saturating_add(refused) >= 2
-}
-
-fn count_refused(replies: &[Reply]) -> usize {
-    let mut count = 0_usize;
-    for reply in replies {
-        if is_no_memory(reply) {
-            count = count.saturating_add(1);
-        }
-    }
-    count
-}
-
-fn count_told(replies: &[Reply]) -> usize {
-    let mut count = 0_usize;
-    for reply in replies {
-        if is_made(reply) {
-            count = count.saturating_add(1);
-        }
-    }
-    count
 }
 
 /// Whether the reply is the status of the first directory that was made.

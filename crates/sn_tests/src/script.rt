@@ -35,40 +35,17 @@ fn script(alloc: Global, case: Case<'_>) -> Result<String> {
 
 /// The second line of three, of which the first is right and the third wrong.
 fn line(alloc: Global, case: Case<'_>) -> Result<String> {
-    let mut script = two_lines(alloc, case)?;
-    second_of(alloc, &mut script)
-}
-
-/// What the second line of a script of two is read as.
-fn second_of(alloc: Global, script: &mut Vec<u8>) -> Result<String> {
-    let read = script.len();
-    script.extend_from_slice(b"0 stat\n".as_slice())?;
+    let script = behind_another(alloc, case, "0 stat%0a")?;
     match fault_of(alloc, script.as_slice())? {
-        ScriptFault::Line(3) => {
-            script.truncate(read);
-            second_event(alloc, script.as_slice())
-        }
+        ScriptFault::Line(3) => second_event(alloc, case),
         fault => Ok(fault.to_string(alloc)?),
     }
 }
 
-/// A line that is right, and behind it the words of a case.
-fn two_lines(alloc: Global, case: Case<'_>) -> Result<Vec<u8>> {
-    let line = case.bytes(alloc)?;
-    behind_another(alloc, line.as_slice())
-}
-
-fn behind_another(alloc: Global, line: &[u8]) -> Result<Vec<u8>> {
-    let mut script = Vec::new(alloc);
-    push_two(&mut script, line)?;
-    Ok(script)
-}
-
-fn push_two(script: &mut Vec<u8>, line: &[u8]) -> Result<()> {
-    script.extend_from_slice(b"0 stat /\n".as_slice())?;
-    script.extend_from_slice(line)?;
-    script.push(b'\n')?;
-    Ok(())
+/// A script with a line that is right, the words of a case behind it, and then what a table would spell so.
+fn behind_another(alloc: Global, case: Case<'_>, end: &str) -> Result<Vec<u8>> {
+    let text = format!(in alloc; "0 stat /%0a{}%0a{end}", case.text())?;
+    Case::new(text.as_str()).bytes(alloc)
 }
 
 /// The fault of a script that is none.
@@ -76,28 +53,25 @@ fn fault_of(alloc: Global, script: &[u8]) -> Result<ScriptFault> {
     read(alloc, script)?.err().context("a fault")
 }
 
-fn second_event(alloc: Global, script: &[u8]) -> Result<String> {
-    let events = read_script(alloc, script)?;
+/// What the second line of a script of two is read as.
+fn second_event(alloc: Global, case: Case<'_>) -> Result<String> {
+    let script = behind_another(alloc, case, "")?;
+    let events = read_script(alloc, script.as_slice())?;
     told(alloc, events.as_slice().get(1).context("one event")?)
 }
 
 /// As many bytes as a script may have, all of them ends of lines, and one more.
 fn long_scripts(report: &Report<'_>) -> Result<Tally> {
     let mut tally = Tally::new();
-    check_long(report, &mut tally, SCRIPT_MAX, 1)?;
-    check_long(report, &mut tally, SCRIPT_MAX + 1, 0)?;
+    for (count, line) in [(SCRIPT_MAX, 1_u32), (SCRIPT_MAX + 1, 0)] {
+        let fault = fault_of_ends(report.alloc(), count)?;
+        let is_right = fault == ScriptFault::Line(line as usize);
+        tally.check(report.runtime(), is_right, &[line])?;
+    }
     Ok(tally)
 }
 
 fn fault_of_ends(alloc: Global, count: usize) -> Result<ScriptFault> {
     let script = vec![in alloc; b'\n'; count]?;
     fault_of(alloc, script.as_slice())
-}
-
-/// Whether so many ends of lines are refused for the line with this number.
-fn check_long(report: &Report<'_>, tally: &mut Tally, count: usize, line: u32) -> Result<()> {
-    let fault = fault_of_ends(report.alloc(), count)?;
-    let is_right = fault == ScriptFault::Line(line as usize);
-    tally.check(report.runtime(), is_right, &[line])?;
-    Ok(())
 }

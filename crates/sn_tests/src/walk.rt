@@ -20,23 +20,12 @@ pub fn run(report: &mut Report<'_>) -> Result<()> {
 
 /// A name, or only its length where it is long.
 fn push_name(text: &mut String, name: &[u8]) -> Result<()> {
-    if name.len() > 32 {
-        push_length(text, name.len())
+    let count = name.len();
+    if count > 32 {
+        write!(text, "({count} bytes)")?;
     } else {
-        push_short(text, name)
+        text.push_str(str::from_utf8(name)?)?;
     }
-}
-
-fn push_length(text: &mut String, count: usize) -> Result<()> {
-    text.push_str("(")?;
-    write!(text, "{count}")?;
-    text.push_str(" bytes)")?;
-    Ok(())
-}
-
-fn push_short(text: &mut String, name: &[u8]) -> Result<()> {
-    let name = str::from_utf8(name)?;
-    text.push_str(name)?;
     Ok(())
 }
 
@@ -109,20 +98,12 @@ fn push_walked(text: &mut String, walked: &Walked) -> Result<()> {
 }
 
 fn push_refusal(text: &mut String, refusal: WalkRefusal) -> Result<()> {
+    let place = refusal.place;
     match refusal.obstacle {
-        Obstacle::NotADirectory => push_at(text, "no directory", refusal.place),
-        Obstacle::Denied(tag) => {
-            push_at(text, "denied", refusal.place)?;
-            write!(text, " by {tag}")?;
-            Ok(())
-        }
-        Obstacle::Missing => push_at(text, "missing", refusal.place),
+        Obstacle::NotADirectory => write!(text, "no directory at place {place}")?,
+        Obstacle::Denied(tag) => write!(text, "denied at place {place} by {tag}")?,
+        Obstacle::Missing => write!(text, "missing at place {place}")?,
     }
-}
-
-fn push_at(text: &mut String, word: &str, place: u16) -> Result<()> {
-    text.push_str(word)?;
-    write!(text, " at place {place}")?;
     Ok(())
 }
 
