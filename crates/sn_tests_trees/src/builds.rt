@@ -20,32 +20,21 @@ pub fn new_build(alloc: Global, taken: Map) -> Result<Build> {
     Ok(Build::new(alloc, BlockAllocator::new(alloc, taken, FIRST)))
 }
 
-/// Tells the blocks that a build takes and releases.
-pub fn push_build(build: &Build, text: &mut String) -> Result<()> {
-    text.push_str("new")?;
+/// The blocks that a build takes and releases.
+pub fn taken_by(alloc: Global, build: &Build) -> Result<String> {
+    let mut text = String::from_str(alloc, "new")?;
     for block in build.added() {
-        let number = block.number;
-        write!(text, " {number}")?;
+        write!(text, " {}", block.number)?;
     }
-    let released = build.released();
-    write!(text, ", released {released:?}")?;
-    Ok(())
+    write!(text, ", released {:?}", build.released())?;
+    Ok(text)
 }
 
 /// Writes the new blocks, and sets the map to what is reached then.
 pub fn settled(build: Build, blocks: &mut Blocks<MemDevice>) -> Result<Map> {
     let (allocator, added, released) = build.into_parts();
-    let map = allocator.give_up();
-    settled_map(map, blocks, added.as_slice(), released.as_slice())
-}
-
-fn settled_map(
-    mut map: Map,
-    blocks: &mut Blocks<MemDevice>,
-    added: &[NewBlock],
-    released: &[u32],
-) -> Result<Map> {
-    settle(&mut map, blocks, added, released)?;
+    let mut map = allocator.give_up();
+    settle(&mut map, blocks, added.as_slice(), released.as_slice())?;
     Ok(map)
 }
 

@@ -1,13 +1,13 @@
 //! What the calls answer over the directories of a table.
 
-use crate::directory::{Directory, push_record};
+use crate::directory::Directory;
 use crate::image::{BLOCKS, told};
 use anyhow::{Context, Result};
 use sn_block::Blocks;
 use sn_device::MemDevice;
 use sn_dir::{ListedName, count, is_empty, lookup, names};
 use sn_layout::BlockTree;
-use sn_table::Case;
+use sn_table::{Case, pair_of};
 use std::alloc::Global;
 use std::str;
 
@@ -17,26 +17,11 @@ const LONG: usize = 17;
 /// The answers of `count`, `is_empty` and `names`, and of `lookup` for the names of the first word. The
 /// other words are the blocks of the directory.
 pub fn answers(alloc: Global, case: Case<'_>) -> Result<String> {
-    let mut text = String::new(alloc);
-    push_answers(alloc, case, &mut text)?;
-    Ok(text)
-}
-
-fn push_answers(alloc: Global, case: Case<'_>, text: &mut String) -> Result<()> {
     let asked = case.word(0)?;
     let mut directory = directory_of(alloc, case)?;
-    push_asked(alloc, &mut directory, asked, text)
-}
-
-fn push_asked(
-    alloc: Global,
-    directory: &mut Directory,
-    asked: &str,
-    text: &mut String,
-) -> Result<()> {
     let tree = directory.tree();
     let mut blocks = directory.image.blocks(alloc)?;
-    push_told(alloc, &mut blocks, &tree, asked, text)
+    answers_of(alloc, &mut blocks, &tree, asked)
 }
 
 /// A directory of the blocks of a case's words, all but the first.
@@ -48,16 +33,17 @@ pub fn directory_of(alloc: Global, case: Case<'_>) -> Result<Directory> {
     Ok(directory)
 }
 
-fn push_told(
+fn answers_of(
     alloc: Global,
     blocks: &mut Blocks<MemDevice>,
     tree: &BlockTree,
     asked: &str,
-    text: &mut String,
-) -> Result<()> {
-    push_count(blocks, tree, text)?;
-    push_names(alloc, blocks, tree, text)?;
-    push_all_found(alloc, blocks, tree, asked, text)
+) -> Result<String> {
+    let mut text = String::new(alloc);
+    push_count(blocks, tree, &mut text)?;
+    push_names(alloc, blocks, tree, &mut text)?;
+    push_all_found(alloc, blocks, tree, asked, &mut text)?;
+    Ok(text)
 }
 
 fn push_all_found(
@@ -92,32 +78,31 @@ fn push_word(alloc: Global, directory: &mut Directory, word: &str) -> Result<()>
 fn records_of(alloc: Global, word: &str) -> Result<Vec<u8>> {
     let mut bytes = Vec::new(alloc);
     for record in word.split('+') {
-        push_record_of(alloc, &mut bytes, record)?;
+        push_record(alloc, &mut bytes, record)?;
     }
     Ok(bytes)
 }
 
-fn push_record_of(alloc: Global, bytes: &mut Vec<u8>, record: &str) -> Result<()> {
-    let (number, name) = record.split_once(':').context("no record")?;
-    let number = number.parse()?;
+/// Puts a name with its number behind the others of a block.
+fn push_record(alloc: Global, bytes: &mut Vec<u8>, record: &str) -> Result<()> {
+    let (number, name) = pair_of(record)?;
+    bytes.extend_from_slice(&number.parse::<u16>()?.to_le_bytes())?;
     let name = name_of(alloc, name)?;
-    push_record(bytes, number, name.as_slice())
+    bytes.push(u8::try_from(name.len())?)?;
+    bytes.extend_from_slice(name.as_slice())?;
+    Ok(())
 }
 
 /// The name of a word, in which `a*255` is 255 letters.
 pub fn name_of(alloc: Global, word: &str) -> Result<Vec<u8>> {
     match word.split_once('*') {
-        Some((letter, count)) => repeated(alloc, letter.as_bytes(), count.parse()?),
+        Some((letter, count)) => {
+            let letter = *letter.as_bytes().first().context("no letter")?;
+            let count = count.parse::<u16>()?;
+            Ok(vec![in alloc; letter; usize::from(count)]?)
+        }
         None => Ok(word.as_bytes().to_vec(alloc)?),
     }
-}
-
-fn repeated(alloc: Global, letter: &[u8], count: u16) -> Result<Vec<u8>> {
-    let mut name = Vec::new(alloc);
-    for _ in 0..count {
-        name.extend_from_slice(letter)?;
-    }
-    Ok(name)
 }
 
 fn push_count(blocks: &mut Blocks<MemDevice>, tree: &BlockTree, text: &mut String) -> Result<()> {
@@ -125,16 +110,12 @@ fn push_count(blocks: &mut Blocks<MemDevice>, tree: &BlockTree, text: &mut Strin
         Some(count) => write!(text, "{count}, ")?,
         None => text.push_str("damaged, ")?,
     }
-    text.push_str(emptiness(told(is_empty(blocks, tree))?))?;
-    Ok(())
-}
-
-fn emptiness(told: Option<bool>) -> &'static str {
-    match told {
-        Some(true) => "empty:",
-        Some(false) => "not empty:",
-        None => "damaged:",
+    match told(is_empty(blocks, tree))? {
+        Some(true) => text.push_str("empty:")?,
+        Some(false) => text.push_str("not empty:")?,
+        None => text.push_str("damaged:")?,
     }
+    Ok(())
 }
 
 fn push_names(

@@ -76,11 +76,3 @@ impl Directory {
         Ok(map)
     }
 }
-
-/// Puts a name with its number behind the others of a block.
-pub fn push_record(bytes: &mut Vec<u8>, number: u16, name: &[u8]) -> Result<()> {
-    bytes.extend_from_slice(&number.to_le_bytes())?;
-    bytes.push(u8::try_from(name.len())?)?;
-    bytes.extend_from_slice(name)?;
-    Ok(())
-}

@@ -15,7 +15,6 @@ use sn_layout::{BlockTree, Pointers};
 use sn_layout_acl::AclBlock;
 use sn_layout_node::{Content, Inode};
 use sn_limits::Limits;
-use sn_map::Map;
 use sn_table::{Report, Tally};
 use sn_tree::{Build, PlanFault};
 use sn_tree_read::{TreeFault, read};
@@ -73,13 +72,9 @@ const TAKEN: [(Call, u32); 4] = [
 /// fault that no case can have, or a want of memory.
 pub fn run(report: &mut Report<'_>) -> Result<()> {
     let image = image(report.alloc())?;
-    run_on(report, &image)
-}
-
-fn run_on(report: &mut Report<'_>, image: &Image) -> Result<()> {
-    let tally = reads(report, image)?;
+    let tally = reads(report, &image)?;
     report.add("a failure at each read", tally)?;
-    let tally = blocks_left(report, image)?;
+    let tally = blocks_left(report, &image)?;
     report.add("blocks that are left", tally)
 }
 
@@ -125,22 +120,13 @@ fn content(size: u64, indirect: u32) -> Content {
 
 /// A build in which so many blocks are left.
 fn build_with(alloc: Global, left: u32) -> Result<Build> {
-    let map = map_with(alloc, left)?;
-    new_build(alloc, map)
-}
-
-fn map_with(alloc: Global, left: u32) -> Result<Map> {
     let mut map = new_map(alloc)?;
-    take_blocks(&mut map, left);
-    Ok(map)
-}
-
-fn take_blocks(map: &mut Map, left: u32) {
     for block in FIRST..BLOCKS.saturating_sub(left) {
         if block < map.len() {
             map.set_word(block, 1);
         }
     }
+    new_build(alloc, map)
 }
 
 /// Whether a call comes to what it should, with so many blocks left, or why it fails.
@@ -207,18 +193,11 @@ fn planned_file(
     blocks: &mut Blocks<MemDevice>,
     left: u32,
 ) -> Result<Result<bool, PlanFault>> {
-    let mut build = build_with(alloc, left)?;
-    plan_file(alloc, &mut build, blocks)
-}
-
-fn plan_file(
-    alloc: Global,
-    build: &mut Build,
-    blocks: &mut Blocks<MemDevice>,
-) -> Result<Result<bool, PlanFault>> {
+    let file = content(131_072, HOLES);
     let dirty = change_of(alloc, 131_072, "32/5/9")?;
-    Ok(match plan(build, blocks, &content(131_072, HOLES), dirty) {
-        Ok(new) => Ok(new.size() == 131_072 && is_built(build, 2, &[HOLES])),
+    let mut build = build_with(alloc, left)?;
+    Ok(match plan(&mut build, blocks, &file, dirty) {
+        Ok(new) => Ok(new.size() == 131_072 && is_built(&build, 2, &[HOLES])),
         Err(fault) => Err(fault),
     })
 }
@@ -322,18 +301,9 @@ fn reads(report: &Report<'_>, image: &Image) -> Result<Tally> {
 /// Whether a call tells that a read failed, or is right where it makes fewer, and is right from then on.
 fn is_told(alloc: Global, image: &Image, (call, count): (Call, u32), read: u32) -> Result<bool> {
     let mut blocks = image.failing_at(alloc, read)?;
-    is_told_once(alloc, &mut blocks, call, read <= count)
-}
-
-fn is_told_once(
-    alloc: Global,
-    blocks: &mut Blocks<MemDevice>,
-    call: Call,
-    fails: bool,
-) -> Result<bool> {
-    let first = answer(alloc, call, blocks)?;
-    let second = answer(alloc, call, blocks)?;
-    Ok(first == (!fails).then_some(true) && second == Some(true))
+    let first = answer(alloc, call, &mut blocks)?;
+    let second = answer(alloc, call, &mut blocks)?;
+    Ok(first == (read > count).then_some(true) && second == Some(true))
 }
 
 /// A plan is refused where too few blocks are left, and nowhere else.
@@ -355,16 +325,7 @@ fn is_refused_right(
     left: u32,
 ) -> Result<bool> {
     let mut blocks = image.blocks(alloc)?;
-    is_right_with(alloc, &mut blocks, (call, needed), left)
-}
-
-fn is_right_with(
-    alloc: Global,
-    blocks: &mut Blocks<MemDevice>,
-    (call, needed): (Call, u32),
-    left: u32,
-) -> Result<bool> {
-    match attempt(alloc, call, blocks, left)? {
+    match attempt(alloc, call, &mut blocks, left)? {
         Ok(is_right) => Ok(is_right && left >= needed),
         Err(PlanFault::Full) => Ok(left < needed),
         Err(fault) => bail!("{fault}"),

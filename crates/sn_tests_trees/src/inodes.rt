@@ -6,10 +6,9 @@ use sn_block::Blocks;
 use sn_device::MemDevice;
 use sn_inode::{acls, get};
 use sn_layout::{BlockTree, Pointers};
-use sn_layout_acl::AclBlock;
 use sn_layout_node::{Content, Inode};
 use sn_limits::{Kind, Limits};
-use sn_table::Case;
+use sn_table::{Case, pair_of};
 use std::alloc::Global;
 
 /// The block of the inode file, and the ACL block.
@@ -23,21 +22,11 @@ const INODE_SIZE: usize = 128;
 /// The answers of `get` and `acls` for the number of the first word. The second word says where the inode
 /// file's first block is. The others are bytes, each with its place: `r` in the record, `a` in the ACL block.
 pub fn answers(alloc: Global, case: Case<'_>) -> Result<String> {
-    let mut text = String::new(alloc);
-    push_answers(alloc, case, &mut text)?;
-    Ok(text)
-}
-
-fn push_answers(alloc: Global, case: Case<'_>, text: &mut String) -> Result<()> {
     let number = u16::try_from(case.number(0)?)?;
     let file = file(first_of(case.word(1)?));
-    let mut blocks = blocks_of(alloc, case, number)?;
-    push_told(&mut blocks, &file, number, text)
-}
-
-fn blocks_of(alloc: Global, case: Case<'_>, number: u16) -> Result<Blocks<MemDevice>> {
     let image = image_of(alloc, case, number)?;
-    image.blocks(alloc)
+    let mut blocks = image.blocks(alloc)?;
+    answer_of(alloc, &mut blocks, &file, number)
 }
 
 fn first_of(word: &str) -> u32 {
@@ -68,7 +57,7 @@ fn image_of(alloc: Global, case: Case<'_>, number: u16) -> Result<Image> {
 
 /// Writes the bytes of a word `rAT:HEX` or `aAT:HEX`.
 fn put_word(alloc: Global, image: &mut Image, number: u16, word: &str) -> Result<()> {
-    let (place, digits) = word.split_once(':').context("no place")?;
+    let (place, digits) = pair_of(word)?;
     let (block, at) = place_of(place, number)?;
     let bytes = hex::decode(alloc, digits)?;
     image.put(block, at, bytes.as_slice());
@@ -87,34 +76,32 @@ fn place_of(place: &str, number: u16) -> Result<(u32, usize)> {
     Ok((ACLS, usize::from(at.parse::<u16>()?)))
 }
 
-fn push_told(
+fn answer_of(
+    alloc: Global,
     blocks: &mut Blocks<MemDevice>,
     file: &BlockTree,
     number: u16,
-    text: &mut String,
-) -> Result<()> {
+) -> Result<String> {
     match told(get(blocks, &Limits::VERSION_1, file, number))? {
-        Some(Some(inode)) => push_both(blocks, &inode, text),
-        Some(None) => Ok(text.push_str("none")?),
-        None => Ok(text.push_str("damaged")?),
+        Some(Some(inode)) => inode_text(alloc, blocks, &inode),
+        Some(None) => Ok(String::from_str(alloc, "none")?),
+        None => Ok(String::from_str(alloc, "damaged")?),
     }
 }
 
-fn push_both(blocks: &mut Blocks<MemDevice>, inode: &Inode, text: &mut String) -> Result<()> {
-    push_inode(inode, text)?;
-    push_content(&inode.content, text)?;
-    push_acls(blocks, inode, text)
-}
-
-fn word_of(kind: Kind) -> &'static str {
-    match kind {
-        Kind::File => "file",
-        Kind::Directory => "directory",
-    }
+fn inode_text(alloc: Global, blocks: &mut Blocks<MemDevice>, inode: &Inode) -> Result<String> {
+    let mut text = String::new(alloc);
+    push_inode(inode, &mut text)?;
+    push_content(&inode.content, &mut text)?;
+    push_acls(blocks, inode, &mut text)?;
+    Ok(text)
 }
 
 fn push_inode(inode: &Inode, text: &mut String) -> Result<()> {
-    text.push_str(word_of(inode.kind))?;
+    match inode.kind {
+        Kind::File => text.push_str("file")?,
+        Kind::Directory => text.push_str("directory")?,
+    }
     let mode = inode.objects.bits();
     let links = inode.links;
     let owner = inode.owner;
@@ -146,14 +133,11 @@ fn push_content(content: &Content, text: &mut String) -> Result<()> {
 
 fn push_acls(blocks: &mut Blocks<MemDevice>, inode: &Inode, text: &mut String) -> Result<()> {
     match told(acls(blocks, inode))? {
-        Some(acls) => push_lists(&acls, text),
-        None => Ok(text.push_str("; damaged")?),
+        Some(acls) => {
+            let access = acls.access.as_slice().len();
+            write!(text, "; {access} of {}", acls.count())?;
+        }
+        None => text.push_str("; damaged")?,
     }
-}
-
-fn push_lists(acls: &AclBlock, text: &mut String) -> Result<()> {
-    let access = acls.access.as_slice().len();
-    let all = acls.count();
-    write!(text, "; {access} of {all}")?;
     Ok(())
 }

@@ -1,16 +1,15 @@
 //! Directories that change, by a table.
 
-use crate::builds::{new_build, push_build, settled};
+use crate::builds::{new_build, settled, taken_by};
 use crate::directories::{directory_of, name_of, push_name};
-use crate::directory::Directory;
-use anyhow::{Context, Result, bail, ensure};
+use anyhow::{Result, bail, ensure};
 use sn_block::Blocks;
 use sn_device::MemDevice;
 use sn_dir::{block_count, decoded, fetch_block};
 use sn_dir_change::{NameChange, are_changes, change};
 use sn_layout::BlockTree;
 use sn_layout_node::DirectoryBlock;
-use sn_table::Case;
+use sn_table::{Case, pair_of};
 use sn_tree::{Build, PlanFault};
 use sn_tree_read::TreeFault;
 use std::alloc::Global;
@@ -24,61 +23,30 @@ struct Wanted {
 
 /// The new blocks of a directory, what was taken and released. The first word is the changes.
 pub fn answers(alloc: Global, case: Case<'_>) -> Result<String> {
-    let mut text = String::new(alloc);
-    push_answers(alloc, case, &mut text)?;
-    Ok(text)
-}
-
-fn push_answers(alloc: Global, case: Case<'_>, text: &mut String) -> Result<()> {
     let wanted = wanted_of(alloc, case.word(0)?)?;
-    push_changed_of(alloc, case, wanted.as_slice(), text)
+    let changes = changes_of(alloc, wanted.as_slice())?;
+    changed_by(alloc, case, changes.as_slice())
 }
 
-fn push_changed_of(
-    alloc: Global,
-    case: Case<'_>,
-    wanted: &[Wanted],
-    text: &mut String,
-) -> Result<()> {
+fn changed_by(alloc: Global, case: Case<'_>, changes: &[NameChange<'_>]) -> Result<String> {
     let mut directory = directory_of(alloc, case)?;
-    push_changed(alloc, &mut directory, wanted, text)
-}
-
-fn push_changed(
-    alloc: Global,
-    directory: &mut Directory,
-    wanted: &[Wanted],
-    text: &mut String,
-) -> Result<()> {
     let tree = directory.tree();
-    let mut blocks = directory.image.blocks(alloc)?;
-    push_built(alloc, directory, &mut blocks, &tree, wanted, text)
-}
-
-fn push_built(
-    alloc: Global,
-    directory: &Directory,
-    blocks: &mut Blocks<MemDevice>,
-    tree: &BlockTree,
-    wanted: &[Wanted],
-    text: &mut String,
-) -> Result<()> {
     let build = new_build(alloc, directory.map(alloc)?)?;
-    push_outcome(alloc, build, blocks, tree, wanted, text)
+    let mut blocks = directory.image.blocks(alloc)?;
+    outcome_of(alloc, build, &mut blocks, &tree, changes)
 }
 
-fn push_outcome(
+fn outcome_of(
     alloc: Global,
     mut build: Build,
     blocks: &mut Blocks<MemDevice>,
     tree: &BlockTree,
-    wanted: &[Wanted],
-    text: &mut String,
-) -> Result<()> {
-    match planned(alloc, &mut build, blocks, tree, wanted)? {
-        Outcome::Tree(new) => push_planned(alloc, build, blocks, &new, text),
-        Outcome::Damaged => Ok(text.push_str("damaged")?),
-        Outcome::NoChanges => Ok(text.push_str("no changes")?),
+    changes: &[NameChange<'_>],
+) -> Result<String> {
+    match planned(alloc, &mut build, blocks, tree, changes)? {
+        Outcome::Tree(new) => settled_text(alloc, build, blocks, &new),
+        Outcome::Damaged => Ok(String::from_str(alloc, "damaged")?),
+        Outcome::NoChanges => Ok(String::from_str(alloc, "no changes")?),
     }
 }
 
@@ -91,17 +59,13 @@ fn wanted_of(alloc: Global, word: &str) -> Result<Vec<Wanted>> {
 }
 
 fn wanted_change(alloc: Global, change: &str) -> Result<Wanted> {
-    let (number, name) = change.split_once(':').context("no change")?;
-    let number = number_of(number)?;
+    let (number, name) = pair_of(change)?;
+    let number = match number {
+        "-" => None,
+        _ => Some(number.parse()?),
+    };
     let name = name_of(alloc, name)?;
     Ok(Wanted { name, number })
-}
-
-fn number_of(word: &str) -> Result<Option<u16>> {
-    match word {
-        "-" => Ok(None),
-        _ => Ok(Some(word.parse()?)),
-    }
 }
 
 /// What a list of changes comes to.
@@ -110,18 +74,6 @@ enum Outcome {
     Tree(BlockTree),
     Damaged,
     NoChanges,
-}
-
-/// Plans a directory with these names.
-fn planned(
-    alloc: Global,
-    build: &mut Build,
-    blocks: &mut Blocks<MemDevice>,
-    tree: &BlockTree,
-    wanted: &[Wanted],
-) -> Result<Outcome> {
-    let changes = changes_of(alloc, wanted)?;
-    plan(alloc, build, blocks, tree, changes.as_slice())
 }
 
 fn changes_of<'a>(alloc: Global, wanted: &'a [Wanted]) -> Result<Vec<NameChange<'a>>> {
@@ -134,7 +86,8 @@ fn changes_of<'a>(alloc: Global, wanted: &'a [Wanted]) -> Result<Vec<NameChange<
     Ok(changes)
 }
 
-fn plan(
+/// Plans a directory with these names.
+fn planned(
     alloc: Global,
     build: &mut Build,
     blocks: &mut Blocks<MemDevice>,
@@ -155,32 +108,22 @@ fn plan(
     }
 }
 
-fn push_planned(
+/// The blocks of the tree that a build plans, and what it takes and releases.
+fn settled_text(
     alloc: Global,
     build: Build,
     blocks: &mut Blocks<MemDevice>,
     tree: &BlockTree,
-    text: &mut String,
-) -> Result<()> {
+) -> Result<String> {
     let taken = taken_by(alloc, &build)?;
     settled(build, blocks)?;
-    push_settled(blocks, tree, taken.as_str(), text)
+    let names = names_of(alloc, blocks, tree)?;
+    Ok(format!(in alloc; "{}; {}", names.as_str(), taken.as_str())?)
 }
 
-fn push_settled(
-    blocks: &mut Blocks<MemDevice>,
-    tree: &BlockTree,
-    taken: &str,
-    text: &mut String,
-) -> Result<()> {
-    push_blocks(blocks, tree, text)?;
-    text.push_str(taken)?;
-    Ok(())
-}
-
-fn taken_by(alloc: Global, build: &Build) -> Result<String> {
-    let mut text = String::from_str(alloc, "; ")?;
-    push_build(build, &mut text)?;
+fn names_of(alloc: Global, blocks: &mut Blocks<MemDevice>, tree: &BlockTree) -> Result<String> {
+    let mut text = String::new(alloc);
+    push_blocks(blocks, tree, &mut text)?;
     Ok(text)
 }
 

@@ -1,6 +1,6 @@
 //! Plans of trees one after the other.
 
-use crate::builds::{new_build, new_map, push_build, settled};
+use crate::builds::{new_build, new_map, settled, taken_by};
 use crate::image::new_blocks;
 use crate::tree_changes::change_of;
 use anyhow::Result;
@@ -8,7 +8,7 @@ use sn_block::Blocks;
 use sn_device::MemDevice;
 use sn_layout::{BlockTree, Pointers};
 use sn_map::Map;
-use sn_table::Case;
+use sn_table::{Case, push_word};
 use sn_tree::{Build, plan_tree};
 use sn_tree_read::fetch_data;
 use std::alloc::Global;
@@ -23,33 +23,19 @@ struct File {
 
 /// What each plan of a case takes and releases, and the first bytes of the data blocks behind it.
 pub fn plans(alloc: Global, case: Case<'_>) -> Result<String> {
+    let shown = case.numbers(alloc, 1)?;
     let mut text = String::new(alloc);
-    push_plans(alloc, case, &mut text)?;
+    push_plans(alloc, case, shown.as_slice(), &mut text)?;
     Ok(text)
 }
 
-fn push_plans(alloc: Global, case: Case<'_>, text: &mut String) -> Result<()> {
-    let shown = case.numbers(alloc, 1)?;
-    push_shown(alloc, case, shown.as_slice(), text)
-}
-
-fn push_shown(alloc: Global, case: Case<'_>, shown: &[u32], text: &mut String) -> Result<()> {
+fn push_plans(alloc: Global, case: Case<'_>, shown: &[u32], text: &mut String) -> Result<()> {
     let mut file = new_file(alloc, case.number(0)?)?;
     for word in case.text().split_ascii_whitespace().skip(2) {
-        push_step(alloc, &mut file, word, shown, text)?;
+        push_plan(alloc, &mut file, word, text)?;
+        push_data(&mut file.blocks, &file.tree, shown, text)?;
     }
     Ok(())
-}
-
-fn push_step(
-    alloc: Global,
-    file: &mut File,
-    word: &str,
-    shown: &[u32],
-    text: &mut String,
-) -> Result<()> {
-    push_plan(alloc, file, word, text)?;
-    push_data(&mut file.blocks, &file.tree, shown, text)
 }
 
 /// A file of a size that is all holes.
@@ -72,6 +58,7 @@ fn push_plan(alloc: Global, file: &mut File, word: &str, text: &mut String) -> R
     Ok(())
 }
 
+/// Plans a change, and tells what the plan takes and releases, and how many blocks are left.
 fn plan(
     alloc: Global,
     build: &mut Build,
@@ -81,17 +68,9 @@ fn plan(
 ) -> Result<()> {
     let change = change_of(alloc, file.tree.size, word)?;
     file.tree = plan_tree(build, &mut file.blocks, &file.tree, change)?;
-    push_taken(build, text)
-}
-
-/// What a plan takes and releases, and how many blocks are left.
-fn push_taken(build: &Build, text: &mut String) -> Result<()> {
-    if !text.is_empty() {
-        text.push_str(" ")?;
-    }
-    push_build(build, text)?;
-    let left = build.left();
-    write!(text, ", {left} left:")?;
+    let taken = taken_by(alloc, build)?;
+    push_word(text, taken.as_str())?;
+    write!(text, ", {} left:", build.left())?;
     Ok(())
 }
 

@@ -10,13 +10,6 @@ use std::collections::VecDeque;
 
 const BLOCK_SIZE: u64 = 4096;
 
-/// How many bytes a file is to have, and how many of its blocks stay.
-#[derive(Clone, Copy)]
-struct Next {
-    size: u64,
-    keep: u64,
-}
-
 /// A block of one byte up to a place of the file, and zeros behind it.
 #[derive(Clone, Copy)]
 struct Written {
@@ -42,52 +35,29 @@ fn in_order(change: Dirty) -> Result<Dirty>
 }
 
 fn spelled(alloc: Global, size: u64, word: &str) -> Result<Dirty> {
-    let (size, rest) = sized(size, word)?;
+    let (size, rest) = match word.split_once(':') {
+        Some((size, rest)) => (number_of(Some(size))?, rest),
+        None => (size, word),
+    };
     let mut parts = rest.split('/');
     let keep = number_of(parts.next())?;
-    let next = Next { size, keep };
-    let Some(index) = parts.next() else {
-        return Ok(dirty_none(alloc, next));
-    };
-    let written = Written {
-        index: number_of(Some(index))?,
-        byte: u8::try_from(number_of(parts.next())?)?,
-        end: size,
-    };
-    dirty_one(alloc, next, block_of(alloc, written)?)
-}
-
-/// The change that writes no block.
-fn dirty_none(alloc: Global, next: Next) -> Dirty {
-    Dirty {
-        size: next.size,
-        keep: next.keep,
-        blocks: VecDeque::new(alloc),
-    }
-}
-
-/// The change that writes one block.
-fn dirty_one(alloc: Global, next: Next, block: DirtyBlock) -> Result<Dirty> {
     let mut blocks = VecDeque::new(alloc);
-    blocks.push_back(block).map_err(AllocError::from)?;
-    Ok(Dirty {
-        size: next.size,
-        keep: next.keep,
-        blocks,
-    })
+    if let Some(index) = parts.next() {
+        let written = Written {
+            index: number_of(Some(index))?,
+            byte: u8::try_from(number_of(parts.next())?)?,
+            end: size,
+        };
+        let block = block_of(alloc, written)?;
+        blocks.push_back(block).map_err(AllocError::from)?;
+    }
+    Ok(Dirty { size, keep, blocks })
 }
 
 fn block_of(alloc: Global, written: Written) -> Result<DirtyBlock> {
     let Written { index, byte, end } = written;
     let bytes = Box::new(alloc, filled(end, index, byte)).map_err(AllocError::from)?;
     Ok(DirtyBlock { index, bytes })
-}
-
-fn sized(size: u64, word: &str) -> Result<(u64, &str)> {
-    match word.split_once(':') {
-        Some((size, rest)) => Ok((number_of(Some(size))?, rest)),
-        None => Ok((size, word)),
-    }
 }
 
 /// A block of one byte, up to a size.
