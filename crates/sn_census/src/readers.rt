@@ -66,7 +66,7 @@ pub(crate) fn fetch_names<D: Device>(
     ensures counts { CountsCheck result (D.status (device_of blocks.old)) (D.status (device_of blocks.new)) }
 {
     match fetch_block(blocks, tree, i) {
-        Ok(()) => Ok(()),
+        Ok(_) => Ok(()),
         Err(fault) => Err(fault_at(fault, body)),
     }
 }
@@ -77,7 +77,7 @@ pub(crate) fn spelled_names(block: &Block, body: u32) -> Result<DirectoryBlock<'
     ensures own { IfErr result (λ fault. fault ≡ Damaged Misspelt body) }
     ensures spelled { IsDirectoryBlock block.now → IfErr result (λ fault. ⊥) }
 {
-    match decoded(block) {
+    match decoded(block, body) {
         Ok(names) => Ok(names),
         Err(fault) => Err(fault_at(fault, body)),
     }

@@ -13,7 +13,7 @@ ghost use Rattle.sn_check.specs.Faults.{IsDamageOf};
 ghost use Rattle.sn_check.specs.Logs.{HasLogged, IsOfLog, IsOver};
 
 use sn_block::Blocks;
-use sn_check_log::{CheckedRoot, count_directories, count_nameless, try_both};
+use sn_check_log::{CheckedRoot, count_nameless, try_both};
 use sn_device::Device;
 use sn_examine::{is_to_recover, none_later, test_age};
 use sn_layout::{Area, Geometry, LogHalf, RootBody};
@@ -58,15 +58,11 @@ fn replay_log<D: Device>(
         body,
         geometry,
     };
-    let mut directories = match count_directories(alloc, blocks, &it) {
-        Ok(directories) => directories,
-        Err(fault) => return Err(fault),
-    };
     let dropped = match count_nameless(blocks, &it) {
         Ok(dropped) => dropped,
         Err(fault) => return Err(fault),
     };
-    let replayed = match try_both(alloc, blocks, &it, &mut directories) {
+    let replayed = match try_both(alloc, blocks, &it) {
         Ok(replayed) => replayed,
         Err(fault) => return Err(fault),
     };

@@ -46,7 +46,7 @@ pub looked_only : (told : Bool) (old new : Status) (fault : Option TreeFault) �
 looked_only told old new None same = idle old new same
 looked_only told old new (Some (Read Device)) fails = fails_only (has_ended old) old new fails
 looked_only told old new (Some (Read Memory)) same = idle old new same
-looked_only told old new (Some Damaged) fails = idle old new fails.0
+looked_only told old new (Some (Damaged block)) fails = idle old new fails.0
 
 has_failed : (b : Bool) (old new : Status) → has_ended old ≡ b → MatchBool b (new ≡ old) (new ≡ one_failure old) → HasFailed old new
 has_failed true old new e same = inr (ap has_ended same ∙ e)
@@ -56,13 +56,13 @@ has_failed false old new e more = inl (let rose : new.failures ≡ old.failures 
 pub look_failed : (told : Bool) (old new : Status) (fault : TreeFault) (body : ℕ) → Stands told old new None (Some fault) → IsSoOf (fault_of_tree fault body) old new
 look_failed told old new (Read Device) body fails = has_failed (has_ended old) old new refl fails
 look_failed told old new (Read Memory) body same = ap (λ (s : Status). s.failures) same
-look_failed told old new Damaged body fails = ap (λ (s : Status). s.failures) fails.0
+look_failed told old new (Damaged block) body fails = ap (λ (s : Status). s.failures) fails.0
 
 -- and where it tells its bytes, they are no damage
 pub look_undamaged : (told : Bool) (old new : Status) (fault : TreeFault) (body : ℕ) → IsTrue told → Stands told old new None (Some fault) → IsNoDamage (fault_of_tree fault body)
 look_undamaged told old new (Read Device) body is fails = inr refl
 look_undamaged told old new (Read Memory) body is same = inl refl
-look_undamaged told old new Damaged body is fails = absurd (fails.1 is)
+look_undamaged told old new (Damaged block) body is fails = absurd (fails.1 is)
 
 -- ---- both epochs
 

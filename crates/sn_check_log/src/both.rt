@@ -3,7 +3,6 @@ ghost use Rattle.std.specs.Prelude.{◌≡◌, ◌⊎◌, ◌*◌, ◌≤◌, �
 ghost use Rattle.sn_block.specs.Lending.{device_of};
 ghost use Rattle.sn_check_log.specs.Trying.{TriesBoth};
 ghost use Rattle.sn_device.specs.Disk.{reads};
-ghost use Rattle.sn_directories.specs.Told.{TellsDirectories};
 ghost use Rattle.sn_examine.specs.Failing.{FailsAs, WritesNothing};
 ghost use Rattle.sn_rooted.specs.Roots.{IsSoundOn, tree_on};
 
@@ -12,7 +11,6 @@ use crate::replaying::try_epoch;
 use sn_block::Blocks;
 use sn_changed::changed_laws;
 use sn_device::Device;
-use sn_directories::Directories;
 use sn_examine::Replayed;
 use sn_log::{Buffer, Position};
 use sn_model::MountFault;
@@ -27,17 +25,14 @@ fn last_of(older: Position, newer: Position) -> Position
     if newer.count() == 0 { older } else { newer }
 }
 
-/// Tries the records of the root's epoch and then those of the next one on the root's tree, of which the table tells the
-/// directories. Answers where the log goes on, behind the last of them, what they are charged together, and what they
+/// Tries the records of the root's epoch and then those of the next one on the root's tree. Answers where the log goes on, behind the last of them, what they are charged together, and what they
 /// changed of the root's tree. Damaged is a record that is misspelt or can't be applied, told of the block of its gate.
 pub fn try_both<D: Device>(
     alloc: Global,
     blocks: &mut Blocks<D>,
     it: &CheckedRoot<'_>,
-    directories: &mut Directories,
 ) -> Result<Replayed, MountFault>
     requires sound { IsTrue D.tells_bytes → IsSoundOn blocks.old it.now.root.now.limits it.now.root.now.inode_file }
-    requires tells { IsTrue D.tells_bytes → TellsDirectories (tree_on blocks.old it.now.root.now.inode_file) directories.old }
     requires disk { 8 * it.now.geometry ≤ (D.status (device_of blocks.old)).sectors }
     requires epoch { it.now.root.now.epoch ≤ 2 ^ 62 }
     ensures replayed { IsTrue D.tells_bytes → TriesBoth result (reads (D.disk (device_of blocks.old))) (tree_on blocks.old it.now.root.now.inode_file) it.now.geometry it.now.root.now.epoch }
@@ -54,7 +49,8 @@ pub fn try_both<D: Device>(
     };
     let epoch = it.root.epoch;
     let changed = Overlay::new(alloc);
-    let older = try_epoch(alloc, blocks, &mut buffer, it, changed, directories, epoch)?;
+    let mut table = None;
+    let older = try_epoch(alloc, blocks, &mut buffer, it, changed, &mut table, epoch)?;
     let changed = older.changed;
     let newer = try_epoch(
         alloc,
@@ -62,7 +58,7 @@ pub fn try_both<D: Device>(
         &mut buffer,
         it,
         changed,
-        directories,
+        &mut table,
         epoch + 1,
     )?;
     Ok(Replayed {

@@ -19,7 +19,7 @@ use std::alloc::Global;
 
 /// The table of the directories of a sound root's tree. A tree that was checked and is misspelt now is one of a device that
 /// gives other bytes than before.
-pub fn count_directories<D: Device>(
+pub(crate) fn count_directories<D: Device>(
     alloc: Global,
     blocks: &mut Blocks<D>,
     it: &CheckedRoot<'_>,
@@ -35,7 +35,7 @@ pub fn count_directories<D: Device>(
     match directories_of(alloc, blocks, &it.root.limits, &it.root.inode_file) {
         Ok(directories) => Ok(directories),
         Err(TreeFault::Read(fault)) => Err(fault_of(fault)),
-        Err(TreeFault::Damaged) => Err(MountFault::Damaged {
+        Err(TreeFault::Damaged { .. }) => Err(MountFault::Damaged {
             damage: Damage::Misspelt,
             block: it.body,
         }),
@@ -58,7 +58,7 @@ pub fn count_nameless<D: Device>(
     match nameless_of(blocks, &it.root.limits, &it.root.inode_file) {
         Ok(count) => Ok(count),
         Err(TreeFault::Read(fault)) => Err(fault_of(fault)),
-        Err(TreeFault::Damaged) => Err(MountFault::Damaged {
+        Err(TreeFault::Damaged { .. }) => Err(MountFault::Damaged {
             damage: Damage::Misspelt,
             block: it.body,
         }),

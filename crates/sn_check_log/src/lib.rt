@@ -14,8 +14,8 @@
 //!
 //! ```text
 //! let root = CheckedRoot { root: &newest.root, body, geometry };
-//! let mut directories = count_directories(alloc, blocks, &root)?;
-//! let replayed = try_both(alloc, blocks, &root, &mut directories)?;
+//! let dropped = count_nameless(blocks, &root)?;
+//! let replayed = try_both(alloc, blocks, &root)?;
 //! ```
 #![tactic(auto)]
 
@@ -25,5 +25,5 @@ mod replaying;
 mod trying;
 
 pub use both::try_both;
-pub use counting::{count_directories, count_nameless};
+pub use counting::count_nameless;
 pub use trying::CheckedRoot;

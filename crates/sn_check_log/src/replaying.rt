@@ -2,17 +2,16 @@
 ghost use Rattle.std.specs.Prelude.{◌≡◌, ◌*◌, ◌≤◌, ◌<◌, ◌^◌, true, IsTrue, IfOk, OnOk};
 ghost use Rattle.sn_block.specs.Lending.{device_of};
 ghost use Rattle.sn_device.specs.Disk.{reads};
-ghost use Rattle.sn_directories.specs.Told.{IsShown};
 ghost use Rattle.sn_examine.specs.Failing.{FailsAs, WritesNothing};
 ghost use Rattle.sn_examine.specs.Replaying.{HasReplayed, ReplaysOne};
-ghost use Rattle.sn_check_log.specs.Trying.{TriesAll};
+ghost use Rattle.sn_check_log.specs.Trying.{IsSeen, TriesAll};
 ghost use Rattle.sn_model.specs.Tree.{Tree};
 ghost use Rattle.sn_overlay.specs.Layers.{through};
 ghost use Rattle.sn_overlay.specs.Overlays.{layer_of};
 ghost use Rattle.sn_rooted.specs.Roots.{IsSoundOn, tree_on};
 
 use crate::CheckedRoot;
-use crate::trying::try_change;
+use crate::trying::try_counted;
 use sn_block::Blocks;
 use sn_device::Device;
 use sn_directories::Directories;
@@ -31,17 +30,17 @@ pub(crate) fn try_next<D: Device>(
     replay: &mut Replay,
     charges: &mut u128,
     changed: &mut Overlay,
-    directories: &mut Directories,
+    table: &mut Option<Directories>,
 ) -> Result<bool, MountFault>
     requires few { charges.old ≤ 2 ^ 64 * replay.old.place }
     requires sound { IsTrue D.tells_bytes → IsSoundOn blocks.old it.now.root.now.limits it.now.root.now.inode_file }
-    requires shown { IsTrue D.tells_bytes → IsShown (layer_of changed.old) (tree_on blocks.old it.now.root.now.inode_file) directories.old }
+    requires seen { IsTrue D.tells_bytes → IsSeen (layer_of changed.old) (tree_on blocks.old it.now.root.now.inode_file) table.old }
     requires disk { 8 * replay.old.blocks ≤ (D.status (device_of blocks.old)).sectors }
     ensures replayed { IsTrue D.tells_bytes → (from : Tree)
         → HasReplayed (reads (D.disk (device_of blocks.old))) from replay.old (through (layer_of changed.old) (tree_on blocks.old it.now.root.now.inode_file)) charges.old
         → ReplaysOne result (reads (D.disk (device_of blocks.old))) from replay.old (through (layer_of changed.old) (tree_on blocks.old it.now.root.now.inode_file)) charges.old
         replay.new (through (layer_of changed.new) (tree_on blocks.old it.now.root.now.inode_file)) charges.new }
-    ensures shown { IsTrue D.tells_bytes → OnOk result (IsShown (layer_of changed.new) (tree_on blocks.old it.now.root.now.inode_file) directories.new) }
+    ensures seen { IsTrue D.tells_bytes → OnOk result (IsSeen (layer_of changed.new) (tree_on blocks.old it.now.root.now.inode_file) table.new) }
     ensures few { OnOk result (charges.new ≤ 2 ^ 64 * replay.new.place) }
     ensures blocks { replay.new.blocks ≡ replay.old.blocks }
     ensures epoch { replay.new.epoch ≡ replay.old.epoch }
@@ -58,7 +57,7 @@ pub(crate) fn try_next<D: Device>(
     let _place = at.place();
     match replay.next(blocks, buffer) {
         Ok(NextRecord::Change(change)) => {
-            match try_change(alloc, blocks, it, changed, directories, &change) {
+            match try_counted(alloc, blocks, it, changed, table, &change) {
                 Ok(Some(charge)) => {
                     *charges += charge;
                     Ok(true)
@@ -87,14 +86,14 @@ pub(crate) fn try_epoch<D: Device>(
     buffer: &mut Buffer,
     it: &CheckedRoot<'_>,
     mut changed: Overlay,
-    directories: &mut Directories,
+    table: &mut Option<Directories>,
     epoch: u64,
 ) -> Result<Replayed, MountFault>
     requires sound { IsTrue D.tells_bytes → IsSoundOn blocks.old it.now.root.now.limits it.now.root.now.inode_file }
-    requires shown { IsTrue D.tells_bytes → IsShown (layer_of changed) (tree_on blocks.old it.now.root.now.inode_file) directories.old }
+    requires seen { IsTrue D.tells_bytes → IsSeen (layer_of changed) (tree_on blocks.old it.now.root.now.inode_file) table.old }
     requires disk { 8 * it.now.geometry ≤ (D.status (device_of blocks.old)).sectors }
     ensures replayed { IsTrue D.tells_bytes → TriesAll result (reads (D.disk (device_of blocks.old))) (through (layer_of changed) (tree_on blocks.old it.now.root.now.inode_file)) it.now.geometry epoch (tree_on blocks.old it.now.root.now.inode_file) }
-    ensures shown { IsTrue D.tells_bytes → IfOk result (λ r. IsShown (layer_of r.changed) (tree_on blocks.old it.now.root.now.inode_file) directories.new) }
+    ensures seen { IsTrue D.tells_bytes → IfOk result (λ r. IsSeen (layer_of r.changed) (tree_on blocks.old it.now.root.now.inode_file) table.new) }
     ensures few { IfOk result (λ r. r.charges ≤ 2 ^ 72) }
     ensures blocks { IfOk result (λ r. r.at.blocks ≡ it.now.geometry) }
     ensures epoch { IfOk result (λ r. r.at.epoch ≡ epoch) }
@@ -115,7 +114,7 @@ pub(crate) fn try_epoch<D: Device>(
             &mut replay,
             &mut charges,
             &mut changed,
-            directories,
+            table,
         )?;
     }
     let at = replay.position();

@@ -1,5 +1,5 @@
 -- What is told of a part is so of the whole.
-use Rattle.std.proofs.Common.{◌≡◌, ◌≢◌, ℕ, ◌+◌, ◌*◌, ◌<◌, ◌≤◌, List, [], ◌++◌, refl, ap, arith}
+use Rattle.std.proofs.Common.{◌≡◌, ◌≢◌, ℕ, ◌+◌, ◌*◌, ◌<◌, ◌≤◌, List, [], ◌++◌, refl, ap, arith, Option}
 use Rattle.std.specs.Prelude.{Result, Ok, Err}
 use Rattle.sn_model.specs.declared.mount.Damage.{Damage}
 use Rattle.sn_ondisk.specs.Counts.{times}
@@ -81,13 +81,13 @@ pub spelt_weaker : (P Q : ℕ → Type 0) (damage : Damage) (block : ℕ) → ((
 spelt_weaker P Q _ _ weaker (spelt block wrong) = spelt block (weaker block wrong)
 
 -- a reader's fault, where what it reads is told to be wrong only where a rule is broken
-pub rule_told : (Rule : Type 0) (block : ℕ) (fault : TreeFault) → (fault ≡ tree.Damaged → Rule → ⊥) → Tells (fault_at block fault) (Breaks Rule block)
+pub rule_told : (Rule : Type 0) (block : ℕ) (fault : TreeFault) → ((found : Option ℕ) → fault ≡ tree.Damaged found → Rule → ⊥) → Tells (fault_at block fault) (Breaks Rule block)
 rule_told Rule block (tree.Read fault) wrong = tt
-rule_told Rule block tree.Damaged wrong = breaks (wrong refl)
+rule_told Rule block (tree.Damaged found) wrong = breaks (wrong found refl)
 
-pub never_told : (block : ℕ) (fault : TreeFault) → (fault ≡ tree.Damaged → ⊥) → Tells (fault_at block fault) (λ damage at. ⊥)
+pub never_told : (block : ℕ) (fault : TreeFault) → ((found : Option ℕ) → fault ≡ tree.Damaged found → ⊥) → Tells (fault_at block fault) (λ damage at. ⊥)
 never_told block (tree.Read fault) wrong = tt
-never_told block tree.Damaged wrong = wrong refl
+never_told block (tree.Damaged found) wrong = wrong found refl
 
 pub breaks_weaker : (P Q : Type 0) (at : ℕ) (damage : Damage) (block : ℕ) → (Q → P) → Breaks P at damage block → Breaks Q at damage block
 breaks_weaker P Q at _ _ stronger (breaks wrong) = breaks (λ q. wrong (stronger q))

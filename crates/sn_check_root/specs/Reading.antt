@@ -16,4 +16,4 @@ TreeLies sectors s tree = (i : ℕ) → block_lies_on sectors s tree i ≡ true
 -- the fault of a reader, told of a block
 abbrev pub fault_at : ℕ → TreeFault → CheckFault
 fault_at block (tree.Read fault) = check.Read fault
-fault_at block tree.Damaged = check.Damaged Misspelt block
+fault_at block (tree.Damaged found) = check.Damaged Misspelt block

@@ -59,7 +59,7 @@ fn fetch_there<D: Device>(
     ensures counts { CountsCheck result (D.status (device_of blocks.old)) (D.status (device_of blocks.new)) }
 {
     match fetch_block(blocks, tree, i) {
-        Ok(()) => Ok(()),
+        Ok(_) => Ok(()),
         Err(fault) => Err(fault_at(fault, top)),
     }
 }

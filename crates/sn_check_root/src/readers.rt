@@ -20,7 +20,7 @@ pub fn fault_at(fault: TreeFault, block: u32) -> CheckFault
 {
     match fault {
         TreeFault::Read(fault) => CheckFault::Read(fault),
-        TreeFault::Damaged => CheckFault::misspelt(block),
+        TreeFault::Damaged { .. } => CheckFault::misspelt(block),
     }
 }
 

@@ -62,7 +62,7 @@ fn fetch_first<D: Device>(
     ensures counts { CountsCheck result (D.status (device_of blocks.old)) (D.status (device_of blocks.new)) }
 {
     match fetch_data(blocks, file, 0) {
-        Ok(is_there) => Ok(is_there),
+        Ok(found) => Ok(found.is_some()),
         Err(fault) => Err(fault_at(fault, top)),
     }
 }

@@ -1,5 +1,5 @@
 //! The content of a file, whose bytes lie in the inode or in blocks.
-ghost use Rattle.std.specs.Prelude.{◌≡◌, ◌≢◌, ◌+◌, ◌*◌, ◌≤◌, ◌<◌, length, take, Err, IsTrue, IfOk, OnOk};
+ghost use Rattle.std.specs.Prelude.{◌≡◌, ℕ, ◌≢◌, ◌+◌, ◌*◌, ◌≤◌, ◌<◌, length, take, Option as TheOption, Err, IsTrue, IfOk, OnOk};
 ghost use Rattle.sn_device.specs.Disk.{reads};
 ghost use Rattle.sn_block.specs.Lending.{device_of};
 ghost use Rattle.sn_content.specs.Contents.{content_block, IsBuilt, IsContentPlanned, IsMovedOut, IsReleased};
@@ -33,7 +33,7 @@ pub fn release_all<D: Device>(
     ensures released { OnOk result (IsReleased (IsTrue D.tells_bytes)
         (store_of (reads (D.disk (device_of blocks.old)))) content.now build.old build.new) }
     ensures full { result ≢ Err Full }
-    ensures damaged { IsTrue D.tells_bytes → result ≡ Err (Tree Damaged)
+    ensures damaged { IsTrue D.tells_bytes → (block : TheOption ℕ) → result ≡ Err (Tree (Damaged block))
         → LeadsOutside (D.status (device_of blocks.old)).sectors
         (content_reach (store_of (reads (D.disk (device_of blocks.old)))) content.now) }
     ensures same { IsTrue D.tells_bytes → D.disk (device_of blocks.new) ≡ D.disk (device_of blocks.old) }
@@ -72,7 +72,7 @@ fn plan_inline<D: Device>(
     ensures released { OnOk result (IsReleased (IsTrue D.tells_bytes)
         (store_of (reads (D.disk (device_of blocks.old)))) content.now build.old build.new) }
     ensures full { result ≢ Err Full }
-    ensures damaged { IsTrue D.tells_bytes → result ≡ Err (Tree Damaged)
+    ensures damaged { IsTrue D.tells_bytes → (block : TheOption ℕ) → result ≡ Err (Tree (Damaged block))
         → LeadsOutside (D.status (device_of blocks.old)).sectors
         (content_reach (store_of (reads (D.disk (device_of blocks.old)))) content.now) }
     ensures same { IsTrue D.tells_bytes → D.disk (device_of blocks.new) ≡ D.disk (device_of blocks.old) }
@@ -113,7 +113,7 @@ fn plan_new<D: Device>(
     ensures built { IfOk result (λ new. IsBuilt (IsTrue D.tells_bytes)
         (store_of (reads (D.disk (device_of blocks.old)))) new dirty.items build.old build.new) }
     ensures full { IsTooFull result build.old ((levels_of size + 1) * length dirty.items) }
-    ensures sound { IsTrue D.tells_bytes → result ≢ Err (Tree Damaged) }
+    ensures sound { IsTrue D.tells_bytes → (block : TheOption ℕ) → result ≢ Err (Tree (Damaged block)) }
     ensures same { IsTrue D.tells_bytes → D.disk (device_of blocks.new) ≡ D.disk (device_of blocks.old) }
     ensures counts { CountsPlan result (D.status (device_of blocks.old)) (D.status (device_of blocks.new)) }
 {
@@ -140,7 +140,7 @@ fn plan_moved<D: Device>(
         (store_of (reads (D.disk (device_of blocks.old)))) (Content.Inline inline.now) (Content.Tree new)
         dirty.keep dirty.blocks.items build.old build.new) }
     ensures full { IsTooFull result build.old ((levels_of dirty.size + 1) * (length dirty.blocks.items + 1)) }
-    ensures sound { IsTrue D.tells_bytes → result ≢ Err (Tree Damaged) }
+    ensures sound { IsTrue D.tells_bytes → (block : TheOption ℕ) → result ≢ Err (Tree (Damaged block)) }
     ensures same { IsTrue D.tells_bytes → D.disk (device_of blocks.new) ≡ D.disk (device_of blocks.old) }
     ensures counts { CountsPlan result (D.status (device_of blocks.old)) (D.status (device_of blocks.new)) }
 {
@@ -171,7 +171,7 @@ pub fn plan<D: Device>(
         (store_of (reads (D.disk (device_of blocks.old)))) content.now new
         dirty.keep dirty.blocks.items build.old build.new) }
     ensures full { IsTooFull result build.old ((levels_of dirty.size + 1) * (length dirty.blocks.items + 1)) }
-    ensures damaged { IsTrue D.tells_bytes → result ≡ Err (Tree Damaged)
+    ensures damaged { IsTrue D.tells_bytes → (block : TheOption ℕ) → result ≡ Err (Tree (Damaged block))
         → LeadsOutside (D.status (device_of blocks.old)).sectors
         (content_reach (store_of (reads (D.disk (device_of blocks.old)))) content.now) }
     ensures same { IsTrue D.tells_bytes → D.disk (device_of blocks.new) ≡ D.disk (device_of blocks.old) }

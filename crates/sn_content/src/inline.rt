@@ -1,5 +1,5 @@
 //! The bytes of a content that lie in the inode.
-ghost use Rattle.std.specs.Prelude.{◌≡◌, ℕ, ◌-◌, ◌≤◌, List, ◌++◌, length, take, Err, IsTrue, IsNone, IfOk, IfSome};
+ghost use Rattle.std.specs.Prelude.{◌≡◌, ℕ, ◌-◌, ◌≤◌, List, ◌++◌, length, take, Option as TheOption, Err, IsTrue, IsNone, IfOk, IfSome};
 ghost use Rattle.sn_device.specs.Disk.{reads};
 ghost use Rattle.sn_block.specs.Lending.{device_of};
 ghost use Rattle.sn_content.specs.Contents.{content_block};
@@ -67,7 +67,7 @@ fn first_bytes<D: Device>(
     ensures bytes { IsTrue D.tells_bytes → IfOk result (λ bytes. bytes
         ≡ take count (content_block (store_of (reads (D.disk (device_of blocks.old)))) content.now 0)) }
     ensures count { IfOk result (λ bytes. length bytes ≡ count) }
-    ensures damaged { IsTrue D.tells_bytes → result ≡ Err Damaged
+    ensures damaged { IsTrue D.tells_bytes → (block : TheOption ℕ) → result ≡ Err (Damaged block)
         → LeadsOutside (D.status (device_of blocks.old)).sectors
         (content_reach (store_of (reads (D.disk (device_of blocks.old)))) content.now) }
     ensures same { IsTrue D.tells_bytes → D.disk (device_of blocks.new) ≡ D.disk (device_of blocks.old) }
@@ -76,7 +76,7 @@ fn first_bytes<D: Device>(
     match content {
         Content::Inline(inline) => Ok(first_of(&inline_block(inline), count)),
         Content::Tree(tree) => {
-            if fetch_data(blocks, tree, 0)? {
+            if fetch_data(blocks, tree, 0)?.is_some() {
                 return Ok(first_of(blocks.fetched(), count));
             }
             Ok(first_of(&hole(), count))
@@ -96,7 +96,7 @@ pub(crate) fn wanted_bytes<D: Device>(
         ≡ take dirty.now.size (block_after dirty.now.keep dirty.now.blocks.items 0
         (content_block (store_of (reads (D.disk (device_of blocks.old)))) content.now 0))) }
     ensures count { IfOk result (λ bytes. length bytes ≡ dirty.now.size) }
-    ensures damaged { IsTrue D.tells_bytes → result ≡ Err Damaged
+    ensures damaged { IsTrue D.tells_bytes → (block : TheOption ℕ) → result ≡ Err (Damaged block)
         → LeadsOutside (D.status (device_of blocks.old)).sectors
         (content_reach (store_of (reads (D.disk (device_of blocks.old)))) content.now) }
     ensures same { IsTrue D.tells_bytes → D.disk (device_of blocks.new) ≡ D.disk (device_of blocks.old) }

@@ -1,5 +1,5 @@
 //! The bits of the block map.
-ghost use Rattle.std.specs.Prelude.{◌≡◌, ◌<◌, ◌↔◌, ℕ, length, All, IsTrue, Err, IfErr, OnOk};
+ghost use Rattle.std.specs.Prelude.{◌≡◌, ◌<◌, ◌↔◌, ℕ, length, All, IsTrue, Option as TheOption, Err, IfErr, OnOk, None};
 ghost use Rattle.sn_tree.specs.Drafts.{numbers_of};
 ghost use Rattle.sn_tree.specs.declared.fault.PlanFault.TheVariants.{Tree};
 ghost use Rattle.sn_tree_read.specs.declared.fault.TreeFault.TheVariants.{Damaged};
@@ -49,11 +49,11 @@ pub(crate) fn put_bits(
 ) -> Result<(), PlanFault>
     requires { All (λ (b : ℕ). b < length map.old) (numbers_of added.now) }
     ensures bits { OnOk result (BitsFollow (numbers_of added.now) released.now edit map.old map.new) }
-    ensures damaged { (result ≡ Err (Tree Damaged)) ↔ (All (λ (b : ℕ). b < length map.old) released.now → ⊥) }
-    ensures fault { IfErr result (λ fault. fault ≡ Tree Damaged) }
+    ensures damaged { (result ≡ Err (Tree (Damaged None))) ↔ (All (λ (b : ℕ). b < length map.old) released.now → ⊥) }
+    ensures fault { IfErr result (λ fault. fault ≡ Tree (Damaged None)) }
 {
     if !has_words(map, released) {
-        return Err(PlanFault::Tree(TreeFault::Damaged));
+        return Err(PlanFault::Tree(TreeFault::Damaged { block: None }));
     }
     set_added(map, added);
     unset_released(map, released);

@@ -1,5 +1,5 @@
 //! A whole tree.
-ghost use Rattle.std.specs.Prelude.{◌≡◌, ℕ, ◌+◌, ◌*◌, ◌<◌, ◌≤◌, length, All, Err, IsTrue, IfOk, IfErr};
+ghost use Rattle.std.specs.Prelude.{◌≡◌, ℕ, ◌+◌, ◌*◌, ◌<◌, ◌≤◌, length, All, Option as TheOption, Err, IsTrue, IfOk, IfErr, None};
 ghost use Rattle.std.specs.List.Sorted.{IsStrictlyIncreasing};
 ghost use Rattle.sn_alloc.specs.Taking.{IsFreeData, free_data};
 ghost use Rattle.sn_device.specs.Disk.{reads};
@@ -61,7 +61,7 @@ fn plan_tree<D: Device>(
     ensures full { IsTrue D.tells_bytes → result ≡ Err Full → (n : ℕ) → IsGround limits.now n
         (store_of (reads (D.disk (device_of blocks.old)))) file.now (layer_of changes.old)
         → free_data build.old.words build.old.first < length build.old.added + need limits.now (layer_of changes.old) }
-    ensures damaged { IsTrue D.tells_bytes → result ≡ Err (Tree Damaged) → (n : ℕ) → IsSafeGround limits.now n
+    ensures damaged { IsTrue D.tells_bytes → (block : TheOption ℕ) → result ≡ Err (Tree (Damaged block)) → (n : ℕ) → IsSafeGround limits.now n
         (D.status (device_of blocks.old)).sectors
         (store_of (reads (D.disk (device_of blocks.old)))) file.now (layer_of changes.old) build.old → ⊥ }
     ensures same { IsTrue D.tells_bytes → D.disk (device_of blocks.new) ≡ D.disk (device_of blocks.old) }
@@ -69,7 +69,7 @@ fn plan_tree<D: Device>(
 {
     inode_laws();
     if !is_inode_file(limits, file) {
-        return Err(PlanFault::Tree(TreeFault::Damaged));
+        return Err(PlanFault::Tree(TreeFault::Damaged { block: None }));
     }
     let planned = plan_nodes(alloc, build, blocks, limits, file, changes)?;
     let inodes = planned.as_slice();
@@ -86,8 +86,8 @@ fn finished(build: Build, inode_file: BlockTree, edit: SnapshotEdit) -> Result<B
     ensures free { All (IsFreeData build.words build.first) (numbers_of build.added) }
     ensures rise { IsStrictlyIncreasing (numbers_of build.added) }
     ensures bits { IfOk result (λ built. BitsFollow (numbers_of build.added) build.released edit build.words built.map) }
-    ensures damaged { result ≡ Err (Tree Damaged) → All (λ (b : ℕ). b < length build.words) build.released → ⊥ }
-    ensures fault { IfErr result (λ fault. fault ≡ Tree Damaged) }
+    ensures damaged { result ≡ Err (Tree (Damaged None)) → All (λ (b : ℕ). b < length build.words) build.released → ⊥ }
+    ensures fault { IfErr result (λ fault. fault ≡ Tree (Damaged None)) }
 {
     build.added();
     let (allocator, blocks, released) = build.into_parts();
@@ -123,7 +123,7 @@ pub fn build<D: Device>(
     ensures full { IsTrue D.tells_bytes → result ≡ Err Full → IsGround root.now.limits geometry
         (store_of (reads (D.disk (device_of blocks.old)))) root.now.inode_file (layer_of changes)
         → need root.now.limits (layer_of changes) ≤ free_data map.now (start_of geometry Data) → ⊥ }
-    ensures damaged { IsTrue D.tells_bytes → result ≡ Err (Tree Damaged) → IsGround root.now.limits geometry
+    ensures damaged { IsTrue D.tells_bytes → (block : TheOption ℕ) → result ≡ Err (Tree (Damaged block)) → IsGround root.now.limits geometry
         (store_of (reads (D.disk (device_of blocks.old)))) root.now.inode_file (layer_of changes)
         → TellsBlocks map.now (reach (store_of (reads (D.disk (device_of blocks.old)))) root.now.inode_file)
         → 8 * geometry ≤ (D.status (device_of blocks.old)).sectors → ⊥ }

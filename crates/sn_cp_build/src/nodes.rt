@@ -1,5 +1,5 @@
 //! The nodes of a layer, one after the other.
-ghost use Rattle.std.specs.Prelude.{◌≡◌, ℕ, ◌+◌, ◌++◌, ◌<◌, length, slice_index, sum_by, All, Err, IsTrue, IfOk, OnOk};
+ghost use Rattle.std.specs.Prelude.{◌≡◌, ℕ, ◌+◌, ◌++◌, ◌<◌, length, slice_index, sum_by, All, Option as TheOption, Err, IsTrue, IfOk, OnOk};
 ghost use Rattle.std.specs.List.Sorted.{IsStrictlyIncreasing};
 ghost use Rattle.sn_inode.specs.Changes.{IsChange, numbers_in};
 ghost use Rattle.sn_alloc.specs.Taking.{free_data};
@@ -49,7 +49,7 @@ fn plan_next<D: Device>(
         (store_of (reads (D.disk (device_of blocks.old)))) file.now layer → layer.nodes ≡ (layer_of changes.old).nodes → layer.names ≡ (layer_of changes.old).names
         → written_blocks layer (slice_index (numbers_of (layer_of changes.old)) index) ≡ written_blocks (layer_of changes.old) (slice_index (numbers_of (layer_of changes.old)) index)
         → free_data build.old.words build.old.first < length build.old.added + most_for limits.now layer (slice_index (numbers_of (layer_of changes.old)) index) }
-    ensures damaged { IsTrue D.tells_bytes → result ≡ Err (Tree Damaged) → (n : ℕ) (layer : Layer) → layer.nodes ≡ (layer_of changes.old).nodes → layer.names ≡ (layer_of changes.old).names
+    ensures damaged { IsTrue D.tells_bytes → (block : TheOption ℕ) → result ≡ Err (Tree (Damaged block)) → (n : ℕ) (layer : Layer) → layer.nodes ≡ (layer_of changes.old).nodes → layer.names ≡ (layer_of changes.old).names
         → written_blocks layer (slice_index (numbers_of (layer_of changes.old)) index) ≡ written_blocks (layer_of changes.old) (slice_index (numbers_of (layer_of changes.old)) index)
         → IsSafeGround limits.now n (D.status (device_of blocks.old)).sectors
         (store_of (reads (D.disk (device_of blocks.old)))) file.now layer build.old → ⊥ }
@@ -98,7 +98,7 @@ pub(crate) fn plan_nodes<D: Device>(
     ensures full { IsTrue D.tells_bytes → result ≡ Err Full → (n : ℕ) → IsGround limits.now n
         (store_of (reads (D.disk (device_of blocks.old)))) file.now (layer_of changes.old)
         → free_data build.old.words build.old.first < length build.old.added + sum_by (most_for limits.now (layer_of changes.old)) (numbers_of (layer_of changes.old)) }
-    ensures damaged { IsTrue D.tells_bytes → result ≡ Err (Tree Damaged) → (n : ℕ) → IsSafeGround limits.now n
+    ensures damaged { IsTrue D.tells_bytes → (block : TheOption ℕ) → result ≡ Err (Tree (Damaged block)) → (n : ℕ) → IsSafeGround limits.now n
         (D.status (device_of blocks.old)).sectors
         (store_of (reads (D.disk (device_of blocks.old)))) file.now (layer_of changes.old) build.old → ⊥ }
     ensures same { IsTrue D.tells_bytes → D.disk (device_of blocks.new) ≡ D.disk (device_of blocks.old) }

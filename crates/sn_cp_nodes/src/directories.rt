@@ -1,5 +1,5 @@
 //! The contents of directories that changed.
-ghost use Rattle.std.specs.Prelude.{◌≡◌, ◌≢◌, ◌⊎◌, ◌*◌, ◌%◌, ◌≤◌, ◌↔◌, List, false, Err, IsTrue, IfOk};
+ghost use Rattle.std.specs.Prelude.{◌≡◌, ℕ, ◌≢◌, ◌⊎◌, ◌*◌, ◌%◌, ◌≤◌, ◌↔◌, List, false, Option as TheOption, Err, IsTrue, IfOk};
 ghost use Rattle.sn_device.specs.Disk.{reads};
 ghost use Rattle.sn_block.specs.Lending.{device_of};
 ghost use Rattle.sn_block.specs.declared.fault.ReadFault.TheVariants.{Device};
@@ -67,7 +67,7 @@ fn begun<D: Device>(
     ensures begun { IfOk result (λ tree. IsBegun (IsTrue D.tells_bytes)
         (store_of (reads (D.disk (device_of blocks.old)))) old.now fresh tree build.old build.new) }
     ensures full { result ≢ Err Full }
-    ensures damaged { IsTrue D.tells_bytes → result ≡ Err (Tree Damaged)
+    ensures damaged { IsTrue D.tells_bytes → (block : TheOption ℕ) → result ≡ Err (Tree (Damaged block))
         → ((fresh ≡ false) × ((tree : TheTree) → old.now ≡ OfTree tree → ⊥))
         ⊎ LeadsOutside (D.status (device_of blocks.old)).sectors
         (content_reach (store_of (reads (D.disk (device_of blocks.old)))) old.now) }
@@ -80,7 +80,7 @@ fn begun<D: Device>(
     }
     match old {
         Content::Tree(tree) => Ok(*tree),
-        Content::Inline(_) => Err(PlanFault::Tree(TreeFault::Damaged)),
+        Content::Inline(_) => Err(PlanFault::Tree(TreeFault::Damaged { block: None })),
     }
 }
 
@@ -99,13 +99,13 @@ fn checked_changes<'a>(
     ensures them { IfOk result (λ changes. ChangeThem names.now changes.items) }
     ensures can { IfOk result (λ changes. AreChanges changes.items) }
     ensures full { result ≢ Err Full }
-    ensures damaged { result ≡ Err (Tree Damaged)
+    ensures damaged { (block : TheOption ℕ) → result ≡ Err (Tree (Damaged block))
         → ((changes : List TheChange) → ChangeThem names.now changes → AreChanges changes) → ⊥ }
     ensures device { result ≢ Err (Tree (Read Device)) }
 {
     let changes = name_changes(alloc, names)?;
     if !are_changes(changes.as_slice()) {
-        return Err(PlanFault::Tree(TreeFault::Damaged));
+        return Err(PlanFault::Tree(TreeFault::Damaged { block: None }));
     }
     Ok(changes)
 }
@@ -125,7 +125,7 @@ fn with_names<D: Device>(
         (store_of (reads (D.disk (device_of blocks.old)))) tree.now new changes.now build.old build.new) }
     ensures full { IsTooFullFor (IsTrue D.tells_bytes)
         (store_of (reads (D.disk (device_of blocks.old)))) tree.now changes.now result build.old }
-    ensures damaged { IsTrue D.tells_bytes → result ≡ Err (Tree Damaged)
+    ensures damaged { IsTrue D.tells_bytes → (block : TheOption ℕ) → result ≡ Err (Tree (Damaged block))
         → CannotRead (D.status (device_of blocks.old)).sectors
         (store_of (reads (D.disk (device_of blocks.old)))) tree.now }
     ensures same { IsTrue D.tells_bytes → D.disk (device_of blocks.new) ≡ D.disk (device_of blocks.old) }
@@ -151,7 +151,7 @@ fn roomy_tree<D: Device>(
     ensures whole { IfOk result (λ tree. tree.size % 4096 ≡ 0) }
     ensures most { IfOk result (λ tree. tree.size ≤ 35184372088832) }
     ensures full { result ≢ Err Full }
-    ensures damaged { IsTrue D.tells_bytes → result ≡ Err (Tree Damaged)
+    ensures damaged { IsTrue D.tells_bytes → (block : TheOption ℕ) → result ≡ Err (Tree (Damaged block))
         → (fresh ≡ false → CanBegin (D.status (device_of blocks.old)).sectors
         (store_of (reads (D.disk (device_of blocks.old)))) old.now)
         → LeadsOutside (D.status (device_of blocks.old)).sectors
@@ -161,7 +161,7 @@ fn roomy_tree<D: Device>(
 {
     let tree = begun(build, blocks, old, fresh)?;
     if !is_roomy(&tree) {
-        return Err(PlanFault::Tree(TreeFault::Damaged));
+        return Err(PlanFault::Tree(TreeFault::Damaged { block: None }));
     }
     Ok(tree)
 }
@@ -181,7 +181,7 @@ pub(crate) fn directory_content<D: Device>(
         (store_of (reads (D.disk (device_of blocks.old)))) old.now fresh names.now new build.old build.new) }
     ensures full { IsTrue D.tells_bytes → result ≡ Err Full → IsTooSmall (IsTrue D.tells_bytes)
         (store_of (reads (D.disk (device_of blocks.old)))) old.now fresh names.now build.old }
-    ensures damaged { IsTrue D.tells_bytes → result ≡ Err (Tree Damaged)
+    ensures damaged { IsTrue D.tells_bytes → (block : TheOption ℕ) → result ≡ Err (Tree (Damaged block))
         → CanMakeDirectory (D.status (device_of blocks.old)).sectors
         (store_of (reads (D.disk (device_of blocks.old)))) old.now fresh names.now → ⊥ }
     ensures same { IsTrue D.tells_bytes → D.disk (device_of blocks.new) ≡ D.disk (device_of blocks.old) }

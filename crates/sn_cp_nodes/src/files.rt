@@ -1,5 +1,5 @@
 //! The contents of files that changed.
-ghost use Rattle.std.specs.Prelude.{◌≡◌, ◌+◌, ◌*◌, length, Err, IsTrue, IfOk, OnOk};
+ghost use Rattle.std.specs.Prelude.{◌≡◌, ℕ, ◌+◌, ◌*◌, length, Option as TheOption, Err, IsTrue, IfOk, OnOk};
 ghost use Rattle.sn_device.specs.Disk.{reads};
 ghost use Rattle.sn_block.specs.Lending.{device_of};
 ghost use Rattle.sn_layout.specs.Pointers.{levels_of};
@@ -66,7 +66,7 @@ pub(crate) fn file_content<D: Device>(
         (store_of (reads (D.disk (device_of blocks.old)))) old.now new
         (keep_of state.now) (dirty_of written.items) build.old build.new) }
     ensures full { IsTooFull result build.old ((levels_of state.now.size + 1) * (length written.items + 1)) }
-    ensures damaged { IsTrue D.tells_bytes → result ≡ Err (Tree Damaged)
+    ensures damaged { IsTrue D.tells_bytes → (block : TheOption ℕ) → result ≡ Err (Tree (Damaged block))
         → CanMakeFile (D.status (device_of blocks.old)).sectors
         (store_of (reads (D.disk (device_of blocks.old)))) old.now state.now.size written.items → ⊥ }
     ensures same { IsTrue D.tells_bytes → D.disk (device_of blocks.new) ≡ D.disk (device_of blocks.old) }
@@ -78,7 +78,7 @@ pub(crate) fn file_content<D: Device>(
         blocks: dirty_blocks(alloc, written)?,
     };
     if !dirty.is_in_order() {
-        return Err(PlanFault::Tree(TreeFault::Damaged));
+        return Err(PlanFault::Tree(TreeFault::Damaged { block: None }));
     }
     plan(build, blocks, old, dirty)
 }

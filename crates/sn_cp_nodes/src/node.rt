@@ -1,5 +1,5 @@
 //! One node of an overlay.
-ghost use Rattle.std.specs.Prelude.{◌≡◌, ◌≢◌, Some, Err, IsTrue, IfOk, IfSome};
+ghost use Rattle.std.specs.Prelude.{◌≡◌, ℕ, ◌≢◌, Some, Option as TheOption, Err, IsTrue, IfOk, IfSome};
 ghost use Rattle.sn_device.specs.Disk.{reads};
 ghost use Rattle.sn_block.specs.Lending.{device_of};
 ghost use Rattle.sn_inode.specs.Changes.{IsChange};
@@ -53,7 +53,7 @@ fn content_for<D: Device>(
         (store_of (reads (D.disk (device_of blocks.old)))) old.now state.now names.now written.items new build.old build.new) }
     ensures full { IsTrue D.tells_bytes → result ≡ Err Full → IsTooSmallAs state.now.kind (IsTrue D.tells_bytes)
         (store_of (reads (D.disk (device_of blocks.old)))) old.now state.now names.now written.items build.old }
-    ensures damaged { IsTrue D.tells_bytes → result ≡ Err (Tree Damaged)
+    ensures damaged { IsTrue D.tells_bytes → (block : TheOption ℕ) → result ≡ Err (Tree (Damaged block))
         → CanMakeContent (D.status (device_of blocks.old)).sectors
         (store_of (reads (D.disk (device_of blocks.old)))) old.now state.now names.now written.items → ⊥ }
     ensures same { IsTrue D.tells_bytes → D.disk (device_of blocks.new) ≡ D.disk (device_of blocks.old) }
@@ -86,7 +86,7 @@ fn changed<D: Device>(
         (store_of (reads (D.disk (device_of blocks.old)))) was.now state.now names.now written.items change.record build.old build.new) }
     ensures full { IsTrue D.tells_bytes → result ≡ Err Full → IsTooSmallAs state.now.kind (IsTrue D.tells_bytes)
         (store_of (reads (D.disk (device_of blocks.old)))) (content_of was.now) state.now names.now written.items build.old }
-    ensures damaged { IsTrue D.tells_bytes → result ≡ Err (Tree Damaged)
+    ensures damaged { IsTrue D.tells_bytes → (block : TheOption ℕ) → result ≡ Err (Tree (Damaged block))
         → CanMakeInode (IsTrue D.tells_bytes) limits.now (D.status (device_of blocks.old)).sectors
         (store_of (reads (D.disk (device_of blocks.old)))) was.now number state.now names.now written.items build.old → ⊥ }
     ensures same { IsTrue D.tells_bytes → D.disk (device_of blocks.new) ≡ D.disk (device_of blocks.old) }
@@ -100,7 +100,7 @@ fn changed<D: Device>(
     let record = RecordChange::Used(inode, acls);
     let change = InodeChange { number, record };
     if !is_change(limits, &change) {
-        return Err(PlanFault::Tree(TreeFault::Damaged));
+        return Err(PlanFault::Tree(TreeFault::Damaged { block: None }));
     }
     Ok(change)
 }
@@ -118,7 +118,7 @@ fn gone<D: Device>(
     ensures gone { IfOk result (λ change. IsGone (IsTrue D.tells_bytes)
         (store_of (reads (D.disk (device_of blocks.old)))) was.now number change build.old build.new) }
     ensures full { result ≢ Err Full }
-    ensures damaged { IsTrue D.tells_bytes → result ≡ Err (Tree Damaged) → IfSome was.now
+    ensures damaged { IsTrue D.tells_bytes → (block : TheOption ℕ) → result ≡ Err (Tree (Damaged block)) → IfSome was.now
         (CanRelease limits.now (D.status (device_of blocks.old)).sectors
         (store_of (reads (D.disk (device_of blocks.old)))) number) → ⊥ }
     ensures same { IsTrue D.tells_bytes → D.disk (device_of blocks.new) ≡ D.disk (device_of blocks.old) }
@@ -130,7 +130,7 @@ fn gone<D: Device>(
     let record = RecordChange::Unused;
     let change = InodeChange { number, record };
     if !is_change(limits, &change) {
-        return Err(PlanFault::Tree(TreeFault::Damaged));
+        return Err(PlanFault::Tree(TreeFault::Damaged { block: None }));
     }
     release_all(build, blocks, &inode.content)?;
     Ok(Some(change))
@@ -154,7 +154,7 @@ fn planned<D: Device>(
         (store_of (reads (D.disk (device_of blocks.old)))) was.now number change.now names.now written.items new build.old build.new) }
     ensures full { IsTrue D.tells_bytes → result ≡ Err Full → IsTooSmallFor (IsTrue D.tells_bytes)
         (store_of (reads (D.disk (device_of blocks.old)))) was.now change.now names.now written.items build.old }
-    ensures damaged { IsTrue D.tells_bytes → result ≡ Err (Tree Damaged)
+    ensures damaged { IsTrue D.tells_bytes → (block : TheOption ℕ) → result ≡ Err (Tree (Damaged block))
         → CanPlan (IsTrue D.tells_bytes) limits.now (D.status (device_of blocks.old)).sectors
         (store_of (reads (D.disk (device_of blocks.old)))) was.now number change.now names.now written.items build.old → ⊥ }
     ensures same { IsTrue D.tells_bytes → D.disk (device_of blocks.new) ≡ D.disk (device_of blocks.old) }
@@ -195,7 +195,7 @@ pub fn build_node<D: Device>(
         (store_of (reads (D.disk (device_of blocks.old)))) file.now layer number new build.old build.new) }
     ensures full { IsTrue D.tells_bytes → result ≡ Err Full → IsTooSmallAt (IsTrue D.tells_bytes)
         (store_of (reads (D.disk (device_of blocks.old)))) file.now number change.now names.now written.items build.old }
-    ensures damaged { IsTrue D.tells_bytes → result ≡ Err (Tree Damaged)
+    ensures damaged { IsTrue D.tells_bytes → (block : TheOption ℕ) → result ≡ Err (Tree (Damaged block))
         → CanBuildNode (IsTrue D.tells_bytes) limits.now (D.status (device_of blocks.old)).sectors
         (store_of (reads (D.disk (device_of blocks.old)))) file.now number change.now names.now written.items build.old → ⊥ }
     ensures same { IsTrue D.tells_bytes → D.disk (device_of blocks.new) ≡ D.disk (device_of blocks.old) }

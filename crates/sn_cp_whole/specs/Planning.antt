@@ -59,7 +59,7 @@ read_fault_of read.Device = Read
 abbrev pub point_fault_of : PlanFault → PointFault
 point_fault_of plan.Memory = Memory
 point_fault_of plan.Full = Damaged
-point_fault_of (plan.Tree tree.Damaged) = Damaged
+point_fault_of (plan.Tree (tree.Damaged block)) = Damaged
 point_fault_of (plan.Tree (tree.Read fault)) = read_fault_of fault
 
 -- why none is planned: nothing was called but a read that failed

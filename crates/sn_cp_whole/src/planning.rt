@@ -77,7 +77,7 @@ fn plan_fault(fault: PlanFault) -> PointFault
     match fault {
         PlanFault::Memory => PointFault::Memory,
         PlanFault::Tree(TreeFault::Read(fault)) => read_fault(fault),
-        PlanFault::Tree(TreeFault::Damaged) | PlanFault::Full => PointFault::Damaged,
+        PlanFault::Tree(TreeFault::Damaged { .. }) | PlanFault::Full => PointFault::Damaged,
     }
 }
 

@@ -1,5 +1,5 @@
 -- One block of a directory: where it is there, and what stands in it.
-use Rattle.std.proofs.Common.{◌≡◌, ◌≢◌, ℕ, ◌≤◌, true, false, List, [], ◌∷◌, length, sym, ap, subst, ◌∙◌, arith}
+use Rattle.std.proofs.Common.{◌≡◌, ◌≢◌, ℕ, ◌≤◌, true, false, List, [], ◌∷◌, Option, length, sym, ap, subst, ◌∙◌, arith}
 use Rattle.std.proofs.lemmas.Bool.{true≢false, and_parts}
 use Rattle.sn_layout.specs.Pointers.{levels_of}
 use Rattle.sn_layout.specs.declared.tree.BlockTree.{BlockTree}
@@ -8,9 +8,9 @@ use Rattle.sn_layout_node.proofs.Links.{length-links}
 use Rattle.sn_ondisk.specs.Trees.{Store, entry, data_block}
 use Rattle.sn_image.specs.Names.{names_in}
 use Rattle.sn_image.proofs.DecodeLemmas.{directory_read}
-use Rattle.sn_tree_read.specs.Paths.{lies_on, path_lies_on}
-use Rattle.sn_tree_read.proofs.PointerLemmas.{both_lie}
-use Rattle.sn_dir.specs.Blocks.{IsThere, CanRead}
+use Rattle.sn_tree_read.specs.Paths.{lies_on, path_lies_on, block_named, pointer_met, block_met}
+use Rattle.sn_tree_read.proofs.PointerLemmas.{both_lie, met_last}
+use Rattle.sn_dir.specs.Blocks.{IsThere, CanRead, IsDamaged, IsDamagedAt}
 
 -- ---- where it is there
 
@@ -23,7 +23,14 @@ module _ (sectors : ℕ) (s : Store) (tree : BlockTree) (i levels pointer : ℕ)
       let parts = and_parts (path_lies_on sectors s (levels_of tree.size) tree.pointers i) (lies_on sectors (entry s (levels_of tree.size) tree.pointers i)) there.lies in
       true≢false (sym parts.0 ∙ same_path ∙ off)
 
+  pub met_on_path : block_named (pointer_met sectors s levels tree.pointers i) ≡ block_met sectors s tree i
+  met_on_path = ap (λ (n : ℕ). block_named (pointer_met sectors s n tree.pointers i)) all
+
   module _ (is : pointer ≡ entry s levels tree.pointers i) where
+    -- the way to it ends at the block itself, where each block above it lies on the device
+    pub met_here : path_lies_on sectors s levels tree.pointers i ≡ true → block_named pointer ≡ block_met sectors s tree i
+    met_here path = ap block_named (is ∙ sym (met_last sectors s levels tree.pointers i path)) ∙ met_on_path
+
     last_pointer : pointer ≡ entry s (levels_of tree.size) tree.pointers i
     last_pointer = is ∙ ap (λ (n : ℕ). entry s n tree.pointers i) all
 
@@ -57,3 +64,7 @@ module _ (sectors : ℕ) (s : Store) (tree : BlockTree) (i : ℕ) (bytes : List 
 
   pub cannot_read : (IsDirectoryBlock bytes → ⊥) → CanRead sectors s tree i → ⊥
   cannot_read none can = none (subst (λ (b : List ℕ). IsDirectoryBlock b) (sym same) can.spelled)
+
+-- where it's told of a block, there is one that can't be read
+pub somewhere : (IsOpen : List Link → Type 0) (sectors : ℕ) (s : Store) (tree : BlockTree) (block : Option ℕ) → IsDamagedAt IsOpen sectors s tree block → IsDamaged IsOpen sectors s tree
+somewhere IsOpen sectors s tree block (i, within, still, none) = (i, within, still, none.unread)

@@ -1,12 +1,12 @@
 -- The blocks of a directory, read in turn.
-use Rattle.std.proofs.Common.{◌≡◌, ◌⊎◌, inl, inr, ℕ, ◌+◌, ◌/◌, ◌<◌, ◌≤◌, Bool, List, IsTrue, refl, subst, ◌∙◌, arith}
+use Rattle.std.proofs.Common.{◌≡◌, ◌⊎◌, inl, inr, ℕ, ◌+◌, ◌/◌, ◌<◌, ◌≤◌, Bool, List, Option, IsTrue, refl, subst, ◌∙◌, arith}
 use Rattle.std.proofs.lemmas.Bool.{cases_lt}
 use Rattle.sn_device.specs.Disk.{Disk, reads}
 use Rattle.sn_device.specs.declared.status.Status.{Status}
 use Rattle.sn_layout.specs.declared.tree.BlockTree.{BlockTree}
 use Rattle.sn_layout_node.specs.Directory.{Link}
 use Rattle.sn_ondisk.specs.Trees.{Store, store_of}
-use Rattle.sn_dir.specs.Blocks.{names_before, CanRead, IsDamaged}
+use Rattle.sn_dir.specs.Blocks.{names_before, CanRead, IsUnread, IsDamaged, IsDamagedAt}
 
 -- each block before block i can be read
 abbrev pub AreRead : ℕ → Store → BlockTree → ℕ → Type 0
@@ -54,8 +54,8 @@ module _ (tells : Bool) (tree : BlockTree) (i : ℕ) (old new : Status) (before 
 
   module _ (IsOpen : List Link → Type 0) (told : IsTrue tells) where
     -- block i is needed, and can't be read
-    pub damaged_here : i < tree.size / 4096 → IsOpen (names_before (store_of (reads before)) tree i) → (CanRead new.sectors (store_of (reads now)) tree i → ⊥) → IsDamaged IsOpen old.sectors (store_of (reads before)) tree
-    damaged_here within still not_read = (i, within, still, at_start (λ (n : ℕ) (s : Store). (CanRead n s tree i → ⊥)) told not_read)
+    pub damaged_here : (block : Option ℕ) → i < tree.size / 4096 → IsOpen (names_before (store_of (reads before)) tree i) → IsUnread new.sectors (store_of (reads now)) tree i block → IsDamagedAt IsOpen old.sectors (store_of (reads before)) tree block
+    damaged_here block within still unread = (i, within, still, at_start (λ (n : ℕ) (s : Store). IsUnread n s tree i block) told unread)
 
     -- all of them were read
     pub all_read : i ≡ tree.size / 4096 → IsDamaged IsOpen old.sectors (store_of (reads before)) tree → ⊥

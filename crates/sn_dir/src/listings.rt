@@ -1,5 +1,5 @@
 //! All names of a directory, in order.
-ghost use Rattle.std.specs.Prelude.{◌≡◌, ⊤, ◌++◌, map, Err, IsTrue, IfOk, OnOk};
+ghost use Rattle.std.specs.Prelude.{◌≡◌, ℕ, Option as TheOption, ⊤, ◌++◌, map, Err, IsTrue, IfOk, OnOk};
 ghost use Rattle.std.specs.List.Sorted.{IsPermutation, IsSorted};
 ghost use Rattle.sn_device.specs.Disk.{reads};
 ghost use Rattle.sn_block.specs.Lending.{device_of};
@@ -8,7 +8,7 @@ ghost use Rattle.sn_ondisk.specs.Trees.{store_of, data_block};
 ghost use Rattle.sn_image.specs.Names.{names_in, names_of};
 ghost use Rattle.sn_tree_read.specs.Counts.{CountsTree};
 ghost use Rattle.sn_tree_read.specs.declared.fault.TreeFault.TheVariants.{Damaged};
-ghost use Rattle.sn_dir.specs.Blocks.{CanRead, IsDamaged};
+ghost use Rattle.sn_dir.specs.Blocks.{CanRead, IsUnread, IsDamaged, IsDamagedAt};
 ghost use Rattle.sn_dir.specs.Listed.{link_of, listed_cmp};
 
 use crate::blocks::{block_count, decoded, fetch_block};
@@ -56,14 +56,14 @@ fn push_names<D: Device>(
         ++ names_in (data_block (store_of (reads (D.disk (device_of blocks.old)))) tree.now i)) }
     ensures read { IsTrue D.tells_bytes → OnOk result (CanRead (D.status (device_of blocks.old)).sectors
         (store_of (reads (D.disk (device_of blocks.old)))) tree.now i) }
-    ensures damaged { IsTrue D.tells_bytes → result ≡ Err Damaged
-        → CanRead (D.status (device_of blocks.old)).sectors
-        (store_of (reads (D.disk (device_of blocks.old)))) tree.now i → ⊥ }
+    ensures damaged { IsTrue D.tells_bytes → (block : TheOption ℕ) → result ≡ Err (Damaged block)
+        → IsUnread (D.status (device_of blocks.old)).sectors
+        (store_of (reads (D.disk (device_of blocks.old)))) tree.now i block }
     ensures same { IsTrue D.tells_bytes → D.disk (device_of blocks.new) ≡ D.disk (device_of blocks.old) }
     ensures counts { CountsTree result (D.status (device_of blocks.old)) (D.status (device_of blocks.new)) }
 {
-    fetch_block(blocks, tree, i)?;
-    let block = decoded(blocks.fetched())?;
+    let number = fetch_block(blocks, tree, i)?;
+    let block = decoded(blocks.fetched(), number)?;
     push_entries(alloc, &block, names)?;
     Ok(())
 }
@@ -79,9 +79,9 @@ fn gathered<D: Device>(
     ensures whole { IsTrue D.tells_bytes → OnOk result (IsDamaged (λ names. ⊤)
         (D.status (device_of blocks.old)).sectors
         (store_of (reads (D.disk (device_of blocks.old)))) tree.now → ⊥) }
-    ensures damaged { IsTrue D.tells_bytes → result ≡ Err Damaged
-        → IsDamaged (λ names. ⊤) (D.status (device_of blocks.old)).sectors
-        (store_of (reads (D.disk (device_of blocks.old)))) tree.now }
+    ensures damaged { IsTrue D.tells_bytes → (block : TheOption ℕ) → result ≡ Err (Damaged block)
+        → IsDamagedAt (λ names. ⊤) (D.status (device_of blocks.old)).sectors
+        (store_of (reads (D.disk (device_of blocks.old)))) tree.now block }
     ensures same { IsTrue D.tells_bytes → D.disk (device_of blocks.new) ≡ D.disk (device_of blocks.old) }
     ensures counts { CountsTree result (D.status (device_of blocks.old)) (D.status (device_of blocks.new)) }
 {
@@ -106,9 +106,9 @@ pub fn names<D: Device>(
     ensures whole { IsTrue D.tells_bytes → OnOk result (IsDamaged (λ names. ⊤)
         (D.status (device_of blocks.old)).sectors
         (store_of (reads (D.disk (device_of blocks.old)))) tree.now → ⊥) }
-    ensures damaged { IsTrue D.tells_bytes → result ≡ Err Damaged
-        → IsDamaged (λ names. ⊤) (D.status (device_of blocks.old)).sectors
-        (store_of (reads (D.disk (device_of blocks.old)))) tree.now }
+    ensures damaged { IsTrue D.tells_bytes → (block : TheOption ℕ) → result ≡ Err (Damaged block)
+        → IsDamagedAt (λ names. ⊤) (D.status (device_of blocks.old)).sectors
+        (store_of (reads (D.disk (device_of blocks.old)))) tree.now block }
     ensures same { IsTrue D.tells_bytes → D.disk (device_of blocks.new) ≡ D.disk (device_of blocks.old) }
     ensures counts { CountsTree result (D.status (device_of blocks.old)) (D.status (device_of blocks.new)) }
 {

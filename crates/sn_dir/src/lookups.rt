@@ -1,5 +1,5 @@
 //! The number under a name, and how many names there are.
-ghost use Rattle.std.specs.Prelude.{[], ◌≡◌, ◌==◌, ◌≤◌, ⊤, None, Err, length, IsTrue, IfOk, OnOk};
+ghost use Rattle.std.specs.Prelude.{[], ◌≡◌, ℕ, Option as TheOption, ◌==◌, ◌≤◌, ⊤, None, Err, length, IsTrue, IfOk, OnOk};
 ghost use Rattle.sn_device.specs.Disk.{reads};
 ghost use Rattle.sn_block.specs.Lending.{device_of};
 ghost use Rattle.sn_layout_node.specs.Directory.{number_of};
@@ -8,7 +8,7 @@ ghost use Rattle.sn_ondisk.specs.Trees.{store_of, data_block};
 ghost use Rattle.sn_image.specs.Names.{names_in, names_of};
 ghost use Rattle.sn_tree_read.specs.Counts.{CountsTree};
 ghost use Rattle.sn_tree_read.specs.declared.fault.TreeFault.TheVariants.{Damaged};
-ghost use Rattle.sn_dir.specs.Blocks.{CanRead, IsDamaged};
+ghost use Rattle.sn_dir.specs.Blocks.{CanRead, IsUnread, IsDamaged, IsDamagedAt};
 
 use crate::blocks::{block_count, decoded, fetch_block};
 use sn_block::Blocks;
@@ -27,14 +27,14 @@ fn find_in<D: Device>(
         ≡ number_of name.now (names_in (data_block (store_of (reads (D.disk (device_of blocks.old)))) tree.now i))) }
     ensures read { IsTrue D.tells_bytes → OnOk result (CanRead (D.status (device_of blocks.old)).sectors
         (store_of (reads (D.disk (device_of blocks.old)))) tree.now i) }
-    ensures damaged { IsTrue D.tells_bytes → result ≡ Err Damaged
-        → CanRead (D.status (device_of blocks.old)).sectors
-        (store_of (reads (D.disk (device_of blocks.old)))) tree.now i → ⊥ }
+    ensures damaged { IsTrue D.tells_bytes → (block : TheOption ℕ) → result ≡ Err (Damaged block)
+        → IsUnread (D.status (device_of blocks.old)).sectors
+        (store_of (reads (D.disk (device_of blocks.old)))) tree.now i block }
     ensures same { IsTrue D.tells_bytes → D.disk (device_of blocks.new) ≡ D.disk (device_of blocks.old) }
     ensures counts { CountsTree result (D.status (device_of blocks.old)) (D.status (device_of blocks.new)) }
 {
-    fetch_block(blocks, tree, i)?;
-    let names = decoded(blocks.fetched())?;
+    let number = fetch_block(blocks, tree, i)?;
+    let names = decoded(blocks.fetched(), number)?;
     Ok(names.find(name))
 }
 
@@ -45,14 +45,14 @@ fn count_in<D: Device>(blocks: &mut Blocks<D>, tree: &BlockTree, i: u64) -> Resu
     ensures few { IfOk result (λ count. count ≤ 4096) }
     ensures read { IsTrue D.tells_bytes → OnOk result (CanRead (D.status (device_of blocks.old)).sectors
         (store_of (reads (D.disk (device_of blocks.old)))) tree.now i) }
-    ensures damaged { IsTrue D.tells_bytes → result ≡ Err Damaged
-        → CanRead (D.status (device_of blocks.old)).sectors
-        (store_of (reads (D.disk (device_of blocks.old)))) tree.now i → ⊥ }
+    ensures damaged { IsTrue D.tells_bytes → (block : TheOption ℕ) → result ≡ Err (Damaged block)
+        → IsUnread (D.status (device_of blocks.old)).sectors
+        (store_of (reads (D.disk (device_of blocks.old)))) tree.now i block }
     ensures same { IsTrue D.tells_bytes → D.disk (device_of blocks.new) ≡ D.disk (device_of blocks.old) }
     ensures counts { CountsTree result (D.status (device_of blocks.old)) (D.status (device_of blocks.new)) }
 {
-    fetch_block(blocks, tree, i)?;
-    let names = decoded(blocks.fetched())?;
+    let number = fetch_block(blocks, tree, i)?;
+    let names = decoded(blocks.fetched(), number)?;
     Ok(names.len() as u64)
 }
 
@@ -69,9 +69,9 @@ pub fn lookup<D: Device>(
     ensures whole { IsTrue D.tells_bytes → OnOk result (IsDamaged (λ names. number_of name.now names ≡ None)
         (D.status (device_of blocks.old)).sectors
         (store_of (reads (D.disk (device_of blocks.old)))) tree.now → ⊥) }
-    ensures damaged { IsTrue D.tells_bytes → result ≡ Err Damaged
-        → IsDamaged (λ names. number_of name.now names ≡ None) (D.status (device_of blocks.old)).sectors
-        (store_of (reads (D.disk (device_of blocks.old)))) tree.now }
+    ensures damaged { IsTrue D.tells_bytes → (block : TheOption ℕ) → result ≡ Err (Damaged block)
+        → IsDamagedAt (λ names. number_of name.now names ≡ None) (D.status (device_of blocks.old)).sectors
+        (store_of (reads (D.disk (device_of blocks.old)))) tree.now block }
     ensures same { IsTrue D.tells_bytes → D.disk (device_of blocks.new) ≡ D.disk (device_of blocks.old) }
     ensures counts { CountsTree result (D.status (device_of blocks.old)) (D.status (device_of blocks.new)) }
 {
@@ -92,9 +92,9 @@ pub fn count<D: Device>(blocks: &mut Blocks<D>, tree: &BlockTree) -> Result<u64,
     ensures whole { IsTrue D.tells_bytes → OnOk result (IsDamaged (λ names. ⊤)
         (D.status (device_of blocks.old)).sectors
         (store_of (reads (D.disk (device_of blocks.old)))) tree.now → ⊥) }
-    ensures damaged { IsTrue D.tells_bytes → result ≡ Err Damaged
-        → IsDamaged (λ names. ⊤) (D.status (device_of blocks.old)).sectors
-        (store_of (reads (D.disk (device_of blocks.old)))) tree.now }
+    ensures damaged { IsTrue D.tells_bytes → (block : TheOption ℕ) → result ≡ Err (Damaged block)
+        → IsDamagedAt (λ names. ⊤) (D.status (device_of blocks.old)).sectors
+        (store_of (reads (D.disk (device_of blocks.old)))) tree.now block }
     ensures same { IsTrue D.tells_bytes → D.disk (device_of blocks.new) ≡ D.disk (device_of blocks.old) }
     ensures counts { CountsTree result (D.status (device_of blocks.old)) (D.status (device_of blocks.new)) }
 {
@@ -114,9 +114,9 @@ pub fn is_empty<D: Device>(blocks: &mut Blocks<D>, tree: &BlockTree) -> Result<b
     ensures whole { IsTrue D.tells_bytes → OnOk result (IsDamaged (λ names. names ≡ [])
         (D.status (device_of blocks.old)).sectors
         (store_of (reads (D.disk (device_of blocks.old)))) tree.now → ⊥) }
-    ensures damaged { IsTrue D.tells_bytes → result ≡ Err Damaged
-        → IsDamaged (λ names. names ≡ []) (D.status (device_of blocks.old)).sectors
-        (store_of (reads (D.disk (device_of blocks.old)))) tree.now }
+    ensures damaged { IsTrue D.tells_bytes → (block : TheOption ℕ) → result ≡ Err (Damaged block)
+        → IsDamagedAt (λ names. names ≡ []) (D.status (device_of blocks.old)).sectors
+        (store_of (reads (D.disk (device_of blocks.old)))) tree.now block }
     ensures same { IsTrue D.tells_bytes → D.disk (device_of blocks.new) ≡ D.disk (device_of blocks.old) }
     ensures counts { CountsTree result (D.status (device_of blocks.old)) (D.status (device_of blocks.new)) }
 {

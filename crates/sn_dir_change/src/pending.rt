@@ -1,5 +1,5 @@
 //! The changes that are still to be made.
-ghost use Rattle.std.specs.Prelude.{◌≡◌, ◌+◌, ◌==◌, ◌≤◌, ◌||◌, if◌then◌else◌, List, [], ◌∷◌, ◌++◌, ⊤, Err, length, map, is_some, IsTrue, IfOk, OnOk};
+ghost use Rattle.std.specs.Prelude.{◌≡◌, ℕ, ◌+◌, ◌==◌, ◌≤◌, ◌||◌, if◌then◌else◌, List, [], ◌∷◌, ◌++◌, ⊤, Option as TheOption, Err, length, map, is_some, IsTrue, IfOk, OnOk};
 ghost use Rattle.sn_device.specs.Disk.{reads};
 ghost use Rattle.sn_block.specs.Lending.{device_of};
 ghost use Rattle.sn_layout_node.specs.Directory.{Link, number_of};
@@ -140,7 +140,7 @@ pub(crate) fn parted<'a, D: Device>(
     ensures standing { IfOk result (λ pending. AreLinkChanges pending.standing.items) }
     ensures waiting { IfOk result (λ pending. AreLinkChanges pending.waiting.items) }
     ensures puts { IfOk result (λ pending. ArePuts pending.waiting.items) }
-    ensures damaged { IsTrue D.tells_bytes → result ≡ Err Damaged
+    ensures damaged { IsTrue D.tells_bytes → (block : TheOption ℕ) → result ≡ Err (Damaged block)
         → IsDamaged (λ names. ⊤) (D.status (device_of blocks.old)).sectors
         (store_of (reads (D.disk (device_of blocks.old)))) tree.now }
     ensures same { IsTrue D.tells_bytes → D.disk (device_of blocks.new) ≡ D.disk (device_of blocks.old) }

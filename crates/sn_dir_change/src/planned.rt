@@ -1,5 +1,5 @@
 //! A directory with other names.
-ghost use Rattle.std.specs.Prelude.{◌≡◌, ◌<◌, Bool, [], ◌∷◌, ⊤, Some, None, Err, length, IsTrue, IfOk};
+ghost use Rattle.std.specs.Prelude.{◌≡◌, ℕ, ◌<◌, Bool, [], ◌∷◌, ⊤, Some, None, Option as TheOption, Err, length, IsTrue, IfOk};
 ghost use Rattle.sn_device.specs.Disk.{reads};
 ghost use Rattle.sn_block.specs.Lending.{device_of};
 ghost use Rattle.sn_layout_node.specs.Directory.{IsLink};
@@ -61,7 +61,7 @@ fn wanted<D: Device>(
         (store_of (reads (D.disk (device_of blocks.old)))) tree.now changes.now
         dirty.size dirty.keep dirty.blocks.items) }
     ensures first { IfOk result (λ dirty. 0 < length changes.now → 0 < dirty.size) }
-    ensures damaged { IsTrue D.tells_bytes → result ≡ Err Damaged
+    ensures damaged { IsTrue D.tells_bytes → (block : TheOption ℕ) → result ≡ Err (Damaged block)
         → IsDamaged (λ names. ⊤) (D.status (device_of blocks.old)).sectors
         (store_of (reads (D.disk (device_of blocks.old)))) tree.now }
     ensures same { IsTrue D.tells_bytes → D.disk (device_of blocks.new) ≡ D.disk (device_of blocks.old) }
@@ -101,7 +101,7 @@ pub fn change<D: Device>(
         (store_of (reads (D.disk (device_of blocks.old)))) tree.now new changes.now build.old build.new) }
     ensures full { IsTooFullFor (IsTrue D.tells_bytes)
         (store_of (reads (D.disk (device_of blocks.old)))) tree.now changes.now result build.old }
-    ensures damaged { IsTrue D.tells_bytes → result ≡ Err (Tree Damaged)
+    ensures damaged { IsTrue D.tells_bytes → (block : TheOption ℕ) → result ≡ Err (Tree (Damaged block))
         → CannotRead (D.status (device_of blocks.old)).sectors
         (store_of (reads (D.disk (device_of blocks.old)))) tree.now }
     ensures same { IsTrue D.tells_bytes → D.disk (device_of blocks.new) ≡ D.disk (device_of blocks.old) }
@@ -129,7 +129,7 @@ pub fn insert<D: Device>(
     ensures full { IsTooFullFor (IsTrue D.tells_bytes)
         (store_of (reads (D.disk (device_of blocks.old)))) tree.now
         (record { name = name.entry; number = Some number } ∷ []) result build.old }
-    ensures damaged { IsTrue D.tells_bytes → result ≡ Err (Tree Damaged)
+    ensures damaged { IsTrue D.tells_bytes → (block : TheOption ℕ) → result ≡ Err (Tree (Damaged block))
         → CannotRead (D.status (device_of blocks.old)).sectors
         (store_of (reads (D.disk (device_of blocks.old)))) tree.now }
     ensures same { IsTrue D.tells_bytes → D.disk (device_of blocks.new) ≡ D.disk (device_of blocks.old) }
@@ -154,7 +154,7 @@ pub fn remove<D: Device>(
     ensures full { IsTooFullFor (IsTrue D.tells_bytes)
         (store_of (reads (D.disk (device_of blocks.old)))) tree.now
         (record { name = name.entry; number = None } ∷ []) result build.old }
-    ensures damaged { IsTrue D.tells_bytes → result ≡ Err (Tree Damaged)
+    ensures damaged { IsTrue D.tells_bytes → (block : TheOption ℕ) → result ≡ Err (Tree (Damaged block))
         → CannotRead (D.status (device_of blocks.old)).sectors
         (store_of (reads (D.disk (device_of blocks.old)))) tree.now }
     ensures same { IsTrue D.tells_bytes → D.disk (device_of blocks.new) ≡ D.disk (device_of blocks.old) }

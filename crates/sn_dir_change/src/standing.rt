@@ -1,5 +1,5 @@
 //! Which names the directory has.
-ghost use Rattle.std.specs.Prelude.{◌≡◌, ◌↔◌, [], ⊤, true, map, All, Err, IsTrue, IfOk, OnOk};
+ghost use Rattle.std.specs.Prelude.{◌≡◌, ℕ, ◌↔◌, [], ⊤, true, map, All, Option as TheOption, Err, IsTrue, IfOk, OnOk};
 ghost use Rattle.sn_device.specs.Disk.{reads};
 ghost use Rattle.sn_block.specs.Lending.{device_of};
 ghost use Rattle.sn_layout_node.specs.declared.content.Content.TheVariants.{Tree};
@@ -81,7 +81,7 @@ fn note_block<D: Device>(
     ensures sought { IsTrue D.tells_bytes → OnOk result (list.new
         ≡ map (seen_too (names_in (data_block (store_of (reads (D.disk (device_of blocks.old)))) tree.now i))) list.old) }
     ensures listed { OnOk result (map change_of list.new ≡ map change_of list.old) }
-    ensures damaged { IsTrue D.tells_bytes → result ≡ Err Damaged
+    ensures damaged { IsTrue D.tells_bytes → (block : TheOption ℕ) → result ≡ Err (Damaged block)
         → CanRead (D.status (device_of blocks.old)).sectors
         (store_of (reads (D.disk (device_of blocks.old)))) tree.now i → ⊥ }
     ensures same { IsTrue D.tells_bytes → D.disk (device_of blocks.new) ≡ D.disk (device_of blocks.old) }
@@ -90,8 +90,8 @@ fn note_block<D: Device>(
     if all_stand(list) {
         return Ok(());
     }
-    fetch_block(blocks, tree, i)?;
-    let names = decoded(blocks.fetched())?;
+    let number = fetch_block(blocks, tree, i)?;
+    let names = decoded(blocks.fetched(), number)?;
     note_names(&names, list);
     Ok(())
 }
@@ -107,7 +107,7 @@ pub(crate) fn seek<'a, D: Device>(
     ensures sought { IsTrue D.tells_bytes → IfOk result (λ sought. sought.items
         ≡ map (seen (names_of (store_of (reads (D.disk (device_of blocks.old)))) (Tree tree.now))) changes.now) }
     ensures listed { IfOk result (λ sought. map change_of sought.items ≡ changes.now) }
-    ensures damaged { IsTrue D.tells_bytes → result ≡ Err Damaged
+    ensures damaged { IsTrue D.tells_bytes → (block : TheOption ℕ) → result ≡ Err (Damaged block)
         → IsDamaged (λ names. ⊤) (D.status (device_of blocks.old)).sectors
         (store_of (reads (D.disk (device_of blocks.old)))) tree.now }
     ensures same { IsTrue D.tells_bytes → D.disk (device_of blocks.new) ≡ D.disk (device_of blocks.old) }

@@ -1,5 +1,5 @@
 //! Going through the blocks of a directory.
-ghost use Rattle.std.specs.Prelude.{◌≡◌, ℕ, ◌+◌, ◌/◌, ◌<◌, List, [], ⊤, Err, IsTrue, IfOk, OnOk};
+ghost use Rattle.std.specs.Prelude.{◌≡◌, ℕ, ◌+◌, ◌/◌, ◌<◌, List, [], ⊤, Option as TheOption, Err, IsTrue, IfOk, OnOk};
 ghost use Rattle.sn_device.specs.Disk.{reads};
 ghost use Rattle.sn_block.specs.Lending.{device_of};
 ghost use Rattle.sn_ondisk.specs.Trees.{store_of};
@@ -55,7 +55,7 @@ fn pass_block<D: Device>(
         (i + 1) dirty.new.items pending.new.standing.items pending.new.waiting.items) }
     ensures standing { AreLinkChanges pending.new.standing.items }
     ensures waiting { AreLinkChanges pending.new.waiting.items }
-    ensures damaged { IsTrue D.tells_bytes → result ≡ Err Damaged
+    ensures damaged { IsTrue D.tells_bytes → (block : TheOption ℕ) → result ≡ Err (Damaged block)
         → CanRead (D.status (device_of blocks.old)).sectors
         (store_of (reads (D.disk (device_of blocks.old)))) tree.now i → ⊥ }
     ensures same { IsTrue D.tells_bytes → D.disk (device_of blocks.new) ≡ D.disk (device_of blocks.old) }
@@ -64,8 +64,8 @@ fn pass_block<D: Device>(
     if pending.is_empty() {
         return Ok(());
     }
-    fetch_block(blocks, tree, i)?;
-    let names = decoded(blocks.fetched())?;
+    let number = fetch_block(blocks, tree, i)?;
+    let names = decoded(blocks.fetched(), number)?;
     let marks = NameMarks::of(&names);
     let room = names.room();
     let mut bytes = *blocks.fetched();
@@ -91,7 +91,7 @@ pub(crate) fn pass_blocks<D: Device>(
         → IfOk result (λ dirty. IsThrough (IsTrue D.tells_bytes) (store_of (reads (D.disk (device_of blocks.old)))) tree.now changes bound
         (tree.now.size / 4096) dirty.items pending.new.standing.items pending.new.waiting.items) }
     ensures waiting { AreLinkChanges pending.new.waiting.items }
-    ensures damaged { IsTrue D.tells_bytes → result ≡ Err Damaged
+    ensures damaged { IsTrue D.tells_bytes → (block : TheOption ℕ) → result ≡ Err (Damaged block)
         → IsDamaged (λ names. ⊤) (D.status (device_of blocks.old)).sectors
         (store_of (reads (D.disk (device_of blocks.old)))) tree.now }
     ensures same { IsTrue D.tells_bytes → D.disk (device_of blocks.new) ≡ D.disk (device_of blocks.old) }

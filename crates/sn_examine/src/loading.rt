@@ -47,7 +47,7 @@ pub fn load_world<D: Device>(
     let tree = match load(alloc, blocks, &Limits::VERSION_1, &root.inode_file) {
         Ok(tree) => tree,
         Err(TreeFault::Read(fault)) => return Err(fault_of(fault)),
-        Err(TreeFault::Damaged) => {
+        Err(TreeFault::Damaged { .. }) => {
             return Err(MountFault::Damaged {
                 damage: Damage::Misspelt,
                 block: body,

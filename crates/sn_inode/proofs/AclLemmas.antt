@@ -71,14 +71,17 @@ module _ (s : Store) (sectors : ℕ) (inode : Inode) where
         }
     decoded_read (Err fault) lies holds = tt
 
-    pub decoded_damaged : (result : Result AclBlock TreeFault)
-        → IfErr result (λ (fault : TreeFault). (fault ≡ Damaged) × (HoldsAcls inode.kind block → ⊥))
-        → result ≡ Err Damaged → CanReadAcls sectors s inode → ⊥
-    decoded_damaged (Ok acls) none damaged can = absurd cc
-    decoded_damaged (Err fault) none damaged can =
-        let there : HoldsAcls inode.kind (s inode.acl_block) =
-        record { spelled = can.has.spelled some; of_file = λ file. ap (λ (a : AclBlock). a.default) (some_at s inode.acl_block some) ∙ can.has.of_file file } in
-        none.1 (subst (λ (b : List ℕ). HoldsAcls inode.kind b) (sym same) there)
+    pub decoded_damaged : (in_block : Option ℕ) (result : Result AclBlock TreeFault)
+        → IfErr result (λ (fault : TreeFault). (fault ≡ Damaged in_block) × (HoldsAcls inode.kind block → ⊥))
+        → (at_block : Option ℕ) → result ≡ Err (Damaged at_block) → (CanReadAcls sectors s inode → ⊥) × (at_block ≡ in_block)
+    decoded_damaged in_block (Ok acls) none at_block damaged = absurd cc
+    decoded_damaged in_block (Err fault) none at_block damaged = (
+      λ can.
+          let there : HoldsAcls inode.kind (s inode.acl_block) =
+          record { spelled = can.has.spelled some; of_file = λ file. ap (λ (a : AclBlock). a.default) (some_at s inode.acl_block some) ∙ can.has.of_file file } in
+          none.1 (subst (λ (b : List ℕ). HoldsAcls inode.kind b) (sym same) there),
+      cc (damaged, none.0),
+    )
 
 -- ---- of a sound image
 

@@ -85,11 +85,12 @@ module _ (s : Store) (inodes : BlockTree) (number : ℕ) where
         decoded_read (Ok inode) lies spelled = can_read lies (subst (λ (b : List ℕ). SpellsRecord limits b) (its_record block same) spelled)
         decoded_read (Err fault) lies spelled = tt
 
-        pub decoded_damaged : (result : Result (Option Inode) TreeFault)
-            → IfErr result (λ (fault : TreeFault). (fault ≡ Damaged) × (SpellsRecord limits (take 128 (drop (128 * (index % 32)) block)) → ⊥))
-            → result ≡ Err Damaged → CanReadRecord limits sectors s inodes number → ⊥
-        decoded_damaged (Ok inode) none damaged can = absurd cc
-        decoded_damaged (Err fault) none damaged can = none.1 (subst (λ (b : List ℕ). SpellsRecord limits b) (sym (its_record block same)) (can.spelled is))
+        pub decoded_damaged : (in_block : Option ℕ) (result : Result (Option Inode) TreeFault)
+            → IfErr result (λ (fault : TreeFault). (fault ≡ Damaged in_block) × (SpellsRecord limits (take 128 (drop (128 * (index % 32)) block)) → ⊥))
+            → (at_block : Option ℕ) → result ≡ Err (Damaged at_block) → (CanReadRecord limits sectors s inodes number → ⊥) × (at_block ≡ in_block)
+        decoded_damaged in_block (Ok inode) none at_block damaged = absurd cc
+        decoded_damaged in_block (Err fault) none at_block damaged =
+            (λ can. none.1 (subst (λ (b : List ℕ). SpellsRecord limits b) (sym (its_record block same)) (can.spelled is)), cc (damaged, none.0))
 
 -- ---- of a sound image
 

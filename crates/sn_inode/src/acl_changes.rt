@@ -1,5 +1,5 @@
 //! The records of changes, whose ACL blocks are placed.
-ghost use Rattle.std.specs.Prelude.{◌≡◌, ◌≢◌, ◌<◌, ◌≤◌, [], ◌∷◌, false, length, Some, Err, IsTrue, IfOk, OnOk, All};
+ghost use Rattle.std.specs.Prelude.{◌≡◌, ℕ, ◌≢◌, ◌<◌, ◌≤◌, [], ◌∷◌, false, length, Some, Option as TheOption, Err, IsTrue, IfOk, OnOk, All};
 ghost use Rattle.std.specs.List.{AllByRecursion};
 ghost use Rattle.sn_device.specs.Disk.{reads};
 ghost use Rattle.sn_alloc.specs.Taking.{free_data};
@@ -183,7 +183,7 @@ fn settled<D: Device>(
         (store_of (reads (D.disk (device_of blocks.old)))) file.now (change.now ∷ []) (stored ∷ []) build.old build.new) }
     ensures valid { IfOk result (λ stored. IsRecord limits.now stored.record) }
     ensures full { result ≡ Err Full → free_data build.old.words build.old.first ≤ length build.old.added }
-    ensures damaged { IsTrue D.tells_bytes → result ≡ Err (Tree Damaged) → CanReadRecord limits.now
+    ensures damaged { IsTrue D.tells_bytes → (block : TheOption ℕ) → result ≡ Err (Tree (Damaged block)) → CanReadRecord limits.now
         (D.status (device_of blocks.old)).sectors
         (store_of (reads (D.disk (device_of blocks.old)))) file.now change.now.number → ⊥ }
     ensures same { IsTrue D.tells_bytes → D.disk (device_of blocks.new) ≡ D.disk (device_of blocks.old) }
@@ -211,7 +211,7 @@ pub(crate) fn settle<D: Device>(
         (store_of (reads (D.disk (device_of blocks.old)))) file.now changes.now stored.items build.old build.new) }
     ensures valid { IfOk result (λ stored. All (λ (x : TheStored). IsRecord limits.now x.record) stored.items) }
     ensures full { IsTooFull result build.old (length changes.now) }
-    ensures damaged { IsTrue D.tells_bytes → result ≡ Err (Tree Damaged) → IsUnreadable limits.now
+    ensures damaged { IsTrue D.tells_bytes → (block : TheOption ℕ) → result ≡ Err (Tree (Damaged block)) → IsUnreadable limits.now
         (D.status (device_of blocks.old)).sectors
         (store_of (reads (D.disk (device_of blocks.old)))) file.now changes.now }
     ensures same { IsTrue D.tells_bytes → D.disk (device_of blocks.new) ≡ D.disk (device_of blocks.old) }

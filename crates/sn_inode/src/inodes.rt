@@ -1,5 +1,5 @@
 //! The inode of a number.
-ghost use Rattle.std.specs.Prelude.{◌≡◌, ◌*◌, ◌<◌, take, drop, Err, IsTrue, IfOk, IfErr, IfSome, OnOk};
+ghost use Rattle.std.specs.Prelude.{◌≡◌, ℕ, ◌*◌, ◌/◌, ◌<◌, take, drop, Option as TheOption, Err, IsTrue, IfOk, IfErr, IfSome, OnOk};
 ghost use Rattle.sn_device.specs.Disk.{reads};
 ghost use Rattle.sn_block.specs.Lending.{device_of};
 ghost use Rattle.sn_layout_node.specs.Inode.{IsInode};
@@ -7,6 +7,7 @@ ghost use Rattle.sn_ondisk.specs.Trees.{store_of};
 ghost use Rattle.sn_image.specs.Inodes.{is_number, inode_of, inode_at};
 ghost use Rattle.sn_image.specs.Sound.{SpellsRecord};
 ghost use Rattle.sn_tree_read.specs.Counts.{CountsTree};
+ghost use Rattle.sn_tree_read.specs.Paths.{block_met};
 ghost use Rattle.sn_tree_read.specs.declared.fault.TreeFault.TheVariants.{Damaged};
 ghost use Rattle.sn_inode.specs.Reads.{CanReadRecord};
 
@@ -29,20 +30,26 @@ fn is_number(file: &BlockTree, number: u16) -> bool
     number >= ROOT && u64::from(number) < file.size / INODE_SIZE as u64
 }
 
-// The inode of one of the 32 records of a block. `Damaged` comes exactly where it spells none.
-fn decoded(limits: &Limits, block: &Block, index: usize) -> Result<Option<Inode>, TreeFault>
+// The inode of one of the 32 records of a block, which has the number. `Damaged` comes exactly where it
+// spells none.
+fn decoded(
+    limits: &Limits,
+    block: &Block,
+    index: usize,
+    number: Option<u32>,
+) -> Result<Option<Inode>, TreeFault>
     requires { index < 32 }
     ensures inode { IfOk result (λ inode. inode ≡ inode_of (take 128 (drop (128 * index) block.now))) }
     ensures valid { IfOk result (λ inode. IfSome inode (λ used. IsInode limits.now used)) }
     ensures spelled { OnOk result (SpellsRecord limits.now (take 128 (drop (128 * index) block.now))) }
-    ensures damaged { IfErr result (λ fault. (fault ≡ Damaged)
+    ensures damaged { IfErr result (λ fault. (fault ≡ Damaged number)
         × (SpellsRecord limits.now (take 128 (drop (128 * index) block.now)) → ⊥)) }
 {
     let from = INODE_SIZE * index;
     match InodeRecord::decode(limits, &block[from..from + INODE_SIZE]) {
         Some(InodeRecord::Used(inode)) => Ok(Some(inode)),
         Some(InodeRecord::Unused) => Ok(None),
-        None => Err(TreeFault::Damaged),
+        None => Err(TreeFault::Damaged { block: number }),
     }
 }
 
@@ -61,9 +68,11 @@ pub fn get<D: Device>(
     ensures read { IsTrue D.tells_bytes → OnOk result (CanReadRecord limits.now
         (D.status (device_of blocks.old)).sectors
         (store_of (reads (D.disk (device_of blocks.old)))) file.now number) }
-    ensures damaged { IsTrue D.tells_bytes → result ≡ Err Damaged → CanReadRecord limits.now
+    ensures damaged { IsTrue D.tells_bytes → (block : TheOption ℕ) → result ≡ Err (Damaged block) → (CanReadRecord limits.now
         (D.status (device_of blocks.old)).sectors
-        (store_of (reads (D.disk (device_of blocks.old)))) file.now number → ⊥ }
+        (store_of (reads (D.disk (device_of blocks.old)))) file.now number → ⊥)
+        × (block ≡ block_met (D.status (device_of blocks.old)).sectors
+        (store_of (reads (D.disk (device_of blocks.old)))) file.now (number / 32)) }
     ensures same { IsTrue D.tells_bytes → D.disk (device_of blocks.new) ≡ D.disk (device_of blocks.old) }
     ensures counts { CountsTree result (D.status (device_of blocks.old)) (D.status (device_of blocks.new)) }
 {
@@ -71,12 +80,10 @@ pub fn get<D: Device>(
         return Ok(None);
     }
     let index = u64::from(number);
-    if !fetch_data(blocks, file, index / RECORDS_PER_BLOCK)? {
-        return Ok(None);
+    let found = fetch_data(blocks, file, index / RECORDS_PER_BLOCK)?;
+    if found.is_some() {
+        let within = (index % RECORDS_PER_BLOCK) as usize;
+        return decoded(limits, blocks.fetched(), within, found);
     }
-    decoded(
-        limits,
-        blocks.fetched(),
-        (index % RECORDS_PER_BLOCK) as usize,
-    )
+    Ok(None)
 }

@@ -1,5 +1,5 @@
 //! The inode file with other inodes.
-ghost use Rattle.std.specs.Prelude.{◌≡◌, ◌+◌, ◌-◌, ◌*◌, ◌/◌, ◌%◌, ◌<◌, ◌≤◌, length, max, Err, IsTrue, IfOk, All, slice_index};
+ghost use Rattle.std.specs.Prelude.{◌≡◌, ℕ, ◌+◌, ◌-◌, ◌*◌, ◌/◌, ◌%◌, ◌<◌, ◌≤◌, length, max, Option as TheOption, Err, IsTrue, IfOk, All, slice_index};
 ghost use Rattle.std.specs.List.Sorted.{IsStrictlyIncreasing};
 ghost use Rattle.sn_device.specs.Disk.{reads};
 ghost use Rattle.sn_block.specs.Lending.{device_of};
@@ -66,7 +66,7 @@ pub fn with<D: Device>(
         ≡ max file.now.size (4096 * (slice_index (numbers_in changes.now) (length changes.now - 1) / 32 + 1))) }
     ensures file { (limits.now.largest_number + 1) % 32 ≡ 0 → IfOk result (λ new. IsInodeFile limits.now new) }
     ensures full { IsTooFull result build.old (3 * length changes.now + 2) }
-    ensures damaged { IsTrue D.tells_bytes → result ≡ Err (Tree Damaged) → IsUnreadable limits.now
+    ensures damaged { IsTrue D.tells_bytes → (block : TheOption ℕ) → result ≡ Err (Tree (Damaged block)) → IsUnreadable limits.now
         (D.status (device_of blocks.old)).sectors
         (store_of (reads (D.disk (device_of blocks.old)))) file.now changes.now }
     ensures same { IsTrue D.tells_bytes → D.disk (device_of blocks.new) ≡ D.disk (device_of blocks.old) }

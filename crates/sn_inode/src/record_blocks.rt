@@ -1,5 +1,5 @@
 //! The blocks of the inode file in which records change.
-ghost use Rattle.std.specs.Prelude.{◌≡◌, ◌+◌, ◌*◌, ◌/◌, ◌%◌, ◌<◌, ◌≤◌, ◌++◌, ℕ, List, [], ◌∷◌, false, length, Err, map, IsTrue, IsNone, IfOk, IfSome, IfNone, OnOk, All, slice_index};
+ghost use Rattle.std.specs.Prelude.{◌≡◌, ◌+◌, ◌*◌, ◌/◌, ◌%◌, ◌<◌, ◌≤◌, ◌++◌, ℕ, List, [], ◌∷◌, false, length, Option as TheOption, Err, map, IsTrue, IsNone, IfOk, IfSome, IfNone, OnOk, All, slice_index};
 ghost use Rattle.std.specs.List.{AllByRecursion};
 ghost use Rattle.std.specs.List.Sorted.{IsStrictlyIncreasing};
 ghost use Rattle.sn_device.specs.Disk.{reads};
@@ -59,7 +59,7 @@ fn copied<D: Device>(
         ≡ block_after (file.now.size / 4096) [] index
         (data_block (store_of (reads (D.disk (device_of blocks.old)))) file.now index)) }
     ensures own { result ≡ Err Full → ⊥ }
-    ensures damaged { IsTrue D.tells_bytes → result ≡ Err (Tree Damaged) → (index < file.now.size / 4096)
+    ensures damaged { IsTrue D.tells_bytes → (block : TheOption ℕ) → result ≡ Err (Tree (Damaged block)) → (index < file.now.size / 4096)
         × (block_lies_on (D.status (device_of blocks.old)).sectors
         (store_of (reads (D.disk (device_of blocks.old)))) file.now index ≡ false) }
     ensures same { IsTrue D.tells_bytes → D.disk (device_of blocks.new) ≡ D.disk (device_of blocks.old) }
@@ -68,7 +68,7 @@ fn copied<D: Device>(
     if index >= file.size / BLOCK_SIZE as u64 {
         return Ok(boxed(alloc, [0; BLOCK_SIZE])?);
     }
-    if fetch_data(blocks, file, index)? {
+    if fetch_data(blocks, file, index)?.is_some() {
         return Ok(boxed(alloc, *blocks.fetched())?);
     }
     Ok(boxed(alloc, [0; BLOCK_SIZE])?)
@@ -135,7 +135,7 @@ fn open_block<D: Device>(
     ensures rise { OnOk result (IsFrom 0 dirty.new.items) }
     ensures count { OnOk result (length dirty.new.items ≤ length dirty.old.items) }
     ensures own { result ≡ Err Full → ⊥ }
-    ensures damaged { IsTrue D.tells_bytes → result ≡ Err (Tree Damaged) → (index < file.now.size / 4096)
+    ensures damaged { IsTrue D.tells_bytes → (block : TheOption ℕ) → result ≡ Err (Tree (Damaged block)) → (index < file.now.size / 4096)
         × (block_lies_on (D.status (device_of blocks.old)).sectors
         (store_of (reads (D.disk (device_of blocks.old)))) file.now index ≡ false) }
     ensures same { IsTrue D.tells_bytes → D.disk (device_of blocks.new) ≡ D.disk (device_of blocks.old) }
@@ -167,7 +167,7 @@ fn store_record<D: Device>(
     ensures most { OnOk result (All (λ (d : TheDirty). d.index ≤ stored.now.number / 32) dirty.new.items) }
     ensures count { OnOk result (length dirty.new.items ≤ length dirty.old.items + 1) }
     ensures own { result ≡ Err Full → ⊥ }
-    ensures damaged { IsTrue D.tells_bytes → result ≡ Err (Tree Damaged) → (stored.now.number / 32 < file.now.size / 4096)
+    ensures damaged { IsTrue D.tells_bytes → (block : TheOption ℕ) → result ≡ Err (Tree (Damaged block)) → (stored.now.number / 32 < file.now.size / 4096)
         × (block_lies_on (D.status (device_of blocks.old)).sectors
         (store_of (reads (D.disk (device_of blocks.old)))) file.now (stored.now.number / 32) ≡ false) }
     ensures same { IsTrue D.tells_bytes → D.disk (device_of blocks.new) ≡ D.disk (device_of blocks.old) }
@@ -200,7 +200,7 @@ pub(crate) fn patched<D: Device>(
         → All (λ (d : TheDirty). d.index ≤ slice_index (map (λ (x : TheStored). x.number) stored.now) i / 32) dirty.items) }
     ensures count { IfOk result (λ dirty. length dirty.items ≤ length stored.now) }
     ensures own { result ≡ Err Full → ⊥ }
-    ensures damaged { IsTrue D.tells_bytes → result ≡ Err (Tree Damaged) → IsOff
+    ensures damaged { IsTrue D.tells_bytes → (block : TheOption ℕ) → result ≡ Err (Tree (Damaged block)) → IsOff
         (D.status (device_of blocks.old)).sectors
         (store_of (reads (D.disk (device_of blocks.old)))) file.now (map (λ (x : TheStored). x.number) stored.now) }
     ensures same { IsTrue D.tells_bytes → D.disk (device_of blocks.new) ≡ D.disk (device_of blocks.old) }

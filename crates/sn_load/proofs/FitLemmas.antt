@@ -245,10 +245,10 @@ written_fits limits tree number offset bytes node there kind some most each =
     })
 
 -- what can be applied isn't refused
-pub never_refused : (answer : Result (Unit {0}) ApplyError) (result : Result (Unit {0}) TreeFault) (asked : Option Tree) (old new after : Tree) → result ≡ applied answer → Applies answer asked old new → asked ≡ Some after → result ≡ Err Damaged → ⊥
-never_refused answer result asked old new after is applies some bad = told answer (sym is ∙ bad) applies
+pub never_refused : {block : Option ℕ} (answer : Result (Unit {0}) ApplyError) (result : Result (Unit {0}) TreeFault) (asked : Option Tree) (old new after : Tree) → result ≡ applied answer → Applies answer asked old new → asked ≡ Some after → result ≡ Err (Damaged block) → ⊥
+never_refused {block} answer result asked old new after is applies some bad = told answer (sym is ∙ bad) applies
   where
-    told : (a : Result (Unit {0}) ApplyError) → applied a ≡ Err Damaged → Applies a asked old new → ⊥
+    told : (a : Result (Unit {0}) ApplyError) → applied a ≡ Err (Damaged block) → Applies a asked old new → ⊥
     told (Ok u) e f = cc
     told (Err CannotApply) e f = some_none _ _ some f.0
     told (Err Memory) e f = cc

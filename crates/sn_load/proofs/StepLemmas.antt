@@ -254,7 +254,7 @@ pub directory_adds : (limits : Limits) (old new : Tree) (directory : ℕ) (name 
 directory_adds limits old new directory name o answer result u is ok applies = made_adds limits old new directory name o (ok_applied answer result u _ old new is ok applies)
 
 -- the fault with which a call failed, where that is what is answered
-pub was_damaged : {T : Type 0} (result : Result T TreeFault) (fault : TreeFault) → IsErrAnd result (λ answered. answered ≡ fault) → result ≡ Err Damaged → fault ≡ Damaged
+pub was_damaged : {T : Type 0} {block : Option ℕ} (result : Result T TreeFault) (fault : TreeFault) → IsErrAnd result (λ answered. answered ≡ fault) → result ≡ Err (Damaged block) → fault ≡ Damaged block
 was_damaged result fault answered is = let e = err_from_is_err_and result answered in cc (e.1, e.2, is)
 
 pub ok_then : {T P Q : Type 0} (r : Result T TreeFault) → OnOk r P → (P → Q) → OnOk r Q

@@ -19,7 +19,7 @@ use Rattle.sn_tree_read.specs.declared.fault.TreeFault.TheVariants.{Read, Damage
 
 -- what a tree refuses doesn't stand in a sound image
 abbrev pub fault_of : ApplyError → TreeFault
-fault_of CannotApply = Damaged
+fault_of CannotApply = Damaged None
 fault_of Memory = Read read.Memory
 
 abbrev pub applied : Result (Unit {0}) ApplyError → Result (Unit {0}) TreeFault

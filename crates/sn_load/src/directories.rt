@@ -1,5 +1,5 @@
 //! Directories, which get their names.
-ghost use Rattle.std.specs.Prelude.{[], ◌∷◌, ◌≡◌, ℕ, ◌+◌, ◌≤◌, ⊤, None, Some, Err, map, Contains, IsTrue, IfOk, OnOk, length};
+ghost use Rattle.std.specs.Prelude.{[], ◌∷◌, ◌≡◌, ℕ, ◌+◌, ◌≤◌, ⊤, None, Some, Option as TheOption, Err, map, Contains, IsTrue, IfOk, OnOk, length};
 ghost use Rattle.std.specs.FinMap as fin;
 ghost use Rattle.std.specs.List.Sorted.{IsPermutation};
 ghost use Rattle.sn_device.specs.Disk.{reads};
@@ -49,7 +49,7 @@ fn make_directory<D: Device>(
         (tree_of tree.old).links (tree_of tree.new).links) }
     ensures whole { OnOk result (IsTree limits.now (tree_of tree.old) → IsTree limits.now (tree_of tree.new)) }
     ensures nodes { OnOk result (MakesDirectory number (tree_of tree.old).nodes (tree_of tree.new).nodes pending.old.items pending.new.items) }
-    ensures damaged { IsTrue D.tells_bytes → result ≡ Err Damaged → IsSoundOn limits.now (D.status (device_of blocks.old)).sectors
+    ensures damaged { IsTrue D.tells_bytes → (block : TheOption ℕ) → result ≡ Err (Damaged block) → IsSoundOn limits.now (D.status (device_of blocks.old)).sectors
         (store_of (reads (D.disk (device_of blocks.old)))) file.now
         → (done : ℕ) → IsFilling limits.now (store_of (reads (D.disk (device_of blocks.old))))
         file.now done link.directory pending.old.items (tree_of tree.old)
@@ -83,7 +83,7 @@ fn add_name<D: Device>(
         (tree_of tree.old).links (tree_of tree.new).links) }
     ensures whole { OnOk result (IsTree limits.now (tree_of tree.old) → IsTree limits.now (tree_of tree.new)) }
     ensures nodes { OnOk result (MakesAtMost name.now.number (tree_of tree.old).nodes (tree_of tree.new).nodes pending.old.items pending.new.items) }
-    ensures damaged { IsTrue D.tells_bytes → result ≡ Err Damaged → IsSoundOn limits.now (D.status (device_of blocks.old)).sectors
+    ensures damaged { IsTrue D.tells_bytes → (block : TheOption ℕ) → result ≡ Err (Damaged block) → IsSoundOn limits.now (D.status (device_of blocks.old)).sectors
         (store_of (reads (D.disk (device_of blocks.old)))) file.now
         → (done : ℕ) → IsFilling limits.now (store_of (reads (D.disk (device_of blocks.old))))
         file.now done directory pending.old.items (tree_of tree.old)
@@ -133,7 +133,7 @@ fn add_names<D: Device>(
         file.now done directory pending.old.items (tree_of tree.old)
         → HasNoNames (tree_of tree.old) directory → IsPermutation (names_at (store_of (reads (D.disk (device_of blocks.old)))) file.now directory) (map link_of names.now)
         → IsFilling limits.now (store_of (reads (D.disk (device_of blocks.old)))) file.now done directory pending.new.items (tree_of tree.new)) }
-    ensures damaged { IsTrue D.tells_bytes → result ≡ Err Damaged → IsSoundOn limits.now (D.status (device_of blocks.old)).sectors
+    ensures damaged { IsTrue D.tells_bytes → (block : TheOption ℕ) → result ≡ Err (Damaged block) → IsSoundOn limits.now (D.status (device_of blocks.old)).sectors
         (store_of (reads (D.disk (device_of blocks.old)))) file.now
         → (done : ℕ) → IsFilling limits.now (store_of (reads (D.disk (device_of blocks.old))))
         file.now done directory pending.old.items (tree_of tree.old)
@@ -158,14 +158,14 @@ fn listed<D: Device>(
 ) -> Result<Vec<ListedName>, TreeFault>
     ensures names { IsTrue D.tells_bytes → IfOk result (λ names. IsPermutation
         (names_of (store_of (reads (D.disk (device_of blocks.old)))) (Tree tree.now)) (map link_of names.items)) }
-    ensures damaged { IsTrue D.tells_bytes → result ≡ Err Damaged → (IsDamaged (λ names. ⊤) (D.status (device_of blocks.old)).sectors
+    ensures damaged { IsTrue D.tells_bytes → (block : TheOption ℕ) → result ≡ Err (Damaged block) → (IsDamaged (λ names. ⊤) (D.status (device_of blocks.old)).sectors
         (store_of (reads (D.disk (device_of blocks.old)))) tree.now → ⊥)
         → length (names_of (store_of (reads (D.disk (device_of blocks.old)))) (Tree tree.now)) ≤ limits.now.names → ⊥ }
     ensures same { IsTrue D.tells_bytes → D.disk (device_of blocks.new) ≡ D.disk (device_of blocks.old) }
     ensures counts { CountsTree result (D.status (device_of blocks.old)) (D.status (device_of blocks.new)) }
 {
     if count(blocks, tree)? > u64::from(limits.names) {
-        return Err(TreeFault::Damaged);
+        return Err(TreeFault::Damaged { block: None });
     }
     names(alloc, blocks, tree)
 }
@@ -189,7 +189,7 @@ pub(crate) fn load_directory<D: Device>(
         → (done : ℕ) → IsFilling limits.now (store_of (reads (D.disk (device_of blocks.old))))
         file.now done directory pending.old.items (tree_of tree.old) → HasNoNames (tree_of tree.old) directory
         → IsOpen limits.now (store_of (reads (D.disk (device_of blocks.old)))) file.now (done + 1) pending.new.items (tree_of tree.new)) }
-    ensures damaged { IsTrue D.tells_bytes → result ≡ Err Damaged → IsSoundOn limits.now (D.status (device_of blocks.old)).sectors
+    ensures damaged { IsTrue D.tells_bytes → (block : TheOption ℕ) → result ≡ Err (Damaged block) → IsSoundOn limits.now (D.status (device_of blocks.old)).sectors
         (store_of (reads (D.disk (device_of blocks.old)))) file.now
         → (done : ℕ) → IsFilling limits.now (store_of (reads (D.disk (device_of blocks.old))))
         file.now done directory pending.old.items (tree_of tree.old) → HasNoNames (tree_of tree.old) directory → ⊥ }
@@ -198,7 +198,7 @@ pub(crate) fn load_directory<D: Device>(
 {
     let inode = directory_at(blocks, limits, file, directory)?;
     match &inode.content {
-        Content::Inline(_) => Err(TreeFault::Damaged),
+        Content::Inline(_) => Err(TreeFault::Damaged { block: None }),
         Content::Tree(names) => {
             let names = listed(alloc, blocks, limits, names)?;
             add_names(

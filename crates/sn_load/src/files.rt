@@ -1,5 +1,5 @@
 //! Files, which are put under their numbers without a name.
-ghost use Rattle.std.specs.Prelude.{◌≡◌, ◌<◌, ◌≤◌, ◌∷◌, ◌++◌, [], ℕ, List, Some, Err, slice_index, IsTrue, OnOk};
+ghost use Rattle.std.specs.Prelude.{◌≡◌, ◌<◌, ◌≤◌, ◌∷◌, ◌++◌, [], ℕ, List, Some, Option as TheOption, Err, slice_index, IsTrue, OnOk};
 ghost use Rattle.std.specs.FinMap as map;
 ghost use Rattle.sn_device.specs.Disk.{reads};
 ghost use Rattle.sn_block.specs.Lending.{device_of};
@@ -53,7 +53,7 @@ fn write_part<D: Device>(
         (D.status (device_of blocks.old)).sectors (store_of (reads (D.disk (device_of blocks.old))))
         content.now number offset (tree_of tree.old) (tree_of tree.new)) }
     ensures whole { OnOk result (IsTree limits.now (tree_of tree.old) → IsTree limits.now (tree_of tree.new)) }
-    ensures damaged { IsTrue D.tells_bytes → result ≡ Err Damaged → IsInside (D.status (device_of blocks.old)).sectors
+    ensures damaged { IsTrue D.tells_bytes → (block : TheOption ℕ) → result ≡ Err (Damaged block) → IsInside (D.status (device_of blocks.old)).sectors
         (store_of (reads (D.disk (device_of blocks.old)))) content.now → (node : Node) → map.get (tree_of tree.old).nodes number ≡ Some node → node.kind ≡ File
         → offset < size_of content.now → size_of content.now ≤ limits.now.largest_file → ⊥ }
     ensures same { IsTrue D.tells_bytes → D.disk (device_of blocks.new) ≡ D.disk (device_of blocks.old) }
@@ -81,7 +81,7 @@ fn write_bytes<D: Device>(
         (record node { bytes = bytes_of (store_of (reads (D.disk (device_of blocks.old)))) content.now })
         (tree_of tree.old) (tree_of tree.new)) }
     ensures whole { OnOk result (IsTree limits.now (tree_of tree.old) → IsTree limits.now (tree_of tree.new)) }
-    ensures damaged { IsTrue D.tells_bytes → result ≡ Err Damaged → IsInside (D.status (device_of blocks.old)).sectors
+    ensures damaged { IsTrue D.tells_bytes → (block : TheOption ℕ) → result ≡ Err (Damaged block) → IsInside (D.status (device_of blocks.old)).sectors
         (store_of (reads (D.disk (device_of blocks.old)))) content.now → (node : Node) → map.get (tree_of tree.old).nodes number ≡ Some node → node.kind ≡ File
         → node.bytes ≡ [] → ⊥ }
     ensures same { IsTrue D.tells_bytes → D.disk (device_of blocks.new) ≡ D.disk (device_of blocks.old) }
@@ -118,7 +118,7 @@ fn load_file<D: Device>(
         (node_of (store_of (reads (D.disk (device_of blocks.old)))) inode.now)
         (tree_of tree.old) (tree_of tree.new)) }
     ensures whole { OnOk result (IsTree limits.now (tree_of tree.old) → IsTree limits.now (tree_of tree.new)) }
-    ensures damaged { IsTrue D.tells_bytes → result ≡ Err Damaged → (file : TheTree) → IsSoundOn limits.now (D.status (device_of blocks.old)).sectors
+    ensures damaged { IsTrue D.tells_bytes → (block : TheOption ℕ) → result ≡ Err (Damaged block) → (file : TheTree) → IsSoundOn limits.now (D.status (device_of blocks.old)).sectors
         (store_of (reads (D.disk (device_of blocks.old)))) file → inode_at (store_of (reads (D.disk (device_of blocks.old)))) file number ≡ Some inode.now
         → (noted : List ℕ) → HasFiles (store_of (reads (D.disk (device_of blocks.old)))) file number noted (tree_of tree.old)
         → IsTree limits.now (tree_of tree.old) → ⊥ }
@@ -154,7 +154,7 @@ pub(crate) fn load_number<D: Device>(
         (node_at (store_of (reads (D.disk (device_of blocks.old)))) file.now number) number
         (tree_of tree.old) (tree_of tree.new) noted.old.items noted.new.items) }
     ensures whole { OnOk result (IsTree limits.now (tree_of tree.old) → IsTree limits.now (tree_of tree.new)) }
-    ensures damaged { IsTrue D.tells_bytes → result ≡ Err Damaged → IsSoundOn limits.now (D.status (device_of blocks.old)).sectors
+    ensures damaged { IsTrue D.tells_bytes → (block : TheOption ℕ) → result ≡ Err (Damaged block) → IsSoundOn limits.now (D.status (device_of blocks.old)).sectors
         (store_of (reads (D.disk (device_of blocks.old)))) file.now
         → HasFiles (store_of (reads (D.disk (device_of blocks.old)))) file.now number noted.old.items (tree_of tree.old)
         → IsTree limits.now (tree_of tree.old) → ⊥ }

@@ -1,5 +1,5 @@
 //! The whole of a root.
-ghost use Rattle.std.specs.Prelude.{[], ◌∷◌, ◌≡◌, ◌↔◌, ℕ, ◌*◌, ◌/◌, ◌<◌, ◌≤◌, Some, Err, true, is_some, Contains, IsTrue, IfOk, OnOk};
+ghost use Rattle.std.specs.Prelude.{[], ◌∷◌, ◌≡◌, ◌↔◌, ℕ, ◌*◌, ◌/◌, ◌<◌, ◌≤◌, Some, Option as TheOption, Err, true, is_some, Contains, IsTrue, IfOk, OnOk};
 ghost use Rattle.std.specs.FinMap as map;
 ghost use Rattle.sn_device.specs.Disk.{reads};
 ghost use Rattle.sn_block.specs.Lending.{device_of};
@@ -44,7 +44,7 @@ fn load_root<D: Device>(
     ensures files { IsTrue D.tells_bytes → IfOk result (λ tree. HasFiles
         (store_of (reads (D.disk (device_of blocks.old)))) file.now 3 (2 ∷ []) (tree_of tree)) }
     ensures whole { IfOk result (λ tree. IsTree limits.now (tree_of tree)) }
-    ensures damaged { IsTrue D.tells_bytes → result ≡ Err Damaged → IsSoundOn limits.now (D.status (device_of blocks.old)).sectors
+    ensures damaged { IsTrue D.tells_bytes → (block : TheOption ℕ) → result ≡ Err (Damaged block) → IsSoundOn limits.now (D.status (device_of blocks.old)).sectors
         (store_of (reads (D.disk (device_of blocks.old)))) file.now → ⊥ }
     ensures same { IsTrue D.tells_bytes → D.disk (device_of blocks.new) ≡ D.disk (device_of blocks.old) }
     ensures counts { CountsTree result (D.status (device_of blocks.old)) (D.status (device_of blocks.new)) }
@@ -72,7 +72,7 @@ fn load_files<D: Device>(
         → HasFiles (store_of (reads (D.disk (device_of blocks.old)))) file.now
         (file.now.size / 128) noted.new.items (tree_of tree.new)) }
     ensures whole { OnOk result (IsTree limits.now (tree_of tree.old) → IsTree limits.now (tree_of tree.new)) }
-    ensures damaged { IsTrue D.tells_bytes → result ≡ Err Damaged → IsSoundOn limits.now (D.status (device_of blocks.old)).sectors
+    ensures damaged { IsTrue D.tells_bytes → (block : TheOption ℕ) → result ≡ Err (Damaged block) → IsSoundOn limits.now (D.status (device_of blocks.old)).sectors
         (store_of (reads (D.disk (device_of blocks.old)))) file.now
         → HasFiles (store_of (reads (D.disk (device_of blocks.old)))) file.now 3 noted.old.items (tree_of tree.old)
         → IsTree limits.now (tree_of tree.old) → ⊥ }
@@ -98,7 +98,7 @@ fn load_names<D: Device>(
         (store_of (reads (D.disk (device_of blocks.old)))) file.now pending.old.items (tree_of tree.old)
         → IsLoading (store_of (reads (D.disk (device_of blocks.old)))) file.now [] (tree_of tree.new)) }
     ensures whole { OnOk result (IsTree limits.now (tree_of tree.old) → IsTree limits.now (tree_of tree.new)) }
-    ensures damaged { IsTrue D.tells_bytes → result ≡ Err Damaged → IsSoundOn limits.now (D.status (device_of blocks.old)).sectors
+    ensures damaged { IsTrue D.tells_bytes → (block : TheOption ℕ) → result ≡ Err (Damaged block) → IsSoundOn limits.now (D.status (device_of blocks.old)).sectors
         (store_of (reads (D.disk (device_of blocks.old)))) file.now
         → IsOpen limits.now (store_of (reads (D.disk (device_of blocks.old)))) file.now 0 pending.old.items (tree_of tree.old) → ⊥ }
     ensures same { IsTrue D.tells_bytes → D.disk (device_of blocks.new) ≡ D.disk (device_of blocks.old) }
@@ -110,7 +110,7 @@ fn load_names<D: Device>(
         };
         load_directory(alloc, blocks, limits, file, directory, tree, pending)?;
     }
-    Err(TreeFault::Damaged)
+    Err(TreeFault::Damaged { block: None })
 }
 
 // Whether all these numbers have nodes.
@@ -143,7 +143,7 @@ fn fill<D: Device>(
         (store_of (reads (D.disk (device_of blocks.old)))) file.now 3 (2 ∷ []) (tree_of tree.old)
         → tree_of tree.new ≡ image (store_of (reads (D.disk (device_of blocks.old)))) file.now) }
     ensures whole { OnOk result (IsTree limits.now (tree_of tree.old) → IsTree limits.now (tree_of tree.new)) }
-    ensures damaged { IsTrue D.tells_bytes → result ≡ Err Damaged → IsSoundOn limits.now (D.status (device_of blocks.old)).sectors
+    ensures damaged { IsTrue D.tells_bytes → (block : TheOption ℕ) → result ≡ Err (Damaged block) → IsSoundOn limits.now (D.status (device_of blocks.old)).sectors
         (store_of (reads (D.disk (device_of blocks.old)))) file.now
         → HasFiles (store_of (reads (D.disk (device_of blocks.old)))) file.now 3 (2 ∷ []) (tree_of tree.old)
         → IsTree limits.now (tree_of tree.old) → ⊥ }
@@ -156,7 +156,7 @@ fn fill<D: Device>(
     let mut pending = root_alone(alloc)?;
     load_names(alloc, blocks, limits, file, tree, &mut pending)?;
     if !are_there(tree, noted.as_slice()) {
-        return Err(TreeFault::Damaged);
+        return Err(TreeFault::Damaged { block: None });
     }
     Ok(())
 }
@@ -176,7 +176,7 @@ pub fn load<D: Device>(
     ensures image { IsTrue D.tells_bytes → IfOk result (λ tree. tree_of tree
         ≡ image (store_of (reads (D.disk (device_of blocks.old)))) file.now) }
     ensures whole { IfOk result (λ tree. IsTree limits.now (tree_of tree)) }
-    ensures damaged { IsTrue D.tells_bytes → result ≡ Err Damaged → (n : ℕ) → 8 * n ≤ (D.status (device_of blocks.old)).sectors
+    ensures damaged { IsTrue D.tells_bytes → (block : TheOption ℕ) → result ≡ Err (Damaged block) → (n : ℕ) → 8 * n ≤ (D.status (device_of blocks.old)).sectors
         → IsSound limits.now n (store_of (reads (D.disk (device_of blocks.old)))) file.now → ⊥ }
     ensures same { IsTrue D.tells_bytes → D.disk (device_of blocks.new) ≡ D.disk (device_of blocks.old) }
     ensures counts { CountsTree result (D.status (device_of blocks.old)) (D.status (device_of blocks.new)) }
@@ -185,7 +185,7 @@ pub fn load<D: Device>(
     directory_laws();
     read_laws();
     if !is_inode_file(limits, file) {
-        return Err(TreeFault::Damaged);
+        return Err(TreeFault::Damaged { block: None });
     }
     let mut tree = load_root(alloc, blocks, limits, file)?;
     fill(alloc, blocks, limits, file, &mut tree)?;

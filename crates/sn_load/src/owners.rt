@@ -1,5 +1,5 @@
 //! Directories, owners and ACLs of inodes, and what a tree in memory answers.
-ghost use Rattle.std.specs.Prelude.{◌≡◌, Some, Err, IsSomeAnd, IsTrue, IfOk};
+ghost use Rattle.std.specs.Prelude.{◌≡◌, ℕ, Some, Option as TheOption, Err, IsSomeAnd, IsTrue, IfOk};
 ghost use Rattle.sn_device.specs.Disk.{reads};
 ghost use Rattle.sn_block.specs.Lending.{device_of};
 ghost use Rattle.sn_ondisk.specs.Trees.{store_of};
@@ -29,7 +29,7 @@ pub(crate) fn applied(answer: Result<(), ApplyError>) -> Result<(), TreeFault>
 {
     match answer {
         Ok(()) => Ok(()),
-        Err(ApplyError::CannotApply) => Err(TreeFault::Damaged),
+        Err(ApplyError::CannotApply) => Err(TreeFault::Damaged { block: None }),
         Err(ApplyError::Memory) => Err(TreeFault::Read(ReadFault::Memory)),
     }
 }
@@ -44,18 +44,18 @@ pub(crate) fn directory_at<D: Device>(
     ensures inode { IsTrue D.tells_bytes → IfOk result (λ inode. inode_at
         (store_of (reads (D.disk (device_of blocks.old)))) file.now number ≡ Some inode) }
     ensures kind { IfOk result (λ inode. inode.kind ≡ Directory) }
-    ensures damaged { IsTrue D.tells_bytes → result ≡ Err Damaged → IsSoundOn limits.now (D.status (device_of blocks.old)).sectors
+    ensures damaged { IsTrue D.tells_bytes → (block : TheOption ℕ) → result ≡ Err (Damaged block) → IsSoundOn limits.now (D.status (device_of blocks.old)).sectors
         (store_of (reads (D.disk (device_of blocks.old)))) file.now
         → IsSomeAnd (inode_at (store_of (reads (D.disk (device_of blocks.old)))) file.now number) (λ inode. inode.kind ≡ Directory) → ⊥ }
     ensures same { IsTrue D.tells_bytes → D.disk (device_of blocks.new) ≡ D.disk (device_of blocks.old) }
     ensures counts { CountsTree result (D.status (device_of blocks.old)) (D.status (device_of blocks.new)) }
 {
     let Some(inode) = get(blocks, limits, file, number)? else {
-        return Err(TreeFault::Damaged);
+        return Err(TreeFault::Damaged { block: None });
     };
     match inode.kind {
         Kind::Directory => Ok(inode),
-        Kind::File => Err(TreeFault::Damaged),
+        Kind::File => Err(TreeFault::Damaged { block: None }),
     }
 }
 
@@ -66,7 +66,7 @@ pub(crate) fn ownership<D: Device>(
 ) -> Result<Ownership, TreeFault>
     ensures ownership { IsTrue D.tells_bytes → IfOk result (λ o. o
         ≡ ownership_of (node_of (store_of (reads (D.disk (device_of blocks.old)))) inode.now)) }
-    ensures damaged { IsTrue D.tells_bytes → result ≡ Err Damaged → CanReadAcls (D.status (device_of blocks.old)).sectors
+    ensures damaged { IsTrue D.tells_bytes → (block : TheOption ℕ) → result ≡ Err (Damaged block) → CanReadAcls (D.status (device_of blocks.old)).sectors
         (store_of (reads (D.disk (device_of blocks.old)))) inode.now → ⊥ }
     ensures same { IsTrue D.tells_bytes → D.disk (device_of blocks.new) ≡ D.disk (device_of blocks.old) }
     ensures counts { CountsTree result (D.status (device_of blocks.old)) (D.status (device_of blocks.new)) }

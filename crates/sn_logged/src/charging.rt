@@ -2,32 +2,13 @@
 ghost use Rattle.std.specs.Prelude.{◌≡◌, ◌+◌, ◌*◌, ◌≤◌, ◌^◌, Some, IsTrue, IfErr, IfOk, if◌then◌else◌};
 ghost use Rattle.std.specs.FinMap as map;
 ghost use Rattle.sn_model.specs.Charges.{charge_for, file_under};
-ghost use Rattle.sn_model.specs.FileCalls.{blocks_spanned};
 ghost use Rattle.sn_model.specs.Tree.{link_to};
 ghost use Rattle.sn_model.specs.declared.link.Link.{Link};
 
 use sn_applies::NamedTree;
 use sn_limits::{Kind, Limits};
 use sn_model::Change;
-
-// How many blocks so many bytes lie in, from an offset on.
-fn blocks_spanned(offset: u64, count: usize) -> u64
-    ensures spanned { result ≡ blocks_spanned offset count }
-    ensures few { result ≤ 2 ^ 53 }
-{
-    let end = u128::from(offset) + count as u128;
-    let last = end.saturating_sub(1) / 4096;
-    (last.saturating_sub(u128::from(offset / 4096)) + 1) as u64
-}
-
-// The charge for a file and so many of its blocks.
-fn file_charge(limits: &Limits, blocks: u64) -> u128
-    requires { blocks ≤ 2 ^ 53 }
-    ensures exact { result ≡ limits.now.inode_charge + limits.now.block_charge * blocks }
-    ensures most { result ≤ limits.now.inode_charge + limits.now.block_charge * 2 ^ 53 }
-{
-    u128::from(limits.inode_charge) + u128::from(limits.block_charge) * u128::from(blocks)
-}
+use sn_room::{blocks_spanned, file_charge};
 
 // Whether a number is a file's.
 fn is_file<T: NamedTree>(tree: &mut T, number: u16) -> Result<bool, T::Fault>

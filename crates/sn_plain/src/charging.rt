@@ -1,30 +1,11 @@
 ghost use Rattle.std.specs.Prelude.{◌≡◌, ◌+◌, ◌*◌, ◌≤◌, ◌^◌, if◌then◌else◌};
 ghost use Rattle.sn_model.specs.Charges.{charge_for, file_under};
-ghost use Rattle.sn_model.specs.FileCalls.{blocks_spanned};
 ghost use Rattle.sn_model.specs.Tree.{link_to};
 
 use crate::tree::PlainTree;
 use sn_limits::Limits;
 use sn_model::{Bytes, Change};
-
-/// How many blocks so many bytes lie in, from an offset on.
-fn blocks_spanned(offset: u64, count: usize) -> u64
-    ensures spanned { result ≡ blocks_spanned offset count }
-    ensures few { result ≤ 2 ^ 53 }
-{
-    let end = u128::from(offset) + count as u128;
-    let last = end.saturating_sub(1) / 4096;
-    (last.saturating_sub(u128::from(offset / 4096)) + 1) as u64
-}
-
-/// The charge for a file and so many of its blocks.
-fn file_charge(limits: &Limits, blocks: u64) -> u128
-    requires { blocks ≤ 2 ^ 53 }
-    ensures exact { result ≡ limits.now.inode_charge + limits.now.block_charge * blocks }
-    ensures most { result ≤ limits.now.inode_charge + limits.now.block_charge * 2 ^ 53 }
-{
-    u128::from(limits.inode_charge) + u128::from(limits.block_charge) * u128::from(blocks)
-}
+use sn_room::{blocks_spanned, file_charge};
 
 impl PlainTree {
     ghost use Rattle.sn_plain.specs.Plain.{tree_of};

@@ -51,7 +51,7 @@ use Rattle.sn_rooted.specs.Roots.{IsSoundRoot, IsWhole}
 -- ---- answers
 
 -- the fault with which a call failed, where that is what is answered
-pub was_damaged : {T : Type 0} (result : Result T TreeFault) (fault : TreeFault) → IsErrAnd result (λ answered. answered ≡ fault) → result ≡ Err Damaged → fault ≡ Damaged
+pub was_damaged : {T : Type 0} {block : Option ℕ} (result : Result T TreeFault) (fault : TreeFault) → IsErrAnd result (λ answered. answered ≡ fault) → result ≡ Err (Damaged block) → fault ≡ Damaged block
 was_damaged result fault answered is = let e = err_from_is_err_and result answered in cc (e.1, e.2, is)
 
 -- what two clauses say of an answer together

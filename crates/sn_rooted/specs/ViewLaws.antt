@@ -28,4 +28,4 @@ module _ (told : Bool) where
   causes-later a b c (Read Device) reads (inl more) = inl (lt_of_le_of_lt reads.failures more)
   causes-later a b c (Read Device) reads (inr ended) = inr ended
   causes-later a b c (Read Memory) reads cause = tt
-  causes-later a b c Damaged reads cause = cause
+  causes-later a b c (Damaged block) reads cause = cause

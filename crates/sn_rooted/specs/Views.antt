@@ -23,4 +23,4 @@ pub record Follows (told : Bool) (old new : Status) (before now : Disk) (begun l
 abbrev pub IsCause : Bool → Status → Status → TreeFault → Type 0
 IsCause told old new (Read Device) = (old.failures < new.failures) ⊎ IsTrue (has_ended new)
 IsCause told old new (Read Memory) = Unit {0}
-IsCause told old new Damaged = IsTrue told → ⊥
+IsCause told old new (Damaged block) = IsTrue told → ⊥

@@ -1,5 +1,5 @@
 //! The names of a directory.
-ghost use Rattle.std.specs.Prelude.{◌≡◌, ℕ, ◌/◌, ◌<◌, Some, Err, map, Contains, IsTrue, IfOk, IfSome};
+ghost use Rattle.std.specs.Prelude.{◌≡◌, ℕ, ◌/◌, ◌<◌, Some, Option as TheOption, Err, map, Contains, IsTrue, IfOk, IfSome};
 ghost use Rattle.std.specs.FinMap as fin;
 ghost use Rattle.sn_block.specs.Lending.{device_of};
 ghost use Rattle.sn_dir.specs.Blocks.{CanRead};
@@ -43,7 +43,7 @@ fn directory_at<D: Device>(
         ≡ names_if (store_on blocks.old) tree) }
     ensures sound { IsTrue D.tells_bytes → IsSoundOn blocks.old limits.now file.now → IfOk result (λ found. IfSome found (λ tree. (i : ℕ)
         → i < tree.size / 4096 → CanRead (D.status (device_of blocks.old)).sectors (store_on blocks.old) tree i)) }
-    ensures damaged { IsTrue D.tells_bytes → IsSoundOn blocks.old limits.now file.now → result ≡ Err Damaged → ⊥ }
+    ensures damaged { IsTrue D.tells_bytes → IsSoundOn blocks.old limits.now file.now → (block : TheOption ℕ) → result ≡ Err (Damaged block) → ⊥ }
     ensures same { IsTrue D.tells_bytes → D.disk (device_of blocks.new) ≡ D.disk (device_of blocks.old) }
     ensures counts { CountsTree result (D.status (device_of blocks.old)) (D.status (device_of blocks.new)) }
 {
@@ -66,7 +66,7 @@ pub fn link<D: Device>(
 ) -> Result<Option<u16>, TreeFault>
     ensures found { IsTrue D.tells_bytes
         → IfOk result (λ number. number ≡ (viewed (tree_on blocks.old file.now)).link directory name.now) }
-    ensures damaged { IsTrue D.tells_bytes → IsSoundOn blocks.old limits.now file.now → result ≡ Err Damaged → ⊥ }
+    ensures damaged { IsTrue D.tells_bytes → IsSoundOn blocks.old limits.now file.now → (block : TheOption ℕ) → result ≡ Err (Damaged block) → ⊥ }
     ensures same { IsTrue D.tells_bytes → D.disk (device_of blocks.new) ≡ D.disk (device_of blocks.old) }
     ensures counts { CountsTree result (D.status (device_of blocks.old)) (D.status (device_of blocks.new)) }
 {
@@ -91,7 +91,7 @@ pub fn names<D: Device>(
     ensures numbers { IsTrue D.tells_bytes → IsSoundOn blocks.old limits.now file.now
         → IfOk result (λ names. (listed : TheName) → Contains names.items listed
         → fin.get (tree_on blocks.old file.now).links (link_to directory listed.name) ≡ Some listed.number) }
-    ensures damaged { IsTrue D.tells_bytes → IsSoundOn blocks.old limits.now file.now → result ≡ Err Damaged → ⊥ }
+    ensures damaged { IsTrue D.tells_bytes → IsSoundOn blocks.old limits.now file.now → (block : TheOption ℕ) → result ≡ Err (Damaged block) → ⊥ }
     ensures same { IsTrue D.tells_bytes → D.disk (device_of blocks.new) ≡ D.disk (device_of blocks.old) }
     ensures counts { CountsTree result (D.status (device_of blocks.old)) (D.status (device_of blocks.new)) }
 {

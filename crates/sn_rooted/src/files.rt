@@ -1,5 +1,5 @@
 //! The bytes of a file.
-ghost use Rattle.std.specs.Prelude.{◌≡◌, Err, drop, take, IsTrue, IfOk, IfSome};
+ghost use Rattle.std.specs.Prelude.{◌≡◌, ℕ, Option as TheOption, Err, drop, take, IsTrue, IfOk, IfSome};
 ghost use Rattle.std.specs.FinMap as fin;
 ghost use Rattle.sn_block.specs.Lending.{device_of};
 ghost use Rattle.sn_model.specs.FileCalls.{bytes_of};
@@ -38,7 +38,7 @@ fn file_at<D: Device>(
         ≡ bytes_if (store_on blocks.old) content) }
     ensures sound { IsTrue D.tells_bytes → IsSoundOn blocks.old limits.now file.now → IfOk result (λ found. IfSome found (λ content.
         IsWhole (D.status (device_of blocks.old)).sectors (store_on blocks.old) content)) }
-    ensures damaged { IsTrue D.tells_bytes → IsSoundOn blocks.old limits.now file.now → result ≡ Err Damaged → ⊥ }
+    ensures damaged { IsTrue D.tells_bytes → IsSoundOn blocks.old limits.now file.now → (block : TheOption ℕ) → result ≡ Err (Damaged block) → ⊥ }
     ensures same { IsTrue D.tells_bytes → D.disk (device_of blocks.new) ≡ D.disk (device_of blocks.old) }
     ensures counts { CountsTree result (D.status (device_of blocks.old)) (D.status (device_of blocks.new)) }
 {
@@ -63,7 +63,7 @@ pub fn read<D: Device>(
 ) -> Result<Vec<u8>, TreeFault>
     ensures bytes { IsTrue D.tells_bytes → IsSoundOn blocks.old limits.now file.now → IfOk result (λ part. part.items
         ≡ take most (drop offset (bytes_of (fin.get (tree_on blocks.old file.now).nodes number)))) }
-    ensures damaged { IsTrue D.tells_bytes → IsSoundOn blocks.old limits.now file.now → result ≡ Err Damaged → ⊥ }
+    ensures damaged { IsTrue D.tells_bytes → IsSoundOn blocks.old limits.now file.now → (block : TheOption ℕ) → result ≡ Err (Damaged block) → ⊥ }
     ensures same { IsTrue D.tells_bytes → D.disk (device_of blocks.new) ≡ D.disk (device_of blocks.old) }
     ensures counts { CountsTree result (D.status (device_of blocks.old)) (D.status (device_of blocks.new)) }
 {

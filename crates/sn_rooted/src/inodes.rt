@@ -1,5 +1,5 @@
 //! The inode of a number, with its ACLs.
-ghost use Rattle.std.specs.Prelude.{◌≡◌, Err, IsTrue, IfOk, IfSome};
+ghost use Rattle.std.specs.Prelude.{◌≡◌, ℕ, Option as TheOption, Err, IsTrue, IfOk, IfSome};
 ghost use Rattle.std.specs.Option.{option_map};
 ghost use Rattle.sn_block.specs.Lending.{device_of};
 ghost use Rattle.sn_image.specs.Acls.{acls_at};
@@ -35,7 +35,7 @@ pub(crate) fn inode_of<D: Device>(
 ) -> Result<Option<Inode>, TreeFault>
     ensures inode { IsTrue D.tells_bytes → IfOk result (λ inode. inode ≡ inode_at (store_on blocks.old) file.now number) }
     ensures valid { IfOk result (λ inode. IfSome inode (λ used. IsInode limits.now used)) }
-    ensures damaged { IsTrue D.tells_bytes → IsSoundOn blocks.old limits.now file.now → result ≡ Err Damaged → ⊥ }
+    ensures damaged { IsTrue D.tells_bytes → IsSoundOn blocks.old limits.now file.now → (block : TheOption ℕ) → result ≡ Err (Damaged block) → ⊥ }
     ensures same { IsTrue D.tells_bytes → D.disk (device_of blocks.new) ≡ D.disk (device_of blocks.old) }
     ensures counts { CountsTree result (D.status (device_of blocks.old)) (D.status (device_of blocks.new)) }
 {
@@ -57,7 +57,7 @@ pub fn stored_inode<D: Device>(
     ensures acls { IsTrue D.tells_bytes → IfOk result (λ found. IfSome found (λ stored. stored.acls
         ≡ acls_at (store_on blocks.old) stored.inode.acl_block)) }
     ensures valid { IfOk result (λ found. IfSome found (λ stored. IsInode limits.now stored.inode)) }
-    ensures damaged { IsTrue D.tells_bytes → IsSoundOn blocks.old limits.now file.now → result ≡ Err Damaged → ⊥ }
+    ensures damaged { IsTrue D.tells_bytes → IsSoundOn blocks.old limits.now file.now → (block : TheOption ℕ) → result ≡ Err (Damaged block) → ⊥ }
     ensures same { IsTrue D.tells_bytes → D.disk (device_of blocks.new) ≡ D.disk (device_of blocks.old) }
     ensures counts { CountsTree result (D.status (device_of blocks.old)) (D.status (device_of blocks.new)) }
 {

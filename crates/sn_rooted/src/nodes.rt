@@ -1,5 +1,5 @@
 //! The node of a number, without its bytes and names.
-ghost use Rattle.std.specs.Prelude.{◌≡◌, Err, IsTrue, IfOk};
+ghost use Rattle.std.specs.Prelude.{◌≡◌, ℕ, Option as TheOption, Err, IsTrue, IfOk};
 ghost use Rattle.std.specs.FinMap as fin;
 ghost use Rattle.sn_block.specs.Lending.{device_of};
 ghost use Rattle.sn_model.specs.Settling.{is_nameless};
@@ -51,7 +51,7 @@ pub fn attributes<D: Device>(
 ) -> Result<Option<Attributes>, TreeFault>
     ensures found { IsTrue D.tells_bytes → IsSoundOn blocks.old limits.now file.now
         → IfOk result (λ attributes. attributes ≡ (viewed (tree_on blocks.old file.now)).node number) }
-    ensures damaged { IsTrue D.tells_bytes → IsSoundOn blocks.old limits.now file.now → result ≡ Err Damaged → ⊥ }
+    ensures damaged { IsTrue D.tells_bytes → IsSoundOn blocks.old limits.now file.now → (block : TheOption ℕ) → result ≡ Err (Damaged block) → ⊥ }
     ensures same { IsTrue D.tells_bytes → D.disk (device_of blocks.new) ≡ D.disk (device_of blocks.old) }
     ensures counts { CountsTree result (D.status (device_of blocks.old)) (D.status (device_of blocks.new)) }
 {
@@ -72,7 +72,7 @@ pub fn default_acl<D: Device>(
 ) -> Result<Option<Acl>, TreeFault>
     ensures found { IsTrue D.tells_bytes
         → IfOk result (λ acl. acl ≡ (viewed (tree_on blocks.old file.now)).default_acl number) }
-    ensures damaged { IsTrue D.tells_bytes → IsSoundOn blocks.old limits.now file.now → result ≡ Err Damaged → ⊥ }
+    ensures damaged { IsTrue D.tells_bytes → IsSoundOn blocks.old limits.now file.now → (block : TheOption ℕ) → result ≡ Err (Damaged block) → ⊥ }
     ensures same { IsTrue D.tells_bytes → D.disk (device_of blocks.new) ≡ D.disk (device_of blocks.old) }
     ensures counts { CountsTree result (D.status (device_of blocks.old)) (D.status (device_of blocks.new)) }
 {
@@ -103,7 +103,7 @@ pub fn is_nameless<D: Device>(
 ) -> Result<bool, TreeFault>
     ensures nameless { IsTrue D.tells_bytes → IsSoundOn blocks.old limits.now file.now → IfOk result (λ nameless. nameless
         ≡ is_nameless (tree_on blocks.old file.now) number (fin.get (tree_on blocks.old file.now).nodes number)) }
-    ensures damaged { IsTrue D.tells_bytes → IsSoundOn blocks.old limits.now file.now → result ≡ Err Damaged → ⊥ }
+    ensures damaged { IsTrue D.tells_bytes → IsSoundOn blocks.old limits.now file.now → (block : TheOption ℕ) → result ≡ Err (Damaged block) → ⊥ }
     ensures same { IsTrue D.tells_bytes → D.disk (device_of blocks.new) ≡ D.disk (device_of blocks.old) }
     ensures counts { CountsTree result (D.status (device_of blocks.old)) (D.status (device_of blocks.new)) }
 {

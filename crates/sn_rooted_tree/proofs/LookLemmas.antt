@@ -13,15 +13,15 @@ use Rattle.sn_tree_read.specs.declared.fault.TreeFault.{TreeFault}
 use Rattle.sn_tree_read.specs.declared.fault.TreeFault.TheVariants.{Read, Damaged}
 use Rattle.sn_rooted_tree.specs.Looks.{Looks, Stands, fault_of}
 
-pub looked : {T : Type 0} (told : Bool) (answer : Result T TreeFault) (old new : Status) → CountsTree answer old new → (IsTrue told → answer ≡ Err Damaged → ⊥) → Stands told old new None (fault_of answer)
+pub looked : {T : Type 0} (told : Bool) (answer : Result T TreeFault) (old new : Status) → CountsTree answer old new → (IsTrue told → (block : Option ℕ) → answer ≡ Err (Damaged block) → ⊥) → Stands told old new None (fault_of answer)
 looked told (Ok x) old new counts never = counts.done
 looked told (Err (Read Device)) old new counts never = counts.device refl
 looked told (Err (Read Memory)) old new counts never = counts.memory refl
-looked told (Err Damaged) old new counts never = (counts.damaged refl, λ is. never is refl)
+looked told (Err (Damaged block)) old new counts never = (counts.damaged block refl, λ is. never is block refl)
 
 -- behind an answer, where no fault stood
 pub looks_behind : {T : Type 0} (told : Bool) (old new : Status) (before now : Disk) (root : RootBody) (stood stands : Option TreeFault) (answer : Result T TreeFault) → stood ≡ None → stands ≡ fault_of answer → CountsTree answer old new → (IsTrue told → now ≡ before)
-    → (IsTrue told → answer ≡ Err Damaged → ⊥) → Looks told old new before now root root stood stands
+    → (IsTrue told → (block : Option ℕ) → answer ≡ Err (Damaged block) → ⊥) → Looks told old new before now root root stood stands
 looks_behind told old new before now root stood stands answer none is counts same never = record {
   same = same;
   root = refl;

@@ -12,7 +12,7 @@ use Rattle.sn_tree_read.specs.declared.fault.TreeFault.TheVariants.{Read, Damage
 abbrev pub FailsSo : Bool → Status → Status → TreeFault → Type 0
 FailsSo told old new (Read Device) = FailsRead old new
 FailsSo told old new (Read Memory) = new ≡ old
-FailsSo told old new Damaged = (new ≡ old) × (IsTrue told → ⊥)
+FailsSo told old new (Damaged block) = (new ≡ old) × (IsTrue told → ⊥)
 
 -- No look-up has failed, and nothing is counted; or the fault of the first that did stands.
 abbrev pub Stands : Bool → Status → Status → Option TreeFault → Option TreeFault → Type 0

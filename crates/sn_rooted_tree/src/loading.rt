@@ -1,5 +1,5 @@
 //! The table of the directories of a root's tree.
-ghost use Rattle.std.specs.Prelude.{◌≡◌, ◌+◌, ◌-◌, ◌^◌, Err, Some, length, map, min, Contains, IsTrue, IfOk, OnOk};
+ghost use Rattle.std.specs.Prelude.{◌≡◌, ℕ, ◌+◌, ◌-◌, ◌^◌, Option as TheOption, Err, Some, length, map, min, Contains, IsTrue, IfOk, OnOk};
 ghost use Rattle.std.specs.FinMap as fin;
 ghost use Rattle.sn_block.specs.Lending.{device_of};
 ghost use Rattle.sn_directories.specs.Told.{TellsDirectories};
@@ -63,7 +63,7 @@ fn count_names<D: Device>(
 ) -> Result<(), TreeFault>
     ensures counted { IsTrue D.tells_bytes → IsSoundOn blocks.old limits.now file.now → AreCounted (tree_on blocks.old file.now) directory directories.old
         → OnOk result (AreCounted (tree_on blocks.old file.now) (directory + 1) directories.new) }
-    ensures damaged { IsTrue D.tells_bytes → IsSoundOn blocks.old limits.now file.now → result ≡ Err Damaged → ⊥ }
+    ensures damaged { IsTrue D.tells_bytes → IsSoundOn blocks.old limits.now file.now → (block : TheOption ℕ) → result ≡ Err (Damaged block) → ⊥ }
     ensures same { IsTrue D.tells_bytes → D.disk (device_of blocks.new) ≡ D.disk (device_of blocks.old) }
     ensures counts { CountsTree result (D.status (device_of blocks.old)) (D.status (device_of blocks.new)) }
 {
@@ -83,7 +83,7 @@ pub fn directories_of<D: Device>(
 ) -> Result<Directories, TreeFault>
     ensures tells { IsTrue D.tells_bytes → IsSoundOn blocks.old limits.now file.now
         → IfOk result (λ directories. TellsDirectories (tree_on blocks.old file.now) directories) }
-    ensures damaged { IsTrue D.tells_bytes → IsSoundOn blocks.old limits.now file.now → result ≡ Err Damaged → ⊥ }
+    ensures damaged { IsTrue D.tells_bytes → IsSoundOn blocks.old limits.now file.now → (block : TheOption ℕ) → result ≡ Err (Damaged block) → ⊥ }
     ensures same { IsTrue D.tells_bytes → D.disk (device_of blocks.new) ≡ D.disk (device_of blocks.old) }
     ensures counts { CountsTree result (D.status (device_of blocks.old)) (D.status (device_of blocks.new)) }
 {

@@ -1,5 +1,5 @@
 //! The files of a root's tree without names.
-ghost use Rattle.std.specs.Prelude.{◌≡◌, Err, IsTrue, IfOk};
+ghost use Rattle.std.specs.Prelude.{◌≡◌, ℕ, Option as TheOption, Err, IsTrue, IfOk};
 ghost use Rattle.sn_block.specs.Lending.{device_of};
 ghost use Rattle.sn_overlay.specs.Needs.{nameless_in};
 ghost use Rattle.sn_rooted.specs.Roots.{IsSoundOn, tree_on};
@@ -23,7 +23,7 @@ pub fn nameless_of<D: Device>(
 ) -> Result<u32, TreeFault>
     ensures count { IsTrue D.tells_bytes → IsSoundOn blocks.old limits.now file.now
         → IfOk result (λ n. n ≡ nameless_in (tree_on blocks.old file.now)) }
-    ensures damaged { IsTrue D.tells_bytes → IsSoundOn blocks.old limits.now file.now → result ≡ Err Damaged → ⊥ }
+    ensures damaged { IsTrue D.tells_bytes → IsSoundOn blocks.old limits.now file.now → (block : TheOption ℕ) → result ≡ Err (Damaged block) → ⊥ }
     ensures same { IsTrue D.tells_bytes → D.disk (device_of blocks.new) ≡ D.disk (device_of blocks.old) }
     ensures counts { CountsTree result (D.status (device_of blocks.old)) (D.status (device_of blocks.new)) }
 {

@@ -1,5 +1,5 @@
 //! Nodes and blocks of a root's tree, as overlays show them.
-ghost use Rattle.std.specs.Prelude.{◌≡◌, ◌++◌, Err, drop, length, min, replicate, take, IsTrue, IfOk, OnOk};
+ghost use Rattle.std.specs.Prelude.{◌≡◌, ℕ, ◌++◌, Option as TheOption, Err, drop, length, min, replicate, take, IsTrue, IfOk, OnOk};
 ghost use Rattle.sn_block.specs.Lending.{device_of};
 ghost use Rattle.sn_overlay.specs.Seen.{seen_block, seen_node};
 ghost use Rattle.sn_rooted.specs.Roots.{IsSoundOn, tree_on};
@@ -50,7 +50,7 @@ pub(crate) fn seen_node<D: Device>(
 ) -> Result<Option<SeenNode>, TreeFault>
     ensures found { IsTrue D.tells_bytes → IsSoundOn blocks.old limits.now file.now
         → IfOk result (λ node. node ≡ seen_node (tree_on blocks.old file.now) number) }
-    ensures damaged { IsTrue D.tells_bytes → IsSoundOn blocks.old limits.now file.now → result ≡ Err Damaged → ⊥ }
+    ensures damaged { IsTrue D.tells_bytes → IsSoundOn blocks.old limits.now file.now → (block : TheOption ℕ) → result ≡ Err (Damaged block) → ⊥ }
     ensures same { IsTrue D.tells_bytes → D.disk (device_of blocks.new) ≡ D.disk (device_of blocks.old) }
     ensures counts { CountsTree result (D.status (device_of blocks.old)) (D.status (device_of blocks.new)) }
 {
@@ -87,7 +87,7 @@ pub(crate) fn read_block<D: Device>(
 ) -> Result<(), TreeFault>
     ensures found { IsTrue D.tells_bytes → IsSoundOn blocks.old limits.now file.now
         → OnOk result (block.new ≡ seen_block (tree_on blocks.old file.now) file_block) }
-    ensures damaged { IsTrue D.tells_bytes → IsSoundOn blocks.old limits.now file.now → result ≡ Err Damaged → ⊥ }
+    ensures damaged { IsTrue D.tells_bytes → IsSoundOn blocks.old limits.now file.now → (block : TheOption ℕ) → result ≡ Err (Damaged block) → ⊥ }
     ensures same { IsTrue D.tells_bytes → D.disk (device_of blocks.new) ≡ D.disk (device_of blocks.old) }
     ensures counts { CountsTree result (D.status (device_of blocks.old)) (D.status (device_of blocks.new)) }
 {

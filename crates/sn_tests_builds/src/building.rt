@@ -90,7 +90,7 @@ fn answer_of(built: Result<Built, PlanFault>) -> Answer {
         Ok(built) => Answer::Built(built),
         Err(PlanFault::Full) => Answer::Full,
         Err(PlanFault::Tree(TreeFault::Read(ReadFault::Device))) => Answer::Unread,
-        Err(PlanFault::Tree(TreeFault::Damaged)) => Answer::Damaged,
+        Err(PlanFault::Tree(TreeFault::Damaged { .. })) => Answer::Damaged,
         Err(_) => Answer::OutOfMemory,
     }
 }

@@ -63,7 +63,7 @@ pub fn new_blocks(alloc: Global) -> Result<Blocks<MemDevice>> {
 pub fn told<T: Drop>(answer: Result<T, TreeFault>) -> Result<Option<T>> {
     match answer {
         Ok(value) => Ok(Some(value)),
-        Err(TreeFault::Damaged) => Ok(None),
+        Err(TreeFault::Damaged { .. }) => Ok(None),
         Err(fault) => bail!("{fault}"),
     }
 }

@@ -103,7 +103,7 @@ fn planned(
     );
     match change(alloc, build, blocks, tree, changes) {
         Ok(new) => Ok(Outcome::Tree(new)),
-        Err(PlanFault::Tree(TreeFault::Damaged)) => Ok(Outcome::Damaged),
+        Err(PlanFault::Tree(TreeFault::Damaged { .. })) => Ok(Outcome::Damaged),
         Err(fault) => bail!("{fault}"),
     }
 }
@@ -136,8 +136,8 @@ fn push_blocks(blocks: &mut Blocks<MemDevice>, tree: &BlockTree, text: &mut Stri
         if i > 0 {
             text.push_str(" | ")?;
         }
-        fetch_block(blocks, tree, i)?;
-        push_entries(&decoded(blocks.fetched())?, text)?;
+        let number = fetch_block(blocks, tree, i)?;
+        push_entries(&decoded(blocks.fetched(), number)?, text)?;
     }
     Ok(())
 }

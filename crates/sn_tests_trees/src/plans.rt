@@ -81,7 +81,7 @@ fn push_data(
     text: &mut String,
 ) -> Result<()> {
     for index in shown {
-        if fetch_data(blocks, tree, u64::from(*index))? {
+        if fetch_data(blocks, tree, u64::from(*index))?.is_some() {
             let byte = blocks.fetched()[0];
             write!(text, " {byte}")?;
         } else {

@@ -1,5 +1,5 @@
 -- The first pointers of a tree, with holes beside and behind them, and a level above.
-use Rattle.std.proofs.Common.{◌≡◌, ◌≢◌, inl, inr, ⊎_elim, ℕ, zero, suc, ◌+◌, ◌-◌, ◌*◌, ◌<◌, ◌≤◌, ◌&&◌, Bool, List, [], ◌∷◌, ◌++◌, length, get_or, replicate, refl, sym, ap, subst, ◌∙◌, arith, if◌then◌else◌}
+use Rattle.std.proofs.Common.{◌≡◌, ◌≢◌, inl, inr, ⊎_elim, ℕ, zero, suc, ◌+◌, ◌-◌, ◌*◌, ◌<◌, ◌≤◌, ◌&&◌, Bool, List, [], ◌∷◌, ◌++◌, length, get_or, replicate, refl, sym, ap, subst, ◌∙◌, arith, if◌then◌else◌, Option}
 use Rattle.std.specs.Prelude.{◌^◌, nat_lt}
 use Rattle.std.specs.List.{AllByRecursion}
 use Rattle.std.proofs.Math.Nat.{mul-le-mul_left, mul-le-mul_right}
@@ -12,7 +12,7 @@ use Rattle.sn_tree.specs.Drafts.{Draft, grown}
 use Rattle.sn_tree.specs.Dirty.{after, blocks_wanted}
 use Rattle.sn_ondisk.specs.Counts.{times}
 use Rattle.sn_tree.specs.Plans.{DataBlocks, SameAmong, contents, PlansTo, straddles, most_added}
-use Rattle.sn_tree.specs.Steps.{AreHoles, Planned, IsReplaced, LeadsOutside}
+use Rattle.sn_tree.specs.Steps.{AreHoles, Planned, IsReplaced, LeadsOutsideAt}
 use Rattle.sn_tree.specs.Fronts.{Aim, AreHolesFrom, front_most, PlansFront, PlannedFront}
 use Rattle.sn_tree.specs.declared.new_block.NewBlock.{NewBlock}
 use Rattle.sn_tree.specs.declared.new_block.DirtyBlock.{DirtyBlock}
@@ -190,5 +190,5 @@ module _ (Told : Type 0) (aim : Aim) where
 
 -- ---- holes lead nowhere
 
-pub no_outside : (sectors : ℕ) (s : Store) (depth : ℕ) (holes : List ℕ) → AreHoles holes → ¬ LeadsOutside sectors (all_pointers s depth holes)
+pub no_outside : {at : Option ℕ} (sectors : ℕ) (s : Store) (depth : ℕ) (holes : List ℕ) → AreHoles holes → ¬ LeadsOutsideAt sectors (all_pointers s depth holes) at
 no_outside sectors s depth holes none leads = let gone = times-holes s leads.block depth holes none leads.some in let there = leads.among in omega (arith, gone, there)

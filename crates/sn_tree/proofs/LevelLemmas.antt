@@ -1,5 +1,5 @@
 -- Pointers that are cut off, and a tree whose pointers stand at another height.
-use Rattle.std.proofs.Common.{◌≡◌, ◌≢◌, ℕ, suc, ◌+◌, ◌-◌, ◌*◌, ◌<◌, List, [], ◌∷◌, ◌++◌, length, get_or, take, drop, refl, sym, ap, subst, ◌∙◌, arith}
+use Rattle.std.proofs.Common.{◌≡◌, ◌≢◌, ℕ, suc, ◌+◌, ◌-◌, ◌*◌, ◌<◌, List, [], ◌∷◌, ◌++◌, length, get_or, take, drop, refl, sym, ap, subst, ◌∙◌, arith, Option}
 use Rattle.std.specs.Prelude.{◌^◌, slice_index}
 use Rattle.std.specs.List.{flat_map}
 use Rattle.std.proofs.Math.Nat.{pow-succ'}
@@ -15,7 +15,7 @@ use Rattle.sn_tree.specs.Drafts.{Draft, grown, numbers_of}
 use Rattle.sn_tree.specs.Dirty.{after}
 use Rattle.sn_ondisk.specs.Counts.{times}
 use Rattle.sn_tree.specs.Plans.{Holds, SameAmong, named_or, contents, PlansTo, straddles, most_added}
-use Rattle.sn_tree.specs.Steps.{Planned, LeadsOutside}
+use Rattle.sn_tree.specs.Steps.{Planned, LeadsOutsideAt}
 use Rattle.sn_tree.specs.Replanned.{IsPlanned}
 use Rattle.sn_tree.specs.Fronts.{Aim, data_or, PlannedFront, IsCut, IsLowered, IsFirstOf}
 use Rattle.sn_tree.specs.declared.new_block.NewBlock.{NewBlock}
@@ -97,15 +97,16 @@ module _ (Told : Type 0) (s : Store) (depth p : ℕ) (rest below_p : List ℕ) (
   }
 
 -- a block that is read on the way is one that the pointers reach
-pub outside_beside : (s : Store) (above p : ℕ) (rest : List ℕ) (sectors : ℕ) → LeadsOutside sectors (all_pointers s above rest) → LeadsOutside sectors (all_pointers s above (p ∷ rest))
+pub outside_beside : {at : Option ℕ} (s : Store) (above p : ℕ) (rest : List ℕ) (sectors : ℕ) → LeadsOutsideAt sectors (all_pointers s above rest) at → LeadsOutsideAt sectors (all_pointers s above (p ∷ rest)) at
 outside_beside s above p rest sectors leads = record {
   block = leads.block;
   some = leads.some;
   among = omega (arith, leads.among, times-all_append s leads.block above (p ∷ []) rest);
   outside = leads.outside;
+  met = leads.met;
 }
 
-pub outside_behind : (s : Store) (depth p : ℕ) (rest below_p : List ℕ) → below_p ≡ below s p → (sectors : ℕ) → LeadsOutside sectors (all_pointers s depth (drop 16 below_p)) → LeadsOutside sectors (all_pointers s (suc depth) (p ∷ rest))
+pub outside_behind : {at : Option ℕ} (s : Store) (depth p : ℕ) (rest below_p : List ℕ) → below_p ≡ below s p → (sectors : ℕ) → LeadsOutsideAt sectors (all_pointers s depth (drop 16 below_p)) at → LeadsOutsideAt sectors (all_pointers s (suc depth) (p ∷ rest)) at
 outside_behind s depth p rest below_p is sectors leads =
     let block = leads.block in
     let split = times-all_append s block (suc depth) (p ∷ []) rest in
@@ -116,6 +117,7 @@ outside_behind s depth p rest below_p is sectors leads =
       some = leads.some;
       among = omega (arith, leads.among, split, down, parts);
       outside = leads.outside;
+      met = leads.met;
     }
 
 -- ---- the pointers of a tree, at a height
@@ -150,13 +152,14 @@ first_lowered Told s t tree depth above pointers new old between draft up same f
       ∙ first.first told i (omega (arith, within, wide));
 }
 
-pub first_outside : (Told : Type 0) (s : Store) (tree : BlockTree) (depth sectors : ℕ) (pointers : List ℕ) (old draft : Draft) → IsFirstOf Told s tree depth pointers old draft → Told
-    → LeadsOutside sectors (all_pointers s depth pointers) → LeadsOutside sectors (all_pointers s (levels_of tree.size) tree.pointers)
+pub first_outside : {at : Option ℕ} (Told : Type 0) (s : Store) (tree : BlockTree) (depth sectors : ℕ) (pointers : List ℕ) (old draft : Draft) → IsFirstOf Told s tree depth pointers old draft → Told
+    → LeadsOutsideAt sectors (all_pointers s depth pointers) at → LeadsOutsideAt sectors (all_pointers s (levels_of tree.size) tree.pointers) at
 first_outside Told s tree depth sectors pointers old draft first told leads = record {
   block = leads.block;
   some = leads.some;
   among = omega (arith, leads.among, first.count told leads.block leads.some);
   outside = leads.outside;
+  met = leads.met;
 }
 
 -- no block is left

@@ -1,5 +1,5 @@
 -- The pointers of a list, planned one after the other.
-use Rattle.std.proofs.Common.{◌≡◌, ℕ, suc, ◌+◌, ◌*◌, ◌<◌, ◌≤◌, List, [], ◌∷◌, ◌++◌, length, get_or, set, take, drop, sym, ap, subst, ◌∙◌, arith}
+use Rattle.std.proofs.Common.{◌≡◌, ℕ, suc, ◌+◌, ◌*◌, ◌<◌, ◌≤◌, List, [], ◌∷◌, ◌++◌, length, get_or, set, take, drop, sym, ap, subst, ◌∙◌, arith, Option}
 use Rattle.std.specs.Prelude.{◌^◌}
 use Rattle.std.proofs.Math.Nat.{mul-le-mul_left}
 use Rattle.std.proofs.Math.Seq.{drop-cons}
@@ -9,7 +9,7 @@ use Rattle.sn_ondisk.specs.Trees.{Store, all_pointers}
 use Rattle.sn_tree.specs.Drafts.{Draft}
 use Rattle.sn_tree.specs.Dirty.{IsFrom}
 use Rattle.sn_tree.specs.Plans.{contents, most_added}
-use Rattle.sn_tree.specs.Steps.{Planned, LeadsOutside}
+use Rattle.sn_tree.specs.Steps.{Planned, LeadsOutsideAt}
 use Rattle.sn_tree.specs.declared.new_block.DirtyBlock.{DirtyBlock}
 use Rattle.sn_tree.proofs.FaultLemmas.{outside_among}
 use Rattle.sn_tree.proofs.StepLemmas.{planned_none, planned_joined, too_full_behind}
@@ -68,8 +68,8 @@ module _ (k : ℕ) (olds ps : List ℕ) (within : k < length ps) (left : drop k 
         let inside : end ≤ base + length olds * width = omega (arith, ends, starts, end_at base k (length olds) width same-length) in
         too_full_behind Told s (all_pointers s depth (take k olds)) (contents s depth (take k olds)) depth base next keep ds mid (take k ps) draft between here end (base + length olds * width) (omega (arith, starts)) (omega (arith, ends)) inside none
 
-    pub outside_next : (sectors : ℕ) → LeadsOutside sectors (all_pointers s depth (get_or ps k 0 ∷ [])) → LeadsOutside sectors (all_pointers s depth olds)
-    outside_next sectors leads = subst (λ (qs : List ℕ). LeadsOutside sectors (all_pointers s depth qs)) (sym around) (outside_among sectors s depth (take k olds) (drop (k + 1) olds) (get_or ps k 0) leads)
+    pub outside_next : {at : Option ℕ} (sectors : ℕ) → LeadsOutsideAt sectors (all_pointers s depth (get_or ps k 0 ∷ [])) at → LeadsOutsideAt sectors (all_pointers s depth olds) at
+    outside_next {at = at} sectors leads = subst (λ (qs : List ℕ). LeadsOutsideAt sectors (all_pointers s depth qs) at) (sym around) (outside_among sectors s depth (take k olds) (drop (k + 1) olds) (get_or ps k 0) leads)
 
 module _ (Told : Type 0) (s : Store) (keep depth base : ℕ) (olds : List ℕ) where
   pub planned_begun : (ds : List DirtyBlock) (draft : Draft) → IsFrom base ds

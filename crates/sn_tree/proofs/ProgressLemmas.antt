@@ -1,5 +1,5 @@
 -- How far a list of pointers is planned, one after the other or in runs that are passed over.
-use Rattle.std.proofs.Common.{◌≡◌, ◌⊎◌, inl, inr, ⊎_elim, ℕ, ◌+◌, ◌*◌, ◌<◌, ◌≤◌, List, [], ◌∷◌, length, get_or, set, take, drop, refl, sym, ap, subst, ◌∙◌, arith}
+use Rattle.std.proofs.Common.{◌≡◌, ◌⊎◌, inl, inr, ⊎_elim, ℕ, ◌+◌, ◌*◌, ◌<◌, ◌≤◌, List, [], ◌∷◌, length, get_or, set, take, drop, refl, sym, ap, subst, ◌∙◌, arith, Option}
 use Rattle.std.specs.Prelude.{◌^◌, All}
 use Rattle.std.proofs.lemmas.List.{length-set, set-get_or}
 use Rattle.std.proofs.lemmas.List.Elements.{recursion_from_All}
@@ -8,7 +8,7 @@ use Rattle.sn_ondisk.specs.Trees.{Store, all_pointers}
 use Rattle.sn_tree.specs.Drafts.{Draft}
 use Rattle.sn_tree.specs.Dirty.{IsFrom}
 use Rattle.sn_tree.specs.Plans.{contents, most_added}
-use Rattle.sn_tree.specs.Steps.{AreHoles, Planned, LeadsOutside}
+use Rattle.sn_tree.specs.Steps.{AreHoles, Planned, LeadsOutsideAt}
 use Rattle.sn_tree.specs.declared.new_block.DirtyBlock.{DirtyBlock}
 use Rattle.sn_tree.proofs.DirtyLemmas.{IsFrom-after}
 use Rattle.sn_tree.proofs.StepLemmas.{planned_still, nothing_grown}
@@ -91,9 +91,9 @@ module _ (Told : Type 0) (s : Store) (depth base keep span : ℕ) (dirty left : 
   progress_full within none = too_full_next k olds ps within before.others Told s keep depth base (base + span * k) (base + span * k + 1024 ^ depth) dirty left old new starts refl before.count before.planned none
 
   -- the next one leads outside the device
-  pub progress_outside : k < length ps → (r : Store) → r ≡ s → (sectors many : ℕ) → many ≡ sectors → (from : ℕ) → from ≡ get_or ps k 0 → LeadsOutside many (all_pointers r depth (from ∷ [])) → LeadsOutside sectors (all_pointers s depth olds)
-  progress_outside within r same sectors many still from is leads =
+  pub progress_outside : {at : Option ℕ} → k < length ps → (r : Store) → r ≡ s → (sectors many : ℕ) → many ≡ sectors → (from : ℕ) → from ≡ get_or ps k 0 → LeadsOutsideAt many (all_pointers r depth (from ∷ [])) at → LeadsOutsideAt sectors (all_pointers s depth olds) at
+  progress_outside {at = at} within r same sectors many still from is leads =
       outside_next k olds ps within before.others Told s keep depth base sectors
-      (subst (λ (p : ℕ). LeadsOutside sectors (all_pointers s depth (p ∷ []))) is
-      (subst (λ (q : Store). LeadsOutside sectors (all_pointers q depth (from ∷ []))) same
-      (subst (λ (n : ℕ). LeadsOutside n (all_pointers r depth (from ∷ []))) still leads)))
+      (subst (λ (p : ℕ). LeadsOutsideAt sectors (all_pointers s depth (p ∷ [])) at) is
+      (subst (λ (q : Store). LeadsOutsideAt sectors (all_pointers q depth (from ∷ [])) at) same
+      (subst (λ (n : ℕ). LeadsOutsideAt n (all_pointers r depth (from ∷ [])) at) still leads)))

@@ -1,5 +1,5 @@
 -- A tree whose sixteen pointers were planned.
-use Rattle.std.proofs.Common.{◌≡◌, ◌≢◌, ⊎_elim, ℕ, zero, suc, ◌+◌, ◌-◌, ◌*◌, ◌/◌, ◌<◌, ◌≤◌, ◌==◌, Bool, true, false, List, [], ◌∷◌, length, get_or, refl, sym, ap, ◌∙◌, arith, if◌then◌else◌}
+use Rattle.std.proofs.Common.{◌≡◌, ◌≢◌, ⊎_elim, ℕ, zero, suc, ◌+◌, ◌-◌, ◌*◌, ◌/◌, ◌<◌, ◌≤◌, ◌==◌, Bool, true, false, List, [], ◌∷◌, length, get_or, refl, sym, ap, ◌∙◌, arith, if◌then◌else◌, Option}
 use Rattle.std.specs.Prelude.{◌^◌, All}
 use Rattle.std.specs.List.{AllByRecursion}
 use Rattle.std.proofs.lemmas.Bool.{cases_lt, eqb-true, eqb-false, lt-ltb}
@@ -15,7 +15,7 @@ use Rattle.sn_tree.specs.Dirty.{after, block_wanted, block_after, blocks_wanted}
 use Rattle.sn_tree.specs.Fronts.{data_or}
 use Rattle.sn_ondisk.specs.Counts.{times}
 use Rattle.sn_tree.specs.Plans.{DataBlocks, Holds, SameAmong, named_or, contents, PlansTo}
-use Rattle.sn_tree.specs.Steps.{LeadsOutside}
+use Rattle.sn_tree.specs.Steps.{LeadsOutsideAt}
 use Rattle.sn_tree.specs.Replanned.{IsReplanned}
 use Rattle.sn_tree.specs.declared.new_block.NewBlock.{NewBlock}
 use Rattle.sn_tree.specs.declared.new_block.DirtyBlock.{DirtyBlock}
@@ -132,10 +132,11 @@ module _ (s : Store) (old new : BlockTree) (keep : ℕ) (ds : List DirtyBlock) (
 
 -- ---- a plan of a tree
 
-pub tree_outside : (s : Store) (tree : BlockTree) (sectors : ℕ) → LeadsOutside sectors (all_pointers s (levels_of tree.size) tree.pointers) → LeadsOutside sectors (tree_reach s tree)
+pub tree_outside : {at : Option ℕ} (s : Store) (tree : BlockTree) (sectors : ℕ) → LeadsOutsideAt sectors (all_pointers s (levels_of tree.size) tree.pointers) at → LeadsOutsideAt sectors (tree_reach s tree) at
 tree_outside s tree sectors leads = record {
   block = leads.block;
   some = leads.some;
   among = omega (arith, leads.among, times-reach s tree leads.block leads.some);
   outside = leads.outside;
+  met = leads.met;
 }

@@ -1,5 +1,5 @@
 -- What a step of a plan does, and why one fails.
-use Rattle.std.specs.Prelude.{◌≡◌, ◌≢◌, ℕ, ◌+◌, ◌<◌, ◌≤◌, ◌⊎◌, false, List, [], ◌∷◌, length, Result, Err}
+use Rattle.std.specs.Prelude.{◌≡◌, ◌≢◌, ℕ, ◌+◌, ◌<◌, ◌≤◌, ◌⊎◌, false, List, [], ◌∷◌, length, Result, Err, Option}
 use Rattle.std.specs.List.{AllByRecursion}
 use Rattle.sn_block.specs.Counts.{FailsRead}
 use Rattle.sn_block.specs.declared.fault.ReadFault.TheVariants.{Device}
@@ -8,7 +8,7 @@ use Rattle.sn_alloc.specs.Taking.{free_data}
 use Rattle.sn_image.specs.Reach.{block_reach}
 use Rattle.sn_layout_node.specs.Indirect.{ArePointers, pointers_bytes}
 use Rattle.sn_ondisk.specs.Trees.{Store}
-use Rattle.sn_tree_read.specs.Paths.{lies_on}
+use Rattle.sn_tree_read.specs.Paths.{lies_on, block_named}
 use Rattle.sn_tree_read.specs.declared.fault.TreeFault.TheVariants.{Read}
 use Rattle.sn_tree.specs.Drafts.{Draft, grown}
 use Rattle.sn_tree.specs.Dirty.{after}
@@ -58,6 +58,14 @@ pub record LeadsOutside (sectors : ℕ) (pointers : List ℕ) : Type 0 where
   pub some : block ≢ 0
   pub among : 0 < times block pointers
   pub outside : lies_on sectors block ≡ false
+
+-- and it's told of that block
+pub record LeadsOutsideAt (sectors : ℕ) (pointers : List ℕ) (told : Option ℕ) : Type 0 where
+  pub block : ℕ
+  pub some : block ≢ 0
+  pub among : 0 < times block pointers
+  pub outside : lies_on sectors block ≡ false
+  pub met : told ≡ block_named block
 
 -- Nothing is counted but the failure of the device, and that where it isn't at its end.
 pub record CountsPlan {T : Type 0} (result : Result T PlanFault) (old new : Status) : Type 0 where

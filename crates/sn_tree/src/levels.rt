@@ -1,12 +1,12 @@
 //! The pointers of a tree that gets more or fewer levels of indirect blocks.
-ghost use Rattle.std.specs.Prelude.{◌≡◌, ◌≢◌, ◌+◌, ◌*◌, ◌^◌, ◌<◌, ◌≤◌, ℕ, List, [], ◌∷◌, ◌++◌, length, Err, All, IsTrue, IfOk, OnOk};
+ghost use Rattle.std.specs.Prelude.{◌≡◌, ◌≢◌, ◌+◌, ◌*◌, ◌^◌, ◌<◌, ◌≤◌, ℕ, List, [], ◌∷◌, ◌++◌, length, Option as TheOption, Err, All, IsTrue, IfOk, OnOk};
 ghost use Rattle.sn_device.specs.Disk.{reads};
 ghost use Rattle.sn_block.specs.Lending.{device_of};
 ghost use Rattle.sn_layout.specs.Pointers.{levels_of};
 ghost use Rattle.sn_ondisk.specs.Trees.{store_of, all_pointers, tree_reach};
 ghost use Rattle.sn_tree.specs.Dirty.{IsFrom};
 ghost use Rattle.sn_tree.specs.Fronts.{Aim, AreHolesFrom, front_most, PlannedFront, IsCut, IsLowered, IsFirstOf};
-ghost use Rattle.sn_tree.specs.Steps.{IsTooFull, LeadsOutside, CountsPlan};
+ghost use Rattle.sn_tree.specs.Steps.{IsTooFull, LeadsOutsideAt, CountsPlan};
 ghost use Rattle.sn_tree.specs.declared.fault.PlanFault.TheVariants.{Tree};
 ghost use Rattle.sn_tree_read.specs.declared.fault.TreeFault.TheVariants.{Damaged};
 
@@ -41,7 +41,7 @@ fn plan_behind<D: Device>(
         → PlannedFront (IsTrue D.tells_bytes) aim depth first dirty.old.items news build.old
         → IsTooFull result aim.draft (front_most depth (first + length pointers.old * 1024 ^ depth) aim.dirty) }
     ensures rise { OnOk result (IsFrom (first + length pointers.old * 1024 ^ depth) dirty.new.items) }
-    ensures sound { IsTrue D.tells_bytes → result ≢ Err (Tree Damaged) }
+    ensures sound { IsTrue D.tells_bytes → (block : TheOption ℕ) → result ≢ Err (Tree (Damaged block)) }
     ensures same { IsTrue D.tells_bytes → D.disk (device_of blocks.new) ≡ D.disk (device_of blocks.old) }
     ensures counts { CountsPlan result (D.status (device_of blocks.old)) (D.status (device_of blocks.new)) }
 {
@@ -68,7 +68,7 @@ fn raise<D: Device>(
         → IsTooFull result aim.draft (front_most (depth + 1) (16 * 1024 ^ (depth + 1)) aim.dirty) }
     ensures rise { OnOk result (IsFrom (16 * 1024 ^ (depth + 1)) dirty.new.items) }
     ensures count { IfOk result (λ new. length new ≡ 16) }
-    ensures sound { IsTrue D.tells_bytes → result ≢ Err (Tree Damaged) }
+    ensures sound { IsTrue D.tells_bytes → (block : TheOption ℕ) → result ≢ Err (Tree (Damaged block)) }
     ensures same { IsTrue D.tells_bytes → D.disk (device_of blocks.new) ≡ D.disk (device_of blocks.old) }
     ensures counts { CountsPlan result (D.status (device_of blocks.old)) (D.status (device_of blocks.new)) }
 {
@@ -102,7 +102,7 @@ pub(crate) fn raised<D: Device>(
         → PlannedFront (IsTrue D.tells_bytes) aim from (16 * 1024 ^ from) dirty.old.items pointers.now build.old
         → IsTooFull result aim.draft ((levels + 1) * (length aim.dirty + 1)) }
     ensures count { IfOk result (λ new. length new ≡ 16) }
-    ensures sound { IsTrue D.tells_bytes → result ≢ Err (Tree Damaged) }
+    ensures sound { IsTrue D.tells_bytes → (block : TheOption ℕ) → result ≢ Err (Tree (Damaged block)) }
     ensures same { IsTrue D.tells_bytes → D.disk (device_of blocks.new) ≡ D.disk (device_of blocks.old) }
     ensures counts { CountsPlan result (D.status (device_of blocks.old)) (D.status (device_of blocks.new)) }
 {
@@ -128,9 +128,9 @@ pub fn release_pointers<D: Device>(
     ensures cut { OnOk result (IsCut (IsTrue D.tells_bytes) (store_of (reads (D.disk (device_of blocks.old))))
         depth pointers.old build.old build.new) }
     ensures full { IsTooFull result build.old 0 }
-    ensures damaged { IsTrue D.tells_bytes → result ≡ Err (Tree Damaged)
-        → LeadsOutside (D.status (device_of blocks.old)).sectors
-        (all_pointers (store_of (reads (D.disk (device_of blocks.old)))) depth pointers.old) }
+    ensures damaged { IsTrue D.tells_bytes → (block : TheOption ℕ) → result ≡ Err (Tree (Damaged block))
+        → LeadsOutsideAt (D.status (device_of blocks.old)).sectors
+        (all_pointers (store_of (reads (D.disk (device_of blocks.old)))) depth pointers.old) block }
     ensures same { IsTrue D.tells_bytes → D.disk (device_of blocks.new) ≡ D.disk (device_of blocks.old) }
     ensures counts { CountsPlan result (D.status (device_of blocks.old)) (D.status (device_of blocks.new)) }
 {
@@ -149,9 +149,9 @@ fn lower<D: Device>(
     ensures lowered { IfOk result (λ new. IsLowered (IsTrue D.tells_bytes)
         (store_of (reads (D.disk (device_of blocks.old)))) depth pointers.now new build.old build.new) }
     ensures full { IsTooFull result build.old 0 }
-    ensures damaged { IsTrue D.tells_bytes → result ≡ Err (Tree Damaged)
-        → LeadsOutside (D.status (device_of blocks.old)).sectors
-        (all_pointers (store_of (reads (D.disk (device_of blocks.old)))) (depth + 1) pointers.now) }
+    ensures damaged { IsTrue D.tells_bytes → (block : TheOption ℕ) → result ≡ Err (Tree (Damaged block))
+        → LeadsOutsideAt (D.status (device_of blocks.old)).sectors
+        (all_pointers (store_of (reads (D.disk (device_of blocks.old)))) (depth + 1) pointers.now) block }
     ensures count { IfOk result (λ new. length new ≡ 16) }
     ensures same { IsTrue D.tells_bytes → D.disk (device_of blocks.new) ≡ D.disk (device_of blocks.old) }
     ensures counts { CountsPlan result (D.status (device_of blocks.old)) (D.status (device_of blocks.new)) }
@@ -181,9 +181,9 @@ pub(crate) fn lowered<D: Device>(
     ensures count { IfOk result (λ new. length new ≡ 16) }
     ensures sixteen { length tree.now.pointers ≡ 16 }
     ensures full { IsTooFull result build.old 0 }
-    ensures damaged { IsTrue D.tells_bytes → result ≡ Err (Tree Damaged)
-        → LeadsOutside (D.status (device_of blocks.old)).sectors
-        (tree_reach (store_of (reads (D.disk (device_of blocks.old)))) tree.now) }
+    ensures damaged { IsTrue D.tells_bytes → (block : TheOption ℕ) → result ≡ Err (Tree (Damaged block))
+        → LeadsOutsideAt (D.status (device_of blocks.old)).sectors
+        (tree_reach (store_of (reads (D.disk (device_of blocks.old)))) tree.now) block }
     ensures same { IsTrue D.tells_bytes → D.disk (device_of blocks.new) ≡ D.disk (device_of blocks.old) }
     ensures counts { CountsPlan result (D.status (device_of blocks.old)) (D.status (device_of blocks.new)) }
 {

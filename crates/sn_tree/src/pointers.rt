@@ -1,5 +1,5 @@
 //! The pointers of a tree, planned from the top down.
-ghost use Rattle.std.specs.Prelude.{◌≡◌, ◌≢◌, ◌⊎◌, ◌+◌, ◌-◌, ◌*◌, ◌/◌, ◌^◌, ◌<◌, ◌≤◌, ◌↔◌, ℕ, [], ◌∷◌, false, length, slice_index, min, take, drop, Err, All, IsTrue, IsNone, IsSome, IfNone, IfSome, IfOk, OnOk, MatchOption};
+ghost use Rattle.std.specs.Prelude.{◌≡◌, ◌≢◌, ◌⊎◌, ◌+◌, ◌-◌, ◌*◌, ◌/◌, ◌^◌, ◌<◌, ◌≤◌, ◌↔◌, ℕ, [], ◌∷◌, false, length, slice_index, min, take, drop, Option as TheOption, Err, All, IsTrue, IsNone, IsSome, IfNone, IfSome, IfOk, OnOk, MatchOption};
 ghost use Rattle.sn_device.specs.Disk.{reads};
 ghost use Rattle.sn_alloc.specs.Taking.{free_data};
 ghost use Rattle.sn_block.specs.Lending.{device_of};
@@ -10,7 +10,7 @@ ghost use Rattle.sn_tree.specs.Drafts.{grown};
 ghost use Rattle.sn_tree.specs.Dirty.{IsFrom, after};
 ghost use Rattle.sn_tree.specs.Plans.{contents, most_added};
 ghost use Rattle.sn_tree.specs.Runs.{kept_until};
-ghost use Rattle.sn_tree.specs.Steps.{AreHoles, Planned, IsPut, IsReplaced, IsTooFull, LeadsOutside, CountsPlan};
+ghost use Rattle.sn_tree.specs.Steps.{AreHoles, Planned, IsPut, IsReplaced, IsTooFull, LeadsOutsideAt, CountsPlan};
 ghost use Rattle.sn_tree.specs.declared.fault.PlanFault.TheVariants.{Tree, Full};
 ghost use Rattle.sn_tree_read.specs.declared.fault.TreeFault.{TreeFault as TheFault};
 ghost use Rattle.sn_tree_read.specs.declared.fault.TreeFault.TheVariants.{Damaged};
@@ -245,9 +245,9 @@ fn plan_pointer<D: Device>(
     ensures still { IfOk result (λ new. build.new ≡ build.old → new ≡ pointer) }
     ensures full { IsTooFull result build.old
         (most_added depth first (first + 1024 ^ depth) keep dirty.old.items) }
-    ensures damaged { IsTrue D.tells_bytes → result ≡ Err (Tree Damaged)
-        → LeadsOutside (D.status (device_of blocks.old)).sectors
-        (all_pointers (store_of (reads (D.disk (device_of blocks.old)))) depth (pointer ∷ [])) }
+    ensures damaged { IsTrue D.tells_bytes → (block : TheOption ℕ) → result ≡ Err (Tree (Damaged block))
+        → LeadsOutsideAt (D.status (device_of blocks.old)).sectors
+        (all_pointers (store_of (reads (D.disk (device_of blocks.old)))) depth (pointer ∷ [])) block }
     ensures same { IsTrue D.tells_bytes → D.disk (device_of blocks.new) ≡ D.disk (device_of blocks.old) }
     ensures counts { CountsPlan result (D.status (device_of blocks.old)) (D.status (device_of blocks.new)) }
 {
@@ -291,9 +291,9 @@ fn plan_copy<D: Device>(
     ensures still { OnOk result (build.new ≡ build.old → copy.new ≡ copy.old) }
     ensures full { IsTooFull result build.old
         (most_added depth first (first + length copy.old * 1024 ^ depth) keep dirty.old.items) }
-    ensures damaged { IsTrue D.tells_bytes → result ≡ Err (Tree Damaged)
-        → LeadsOutside (D.status (device_of blocks.old)).sectors
-        (all_pointers (store_of (reads (D.disk (device_of blocks.old)))) depth copy.old) }
+    ensures damaged { IsTrue D.tells_bytes → (block : TheOption ℕ) → result ≡ Err (Tree (Damaged block))
+        → LeadsOutsideAt (D.status (device_of blocks.old)).sectors
+        (all_pointers (store_of (reads (D.disk (device_of blocks.old)))) depth copy.old) block }
     ensures same { IsTrue D.tells_bytes → D.disk (device_of blocks.new) ≡ D.disk (device_of blocks.old) }
     ensures counts { CountsPlan result (D.status (device_of blocks.old)) (D.status (device_of blocks.new)) }
 {
@@ -339,9 +339,9 @@ pub fn plan_pointers<D: Device>(
     ensures still { OnOk result (build.new ≡ build.old → pointers.new ≡ pointers.old) }
     ensures full { IsTooFull result build.old
         (most_added depth first (first + length pointers.old * 1024 ^ depth) keep dirty.old.items) }
-    ensures damaged { IsTrue D.tells_bytes → result ≡ Err (Tree Damaged)
-        → LeadsOutside (D.status (device_of blocks.old)).sectors
-        (all_pointers (store_of (reads (D.disk (device_of blocks.old)))) depth pointers.old) }
+    ensures damaged { IsTrue D.tells_bytes → (block : TheOption ℕ) → result ≡ Err (Tree (Damaged block))
+        → LeadsOutsideAt (D.status (device_of blocks.old)).sectors
+        (all_pointers (store_of (reads (D.disk (device_of blocks.old)))) depth pointers.old) block }
     ensures same { IsTrue D.tells_bytes → D.disk (device_of blocks.new) ≡ D.disk (device_of blocks.old) }
     ensures counts { CountsPlan result (D.status (device_of blocks.old)) (D.status (device_of blocks.new)) }
 {

@@ -1,12 +1,12 @@
 //! A tree with other data blocks.
-ghost use Rattle.std.specs.Prelude.{◌≡◌, ◌+◌, ◌*◌, ◌↔◌, length, Err, IsTrue, IfOk};
+ghost use Rattle.std.specs.Prelude.{◌≡◌, ℕ, ◌+◌, ◌*◌, ◌↔◌, length, Option as TheOption, Err, IsTrue, IfOk};
 ghost use Rattle.sn_device.specs.Disk.{reads};
 ghost use Rattle.sn_block.specs.Lending.{device_of};
 ghost use Rattle.sn_layout.specs.Pointers.{levels_of};
 ghost use Rattle.sn_ondisk.specs.Trees.{store_of, tree_reach};
 ghost use Rattle.sn_tree.specs.Orders.{AreInOrder, KeepsWithin};
 ghost use Rattle.sn_tree.specs.Replanned.{IsPlanned};
-ghost use Rattle.sn_tree.specs.Steps.{IsTooFull, LeadsOutside, CountsPlan};
+ghost use Rattle.sn_tree.specs.Steps.{IsTooFull, LeadsOutsideAt, CountsPlan};
 ghost use Rattle.sn_tree.specs.declared.fault.PlanFault.TheVariants.{Tree};
 ghost use Rattle.sn_tree_read.specs.declared.fault.TreeFault.TheVariants.{Damaged};
 
@@ -79,9 +79,9 @@ pub fn plan_tree<D: Device>(
         tree.now new dirty.keep dirty.blocks.items build.old build.new) }
     ensures full { IsTooFull result build.old
         ((levels_of dirty.size + 1) * (length dirty.blocks.items + 1)) }
-    ensures damaged { IsTrue D.tells_bytes → result ≡ Err (Tree Damaged)
-        → LeadsOutside (D.status (device_of blocks.old)).sectors
-        (tree_reach (store_of (reads (D.disk (device_of blocks.old)))) tree.now) }
+    ensures damaged { IsTrue D.tells_bytes → (block : TheOption ℕ) → result ≡ Err (Tree (Damaged block))
+        → LeadsOutsideAt (D.status (device_of blocks.old)).sectors
+        (tree_reach (store_of (reads (D.disk (device_of blocks.old)))) tree.now) block }
     ensures same { IsTrue D.tells_bytes → D.disk (device_of blocks.new) ≡ D.disk (device_of blocks.old) }
     ensures counts { CountsPlan result (D.status (device_of blocks.old)) (D.status (device_of blocks.new)) }
 {

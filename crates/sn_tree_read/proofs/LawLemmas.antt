@@ -1,5 +1,5 @@
 -- What the answers of a reader come to.
-use Rattle.std.proofs.Common.{◌≡◌, ◌≢◌, ℕ, zero, suc, ◌+◌, ◌-◌, ◌*◌, ◌/◌, ◌<◌, ◌≤◌, ◌==◌, ◌||◌, Bool, true, false, List, [], ◌∷◌, length, take, drop, min, Contains, slice_index, refl, sym, ap, subst, ◌∙◌, arith}
+use Rattle.std.proofs.Common.{◌≡◌, ◌≢◌, ℕ, zero, suc, ◌+◌, ◌-◌, ◌*◌, ◌/◌, ◌<◌, ◌≤◌, ◌==◌, ◌||◌, Bool, true, false, List, [], ◌∷◌, Option, length, take, drop, min, Contains, slice_index, refl, sym, ap, subst, ◌∙◌, arith}
 use Rattle.std.specs.Prelude.{nat_le}
 use Rattle.std.proofs.Math.Nat.{min-le_left, min-le_right}
 use Rattle.std.proofs.lemmas.Bool.{eqb-false, le-leb}
@@ -9,12 +9,13 @@ use Rattle.sn_layout.specs.Pointers.{levels_of}
 use Rattle.sn_layout.specs.declared.tree.BlockTree.{BlockTree}
 use Rattle.sn_layout_node.specs.Inode.{size_of}
 use Rattle.sn_layout_node.specs.declared.content.Content.{Content}
+use Rattle.sn_layout_node.specs.declared.content.Content.TheVariants.{Inline, Tree}
 use Rattle.sn_image.specs.Contents.{bytes_of, content_reach}
 use Rattle.sn_image.proofs.ByteLemmas.{byte_found}
 use Rattle.sn_ondisk.specs.Trees.{Store, entry, pointers_at, tree_reach}
 use Rattle.sn_ondisk.proofs.TreeLemmas.{entry-level, reach_has}
 use Rattle.sn_tree_read.specs.Paths.{lies_on, path_lies_on, block_lies_on}
-use Rattle.sn_tree_read.specs.Reads.{IsPart}
+use Rattle.sn_tree_read.specs.Reads.{IsPart, IsOutside, IsOutsideAt}
 use Rattle.sn_tree_read.proofs.PointerLemmas.{both_lie}
 
 -- ---- parts
@@ -32,6 +33,11 @@ cut_out s content offset n bytes long whole part =
     let inside : offset + k < size_of content = omega (arith, within, part.count, min-le_right n (size_of content - offset)) in
     part.each k within
     ∙ sym (get_or-take n (drop offset all) k 0 under ∙ get_or-drop offset all k 0 ∙ byte_found s content long (offset + k) inside))
+
+-- without the block that it's told of
+pub outside_of : (sectors : ℕ) (s : Store) (content : Content) (offset n : ℕ) (block : Option ℕ) → IsOutsideAt sectors s content offset n block → IsOutside sectors s content offset n
+outside_of sectors s (Inline bytes) offset n block none = none
+outside_of sectors s (Tree tree) offset n block (k, under, inside, off, met) = (k, under, inside, off)
 
 -- ---- paths
 

@@ -1,5 +1,5 @@
 -- The pointers of a block, read from it.
-use Rattle.std.proofs.Common.{◌≡◌, ◌≢◌, ◌==◌, ℕ, zero, suc, ◌-◌, ◌/◌, ◌%◌, ◌<◌, ◌&&◌, Bool, true, false, List, slice_index, replicate, refl, sym, ap, ◌∙◌, if◌then◌else◌, arith}
+use Rattle.std.proofs.Common.{◌≡◌, ◌≢◌, ◌==◌, ℕ, zero, suc, ◌-◌, ◌/◌, ◌%◌, ◌<◌, ◌&&◌, Bool, true, false, List, Some, None, slice_index, replicate, refl, sym, ap, ◌∙◌, if◌then◌else◌, arith}
 use Rattle.std.proofs.lemmas.Bool.{eqb-true, eq-eqb}
 use Rattle.std.proofs.lemmas.List.{get_or-replicate}
 use Rattle.sn_layout.specs.Bytes.{numbers_bytes, zeros}
@@ -8,7 +8,7 @@ use Rattle.sn_layout.specs.declared.tree.BlockTree.{BlockTree}
 use Rattle.sn_layout_node.specs.Indirect.{ArePointers}
 use Rattle.sn_ondisk.specs.Blocks.{numbers_in}
 use Rattle.sn_ondisk.specs.Trees.{Store, below, entry, named_by, data_block}
-use Rattle.sn_tree_read.specs.Paths.{lies_on, path_lies_on}
+use Rattle.sn_tree_read.specs.Paths.{lies_on, path_lies_on, block_named, pointer_met}
 use Rattle.sn_ondisk.proofs.BlockLemmas.{numbers_in-numbers_bytes}
 
 not_hole : (pointer : ℕ) → pointer ≢ 0 → (pointer == 0) ≡ false
@@ -64,6 +64,28 @@ first_not a b one = ap (λ (x : Bool). x && b) one
 
 pub second_not : (a b : Bool) → a ≡ true → b ≡ false → (a && b) ≡ false
 second_not a b one two = ap (λ (x : Bool). x && b) one ∙ two
+
+-- ---- where the way ends
+
+-- at the pointer itself, where each above it lies on the device
+pub met_last : (sectors : ℕ) (s : Store) (level : ℕ) (pointers : List ℕ) (i : ℕ) → path_lies_on sectors s level pointers i ≡ true → pointer_met sectors s level pointers i ≡ entry s level pointers i
+unfolding pointer_met
+met_last sectors s zero pointers i lies = refl
+met_last sectors s (suc level) pointers i lies = ap (λ (b : Bool). if b then entry s (suc level) pointers i else pointer_met sectors s level pointers (i / 1024)) lies
+
+-- above it, where one of these doesn't
+pub met_above : (sectors : ℕ) (s : Store) (level : ℕ) (pointers : List ℕ) (i : ℕ) → level ≢ 0 → path_lies_on sectors s level pointers i ≡ false
+    → pointer_met sectors s (level - 1) pointers (i / 1024) ≡ pointer_met sectors s level pointers i
+unfolding pointer_met
+met_above sectors s zero pointers i some off = absurd (some refl)
+met_above sectors s (suc level) pointers i some off =
+    let same : suc level - 1 ≡ level = omega arith in
+    ap (λ (n : ℕ). pointer_met sectors s n pointers (i / 1024)) same
+    ∙ sym (ap (λ (b : Bool). if b then entry s (suc level) pointers i else pointer_met sectors s level pointers (i / 1024)) off)
+
+-- a pointer that is no hole names its block
+pub names_one : (pointer : ℕ) → pointer ≢ 0 → block_named pointer ≡ Some pointer
+names_one pointer some = ap (λ (b : Bool). if b then None else Some pointer) (not_hole pointer some)
 
 -- ---- data blocks
 

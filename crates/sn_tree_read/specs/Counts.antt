@@ -1,5 +1,5 @@
 -- What reading a tree does to the counts of a device.
-use Rattle.std.specs.Prelude.{◌≡◌, Result, Err, OnOk}
+use Rattle.std.specs.Prelude.{◌≡◌, ℕ, Option, Result, Err, OnOk}
 use Rattle.sn_block.specs.Counts.{FailsRead}
 use Rattle.sn_block.specs.declared.fault.ReadFault.TheVariants.{Device, Memory}
 use Rattle.sn_device.specs.declared.status.Status.{Status}
@@ -11,5 +11,5 @@ pub record CountsTree {T : Type 0} (result : Result T TreeFault) (old new : Stat
   pub done : OnOk result (new ≡ old)
   pub sectors : new.sectors ≡ old.sectors
   pub memory : result ≡ Err (Read Memory) → new ≡ old
-  pub damaged : result ≡ Err Damaged → new ≡ old
+  pub damaged : (block : Option ℕ) → result ≡ Err (Damaged block) → new ≡ old
   pub device : result ≡ Err (Read Device) → FailsRead old new

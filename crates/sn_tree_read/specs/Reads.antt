@@ -1,11 +1,11 @@
 -- What a reader of trees answers.
-use Rattle.std.specs.Prelude.{◌≡◌, ℕ, ◌+◌, ◌-◌, ◌/◌, ◌<◌, false, List, length, min, slice_index}
+use Rattle.std.specs.Prelude.{◌≡◌, ℕ, ◌+◌, ◌-◌, ◌/◌, ◌<◌, false, List, Option, length, min, slice_index}
 use Rattle.sn_layout_node.specs.Inode.{size_of}
 use Rattle.sn_layout_node.specs.declared.content.Content.{Content}
 use Rattle.sn_layout_node.specs.declared.content.Content.TheVariants.{Inline, Tree}
 use Rattle.sn_image.specs.Contents.{byte_of}
 use Rattle.sn_ondisk.specs.Trees.{Store}
-use Rattle.sn_tree_read.specs.Paths.{block_lies_on}
+use Rattle.sn_tree_read.specs.Paths.{block_lies_on, block_met}
 
 -- The bytes of a content from an offset on, n of them or as many as there are.
 pub record IsPart (s : Store) (content : Content) (offset n : ℕ) (bytes : List ℕ) : Type 0 where
@@ -16,3 +16,8 @@ pub record IsPart (s : Store) (content : Content) (offset n : ℕ) (bytes : List
 abbrev pub IsOutside : ℕ → Store → Content → ℕ → ℕ → Type 0
 IsOutside sectors s (Inline bytes) offset n = ⊥
 IsOutside sectors s (Tree tree) offset n = (k : ℕ) × (k < n) × (offset + k < tree.size) × (block_lies_on sectors s tree ((offset + k) / 4096) ≡ false)
+
+-- That is told of the block that doesn't lie there.
+abbrev pub IsOutsideAt : ℕ → Store → Content → ℕ → ℕ → Option ℕ → Type 0
+IsOutsideAt sectors s (Inline bytes) offset n block = ⊥
+IsOutsideAt sectors s (Tree tree) offset n block = (k : ℕ) × (k < n) × (offset + k < tree.size) × (block_lies_on sectors s tree ((offset + k) / 4096) ≡ false) × (block ≡ block_met sectors s tree ((offset + k) / 4096))

@@ -1,5 +1,5 @@
 //! The pointers of a tree, level by level, and its data blocks.
-ghost use Rattle.std.specs.Prelude.{◌≡◌, ◌+◌, ◌*◌, ◌/◌, ◌<◌, ◌≤◌, true, false, Err, IsTrue, IfOk, IfSome, OnOk, IsSome, slice_index};
+ghost use Rattle.std.specs.Prelude.{◌≡◌, ℕ, ◌+◌, ◌*◌, ◌/◌, ◌<◌, ◌≤◌, true, false, Option as TheOption, Err, IsTrue, IfOk, IfSome, OnOk, IsSome, is_some, slice_index};
 ghost use Rattle.sn_device.specs.Disk.{reads};
 ghost use Rattle.sn_block.specs.Lending.{device_of, fetched_number};
 ghost use Rattle.sn_layout.specs.Bytes.{zeros};
@@ -7,7 +7,7 @@ ghost use Rattle.sn_layout.specs.Pointers.{levels_of};
 ghost use Rattle.sn_ondisk.specs.Blocks.{block_at};
 ghost use Rattle.sn_ondisk.specs.Trees.{store_of, below, entry, data_block};
 ghost use Rattle.sn_tree_read.specs.Counts.{CountsTree};
-ghost use Rattle.sn_tree_read.specs.Paths.{lies_on, path_lies_on, block_lies_on};
+ghost use Rattle.sn_tree_read.specs.Paths.{lies_on, path_lies_on, block_lies_on, block_named, pointer_met, block_met};
 ghost use Rattle.sn_tree_read.specs.declared.fault.TreeFault.TheVariants.{Damaged};
 
 use crate::TreeFault;
@@ -46,12 +46,13 @@ fn pointer_below<D: Device>(
     ensures pointer { IsTrue D.tells_bytes → IfOk result
         (λ p. p ≡ slice_index (below (store_of (reads (D.disk (device_of blocks.old)))) pointer) index) }
     ensures lies { OnOk result (lies_on (D.status (device_of blocks.old)).sectors pointer ≡ true) }
-    ensures damaged { result ≡ Err Damaged → lies_on (D.status (device_of blocks.old)).sectors pointer ≡ false }
+    ensures damaged { (block : TheOption ℕ) → result ≡ Err (Damaged block)
+        → (lies_on (D.status (device_of blocks.old)).sectors pointer ≡ false) × (block ≡ block_named pointer) }
     ensures same { IsTrue D.tells_bytes → D.disk (device_of blocks.new) ≡ D.disk (device_of blocks.old) }
     ensures counts { CountsTree result (D.status (device_of blocks.old)) (D.status (device_of blocks.new)) }
 {
     if !lies_on(blocks.sectors(), pointer) {
-        return Err(TreeFault::Damaged);
+        return Err(TreeFault::at(pointer));
     }
     if pointer == 0 {
         return Ok(0);
@@ -75,9 +76,11 @@ pub fn entry<D: Device>(
     ensures lies { IsTrue D.tells_bytes → OnOk result
         (path_lies_on (D.status (device_of blocks.old)).sectors
         (store_of (reads (D.disk (device_of blocks.old)))) level tree.now.pointers i ≡ true) }
-    ensures damaged { IsTrue D.tells_bytes → result ≡ Err Damaged
-        → path_lies_on (D.status (device_of blocks.old)).sectors
-        (store_of (reads (D.disk (device_of blocks.old)))) level tree.now.pointers i ≡ false }
+    ensures damaged { IsTrue D.tells_bytes → (block : TheOption ℕ) → result ≡ Err (Damaged block)
+        → (path_lies_on (D.status (device_of blocks.old)).sectors
+        (store_of (reads (D.disk (device_of blocks.old)))) level tree.now.pointers i ≡ false)
+        × (block ≡ block_named (pointer_met (D.status (device_of blocks.old)).sectors
+        (store_of (reads (D.disk (device_of blocks.old)))) level tree.now.pointers i)) }
     ensures same { IsTrue D.tells_bytes → D.disk (device_of blocks.new) ≡ D.disk (device_of blocks.old) }
     ensures counts { CountsTree result (D.status (device_of blocks.old)) (D.status (device_of blocks.new)) }
 {
@@ -88,36 +91,41 @@ pub fn entry<D: Device>(
     pointer_below(blocks, above, (i % 1024) as usize)
 }
 
-/// Makes data block `i` of a tree the one that `blocks.fetched()` lends, and answers `true`; `false`
+/// Makes data block `i` of a tree the one that `blocks.fetched()` lends, and answers its number; `None`
 /// for a hole, which reads as zeros, and then no block is meant. `Damaged` comes exactly where the block
 /// or one above it isn't on the device.
 pub fn fetch_data<D: Device>(
     blocks: &mut Blocks<D>,
     tree: &BlockTree,
     i: u64,
-) -> Result<bool, TreeFault>
-    ensures hole { IsTrue D.tells_bytes → IfOk result (λ is_there. is_there ≡ false
+) -> Result<Option<u32>, TreeFault>
+    ensures hole { IsTrue D.tells_bytes → IfOk result (λ found. is_some found ≡ false
         → data_block (store_of (reads (D.disk (device_of blocks.old)))) tree.now i ≡ zeros 4096) }
-    ensures block { IsTrue D.tells_bytes → IfOk result (λ is_there. IsTrue is_there
+    ensures block { IsTrue D.tells_bytes → IfOk result (λ found. IsTrue (is_some found)
         → IfSome (fetched_number blocks.new) (λ number. block_at (reads (D.disk (device_of blocks.new))) number
         ≡ data_block (store_of (reads (D.disk (device_of blocks.old)))) tree.now i)) }
-    ensures lent { IfOk result (λ is_there. IsTrue is_there → IsSome (fetched_number blocks.new)) }
+    ensures lent { IfOk result (λ found. IsTrue (is_some found) → IsSome (fetched_number blocks.new)) }
+    ensures number { IsTrue D.tells_bytes → IfOk result (λ found. IsTrue (is_some found)
+        → found ≡ block_met (D.status (device_of blocks.old)).sectors
+        (store_of (reads (D.disk (device_of blocks.old)))) tree.now i) }
     ensures lies { IsTrue D.tells_bytes → OnOk result
         (block_lies_on (D.status (device_of blocks.old)).sectors
         (store_of (reads (D.disk (device_of blocks.old)))) tree.now i ≡ true) }
-    ensures damaged { IsTrue D.tells_bytes → result ≡ Err Damaged
-        → block_lies_on (D.status (device_of blocks.old)).sectors
-        (store_of (reads (D.disk (device_of blocks.old)))) tree.now i ≡ false }
+    ensures damaged { IsTrue D.tells_bytes → (block : TheOption ℕ) → result ≡ Err (Damaged block)
+        → (block_lies_on (D.status (device_of blocks.old)).sectors
+        (store_of (reads (D.disk (device_of blocks.old)))) tree.now i ≡ false)
+        × (block ≡ block_met (D.status (device_of blocks.old)).sectors
+        (store_of (reads (D.disk (device_of blocks.old)))) tree.now i) }
     ensures same { IsTrue D.tells_bytes → D.disk (device_of blocks.new) ≡ D.disk (device_of blocks.old) }
     ensures counts { CountsTree result (D.status (device_of blocks.old)) (D.status (device_of blocks.new)) }
 {
     let pointer = entry(blocks, tree, BlockTree::levels_of(tree.size), i)?;
     if !lies_on(blocks.sectors(), pointer) {
-        return Err(TreeFault::Damaged);
+        return Err(TreeFault::at(pointer));
     }
     if pointer == 0 {
-        return Ok(false);
+        return Ok(None);
     }
     blocks.fetch(pointer)?;
-    Ok(true)
+    Ok(Some(pointer))
 }

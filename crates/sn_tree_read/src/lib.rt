@@ -3,11 +3,12 @@
 //! The model is that of `sn_ondisk` and `sn_image`, which say what stands in a tree for any blocks at
 //! all: `entry`, `data_block`, `byte_of`. Over a device that tells its bytes the answers are these,
 //! exactly, on a sound image and on any other. `Damaged` comes where a block that is needed doesn't lie
-//! on the device (`path_lies_on`, `block_lies_on`), and there alone. Whatever the device tells, the
+//! on the device (`path_lies_on`, `block_lies_on`), and there alone, and it's told of the first such block on
+//! the way (`block_met`). Whatever the device tells, the
 //! calls end after at most one block for each level of the tree and each data block, and write nothing.
 //!
 //! A hole is found by its pointer and never read. A data block is lent from the cache of `sn_block`:
-//! after `fetch_data` has answered `true`, `blocks.fetched()` is the block. `read` copies bytes once,
+//! after `fetch_data` has answered its number, `blocks.fetched()` is the block. `read` copies bytes once,
 //! out of the lent blocks into their place, and it alone takes memory.
 //!
 //! The levels are a recursion: to look a pointer up, look up the one above it, and read one pointer of
@@ -16,7 +17,7 @@
 //! What the sources leave open is decided in `docs/DECISIONS.md`, under "Images and their readers".
 //!
 //! ```text
-//! if fetch_data(blocks, &tree, 0)? {
+//! if fetch_data(blocks, &tree, 0)?.is_some() {
 //!     let block = blocks.fetched();
 //! }
 //! let bytes = read(alloc, blocks, &content, 0, 4096)?;

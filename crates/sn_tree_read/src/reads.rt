@@ -1,5 +1,5 @@
 //! The bytes of a file.
-ghost use Rattle.std.specs.Prelude.{◌≡◌, ◌+◌, ◌-◌, ◌*◌, ◌/◌, ◌%◌, ◌<◌, ◌≤◌, ℕ, ◌++◌, length, min, true, false, take, drop, vec_len, Err, IsTrue, IfOk, OnOk};
+ghost use Rattle.std.specs.Prelude.{◌≡◌, ◌+◌, ◌-◌, ◌*◌, ◌/◌, ◌%◌, ◌<◌, ◌≤◌, ℕ, ◌++◌, length, min, true, false, take, drop, vec_len, Option as TheOption, Err, IsTrue, IfOk, OnOk};
 ghost use Rattle.sn_device.specs.Disk.{reads};
 ghost use Rattle.sn_block.specs.Lending.{device_of};
 ghost use Rattle.sn_ondisk.specs.Trees.{store_of, data_block};
@@ -7,8 +7,8 @@ ghost use Rattle.sn_layout_node.specs.Inode.{size_of};
 ghost use Rattle.sn_layout_node.specs.declared.content.Content.{Content as TheContent};
 ghost use Rattle.sn_layout_node.specs.declared.content.Content.TheVariants.{Inline, Tree};
 ghost use Rattle.sn_tree_read.specs.Counts.{CountsTree};
-ghost use Rattle.sn_tree_read.specs.Paths.{block_lies_on};
-ghost use Rattle.sn_tree_read.specs.Reads.{IsPart, IsOutside};
+ghost use Rattle.sn_tree_read.specs.Paths.{block_lies_on, block_met};
+ghost use Rattle.sn_tree_read.specs.Reads.{IsPart, IsOutside, IsOutsideAt};
 ghost use Rattle.sn_tree_read.specs.declared.fault.TreeFault.TheVariants.{Damaged};
 
 use crate::{TreeFault, fetch_data};
@@ -59,14 +59,16 @@ fn push_part<D: Device>(
     ensures lies { IsTrue D.tells_bytes → OnOk result
         (block_lies_on (D.status (device_of blocks.old)).sectors
         (store_of (reads (D.disk (device_of blocks.old)))) tree.now (at / 4096) ≡ true) }
-    ensures damaged { IsTrue D.tells_bytes → result ≡ Err Damaged
-        → block_lies_on (D.status (device_of blocks.old)).sectors
-        (store_of (reads (D.disk (device_of blocks.old)))) tree.now (at / 4096) ≡ false }
+    ensures damaged { IsTrue D.tells_bytes → (block : TheOption ℕ) → result ≡ Err (Damaged block)
+        → (block_lies_on (D.status (device_of blocks.old)).sectors
+        (store_of (reads (D.disk (device_of blocks.old)))) tree.now (at / 4096) ≡ false)
+        × (block ≡ block_met (D.status (device_of blocks.old)).sectors
+        (store_of (reads (D.disk (device_of blocks.old)))) tree.now (at / 4096)) }
     ensures same { IsTrue D.tells_bytes → D.disk (device_of blocks.new) ≡ D.disk (device_of blocks.old) }
     ensures counts { CountsTree result (D.status (device_of blocks.old)) (D.status (device_of blocks.new)) }
 {
     let from = (at % 4096) as usize;
-    if fetch_data(blocks, tree, at / 4096)? {
+    if fetch_data(blocks, tree, at / 4096)?.is_some() {
         let block = blocks.fetched();
         bytes.extend_from_slice(&block[from..from + count])?;
     } else {
@@ -88,9 +90,9 @@ fn read_tree<D: Device>(
     ensures count { IfOk result (λ part. vec_len part ≡ min most (tree.now.size - offset)) }
     ensures lies { IsTrue D.tells_bytes → OnOk result (IsOutside (D.status (device_of blocks.old)).sectors
         (store_of (reads (D.disk (device_of blocks.old)))) (Tree tree.now) offset most → ⊥) }
-    ensures damaged { IsTrue D.tells_bytes → result ≡ Err Damaged
-        → IsOutside (D.status (device_of blocks.old)).sectors
-        (store_of (reads (D.disk (device_of blocks.old)))) (Tree tree.now) offset most }
+    ensures damaged { IsTrue D.tells_bytes → (block : TheOption ℕ) → result ≡ Err (Damaged block)
+        → IsOutsideAt (D.status (device_of blocks.old)).sectors
+        (store_of (reads (D.disk (device_of blocks.old)))) (Tree tree.now) offset most block }
     ensures same { IsTrue D.tells_bytes → D.disk (device_of blocks.new) ≡ D.disk (device_of blocks.old) }
     ensures counts { CountsTree result (D.status (device_of blocks.old)) (D.status (device_of blocks.new)) }
 {
@@ -135,9 +137,9 @@ pub fn read<D: Device>(
     ensures count { IfOk result (λ part. vec_len part ≡ min most (size_of content.now - offset)) }
     ensures lies { IsTrue D.tells_bytes → OnOk result (IsOutside (D.status (device_of blocks.old)).sectors
         (store_of (reads (D.disk (device_of blocks.old)))) content.now offset most → ⊥) }
-    ensures damaged { IsTrue D.tells_bytes → result ≡ Err Damaged
-        → IsOutside (D.status (device_of blocks.old)).sectors
-        (store_of (reads (D.disk (device_of blocks.old)))) content.now offset most }
+    ensures damaged { IsTrue D.tells_bytes → (block : TheOption ℕ) → result ≡ Err (Damaged block)
+        → IsOutsideAt (D.status (device_of blocks.old)).sectors
+        (store_of (reads (D.disk (device_of blocks.old)))) content.now offset most block }
     ensures same { IsTrue D.tells_bytes → D.disk (device_of blocks.new) ≡ D.disk (device_of blocks.old) }
     ensures counts { CountsTree result (D.status (device_of blocks.old)) (D.status (device_of blocks.new)) }
 {

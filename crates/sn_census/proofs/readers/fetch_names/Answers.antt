@@ -7,4 +7,4 @@ use Rattle.sn_census.proofs.readers.fetch_names.Goals as goal
 pub returns-in-Err-clause-fault : goal.returns-in-Err-clause-fault
 returns-in-Err-clause-fault g c told =
     subst (λ (f : CheckFault). Tells f (λ damage block. ⊥)) (sym c.fault_at.ensures)
-    (never_told c.args.body c.in-Err.fault (λ is. c.in-Err.ensures.damaged told (ap (λ f. Err f) is) (c.requires.read told).there))
+    (never_told c.args.body c.in-Err.fault (λ found is. (c.in-Err.ensures.damaged told found (ap (λ f. Err f) is)).0 (c.requires.read told).there))

@@ -15,7 +15,7 @@ returns-in-Err-try_both-clause-fault g c told free =
     let root = c.args.root.now in
     let disk = reads (g.D.Device.disk (device_of c.args.blocks.now)) in
     let f = c.in-Err-try_both.fault in
-    let same = c.count_nameless.ensures.same told ∙ c.count_directories.ensures.same told in
+    let same = c.count_nameless.ensures.same told in
     let is = subst (λ (d : Disk). ReplaysBoth (Err f) (reads d) (image (store_of (reads d)) root.inode_file) c.args.geometry root.epoch (image (store_of (reads d)) root.inode_file)) same (c.in-Err-try_both.ensures.replayed told) in
     both_tells f c.args.geometry disk root (image (store_of disk) root.inode_file) free c.requires.fits is
 
@@ -24,11 +24,11 @@ returns-clause-logged g c told =
     let root = c.args.root.now in
     let disk = reads (g.D.Device.disk (device_of c.args.blocks.now)) in
     let r = c.in-Ok-try_both.replayed in
-    let dropped = c.in-Ok-count_nameless.dropped in
-    let same = c.count_nameless.ensures.same told ∙ c.count_directories.ensures.same told in
+    let dropped = c.in-Ok.dropped in
+    let same = c.count_nameless.ensures.same told in
     let tree = through (layer_of r.changed) (image (store_of disk) root.inode_file) in
     let both = subst (λ (d : Disk). HasBoth (reads d) (image (store_of (reads d)) root.inode_file) c.args.geometry root.epoch r.at (through (layer_of r.changed) (image (store_of (reads d)) root.inode_file)) r.charges) same (c.in-Ok-try_both.ensures.replayed told) in
-    let nameless = subst (λ (d : Disk). dropped ≡ nameless_in (image (store_of (reads d)) root.inode_file)) (c.count_directories.ensures.same told) (c.in-Ok-count_nameless.ensures.count told) in
+    let nameless = c.in-Ok.ensures.count told in
     has_logged c.args.geometry disk root r.at tree r.charges dropped c.is_to_recover-recovers.result c.requires.fits both nameless
     (λ e. subst (λ (n : ℕ). (0 < n) ⊎ (0 < dropped)) c.count.ensures (c.is_to_recover-recovers.ensures.some e))
     (λ e. let none = c.is_to_recover-recovers.ensures.none e in (sym c.count.ensures ∙ none.0, none.1))

@@ -9,21 +9,15 @@ use Rattle.sn_ondisk.specs.Trees.{store_of}
 use Rattle.sn_image.specs.Image.{image}
 use Rattle.sn_overlay.specs.Layers.{through}
 use Rattle.sn_overlay.specs.Overlays.{layer_of}
-use Rattle.sn_rooted_tree.proofs.SeenLemmas.{root_tree}
 use Rattle.sn_examine.specs.Replaying.{Breaks, HasAll}
 use Rattle.sn_examine.specs.declared.replaying.Replayed.{Replayed}
 use Rattle.sn_examine.proofs.BothLemmas.{newer_fails}
 use Rattle.sn_check_log.specs.Trying.{TriesBoth}
-use Rattle.sn_check_log.proofs.TryLemmas.{first_shown, older_fails, seen_first}
+use Rattle.sn_check_log.proofs.TryLemmas.{older_fails, seen_first}
 use Rattle.sn_check_log.proofs.both.try_both.Goals as goal
 
-pub try_epoch-requires-clause-shown : goal.try_epoch-requires-clause-shown
-try_epoch-requires-clause-shown g c told =
-    let disk = reads (g.D.Device.disk (device_of c.args.blocks.now)) in
-    let root = c.args.it.now.root.now in
-    let tree = image (store_of disk) root.inode_file in
-    first_shown (layer_of c.new-changed.result) tree c.args.directories.now c.new-changed.ensures (c.changed_laws.ensures.nothing version_1 tree)
-    (root_tree root.limits _ disk root.inode_file (g.met.D.Device.whole (device_of c.args.blocks.now) told) (g.met.D.Device.count (device_of c.args.blocks.now) told) (c.requires.sound told)) (c.requires.tells told)
+pub try_epoch-requires-clause-seen : goal.try_epoch-requires-clause-seen
+try_epoch-requires-clause-seen g c told = c.new-changed.ensures
 
 pub returns-in_err-older-clause-replayed : goal.returns-in_err-older-clause-replayed
 returns-in_err-older-clause-replayed g c told =

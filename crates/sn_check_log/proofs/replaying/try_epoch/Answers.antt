@@ -15,7 +15,7 @@ loop-more-init g c =
     let from = through (layer_of c.args.changed) (tree_on c.args.blocks.now c.args.it.now.root.now.inode_file) in
     record {
       replayed = λ told. subst (λ (p : LogPosition). HasReplayed (reads (g.D.Device.disk (device_of c.args.blocks.now))) from p from 0) (sym first) (starts (reads (g.D.Device.disk (device_of c.args.blocks.now))) from c.args.it.now.geometry c.args.epoch);
-      shown = c.requires.shown;
+      seen = c.requires.seen;
       few = omega arith;
       blocks = ap (λ (p : LogPosition). p.blocks) first;
       epoch = ap (λ (p : LogPosition). p.epoch) first;
@@ -26,7 +26,7 @@ loop-more-init g c =
 pub loop-more-preserved : goal.loop-more-preserved
 loop-more-preserved g c = record {
   replayed = search rules;
-  shown = search rules;
+  seen = search rules;
   few = search rules;
   blocks = search rules;
   epoch = search rules;

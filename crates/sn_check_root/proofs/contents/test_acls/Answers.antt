@@ -16,4 +16,4 @@ pub returns-in-Err-clause-fault : goal.returns-in-Err-clause-fault
 returns-in-Err-clause-fault g c told =
     let Rule = CanReadAcls (g.D.Device.status (device_of c.args.blocks.now)).sectors (store_of (reads (g.D.Device.disk (device_of c.args.blocks.now)))) c.args.inode.now in
     subst (λ (f : CheckFault). Tells f (Breaks Rule c.args.inode.now.acl_block)) (sym c.fault_at.ensures)
-    (rule_told Rule c.args.inode.now.acl_block c.in-Err.fault (λ is can. c.in-Err.ensures.damaged told (ap (λ f. Err f) is) can))
+    (rule_told Rule c.args.inode.now.acl_block c.in-Err.fault (λ found is can. (c.in-Err.ensures.damaged told found (ap (λ f. Err f) is)).0 can))

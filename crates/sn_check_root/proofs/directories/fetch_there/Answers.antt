@@ -13,4 +13,4 @@ pub returns-in-Err-clause-fault : goal.returns-in-Err-clause-fault
 returns-in-Err-clause-fault g c told =
     let Rule = IsThere (g.D.Device.status (device_of c.args.blocks.now)).sectors (store_of (reads (g.D.Device.disk (device_of c.args.blocks.now)))) c.args.tree.now c.args.i in
     subst (λ (f : CheckFault). Tells f (Breaks Rule c.args.top)) (sym c.fault_at.ensures)
-    (rule_told Rule c.args.top c.in-Err.fault (λ is there. c.in-Err.ensures.damaged told (ap (λ f. Err f) is) there))
+    (rule_told Rule c.args.top c.in-Err.fault (λ found is there. (c.in-Err.ensures.damaged told found (ap (λ f. Err f) is)).0 there))

@@ -8,4 +8,4 @@ use Rattle.sn_check_root.proofs.readers.pointer_to.Goals as goal
 pub returns-in-Err-clause-fault : goal.returns-in-Err-clause-fault
 returns-in-Err-clause-fault g c told =
     subst (λ (f : CheckFault). Tells f (λ damage block. ⊥)) (sym c.fault_at.ensures)
-    (never_told c.args.top c.in-Err.fault (λ is. path_lies _ _ c.args.tree.now (c.requires.lies told) _ c.args.i c.levels_of.ensures.value (c.in-Err.ensures.damaged told (ap (λ f. Err f) is))))
+    (never_told c.args.top c.in-Err.fault (λ found is. path_lies _ _ c.args.tree.now (c.requires.lies told) _ c.args.i c.levels_of.ensures.value (c.in-Err.ensures.damaged told found (ap (λ f. Err f) is)).0))

@@ -12,6 +12,7 @@ use Rattle.sn_marks.specs.Fault.{Tells}
 use Rattle.sn_marks.specs.declared.fault.CheckFault.{CheckFault}
 use Rattle.sn_check_root.specs.Rules.{Breaks, breaks}
 use Rattle.sn_check_root.proofs.WrongLemmas.{rule_told}
+use Rattle.sn_dir.proofs.BlockLemmas.{somewhere}
 use Rattle.sn_check_root.proofs.reserved.check_hidden.Goals as goal
 
 -- a directory whose blocks can be read isn't damaged
@@ -23,7 +24,7 @@ returns-in-Err-clause-fault g c told =
     let s = store_of (reads (g.D.Device.disk (device_of c.args.blocks.now))) in
     let Rule = number_of (codes ".snapshot") (names_of s (Tree c.args.tree.now)) ≡ None in
     subst (λ (f : CheckFault). Tells f (Breaks Rule c.args.top)) (sym c.fault_at.ensures)
-    (rule_told Rule c.args.top c.in-Err.fault (λ is never. none_damaged (λ names. number_of (codes ".snapshot") names ≡ None) _ _ _ (c.requires.read told) (c.in-Err.ensures.damaged told (ap (λ f. Err f) is))))
+    (rule_told Rule c.args.top c.in-Err.fault (λ found is never. none_damaged (λ names. number_of (codes ".snapshot") names ≡ None) _ _ _ (c.requires.read told) (somewhere (λ names. number_of (codes ".snapshot") names ≡ None) _ _ _ _ (c.in-Err.ensures.damaged told found (ap (λ f. Err f) is)))))
 
 pub returns-in-Ok-Some-clause-fault : goal.returns-in-Ok-Some-clause-fault
 returns-in-Ok-Some-clause-fault g c told =

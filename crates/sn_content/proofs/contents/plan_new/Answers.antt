@@ -15,12 +15,12 @@ use Rattle.sn_tree.proofs.FrontLemmas.{no_outside}
 use Rattle.sn_content.proofs.contents.plan_new.Goals as goal
 
 pub returns-in_err-plan_pointers-clause-sound : goal.returns-in_err-plan_pointers-clause-sound
-returns-in_err-plan_pointers-clause-sound g c told is =
+returns-in_err-plan_pointers-clause-sound g c told block is =
     let sectors = (g.D.Device.status (device_of c.args.blocks.now)).sectors in
     let s = store_of (reads (g.D.Device.disk (device_of c.args.blocks.now))) in
     let f = err_from_is_err_and c.from_residual.result c.from_residual.ensures.1 in
-    let fault : c.in_err-plan_pointers.field-0.0 ≡ Tree Damaged = cc (f.1, f.2) in
-    no_outside sectors s c.levels_of-levels.result (replicate 16 0) (AreHoles-replicate 16) (c.in_err-plan_pointers.ensures.damaged told (ap (λ fault. Err fault) fault))
+    let fault : c.in_err-plan_pointers.field-0.0 ≡ Tree (Damaged block) = cc (f.1, f.2) in
+    no_outside sectors s c.levels_of-levels.result (replicate 16 0) (AreHoles-replicate 16) (c.in_err-plan_pointers.ensures.damaged told block (ap (λ fault. Err fault) fault))
 
 pub returns-clause-built : goal.returns-clause-built
 returns-clause-built g c =

@@ -12,10 +12,10 @@ use Rattle.sn_content.proofs.ContentLemmas.{block_off}
 use Rattle.sn_content.proofs.inline.first_bytes.Goals as goal
 
 pub returns-in_err-fetch_data-in-Tree-clause-damaged : goal.returns-in_err-fetch_data-in-Tree-clause-damaged
-returns-in_err-fetch_data-in-Tree-clause-damaged g c told is =
+returns-in_err-fetch_data-in-Tree-clause-damaged g c told block is =
     let sectors = (g.D.Device.status (device_of c.args.blocks.now)).sectors in
     let s = store_of (reads (g.D.Device.disk (device_of c.args.blocks.now))) in
     let f = err_from_is_err_and c.from_residual.result c.from_residual.ensures.1 in
-    let fault : c.in_err-fetch_data-in-Tree.field-0.0 ≡ Damaged = cc (f.1, f.2) in
-    let off = c.in_err-fetch_data-in-Tree.ensures.damaged told (ap (λ fault. Err fault) fault) in
-    subst (λ (x : Content). LeadsOutside sectors (content_reach s x)) (sym c.in-Tree.is) (block_off sectors s c.in-Tree.tree 0 off)
+    let fault : c.in_err-fetch_data-in-Tree.field-0.0 ≡ Damaged block = cc (f.1, f.2) in
+    let off = c.in_err-fetch_data-in-Tree.ensures.damaged told block (ap (λ fault. Err fault) fault) in
+    subst (λ (x : Content). LeadsOutside sectors (content_reach s x)) (sym c.in-Tree.is) (block_off sectors s c.in-Tree.tree 0 off.0)

@@ -1,4 +1,4 @@
-use Rattle.std.proofs.Common.{◌≡◌, ◌+◌, ◌<◌, Result, Err, length, IsTrue, sym, ap, subst, arith}
+use Rattle.std.proofs.Common.{◌≡◌, ◌+◌, ◌<◌, Result, Err, length, IsTrue, sym, ap, subst, arith, None, ◌∙◌}
 use Rattle.std.specs.Prelude.{IfErr}
 use Rattle.std.proofs.lemmas.Result.{err_from_is_err_and}
 use Rattle.sn_alloc.specs.Taking.{free_data}
@@ -49,25 +49,26 @@ returns-in_err-inode_file-clause-full g c = λ told full ground enough.
 
 pub returns-clause-full : goal.returns-clause-full
 returns-clause-full g c = λ told full ground enough.
-    let bad : Full ≡ Tree Damaged = subst (λ (r : Result Built PlanFault). IfErr r (λ fault. fault ≡ Tree Damaged)) full c.finished.ensures.fault in
+    let bad : Full ≡ Tree (Damaged None) = subst (λ (r : Result Built PlanFault). IfErr r (λ fault. fault ≡ Tree (Damaged None))) full c.finished.ensures.fault in
     absurd cc
 
 pub returns-in_err-inode_file-clause-damaged : goal.returns-in_err-inode_file-clause-damaged
-returns-in_err-inode_file-clause-damaged g c = λ told damaged ground tells room.
+returns-in_err-inode_file-clause-damaged g c = λ told block damaged ground tells room.
     let p = err_from_is_err_and c.from_residual-in_err-inode_file.result c.from_residual-in_err-inode_file.ensures.1 in
-    let fault : c.in_err-inode_file.field-0.0 ≡ Tree Damaged = cc (p.1, p.2) in
+    let fault : c.in_err-inode_file.field-0.0 ≡ Tree (Damaged block) = cc (p.1, p.2) in
     let s = store_of (reads (g.D.Device.disk (device_of c.args.blocks.now))) in
     let file = c.args.root.now.inode_file in
     let first = begun_is c.args.map.now c.in_ok-try_clone.field-0 (start_of c.args.geometry Data) c.start-first.result c.new.result c.new-build.result c.in_ok-try_clone.ensures c.start-first.ensures c.new.ensures c.new-build.ensures in
     let kept : KeepsReach s file (begun c.args.map.now (start_of c.args.geometry Data)) = λ block among. told_kept c.args.map.now (reach s file) (start_of c.args.geometry Data) block tells among in
-    c.in_err-inode_file.ensures.damaged told (ap (λ f. Err f) fault) c.args.geometry
+    c.in_err-inode_file.ensures.damaged told block (ap (λ f. Err f) fault) c.args.geometry
     (record { ground = ground; room = room; kept = subst (KeepsReach s file) (sym first) kept })
 
 pub returns-clause-damaged : goal.returns-clause-damaged
-returns-clause-damaged g c = λ told damaged ground tells room.
+returns-clause-damaged g c = λ told block damaged ground tells room.
     let s = store_of (reads (g.D.Device.disk (device_of c.args.blocks.now))) in
     let first = begun_is c.args.map.now c.in_ok-try_clone.field-0 (start_of c.args.geometry Data) c.start-first.result c.new.result c.new-build.result c.in_ok-try_clone.ensures c.start-first.ensures c.new.ensures c.new-build.ensures in
     let plan = subst (λ (d : Draft). IsTreePlanned (IsTrue g.D.Device.tells_bytes) c.args.root.now.limits s c.args.root.now.inode_file (layer_of c.args.changes) c.in_ok-inode_file.inode_file d c.plan_tree.new.build) first c.in_ok-inode_file.ensures.planned in
-    c.finished.ensures.damaged damaged
+    let none : Tree (Damaged block) ≡ Tree (Damaged None) = subst (λ (r : Result Built PlanFault). IfErr r (λ fault. fault ≡ Tree (Damaged None))) damaged c.finished.ensures.fault in
+    c.finished.ensures.damaged (damaged ∙ ap (λ (f : PlanFault). Err f) none)
     (released_within (IsTrue g.D.Device.tells_bytes) c.args.geometry c.args.root.now.limits s c.args.root.now.inode_file (layer_of c.args.changes) c.in_ok-inode_file.inode_file c.args.map.now c.plan_tree.new.build plan
     c.finished.ensures.free c.finished.ensures.rise told c.requires.words (omega (arith, c.blocks-2.ensures.valid.least)) ground tells)

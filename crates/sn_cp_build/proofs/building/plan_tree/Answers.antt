@@ -44,20 +44,20 @@ returns-clause-full g c = λ told full n ground.
     (subst (λ (cs : List InodeChange). free_data c.plan_nodes.new.build.words c.plan_nodes.new.build.first < length c.plan_nodes.new.build.added + (3 * length cs + 2)) c.as_slice-inodes.ensures.value (c.with.ensures.full full))
 
 pub returns-then-not-is_inode_file-clause-damaged : goal.returns-then-not-is_inode_file-clause-damaged
-returns-then-not-is_inode_file-clause-damaged g c = λ told damaged n safe. true≢false (sym (c.is_inode_file.ensures.1 safe.ground.sound.file) ∙ c.if-not-is_inode_file.true)
+returns-then-not-is_inode_file-clause-damaged g c = λ told block damaged n safe. true≢false (sym (c.is_inode_file.ensures.1 safe.ground.sound.file) ∙ c.if-not-is_inode_file.true)
 
 pub returns-in_err-planned-clause-damaged : goal.returns-in_err-planned-clause-damaged
-returns-in_err-planned-clause-damaged g c = λ told damaged n safe.
+returns-in_err-planned-clause-damaged g c = λ told block damaged n safe.
     let p = err_from_is_err_and c.from_residual.result c.from_residual.ensures.1 in
-    let fault : c.in_err-planned.field-0.0 ≡ Tree Damaged = cc (p.1, p.2) in
-    c.in_err-planned.ensures.damaged told (ap (λ f. Err f) fault) n safe
+    let fault : c.in_err-planned.field-0.0 ≡ Tree (Damaged block) = cc (p.1, p.2) in
+    c.in_err-planned.ensures.damaged told block (ap (λ f. Err f) fault) n safe
 
 pub returns-clause-damaged : goal.returns-clause-damaged
-returns-clause-damaged g c = λ told damaged n safe.
+returns-clause-damaged g c = λ told block damaged n safe.
     let file = c.args.file.now in
     let changes = c.as_slice-inodes.result.now in
     let sectors = (g.D.Device.status (device_of c.args.blocks.now)).sectors in
     let there = store_of (reads (g.D.Device.disk (device_of c.plan_nodes.new.blocks))) in
     readable c.inode_laws.ensures.inodes c.args.limits.now n sectors (store_of (reads (g.D.Device.disk (device_of c.args.blocks.now)))) file (layer_of c.args.changes.now) c.args.build.now safe changes
     (subst (λ (d : Disk). IsUnreadable c.args.limits.now sectors (store_of (reads d)) file changes) (c.plan_nodes.ensures.same told)
-    (subst (λ (k : ℕ). IsUnreadable c.args.limits.now k there file changes) c.plan_nodes.ensures.counts.sectors (c.with.ensures.damaged told damaged)))
+    (subst (λ (k : ℕ). IsUnreadable c.args.limits.now k there file changes) c.plan_nodes.ensures.counts.sectors (c.with.ensures.damaged told block damaged)))

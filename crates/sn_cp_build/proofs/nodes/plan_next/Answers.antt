@@ -45,13 +45,13 @@ returns-clause-full g c = λ told full n layer ground nodes names written.
     subst (λ (k : ℕ). free_data c.args.build.now.words c.args.build.now.first < length c.args.build.now.added + most_for c.args.limits.now layer k) (sym is) less
 
 pub returns-clause-damaged : goal.returns-clause-damaged
-returns-clause-damaged g c = λ told damaged n layer nodes names written safe.
+returns-clause-damaged g c = λ told block damaged n layer nodes names written safe.
     let old = layer_of c.args.changes.now in
     let taken = layer_of c.take_blocks.new.self in
     let one : ℕ × NodeChange = get_or c.nodes.result.now c.args.index c.index-nodes-index.result in
     let two : ℕ × NodeChange = c.index-nodes-index-2.result in
     let part = part_of old taken layer c.args.index c.nodes.result.now c.nodes-2.result.now one two c.names_of-names.result.now c.in_ok-written.written.items
     c.nodes.ensures c.requires.within (ap (λ (d : ℕ × NodeChange). get_or c.nodes.result.now c.args.index d) c.index-nodes-index.is) c.in_ok-written.ensures.left c.nodes-2.ensures c.index-nodes-index-2.is c.names_of-names.ensures c.in_ok-written.ensures.taken nodes names written in
-    c.build_node.ensures.damaged told damaged
+    c.build_node.ensures.damaged told block damaged
     (c.damage_laws.ensures g.D.Device.tells_bytes c.args.limits.now n (g.D.Device.status (device_of c.args.blocks.now)).sectors (store_of (reads (g.D.Device.disk (device_of c.args.blocks.now)))) c.args.file.now layer one.0 two.1 c.names_of-names.result.now c.in_ok-written.written.items c.args.build.now
     told safe part)

@@ -69,15 +69,15 @@ returns-in_err-change-clause-full g c = λ told full n ground.
     (subst (λ (d : Disk). IsGround c.args.limits.now n (store_of (reads d)) c.args.file.now (layer_of c.args.changes.now)) (sym (c.loop-index.invariant.same told)) ground))
 
 pub returns-in_err-change-clause-damaged : goal.returns-in_err-change-clause-damaged
-returns-in_err-change-clause-damaged g c = λ told damaged n safe.
+returns-in_err-change-clause-damaged g c = λ told block damaged n safe.
     let p = err_from_is_err_and c.from_residual.result c.from_residual.ensures.1 in
-    let fault : c.in_err-change.field-0.0 ≡ Tree Damaged = cc (p.1, p.2) in
+    let fault : c.in_err-change.field-0.0 ≡ Tree (Damaged block) = cc (p.1, p.2) in
     let layer = layer_of c.args.changes.now in
     let build = c.loop-index.build in
     let s = store_of (reads (g.D.Device.disk (device_of c.args.blocks.now))) in
     let inside = inside_left layer (layer_of c.loop-index.changes) c.loop-index.index _ c.loop-index.invariant.left c.nodes-index-end.result.now c.nodes-index-end.ensures c.loop-index-test.true in
     damaged_then (IsTrue g.D.Device.tells_bytes) c.args.limits.now s c.args.file.now layer (layer_of c.loop-index.changes) c.args.build.now build c.loop-index.index c.loop-index.planned.items
     c.loop-index.invariant.left inside c.loop-index.invariant.built n (g.D.Device.status (device_of c.args.blocks.now)).sectors safe
-    (λ nodes names written later. c.in_err-change.ensures.damaged told (ap (λ f. Err f) fault) n layer nodes names written
+    (λ nodes names written later. c.in_err-change.ensures.damaged told block (ap (λ f. Err f) fault) n layer nodes names written
     (subst (λ (d : Disk). IsSafeGround c.args.limits.now n (g.D.Device.status (device_of c.loop-index.blocks)).sectors (store_of (reads d)) c.args.file.now layer build) (sym (c.loop-index.invariant.same told))
     (subst (λ (st : Status). IsSafeGround c.args.limits.now n st.sectors s c.args.file.now layer build) (sym c.loop-index.invariant.status) later)))

@@ -19,7 +19,7 @@ returns-clause-full g c = λ told full.
     c.in_ok-changes.changes.items c.as_slice.result.now c.with_names.result c.as_slice.ensures.value c.in_ok-changes.ensures.them c.with_names.ensures.full full
 
 pub returns-clause-damaged : goal.returns-clause-damaged
-returns-clause-damaged g c = λ told damaged.
+returns-clause-damaged g c = λ told block damaged.
     names_read (IsTrue g.D.Device.tells_bytes) (store_of (reads (g.D.Device.disk (device_of c.args.blocks.now)))) (store_of (reads (g.D.Device.disk (device_of c.roomy_tree.new.blocks))))
     (ap (λ (d : Disk). store_of (reads d)) (c.roomy_tree.ensures.same told)) c.args.old.now c.args.fresh c.args.names.now c.in_ok-tree.tree c.args.build.now c.roomy_tree.new.build c.in_ok-tree.ensures.begun
-    (g.D.Device.status (device_of c.args.blocks.now)).sectors (g.D.Device.status (device_of c.roomy_tree.new.blocks)).sectors c.roomy_tree.ensures.counts.sectors (c.with_names.ensures.damaged told damaged)
+    (g.D.Device.status (device_of c.args.blocks.now)).sectors (g.D.Device.status (device_of c.roomy_tree.new.blocks)).sectors c.roomy_tree.ensures.counts.sectors (c.with_names.ensures.damaged told block damaged)

@@ -27,11 +27,11 @@ loop-i-preserved g c = record {
 }
 
 pub returns-in_err-push_names-clause-damaged : goal.returns-in_err-push_names-clause-damaged
-returns-in_err-push_names-clause-damaged g c told is =
+returns-in_err-push_names-clause-damaged g c told block is =
     let p = err_from_is_err_and c.from_residual.result c.from_residual.ensures.1 in
-    let fault : c.in_err-push_names.field-0.0 ≡ Damaged = cc (p.1, p.2) in
+    let fault : c.in_err-push_names.field-0.0 ≡ Damaged block = cc (p.1, p.2) in
     let within : c.loop-i.i < c.args.tree.now.size / 4096 = omega (arith, c.block_count-i-end.ensures.value) in
-    damaged_here _ c.args.tree.now c.loop-i.i _ _ _ _ c.loop-i.invariant.reading (λ (names : List Link). ⊤) told within tt (c.in_err-push_names.ensures.damaged told (ap (λ f. Err f) fault))
+    damaged_here _ c.args.tree.now c.loop-i.i _ _ _ _ c.loop-i.invariant.reading (λ (names : List Link). ⊤) told block within tt (c.in_err-push_names.ensures.damaged told block (ap (λ f. Err f) fault))
 
 pub returns-clause-names : goal.returns-clause-names
 returns-clause-names g c told =

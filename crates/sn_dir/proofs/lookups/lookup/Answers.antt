@@ -26,11 +26,11 @@ loop-i-preserved g c = record {
 }
 
 pub returns-in_err-found-clause-damaged : goal.returns-in_err-found-clause-damaged
-returns-in_err-found-clause-damaged g c told is =
+returns-in_err-found-clause-damaged g c told block is =
     let p = err_from_is_err_and c.from_residual.result c.from_residual.ensures.1 in
-    let fault : c.in_err-found.field-0.0 ≡ Damaged = cc (p.1, p.2) in
+    let fault : c.in_err-found.field-0.0 ≡ Damaged block = cc (p.1, p.2) in
     let within : c.loop-i.i < c.args.tree.now.size / 4096 = omega (arith, c.block_count-i-end.ensures.value) in
-    damaged_here _ c.args.tree.now c.loop-i.i _ _ _ _ c.loop-i.invariant.reading (λ (names : List Link). number_of c.args.name.now names ≡ None) told within (c.loop-i.invariant.none told) (c.in_err-found.ensures.damaged told (ap (λ f. Err f) fault))
+    damaged_here _ c.args.tree.now c.loop-i.i _ _ _ _ c.loop-i.invariant.reading (λ (names : List Link). number_of c.args.name.now names ≡ None) told block within (c.loop-i.invariant.none told) (c.in_err-found.ensures.damaged told block (ap (λ f. Err f) fault))
 
 pub returns-then-is_some-clause-number : goal.returns-then-is_some-clause-number
 returns-then-is_some-clause-number g c told =

@@ -1,8 +1,10 @@
-use Rattle.std.proofs.Common.{◌≡◌, IsTrue, ap}
+use Rattle.std.proofs.Common.{◌≡◌, IsTrue, ap, inr, ℕ, subst}
 use Rattle.sn_device.specs.Disk.{Disk, reads}
 use Rattle.sn_block.specs.Lending.{device_of}
-use Rattle.sn_ondisk.specs.Trees.{store_of}
+use Rattle.sn_ondisk.specs.Trees.{store_of, tree_reach}
 use Rattle.sn_dir_change.proofs.PlannedLemmas.{begin_before, too_full, planned_result}
+use Rattle.sn_tree.specs.Steps.{LeadsOutside}
+use Rattle.sn_tree.proofs.FaultLemmas.{leads_outside}
 use Rattle.sn_dir_change.proofs.planned.change.Goals as goal
 
 pub returns-clause-planned : goal.returns-clause-planned
@@ -25,3 +27,10 @@ returns-clause-full g c =
     let s = store_of (reads (g.D.Device.disk (device_of c.args.blocks.now))) in
     let dirty = c.in_ok-dirty.dirty in
     too_full Told s c.args.tree.now c.args.changes.now dirty.size dirty.keep dirty.blocks.items c.plan_tree.result c.args.build.now c.in_ok-dirty.ensures.wanted c.plan_tree.ensures.full
+
+pub returns-clause-damaged : goal.returns-clause-damaged
+returns-clause-damaged g c told block is =
+    let tree = c.args.tree.now in
+    let sectors = (g.D.Device.status (device_of c.wanted.new.blocks)).sectors in
+    inr (subst (λ (n : ℕ). LeadsOutside n (tree_reach (store_of (reads (g.D.Device.disk (device_of c.args.blocks.now)))) tree)) c.wanted.ensures.counts.sectors
+    (subst (λ (d : Disk). LeadsOutside sectors (tree_reach (store_of (reads d)) tree)) (c.wanted.ensures.same told) (leads_outside (c.plan_tree.ensures.damaged told block is))))

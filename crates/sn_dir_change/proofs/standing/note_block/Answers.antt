@@ -13,7 +13,7 @@ pub returns-clause-sought : goal.returns-clause-sought
 returns-clause-sought g c = λ told.
     c.note_names.ensures
     ∙ ap (λ (links : List Link). map (seen_too links) c.args.list.now)
-    (names_read c.fetched.result.now _ c.in_ok-names.names (c.fetched.ensures.value ∙ c.in_ok-fetch_block.ensures.block told) c.in_ok-names.ensures.spelled)
+    (names_read c.fetched.result.now _ c.in_ok-names.names (c.fetched.ensures.value ∙ c.in_ok-number.ensures.block told) c.in_ok-names.ensures.spelled)
 
 pub returns-clause-listed : goal.returns-clause-listed
 returns-clause-listed g c = ap (λ (xs : List Sought). map change_of xs) c.note_names.ensures ∙ listed-too c.in_ok-names.names c.args.list.now

@@ -24,7 +24,7 @@ returns-in_ok-push_dirty-clause-through g c = λ changes bound through.
     let s = store_of (reads (g.D.Device.disk (device_of c.args.blocks.now))) in
     let bytes = c.fetched-2.result.now in
     through_pushed _ s c.args.tree.now changes bound c.args.i c.args.dirty.now.items c.args.pending.now.standing.items c.args.pending.now.waiting.items c.change_names.new.pending.standing.items c.change_names.new.pending.waiting.items
-    bytes (λ told. c.fetched-2.ensures.value ∙ c.in_ok-fetch_block.ensures.block told) c.requires.index through
+    bytes (λ told. c.fetched-2.ensures.value ∙ c.in_ok-number.ensures.block told) c.requires.index through
     c.change_names.new.block c.change_names.ensures.full c.change_names.ensures.listed (c.change_names.ensures.way changes) c.push_dirty.new.dirty.items c.in_ok-push_dirty.ensures c.change_names.ensures.still (c.change_names.ensures.changed c.if-change_names.true)
 
 pub returns-else-change_names-clause-through : goal.returns-else-change_names-clause-through
@@ -33,7 +33,7 @@ returns-else-change_names-clause-through g c = λ changes bound through.
     let bytes = c.fetched-2.result.now in
     let same = c.change_names.ensures.same c.if-change_names.false in
     through_kept _ s c.args.tree.now changes bound c.args.i c.args.dirty.now.items c.args.pending.now.standing.items c.args.pending.now.waiting.items c.change_names.new.pending.standing.items c.change_names.new.pending.waiting.items
-    bytes (λ told. c.fetched-2.ensures.value ∙ c.in_ok-fetch_block.ensures.block told) c.requires.index through
+    bytes (λ told. c.fetched-2.ensures.value ∙ c.in_ok-number.ensures.block told) c.requires.index through
     c.change_names.new.block c.change_names.ensures.full c.change_names.ensures.listed (c.change_names.ensures.way changes) same.0
     (omega (arith, ap (λ xs. length xs) same.1, ap (λ xs. length xs) same.2))
 

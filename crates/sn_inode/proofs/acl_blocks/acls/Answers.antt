@@ -3,7 +3,7 @@ use Rattle.sn_device.specs.Disk.{Disk, reads}
 use Rattle.sn_block.specs.Lending.{device_of}
 use Rattle.sn_ondisk.specs.Blocks.{block_at}
 use Rattle.sn_ondisk.specs.Trees.{store_of}
-use Rattle.sn_tree_read.specs.Paths.{lies_on}
+use Rattle.sn_tree_read.specs.Paths.{lies_on, block_named}
 use Rattle.sn_inode.proofs.AclLemmas.{none_at, none_read, off_not_read, decoded_acls, decoded_read, decoded_damaged}
 use Rattle.sn_inode.proofs.acl_blocks.acls.Goals as goal
 
@@ -14,10 +14,10 @@ pub returns-then-pointer-eq0-clause-read : goal.returns-then-pointer-eq0-clause-
 returns-then-pointer-eq0-clause-read g c told = none_read _ _ c.args.inode.now c.if-pointer-eq0.true
 
 pub returns-then-not-lies_on-clause-damaged : goal.returns-then-not-lies_on-clause-damaged
-returns-then-not-lies_on-clause-damaged g c told is =
+returns-then-not-lies_on-clause-damaged g c told block is =
     let off : lies_on (g.D.Device.status (device_of c.args.blocks.now)).sectors c.args.inode.now.acl_block ≡ false =
     ap (λ (n : ℕ). lies_on n c.args.inode.now.acl_block) (sym c.sectors.ensures) ∙ sym c.lies_on.ensures ∙ c.if-not-lies_on.true in
-    off_not_read _ _ c.args.inode.now off
+    (off_not_read _ _ c.args.inode.now off, cc (is, c.at.ensures))
 
 pub returns-clause-acls : goal.returns-clause-acls
 returns-clause-acls g c told =
@@ -36,8 +36,8 @@ returns-clause-read g c told =
     decoded_read s _ c.args.inode.now c.fetched.result.now block c.if-pointer-eq0.false c.decoded.result lies c.decoded.ensures.spelled
 
 pub returns-clause-damaged : goal.returns-clause-damaged
-returns-clause-damaged g c told =
+returns-clause-damaged g c told at_block is =
     let s = store_of (reads (g.D.Device.disk (device_of c.args.blocks.now))) in
     let lent = subst (λ (o : Option ℕ). IfSome o (λ number. c.fetched.result.now ≡ block_at (reads (g.D.Device.disk (device_of c.fetch.new.self))) number)) c.in_ok-fetch.ensures.lent (c.fetched.ensures.bytes told) in
     let block : c.fetched.result.now ≡ s c.args.inode.now.acl_block = lent ∙ ap (λ (d : Disk). block_at (reads d) c.args.inode.now.acl_block) (c.fetch.ensures.same told) in
-    decoded_damaged s _ c.args.inode.now c.fetched.result.now block c.if-pointer-eq0.false c.decoded.result c.decoded.ensures.damaged
+    decoded_damaged s _ c.args.inode.now c.fetched.result.now block c.if-pointer-eq0.false (block_named c.args.inode.now.acl_block) c.decoded.result c.decoded.ensures.damaged at_block is

@@ -1,10 +1,9 @@
-use Rattle.std.proofs.Common.{refl}
 use Rattle.sn_inode.proofs.AclLemmas.{spelled_acls, held, not_held}
 use Rattle.sn_inode.proofs.acl_blocks.decoded.Goals as goal
 
 pub returns-then-not-can_have-clause-damaged : goal.returns-then-not-can_have-clause-damaged
 returns-then-not-can_have-clause-damaged c = (
-  refl,
+  c.at.ensures,
   not_held c.args.kind c.args.block.now c.in-Some.acls c.in-Some.ensures.found.0 c.in-Some.ensures.found.1
       (λ allowed. absurd (cc (c.can_have.ensures.1 allowed, c.if-not-can_have.true))),
 )

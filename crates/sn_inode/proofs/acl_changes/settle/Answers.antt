@@ -40,11 +40,11 @@ loop-change-preserved g c =
     }
 
 pub returns-in_err-record-clause-damaged : goal.returns-in_err-record-clause-damaged
-returns-in_err-record-clause-damaged g c told is =
+returns-in_err-record-clause-damaged g c told block is =
     let p = err_from_is_err_and c.from_residual.result c.from_residual.ensures.1 in
-    let fault : c.in_err-record.field-0.0 ≡ Tree Damaged = cc (p.1, p.2) in
+    let fault : c.in_err-record.field-0.0 ≡ Tree (Damaged block) = cc (p.1, p.2) in
     let item = c.change-item.result in
-    let here = c.in_err-record.ensures.damaged told (ap (λ f. Err f) fault) in
+    let here = c.in_err-record.ensures.damaged told block (ap (λ f. Err f) fault) in
     let sectors = (g.D.Device.status (device_of c.loop-change.blocks)).sectors in
     inl (
       item.number,

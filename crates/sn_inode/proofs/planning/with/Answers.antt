@@ -1,4 +1,4 @@
-use Rattle.std.proofs.Common.{◌≡◌, ◌≢◌, inl, ℕ, ◌/◌, ◌+◌, ◌-◌, ◌≤◌, List, Err, slice_index, length, map, IsTrue, refl, sym, ap, subst, ◌∙◌, arith}
+use Rattle.std.proofs.Common.{◌≡◌, ◌≢◌, inl, inr, ℕ, ◌/◌, ◌+◌, ◌-◌, ◌≤◌, List, Err, slice_index, length, map, IsTrue, refl, sym, ap, subst, ◌∙◌, arith}
 use Rattle.std.specs.Prelude.{All}
 use Rattle.std.proofs.lemmas.Bool.{eqb-true, eqb-false, true≢false}
 use Rattle.std.proofs.lemmas.List.{length-map}
@@ -6,8 +6,10 @@ use Rattle.std.proofs.lemmas.Result.{err_from_is_err_and}
 use Rattle.sn_device.specs.Disk.{Disk, reads}
 use Rattle.sn_device.specs.declared.status.Status.{Status}
 use Rattle.sn_block.specs.Lending.{device_of}
-use Rattle.sn_ondisk.specs.Trees.{Store, store_of, data_block}
+use Rattle.sn_ondisk.specs.Trees.{Store, store_of, data_block, tree_reach}
+use Rattle.sn_tree.specs.Steps.{LeadsOutside}
 use Rattle.sn_tree.specs.declared.fault.PlanFault.TheVariants.{Tree}
+use Rattle.sn_tree.proofs.FaultLemmas.{leads_outside}
 use Rattle.sn_tree.specs.declared.new_block.DirtyBlock.{DirtyBlock}
 use Rattle.sn_tree_read.specs.declared.fault.TreeFault.TheVariants.{Damaged}
 use Rattle.sn_inode.specs.Changes.{numbers_in}
@@ -22,12 +24,12 @@ returns-then-is_empty-clause-with g c =
     with_none _ c.args.limits.now _ c.args.file.now c.args.changes.now c.args.build.now (empty_list c.args.changes.now (eqb-true (length c.args.changes.now) 0 (sym c.is_empty.ensures ∙ c.if-is_empty.true)))
 
 pub returns-in_err-dirty-clause-damaged : goal.returns-in_err-dirty-clause-damaged
-returns-in_err-dirty-clause-damaged g c = λ told is.
+returns-in_err-dirty-clause-damaged g c = λ told block is.
     let p = err_from_is_err_and c.from_residual-in_err-dirty.result c.from_residual-in_err-dirty.ensures.1 in
-    let fault : c.in_err-dirty.field-0.0 ≡ Tree Damaged = cc (p.1, p.2) in
+    let fault : c.in_err-dirty.field-0.0 ≡ Tree (Damaged block) = cc (p.1, p.2) in
     let file = c.args.file.now in
     let status = g.D.Device.status (device_of c.settle.new.blocks) in
-    let there = c.in_err-dirty.ensures.damaged told (ap (λ f. Err f) fault) in
+    let there = c.in_err-dirty.ensures.damaged told block (ap (λ f. Err f) fault) in
     let named : IsOff status.sectors (store_of (reads (g.D.Device.disk (device_of c.settle.new.blocks)))) file (numbers_in c.args.changes.now) =
     subst (λ (ns : List ℕ). IsOff status.sectors (store_of (reads (g.D.Device.disk (device_of c.settle.new.blocks)))) file ns) (ap (λ (xs : List StoredRecord). map (λ (x : StoredRecord). x.number) xs) c.as_slice.ensures.value ∙ c.in_ok-stored.ensures.settled.numbers) there in
     let here : IsOff (g.D.Device.status (device_of c.args.blocks.now)).sectors (store_of (reads (g.D.Device.disk (device_of c.args.blocks.now)))) file (numbers_in c.args.changes.now) =
@@ -84,3 +86,11 @@ returns-clause-file g c = λ full.
     let s = store_of (reads (g.D.Device.disk (device_of c.args.blocks.now))) in
     file_result (IsTrue g.D.Device.tells_bytes) c.args.limits.now s s c.args.file.now c.args.changes.now c.in_ok-stored.stored.items (c.args.file.now.size / 4096) c.size_with.result c.in_ok-dirty.dirty.items c.args.build.now c.settle.new.build c.plan_tree.new.build
     refl c.requires.file c.size_with.ensures.value (c.size_with.ensures.most c.fits.ensures) c.requires.changes c.requires.rise (λ none. other (ap (λ (cs : List InodeChange). length cs) none)) (omega (arith, other)) c.plan_tree.result full c.plan_tree.ensures.size
+
+pub returns-clause-damaged : goal.returns-clause-damaged
+returns-clause-damaged g c told block is =
+    let file = c.args.file.now in
+    let sectors = (g.D.Device.status (device_of c.patched.new.blocks)).sectors in
+    let disk : g.D.Device.disk (device_of c.patched.new.blocks) ≡ g.D.Device.disk (device_of c.args.blocks.now) = c.patched.ensures.same told ∙ c.settle.ensures.same told in
+    inr (subst (λ (n : ℕ). LeadsOutside n (tree_reach (store_of (reads (g.D.Device.disk (device_of c.args.blocks.now)))) file)) (c.patched.ensures.counts.sectors ∙ c.settle.ensures.counts.sectors)
+    (subst (λ (d : Disk). LeadsOutside sectors (tree_reach (store_of (reads d)) file)) disk (leads_outside (c.plan_tree.ensures.damaged told block is))))

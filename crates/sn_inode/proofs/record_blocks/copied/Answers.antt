@@ -15,12 +15,12 @@ pub returns-then-index-file-clause-bytes : goal.returns-then-index-file-clause-b
 returns-then-index-file-clause-bytes g c told =
     c.in_ok-boxed.ensures ∙ zeros_are ∙ sym (none_here _ c.args.index _ c.if-index-file.true)
 
-pub returns-then-branch-clause-bytes : goal.returns-then-branch-clause-bytes
-returns-then-branch-clause-bytes g c told =
+pub returns-then-is_some-clause-bytes : goal.returns-then-is_some-clause-bytes
+returns-then-is_some-clause-bytes g c told =
     let block : c.fetched.result.now ≡ data_block (store_of (reads (g.D.Device.disk (device_of c.args.blocks.now)))) c.args.file.now c.args.index =
-    lent_is (fetched_number c.fetch_data.new.blocks) _ c.fetched.result.now _ (c.in_ok-fetch_data.ensures.lent c.if-branch.true) (c.fetched.ensures.bytes told) (c.in_ok-fetch_data.ensures.block told c.if-branch.true) in
+    lent_is (fetched_number c.fetch_data.new.blocks) _ c.fetched.result.now _ (c.in_ok-fetch_data.ensures.lent (sym c.is_some.ensures ∙ c.if-is_some.true)) (c.fetched.ensures.bytes told) (c.in_ok-fetch_data.ensures.block told (sym c.is_some.ensures ∙ c.if-is_some.true)) in
     c.in_ok-boxed-2.ensures ∙ block ∙ sym (kept_here _ c.args.index _ c.if-index-file.false)
 
 pub returns-clause-bytes : goal.returns-clause-bytes
 returns-clause-bytes g c told =
-    c.in_ok-boxed-3.ensures ∙ zeros_are ∙ sym (c.in_ok-fetch_data.ensures.hole told c.if-branch.false) ∙ sym (kept_here _ c.args.index _ c.if-index-file.false)
+    c.in_ok-boxed-3.ensures ∙ zeros_are ∙ sym (c.in_ok-fetch_data.ensures.hole told (sym c.is_some.ensures ∙ c.if-is_some.false)) ∙ sym (kept_here _ c.args.index _ c.if-index-file.false)

@@ -65,11 +65,11 @@ store_record-requires-clause-most g c =
     All-weaker (λ (d : DirtyBlock). d.index ≤ slice_index numbers k / 32) (λ (d : DirtyBlock). d.index ≤ item.number / 32) (λ d le. omega (arith, le, number)) c.loop-next.dirty.items (c.loop-next.invariant.most k (omega arith) c.loop-next-test.true)
 
 pub returns-in_err-store_record-clause-damaged : goal.returns-in_err-store_record-clause-damaged
-returns-in_err-store_record-clause-damaged g c = λ told is.
+returns-in_err-store_record-clause-damaged g c = λ told block is.
     let p = err_from_is_err_and c.from_residual.result c.from_residual.ensures.1 in
-    let fault : c.in_err-store_record.field-0.0 ≡ Tree Damaged = cc (p.1, p.2) in
+    let fault : c.in_err-store_record.field-0.0 ≡ Tree (Damaged block) = cc (p.1, p.2) in
     let item = c.next-item.result in
-    let here = c.in_err-store_record.ensures.damaged told (ap (λ f. Err f) fault) in
+    let here = c.in_err-store_record.ensures.damaged told block (ap (λ f. Err f) fault) in
     let sectors = (g.D.Device.status (device_of c.loop-next.blocks)).sectors in (
       item.number,
       mapped_there (λ (x : StoredRecord). x.number) c.args.stored.now c.loop-next.next-index item c.loop-next-test.true c.next-item.is,

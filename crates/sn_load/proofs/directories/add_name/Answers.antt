@@ -52,7 +52,7 @@ returns-then-has_node-clause-nodes g c =
     (λ e. inl ((linked_adds c.args.limits.now old new c.args.directory (record { number = c.args.name.now.number; name = c.in_ok-new.field-0 }) e).0, refl))
 
 pub returns-then-has_node-clause-damaged : goal.returns-then-has_node-clause-damaged
-returns-then-has_node-clause-damaged g c told is sound done filling among vacant =
+returns-then-has_node-clause-damaged g c told block is sound done filling among vacant =
     let s = store_of (reads (g.D.Device.disk (device_of c.args.blocks.now))) in
     let sectors = (g.D.Device.status (device_of c.args.blocks.now)).sectors in
     let old = tree_of c.args.tree.now in
@@ -70,10 +70,10 @@ returns-clause-nodes g c =
     ok_then c.make_directory.result c.make_directory.ensures.nodes (λ makes. inr (absent, makes))
 
 pub returns-clause-damaged : goal.returns-clause-damaged
-returns-clause-damaged g c told is sound done filling among vacant =
+returns-clause-damaged g c told block is sound done filling among vacant =
     let s = store_of (reads (g.D.Device.disk (device_of c.args.blocks.now))) in
     let name : c.in_ok-new.field-0 ≡ c.args.name.now.name = c.in_ok-new.ensures ∙ c.as_bytes.ensures in
     let absent = absent_of _ (sym c.has_node.ensures ∙ c.if-has_node.false) in
-    c.make_directory.ensures.damaged told is sound done filling
+    c.make_directory.ensures.damaged told block is sound done filling
     (subst (λ (w : List ℕ). Contains (names_at s c.args.file.now c.args.directory) (record { number = c.args.name.now.number; name = w })) (sym name) among)
     (subst (λ (w : List ℕ). get (tree_of c.args.tree.now).links (link_to c.args.directory w) ≡ None) (sym name) vacant) absent

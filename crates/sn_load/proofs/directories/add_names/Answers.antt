@@ -42,7 +42,7 @@ pub returns-clause-names : goal.returns-clause-names
 returns-clause-names g c = subst (λ names. AddsNames c.args.directory names (tree_of c.args.tree.now).links (tree_of c.loop-i.tree).links) (ap (map link_of) (take_all c.loop-i.i c.args.names.now c.loop-i-test.false)) c.loop-i.invariant.names
 
 pub returns-in_err-add_name-clause-damaged : goal.returns-in_err-add_name-clause-damaged
-returns-in_err-add_name-clause-damaged g c told is sound done begun none same =
+returns-in_err-add_name-clause-damaged g c told block is sound done begun none same =
     let bad = ap (λ f. Err f) (was_damaged _ _ c.from_residual.ensures.1 is) in
     let s = store_of (reads (g.D.Device.disk (device_of c.args.blocks.now))) in
     let x = link_of c.index-names-i.result in
@@ -53,7 +53,7 @@ returns-in_err-add_name-clause-damaged g c told is sound done begun none same =
     let filling = c.loop-i.invariant.filling told sound done begun none same in
     let among = is_among link_of c.args.names.now (names_at s c.args.file.now c.args.directory) c.loop-i.i x same more in
     let few = before_once link_of c.args.names.now (names_at s c.args.file.now c.args.directory) c.loop-i.i x same more (sound.names.once c.args.directory x.name) in
-    c.in_err-add_name.ensures.damaged told bad (at_now _ _ _ _ _ stays (λ k r. IsSoundOn c.args.limits.now k r c.args.file.now) told sound) done
+    c.in_err-add_name.ensures.damaged told block bad (at_now _ _ _ _ _ stays (λ k r. IsSoundOn c.args.limits.now k r c.args.file.now) told sound) done
     (at_now _ _ _ _ _ stays (λ k r. IsFilling c.args.limits.now r c.args.file.now done c.args.directory c.loop-i.pending.items now) told filling)
     (at_now _ _ _ _ _ stays (λ k r. Contains (names_at r c.args.file.now c.args.directory) x) told among)
     (next_vacant c.args.directory (map link_of (take c.loop-i.i c.args.names.now)) x (tree_of c.args.tree.now) now none c.loop-i.invariant.names few)

@@ -30,17 +30,17 @@ returns-in_ok-names-in-Tree-clause-loading g c told =
     (subst (λ (r : Store). IsPart r c.args.file.now (c.args.directory ∷ c.args.pending.now.items) old → IsPart r c.args.file.now (c.args.directory ∷ c.add_names.new.pending.items) new) same part loading.part))
 
 pub returns-in_err-inode-clause-damaged : goal.returns-in_err-inode-clause-damaged
-returns-in_err-inode-clause-damaged g c told is sound done filling none =
+returns-in_err-inode-clause-damaged g c told block is sound done filling none =
     let bad = ap (λ f. Err f) (was_damaged _ _ c.from_residual.ensures.1 is) in
     let s = store_of (reads (g.D.Device.disk (device_of c.args.blocks.now))) in
-    c.in_err-inode.ensures.damaged told bad sound (directory_inode c.args.limits.now _ s c.args.file.now sound c.args.directory (image_directory c.args.limits.now _ s c.args.file.now sound (tree_of c.args.tree.now) filling.part.nodes c.args.directory filling.here))
+    c.in_err-inode.ensures.damaged told block bad sound (directory_inode c.args.limits.now _ s c.args.file.now sound c.args.directory (image_directory c.args.limits.now _ s c.args.file.now sound (tree_of c.args.tree.now) filling.part.nodes c.args.directory filling.here))
 
 pub returns-in-Inline-clause-damaged : goal.returns-in-Inline-clause-damaged
-returns-in-Inline-clause-damaged g c told is sound done filling none =
+returns-in-Inline-clause-damaged g c told block is sound done filling none =
     not_inline c.args.limits.now _ _ c.args.file.now sound c.args.directory c.in_ok-inode.inode (c.in_ok-inode.ensures.inode told) _ c.in_ok-inode.ensures.kind c.in-Inline.is
 
 pub returns-in_err-names-in-Tree-clause-damaged : goal.returns-in_err-names-in-Tree-clause-damaged
-returns-in_err-names-in-Tree-clause-damaged g c told is sound done filling none =
+returns-in_err-names-in-Tree-clause-damaged g c told block is sound done filling none =
     let bad = ap (λ f. Err f) (was_damaged _ _ c.from_residual-in_err-names-in-Tree.ensures.1 is) in
     let s = store_of (reads (g.D.Device.disk (device_of c.args.blocks.now))) in
     let sectors = (g.D.Device.status (device_of c.args.blocks.now)).sectors in
@@ -48,7 +48,7 @@ returns-in_err-names-in-Tree-clause-damaged g c told is sound done filling none 
     let readable = directory_read c.args.limits.now sectors s c.args.file.now sound c.args.directory c.in_ok-inode.inode (c.in_ok-inode.ensures.inode told) c.in-Tree.names c.in_ok-inode.ensures.kind c.in-Tree.is in
     let names = directory_names s c.args.file.now c.args.directory c.in_ok-inode.inode (c.in_ok-inode.ensures.inode told) c.in_ok-inode.ensures.kind ∙ ap (names_of s) c.in-Tree.is in
     let few = subst (λ xs. length xs ≤ c.args.limits.now.names) names (sound.names.few c.args.directory) in
-    c.in_err-names-in-Tree.ensures.damaged told bad (λ out. readable (at_start _ _ _ _ _ stays (λ k r. IsDamaged (λ x. ⊤) k r c.in-Tree.names) told out))
+    c.in_err-names-in-Tree.ensures.damaged told block bad (λ out. readable (at_start _ _ _ _ _ stays (λ k r. IsDamaged (λ x. ⊤) k r c.in-Tree.names) told out))
     (at_now _ _ _ _ _ stays (λ k r. length (names_of r (Tree c.in-Tree.names)) ≤ c.args.limits.now.names) told few)
 
 pub returns-in_ok-names-in-Tree-clause-opens : goal.returns-in_ok-names-in-Tree-clause-opens
@@ -64,11 +64,11 @@ returns-in_ok-names-in-Tree-clause-opens g c told =
     filling_done c.args.limits.now s c.args.file.now done c.args.directory c.add_names.new.pending.items (tree_of c.add_names.new.tree) full (loads (record { part = filling.part; names = filling.names })))
 
 pub returns-in_ok-names-in-Tree-clause-damaged : goal.returns-in_ok-names-in-Tree-clause-damaged
-returns-in_ok-names-in-Tree-clause-damaged g c told is sound done filling none =
+returns-in_ok-names-in-Tree-clause-damaged g c told block is sound done filling none =
     let s = store_of (reads (g.D.Device.disk (device_of c.args.blocks.now))) in
     let first = c.directory_at.ensures.same told in
     let all = names_listed s _ c.args.file.now c.args.directory c.in_ok-inode.inode c.in-Tree.names c.in_ok-names-in-Tree.names.items c.as_slice.result.now (ap (λ (d : Disk). store_of (reads d)) first) (c.in_ok-inode.ensures.inode told) c.in_ok-inode.ensures.kind c.in-Tree.is c.as_slice.ensures.value (c.in_ok-names-in-Tree.ensures.names told) in
     let stays : Stays _ _ _ _ _ = record { status = c.in_ok-names-in-Tree.ensures.counts.done ∙ c.in_ok-inode.ensures.counts.done; same = λ t. c.listed.ensures.same t ∙ c.directory_at.ensures.same t } in
-    c.add_names.ensures.damaged told is (at_now _ _ _ _ _ stays (λ k r. IsSoundOn c.args.limits.now k r c.args.file.now) told sound) done
+    c.add_names.ensures.damaged told block is (at_now _ _ _ _ _ stays (λ k r. IsSoundOn c.args.limits.now k r c.args.file.now) told sound) done
     (at_now _ _ _ _ _ stays (λ k r. IsFilling c.args.limits.now r c.args.file.now done c.args.directory c.args.pending.now.items (tree_of c.args.tree.now)) told filling) none
     (at_now _ _ _ _ _ stays (λ k r. IsPermutation (names_at r c.args.file.now c.args.directory) (map link_of c.as_slice.result.now)) told all)

@@ -56,24 +56,24 @@ returns-clause-nodes g c =
     record { node = node_with Directory o []; kind = refl; makes = adds.0; pends = c.in_ok-note.ensures }
 
 pub returns-in_err-inode-clause-damaged : goal.returns-in_err-inode-clause-damaged
-returns-in_err-inode-clause-damaged g c told is sound done filling among vacant absent =
+returns-in_err-inode-clause-damaged g c told block is sound done filling among vacant absent =
     let bad = ap (λ f. Err f) (was_damaged _ _ c.from_residual.ensures.1 is) in
     let s = store_of (reads (g.D.Device.disk (device_of c.args.blocks.now))) in
     let name : Name = record { number = c.args.number; name = c.args.link.name } in
-    c.in_err-inode.ensures.damaged told bad sound (directory_inode c.args.limits.now _ s c.args.file.now sound c.args.number
+    c.in_err-inode.ensures.damaged told block bad sound (directory_inode c.args.limits.now _ s c.args.file.now sound c.args.number
     (named_directory c.args.limits.now _ s c.args.file.now sound (tree_of c.args.tree.now) c.args.link.directory name filling.part.files among absent))
 
 pub returns-in_err-owner-clause-damaged : goal.returns-in_err-owner-clause-damaged
-returns-in_err-owner-clause-damaged g c told is sound done filling among vacant absent =
+returns-in_err-owner-clause-damaged g c told block is sound done filling among vacant absent =
     let bad = ap (λ f. Err f) (was_damaged _ _ c.from_residual-in_err-owner.ensures.1 is) in
     let s = store_of (reads (g.D.Device.disk (device_of c.args.blocks.now))) in
     let sectors = (g.D.Device.status (device_of c.args.blocks.now)).sectors in
     let stays : Stays _ _ _ _ _ = record { status = c.in_ok-inode.ensures.counts.done; same = c.directory_at.ensures.same } in
     let can = sound.acls c.args.number c.in_ok-inode.inode (c.in_ok-inode.ensures.inode told) in
-    c.in_err-owner.ensures.damaged told bad (at_now _ _ _ _ _ stays (λ k r. CanReadAcls k r c.in_ok-inode.inode) told can)
+    c.in_err-owner.ensures.damaged told block bad (at_now _ _ _ _ _ stays (λ k r. CanReadAcls k r c.in_ok-inode.inode) told can)
 
 pub returns-in_err-applied-clause-damaged : goal.returns-in_err-applied-clause-damaged
-returns-in_err-applied-clause-damaged g c told is sound done filling among vacant absent =
+returns-in_err-applied-clause-damaged g c told block is sound done filling among vacant absent =
     let bad = ap (λ f. Err f) (was_damaged _ _ c.from_residual-in_err-applied.ensures.1 is) in
     let s = store_of (reads (g.D.Device.disk (device_of c.args.blocks.now))) in
     let sectors = (g.D.Device.status (device_of c.args.blocks.now)).sectors in

@@ -46,12 +46,12 @@ returns-clause-whole g c =
     ok_then c.write_bytes.result c.write_bytes.ensures.whole (λ keeps whole. keeps (added_keeps c.args.limits.now old mid c.args.number o whole asked))
 
 pub returns-in_err-owner-clause-damaged : goal.returns-in_err-owner-clause-damaged
-returns-in_err-owner-clause-damaged g c told is file sound used noted files whole =
+returns-in_err-owner-clause-damaged g c told block is file sound used noted files whole =
     let bad = ap (λ f. Err f) (was_damaged _ _ c.from_residual.ensures.1 is) in
-    c.in_err-owner.ensures.damaged told bad (sound.acls c.args.number c.args.inode.now used)
+    c.in_err-owner.ensures.damaged told block bad (sound.acls c.args.number c.args.inode.now used)
 
 pub returns-in_err-applied-clause-damaged : goal.returns-in_err-applied-clause-damaged
-returns-in_err-applied-clause-damaged g c told is file sound used noted files whole =
+returns-in_err-applied-clause-damaged g c told block is file sound used noted files whole =
     let bad = ap (λ f. Err f) (was_damaged _ _ c.from_residual-in_err-applied.ensures.1 is) in
     let s = store_of (reads (g.D.Device.disk (device_of c.args.blocks.now))) in
     let o = c.in_ok-owner.owner in
@@ -61,12 +61,12 @@ returns-in_err-applied-clause-damaged g c told is file sound used noted files wh
     never_refused c.add_file.result c.applied.result (file_added c.args.limits.now old c.args.number o) old (tree_of c.add_file.new.self) _ c.applied.ensures c.add_file.ensures fits (c.in_err-applied.was ∙ bad)
 
 pub returns-clause-damaged : goal.returns-clause-damaged
-returns-clause-damaged g c told is file sound used noted files whole =
+returns-clause-damaged g c told block is file sound used noted files whole =
     let o = c.in_ok-owner.owner in
     let old = tree_of c.args.tree.now in
     let mid = tree_of c.add_file.new.self in
     let asked = ok_applied c.add_file.result c.applied.result c.in_ok-applied.field-0 (file_added c.args.limits.now old c.args.number o) old mid c.applied.ensures c.in_ok-applied.was c.add_file.ensures in
     let put = added_puts c.args.limits.now old mid c.args.number o asked in
     let stays : Stays _ _ _ _ _ = record { status = c.in_ok-owner.ensures.counts.done; same = c.ownership.ensures.same } in
-    c.write_bytes.ensures.damaged told is (at_now _ _ _ _ _ stays (λ k r. IsInside k r c.args.inode.now.content) told (file_read c.args.limits.now _ _ file sound c.args.number c.args.inode.now used c.requires.kind))
+    c.write_bytes.ensures.damaged told block is (at_now _ _ _ _ _ stays (λ k r. IsInside k r c.args.inode.now.content) told (file_read c.args.limits.now _ _ file sound c.args.number c.args.inode.now used c.requires.kind))
     (node_with File o []) put.there refl refl

@@ -27,14 +27,14 @@ pub returns-in_ok-note-in-Directory-clause-number : goal.returns-in_ok-note-in-D
 returns-in_ok-note-in-Directory-clause-number g c told = loads_directory (store_of (reads (g.D.Device.disk (device_of c.args.blocks.now)))) c.args.file.now c.args.number c.in-Some.inode (tree_of c.args.tree.now) c.args.noted.now.items c.note.new.numbers.items (sym (c.in_ok-inode.ensures.inode told) ∙ c.in-Some.is) c.in-Directory.is c.in_ok-note-in-Directory.ensures
 
 pub returns-in_err-inode-clause-damaged : goal.returns-in_err-inode-clause-damaged
-returns-in_err-inode-clause-damaged g c told is sound files whole =
+returns-in_err-inode-clause-damaged g c told block is sound files whole =
     let bad = ap (λ f. Err f) (was_damaged _ _ c.from_residual.ensures.1 is) in
-    c.in_err-inode.ensures.damaged told bad (sound.records c.args.number)
+    (c.in_err-inode.ensures.damaged told block bad).0 (sound.records c.args.number)
 
 pub returns-in-File-clause-damaged : goal.returns-in-File-clause-damaged
-returns-in-File-clause-damaged g c told is sound files whole =
+returns-in-File-clause-damaged g c told block is sound files whole =
     let used = sym (c.in_ok-inode.ensures.inode told) ∙ c.in-Some.is in
     let stays : Stays _ _ _ _ _ = record { status = c.in_ok-inode.ensures.counts.done; same = c.get.ensures.same } in
-    c.load_file.ensures.damaged told is c.args.file.now (at_now _ _ _ _ _ stays (λ k r. IsSoundOn c.args.limits.now k r c.args.file.now) told sound)
+    c.load_file.ensures.damaged told block is c.args.file.now (at_now _ _ _ _ _ stays (λ k r. IsSoundOn c.args.limits.now k r c.args.file.now) told sound)
     (at_now _ _ _ _ _ stays (λ k r. inode_at r c.args.file.now c.args.number ≡ Some c.in-Some.inode) told used) c.args.noted.now.items
     (at_now _ _ _ _ _ stays (λ k r. HasFiles r c.args.file.now c.args.number c.args.noted.now.items (tree_of c.args.tree.now)) told files) whole

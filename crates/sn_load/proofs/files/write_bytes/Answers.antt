@@ -39,10 +39,10 @@ returns-clause-written g c told node there kind none =
     subst (λ (bytes : List ℕ). Puts c.args.number (record node { bytes = bytes }) (tree_of c.args.tree.now) (tree_of c.loop-i.tree)) all has.puts
 
 pub returns-in_err-write_part-clause-damaged : goal.returns-in_err-write_part-clause-damaged
-returns-in_err-write_part-clause-damaged g c told is lies node there kind none =
+returns-in_err-write_part-clause-damaged g c told block is lies node there kind none =
     let bad = ap (λ f. Err f) (was_damaged _ _ c.from_residual.ensures.1 is) in
     let has = c.loop-i.invariant.bytes told node there kind none in
     let begun = part_short c.loop-i.i c.size.result (size_of c.args.content.now) c.div_ceil-parts.result c.size.ensures c.div_ceil-parts.ensures c.loop-i-test.true in
     let most = content_most c.args.limits.now c.args.content.now c.requires.version c.requires.content in
-    c.in_err-write_part.ensures.damaged told bad (at_now _ _ _ _ _ c.loop-i.invariant.stays (λ k r. IsInside k r c.args.content.now) told lies)
+    c.in_err-write_part.ensures.damaged told block bad (at_now _ _ _ _ _ c.loop-i.invariant.stays (λ k r. IsInside k r c.args.content.now) told lies)
     (record node { bytes = has.bytes }) has.puts.there kind begun most

@@ -10,6 +10,7 @@ use Rattle.sn_tree_read.specs.Reads.{IsPart}
 use Rattle.sn_load.proofs.StepLemmas.{on_applied, writes_part, was_damaged}
 use Rattle.sn_layout_node.specs.Inode.{size_of}
 use Rattle.sn_load.proofs.FitLemmas.{never_refused, written_fits}
+use Rattle.sn_tree_read.proofs.LawLemmas.{outside_of}
 use Rattle.sn_load.proofs.files.write_part.Goals as goal
 
 pub returns-clause-written : goal.returns-clause-written
@@ -31,12 +32,12 @@ returns-clause-whole g c =
     (λ e whole. tree_kept c.args.limits.now (Write c.args.number c.args.offset c.as_slice-bytes.result.now) old new whole e)
 
 pub returns-in_err-part-clause-damaged : goal.returns-in_err-part-clause-damaged
-returns-in_err-part-clause-damaged g c told is lies node there kind begun most =
+returns-in_err-part-clause-damaged g c told block is lies node there kind begun most =
     let bad = ap (λ f. Err f) (was_damaged _ _ c.from_residual.ensures.1 is) in
-    lies c.args.offset 65536 (c.in_err-part.ensures.damaged told bad)
+    lies c.args.offset 65536 (outside_of _ _ c.args.content.now _ _ _ (c.in_err-part.ensures.damaged told block bad))
 
 pub returns-clause-damaged : goal.returns-clause-damaged
-returns-clause-damaged g c told is lies node there kind begun most =
+returns-clause-damaged g c told block is lies node there kind begun most =
     let s = store_of (reads (g.D.Device.disk (device_of c.args.blocks.now))) in
     let bytes = c.as_slice-bytes.result.now in
     let old = tree_of c.args.tree.now in

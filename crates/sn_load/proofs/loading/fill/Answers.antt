@@ -26,16 +26,16 @@ returns-clause-image g c told begun =
     is_image s file c.load_files.new.noted.items first tree files loading there c.image_laws.ensures.nodes c.image_laws.ensures.names
 
 pub returns-in_err-load_files-clause-damaged : goal.returns-in_err-load_files-clause-damaged
-returns-in_err-load_files-clause-damaged g c told is sound begun whole =
+returns-in_err-load_files-clause-damaged g c told block is sound begun whole =
     let bad = ap (λ f. Err f) (was_damaged _ _ c.from_residual-in_err-load_files.ensures.1 is) in
     let s = store_of (reads (g.D.Device.disk (device_of c.args.blocks.now))) in
     let file = c.args.file.now in
     let first = tree_of c.load_files.new.tree in
     let had = subst (λ (ns : List ℕ). HasFiles s file 3 ns (tree_of c.args.tree.now)) (sym c.in_ok-noted.ensures) begun in
-    c.in_err-load_files.ensures.damaged told bad sound had whole
+    c.in_err-load_files.ensures.damaged told block bad sound had whole
 
 pub returns-in_err-load_names-clause-damaged : goal.returns-in_err-load_names-clause-damaged
-returns-in_err-load_names-clause-damaged g c told is sound begun whole =
+returns-in_err-load_names-clause-damaged g c told block is sound begun whole =
     let bad = ap (λ f. Err f) (was_damaged _ _ c.from_residual-in_err-load_names.ensures.1 is) in
     let s = store_of (reads (g.D.Device.disk (device_of c.args.blocks.now))) in
     let file = c.args.file.now in
@@ -45,11 +45,11 @@ returns-in_err-load_names-clause-damaged g c told is sound begun whole =
     let kept = c.in_ok-load_files.ensures.whole whole in
     let open_one = subst (λ (ns : List ℕ). IsOpen c.args.limits.now s file 0 ns first) (sym c.in_ok-pending.ensures) (open_begun c.args.limits.now s file c.load_files.new.noted.items first kept files) in
     let stays : Stays _ _ _ _ _ = record { status = c.in_ok-load_files.ensures.counts.done; same = c.load_files.ensures.same } in
-    c.in_err-load_names.ensures.damaged told bad (at_now _ _ _ _ _ stays (λ k r. IsSoundOn c.args.limits.now k r file) told sound)
+    c.in_err-load_names.ensures.damaged told block bad (at_now _ _ _ _ _ stays (λ k r. IsSoundOn c.args.limits.now k r file) told sound)
     (at_now _ _ _ _ _ stays (λ k r. IsOpen c.args.limits.now r file 0 c.in_ok-pending.pending.items first) told open_one)
 
 pub returns-then-not-are_there-clause-damaged : goal.returns-then-not-are_there-clause-damaged
-returns-then-not-are_there-clause-damaged g c told is sound begun whole =
+returns-then-not-are_there-clause-damaged g c told block is sound begun whole =
     let s = store_of (reads (g.D.Device.disk (device_of c.args.blocks.now))) in
     let file = c.args.file.now in
     let first = tree_of c.load_files.new.tree in

@@ -24,8 +24,8 @@ loop-number-preserved g c =
     }
 
 pub returns-in_err-load_number-clause-damaged : goal.returns-in_err-load_number-clause-damaged
-returns-in_err-load_number-clause-damaged g c told is sound files whole =
+returns-in_err-load_number-clause-damaged g c told block is sound files whole =
     let bad = ap (λ f. Err f) (was_damaged _ _ c.from_residual.ensures.1 is) in
     let stays = c.loop-number.invariant.stays in
-    c.in_err-load_number.ensures.damaged told bad (at_now _ _ _ _ _ stays (λ k r. IsSoundOn c.args.limits.now k r c.args.file.now) told sound)
+    c.in_err-load_number.ensures.damaged told block bad (at_now _ _ _ _ _ stays (λ k r. IsSoundOn c.args.limits.now k r c.args.file.now) told sound)
     (at_now _ _ _ _ _ stays (λ k r. HasFiles r c.args.file.now c.loop-number.number c.loop-number.noted.items (tree_of c.loop-number.tree)) told (c.loop-number.invariant.files told files)) (c.loop-number.invariant.whole whole)

@@ -35,14 +35,14 @@ returns-in_default-clause-loading g c told loading =
     subst (λ (ns : List ℕ). IsLoading (store_of (reads (g.D.Device.disk (device_of c.args.blocks.now)))) c.args.file.now ns (tree_of c.loop-turn.tree)) none (c.loop-turn.invariant.loading told loading)
 
 pub returns-in_err-load_directory-clause-damaged : goal.returns-in_err-load_directory-clause-damaged
-returns-in_err-load_directory-clause-damaged g c told is sound begun =
+returns-in_err-load_directory-clause-damaged g c told block is sound begun =
     let bad = ap (λ f. Err f) (was_damaged _ _ c.from_residual.ensures.1 is) in
     let s = store_of (reads (g.D.Device.disk (device_of c.args.blocks.now))) in
     let stays = c.loop-turn.invariant.stays in
     let b = filling_begun c.args.limits.now s c.args.file.now c.loop-turn._turn c.in-Some.directory c.loop-turn.pending.items c.pop.new.self.items (tree_of c.loop-turn.tree) c.in-Some.ensures.items (c.loop-turn.invariant.begun told sound begun) in
-    c.in_err-load_directory.ensures.damaged told bad (at_now _ _ _ _ _ stays (λ k r. IsSoundOn c.args.limits.now k r c.args.file.now) told sound) c.loop-turn._turn
+    c.in_err-load_directory.ensures.damaged told block bad (at_now _ _ _ _ _ stays (λ k r. IsSoundOn c.args.limits.now k r c.args.file.now) told sound) c.loop-turn._turn
     (at_now _ _ _ _ _ stays (λ k r. IsFilling c.args.limits.now r c.args.file.now c.loop-turn._turn c.in-Some.directory c.pop.new.self.items (tree_of c.loop-turn.tree)) told b.0) b.1
 
 pub returns-clause-damaged : goal.returns-clause-damaged
-returns-clause-damaged g c told is sound begun =
+returns-clause-damaged g c told block is sound begun =
     never_so_many c.args.limits.now _ _ c.args.file.now c.loop-turn._turn c.loop-turn.pending.items (tree_of c.loop-turn.tree) sound (omega arith) (c.loop-turn.invariant.begun told sound begun)

@@ -32,21 +32,21 @@ returns-clause-whole g c =
     root_whole c.args.limits.now tree after o c.requires.version c.in_ok-tree.ensures asked
 
 pub returns-in_err-inode-clause-damaged : goal.returns-in_err-inode-clause-damaged
-returns-in_err-inode-clause-damaged g c told is sound =
+returns-in_err-inode-clause-damaged g c told block is sound =
     let bad = ap (λ f. Err f) (was_damaged _ _ c.from_residual.ensures.1 is) in
-    c.in_err-inode.ensures.damaged told bad sound sound.root
+    c.in_err-inode.ensures.damaged told block bad sound sound.root
 
 pub returns-in_err-owner-clause-damaged : goal.returns-in_err-owner-clause-damaged
-returns-in_err-owner-clause-damaged g c told is sound =
+returns-in_err-owner-clause-damaged g c told block is sound =
     let bad = ap (λ f. Err f) (was_damaged _ _ c.from_residual-in_err-owner.ensures.1 is) in
     let s = store_of (reads (g.D.Device.disk (device_of c.args.blocks.now))) in
     let sectors = (g.D.Device.status (device_of c.args.blocks.now)).sectors in
     let stays : Stays _ _ _ _ _ = record { status = c.in_ok-inode.ensures.counts.done; same = c.directory_at.ensures.same } in
     let can = sound.acls 2 c.in_ok-inode.inode (c.in_ok-inode.ensures.inode told) in
-    c.in_err-owner.ensures.damaged told bad (at_now _ _ _ _ _ stays (λ k r. CanReadAcls k r c.in_ok-inode.inode) told can)
+    c.in_err-owner.ensures.damaged told block bad (at_now _ _ _ _ _ stays (λ k r. CanReadAcls k r c.in_ok-inode.inode) told can)
 
 pub returns-in_err-applied-clause-damaged : goal.returns-in_err-applied-clause-damaged
-returns-in_err-applied-clause-damaged g c told is sound =
+returns-in_err-applied-clause-damaged g c told block is sound =
     let bad = ap (λ f. Err f) (was_damaged _ _ c.from_residual-in_err-applied.ensures.1 is) in
     let s = store_of (reads (g.D.Device.disk (device_of c.args.blocks.now))) in
     let o = c.in_ok-owner.owner in

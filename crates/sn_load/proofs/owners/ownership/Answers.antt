@@ -9,6 +9,6 @@ pub returns-clause-ownership : goal.returns-clause-ownership
 returns-clause-ownership g c told = owner_made (store_of (reads (g.D.Device.disk (device_of c.args.blocks.now)))) c.args.inode.now c.in_ok-acls.acls c.join.result c.join.ensures (c.in_ok-acls.ensures.acls told)
 
 pub returns-in_err-acls-clause-damaged : goal.returns-in_err-acls-clause-damaged
-returns-in_err-acls-clause-damaged g c told is can =
+returns-in_err-acls-clause-damaged g c told block is can =
     let bad = ap (λ f. Err f) (was_damaged _ _ c.from_residual.ensures.1 is) in
-    c.in_err-acls.ensures.damaged told bad can
+    (c.in_err-acls.ensures.damaged told block bad).0 can

@@ -13,6 +13,7 @@ use Rattle.sn_dir.specs.Blocks.{CanRead}
 use Rattle.sn_rooted.specs.Nodes.{names_if}
 use Rattle.sn_rooted.specs.Roots.{store_on}
 use Rattle.sn_rooted.proofs.RootLemmas.{at_now, never_damaged, was_damaged}
+use Rattle.sn_dir.proofs.BlockLemmas.{somewhere}
 use Rattle.sn_rooted.proofs.directories.link.Goals as goal
 
 pub returns-in-None-clause-found : goal.returns-in-None-clause-found
@@ -28,12 +29,12 @@ returns-in-Some-clause-found g c told =
     IfOk-weaker c.lookup.result _ _ (λ n e. e ∙ ap (number_of c.args.name.now) here ∙ sym (name_found s c.args.file.now c.args.directory c.args.name.now)) (c.lookup.ensures.number told)
 
 pub returns-in-Some-clause-damaged : goal.returns-in-Some-clause-damaged
-returns-in-Some-clause-damaged g c told root is =
+returns-in-Some-clause-damaged g c told root block is =
     let sectors = (g.D.Device.status (device_of c.args.blocks.now)).sectors in
     let readable = subst (λ (o : Option BlockTree). IfSome o (λ tree. (i : ℕ) → i < tree.size / 4096 → CanRead sectors (store_on c.args.blocks.now) tree i)) c.in-Some.is (c.in_ok-tree.ensures.sound told root) in
     let now = at_now _ _ _ _ _ c.in_ok-tree.ensures.counts.done c.directory_at.ensures.same (λ k r. (i : ℕ) → i < c.in-Some.tree.size / 4096 → CanRead k r c.in-Some.tree i) told readable in
-    never_damaged (λ names. number_of c.args.name.now names ≡ None) _ _ c.in-Some.tree now (c.lookup.ensures.damaged told is)
+    never_damaged (λ names. number_of c.args.name.now names ≡ None) _ _ c.in-Some.tree now (somewhere (λ names. number_of c.args.name.now names ≡ None) _ _ _ _ (c.lookup.ensures.damaged told block is))
 
 pub returns-in_err-tree-clause-damaged : goal.returns-in_err-tree-clause-damaged
-returns-in_err-tree-clause-damaged g c told root is =
-    c.in_err-tree.ensures.damaged told root (ap (λ f. Err f) (was_damaged _ _ c.from_residual.ensures.1 is))
+returns-in_err-tree-clause-damaged g c told root block is =
+    c.in_err-tree.ensures.damaged told root block (ap (λ f. Err f) (was_damaged _ _ c.from_residual.ensures.1 is))

@@ -14,11 +14,12 @@ use Rattle.sn_rooted.specs.Nodes.{names_if}
 use Rattle.sn_rooted.specs.Roots.{store_on}
 use Rattle.sn_rooted.proofs.NameLemmas.{listed_names, listed_number, none_moved, none_sorted}
 use Rattle.sn_rooted.proofs.RootLemmas.{at_now, never_damaged, ok_both, was_damaged}
+use Rattle.sn_dir.proofs.BlockLemmas.{somewhere}
 use Rattle.sn_rooted.proofs.directories.names.Goals as goal
 
 pub returns-in_err-tree-clause-damaged : goal.returns-in_err-tree-clause-damaged
-returns-in_err-tree-clause-damaged g c told root is =
-    c.in_err-tree.ensures.damaged told root (ap (λ f. Err f) (was_damaged _ _ c.from_residual.ensures.1 is))
+returns-in_err-tree-clause-damaged g c told root block is =
+    c.in_err-tree.ensures.damaged told root block (ap (λ f. Err f) (was_damaged _ _ c.from_residual.ensures.1 is))
 
 pub returns-in-None-clause-names : goal.returns-in-None-clause-names
 returns-in-None-clause-names g c told root =
@@ -49,8 +50,8 @@ returns-in-Some-clause-numbers g c told root =
     (λ listed moved sorted. listed_number s c.args.file.now c.args.directory listed.items (subst (λ (ns : List Link). IsPermutation ns (map link_of listed.items)) here moved) (root.sound.names.once c.args.directory) sorted)
 
 pub returns-in-Some-clause-damaged : goal.returns-in-Some-clause-damaged
-returns-in-Some-clause-damaged g c told root is =
+returns-in-Some-clause-damaged g c told root block is =
     let sectors = (g.D.Device.status (device_of c.args.blocks.now)).sectors in
     let readable = subst (λ (o : Option BlockTree). IfSome o (λ tree. (i : ℕ) → i < tree.size / 4096 → CanRead sectors (store_on c.args.blocks.now) tree i)) c.in-Some.is (c.in_ok-tree.ensures.sound told root) in
     let now = at_now _ _ _ _ _ c.in_ok-tree.ensures.counts.done c.directory_at.ensures.same (λ k r. (i : ℕ) → i < c.in-Some.tree.size / 4096 → CanRead k r c.in-Some.tree i) told readable in
-    never_damaged (λ names. ⊤) _ _ c.in-Some.tree now (c.names.ensures.damaged told is)
+    never_damaged (λ names. ⊤) _ _ c.in-Some.tree now (somewhere (λ names. ⊤) _ _ _ _ (c.names.ensures.damaged told block is))

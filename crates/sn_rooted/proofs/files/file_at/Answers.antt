@@ -13,8 +13,8 @@ returns-in_default-clause-bytes g c told =
     no_bytes (store_on c.args.blocks.now) c.args.file.now c.args.number (sym (c.in_ok-inode.ensures.inode told) ∙ c.in_default.is)
 
 pub returns-in_err-inode-clause-damaged : goal.returns-in_err-inode-clause-damaged
-returns-in_err-inode-clause-damaged g c told root is =
-    c.in_err-inode.ensures.damaged told root (ap (λ f. Err f) (was_damaged _ _ c.from_residual.ensures.1 is))
+returns-in_err-inode-clause-damaged g c told root block is =
+    c.in_err-inode.ensures.damaged told root block (ap (λ f. Err f) (was_damaged _ _ c.from_residual.ensures.1 is))
 
 pub returns-clause-bytes : goal.returns-clause-bytes
 returns-clause-bytes g c told =

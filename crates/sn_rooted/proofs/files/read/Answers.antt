@@ -8,11 +8,12 @@ use Rattle.sn_ondisk.specs.Trees.{store_of}
 use Rattle.sn_rooted.specs.Nodes.{bytes_if}
 use Rattle.sn_rooted.specs.Roots.{IsWhole, store_on}
 use Rattle.sn_rooted.proofs.RootLemmas.{at_now, none_taken, was_damaged}
+use Rattle.sn_tree_read.proofs.LawLemmas.{outside_of}
 use Rattle.sn_rooted.proofs.files.read.Goals as goal
 
 pub returns-in_err-content-clause-damaged : goal.returns-in_err-content-clause-damaged
-returns-in_err-content-clause-damaged g c told root is =
-    c.in_err-content.ensures.damaged told root (ap (λ f. Err f) (was_damaged _ _ c.from_residual.ensures.1 is))
+returns-in_err-content-clause-damaged g c told root block is =
+    c.in_err-content.ensures.damaged told root block (ap (λ f. Err f) (was_damaged _ _ c.from_residual.ensures.1 is))
 
 pub returns-in-None-clause-bytes : goal.returns-in-None-clause-bytes
 returns-in-None-clause-bytes g c told root =
@@ -30,9 +31,9 @@ returns-in-Some-clause-bytes g c told root =
     IfOk-weaker c.read.result _ _ (λ part is. c.read_laws.ensures.parts _ c.in-Some.content c.args.offset c.args.most part.items now.blocks now.size is ∙ ap (λ (bytes : List ℕ). take c.args.most (drop c.args.offset bytes)) here) (c.read.ensures.bytes told)
 
 pub returns-in-Some-clause-damaged : goal.returns-in-Some-clause-damaged
-returns-in-Some-clause-damaged g c told root is =
+returns-in-Some-clause-damaged g c told root block is =
     let s = store_on c.args.blocks.now in
     let sectors = (g.D.Device.status (device_of c.args.blocks.now)).sectors in
     let whole = subst (λ (o : Option Content). IfSome o (λ content. IsWhole sectors s content)) c.in-Some.is (c.in_ok-content.ensures.sound told root) in
     let now = at_now _ _ _ _ _ c.in_ok-content.ensures.counts.done c.file_at.ensures.same (λ k r. IsWhole k r c.in-Some.content) told whole in
-    now.inside c.args.offset c.args.most (c.read.ensures.damaged told is)
+    now.inside c.args.offset c.args.most (outside_of _ _ _ _ _ _ (c.read.ensures.damaged told block is))

@@ -4,7 +4,7 @@ use Rattle.sn_rooted.proofs.RootLemmas.{records_read}
 use Rattle.sn_rooted.proofs.inodes.inode_of.Goals as goal
 
 pub returns-clause-damaged : goal.returns-clause-damaged
-returns-clause-damaged g c told root is =
+returns-clause-damaged g c told root block is =
     let disk = g.D.Device.disk (device_of c.args.blocks.now) in
-    c.get.ensures.damaged told is
+    (c.get.ensures.damaged told block is).0
     (records_read c.args.limits.now _ (reads disk) c.args.file.now (g.met.D.Device.whole (device_of c.args.blocks.now) told) (g.met.D.Device.count (device_of c.args.blocks.now) told) root c.inode_laws.ensures.inodes c.args.number)

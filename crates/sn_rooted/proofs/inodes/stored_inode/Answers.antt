@@ -11,15 +11,15 @@ pub returns-in_default-clause-inode : goal.returns-in_default-clause-inode
 returns-in_default-clause-inode g c told = sym c.in_default.is ∙ c.in_ok-inode.ensures.inode told
 
 pub returns-in_err-inode-clause-damaged : goal.returns-in_err-inode-clause-damaged
-returns-in_err-inode-clause-damaged g c told root is =
-    c.in_err-inode.ensures.damaged told root (ap (λ f. Err f) (was_damaged _ _ c.from_residual.ensures.1 is))
+returns-in_err-inode-clause-damaged g c told root block is =
+    c.in_err-inode.ensures.damaged told root block (ap (λ f. Err f) (was_damaged _ _ c.from_residual.ensures.1 is))
 
 pub returns-in_err-acls-clause-damaged : goal.returns-in_err-acls-clause-damaged
-returns-in_err-acls-clause-damaged g c told root is =
+returns-in_err-acls-clause-damaged g c told root block is =
     let bad = ap (λ f. Err f) (was_damaged _ _ c.from_residual-in_err-acls.ensures.1 is) in
     let disk = g.D.Device.disk (device_of c.args.blocks.now) in
     let used = sym (c.in_ok-inode.ensures.inode told) ∙ c.in-Some.is in
-    c.in_err-acls.ensures.damaged told bad
+    (c.in_err-acls.ensures.damaged told block bad).0
     (at_now _ _ _ _ _ c.in_ok-inode.ensures.counts.done c.inode_of.ensures.same (λ k r. CanReadAcls k r c.in-Some.inode) told
     (acls_read c.args.limits.now _ (reads disk) c.args.file.now (g.met.D.Device.whole (device_of c.args.blocks.now) told) (g.met.D.Device.count (device_of c.args.blocks.now) told) root c.inode_laws.ensures.acls c.args.number c.in-Some.inode used))
 

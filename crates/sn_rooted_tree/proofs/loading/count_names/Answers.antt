@@ -11,8 +11,8 @@ use Rattle.sn_rooted_tree.proofs.SeenLemmas.{root_tree}
 use Rattle.sn_rooted_tree.proofs.loading.count_names.Goals as goal
 
 pub returns-in_err-names-clause-damaged : goal.returns-in_err-names-clause-damaged
-returns-in_err-names-clause-damaged g c told root is =
-    c.in_err-names.ensures.damaged told root (ap (λ f. Err f) (was_damaged _ _ c.from_residual.ensures.1 is))
+returns-in_err-names-clause-damaged g c told root block is =
+    c.in_err-names.ensures.damaged told root block (ap (λ f. Err f) (was_damaged _ _ c.from_residual.ensures.1 is))
 
 pub returns-clause-counted : goal.returns-clause-counted
 returns-clause-counted g c told root before =

@@ -9,8 +9,8 @@ use Rattle.sn_rooted_tree.proofs.SeenLemmas.{file_short, filled, past_alike, roo
 use Rattle.sn_rooted_tree.proofs.seeing.read_block.Goals as goal
 
 pub returns-in_err-bytes-clause-damaged : goal.returns-in_err-bytes-clause-damaged
-returns-in_err-bytes-clause-damaged g c told root is =
-    c.in_err-bytes.ensures.damaged told root (ap (λ f. Err f) (was_damaged _ _ c.from_residual.ensures.1 is))
+returns-in_err-bytes-clause-damaged g c told root block is =
+    c.in_err-bytes.ensures.damaged told root block (ap (λ f. Err f) (was_damaged _ _ c.from_residual.ensures.1 is))
 
 pub returns-clause-found : goal.returns-clause-found
 returns-clause-found g c told root =

@@ -8,7 +8,7 @@ use Rattle.sn_layout.specs.Pointers.{levels_of}
 use Rattle.sn_ondisk.specs.Trees.{Store, store_of, all_pointers}
 use Rattle.sn_tree_read.specs.declared.fault.TreeFault.TheVariants.{Damaged}
 use Rattle.sn_tree.specs.Fronts.{IsFirstOf}
-use Rattle.sn_tree.specs.Steps.{LeadsOutside}
+use Rattle.sn_tree.specs.Steps.{LeadsOutsideAt}
 use Rattle.sn_tree.specs.declared.fault.PlanFault.TheVariants.{Tree, Full}
 use Rattle.sn_tree.proofs.LevelLemmas.{first_begun, first_lowered, first_outside, first_full}
 use Rattle.sn_tree.proofs.ReplannedLemmas.{tree_outside}
@@ -57,7 +57,7 @@ returns-in_err-pointers-clause-full g c = λ is.
     first_full Told s c.args.tree.now c.loop-depth.depth 0 c.loop-depth.pointers c.args.build.now c.loop-depth.build c.loop-depth.invariant.first (c.in_err-pointers.ensures.full (ap (λ fault. Err fault) fault))
 
 pub returns-in_err-pointers-clause-damaged : goal.returns-in_err-pointers-clause-damaged
-returns-in_err-pointers-clause-damaged g c told is =
+returns-in_err-pointers-clause-damaged g c told block is =
     let Told = IsTrue g.D.Device.tells_bytes in
     let inv = c.loop-depth.invariant in
     let depth = c.loop-depth.depth in
@@ -67,14 +67,14 @@ returns-in_err-pointers-clause-damaged g c told is =
     let t = store_of (reads (g.D.Device.disk (device_of c.loop-depth.blocks))) in
     let same : t ≡ s = ap (λ (d : Disk). store_of (reads d)) (inv.same told) in
     let f = err_from_is_err_and c.from_residual.result c.from_residual.ensures.1 in
-    let fault : c.in_err-pointers.field-0.0 ≡ Tree Damaged = cc (f.1, f.2) in
-    let leads = c.in_err-pointers.ensures.damaged told (ap (λ fault. Err fault) fault) in
+    let fault : c.in_err-pointers.field-0.0 ≡ Tree (Damaged block) = cc (f.1, f.2) in
+    let leads = c.in_err-pointers.ensures.damaged told block (ap (λ fault. Err fault) fault) in
     let up : depth - 1 + 1 ≡ depth = omega arith in
     tree_outside s c.args.tree.now sectors
     (first_outside Told s c.args.tree.now depth sectors pointers c.args.build.now c.loop-depth.build inv.first told
-    (subst (λ (d : ℕ). LeadsOutside sectors (all_pointers s d pointers)) up
-    (subst (λ (q : Store). LeadsOutside sectors (all_pointers q (depth - 1 + 1) pointers)) same
-    (subst (λ (n : ℕ). LeadsOutside n (all_pointers t (depth - 1 + 1) pointers)) (ap (λ (x : Status). x.sectors) inv.status) leads))))
+    (subst (λ (d : ℕ). LeadsOutsideAt sectors (all_pointers s d pointers) block) up
+    (subst (λ (q : Store). LeadsOutsideAt sectors (all_pointers q (depth - 1 + 1) pointers) block) same
+    (subst (λ (n : ℕ). LeadsOutsideAt n (all_pointers t (depth - 1 + 1) pointers) block) (ap (λ (x : Status). x.sectors) inv.status) leads))))
 
 pub returns-clause-lowered : goal.returns-clause-lowered
 returns-clause-lowered g c =

@@ -33,6 +33,6 @@ returns-clause-rise g c =
     c.plan_pointers.ensures.planned
 
 pub returns-clause-sound : goal.returns-clause-sound
-returns-clause-sound g c = λ told is.
+returns-clause-sound g c = λ told block is.
     no_outside (g.D.Device.status (device_of c.args.blocks.now)).sectors (store_of (reads (g.D.Device.disk (device_of c.args.blocks.now)))) c.args.depth c.args.pointers.now
-    (recursion_from_All (λ (p : ℕ). p ≡ 0) c.args.pointers.now c.requires.holes) (c.plan_pointers.ensures.damaged told is)
+    (recursion_from_All (λ (p : ℕ). p ≡ 0) c.args.pointers.now c.requires.holes) (c.plan_pointers.ensures.damaged told block is)

@@ -11,7 +11,7 @@ use Rattle.sn_ondisk.specs.Trees.{store_of, all_pointers}
 use Rattle.sn_tree_read.specs.declared.fault.TreeFault.TheVariants.{Damaged}
 use Rattle.sn_tree.specs.Dirty.{IsFrom, after}
 use Rattle.sn_tree.specs.Plans.{contents, most_added}
-use Rattle.sn_tree.specs.Steps.{Planned, LeadsOutside}
+use Rattle.sn_tree.specs.Steps.{Planned, LeadsOutsideAt}
 use Rattle.sn_tree.specs.declared.fault.PlanFault.TheVariants.{Tree, Full}
 use Rattle.sn_tree.proofs.SpanLemmas.{span_some, indirect_end}
 use Rattle.sn_tree.proofs.FaultLemmas.{outside_here, outside_indirect}
@@ -52,14 +52,14 @@ plan_pointer-returns-then-depth-eq0-clause-full g t c = λ is.
     (leaf_full c.take_before-block.result c.args.first end c.args.keep items c.take_before-block.new.dirty.items free count (c.replace_block.ensures.filled is) c.take_before-block.ensures.some (c.replace_block.ensures.full is)))
 
 pub plan_pointer-returns-in_err-copy-clause-damaged : goal.plan_pointer-returns-in_err-copy-clause-damaged
-plan_pointer-returns-in_err-copy-clause-damaged g t c told is =
+plan_pointer-returns-in_err-copy-clause-damaged g t c told block is =
     let sectors = (g.D.Device.status (device_of c.args.blocks.now)).sectors in
     let s = store_of (reads (g.D.Device.disk (device_of c.args.blocks.now))) in
     let p = err_from_is_err_and c.from_residual.result c.from_residual.ensures.1 in
-    let fault : c.in_err-copy.field-0.0 ≡ Damaged = cc (p.1, p.2) in
+    let fault : c.in_err-copy.field-0.0 ≡ Damaged block = cc (p.1, p.2) in
     let up : suc (c.args.depth - 1) ≡ c.args.depth = omega (arith, c.if-depth-eq0.false) in
-    subst (λ (d : ℕ). LeadsOutside sectors (all_pointers s d (c.args.pointer ∷ []))) up
-    (outside_here sectors s (c.args.depth - 1) c.args.pointer (c.in_err-copy.ensures.damaged (ap (λ fault. Err fault) fault)))
+    subst (λ (d : ℕ). LeadsOutsideAt sectors (all_pointers s d (c.args.pointer ∷ [])) block) up
+    (outside_here sectors s (c.args.depth - 1) c.args.pointer (c.in_err-copy.ensures.damaged block (ap (λ fault. Err fault) fault)))
 
 pub plan_pointer-plan_copy-requires : goal.plan_pointer-plan_copy-requires
 plan_pointer-plan_copy-requires g t c κs within =
@@ -68,14 +68,14 @@ plan_pointer-plan_copy-requires g t c κs within =
     (first_of (search rules, omega (arith, c.decreases)), (search rules, (omega arith, (count, (room, c.requires.rise)))))
 
 pub plan_pointer-returns-in_err-plan_copy-clause-damaged : goal.plan_pointer-returns-in_err-plan_copy-clause-damaged
-plan_pointer-returns-in_err-plan_copy-clause-damaged g t c told is =
+plan_pointer-returns-in_err-plan_copy-clause-damaged g t c told block is =
     let sectors = (g.D.Device.status (device_of c.args.blocks.now)).sectors in
     let s = store_of (reads (g.D.Device.disk (device_of c.args.blocks.now))) in
     let r = store_of (reads (g.D.Device.disk (device_of c.copy_below.new.blocks))) in
     let p = err_from_is_err_and c.from_residual-in_err-plan_copy.result c.from_residual-in_err-plan_copy.ensures.1 in
-    let fault : c.in_err-plan_copy.field-0.0 ≡ Tree Damaged = cc (p.1, p.2) in
+    let fault : c.in_err-plan_copy.field-0.0 ≡ Tree (Damaged block) = cc (p.1, p.2) in
     outside_indirect sectors (g.D.Device.status (device_of c.copy_below.new.blocks)).sectors s r c.args.depth c.args.pointer c.in_ok-copy.copy c.if-depth-eq0.false c.copy_below.ensures.counts.sectors (ap (λ (d : Disk). store_of (reads d)) (c.copy_below.ensures.same told)) (c.in_ok-copy.ensures.pointers told)
-    (c.in_err-plan_copy.ensures.damaged told (ap (λ fault. Err fault) fault))
+    (c.in_err-plan_copy.ensures.damaged told block (ap (λ fault. Err fault) fault))
 
 pub plan_pointer-returns-clause-planned : goal.plan_pointer-returns-clause-planned
 plan_pointer-returns-clause-planned g t c =
@@ -146,14 +146,14 @@ plan_copy-returns-in_err-new-clause-full g t c = λ is.
     progress_full (IsTrue g.D.Device.tells_bytes) s c.args.depth c.args.first c.args.keep c.span_of-span.result c.args.dirty.now.items c.loop-k.dirty.items c.args.copy.now c.loop-k.copy c.args.build.now c.loop-k.build c.loop-k.k c.span_of-span.ensures.value c.loop-k.invariant.done within (c.in_err-new.ensures.full (ap (λ fault. Err fault) fault))
 
 pub plan_copy-returns-in_err-new-clause-damaged : goal.plan_copy-returns-in_err-new-clause-damaged
-plan_copy-returns-in_err-new-clause-damaged g t c told is =
+plan_copy-returns-in_err-new-clause-damaged g t c told block is =
     let s = store_of (reads (g.D.Device.disk (device_of c.args.blocks.now))) in
     let r = store_of (reads (g.D.Device.disk (device_of c.loop-k.blocks))) in
     let within : c.loop-k.k < length c.loop-k.copy = omega (arith, c.loop-k.invariant.done.count, c.requires.count) in
     let p = err_from_is_err_and c.from_residual.result c.from_residual.ensures.1 in
-    let fault : c.in_err-new.field-0.0 ≡ Tree Damaged = cc (p.1, p.2) in
+    let fault : c.in_err-new.field-0.0 ≡ Tree (Damaged block) = cc (p.1, p.2) in
     progress_outside (IsTrue g.D.Device.tells_bytes) s c.args.depth c.args.first c.args.keep c.span_of-span.result c.args.dirty.now.items c.loop-k.dirty.items c.args.copy.now c.loop-k.copy c.args.build.now c.loop-k.build c.loop-k.k c.span_of-span.ensures.value c.loop-k.invariant.done within r (ap (λ (d : Disk). store_of (reads d)) (c.loop-k.invariant.same told))
-    (g.D.Device.status (device_of c.args.blocks.now)).sectors (g.D.Device.status (device_of c.loop-k.blocks)).sectors (ap (λ (t : Status). t.sectors) c.loop-k.invariant.status) c.pointer.result c.pointer.ensures (c.in_err-new.ensures.damaged told (ap (λ fault. Err fault) fault))
+    (g.D.Device.status (device_of c.args.blocks.now)).sectors (g.D.Device.status (device_of c.loop-k.blocks)).sectors (ap (λ (t : Status). t.sectors) c.loop-k.invariant.status) c.pointer.result c.pointer.ensures (c.in_err-new.ensures.damaged told block (ap (λ fault. Err fault) fault))
 
 pub plan_copy-loop-k-preserved : goal.plan_copy-loop-k-preserved
 plan_copy-loop-k-preserved g t c =

@@ -30,14 +30,14 @@ returns-in_err-new-clause-full g c = λ is.
     progress_full (IsTrue g.D.Device.tells_bytes) s c.args.depth c.args.first c.args.keep c.span_of-span.result c.args.dirty.now.items c.loop-k.dirty.items c.args.pointers.now c.loop-k.pointers c.args.build.now c.loop-k.build c.loop-k.k c.span_of-span.ensures.value c.loop-k.invariant.done within (c.in_err-new.ensures.full (ap (λ fault. Err fault) fault))
 
 pub returns-in_err-new-clause-damaged : goal.returns-in_err-new-clause-damaged
-returns-in_err-new-clause-damaged g c told is =
+returns-in_err-new-clause-damaged g c told block is =
     let s = store_of (reads (g.D.Device.disk (device_of c.args.blocks.now))) in
     let r = store_of (reads (g.D.Device.disk (device_of c.loop-k.blocks))) in
     let within : c.loop-k.k < length c.loop-k.pointers = omega arith in
     let p = err_from_is_err_and c.from_residual.result c.from_residual.ensures.1 in
-    let fault : c.in_err-new.field-0.0 ≡ Tree Damaged = cc (p.1, p.2) in
+    let fault : c.in_err-new.field-0.0 ≡ Tree (Damaged block) = cc (p.1, p.2) in
     progress_outside (IsTrue g.D.Device.tells_bytes) s c.args.depth c.args.first c.args.keep c.span_of-span.result c.args.dirty.now.items c.loop-k.dirty.items c.args.pointers.now c.loop-k.pointers c.args.build.now c.loop-k.build c.loop-k.k c.span_of-span.ensures.value c.loop-k.invariant.done within r (ap (λ (d : Disk). store_of (reads d)) (c.loop-k.invariant.same told))
-    (g.D.Device.status (device_of c.args.blocks.now)).sectors (g.D.Device.status (device_of c.loop-k.blocks)).sectors (ap (λ (t : Status). t.sectors) c.loop-k.invariant.status) (get_or c.loop-k.pointers c.loop-k.k 0) refl (c.in_err-new.ensures.damaged told (ap (λ fault. Err fault) fault))
+    (g.D.Device.status (device_of c.args.blocks.now)).sectors (g.D.Device.status (device_of c.loop-k.blocks)).sectors (ap (λ (t : Status). t.sectors) c.loop-k.invariant.status) (get_or c.loop-k.pointers c.loop-k.k 0) refl (c.in_err-new.ensures.damaged told block (ap (λ fault. Err fault) fault))
 
 pub loop-k-preserved : goal.loop-k-preserved
 loop-k-preserved g c =

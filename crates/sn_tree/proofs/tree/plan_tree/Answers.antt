@@ -11,7 +11,7 @@ use Rattle.sn_tree.specs.Dirty.{IsFrom}
 use Rattle.sn_tree.specs.Drafts.{Draft}
 use Rattle.sn_tree.specs.Fronts.{data_or, AreHolesFrom, IsFirstOf, PlannedFront}
 use Rattle.sn_tree.specs.Plans.{contents}
-use Rattle.sn_tree.specs.Steps.{LeadsOutside, Planned}
+use Rattle.sn_tree.specs.Steps.{LeadsOutsideAt, Planned}
 use Rattle.sn_tree.specs.declared.fault.PlanFault.TheVariants.{Tree, Full}
 use Rattle.sn_tree.specs.declared.new_block.DirtyBlock.{DirtyBlock}
 use Rattle.sn_tree.proofs.SpanLemmas.{span_most}
@@ -78,7 +78,7 @@ returns-in_err-plan_pointers-clause-full g c = λ is.
     omega (arith, few, front, front_most-whole least end (levels_of c.args.dirty.size) items low)
 
 pub returns-in_err-plan_pointers-clause-damaged : goal.returns-in_err-plan_pointers-clause-damaged
-returns-in_err-plan_pointers-clause-damaged g c told is =
+returns-in_err-plan_pointers-clause-damaged g c told block is =
     let Told = IsTrue g.D.Device.tells_bytes in
     let sectors = (g.D.Device.status (device_of c.args.blocks.now)).sectors in
     let s = store_of (reads (g.D.Device.disk (device_of c.args.blocks.now))) in
@@ -86,13 +86,13 @@ returns-in_err-plan_pointers-clause-damaged g c told is =
     let least = c.min-least.result in
     let pointers = c.in_ok-pointers.pointers in
     let f = err_from_is_err_and c.from_residual-in_err-plan_pointers.result c.from_residual-in_err-plan_pointers.ensures.1 in
-    let fault : c.in_err-plan_pointers.field-0.0 ≡ Tree Damaged = cc (f.1, f.2) in
-    let leads = c.in_err-plan_pointers.ensures.damaged told (ap (λ fault. Err fault) fault) in
+    let fault : c.in_err-plan_pointers.field-0.0 ≡ Tree (Damaged block) = cc (f.1, f.2) in
+    let leads = c.in_err-plan_pointers.ensures.damaged told block (ap (λ fault. Err fault) fault) in
     let same : t ≡ s = ap (λ (d : Disk). store_of (reads d)) (c.lowered.ensures.same told) in
     tree_outside s c.args.tree.now sectors
     (first_outside Told s c.args.tree.now least sectors pointers c.args.build.now c.lowered.new.build c.in_ok-pointers.ensures.lowered told
-    (subst (λ (q : Store). LeadsOutside sectors (all_pointers q least pointers)) same
-    (subst (λ (n : ℕ). LeadsOutside n (all_pointers t least pointers)) c.lowered.ensures.counts.sectors leads)))
+    (subst (λ (q : Store). LeadsOutsideAt sectors (all_pointers q least pointers) block) same
+    (subst (λ (n : ℕ). LeadsOutsideAt n (all_pointers t least pointers) block) c.lowered.ensures.counts.sectors leads)))
 
 pub returns-in_err-tops-clause-full : goal.returns-in_err-tops-clause-full
 returns-in_err-tops-clause-full g c = λ is.

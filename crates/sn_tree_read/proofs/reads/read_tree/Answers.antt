@@ -4,7 +4,7 @@ use Rattle.sn_device.specs.Disk.{Disk, reads}
 use Rattle.sn_device.specs.declared.status.Status.{Status}
 use Rattle.sn_block.specs.Lending.{device_of}
 use Rattle.sn_ondisk.specs.Trees.{Store, store_of, data_block}
-use Rattle.sn_tree_read.specs.Paths.{block_lies_on}
+use Rattle.sn_tree_read.specs.Paths.{block_lies_on, block_met}
 use Rattle.sn_tree_read.specs.declared.fault.TreeFault.TheVariants.{Damaged}
 use Rattle.sn_tree_read.proofs.ReadLemmas.{IsReadTo, read_more}
 use Rattle.sn_tree_read.proofs.reads.read_tree.Goals as goal
@@ -34,14 +34,19 @@ loop-bytes-preserved g c =
     )
 
 pub returns-in_err-push_part-clause-damaged : goal.returns-in_err-push_part-clause-damaged
-returns-in_err-push_part-clause-damaged g c told is =
+returns-in_err-push_part-clause-damaged g c told block is =
     let at = c.args.offset + c.len-in-loop-bytes.result in
     let status = g.D.Device.status (device_of c.args.blocks.now) in
     let s = store_of (reads (g.D.Device.disk (device_of c.args.blocks.now))) in
     let p = err_from_is_err_and c.from_residual-in_err-push_part.result c.from_residual-in_err-push_part.ensures.1 in
-    let fault : c.in_err-push_part.field-0.0 ≡ Damaged = cc (p.1, p.2) in
+    let fault : c.in_err-push_part.field-0.0 ≡ Damaged block = cc (p.1, p.2) in
+    let met = c.in_err-push_part.ensures.damaged told block (ap (λ f. Err f) fault) in
     let same : store_of (reads (g.D.Device.disk (device_of c.loop-bytes.blocks))) ≡ s = ap (λ (d : Disk). store_of (reads d)) (c.loop-bytes.invariant.2 told) in
     let outside : block_lies_on status.sectors s c.args.tree.now (at / 4096) ≡ false =
     sym (ap (λ (t : Status). block_lies_on t.sectors (store_of (reads (g.D.Device.disk (device_of c.loop-bytes.blocks)))) c.args.tree.now (at / 4096)) c.loop-bytes.invariant.1
-    ∙ ap (λ (r : Store). block_lies_on status.sectors r c.args.tree.now (at / 4096)) same) ∙ c.in_err-push_part.ensures.damaged told (ap (λ f. Err f) fault) in
-    (c.len-in-loop-bytes.result, omega (arith, c.count_from-count.ensures, c.loop-bytes-test.true), omega (arith, c.count_from-count.ensures, c.loop-bytes-test.true), outside)
+    ∙ ap (λ (r : Store). block_lies_on status.sectors r c.args.tree.now (at / 4096)) same) ∙ met.0 in
+    let told_of : block ≡ block_met status.sectors s c.args.tree.now (at / 4096) =
+    met.1
+    ∙ ap (λ (t : Status). block_met t.sectors (store_of (reads (g.D.Device.disk (device_of c.loop-bytes.blocks)))) c.args.tree.now (at / 4096)) c.loop-bytes.invariant.1
+    ∙ ap (λ (r : Store). block_met status.sectors r c.args.tree.now (at / 4096)) same in
+    (c.len-in-loop-bytes.result, omega (arith, c.count_from-count.ensures, c.loop-bytes-test.true), omega (arith, c.count_from-count.ensures, c.loop-bytes-test.true), outside, told_of)
