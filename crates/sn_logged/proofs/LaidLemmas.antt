@@ -18,7 +18,7 @@ use Rattle.sn_logged.specs.Laid.{CanBeLaid, IsLaid}
 use Rattle.sn_logged.specs.Moves.{moves_of}
 use Rattle.sn_logged.specs.declared.moving.NameMoves.{NameMoves}
 use Rattle.sn_overlay.specs.declared.overlay.Overlay.{Overlay}
-use Rattle.sn_logged.specs.declared.preparing.Prepared.{Prepared}
+use Rattle.sn_logged.specs.declared.preparing.PreparedChange.{PreparedChange}
 
 pub can_be : {A : Type 0} (o : Option A) → true ≡ is_some o → (x : A) × (o ≡ Some x)
 can_be None e = cc e
@@ -28,12 +28,12 @@ pub can_not_be : {A : Type 0} (o : Option A) → false ≡ is_some o → o ≡ N
 can_not_be None e = refl
 can_not_be (Some x) e = cc e
 
-module _ (older : Layer) (below : Tree) (rows next : List Counted) (change : Change) (p : Prepared) (new : Layer) (shown : IsShown older below rows) (can : CanBeLaid p (through older below) change) (is : new ≡ merge older (layer_of p.newer)) where
+module _ (older : Layer) (below : Tree) (rows next : List Counted) (change : Change) (p : PreparedChange) (new : Layer) (shown : IsShown older below rows) (can : CanBeLaid p (through older below) change) (is : new ≡ merge older (layer_of p.newer)) where
   merged : MergesShowBoth → through new below ≡ can.after
   merged both = ap (λ (l : Layer). through l below) is ∙ both older (layer_of p.newer) below shown.lies.whole can.lies.whole shown.lies.fits can.lies.fits ∙ can.shows
 
-  pub laid : MergesShowBoth → IsLaid (Some p.charge) (through older below) change (through new below)
-  laid both = (can.applied ∙ ap (λ (t : Tree). Some t) (sym (merged both)), can.charged)
+  pub laid_now : MergesShowBoth → apply version_1 change (through older below) ≡ Some (through new below)
+  laid_now both = can.applied ∙ ap (λ (t : Tree). Some t) (sym (merged both))
 
   pub still_shown : MergesShowBoth → MergesLie → ChangesKeepTheTree
       → ((tree after : Tree) (c : Change) → IsTree version_1 tree → p.moves ≡ moves_of tree c → apply version_1 c tree ≡ Some after → TellsDirectories tree rows → TellsDirectories after next) → IsShown new below next
@@ -42,6 +42,11 @@ module _ (older : Layer) (below : Tree) (rows next : List Counted) (change : Cha
     whole = subst (λ (t : Tree). IsTree version_1 t) (sym (merged both)) (keep version_1 change (through older below) can.after shown.whole can.applied);
     tells = subst (λ (t : Tree). TellsDirectories t next) (sym (merged both)) (notes (through older below) can.after change shown.whole can.moves can.applied shown.tells);
   }
+
+-- What was prepared over a layer was laid over one that shows the same.
+pub laid_of : (older between : Layer) (below : Tree) (change : Change) (p : PreparedChange) (charge : ℕ) → charge ≡ p.charge → (after : Tree) → between ≡ older → CanBeLaid p (through older below) change
+    → apply version_1 change (through between below) ≡ Some after → IsLaid (Some charge) (through older below) change after
+laid_of older between below change p charge charged after same can applied = (ap (λ (l : Layer). apply version_1 change (through l below)) (sym same) ∙ applied, charged ∙ can.charged)
 
 -- what was prepared over a tree that shows what was shown before
 module _ (now live : Tree) (same : now ≡ live) (change : Change) where
@@ -61,7 +66,7 @@ module _ (now live : Tree) (same : now ≡ live) (change : Change) where
         moves = moved;
       }
 
-  pub laid_there : (p : Prepared) → IsHierarchy live → true ≡ is_some (apply version_1 change live) → (IsHierarchy now → (a : Tree) → apply version_1 change now ≡ Some a → CanBeLaid p now change) → CanBeLaid p live change
+  pub laid_there : (p : PreparedChange) → IsHierarchy live → true ≡ is_some (apply version_1 change live) → (IsHierarchy now → (a : Tree) → apply version_1 change now ≡ Some a → CanBeLaid p now change) → CanBeLaid p live change
   laid_there p whole can prepared =
       let made = can_be (apply version_1 change live) can in
       subst (λ (t : Tree). CanBeLaid p t change) same (prepared (subst IsHierarchy (sym same) whole) made.0 (ap (apply version_1 change) same ∙ made.1))

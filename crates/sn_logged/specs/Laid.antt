@@ -6,13 +6,22 @@ use Rattle.sn_model.specs.Changes.{apply}
 use Rattle.sn_model.specs.Charges.{charge_for}
 use Rattle.sn_model.specs.Tree.{Tree}
 use Rattle.sn_overlay.specs.Layers.{through}
-use Rattle.sn_overlay.specs.Overlays.{layer_of}
+use Rattle.sn_overlay.specs.Overlays.{HasRoom, and_drops, layer_of, sizes_of}
 use Rattle.sn_overlay.specs.Seen.{LiesOver}
+use Rattle.sn_overlay.specs.declared.overlay.Overlay.{Overlay}
 use Rattle.sn_logged.specs.Moves.{moves_of}
-use Rattle.sn_logged.specs.declared.preparing.Prepared.{Prepared}
+use Rattle.sn_logged.specs.declared.preparing.PreparedChange.{PreparedChange}
+
+-- the blocks that are charged for a change that was prepared
+abbrev pub charge_of : PreparedChange → ℕ
+charge_of p = p.charge
+
+-- an overlay has room for what was prepared, and for so many drops more
+abbrev pub HasRoomFor : Overlay → PreparedChange → ℕ → Type 0
+HasRoomFor overlay p drops = HasRoom overlay (and_drops (sizes_of p.newer) drops)
 
 -- A change can be applied to a tree. Through its overlay, which lies over the tree, the tree is what the change makes of it; it is charged so much, and does so to names.
-pub record CanBeLaid (p : Prepared) (live : Tree) (change : Change) : Type 0 where
+pub record CanBeLaid (p : PreparedChange) (live : Tree) (change : Change) : Type 0 where
   pub after : Tree
   pub applied : apply version_1 change live ≡ Some after
   pub shows : through (layer_of p.newer) live ≡ after
@@ -21,7 +30,7 @@ pub record CanBeLaid (p : Prepared) (live : Tree) (change : Change) : Type 0 whe
   pub moves : p.moves ≡ moves_of live change
 
 -- or it can't be applied
-abbrev pub IsPrepared : Option Prepared → Tree → Change → Type 0
+abbrev pub IsPrepared : Option PreparedChange → Tree → Change → Type 0
 IsPrepared None live change = apply version_1 change live ≡ None
 IsPrepared (Some p) live change = CanBeLaid p live change
 

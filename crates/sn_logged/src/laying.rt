@@ -1,13 +1,17 @@
 //! A change laid over what is seen.
-ghost use Rattle.std.specs.Prelude.{◌≡◌, ◌≤◌, ◌^◌, IsTrue, IfOk, IfSome, OnOk};
+ghost use Rattle.std.specs.Prelude.{◌≡◌, ℕ, ◌≤◌, ◌^◌, Some, IsTrue, IfOk, IfSome, OnOk};
 ghost use Rattle.sn_directories.specs.Told.{IsShown};
-ghost use Rattle.sn_logged.specs.Laid.{IsLaid, IsPrepared};
+ghost use Rattle.sn_limits.specs.Versions.{version_1};
+ghost use Rattle.sn_logged.specs.Laid.{CanBeLaid, HasRoomFor, IsLaid, IsPrepared, charge_of};
+ghost use Rattle.sn_model.specs.Changes.{apply};
+ghost use Rattle.sn_model.specs.Tree.{Tree};
+ghost use Rattle.sn_model.specs.declared.change.Change.{Change as TheChange};
 ghost use Rattle.sn_overlay.specs.Layers.{through};
-ghost use Rattle.sn_overlay.specs.Overlays.{layer_of};
+ghost use Rattle.sn_overlay.specs.Overlays.{HasRoom, layer_of};
 ghost use Rattle.sn_overlay_change.specs.Faults.{IfBelow};
 
 use crate::moving::note_moves;
-use crate::preparing::{Prepared, prepare};
+use crate::preparing::{PreparedChange, prepare};
 use sn_directories::{Directories, KeepsNames, LoggedTree};
 use sn_model::{Change, changes_keep_the_tree};
 use sn_overlay::{Overlay, Through, merges_lie, merges_show_both};
@@ -21,7 +25,7 @@ fn prepare_over<'x, B: KeepsNames>(
     overlay: &'x Overlay,
     directories: &'x Directories,
     change: &Change<'_>,
-) -> Result<Option<Prepared>, LayerFault<B::Fault>>
+) -> Result<Option<PreparedChange>, LayerFault<B::Fault>>
     requires holds { B.holds below.old }
     requires shown { IsTrue B.is_told → IsShown (layer_of overlay.now) (B.shows below.old) directories.now }
     ensures kept { B.holds below.new }
@@ -36,6 +40,53 @@ fn prepare_over<'x, B: KeepsNames>(
         directories,
     };
     prepare(alloc, &mut live, change)
+}
+
+/// Reads and grows all that a change of what is seen asks for, where it can be applied: its layer, its charge, and room for
+/// it in the overlay, and for so many drops beside. `None` where it can't be applied. Nothing that is seen changes, whatever
+/// the answer. A fault is one of the tree below, or of memory.
+pub fn prepare_change<B: KeepsNames>(
+    alloc: Global,
+    below: &mut B,
+    overlay: &mut Overlay,
+    directories: &Directories,
+    change: &Change<'_>,
+    drops: u16,
+) -> Result<Option<PreparedChange>, LayerFault<B::Fault>>
+    requires holds { B.holds below.old }
+    requires shown { IsTrue B.is_told → IsShown (layer_of overlay.old) (B.shows below.old) directories.now }
+    ensures kept { B.holds below.new }
+    ensures follows { B.follows below.old below.new }
+    ensures same { IsTrue B.is_told → B.shows below.new ≡ B.shows below.old }
+    ensures layer { layer_of overlay.new ≡ layer_of overlay.old }
+    ensures prepared { IsTrue B.is_told → IfOk result (λ p. IsPrepared p (through (layer_of overlay.old) (B.shows below.old)) change.now) }
+    ensures room { IfOk result (λ p. IfSome p (λ prepared. HasRoomFor overlay.new prepared drops)) }
+    ensures few { IfOk result (λ p. IfSome p (λ prepared. charge_of prepared ≤ 2 ^ 64)) }
+    ensures cause { IfBelow result (λ f. B.causes below.old below.new f) }
+{
+    let Some(prepared) = prepare_over(alloc, below, overlay, directories, change)? else {
+        return Ok(None);
+    };
+    overlay.reserve_beside(&prepared.newer, drops)?;
+    Ok(Some(prepared))
+}
+
+/// Lays a change that was prepared over what is seen, where there is room for it: then the tree that is seen is the one that
+/// the change makes of it, and the table tells its directories. It takes no memory, and leaves room for as many drops as
+/// there was beside the change.
+pub fn commit_change(prepared: PreparedChange, overlay: &mut Overlay, directories: &mut Directories)
+    requires { HasRoomFor overlay.old prepared 0 }
+    ensures shown { (below : Tree) (change : TheChange) → IsShown (layer_of overlay.old) below directories.old → CanBeLaid prepared (through (layer_of overlay.old) below) change
+        → IsShown (layer_of overlay.new) below directories.new }
+    ensures laid { (below : Tree) (change : TheChange) → IsShown (layer_of overlay.old) below directories.old → CanBeLaid prepared (through (layer_of overlay.old) below) change
+        → apply version_1 change (through (layer_of overlay.old) below) ≡ Some (through (layer_of overlay.new) below) }
+    ensures drops { (drops : ℕ) → HasRoomFor overlay.old prepared drops → HasRoom overlay.new (record { nodes = drops; names = 0; blocks = 0 }) }
+{
+    changes_keep_the_tree();
+    merges_lie();
+    merges_show_both();
+    overlay.merge(prepared.newer);
+    note_moves(directories, prepared.moves);
 }
 
 /// Lays a change over what is seen of a tree below, where it can be applied, and answers what it is charged. `None` where
@@ -57,14 +108,10 @@ pub fn lay_change<B: KeepsNames>(
     ensures few { IfOk result (λ charge. IfSome charge (λ n. n ≤ 2 ^ 64)) }
     ensures cause { IfBelow result (λ f. B.causes below.old below.new f) }
 {
-    changes_keep_the_tree();
-    merges_lie();
-    merges_show_both();
-    let Some(prepared) = prepare_over(alloc, below, overlay, directories, change)? else {
+    let Some(prepared) = prepare_change(alloc, below, overlay, directories, change, 0)? else {
         return Ok(None);
     };
-    overlay.reserve_for(&prepared.newer)?;
-    overlay.merge(prepared.newer);
-    note_moves(directories, prepared.moves);
-    Ok(Some(prepared.charge))
+    let charge = prepared.charge();
+    commit_change(prepared, overlay, directories);
+    Ok(Some(charge))
 }

@@ -12,7 +12,8 @@
 //! 1. `specs/Moves`: what a change does to the names of directories. `specs/Laid`: what is prepared for a change, and
 //!    what a change that was laid over a tree comes to.
 //! 2. `charging` reads what a change is charged, `moving` what it does to names, and notes it in the table.
-//! 3. [`lay_change`], which prepares a change and lays it over.
+//! 3. [`prepare_change`] reads and grows all that a change asks for, and nothing that is seen changes; [`commit_change`] lays
+//!    it over, takes no memory and can't fail. Between the two a caller records the change. [`lay_change`] is both.
 //!
 //! What the sources leave open is decided in `docs/DECISIONS.md`, under "What changed since a root".
 //!
@@ -29,4 +30,5 @@ mod laying;
 mod moving;
 mod preparing;
 
-pub use laying::lay_change;
+pub use laying::{commit_change, lay_change, prepare_change};
+pub use preparing::PreparedChange;

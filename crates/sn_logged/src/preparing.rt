@@ -1,7 +1,7 @@
 //! What is read and grown for a change before it is laid over.
 ghost use Rattle.std.specs.Prelude.{◌≡◌, ◌≤◌, ◌^◌, Some, IsTrue, IfOk, IfSome};
 ghost use Rattle.sn_limits.specs.Versions.{version_1};
-ghost use Rattle.sn_logged.specs.Laid.{CanBeLaid, IsPrepared};
+ghost use Rattle.sn_logged.specs.Laid.{CanBeLaid, IsPrepared, charge_of};
 ghost use Rattle.sn_model.specs.Changes.{apply};
 ghost use Rattle.sn_model.specs.NameTree.{IsHierarchy};
 ghost use Rattle.sn_model.specs.Tree.{Tree};
@@ -16,12 +16,22 @@ use sn_overlay::Overlay;
 use sn_overlay_change::{LayerFault, of_change};
 use std::alloc::Global;
 
-/// What a change that can be applied is charged, does to names, and makes different.
+/// A change that can be applied to what is seen, with all that it asks of it: what it is charged, what it does to names,
+/// and what it makes different.
 #[derive(Drop)]
-pub(crate) struct Prepared {
-    pub charge: u128,
-    pub moves: NameMoves,
-    pub newer: Overlay,
+pub struct PreparedChange {
+    pub(crate) charge: u128,
+    pub(crate) moves: NameMoves,
+    pub(crate) newer: Overlay,
+}
+
+impl PreparedChange {
+    /// The blocks that are charged for the change.
+    pub fn charge(&self) -> u128
+        ensures { result ≡ charge_of self.now }
+    {
+        self.charge
+    }
 }
 
 // What is prepared for a change that can be applied.
@@ -29,7 +39,7 @@ fn prepare_possible<T: NamedTree>(
     alloc: Global,
     tree: &mut T,
     change: &Change<'_>,
-) -> Result<Prepared, LayerFault<T::Fault>>
+) -> Result<PreparedChange, LayerFault<T::Fault>>
     requires { T.holds tree.old }
     ensures kept { T.holds tree.new }
     ensures follows { T.follows tree.old tree.new }
@@ -48,7 +58,7 @@ fn prepare_possible<T: NamedTree>(
         Err(fault) => return Err(LayerFault::Below(fault)),
     };
     let newer = of_change(alloc, &Limits::VERSION_1, tree, change)?;
-    Ok(Prepared {
+    Ok(PreparedChange {
         charge,
         moves,
         newer,
@@ -60,7 +70,7 @@ pub(crate) fn prepare<T: NamedTree>(
     alloc: Global,
     tree: &mut T,
     change: &Change<'_>,
-) -> Result<Option<Prepared>, LayerFault<T::Fault>>
+) -> Result<Option<PreparedChange>, LayerFault<T::Fault>>
     requires { T.holds tree.old }
     ensures kept { T.holds tree.new }
     ensures follows { T.follows tree.old tree.new }

@@ -1,27 +1,29 @@
-use Rattle.std.proofs.Common.{Option, subst, ap, ◌∙◌}
+use Rattle.std.proofs.Common.{Option, sym, subst}
+use Rattle.sn_directories.specs.Told.{IsShown}
 use Rattle.sn_overlay.specs.Layers.{Layer, through}
-use Rattle.sn_overlay.specs.Merges.{merge}
 use Rattle.sn_overlay.specs.Overlays.{layer_of}
-use Rattle.sn_logged.specs.Laid.{IsPrepared}
-use Rattle.sn_logged.specs.declared.preparing.Prepared.{Prepared}
-use Rattle.sn_logged.proofs.LaidLemmas.{laid, still_shown}
+use Rattle.sn_logged.specs.Laid.{CanBeLaid, IsPrepared}
+use Rattle.sn_logged.specs.declared.preparing.PreparedChange.{PreparedChange}
+use Rattle.sn_logged.proofs.LaidLemmas.{laid_of}
 use Rattle.sn_logged.proofs.laying.lay_change.Goals as goal
 
 pub returns-clause-shown : goal.returns-clause-shown
 returns-clause-shown g c told =
-    let older = layer_of c.args.overlay.now in
     let below = g.B.Below.shows c.args.below.now in
-    let p = c.in-Some.prepared in
-    let can = subst (λ (o : Option Prepared). IsPrepared o (through older below) c.args.change.now) c.in-Some.is (c.in_ok-prepared.ensures.found told) in
-    let is = c.merge.ensures.layer ∙ ap (λ (l : Layer). merge l (layer_of p.newer)) c.reserve_for.ensures.same in
-    still_shown older below c.args.directories.now c.note_moves.new.directories c.args.change.now p (layer_of c.merge.new.self) (c.requires.shown told) can is
-    c.merges_show_both.ensures c.merges_lie.ensures c.changes_keep_the_tree.ensures c.note_moves.ensures
+    let older = layer_of c.args.overlay.now in
+    let same = c.prepare_change.ensures.layer in
+    let can = subst (λ (o : Option PreparedChange). IsPrepared o (through older below) c.args.change.now) c.in-Some.is (c.in_ok-prepared.ensures.prepared told) in
+    c.commit_change.ensures.shown below c.args.change.now
+    (subst (λ (l : Layer). IsShown l below c.args.directories.now) (sym same) (c.requires.shown told))
+    (subst (λ (l : Layer). CanBeLaid c.in-Some.prepared (through l below) c.args.change.now) (sym same) can)
 
 pub returns-clause-laid : goal.returns-clause-laid
 returns-clause-laid g c told =
-    let older = layer_of c.args.overlay.now in
     let below = g.B.Below.shows c.args.below.now in
-    let p = c.in-Some.prepared in
-    let can = subst (λ (o : Option Prepared). IsPrepared o (through older below) c.args.change.now) c.in-Some.is (c.in_ok-prepared.ensures.found told) in
-    let is = c.merge.ensures.layer ∙ ap (λ (l : Layer). merge l (layer_of p.newer)) c.reserve_for.ensures.same in
-    laid older below c.args.directories.now c.note_moves.new.directories c.args.change.now p (layer_of c.merge.new.self) (c.requires.shown told) can is c.merges_show_both.ensures
+    let older = layer_of c.args.overlay.now in
+    let same = c.prepare_change.ensures.layer in
+    let can = subst (λ (o : Option PreparedChange). IsPrepared o (through older below) c.args.change.now) c.in-Some.is (c.in_ok-prepared.ensures.prepared told) in
+    laid_of older (layer_of c.prepare_change.new.overlay) below c.args.change.now c.in-Some.prepared c.charge-charge.result c.charge-charge.ensures (through (layer_of c.commit_change.new.overlay) below) same can
+    (c.commit_change.ensures.laid below c.args.change.now
+    (subst (λ (l : Layer). IsShown l below c.args.directories.now) (sym same) (c.requires.shown told))
+    (subst (λ (l : Layer). CanBeLaid c.in-Some.prepared (through l below) c.args.change.now) (sym same) can))

@@ -1,0 +1,13 @@
+use Rattle.std.proofs.Common.{◌∙◌}
+use Rattle.sn_overlay.specs.Overlays.{layer_of}
+use Rattle.sn_logged.proofs.LaidLemmas.{laid_now, still_shown}
+use Rattle.sn_logged.proofs.laying.commit_change.Goals as goal
+
+pub returns-clause-shown : goal.returns-clause-shown
+returns-clause-shown c below change shown can =
+    still_shown (layer_of c.args.overlay.now) below c.args.directories.now c.note_moves.new.directories change c.args.prepared (layer_of c.merge.new.self) shown can c.merge.ensures.layer
+    c.merges_show_both.ensures c.merges_lie.ensures c.changes_keep_the_tree.ensures c.note_moves.ensures
+
+pub returns-clause-laid : goal.returns-clause-laid
+returns-clause-laid c below change shown can =
+    laid_now (layer_of c.args.overlay.now) below c.args.directories.now c.note_moves.new.directories change c.args.prepared (layer_of c.merge.new.self) shown can c.merge.ensures.layer c.merges_show_both.ensures
