@@ -52,34 +52,6 @@ directory_seen tree number = told (map.get tree.nodes number)
     told None = refl
     told (Some node) = by_kind node node.kind
 
--- whether a node can give its number to another one
-abbrev pub free_by : Option Standing → Bool
-free_by None = true
-free_by (Some s) = is_file s.kind && s.links == 0
-
-pub free_seen : (limits : Limits) (tree : Tree) (number : ℕ) → is_free_number limits tree number ≡ (nat_lt 2 number && nat_le number limits.largest_number && free_by (standing_of tree number))
-free_seen limits tree number = ap (λ b. nat_lt 2 number && nat_le number limits.largest_number && b) (told (map.get tree.nodes number))
-  where
-    by_kind : (node : Node) (kind : Kind) → (is_some (only_if (is_file kind) >>= (λ _. Some node)) && names_for tree number == 0) ≡ (is_file kind && link_count kind (names_for tree number) == 0)
-    by_kind node File = refl
-    by_kind node Directory = refl
-
-    told : (o : Option Node) → (is_none o || (is_some (o >>= (λ node. only_if (is_file node.kind) >>= (λ _. Some node))) && names_for tree number == 0)) ≡ free_by (standing_by tree number o)
-    told None = refl
-    told (Some node) = by_kind node node.kind
-
--- what can lose its name
-abbrev pub losing_by : Option Standing → ℕ → Option Kind
-losing_by None names = None
-losing_by (Some s) names = losing_kind s.kind names
-
-pub losing_seen : (tree : Tree) (number : ℕ) → losing tree number ≡ losing_by (standing_of tree number) (names_in tree number)
-losing_seen tree number = told (map.get tree.nodes number)
-  where
-    told : (o : Option Node) → (o >>= (λ node. losing_kind node.kind (names_in tree number))) ≡ losing_by (standing_by tree number o) (names_in tree number)
-    told None = refl
-    told (Some node) = refl
-
 -- a node that was read
 pub node_seen : (tree : Tree) (number : ℕ) (s : Standing) → standing_of tree number ≡ Some s → (node : Node) × (map.get tree.nodes number ≡ Some node) × (standing tree number node ≡ s)
 node_seen tree number s = told (map.get tree.nodes number) refl
