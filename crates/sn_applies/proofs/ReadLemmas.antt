@@ -1,18 +1,17 @@
 -- What is read of a node decides the tests of it.
-use Rattle.std.proofs.Common.{◌≡◌, ℕ, Bool, true, false, cond, ◌&&◌, ◌||◌, ◌==◌, nat_lt, nat_le, Option, Some, None, is_some, is_none, refl, ap}
+use Rattle.std.proofs.Common.{◌≡◌, ℕ, Bool, false, cond, Option, Some, None, is_some, refl}
 use Rattle.std.specs.Option.{option_map}
 use Rattle.std.specs.FinMap as map
 use Rattle.sn_limits.specs.declared.kind.Kind.{Kind}
 use Rattle.sn_limits.specs.declared.kind.Kind.TheVariants.{File, Directory}
-use Rattle.sn_limits.specs.declared.limits.Limits.{Limits}
 use Rattle.sn_walk.specs.Views.{is_directory}
 use Rattle.sn_model.specs.Chains.{◌>>=◌, only_if}
-use Rattle.sn_model.specs.Changes.{is_file, directory_at, is_free_number}
-use Rattle.sn_model.specs.Tree.{Node, Tree, link_count, names_in, names_for}
+use Rattle.sn_model.specs.Changes.{is_file, directory_at}
+use Rattle.sn_model.specs.Tree.{Node, Tree, link_count, names_for}
 use Rattle.sn_overlay.specs.declared.node.SeenNode.{SeenNode}
 use Rattle.sn_overlay.specs.Seen.{seen_of}
 use Rattle.sn_applies.specs.declared.reads.Standing.{Standing}
-use Rattle.sn_applies.specs.Tests.{file_names, losing, losing_kind, standing_of}
+use Rattle.sn_applies.specs.Tests.{file_names, standing_of}
 
 abbrev standing : Tree → ℕ → Node → Standing
 standing tree number node = record { kind = node.kind; links = link_count node.kind (names_for tree number) }

@@ -2,7 +2,7 @@
 use Rattle.std.proofs.Common.{◌≡◌, ◌≢◌, ◌⊎◌, inl, inr, ℕ, ◌+◌, ◌*◌, ◌<◌, ◌≤◌, ◌&&◌, Bool, true, false, nat_lt, cond, List, Option, Some, None, Result, Ok, Err, is_some, length, get_or, set, refl, sym, ap, ◌∙◌, arith, zero-add, Bor}
 use Rattle.std.specs.FinMap as map
 use Rattle.std.specs.Option.{option_copied, option_map}
-use Rattle.std.proofs.lemmas.Bool.{true≢false, ltb-true, ltb-false, le-leb, lt-leb}
+use Rattle.std.proofs.lemmas.Bool.{true≢false, ltb-true, ltb-false, le-leb}
 use Rattle.sn_model.proofs.ChainLemmas.{and_left, and_right, some_same}
 use Rattle.sn_model.proofs.MapLemmas.{same_or_apart, get_left, get_removed}
 use Rattle.sn_limits.specs.declared.limits.Limits.{Limits}
@@ -126,11 +126,5 @@ module _ (table : Descriptors) (session fd : ℕ) where
     abbrev moves_after : Result Descriptor Refusal → Result Descriptors Refusal
     moves_after x = x >>= (λ _. is_offset limits offset >>= (λ _. Ok (moved_to table session fd offset)))
 
-    pub seek_err : (e : Refusal) → descriptor_at table session fd ≡ Err e → sought limits table session fd offset ≡ Err e
-    seek_err e is = ap moves_after is
-
     pub seek_ok : (d : Descriptor) → descriptor_at table session fd ≡ Ok d → offset ≤ limits.largest_file → sought limits table session fd offset ≡ Ok (moved_to table session fd offset)
     seek_ok d is low = ap moves_after is ∙ ap (λ (b : Bool). cond b (Ok offset) (Err (plain Einval)) >>= (λ _. Ok (moved_to table session fd offset))) (le-leb offset limits.largest_file low)
-
-    pub seek_over : (d : Descriptor) → descriptor_at table session fd ≡ Ok d → limits.largest_file < offset → sought limits table session fd offset ≡ Err (plain Einval)
-    seek_over d is high = ap moves_after is ∙ ap (λ (b : Bool). cond b (Ok offset) (Err (plain Einval)) >>= (λ _. Ok (moved_to table session fd offset))) (lt-leb offset limits.largest_file high)

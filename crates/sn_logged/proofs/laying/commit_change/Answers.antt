@@ -1,4 +1,3 @@
-use Rattle.std.proofs.Common.{◌∙◌}
 use Rattle.sn_overlay.specs.Overlays.{layer_of}
 use Rattle.sn_logged.proofs.LaidLemmas.{laid_now, still_shown}
 use Rattle.sn_logged.proofs.laying.commit_change.Goals as goal
