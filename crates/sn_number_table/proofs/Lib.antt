@@ -1,0 +1,2 @@
+pub mod MarkLemmas
+pub mod TableLemmas

@@ -1,0 +1,3 @@
+pub mod Marked
+pub mod Marks
+pub mod Table
