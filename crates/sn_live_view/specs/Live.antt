@@ -1,0 +1,32 @@
+-- What is seen of the live tree, and the table of its numbers.
+use Rattle.std.specs.FinMap as map
+use Rattle.sn_limits.specs.Versions.{version_1}
+use Rattle.sn_model.specs.NameTree.{IsTree}
+use Rattle.sn_model.specs.Tree.{Tree}
+use Rattle.sn_model.specs.World.{Trees}
+use Rattle.sn_number_table.specs.Table.{TellsNumbers}
+use Rattle.sn_number_table.specs.declared.table.NumberTable.{NumberTable}
+use Rattle.sn_overlay.specs.declared.node.SeenNode.{SeenNode}
+use Rattle.sn_walk.specs.declared.view.Attributes.{Attributes}
+
+-- there are no snapshots yet
+abbrev pub live_trees : Tree → Trees
+live_trees tree = record { live = tree; frozen = map.empty }
+
+-- what a walk is told of a node that is seen
+abbrev pub attributes_of : SeenNode → Attributes
+attributes_of node = record {
+  kind = node.kind;
+  set_gid = node.ownership.set_gid;
+  sticky = node.ownership.sticky;
+  owner = node.ownership.owner;
+  group = node.ownership.group;
+  acl = node.ownership.acl;
+  links = node.links;
+  size = node.size;
+}
+
+-- What is seen is a name tree, and the table tells its numbers.
+pub record IsNumbered (tree : Tree) (numbers : NumberTable) : Type 0 where
+  pub whole : IsTree version_1 tree
+  pub tells : TellsNumbers tree numbers

@@ -1,0 +1,27 @@
+//! The live tree as walks and decisions see it, read on demand.
+//!
+//! Decisions are made over a view (`TreeView`, `CallView` and `MoveView`), and changes are tried on a tree that
+//! is read (`NamedTree` of `sn_applies`). Here such a tree, with the table of its numbers (`sn_number_table`), is
+//! a view of the live tree: a root on disk, seen through what changed since, with the table of its directories.
+//! There are no snapshots yet, so that nothing is seen of a frozen tree.
+//!
+//! Each look-up of the view is one of the tree, and whether a number is left is one of the table. Where the tree
+//! is told, it has to be a name tree, and the table has to tell its numbers (`IsNumbered`); then each answer is
+//! the one that the model has. A fault is the tree's.
+//!
+//! The way through it: `specs/Live` says which trees are seen, and when a table belongs to one; `reads` has what
+//! is made of one look-up, and `view` the view, [`LiveView`].
+//!
+//! What the sources leave open is decided in `docs/DECISIONS.md`, under "Reading a root on demand".
+//!
+//! ```text
+//! let mut shown = LoggedTree { shown: Through { overlay: &changed, below: &mut root }, directories: &directories };
+//! let mut view = LiveView { tree: &mut shown, numbers: &numbers };
+//! let outcome = mkdir(&limits, &mut view, &caller, &path, mode)?;
+//! ```
+#![tactic(auto)]
+
+mod reads;
+mod view;
+
+pub use view::LiveView;
