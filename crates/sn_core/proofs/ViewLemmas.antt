@@ -1,27 +1,30 @@
 -- What is seen of the tree in memory, and what was decided over it.
-use Rattle.std.proofs.Common.{◌≡◌, ℕ, false, List, [], ◌∷◌, length, map as list_map, Option, Result, Ok, Err, is_some, refl, sym, ap, ◌∙◌, arith}
+use Rattle.std.proofs.Common.{◌≡◌, ℕ, false, List, [], ◌∷◌, length, map as list_map, Option, is_some, refl, sym, ap, ◌∙◌, arith}
 use Rattle.std.specs.Option.{option_and_then}
 use Rattle.std.specs.Ordering.{nat_cmp}
 use Rattle.std.specs.Cmp.Lexicographic.{slice_cmp}
 use Rattle.std.specs.FinMap as fin
-use Rattle.std.specs.declared.convert.Infallible.{Infallible}
 use Rattle.sn_walk.specs.declared.object.Home.{Home}
 use Rattle.sn_walk.specs.declared.object.Home.TheVariants.{Frozen}
-use Rattle.sn_walk.specs.declared.failure.Failure.{Failure}
-use Rattle.sn_walk.specs.declared.failure.Failure.TheVariants.{Refused, Fault}
-use Rattle.sn_walk.specs.Gives.{Fails, Gives}
 use Rattle.sn_walk.specs.Views.{nothing}
 use Rattle.sn_limits.specs.Versions.{version_1}
 use Rattle.sn_model.specs.declared.call.Call.{Call}
-use Rattle.sn_model.specs.declared.outcome.Outcome.{Outcome}
-use Rattle.sn_model.specs.declared.reply.Refusal.{Refusal}
 use Rattle.sn_model.specs.FileCalls.{bytes_of}
-use Rattle.sn_model.specs.Seen.{names_if}
+use Rattle.sn_model.specs.Seen.{names_if, seen_names}
+use Rattle.sn_model.specs.Tests.{has_room}
 use Rattle.sn_model.specs.Tree.{Tree}
-use Rattle.sn_model.specs.Steps.{decision}
-use Rattle.sn_model.specs.World.{World, tree_in, viewed_if}
-use Rattle.sn_core.specs.Plain.{plain_trees}
-use Rattle.sn_core.specs.Served.{Decides, HasNone, answer_of, as_error}
+use Rattle.sn_model.specs.World.{World, tree_in, viewed_if, viewed_trees}
+use Rattle.sn_desc.specs.Sessions.{in_use_of}
+use Rattle.sn_numbers.specs.declared.live.LiveTree.{LiveTree}
+use Rattle.sn_numbers.specs.Live.{live_of}
+use Rattle.sn_core_calls.specs.declared.fault.CallError.{CallError}
+use Rattle.sn_core_calls.specs.declared.fault.CallError.TheVariants.{Refused, Memory, View}
+use Rattle.sn_core_calls.specs.Decided as calls
+use Rattle.sn_core_calls.specs.Shown.{Shows, bytes_in}
+use Rattle.sn_core.specs.declared.view.PlainView.{PlainView}
+use Rattle.sn_core.specs.declared.world.PlainWorld.{PlainWorld}
+use Rattle.sn_core.specs.Plain.{plain_trees, world_of}
+use Rattle.sn_core.specs.Served.{HasNone, as_error}
 
 -- nothing is seen of a frozen tree
 pub none_frozen : (tree : Tree) (home : Home) (name : List ℕ) → home ≡ Frozen name → viewed_if (tree_in (plain_trees tree) home) ≡ nothing
@@ -50,12 +53,19 @@ no_items (x ∷ xs) e = absurd (omega (arith, e))
 pub no_keys : (tree : Tree) → fin.keys (plain_trees tree).frozen ≡ []
 no_keys tree = ap (list_map (λ (e : List ℕ × Tree). e.0)) (no_items (fin.entries (plain_trees tree).frozen) (sym (fin.len-entries (plain_trees tree).frozen) ∙ fin.len-empty (slice_cmp nat_cmp) Tree))
 
--- a look-up has no fault, so that what failed was refused
-pub gives_none : (world : World) (session : ℕ) (c : Call) (decided : Result Outcome Refusal) (e : Failure Refusal Infallible) → Fails e decided → decision version_1 world session c ≡ decided → HasNone (as_error e) world session c
-gives_none world session c decided (Refused r) fails is = is ∙ fails
-gives_none world session c decided (Fault f) fails is = elim f [ ]
+-- what is shown of the tree in memory, with the sessions, is the world
+pub plain_shows : (w : PlainWorld) (v : PlainView) → v.tree.now ≡ w.tree → Shows (world_of w) (in_use_of w.sessions) (viewed_trees (plain_trees (live_of v.tree.now))) (has_room version_1 (live_of v.tree.now)) (seen_names version_1 (plain_trees (live_of v.tree.now))) (bytes_in (plain_trees (live_of v.tree.now)))
+plain_shows w v e = record {
+  sessions_are = refl;
+  descriptors_are = refl;
+  trees_are = ap (λ (t : LiveTree). viewed_trees (plain_trees (live_of t))) e;
+  room_is = ap (λ (t : LiveTree). has_room version_1 (live_of t)) e;
+  names_are = ap (λ (t : LiveTree). seen_names version_1 (plain_trees (live_of t))) e;
+  bytes_are = ap (λ (t : LiveTree). bytes_in (plain_trees (live_of t))) e;
+}
 
-pub gives_decided : (world : World) (session : ℕ) (c : Call) (given : Result Outcome (Failure Refusal Infallible)) → Gives (λ o. o) given (decision version_1 world session c) → Decides world session c (answer_of given)
-gives_decided world session c (Ok o) gives = gives
-gives_decided world session c (Err (Refused r)) gives = gives
-gives_decided world session c (Err (Fault f)) gives = elim f [ ]
+-- and why a call has no outcome over it
+pub none_plain : {F : Type 0} (world : World) (session : ℕ) (c : Call) (e : CallError F) → calls.HasNone e world session c → HasNone (as_error e) world session c
+none_plain world session c (Refused r) h = h
+none_plain world session c Memory h = h
+none_plain world session c (View f) h = h

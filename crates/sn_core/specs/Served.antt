@@ -1,10 +1,7 @@
 -- The parts of serving a call, and a call that was served: its reply, or why it isn't done, and the world after it.
 use Rattle.std.specs.Prelude.{◌≡◌, ◌≢◌, ℕ, Bool, None, Some, Result, Ok, Err, IsOk}
-use Rattle.sn_walk.specs.declared.failure.Failure.{Failure}
-use Rattle.sn_walk.specs.declared.failure.Failure.TheVariants as failure
 use Rattle.sn_model.specs.declared.call.Call.{Call}
 use Rattle.sn_model.specs.declared.call.Event.TheVariants as event
-use Rattle.sn_model.specs.declared.reply.Refusal.{Refusal}
 use Rattle.sn_model.specs.declared.reply.Reply.{Reply}
 use Rattle.sn_model.specs.declared.change.Change.{Change}
 use Rattle.sn_model.specs.declared.change.Change.TheVariants.{Make}
@@ -22,20 +19,19 @@ use Rattle.sn_model.specs.Steps.{Becomes, TakesMemory, decision, filled, with_li
 use Rattle.sn_plain.specs.declared.fault.ApplyError.{ApplyError}
 use Rattle.sn_plain.specs.declared.fault.ApplyError.TheVariants as lack
 use Rattle.sn_numbers.specs.Numbers.{next_number}
+use Rattle.sn_core_calls.specs.declared.fault.CallError as calls
+use Rattle.sn_core_calls.specs.declared.fault.CallError.TheVariants as undecided
 use Rattle.sn_core.specs.Numbering.{Numbers}
 use Rattle.sn_core.specs.PlainRuns.{Numbered}
 use Rattle.sn_core.specs.declared.choosing.Chosen.{Chosen}
 use Rattle.sn_core.specs.declared.fault.CallError.{CallError}
 use Rattle.sn_core.specs.declared.fault.CallError.TheVariants.{Refused, Memory}
 
--- what a decision failed with
-abbrev pub as_error : {F : Type 0} → Failure Refusal F → CallError
-as_error (failure.Refused r) = Refused r
-as_error (failure.Fault f) = Memory
-
-abbrev pub answer_of : {X F : Type 0} → Result X (Failure Refusal F) → Result X CallError
-answer_of (Ok x) = Ok x
-answer_of (Err e) = Err (as_error e)
+-- why a call has no outcome over the tree in memory, where no look-up finds a fault
+abbrev pub as_error : {F : Type 0} → calls.CallError F → CallError
+as_error (undecided.Refused r) = Refused r
+as_error undecided.Memory = Memory
+as_error (undecided.View f) = Memory
 
 -- why a call has no outcome
 abbrev pub HasNone : CallError → World → ℕ → Call → Type 0

@@ -1,8 +1,8 @@
 ghost use Rattle.std.specs.Prelude.{◌≡◌};
 ghost use Rattle.sn_core.specs.declared.fault.CallError.TheVariants.{Memory, Refused};
 
+use sn_core_calls as calls;
 use sn_model::Refusal;
-use sn_walk::Failure;
 use std::alloc::AllocError;
 use std::convert::Infallible;
 
@@ -21,16 +21,17 @@ impl From<Refusal> for CallError {
     }
 }
 
-impl From<Failure<Refusal, Infallible>> for CallError {
+impl From<calls::CallError<Infallible>> for CallError {
     ghost use Rattle.std.specs.Prelude.{◌≡◌};
     ghost use Rattle.sn_core.specs.Served.{as_error};
 
-    ghost from_gives = { λ failure e. e ≡ as_error failure };
+    ghost from_gives = { λ error e. e ≡ as_error error };
 
-    fn from(failure: Failure<Refusal, Infallible>) -> CallError {
-        match failure {
-            Failure::Refused(refusal) => CallError::Refused(refusal),
-            Failure::Fault(fault) => match fault {},
+    fn from(error: calls::CallError<Infallible>) -> CallError {
+        match error {
+            calls::CallError::Refused(refusal) => CallError::Refused(refusal),
+            calls::CallError::Memory => CallError::Memory,
+            calls::CallError::View(fault) => match fault {},
         }
     }
 }

@@ -3,12 +3,12 @@
 //!
 //! [`run_plain`] answers a list of events, and its contract is the machine of `sn_model`: the replies
 //! are a run of it from the empty world. Below it, `world` has the tree of `sn_plain` and the sessions of
-//! `sn_desc`, and serves one call: `deciding`, `deciding_files` and `deciding_names` have what it comes to, the
-//! most of it by `sn_core_decide` and `sn_core_names` over the tree as `view` shows it; `choosing` fills in a new node's number; the tree makes the
-//! change; and `calling` sets what becomes of the session and its descriptors, and drops a file that nobody has
-//! and no name stands for, and tells which went. `charging` tells what a change is charged, and how many live files
-//! have no name; `numbering` whether a number was kept back, until a consistency point; `overlaying` gives what a change
-//! makes different, for whoever keeps what changed since a root.
+//! `sn_desc`, and serves one call: `deciding` has what it comes to, by `sn_core_calls` over the sessions and
+//! the tree as `view` shows it; `choosing` fills in a new node's number; the tree makes the change; and
+//! `calling` sets what becomes of the session and its descriptors, and drops a file that nobody has and no
+//! name stands for, and tells which went. `charging` tells what a change is charged, and how many live files
+//! have no name; `numbering` whether a number was kept back, until a consistency point; `overlaying` gives
+//! what a change makes different, for whoever keeps what changed since a root.
 //! `specs/Plain` says which world this stands for.
 //!
 //! What the sources leave open is decided in `docs/DECISIONS.md`, under "The tree in memory".
@@ -22,8 +22,6 @@ mod calling;
 mod charging;
 mod choosing;
 mod deciding;
-mod deciding_files;
-mod deciding_names;
 mod fault;
 mod numbering;
 mod overlaying;

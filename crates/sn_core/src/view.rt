@@ -3,16 +3,18 @@ ghost use Rattle.sn_model.specs.NameTree.{IsTree};
 ghost use Rattle.sn_numbers.specs.Live.{live_of};
 
 use sn_acl::Acl;
+use sn_core_calls::{FileFault, FileView};
 use sn_core_decide::CallView;
 use sn_core_names::MoveView;
 use sn_limits::{Limits, SnapshotName};
-use sn_model::Refusal;
+use sn_model::{Names, Refusal};
 use sn_numbers::LiveTree;
-use sn_walk::{Attributes, Failure, Home, TreeView};
+use sn_walk::{Attributes, Failure, Home, Object, TreeView};
+use std::alloc::Global;
 use std::convert::Infallible;
 
-/// The live tree in memory as walks and decisions see it; there are no snapshots yet. No look-up
-/// takes memory, and none fails.
+/// The live tree in memory as walks and decisions see it; there are no snapshots yet. No look-up fails but
+/// for memory, which those take that answer bytes or names.
 #[derive(Drop)]
 pub(crate) struct PlainView<'a> {
     pub tree: &'a LiveTree,
@@ -123,4 +125,48 @@ impl<'a> MoveView for PlainView<'a> {
     fn is_below(&mut self, top: u16, directory: u16) -> Result<bool, Infallible> {
         Ok(self.tree.tree().is_below(top, directory))
     }
+}
+
+impl<'a> FileView for PlainView<'a> {
+    ghost use Rattle.std.proofs.Common.{ap};
+    ghost use Rattle.sn_core.specs.Plain.{plain_trees};
+    ghost use Rattle.sn_core_calls.specs.Shown.{bytes_in};
+
+    ghost bytes = { λ v. bytes_in (plain_trees (live_of v.tree.now)) };
+
+    fn size(&mut self, home: &Home, number: u16) -> Result<u64, Infallible> {
+        match home {
+            Home::Live => Ok(self.tree.tree().size(number)),
+            Home::Frozen(_) => Ok(0),
+        }
+    }
+
+    fn read(
+        &mut self,
+        alloc: Global,
+        home: &Home,
+        number: u16,
+        offset: u64,
+        most: usize,
+    ) -> Result<Vec<u8>, FileFault<Infallible>> {
+        match home {
+            Home::Live => match self.tree.tree().read(alloc, number, offset, most)? {
+                Some(bytes) => Ok(bytes),
+                None => Ok(Vec::new(alloc)),
+            },
+            Home::Frozen(_) => Ok(Vec::new(alloc)),
+        }
+    }
+
+    fn listed(&mut self, alloc: Global, object: &Object) -> Result<Names, FileFault<Infallible>> {
+        let Object::Node { home, number } = object else {
+            return Ok(Names::new(Vec::new(alloc)));
+        };
+        match home {
+            Home::Live => Ok(self.tree.tree().names(alloc, *number)?),
+            Home::Frozen(_) => Ok(Names::new(Vec::new(alloc))),
+        }
+    }
+
+    ghost bytes_stay = { λ u v told e. ap (λ w. bytes_in (plain_trees (live_of w.tree.now))) e };
 }

@@ -4,12 +4,10 @@ ghost use Rattle.sn_model.specs.NameTree.{HasKind, IsTree};
 ghost use Rattle.sn_model.specs.Tree.{names_for};
 ghost use Rattle.sn_plain.specs.Plain.{tree_of};
 ghost use Rattle.sn_model.specs.Settling.{settle};
-ghost use Rattle.sn_model.specs.Tests.{logged_in, logged_out};
 ghost use Rattle.sn_limits.specs.Versions.{version_1};
 ghost use Rattle.sn_model.specs.Worlds.{IsWorld};
 ghost use Rattle.sn_core.specs.PlainRuns.{PlainStep};
 ghost use Rattle.sn_model.specs.World.{new_world};
-ghost use Rattle.sn_walk.specs.Gives.{Answers};
 ghost use Rattle.sn_core.specs.Served.{MakesChange, Serves};
 ghost use Rattle.sn_numbers.specs.Live.{live_of};
 ghost use Rattle.sn_numbers.specs.Numbers.{kept_after, since_after};
@@ -19,7 +17,7 @@ use crate::fault::CallError;
 use crate::view::PlainView;
 use sn_desc::Sessions;
 use sn_limits::Limits;
-use sn_model::{Call, Change, Errno, Event, Outcome, Progress, Refusal, Reply, Session};
+use sn_model::{Call, Change, Errno, Event, Outcome, Progress, Refusal, Reply};
 use sn_numbers::LiveTree;
 use sn_plain::{ApplyError, PlainTree};
 use std::alloc::{AllocError, Global};
@@ -62,20 +60,6 @@ impl PlainWorld {
         let tree = LiveTree::over(alloc, tree)?;
         let sessions = Sessions::new(alloc)?;
         Ok(PlainWorld { tree, sessions })
-    }
-
-    /// The session with this number, which has to be logged in.
-    pub(crate) fn logged_in(&self, session: u32) -> Result<&Session, Refusal>
-        ensures { Answers (λ s. s.now) result (logged_in (world_of self.now) session) }
-    {
-        self.sessions.logged_in(session)
-    }
-
-    /// Whether nobody is logged in under this number.
-    pub(crate) fn logged_out(&self, session: u32) -> Result<(), Refusal>
-        ensures { result ≡ logged_out (world_of self.now) session }
-    {
-        self.sessions.logged_out(session)
     }
 
     /// The live tree, as walks and decisions see it.

@@ -1,5 +1,0 @@
-use Rattle.sn_core.specs.Plain.{world_of}
-use Rattle.sn_core.proofs.world.PlainWorld.logged_in.Goals as goal
-
-pub returns : goal.returns
-returns c = c.logged_in.ensures (world_of c.args.self.now)

@@ -1,0 +1,18 @@
+use Rattle.std.proofs.Common.{refl}
+use Rattle.std.proofs.lemmas.Result.{err_from_is_err_and}
+use Rattle.sn_model.specs.declared.call.Call.TheVariants as call
+use Rattle.sn_desc.specs.InUse.{in_world}
+use Rattle.sn_desc.specs.Sessions.{in_use_of}
+use Rattle.sn_core_calls.proofs.DecidedLemmas.{failed, view_of}
+use Rattle.sn_core_calls.proofs.deciding.decide_getacl.Goals as goal
+
+pub returns-in_err-acl-clause-decided : goal.returns-in_err-acl-clause-decided
+returns-in_err-acl-clause-decided g c told world shows =
+    let p = err_from_is_err_and c.from_residual-in_err-acl.result c.from_residual-in_err-acl.ensures.1 in
+    let given = rw shows.trees_are at (c.in_err-acl.ensures.exact told) in
+    rw (p.1, p.2) (failed (in_world (in_use_of c.args.sessions.now) world) c.args.session (call.GetAcl c.args.path.now c.args.kind) (tt, rw (c.in_ok-caller.ensures, c.in_ok-path.ensures) refl) _ (rw (c.in_ok-caller.ensures, c.in_ok-path.ensures) given))
+
+pub returns-in_err-acl-clause-cause : goal.returns-in_err-acl-clause-cause
+returns-in_err-acl-clause-cause g c =
+    let p = err_from_is_err_and c.from_residual-in_err-acl.result c.from_residual-in_err-acl.ensures.1 in
+    rw (p.1, p.2) (view_of c.in_err-acl.field-0.0 (λ f. g.V.TreeView.causes c.args.view.now c.getacl.new.view f) c.in_err-acl.ensures.cause)

@@ -1,0 +1,14 @@
+use Rattle.std.proofs.Common.{refl}
+use Rattle.sn_model.specs.declared.call.Call.TheVariants as call
+use Rattle.sn_desc.specs.InUse.{in_world}
+use Rattle.sn_desc.specs.Sessions.{in_use_of}
+use Rattle.sn_core_calls.proofs.DecidedLemmas.{gives_decided, shown_seen, view_if}
+use Rattle.sn_core_calls.proofs.deciding_names.decide_rename.Goals as goal
+
+pub returns-clause-decided : goal.returns-clause-decided
+returns-clause-decided g c told world shows =
+    let given = rw (shown_seen shows) at (c.rename.ensures.exact told) in
+    rw c.decided.ensures (gives_decided (in_world (in_use_of c.args.sessions.now) world) c.args.session (call.Rename c.args.old.now c.args.new.now) (tt, rw (c.in_ok-caller.ensures, c.in_ok-old.ensures, c.in_ok-new.ensures) refl) c.rename.result (rw (c.in_ok-caller.ensures, c.in_ok-old.ensures, c.in_ok-new.ensures) given))
+
+pub returns-clause-cause : goal.returns-clause-cause
+returns-clause-cause g c = rw c.decided.ensures (view_if _ c.rename.result c.rename.ensures.cause)

@@ -1,0 +1,35 @@
+-- What a call comes to, or why it has no outcome.
+use Rattle.std.specs.Prelude.{◌≡◌, ℕ, List, Result, Ok, Err, IsOk}
+use Rattle.sn_walk.specs.declared.object.Home.{Home}
+use Rattle.sn_walk.specs.Views.{ViewedTrees}
+use Rattle.sn_limits.specs.Versions.{version_1}
+use Rattle.sn_model.specs.declared.call.Call.{Call}
+use Rattle.sn_model.specs.declared.outcome.Outcome.{Outcome}
+use Rattle.sn_model.specs.declared.reply.Refusal.{Refusal}
+use Rattle.sn_model.specs.Calls.{ready}
+use Rattle.sn_model.specs.Seen.{SeenNames}
+use Rattle.sn_model.specs.Steps.{TakesMemory, decision}
+use Rattle.sn_model.specs.World.{World}
+use Rattle.sn_desc.specs.InUse.{InUse, in_world}
+use Rattle.sn_core_calls.specs.declared.fault.CallError.{CallError}
+use Rattle.sn_core_calls.specs.declared.fault.CallError.TheVariants.{Refused, Memory, View}
+use Rattle.sn_core_calls.specs.Shown.{Shows}
+
+-- a call may find no memory, and its session and arguments have passed
+abbrev pub MayLack : World → ℕ → Call → Type 0
+MayLack world session c = TakesMemory c × IsOk (ready world session c)
+
+-- why a call has no outcome: it is refused, or it lacks memory or what the view didn't tell
+abbrev pub HasNone : {F : Type 0} → CallError F → World → ℕ → Call → Type 0
+HasNone (Refused r) world session c = decision version_1 world session c ≡ Err r
+HasNone Memory world session c = MayLack world session c
+HasNone (View f) world session c = MayLack world session c
+
+-- what a call comes to
+abbrev pub Decides : {F : Type 0} → World → ℕ → Call → Result Outcome (CallError F) → Type 0
+Decides world session c (Ok o) = decision version_1 world session c ≡ Ok o
+Decides world session c (Err e) = HasNone e world session c
+
+-- the same over all that sessions and a view show, the sessions put into the world
+abbrev pub DecidesShown : {F : Type 0} → InUse → ViewedTrees → (ℕ → Result (Unit {0}) Refusal) → SeenNames → (Home → ℕ → List ℕ) → ℕ → Call → Result Outcome (CallError F) → Type 0
+DecidesShown used trees room names bytes session c result = (world : World) → Shows world used trees room names bytes → Decides (in_world used world) session c result

@@ -1,0 +1,309 @@
+//! What calls come to: the tests of the session and of the arguments, and what `sn_core_decide` decides
+//! over a view of the trees.
+ghost use Rattle.std.specs.Prelude.{◌≡◌, ◌<◌, ◌^◌, IsTrue, IfOk};
+ghost use Rattle.sn_limits.specs.Versions.{version_1};
+ghost use Rattle.sn_model.specs.Calls.{new_session};
+ghost use Rattle.sn_model.specs.Outcomes.{opens};
+ghost use Rattle.sn_model.specs.Steps.{decision};
+ghost use Rattle.sn_model.specs.Tests.{logged_in, logged_out};
+ghost use Rattle.sn_model.specs.World.{World};
+ghost use Rattle.sn_model.specs.Worlds.{IsCall};
+ghost use Rattle.sn_walk.specs.Gives.{Answers};
+ghost use Rattle.sn_desc.specs.InUse.{in_world};
+ghost use Rattle.sn_desc.specs.Sessions.{in_use_of};
+ghost use Rattle.sn_core_calls.specs.Decided.{Decides, DecidesShown};
+ghost use Rattle.sn_core_calls.specs.Faults.{IfView, answer_of};
+ghost use Rattle.sn_core_calls.specs.Shown.{Shows, alone};
+
+use crate::deciding_files::{
+    decide_close, decide_ftruncate, decide_logout, decide_open, decide_read, decide_seek,
+    decide_sync, decide_unlink, decide_write,
+};
+use crate::deciding_names::{decide_link, decide_readdir, decide_rename, decide_rmdir};
+use crate::fault::CallError;
+use crate::view::FileView;
+use sn_acl::{Cred, Mode, Permissions};
+use sn_core_decide as decide;
+use sn_core_decide::{
+    acl_argument, id_argument, mode_bits_argument, new_mode_argument, path_argument,
+};
+use sn_desc::Sessions;
+use sn_limits::Limits;
+use sn_model::{
+    Access, AclKind, Call, Caller, Groups, Outcome, Pending, Refusal, Reply, Session, StoredAcl,
+    Word,
+};
+use sn_walk::Failure;
+use std::alloc::Global;
+
+/// What was decided, as what a call comes to.
+pub(crate) fn decided<'a, F>(
+    outcome: Result<Outcome<'a>, Failure<Refusal, F>>,
+) -> Result<Outcome<'a>, CallError<F>>
+    ensures { result ≡ answer_of outcome.entry }
+{
+    Ok(outcome?)
+}
+
+/// The session with this number, which has to be logged in.
+pub(crate) fn logged_in(sessions: &Sessions, session: u32) -> Result<&Session, Refusal>
+    ensures { Answers (λ s. s.now) result (logged_in (alone (in_use_of sessions.now)) session) }
+{
+    sessions.logged_in(session)
+}
+
+/// Whether nobody is logged in under this number.
+fn logged_out(sessions: &Sessions, session: u32) -> Result<(), Refusal>
+    ensures { result ≡ logged_out (alone (in_use_of sessions.now)) session }
+{
+    sessions.logged_out(session)
+}
+
+/// What a login comes to.
+fn login(uid: u32, gid: u32, groups: &Groups) -> Outcome<'static>
+    ensures outcome { result ≡ opens (new_session uid gid groups.now) }
+    ensures uid { uid < 2 ^ 32 }
+    ensures gid { gid < 2 ^ 32 }
+{
+    Outcome {
+        charge: 0,
+        change: Pending::Nothing,
+        caller: Caller::LogsIn(Session {
+            cred: Cred::new(uid, gid, groups.as_slice()),
+            umask: Mode {
+                owner: Permissions::NONE,
+                group: Permissions::WRITE,
+                other: Permissions::WRITE,
+            },
+        }),
+        told: Reply::Done,
+    }
+}
+
+fn decide_umask(sessions: &Sessions, session: u32, mask: u16) -> Result<Outcome<'static>, Refusal>
+    ensures { (world : World) → Answers (λ o. o) result (decision version_1 (in_world (in_use_of sessions.now) world) session (Call.Umask mask)) }
+{
+    let caller = logged_in(sessions, session)?;
+    let mask = new_mode_argument(mask)?;
+    Ok(decide::umask(caller, mask))
+}
+
+fn decide_mkdir<'a, V: FileView>(
+    view: &mut V,
+    sessions: &Sessions,
+    session: u32,
+    path: &'a Word,
+    mode: u16,
+) -> Result<Outcome<'a>, CallError<V::Fault>>
+    requires { V.holds view.old }
+    ensures kept { V.holds view.new }
+    ensures follows { V.follows view.old view.new }
+    ensures same { IsTrue V.is_told → V.shows view.new ≡ V.shows view.old }
+    ensures decided { IsTrue V.is_told → DecidesShown (in_use_of sessions.now) (V.shows view.old) (V.room view.old) (V.names view.old) (V.bytes view.old) session (Call.Mkdir path.now mode) result }
+    ensures cause { IfView result (λ f. V.causes view.old view.new f) }
+{
+    let caller = logged_in(sessions, session)?;
+    let path = path_argument(path)?;
+    let mode = new_mode_argument(mode)?;
+    decided(decide::mkdir(&Limits::VERSION_1, view, caller, &path, mode))
+}
+
+fn decide_chmod<V: FileView>(
+    view: &mut V,
+    sessions: &Sessions,
+    session: u32,
+    path: &Word,
+    mode: u16,
+) -> Result<Outcome<'static>, CallError<V::Fault>>
+    requires { V.holds view.old }
+    ensures kept { V.holds view.new }
+    ensures follows { V.follows view.old view.new }
+    ensures same { IsTrue V.is_told → V.shows view.new ≡ V.shows view.old }
+    ensures decided { IsTrue V.is_told → DecidesShown (in_use_of sessions.now) (V.shows view.old) (V.room view.old) (V.names view.old) (V.bytes view.old) session (Call.Chmod path.now mode) result }
+    ensures cause { IfView result (λ f. V.causes view.old view.new f) }
+{
+    let caller = logged_in(sessions, session)?;
+    let path = path_argument(path)?;
+    let bits = mode_bits_argument(mode)?;
+    decided(decide::chmod(&Limits::VERSION_1, view, caller, &path, bits))
+}
+
+fn decide_chown<V: FileView>(
+    view: &mut V,
+    sessions: &Sessions,
+    session: u32,
+    path: &Word,
+    uid: Option<u32>,
+    gid: Option<u32>,
+) -> Result<Outcome<'static>, CallError<V::Fault>>
+    requires { V.holds view.old }
+    ensures kept { V.holds view.new }
+    ensures follows { V.follows view.old view.new }
+    ensures same { IsTrue V.is_told → V.shows view.new ≡ V.shows view.old }
+    ensures decided { IsTrue V.is_told → DecidesShown (in_use_of sessions.now) (V.shows view.old) (V.room view.old) (V.names view.old) (V.bytes view.old) session (Call.Chown path.now uid gid) result }
+    ensures cause { IfView result (λ f. V.causes view.old view.new f) }
+{
+    let caller = logged_in(sessions, session)?;
+    let path = path_argument(path)?;
+    let uid = id_argument(uid)?;
+    let gid = id_argument(gid)?;
+    decided(decide::chown(&Limits::VERSION_1, view, caller, &path, uid, gid))
+}
+
+fn decide_stat<'a, V: FileView>(
+    view: &mut V,
+    sessions: &Sessions,
+    session: u32,
+    path: &'a Word,
+) -> Result<Outcome<'a>, CallError<V::Fault>>
+    requires { V.holds view.old }
+    ensures kept { V.holds view.new }
+    ensures follows { V.follows view.old view.new }
+    ensures same { IsTrue V.is_told → V.shows view.new ≡ V.shows view.old }
+    ensures decided { IsTrue V.is_told → DecidesShown (in_use_of sessions.now) (V.shows view.old) (V.room view.old) (V.names view.old) (V.bytes view.old) session (Call.Stat path.now) result }
+    ensures cause { IfView result (λ f. V.causes view.old view.new f) }
+{
+    let caller = logged_in(sessions, session)?;
+    let path = path_argument(path)?;
+    decided(decide::stat(view, caller, &path))
+}
+
+fn decide_access<V: FileView>(
+    view: &mut V,
+    sessions: &Sessions,
+    session: u32,
+    path: &Word,
+    want: Access,
+) -> Result<Outcome<'static>, CallError<V::Fault>>
+    requires { V.holds view.old }
+    ensures kept { V.holds view.new }
+    ensures follows { V.follows view.old view.new }
+    ensures same { IsTrue V.is_told → V.shows view.new ≡ V.shows view.old }
+    ensures decided { IsTrue V.is_told → DecidesShown (in_use_of sessions.now) (V.shows view.old) (V.room view.old) (V.names view.old) (V.bytes view.old) session (Call.Access path.now want) result }
+    ensures cause { IfView result (λ f. V.causes view.old view.new f) }
+{
+    let caller = logged_in(sessions, session)?;
+    let path = path_argument(path)?;
+    decided(decide::access(view, caller, &path, want))
+}
+
+fn decide_getacl<V: FileView>(
+    alloc: Global,
+    view: &mut V,
+    sessions: &Sessions,
+    session: u32,
+    path: &Word,
+    kind: AclKind,
+) -> Result<Outcome<'static>, CallError<V::Fault>>
+    requires { V.holds view.old }
+    ensures kept { V.holds view.new }
+    ensures follows { V.follows view.old view.new }
+    ensures same { IsTrue V.is_told → V.shows view.new ≡ V.shows view.old }
+    ensures decided { IsTrue V.is_told → DecidesShown (in_use_of sessions.now) (V.shows view.old) (V.room view.old) (V.names view.old) (V.bytes view.old) session (Call.GetAcl path.now kind) result }
+    ensures cause { IfView result (λ f. V.causes view.old view.new f) }
+{
+    let caller = logged_in(sessions, session)?;
+    let path = path_argument(path)?;
+    let acl = decide::getacl(view, caller, &path, kind)?;
+    let told = Reply::Acl(StoredAcl::of_option(alloc, acl.as_ref())?);
+    Ok(Outcome {
+        charge: 0,
+        change: Pending::Nothing,
+        caller: Caller::Stays,
+        told,
+    })
+}
+
+fn decide_setacl<V: FileView>(
+    view: &mut V,
+    sessions: &Sessions,
+    session: u32,
+    path: &Word,
+    kind: AclKind,
+    acl: &Word,
+) -> Result<Outcome<'static>, CallError<V::Fault>>
+    requires { V.holds view.old }
+    ensures kept { V.holds view.new }
+    ensures follows { V.follows view.old view.new }
+    ensures same { IsTrue V.is_told → V.shows view.new ≡ V.shows view.old }
+    ensures decided { IsTrue V.is_told → DecidesShown (in_use_of sessions.now) (V.shows view.old) (V.room view.old) (V.names view.old) (V.bytes view.old) session (Call.SetAcl path.now kind acl.now) result }
+    ensures cause { IfView result (λ f. V.causes view.old view.new f) }
+{
+    let caller = logged_in(sessions, session)?;
+    let path = path_argument(path)?;
+    let acl = acl_argument(kind, acl)?;
+    decided(decide::setacl(&Limits::VERSION_1, view, caller, &path, acl))
+}
+
+/// What a call comes to over each world that the view shows, or why it has no outcome.
+fn decide_shown<'a, V: FileView>(
+    alloc: Global,
+    view: &mut V,
+    sessions: &Sessions,
+    session: u32,
+    call: &'a Call,
+) -> Result<Outcome<'a>, CallError<V::Fault>>
+    requires { V.holds view.old }
+    ensures kept { V.holds view.new }
+    ensures follows { V.follows view.old view.new }
+    ensures same { IsTrue V.is_told → V.shows view.new ≡ V.shows view.old }
+    ensures decided { IsTrue V.is_told → DecidesShown (in_use_of sessions.now) (V.shows view.old) (V.room view.old) (V.names view.old) (V.bytes view.old) session call.now result }
+    ensures cause { IfView result (λ f. V.causes view.old view.new f) }
+    ensures numbers { IfOk result (λ o. IsCall call.now) }
+{
+    match call {
+        Call::Login { uid, gid, groups } => {
+            logged_out(sessions, session)?;
+            Ok(login(*uid, *gid, groups))
+        }
+        Call::Umask { mask } => Ok(decide_umask(sessions, session, *mask)?),
+        Call::Mkdir { path, mode } => decide_mkdir(view, sessions, session, path, *mode),
+        Call::Chmod { path, mode } => decide_chmod(view, sessions, session, path, *mode),
+        Call::Chown { path, uid, gid } => {
+            decide_chown(view, sessions, session, path, *uid, *gid)
+        }
+        Call::Stat { path } => decide_stat(view, sessions, session, path),
+        Call::Access { path, want } => decide_access(view, sessions, session, path, *want),
+        Call::GetAcl { path, kind } => {
+            decide_getacl(alloc, view, sessions, session, path, *kind)
+        }
+        Call::SetAcl { path, kind, acl } => {
+            decide_setacl(view, sessions, session, path, *kind, acl)
+        }
+        Call::Rmdir { path } => decide_rmdir(view, sessions, session, path),
+        Call::Unlink { path } => decide_unlink(view, sessions, session, path),
+        Call::Link { old, new } => decide_link(view, sessions, session, old, new),
+        Call::Rename { old, new } => decide_rename(view, sessions, session, old, new),
+        Call::Readdir { path } => decide_readdir(alloc, view, sessions, session, path),
+        Call::Logout => Ok(decide_logout(sessions, session)?),
+        Call::Open { path, flags, mode } => {
+            decide_open(view, sessions, session, path, *flags, *mode)
+        }
+        Call::Close { fd } => Ok(decide_close(sessions, session, *fd)?),
+        Call::Read { fd, count } => decide_read(alloc, view, sessions, session, *fd, *count),
+        Call::Write { fd, bytes } => decide_write(view, sessions, session, *fd, bytes),
+        Call::Seek { fd, offset } => Ok(decide_seek(sessions, session, *fd, *offset)?),
+        Call::Ftruncate { fd, size } => Ok(decide_ftruncate(sessions, session, *fd, *size)?),
+        Call::Sync => Ok(decide_sync(sessions, session)?),
+    }
+}
+
+/// What a call comes to, its first refusal, or why it has neither: `Memory` where what it tells found none, `View`
+/// where the view found a fault. Both come only once its session and arguments have passed. Nothing changes.
+pub fn decide<'a, V: FileView>(
+    alloc: Global,
+    view: &mut V,
+    sessions: &Sessions,
+    session: u32,
+    call: &'a Call,
+) -> Result<Outcome<'a>, CallError<V::Fault>>
+    requires { V.holds view.old }
+    ensures kept { V.holds view.new }
+    ensures follows { V.follows view.old view.new }
+    ensures same { IsTrue V.is_told → V.shows view.new ≡ V.shows view.old }
+    ensures decided { IsTrue V.is_told → (world : World) → Shows world (in_use_of sessions.now) (V.shows view.old) (V.room view.old) (V.names view.old) (V.bytes view.old) → Decides world session call.now result }
+    ensures cause { IfView result (λ f. V.causes view.old view.new f) }
+    ensures numbers { IfOk result (λ o. IsCall call.now) }
+{
+    decide_shown(alloc, view, sessions, session, call)
+}

@@ -1,0 +1,312 @@
+//! What the calls on files come to: beside the tests of the session and of the arguments those of the
+//! descriptor, and what `sn_core_decide` decides over names.
+ghost use Rattle.std.specs.Prelude.{◌≡◌, ◌<◌, ◌≤◌, ◌+◌, IsTrue, length, take, drop, IfOk, IfErr};
+ghost use Rattle.sn_limits.specs.Versions.{version_1};
+ghost use Rattle.sn_model.specs.declared.call.Call.TheVariants as call;
+ghost use Rattle.sn_model.specs.FileCalls as calls;
+ghost use Rattle.sn_model.specs.Outcomes.{asks};
+ghost use Rattle.sn_model.specs.Steps.{decision};
+ghost use Rattle.sn_model.specs.World.{World};
+ghost use Rattle.sn_desc.specs.InUse.{descriptor_of, in_world};
+ghost use Rattle.sn_desc.specs.Sessions.{in_use_of};
+ghost use Rattle.sn_walk.specs.Gives.{Answers};
+ghost use Rattle.sn_core_calls.specs.Decided.{DecidesShown};
+ghost use Rattle.sn_core_calls.specs.Faults.{IfLookUp, IfView};
+
+use crate::deciding::{decided, logged_in};
+use crate::fault::{CallError, FileFault};
+use crate::view::FileView;
+use sn_core_decide as decide;
+use sn_core_decide::{
+    bytes_argument, count_argument, flags_argument, new_mode_argument, path_argument,
+};
+use sn_desc::{OpenFile, Sessions};
+use sn_limits::Limits;
+use sn_model::{
+    Bytes, Caller, Change, Errno, FileData, OpenFlags, Outcome, Pending, Refusal, Reply, Word,
+};
+use std::alloc::Global;
+
+/// What a call comes to that changes no tree.
+fn asks(caller: Caller, told: Reply) -> Outcome<'static>
+    ensures { result ≡ asks caller told }
+{
+    Outcome {
+        charge: 0,
+        change: Pending::Nothing,
+        caller,
+        told,
+    }
+}
+
+/// Where bytes end that begin at an offset. It is EFBIG where no file can be so large.
+fn end_of(offset: u64, count: u64) -> Result<u64, Refusal>
+    ensures fits { Answers (λ _. tt) result (calls.is_size version_1 (offset + count)) }
+    ensures end { IfOk result (λ end. end ≡ offset + count) }
+{
+    match offset.checked_add(count) {
+        Some(end) if end <= Limits::VERSION_1.largest_file => Ok(end),
+        _ => Err(Refusal::plain(Errno::Efbig)),
+    }
+}
+
+/// How many blocks bytes lie in.
+fn blocks_spanned(offset: u64, count: u64) -> u64
+    requires some { 0 < count }
+    requires within { offset + count ≤ 67108864 }
+    ensures spanned { result ≡ calls.blocks_spanned offset count }
+    ensures few { result ≤ 16385 }
+{
+    (offset + count - 1) / 4096 - offset / 4096 + 1
+}
+
+/// The charge for a file and so many of its blocks.
+fn file_charge(blocks: u64) -> u64
+    requires { blocks ≤ 16385 }
+    ensures { result ≡ calls.file_charge version_1 blocks }
+{
+    let limits = Limits::VERSION_1;
+    u64::from(limits.inode_charge) + u64::from(limits.block_charge) * blocks
+}
+
+/// What a write of some bytes comes to.
+#[tactic(auto, unfolding(sn_model::specs::FileCalls::write_some))]
+fn write_some<'a>(
+    fd: u32,
+    number: u16,
+    offset: u64,
+    bytes: &'a [u8],
+) -> Result<Outcome<'a>, Refusal>
+    requires { 0 < length bytes.now }
+    ensures { Answers (λ o. o) result (calls.write_some version_1 fd number offset bytes.now) }
+{
+    let count = bytes.len() as u64;
+    let end = end_of(offset, count)?;
+    let blocks = blocks_spanned(offset, count);
+    Ok(Outcome {
+        charge: file_charge(blocks),
+        change: Pending::Does(Change::Write {
+            number,
+            offset,
+            bytes: Bytes::new(bytes),
+        }),
+        caller: Caller::Moves { fd, offset: end },
+        told: Reply::Number(count),
+    })
+}
+
+pub(crate) fn decide_logout(sessions: &Sessions, session: u32) -> Result<Outcome<'static>, Refusal>
+    ensures { (world : World) → Answers (λ o. o) result (decision version_1 (in_world (in_use_of sessions.now) world) session call.Logout) }
+{
+    logged_in(sessions, session)?;
+    Ok(asks(Caller::LogsOut, Reply::Done))
+}
+
+pub(crate) fn decide_sync(sessions: &Sessions, session: u32) -> Result<Outcome<'static>, Refusal>
+    ensures { (world : World) → Answers (λ o. o) result (decision version_1 (in_world (in_use_of sessions.now) world) session call.Sync) }
+{
+    logged_in(sessions, session)?;
+    Ok(asks(Caller::Stays, Reply::Done))
+}
+
+pub(crate) fn decide_unlink<'a, V: FileView>(
+    view: &mut V,
+    sessions: &Sessions,
+    session: u32,
+    path: &'a Word,
+) -> Result<Outcome<'a>, CallError<V::Fault>>
+    requires { V.holds view.old }
+    ensures kept { V.holds view.new }
+    ensures follows { V.follows view.old view.new }
+    ensures same { IsTrue V.is_told → V.shows view.new ≡ V.shows view.old }
+    ensures decided { IsTrue V.is_told → DecidesShown (in_use_of sessions.now) (V.shows view.old) (V.room view.old) (V.names view.old) (V.bytes view.old) session (call.Unlink path.now) result }
+    ensures cause { IfView result (λ f. V.causes view.old view.new f) }
+{
+    let caller = logged_in(sessions, session)?;
+    let path = path_argument(path)?;
+    decided(decide::unlink(&Limits::VERSION_1, view, caller, &path))
+}
+
+#[tactic(auto, unfolding(sn_model::specs::FileCalls::open_outcome))]
+pub(crate) fn decide_open<'a, V: FileView>(
+    view: &mut V,
+    sessions: &Sessions,
+    session: u32,
+    path: &'a Word,
+    flags: OpenFlags,
+    mode: u16,
+) -> Result<Outcome<'a>, CallError<V::Fault>>
+    requires { V.holds view.old }
+    ensures kept { V.holds view.new }
+    ensures follows { V.follows view.old view.new }
+    ensures same { IsTrue V.is_told → V.shows view.new ≡ V.shows view.old }
+    ensures decided { IsTrue V.is_told → DecidesShown (in_use_of sessions.now) (V.shows view.old) (V.room view.old) (V.names view.old) (V.bytes view.old) session (call.Open path.now flags mode) result }
+    ensures cause { IfView result (λ f. V.causes view.old view.new f) }
+{
+    let caller = logged_in(sessions, session)?;
+    let path = path_argument(path)?;
+    let flags = flags_argument(flags)?;
+    let mode = new_mode_argument(mode)?;
+    let fd = sessions.next_descriptor(session)?;
+    decided(decide::open(&Limits::VERSION_1, view, caller, fd, &path, flags, mode))
+}
+
+#[tactic(auto, unfolding(sn_model::specs::FileCalls::close_outcome))]
+pub(crate) fn decide_close(
+    sessions: &Sessions,
+    session: u32,
+    fd: u32,
+) -> Result<Outcome<'static>, Refusal>
+    ensures { (world : World) → Answers (λ o. o) result (decision version_1 (in_world (in_use_of sessions.now) world) session (call.Close fd)) }
+{
+    logged_in(sessions, session)?;
+    sessions.get(session, fd)?;
+    Ok(asks(Caller::Closes { fd }, Reply::Done))
+}
+
+/// Where a file of a size stands behind a read of so many bytes: from its end on where it stood before. A view that
+/// isn't told may hand out more bytes than it says that there are.
+fn offset_behind(offset: u64, size: u64, count: u64) -> u64
+    ensures moves { offset + count ≤ size → result ≡ offset + count }
+    ensures stays { size ≤ offset → result ≡ offset }
+{
+    if offset < size {
+        offset.saturating_add(count)
+    } else {
+        offset
+    }
+}
+
+/// What a read from an open file comes to.
+fn reads<V: FileView>(
+    alloc: Global,
+    view: &mut V,
+    fd: u32,
+    file: &OpenFile,
+    count: u64,
+) -> Result<Outcome<'static>, FileFault<V::Fault>>
+    requires holds { V.holds view.old }
+    requires few { count ≤ 65536 }
+    ensures kept { V.holds view.new }
+    ensures follows { V.follows view.old view.new }
+    ensures same { IsTrue V.is_told → V.shows view.new ≡ V.shows view.old }
+    ensures found { IsTrue V.is_told → IfOk result (λ o. o ≡ calls.reads fd (descriptor_of file.now) (take count (drop file.now.offset (V.bytes view.old file.now.home file.now.number)))) }
+    ensures cause { IfLookUp result (λ f. V.causes view.old view.new f) }
+{
+    let size = match view.size(&file.home, file.number) {
+        Ok(size) => size,
+        Err(fault) => return Err(FileFault::View(fault)),
+    };
+    let bytes = view.read(alloc, &file.home, file.number, file.offset, count as usize)?;
+    let offset = offset_behind(file.offset, size, bytes.len() as u64);
+    Ok(asks(
+        Caller::Moves { fd, offset },
+        Reply::Content(FileData::new(bytes)),
+    ))
+}
+
+#[tactic(auto, unfolding(sn_model::specs::FileCalls::read_outcome))]
+pub(crate) fn decide_read<V: FileView>(
+    alloc: Global,
+    view: &mut V,
+    sessions: &Sessions,
+    session: u32,
+    fd: u32,
+    count: u64,
+) -> Result<Outcome<'static>, CallError<V::Fault>>
+    requires { V.holds view.old }
+    ensures kept { V.holds view.new }
+    ensures follows { V.follows view.old view.new }
+    ensures same { IsTrue V.is_told → V.shows view.new ≡ V.shows view.old }
+    ensures decided { IsTrue V.is_told → DecidesShown (in_use_of sessions.now) (V.shows view.old) (V.room view.old) (V.names view.old) (V.bytes view.old) session (call.Read fd count) result }
+    ensures cause { IfView result (λ f. V.causes view.old view.new f) }
+{
+    logged_in(sessions, session)?;
+    let count = count_argument(count)?;
+    let file = sessions.readable(session, fd)?;
+    Ok(reads(alloc, view, fd, file, count)?)
+}
+
+/// Where a write to an open file begins.
+fn write_offset<V: FileView>(view: &mut V, file: &OpenFile) -> Result<u64, V::Fault>
+    requires { V.holds view.old }
+    ensures kept { V.holds view.new }
+    ensures follows { V.follows view.old view.new }
+    ensures same { IsTrue V.is_told → V.shows view.new ≡ V.shows view.old }
+    ensures found { IsTrue V.is_told → IfOk result (λ offset. offset ≡ calls.write_offset (descriptor_of file.now) (V.bytes view.old file.now.home file.now.number)) }
+    ensures cause { IfErr result (λ f. V.causes view.old view.new f) }
+{
+    if file.appends {
+        view.size(&file.home, file.number)
+    } else {
+        Ok(file.offset)
+    }
+}
+
+#[tactic(auto, unfolding(sn_model::specs::FileCalls::write_outcome))]
+pub(crate) fn decide_write<'a, V: FileView>(
+    view: &mut V,
+    sessions: &Sessions,
+    session: u32,
+    fd: u32,
+    bytes: &'a FileData,
+) -> Result<Outcome<'a>, CallError<V::Fault>>
+    requires { V.holds view.old }
+    ensures kept { V.holds view.new }
+    ensures follows { V.follows view.old view.new }
+    ensures same { IsTrue V.is_told → V.shows view.new ≡ V.shows view.old }
+    ensures decided { IsTrue V.is_told → DecidesShown (in_use_of sessions.now) (V.shows view.old) (V.room view.old) (V.names view.old) (V.bytes view.old) session (call.Write fd bytes.now) result }
+    ensures cause { IfView result (λ f. V.causes view.old view.new f) }
+{
+    logged_in(sessions, session)?;
+    let bytes = bytes_argument(bytes.as_bytes())?;
+    let file = sessions.writable(session, fd)?;
+    if bytes.is_empty() {
+        return Ok(asks(Caller::Stays, Reply::Number(0)));
+    }
+    let offset = match write_offset(view, file) {
+        Ok(offset) => offset,
+        Err(fault) => return Err(CallError::View(fault)),
+    };
+    Ok(write_some(fd, file.number, offset, bytes)?)
+}
+
+#[tactic(auto, unfolding(sn_model::specs::FileCalls::seek_outcome))]
+pub(crate) fn decide_seek(
+    sessions: &Sessions,
+    session: u32,
+    fd: u32,
+    offset: u64,
+) -> Result<Outcome<'static>, Refusal>
+    ensures { (world : World) → Answers (λ o. o) result (decision version_1 (in_world (in_use_of sessions.now) world) session (call.Seek fd offset)) }
+{
+    logged_in(sessions, session)?;
+    sessions.get(session, fd)?;
+    if offset > Limits::VERSION_1.largest_file {
+        return Err(Refusal::plain(Errno::Einval));
+    }
+    Ok(asks(Caller::Moves { fd, offset }, Reply::Number(offset)))
+}
+
+#[tactic(auto, unfolding(sn_model::specs::FileCalls::ftruncate_outcome))]
+pub(crate) fn decide_ftruncate(
+    sessions: &Sessions,
+    session: u32,
+    fd: u32,
+    size: u64,
+) -> Result<Outcome<'static>, Refusal>
+    ensures { (world : World) → Answers (λ o. o) result (decision version_1 (in_world (in_use_of sessions.now) world) session (call.Ftruncate fd size)) }
+{
+    logged_in(sessions, session)?;
+    let file = sessions.writable(session, fd)?;
+    let size = end_of(size, 0)?;
+    Ok(Outcome {
+        charge: file_charge(1),
+        change: Pending::Does(Change::SetSize {
+            number: file.number,
+            size,
+        }),
+        caller: Caller::Stays,
+        told: Reply::Done,
+    })
+}

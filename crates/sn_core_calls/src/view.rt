@@ -1,0 +1,53 @@
+use crate::fault::FileFault;
+use sn_core_names::MoveView;
+use sn_model::Names;
+use sn_walk::{Home, Object};
+use std::alloc::Global;
+
+/// What calls ask of the trees beside what decisions ask: the bytes of files, and the names that a
+/// directory is listed with.
+pub trait FileView: MoveView {
+    ghost use Rattle.std.specs.Prelude.{◌≡◌, ℕ, IsTrue, IfOk, IfErr, List, length, take, drop};
+    ghost use Rattle.sn_walk.specs.declared.object.Home.{Home};
+    ghost use Rattle.sn_core_calls.specs.Faults.{IfLookUp};
+
+    // the bytes of the nodes of the trees; what isn't there has none
+    ghost bytes: { Self → Home → ℕ → List ℕ };
+
+    /// How many bytes a node of a tree has. What isn't there has none.
+    fn size(&mut self, home: &Home, number: u16) -> Result<u64, Self::Fault>
+        requires { Self.holds self.old }
+        ensures kept { Self.holds self.new }
+        ensures follows { Self.follows self.old self.new }
+        ensures same { IsTrue Self.is_told → Self.shows self.new ≡ Self.shows self.old }
+        ensures found { IsTrue Self.is_told → IfOk result (λ size. size ≡ length (bytes self.old home.now number)) }
+        ensures cause { IfErr result (λ f. Self.causes self.old self.new f) };
+
+    /// The bytes of a node of a tree from an offset on, at most so many: as many as there are.
+    fn read(
+        &mut self,
+        alloc: Global,
+        home: &Home,
+        number: u16,
+        offset: u64,
+        most: usize,
+    ) -> Result<Vec<u8>, FileFault<Self::Fault>>
+        requires { Self.holds self.old }
+        ensures kept { Self.holds self.new }
+        ensures follows { Self.follows self.old self.new }
+        ensures same { IsTrue Self.is_told → Self.shows self.new ≡ Self.shows self.old }
+        ensures found { IsTrue Self.is_told → IfOk result (λ read. read.items ≡ take most (drop offset (bytes self.old home.now number))) }
+        ensures cause { IfLookUp result (λ f. Self.causes self.old self.new f) };
+
+    /// The names that a directory is listed with, in the order of their bytes.
+    fn listed(&mut self, alloc: Global, object: &Object) -> Result<Names, FileFault<Self::Fault>>
+        requires { Self.holds self.old }
+        ensures kept { Self.holds self.new }
+        ensures follows { Self.follows self.old self.new }
+        ensures same { IsTrue Self.is_told → Self.shows self.new ≡ Self.shows self.old }
+        ensures found { IsTrue Self.is_told → IfOk result (λ listed. listed ≡ (Self.names self.old).listed object.now) }
+        ensures cause { IfLookUp result (λ f. Self.causes self.old self.new f) };
+
+    // look-ups leave the bytes
+    ghost bytes_stay: { (u v : Self) → IsTrue Self.is_told → Self.follows u v → bytes v ≡ bytes u };
+}
