@@ -12,13 +12,13 @@ use Rattle.sn_image.specs.Inodes.{inode_at}
 use Rattle.sn_image.specs.Names.{names_at, names_in, names_of, names_under}
 use Rattle.sn_image.specs.Reach.{numbers}
 use Rattle.sn_image.specs.Sound.{name_count}
-use Rattle.sn_image.proofs.PointLemmas.{used_in, in_numbers}
 use Rattle.sn_dir.specs.Blocks.{names_before}
 use Rattle.sn_dir.proofs.NameLemmas.{range-more, before-more, before-front}
 use Rattle.sn_census.specs.Counts.{AreCounted, Counts, HasName, HasRoom, IsOf, kind_of, links_under, names_below, times_in}
-use Rattle.sn_census.specs.Rows.{AreLoaded, row_at, row_of, unused_row}
+use Rattle.sn_census.specs.Rows.{AreLoaded, AreUnused, row_at, row_of}
 use Rattle.sn_census.specs.declared.table.Row.{Row}
 use Rattle.sn_census.proofs.CountLemmas.{times_append}
+use Rattle.sn_census.proofs.RowLemmas.{no_inode}
 
 -- what is counted is there
 pub count_some : {A : Type 0} (p : A → Bool) (xs : List A) → 0 < count_by p xs → (x : A) × Contains xs x × (p x ≡ true)
@@ -74,23 +74,16 @@ module _ (s : Store) (inodes : BlockTree) where
 
   -- ---- before names are counted
 
-  unused_past : inodes.size / 128 ≤ 65536 → (number : ℕ) → 65536 ≤ number → inode_at s inodes number ≡ None
-  unused_past most number past = told (inode_at s inodes number) refl
-    where
-      told : (o : Option Inode) → inode_at s inodes number ≡ o → inode_at s inodes number ≡ None
-      told None e = e
-      told (Some inode) e = absurd (omega (arith, most, past, (in_numbers inodes number (used_in s inodes number inode e)).1))
-
   row_is : (o : Option Inode) (number : ℕ) → ((row_of number o).kind ≡ kind_of o) × ((row_of number o).links ≡ links_under number o) × ((row_of number o).names ≡ 0) × ((row_of number o).climb ≡ 0)
   row_is None number = (refl, refl, refl, refl)
   row_is (Some inode) number = (refl, refl, refl, refl)
 
-  pub counted_begun : (rows : List Row) → inodes.size / 128 ≤ 65536 → ((number : ℕ) → 65536 ≤ number → row_at rows number ≡ unused_row) → AreLoaded s inodes 65536 rows → AreCounted s inodes 2 rows
-  counted_begun rows most past loaded number =
+  pub counted_begun : (end : ℕ) (rows : List Row) → inodes.size / 128 ≤ end → AreLoaded s inodes end rows → AreUnused end rows → AreCounted s inodes 2 rows
+  counted_begun end rows most loaded unused number =
       let row : row_at rows number ≡ row_of number (inode_at s inodes number) = ⊎_elim
-      (λ (under : number < 65536). loaded number under)
-      (λ (over : 65536 ≤ number). past number over ∙ ap (λ (o : Option Inode). row_of number o) (sym (unused_past most number over)))
-      (cases_lt number 65536) in
+      (λ (under : number < end). loaded number under)
+      (λ (over : end ≤ number). unused number over ∙ ap (λ (o : Option Inode). row_of number o) (sym (no_inode s inodes number (omega (arith, most, over)))))
+      (cases_lt number end) in
       let w = row_is (inode_at s inodes number) number in
       let names : (row_at rows number).names ≡ 0 = ap (λ (r : Row). r.names) row ∙ w.2 in
       record {

@@ -1,5 +1,5 @@
 -- The rows of a census, one for each number.
-use Rattle.std.specs.Prelude.{◌≡◌, ◌≢◌, ℕ, ◌<◌, ◌==◌, if◌then◌else◌, List, Option, None, Some, slice_index_or}
+use Rattle.std.specs.Prelude.{◌≡◌, ◌≢◌, ℕ, ◌<◌, ◌≤◌, ◌==◌, if◌then◌else◌, List, Option, None, Some, slice_index_or}
 use Rattle.sn_layout.specs.declared.tree.BlockTree.{BlockTree}
 use Rattle.sn_layout_node.specs.declared.inode.Inode.{Inode}
 use Rattle.sn_ondisk.specs.Trees.{Store}
@@ -25,6 +25,10 @@ row_at rows number = slice_index_or rows number unused_row
 -- how many names of a number were found
 abbrev pub names_found : List Row → ℕ → ℕ
 names_found rows number = (row_at rows number).names
+
+-- The rows of all numbers from one on are those of numbers that no node has.
+abbrev pub AreUnused : ℕ → List Row → Type 0
+AreUnused begin rows = (number : ℕ) → begin ≤ number → row_at rows number ≡ unused_row
 
 -- One row was set.
 pub record Sets (number : ℕ) (row : Row) (old new : List Row) : Type 0 where

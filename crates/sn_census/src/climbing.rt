@@ -4,7 +4,7 @@ ghost use Rattle.sn_limits.specs.declared.kind.Kind.TheVariants.{Directory};
 ghost use Rattle.sn_census.specs.Climbs.{AreClimbed, LeadsUp, AreUnclimbed, KeepsRows, parents_of};
 ghost use Rattle.sn_census.specs.Rows.{row_at};
 
-use crate::table::{Census, NUMBERS, ROOT, Row};
+use crate::table::{Census, ROOT, Row};
 
 // Goes up from a directory until a number comes that was gone through before, and answers whether that was
 // on the way from another directory, which led to the root. Else the way has come back to itself.
@@ -63,7 +63,7 @@ pub(crate) fn first_apart(census: &mut Census) -> Option<u16>
     ensures kept { KeepsRows census.old census.new }
 {
     begin(census);
-    for number in 3..NUMBERS {
+    for number in 3..census.used() {
         if !leads_up(census, number as u16) {
             return Some(number as u16);
         }

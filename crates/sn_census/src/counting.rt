@@ -104,15 +104,12 @@ pub fn count_links<D: Device>(
     ensures same { IsTrue D.tells_bytes → D.disk (device_of blocks.new) ≡ D.disk (device_of blocks.old) }
     ensures counts { CountsCheck result (D.status (device_of blocks.old)) (D.status (device_of blocks.new)) }
 {
-    // What was checked can be read, and each number has a row.
+    // What was checked can be read, and there are no more records than numbers.
     read_laws();
     inode_laws();
     directory_laws();
     number_law(limits.largest_number);
-    census.size_law();
     load_rows(census, blocks, limits, file, body)?;
-    // The rows past the last number are none.
-    census.size_law();
     count_names(census, blocks, limits, file, body)?;
     test_counted(census, blocks, limits, file, body)
 }

@@ -7,7 +7,8 @@
 //! other device the call ends, and reads only.
 //!
 //! A `Census` has a row for each number: the kind of its inode, how many names it is to have, how many were
-//! found, and the directory in which the last of them was. It is taken once, and counts root after root.
+//! found, and the directory in which the last of them was. It is taken once, and counts root after root. Rows
+//! behind the inode file's records are those of unused numbers, and no pass goes over them.
 //!
 //! The way through: `table` has the rows, and `readers` looks up inodes and blocks. In order, `loading` fills
 //! the rows from the inodes; `naming` goes through all directories, block after block, and finds the first

@@ -1,15 +1,15 @@
 //! Filling the rows from the inodes of a root.
-ghost use Rattle.std.specs.Prelude.{◌≡◌, ℕ, IsTrue, IfErr, OnOk};
+ghost use Rattle.std.specs.Prelude.{◌≡◌, ℕ, ◌/◌, min, IsTrue, IfErr, OnOk};
 ghost use Rattle.sn_device.specs.Disk.{reads};
 ghost use Rattle.sn_block.specs.Lending.{device_of};
 ghost use Rattle.sn_ondisk.specs.Trees.{store_of};
 ghost use Rattle.sn_image.specs.Inodes.{inode_at};
 ghost use Rattle.sn_inode.specs.Reads.{CanReadRecord};
 ghost use Rattle.sn_marks.specs.Fault.{CountsCheck, Tells};
-ghost use Rattle.sn_census.specs.Rows.{AreLoaded, Sets, row_of};
+ghost use Rattle.sn_census.specs.Rows.{AreLoaded, AreUnused, Sets, row_of};
 
-use crate::readers::inode_of;
-use crate::table::{Census, NUMBERS, Row};
+use crate::readers::{inode_of, record_count};
+use crate::table::{Census, Row};
 use sn_block::Blocks;
 use sn_device::Device;
 use sn_layout::BlockTree;
@@ -38,7 +38,8 @@ fn load_row<D: Device>(
     Ok(())
 }
 
-/// Fills the row of each number, whatever stood there. No name is counted yet.
+/// Fills the row of each number, whatever stood there. Behind the inode file's records the numbers are unused.
+/// No name is counted yet.
 pub(crate) fn load_rows<D: Device>(
     census: &mut Census,
     blocks: &mut Blocks<D>,
@@ -49,12 +50,14 @@ pub(crate) fn load_rows<D: Device>(
     requires read { IsTrue D.tells_bytes → (number : ℕ) → CanReadRecord limits.now (D.status (device_of blocks.old)).sectors
         (store_of (reads (D.disk (device_of blocks.old)))) file.now number }
     ensures rows { IsTrue D.tells_bytes → OnOk result (AreLoaded
-        (store_of (reads (D.disk (device_of blocks.old)))) file.now 65536 census.new) }
+        (store_of (reads (D.disk (device_of blocks.old)))) file.now (min (file.now.size / 128) 65536) census.new) }
+    ensures rest { IsTrue D.tells_bytes → OnOk result (AreUnused (min (file.now.size / 128) 65536) census.new) }
     ensures fault { IsTrue D.tells_bytes → IfErr result (λ fault. Tells fault (λ damage block. ⊥)) }
     ensures same { IsTrue D.tells_bytes → D.disk (device_of blocks.new) ≡ D.disk (device_of blocks.old) }
     ensures counts { CountsCheck result (D.status (device_of blocks.old)) (D.status (device_of blocks.new)) }
 {
-    for number in 0..NUMBERS {
+    census.clear();
+    for number in 0..record_count(file) {
         load_row(census, blocks, limits, file, body, number as u16)?;
     }
     Ok(())

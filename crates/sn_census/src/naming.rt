@@ -1,5 +1,5 @@
 //! Counting the names of all directories.
-ghost use Rattle.std.specs.Prelude.{◌≡◌, ◌∷◌, ◌/◌, ◌<◌, ◌≤◌, [], false, min, Some, IsTrue, IfErr, IfNone, IfSome, OnOk};
+ghost use Rattle.std.specs.Prelude.{◌≡◌, ◌∷◌, ◌/◌, ◌<◌, ◌≤◌, [], false, Some, IsTrue, IfErr, IfNone, IfSome, OnOk};
 ghost use Rattle.sn_device.specs.Disk.{reads};
 ghost use Rattle.sn_block.specs.Lending.{device_of};
 ghost use Rattle.sn_layout.specs.declared.tree.BlockTree.{BlockTree as TheTree};
@@ -14,14 +14,16 @@ ghost use Rattle.sn_census.specs.Faults.{IsAt, StandsInLinks};
 ghost use Rattle.sn_census.specs.Roots.{IsDirectoryOf, IsReadable};
 ghost use Rattle.sn_census.specs.Rows.{row_at};
 
-use crate::readers::{fetch_names, inode_of, link_fault, record_fault, spelled_names};
-use crate::table::{Census, NUMBERS, Row};
+use crate::readers::{
+    fetch_names, inode_of, link_fault, record_count, record_fault, spelled_names,
+};
+use crate::table::{Census, Row};
 use sn_block::Blocks;
 use sn_check_root::pointer_to;
 use sn_device::Device;
 use sn_dir::block_count;
 use sn_layout::BlockTree;
-use sn_layout_node::{Content, DirectoryBlock, INODE_SIZE, Inode};
+use sn_layout_node::{Content, DirectoryBlock, Inode};
 use sn_limits::{Kind, Limits};
 use sn_marks::CheckFault;
 
@@ -226,13 +228,6 @@ fn count_number<D: Device>(
         Some(inode) => count_inode(census, blocks, limits, file, body, number, &inode),
         None => Ok(()),
     }
-}
-
-// How many records the inode file has, no more than there are numbers.
-fn record_count(file: &BlockTree) -> u64
-    ensures { result ≡ min (file.now.size / 128) 65536 }
-{
-    (file.size / INODE_SIZE as u64).min(u64::from(NUMBERS))
 }
 
 /// Counts the names of all directories. The first of a number that has one too many is told. Before, the

@@ -1,6 +1,6 @@
 //! Readers of what was checked before. Where the device tells its bytes, all of it can be read. One that gives other bytes at
 //! the second reading has no block to be blamed: that is told of the root body, as misspelt.
-ghost use Rattle.std.specs.Prelude.{◌≡◌, IsTrue, IsSome, IfOk, IfErr, OnOk};
+ghost use Rattle.std.specs.Prelude.{◌≡◌, ◌/◌, min, IsTrue, IsSome, IfOk, IfErr, OnOk};
 ghost use Rattle.sn_device.specs.Disk.{reads};
 ghost use Rattle.sn_block.specs.Lending.{device_of, fetched_number, fetched_bytes};
 ghost use Rattle.sn_layout_node.specs.Directory.{IsDirectoryBlock};
@@ -16,16 +16,24 @@ ghost use Rattle.sn_marks.specs.declared.fault.CheckFault.TheVariants.{Damaged};
 ghost use Rattle.sn_check_root.specs.Reading.{TreeLies};
 ghost use Rattle.sn_census.specs.Faults.{IsAt};
 
+use crate::table::NUMBERS;
 use sn_block::{Block, Blocks};
 use sn_check_root::{fault_at, record_block};
 use sn_device::Device;
 use sn_dir::{decoded, fetch_block};
 use sn_inode::get;
 use sn_layout::BlockTree;
-use sn_layout_node::{DirectoryBlock, Inode};
+use sn_layout_node::{DirectoryBlock, INODE_SIZE, Inode};
 use sn_limits::Limits;
 use sn_marks::CheckFault;
 use sn_model::Damage;
+
+// How many records the inode file has, no more than there are numbers. From there on no number has an inode.
+pub(crate) fn record_count(file: &BlockTree) -> u64
+    ensures { result ≡ min (file.now.size / 128) 65536 }
+{
+    (file.size / INODE_SIZE as u64).min(u64::from(NUMBERS))
+}
 
 // The inode of a number.
 pub(crate) fn inode_of<D: Device>(

@@ -1,8 +1,8 @@
 //! The table of a census.
-ghost use Rattle.std.specs.Prelude.{◌≡◌, ◌↔◌, ◌<◌, List, length, replicate, vec_len, slice_set, Some, IsTrue, IfOk};
+ghost use Rattle.std.specs.Prelude.{◌≡◌, ℕ, ◌≤◌, ◌++◌, ◌↔◌, List, drop, length, replicate, vec_len, slice_set, Some, IsTrue, IfOk};
 ghost use Rattle.sn_limits.specs.declared.kind.Kind.TheVariants.{Directory};
 ghost use Rattle.sn_census.specs.Climbs.{parents_of};
-ghost use Rattle.sn_census.specs.Rows.{Sets, names_found, row_at, row_of, unused_row};
+ghost use Rattle.sn_census.specs.Rows.{AreUnused, Sets, names_found, row_at, row_of, unused_row};
 ghost use Rattle.sn_census.specs.declared.table.Row.{Row as TheRow};
 
 use sn_layout_node::Inode;
@@ -74,10 +74,20 @@ impl Row {
     }
 }
 
+// Makes so many rows those of unused numbers, from the first on.
+fn clear_rows(rows: &mut [Row], count: usize)
+    requires { count ≤ length rows.old }
+    ensures { rows.new ≡ replicate count unused_row ++ drop count rows.old }
+{
+    rows[..count].fill(Row::unused());
+}
+
 /// A table with a row for each number. It is taken once, and counts root after root.
 #[derive(Drop)]
 pub struct Census {
     rows: Vec<Row>,
+    // The rows from this number on are those of unused numbers.
+    used: usize,
 }
 
 impl Model for Census {
@@ -85,7 +95,7 @@ impl Model for Census {
 
     ghost view = { λ census. census.rows.items };
 
-    ghost invariant = { λ census. vec_len census.rows ≡ 65536 };
+    ghost invariant = { λ census. (vec_len census.rows ≡ 65536) × ((census.used ≤ 65536) × AreUnused census.used census.rows.items) };
 }
 
 impl Census {
@@ -95,6 +105,7 @@ impl Census {
     {
         Ok(Census {
             rows: Vec::from_elem(alloc, Row::unused(), NUMBERS as usize)?,
+            used: 0,
         })
     }
 
@@ -112,6 +123,22 @@ impl Census {
         self.row(number).parent
     }
 
+    // The number from which on all rows are those of unused numbers.
+    pub(crate) fn used(&self) -> usize
+        ensures few { result ≤ 65536 }
+        ensures rest { AreUnused result self.now }
+    {
+        self.used
+    }
+
+    // Makes each row that of an unused number.
+    pub(crate) fn clear(&mut self)
+        ensures { AreUnused 0 self.new }
+    {
+        clear_rows(self.rows.as_mut_slice(), self.used);
+        self.used = 0;
+    }
+
     // The row of a number.
     pub(crate) fn row(&self, number: u16) -> Row
         ensures row { result ≡ row_at self.now number }
@@ -127,12 +154,6 @@ impl Census {
         ensures size { length self.old ≡ 65536 }
     {
         self.rows[number as usize] = row;
-    }
-
-    // What the type says of the rows.
-    pub(crate) fn size_law(&self)
-        ensures { length self.now ≡ 65536 }
-    {
-        let _count = self.rows.len();
+        self.used = self.used.max(number as usize + 1);
     }
 }

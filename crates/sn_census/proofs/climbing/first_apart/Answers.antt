@@ -1,8 +1,8 @@
-use Rattle.std.proofs.Common.{◌≡◌, ◌≢◌, ⊎_elim, ℕ, sym, ap, subst, ◌∙◌, arith}
-use Rattle.std.proofs.lemmas.Bool.{cases_eq}
+use Rattle.std.proofs.Common.{◌≡◌, ◌≢◌, ⊎_elim, ℕ, ◌<◌, ◌≤◌, sym, ap, subst, ◌∙◌, arith}
+use Rattle.std.proofs.lemmas.Bool.{cases_eq, cases_lt}
 use Rattle.sn_census.specs.Climbs.{LeadsUp, parents_of}
 use Rattle.sn_census.specs.Rows.{row_at}
-use Rattle.sn_census.proofs.RowLemmas.{kept_joined}
+use Rattle.sn_census.proofs.RowLemmas.{kept_joined, unused_kind}
 use Rattle.sn_census.proofs.climbing.first_apart.Goals as goal
 
 pub loop-number-init : goal.loop-number-init
@@ -23,3 +23,10 @@ loop-number-preserved c = record {
 
 pub returns-then-not-leads_up-clause-kept : goal.returns-then-not-leads_up-clause-kept
 returns-then-not-leads_up-clause-kept c = λ number. kept_joined _ _ _ (c.loop-number.invariant.kept number) (c.leads_up.ensures.kept number)
+
+pub returns-clause-none : goal.returns-clause-none
+returns-clause-none c = λ none directory above under kind. ⊎_elim
+    (λ (below : directory < c.loop-number.number). c.loop-number.invariant.up none directory above below kind)
+    (λ (behind : c.loop-number.number ≤ directory).
+    absurd (unused_kind (row_at c.begin.new.census directory) (c.used-number-end.ensures.rest directory (omega (arith, behind))) ((c.begin.ensures.kept directory).kind ∙ kind)))
+    (cases_lt directory c.loop-number.number)

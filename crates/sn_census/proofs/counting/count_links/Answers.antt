@@ -1,4 +1,4 @@
-use Rattle.std.proofs.Common.{◌≡◌, ℕ, ◌/◌, ap, subst, ◌∙◌}
+use Rattle.std.proofs.Common.{◌≡◌, ◌≤◌, ℕ, ◌/◌, min, ap, subst, ◌∙◌, arith}
 use Rattle.std.proofs.lemmas.Result.{err_from_is_err_and, on_ok_weaker}
 use Rattle.sn_device.specs.Disk.{Disk, reads}
 use Rattle.sn_block.specs.Lending.{device_of}
@@ -11,7 +11,6 @@ use Rattle.sn_census.specs.Counts.{AreCounted, HasFound}
 use Rattle.sn_census.specs.Faults.{StandsInLinks}
 use Rattle.sn_census.specs.Roots.{IsReadable}
 use Rattle.sn_census.proofs.ReadLemmas.{readable}
-use Rattle.sn_census.proofs.RowLemmas.{past_rows}
 use Rattle.sn_census.proofs.SumLemmas.{counted_begun}
 use Rattle.sn_census.proofs.counting.count_links.Goals as goal
 
@@ -31,9 +30,8 @@ count_names-requires g c =
       readable = λ told. at_now _ _ _ _ _ stays (λ m q. IsReadable c.args.limits.now m q c.args.file.now) told
           (readable c.args.limits.now n s c.args.file.now (c.requires.checked told) c.read_laws.ensures.blocks c.inode_laws.ensures.inodes c.directory_laws.ensures c.number_law.ensures);
       begun = λ told. at_now _ _ _ _ _ stays (λ m q. AreCounted q c.args.file.now 2 c.load_rows.new.census) told
-          (counted_begun s c.args.file.now c.load_rows.new.census
-          (readable c.args.limits.now n s c.args.file.now (c.requires.checked told) c.read_laws.ensures.blocks c.inode_laws.ensures.inodes c.directory_laws.ensures c.number_law.ensures).most
-          (λ number past. past_rows c.load_rows.new.census number c.size_law-2.ensures past) (c.in_ok-load_rows.ensures.rows told));
+          (let most : c.args.file.now.size / 128 ≤ 65536 = (readable c.args.limits.now n s c.args.file.now (c.requires.checked told) c.read_laws.ensures.blocks c.inode_laws.ensures.inodes c.directory_laws.ensures c.number_law.ensures).most in
+          counted_begun s c.args.file.now (min (c.args.file.now.size / 128) 65536) c.load_rows.new.census (omega (arith, most)) (c.in_ok-load_rows.ensures.rows told) (c.in_ok-load_rows.ensures.rest told));
     }
 
 pub test_counted-requires : goal.test_counted-requires
