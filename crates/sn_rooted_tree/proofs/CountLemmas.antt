@@ -1,5 +1,5 @@
 -- The names of a root's tree, counted directory by directory.
-use Rattle.std.proofs.Common.{◌≡◌, ◌≢◌, ◌⊎◌, inl, inr, ℕ, zero, suc, ◌+◌, ◌-◌, ◌^◌, ◌<◌, ◌≤◌, ◌==◌, Bool, IsTrue, true, false, cond, min, List, [], ◌∷◌, length, get_or, filter, map, Some, Contains, refl, sym, ap, subst, ◌∙◌, arith, eq-eqb, eqb-true}
+use Rattle.std.proofs.Common.{◌≡◌, ◌≢◌, ◌⊎◌, inl, inr, ⊎_elim, ℕ, zero, suc, ◌+◌, ◌-◌, ◌^◌, ◌<◌, ◌≤◌, ◌==◌, Bool, IsTrue, true, false, cond, min, List, [], ◌∷◌, length, get_or, replicate, filter, map, Some, Contains, refl, sym, ap, subst, ◌∙◌, arith, eq-eqb, eqb-true}
 use Rattle.std.specs.declared.cmp.Ordering.{Ordering}
 use Rattle.std.specs.declared.cmp.Ordering.TheVariants.{Less, Equal, Greater}
 use Rattle.std.specs.Cmp.{nat_cmp_total}
@@ -7,7 +7,7 @@ use Rattle.std.specs.FinMap as fin
 use Rattle.std.specs.FinMap.Entries.{find}
 use Rattle.std.specs.Ordering.{is_eq}
 use Rattle.std.proofs.lemmas.Bool.{cases_lt, false_from_ne_true, true≢false}
-use Rattle.std.proofs.lemmas.List.{get_or_default, get_or_past, length-map}
+use Rattle.std.proofs.lemmas.List.{get_or_default, get_or_past, get_or-replicate, length-map, length-replicate}
 use Rattle.std.proofs.lemmas.List.Sums.{length-filter}
 use Rattle.std.proofs.lemmas.Map.Lookups.{exact_unsigned}
 use Rattle.sn_dir.specs.declared.listings.ListedName.{ListedName}
@@ -23,7 +23,7 @@ use Rattle.sn_limits.specs.Versions.{version_1}
 use Rattle.sn_model.specs.declared.link.Link.{Link}
 use Rattle.sn_model.specs.NameTree.{HasKind, IsTree}
 use Rattle.sn_model.specs.Seen.{names_of}
-use Rattle.sn_model.specs.Tree.{Tree, link_cmp, link_to, names_in}
+use Rattle.sn_model.specs.Tree.{Node, Tree, link_cmp, link_to, names_in}
 use Rattle.sn_model.proofs.ChainLemmas.{some_same}
 use Rattle.sn_model.proofs.CountLemmas.{count_none}
 use Rattle.sn_model.proofs.LinkLemmas.{exact_links, links_total}
@@ -81,7 +81,11 @@ module _ (tree : Tree) (d : ℕ) (names : List ListedName) (listed : map (λ (x 
       (found.0, found.1, some_same _ _ (sym (numbers found.0 found.1) ∙ ap (fin.get tree.links) named ∙ e))
 
   pub one_more : (old mid new : List Counted) (count : ℕ) → count ≡ min (length names) (2 ^ 32 - 1) → names_in tree d ≤ 65535 → AreCounted tree d old → SetsNames d count old mid → NotesNames d names mid new → AreCounted tree (d + 1) new
-  one_more old mid new count is few before sets notes = record { names = names_are; parents = parents_are }
+  one_more old mid new count is few before sets notes = record {
+    names = names_are;
+    none_later = λ n behind. notes.kept n ∙ sets.others n (λ (same : n ≡ d). omega (arith, same, behind)) ∙ before.none_later n (omega (arith, behind));
+    parents = parents_are;
+  }
     where
       names_are : (n : ℕ) → n < d + 1 → (counted_at new n).names ≡ names_in tree n
       names_are n below = notes.kept n ∙ told (same_or_apart nat_cmp_total exact_unsigned n d)
@@ -149,29 +153,38 @@ module _ (d : ℕ) (names : List ListedName) (old : List Counted) where
 
 -- ---- all of them
 
-pub none_counted : (tree : Tree) (rows : List Counted) → AreCounted tree 0 rows
-none_counted tree rows = record { names = λ n below. absurd (omega (arith, below)); parents = λ link number below e. absurd (omega (arith, below)) }
+nothing_at : (n d : ℕ) → counted_at (replicate n nothing_counted) d ≡ nothing_counted
+nothing_at n d = ⊎_elim
+    (λ (below : d < n). get_or-replicate n d nothing_counted nothing_counted below)
+    (λ (behind : n ≤ d). get_or_past (replicate n nothing_counted) d nothing_counted (omega (arith, behind, length-replicate n nothing_counted)))
+    (cases_lt d n)
 
-module _ (tree : Tree) (whole : IsTree version_1 tree) where
-  low : (link : Link) (number : ℕ) → fin.get tree.links link ≡ Some number → link.directory < 65536
+pub none_counted : (tree : Tree) (n : ℕ) (rows : List Counted) → rows ≡ replicate n nothing_counted → AreCounted tree 0 rows
+none_counted tree n rows is = record {
+  names = λ d below. absurd (omega (arith, below));
+  none_later = λ d behind. ap (λ (them : List Counted). (counted_at them d).names) is ∙ ap (λ (c : Counted). c.names) (nothing_at n d);
+  parents = λ link number below e. absurd (omega (arith, below));
+}
+
+-- where each node has a number below an end
+module _ (tree : Tree) (whole : IsTree version_1 tree) (end : ℕ) (within : (number : ℕ) (node : Node) → fin.get tree.nodes number ≡ Some node → number < end) where
+  low : (link : Link) (number : ℕ) → fin.get tree.links link ≡ Some number → link.directory < end
   low link number e =
       let found = some_node _ Directory (whole.hierarchy.held link number e) in
-      let most : link.directory ≤ 65535 = (whole.nodes.nodes link.directory found.0 found.1).within in
-      omega (arith, most)
+      within link.directory found.0 found.1
 
-  -- no directory has a number that no node can have
-  none_high : (d : ℕ) → 65536 ≤ d → names_in tree d ≡ 0
+  none_high : (d : ℕ) → end ≤ d → names_in tree d ≡ 0
   none_high d high = count_none links_total exact_links (λ (e : Link × ℕ). e.0.directory == d) tree.links (λ q v e. false_from_ne_true (q.directory == d) (λ t. absurd (let same : q.directory ≡ d = eqb-true q.directory d t in omega (arith, same, high, low q v e))))
 
-  pub all_counted : (rows : List Counted) → length rows ≡ 65536 → AreCounted tree 65536 rows → TellsDirectories tree rows
-  all_counted rows long counted = record { names = names; parents = parents }
+  pub all_counted : (rows : List Counted) → AreCounted tree end rows → TellsDirectories tree rows
+  all_counted rows counted = record { names = names; parents = parents }
     where
       names : (d : ℕ) → (counted_at rows d).names ≡ names_in tree d
-      names d = told (cases_lt d 65536)
+      names d = told (cases_lt d end)
         where
-          told : (d < 65536) ⊎ (65536 ≤ d) → (counted_at rows d).names ≡ names_in tree d
+          told : (d < end) ⊎ (end ≤ d) → (counted_at rows d).names ≡ names_in tree d
           told (inl below) = counted.names d below
-          told (inr high) = ap (λ (c : Counted). c.names) (get_or_past rows d nothing_counted (omega (arith, long, high))) ∙ sym (none_high d high)
+          told (inr high) = counted.none_later d high ∙ sym (none_high d high)
 
       parents : (link : Link) (number : ℕ) → fin.get tree.links link ≡ Some number → HasKind tree number Directory → (counted_at rows number).parent ≡ link.directory
       parents link number e kind =

@@ -10,9 +10,7 @@ use Rattle.sn_device.specs.Disk.{Disk, reads}
 use Rattle.sn_device.specs.declared.status.Status.{Status}
 use Rattle.sn_image.specs.Image.{image}
 use Rattle.sn_layout.specs.declared.tree.BlockTree.{BlockTree}
-use Rattle.sn_limits.specs.Versions.{version_1}
 use Rattle.sn_limits.specs.declared.limits.Limits.{Limits}
-use Rattle.sn_model.specs.NameTree.{IsTree}
 use Rattle.sn_model.specs.Settling.{is_nameless}
 use Rattle.sn_model.specs.Tree.{Node, Tree}
 use Rattle.sn_model.proofs.CountLemmas.{count, count_none, once}
@@ -101,9 +99,9 @@ one_further tree end = omega (arith, count_below_more (nameless tree) tree.nodes
     told None = refl
     told (Some node) = refl
 
-pub all_below : (tree : Tree) → IsTree version_1 tree → nameless_below tree 65536 ≡ nameless_in tree
+pub all_below : (tree : Tree) (end : ℕ) → ((number : ℕ) (node : Node) → fin.get tree.nodes number ≡ Some node → number < end) → nameless_below tree end ≡ nameless_in tree
 unfolding nameless_below nameless_in
-all_below tree whole = count_below_all (nameless tree) tree.nodes 65536 (λ k v e. let most : k ≤ 65535 = (whole.nodes.nodes k v e).within in omega (arith, most))
+all_below tree end within = count_below_all (nameless tree) tree.nodes end within
 
 -- ---- on a device that is as it was
 

@@ -1,5 +1,5 @@
 -- Nodes and blocks of a sound root, as overlays see them.
-use Rattle.std.proofs.Common.{◌≡◌, ℕ, ◌+◌, ◌-◌, ◌*◌, ◌^◌, ◌<◌, ◌≤◌, ◌⊎◌, inl, inr, List, ◌++◌, length, get_or, take, drop, replicate, min, Option, Some, None, refl, sym, ap, subst, ◌∙◌, arith, length-append, length-drop}
+use Rattle.std.proofs.Common.{◌≡◌, ℕ, ◌+◌, ◌-◌, ◌*◌, ◌/◌, ◌^◌, ◌<◌, ◌≤◌, ◌⊎◌, inl, inr, List, ◌++◌, length, get_or, take, drop, replicate, min, Option, Some, None, refl, sym, ap, subst, ◌∙◌, arith, length-append, length-drop}
 use Rattle.std.specs.Option.{option_map}
 use Rattle.std.specs.FinMap as fin
 use Rattle.std.proofs.lemmas.Bool.{cases_lt}
@@ -16,12 +16,13 @@ use Rattle.sn_limits.specs.Versions.{version_1}
 use Rattle.sn_model.specs.FileCalls.{bytes_of}
 use Rattle.sn_model.specs.NameTree.{IsTree}
 use Rattle.sn_model.specs.Tree.{Node, Tree}
-use Rattle.sn_ondisk.specs.Trees.{store_of}
+use Rattle.sn_ondisk.specs.Trees.{Store, store_of}
 use Rattle.sn_image.specs.Acls.{acls_at}
 use Rattle.sn_image.specs.Image.{image, file_bytes, node_of}
 use Rattle.sn_image.specs.Inodes.{inode_at}
 use Rattle.sn_image.proofs.ByteLemmas.{data_whole}
-use Rattle.sn_image.proofs.SoundNameLemmas.{sound_tree}
+use Rattle.sn_image.proofs.PointLemmas.{used_in, in_numbers}
+use Rattle.sn_image.proofs.SoundNameLemmas.{node_is as image_node, sound_tree}
 use Rattle.sn_image.proofs.SoundNodeLemmas.{only_version}
 use Rattle.sn_image.proofs.WellFormedLemmas.{links_counted}
 use Rattle.sn_overlay.specs.Layers.{bytes_of as shown_bytes}
@@ -61,6 +62,13 @@ module _ (limits : Limits) (sectors : ℕ) (c : Contents) (file : BlockTree) (ar
   pub root_tree : IsTree version_1 (image (store_of c) file)
   root_tree = subst (λ (l : Limits). IsTree l (image (store_of c) file)) (sym (only_version limits root.version))
       (sound_tree limits root.blocks (store_of c) file root.version (λ block lies. data_whole c root.blocks block are (omega (arith, root.fits, count)) lies) root.sound)
+
+-- no node has a number that the inode file has no record for
+pub numbered : (s : Store) (file : BlockTree) (end : ℕ) → end ≡ min (file.size / 128) 65536 → IsTree version_1 (image s file) → (number : ℕ) (node : Node) → fin.get (image s file).nodes number ≡ Some node → number < end
+numbered s file end is whole number node e =
+    let most : number ≤ 65535 = (whole.nodes.nodes number node e).within in
+    let used = image_node s file number node e in
+    omega (arith, is, most, (in_numbers file number (used_in s file number used.0 used.1)).1)
 
 -- no file is longer than the largest
 pub file_short : (tree : Tree) (number : ℕ) → IsTree version_1 tree → length (shown_bytes (fin.get tree.nodes number)) ≤ 67108864

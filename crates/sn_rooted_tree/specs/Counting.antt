@@ -1,5 +1,5 @@
 -- Names of a tree that were counted, directory by directory.
-use Rattle.std.specs.Prelude.{◌≡◌, ◌⊎◌, ℕ, ◌<◌, List, Some, Contains}
+use Rattle.std.specs.Prelude.{◌≡◌, ◌⊎◌, ℕ, ◌<◌, ◌≤◌, List, Some, Contains}
 use Rattle.std.specs.FinMap as map
 use Rattle.sn_dir.specs.declared.listings.ListedName.{ListedName}
 use Rattle.sn_directories.specs.Told.{counted_at}
@@ -21,7 +21,8 @@ pub record NotesNames (directory : ℕ) (names : List ListedName) (old new : Lis
 abbrev pub HasName : Tree → ℕ → ℕ → Type 0
 HasName tree directory number = (link : Link) × (map.get tree.links link ≡ Some number) × (link.directory ≡ directory)
 
--- The names in the directories below one are counted, and of each number that has one a directory is noted that has it.
+-- The names in the directories below one are counted and no others, and of each number that has one a directory is noted that has it.
 pub record AreCounted (tree : Tree) (end : ℕ) (rows : List Counted) : Type 0 where
   pub names : (directory : ℕ) → directory < end → (counted_at rows directory).names ≡ names_in tree directory
+  pub none_later : (directory : ℕ) → end ≤ directory → (counted_at rows directory).names ≡ 0
   pub parents : (link : Link) (number : ℕ) → link.directory < end → map.get tree.links link ≡ Some number → HasName tree (counted_at rows number).parent number

@@ -16,6 +16,8 @@
 //! 4. [`directories_of`] counts the names of each directory once, and notes which directory each is in.
 //! 5. [`nameless_of`] counts the files that have no name.
 //!
+//! Both counts go over as many numbers as the inode file has records.
+//!
 //! What the sources leave open is decided in `docs/DECISIONS.md`, under "Reading a root on demand".
 //!
 //! ```text

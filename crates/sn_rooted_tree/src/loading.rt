@@ -1,5 +1,5 @@
 //! The table of the directories of a root's tree.
-ghost use Rattle.std.specs.Prelude.{◌≡◌, ℕ, ◌+◌, ◌-◌, ◌^◌, Option as TheOption, Err, Some, length, map, min, Contains, IsTrue, IfOk, OnOk};
+ghost use Rattle.std.specs.Prelude.{◌≡◌, ℕ, ◌+◌, ◌-◌, ◌/◌, ◌^◌, Option as TheOption, Err, Some, length, map, min, Contains, IsTrue, IfOk, OnOk};
 ghost use Rattle.std.specs.FinMap as fin;
 ghost use Rattle.sn_block.specs.Lending.{device_of};
 ghost use Rattle.sn_directories.specs.Told.{TellsDirectories};
@@ -18,13 +18,21 @@ use sn_device::Device;
 use sn_dir::ListedName;
 use sn_directories::Directories;
 use sn_layout::BlockTree;
+use sn_layout_node::INODE_SIZE;
 use sn_limits::Limits;
 use sn_rooted::names;
 use sn_tree_read::TreeFault;
 use std::alloc::Global;
 
 /// How many numbers there are.
-pub(crate) const NUMBERS: u32 = 65536;
+const NUMBERS: u64 = 65536;
+
+/// How many records an inode file has, no more than there are numbers. No node has a number from there on.
+pub(crate) fn record_count(file: &BlockTree) -> u64
+    ensures { result ≡ min (file.now.size / 128) 65536 }
+{
+    (file.size / INODE_SIZE as u64).min(NUMBERS)
+}
 
 // Notes the directory in which each of these names is.
 fn note_names(directories: &mut Directories, directory: u16, names: &[ListedName])
@@ -88,9 +96,8 @@ pub fn directories_of<D: Device>(
     ensures counts { CountsTree result (D.status (device_of blocks.old)) (D.status (device_of blocks.new)) }
 {
     let mut directories = Directories::new(alloc)?;
-    for number in 0..NUMBERS {
+    for number in 0..record_count(file) {
         count_names(alloc, blocks, limits, file, &mut directories, number as u16)?;
     }
-    directories.size_law();
     Ok(directories)
 }

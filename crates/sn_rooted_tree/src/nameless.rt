@@ -6,7 +6,7 @@ ghost use Rattle.sn_rooted.specs.Roots.{IsSoundOn, tree_on};
 ghost use Rattle.sn_tree_read.specs.Counts.{CountsTree};
 ghost use Rattle.sn_tree_read.specs.declared.fault.TreeFault.TheVariants.{Damaged};
 
-use crate::loading::NUMBERS;
+use crate::loading::record_count;
 use sn_block::Blocks;
 use sn_device::Device;
 use sn_layout::BlockTree;
@@ -14,7 +14,7 @@ use sn_limits::Limits;
 use sn_rooted::is_nameless;
 use sn_tree_read::TreeFault;
 
-/// How many files of a root's tree have no name. `file` is the root's inode file, and the inode of each number is read
+/// How many files of a root's tree have no name. `file` is the root's inode file, and each of its inodes is read
 /// once. Where the root is sound, `Damaged` never comes. Memory is taken for blocks that aren't kept.
 pub fn nameless_of<D: Device>(
     blocks: &mut Blocks<D>,
@@ -28,7 +28,7 @@ pub fn nameless_of<D: Device>(
     ensures counts { CountsTree result (D.status (device_of blocks.old)) (D.status (device_of blocks.new)) }
 {
     let mut count = 0;
-    for number in 0..NUMBERS {
+    for number in 0..record_count(file) {
         if is_nameless(blocks, limits, file, number as u16)? {
             count += 1;
         }

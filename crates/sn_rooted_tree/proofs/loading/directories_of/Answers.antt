@@ -1,14 +1,13 @@
-use Rattle.std.proofs.Common.{◌≡◌, ℕ, refl, subst, ◌∙◌, arith}
+use Rattle.std.proofs.Common.{◌≡◌, ◌/◌, min, refl, ◌∙◌, arith}
 use Rattle.sn_device.specs.Disk.{reads}
 use Rattle.sn_block.specs.Lending.{device_of}
-use Rattle.sn_rooted.specs.Roots.{tree_on}
-use Rattle.sn_rooted_tree.specs.Counting.{AreCounted}
+use Rattle.sn_rooted.specs.Roots.{store_on, tree_on}
 use Rattle.sn_rooted_tree.proofs.CountLemmas.{all_counted, counted_on, none_counted}
-use Rattle.sn_rooted_tree.proofs.SeenLemmas.{root_tree}
+use Rattle.sn_rooted_tree.proofs.SeenLemmas.{numbered, root_tree}
 use Rattle.sn_rooted_tree.proofs.loading.directories_of.Goals as goal
 
 pub loop-number-init : goal.loop-number-init
-loop-number-init g c = record { counted = λ told root. none_counted _ _; same = λ told. refl; status = refl }
+loop-number-init g c = record { counted = λ told root. none_counted _ 65536 _ c.in_ok-directories.ensures; same = λ told. refl; status = refl }
 
 pub loop-number-preserved : goal.loop-number-preserved
 loop-number-preserved g c =
@@ -24,6 +23,6 @@ returns-clause-tells g c told root =
     let disk = g.D.Device.disk (device_of c.args.blocks.now) in
     let tree = tree_on c.args.blocks.now c.args.file.now in
     let whole = root_tree c.args.limits.now _ (reads disk) c.args.file.now (g.met.D.Device.whole (device_of c.args.blocks.now) told) (g.met.D.Device.count (device_of c.args.blocks.now) told) root in
-    let all : c.loop-number.number ≡ 65536 = omega arith in
-    all_counted tree whole c.loop-number.directories c.size_law.ensures
-    (subst (λ (n : ℕ). AreCounted tree n c.loop-number.directories) all (c.loop-number.invariant.counted told root))
+    let end : c.loop-number.number ≡ min (c.args.file.now.size / 128) 65536 = omega (arith, c.record_count-number-end.ensures) in
+    all_counted tree whole c.loop-number.number (numbered (store_on c.args.blocks.now) c.args.file.now c.loop-number.number end whole)
+    c.loop-number.directories (c.loop-number.invariant.counted told root)

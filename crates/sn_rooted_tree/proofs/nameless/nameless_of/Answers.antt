@@ -1,9 +1,9 @@
-use Rattle.std.proofs.Common.{rules, ◌≡◌, ◌+◌, ℕ, Bool, cond, subst, refl, sym, ap, ◌∙◌, arith}
+use Rattle.std.proofs.Common.{rules, ◌≡◌, ◌+◌, ◌/◌, min, ℕ, Bool, cond, subst, refl, sym, ap, ◌∙◌, arith}
 use Rattle.sn_device.specs.Disk.{reads}
 use Rattle.sn_block.specs.Lending.{device_of}
-use Rattle.sn_rooted.specs.Roots.{tree_on}
+use Rattle.sn_rooted.specs.Roots.{store_on, tree_on}
 use Rattle.sn_rooted_tree.proofs.NamelessLemmas.{all_below, counted_on, nameless_below, none_below}
-use Rattle.sn_rooted_tree.proofs.SeenLemmas.{root_tree}
+use Rattle.sn_rooted_tree.proofs.SeenLemmas.{numbered, root_tree}
 use Rattle.sn_rooted_tree.proofs.nameless.nameless_of.Goals as goal
 use Rattle.sn_rooted_tree.proofs.nameless.nameless_of.Goals.{then-branch, else-branch}
 
@@ -32,5 +32,6 @@ returns-clause-count g c told root =
     let disk = g.D.Device.disk (device_of c.args.blocks.now) in
     let tree = tree_on c.args.blocks.now c.args.file.now in
     let whole = root_tree c.args.limits.now _ (reads disk) c.args.file.now (g.met.D.Device.whole (device_of c.args.blocks.now) told) (g.met.D.Device.count (device_of c.args.blocks.now) told) root in
-    let all : c.loop-number.number ≡ 65536 = omega arith in
-    c.loop-number.invariant.counted told root ∙ ap (nameless_below tree) all ∙ all_below tree whole
+    let end : c.loop-number.number ≡ min (c.args.file.now.size / 128) 65536 = omega (arith, c.record_count-number-end.ensures) in
+    c.loop-number.invariant.counted told root
+    ∙ all_below tree c.loop-number.number (numbered (store_on c.args.blocks.now) c.args.file.now c.loop-number.number end whole)
