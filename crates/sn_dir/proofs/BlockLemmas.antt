@@ -1,6 +1,8 @@
 -- One block of a directory: where it is there, and what stands in it.
-use Rattle.std.proofs.Common.{◌≡◌, ◌≢◌, ℕ, ◌≤◌, true, false, List, [], ◌∷◌, Option, length, sym, ap, subst, ◌∙◌, arith}
+use Rattle.std.proofs.Common.{◌≡◌, ◌≢◌, ℕ, ◌≤◌, true, false, List, [], ◌∷◌, Option, Result, Err, length, sym, ap, subst, ◌∙◌, arith}
+use Rattle.std.specs.Prelude.{IsErrAnd}
 use Rattle.std.proofs.lemmas.Bool.{true≢false, and_parts}
+use Rattle.std.proofs.lemmas.Result.{err_from_is_err_and}
 use Rattle.sn_layout.specs.Pointers.{levels_of}
 use Rattle.sn_layout.specs.declared.tree.BlockTree.{BlockTree}
 use Rattle.sn_layout_node.specs.Directory.{Link, Spells, IsDirectoryBlock, links_bytes}
@@ -9,8 +11,10 @@ use Rattle.sn_ondisk.specs.Trees.{Store, entry, data_block}
 use Rattle.sn_image.specs.Names.{names_in}
 use Rattle.sn_image.proofs.DecodeLemmas.{directory_read}
 use Rattle.sn_tree_read.specs.Paths.{lies_on, path_lies_on, block_named, pointer_met, block_met}
+use Rattle.sn_tree_read.specs.declared.fault.TreeFault.{TreeFault}
+use Rattle.sn_tree_read.specs.declared.fault.TreeFault.TheVariants.{Damaged}
 use Rattle.sn_tree_read.proofs.PointerLemmas.{both_lie, met_last}
-use Rattle.sn_dir.specs.Blocks.{IsThere, CanRead, IsDamaged, IsDamagedAt}
+use Rattle.sn_dir.specs.Blocks.{IsThere, CanRead, IsUnread, IsDamaged, IsDamagedAt}
 
 -- ---- where it is there
 
@@ -62,8 +66,25 @@ module _ (sectors : ℕ) (s : Store) (tree : BlockTree) (i : ℕ) (bytes : List 
   pub can_read : (names : List Link) → IsThere sectors s tree i → Spells bytes names → CanRead sectors s tree i
   can_read names there spells = record { there = there; spelled = (names, subst (λ (b : List ℕ). Spells b names) same spells) }
 
-  pub cannot_read : (IsDirectoryBlock bytes → ⊥) → CanRead sectors s tree i → ⊥
+  cannot_read : (IsDirectoryBlock bytes → ⊥) → CanRead sectors s tree i → ⊥
   cannot_read none can = none (subst (λ (b : List ℕ). IsDirectoryBlock b) (sym same) can.spelled)
+
+-- ---- where it can't be read, told of the block that was met
+
+-- the fault with which a call failed, where that is what is answered
+pub was_damaged : {T : Type 0} {block : Option ℕ} (result : Result T TreeFault) (fault : TreeFault) → IsErrAnd result (λ answered. answered ≡ fault) → result ≡ Err (Damaged block) → fault ≡ Damaged block
+was_damaged result fault answered is = let e = err_from_is_err_and result answered in cc (e.1, e.2, is)
+
+module _ {T : Type 0} {block : Option ℕ} (sectors : ℕ) (s : Store) (tree : BlockTree) (i : ℕ) (result : Result T TreeFault) (fault : TreeFault) (answered : IsErrAnd result (λ handed_on. handed_on ≡ fault)) (is : result ≡ Err (Damaged block)) where
+  -- it isn't there
+  pub unfetched : ((at : Option ℕ) → fault ≡ Damaged at → (IsThere sectors s tree i → ⊥) × (at ≡ block_met sectors s tree i)) → IsUnread sectors s tree i block
+  unfetched none = let told = none block (was_damaged result fault answered is) in record { unread = λ can. told.0 can.there; met = told.1 }
+
+  -- it spells no names
+  pub misspelt : (bytes : List ℕ) → bytes ≡ data_block s tree i → (number : ℕ) → block_named number ≡ block_met sectors s tree i → (fault ≡ Damaged (block_named number)) × (IsDirectoryBlock bytes → ⊥) → IsUnread sectors s tree i block
+  misspelt bytes same number met none =
+      let here : block ≡ block_named number = cc (was_damaged result fault answered is, none.0) in
+      record { unread = cannot_read sectors s tree i bytes same none.1; met = here ∙ met }
 
 -- where it's told of a block, there is one that can't be read
 pub somewhere : (IsOpen : List Link → Type 0) (sectors : ℕ) (s : Store) (tree : BlockTree) (block : Option ℕ) → IsDamagedAt IsOpen sectors s tree block → IsDamaged IsOpen sectors s tree

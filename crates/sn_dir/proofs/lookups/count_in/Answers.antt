@@ -1,26 +1,15 @@
-use Rattle.std.proofs.Common.{◌≡◌, List, Err, length, ap, ◌∙◌, arith}
-use Rattle.std.proofs.lemmas.Result.{err_from_is_err_and}
+use Rattle.std.proofs.Common.{List, Err, length, ap, ◌∙◌, arith}
 use Rattle.sn_layout_node.specs.Directory.{Link}
-use Rattle.sn_tree_read.specs.Paths.{block_named}
-use Rattle.sn_tree_read.specs.declared.fault.TreeFault.TheVariants.{Damaged}
-use Rattle.sn_dir.proofs.BlockLemmas.{names_read, few_names, can_read, cannot_read}
+use Rattle.sn_dir.proofs.BlockLemmas.{names_read, few_names, can_read, unfetched, misspelt}
 use Rattle.sn_dir.proofs.lookups.count_in.Goals as goal
 
 pub returns-in_err-number-clause-damaged : goal.returns-in_err-number-clause-damaged
 returns-in_err-number-clause-damaged g c told block is =
-    let p = err_from_is_err_and c.from_residual.result c.from_residual.ensures.1 in
-    let fault : c.in_err-number.field-0.0 ≡ Damaged block = cc (p.1, p.2) in
-    let met = c.in_err-number.ensures.damaged told block (ap (λ f. Err f) fault) in
-    record { unread = λ can. met.0 can.there; met = met.1 }
+    unfetched _ _ c.args.tree.now c.args.i _ _ c.from_residual.ensures.1 is (λ at fault. c.in_err-number.ensures.damaged told at (ap (λ f. Err f) fault))
 
 pub returns-in_err-names-clause-damaged : goal.returns-in_err-names-clause-damaged
 returns-in_err-names-clause-damaged g c told block is =
-    let p = err_from_is_err_and c.from_residual-in_err-names.result c.from_residual-in_err-names.ensures.1 in
-    let fault : block ≡ block_named c.in_ok-number.number = cc (p.1, p.2, c.in_err-names.ensures.damaged.0) in
-    record {
-      unread = cannot_read _ _ c.args.tree.now c.args.i c.fetched.result.now (c.fetched.ensures.value ∙ c.in_ok-number.ensures.block told) c.in_err-names.ensures.damaged.1;
-      met = fault ∙ c.in_ok-number.ensures.number told;
-    }
+    misspelt _ _ c.args.tree.now c.args.i _ _ c.from_residual-in_err-names.ensures.1 is c.fetched.result.now (c.fetched.ensures.value ∙ c.in_ok-number.ensures.block told) c.in_ok-number.number (c.in_ok-number.ensures.number told) c.in_err-names.ensures.damaged
 
 pub returns-clause-count : goal.returns-clause-count
 returns-clause-count g c told =
