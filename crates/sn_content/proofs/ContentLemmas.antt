@@ -12,7 +12,8 @@ use Rattle.sn_layout_node.specs.declared.content.Content.TheVariants.{Inline, Tr
 use Rattle.sn_ondisk.specs.Trees.{Store, entry, pointers_at, all_pointers, named_by, data_block, tree_reach}
 use Rattle.sn_ondisk.specs.TreeLaws.{SameIn}
 use Rattle.sn_ondisk.proofs.TreeLemmas.{entry-level, reach_has, reach_has_none}
-use Rattle.sn_tree_read.specs.Paths.{lies_on, path_lies_on, block_lies_on}
+use Rattle.sn_tree_read.specs.Paths.{lies_on, path_lies_on, block_lies_on, block_named, pointer_met, block_met}
+use Rattle.sn_tree_read.proofs.PointerLemmas.{met_last}
 use Rattle.sn_content.specs.Contents.{inline_block, content_block, holes_of, IsBuilt, IsContentPlanned, IsContentReplanned, IsMovedOut, IsReleased}
 use Rattle.sn_tree.specs.Dirty.{IsFrom, after, block_wanted, block_after}
 use Rattle.sn_tree.specs.Drafts.{Draft}
@@ -20,7 +21,7 @@ use Rattle.sn_tree.specs.Fronts.{IsCut}
 use Rattle.sn_ondisk.specs.Counts.{times}
 use Rattle.sn_tree.specs.Plans.{contents, straddles, most_added, PlansTo}
 use Rattle.sn_tree.specs.Replanned.{EndsAt, IsPlanned, IsReplanned}
-use Rattle.sn_tree.specs.Steps.{LeadsOutside, Planned}
+use Rattle.sn_tree.specs.Steps.{LeadsOutsideAt, Planned}
 use Rattle.sn_tree.specs.declared.fault.PlanFault.{PlanFault}
 use Rattle.sn_tree.specs.declared.new_block.DirtyBlock.{DirtyBlock}
 use Rattle.sn_ondisk.proofs.CountLemmas.{among_times, times-reach}
@@ -39,34 +40,36 @@ at_among (p ∷ ps) zero some = (0, omega arith, refl)
 at_among (p ∷ ps) (suc i) some = let w = at_among ps i some in (suc w.0, omega (arith, w.1), w.2)
 
 module _ (sectors : ℕ) (s : Store) (tree : BlockTree) where
-  pointer_off : (level i : ℕ) → level ≤ levels_of tree.size → lies_on sectors (entry s level tree.pointers i) ≡ false → LeadsOutside sectors (tree_reach s tree)
-  pointer_off level i within off =
-      let p = entry s level tree.pointers i in
-      let some : p ≢ 0 = no_hole sectors p off in
-      let is : p ≡ slice_index (pointers_at s level tree.pointers) i = entry-level s level tree.pointers i in
-      let among : Contains (pointers_at s level tree.pointers) p = subst (Contains (pointers_at s level tree.pointers)) (sym is) (at_among (pointers_at s level tree.pointers) i (λ none. some (is ∙ none))) in
+  pointer_off : (level i pointer : ℕ) → level ≤ levels_of tree.size → pointer ≡ entry s level tree.pointers i → lies_on sectors pointer ≡ false → LeadsOutsideAt sectors (tree_reach s tree) (block_named pointer)
+  pointer_off level i pointer within at off =
+      let some : pointer ≢ 0 = no_hole sectors pointer off in
+      let is : pointer ≡ slice_index (pointers_at s level tree.pointers) i = at ∙ entry-level s level tree.pointers i in
+      let among : Contains (pointers_at s level tree.pointers) pointer = subst (Contains (pointers_at s level tree.pointers)) (sym is) (at_among (pointers_at s level tree.pointers) i (λ none. some (is ∙ none))) in
       record {
-        block = p;
+        block = pointer;
         some = some;
-        among = among_times p (tree_reach s tree) (reach_has s tree level p within some among);
+        among = among_times pointer (tree_reach s tree) (reach_has s tree level pointer within some among);
         outside = off;
+        met = refl;
       }
 
-  path_off : (level i : ℕ) → level ≤ levels_of tree.size → path_lies_on sectors s level tree.pointers i ≡ false → LeadsOutside sectors (tree_reach s tree)
-  unfolding path_lies_on
-  path_off zero i within off = absurd cc
-  path_off (suc level) i within off = either (λ is. path_off level (i / 1024) (omega (arith, within)) is) (path_lies_on sectors s level tree.pointers (i / 1024)) refl
-    where
-      either : (path_lies_on sectors s level tree.pointers (i / 1024) ≡ false → LeadsOutside sectors (tree_reach s tree)) → (b : Bool) → path_lies_on sectors s level tree.pointers (i / 1024) ≡ b → LeadsOutside sectors (tree_reach s tree)
-      either above true is = pointer_off level (i / 1024) (omega (arith, within)) (sym (ap (λ (b : Bool). b && lies_on sectors (entry s level tree.pointers (i / 1024))) is) ∙ off)
-      either above false is = above is
+  abbrev OffAt : ℕ → ℕ → Type 0
+  OffAt level i = LeadsOutsideAt sectors (tree_reach s tree) (block_named (pointer_met sectors s level tree.pointers i))
 
-  pub block_off : (i : ℕ) → block_lies_on sectors s tree i ≡ false → LeadsOutside sectors (tree_reach s tree)
-  block_off i off = either (path_lies_on sectors s (levels_of tree.size) tree.pointers i) refl
+  -- where a pointer or one above it names a block that isn't there, so does the last one on the way
+  path_off : (level i : ℕ) → level ≤ levels_of tree.size → (path_lies_on sectors s level tree.pointers i && lies_on sectors (entry s level tree.pointers i)) ≡ false → OffAt level i
+  unfolding path_lies_on pointer_met
+  path_off zero i within off = pointer_off zero i (entry s zero tree.pointers i) within refl off
+  path_off (suc level) i within off = either (λ is. path_off level (i / 1024) (omega (arith, within)) is) (path_lies_on sectors s (suc level) tree.pointers i) refl
     where
-      either : (b : Bool) → path_lies_on sectors s (levels_of tree.size) tree.pointers i ≡ b → LeadsOutside sectors (tree_reach s tree)
-      either true is = pointer_off (levels_of tree.size) i (omega arith) (sym (ap (λ (b : Bool). b && lies_on sectors (entry s (levels_of tree.size) tree.pointers i)) is) ∙ off)
-      either false is = path_off (levels_of tree.size) i (omega arith) is
+      either : (path_lies_on sectors s (suc level) tree.pointers i ≡ false → OffAt level (i / 1024)) → (b : Bool) → path_lies_on sectors s (suc level) tree.pointers i ≡ b → OffAt (suc level) i
+      either above true is =
+          let met : pointer_met sectors s (suc level) tree.pointers i ≡ entry s (suc level) tree.pointers i = met_last sectors s (suc level) tree.pointers i is in
+          pointer_off (suc level) i (pointer_met sectors s (suc level) tree.pointers i) within met (ap (lies_on sectors) met ∙ sym (ap (λ (b : Bool). b && lies_on sectors (entry s (suc level) tree.pointers i)) is) ∙ off)
+      either above false is = subst (λ (p : ℕ). LeadsOutsideAt sectors (tree_reach s tree) (block_named p)) (sym (ap (λ (b : Bool). if b then entry s (suc level) tree.pointers i else pointer_met sectors s level tree.pointers (i / 1024)) is)) (above is)
+
+  pub block_off : {at : Option ℕ} (i : ℕ) → (block_lies_on sectors s tree i ≡ false) × (at ≡ block_met sectors s tree i) → LeadsOutsideAt sectors (tree_reach s tree) at
+  block_off i off = subst (LeadsOutsideAt sectors (tree_reach s tree)) (sym off.1) (path_off (levels_of tree.size) i (omega arith) off.0)
 
 -- ---- the first data block
 

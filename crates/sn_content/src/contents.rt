@@ -9,7 +9,7 @@ ghost use Rattle.sn_layout_node.specs.Inode.{size_of};
 ghost use Rattle.sn_ondisk.specs.Trees.{store_of};
 ghost use Rattle.sn_tree.specs.Dirty.{IsFrom, block_after};
 ghost use Rattle.sn_tree.specs.Orders.{AreInOrder};
-ghost use Rattle.sn_tree.specs.Steps.{IsTooFull, LeadsOutside, CountsPlan};
+ghost use Rattle.sn_tree.specs.Steps.{IsTooFull, LeadsOutsideAt, CountsPlan};
 ghost use Rattle.sn_tree.specs.declared.fault.PlanFault.TheVariants.{Tree, Full};
 ghost use Rattle.sn_tree_read.specs.declared.fault.TreeFault.TheVariants.{Damaged};
 
@@ -24,7 +24,7 @@ use std::collections::VecDeque;
 
 /// Releases all blocks that a content reaches: those of a node that is gone, or of one whose number is given to
 /// another. It takes no block, so `Full` never comes. `Damaged` comes only where a block that the content reaches
-/// isn't on the device. After an error the build can only be given up.
+/// isn't on the device, and carries it. After an error the build can only be given up.
 pub fn release_all<D: Device>(
     build: &mut Build,
     blocks: &mut Blocks<D>,
@@ -34,8 +34,8 @@ pub fn release_all<D: Device>(
         (store_of (reads (D.disk (device_of blocks.old)))) content.now build.old build.new) }
     ensures full { result ≢ Err Full }
     ensures damaged { IsTrue D.tells_bytes → (block : TheOption ℕ) → result ≡ Err (Tree (Damaged block))
-        → LeadsOutside (D.status (device_of blocks.old)).sectors
-        (content_reach (store_of (reads (D.disk (device_of blocks.old)))) content.now) }
+        → LeadsOutsideAt (D.status (device_of blocks.old)).sectors
+        (content_reach (store_of (reads (D.disk (device_of blocks.old)))) content.now) block }
     ensures same { IsTrue D.tells_bytes → D.disk (device_of blocks.new) ≡ D.disk (device_of blocks.old) }
     ensures counts { CountsPlan result (D.status (device_of blocks.old)) (D.status (device_of blocks.new)) }
 {
@@ -73,8 +73,8 @@ fn plan_inline<D: Device>(
         (store_of (reads (D.disk (device_of blocks.old)))) content.now build.old build.new) }
     ensures full { result ≢ Err Full }
     ensures damaged { IsTrue D.tells_bytes → (block : TheOption ℕ) → result ≡ Err (Tree (Damaged block))
-        → LeadsOutside (D.status (device_of blocks.old)).sectors
-        (content_reach (store_of (reads (D.disk (device_of blocks.old)))) content.now) }
+        → LeadsOutsideAt (D.status (device_of blocks.old)).sectors
+        (content_reach (store_of (reads (D.disk (device_of blocks.old)))) content.now) block }
     ensures same { IsTrue D.tells_bytes → D.disk (device_of blocks.new) ≡ D.disk (device_of blocks.old) }
     ensures counts { CountsPlan result (D.status (device_of blocks.old)) (D.status (device_of blocks.new)) }
 {
@@ -158,7 +158,7 @@ fn plan_moved<D: Device>(
 /// stays and isn't dirty, and where it is cut back, the inode gets the first bytes of data block 0 and all
 /// blocks are released. Else it is `plan_tree` of `sn_tree`, with its errors: after one the build can only be given up.
 /// `Full` comes only where fewer blocks are left than a path for each dirty block and one more, and
-/// `Damaged` only where a block that the old content reaches isn't on the device.
+/// `Damaged` only where a block that the old content reaches isn't on the device, which it carries.
 pub fn plan<D: Device>(
     build: &mut Build,
     blocks: &mut Blocks<D>,
@@ -172,8 +172,8 @@ pub fn plan<D: Device>(
         dirty.keep dirty.blocks.items build.old build.new) }
     ensures full { IsTooFull result build.old ((levels_of dirty.size + 1) * (length dirty.blocks.items + 1)) }
     ensures damaged { IsTrue D.tells_bytes → (block : TheOption ℕ) → result ≡ Err (Tree (Damaged block))
-        → LeadsOutside (D.status (device_of blocks.old)).sectors
-        (content_reach (store_of (reads (D.disk (device_of blocks.old)))) content.now) }
+        → LeadsOutsideAt (D.status (device_of blocks.old)).sectors
+        (content_reach (store_of (reads (D.disk (device_of blocks.old)))) content.now) block }
     ensures same { IsTrue D.tells_bytes → D.disk (device_of blocks.new) ≡ D.disk (device_of blocks.old) }
     ensures counts { CountsPlan result (D.status (device_of blocks.old)) (D.status (device_of blocks.new)) }
 {

@@ -7,7 +7,7 @@ ghost use Rattle.sn_image.specs.Contents.{content_reach};
 ghost use Rattle.sn_layout.specs.Bytes.{zeros};
 ghost use Rattle.sn_ondisk.specs.Trees.{store_of};
 ghost use Rattle.sn_tree.specs.Dirty.{IsFrom, block_after};
-ghost use Rattle.sn_tree.specs.Steps.{LeadsOutside};
+ghost use Rattle.sn_tree.specs.Steps.{LeadsOutsideAt};
 ghost use Rattle.sn_tree_read.specs.Counts.{CountsTree};
 ghost use Rattle.sn_tree_read.specs.declared.fault.TreeFault.TheVariants.{Damaged};
 
@@ -68,8 +68,8 @@ fn first_bytes<D: Device>(
         ≡ take count (content_block (store_of (reads (D.disk (device_of blocks.old)))) content.now 0)) }
     ensures count { IfOk result (λ bytes. length bytes ≡ count) }
     ensures damaged { IsTrue D.tells_bytes → (block : TheOption ℕ) → result ≡ Err (Damaged block)
-        → LeadsOutside (D.status (device_of blocks.old)).sectors
-        (content_reach (store_of (reads (D.disk (device_of blocks.old)))) content.now) }
+        → LeadsOutsideAt (D.status (device_of blocks.old)).sectors
+        (content_reach (store_of (reads (D.disk (device_of blocks.old)))) content.now) block }
     ensures same { IsTrue D.tells_bytes → D.disk (device_of blocks.new) ≡ D.disk (device_of blocks.old) }
     ensures counts { CountsTree result (D.status (device_of blocks.old)) (D.status (device_of blocks.new)) }
 {
@@ -97,8 +97,8 @@ pub(crate) fn wanted_bytes<D: Device>(
         (content_block (store_of (reads (D.disk (device_of blocks.old)))) content.now 0))) }
     ensures count { IfOk result (λ bytes. length bytes ≡ dirty.now.size) }
     ensures damaged { IsTrue D.tells_bytes → (block : TheOption ℕ) → result ≡ Err (Damaged block)
-        → LeadsOutside (D.status (device_of blocks.old)).sectors
-        (content_reach (store_of (reads (D.disk (device_of blocks.old)))) content.now) }
+        → LeadsOutsideAt (D.status (device_of blocks.old)).sectors
+        (content_reach (store_of (reads (D.disk (device_of blocks.old)))) content.now) block }
     ensures same { IsTrue D.tells_bytes → D.disk (device_of blocks.new) ≡ D.disk (device_of blocks.old) }
     ensures counts { CountsTree result (D.status (device_of blocks.old)) (D.status (device_of blocks.new)) }
 {

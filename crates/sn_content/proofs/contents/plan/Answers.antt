@@ -9,9 +9,8 @@ use Rattle.sn_content.specs.Contents.{IsContentPlanned}
 use Rattle.sn_content.proofs.ContentLemmas.{inline_planned, tree_content_planned}
 use Rattle.sn_image.specs.Contents.{content_reach}
 use Rattle.sn_tree_read.specs.declared.fault.TreeFault.TheVariants.{Damaged}
-use Rattle.sn_tree.specs.Steps.{LeadsOutside}
+use Rattle.sn_tree.specs.Steps.{LeadsOutsideAt}
 use Rattle.sn_tree.specs.declared.fault.PlanFault.TheVariants as plan
-use Rattle.sn_tree.proofs.FaultLemmas.{leads_outside}
 use Rattle.sn_content.proofs.contents.plan.Goals as goal
 
 pub returns-then-dirty-clause-planned : goal.returns-then-dirty-clause-planned
@@ -37,5 +36,4 @@ returns-in_err-tree-in-Tree-clause-damaged g c told block is =
     let s = store_of (reads (g.D.Device.disk (device_of c.args.blocks.now))) in
     let f = err_from_is_err_and c.from_residual-in_err-tree-in-Tree.result c.from_residual-in_err-tree-in-Tree.ensures.1 in
     let fault : c.in_err-tree-in-Tree.field-0.0 ≡ plan.Tree (Damaged block) = cc (f.1, f.2) in
-    subst (λ (x : Content). LeadsOutside sectors (content_reach s x)) (sym c.in-Tree.is)
-    (leads_outside (c.in_err-tree-in-Tree.ensures.damaged told block (ap (λ f. Err f) fault)))
+    subst (λ (x : Content). LeadsOutsideAt sectors (content_reach s x) block) (sym c.in-Tree.is) (c.in_err-tree-in-Tree.ensures.damaged told block (ap (λ f. Err f) fault))

@@ -6,10 +6,9 @@ use Rattle.sn_image.specs.Contents.{content_reach}
 use Rattle.sn_layout_node.specs.declared.content.Content.{Content}
 use Rattle.sn_ondisk.specs.Trees.{store_of, all_pointers}
 use Rattle.sn_content.specs.Contents.{IsReleased}
-use Rattle.sn_tree.specs.Steps.{LeadsOutside, LeadsOutsideAt}
+use Rattle.sn_tree.specs.Steps.{LeadsOutsideAt}
 use Rattle.sn_content.proofs.ContentLemmas.{cut_released}
 use Rattle.sn_tree.proofs.ReplannedLemmas.{tree_outside}
-use Rattle.sn_tree.proofs.FaultLemmas.{leads_outside}
 use Rattle.sn_content.proofs.contents.release_all.Goals as goal
 
 pub returns-in-Tree-clause-released : goal.returns-in-Tree-clause-released
@@ -29,10 +28,10 @@ returns-in-Tree-clause-damaged g c told block is =
     let s = store_of (reads (g.D.Device.disk (device_of c.args.blocks.now))) in
     let tree = c.in-Tree.tree in
     let pointers : c.copy_from_slice.new.self ≡ tree.pointers = c.copy_from_slice.ensures.after ∙ c.as_slice.ensures.value in
-    subst (λ (x : Content). LeadsOutside sectors (content_reach s x)) (sym c.in-Tree.is)
-    (leads_outside (tree_outside s tree sectors
+    subst (λ (x : Content). LeadsOutsideAt sectors (content_reach s x) block) (sym c.in-Tree.is)
+    (tree_outside s tree sectors
     (subst (λ (n : ℕ). LeadsOutsideAt sectors (all_pointers s n tree.pointers) block) c.levels_of.ensures.value
-    (subst (λ (ps : List ℕ). LeadsOutsideAt sectors (all_pointers s c.levels_of.result ps) block) pointers (c.release_pointers.ensures.damaged told block is)))))
+    (subst (λ (ps : List ℕ). LeadsOutsideAt sectors (all_pointers s c.levels_of.result ps) block) pointers (c.release_pointers.ensures.damaged told block is))))
 
 pub returns-in-Tree-clause-full : goal.returns-in-Tree-clause-full
 returns-in-Tree-clause-full g c = λ is. omega (arith, c.release_pointers.ensures.full is, c.left.ensures)
