@@ -9,7 +9,7 @@ use Rattle.sn_image.specs.Contents.{content_reach}
 use Rattle.sn_image.specs.Inodes.{inode_at}
 use Rattle.sn_image.specs.Sound.{HasBlocks, HasContent}
 use Rattle.sn_image.proofs.SoundNodeLemmas.{number_fits}
-use Rattle.sn_inode.specs.Changes.{IsUnreadable}
+use Rattle.sn_inode.specs.Changes.{IsUnreadableAt}
 use Rattle.sn_inode.specs.Laws.{SoundInodesAreRead}
 use Rattle.sn_inode.specs.Reads.{CanReadRecord}
 use Rattle.sn_inode.specs.declared.changes.InodeChange.{InodeChange}
@@ -28,6 +28,7 @@ use Rattle.sn_overlay.specs.declared.node.NodeChange.TheVariants.{Changed, Gone}
 use Rattle.sn_overlay.specs.declared.node.NodeState.{NodeState}
 use Rattle.sn_tree.specs.Drafts.{Draft}
 use Rattle.sn_tree.specs.Steps.{LeadsOutside}
+use Rattle.sn_tree.proofs.FaultLemmas.{leads_outside}
 use Rattle.sn_cp_nodes.specs.Built.{CanBuildNode, IsSafeGround}
 use Rattle.sn_cp_nodes.specs.Made.{CanBegin, CanMakeAs, CanPlan, CanRelease}
 use Rattle.sn_cp_nodes.specs.Parts.{Blocks, IsPartOf, Names, content_of}
@@ -66,9 +67,9 @@ module _ (inodes : SoundInodesAreRead) (limits : Limits) (n sectors : ℕ) (s : 
   record_read number = inodes limits sectors s file safe.ground.sound.records (file_lies n sectors s file safe.ground.sound.placed safe.room) number
 
   -- the records of changes can be read
-  pub readable : (changes : List InodeChange) → IsUnreadable limits sectors s file changes → ⊥
-  readable changes (inl cannot) = cannot.2 (record_read cannot.0)
-  readable changes (inr outside) = file_inside n sectors s file safe.ground.sound.placed safe.room outside
+  pub readable : (changes : List InodeChange) (block : Option ℕ) → IsUnreadableAt limits sectors s file changes block → ⊥
+  readable changes block (inl cannot) = cannot.2 (record_read cannot.0)
+  readable changes block (inr outside) = file_inside n sectors s file safe.ground.sound.placed safe.room (leads_outside outside)
 
 module _ (tells : Bool) (told : IsTrue tells) (fit : GrownDirectoriesFit) (inodes : SoundInodesAreRead) (directories : SoundDirectoriesAreRead)
     (limits : Limits) (n sectors : ℕ) (s : Store) (file : BlockTree) (layer : Layer) (draft : Draft) (safe : IsSafeGround limits n sectors s file layer draft) where

@@ -19,8 +19,9 @@ use Rattle.sn_image.specs.Sound.{SpellsRecord, SpellsAcls, EndsAtSize}
 use Rattle.sn_tree.specs.Drafts.{Draft, numbers_of, grown}
 use Rattle.sn_ondisk.specs.Counts.{times}
 use Rattle.sn_tree.specs.Plans.{Holds}
-use Rattle.sn_tree.specs.Steps.{LeadsOutside}
+use Rattle.sn_tree.specs.Steps.{LeadsOutsideAt}
 use Rattle.sn_tree.specs.declared.new_block.NewBlock.{NewBlock}
+use Rattle.sn_tree_read.specs.Paths.{block_met}
 use Rattle.sn_inode.specs.Reads.{CanReadRecord}
 use Rattle.sn_inode.specs.declared.changes.AclChange.{AclChange}
 use Rattle.sn_inode.specs.declared.changes.AclChange.TheVariants.{Kept, Set}
@@ -121,7 +122,8 @@ pub record IsWith (Told : Type 0) (limits : Limits) (s : Store) (old new : Block
   pub none : changes ≡ [] → (new ≡ old) × (new_draft ≡ old_draft)
   pub changes_inodes : Told → ChangesInodes limits s old new changes added released
 
--- The old file can't be read where it has to be: the record of a change, or a block that it reaches.
-abbrev pub IsUnreadable : Limits → ℕ → Store → BlockTree → List InodeChange → Type 0
-IsUnreadable limits sectors s inodes changes =
-    ((number : ℕ) × Contains (numbers_in changes) number × (CanReadRecord limits sectors s inodes number → ⊥)) ⊎ LeadsOutside sectors (tree_reach s inodes)
+-- The old file can't be read where it has to be, and it's told of that block: that of the record of a change, or one that the file reaches.
+abbrev pub IsUnreadableAt : Limits → ℕ → Store → BlockTree → List InodeChange → Option ℕ → Type 0
+IsUnreadableAt limits sectors s inodes changes block =
+    ((number : ℕ) × Contains (numbers_in changes) number × (CanReadRecord limits sectors s inodes number → ⊥) × (block ≡ block_met sectors s inodes (number / 32)))
+    ⊎ LeadsOutsideAt sectors (tree_reach s inodes) block

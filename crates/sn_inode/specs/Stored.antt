@@ -15,7 +15,7 @@ use Rattle.sn_ondisk.specs.Counts.{times}
 use Rattle.sn_tree.specs.Plans.{Holds}
 use Rattle.sn_tree.specs.declared.new_block.NewBlock.{NewBlock}
 use Rattle.sn_tree.specs.declared.new_block.DirtyBlock.{DirtyBlock}
-use Rattle.sn_tree_read.specs.Paths.{block_lies_on}
+use Rattle.sn_tree_read.specs.Paths.{block_lies_on, block_met}
 use Rattle.sn_inode.specs.Changes.{numbers_in, acl_pointer, IsChanged, acl_times}
 use Rattle.sn_inode.specs.declared.changes.InodeChange.{InodeChange}
 use Rattle.sn_inode.specs.declared.changes.StoredRecord.{StoredRecord}
@@ -70,6 +70,6 @@ abbrev pub ArePatched : (ℕ → List ℕ) → ℕ → List StoredRecord → Lis
 ArePatched old keep stored dirty = (number : ℕ)
     → record_in (number % 32) (block_after keep dirty (number / 32) (old (number / 32))) ≡ bytes_after stored number (record_in (number % 32) (block_after keep [] (number / 32) (old (number / 32))))
 
--- The block of a number's record, which the file has, doesn't lie on the device.
-abbrev pub IsOff : ℕ → Store → BlockTree → List ℕ → Type 0
-IsOff sectors s inodes numbers = (number : ℕ) × Contains numbers number × (number / 32 < inodes.size / 4096) × (block_lies_on sectors s inodes (number / 32) ≡ false)
+-- The block of a number's record, which the file has, or one on the way to it doesn't lie on the device, and it's told of that one.
+abbrev pub IsOffAt : ℕ → Store → BlockTree → List ℕ → Option ℕ → Type 0
+IsOffAt sectors s inodes numbers block = (number : ℕ) × Contains numbers number × (number / 32 < inodes.size / 4096) × (block_lies_on sectors s inodes (number / 32) ≡ false) × (block ≡ block_met sectors s inodes (number / 32))

@@ -1,5 +1,5 @@
 //! The records of changes, whose ACL blocks are placed.
-ghost use Rattle.std.specs.Prelude.{◌≡◌, ℕ, ◌≢◌, ◌<◌, ◌≤◌, [], ◌∷◌, false, length, Some, Option as TheOption, Err, IsTrue, IfOk, OnOk, All};
+ghost use Rattle.std.specs.Prelude.{◌≡◌, ℕ, ◌≢◌, ◌/◌, ◌<◌, ◌≤◌, [], ◌∷◌, false, length, Some, Option as TheOption, Err, IsTrue, IfOk, OnOk, All};
 ghost use Rattle.std.specs.List.{AllByRecursion};
 ghost use Rattle.sn_device.specs.Disk.{reads};
 ghost use Rattle.sn_alloc.specs.Taking.{free_data};
@@ -11,9 +11,10 @@ ghost use Rattle.sn_ondisk.specs.Trees.{store_of};
 ghost use Rattle.sn_image.specs.Acls.{no_acls};
 ghost use Rattle.sn_tree.specs.Steps.{IsTooFull, CountsPlan};
 ghost use Rattle.sn_tree.specs.declared.fault.PlanFault.TheVariants.{Tree, Full};
+ghost use Rattle.sn_tree_read.specs.Paths.{block_met};
 ghost use Rattle.sn_tree_read.specs.declared.fault.TreeFault.{TreeFault as TheFault};
 ghost use Rattle.sn_tree_read.specs.declared.fault.TreeFault.TheVariants.{Damaged};
-ghost use Rattle.sn_inode.specs.Changes.{IsChange, IsNew, IsChanged, AclsStandAt, HasAclsOf, acl_pointer, kept_pointer, IsUnreadable};
+ghost use Rattle.sn_inode.specs.Changes.{IsChange, IsNew, IsChanged, AclsStandAt, HasAclsOf, acl_pointer, kept_pointer, IsUnreadableAt};
 ghost use Rattle.sn_inode.specs.Reads.{CanReadRecord};
 ghost use Rattle.sn_inode.specs.Stored.{IsPlaced, AreSettled, inode_in};
 ghost use Rattle.sn_inode.specs.declared.changes.AclChange.TheVariants.{Kept};
@@ -183,9 +184,11 @@ fn settled<D: Device>(
         (store_of (reads (D.disk (device_of blocks.old)))) file.now (change.now ∷ []) (stored ∷ []) build.old build.new) }
     ensures valid { IfOk result (λ stored. IsRecord limits.now stored.record) }
     ensures full { result ≡ Err Full → free_data build.old.words build.old.first ≤ length build.old.added }
-    ensures damaged { IsTrue D.tells_bytes → (block : TheOption ℕ) → result ≡ Err (Tree (Damaged block)) → CanReadRecord limits.now
+    ensures damaged { IsTrue D.tells_bytes → (block : TheOption ℕ) → result ≡ Err (Tree (Damaged block)) → (CanReadRecord limits.now
         (D.status (device_of blocks.old)).sectors
-        (store_of (reads (D.disk (device_of blocks.old)))) file.now change.now.number → ⊥ }
+        (store_of (reads (D.disk (device_of blocks.old)))) file.now change.now.number → ⊥)
+        × (block ≡ block_met (D.status (device_of blocks.old)).sectors
+        (store_of (reads (D.disk (device_of blocks.old)))) file.now (change.now.number / 32)) }
     ensures same { IsTrue D.tells_bytes → D.disk (device_of blocks.new) ≡ D.disk (device_of blocks.old) }
     ensures counts { CountsPlan result (D.status (device_of blocks.old)) (D.status (device_of blocks.new)) }
 {
@@ -211,9 +214,9 @@ pub(crate) fn settle<D: Device>(
         (store_of (reads (D.disk (device_of blocks.old)))) file.now changes.now stored.items build.old build.new) }
     ensures valid { IfOk result (λ stored. All (λ (x : TheStored). IsRecord limits.now x.record) stored.items) }
     ensures full { IsTooFull result build.old (length changes.now) }
-    ensures damaged { IsTrue D.tells_bytes → (block : TheOption ℕ) → result ≡ Err (Tree (Damaged block)) → IsUnreadable limits.now
+    ensures damaged { IsTrue D.tells_bytes → (block : TheOption ℕ) → result ≡ Err (Tree (Damaged block)) → IsUnreadableAt limits.now
         (D.status (device_of blocks.old)).sectors
-        (store_of (reads (D.disk (device_of blocks.old)))) file.now changes.now }
+        (store_of (reads (D.disk (device_of blocks.old)))) file.now changes.now block }
     ensures same { IsTrue D.tells_bytes → D.disk (device_of blocks.new) ≡ D.disk (device_of blocks.old) }
     ensures counts { CountsPlan result (D.status (device_of blocks.old)) (D.status (device_of blocks.new)) }
 {

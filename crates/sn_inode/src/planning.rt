@@ -8,7 +8,7 @@ ghost use Rattle.sn_ondisk.specs.Trees.{store_of};
 ghost use Rattle.sn_tree.specs.Steps.{IsTooFull, CountsPlan};
 ghost use Rattle.sn_tree.specs.declared.fault.PlanFault.TheVariants.{Tree};
 ghost use Rattle.sn_tree_read.specs.declared.fault.TreeFault.TheVariants.{Damaged};
-ghost use Rattle.sn_inode.specs.Changes.{IsChange, IsWith, IsUnreadable, numbers_in};
+ghost use Rattle.sn_inode.specs.Changes.{IsChange, IsWith, IsUnreadableAt, numbers_in};
 
 use crate::InodeChange;
 use crate::acl_changes::settle;
@@ -47,7 +47,7 @@ fn size_with(file: &BlockTree, changes: &[InodeChange]) -> u64
 /// written. The file gets as many blocks as the largest number needs, and never shrinks. After an error the
 /// build can only be given up. `Full` comes only where fewer blocks are left than three for each change and
 /// two more, and `Damaged` only where the record of one of the numbers can't be read, or a block that the
-/// old file reaches isn't on the device.
+/// old file reaches isn't on the device: it carries that block, if there is one.
 pub fn with<D: Device>(
     alloc: Global,
     build: &mut Build,
@@ -66,9 +66,9 @@ pub fn with<D: Device>(
         ≡ max file.now.size (4096 * (slice_index (numbers_in changes.now) (length changes.now - 1) / 32 + 1))) }
     ensures file { (limits.now.largest_number + 1) % 32 ≡ 0 → IfOk result (λ new. IsInodeFile limits.now new) }
     ensures full { IsTooFull result build.old (3 * length changes.now + 2) }
-    ensures damaged { IsTrue D.tells_bytes → (block : TheOption ℕ) → result ≡ Err (Tree (Damaged block)) → IsUnreadable limits.now
+    ensures damaged { IsTrue D.tells_bytes → (block : TheOption ℕ) → result ≡ Err (Tree (Damaged block)) → IsUnreadableAt limits.now
         (D.status (device_of blocks.old)).sectors
-        (store_of (reads (D.disk (device_of blocks.old)))) file.now changes.now }
+        (store_of (reads (D.disk (device_of blocks.old)))) file.now changes.now block }
     ensures same { IsTrue D.tells_bytes → D.disk (device_of blocks.new) ≡ D.disk (device_of blocks.old) }
     ensures counts { CountsPlan result (D.status (device_of blocks.old)) (D.status (device_of blocks.new)) }
 {

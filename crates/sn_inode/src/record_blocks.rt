@@ -10,9 +10,9 @@ ghost use Rattle.sn_tree.specs.Dirty.{IsFrom, block_after};
 ghost use Rattle.sn_tree.specs.Steps.{CountsPlan};
 ghost use Rattle.sn_tree.specs.declared.fault.PlanFault.TheVariants.{Tree, Full};
 ghost use Rattle.sn_tree.specs.declared.new_block.DirtyBlock.{DirtyBlock as TheDirty};
-ghost use Rattle.sn_tree_read.specs.Paths.{block_lies_on};
+ghost use Rattle.sn_tree_read.specs.Paths.{block_lies_on, block_met};
 ghost use Rattle.sn_tree_read.specs.declared.fault.TreeFault.TheVariants.{Damaged};
-ghost use Rattle.sn_inode.specs.Stored.{ArePatched, IsOff, record_in};
+ghost use Rattle.sn_inode.specs.Stored.{ArePatched, IsOffAt, record_in};
 ghost use Rattle.sn_inode.specs.declared.changes.StoredRecord.{StoredRecord as TheStored};
 
 use crate::changes::StoredRecord;
@@ -61,7 +61,9 @@ fn copied<D: Device>(
     ensures own { result ≡ Err Full → ⊥ }
     ensures damaged { IsTrue D.tells_bytes → (block : TheOption ℕ) → result ≡ Err (Tree (Damaged block)) → (index < file.now.size / 4096)
         × (block_lies_on (D.status (device_of blocks.old)).sectors
-        (store_of (reads (D.disk (device_of blocks.old)))) file.now index ≡ false) }
+        (store_of (reads (D.disk (device_of blocks.old)))) file.now index ≡ false)
+        × (block ≡ block_met (D.status (device_of blocks.old)).sectors
+        (store_of (reads (D.disk (device_of blocks.old)))) file.now index) }
     ensures same { IsTrue D.tells_bytes → D.disk (device_of blocks.new) ≡ D.disk (device_of blocks.old) }
     ensures counts { CountsPlan result (D.status (device_of blocks.old)) (D.status (device_of blocks.new)) }
 {
@@ -137,7 +139,9 @@ fn open_block<D: Device>(
     ensures own { result ≡ Err Full → ⊥ }
     ensures damaged { IsTrue D.tells_bytes → (block : TheOption ℕ) → result ≡ Err (Tree (Damaged block)) → (index < file.now.size / 4096)
         × (block_lies_on (D.status (device_of blocks.old)).sectors
-        (store_of (reads (D.disk (device_of blocks.old)))) file.now index ≡ false) }
+        (store_of (reads (D.disk (device_of blocks.old)))) file.now index ≡ false)
+        × (block ≡ block_met (D.status (device_of blocks.old)).sectors
+        (store_of (reads (D.disk (device_of blocks.old)))) file.now index) }
     ensures same { IsTrue D.tells_bytes → D.disk (device_of blocks.new) ≡ D.disk (device_of blocks.old) }
     ensures counts { CountsPlan result (D.status (device_of blocks.old)) (D.status (device_of blocks.new)) }
 {
@@ -169,7 +173,9 @@ fn store_record<D: Device>(
     ensures own { result ≡ Err Full → ⊥ }
     ensures damaged { IsTrue D.tells_bytes → (block : TheOption ℕ) → result ≡ Err (Tree (Damaged block)) → (stored.now.number / 32 < file.now.size / 4096)
         × (block_lies_on (D.status (device_of blocks.old)).sectors
-        (store_of (reads (D.disk (device_of blocks.old)))) file.now (stored.now.number / 32) ≡ false) }
+        (store_of (reads (D.disk (device_of blocks.old)))) file.now (stored.now.number / 32) ≡ false)
+        × (block ≡ block_met (D.status (device_of blocks.old)).sectors
+        (store_of (reads (D.disk (device_of blocks.old)))) file.now (stored.now.number / 32)) }
     ensures same { IsTrue D.tells_bytes → D.disk (device_of blocks.new) ≡ D.disk (device_of blocks.old) }
     ensures counts { CountsPlan result (D.status (device_of blocks.old)) (D.status (device_of blocks.new)) }
 {
@@ -200,9 +206,9 @@ pub(crate) fn patched<D: Device>(
         → All (λ (d : TheDirty). d.index ≤ slice_index (map (λ (x : TheStored). x.number) stored.now) i / 32) dirty.items) }
     ensures count { IfOk result (λ dirty. length dirty.items ≤ length stored.now) }
     ensures own { result ≡ Err Full → ⊥ }
-    ensures damaged { IsTrue D.tells_bytes → (block : TheOption ℕ) → result ≡ Err (Tree (Damaged block)) → IsOff
+    ensures damaged { IsTrue D.tells_bytes → (block : TheOption ℕ) → result ≡ Err (Tree (Damaged block)) → IsOffAt
         (D.status (device_of blocks.old)).sectors
-        (store_of (reads (D.disk (device_of blocks.old)))) file.now (map (λ (x : TheStored). x.number) stored.now) }
+        (store_of (reads (D.disk (device_of blocks.old)))) file.now (map (λ (x : TheStored). x.number) stored.now) block }
     ensures same { IsTrue D.tells_bytes → D.disk (device_of blocks.new) ≡ D.disk (device_of blocks.old) }
     ensures counts { CountsPlan result (D.status (device_of blocks.old)) (D.status (device_of blocks.new)) }
 {

@@ -7,7 +7,7 @@ use Rattle.sn_device.specs.Disk.{Disk, reads}
 use Rattle.sn_block.specs.Lending.{device_of}
 use Rattle.sn_ondisk.specs.Trees.{store_of}
 use Rattle.sn_overlay.specs.Overlays.{layer_of}
-use Rattle.sn_inode.specs.Changes.{IsUnreadable}
+use Rattle.sn_inode.specs.Changes.{IsUnreadableAt}
 use Rattle.sn_inode.specs.declared.changes.InodeChange.{InodeChange}
 use Rattle.sn_tree.specs.declared.fault.PlanFault.TheVariants.{Full, Tree}
 use Rattle.sn_tree_read.specs.declared.fault.TreeFault.TheVariants.{Damaged}
@@ -58,6 +58,6 @@ returns-clause-damaged g c = λ told block damaged n safe.
     let changes = c.as_slice-inodes.result.now in
     let sectors = (g.D.Device.status (device_of c.args.blocks.now)).sectors in
     let there = store_of (reads (g.D.Device.disk (device_of c.plan_nodes.new.blocks))) in
-    readable c.inode_laws.ensures.inodes c.args.limits.now n sectors (store_of (reads (g.D.Device.disk (device_of c.args.blocks.now)))) file (layer_of c.args.changes.now) c.args.build.now safe changes
-    (subst (λ (d : Disk). IsUnreadable c.args.limits.now sectors (store_of (reads d)) file changes) (c.plan_nodes.ensures.same told)
-    (subst (λ (k : ℕ). IsUnreadable c.args.limits.now k there file changes) c.plan_nodes.ensures.counts.sectors (c.with.ensures.damaged told block damaged)))
+    readable c.inode_laws.ensures.inodes c.args.limits.now n sectors (store_of (reads (g.D.Device.disk (device_of c.args.blocks.now)))) file (layer_of c.args.changes.now) c.args.build.now safe changes block
+    (subst (λ (d : Disk). IsUnreadableAt c.args.limits.now sectors (store_of (reads d)) file changes block) (c.plan_nodes.ensures.same told)
+    (subst (λ (k : ℕ). IsUnreadableAt c.args.limits.now k there file changes block) c.plan_nodes.ensures.counts.sectors (c.with.ensures.damaged told block damaged)))

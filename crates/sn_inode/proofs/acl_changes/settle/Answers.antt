@@ -1,4 +1,4 @@
-use Rattle.std.proofs.Common.{◌≡◌, List, [], ◌∷◌, ◌++◌, Err, inl, take, refl, sym, ap, subst, ◌∙◌}
+use Rattle.std.proofs.Common.{◌≡◌, ◌/◌, List, [], ◌∷◌, ◌++◌, Err, inl, take, refl, sym, ap, subst, ◌∙◌}
 use Rattle.std.proofs.lemmas.List.{take_more}
 use Rattle.std.proofs.lemmas.List.Elements.{All-nil, All-push, All-same}
 use Rattle.std.proofs.lemmas.Result.{err_from_is_err_and}
@@ -8,6 +8,7 @@ use Rattle.sn_block.specs.Lending.{device_of}
 use Rattle.sn_layout_node.specs.Inode.{IsRecord}
 use Rattle.sn_ondisk.specs.Trees.{store_of}
 use Rattle.sn_tree.specs.declared.fault.PlanFault.TheVariants.{Tree}
+use Rattle.sn_tree_read.specs.Paths.{block_met}
 use Rattle.sn_tree_read.specs.declared.fault.TreeFault.TheVariants.{Damaged}
 use Rattle.sn_inode.specs.Reads.{CanReadRecord}
 use Rattle.sn_inode.specs.declared.changes.InodeChange.{InodeChange}
@@ -44,11 +45,13 @@ returns-in_err-record-clause-damaged g c told block is =
     let p = err_from_is_err_and c.from_residual.result c.from_residual.ensures.1 in
     let fault : c.in_err-record.field-0.0 ≡ Tree (Damaged block) = cc (p.1, p.2) in
     let item = c.change-item.result in
-    let here = c.in_err-record.ensures.damaged told block (ap (λ f. Err f) fault) in
     let sectors = (g.D.Device.status (device_of c.loop-change.blocks)).sectors in
+    let here = subst (λ (t : Status). (CanReadRecord c.args.limits.now t.sectors (store_of (reads (g.D.Device.disk (device_of c.args.blocks.now)))) c.args.file.now item.number → ⊥) × (block ≡ block_met t.sectors (store_of (reads (g.D.Device.disk (device_of c.args.blocks.now)))) c.args.file.now (item.number / 32))) c.loop-change.invariant.status
+    (subst (λ (d : Disk). (CanReadRecord c.args.limits.now sectors (store_of (reads d)) c.args.file.now item.number → ⊥) × (block ≡ block_met sectors (store_of (reads d)) c.args.file.now (item.number / 32))) (c.loop-change.invariant.same told)
+    (c.in_err-record.ensures.damaged told block (ap (λ f. Err f) fault))) in
     inl (
       item.number,
       mapped_there (λ (x : InodeChange). x.number) c.args.changes.now c.loop-change.change-index item c.loop-change-test.true c.change-item.is,
-      subst (λ (s : Status). (CanReadRecord c.args.limits.now s.sectors (store_of (reads (g.D.Device.disk (device_of c.args.blocks.now)))) c.args.file.now item.number → ⊥)) c.loop-change.invariant.status
-          (subst (λ (d : Disk). (CanReadRecord c.args.limits.now sectors (store_of (reads d)) c.args.file.now item.number → ⊥)) (c.loop-change.invariant.same told) here),
+      here.0,
+      here.1,
     )

@@ -1,4 +1,4 @@
-use Rattle.std.proofs.Common.{◌≡◌, ℕ, ◌/◌, Err, sym, ap, ◌∙◌}
+use Rattle.std.proofs.Common.{◌≡◌, ℕ, ◌/◌, Err, IsTrue, sym, ap, ◌∙◌}
 use Rattle.std.proofs.lemmas.Result.{err_from_is_err_and}
 use Rattle.sn_device.specs.Disk.{reads}
 use Rattle.sn_block.specs.Lending.{device_of, fetched_number}
@@ -7,6 +7,7 @@ use Rattle.sn_tree_read.specs.Paths.{block_met}
 use Rattle.sn_tree_read.specs.declared.fault.TreeFault.TheVariants.{Damaged}
 use Rattle.sn_inode.proofs.LentLemmas.{lent_is}
 use Rattle.sn_inode.proofs.RecordLemmas.{no_number, hole_inode, not_needed, hole_read, off_not_read, decoded_inode, decoded_read, decoded_damaged}
+use Rattle.sn_inode.proofs.inodes.get.Given.{Over}
 use Rattle.sn_inode.proofs.inodes.get.Goals as goal
 
 pub returns-then-not-is_number-clause-inode : goal.returns-then-not-is_number-clause-inode
@@ -28,32 +29,29 @@ returns-in_err-found-clause-damaged g c told block is =
       met.1 ∙ ap (λ (n : ℕ). block_met sectors s c.args.file.now (n / 32)) c.from-index.ensures,
     )
 
+-- what is lent is the block of the record
+lent : (g : Over) (c : goal.After-decoded g) → IsTrue g.D.Device.tells_bytes → c.fetched.result.now ≡ data_block (store_of (reads (g.D.Device.disk (device_of c.args.blocks.now)))) c.args.file.now (c.from-index.result / 32)
+lent g c told =
+    let there = sym c.is_some.ensures ∙ c.if-is_some.true in
+    lent_is (fetched_number c.fetch_data.new.blocks) _ c.fetched.result.now _ (c.in_ok-found.ensures.lent there) (c.fetched.ensures.bytes told) (c.in_ok-found.ensures.block told there)
+
 pub returns-then-is_some-clause-inode : goal.returns-then-is_some-clause-inode
 returns-then-is_some-clause-inode g c told =
     let s = store_of (reads (g.D.Device.disk (device_of c.args.blocks.now))) in
-    let there = sym c.is_some.ensures ∙ c.if-is_some.true in
-    let same : c.fetched.result.now ≡ data_block s c.args.file.now (c.from-index.result / 32) =
-    lent_is (fetched_number c.fetch_data.new.blocks) _ c.fetched.result.now _ (c.in_ok-found.ensures.lent there) (c.fetched.ensures.bytes told) (c.in_ok-found.ensures.block told there) in
-    decoded_inode s c.args.file.now c.args.number c.from-index.result c.from-index.ensures c.args.limits.now 0 c.fetched.result.now same (sym c.is_number.ensures ∙ c.if-not-is_number.false) c.decoded.result c.decoded.ensures.inode
+    decoded_inode s c.args.file.now c.args.number c.from-index.result c.from-index.ensures c.args.limits.now 0 c.fetched.result.now (lent g c told) (sym c.is_number.ensures ∙ c.if-not-is_number.false) c.decoded.result c.decoded.ensures.inode
 
 pub returns-then-is_some-clause-read : goal.returns-then-is_some-clause-read
 returns-then-is_some-clause-read g c told =
     let s = store_of (reads (g.D.Device.disk (device_of c.args.blocks.now))) in
-    let there = sym c.is_some.ensures ∙ c.if-is_some.true in
-    let same : c.fetched.result.now ≡ data_block s c.args.file.now (c.from-index.result / 32) =
-    lent_is (fetched_number c.fetch_data.new.blocks) _ c.fetched.result.now _ (c.in_ok-found.ensures.lent there) (c.fetched.ensures.bytes told) (c.in_ok-found.ensures.block told there) in
-    decoded_read s c.args.file.now c.args.number c.from-index.result c.from-index.ensures c.args.limits.now _ c.fetched.result.now same (sym c.is_number.ensures ∙ c.if-not-is_number.false) c.decoded.result (c.in_ok-found.ensures.lies told) c.decoded.ensures.spelled
+    decoded_read s c.args.file.now c.args.number c.from-index.result c.from-index.ensures c.args.limits.now _ c.fetched.result.now (lent g c told) (sym c.is_number.ensures ∙ c.if-not-is_number.false) c.decoded.result (c.in_ok-found.ensures.lies told) c.decoded.ensures.spelled
 
 pub returns-then-is_some-clause-damaged : goal.returns-then-is_some-clause-damaged
 returns-then-is_some-clause-damaged g c told block is =
     let sectors = (g.D.Device.status (device_of c.args.blocks.now)).sectors in
     let s = store_of (reads (g.D.Device.disk (device_of c.args.blocks.now))) in
-    let there = sym c.is_some.ensures ∙ c.if-is_some.true in
-    let same : c.fetched.result.now ≡ data_block s c.args.file.now (c.from-index.result / 32) =
-    lent_is (fetched_number c.fetch_data.new.blocks) _ c.fetched.result.now _ (c.in_ok-found.ensures.lent there) (c.fetched.ensures.bytes told) (c.in_ok-found.ensures.block told there) in
-    let wrong = decoded_damaged s c.args.file.now c.args.number c.from-index.result c.from-index.ensures c.args.limits.now _ c.fetched.result.now same (sym c.is_number.ensures ∙ c.if-not-is_number.false) c.in_ok-found.found c.decoded.result c.decoded.ensures.damaged block is in (
+    let wrong = decoded_damaged s c.args.file.now c.args.number c.from-index.result c.from-index.ensures c.args.limits.now _ c.fetched.result.now (lent g c told) (sym c.is_number.ensures ∙ c.if-not-is_number.false) c.in_ok-found.found c.decoded.result c.decoded.ensures.damaged block is in (
       wrong.0,
-      wrong.1 ∙ c.in_ok-found.ensures.number told there ∙ ap (λ (n : ℕ). block_met sectors s c.args.file.now (n / 32)) c.from-index.ensures,
+      wrong.1 ∙ c.in_ok-found.ensures.number told (sym c.is_some.ensures ∙ c.if-is_some.true) ∙ ap (λ (n : ℕ). block_met sectors s c.args.file.now (n / 32)) c.from-index.ensures,
     )
 
 pub returns-clause-inode : goal.returns-clause-inode

@@ -7,13 +7,12 @@ use Rattle.sn_device.specs.Disk.{Disk, reads}
 use Rattle.sn_device.specs.declared.status.Status.{Status}
 use Rattle.sn_block.specs.Lending.{device_of}
 use Rattle.sn_ondisk.specs.Trees.{Store, store_of, data_block, tree_reach}
-use Rattle.sn_tree.specs.Steps.{LeadsOutside}
+use Rattle.sn_tree.specs.Steps.{LeadsOutsideAt}
 use Rattle.sn_tree.specs.declared.fault.PlanFault.TheVariants.{Tree}
-use Rattle.sn_tree.proofs.FaultLemmas.{leads_outside}
 use Rattle.sn_tree.specs.declared.new_block.DirtyBlock.{DirtyBlock}
 use Rattle.sn_tree_read.specs.declared.fault.TreeFault.TheVariants.{Damaged}
 use Rattle.sn_inode.specs.Changes.{numbers_in}
-use Rattle.sn_inode.specs.Stored.{ArePatched, IsOff}
+use Rattle.sn_inode.specs.Stored.{ArePatched, IsOffAt}
 use Rattle.sn_inode.specs.declared.changes.InodeChange.{InodeChange}
 use Rattle.sn_inode.specs.declared.changes.StoredRecord.{StoredRecord}
 use Rattle.sn_inode.proofs.WithLemmas.{with_none, empty_list, has_number, all_below, with_result, file_result}
@@ -30,16 +29,17 @@ returns-in_err-dirty-clause-damaged g c = λ told block is.
     let file = c.args.file.now in
     let status = g.D.Device.status (device_of c.settle.new.blocks) in
     let there = c.in_err-dirty.ensures.damaged told block (ap (λ f. Err f) fault) in
-    let named : IsOff status.sectors (store_of (reads (g.D.Device.disk (device_of c.settle.new.blocks)))) file (numbers_in c.args.changes.now) =
-    subst (λ (ns : List ℕ). IsOff status.sectors (store_of (reads (g.D.Device.disk (device_of c.settle.new.blocks)))) file ns) (ap (λ (xs : List StoredRecord). map (λ (x : StoredRecord). x.number) xs) c.as_slice.ensures.value ∙ c.in_ok-stored.ensures.settled.numbers) there in
-    let here : IsOff (g.D.Device.status (device_of c.args.blocks.now)).sectors (store_of (reads (g.D.Device.disk (device_of c.args.blocks.now)))) file (numbers_in c.args.changes.now) =
-    subst (λ (s : Status). IsOff s.sectors (store_of (reads (g.D.Device.disk (device_of c.args.blocks.now)))) file (numbers_in c.args.changes.now)) (c.in_ok-stored.ensures.counts.other (λ is. cc))
-    (subst (λ (d : Disk). IsOff status.sectors (store_of (reads d)) file (numbers_in c.args.changes.now)) (c.settle.ensures.same told) named) in
-    let (number, among, under, off) = here in
+    let named : IsOffAt status.sectors (store_of (reads (g.D.Device.disk (device_of c.settle.new.blocks)))) file (numbers_in c.args.changes.now) block =
+    subst (λ (ns : List ℕ). IsOffAt status.sectors (store_of (reads (g.D.Device.disk (device_of c.settle.new.blocks)))) file ns block) (ap (λ (xs : List StoredRecord). map (λ (x : StoredRecord). x.number) xs) c.as_slice.ensures.value ∙ c.in_ok-stored.ensures.settled.numbers) there in
+    let here : IsOffAt (g.D.Device.status (device_of c.args.blocks.now)).sectors (store_of (reads (g.D.Device.disk (device_of c.args.blocks.now)))) file (numbers_in c.args.changes.now) block =
+    subst (λ (s : Status). IsOffAt s.sectors (store_of (reads (g.D.Device.disk (device_of c.args.blocks.now)))) file (numbers_in c.args.changes.now) block) (c.in_ok-stored.ensures.counts.other (λ is. cc))
+    (subst (λ (d : Disk). IsOffAt status.sectors (store_of (reads d)) file (numbers_in c.args.changes.now) block) (c.settle.ensures.same told) named) in
+    let (number, among, under, off, met) = here in
     inl (
       number,
       among,
       λ can. true≢false (sym (can.lies (has_number c.args.limits.now file c.args.changes.now number c.requires.file.whole c.requires.changes among under)) ∙ off),
+      met,
     )
 
 pub plan_tree-requires : goal.plan_tree-requires
@@ -92,5 +92,5 @@ returns-clause-damaged g c told block is =
     let file = c.args.file.now in
     let sectors = (g.D.Device.status (device_of c.patched.new.blocks)).sectors in
     let disk : g.D.Device.disk (device_of c.patched.new.blocks) ≡ g.D.Device.disk (device_of c.args.blocks.now) = c.patched.ensures.same told ∙ c.settle.ensures.same told in
-    inr (subst (λ (n : ℕ). LeadsOutside n (tree_reach (store_of (reads (g.D.Device.disk (device_of c.args.blocks.now)))) file)) (c.patched.ensures.counts.sectors ∙ c.settle.ensures.counts.sectors)
-    (subst (λ (d : Disk). LeadsOutside sectors (tree_reach (store_of (reads d)) file)) disk (leads_outside (c.plan_tree.ensures.damaged told block is))))
+    inr (subst (λ (n : ℕ). LeadsOutsideAt n (tree_reach (store_of (reads (g.D.Device.disk (device_of c.args.blocks.now)))) file) block) (c.patched.ensures.counts.sectors ∙ c.settle.ensures.counts.sectors)
+    (subst (λ (d : Disk). LeadsOutsideAt sectors (tree_reach (store_of (reads d)) file) block) disk (c.plan_tree.ensures.damaged told block is)))

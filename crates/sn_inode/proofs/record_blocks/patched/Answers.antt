@@ -9,7 +9,7 @@ use Rattle.sn_ondisk.specs.Trees.{store_of, data_block}
 use Rattle.sn_tree.specs.Dirty.{IsFrom}
 use Rattle.sn_tree.specs.declared.fault.PlanFault.TheVariants.{Tree}
 use Rattle.sn_tree.specs.declared.new_block.DirtyBlock.{DirtyBlock}
-use Rattle.sn_tree_read.specs.Paths.{block_lies_on}
+use Rattle.sn_tree_read.specs.Paths.{block_lies_on, block_met}
 use Rattle.sn_tree_read.specs.declared.fault.TreeFault.TheVariants.{Damaged}
 use Rattle.sn_inode.specs.declared.changes.StoredRecord.{StoredRecord}
 use Rattle.sn_inode.specs.Stored.{ArePatched}
@@ -70,12 +70,14 @@ returns-in_err-store_record-clause-damaged g c = λ told block is.
     let fault : c.in_err-store_record.field-0.0 ≡ Tree (Damaged block) = cc (p.1, p.2) in
     let item = c.next-item.result in
     let here = c.in_err-store_record.ensures.damaged told block (ap (λ f. Err f) fault) in
-    let sectors = (g.D.Device.status (device_of c.loop-next.blocks)).sectors in (
+    let sectors = (g.D.Device.status (device_of c.loop-next.blocks)).sectors in
+    let off = subst (λ (t : Status). (block_lies_on t.sectors (store_of (reads (g.D.Device.disk (device_of c.args.blocks.now)))) c.args.file.now (item.number / 32) ≡ false) × (block ≡ block_met t.sectors (store_of (reads (g.D.Device.disk (device_of c.args.blocks.now)))) c.args.file.now (item.number / 32))) c.loop-next.invariant.status
+    (subst (λ (d : Disk). (block_lies_on sectors (store_of (reads d)) c.args.file.now (item.number / 32) ≡ false) × (block ≡ block_met sectors (store_of (reads d)) c.args.file.now (item.number / 32))) (c.loop-next.invariant.same told) (here.1, here.2)) in (
       item.number,
       mapped_there (λ (x : StoredRecord). x.number) c.args.stored.now c.loop-next.next-index item c.loop-next-test.true c.next-item.is,
       here.0,
-      subst (λ (s : Status). block_lies_on s.sectors (store_of (reads (g.D.Device.disk (device_of c.args.blocks.now)))) c.args.file.now (item.number / 32) ≡ false) c.loop-next.invariant.status
-          (subst (λ (d : Disk). block_lies_on sectors (store_of (reads d)) c.args.file.now (item.number / 32) ≡ false) (c.loop-next.invariant.same told) here.1),
+      off.0,
+      off.1,
     )
 
 pub returns-clause-patched : goal.returns-clause-patched
