@@ -6,6 +6,7 @@ mod NameLemmas
 mod PartLemmas
 mod PassLemmas
 mod PlannedLemmas
+pub mod ReadingLemmas
 mod SizeLemmas
 mod StandingLemmas
 mod ThroughLemmas

@@ -1,5 +1,5 @@
 -- A directory that is planned with other names.
-use Rattle.std.specs.Prelude.{◌≡◌, ◌≢◌, ◌⊎◌, ⊤, ℕ, ◌+◌, ◌-◌, ◌*◌, ◌/◌, ◌%◌, ◌<◌, ◌≤◌, List, [], ◌∷◌, ◌++◌, length, Result, Err, Contains}
+use Rattle.std.specs.Prelude.{◌≡◌, ◌≢◌, ◌⊎◌, ⊤, ℕ, ◌+◌, ◌-◌, ◌*◌, ◌/◌, ◌%◌, ◌<◌, ◌≤◌, List, [], ◌∷◌, ◌++◌, length, Option, Result, Err, Contains}
 use Rattle.sn_layout.specs.Pointers.{levels_of}
 use Rattle.sn_layout.specs.declared.tree.BlockTree.{BlockTree}
 use Rattle.sn_layout_node.specs.Directory.{Link, AreLinks, IsDirectoryBlock}
@@ -12,12 +12,12 @@ use Rattle.sn_alloc.specs.Taking.{free_data}
 use Rattle.sn_tree.specs.Drafts.{Draft, grown}
 use Rattle.sn_tree.specs.Plans.{Holds}
 use Rattle.sn_tree.specs.Replanned.{IsReplanned}
-use Rattle.sn_tree.specs.Steps.{LeadsOutside}
+use Rattle.sn_tree.specs.Steps.{LeadsOutside, LeadsOutsideAt}
 use Rattle.sn_tree.specs.declared.fault.PlanFault.{PlanFault}
 use Rattle.sn_tree.specs.declared.fault.PlanFault.TheVariants.{Full}
 use Rattle.sn_tree.specs.declared.new_block.NewBlock.{NewBlock}
 use Rattle.sn_tree.specs.declared.new_block.DirtyBlock.{DirtyBlock}
-use Rattle.sn_dir.specs.Blocks.{IsDamaged}
+use Rattle.sn_dir.specs.Blocks.{IsDamaged, IsDamagedAt}
 use Rattle.sn_dir_change.specs.Changes.{IsChanged, first_block, needed_changes}
 use Rattle.sn_dir_change.specs.declared.name_change.NameChange.{NameChange}
 
@@ -79,3 +79,7 @@ pub record IsDirectoryPlanned (Told : Type 0) (s : Store) (old new : BlockTree) 
 -- Why a directory can't be read: one of its blocks isn't on the device, is a hole, or doesn't spell names.
 abbrev pub CannotRead : ℕ → Store → BlockTree → Type 0
 CannotRead sectors s tree = IsDamaged (λ names. ⊤) sectors s tree ⊎ LeadsOutside sectors (tree_reach s tree)
+
+-- And it's told of that block.
+abbrev pub CannotReadAt : ℕ → Store → BlockTree → Option ℕ → Type 0
+CannotReadAt sectors s tree block = IsDamagedAt (λ names. ⊤) sectors s tree block ⊎ LeadsOutsideAt sectors (tree_reach s tree) block

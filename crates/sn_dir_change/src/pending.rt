@@ -8,7 +8,7 @@ ghost use Rattle.sn_ondisk.specs.Trees.{store_of};
 ghost use Rattle.sn_image.specs.Names.{names_of};
 ghost use Rattle.sn_tree_read.specs.Counts.{CountsTree};
 ghost use Rattle.sn_tree_read.specs.declared.fault.TreeFault.TheVariants.{Damaged};
-ghost use Rattle.sn_dir.specs.Blocks.{IsDamaged};
+ghost use Rattle.sn_dir.specs.Blocks.{IsDamagedAt};
 ghost use Rattle.sn_image.specs.Sound.{AreOnce};
 ghost use Rattle.sn_dir_change.specs.Changes.{AreChanges, AreLinkChanges, ArePuts, IsChange, needed_changes};
 ghost use Rattle.sn_dir_change.specs.Standing.{change_of, seen};
@@ -141,8 +141,8 @@ pub(crate) fn parted<'a, D: Device>(
     ensures waiting { IfOk result (λ pending. AreLinkChanges pending.waiting.items) }
     ensures puts { IfOk result (λ pending. ArePuts pending.waiting.items) }
     ensures damaged { IsTrue D.tells_bytes → (block : TheOption ℕ) → result ≡ Err (Damaged block)
-        → IsDamaged (λ names. ⊤) (D.status (device_of blocks.old)).sectors
-        (store_of (reads (D.disk (device_of blocks.old)))) tree.now }
+        → IsDamagedAt (λ names. ⊤) (D.status (device_of blocks.old)).sectors
+        (store_of (reads (D.disk (device_of blocks.old)))) tree.now block }
     ensures same { IsTrue D.tells_bytes → D.disk (device_of blocks.new) ≡ D.disk (device_of blocks.old) }
     ensures counts { CountsTree result (D.status (device_of blocks.old)) (D.status (device_of blocks.new)) }
 {

@@ -9,9 +9,9 @@ ghost use Rattle.sn_tree.specs.Steps.{CountsPlan};
 ghost use Rattle.sn_tree.specs.declared.fault.PlanFault.TheVariants.{Tree};
 ghost use Rattle.sn_tree_read.specs.Counts.{CountsTree};
 ghost use Rattle.sn_tree_read.specs.declared.fault.TreeFault.TheVariants.{Damaged};
-ghost use Rattle.sn_dir.specs.Blocks.{IsDamaged};
+ghost use Rattle.sn_dir.specs.Blocks.{IsDamagedAt};
 ghost use Rattle.sn_dir_change.specs.Changes.{AreChanges};
-ghost use Rattle.sn_dir_change.specs.Planned.{HasRoom, IsDirectoryPlanned, IsTooFullFor, CannotRead};
+ghost use Rattle.sn_dir_change.specs.Planned.{HasRoom, IsDirectoryPlanned, IsTooFullFor, CannotReadAt};
 ghost use Rattle.sn_dir_change.specs.Through.{IsWanted};
 
 use crate::NameChange;
@@ -62,8 +62,8 @@ fn wanted<D: Device>(
         dirty.size dirty.keep dirty.blocks.items) }
     ensures first { IfOk result (λ dirty. 0 < length changes.now → 0 < dirty.size) }
     ensures damaged { IsTrue D.tells_bytes → (block : TheOption ℕ) → result ≡ Err (Damaged block)
-        → IsDamaged (λ names. ⊤) (D.status (device_of blocks.old)).sectors
-        (store_of (reads (D.disk (device_of blocks.old)))) tree.now }
+        → IsDamagedAt (λ names. ⊤) (D.status (device_of blocks.old)).sectors
+        (store_of (reads (D.disk (device_of blocks.old)))) tree.now block }
     ensures same { IsTrue D.tells_bytes → D.disk (device_of blocks.new) ≡ D.disk (device_of blocks.old) }
     ensures counts { CountsTree result (D.status (device_of blocks.old)) (D.status (device_of blocks.new)) }
 {
@@ -85,9 +85,9 @@ fn wanted<D: Device>(
 /// to take out a name that isn't there changes none, but that a directory has a block from its first change on.
 ///
 /// After an error the build can only be given up. `Full` comes only where fewer blocks are left than a
-/// path for each name and one more, in a directory of the size that this one gets, and `Damaged` only where a block of the directory can't be read or one
-/// that its tree reaches isn't on the device. Memory is taken for the lists, for changed blocks, and for
-/// blocks that aren't kept.
+/// path for each name and one more, in a directory of the size that this one gets, and `Damaged` only where a block of
+/// the directory can't be read or one that its tree reaches isn't on the device: it carries that block, if there is one.
+/// Memory is taken for the lists, for changed blocks, and for blocks that aren't kept.
 pub fn change<D: Device>(
     alloc: Global,
     build: &mut Build,
@@ -102,8 +102,8 @@ pub fn change<D: Device>(
     ensures full { IsTooFullFor (IsTrue D.tells_bytes)
         (store_of (reads (D.disk (device_of blocks.old)))) tree.now changes.now result build.old }
     ensures damaged { IsTrue D.tells_bytes → (block : TheOption ℕ) → result ≡ Err (Tree (Damaged block))
-        → CannotRead (D.status (device_of blocks.old)).sectors
-        (store_of (reads (D.disk (device_of blocks.old)))) tree.now }
+        → CannotReadAt (D.status (device_of blocks.old)).sectors
+        (store_of (reads (D.disk (device_of blocks.old)))) tree.now block }
     ensures same { IsTrue D.tells_bytes → D.disk (device_of blocks.new) ≡ D.disk (device_of blocks.old) }
     ensures counts { CountsPlan result (D.status (device_of blocks.old)) (D.status (device_of blocks.new)) }
 {
@@ -130,8 +130,8 @@ pub fn insert<D: Device>(
         (store_of (reads (D.disk (device_of blocks.old)))) tree.now
         (record { name = name.entry; number = Some number } ∷ []) result build.old }
     ensures damaged { IsTrue D.tells_bytes → (block : TheOption ℕ) → result ≡ Err (Tree (Damaged block))
-        → CannotRead (D.status (device_of blocks.old)).sectors
-        (store_of (reads (D.disk (device_of blocks.old)))) tree.now }
+        → CannotReadAt (D.status (device_of blocks.old)).sectors
+        (store_of (reads (D.disk (device_of blocks.old)))) tree.now block }
     ensures same { IsTrue D.tells_bytes → D.disk (device_of blocks.new) ≡ D.disk (device_of blocks.old) }
     ensures counts { CountsPlan result (D.status (device_of blocks.old)) (D.status (device_of blocks.new)) }
 {
@@ -155,8 +155,8 @@ pub fn remove<D: Device>(
         (store_of (reads (D.disk (device_of blocks.old)))) tree.now
         (record { name = name.entry; number = None } ∷ []) result build.old }
     ensures damaged { IsTrue D.tells_bytes → (block : TheOption ℕ) → result ≡ Err (Tree (Damaged block))
-        → CannotRead (D.status (device_of blocks.old)).sectors
-        (store_of (reads (D.disk (device_of blocks.old)))) tree.now }
+        → CannotReadAt (D.status (device_of blocks.old)).sectors
+        (store_of (reads (D.disk (device_of blocks.old)))) tree.now block }
     ensures same { IsTrue D.tells_bytes → D.disk (device_of blocks.new) ≡ D.disk (device_of blocks.old) }
     ensures counts { CountsPlan result (D.status (device_of blocks.old)) (D.status (device_of blocks.new)) }
 {

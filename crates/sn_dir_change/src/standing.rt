@@ -7,7 +7,7 @@ ghost use Rattle.sn_ondisk.specs.Trees.{store_of, data_block};
 ghost use Rattle.sn_image.specs.Names.{names_in, names_of};
 ghost use Rattle.sn_tree_read.specs.Counts.{CountsTree};
 ghost use Rattle.sn_tree_read.specs.declared.fault.TreeFault.TheVariants.{Damaged};
-ghost use Rattle.sn_dir.specs.Blocks.{CanRead, IsDamaged};
+ghost use Rattle.sn_dir.specs.Blocks.{IsUnread, IsDamagedAt};
 ghost use Rattle.sn_dir_change.specs.NameMarks.{AreMarked};
 ghost use Rattle.sn_dir_change.specs.Standing.{change_of, seen, seen_too};
 ghost use Rattle.sn_dir_change.specs.declared.standing.Sought.{Sought as TheSought};
@@ -82,8 +82,8 @@ fn note_block<D: Device>(
         ≡ map (seen_too (names_in (data_block (store_of (reads (D.disk (device_of blocks.old)))) tree.now i))) list.old) }
     ensures listed { OnOk result (map change_of list.new ≡ map change_of list.old) }
     ensures damaged { IsTrue D.tells_bytes → (block : TheOption ℕ) → result ≡ Err (Damaged block)
-        → CanRead (D.status (device_of blocks.old)).sectors
-        (store_of (reads (D.disk (device_of blocks.old)))) tree.now i → ⊥ }
+        → IsUnread (D.status (device_of blocks.old)).sectors
+        (store_of (reads (D.disk (device_of blocks.old)))) tree.now i block }
     ensures same { IsTrue D.tells_bytes → D.disk (device_of blocks.new) ≡ D.disk (device_of blocks.old) }
     ensures counts { CountsTree result (D.status (device_of blocks.old)) (D.status (device_of blocks.new)) }
 {
@@ -108,8 +108,8 @@ pub(crate) fn seek<'a, D: Device>(
         ≡ map (seen (names_of (store_of (reads (D.disk (device_of blocks.old)))) (Tree tree.now))) changes.now) }
     ensures listed { IfOk result (λ sought. map change_of sought.items ≡ changes.now) }
     ensures damaged { IsTrue D.tells_bytes → (block : TheOption ℕ) → result ≡ Err (Damaged block)
-        → IsDamaged (λ names. ⊤) (D.status (device_of blocks.old)).sectors
-        (store_of (reads (D.disk (device_of blocks.old)))) tree.now }
+        → IsDamagedAt (λ names. ⊤) (D.status (device_of blocks.old)).sectors
+        (store_of (reads (D.disk (device_of blocks.old)))) tree.now block }
     ensures same { IsTrue D.tells_bytes → D.disk (device_of blocks.new) ≡ D.disk (device_of blocks.old) }
     ensures counts { CountsTree result (D.status (device_of blocks.old)) (D.status (device_of blocks.new)) }
 {

@@ -3,8 +3,7 @@ use Rattle.sn_device.specs.Disk.{Disk, reads}
 use Rattle.sn_block.specs.Lending.{device_of}
 use Rattle.sn_ondisk.specs.Trees.{store_of, tree_reach}
 use Rattle.sn_dir_change.proofs.PlannedLemmas.{begin_before, too_full, planned_result}
-use Rattle.sn_tree.specs.Steps.{LeadsOutside}
-use Rattle.sn_tree.proofs.FaultLemmas.{leads_outside}
+use Rattle.sn_tree.specs.Steps.{LeadsOutsideAt}
 use Rattle.sn_dir_change.proofs.planned.change.Goals as goal
 
 pub returns-clause-planned : goal.returns-clause-planned
@@ -32,5 +31,5 @@ pub returns-clause-damaged : goal.returns-clause-damaged
 returns-clause-damaged g c told block is =
     let tree = c.args.tree.now in
     let sectors = (g.D.Device.status (device_of c.wanted.new.blocks)).sectors in
-    inr (subst (λ (n : ℕ). LeadsOutside n (tree_reach (store_of (reads (g.D.Device.disk (device_of c.args.blocks.now)))) tree)) c.wanted.ensures.counts.sectors
-    (subst (λ (d : Disk). LeadsOutside sectors (tree_reach (store_of (reads d)) tree)) (c.wanted.ensures.same told) (leads_outside (c.plan_tree.ensures.damaged told block is))))
+    inr (subst (λ (n : ℕ). LeadsOutsideAt n (tree_reach (store_of (reads (g.D.Device.disk (device_of c.args.blocks.now)))) tree) block) c.wanted.ensures.counts.sectors
+    (subst (λ (d : Disk). LeadsOutsideAt sectors (tree_reach (store_of (reads d)) tree) block) (c.wanted.ensures.same told) (c.plan_tree.ensures.damaged told block is)))

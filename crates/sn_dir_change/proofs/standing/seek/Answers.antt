@@ -1,17 +1,15 @@
-use Rattle.std.proofs.Common.{◌≡◌, List, [], map, refl, sym, ap, ◌∙◌, arith, Err, subst}
+use Rattle.std.proofs.Common.{◌≡◌, List, [], map, refl, sym, ap, ◌∙◌, arith, Err}
 use Rattle.sn_device.specs.Disk.{Disk, reads}
 use Rattle.sn_block.specs.Lending.{device_of}
 use Rattle.sn_layout_node.specs.Directory.{Link}
 use Rattle.sn_ondisk.specs.Trees.{store_of, data_block}
 use Rattle.sn_image.specs.Names.{names_in}
-use Rattle.sn_dir.specs.Blocks.{names_before, CanRead}
+use Rattle.sn_dir.specs.Blocks.{names_before}
 use Rattle.sn_dir.proofs.NameLemmas.{before-more}
 use Rattle.sn_dir_change.specs.Standing.{change_of, seen, seen_too}
 use Rattle.sn_dir_change.specs.declared.standing.Sought.{Sought}
+use Rattle.sn_dir_change.proofs.ReadingLemmas.{damaged_here}
 use Rattle.sn_dir_change.proofs.StandingLemmas.{seen-more, listed-seen, length-listed, given-back}
-use Rattle.std.proofs.lemmas.Result.{err_from_is_err_and}
-use Rattle.sn_device.specs.declared.status.Status.{Status}
-use Rattle.sn_tree_read.specs.declared.fault.TreeFault.TheVariants.{Damaged}
 use Rattle.sn_dir_change.proofs.standing.seek.Goals as goal
 
 pub loop-i-init : goal.loop-i-init
@@ -49,13 +47,5 @@ loop-i-preserved g c =
 
 pub returns-in_err-note_block-clause-damaged : goal.returns-in_err-note_block-clause-damaged
 returns-in_err-note_block-clause-damaged g c told block is =
-    let sectors = (g.D.Device.status (device_of c.loop-i.blocks)).sectors in
-    let p = err_from_is_err_and c.from_residual-in_err-note_block.result c.from_residual-in_err-note_block.ensures.1 in
-    let fault : c.in_err-note_block.field-0.0 ≡ Damaged block = cc (p.1, p.2) in
-    let not_read = c.in_err-note_block.ensures.damaged told block (ap (λ f. Err f) fault) in (
-      c.loop-i.i,
-      omega (arith, c.block_count-i-end.ensures.value),
-      tt,
-      subst (λ (t : Status). (CanRead t.sectors (store_of (reads (g.D.Device.disk (device_of c.args.blocks.now)))) c.args.tree.now c.loop-i.i → ⊥)) c.loop-i.invariant.status
-          (subst (λ (d : Disk). (CanRead sectors (store_of (reads d)) c.args.tree.now c.loop-i.i → ⊥)) (c.loop-i.invariant.same told) not_read),
-    )
+    damaged_here _ _ c.from_residual-in_err-note_block.ensures.1 is c.args.tree.now c.loop-i.i _ _ _ _ c.loop-i.invariant.status (c.loop-i.invariant.same told) (omega (arith, c.block_count-i-end.ensures.value))
+    (λ at fault. c.in_err-note_block.ensures.damaged told at (ap (λ f. Err f) fault))

@@ -1,10 +1,10 @@
-use Rattle.std.proofs.Common.{◌≡◌, ◌+◌, ◌≤◌, List, length, ap, refl, sym, subst, ◌∙◌, arith}
+use Rattle.std.proofs.Common.{◌≡◌, ◌+◌, ◌≤◌, List, Err, length, ap, refl, sym, subst, ◌∙◌, arith}
 use Rattle.std.proofs.lemmas.Bool.{eqb-true}
 use Rattle.sn_device.specs.Disk.{reads}
 use Rattle.sn_block.specs.Lending.{device_of}
 use Rattle.sn_ondisk.specs.Trees.{store_of, data_block}
 use Rattle.sn_layout_node.specs.Directory.{Link, links_bytes}
-use Rattle.sn_dir.proofs.BlockLemmas.{names_read}
+use Rattle.sn_dir.proofs.BlockLemmas.{names_read, unfetched, misspelt}
 use Rattle.sn_dir_change.specs.NameMarks.{AreMarked}
 use Rattle.sn_dir_change.proofs.ThroughLemmas.{through_pushed, through_kept, none_gone, none_full}
 use Rattle.sn_dir_change.proofs.through.pass_block.Goals as goal
@@ -18,6 +18,14 @@ returns-then-is_empty-clause-through g c = λ changes bound through.
     let bytes = data_block s c.args.tree.now c.args.i in
     through_kept _ s c.args.tree.now changes bound c.args.i c.args.dirty.now.items standing waiting standing waiting bytes (λ told. refl) c.requires.index through
     bytes (none_full waiting _ (omega (arith, none))) (λ x there. there) (λ front back old way. (way, none_gone standing _ (omega (arith, none)))) refl (omega arith)
+
+pub returns-in_err-number-clause-damaged : goal.returns-in_err-number-clause-damaged
+returns-in_err-number-clause-damaged g c told block is =
+    unfetched _ _ c.args.tree.now c.args.i _ _ c.from_residual.ensures.1 is (λ at fault. c.in_err-number.ensures.damaged told at (ap (λ f. Err f) fault))
+
+pub returns-in_err-names-clause-damaged : goal.returns-in_err-names-clause-damaged
+returns-in_err-names-clause-damaged g c told block is =
+    misspelt _ _ c.args.tree.now c.args.i _ _ c.from_residual-in_err-names.ensures.1 is c.fetched.result.now (c.fetched.ensures.value ∙ c.in_ok-number.ensures.block told) c.in_ok-number.number (c.in_ok-number.ensures.number told) c.in_err-names.ensures.damaged
 
 pub returns-in_ok-push_dirty-clause-through : goal.returns-in_ok-push_dirty-clause-through
 returns-in_ok-push_dirty-clause-through g c = λ changes bound through.

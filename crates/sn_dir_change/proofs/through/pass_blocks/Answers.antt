@@ -3,11 +3,8 @@ use Rattle.sn_device.specs.Disk.{Disk, reads}
 use Rattle.sn_block.specs.Lending.{device_of}
 use Rattle.sn_ondisk.specs.Trees.{store_of}
 use Rattle.sn_dir_change.specs.Through.{IsThrough}
+use Rattle.sn_dir_change.proofs.ReadingLemmas.{damaged_here}
 use Rattle.sn_dir_change.proofs.ThroughLemmas.{through_as}
-use Rattle.std.proofs.lemmas.Result.{err_from_is_err_and}
-use Rattle.sn_device.specs.declared.status.Status.{Status}
-use Rattle.sn_tree_read.specs.declared.fault.TreeFault.TheVariants.{Damaged}
-use Rattle.sn_dir.specs.Blocks.{CanRead}
 use Rattle.sn_dir_change.proofs.through.pass_blocks.Goals as goal
 
 pub loop-i-preserved : goal.loop-i-preserved
@@ -34,13 +31,5 @@ returns-clause-through g c = λ changes bound begun.
 
 pub returns-in_err-pass_block-clause-damaged : goal.returns-in_err-pass_block-clause-damaged
 returns-in_err-pass_block-clause-damaged g c told block is =
-    let sectors = (g.D.Device.status (device_of c.loop-i.blocks)).sectors in
-    let p = err_from_is_err_and c.from_residual.result c.from_residual.ensures.1 in
-    let fault : c.in_err-pass_block.field-0.0 ≡ Damaged block = cc (p.1, p.2) in
-    let not_read = c.in_err-pass_block.ensures.damaged told block (ap (λ f. Err f) fault) in (
-      c.loop-i.i,
-      omega (arith, c.block_count-i-end.ensures.value),
-      tt,
-      subst (λ (t : Status). (CanRead t.sectors (store_of (reads (g.D.Device.disk (device_of c.args.blocks.now)))) c.args.tree.now c.loop-i.i → ⊥)) c.loop-i.invariant.status
-          (subst (λ (d : Disk). (CanRead sectors (store_of (reads d)) c.args.tree.now c.loop-i.i → ⊥)) (c.loop-i.invariant.same told) not_read),
-    )
+    damaged_here _ _ c.from_residual.ensures.1 is c.args.tree.now c.loop-i.i _ _ _ _ c.loop-i.invariant.status (c.loop-i.invariant.same told) (omega (arith, c.block_count-i-end.ensures.value))
+    (λ at fault. c.in_err-pass_block.ensures.damaged told at (ap (λ f. Err f) fault))
