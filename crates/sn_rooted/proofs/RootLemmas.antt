@@ -65,6 +65,10 @@ at_now tells old new before now status same P told h =
     subst (λ (s : Status). P s.sectors (store_of (reads now))) (sym status)
     (subst (λ (d : Disk). P old.sectors (store_of (reads d))) (sym (same told)) h)
 
+-- and what holds after it held at the start
+pub at_start : (tells : Bool) (old new : Status) (before now : Disk) → new ≡ old → (IsTrue tells → now ≡ before) → (P : ℕ → Store → Type 0) → IsTrue tells → P new.sectors (store_of (reads now)) → P old.sectors (store_of (reads before))
+at_start tells old new before now status same P told h = at_now tells new old now before (sym status) (λ t. sym (same t)) P told h
+
 -- ---- what inodes tell
 
 pub node_is : (s : Store) (file : BlockTree) (number : ℕ) (inode : Inode) → inode_at s file number ≡ Some inode → fin.get (image s file).nodes number ≡ Some (node_of s inode)

@@ -1,4 +1,5 @@
 pub mod Nodes
 pub mod Roots
+pub mod Unread
 pub mod ViewLaws
 pub mod Views

@@ -44,6 +44,11 @@ names_tree File content = None
 names_tree Directory (Inline bytes) = None
 names_tree Directory (Tree tree) = Some tree
 
+-- that of the inode that a number has
+abbrev pub names_tree_if : Option Inode → Option BlockTree
+names_tree_if None = None
+names_tree_if (Some inode) = names_tree inode.kind inode.content
+
 -- the names that stand in such a tree
 abbrev pub names_if : Store → Option BlockTree → List Link
 names_if s None = []
@@ -53,6 +58,11 @@ names_if s (Some tree) = names_of s (Tree tree)
 abbrev pub file_content : Kind → Content → Option Content
 file_content File content = Some content
 file_content Directory content = None
+
+-- that of the inode that a number has
+abbrev pub file_content_if : Option Inode → Option Content
+file_content_if None = None
+file_content_if (Some inode) = file_content inode.kind inode.content
 
 -- the bytes that stand in such a content
 abbrev pub bytes_if : Store → Option Content → List ℕ

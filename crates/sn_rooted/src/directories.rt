@@ -1,16 +1,20 @@
 //! The names of a directory.
-ghost use Rattle.std.specs.Prelude.{◌≡◌, ℕ, ◌/◌, ◌<◌, Some, Option as TheOption, Err, map, Contains, IsTrue, IfOk, IfSome};
+ghost use Rattle.std.specs.Prelude.{◌≡◌, ◌⊎◌, ⊤, ℕ, ◌/◌, ◌<◌, None, Some, Option as TheOption, Err, map, Contains, IsTrue, IfOk, IfSome};
 ghost use Rattle.std.specs.FinMap as fin;
 ghost use Rattle.sn_block.specs.Lending.{device_of};
 ghost use Rattle.sn_dir.specs.Blocks.{CanRead};
 ghost use Rattle.sn_dir.specs.declared.listings.ListedName.{ListedName as TheName};
+ghost use Rattle.sn_image.specs.Inodes.{inode_at};
 ghost use Rattle.sn_image.specs.Names.{names_at};
+ghost use Rattle.sn_inode.specs.Unread.{IsUnreadRecord};
+ghost use Rattle.sn_layout_node.specs.Directory.{number_of};
 ghost use Rattle.sn_model.specs.Seen.{names_of};
 ghost use Rattle.sn_model.specs.Tree.{link_to, viewed};
 ghost use Rattle.sn_tree_read.specs.Counts.{CountsTree};
 ghost use Rattle.sn_tree_read.specs.declared.fault.TreeFault.TheVariants.{Damaged};
-ghost use Rattle.sn_rooted.specs.Nodes.{names_if, names_tree};
+ghost use Rattle.sn_rooted.specs.Nodes.{names_if, names_tree, names_tree_if};
 ghost use Rattle.sn_rooted.specs.Roots.{IsSoundOn, store_on, tree_on};
+ghost use Rattle.sn_rooted.specs.Unread.{HasUnreadNames};
 
 use crate::inodes::inode_of;
 use sn_block::Blocks;
@@ -41,9 +45,12 @@ fn directory_at<D: Device>(
 ) -> Result<Option<BlockTree>, TreeFault>
     ensures names { IsTrue D.tells_bytes → IfOk result (λ tree. names_at (store_on blocks.old) file.now number
         ≡ names_if (store_on blocks.old) tree) }
+    ensures tree { IsTrue D.tells_bytes → IfOk result (λ tree. tree ≡ names_tree_if (inode_at (store_on blocks.old) file.now number)) }
     ensures sound { IsTrue D.tells_bytes → IsSoundOn blocks.old limits.now file.now → IfOk result (λ found. IfSome found (λ tree. (i : ℕ)
         → i < tree.size / 4096 → CanRead (D.status (device_of blocks.old)).sectors (store_on blocks.old) tree i)) }
     ensures damaged { IsTrue D.tells_bytes → IsSoundOn blocks.old limits.now file.now → (block : TheOption ℕ) → result ≡ Err (Damaged block) → ⊥ }
+    ensures unread { IsTrue D.tells_bytes → (block : TheOption ℕ) → result ≡ Err (Damaged block)
+        → IsUnreadRecord limits.now (D.status (device_of blocks.old)).sectors (store_on blocks.old) file.now number block }
     ensures same { IsTrue D.tells_bytes → D.disk (device_of blocks.new) ≡ D.disk (device_of blocks.old) }
     ensures counts { CountsTree result (D.status (device_of blocks.old)) (D.status (device_of blocks.new)) }
 {
@@ -55,8 +62,9 @@ fn directory_at<D: Device>(
 }
 
 /// The number that a name has in a directory of a root's tree, and `None` where the number isn't a
-/// directory's. Its blocks are read in turn, up to the one that has the name. Where the root is sound,
-/// `Damaged` never comes. Memory is taken for blocks that aren't kept.
+/// directory's. Its blocks are read in turn, up to the one that has the name. `Damaged` comes only where its
+/// record or one of these blocks can't be read, with that block, and never where the root is sound. Memory is
+/// taken for blocks that aren't kept.
 pub fn link<D: Device>(
     blocks: &mut Blocks<D>,
     limits: &Limits,
@@ -67,6 +75,9 @@ pub fn link<D: Device>(
     ensures found { IsTrue D.tells_bytes
         → IfOk result (λ number. number ≡ (viewed (tree_on blocks.old file.now)).link directory name.now) }
     ensures damaged { IsTrue D.tells_bytes → IsSoundOn blocks.old limits.now file.now → (block : TheOption ℕ) → result ≡ Err (Damaged block) → ⊥ }
+    ensures unread { IsTrue D.tells_bytes → (block : TheOption ℕ) → result ≡ Err (Damaged block)
+        → IsUnreadRecord limits.now (D.status (device_of blocks.old)).sectors (store_on blocks.old) file.now directory block
+        ⊎ HasUnreadNames (λ names. number_of name.now names ≡ None) (D.status (device_of blocks.old)).sectors (store_on blocks.old) file.now directory block }
     ensures same { IsTrue D.tells_bytes → D.disk (device_of blocks.new) ≡ D.disk (device_of blocks.old) }
     ensures counts { CountsTree result (D.status (device_of blocks.old)) (D.status (device_of blocks.new)) }
 {
@@ -77,8 +88,9 @@ pub fn link<D: Device>(
 }
 
 /// The names of a directory of a root's tree in the order of their bytes, with their numbers, and none
-/// where the number isn't a directory's. Where the root is sound, `Damaged` never comes. Memory is taken for
-/// the answer, and for blocks that aren't kept.
+/// where the number isn't a directory's. `Damaged` comes only where its record or one of its blocks can't be
+/// read, with that block, and never where the root is sound. Memory is taken for the answer, and for blocks
+/// that aren't kept.
 pub fn names<D: Device>(
     alloc: Global,
     blocks: &mut Blocks<D>,
@@ -92,6 +104,9 @@ pub fn names<D: Device>(
         → IfOk result (λ names. (listed : TheName) → Contains names.items listed
         → fin.get (tree_on blocks.old file.now).links (link_to directory listed.name) ≡ Some listed.number) }
     ensures damaged { IsTrue D.tells_bytes → IsSoundOn blocks.old limits.now file.now → (block : TheOption ℕ) → result ≡ Err (Damaged block) → ⊥ }
+    ensures unread { IsTrue D.tells_bytes → (block : TheOption ℕ) → result ≡ Err (Damaged block)
+        → IsUnreadRecord limits.now (D.status (device_of blocks.old)).sectors (store_on blocks.old) file.now directory block
+        ⊎ HasUnreadNames (λ names. ⊤) (D.status (device_of blocks.old)).sectors (store_on blocks.old) file.now directory block }
     ensures same { IsTrue D.tells_bytes → D.disk (device_of blocks.new) ≡ D.disk (device_of blocks.old) }
     ensures counts { CountsTree result (D.status (device_of blocks.old)) (D.status (device_of blocks.new)) }
 {

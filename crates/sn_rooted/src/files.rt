@@ -1,12 +1,15 @@
 //! The bytes of a file.
-ghost use Rattle.std.specs.Prelude.{◌≡◌, ℕ, Option as TheOption, Err, drop, take, IsTrue, IfOk, IfSome};
+ghost use Rattle.std.specs.Prelude.{◌≡◌, ◌⊎◌, ℕ, Option as TheOption, Err, drop, take, IsTrue, IfOk, IfSome};
 ghost use Rattle.std.specs.FinMap as fin;
 ghost use Rattle.sn_block.specs.Lending.{device_of};
+ghost use Rattle.sn_image.specs.Inodes.{inode_at};
+ghost use Rattle.sn_inode.specs.Unread.{IsUnreadRecord};
 ghost use Rattle.sn_model.specs.FileCalls.{bytes_of};
 ghost use Rattle.sn_tree_read.specs.Counts.{CountsTree};
 ghost use Rattle.sn_tree_read.specs.declared.fault.TreeFault.TheVariants.{Damaged};
-ghost use Rattle.sn_rooted.specs.Nodes.{bytes_if, file_content};
+ghost use Rattle.sn_rooted.specs.Nodes.{bytes_if, file_content, file_content_if};
 ghost use Rattle.sn_rooted.specs.Roots.{IsSoundOn, IsWhole, store_on, tree_on};
+ghost use Rattle.sn_rooted.specs.Unread.{HasUnreadBytes};
 
 use crate::inodes::inode_of;
 use sn_block::Blocks;
@@ -36,9 +39,12 @@ fn file_at<D: Device>(
 ) -> Result<Option<Content>, TreeFault>
     ensures bytes { IsTrue D.tells_bytes → IfOk result (λ content. bytes_of (fin.get (tree_on blocks.old file.now).nodes number)
         ≡ bytes_if (store_on blocks.old) content) }
+    ensures content { IsTrue D.tells_bytes → IfOk result (λ content. content ≡ file_content_if (inode_at (store_on blocks.old) file.now number)) }
     ensures sound { IsTrue D.tells_bytes → IsSoundOn blocks.old limits.now file.now → IfOk result (λ found. IfSome found (λ content.
         IsWhole (D.status (device_of blocks.old)).sectors (store_on blocks.old) content)) }
     ensures damaged { IsTrue D.tells_bytes → IsSoundOn blocks.old limits.now file.now → (block : TheOption ℕ) → result ≡ Err (Damaged block) → ⊥ }
+    ensures unread { IsTrue D.tells_bytes → (block : TheOption ℕ) → result ≡ Err (Damaged block)
+        → IsUnreadRecord limits.now (D.status (device_of blocks.old)).sectors (store_on blocks.old) file.now number block }
     ensures same { IsTrue D.tells_bytes → D.disk (device_of blocks.new) ≡ D.disk (device_of blocks.old) }
     ensures counts { CountsTree result (D.status (device_of blocks.old)) (D.status (device_of blocks.new)) }
 {
@@ -50,8 +56,9 @@ fn file_at<D: Device>(
 }
 
 /// The bytes of a file of a root's tree from an offset on: so many, or as many as there are before its end,
-/// and none where the number isn't a file's. Holes read as zeros. Where the root is sound, `Damaged` never
-/// comes. Memory is taken for the answer, and for blocks that aren't kept.
+/// and none where the number isn't a file's. Holes read as zeros. `Damaged` comes only where its record or one
+/// of these bytes can't be read, with their block, and never where the root is sound. Memory is taken for the
+/// answer, and for blocks that aren't kept.
 pub fn read<D: Device>(
     alloc: Global,
     blocks: &mut Blocks<D>,
@@ -64,6 +71,9 @@ pub fn read<D: Device>(
     ensures bytes { IsTrue D.tells_bytes → IsSoundOn blocks.old limits.now file.now → IfOk result (λ part. part.items
         ≡ take most (drop offset (bytes_of (fin.get (tree_on blocks.old file.now).nodes number)))) }
     ensures damaged { IsTrue D.tells_bytes → IsSoundOn blocks.old limits.now file.now → (block : TheOption ℕ) → result ≡ Err (Damaged block) → ⊥ }
+    ensures unread { IsTrue D.tells_bytes → (block : TheOption ℕ) → result ≡ Err (Damaged block)
+        → IsUnreadRecord limits.now (D.status (device_of blocks.old)).sectors (store_on blocks.old) file.now number block
+        ⊎ HasUnreadBytes offset most (D.status (device_of blocks.old)).sectors (store_on blocks.old) file.now number block }
     ensures same { IsTrue D.tells_bytes → D.disk (device_of blocks.new) ≡ D.disk (device_of blocks.old) }
     ensures counts { CountsTree result (D.status (device_of blocks.old)) (D.status (device_of blocks.new)) }
 {

@@ -4,10 +4,12 @@ ghost use Rattle.std.specs.Option.{option_map};
 ghost use Rattle.sn_block.specs.Lending.{device_of};
 ghost use Rattle.sn_image.specs.Acls.{acls_at};
 ghost use Rattle.sn_image.specs.Inodes.{inode_at};
+ghost use Rattle.sn_inode.specs.Unread.{IsUnreadRecord};
 ghost use Rattle.sn_layout_node.specs.Inode.{IsInode};
 ghost use Rattle.sn_tree_read.specs.Counts.{CountsTree};
 ghost use Rattle.sn_tree_read.specs.declared.fault.TreeFault.TheVariants.{Damaged};
 ghost use Rattle.sn_rooted.specs.Roots.{IsSoundOn, store_on};
+ghost use Rattle.sn_rooted.specs.Unread.{IsUnreadInode};
 
 use sn_block::Blocks;
 use sn_device::Device;
@@ -26,7 +28,8 @@ pub struct StoredInode {
     pub acls: AclBlock,
 }
 
-/// The inode of a number, `None` where no node has it. Where the root is sound, `Damaged` never comes.
+/// The inode of a number, `None` where no node has it. `Damaged` comes only where its record can't be read,
+/// and never where the root is sound.
 pub(crate) fn inode_of<D: Device>(
     blocks: &mut Blocks<D>,
     limits: &Limits,
@@ -36,6 +39,8 @@ pub(crate) fn inode_of<D: Device>(
     ensures inode { IsTrue D.tells_bytes → IfOk result (λ inode. inode ≡ inode_at (store_on blocks.old) file.now number) }
     ensures valid { IfOk result (λ inode. IfSome inode (λ used. IsInode limits.now used)) }
     ensures damaged { IsTrue D.tells_bytes → IsSoundOn blocks.old limits.now file.now → (block : TheOption ℕ) → result ≡ Err (Damaged block) → ⊥ }
+    ensures unread { IsTrue D.tells_bytes → (block : TheOption ℕ) → result ≡ Err (Damaged block)
+        → IsUnreadRecord limits.now (D.status (device_of blocks.old)).sectors (store_on blocks.old) file.now number block }
     ensures same { IsTrue D.tells_bytes → D.disk (device_of blocks.new) ≡ D.disk (device_of blocks.old) }
     ensures counts { CountsTree result (D.status (device_of blocks.old)) (D.status (device_of blocks.new)) }
 {
@@ -44,8 +49,8 @@ pub(crate) fn inode_of<D: Device>(
 }
 
 /// The inode that a number has in a root's tree, with its ACLs, `None` where no node has it. `file` is the
-/// root's inode file. Where the root is sound, `Damaged` never comes. Memory is taken for blocks that aren't
-/// kept.
+/// root's inode file. `Damaged` comes only where its record or its ACLs can't be read, with their block, and
+/// never where the root is sound. Memory is taken for blocks that aren't kept.
 pub fn stored_inode<D: Device>(
     blocks: &mut Blocks<D>,
     limits: &Limits,
@@ -58,6 +63,8 @@ pub fn stored_inode<D: Device>(
         ≡ acls_at (store_on blocks.old) stored.inode.acl_block)) }
     ensures valid { IfOk result (λ found. IfSome found (λ stored. IsInode limits.now stored.inode)) }
     ensures damaged { IsTrue D.tells_bytes → IsSoundOn blocks.old limits.now file.now → (block : TheOption ℕ) → result ≡ Err (Damaged block) → ⊥ }
+    ensures unread { IsTrue D.tells_bytes → (block : TheOption ℕ) → result ≡ Err (Damaged block)
+        → IsUnreadInode limits.now (D.status (device_of blocks.old)).sectors (store_on blocks.old) file.now number block }
     ensures same { IsTrue D.tells_bytes → D.disk (device_of blocks.new) ≡ D.disk (device_of blocks.old) }
     ensures counts { CountsTree result (D.status (device_of blocks.old)) (D.status (device_of blocks.new)) }
 {

@@ -4,8 +4,9 @@
 //! `sn_model`, which says what is seen of a tree. Over a device that tells its bytes, and where the root is
 //! sound there (`IsSoundOn`), each answer is what that tree says: a node's attributes, whether it is a file
 //! without a name, a default ACL, the number under a name, the names of a directory in order, bytes of a file.
-//! `Damaged` never comes then. The number under a name and a default ACL are exact on any image. Whatever the
-//! device tells, the calls are safe and end, and write nothing.
+//! `Damaged` never comes then. The number under a name and a default ACL are exact on any image, and on any image
+//! `Damaged` carries the block of what can't be read (`specs/Unread`). Whatever the device tells, the calls are safe
+//! and end, and write nothing.
 //!
 //! Nothing is kept of a tree. A look-up reads the inode of the number and what it needs behind that: the ACL
 //! block, the blocks of names up to the one that has the name, the blocks of the bytes. It reads them in
@@ -15,8 +16,8 @@
 //! The way through: `inodes` reads the inode of a number with its ACLs, `nodes` what is known of a node,
 //! `directories` names, `files` bytes, all of the tree of one inode file, which `file_in` finds in a root.
 //! `view` shows walks and decisions all trees of a root, the live one and those of its snapshots.
-//! `specs/Roots` says which trees these are and when they are sound, `specs/Views` what look-ups do to the
-//! device and what the cause of a fault is.
+//! `specs/Roots` says which trees these are and when they are sound, `specs/Unread` what can't be read of one,
+//! `specs/Views` what look-ups do to the device and what the cause of a fault is.
 //!
 //! What the sources leave open is decided in `docs/DECISIONS.md`, under "Reading a root on demand".
 //!

@@ -2,12 +2,14 @@
 ghost use Rattle.std.specs.Prelude.{◌≡◌, ℕ, Option as TheOption, Err, IsTrue, IfOk};
 ghost use Rattle.std.specs.FinMap as fin;
 ghost use Rattle.sn_block.specs.Lending.{device_of};
+ghost use Rattle.sn_inode.specs.Unread.{IsUnreadRecord};
 ghost use Rattle.sn_model.specs.Settling.{is_nameless};
 ghost use Rattle.sn_model.specs.Tree.{viewed};
 ghost use Rattle.sn_tree_read.specs.Counts.{CountsTree};
 ghost use Rattle.sn_tree_read.specs.declared.fault.TreeFault.TheVariants.{Damaged};
-ghost use Rattle.sn_rooted.specs.Roots.{IsSoundOn, tree_on};
+ghost use Rattle.sn_rooted.specs.Roots.{IsSoundOn, store_on, tree_on};
 ghost use Rattle.sn_rooted.specs.Nodes.{attributes_in, is_unlinked};
+ghost use Rattle.sn_rooted.specs.Unread.{IsUnreadInode};
 
 use crate::inodes::inode_of;
 use crate::stored_inode;
@@ -41,8 +43,8 @@ fn attributes_in(inode: &Inode, access: &NamedEntries) -> Attributes
 }
 
 /// What is known of the node that a number has in a root's tree, `None` where none has it. `file` is the
-/// root's inode file. Where the root is sound, `Damaged` never comes. Memory is taken for blocks that
-/// aren't kept.
+/// root's inode file. `Damaged` comes only where its record or its ACLs can't be read, with their block, and
+/// never where the root is sound. Memory is taken for blocks that aren't kept.
 pub fn attributes<D: Device>(
     blocks: &mut Blocks<D>,
     limits: &Limits,
@@ -52,6 +54,8 @@ pub fn attributes<D: Device>(
     ensures found { IsTrue D.tells_bytes → IsSoundOn blocks.old limits.now file.now
         → IfOk result (λ attributes. attributes ≡ (viewed (tree_on blocks.old file.now)).node number) }
     ensures damaged { IsTrue D.tells_bytes → IsSoundOn blocks.old limits.now file.now → (block : TheOption ℕ) → result ≡ Err (Damaged block) → ⊥ }
+    ensures unread { IsTrue D.tells_bytes → (block : TheOption ℕ) → result ≡ Err (Damaged block)
+        → IsUnreadInode limits.now (D.status (device_of blocks.old)).sectors (store_on blocks.old) file.now number block }
     ensures same { IsTrue D.tells_bytes → D.disk (device_of blocks.new) ≡ D.disk (device_of blocks.old) }
     ensures counts { CountsTree result (D.status (device_of blocks.old)) (D.status (device_of blocks.new)) }
 {
@@ -62,8 +66,8 @@ pub fn attributes<D: Device>(
 }
 
 /// The default ACL of the node that a number has in a root's tree, `None` where it has none, as a file, or
-/// where no node has the number. Where the root is sound, `Damaged` never comes. Memory is taken for blocks
-/// that aren't kept.
+/// where no node has the number. `Damaged` comes only where its record or its ACLs can't be read, with their
+/// block, and never where the root is sound. Memory is taken for blocks that aren't kept.
 pub fn default_acl<D: Device>(
     blocks: &mut Blocks<D>,
     limits: &Limits,
@@ -73,6 +77,8 @@ pub fn default_acl<D: Device>(
     ensures found { IsTrue D.tells_bytes
         → IfOk result (λ acl. acl ≡ (viewed (tree_on blocks.old file.now)).default_acl number) }
     ensures damaged { IsTrue D.tells_bytes → IsSoundOn blocks.old limits.now file.now → (block : TheOption ℕ) → result ≡ Err (Damaged block) → ⊥ }
+    ensures unread { IsTrue D.tells_bytes → (block : TheOption ℕ) → result ≡ Err (Damaged block)
+        → IsUnreadInode limits.now (D.status (device_of blocks.old)).sectors (store_on blocks.old) file.now number block }
     ensures same { IsTrue D.tells_bytes → D.disk (device_of blocks.new) ≡ D.disk (device_of blocks.old) }
     ensures counts { CountsTree result (D.status (device_of blocks.old)) (D.status (device_of blocks.new)) }
 {
@@ -93,8 +99,8 @@ fn is_unlinked(inode: &Inode) -> bool
 }
 
 /// Whether a number has a file in a root's tree that has no name. `file` is the root's inode file, and of the
-/// number only the inode is read. Where the root is sound, `Damaged` never comes. Memory is taken for blocks
-/// that aren't kept.
+/// number only the inode is read. `Damaged` comes only where its record can't be read, with its block, and
+/// never where the root is sound. Memory is taken for blocks that aren't kept.
 pub fn is_nameless<D: Device>(
     blocks: &mut Blocks<D>,
     limits: &Limits,
@@ -104,6 +110,8 @@ pub fn is_nameless<D: Device>(
     ensures nameless { IsTrue D.tells_bytes → IsSoundOn blocks.old limits.now file.now → IfOk result (λ nameless. nameless
         ≡ is_nameless (tree_on blocks.old file.now) number (fin.get (tree_on blocks.old file.now).nodes number)) }
     ensures damaged { IsTrue D.tells_bytes → IsSoundOn blocks.old limits.now file.now → (block : TheOption ℕ) → result ≡ Err (Damaged block) → ⊥ }
+    ensures unread { IsTrue D.tells_bytes → (block : TheOption ℕ) → result ≡ Err (Damaged block)
+        → IsUnreadRecord limits.now (D.status (device_of blocks.old)).sectors (store_on blocks.old) file.now number block }
     ensures same { IsTrue D.tells_bytes → D.disk (device_of blocks.new) ≡ D.disk (device_of blocks.old) }
     ensures counts { CountsTree result (D.status (device_of blocks.old)) (D.status (device_of blocks.new)) }
 {

@@ -1,5 +1,5 @@
-use Rattle.std.proofs.Common.{Err, IfSome, List, Option, map, sym, subst, ap, ◌∙◌}
-use Rattle.std.specs.Prelude.{⊤, ℕ, ◌/◌, ◌<◌}
+use Rattle.std.proofs.Common.{Err, IfSome, List, Option, inl, inr, map, sym, subst, ap, ◌∙◌}
+use Rattle.std.specs.Prelude.{⊤, IsSomeAnd, ℕ, ◌/◌, ◌<◌}
 use Rattle.std.specs.List.Sorted.{IsPermutation}
 use Rattle.sn_device.specs.Disk.{Disk, reads}
 use Rattle.sn_block.specs.Lending.{device_of}
@@ -8,12 +8,12 @@ use Rattle.sn_layout_node.specs.Directory.{Link}
 use Rattle.sn_layout_node.specs.declared.content.Content.TheVariants.{Tree}
 use Rattle.sn_ondisk.specs.Trees.{store_of}
 use Rattle.sn_image.specs.Names.{names_of}
-use Rattle.sn_dir.specs.Blocks.{CanRead}
+use Rattle.sn_dir.specs.Blocks.{CanRead, IsDamagedAt}
 use Rattle.sn_dir.specs.Listed.{link_of}
 use Rattle.sn_rooted.specs.Nodes.{names_if}
 use Rattle.sn_rooted.specs.Roots.{store_on}
 use Rattle.sn_rooted.proofs.NameLemmas.{listed_names, listed_number, none_moved, none_sorted}
-use Rattle.sn_rooted.proofs.RootLemmas.{at_now, never_damaged, ok_both, was_damaged}
+use Rattle.sn_rooted.proofs.RootLemmas.{at_now, at_start, never_damaged, ok_both, was_damaged}
 use Rattle.sn_dir.proofs.BlockLemmas.{somewhere}
 use Rattle.sn_rooted.proofs.directories.names.Goals as goal
 
@@ -55,3 +55,14 @@ returns-in-Some-clause-damaged g c told root block is =
     let readable = subst (λ (o : Option BlockTree). IfSome o (λ tree. (i : ℕ) → i < tree.size / 4096 → CanRead sectors (store_on c.args.blocks.now) tree i)) c.in-Some.is (c.in_ok-tree.ensures.sound told root) in
     let now = at_now _ _ _ _ _ c.in_ok-tree.ensures.counts.done c.directory_at.ensures.same (λ k r. (i : ℕ) → i < c.in-Some.tree.size / 4096 → CanRead k r c.in-Some.tree i) told readable in
     never_damaged (λ names. ⊤) _ _ c.in-Some.tree now (somewhere (λ names. ⊤) _ _ _ _ (c.names.ensures.damaged told block is))
+
+pub returns-in_err-tree-clause-unread : goal.returns-in_err-tree-clause-unread
+returns-in_err-tree-clause-unread g c told block is =
+    inl (c.in_err-tree.ensures.unread told block (ap (λ f. Err f) (was_damaged _ _ c.from_residual.ensures.1 is)))
+
+pub returns-in-Some-clause-unread : goal.returns-in-Some-clause-unread
+returns-in-Some-clause-unread g c told block is =
+    let sectors = (g.D.Device.status (device_of c.args.blocks.now)).sectors in
+    let there = sym (c.in_ok-tree.ensures.tree told) ∙ c.in-Some.is in
+    let now = at_start _ _ _ _ _ c.in_ok-tree.ensures.counts.done c.directory_at.ensures.same (λ k r. IsDamagedAt (λ names. ⊤) k r c.in-Some.tree block) told (c.names.ensures.damaged told block is) in
+    inr (subst (λ (o : Option BlockTree). IsSomeAnd o (λ tree. IsDamagedAt (λ names. ⊤) sectors (store_on c.args.blocks.now) tree block)) (sym there) now)

@@ -1,5 +1,5 @@
-use Rattle.std.proofs.Common.{Err, IfSome, List, Option, drop, take, sym, subst, ap, ◌∙◌}
-use Rattle.std.specs.Prelude.{ℕ}
+use Rattle.std.proofs.Common.{Err, IfSome, List, Option, drop, take, inl, inr, sym, subst, ap, ◌∙◌}
+use Rattle.std.specs.Prelude.{IsSomeAnd, ℕ}
 use Rattle.std.proofs.lemmas.Result.{IfOk-weaker}
 use Rattle.sn_device.specs.Disk.{Disk, reads}
 use Rattle.sn_block.specs.Lending.{device_of}
@@ -7,7 +7,8 @@ use Rattle.sn_layout_node.specs.declared.content.Content.{Content}
 use Rattle.sn_ondisk.specs.Trees.{store_of}
 use Rattle.sn_rooted.specs.Nodes.{bytes_if}
 use Rattle.sn_rooted.specs.Roots.{IsWhole, store_on}
-use Rattle.sn_rooted.proofs.RootLemmas.{at_now, none_taken, was_damaged}
+use Rattle.sn_rooted.proofs.RootLemmas.{at_now, at_start, none_taken, was_damaged}
+use Rattle.sn_tree_read.specs.Reads.{IsOutsideAt}
 use Rattle.sn_tree_read.proofs.LawLemmas.{outside_of}
 use Rattle.sn_rooted.proofs.files.read.Goals as goal
 
@@ -37,3 +38,14 @@ returns-in-Some-clause-damaged g c told root block is =
     let whole = subst (λ (o : Option Content). IfSome o (λ content. IsWhole sectors s content)) c.in-Some.is (c.in_ok-content.ensures.sound told root) in
     let now = at_now _ _ _ _ _ c.in_ok-content.ensures.counts.done c.file_at.ensures.same (λ k r. IsWhole k r c.in-Some.content) told whole in
     now.inside c.args.offset c.args.most (outside_of _ _ _ _ _ _ (c.read.ensures.damaged told block is))
+
+pub returns-in_err-content-clause-unread : goal.returns-in_err-content-clause-unread
+returns-in_err-content-clause-unread g c told block is =
+    inl (c.in_err-content.ensures.unread told block (ap (λ f. Err f) (was_damaged _ _ c.from_residual.ensures.1 is)))
+
+pub returns-in-Some-clause-unread : goal.returns-in-Some-clause-unread
+returns-in-Some-clause-unread g c told block is =
+    let sectors = (g.D.Device.status (device_of c.args.blocks.now)).sectors in
+    let there = sym (c.in_ok-content.ensures.content told) ∙ c.in-Some.is in
+    let now = at_start _ _ _ _ _ c.in_ok-content.ensures.counts.done c.file_at.ensures.same (λ k r. IsOutsideAt k r c.in-Some.content c.args.offset c.args.most block) told (c.read.ensures.damaged told block is) in
+    inr (subst (λ (o : Option Content). IsSomeAnd o (λ content. IsOutsideAt sectors (store_on c.args.blocks.now) content c.args.offset c.args.most block)) (sym there) now)
