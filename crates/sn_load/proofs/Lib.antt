@@ -6,3 +6,4 @@ pub mod OpenLemmas
 pub mod RootLemmas
 pub mod SoundLemmas
 pub mod StepLemmas
+pub mod UnreadLemmas

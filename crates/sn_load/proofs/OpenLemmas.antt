@@ -1,4 +1,4 @@
--- Directories that are pending, while names come into the tree of a sound root.
+-- Directories that are pending, while names come into the tree of a root that denotes one.
 use Rattle.std.proofs.Common.{◌≡◌, ◌≢◌, ℕ, suc, ◌+◌, ◌/◌, ◌≤◌, ◌==◌, Bool, true, false, cond, List, [], ◌∷◌, ◌++◌, length, map, take, drop, count_by, Option, Some, None, refl, sym, ap, subst, ◌∙◌, ◌⊎◌, inl, inr, arith, Contains, eq-eqb, eqb-true, length-append}
 use Rattle.std.specs.Cmp.{nat_cmp_total}
 use Rattle.std.specs.FinMap as fin
@@ -29,7 +29,7 @@ use Rattle.sn_image.proofs.ListLemmas.{count-append}
 use Rattle.sn_image.proofs.PieceLemmas.{found_once, sum_one}
 use Rattle.sn_image.proofs.SoundNodeLemmas.{only_version}
 use Rattle.sn_load.specs.Loading.{AreNames, HasFiles, IsLoading, IsPart}
-use Rattle.sn_load.specs.Sound.{ArePending, HasNoNames, IsFilling, IsOpen, IsSoundOn, directories}
+use Rattle.sn_load.specs.Sound.{ArePending, DenotesTree, HasNoNames, IsFilling, IsOpen, directories}
 use Rattle.sn_load.specs.Steps.{AddsNames, MakesAtMost, MakesDirectory}
 use Rattle.sn_load.proofs.FitLemmas.{IsWithin, count_few}
 use Rattle.sn_load.proofs.EndLemmas.{names_begun}
@@ -46,8 +46,8 @@ not_yet s file number noted tree files = told (fin.get tree.nodes number) refl
     told None e = refl
     told (Some node) e = let under = files.below number node e in absurd (omega (arith, under))
 
-pub files_within : (limits : Limits) (sectors : ℕ) (s : Store) (file : BlockTree) → IsSoundOn limits sectors s file → (number : ℕ) (noted : List ℕ) (tree : Tree) → HasFiles s file number noted tree → IsWithin tree (image s file)
-files_within limits sectors s file sound number noted tree files = within_image limits sectors s file sound tree files.nodes (λ link n e. absurd (some_none _ _ e (files.unnamed link)))
+pub files_within : (limits : Limits) (s : Store) (file : BlockTree) → DenotesTree limits s file → (number : ℕ) (noted : List ℕ) (tree : Tree) → HasFiles s file number noted tree → IsWithin tree (image s file)
+files_within limits s file denotes number noted tree files = within_image limits s file denotes tree files.nodes (λ link n e. absurd (some_none _ _ e (files.unnamed link)))
 
 -- ---- how often a number is pending
 
@@ -71,7 +71,7 @@ directories_few limits tree largest whole =
 
 -- ---- a name that is added
 
-module _ (limits : Limits) (sectors : ℕ) (s : Store) (file : BlockTree) (sound : IsSoundOn limits sectors s file) (done directory : ℕ) (pending after : List ℕ) (name : Name) (old new : Tree)
+module _ (limits : Limits) (s : Store) (file : BlockTree) (denotes : DenotesTree limits s file) (done directory : ℕ) (pending after : List ℕ) (name : Name) (old new : Tree)
     (adds : AddsNames directory (name ∷ []) old.links new.links) (among : Contains (names_at s file directory) name) (was : IsFilling limits s file done directory pending old) where
   names_more : AreNames s file new
   names_more l n e = told (adds.only l n e)
@@ -81,7 +81,7 @@ module _ (limits : Limits) (sectors : ℕ) (s : Store) (file : BlockTree) (sound
       told (inr (q, f)) =
           let it : record { number = n; name = l.name } ≡ name = one_of name _ f in
           let here : Contains (names_at s file directory) (record { number = n; name = l.name }) = subst (Contains (names_at s file directory)) (sym it) among in
-          ap (λ (d : ℕ). number_of l.name (names_at s file d)) q ∙ found_once (names_at s file directory) (record { number = n; name = l.name }) (sound.names.once directory l.name) here
+          ap (λ (d : ℕ). number_of l.name (names_at s file d)) q ∙ found_once (names_at s file directory) (record { number = n; name = l.name }) (denotes.names.once directory l.name) here
 
   -- another directory that had no name has none
   still_empty : (d : ℕ) → d ≢ directory → HasNoNames old d → HasNoNames new d
@@ -283,8 +283,8 @@ open_begun limits s file noted tree whole files = record {
     most false = omega arith
 
 -- so many directories there aren't
-pub never_so_many : (limits : Limits) (sectors : ℕ) (s : Store) (file : BlockTree) (done : ℕ) (pending : List ℕ) (tree : Tree) → IsSoundOn limits sectors s file → 65535 ≤ done → IsOpen limits s file done pending tree → ⊥
-never_so_many limits sectors s file done pending tree sound many is =
-    let largest : 65535 ≡ limits.largest_number = ap (λ (l : Limits). l.largest_number) (only_version limits sound.version) in
+pub never_so_many : (limits : Limits) (s : Store) (file : BlockTree) (done : ℕ) (pending : List ℕ) (tree : Tree) → DenotesTree limits s file → 65535 ≤ done → IsOpen limits s file done pending tree → ⊥
+never_so_many limits s file done pending tree denotes many is =
+    let largest : 65535 ≡ limits.largest_number = ap (λ (l : Limits). l.largest_number) (only_version limits denotes.version) in
     let few = directories_few limits tree (omega (arith, largest)) is.whole in
     omega (arith, few, many, is.enough)

@@ -1,5 +1,5 @@
--- What a sound root comes to for a loader.
-use Rattle.std.proofs.Common.{◌≡◌, ℕ, ◌+◌, ◌*◌, ◌/◌, ◌≤◌, true, List, [], length, Option, Some, None, is_some, refl, sym, ap, subst, ◌∙◌, ◌⊎◌, inl, inr, arith, Contains}
+-- What a root that denotes a tree, and a sound one, come to for a loader.
+use Rattle.std.proofs.Common.{◌≡◌, ℕ, ◌+◌, ◌*◌, ◌/◌, ◌≤◌, true, [], length, Option, Some, None, is_some, refl, sym, ap, subst, ◌∙◌, ◌⊎◌, inl, inr, arith, Contains}
 use Rattle.std.specs.Prelude.{⊤, IsSomeAnd}
 use Rattle.std.specs.FinMap as fin
 use Rattle.std.proofs.lemmas.Bool.{true≢false}
@@ -29,12 +29,14 @@ use Rattle.sn_image.proofs.PieceLemmas.{found_once}
 use Rattle.sn_image.proofs.PointLemmas.{name_found, node_found}
 use Rattle.sn_image.proofs.ReachLemmas.{reach_parts}
 use Rattle.sn_image.proofs.SoundNameLemmas.{from_kind, sound_tree}
-use Rattle.sn_dir.specs.Blocks.{IsDamaged}
+use Rattle.sn_dir.proofs.BlockLemmas.{somewhere}
 use Rattle.sn_dir.specs.Laws.{SoundDirectoriesAreRead}
 use Rattle.sn_inode.specs.Laws.{SoundAclsAreRead, SoundInodesAreRead}
 use Rattle.sn_tree_read.specs.Laws.{ReachedBlocksLie}
+use Rattle.sn_tree_read.proofs.LawLemmas.{outside_of}
 use Rattle.sn_load.specs.Loading.{AreNames, AreNodes, HasAllNames, IsLoading}
-use Rattle.sn_load.specs.Sound.{CanReadContent, IsInside, IsSoundOn}
+use Rattle.sn_load.specs.Sound.{CanReadContent, DenotesTree, IsSoundOn}
+use Rattle.sn_load.specs.Unread.{HasUnread, IsUnreadAt, IsUnreadContent}
 use Rattle.sn_load.proofs.FitLemmas.{IsWithin}
 use Rattle.sn_load.proofs.NameLemmas.{no_member}
 use Rattle.sn_load.proofs.StepLemmas.{node_is}
@@ -62,38 +64,45 @@ module _ (limits : Limits) (n sectors : ℕ) (c : Contents) (file : BlockTree) (
   sound_on blocks inodes acls directories version are count =
       let on_disk : 8 * n ≤ length c = omega (arith, fits, count) in
       record {
-        version = version;
+        tree = record {
+          version = version;
+          size = sound.file;
+          root = sound.records.root;
+          in_trees = λ number inode bytes used kind is. subst (HasContent s Directory) is (subst (λ (k : Kind). HasContent s k inode.content) kind (sound.used.contents number inode used));
+          names = sound.names;
+          whole = sound_tree limits n s file version (λ block is_in. data_whole c n block are on_disk is_in) sound;
+        };
         records = inodes limits sectors s file sound.records (λ block among. all_lie block ((reach_parts s file block).0 among));
-        root = sound.records.root;
         acls = λ number inode used. acls sectors s file number inode sound.used (λ block among. all_lie block ((reach_parts s file block).1 number among)) used;
         contents = λ number inode used. content_read blocks directories sectors s inode.kind inode.content (sound.used.contents number inode used) (content_lies number inode used);
-        names = sound.names;
-        whole = sound_tree limits n s file version (λ block is_in. data_whole c n block are on_disk is_in) sound;
       }
 
-module _ (limits : Limits) (sectors : ℕ) (s : Store) (file : BlockTree) (sound : IsSoundOn limits sectors s file) where
-  -- ---- what is read
+-- then nothing is there that can't be read
+read_content : (sectors : ℕ) (s : Store) (kind : Kind) (content : Content) (block : Option ℕ) → CanReadContent sectors s kind content → IsUnreadContent sectors s kind content block → ⊥
+read_content sectors s File content block can (offset, n, out) = can offset n (outside_of sectors s content offset n block out)
+read_content sectors s Directory (Inline bytes) block can none = none
+read_content sectors s Directory (InTree tree) block can bad = can (somewhere (λ names. ⊤) sectors s tree block bad)
 
-  module _ (number : ℕ) (inode : Inode) (used : inode_at s file number ≡ Some inode) where
-    pub file_read : inode.kind ≡ File → IsInside sectors s inode.content
-    file_read kind = subst (λ (k : Kind). CanReadContent sectors s k inode.content) kind (sound.contents number inode used)
+pub all_read : (limits : Limits) (sectors : ℕ) (s : Store) (file : BlockTree) (block : Option ℕ) → IsSoundOn limits sectors s file → IsUnreadAt limits sectors s file block → ⊥
+all_read limits sectors s file block sound (number, inl bad) = bad.unread (sound.records number)
+all_read limits sectors s file block sound (number, inr has) = told (inode_at s file number) refl has
+  where
+    told : (o : Option Inode) → inode_at s file number ≡ o → IsSomeAnd o (λ inode. HasUnread sectors s inode block) → ⊥
+    told None e never = never
+    told (Some inode) e (inl bad) = bad.unread (sound.acls number inode e)
+    told (Some inode) e (inr bad) = read_content sectors s inode.kind inode.content block (sound.contents number inode e) bad
 
-    pub not_inline : (bytes : List ℕ) → inode.kind ≡ Directory → inode.content ≡ Inline bytes → ⊥
-    not_inline bytes kind is = subst (CanReadContent sectors s Directory) is (subst (λ (k : Kind). CanReadContent sectors s k inode.content) kind (sound.contents number inode used))
-
-    pub directory_read : (tree : BlockTree) → inode.kind ≡ Directory → inode.content ≡ InTree tree → IsDamaged (λ names. ⊤) sectors s tree → ⊥
-    directory_read tree kind is = subst (CanReadContent sectors s Directory) is (subst (λ (k : Kind). CanReadContent sectors s k inode.content) kind (sound.contents number inode used))
-
+module _ (limits : Limits) (s : Store) (file : BlockTree) (denotes : DenotesTree limits s file) where
   -- ---- the image
 
   pub image_node : (number : ℕ) (inode : Inode) → inode_at s file number ≡ Some inode → fin.get (image s file).nodes number ≡ Some (node_of s inode)
   image_node number inode used = node_found s file number ∙ node_is s file number inode used
 
   pub node_fits_in : (number : ℕ) (inode : Inode) → inode_at s file number ≡ Some inode → IsNode limits number (node_of s inode)
-  node_fits_in number inode used = sound.whole.nodes.nodes number (node_of s inode) (image_node number inode used)
+  node_fits_in number inode used = denotes.whole.nodes.nodes number (node_of s inode) (image_node number inode used)
 
   pub image_name : (directory : ℕ) (name : Name) → Contains (names_at s file directory) name → fin.get (image s file).links (link_to directory name.name) ≡ Some name.number
-  image_name directory name among = name_found s file directory name.name ∙ found_once (names_at s file directory) name (sound.names.once directory name.name) among
+  image_name directory name among = name_found s file directory name.name ∙ found_once (names_at s file directory) name (denotes.names.once directory name.name) among
 
   pub within_image : (tree : Tree) → AreNodes s file tree → AreNames s file tree → IsWithin tree (image s file)
   within_image tree nodes names = record {
@@ -112,7 +121,7 @@ module _ (limits : Limits) (sectors : ℕ) (s : Store) (file : BlockTree) (sound
   -- a name that leads to what isn't there yet leads to a directory, since all files are there
   pub named_directory : (tree : Tree) (directory : ℕ) (name : Name) → ((number : ℕ) (node : Node) → node_at s file number ≡ Some node → node.kind ≡ File → fin.get tree.nodes number ≡ Some node)
       → Contains (names_at s file directory) name → fin.get tree.nodes name.number ≡ None → HasKind (image s file) name.number Directory
-  named_directory tree directory name files among absent = told (fin.get (image s file).nodes name.number) refl (sound.whole.hierarchy.leads (link_to directory name.name) name.number (image_name directory name among))
+  named_directory tree directory name files among absent = told (fin.get (image s file).nodes name.number) refl (denotes.whole.hierarchy.leads (link_to directory name.name) name.number (image_name directory name among))
     where
       by_kind : (node : Node) (kind : Kind) → node.kind ≡ kind → fin.get (image s file).nodes name.number ≡ Some node → HasKind (image s file) name.number Directory
       by_kind node File is e = let never : None ≡ Some node = sym absent ∙ files name.number node (sym (node_found s file name.number) ∙ e) is in absurd cc
@@ -133,7 +142,7 @@ module _ (limits : Limits) (sectors : ℕ) (s : Store) (file : BlockTree) (sound
   all_there tree whole loading number root = let r = some_node _ Directory whole.hierarchy.root in ap is_some r.1
   all_there tree whole loading number (below directory name n above e) =
       let d = some_is _ (all_there tree whole loading directory above) in
-      let held = some_node _ Directory (sound.whole.hierarchy.held (link_to directory name) n e) in
+      let held = some_node _ Directory (denotes.whole.hierarchy.held (link_to directory name) n e) in
       let both : Some d.0 ≡ Some held.0 = sym (loading.part.nodes directory d.0 d.1) ∙ sym (node_found s file directory) ∙ held.1 in
       let one : d.0 ≡ held.0 = cc in
       told (loading.part.done directory d.0 d.1 (ap (λ (x : Node). x.kind) one ∙ held.2))
@@ -143,4 +152,4 @@ module _ (limits : Limits) (sectors : ℕ) (s : Store) (file : BlockTree) (sound
       told (inr all) = whole.hierarchy.leads (link_to directory name) n (all name n (sym (name_found s file directory name) ∙ e))
 
   pub directory_there : (tree : Tree) → IsTree limits tree → IsLoading s file [] tree → (number : ℕ) → IsSomeAnd (node_at s file number) (λ node. node.kind ≡ Directory) → is_some (fin.get tree.nodes number) ≡ true
-  directory_there tree whole loading number is = all_there tree whole loading number (sound.whole.hierarchy.reached number (kind_at _ _ Directory (node_found s file number) is))
+  directory_there tree whole loading number is = all_there tree whole loading number (denotes.whole.hierarchy.reached number (kind_at _ _ Directory (node_found s file number) is))

@@ -34,6 +34,7 @@ use Rattle.sn_image.specs.Image.{file_bytes, node_of, node_at}
 use Rattle.sn_plain.specs.Added.{file_added}
 use Rattle.sn_plain.specs.Plain.{Applies}
 use Rattle.sn_plain.specs.declared.fault.ApplyError.{ApplyError}
+use Rattle.sn_plain.specs.declared.fault.ApplyError.TheVariants.{CannotApply, Memory}
 use Rattle.sn_plain.proofs.AddedLemmas.{added_is}
 use Rattle.sn_tree_read.specs.Reads.{IsPart, IsOutside}
 use Rattle.sn_tree_read.specs.declared.fault.TreeFault.{TreeFault}
@@ -247,6 +248,15 @@ ok_applied answer result u asked old new is ok applies = told answer (sym is ∙
     told : (a : Result (Unit {0}) ApplyError) → applied a ≡ Ok u → Applies a asked old new → asked ≡ Some new
     told (Ok v) e f = f
     told (Err error) e f = absurd cc
+
+-- what is refused is told of no block
+pub told_of_none : {T : Type 0} {block : ℕ} (answer : Result (Unit {0}) ApplyError) (result : Result (Unit {0}) TreeFault) → result ≡ applied answer → result ≡ Err (Damaged (Some block)) → T
+told_of_none {T} {block} answer result is bad = told answer (sym is ∙ bad)
+  where
+    told : (a : Result (Unit {0}) ApplyError) → applied a ≡ Err (Damaged (Some block)) → T
+    told (Ok u) e = absurd cc
+    told (Err CannotApply) e = absurd cc
+    told (Err Memory) e = absurd cc
 
 -- the directory that was made, and its name
 pub directory_adds : (limits : Limits) (old new : Tree) (directory : ℕ) (name : Name) (o : Ownership) (answer : Result (Unit {0}) ApplyError) (result : Result (Unit {0}) TreeFault) (u : Unit {0}) → result ≡ applied answer → result ≡ Ok u

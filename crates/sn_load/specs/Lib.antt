@@ -1,3 +1,4 @@
 pub mod Loading
 pub mod Sound
 pub mod Steps
+pub mod Unread

@@ -1,4 +1,4 @@
--- What a loader rests on where a root is sound, and what stands in memory then while directories get their names.
+-- What a loader rests on where a root denotes a tree or is sound, and what stands in memory while directories get their names.
 use Rattle.std.specs.Prelude.{◌≡◌, ⊤, ℕ, ◌+◌, ◌≤◌, ◌==◌, List, ◌∷◌, length, None, Some, IsSomeAnd, Contains, count_by}
 use Rattle.std.specs.FinMap as map
 use Rattle.sn_layout.specs.declared.tree.BlockTree.{BlockTree}
@@ -15,7 +15,7 @@ use Rattle.sn_model.specs.Tree.{Tree, link_to}
 use Rattle.sn_ondisk.specs.Trees.{Store}
 use Rattle.sn_image.specs.Image.{image}
 use Rattle.sn_image.specs.Inodes.{inode_at}
-use Rattle.sn_image.specs.Sound.{HasNames}
+use Rattle.sn_image.specs.Sound.{HasNames, IsInodeFile}
 use Rattle.sn_tree_read.specs.Reads.{IsOutside}
 use Rattle.sn_inode.specs.Reads.{CanReadAcls, CanReadRecord}
 use Rattle.sn_dir.specs.Blocks.{IsDamaged}
@@ -31,15 +31,21 @@ CanReadContent sectors s File content = IsInside sectors s content
 CanReadContent sectors s Directory (Inline bytes) = ⊥
 CanReadContent sectors s Directory (InTree tree) = IsDamaged (λ names. ⊤) sectors s tree → ⊥
 
--- What a sound root comes to on a device of so many sectors: all that it holds can be read, and it denotes a name tree.
-pub record IsSoundOn (limits : Limits) (sectors : ℕ) (s : Store) (file : BlockTree) : Type 0 where
+-- A root denotes a name tree within its limits: each directory has its names in a tree, and each of them once.
+pub record DenotesTree (limits : Limits) (s : Store) (file : BlockTree) : Type 0 where
   pub version : limits_of limits.version ≡ Some limits
-  pub records : (number : ℕ) → CanReadRecord limits sectors s file number
+  pub size : IsInodeFile limits file
   pub root : IsSomeAnd (inode_at s file 2) (λ inode. inode.kind ≡ Directory)
-  pub acls : (number : ℕ) (inode : Inode) → inode_at s file number ≡ Some inode → CanReadAcls sectors s inode
-  pub contents : (number : ℕ) (inode : Inode) → inode_at s file number ≡ Some inode → CanReadContent sectors s inode.kind inode.content
+  pub in_trees : (number : ℕ) (inode : Inode) (bytes : List ℕ) → inode_at s file number ≡ Some inode → inode.kind ≡ Directory → inode.content ≡ Inline bytes → ⊥
   pub names : HasNames limits s file
   pub whole : IsTree limits (image s file)
+
+-- What a sound root comes to on a device of so many sectors: it denotes a name tree, and all that it holds can be read.
+pub record IsSoundOn (limits : Limits) (sectors : ℕ) (s : Store) (file : BlockTree) : Type 0 where
+  pub tree : DenotesTree limits s file
+  pub records : (number : ℕ) → CanReadRecord limits sectors s file number
+  pub acls : (number : ℕ) (inode : Inode) → inode_at s file number ≡ Some inode → CanReadAcls sectors s inode
+  pub contents : (number : ℕ) (inode : Inode) → inode_at s file number ≡ Some inode → CanReadContent sectors s inode.kind inode.content
 
 -- how many directories a tree has
 abbrev pub directories : Tree → ℕ

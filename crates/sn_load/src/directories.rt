@@ -10,13 +10,14 @@ ghost use Rattle.sn_model.specs.NameTree.{IsTree};
 ghost use Rattle.sn_model.specs.Tree.{link_to};
 ghost use Rattle.sn_plain.specs.Plain.{tree_of};
 ghost use Rattle.sn_image.specs.Names.{names_at, names_of};
-ghost use Rattle.sn_dir.specs.Blocks.{IsDamaged};
+ghost use Rattle.sn_dir.specs.Blocks.{IsDamagedAt};
 ghost use Rattle.sn_dir.specs.Listed.{link_of};
 ghost use Rattle.sn_tree_read.specs.Counts.{CountsTree};
 ghost use Rattle.sn_load.specs.Loading.{IsLoading, IsPart};
 ghost use Rattle.sn_tree_read.specs.declared.fault.TreeFault.TheVariants.{Damaged};
-ghost use Rattle.sn_load.specs.Sound.{HasNoNames, IsFilling, IsOpen, IsSoundOn};
+ghost use Rattle.sn_load.specs.Sound.{DenotesTree, HasNoNames, IsFilling, IsOpen};
 ghost use Rattle.sn_load.specs.Steps.{AddsNames, MakesAtMost, MakesDirectory};
+ghost use Rattle.sn_load.specs.Unread.{IsUnreadAt};
 
 use crate::files::note;
 use crate::owners::{applied, directory_at, ownership};
@@ -49,12 +50,17 @@ fn make_directory<D: Device>(
         (tree_of tree.old).links (tree_of tree.new).links) }
     ensures whole { OnOk result (IsTree limits.now (tree_of tree.old) → IsTree limits.now (tree_of tree.new)) }
     ensures nodes { OnOk result (MakesDirectory number (tree_of tree.old).nodes (tree_of tree.new).nodes pending.old.items pending.new.items) }
-    ensures damaged { IsTrue D.tells_bytes → (block : TheOption ℕ) → result ≡ Err (Damaged block) → IsSoundOn limits.now (D.status (device_of blocks.old)).sectors
-        (store_of (reads (D.disk (device_of blocks.old)))) file.now
+    ensures damaged { IsTrue D.tells_bytes → (block : TheOption ℕ) → result ≡ Err (Damaged block)
+        → DenotesTree limits.now (store_of (reads (D.disk (device_of blocks.old)))) file.now
         → (done : ℕ) → IsFilling limits.now (store_of (reads (D.disk (device_of blocks.old))))
         file.now done link.directory pending.old.items (tree_of tree.old)
         → Contains (names_at (store_of (reads (D.disk (device_of blocks.old)))) file.now link.directory) (record { number = number; name = link.name })
-        → fin.get (tree_of tree.old).links link ≡ None → fin.get (tree_of tree.old).nodes number ≡ None → ⊥ }
+        → fin.get (tree_of tree.old).links link ≡ None → fin.get (tree_of tree.old).nodes number ≡ None
+        → IsUnreadAt limits.now (D.status (device_of blocks.old)).sectors
+        (store_of (reads (D.disk (device_of blocks.old)))) file.now block }
+    ensures unread { IsTrue D.tells_bytes → (block : ℕ) → result ≡ Err (Damaged (Some block))
+        → IsUnreadAt limits.now (D.status (device_of blocks.old)).sectors
+        (store_of (reads (D.disk (device_of blocks.old)))) file.now (Some block) }
     ensures same { IsTrue D.tells_bytes → D.disk (device_of blocks.new) ≡ D.disk (device_of blocks.old) }
     ensures counts { CountsTree result (D.status (device_of blocks.old)) (D.status (device_of blocks.new)) }
 {
@@ -83,12 +89,17 @@ fn add_name<D: Device>(
         (tree_of tree.old).links (tree_of tree.new).links) }
     ensures whole { OnOk result (IsTree limits.now (tree_of tree.old) → IsTree limits.now (tree_of tree.new)) }
     ensures nodes { OnOk result (MakesAtMost name.now.number (tree_of tree.old).nodes (tree_of tree.new).nodes pending.old.items pending.new.items) }
-    ensures damaged { IsTrue D.tells_bytes → (block : TheOption ℕ) → result ≡ Err (Damaged block) → IsSoundOn limits.now (D.status (device_of blocks.old)).sectors
-        (store_of (reads (D.disk (device_of blocks.old)))) file.now
+    ensures damaged { IsTrue D.tells_bytes → (block : TheOption ℕ) → result ≡ Err (Damaged block)
+        → DenotesTree limits.now (store_of (reads (D.disk (device_of blocks.old)))) file.now
         → (done : ℕ) → IsFilling limits.now (store_of (reads (D.disk (device_of blocks.old))))
         file.now done directory pending.old.items (tree_of tree.old)
         → Contains (names_at (store_of (reads (D.disk (device_of blocks.old)))) file.now directory) (link_of name.now)
-        → fin.get (tree_of tree.old).links (link_to directory name.now.name) ≡ None → ⊥ }
+        → fin.get (tree_of tree.old).links (link_to directory name.now.name) ≡ None
+        → IsUnreadAt limits.now (D.status (device_of blocks.old)).sectors
+        (store_of (reads (D.disk (device_of blocks.old)))) file.now block }
+    ensures unread { IsTrue D.tells_bytes → (block : ℕ) → result ≡ Err (Damaged (Some block))
+        → IsUnreadAt limits.now (D.status (device_of blocks.old)).sectors
+        (store_of (reads (D.disk (device_of blocks.old)))) file.now (Some block) }
     ensures same { IsTrue D.tells_bytes → D.disk (device_of blocks.new) ≡ D.disk (device_of blocks.old) }
     ensures counts { CountsTree result (D.status (device_of blocks.old)) (D.status (device_of blocks.new)) }
 {
@@ -127,17 +138,21 @@ fn add_names<D: Device>(
     ensures names { OnOk result (AddsNames directory (map link_of names.now)
         (tree_of tree.old).links (tree_of tree.new).links) }
     ensures whole { OnOk result (IsTree limits.now (tree_of tree.old) → IsTree limits.now (tree_of tree.new)) }
-    ensures filling { IsTrue D.tells_bytes → OnOk result (IsSoundOn limits.now (D.status (device_of blocks.old)).sectors
-        (store_of (reads (D.disk (device_of blocks.old)))) file.now
+    ensures filling { IsTrue D.tells_bytes → OnOk result (DenotesTree limits.now (store_of (reads (D.disk (device_of blocks.old)))) file.now
         → (done : ℕ) → IsFilling limits.now (store_of (reads (D.disk (device_of blocks.old))))
         file.now done directory pending.old.items (tree_of tree.old)
         → HasNoNames (tree_of tree.old) directory → IsPermutation (names_at (store_of (reads (D.disk (device_of blocks.old)))) file.now directory) (map link_of names.now)
         → IsFilling limits.now (store_of (reads (D.disk (device_of blocks.old)))) file.now done directory pending.new.items (tree_of tree.new)) }
-    ensures damaged { IsTrue D.tells_bytes → (block : TheOption ℕ) → result ≡ Err (Damaged block) → IsSoundOn limits.now (D.status (device_of blocks.old)).sectors
-        (store_of (reads (D.disk (device_of blocks.old)))) file.now
+    ensures damaged { IsTrue D.tells_bytes → (block : TheOption ℕ) → result ≡ Err (Damaged block)
+        → DenotesTree limits.now (store_of (reads (D.disk (device_of blocks.old)))) file.now
         → (done : ℕ) → IsFilling limits.now (store_of (reads (D.disk (device_of blocks.old))))
         file.now done directory pending.old.items (tree_of tree.old)
-        → HasNoNames (tree_of tree.old) directory → IsPermutation (names_at (store_of (reads (D.disk (device_of blocks.old)))) file.now directory) (map link_of names.now) → ⊥ }
+        → HasNoNames (tree_of tree.old) directory → IsPermutation (names_at (store_of (reads (D.disk (device_of blocks.old)))) file.now directory) (map link_of names.now)
+        → IsUnreadAt limits.now (D.status (device_of blocks.old)).sectors
+        (store_of (reads (D.disk (device_of blocks.old)))) file.now block }
+    ensures unread { IsTrue D.tells_bytes → (block : ℕ) → result ≡ Err (Damaged (Some block))
+        → IsUnreadAt limits.now (D.status (device_of blocks.old)).sectors
+        (store_of (reads (D.disk (device_of blocks.old)))) file.now (Some block) }
     ensures same { IsTrue D.tells_bytes → D.disk (device_of blocks.new) ≡ D.disk (device_of blocks.old) }
     ensures counts { CountsTree result (D.status (device_of blocks.old)) (D.status (device_of blocks.new)) }
 {
@@ -158,9 +173,13 @@ fn listed<D: Device>(
 ) -> Result<Vec<ListedName>, TreeFault>
     ensures names { IsTrue D.tells_bytes → IfOk result (λ names. IsPermutation
         (names_of (store_of (reads (D.disk (device_of blocks.old)))) (Tree tree.now)) (map link_of names.items)) }
-    ensures damaged { IsTrue D.tells_bytes → (block : TheOption ℕ) → result ≡ Err (Damaged block) → (IsDamaged (λ names. ⊤) (D.status (device_of blocks.old)).sectors
-        (store_of (reads (D.disk (device_of blocks.old)))) tree.now → ⊥)
-        → length (names_of (store_of (reads (D.disk (device_of blocks.old)))) (Tree tree.now)) ≤ limits.now.names → ⊥ }
+    ensures damaged { IsTrue D.tells_bytes → (block : TheOption ℕ) → result ≡ Err (Damaged block)
+        → length (names_of (store_of (reads (D.disk (device_of blocks.old)))) (Tree tree.now)) ≤ limits.now.names
+        → IsDamagedAt (λ names. ⊤) (D.status (device_of blocks.old)).sectors
+        (store_of (reads (D.disk (device_of blocks.old)))) tree.now block }
+    ensures unread { IsTrue D.tells_bytes → (block : ℕ) → result ≡ Err (Damaged (Some block))
+        → IsDamagedAt (λ names. ⊤) (D.status (device_of blocks.old)).sectors
+        (store_of (reads (D.disk (device_of blocks.old)))) tree.now (Some block) }
     ensures same { IsTrue D.tells_bytes → D.disk (device_of blocks.new) ≡ D.disk (device_of blocks.old) }
     ensures counts { CountsTree result (D.status (device_of blocks.old)) (D.status (device_of blocks.new)) }
 {
@@ -184,15 +203,19 @@ pub(crate) fn load_directory<D: Device>(
         (store_of (reads (D.disk (device_of blocks.old)))) file.now (directory ∷ pending.old.items) (tree_of tree.old)
         → IsLoading (store_of (reads (D.disk (device_of blocks.old)))) file.now pending.new.items (tree_of tree.new)) }
     ensures whole { OnOk result (IsTree limits.now (tree_of tree.old) → IsTree limits.now (tree_of tree.new)) }
-    ensures opens { IsTrue D.tells_bytes → OnOk result (IsSoundOn limits.now (D.status (device_of blocks.old)).sectors
-        (store_of (reads (D.disk (device_of blocks.old)))) file.now
+    ensures opens { IsTrue D.tells_bytes → OnOk result (DenotesTree limits.now (store_of (reads (D.disk (device_of blocks.old)))) file.now
         → (done : ℕ) → IsFilling limits.now (store_of (reads (D.disk (device_of blocks.old))))
         file.now done directory pending.old.items (tree_of tree.old) → HasNoNames (tree_of tree.old) directory
         → IsOpen limits.now (store_of (reads (D.disk (device_of blocks.old)))) file.now (done + 1) pending.new.items (tree_of tree.new)) }
-    ensures damaged { IsTrue D.tells_bytes → (block : TheOption ℕ) → result ≡ Err (Damaged block) → IsSoundOn limits.now (D.status (device_of blocks.old)).sectors
-        (store_of (reads (D.disk (device_of blocks.old)))) file.now
+    ensures damaged { IsTrue D.tells_bytes → (block : TheOption ℕ) → result ≡ Err (Damaged block)
+        → DenotesTree limits.now (store_of (reads (D.disk (device_of blocks.old)))) file.now
         → (done : ℕ) → IsFilling limits.now (store_of (reads (D.disk (device_of blocks.old))))
-        file.now done directory pending.old.items (tree_of tree.old) → HasNoNames (tree_of tree.old) directory → ⊥ }
+        file.now done directory pending.old.items (tree_of tree.old) → HasNoNames (tree_of tree.old) directory
+        → IsUnreadAt limits.now (D.status (device_of blocks.old)).sectors
+        (store_of (reads (D.disk (device_of blocks.old)))) file.now block }
+    ensures unread { IsTrue D.tells_bytes → (block : ℕ) → result ≡ Err (Damaged (Some block))
+        → IsUnreadAt limits.now (D.status (device_of blocks.old)).sectors
+        (store_of (reads (D.disk (device_of blocks.old)))) file.now (Some block) }
     ensures same { IsTrue D.tells_bytes → D.disk (device_of blocks.new) ≡ D.disk (device_of blocks.old) }
     ensures counts { CountsTree result (D.status (device_of blocks.old)) (D.status (device_of blocks.new)) }
 {

@@ -15,10 +15,12 @@ ghost use Rattle.sn_image.specs.Contents.{bytes_of};
 ghost use Rattle.sn_image.specs.Image.{node_of, node_at};
 ghost use Rattle.sn_image.specs.Inodes.{inode_at};
 ghost use Rattle.sn_tree_read.specs.Counts.{CountsTree};
+ghost use Rattle.sn_tree_read.specs.Reads.{IsOutsideAt};
 ghost use Rattle.sn_tree_read.specs.declared.fault.TreeFault.TheVariants.{Damaged};
 ghost use Rattle.sn_load.specs.Loading.{HasFiles};
-ghost use Rattle.sn_load.specs.Sound.{IsInside, IsSoundOn};
+ghost use Rattle.sn_load.specs.Sound.{DenotesTree};
 ghost use Rattle.sn_load.specs.Steps.{LoadsNumber, Puts, WritesPart};
+ghost use Rattle.sn_load.specs.Unread.{AreUnreadBytes, HasUnread, IsUnreadNumber};
 
 use crate::owners::{applied, ownership};
 use sn_block::Blocks;
@@ -53,9 +55,14 @@ fn write_part<D: Device>(
         (D.status (device_of blocks.old)).sectors (store_of (reads (D.disk (device_of blocks.old))))
         content.now number offset (tree_of tree.old) (tree_of tree.new)) }
     ensures whole { OnOk result (IsTree limits.now (tree_of tree.old) → IsTree limits.now (tree_of tree.new)) }
-    ensures damaged { IsTrue D.tells_bytes → (block : TheOption ℕ) → result ≡ Err (Damaged block) → IsInside (D.status (device_of blocks.old)).sectors
-        (store_of (reads (D.disk (device_of blocks.old)))) content.now → (node : Node) → map.get (tree_of tree.old).nodes number ≡ Some node → node.kind ≡ File
-        → offset < size_of content.now → size_of content.now ≤ limits.now.largest_file → ⊥ }
+    ensures damaged { IsTrue D.tells_bytes → (block : TheOption ℕ) → result ≡ Err (Damaged block)
+        → (node : Node) → map.get (tree_of tree.old).nodes number ≡ Some node → node.kind ≡ File
+        → offset < size_of content.now → size_of content.now ≤ limits.now.largest_file
+        → IsOutsideAt (D.status (device_of blocks.old)).sectors
+        (store_of (reads (D.disk (device_of blocks.old)))) content.now offset 65536 block }
+    ensures unread { IsTrue D.tells_bytes → (block : ℕ) → result ≡ Err (Damaged (Some block))
+        → IsOutsideAt (D.status (device_of blocks.old)).sectors
+        (store_of (reads (D.disk (device_of blocks.old)))) content.now offset 65536 (Some block) }
     ensures same { IsTrue D.tells_bytes → D.disk (device_of blocks.new) ≡ D.disk (device_of blocks.old) }
     ensures counts { CountsTree result (D.status (device_of blocks.old)) (D.status (device_of blocks.new)) }
 {
@@ -81,9 +88,14 @@ fn write_bytes<D: Device>(
         (record node { bytes = bytes_of (store_of (reads (D.disk (device_of blocks.old)))) content.now })
         (tree_of tree.old) (tree_of tree.new)) }
     ensures whole { OnOk result (IsTree limits.now (tree_of tree.old) → IsTree limits.now (tree_of tree.new)) }
-    ensures damaged { IsTrue D.tells_bytes → (block : TheOption ℕ) → result ≡ Err (Damaged block) → IsInside (D.status (device_of blocks.old)).sectors
-        (store_of (reads (D.disk (device_of blocks.old)))) content.now → (node : Node) → map.get (tree_of tree.old).nodes number ≡ Some node → node.kind ≡ File
-        → node.bytes ≡ [] → ⊥ }
+    ensures damaged { IsTrue D.tells_bytes → (block : TheOption ℕ) → result ≡ Err (Damaged block)
+        → (node : Node) → map.get (tree_of tree.old).nodes number ≡ Some node → node.kind ≡ File
+        → node.bytes ≡ []
+        → AreUnreadBytes (D.status (device_of blocks.old)).sectors
+        (store_of (reads (D.disk (device_of blocks.old)))) content.now block }
+    ensures unread { IsTrue D.tells_bytes → (block : ℕ) → result ≡ Err (Damaged (Some block))
+        → AreUnreadBytes (D.status (device_of blocks.old)).sectors
+        (store_of (reads (D.disk (device_of blocks.old)))) content.now (Some block) }
     ensures same { IsTrue D.tells_bytes → D.disk (device_of blocks.new) ≡ D.disk (device_of blocks.old) }
     ensures counts { CountsTree result (D.status (device_of blocks.old)) (D.status (device_of blocks.new)) }
 {
@@ -118,10 +130,16 @@ fn load_file<D: Device>(
         (node_of (store_of (reads (D.disk (device_of blocks.old)))) inode.now)
         (tree_of tree.old) (tree_of tree.new)) }
     ensures whole { OnOk result (IsTree limits.now (tree_of tree.old) → IsTree limits.now (tree_of tree.new)) }
-    ensures damaged { IsTrue D.tells_bytes → (block : TheOption ℕ) → result ≡ Err (Damaged block) → (file : TheTree) → IsSoundOn limits.now (D.status (device_of blocks.old)).sectors
-        (store_of (reads (D.disk (device_of blocks.old)))) file → inode_at (store_of (reads (D.disk (device_of blocks.old)))) file number ≡ Some inode.now
+    ensures damaged { IsTrue D.tells_bytes → (block : TheOption ℕ) → result ≡ Err (Damaged block)
+        → (file : TheTree) → DenotesTree limits.now (store_of (reads (D.disk (device_of blocks.old)))) file
+        → inode_at (store_of (reads (D.disk (device_of blocks.old)))) file number ≡ Some inode.now
         → (noted : List ℕ) → HasFiles (store_of (reads (D.disk (device_of blocks.old)))) file number noted (tree_of tree.old)
-        → IsTree limits.now (tree_of tree.old) → ⊥ }
+        → IsTree limits.now (tree_of tree.old)
+        → HasUnread (D.status (device_of blocks.old)).sectors
+        (store_of (reads (D.disk (device_of blocks.old)))) inode.now block }
+    ensures unread { IsTrue D.tells_bytes → (block : ℕ) → result ≡ Err (Damaged (Some block))
+        → HasUnread (D.status (device_of blocks.old)).sectors
+        (store_of (reads (D.disk (device_of blocks.old)))) inode.now (Some block) }
     ensures same { IsTrue D.tells_bytes → D.disk (device_of blocks.new) ≡ D.disk (device_of blocks.old) }
     ensures counts { CountsTree result (D.status (device_of blocks.old)) (D.status (device_of blocks.new)) }
 {
@@ -154,10 +172,15 @@ pub(crate) fn load_number<D: Device>(
         (node_at (store_of (reads (D.disk (device_of blocks.old)))) file.now number) number
         (tree_of tree.old) (tree_of tree.new) noted.old.items noted.new.items) }
     ensures whole { OnOk result (IsTree limits.now (tree_of tree.old) → IsTree limits.now (tree_of tree.new)) }
-    ensures damaged { IsTrue D.tells_bytes → (block : TheOption ℕ) → result ≡ Err (Damaged block) → IsSoundOn limits.now (D.status (device_of blocks.old)).sectors
-        (store_of (reads (D.disk (device_of blocks.old)))) file.now
+    ensures damaged { IsTrue D.tells_bytes → (block : TheOption ℕ) → result ≡ Err (Damaged block)
+        → DenotesTree limits.now (store_of (reads (D.disk (device_of blocks.old)))) file.now
         → HasFiles (store_of (reads (D.disk (device_of blocks.old)))) file.now number noted.old.items (tree_of tree.old)
-        → IsTree limits.now (tree_of tree.old) → ⊥ }
+        → IsTree limits.now (tree_of tree.old)
+        → IsUnreadNumber limits.now (D.status (device_of blocks.old)).sectors
+        (store_of (reads (D.disk (device_of blocks.old)))) file.now number block }
+    ensures unread { IsTrue D.tells_bytes → (block : ℕ) → result ≡ Err (Damaged (Some block))
+        → IsUnreadNumber limits.now (D.status (device_of blocks.old)).sectors
+        (store_of (reads (D.disk (device_of blocks.old)))) file.now number (Some block) }
     ensures same { IsTrue D.tells_bytes → D.disk (device_of blocks.new) ≡ D.disk (device_of blocks.old) }
     ensures counts { CountsTree result (D.status (device_of blocks.old)) (D.status (device_of blocks.new)) }
 {

@@ -12,7 +12,8 @@ ghost use Rattle.sn_image.specs.Sound.{IsInodeFile, IsSound};
 ghost use Rattle.sn_tree_read.specs.Counts.{CountsTree};
 ghost use Rattle.sn_tree_read.specs.declared.fault.TreeFault.TheVariants.{Damaged};
 ghost use Rattle.sn_load.specs.Loading.{HasFiles, IsLoading};
-ghost use Rattle.sn_load.specs.Sound.{IsOpen, IsSoundOn};
+ghost use Rattle.sn_load.specs.Sound.{DenotesTree, IsOpen};
+ghost use Rattle.sn_load.specs.Unread.{IsUnreadAt};
 
 use crate::directories::load_directory;
 use crate::files::{load_number, note};
@@ -44,8 +45,12 @@ fn load_root<D: Device>(
     ensures files { IsTrue D.tells_bytes → IfOk result (λ tree. HasFiles
         (store_of (reads (D.disk (device_of blocks.old)))) file.now 3 (2 ∷ []) (tree_of tree)) }
     ensures whole { IfOk result (λ tree. IsTree limits.now (tree_of tree)) }
-    ensures damaged { IsTrue D.tells_bytes → (block : TheOption ℕ) → result ≡ Err (Damaged block) → IsSoundOn limits.now (D.status (device_of blocks.old)).sectors
-        (store_of (reads (D.disk (device_of blocks.old)))) file.now → ⊥ }
+    ensures damaged { IsTrue D.tells_bytes → (block : TheOption ℕ) → result ≡ Err (Damaged block)
+        → DenotesTree limits.now (store_of (reads (D.disk (device_of blocks.old)))) file.now → IsUnreadAt limits.now (D.status (device_of blocks.old)).sectors
+        (store_of (reads (D.disk (device_of blocks.old)))) file.now block }
+    ensures unread { IsTrue D.tells_bytes → (block : ℕ) → result ≡ Err (Damaged (Some block))
+        → IsUnreadAt limits.now (D.status (device_of blocks.old)).sectors
+        (store_of (reads (D.disk (device_of blocks.old)))) file.now (Some block) }
     ensures same { IsTrue D.tells_bytes → D.disk (device_of blocks.new) ≡ D.disk (device_of blocks.old) }
     ensures counts { CountsTree result (D.status (device_of blocks.old)) (D.status (device_of blocks.new)) }
 {
@@ -72,10 +77,15 @@ fn load_files<D: Device>(
         → HasFiles (store_of (reads (D.disk (device_of blocks.old)))) file.now
         (file.now.size / 128) noted.new.items (tree_of tree.new)) }
     ensures whole { OnOk result (IsTree limits.now (tree_of tree.old) → IsTree limits.now (tree_of tree.new)) }
-    ensures damaged { IsTrue D.tells_bytes → (block : TheOption ℕ) → result ≡ Err (Damaged block) → IsSoundOn limits.now (D.status (device_of blocks.old)).sectors
-        (store_of (reads (D.disk (device_of blocks.old)))) file.now
+    ensures damaged { IsTrue D.tells_bytes → (block : TheOption ℕ) → result ≡ Err (Damaged block)
+        → DenotesTree limits.now (store_of (reads (D.disk (device_of blocks.old)))) file.now
         → HasFiles (store_of (reads (D.disk (device_of blocks.old)))) file.now 3 noted.old.items (tree_of tree.old)
-        → IsTree limits.now (tree_of tree.old) → ⊥ }
+        → IsTree limits.now (tree_of tree.old)
+        → IsUnreadAt limits.now (D.status (device_of blocks.old)).sectors
+        (store_of (reads (D.disk (device_of blocks.old)))) file.now block }
+    ensures unread { IsTrue D.tells_bytes → (block : ℕ) → result ≡ Err (Damaged (Some block))
+        → IsUnreadAt limits.now (D.status (device_of blocks.old)).sectors
+        (store_of (reads (D.disk (device_of blocks.old)))) file.now (Some block) }
     ensures same { IsTrue D.tells_bytes → D.disk (device_of blocks.new) ≡ D.disk (device_of blocks.old) }
     ensures counts { CountsTree result (D.status (device_of blocks.old)) (D.status (device_of blocks.new)) }
 {
@@ -98,9 +108,14 @@ fn load_names<D: Device>(
         (store_of (reads (D.disk (device_of blocks.old)))) file.now pending.old.items (tree_of tree.old)
         → IsLoading (store_of (reads (D.disk (device_of blocks.old)))) file.now [] (tree_of tree.new)) }
     ensures whole { OnOk result (IsTree limits.now (tree_of tree.old) → IsTree limits.now (tree_of tree.new)) }
-    ensures damaged { IsTrue D.tells_bytes → (block : TheOption ℕ) → result ≡ Err (Damaged block) → IsSoundOn limits.now (D.status (device_of blocks.old)).sectors
-        (store_of (reads (D.disk (device_of blocks.old)))) file.now
-        → IsOpen limits.now (store_of (reads (D.disk (device_of blocks.old)))) file.now 0 pending.old.items (tree_of tree.old) → ⊥ }
+    ensures damaged { IsTrue D.tells_bytes → (block : TheOption ℕ) → result ≡ Err (Damaged block)
+        → DenotesTree limits.now (store_of (reads (D.disk (device_of blocks.old)))) file.now
+        → IsOpen limits.now (store_of (reads (D.disk (device_of blocks.old)))) file.now 0 pending.old.items (tree_of tree.old)
+        → IsUnreadAt limits.now (D.status (device_of blocks.old)).sectors
+        (store_of (reads (D.disk (device_of blocks.old)))) file.now block }
+    ensures unread { IsTrue D.tells_bytes → (block : ℕ) → result ≡ Err (Damaged (Some block))
+        → IsUnreadAt limits.now (D.status (device_of blocks.old)).sectors
+        (store_of (reads (D.disk (device_of blocks.old)))) file.now (Some block) }
     ensures same { IsTrue D.tells_bytes → D.disk (device_of blocks.new) ≡ D.disk (device_of blocks.old) }
     ensures counts { CountsTree result (D.status (device_of blocks.old)) (D.status (device_of blocks.new)) }
 {
@@ -143,10 +158,15 @@ fn fill<D: Device>(
         (store_of (reads (D.disk (device_of blocks.old)))) file.now 3 (2 ∷ []) (tree_of tree.old)
         → tree_of tree.new ≡ image (store_of (reads (D.disk (device_of blocks.old)))) file.now) }
     ensures whole { OnOk result (IsTree limits.now (tree_of tree.old) → IsTree limits.now (tree_of tree.new)) }
-    ensures damaged { IsTrue D.tells_bytes → (block : TheOption ℕ) → result ≡ Err (Damaged block) → IsSoundOn limits.now (D.status (device_of blocks.old)).sectors
-        (store_of (reads (D.disk (device_of blocks.old)))) file.now
+    ensures damaged { IsTrue D.tells_bytes → (block : TheOption ℕ) → result ≡ Err (Damaged block)
+        → DenotesTree limits.now (store_of (reads (D.disk (device_of blocks.old)))) file.now
         → HasFiles (store_of (reads (D.disk (device_of blocks.old)))) file.now 3 (2 ∷ []) (tree_of tree.old)
-        → IsTree limits.now (tree_of tree.old) → ⊥ }
+        → IsTree limits.now (tree_of tree.old)
+        → IsUnreadAt limits.now (D.status (device_of blocks.old)).sectors
+        (store_of (reads (D.disk (device_of blocks.old)))) file.now block }
+    ensures unread { IsTrue D.tells_bytes → (block : ℕ) → result ≡ Err (Damaged (Some block))
+        → IsUnreadAt limits.now (D.status (device_of blocks.old)).sectors
+        (store_of (reads (D.disk (device_of blocks.old)))) file.now (Some block) }
     ensures same { IsTrue D.tells_bytes → D.disk (device_of blocks.new) ≡ D.disk (device_of blocks.old) }
     ensures counts { CountsTree result (D.status (device_of blocks.old)) (D.status (device_of blocks.new)) }
 {
@@ -163,9 +183,10 @@ fn fill<D: Device>(
 
 /// Reads the tree that a root denotes into memory, whatever stands on the device. `file` is the root's
 /// inode file. `Damaged` comes where a block that is needed isn't on the device or spells nothing of its
-/// kind, or where what stands there is no name tree within the limits: a directory has too many names, or
-/// isn't reached from the root. It never comes where the root is sound. Files without a name are loaded as they are. Memory is taken for the tree,
-/// and for blocks that aren't kept.
+/// kind, with that block; where a hole stands in the place of names, with none; or, with none, where what
+/// stands there is no name tree within the limits: a directory has too many names, or isn't reached from the
+/// root. It never comes where the root is sound. Files without a name are loaded as they are. Memory is taken
+/// for the tree, and for blocks that aren't kept.
 pub fn load<D: Device>(
     alloc: Global,
     blocks: &mut Blocks<D>,
@@ -178,6 +199,13 @@ pub fn load<D: Device>(
     ensures whole { IfOk result (λ tree. IsTree limits.now (tree_of tree)) }
     ensures damaged { IsTrue D.tells_bytes → (block : TheOption ℕ) → result ≡ Err (Damaged block) → (n : ℕ) → 8 * n ≤ (D.status (device_of blocks.old)).sectors
         → IsSound limits.now n (store_of (reads (D.disk (device_of blocks.old)))) file.now → ⊥ }
+    ensures unread { IsTrue D.tells_bytes → (block : ℕ) → result ≡ Err (Damaged (Some block))
+        → IsUnreadAt limits.now (D.status (device_of blocks.old)).sectors
+        (store_of (reads (D.disk (device_of blocks.old)))) file.now (Some block) }
+    ensures denoted { IsTrue D.tells_bytes → (block : TheOption ℕ) → result ≡ Err (Damaged block)
+        → DenotesTree limits.now (store_of (reads (D.disk (device_of blocks.old)))) file.now
+        → IsUnreadAt limits.now (D.status (device_of blocks.old)).sectors
+        (store_of (reads (D.disk (device_of blocks.old)))) file.now block }
     ensures same { IsTrue D.tells_bytes → D.disk (device_of blocks.new) ≡ D.disk (device_of blocks.old) }
     ensures counts { CountsTree result (D.status (device_of blocks.old)) (D.status (device_of blocks.new)) }
 {

@@ -8,9 +8,8 @@ ghost use Rattle.sn_limits.specs.declared.kind.Kind.TheVariants.{Directory};
 ghost use Rattle.sn_image.specs.Image.{node_of};
 ghost use Rattle.sn_image.specs.Inodes.{inode_at};
 ghost use Rattle.sn_tree_read.specs.Counts.{CountsTree};
-ghost use Rattle.sn_inode.specs.Reads.{CanReadAcls};
+ghost use Rattle.sn_inode.specs.Unread.{AreUnreadAcls, IsUnreadRecord};
 ghost use Rattle.sn_tree_read.specs.declared.fault.TreeFault.TheVariants.{Damaged};
-ghost use Rattle.sn_load.specs.Sound.{IsSoundOn};
 ghost use Rattle.sn_load.specs.Steps.{applied};
 
 use sn_block::{Blocks, ReadFault};
@@ -34,7 +33,7 @@ pub(crate) fn applied(answer: Result<(), ApplyError>) -> Result<(), TreeFault>
     }
 }
 
-/// The inode of a directory. On a sound root `Damaged` comes only where the number isn't one's.
+/// The inode of a directory. `Damaged` comes where its record can't be read, with its block, and where the number isn't one's, with none.
 pub(crate) fn directory_at<D: Device>(
     blocks: &mut Blocks<D>,
     limits: &Limits,
@@ -44,9 +43,13 @@ pub(crate) fn directory_at<D: Device>(
     ensures inode { IsTrue D.tells_bytes → IfOk result (λ inode. inode_at
         (store_of (reads (D.disk (device_of blocks.old)))) file.now number ≡ Some inode) }
     ensures kind { IfOk result (λ inode. inode.kind ≡ Directory) }
-    ensures damaged { IsTrue D.tells_bytes → (block : TheOption ℕ) → result ≡ Err (Damaged block) → IsSoundOn limits.now (D.status (device_of blocks.old)).sectors
-        (store_of (reads (D.disk (device_of blocks.old)))) file.now
-        → IsSomeAnd (inode_at (store_of (reads (D.disk (device_of blocks.old)))) file.now number) (λ inode. inode.kind ≡ Directory) → ⊥ }
+    ensures damaged { IsTrue D.tells_bytes → (block : TheOption ℕ) → result ≡ Err (Damaged block)
+        → IsSomeAnd (inode_at (store_of (reads (D.disk (device_of blocks.old)))) file.now number) (λ inode. inode.kind ≡ Directory)
+        → IsUnreadRecord limits.now (D.status (device_of blocks.old)).sectors
+        (store_of (reads (D.disk (device_of blocks.old)))) file.now number block }
+    ensures unread { IsTrue D.tells_bytes → (block : ℕ) → result ≡ Err (Damaged (Some block))
+        → IsUnreadRecord limits.now (D.status (device_of blocks.old)).sectors
+        (store_of (reads (D.disk (device_of blocks.old)))) file.now number (Some block) }
     ensures same { IsTrue D.tells_bytes → D.disk (device_of blocks.new) ≡ D.disk (device_of blocks.old) }
     ensures counts { CountsTree result (D.status (device_of blocks.old)) (D.status (device_of blocks.new)) }
 {
@@ -59,15 +62,16 @@ pub(crate) fn directory_at<D: Device>(
     }
 }
 
-/// Owner, group, S bits and ACLs of an inode. `Damaged` comes only where its ACLs can't be read.
+/// Owner, group, S bits and ACLs of an inode. `Damaged` comes only where its ACLs can't be read, with their block.
 pub(crate) fn ownership<D: Device>(
     blocks: &mut Blocks<D>,
     inode: &Inode,
 ) -> Result<Ownership, TreeFault>
     ensures ownership { IsTrue D.tells_bytes → IfOk result (λ o. o
         ≡ ownership_of (node_of (store_of (reads (D.disk (device_of blocks.old)))) inode.now)) }
-    ensures damaged { IsTrue D.tells_bytes → (block : TheOption ℕ) → result ≡ Err (Damaged block) → CanReadAcls (D.status (device_of blocks.old)).sectors
-        (store_of (reads (D.disk (device_of blocks.old)))) inode.now → ⊥ }
+    ensures unread { IsTrue D.tells_bytes → (block : TheOption ℕ) → result ≡ Err (Damaged block)
+        → AreUnreadAcls (D.status (device_of blocks.old)).sectors
+        (store_of (reads (D.disk (device_of blocks.old)))) inode.now block }
     ensures same { IsTrue D.tells_bytes → D.disk (device_of blocks.new) ≡ D.disk (device_of blocks.old) }
     ensures counts { CountsTree result (D.status (device_of blocks.old)) (D.status (device_of blocks.new)) }
 {

@@ -1,4 +1,4 @@
-use Rattle.std.proofs.Common.{◌≡◌, ◌+◌, ◌*◌, ◌≤◌, ℕ, List, subst, arith, Err, ap}
+use Rattle.std.proofs.Common.{◌≡◌, ◌+◌, ◌*◌, ◌≤◌, ℕ, List, subst, arith, Err, Some, ap}
 use Rattle.sn_device.specs.Disk.{reads}
 use Rattle.sn_block.specs.Lending.{device_of}
 use Rattle.sn_ondisk.specs.Trees.{Store, store_of}
@@ -6,8 +6,8 @@ use Rattle.sn_layout_node.specs.Inode.{size_of}
 use Rattle.sn_plain.specs.Plain.{tree_of}
 use Rattle.sn_load.specs.Steps.{Puts, WritesPart}
 use Rattle.sn_load.proofs.ByteLemmas.{part_begun, parts_enough, whole_content, content_most, part_short}
-use Rattle.sn_load.proofs.StepLemmas.{HasBytes, at_start, bytes_begun, bytes_more, stays_begun, stays_more, at_now, was_damaged}
-use Rattle.sn_load.specs.Sound.{IsInside}
+use Rattle.sn_load.proofs.StepLemmas.{HasBytes, at_start, bytes_begun, bytes_more, stays_begun, stays_more, was_damaged}
+use Rattle.sn_tree_read.specs.Reads.{IsOutsideAt}
 use Rattle.sn_load.proofs.files.write_bytes.Goals as goal
 
 pub loop-i-init : goal.loop-i-init
@@ -38,11 +38,17 @@ returns-clause-written g c told node there kind none =
     let all = whole_content (reads (g.D.Device.disk (device_of c.args.blocks.now))) _ (g.met.D.Device.whole (device_of c.args.blocks.now) told) (g.met.D.Device.count (device_of c.args.blocks.now) told) c.args.limits.now c.args.content.now (c.loop-i.i * 65536) has.bytes c.requires.version c.requires.content enough has.part has.on_device in
     subst (λ (bytes : List ℕ). Puts c.args.number (record node { bytes = bytes }) (tree_of c.args.tree.now) (tree_of c.loop-i.tree)) all has.puts
 
-pub returns-in_err-write_part-clause-damaged : goal.returns-in_err-write_part-clause-damaged
-returns-in_err-write_part-clause-damaged g c told block is lies node there kind none =
+pub returns-in_err-write_part-clause-unread : goal.returns-in_err-write_part-clause-unread
+returns-in_err-write_part-clause-unread g c told block is =
     let bad = ap (λ f. Err f) (was_damaged _ _ c.from_residual.ensures.1 is) in
+    let n = c.loop-i.i * 65536 in
+    (n, 65536, at_start _ _ _ _ _ c.loop-i.invariant.stays (λ k r. IsOutsideAt k r c.args.content.now n 65536 (Some block)) told (c.in_err-write_part.ensures.unread told block bad))
+
+pub returns-in_err-write_part-clause-damaged : goal.returns-in_err-write_part-clause-damaged
+returns-in_err-write_part-clause-damaged g c told block is node there kind none =
+    let bad = ap (λ f. Err f) (was_damaged _ _ c.from_residual.ensures.1 is) in
+    let n = c.loop-i.i * 65536 in
     let has = c.loop-i.invariant.bytes told node there kind none in
     let begun = part_short c.loop-i.i c.size.result (size_of c.args.content.now) c.div_ceil-parts.result c.size.ensures c.div_ceil-parts.ensures c.loop-i-test.true in
     let most = content_most c.args.limits.now c.args.content.now c.requires.version c.requires.content in
-    c.in_err-write_part.ensures.damaged told block bad (at_now _ _ _ _ _ c.loop-i.invariant.stays (λ k r. IsInside k r c.args.content.now) told lies)
-    (record node { bytes = has.bytes }) has.puts.there kind begun most
+    (n, 65536, at_start _ _ _ _ _ c.loop-i.invariant.stays (λ k r. IsOutsideAt k r c.args.content.now n 65536 block) told (c.in_err-write_part.ensures.damaged told block bad (record node { bytes = has.bytes }) has.puts.there kind begun most))
