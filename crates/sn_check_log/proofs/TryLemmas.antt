@@ -1,8 +1,7 @@
 -- What look-ups that failed make of a check.
-use Rattle.std.proofs.Common.{◌≡◌, inl, inr, ℕ, ◌+◌, Bool, IsTrue, true, false, Option, Some, None, List, Err, MatchBool, refl, sym, ap, subst, ◌∙◌, arith}
-use Rattle.sn_block.proofs.CountLemmas.{later-same}
+use Rattle.std.proofs.Common.{◌≡◌, inl, inr, ℕ, Bool, IsTrue, Option, Some, None, List, Err, refl, sym, ap, subst, ◌∙◌}
 use Rattle.sn_block.specs.declared.fault.ReadFault.TheVariants.{Device, Memory}
-use Rattle.sn_device.specs.Status.{has_ended, one_failure}
+use Rattle.sn_device.specs.Status.{has_ended}
 use Rattle.sn_device.specs.declared.status.Status.{Status}
 use Rattle.sn_changed.specs.Changed.{HasChanged}
 use Rattle.sn_device.specs.Sectors.{Contents}
@@ -17,29 +16,13 @@ use Rattle.sn_model.specs.declared.mount.MountFault.{MountFault}
 use Rattle.sn_model.specs.declared.mount.MountFault.TheVariants as fault
 use Rattle.sn_overlay.specs.Layers.{Layer, through}
 use Rattle.sn_overlay.specs.Overlays.{no_changes}
-use Rattle.sn_examine.specs.Failing.{HasFailed, IsSoOf, WritesNothing}
+use Rattle.sn_examine.proofs.TreeLemmas.{fails_only, has_failed, idle}
+use Rattle.sn_examine.specs.Failing.{IsSoOf, WritesNothing}
+use Rattle.sn_examine.specs.Loading.{fault_of_tree}
 use Rattle.sn_examine.specs.Rooms.{IsNoDamage}
 use Rattle.sn_rooted_tree.specs.Looks.{Stands}
 use Rattle.sn_tree_read.specs.declared.fault.TreeFault.{TreeFault}
 use Rattle.sn_tree_read.specs.declared.fault.TreeFault.TheVariants.{Read, Damaged}
-use Rattle.sn_check_log.specs.Trying.{fault_of_tree}
-
-idle : (old new : Status) → new ≡ old → WritesNothing old new
-idle old new same = record { later = later-same old new same; writes = ap (λ (s : Status). s.writes) same; syncs = ap (λ (s : Status). s.syncs) same }
-
-fails_only : (b : Bool) (old new : Status) → MatchBool b (new ≡ old) (new ≡ one_failure old) → WritesNothing old new
-fails_only true old new same = idle old new same
-fails_only false old new more = record {
-  later = record {
-    sectors = ap (λ (s : Status). s.sectors) more;
-    failures = (let rose : new.failures ≡ old.failures + 1 = ap (λ (s : Status). s.failures) more in omega (arith, rose));
-    writes = (let same : new.writes ≡ old.writes = ap (λ (s : Status). s.writes) more in omega (arith, same));
-    syncs = (let same : new.syncs ≡ old.syncs = ap (λ (s : Status). s.syncs) more in omega (arith, same));
-    spent = λ is. ap (λ (s : Status). s.is_spent) more ∙ is;
-  };
-  writes = ap (λ (s : Status). s.writes) more;
-  syncs = ap (λ (s : Status). s.syncs) more;
-}
 
 -- nothing was written, whether a look-up failed or not
 pub looked_only : (told : Bool) (old new : Status) (fault : Option TreeFault) → Stands told old new None fault → WritesNothing old new
@@ -47,10 +30,6 @@ looked_only told old new None same = idle old new same
 looked_only told old new (Some (Read Device)) fails = fails_only (has_ended old) old new fails
 looked_only told old new (Some (Read Memory)) same = idle old new same
 looked_only told old new (Some (Damaged block)) fails = idle old new fails.0
-
-has_failed : (b : Bool) (old new : Status) → has_ended old ≡ b → MatchBool b (new ≡ old) (new ≡ one_failure old) → HasFailed old new
-has_failed true old new e same = inr (ap has_ended same ∙ e)
-has_failed false old new e more = inl (let rose : new.failures ≡ old.failures + 1 = ap (λ (s : Status). s.failures) more in omega (arith, rose))
 
 -- the device is told to have failed where it has
 pub look_failed : (told : Bool) (old new : Status) (fault : TreeFault) (body : ℕ) → Stands told old new None (Some fault) → IsSoOf (fault_of_tree fault body) old new

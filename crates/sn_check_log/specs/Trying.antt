@@ -4,22 +4,12 @@ use Rattle.sn_device.specs.Sectors.{Contents}
 use Rattle.sn_directories.specs.Told.{IsShown}
 use Rattle.sn_directories.specs.declared.table.Counted.{Counted}
 use Rattle.sn_examine.specs.Both.{HasBoth, ReplaysBoth}
-use Rattle.sn_examine.specs.Failing.{read_fault}
 use Rattle.sn_examine.specs.Replaying.{Breaks, HasAll}
 use Rattle.sn_examine.specs.declared.replaying.Replayed.{Replayed}
 use Rattle.sn_model.specs.Tree.{Tree}
-use Rattle.sn_model.specs.declared.mount.Damage.TheVariants.{Misspelt}
 use Rattle.sn_model.specs.declared.mount.MountFault.{MountFault}
-use Rattle.sn_model.specs.declared.mount.MountFault.TheVariants as fault
 use Rattle.sn_overlay.specs.Layers.{Layer, through}
 use Rattle.sn_overlay.specs.Overlays.{layer_of, no_changes}
-use Rattle.sn_tree_read.specs.declared.fault.TreeFault.{TreeFault}
-use Rattle.sn_tree_read.specs.declared.fault.TreeFault.TheVariants.{Read, Damaged}
-
--- what a failed look-up makes of a check
-abbrev pub fault_of_tree : TreeFault → ℕ → MountFault
-fault_of_tree (Read f) body = read_fault f
-fault_of_tree (Damaged block) body = fault.Damaged Misspelt body
 
 -- A table, once it was counted, tells the directories that are seen through a layer; before that nothing has changed.
 abbrev pub IsSeen : Layer → Tree → Option (List Counted) → Type 0

@@ -11,14 +11,12 @@ use crate::CheckedRoot;
 use sn_block::Blocks;
 use sn_device::Device;
 use sn_directories::Directories;
-use sn_examine::fault_of;
-use sn_model::{Damage, MountFault};
+use sn_examine::fault_of_tree;
+use sn_model::MountFault;
 use sn_rooted_tree::{directories_of, nameless_of};
-use sn_tree_read::TreeFault;
 use std::alloc::Global;
 
-/// The table of the directories of a sound root's tree. A tree that was checked and is misspelt now is one of a device that
-/// gives other bytes than before.
+/// The table of the directories of a sound root's tree.
 pub(crate) fn count_directories<D: Device>(
     alloc: Global,
     blocks: &mut Blocks<D>,
@@ -34,11 +32,7 @@ pub(crate) fn count_directories<D: Device>(
 {
     match directories_of(alloc, blocks, &it.root.limits, &it.root.inode_file) {
         Ok(directories) => Ok(directories),
-        Err(TreeFault::Read(fault)) => Err(fault_of(fault)),
-        Err(TreeFault::Damaged { .. }) => Err(MountFault::Damaged {
-            damage: Damage::Misspelt,
-            block: it.body,
-        }),
+        Err(fault) => Err(fault_of_tree(fault, it.body)),
     }
 }
 
@@ -57,10 +51,6 @@ pub fn count_nameless<D: Device>(
 {
     match nameless_of(blocks, &it.root.limits, &it.root.inode_file) {
         Ok(count) => Ok(count),
-        Err(TreeFault::Read(fault)) => Err(fault_of(fault)),
-        Err(TreeFault::Damaged { .. }) => Err(MountFault::Damaged {
-            damage: Damage::Misspelt,
-            block: it.body,
-        }),
+        Err(fault) => Err(fault_of_tree(fault, it.body)),
     }
 }

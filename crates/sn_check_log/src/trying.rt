@@ -1,7 +1,7 @@
 //! One change, tried over what is seen.
 ghost use Rattle.std.specs.Prelude.{◌≡◌, ◌≤◌, ◌^◌, IsTrue, IfErr, IfOk, IfSome, OnOk};
 ghost use Rattle.sn_block.specs.Lending.{device_of};
-ghost use Rattle.sn_check_log.specs.Trying.{IsSeen, fault_of_tree};
+ghost use Rattle.sn_check_log.specs.Trying.{IsSeen};
 ghost use Rattle.sn_directories.specs.Told.{IsShown};
 ghost use Rattle.sn_examine.specs.Failing.{FailsAs, WritesNothing};
 ghost use Rattle.sn_examine.specs.Rooms.{IsNoDamage};
@@ -15,36 +15,22 @@ use sn_block::Blocks;
 use sn_changed::changed_laws;
 use sn_device::Device;
 use sn_directories::Directories;
-use sn_examine::fault_of;
+use sn_examine::fault_of_tree;
 use sn_layout::{Geometry, RootBody};
 use sn_logged::lay_change;
-use sn_model::{Change, Damage, MountFault};
+use sn_model::{Change, MountFault};
 use sn_overlay::Overlay;
 use sn_rooted_tree::RootedTree;
-use sn_tree_read::TreeFault;
 use std::alloc::Global;
 
 /// A root that was checked, on a disk of so many blocks.
 #[derive(Clone, Copy)]
 pub struct CheckedRoot<'a> {
     pub root: &'a RootBody,
-    /// The block of the root body. A tree that was checked and is misspelt now is told of it.
+    /// The block of the root body. A tree that was checked and is misspelt now, as of a device that gives other bytes than
+    /// before, is told of the block that can't be read, and of this one where there is none.
     pub body: u32,
     pub geometry: Geometry,
-}
-
-// What a failed look-up makes of a check. A tree that was checked and is misspelt now is one of a device that gives other
-// bytes than before, which is told of the block of the root body.
-fn fault_of_tree(fault: TreeFault, body: u32) -> MountFault
-    ensures { result ≡ fault_of_tree fault body }
-{
-    match fault {
-        TreeFault::Read(fault) => fault_of(fault),
-        TreeFault::Damaged { .. } => MountFault::Damaged {
-            damage: Damage::Misspelt,
-            block: body,
-        },
-    }
 }
 
 // Lays a change over what is seen of a root's tree, where it can be applied, and answers what it is charged. `None` where it

@@ -48,7 +48,8 @@ use Rattle.sn_examine.specs.Replaying.{LeadsOn}
 use Rattle.sn_examine.specs.Rooms.{FindsRoom, IsUncovered}
 use Rattle.sn_examine.specs.Both.{BreaksBoth, HasBoth, Replays, ReplaysBoth, in_newer, in_older}
 use Rattle.sn_examine.specs.Examining.{SomeIsLater}
-use Rattle.sn_examine.specs.Finding.{HasFound, HasRoot, IsOfTree, IsUnsound}
+use Rattle.sn_examine.specs.Finding.{HasFound, HasRoot}
+use Rattle.sn_examine.specs.Loading.{IsOfTree, IsToldAt, IsToldOf, IsUnsound}
 use Rattle.sn_examine.specs.Refusing.{HasLogFault, IsNoImage, Refuses, TellsFree}
 
 -- ---- the same root
@@ -258,12 +259,18 @@ module _ (sectors : ℕ) (c : Contents) (n : ℕ) (slot : Slot) (root : RootBody
       let own = subst (λ (r : RootBody). IsSound r.limits n (store_of c) r.inode_file) same.roots sized in
       subst (λ (l : Limits). IsSound l n (store_of c) root.inode_file) (sym (only_version root.limits newest.body.fits.version)) own
 
+  -- the block that a tree is told of
+  told_there : (block body : ℕ) → body ≡ start_of n (Body slot) → version_1 ≡ root.limits → IsToldAt version_1 sectors (store_of c) root.inode_file body block → IsToldAt root.limits sectors (store_of c) root.inode_file (start_of n (Body slot)) block
+  told_there block body at version is =
+      subst (λ (l : Limits). IsToldAt l sectors (store_of c) root.inode_file (start_of n (Body slot)) block) version
+      (subst (λ (b : ℕ). IsToldAt version_1 sectors (store_of c) root.inode_file b block) at is)
+
   -- a tree that can't be read
-  pub tree_refuses : (f : MountFault) (body : ℕ) → body ≡ start_of n (Body slot) → IsFormatted sectors c n → IsNewest c slot root → IsOfTree body f → IsUnsound sectors c root.inode_file f → Refuses f sectors c
-  tree_refuses (fault.Damaged damage block) body at formatted newest is unsound =
+  pub tree_refuses : (f : MountFault) (body : ℕ) → body ≡ start_of n (Body slot) → IsFormatted sectors c n → IsNewest c slot root → IsOfTree f → IsToldOf body sectors c root.inode_file f → IsUnsound sectors c root.inode_file f → Refuses f sectors c
+  tree_refuses (fault.Damaged damage block) body at formatted newest is told unsound =
       let bad = unsound n formatted.room in
       let limits_is = only_version root.limits newest.body.fits.version in
-      subst (λ (d : Damage). Refuses (fault.Damaged d block) sectors c) (sym is.0) (
+      subst (λ (d : Damage). Refuses (fault.Damaged d block) sectors c) (sym is) (
         (n, formatted),
         (
           λ w im. bad (image_sound formatted newest w im),
@@ -274,15 +281,15 @@ module _ (sectors : ℕ) (c : Contents) (n : ℕ) (slot : Slot) (root : RootBody
             root = root;
             newest = newest;
             unsound = λ sound. bad (subst (λ (l : Limits). IsSound l n (store_of c) root.inode_file) (sym limits_is) sound);
-            is = is.1 ∙ at;
+            is = told_there block body at limits_is told;
           },
         ),
       )
-  tree_refuses fault.NotFormatted body at formatted newest is unsound = absurd is
-  tree_refuses fault.Version body at formatted newest is unsound = absurd is
-  tree_refuses fault.NoRoot body at formatted newest is unsound = absurd is
-  tree_refuses fault.Memory body at formatted newest is unsound = tt
-  tree_refuses fault.Device body at formatted newest is unsound = tt
+  tree_refuses fault.NotFormatted body at formatted newest is told unsound = absurd is
+  tree_refuses fault.Version body at formatted newest is told unsound = absurd is
+  tree_refuses fault.NoRoot body at formatted newest is told unsound = absurd is
+  tree_refuses fault.Memory body at formatted newest is told unsound = tt
+  tree_refuses fault.Device body at formatted newest is told unsound = tt
 
   -- a damage of the log
   log_refuses : (damage : Damage) (block : ℕ) → damage ≡ Log → IsNoImage c → HasLogFault sectors c block → Refuses (fault.Damaged damage block) sectors c

@@ -4,3 +4,4 @@ pub mod BothLemmas
 pub mod FindLemmas
 pub mod RoomLemmas
 pub mod ImageLemmas
+pub mod TreeLemmas

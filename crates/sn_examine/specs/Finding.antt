@@ -1,14 +1,10 @@
 -- What a mount reads of a disk.
-use Rattle.std.specs.Prelude.{◌≡◌, ℕ, ◌+◌, ◌*◌, ◌≤◌, Bool, true, List, ◌++◌}
+use Rattle.std.specs.Prelude.{◌≡◌, ℕ, ◌+◌, Bool, true, List, ◌++◌}
 use Rattle.sn_changed.specs.Changed.{HasChanged}
 use Rattle.sn_device.specs.Sectors.{Contents}
 use Rattle.sn_layout.specs.declared.geometry.Slot.{Slot}
 use Rattle.sn_layout.specs.declared.root.RootBody.{RootBody}
-use Rattle.sn_layout.specs.declared.tree.BlockTree.{BlockTree}
 use Rattle.sn_limits.specs.Versions.{version_1}
-use Rattle.sn_model.specs.declared.mount.Damage.TheVariants.{Misspelt}
-use Rattle.sn_model.specs.declared.mount.MountFault.{MountFault}
-use Rattle.sn_model.specs.declared.mount.MountFault.TheVariants as fault
 use Rattle.sn_model.specs.Steps.{with_live}
 use Rattle.sn_model.specs.World.{World, new_world}
 use Rattle.sn_ondisk.specs.LogHalf.{HasNoLater, base_of}
@@ -17,7 +13,6 @@ use Rattle.sn_ondisk.specs.Roots.{IsNewest}
 use Rattle.sn_ondisk.specs.Trees.{store_of}
 use Rattle.sn_log.specs.Positions.{LogPosition}
 use Rattle.sn_image.specs.Image.{image}
-use Rattle.sn_image.specs.Sound.{IsSound}
 use Rattle.sn_sound.specs.Disks.{IsFormatted}
 use Rattle.sn_overlay.specs.Needs.{nameless_in}
 use Rattle.sn_room.specs.Rooms.{RoomCounts}
@@ -32,24 +27,6 @@ pub record HasRoot (sectors : ℕ) (c : Contents) (n : ℕ) (slot : Slot) (root 
   pub formatted : IsFormatted sectors c n
   pub newest : IsNewest c slot root
   pub none_later : (epoch : ℕ) → HasNoLater c (base_of n epoch) (root.epoch + 1)
-
--- A tree couldn't be read: it is misspelt, which is told of this block, or memory was refused, or the device failed.
-abbrev pub IsOfTree : ℕ → MountFault → Type 0
-IsOfTree body (fault.Damaged damage block) = (damage ≡ Misspelt) × (block ≡ body)
-IsOfTree body fault.NotFormatted = ⊥
-IsOfTree body fault.Version = ⊥
-IsOfTree body fault.NoRoot = ⊥
-IsOfTree body fault.Memory = Unit {0}
-IsOfTree body fault.Device = Unit {0}
-
--- It is misspelt only where it is sound on no disk that the device has room for.
-abbrev pub IsUnsound : ℕ → Contents → BlockTree → MountFault → Type 0
-IsUnsound sectors c file (fault.Damaged damage block) = (n : ℕ) → 8 * n ≤ sectors → IsSound version_1 n (store_of c) file → ⊥
-IsUnsound sectors c file fault.NotFormatted = Unit {0}
-IsUnsound sectors c file fault.Version = Unit {0}
-IsUnsound sectors c file fault.NoRoot = Unit {0}
-IsUnsound sectors c file fault.Memory = Unit {0}
-IsUnsound sectors c file fault.Device = Unit {0}
 
 -- The tree of the newest root, with the records of both epochs on top of it, is the live tree of a world without sessions; the log goes on at this position, what is charged for the records is no more than is free, and where something is to recover an age is left. What is kept is that root with the words of its map, and what the records changed.
 pub record HasFound (sectors : ℕ) (c : Contents) (k : Kept) (at : LogPosition) (world : World) (room : RoomCounts) (recovers : Bool) : Type 0 where

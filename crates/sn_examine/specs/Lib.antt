@@ -1,4 +1,5 @@
 pub mod Failing
+pub mod Loading
 pub mod Examining
 pub mod Refusing
 pub mod Replaying

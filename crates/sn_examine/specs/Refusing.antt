@@ -19,6 +19,7 @@ use Rattle.sn_sound.specs.Logs.{IsLogFault}
 use Rattle.sn_sound.specs.Maps.{IsSoundRoot, free_blocks}
 use Rattle.sn_sound.specs.Verdicts.{HasNoVerdict, IsRootFault, IsSomeSize}
 use Rattle.sn_held.specs.Images.{IsImage}
+use Rattle.sn_examine.specs.Loading.{IsToldAt}
 
 -- the contents are an image of no world
 abbrev pub IsNoImage : Contents → Type 0
@@ -39,7 +40,7 @@ pub record HasLogFault (sectors : ℕ) (c : Contents) (block : ℕ) : Type 0 whe
   pub told : TellsFree blocks c slot root free
   pub is : IsLogFault blocks c root free block
 
--- The tree of the newest root is unsound, which is told of the block of the root's body.
+-- The tree of the newest root is unsound, which is told of the block of what can't be read of it, or else of that of the root's body.
 pub record HasUnsoundTree (sectors : ℕ) (c : Contents) (block : ℕ) : Type 0 where
   pub blocks : ℕ
   pub formatted : IsFormatted sectors c blocks
@@ -47,7 +48,7 @@ pub record HasUnsoundTree (sectors : ℕ) (c : Contents) (block : ℕ) : Type 0 
   pub root : RootBody
   pub newest : IsNewest c slot root
   pub unsound : IsSound root.limits blocks (store_of c) root.inode_file → ⊥
-  pub is : block ≡ start_of blocks (Body slot)
+  pub is : IsToldAt root.limits sectors (store_of c) root.inode_file (start_of blocks (Body slot)) block
 
 -- The map beside the newest root isn't that of a root that is sound with its snapshots, which is told of its first block.
 pub record HasUnsoundMap (sectors : ℕ) (c : Contents) (block : ℕ) : Type 0 where

@@ -1,11 +1,13 @@
-//! What a failed read, and slots without a newest root, make of a mount.
+//! What a failed read, a tree that can't be read, and slots without a newest root make of a mount.
 ghost use Rattle.std.specs.Prelude.{◌≡◌};
 ghost use Rattle.sn_examine.specs.Examining.{root_fault};
 ghost use Rattle.sn_examine.specs.Failing.{read_fault};
+ghost use Rattle.sn_examine.specs.Loading.{fault_of_tree};
 
 use sn_block::ReadFault;
 use sn_model::{Damage, MountFault};
 use sn_root::RootFault;
+use sn_tree_read::TreeFault;
 
 /// What a mount answers where a block can't be read: `Device` where a sector of it failed, `Memory` where there was
 /// none to keep it. Nothing is told of the bytes.
@@ -15,6 +17,20 @@ pub fn fault_of(fault: ReadFault) -> MountFault
     match fault {
         ReadFault::Device => MountFault::Device,
         ReadFault::Memory => MountFault::Memory,
+    }
+}
+
+/// What a mount answers where a tree can't be read. What can't be read of it is misspelt, which is told of its block, and
+/// where the fault has none, of that of the root's body.
+pub fn fault_of_tree(fault: TreeFault, body: u32) -> MountFault
+    ensures { result ≡ fault_of_tree fault body }
+{
+    match fault {
+        TreeFault::Read(fault) => fault_of(fault),
+        TreeFault::Damaged { block } => MountFault::Damaged {
+            damage: Damage::Misspelt,
+            block: block.unwrap_or(body),
+        },
     }
 }
 

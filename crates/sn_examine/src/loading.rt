@@ -11,21 +11,20 @@ ghost use Rattle.sn_model.specs.Steps.{with_live};
 ghost use Rattle.sn_model.specs.World.{new_world};
 ghost use Rattle.sn_ondisk.specs.Trees.{store_of};
 ghost use Rattle.sn_examine.specs.Failing.{FailsAs, WritesNothing};
-ghost use Rattle.sn_examine.specs.Finding.{IsOfTree, IsUnsound};
+ghost use Rattle.sn_examine.specs.Loading.{IsOfTree, IsToldOf, IsUnsound};
 
-use crate::fault::fault_of;
+use crate::fault::fault_of_tree;
 use sn_block::Blocks;
 use sn_core::PlainWorld;
 use sn_device::Device;
 use sn_layout::RootBody;
 use sn_limits::Limits;
 use sn_load::load;
-use sn_model::{Damage, MountFault};
-use sn_tree_read::TreeFault;
+use sn_model::MountFault;
 use std::alloc::Global;
 
-/// A world over the live tree of a root, in which nobody is logged in. What can't be read of it is told of the block of
-/// its body, and only where the tree is unsound.
+/// A world over the live tree of a root, in which nobody is logged in. What can't be read of it is told of its block, and
+/// where it has none, of `body`, the block of the root's body; and only where the tree is unsound.
 pub fn load_world<D: Device>(
     alloc: Global,
     blocks: &mut Blocks<D>,
@@ -37,7 +36,8 @@ pub fn load_world<D: Device>(
     ensures world { IfOk result (λ w. world_of w ≡ with_live new_world (world_of w).live) }
     ensures whole { IfOk result (λ w. IsTree version_1 (world_of w).live) }
     ensures kept { IfOk result (λ w. (number : ℕ) → kept_of w number ≡ false) }
-    ensures fault { IfErr result (IsOfTree body) }
+    ensures fault { IfErr result IsOfTree }
+    ensures told { IsTrue D.tells_bytes → IfErr result (IsToldOf body (D.status (device_of blocks.old)).sectors (reads (D.disk (device_of blocks.old))) root.now.inode_file) }
     ensures unsound { IsTrue D.tells_bytes → IfErr result (IsUnsound (D.status (device_of blocks.old)).sectors (reads (D.disk (device_of blocks.old))) root.now.inode_file) }
     ensures same { IsTrue D.tells_bytes → D.disk (device_of blocks.new) ≡ D.disk (device_of blocks.old) }
     ensures idle { OnOk result (D.status (device_of blocks.new) ≡ D.status (device_of blocks.old)) }
@@ -46,13 +46,7 @@ pub fn load_world<D: Device>(
 {
     let tree = match load(alloc, blocks, &Limits::VERSION_1, &root.inode_file) {
         Ok(tree) => tree,
-        Err(TreeFault::Read(fault)) => return Err(fault_of(fault)),
-        Err(TreeFault::Damaged { .. }) => {
-            return Err(MountFault::Damaged {
-                damage: Damage::Misspelt,
-                block: body,
-            });
-        }
+        Err(fault) => return Err(fault_of_tree(fault, body)),
     };
     match PlainWorld::over(alloc, tree) {
         Ok(world) => Ok(world),

@@ -6,7 +6,7 @@ use Rattle.sn_image.specs.Image.{image}
 use Rattle.sn_ondisk.specs.Trees.{store_of}
 use Rattle.sn_model.specs.Tree.{Tree}
 use Rattle.sn_device.specs.declared.status.Status.{Status}
-use Rattle.sn_examine.specs.Finding.{IsUnsound}
+use Rattle.sn_examine.specs.Loading.{IsToldOf, IsUnsound}
 use Rattle.sn_overlay.specs.Needs.{nameless_in}
 use Rattle.sn_overlay.specs.Overlays.{layer_of, no_changes}
 use Rattle.sn_ondisk.specs.MapCopy.{HasMap}
@@ -28,7 +28,9 @@ returns-in-Err-load_world-clause-refuses g c told =
     let body = c.range-body.result.start in
     let sized = subst (λ (s : Status). IsUnsound s.sectors (reads (g.D.Device.disk (device_of c.find_root.new.blocks))) found.root.inode_file f) c.in-Ok.ensures.idle (c.in-Err-load_world.ensures.unsound told) in
     let unsound = subst (λ (d : Disk). IsUnsound (g.D.Device.status device).sectors (reads d) found.root.inode_file f) (c.in-Ok.ensures.same told) sized in
-    tree_refuses (g.D.Device.status device).sectors (reads (g.D.Device.disk device)) found.geometry found.slot found.root (g.met.D.Device.count device told) f body c.range-body.ensures.start has.formatted has.newest c.in-Err-load_world.ensures.fault unsound
+    let block = subst (λ (s : Status). IsToldOf body s.sectors (reads (g.D.Device.disk (device_of c.find_root.new.blocks))) found.root.inode_file f) c.in-Ok.ensures.idle (c.in-Err-load_world.ensures.told told) in
+    let there = subst (λ (d : Disk). IsToldOf body (g.D.Device.status device).sectors (reads d) found.root.inode_file f) (c.in-Ok.ensures.same told) block in
+    tree_refuses (g.D.Device.status device).sectors (reads (g.D.Device.disk device)) found.geometry found.slot found.root (g.met.D.Device.count device told) f body c.range-body.ensures.start has.formatted has.newest c.in-Err-load_world.ensures.fault there unsound
 
 pub returns-in-Err-replay_both-clause-refuses : goal.returns-in-Err-replay_both-clause-refuses
 returns-in-Err-replay_both-clause-refuses g c told =
