@@ -1,7 +1,7 @@
 //! A tree below an overlay that is asked by names which are lent.
 
 use sn_model::Link;
-use sn_overlay::Below;
+use sn_overlay::{Below, Through};
 
 /// A tree below an overlay that keeps a name, so that layers can be asked for it.
 pub trait KeepsNames: Below {
@@ -16,4 +16,10 @@ pub trait KeepsNames: Below {
         ensures same { IsTrue Self.is_told → Self.shows self.new ≡ Self.shows self.old }
         ensures link { IfOk result (λ link. link ≡ link_to directory name.now) }
         ensures cause { IfErr result (λ f. Self.causes self.old self.new f) };
+}
+
+impl<'a, B: KeepsNames> KeepsNames for Through<'a, B> {
+    fn keep_name(&mut self, directory: u16, name: &[u8]) -> Result<Link, B::Fault> {
+        self.below.keep_name(directory, name)
+    }
 }

@@ -1,5 +1,5 @@
 //! The table of directories.
-ghost use Rattle.std.specs.Prelude.{◌≡◌, ◌<◌, ℕ, List, length, replicate, vec_len, None, Some, IfOk};
+ghost use Rattle.std.specs.Prelude.{◌≡◌, ◌<◌, ℕ, List, replicate, vec_len, None, Some, IfOk};
 ghost use Rattle.std.specs.FinMap as fin;
 ghost use Rattle.sn_limits.specs.declared.kind.Kind.TheVariants.{Directory};
 ghost use Rattle.sn_limits.specs.Versions.{version_1};
@@ -60,13 +60,6 @@ impl Directories {
         Ok(Directories {
             rows: Vec::from_elem(alloc, Counted::NONE, NUMBERS)?,
         })
-    }
-
-    /// It has a row for each number.
-    pub fn size_law(&self)
-        ensures { length self.now ≡ 65536 }
-    {
-        let _count = self.rows.len();
     }
 
     // What is known of a number.
