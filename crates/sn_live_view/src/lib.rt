@@ -15,8 +15,7 @@
 //! What the sources leave open is decided in `docs/DECISIONS.md`, under "Reading a root on demand".
 //!
 //! ```text
-//! let mut shown = LoggedTree { shown: Through { overlay: &changed, below: &mut root }, directories: &directories };
-//! let mut view = LiveView { tree: &mut shown, numbers: &numbers };
+//! let mut view = LiveView { tree, numbers };
 //! let outcome = mkdir(&limits, &mut view, &caller, &path, mode)?;
 //! ```
 #![tactic(auto)]

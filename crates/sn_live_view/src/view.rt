@@ -11,10 +11,10 @@ use sn_number_table::NumberTable;
 use sn_walk::{Attributes, Failure, Home, TreeView};
 
 /// The live tree as walks and decisions see it, with the table of its numbers; there are no snapshots yet. What
-/// a look-up reads, and how it can fail, is the tree's.
+/// a look-up reads, and how it can fail, is the tree's. It is made by a function that is lent the tree.
 ///
 /// ```text
-/// let mut view = LiveView { tree: &mut shown, numbers: &numbers };
+/// let mut view = LiveView { tree, numbers };
 /// ```
 #[derive(Drop)]
 pub struct LiveView<'a, T> {
