@@ -16,7 +16,7 @@ use Rattle.sn_model.specs.declared.mount.MountFault.{MountFault}
 use Rattle.sn_model.specs.declared.mount.MountFault.TheVariants as fault
 use Rattle.sn_overlay.specs.Layers.{Layer, through}
 use Rattle.sn_overlay.specs.Overlays.{no_changes}
-use Rattle.sn_examine.proofs.TreeLemmas.{fails_only, has_failed, idle}
+use Rattle.sn_examine.proofs.ReplayLemmas.{failed_read, fails_reading, idle}
 use Rattle.sn_examine.specs.Failing.{IsSoOf, WritesNothing}
 use Rattle.sn_examine.specs.Loading.{fault_of_tree}
 use Rattle.sn_examine.specs.Rooms.{IsNoDamage}
@@ -27,13 +27,13 @@ use Rattle.sn_tree_read.specs.declared.fault.TreeFault.TheVariants.{Read, Damage
 -- nothing was written, whether a look-up failed or not
 pub looked_only : (told : Bool) (old new : Status) (fault : Option TreeFault) → Stands told old new None fault → WritesNothing old new
 looked_only told old new None same = idle old new same
-looked_only told old new (Some (Read Device)) fails = fails_only (has_ended old) old new fails
+looked_only told old new (Some (Read Device)) fails = fails_reading (has_ended old) old new fails
 looked_only told old new (Some (Read Memory)) same = idle old new same
 looked_only told old new (Some (Damaged block)) fails = idle old new fails.0
 
 -- the device is told to have failed where it has
 pub look_failed : (told : Bool) (old new : Status) (fault : TreeFault) (body : ℕ) → Stands told old new None (Some fault) → IsSoOf (fault_of_tree fault body) old new
-look_failed told old new (Read Device) body fails = has_failed (has_ended old) old new refl fails
+look_failed told old new (Read Device) body fails = failed_read (has_ended old) old new refl fails
 look_failed told old new (Read Memory) body same = ap (λ (s : Status). s.failures) same
 look_failed told old new (Damaged block) body fails = ap (λ (s : Status). s.failures) fails.0
 

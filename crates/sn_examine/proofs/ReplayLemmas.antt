@@ -3,8 +3,8 @@ use Rattle.std.proofs.Common.{◌≡◌, inl, inr, ℕ, ◌+◌, ◌/◌, Bool, 
 use Rattle.sn_device.specs.Sectors.{Contents}
 use Rattle.sn_device.specs.declared.status.Status.{Status}
 use Rattle.sn_device.specs.Status.{has_ended}
-use Rattle.sn_block.proofs.CountLemmas.{later-read}
-use Rattle.sn_block.specs.Counts.{CountsRead, IsLater}
+use Rattle.sn_block.proofs.CountLemmas.{later-same}
+use Rattle.sn_block.specs.Counts.{CountsRead}
 use Rattle.sn_block.specs.declared.fault.ReadFault.{ReadFault}
 use Rattle.sn_block.specs.declared.fault.ReadFault.TheVariants as read
 use Rattle.sn_limits.specs.Versions.{version_1}
@@ -95,7 +95,7 @@ changes_lead merges layer next tree after charges charge change whole e is charg
 
 -- ---- reads
 
-failed_read : (b : Bool) (old new : Status) → has_ended old ≡ b → MatchBool b (new ≡ old) (new ≡ record old { failures = old.failures + 1 }) → HasFailed old new
+pub failed_read : (b : Bool) (old new : Status) → has_ended old ≡ b → MatchBool b (new ≡ old) (new ≡ record old { failures = old.failures + 1 }) → HasFailed old new
 failed_read true old new e same = inr (ap has_ended same ∙ e)
 failed_read false old new e more = inl (let rose : new.failures ≡ old.failures + 1 = ap (λ (s : Status). s.failures) more in omega (arith, rose))
 
@@ -103,15 +103,25 @@ pub read_failed : {T : Type 0} (result : Result T ReadFault) (f : ReadFault) (ol
 read_failed result read.Device old new counts e = failed_read (has_ended old) old new refl (counts.device e)
 read_failed result read.Memory old new counts e = ap (λ (s : Status). s.failures) (counts.memory e)
 
-idle : (old new : Status) → IsLater old new → new ≡ old → WritesNothing old new
-idle old new later same = record { later = later; writes = ap (λ (s : Status). s.writes) same; syncs = ap (λ (s : Status). s.syncs) same }
+pub idle : (old new : Status) → new ≡ old → WritesNothing old new
+idle old new same = record { later = later-same old new same; writes = ap (λ (s : Status). s.writes) same; syncs = ap (λ (s : Status). s.syncs) same }
 
-fails_reading : (b : Bool) (old new : Status) → IsLater old new → MatchBool b (new ≡ old) (new ≡ record old { failures = old.failures + 1 }) → WritesNothing old new
-fails_reading true old new later same = idle old new later same
-fails_reading false old new later more = record { later = later; writes = ap (λ (s : Status). s.writes) more; syncs = ap (λ (s : Status). s.syncs) more }
+pub fails_reading : (b : Bool) (old new : Status) → MatchBool b (new ≡ old) (new ≡ record old { failures = old.failures + 1 }) → WritesNothing old new
+fails_reading true old new same = idle old new same
+fails_reading false old new more = record {
+  later = record {
+    sectors = ap (λ (s : Status). s.sectors) more;
+    failures = (let rose : new.failures ≡ old.failures + 1 = ap (λ (s : Status). s.failures) more in omega (arith, rose));
+    writes = (let same : new.writes ≡ old.writes = ap (λ (s : Status). s.writes) more in omega (arith, same));
+    syncs = (let same : new.syncs ≡ old.syncs = ap (λ (s : Status). s.syncs) more in omega (arith, same));
+    spent = λ is. ap (λ (s : Status). s.is_spent) more ∙ is;
+  };
+  writes = ap (λ (s : Status). s.writes) more;
+  syncs = ap (λ (s : Status). s.syncs) more;
+}
 
 -- a read writes nothing
 pub reads_only : {T : Type 0} (result : Result T ReadFault) (old new : Status) → CountsRead result old new → WritesNothing old new
-reads_only (Ok x) old new counts = idle old new (later-read (Ok x) old new counts) counts.done
-reads_only (Err read.Device) old new counts = fails_reading (has_ended old) old new (later-read (Err read.Device) old new counts) (counts.device refl)
-reads_only (Err read.Memory) old new counts = idle old new (later-read (Err read.Memory) old new counts) (counts.memory refl)
+reads_only (Ok x) old new counts = idle old new counts.done
+reads_only (Err read.Device) old new counts = fails_reading (has_ended old) old new (counts.device refl)
+reads_only (Err read.Memory) old new counts = idle old new (counts.memory refl)

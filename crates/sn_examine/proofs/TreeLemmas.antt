@@ -1,9 +1,8 @@
 -- What a mount makes of a tree that can't be read.
-use Rattle.std.proofs.Common.{◌≡◌, inl, inr, ℕ, ◌+◌, ◌*◌, ◌≤◌, Bool, true, false, Option, Some, None, Result, Err, MatchBool, refl, ap, ◌∙◌, arith}
-use Rattle.sn_block.proofs.CountLemmas.{later-same}
+use Rattle.std.proofs.Common.{◌≡◌, inl, inr, ℕ, ◌*◌, ◌≤◌, Option, Some, None, Result, Err, refl, ap}
 use Rattle.sn_block.specs.declared.fault.ReadFault.TheVariants.{Device, Memory}
 use Rattle.sn_device.specs.Sectors.{Contents}
-use Rattle.sn_device.specs.Status.{has_ended, one_failure}
+use Rattle.sn_device.specs.Status.{has_ended}
 use Rattle.sn_device.specs.declared.status.Status.{Status}
 use Rattle.sn_layout.specs.declared.tree.BlockTree.{BlockTree}
 use Rattle.sn_limits.specs.Versions.{version_1}
@@ -14,42 +13,22 @@ use Rattle.sn_tree_read.specs.declared.fault.TreeFault.{TreeFault}
 use Rattle.sn_tree_read.specs.declared.fault.TreeFault.TheVariants.{Read, Damaged}
 use Rattle.sn_load.specs.Sound.{DenotesTree}
 use Rattle.sn_load.specs.Unread.{IsUnreadAt}
-use Rattle.sn_examine.specs.Failing.{HasFailed, IsSoOf, WritesNothing}
+use Rattle.sn_examine.specs.Failing.{IsSoOf, WritesNothing}
 use Rattle.sn_examine.specs.Loading.{IsOfTree, IsToldOf, IsUnsound, fault_of_tree}
 use Rattle.sn_examine.specs.Rooms.{IsNoDamage}
+use Rattle.sn_examine.proofs.ReplayLemmas.{failed_read, fails_reading, idle}
 
 -- ---- the device
 
-pub idle : (old new : Status) → new ≡ old → WritesNothing old new
-idle old new same = record { later = later-same old new same; writes = ap (λ (s : Status). s.writes) same; syncs = ap (λ (s : Status). s.syncs) same }
-
-pub fails_only : (b : Bool) (old new : Status) → MatchBool b (new ≡ old) (new ≡ one_failure old) → WritesNothing old new
-fails_only true old new same = idle old new same
-fails_only false old new more = record {
-  later = record {
-    sectors = ap (λ (s : Status). s.sectors) more;
-    failures = (let rose : new.failures ≡ old.failures + 1 = ap (λ (s : Status). s.failures) more in omega (arith, rose));
-    writes = (let same : new.writes ≡ old.writes = ap (λ (s : Status). s.writes) more in omega (arith, same));
-    syncs = (let same : new.syncs ≡ old.syncs = ap (λ (s : Status). s.syncs) more in omega (arith, same));
-    spent = λ is. ap (λ (s : Status). s.is_spent) more ∙ is;
-  };
-  writes = ap (λ (s : Status). s.writes) more;
-  syncs = ap (λ (s : Status). s.syncs) more;
-}
-
-pub has_failed : (b : Bool) (old new : Status) → has_ended old ≡ b → MatchBool b (new ≡ old) (new ≡ one_failure old) → HasFailed old new
-has_failed true old new e same = inr (ap has_ended same ∙ e)
-has_failed false old new e more = inl (let rose : new.failures ≡ old.failures + 1 = ap (λ (s : Status). s.failures) more in omega (arith, rose))
-
 -- nothing was written
 pub tree_reads : {T : Type 0} (result : Result T TreeFault) (old new : Status) (fault : TreeFault) → result ≡ Err fault → CountsTree result old new → WritesNothing old new
-tree_reads result old new (Read Device) is counts = fails_only (has_ended old) old new (counts.device is)
+tree_reads result old new (Read Device) is counts = fails_reading (has_ended old) old new (counts.device is)
 tree_reads result old new (Read Memory) is counts = idle old new (counts.memory is)
 tree_reads result old new (Damaged block) is counts = idle old new (counts.damaged block is)
 
 -- the device is told to have failed where it has
 pub tree_fails : {T : Type 0} (result : Result T TreeFault) (old new : Status) (body : ℕ) (fault : TreeFault) → result ≡ Err fault → CountsTree result old new → IsSoOf (fault_of_tree fault body) old new
-tree_fails result old new body (Read Device) is counts = has_failed (has_ended old) old new refl (counts.device is)
+tree_fails result old new body (Read Device) is counts = failed_read (has_ended old) old new refl (counts.device is)
 tree_fails result old new body (Read Memory) is counts = ap (λ (s : Status). s.failures) (counts.memory is)
 tree_fails result old new body (Damaged block) is counts = ap (λ (s : Status). s.failures) (counts.damaged block is)
 
