@@ -1,0 +1,10 @@
+use Rattle.std.proofs.Common.{refl}
+use Rattle.sn_live.specs.Live.{point_of}
+use Rattle.sn_live.proofs.LiveLemmas.{committed}
+use Rattle.sn_overlay.specs.Layers.{through}
+use Rattle.sn_live.proofs.live.LiveTree.commit.Goals as goal
+
+pub returns-clause-live : goal.returns-clause-live
+returns-clause-live c below change live can =
+    let under = through (point_of c.args.self.now) below in
+    committed c.args.self.now _ below live change c.args.prepared can refl (c.commit_change.ensures.shown under change live.shown can.laid) (c.commit_change.ensures.laid under change live.shown can.laid) c.note_nodes.ensures c.nameless_after-self.ensures

@@ -1,0 +1,59 @@
+-- The state of a live tree, and what is shown of a tree below.
+use Rattle.std.specs.Prelude.{◌≡◌, ℕ, Bool, true}
+use Rattle.std.specs.FinMap as map
+use Rattle.sn_directories.specs.Told.{IsShown}
+use Rattle.sn_live.specs.declared.live.LiveTree.{LiveTree}
+use Rattle.sn_model.specs.Settling.{is_nameless}
+use Rattle.sn_model.specs.Tree.{Tree}
+use Rattle.sn_number_table.specs.Table.{TellsNumbers, kept_of, since_of}
+use Rattle.sn_overlay.specs.Layers.{Layer, through}
+use Rattle.sn_overlay.specs.Needs.{nameless_in}
+use Rattle.sn_overlay.specs.Overlays.{HasRoom, layer_of, no_changes}
+use Rattle.sn_overlay.specs.Seen.{LiesOver}
+
+-- what a consistency point in progress writes, and what changed since
+abbrev pub point_of : LiveTree → Layer
+point_of live = layer_of live.bottom
+
+abbrev pub changes_of : LiveTree → Layer
+changes_of live = layer_of live.top
+
+-- what is shown of a tree below
+abbrev pub shown_of : LiveTree → Tree → Tree
+shown_of live below = through (changes_of live) (through (point_of live) below)
+
+-- the numbers that are kept back, and those that are so since the point in progress began, or the durable root's where none is
+abbrev pub kept_back_of : LiveTree → ℕ → Bool
+kept_back_of live number = kept_of live.numbers number
+
+abbrev pub kept_since_of : LiveTree → ℕ → Bool
+kept_since_of live number = since_of live.numbers number
+
+-- no point is in progress
+abbrev pub HasNoPoint : LiveTree → Type 0
+HasNoPoint live = point_of live ≡ no_changes
+
+-- so many files can be dropped without memory being taken
+abbrev pub HasDrops : LiveTree → ℕ → Type 0
+HasDrops live drops = HasRoom live.top (record { nodes = drops; names = 0; blocks = 0 })
+
+-- The state belongs to a tree below: what the point writes lies over it, and what changed since over that. What is shown is a name tree, both tables tell it, and so many of its files have no name.
+pub record IsLive (live : LiveTree) (below : Tree) : Type 0 where
+  pub point : LiesOver (point_of live) below
+  pub shown : IsShown (changes_of live) (through (point_of live) below) live.directories
+  pub numbers : TellsNumbers (shown_of live below) live.numbers
+  pub nameless : live.nameless ≡ nameless_in (shown_of live below)
+
+-- a file that is shown has no name
+abbrev pub ShowsNameless : LiveTree → Tree → ℕ → Type 0
+ShowsNameless live below number = is_nameless (shown_of live below) number (map.get (shown_of live below).nodes number) ≡ true
+
+-- The same is shown of each tree below, and of each that the state belonged to it still belongs.
+pub record ShowsAlike (old new : LiveTree) : Type 0 where
+  pub shows : (below : Tree) → shown_of new below ≡ shown_of old below
+  pub live : (below : Tree) → IsLive old below → IsLive new below
+
+-- The numbers that are kept back are the same.
+pub record KeepsBack (old new : LiveTree) : Type 0 where
+  pub kept : (n : ℕ) → kept_back_of new n ≡ kept_back_of old n
+  pub since : (n : ℕ) → kept_since_of new n ≡ kept_since_of old n

@@ -1,0 +1,28 @@
+-- What is prepared for a change of a live tree.
+use Rattle.std.specs.Prelude.{◌≡◌, ℕ, Option, None, Some}
+use Rattle.sn_limits.specs.Versions.{version_1}
+use Rattle.sn_live.specs.Nodes.{node_moves_of}
+use Rattle.sn_live.specs.declared.live.LiveTree.{LiveTree}
+use Rattle.sn_live.specs.declared.preparing.PreparedLive.{PreparedLive}
+use Rattle.sn_logged.specs.Laid as laid
+use Rattle.sn_model.specs.declared.change.Change.{Change}
+use Rattle.sn_model.specs.Changes.{apply}
+use Rattle.sn_model.specs.Tree.{Tree}
+
+-- the blocks that are charged for it
+abbrev pub charge_of : PreparedLive → ℕ
+charge_of p = laid.charge_of p.change
+
+-- there is room for it, and for so many drops more
+abbrev pub HasRoomFor : LiveTree → PreparedLive → ℕ → Type 0
+HasRoomFor live p drops = laid.HasRoomFor live.top p.change drops
+
+-- A change can be made of a live tree: it was prepared for being laid over it, and does so to its nodes.
+pub record CanBeMade (p : PreparedLive) (live : Tree) (change : Change) : Type 0 where
+  pub laid : laid.CanBeLaid p.change live change
+  pub nodes : p.nodes ≡ node_moves_of live change
+
+-- or it can't be applied
+abbrev pub IsPrepared : Option PreparedLive → Tree → Change → Type 0
+IsPrepared None live change = apply version_1 change live ≡ None
+IsPrepared (Some p) live change = CanBeMade p live change

@@ -1,0 +1,205 @@
+//! What a change does to nodes and to files without names.
+ghost use Rattle.std.specs.Prelude.{◌≡◌, IsTrue, IfErr, IfOk};
+ghost use Rattle.std.specs.FinMap as map;
+ghost use Rattle.sn_live.specs.Nodes.{NotesNodes, linking, losing, losing_of, making, nameless_after, node_moves_of, renaming};
+ghost use Rattle.sn_model.specs.Settling.{is_nameless};
+ghost use Rattle.sn_model.specs.Tree.{link_to};
+
+use sn_applies::NamedTree;
+use sn_limits::Kind;
+use sn_model::Change;
+use sn_number_table::NumberTable;
+
+/// What a change does to nodes and to files without names.
+#[derive(Clone, Copy)]
+pub(crate) enum NodeMoves {
+    /// No node comes or goes, and no file gets its first name or loses its last one.
+    Stay,
+    /// A number gets a node. Where a file without names had it, that one goes.
+    Come { number: u16, replaces: bool },
+    /// A directory goes, and its number can be given out.
+    Go { number: u16 },
+    /// A file without names gets one.
+    Name,
+    /// A file loses its last name, and stays.
+    Unname,
+}
+
+// Whether a number is that of a file without names.
+fn is_nameless<T: NamedTree>(tree: &mut T, number: u16) -> Result<bool, T::Fault>
+    requires { T.holds tree.old }
+    ensures kept { T.holds tree.new }
+    ensures follows { T.follows tree.old tree.new }
+    ensures same { IsTrue T.is_told → T.shows tree.new ≡ T.shows tree.old }
+    ensures found { IsTrue T.is_told → IfOk result (λ b. b ≡ is_nameless (T.shows tree.old) number (map.get (T.shows tree.old).nodes number)) }
+    ensures cause { IfErr result (λ f. T.causes tree.old tree.new f) }
+{
+    match tree.node(number) {
+        Ok(Some(node)) => Ok(node.kind == Kind::File && node.links == 0),
+        Ok(None) => Ok(false),
+        Err(fault) => Err(fault),
+    }
+}
+
+// What becomes of a node of a kind, with so many links, when it loses a name.
+fn losing_of(number: u16, kind: Kind, links: u16) -> NodeMoves
+    ensures { result ≡ losing_of number kind links }
+{
+    match kind {
+        Kind::Directory => NodeMoves::Go { number },
+        Kind::File => {
+            if links == 1 {
+                return NodeMoves::Unname;
+            }
+            NodeMoves::Stay
+        }
+    }
+}
+
+// What becomes of what loses a name, if anything does.
+fn losing<T: NamedTree>(tree: &mut T, number: Option<u16>) -> Result<NodeMoves, T::Fault>
+    requires { T.holds tree.old }
+    ensures kept { T.holds tree.new }
+    ensures follows { T.follows tree.old tree.new }
+    ensures same { IsTrue T.is_told → T.shows tree.new ≡ T.shows tree.old }
+    ensures found { IsTrue T.is_told → IfOk result (λ moves. moves ≡ losing (T.shows tree.old) number) }
+    ensures cause { IfErr result (λ f. T.causes tree.old tree.new f) }
+{
+    let Some(number) = number else {
+        return Ok(NodeMoves::Stay);
+    };
+    match tree.node(number) {
+        Ok(Some(node)) => Ok(losing_of(number, node.kind, node.links)),
+        Ok(None) => Ok(NodeMoves::Stay),
+        Err(fault) => Err(fault),
+    }
+}
+
+// What a remove does.
+fn removing<T: NamedTree>(tree: &mut T, directory: u16, name: &[u8]) -> Result<NodeMoves, T::Fault>
+    requires { T.holds tree.old }
+    ensures kept { T.holds tree.new }
+    ensures follows { T.follows tree.old tree.new }
+    ensures same { IsTrue T.is_told → T.shows tree.new ≡ T.shows tree.old }
+    ensures found { IsTrue T.is_told → IfOk result (λ moves. moves ≡ losing (T.shows tree.old) (map.get (T.shows tree.old).links (link_to directory name.now))) }
+    ensures cause { IfErr result (λ f. T.causes tree.old tree.new f) }
+{
+    let number = tree.number(directory, name)?;
+    losing(tree, number)
+}
+
+// What a rename does: where both names are of one object, nothing.
+fn renaming<T: NamedTree>(
+    tree: &mut T,
+    from: u16,
+    old_name: &[u8],
+    to: u16,
+    new_name: &[u8],
+) -> Result<NodeMoves, T::Fault>
+    requires { T.holds tree.old }
+    ensures kept { T.holds tree.new }
+    ensures follows { T.follows tree.old tree.new }
+    ensures same { IsTrue T.is_told → T.shows tree.new ≡ T.shows tree.old }
+    ensures found { IsTrue T.is_told → IfOk result (λ moves. moves ≡ renaming (T.shows tree.old) (link_to from old_name.now) (link_to to new_name.now)) }
+    ensures cause { IfErr result (λ f. T.causes tree.old tree.new f) }
+{
+    let Some(number) = tree.number(from, old_name)? else {
+        return Ok(NodeMoves::Stay);
+    };
+    let target = tree.number(to, new_name)?;
+    if target == Some(number) {
+        return Ok(NodeMoves::Stay);
+    }
+    losing(tree, target)
+}
+
+// What a link does to the file that gets a name.
+fn linking<T: NamedTree>(tree: &mut T, number: u16) -> Result<NodeMoves, T::Fault>
+    requires { T.holds tree.old }
+    ensures kept { T.holds tree.new }
+    ensures follows { T.follows tree.old tree.new }
+    ensures same { IsTrue T.is_told → T.shows tree.new ≡ T.shows tree.old }
+    ensures found { IsTrue T.is_told → IfOk result (λ moves. moves ≡ linking (T.shows tree.old) number) }
+    ensures cause { IfErr result (λ f. T.causes tree.old tree.new f) }
+{
+    if is_nameless(tree, number)? {
+        return Ok(NodeMoves::Name);
+    }
+    Ok(NodeMoves::Stay)
+}
+
+// What a make does.
+fn making<T: NamedTree>(tree: &mut T, number: u16) -> Result<NodeMoves, T::Fault>
+    requires { T.holds tree.old }
+    ensures kept { T.holds tree.new }
+    ensures follows { T.follows tree.old tree.new }
+    ensures same { IsTrue T.is_told → T.shows tree.new ≡ T.shows tree.old }
+    ensures found { IsTrue T.is_told → IfOk result (λ moves. moves ≡ making (T.shows tree.old) number) }
+    ensures cause { IfErr result (λ f. T.causes tree.old tree.new f) }
+{
+    let replaces = is_nameless(tree, number)?;
+    Ok(NodeMoves::Come { number, replaces })
+}
+
+/// What a change does to nodes and to files without names. It looks two names and a node up at most.
+pub(crate) fn node_moves_of<T: NamedTree>(
+    tree: &mut T,
+    change: &Change<'_>,
+) -> Result<NodeMoves, T::Fault>
+    requires { T.holds tree.old }
+    ensures kept { T.holds tree.new }
+    ensures follows { T.follows tree.old tree.new }
+    ensures same { IsTrue T.is_told → T.shows tree.new ≡ T.shows tree.old }
+    ensures found { IsTrue T.is_told → IfOk result (λ moves. moves ≡ node_moves_of (T.shows tree.old) change.now) }
+    ensures cause { IfErr result (λ f. T.causes tree.old tree.new f) }
+{
+    match change {
+        Change::Make { number, .. } => making(tree, *number),
+        Change::AddLink { number, .. } => linking(tree, *number),
+        Change::Remove { directory, name } => removing(tree, *directory, name.as_slice()),
+        Change::Rename {
+            old_directory,
+            old_name,
+            new_directory,
+            new_name,
+        } => renaming(
+            tree,
+            *old_directory,
+            old_name.as_slice(),
+            *new_directory,
+            new_name.as_slice(),
+        ),
+        _ => Ok(NodeMoves::Stay),
+    }
+}
+
+/// Notes in the table of numbers what a change has done to nodes.
+pub(crate) fn note_nodes(numbers: &mut NumberTable, moves: NodeMoves)
+    ensures { NotesNodes moves numbers.old numbers.new }
+{
+    match moves {
+        NodeMoves::Come { number, .. } => numbers.make(number),
+        NodeMoves::Go { number } => numbers.lose(number),
+        NodeMoves::Stay => {}
+        NodeMoves::Name => {}
+        NodeMoves::Unname => {}
+    }
+}
+
+/// How many files have no names once a change was made.
+pub(crate) fn nameless_after(nameless: u32, moves: NodeMoves) -> u32
+    ensures { result ≡ nameless_after nameless moves }
+{
+    match moves {
+        NodeMoves::Come { replaces, .. } => {
+            if replaces {
+                return nameless.saturating_sub(1);
+            }
+            nameless
+        }
+        NodeMoves::Name => nameless.saturating_sub(1),
+        NodeMoves::Unname => nameless.saturating_add(1),
+        NodeMoves::Go { .. } => nameless,
+        NodeMoves::Stay => nameless,
+    }
+}

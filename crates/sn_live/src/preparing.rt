@@ -1,0 +1,117 @@
+//! What is read and grown for a change of a live tree before it is made.
+ghost use Rattle.std.specs.Prelude.{◌≡◌, ◌≤◌, ◌^◌, IsTrue, IfErr, IfOk, IfSome};
+ghost use Rattle.sn_directories.specs.Told.{IsShown};
+ghost use Rattle.sn_live.specs.Nodes.{node_moves_of};
+ghost use Rattle.sn_live.specs.Prepared.{IsPrepared, charge_of};
+ghost use Rattle.sn_logged.specs.Laid as laid;
+ghost use Rattle.sn_overlay.specs.Layers.{through};
+ghost use Rattle.sn_overlay.specs.Overlays.{layer_of};
+ghost use Rattle.sn_overlay.specs.Seen.{LiesOver};
+ghost use Rattle.sn_overlay_change.specs.Faults.{IfBelow};
+
+use crate::nodes::{NodeMoves, node_moves_of};
+use sn_directories::{Directories, KeepsNames, LoggedTree};
+use sn_logged::{PreparedChange, prepare_change};
+use sn_model::Change;
+use sn_overlay::{Overlay, Through};
+use sn_overlay_change::LayerFault;
+use std::alloc::Global;
+
+/// A change that can be made of a live tree, with all that it asks of it.
+#[derive(Drop)]
+pub struct PreparedLive {
+    pub(crate) change: PreparedChange,
+    pub(crate) nodes: NodeMoves,
+}
+
+impl PreparedLive {
+    /// The blocks that are charged for the change.
+    pub fn charge(&self) -> u128
+        ensures { result ≡ charge_of self.now }
+    {
+        self.change.charge()
+    }
+}
+
+// What a change does to nodes of what is shown.
+fn moves_over<'x, B: KeepsNames>(
+    below: &'x mut B,
+    overlay: &'x Overlay,
+    directories: &'x Directories,
+    change: &Change<'_>,
+) -> Result<NodeMoves, B::Fault>
+    requires holds { B.holds below.old }
+    requires shown { IsTrue B.is_told → IsShown (layer_of overlay.now) (B.shows below.old) directories.now }
+    ensures kept { B.holds below.new }
+    ensures follows { B.follows below.old below.new }
+    ensures same { IsTrue B.is_told → B.shows below.new ≡ B.shows below.old }
+    ensures found { IsTrue B.is_told → IfOk result (λ moves. moves ≡ node_moves_of (through (layer_of overlay.now) (B.shows below.old)) change.now) }
+    ensures cause { IfErr result (λ f. B.causes below.old below.new f) }
+{
+    let mut live = LoggedTree {
+        shown: Through { overlay, below },
+        directories,
+    };
+    node_moves_of(&mut live, change)
+}
+
+/// What is prepared for a change of what is seen through an overlay, with room for it there, and for so many drops.
+fn prepare_over<B: KeepsNames>(
+    alloc: Global,
+    below: &mut B,
+    overlay: &mut Overlay,
+    directories: &Directories,
+    change: &Change<'_>,
+    drops: u16,
+) -> Result<Option<PreparedLive>, LayerFault<B::Fault>>
+    requires holds { B.holds below.old }
+    requires shown { IsTrue B.is_told → IsShown (layer_of overlay.old) (B.shows below.old) directories.now }
+    ensures kept { B.holds below.new }
+    ensures follows { B.follows below.old below.new }
+    ensures same { IsTrue B.is_told → B.shows below.new ≡ B.shows below.old }
+    ensures layer { layer_of overlay.new ≡ layer_of overlay.old }
+    ensures prepared { IsTrue B.is_told → IfOk result (λ p. IsPrepared p (through (layer_of overlay.old) (B.shows below.old)) change.now) }
+    ensures room { IfOk result (λ p. IfSome p (λ prepared. laid.HasRoomFor overlay.new prepared.change drops)) }
+    ensures few { IfOk result (λ p. IfSome p (λ prepared. charge_of prepared ≤ 2 ^ 64)) }
+    ensures cause { IfBelow result (λ f. B.causes below.old below.new f) }
+{
+    let Some(laid) = prepare_change(alloc, below, overlay, directories, change, drops)? else {
+        return Ok(None);
+    };
+    match moves_over(below, overlay, directories, change) {
+        Ok(nodes) => Ok(Some(PreparedLive {
+            change: laid,
+            nodes,
+        })),
+        Err(fault) => Err(LayerFault::Below(fault)),
+    }
+}
+
+/// What is prepared for a change of what is seen through two overlays, `None` where it can't be applied.
+pub(crate) fn prepare_through<'x, B: KeepsNames>(
+    alloc: Global,
+    below: &'x mut B,
+    bottom: &'x Overlay,
+    top: &mut Overlay,
+    directories: &Directories,
+    change: &Change<'_>,
+    drops: u16,
+) -> Result<Option<PreparedLive>, LayerFault<B::Fault>>
+    requires holds { B.holds below.old }
+    requires lies { IsTrue B.is_told → LiesOver (layer_of bottom.now) (B.shows below.old) }
+    requires shown { IsTrue B.is_told → IsShown (layer_of top.old) (through (layer_of bottom.now) (B.shows below.old)) directories.now }
+    ensures kept { B.holds below.new }
+    ensures follows { B.follows below.old below.new }
+    ensures same { IsTrue B.is_told → B.shows below.new ≡ B.shows below.old }
+    ensures layer { layer_of top.new ≡ layer_of top.old }
+    ensures prepared { IsTrue B.is_told → IfOk result (λ p. IsPrepared p (through (layer_of top.old) (through (layer_of bottom.now) (B.shows below.old))) change.now) }
+    ensures room { IfOk result (λ p. IfSome p (λ prepared. laid.HasRoomFor top.new prepared.change drops)) }
+    ensures few { IfOk result (λ p. IfSome p (λ prepared. charge_of prepared ≤ 2 ^ 64)) }
+    ensures cause { IfBelow result (λ f. B.causes below.old below.new f) }
+{
+    let mut shown = Through {
+        overlay: bottom,
+        below,
+    };
+    prepare_over(alloc, &mut shown, top, directories, change, drops)
+}
