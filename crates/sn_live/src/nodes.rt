@@ -1,9 +1,11 @@
 //! What a change does to nodes and to files without names.
-ghost use Rattle.std.specs.Prelude.{◌≡◌, IsTrue, IfErr, IfOk};
+ghost use Rattle.std.specs.Prelude.{◌≡◌, ℕ, ◌==◌, ◌&&◌, ◌||◌, IsTrue, IfErr, IfOk};
 ghost use Rattle.std.specs.FinMap as map;
 ghost use Rattle.sn_live.specs.Nodes.{NotesNodes, linking, losing, losing_of, making, nameless_after, node_moves_of, renaming};
+ghost use Rattle.sn_model.specs.Changes.{take_node};
 ghost use Rattle.sn_model.specs.Settling.{is_nameless};
-ghost use Rattle.sn_model.specs.Tree.{link_to};
+ghost use Rattle.sn_model.specs.Tree.{Tree, link_to};
+ghost use Rattle.sn_number_table.specs.Table.{TellsNumbers, kept_of, since_of};
 
 use sn_applies::NamedTree;
 use sn_limits::Kind;
@@ -180,9 +182,20 @@ pub(crate) fn note_nodes(numbers: &mut NumberTable, moves: NodeMoves)
     match moves {
         NodeMoves::Come { number, .. } => numbers.make(number),
         NodeMoves::Go { number } => numbers.lose(number),
-        NodeMoves::Stay => {}
-        NodeMoves::Name => {}
-        NodeMoves::Unname => {}
+        NodeMoves::Stay | NodeMoves::Name | NodeMoves::Unname => {}
+    }
+}
+
+/// Notes in the table of numbers that a file goes: with its last descriptor, or with its last name.
+pub(crate) fn note_drop(numbers: &mut NumberTable, number: u16, by_close: bool)
+    ensures tells { (tree : Tree) → TellsNumbers tree numbers.old → TellsNumbers (take_node tree number) numbers.new }
+    ensures kept { (n : ℕ) → kept_of numbers.new n ≡ (by_close && n == number || kept_of numbers.old n) }
+    ensures since { (n : ℕ) → since_of numbers.new n ≡ (by_close && n == number || since_of numbers.old n) }
+{
+    if by_close {
+        numbers.lose_closed(number);
+    } else {
+        numbers.lose(number);
     }
 }
 
@@ -199,7 +212,6 @@ pub(crate) fn nameless_after(nameless: u32, moves: NodeMoves) -> u32
         }
         NodeMoves::Name => nameless.saturating_sub(1),
         NodeMoves::Unname => nameless.saturating_add(1),
-        NodeMoves::Go { .. } => nameless,
-        NodeMoves::Stay => nameless,
+        NodeMoves::Stay | NodeMoves::Go { .. } => nameless,
     }
 }
