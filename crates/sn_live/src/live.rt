@@ -1,6 +1,6 @@
 //! The state of a live tree.
 ghost use Rattle.std.specs.Prelude.{◌≡◌, ℕ, ◌+◌, ◌≤◌, ◌^◌, ◌==◌, ◌&&◌, ◌||◌, false, Some, IsTrue, IfOk, IfSome, OnErr, OnOk};
-ghost use Rattle.sn_directories.specs.Told.{TellsDirectories};
+ghost use Rattle.sn_directories.specs.Told.{IsShown, TellsDirectories};
 ghost use Rattle.sn_limits.specs.Versions.{version_1};
 ghost use Rattle.sn_live.specs.Live.{HasDrops, HasNoPoint, IsLive, KeepsBack, ShowsAlike, ShowsNameless, changes_of, kept_back_of, kept_since_of, point_of, shown_of};
 ghost use Rattle.sn_live.specs.Prepared.{CanBeMade, HasRoomFor, IsPrepared, charge_of};
@@ -86,6 +86,35 @@ impl LiveTree {
         ensures { result ≡ kept_back_of self.now number }
     {
         self.numbers.is_kept_back(number)
+    }
+
+    /// What changed since the consistency point in progress began, or since the root where none is.
+    pub fn changes(&self) -> &Overlay
+        ensures { layer_of result.now ≡ changes_of self.now }
+    {
+        &self.top
+    }
+
+    /// What the consistency point in progress writes, nothing where none is.
+    pub fn point(&self) -> &Overlay
+        ensures { layer_of result.now ≡ point_of self.now }
+    {
+        &self.bottom
+    }
+
+    /// The table of the directories that are shown.
+    pub fn directories(&self) -> &Directories
+        ensures { (below : Tree) → IsLive self.now below → IsShown (changes_of self.now) (through (point_of self.now) below) result.now }
+    {
+        &self.directories
+    }
+
+    /// The table of the numbers of the tree that is shown.
+    pub fn numbers(&self) -> &NumberTable
+        ensures tells { (below : Tree) → IsLive self.now below → TellsNumbers (shown_of self.now below) result.now }
+        ensures kept { (n : ℕ) → kept_of result.now n ≡ kept_back_of self.now n }
+    {
+        &self.numbers
     }
 
     /// Reads and grows all that a change of what is shown asks for, where it can be applied, with room for it and for
