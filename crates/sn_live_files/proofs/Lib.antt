@@ -1,0 +1,3 @@
+pub mod ByteLemmas
+pub mod MergeLemmas
+pub mod ListingLemmas

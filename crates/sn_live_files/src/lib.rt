@@ -1,0 +1,33 @@
+//! The bytes of files and the names of directories of a tree that is read on demand, below overlays and through
+//! them.
+//!
+//! Calls read files and list directories. A tree below an overlay ([`Below`](sn_overlay::Below)) is asked for nodes,
+//! names and blocks one by one; here whole answers are made of these. [`read`] gathers bytes block by block, up to the
+//! end of the file and no further. A tree that [`ListsNames`] answers the names of a directory in their order, each
+//! with its number. Through an overlay these are the ones that changed, merged with those below in one pass, and
+//! below nothing is asked of a directory that is gone or was made anew.
+//!
+//! Memory for an answer is told apart from the tree's own fault (`FileFault` of `sn_core_calls`).
+//!
+//! The way through it:
+//!
+//! 1. `specs/Listing`: the names of a directory with their numbers, and changed entries merged over others.
+//! 2. `bytes`: how many bytes a node has, and [`read`].
+//! 3. [`ListsNames`]; `merge`, the merge of two sorted lists; `through` and `logged`, the trees that list.
+//!
+//! What the sources leave open is decided in `docs/DECISIONS.md`, under "Reading a root on demand".
+//!
+//! ```text
+//! let part = read(&mut tree, alloc, number, offset, most)?;
+//! let names = Through { overlay: &changed, below: &mut root }.names(alloc, directory)?;
+//! ```
+#![tactic(auto)]
+
+mod bytes;
+mod lists;
+mod logged;
+mod merge;
+mod through;
+
+pub use bytes::{read, size};
+pub use lists::ListsNames;

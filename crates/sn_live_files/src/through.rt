@@ -1,0 +1,37 @@
+ghost use Rattle.std.specs.Prelude.{◌≡◌};
+ghost use Rattle.std.specs.Option.{option_copied};
+ghost use Rattle.sn_overlay.specs.Layers.{hides_names};
+
+use crate::ListsNames;
+use crate::merge::merged;
+use sn_core_calls::FileFault;
+use sn_model::Link;
+use sn_overlay::{NodeChange, Through};
+use std::alloc::Global;
+
+// Whether the names that a directory had below aren't seen.
+fn hides_names(change: Option<&NodeChange>) -> bool
+    ensures { result ≡ hides_names (option_copied change.entry) }
+{
+    match change {
+        None => false,
+        Some(NodeChange::Gone { .. }) => true,
+        Some(NodeChange::Changed(state)) => state.fresh,
+    }
+}
+
+impl<'a, B: ListsNames> ListsNames for Through<'a, B> {
+    fn names(
+        &mut self,
+        alloc: Global,
+        directory: u16,
+    ) -> Result<Vec<(Link, u16)>, FileFault<B::Fault>> {
+        let changed = self.overlay.names_of(directory);
+        let below = if hides_names(self.overlay.node(directory)) {
+            Vec::new(alloc)
+        } else {
+            self.below.names(alloc, directory)?
+        };
+        Ok(merged(alloc, changed, below)?)
+    }
+}
