@@ -9,8 +9,12 @@
 //! is told, it has to be a name tree, and the table has to tell its numbers (`IsNumbered`); then each answer is
 //! the one that the model has. A fault is the tree's.
 //!
+//! Where the tree lists names too (`ListsNames` of `sn_live_files`), it is a view that calls are decided over
+//! (`FileView` of `sn_core_calls`): its files are read, and its directories listed.
+//!
 //! The way through it: `specs/Live` says which trees are seen, and when a table belongs to one; `reads` has what
-//! is made of one look-up, and `view` the view, [`LiveView`].
+//! is made of one look-up, and `view` and `files` the view, [`LiveView`]. `deciding` decides a call over a root
+//! that is seen through two overlays, [`decide_live`].
 //!
 //! What the sources leave open is decided in `docs/DECISIONS.md`, under "Reading a root on demand".
 //!
@@ -20,7 +24,10 @@
 //! ```
 #![tactic(auto)]
 
+mod deciding;
+mod files;
 mod reads;
 mod view;
 
+pub use deciding::{LiveState, decide_live};
 pub use view::LiveView;

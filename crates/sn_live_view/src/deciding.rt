@@ -1,0 +1,125 @@
+//! What calls come to over a root that is seen through what changed since.
+ghost use Rattle.std.specs.Prelude.{◌≡◌, IsTrue, IfOk};
+ghost use Rattle.sn_core_calls.specs.Decided.{Decides};
+ghost use Rattle.sn_core_calls.specs.Faults.{IfView};
+ghost use Rattle.sn_desc.specs.Sessions.{in_use_of};
+ghost use Rattle.sn_directories.specs.Told.{IsShown};
+ghost use Rattle.sn_model.specs.Worlds.{IsCall};
+ghost use Rattle.sn_overlay.specs.Layers.{through};
+ghost use Rattle.sn_overlay.specs.Overlays.{layer_of};
+ghost use Rattle.sn_live_view.specs.Live.{IsLive, IsNumbered, live_tree, live_world};
+
+use crate::LiveView;
+use sn_applies::NamedTree;
+use sn_core_calls::{CallError, decide};
+use sn_desc::Sessions;
+use sn_directories::{Directories, KeepsNames, LoggedTree};
+use sn_live_files::ListsNames;
+use sn_model::{Call, Outcome};
+use sn_number_table::NumberTable;
+use sn_overlay::{Overlay, Through};
+use std::alloc::Global;
+
+/// What changed since a root, in two overlays, and the tables of what is seen through both.
+#[derive(Clone, Copy)]
+pub struct LiveState<'a> {
+    /// What changed first; it lies over the root.
+    pub bottom: &'a Overlay,
+    /// What changed since then.
+    pub top: &'a Overlay,
+    /// The directories of the live tree.
+    pub directories: &'a Directories,
+    /// The numbers of the live tree.
+    pub numbers: &'a NumberTable,
+}
+
+// What a call comes to over a live tree, with the table of its numbers.
+fn decide_on<'x, 'c, T: NamedTree + ListsNames>(
+    alloc: Global,
+    tree: &'x mut T,
+    numbers: &'x NumberTable,
+    sessions: &Sessions,
+    session: u32,
+    call: &'c Call,
+) -> Result<Outcome<'c>, CallError<T::Fault>>
+    requires holds { T.holds tree.old }
+    requires numbered { IsTrue T.is_told → IsNumbered (T.shows tree.old) numbers.now }
+    ensures kept { T.holds tree.new }
+    ensures follows { T.follows tree.old tree.new }
+    ensures same { IsTrue T.is_told → T.shows tree.new ≡ T.shows tree.old }
+    ensures decided { IsTrue T.is_told → Decides (live_world (in_use_of sessions.now) (T.shows tree.old)) session call.now result }
+    ensures cause { IfView result (λ f. T.causes tree.old tree.new f) }
+    ensures numbers { IfOk result (λ o. IsCall call.now) }
+{
+    let mut view = LiveView { tree, numbers };
+    decide(alloc, &mut view, sessions, session, call)
+}
+
+// What a call comes to over a tree that is seen through an overlay.
+fn decide_over<'x, 'c, B: KeepsNames + ListsNames>(
+    alloc: Global,
+    below: &'x mut B,
+    overlay: &'x Overlay,
+    directories: &'x Directories,
+    numbers: &NumberTable,
+    sessions: &Sessions,
+    session: u32,
+    call: &'c Call,
+) -> Result<Outcome<'c>, CallError<B::Fault>>
+    requires holds { B.holds below.old }
+    requires shown { IsTrue B.is_told → IsShown (layer_of overlay.now) (B.shows below.old) directories.now }
+    requires numbered { IsTrue B.is_told → IsNumbered (through (layer_of overlay.now) (B.shows below.old)) numbers.now }
+    ensures kept { B.holds below.new }
+    ensures follows { B.follows below.old below.new }
+    ensures same { IsTrue B.is_told → B.shows below.new ≡ B.shows below.old }
+    ensures decided { IsTrue B.is_told → Decides (live_world (in_use_of sessions.now) (through (layer_of overlay.now) (B.shows below.old))) session call.now result }
+    ensures cause { IfView result (λ f. B.causes below.old below.new f) }
+    ensures numbers { IfOk result (λ o. IsCall call.now) }
+{
+    let mut tree = LoggedTree {
+        shown: Through { overlay, below },
+        directories,
+    };
+    decide_on(alloc, &mut tree, numbers, sessions, session, call)
+}
+
+/// What a call comes to over a root that is seen through what changed since, or why it has no outcome: `Memory` where
+/// what it tells found none, `View` where the root found a fault. Nothing changes.
+pub fn decide_live<'x, 'c, B: KeepsNames + ListsNames>(
+    alloc: Global,
+    root: &'x mut B,
+    state: LiveState<'x>,
+    sessions: &Sessions,
+    session: u32,
+    call: &'c Call,
+) -> Result<Outcome<'c>, CallError<B::Fault>>
+    requires holds { B.holds root.old }
+    requires live { IsTrue B.is_told → IsLive state (B.shows root.old) }
+    ensures kept { B.holds root.new }
+    ensures follows { B.follows root.old root.new }
+    ensures same { IsTrue B.is_told → B.shows root.new ≡ B.shows root.old }
+    ensures decided { IsTrue B.is_told → Decides (live_world (in_use_of sessions.now) (live_tree state.entry (B.shows root.old))) session call.now result }
+    ensures cause { IfView result (λ f. B.causes root.old root.new f) }
+    ensures numbers { IfOk result (λ o. IsCall call.now) }
+{
+    let LiveState {
+        bottom,
+        top,
+        directories,
+        numbers,
+    } = state;
+    let mut below = Through {
+        overlay: bottom,
+        below: root,
+    };
+    decide_over(
+        alloc,
+        &mut below,
+        top,
+        directories,
+        numbers,
+        sessions,
+        session,
+        call,
+    )
+}

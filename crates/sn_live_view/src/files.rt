@@ -1,0 +1,66 @@
+//! The bytes of files and the names of directories of the live tree.
+ghost use Rattle.std.specs.Prelude.{◌≡◌, ℕ, IfOk, map};
+ghost use Rattle.sn_model.specs.declared.link.Link.{Link as TheLink};
+
+use crate::LiveView;
+use sn_applies::NamedTree;
+use sn_core_calls::{FileFault, FileView};
+use sn_live_files::{ListsNames, read, size};
+use sn_model::{Link, Names};
+use sn_walk::{Home, Object};
+use std::alloc::{AllocError, Global};
+
+// The names alone, in their order.
+fn names_alone(alloc: Global, links: Vec<(Link, u16)>) -> Result<Names, AllocError>
+    ensures { IfOk result (λ names. names ≡ map (λ (e : TheLink × ℕ). e.0.name) links.items) }
+{
+    let mut names = Vec::with_capacity(alloc, links.len())?;
+    for (link, _) in links {
+        names.push(link.name)?;
+    }
+    Ok(Names::new(names))
+}
+
+impl<'a, T: NamedTree + ListsNames> FileView for LiveView<'a, T> {
+    ghost use Rattle.std.proofs.Common.{ap};
+    ghost use Rattle.sn_core_calls.specs.Shown.{bytes_in};
+    ghost use Rattle.sn_live_view.specs.Live.{live_trees};
+
+    ghost bytes = { λ v. bytes_in (live_trees (T.shows v.tree.now)) };
+
+    fn size(&mut self, home: &Home, number: u16) -> Result<u64, T::Fault> {
+        match home {
+            Home::Live => size(self.tree, number),
+            Home::Frozen(_) => Ok(0),
+        }
+    }
+
+    fn read(
+        &mut self,
+        alloc: Global,
+        home: &Home,
+        number: u16,
+        offset: u64,
+        most: usize,
+    ) -> Result<Vec<u8>, FileFault<T::Fault>> {
+        match home {
+            Home::Live => read(self.tree, alloc, number, offset, most),
+            Home::Frozen(_) => Ok(Vec::new(alloc)),
+        }
+    }
+
+    fn listed(&mut self, alloc: Global, object: &Object) -> Result<Names, FileFault<T::Fault>> {
+        let Object::Node { home, number } = object else {
+            return Ok(Names::new(Vec::new(alloc)));
+        };
+        match home {
+            Home::Live => {
+                let links = self.tree.names(alloc, *number)?;
+                Ok(names_alone(alloc, links)?)
+            }
+            Home::Frozen(_) => Ok(Names::new(Vec::new(alloc))),
+        }
+    }
+
+    ghost bytes_stay = { λ u v told p. ap (λ tree. bytes_in (live_trees tree)) (p.2 told) };
+}
