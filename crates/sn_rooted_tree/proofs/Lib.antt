@@ -1,5 +1,4 @@
 pub mod CountLemmas
-pub mod ListedLemmas
 pub mod LookLemmas
 pub mod NamelessLemmas
 pub mod SeenLemmas
