@@ -156,9 +156,6 @@ module _ (limits : Limits) (layer : Layer) where
   -- ---- where there is too little room
 
   module _ (Told : Type 0) (s : Store) (file : BlockTree) (old between : Draft) (changes : List InodeChange) (built : AreBuilt Told limits s file layer old (numbers_of layer) changes between) where
-    pub nodes_full : free_data old.words old.first < length old.added + sum_by (most_for limits layer) (numbers_of layer) → free_data old.words old.first < length old.added + need limits layer
-    nodes_full less = needs_most old less
-
     pub inodes_full : changes ≢ [] → free_data between.words between.first < length between.added + (3 * length changes + 2) → free_data old.words old.first < length old.added + need limits layer
     inodes_full some less =
         let grew = has_grown limits s file layer Told old (numbers_of layer) changes between built in

@@ -59,17 +59,3 @@ module _ (F : ℕ → Type 0) where
     count = length-set c at bytes;
     same = λ i out. get_or-set_other c at i bytes [] (λ same. out (subst F (sym same) is_in));
   }
-
-  module _ (G : ℕ → Type 0) where
-    pub AgreesOutside-join : (c d e : Contents) → AgreesOutside F c d → AgreesOutside G d e → AgreesOutside (Union F G) c e
-    AgreesOutside-join c d e first second = record {
-      count = second.count ∙ first.count;
-      same = λ i out. second.same i (λ is_G. out (inr is_G)) ∙ first.same i (λ is_F. out (inl is_F));
-    }
-
-    pub AgreesOutside-within : (c d : Contents) → IsWithin F G → AgreesOutside F c d → AgreesOutside G c d
-    AgreesOutside-within c d within agrees = record { count = agrees.count; same = λ i out. agrees.same i (λ is_F. out (within i is_F)) }
-
-    -- they agree in each set that is disjoint from it
-    pub AgreesOn-outside : (c d : Contents) → AreDisjoint F G → AgreesOutside F c d → AgreesOn G c d
-    AgreesOn-outside c d apart agrees = record { count = agrees.count; same = λ i is_G. agrees.same i (λ is_F. apart i is_F is_G) }

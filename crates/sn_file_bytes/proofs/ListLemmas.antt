@@ -168,9 +168,6 @@ module _ (f : ℕ → ℕ) (n : ℕ) (zeros : (k : ℕ) → n ≤ k → f k ≡ 
     pub overwritten_is : values_from g 0 (max n (offset + length new)) ≡ overwritten bytes offset new
     overwritten_is = sym (list_all g all (λ i lt. each i) ∙ ap (values_from g 0) length-all)
 
-    pub zeros_behind : (k : ℕ) → max n (offset + length new) ≤ k → g k ≡ 0
-    zeros_behind k past = is k ∙ over_above f offset new k (omega (arith, past)) ∙ zeros k (omega (arith, past))
-
 -- what is read
 pub read_is : (f : ℕ → ℕ) (n offset count : ℕ) → take count (drop offset (values_from f 0 n)) ≡ values_from f offset (min (n - offset) count)
 read_is f n offset count =

@@ -2,6 +2,7 @@
 use Rattle.std.specs.Prelude.{◌≡◌, ℕ, Bool, true}
 use Rattle.std.specs.FinMap as map
 use Rattle.sn_directories.specs.Told.{IsShown}
+use Rattle.sn_live.specs.Nodes.{KeepsBackAlike}
 use Rattle.sn_live.specs.declared.live.LiveTree.{LiveTree}
 use Rattle.sn_model.specs.Settling.{is_nameless}
 use Rattle.sn_model.specs.Tree.{Tree}
@@ -54,6 +55,5 @@ pub record ShowsAlike (old new : LiveTree) : Type 0 where
   pub live : (below : Tree) → IsLive old below → IsLive new below
 
 -- The numbers that are kept back are the same.
-pub record KeepsBack (old new : LiveTree) : Type 0 where
-  pub kept : (n : ℕ) → kept_back_of new n ≡ kept_back_of old n
-  pub since : (n : ℕ) → kept_since_of new n ≡ kept_since_of old n
+abbrev pub KeepsBack : LiveTree → LiveTree → Type 0
+KeepsBack old new = KeepsBackAlike old.numbers new.numbers

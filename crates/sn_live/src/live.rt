@@ -118,8 +118,8 @@ impl LiveTree {
     }
 
     /// Reads and grows all that a change of what is shown asks for, where it can be applied, with room for it and for
-    /// so many drops beside. `None` where it can't be applied. Nothing that is shown changes, whatever the answer. A
-    /// fault is one of the tree below, or of memory.
+    /// so many drops beside. `None` where it can't be applied. Nothing that is shown changes, and no room for drops is
+    /// lost, whatever the answer. A fault is one of the tree below, or of memory.
     pub fn prepare<B: KeepsNames>(
         &mut self,
         alloc: Global,
@@ -138,6 +138,7 @@ impl LiveTree {
         ensures numbers { KeepsBack self.old self.new }
         ensures prepared { IsTrue B.is_told → IfOk result (λ p. IsPrepared p (shown_of self.old (B.shows below.old)) change.now) }
         ensures room { IfOk result (λ p. IfSome p (λ prepared. HasRoomFor self.new prepared drops)) }
+        ensures stays { (n : ℕ) → HasDrops self.old n → HasDrops self.new n }
         ensures few { IfOk result (λ p. IfSome p (λ prepared. charge_of prepared ≤ 2 ^ 64)) }
         ensures cause { IfBelow result (λ f. B.causes below.old below.new f) }
     {
@@ -190,13 +191,14 @@ impl LiveTree {
         self.nameless = self.nameless.saturating_sub(1);
     }
 
-    /// Makes room for so many drops. Whatever the answer, nothing that is shown changes.
+    /// Makes room for so many drops. Whatever the answer, nothing that is shown changes, and no room for drops is lost.
     pub fn reserve_drops(&mut self, drops: u16) -> Result<(), AllocError>
         ensures alike { ShowsAlike self.old self.new }
         ensures point { point_of self.new ≡ point_of self.old }
         ensures changes { changes_of self.new ≡ changes_of self.old }
         ensures numbers { KeepsBack self.old self.new }
         ensures drops { OnOk result (HasDrops self.new drops) }
+        ensures stays { (n : ℕ) → HasDrops self.old n → HasDrops self.new n }
     {
         self.top.reserve(usize::from(drops), 0, 0)
     }

@@ -5,7 +5,7 @@ ghost use Rattle.sn_live.specs.Nodes.{node_moves_of};
 ghost use Rattle.sn_live.specs.Prepared.{IsPrepared, charge_of};
 ghost use Rattle.sn_logged.specs.Laid as laid;
 ghost use Rattle.sn_overlay.specs.Layers.{through};
-ghost use Rattle.sn_overlay.specs.Overlays.{layer_of};
+ghost use Rattle.sn_overlay.specs.Overlays.{TakesRoom, layer_of};
 ghost use Rattle.sn_overlay.specs.Seen.{LiesOver};
 ghost use Rattle.sn_overlay_change.specs.Faults.{IfBelow};
 
@@ -72,6 +72,7 @@ fn prepare_over<B: KeepsNames>(
     ensures layer { layer_of overlay.new ≡ layer_of overlay.old }
     ensures prepared { IsTrue B.is_told → IfOk result (λ p. IsPrepared p (through (layer_of overlay.old) (B.shows below.old)) change.now) }
     ensures room { IfOk result (λ p. IfSome p (λ prepared. laid.HasRoomFor overlay.new prepared.change drops)) }
+    ensures stays { TakesRoom overlay.old overlay.new (record { nodes = 0; names = 0; blocks = 0 }) }
     ensures few { IfOk result (λ p. IfSome p (λ prepared. charge_of prepared ≤ 2 ^ 64)) }
     ensures cause { IfBelow result (λ f. B.causes below.old below.new f) }
 {
@@ -106,6 +107,7 @@ pub(crate) fn prepare_through<'x, B: KeepsNames>(
     ensures layer { layer_of top.new ≡ layer_of top.old }
     ensures prepared { IsTrue B.is_told → IfOk result (λ p. IsPrepared p (through (layer_of top.old) (through (layer_of bottom.now) (B.shows below.old))) change.now) }
     ensures room { IfOk result (λ p. IfSome p (λ prepared. laid.HasRoomFor top.new prepared.change drops)) }
+    ensures stays { TakesRoom top.old top.new (record { nodes = 0; names = 0; blocks = 0 }) }
     ensures few { IfOk result (λ p. IfSome p (λ prepared. charge_of prepared ≤ 2 ^ 64)) }
     ensures cause { IfBelow result (λ f. B.causes below.old below.new f) }
 {

@@ -7,7 +7,7 @@ ghost use Rattle.sn_model.specs.Changes.{apply};
 ghost use Rattle.sn_model.specs.Tree.{Tree};
 ghost use Rattle.sn_model.specs.declared.change.Change.{Change as TheChange};
 ghost use Rattle.sn_overlay.specs.Layers.{through};
-ghost use Rattle.sn_overlay.specs.Overlays.{HasRoom, layer_of};
+ghost use Rattle.sn_overlay.specs.Overlays.{HasRoom, TakesRoom, layer_of};
 ghost use Rattle.sn_overlay_change.specs.Faults.{IfBelow};
 
 use crate::moving::note_moves;
@@ -43,8 +43,8 @@ fn prepare_over<'x, B: KeepsNames>(
 }
 
 /// Reads and grows all that a change of what is seen asks for, where it can be applied: its layer, its charge, and room for
-/// it in the overlay, and for so many drops beside. `None` where it can't be applied. Nothing that is seen changes, whatever
-/// the answer. A fault is one of the tree below, or of memory.
+/// it in the overlay, and for so many drops beside. `None` where it can't be applied. Nothing that is seen changes, and no
+/// room is lost, whatever the answer. A fault is one of the tree below, or of memory.
 pub fn prepare_change<B: KeepsNames>(
     alloc: Global,
     below: &mut B,
@@ -61,6 +61,7 @@ pub fn prepare_change<B: KeepsNames>(
     ensures layer { layer_of overlay.new ≡ layer_of overlay.old }
     ensures prepared { IsTrue B.is_told → IfOk result (λ p. IsPrepared p (through (layer_of overlay.old) (B.shows below.old)) change.now) }
     ensures room { IfOk result (λ p. IfSome p (λ prepared. HasRoomFor overlay.new prepared drops)) }
+    ensures stays { TakesRoom overlay.old overlay.new (record { nodes = 0; names = 0; blocks = 0 }) }
     ensures few { IfOk result (λ p. IfSome p (λ prepared. charge_of prepared ≤ 2 ^ 64)) }
     ensures cause { IfBelow result (λ f. B.causes below.old below.new f) }
 {

@@ -39,7 +39,7 @@ use Rattle.sn_rooted_tree.specs.Counting.{AreCounted, HasName, IsAmong, NotesNam
 abbrev names_under : ℕ → List (Link × ℕ) → List (List ℕ)
 names_under d es = map (λ (e : Link × ℕ). e.0.name) (filter (λ (e : Link × ℕ). e.0.directory == d) es)
 
-later : {X : Type 0} (x y : X) (xs : List X) → Contains xs x → Contains (y ∷ xs) x
+pub later : {X : Type 0} (x y : X) (xs : List X) → Contains xs x → Contains (y ∷ xs) x
 later x y xs (k, within, is) = (suc k, omega (arith, within), is)
 
 -- what is found has its name among those of its directory

@@ -12,7 +12,8 @@
 //!
 //! 1. `specs/Looks`: what look-ups do to the device, and how a fault stands.
 //! 2. `seeing` reads a node with its ACLs and a block of a file, as overlays show them.
-//! 3. [`RootedTree`], which is a `Below` of `sn_overlay`, and keeps names for `sn_directories`.
+//! 3. [`RootedTree`], which is a `Below` of `sn_overlay`, and keeps names for `sn_directories`; `listing` lists those of a
+//!    directory for `sn_live_files`.
 //! 4. [`directories_of`] counts the names of each directory once, and notes which directory each is in.
 //! 5. [`nameless_of`] counts the files that have no name.
 //!
@@ -27,6 +28,7 @@
 //! ```
 #![tactic(auto)]
 
+mod listing;
 mod loading;
 mod nameless;
 mod rooted;

@@ -17,7 +17,7 @@ use sn_tree_read::TreeFault;
 use std::alloc::Global;
 
 // The fault of an answer, if it is one.
-fn fault_of<T>(answer: &Result<T, TreeFault>) -> Option<TreeFault>
+pub(crate) fn fault_of<T>(answer: &Result<T, TreeFault>) -> Option<TreeFault>
     ensures { result ≡ fault_of answer.now }
 {
     match answer {
