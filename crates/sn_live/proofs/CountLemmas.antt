@@ -147,7 +147,7 @@ nameless_put tree number node new there kind =
 not_at : (tree : Tree) (link : Link) (number : ℕ) → map.get tree.links link ≡ Some number → nameless_at tree number ≡ 0
 not_at tree link number named = ap {B = ℕ} (λ (b : Bool). cond b 1 0) (named_is_not tree link number named (map.get tree.nodes number))
 
-last_name : (n m : ℕ) → m + 1 ≡ n → (m == 0) ≡ (n == 1)
+pub last_name : (n m : ℕ) → m + 1 ≡ n → (m == 0) ≡ (n == 1)
 last_name zero m e = absurd (omega (arith, e))
 last_name (suc n) m e = told (m == 0) refl (suc n == 1) refl
   where
@@ -158,7 +158,7 @@ last_name (suc n) m e = told (m == 0) refl (suc n == 1) refl
     told false f true g = absurd (true≢false (sym (eq-eqb m 0 (omega (arith, e, eqb-true (suc n) 1 g))) ∙ f))
 
 -- a file stays
-file_loses : (n after was : ℕ) (last : Bool) → after ≡ was + cond last 1 0 → after ≤ 65536 → after ≡ nameless_after was (cond last Unname Stay)
+file_loses : (n after was : ℕ) (last : Bool) → after ≡ was + cond last 1 0 → after ≤ 65536 → after ≡ nameless_after was (cond last (Unname n) Stay)
 file_loses n after was true e few = omega (arith, e, few)
 file_loses n after was false e few = omega (arith, e)
 
@@ -188,9 +188,9 @@ come_count : (after was : ℕ) (number : ℕ) (b : Bool) → after + cond b 1 0 
 come_count after was number true e = omega (arith, e)
 come_count after was number false e = omega (arith, e)
 
-name_count : (after was : ℕ) (b : Bool) → after + cond b 1 0 ≡ was → after ≡ nameless_after was (cond b Name Stay)
-name_count after was true e = omega (arith, e)
-name_count after was false e = omega (arith, e)
+name_count : (after was : ℕ) (number : ℕ) (b : Bool) → after + cond b 1 0 ≡ was → after ≡ nameless_after was (cond b (Name number) Stay)
+name_count after was number true e = omega (arith, e)
+name_count after was number false e = omega (arith, e)
 
 module _ (tree after : Tree) (few : nameless_in after ≤ 65536) where
   made_count : (link : Link) (number : ℕ) (node : Node) → map.get tree.links link ≡ None → put_link (put_node tree number node) link number ≡ after → nameless_in after ≡ nameless_after (nameless_in tree) (Come number (is_nameless tree number (map.get tree.nodes number)))
@@ -200,12 +200,12 @@ module _ (tree after : Tree) (few : nameless_in after ≤ 65536) where
       let named : map.get made.links link ≡ Some number = get_inserted links_total tree.links link number in
       come_count (nameless_in after) (nameless_in tree) number (is_nameless tree number (map.get tree.nodes number)) (omega (arith, all, not_at made link number named, ap nameless_in gives))
 
-  linked_count : (link : Link) (number : ℕ) → map.get tree.links link ≡ None → put_link tree link number ≡ after → nameless_in after ≡ nameless_after (nameless_in tree) (cond (is_nameless tree number (map.get tree.nodes number)) Name Stay)
+  linked_count : (link : Link) (number : ℕ) → map.get tree.links link ≡ None → put_link tree link number ≡ after → nameless_in after ≡ nameless_after (nameless_in tree) (cond (is_nameless tree number (map.get tree.nodes number)) (Name number) Stay)
   linked_count link number absent gives =
       let made = put_link tree link number in
       let all = nameless_but tree made number (linked_alike tree link number absent) in
       let named : map.get made.links link ≡ Some number = get_inserted links_total tree.links link number in
-      name_count (nameless_in after) (nameless_in tree) (is_nameless tree number (map.get tree.nodes number)) (omega (arith, all, not_at made link number named, ap nameless_in gives))
+      name_count (nameless_in after) (nameless_in tree) number (is_nameless tree number (map.get tree.nodes number)) (omega (arith, all, not_at made link number named, ap nameless_in gives))
 
 lost_count : (tree after : Tree) (link : Link) (number : ℕ) (node : Node) → nameless_in after ≤ 65536 → map.get tree.links link ≡ Some number → map.get tree.nodes number ≡ Some node → Unlinked tree link number node after
     → nameless_in after ≡ nameless_after (nameless_in tree) (losing tree (Some number))

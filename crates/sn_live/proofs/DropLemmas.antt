@@ -1,5 +1,5 @@
 -- A file of a live tree that goes.
-use Rattle.std.proofs.Common.{◌≡◌, ℕ, ◌-◌, Bool, true, List, Option, Some, None, refl, sym, ap, subst, ◌∙◌, arith}
+use Rattle.std.proofs.Common.{◌≡◌, ℕ, ◌-◌, ◌==◌, ◌&&◌, not, Bool, true, List, Option, Some, None, refl, sym, ap, subst, ◌∙◌, arith}
 use Rattle.std.specs.Cmp.{nat_cmp_total}
 use Rattle.std.specs.FinMap as map
 use Rattle.std.proofs.lemmas.Bool.{true≢false}
@@ -16,11 +16,13 @@ use Rattle.sn_model.specs.NameTree.{HasKind, IsTree}
 use Rattle.sn_model.specs.Settling.{is_nameless}
 use Rattle.sn_model.specs.Tree.{Node, Tree, names_for}
 use Rattle.sn_model.proofs.FewLemmas.{few_same}
-use Rattle.sn_model.proofs.MapLemmas.{get_was}
+use Rattle.sn_model.proofs.MapLemmas.{get_left, get_removed, get_was}
 use Rattle.sn_model.proofs.MoveLemmas.{hierarchy_gone, is_kind, not_directory, some_node}
 use Rattle.sn_model.proofs.NameLemmas.{is_unnamed}
 use Rattle.sn_model.proofs.NodeLemmas.{nodes_part}
 use Rattle.sn_model.proofs.SettlingLemmas.{nameless_is}
+use Rattle.sn_number_table.specs.Nameless.{TellsNameless, is_listed}
+use Rattle.sn_number_table.specs.declared.nameless.NamelessFiles.{NamelessFiles}
 use Rattle.sn_number_table.specs.Table.{TellsNumbers}
 use Rattle.sn_number_table.specs.declared.table.NumberTable.{NumberTable}
 use Rattle.sn_overlay.specs.Layers.{Layer, through}
@@ -33,6 +35,7 @@ use Rattle.sn_overlay.proofs.LiesLemmas.{merges_lie}
 use Rattle.sn_overlay.proofs.MergeLemmas.{merge_shows}
 use Rattle.sn_overlay_change.proofs.DropLemmas.{drops_lie, drops_show}
 use Rattle.sn_overlay_change.proofs.NamelessLemmas.{drops_are_counted}
+use Rattle.sn_live.proofs.BareLemmas.{bare_at, cleared_bare}
 
 -- ---- a name tree without one of its files without names
 
@@ -66,6 +69,12 @@ module _ (tree : Tree) (number : ℕ) where
   left_told : (rows : List Counted) → TellsDirectories tree rows → TellsDirectories (take_node tree number) rows
   left_told rows tells = renoded tree (take_node tree number) rows refl (λ link k e kind. let found = some_node _ Directory kind in is_kind tree k found.0 Directory (was k found.0 found.1) found.2) tells
 
+-- a file that goes is one without names no longer
+pub bare_left : (tree : Tree) (number n : ℕ) → bare_at (take_node tree number) n ≡ (not (n == number) && bare_at tree n)
+bare_left tree number =
+    let left = take_node tree number in
+    cleared_bare tree left number (record { nodes = λ q apart. get_left nat_cmp_total exact_unsigned tree.nodes number q apart; names = λ q apart. refl }) (ap (is_nameless left number) (get_removed nat_cmp_total tree.nodes number))
+
 -- ---- the overlay in which it is gone
 
 module _ (older : Layer) (below : Tree) (rows : List Counted) (shown : IsShown older below rows) (number : ℕ) (by_close : Bool) (nameless : is_nameless (through older below) number (map.get (through older below).nodes number) ≡ true) where
@@ -92,10 +101,24 @@ module _ (old : LiveTree) (below : Tree) (live : IsLive old below) (number : ℕ
   pub dropped_shows : through (layer_of top) (through (point_of old) below) ≡ take_node (shown_of old below) number
   dropped_shows = ap (λ (l : Layer). through l (through (point_of old) below)) is ∙ drop_shows (changes_of old) (through (point_of old) below) old.directories live.shown number by_close nameless
 
-  pub dropped : (numbers : NumberTable) (left : ℕ) → ((tree : Tree) → TellsNumbers tree old.numbers → TellsNumbers (take_node tree number) numbers) → left ≡ old.nameless - 1 → IsLive (record old { top = top; numbers = numbers; nameless = left }) below
-  dropped numbers left tells less = record {
+  pub dropped : (numbers : NumberTable) (files : NamelessFiles) (left : ℕ) → ((tree : Tree) → TellsNumbers tree old.numbers → TellsNumbers (take_node tree number) numbers) → ((n : ℕ) → is_listed files n ≡ (not (n == number) && is_listed old.without_names n)) → left ≡ old.nameless - 1
+      → IsLive (record old { top = top; numbers = numbers; without_names = files; nameless = left }) below
+  dropped numbers files left tells lists less = record {
     point = live.point;
     shown = subst (λ (l : Layer). IsShown l (through (point_of old) below) old.directories) (sym is) (drop_shown (changes_of old) (through (point_of old) below) old.directories live.shown number by_close nameless);
     numbers = subst (λ (t : Tree). TellsNumbers t numbers) (sym dropped_shows) (tells (shown_of old below) live.numbers);
+    files = λ n. lists n ∙ ap (λ (b : Bool). not (n == number) && b) (live.files n) ∙ sym (bare_left (shown_of old below) number n) ∙ ap (λ (t : Tree). bare_at t n) (sym dropped_shows);
     nameless = omega (arith, less, live.nameless, drops_are_counted (shown_of old below) number nameless, ap nameless_in dropped_shows);
   }
+
+-- ---- room for drops
+
+-- an overlay of the same changes in place of what changed
+pub regrown : (old : LiveTree) (below : Tree) (top : Overlay) → layer_of top ≡ changes_of old → IsLive old below → IsLive (record old { top = top }) below
+regrown old below top is live = record {
+  point = live.point;
+  shown = subst (λ (l : Layer). IsShown l (through (point_of old) below) old.directories) (sym is) live.shown;
+  numbers = subst (λ (l : Layer). TellsNumbers (through l (through (point_of old) below)) old.numbers) (sym is) live.numbers;
+  files = subst (λ (l : Layer). TellsNameless (through l (through (point_of old) below)) old.without_names) (sym is) live.files;
+  nameless = live.nameless ∙ ap (λ (l : Layer). nameless_in (through l (through (point_of old) below))) (sym is);
+}

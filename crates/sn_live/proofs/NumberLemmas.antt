@@ -24,13 +24,13 @@ module _ (old new : NumberTable) where
   stayed : (tree : Tree) → new ≡ old → TellsNumbers tree old → TellsNumbers tree new
   stayed tree same tells = subst (TellsNumbers tree) (sym same) tells
 
-  name_or_stay : (b : Bool) → NotesNodes (cond b Name Stay) old new → new ≡ old
-  name_or_stay true notes = notes
-  name_or_stay false notes = notes
+  name_or_stay : (number : ℕ) (b : Bool) → NotesNodes (cond b (Name number) Stay) old new → new ≡ old
+  name_or_stay number true notes = notes
+  name_or_stay number false notes = notes
 
-  unname_or_stay : (b : Bool) → NotesNodes (cond b Unname Stay) old new → new ≡ old
-  unname_or_stay true notes = notes
-  unname_or_stay false notes = notes
+  unname_or_stay : (number : ℕ) (b : Bool) → NotesNodes (cond b (Unname number) Stay) old new → new ≡ old
+  unname_or_stay number true notes = notes
+  unname_or_stay number false notes = notes
 
   -- ---- the numbers that have a node
 
@@ -53,7 +53,7 @@ module _ (old new : NumberTable) where
       subst (λ (t : Tree). TellsNumbers t new) p.gives (lost.tells (take_link tree link) tells)
   tells_unlinked tree after link number node (inr p) notes tells =
       let kept = subst (λ (k : Kind). NotesNodes (losing_of number k (link_count k (names_for tree number))) old new) (other_kind node.kind p.kind) notes in
-      subst (λ (t : Tree). TellsNumbers t new) p.gives (stayed tree (unname_or_stay (names_for tree number == 1) kept) tells)
+      subst (λ (t : Tree). TellsNumbers t new) p.gives (stayed tree (unname_or_stay number (names_for tree number == 1) kept) tells)
 
   tells_lost : (tree after : Tree) (link : Link) (number : ℕ) (node : Node) → map.get tree.nodes number ≡ Some node → Unlinked tree link number node after → NotesNodes (losing tree (Some number)) old new → TellsNumbers tree old → TellsNumbers after new
   tells_lost tree after link number node there un notes tells =
@@ -81,7 +81,7 @@ module _ (old new : NumberTable) where
       subst (λ (t : Tree). TellsNumbers t new) p.gives (notes.tells tree (node_with kind o []) tells)
   tells_on (AddLink directory name number) tree after e notes tells =
       let p = linked_is version_1 tree (link_to directory name) number after e in
-      subst (λ (t : Tree). TellsNumbers t new) p.gives (stayed tree (name_or_stay (is_nameless tree number (map.get tree.nodes number)) notes) tells)
+      subst (λ (t : Tree). TellsNumbers t new) p.gives (stayed tree (name_or_stay number (is_nameless tree number (map.get tree.nodes number)) notes) tells)
   tells_on (Remove directory name) tree after e notes tells =
       let link = link_to directory name in
       let p = removed_is tree link after e in

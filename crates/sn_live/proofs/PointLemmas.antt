@@ -1,11 +1,12 @@
 -- Consistency points of a live tree that begin and end.
 use Rattle.std.proofs.Common.{◌≡◌, ℕ, sym, ap, subst, ◌∙◌}
-use Rattle.sn_directories.specs.Told.{IsShown, TellsDirectories}
+use Rattle.sn_directories.specs.Told.{TellsDirectories}
 use Rattle.sn_limits.specs.Versions.{version_1}
 use Rattle.sn_live.specs.Live.{HasNoPoint, IsLive, changes_of, point_of, shown_of}
 use Rattle.sn_live.specs.declared.live.LiveTree.{LiveTree}
 use Rattle.sn_model.specs.NameTree.{IsTree}
 use Rattle.sn_model.specs.Tree.{Tree}
+use Rattle.sn_number_table.specs.Nameless.{TellsNameless}
 use Rattle.sn_number_table.specs.Table.{TellsNumbers, is_taken_in}
 use Rattle.sn_number_table.specs.declared.table.NumberTable.{NumberTable}
 use Rattle.sn_overlay.specs.Layers.{Layer, through}
@@ -13,7 +14,7 @@ use Rattle.sn_overlay.specs.Needs.{nameless_in}
 use Rattle.sn_overlay.specs.Overlays.{layer_of, no_changes}
 use Rattle.sn_overlay.specs.Seen.{LiesOver}
 use Rattle.sn_overlay.specs.declared.overlay.Overlay.{Overlay}
-use Rattle.sn_live.proofs.LiveLemmas.{none_lies, none_shows}
+use Rattle.sn_live.proofs.LiveLemmas.{live_begun, none_lies, none_shows}
 
 -- a table in which the same numbers are taken tells the same
 retold : (tree : Tree) (old new : NumberTable) → ((n : ℕ) → is_taken_in new n ≡ is_taken_in old n) → TellsNumbers tree old → TellsNumbers tree new
@@ -33,21 +34,38 @@ module _ (old : LiveTree) (rests : HasNoPoint old) (top bottom : Overlay) (none 
       tells = subst (λ (t : Tree). TellsDirectories t old.directories) (sym begun_shows) live.shown.tells;
     };
     numbers = retold (through (layer_of top) (through (layer_of bottom) below)) old.numbers numbers taken (subst (λ (t : Tree). TellsNumbers t old.numbers) (sym begun_shows) live.numbers);
+    files = subst (λ (t : Tree). TellsNameless t old.without_names) (sym begun_shows) live.files;
     nameless = live.nameless ∙ ap nameless_in (sym begun_shows);
   }
 
--- the new root shows what the point wrote over the one before
-module _ (old : LiveTree) (root next : Tree) (is : next ≡ through (point_of old) root) (bottom : Overlay) (none : layer_of bottom ≡ no_changes) where
-  under : through (layer_of bottom) next ≡ through (point_of old) root
-  under = none_shows (layer_of bottom) next none ∙ is
+-- what changed since lies over the new root, and shows there what was shown
+module _ (old : LiveTree) (root next : Tree) (is : through (changes_of old) next ≡ shown_of old root) (bottom : Overlay) (none : layer_of bottom ≡ no_changes) where
+  under : through (layer_of bottom) next ≡ next
+  under = none_shows (layer_of bottom) next none
 
   pub ended_shows : through (changes_of old) (through (layer_of bottom) next) ≡ shown_of old root
-  ended_shows = ap (through (changes_of old)) under
+  ended_shows = ap (through (changes_of old)) under ∙ is
 
-  pub point_ended : (numbers : NumberTable) → ((n : ℕ) → is_taken_in numbers n ≡ is_taken_in old.numbers n) → IsLive old root → IsLive (record old { bottom = bottom; numbers = numbers }) next
-  point_ended numbers taken live = record {
+  pub point_ended : (numbers : NumberTable) → LiesOver (changes_of old) next → ((n : ℕ) → is_taken_in numbers n ≡ is_taken_in old.numbers n) → IsLive old root → IsLive (record old { bottom = bottom; numbers = numbers }) next
+  point_ended numbers lies taken live = record {
     point = none_lies (layer_of bottom) next none;
-    shown = subst (λ (t : Tree). IsShown (changes_of old) t old.directories) (sym under) live.shown;
+    shown = record {
+      lies = subst (LiesOver (changes_of old)) (sym under) lies;
+      whole = subst (IsTree version_1) (sym ended_shows) live.shown.whole;
+      tells = subst (λ (t : Tree). TellsDirectories t old.directories) (sym ended_shows) live.shown.tells;
+    };
     numbers = retold (through (changes_of old) (through (layer_of bottom) next)) old.numbers numbers taken (subst (λ (t : Tree). TellsNumbers t old.numbers) (sym ended_shows) live.numbers);
+    files = subst (λ (t : Tree). TellsNameless t old.without_names) (sym ended_shows) live.files;
     nameless = live.nameless ∙ ap nameless_in (sym ended_shows);
   }
+
+-- the new root shows all that was shown
+pub replaced_live : (old : LiveTree) (root next : Tree) → next ≡ shown_of old root → (top bottom : Overlay) → layer_of top ≡ no_changes → layer_of bottom ≡ no_changes → (numbers : NumberTable) → ((n : ℕ) → is_taken_in numbers n ≡ is_taken_in old.numbers n) → IsLive old root
+    → IsLive (record old { top = top; bottom = bottom; numbers = numbers }) next
+replaced_live old root next is top bottom over under numbers taken live =
+    live_begun (record old { top = top; bottom = bottom; numbers = numbers }) next over under
+    (subst (IsTree version_1) (sym is) live.shown.whole)
+    (subst (λ (t : Tree). TellsDirectories t old.directories) (sym is) live.shown.tells)
+    (retold next old.numbers numbers taken (subst (λ (t : Tree). TellsNumbers t old.numbers) (sym is) live.numbers))
+    (subst (λ (t : Tree). TellsNameless t old.without_names) (sym is) live.files)
+    (live.nameless ∙ ap nameless_in (sym is))

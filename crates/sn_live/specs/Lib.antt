@@ -1,3 +1,4 @@
 pub mod Nodes
 pub mod Live
 pub mod Prepared
+pub mod Unnamed

@@ -6,6 +6,7 @@ use Rattle.sn_live.specs.Nodes.{KeepsBackAlike}
 use Rattle.sn_live.specs.declared.live.LiveTree.{LiveTree}
 use Rattle.sn_model.specs.Settling.{is_nameless}
 use Rattle.sn_model.specs.Tree.{Tree}
+use Rattle.sn_number_table.specs.Nameless.{TellsNameless}
 use Rattle.sn_number_table.specs.Table.{TellsNumbers, kept_of, since_of}
 use Rattle.sn_overlay.specs.Layers.{Layer, through}
 use Rattle.sn_overlay.specs.Needs.{nameless_in}
@@ -30,6 +31,10 @@ kept_back_of live number = kept_of live.numbers number
 abbrev pub kept_since_of : LiveTree → ℕ → Bool
 kept_since_of live number = since_of live.numbers number
 
+-- how many files without names are counted
+abbrev pub count_of : LiveTree → ℕ
+count_of live = live.nameless
+
 -- no point is in progress
 abbrev pub HasNoPoint : LiveTree → Type 0
 HasNoPoint live = point_of live ≡ no_changes
@@ -38,11 +43,12 @@ HasNoPoint live = point_of live ≡ no_changes
 abbrev pub HasDrops : LiveTree → ℕ → Type 0
 HasDrops live drops = HasRoom live.top (record { nodes = drops; names = 0; blocks = 0 })
 
--- The state belongs to a tree below: what the point writes lies over it, and what changed since over that. What is shown is a name tree, both tables tell it, and so many of its files have no name.
+-- The state belongs to a tree below: what the point writes lies over it, and what changed since over that. What is shown is a name tree, both tables tell it, and those of its files that have no name are listed and counted.
 pub record IsLive (live : LiveTree) (below : Tree) : Type 0 where
   pub point : LiesOver (point_of live) below
   pub shown : IsShown (changes_of live) (through (point_of live) below) live.directories
   pub numbers : TellsNumbers (shown_of live below) live.numbers
+  pub files : TellsNameless (shown_of live below) live.without_names
   pub nameless : live.nameless ≡ nameless_in (shown_of live below)
 
 -- a file that is shown has no name

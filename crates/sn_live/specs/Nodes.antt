@@ -1,5 +1,5 @@
 -- What a change does to nodes and to files without names.
-use Rattle.std.specs.Prelude.{◌≡◌, ℕ, ◌+◌, ◌-◌, ◌^◌, not, ◌&&◌, ◌==◌, min, Option, None, Some, if◌then◌else◌}
+use Rattle.std.specs.Prelude.{◌≡◌, ℕ, ◌+◌, ◌-◌, ◌^◌, Bool, not, ◌&&◌, ◌||◌, ◌==◌, min, Option, None, Some, if◌then◌else◌}
 use Rattle.std.specs.FinMap as map
 use Rattle.sn_limits.specs.declared.kind.Kind.{Kind}
 use Rattle.sn_limits.specs.declared.kind.Kind.TheVariants.{File, Directory}
@@ -16,7 +16,7 @@ use Rattle.sn_number_table.specs.declared.table.NumberTable.{NumberTable}
 
 -- A directory goes with its name. A file stays, without names if it has no other one.
 abbrev pub losing_of : ℕ → Kind → ℕ → NodeMoves
-losing_of number File links = if links == 1 then Unname else Stay
+losing_of number File links = if links == 1 then Unname number else Stay
 losing_of number Directory links = Go number
 
 abbrev pub losing_node : Tree → ℕ → Option Node → NodeMoves
@@ -37,7 +37,7 @@ abbrev pub renaming : Tree → Link → Link → NodeMoves
 renaming tree old new = exchanging tree (map.get tree.links old) (map.get tree.links new)
 
 abbrev pub linking : Tree → ℕ → NodeMoves
-linking tree number = if is_nameless tree number (map.get tree.nodes number) then Name else Stay
+linking tree number = if is_nameless tree number (map.get tree.nodes number) then Name number else Stay
 
 abbrev pub making : Tree → ℕ → NodeMoves
 making tree number = Come number (is_nameless tree number (map.get tree.nodes number))
@@ -72,13 +72,29 @@ abbrev pub NotesNodes : NodeMoves → NumberTable → NumberTable → Type 0
 NotesNodes Stay old new = new ≡ old
 NotesNodes (Come number replaces) old new = NotesMade number old new
 NotesNodes (Go number) old new = NotesLost number old new
-NotesNodes Name old new = new ≡ old
-NotesNodes Unname old new = new ≡ old
+NotesNodes (Name number) old new = new ≡ old
+NotesNodes (Unname number) old new = new ≡ old
 
 -- and of the count of files without names
 abbrev pub nameless_after : ℕ → NodeMoves → ℕ
 nameless_after nameless Stay = nameless
 nameless_after nameless (Come number replaces) = if replaces then nameless - 1 else nameless
 nameless_after nameless (Go number) = nameless
-nameless_after nameless Name = nameless - 1
-nameless_after nameless Unname = min (nameless + 1) (2 ^ 32 - 1)
+nameless_after nameless (Name number) = nameless - 1
+nameless_after nameless (Unname number) = min (nameless + 1) (2 ^ 32 - 1)
+
+-- and of the list of them
+abbrev pub listed_after : NodeMoves → (ℕ → Bool) → ℕ → Bool
+listed_after Stay listed n = listed n
+listed_after (Come number replaces) listed n = not (n == number) && listed n
+listed_after (Go number) listed n = listed n
+listed_after (Name number) listed n = not (n == number) && listed n
+listed_after (Unname number) listed n = n == number || listed n
+
+-- the file that loses its last name, if one does
+abbrev pub lost_of : NodeMoves → Option ℕ
+lost_of Stay = None
+lost_of (Come number replaces) = None
+lost_of (Go number) = None
+lost_of (Name number) = None
+lost_of (Unname number) = Some number

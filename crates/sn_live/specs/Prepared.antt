@@ -1,5 +1,6 @@
 -- What is prepared for a change of a live tree.
-use Rattle.std.specs.Prelude.{◌≡◌, ℕ, Option, None, Some}
+use Rattle.std.specs.Prelude.{◌≡◌, ◌⊎◌, ℕ, true, Option, None, Some}
+use Rattle.std.specs.FinMap as map
 use Rattle.sn_limits.specs.Versions.{version_1}
 use Rattle.sn_live.specs.Nodes.{node_moves_of}
 use Rattle.sn_live.specs.declared.live.LiveTree.{LiveTree}
@@ -7,6 +8,7 @@ use Rattle.sn_live.specs.declared.preparing.PreparedLive.{PreparedLive}
 use Rattle.sn_logged.specs.Laid as laid
 use Rattle.sn_model.specs.declared.change.Change.{Change}
 use Rattle.sn_model.specs.Changes.{apply}
+use Rattle.sn_model.specs.Settling.{is_nameless}
 use Rattle.sn_model.specs.Tree.{Tree}
 
 -- the blocks that are charged for it
@@ -26,3 +28,7 @@ pub record CanBeMade (p : PreparedLive) (live : Tree) (change : Change) : Type 0
 abbrev pub IsPrepared : Option PreparedLive → Tree → Change → Type 0
 IsPrepared None live change = apply version_1 change live ≡ None
 IsPrepared (Some p) live change = CanBeMade p live change
+
+-- No file has lost its last name but the one that is told.
+abbrev pub LosesAtMost : Tree → Tree → Option ℕ → Type 0
+LosesAtMost old new lost = (number : ℕ) → is_nameless new number (map.get new.nodes number) ≡ true → (is_nameless old number (map.get old.nodes number) ≡ true) ⊎ (lost ≡ Some number)

@@ -1,45 +1,50 @@
 //! The state of a live tree.
-ghost use Rattle.std.specs.Prelude.{◌≡◌, ℕ, ◌+◌, ◌≤◌, ◌^◌, ◌==◌, ◌&&◌, ◌||◌, false, Some, IsTrue, IfOk, IfSome, OnErr, OnOk};
+ghost use Rattle.std.specs.Prelude.{◌≡◌, ℕ, ◌≤◌, ◌^◌, Some, IsTrue, IfOk, IfSome, OnOk};
+ghost use Rattle.std.specs.FinMap as map;
 ghost use Rattle.sn_directories.specs.Told.{IsShown, TellsDirectories};
 ghost use Rattle.sn_limits.specs.Versions.{version_1};
-ghost use Rattle.sn_live.specs.Live.{HasDrops, HasNoPoint, IsLive, KeepsBack, ShowsAlike, ShowsNameless, changes_of, kept_back_of, kept_since_of, point_of, shown_of};
+ghost use Rattle.sn_live.specs.Live.{HasDrops, HasNoPoint, IsLive, KeepsBack, ShowsAlike, changes_of, count_of, kept_back_of, kept_since_of, point_of, shown_of};
 ghost use Rattle.sn_live.specs.Prepared.{CanBeMade, HasRoomFor, IsPrepared, charge_of};
-ghost use Rattle.sn_model.specs.Changes.{apply, take_node};
+ghost use Rattle.sn_model.specs.Changes.{apply};
 ghost use Rattle.sn_model.specs.NameTree.{IsTree};
+ghost use Rattle.sn_model.specs.Settling.{is_nameless};
 ghost use Rattle.sn_model.specs.Tree.{Tree};
 ghost use Rattle.sn_model.specs.declared.change.Change.{Change as TheChange};
+ghost use Rattle.sn_number_table.specs.Nameless.{TellsNameless};
 ghost use Rattle.sn_number_table.specs.Table.{TellsNumbers, kept_of, since_of};
 ghost use Rattle.sn_numbers.specs.Numbers.{kept_after, next_number, since_after};
 ghost use Rattle.sn_overlay.specs.Layers.{through};
 ghost use Rattle.sn_overlay.specs.Merges.{merge};
 ghost use Rattle.sn_overlay.specs.Needs.{nameless_in};
-ghost use Rattle.sn_overlay.specs.Overlays.{gone, layer_of, no_changes};
+ghost use Rattle.sn_overlay.specs.Overlays.{layer_of, no_changes};
+ghost use Rattle.sn_overlay_change.specs.ChangeLayers.{layer_of_change};
 ghost use Rattle.sn_overlay_change.specs.Faults.{IfBelow};
 
-use crate::nodes::{nameless_after, note_drop, note_nodes};
+use crate::nodes::{nameless_after, note_names, note_nodes};
 use crate::preparing::{PreparedLive, prepare_through};
 use sn_directories::{Directories, KeepsNames};
 use sn_limits::Limits;
 use sn_logged::commit_change;
 use sn_model::Change;
-use sn_number_table::NumberTable;
+use sn_number_table::{NamelessFiles, NumberTable};
 use sn_overlay::Overlay;
 use sn_overlay_change::LayerFault;
 use std::alloc::{AllocError, Global};
-use std::mem;
 
 /// The state of a live tree over a tree below, which it doesn't hold: what changed of it, and what has to be known of
 /// the tree that is shown.
 #[derive(Drop)]
 pub struct LiveTree {
     /// What changed since the consistency point in progress began, or since the root where none is.
-    top: Overlay,
+    pub(crate) top: Overlay,
     /// What the consistency point in progress writes, nothing where none is.
-    bottom: Overlay,
+    pub(crate) bottom: Overlay,
     directories: Directories,
-    numbers: NumberTable,
-    /// How many files have no name.
-    nameless: u32,
+    pub(crate) numbers: NumberTable,
+    /// The files that have no name.
+    pub(crate) without_names: NamelessFiles,
+    /// How many they are.
+    pub(crate) nameless: u32,
 }
 
 impl LiveTree {
@@ -48,9 +53,10 @@ impl LiveTree {
         alloc: Global,
         directories: Directories,
         numbers: NumberTable,
+        without_names: NamelessFiles,
         nameless: u32,
     ) -> LiveTree
-        ensures live { (root : Tree) → IsTree version_1 root → TellsDirectories root directories → TellsNumbers root numbers → nameless ≡ nameless_in root → IsLive result root }
+        ensures live { (root : Tree) → IsTree version_1 root → TellsDirectories root directories → TellsNumbers root numbers → TellsNameless root without_names → nameless ≡ nameless_in root → IsLive result root }
         ensures shown { (root : Tree) → shown_of result root ≡ root }
         ensures point { HasNoPoint result }
         ensures changes { changes_of result ≡ no_changes }
@@ -62,15 +68,24 @@ impl LiveTree {
             bottom: Overlay::new(alloc),
             directories,
             numbers,
+            without_names,
             nameless,
         }
     }
 
     /// How many files of the tree that is shown have no name.
     pub fn nameless(&self) -> u32
-        ensures { (below : Tree) → IsLive self.now below → result ≡ nameless_in (shown_of self.now below) }
+        ensures exact { result ≡ count_of self.now }
+        ensures tells { (below : Tree) → IsLive self.now below → result ≡ nameless_in (shown_of self.now below) }
     {
         self.nameless
+    }
+
+    /// Whether a number is that of a file without names. No tree below is read for it.
+    pub fn is_nameless(&self, number: u16) -> bool
+        ensures { (below : Tree) → IsLive self.now below → result ≡ is_nameless (shown_of self.now below) number (map.get (shown_of self.now below).nodes number) }
+    {
+        self.without_names.contains(number)
     }
 
     /// The number that a new node gets: the least that no node has and that isn't kept back, or the least that no node
@@ -139,6 +154,7 @@ impl LiveTree {
         ensures prepared { IsTrue B.is_told → IfOk result (λ p. IsPrepared p (shown_of self.old (B.shows below.old)) change.now) }
         ensures room { IfOk result (λ p. IfSome p (λ prepared. HasRoomFor self.new prepared drops)) }
         ensures stays { (n : ℕ) → HasDrops self.old n → HasDrops self.new n }
+        ensures counted { count_of self.new ≡ count_of self.old }
         ensures few { IfOk result (λ p. IfSome p (λ prepared. charge_of prepared ≤ 2 ^ 64)) }
         ensures cause { IfBelow result (λ f. B.causes below.old below.new f) }
     {
@@ -154,13 +170,15 @@ impl LiveTree {
     }
 
     /// Makes a change that was prepared, where there is room for it: then what is shown is what the change makes of it,
-    /// and the state still belongs to it. Where the change gives out a number that is kept back, none is any more. It
+    /// and the state still belongs to it. What changed has grown by what the change makes different. Where the change gives out a number that is kept back, none is any more. It
     /// takes no memory, and leaves room for as many drops as there was beside the change.
     pub fn commit(&mut self, prepared: PreparedLive)
         requires { HasRoomFor self.old prepared 0 }
         ensures live { (below : Tree) (change : TheChange) → IsLive self.old below → CanBeMade prepared (shown_of self.old below) change → IsLive self.new below }
         ensures shown { (below : Tree) (change : TheChange) → IsLive self.old below → CanBeMade prepared (shown_of self.old below) change
             → apply version_1 change (shown_of self.old below) ≡ Some (shown_of self.new below) }
+        ensures merged { (below : Tree) (change : TheChange) → IsLive self.old below → CanBeMade prepared (shown_of self.old below) change
+            → changes_of self.new ≡ merge (changes_of self.old) (layer_of_change (shown_of self.old below) change) }
         ensures point { point_of self.new ≡ point_of self.old }
         ensures kept { (tree : Tree) (change : TheChange) → CanBeMade prepared tree change → (n : ℕ) → kept_back_of self.new n ≡ kept_after change (kept_back_of self.old) n }
         ensures since { (tree : Tree) (change : TheChange) → CanBeMade prepared tree change → (n : ℕ)
@@ -170,25 +188,8 @@ impl LiveTree {
         let PreparedLive { change, nodes } = prepared;
         commit_change(change, &mut self.top, &mut self.directories);
         note_nodes(&mut self.numbers, nodes);
+        note_names(&mut self.without_names, nodes);
         self.nameless = nameless_after(self.nameless, nodes);
-    }
-
-    /// Takes a file away that no name stands for, where there is room for a drop. `by_close` says that it goes with its
-    /// last descriptor, and then its number is kept back; that of one that goes with its last name can be given out at
-    /// once. It takes no memory.
-    pub fn drop_file(&mut self, number: u16, by_close: bool)
-        requires { HasDrops self.old 1 }
-        ensures live { (below : Tree) → IsLive self.old below → ShowsNameless self.old below number → IsLive self.new below }
-        ensures shown { (below : Tree) → IsLive self.old below → ShowsNameless self.old below number → shown_of self.new below ≡ take_node (shown_of self.old below) number }
-        ensures point { point_of self.new ≡ point_of self.old }
-        ensures changes { changes_of self.new ≡ merge (changes_of self.old) (gone number by_close) }
-        ensures kept { (n : ℕ) → kept_back_of self.new n ≡ (by_close && n == number || kept_back_of self.old n) }
-        ensures since { (n : ℕ) → kept_since_of self.new n ≡ (by_close && n == number || kept_since_of self.old n) }
-        ensures drops { (drops : ℕ) → HasDrops self.old (drops + 1) → HasDrops self.new drops }
-    {
-        self.top.drop_node(number, by_close);
-        note_drop(&mut self.numbers, number, by_close);
-        self.nameless = self.nameless.saturating_sub(1);
     }
 
     /// Makes room for so many drops. Whatever the answer, nothing that is shown changes, and no room for drops is lost.
@@ -199,45 +200,8 @@ impl LiveTree {
         ensures numbers { KeepsBack self.old self.new }
         ensures drops { OnOk result (HasDrops self.new drops) }
         ensures stays { (n : ℕ) → HasDrops self.old n → HasDrops self.new n }
+        ensures counted { count_of self.new ≡ count_of self.old }
     {
         self.top.reserve(usize::from(drops), 0, 0)
-    }
-
-    /// A consistency point begins, where none is in progress: what changed so far is handed out for it, and stays below
-    /// what changes from now on, which has room for so many drops. Nothing that is shown changes, and at `Err` nothing
-    /// at all.
-    pub fn begin_point(&mut self, alloc: Global, drops: u16) -> Result<Overlay, AllocError>
-        requires { HasNoPoint self.old }
-        ensures handed { IfOk result (λ point. layer_of point ≡ changes_of self.old) }
-        ensures point { OnOk result (point_of self.new ≡ changes_of self.old) }
-        ensures changes { OnOk result (changes_of self.new ≡ no_changes) }
-        ensures alike { ShowsAlike self.old self.new }
-        ensures kept { (n : ℕ) → kept_back_of self.new n ≡ kept_back_of self.old n }
-        ensures since { OnOk result ((n : ℕ) → kept_since_of self.new n ≡ false) }
-        ensures drops { OnOk result (HasDrops self.new drops) }
-        ensures same { OnErr result (self.new ≡ self.old) }
-    {
-        let point = self.top.copy(alloc)?;
-        let mut top = Overlay::new(alloc);
-        top.reserve(usize::from(drops), 0, 0)?;
-        self.bottom = mem::replace(&mut self.top, top);
-        self.numbers.begin_point();
-        Ok(point)
-    }
-
-    /// The root of the consistency point is durable, and shows what the point wrote over the root before: what is shown
-    /// over it is what was shown. Numbers that were kept back before the point began can be given out again. It takes
-    /// no memory.
-    pub fn end_point(&mut self, alloc: Global)
-        ensures live { (old new : Tree) → new ≡ through (point_of self.old) old → IsLive self.old old → IsLive self.new new }
-        ensures shown { (old new : Tree) → new ≡ through (point_of self.old) old → shown_of self.new new ≡ shown_of self.old old }
-        ensures point { HasNoPoint self.new }
-        ensures changes { changes_of self.new ≡ changes_of self.old }
-        ensures kept { (n : ℕ) → kept_back_of self.new n ≡ kept_since_of self.old n }
-        ensures since { (n : ℕ) → kept_since_of self.new n ≡ kept_since_of self.old n }
-        ensures drops { (drops : ℕ) → HasDrops self.old drops → HasDrops self.new drops }
-    {
-        self.bottom = Overlay::new(alloc);
-        self.numbers.end_point();
     }
 }

@@ -1,16 +1,17 @@
 //! What a change does to nodes and to files without names.
 ghost use Rattle.std.specs.Prelude.{◌≡◌, ℕ, ◌==◌, ◌&&◌, ◌||◌, IsTrue, IfErr, IfOk};
 ghost use Rattle.std.specs.FinMap as map;
-ghost use Rattle.sn_live.specs.Nodes.{NotesNodes, linking, losing, losing_of, making, nameless_after, node_moves_of, renaming};
+ghost use Rattle.sn_live.specs.Nodes.{NotesNodes, linking, listed_after, losing, losing_of, lost_of, making, nameless_after, node_moves_of, renaming};
 ghost use Rattle.sn_model.specs.Changes.{take_node};
 ghost use Rattle.sn_model.specs.Settling.{is_nameless};
 ghost use Rattle.sn_model.specs.Tree.{Tree, link_to};
+ghost use Rattle.sn_number_table.specs.Nameless.{is_listed};
 ghost use Rattle.sn_number_table.specs.Table.{TellsNumbers, kept_of, since_of};
 
 use sn_applies::NamedTree;
 use sn_limits::Kind;
 use sn_model::Change;
-use sn_number_table::NumberTable;
+use sn_number_table::{NamelessFiles, NumberTable};
 
 /// What a change does to nodes and to files without names.
 #[derive(Clone, Copy)]
@@ -21,10 +22,10 @@ pub(crate) enum NodeMoves {
     Come { number: u16, replaces: bool },
     /// A directory goes, and its number can be given out.
     Go { number: u16 },
-    /// A file without names gets one.
-    Name,
-    /// A file loses its last name, and stays.
-    Unname,
+    /// The file of this number had no names, and gets one.
+    Name { number: u16 },
+    /// The file of this number loses its last name, and stays.
+    Unname { number: u16 },
 }
 
 // Whether a number is that of a file without names.
@@ -51,7 +52,7 @@ fn losing_of(number: u16, kind: Kind, links: u16) -> NodeMoves
         Kind::Directory => NodeMoves::Go { number },
         Kind::File => {
             if links == 1 {
-                return NodeMoves::Unname;
+                return NodeMoves::Unname { number };
             }
             NodeMoves::Stay
         }
@@ -125,7 +126,7 @@ fn linking<T: NamedTree>(tree: &mut T, number: u16) -> Result<NodeMoves, T::Faul
     ensures cause { IfErr result (λ f. T.causes tree.old tree.new f) }
 {
     if is_nameless(tree, number)? {
-        return Ok(NodeMoves::Name);
+        return Ok(NodeMoves::Name { number });
     }
     Ok(NodeMoves::Stay)
 }
@@ -182,7 +183,7 @@ pub(crate) fn note_nodes(numbers: &mut NumberTable, moves: NodeMoves)
     match moves {
         NodeMoves::Come { number, .. } => numbers.make(number),
         NodeMoves::Go { number } => numbers.lose(number),
-        NodeMoves::Stay | NodeMoves::Name | NodeMoves::Unname => {}
+        NodeMoves::Stay | NodeMoves::Name { .. } | NodeMoves::Unname { .. } => {}
     }
 }
 
@@ -210,8 +211,30 @@ pub(crate) fn nameless_after(nameless: u32, moves: NodeMoves) -> u32
             }
             nameless
         }
-        NodeMoves::Name => nameless.saturating_sub(1),
-        NodeMoves::Unname => nameless.saturating_add(1),
+        NodeMoves::Name { .. } => nameless.saturating_sub(1),
+        NodeMoves::Unname { .. } => nameless.saturating_add(1),
         NodeMoves::Stay | NodeMoves::Go { .. } => nameless,
+    }
+}
+
+/// Notes in the list of the files without names what a change has done to them.
+pub(crate) fn note_names(files: &mut NamelessFiles, moves: NodeMoves)
+    ensures { (n : ℕ) → is_listed files.new n ≡ listed_after moves (is_listed files.old) n }
+{
+    match moves {
+        NodeMoves::Come { number, .. } | NodeMoves::Name { number } => files.remove(number),
+        NodeMoves::Unname { number } => files.insert(number),
+        NodeMoves::Stay | NodeMoves::Go { .. } => {}
+    }
+}
+
+/// The file that loses its last name, if one does.
+pub(crate) fn lost_of(moves: NodeMoves) -> Option<u16>
+    ensures { result ≡ lost_of moves }
+{
+    match moves {
+        NodeMoves::Unname { number } => Some(number),
+        NodeMoves::Stay | NodeMoves::Come { .. } | NodeMoves::Go { .. } | NodeMoves::Name { .. } =>
+            None,
     }
 }

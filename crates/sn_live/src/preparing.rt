@@ -1,15 +1,19 @@
 //! What is read and grown for a change of a live tree before it is made.
-ghost use Rattle.std.specs.Prelude.{◌≡◌, ◌≤◌, ◌^◌, IsTrue, IfErr, IfOk, IfSome};
+ghost use Rattle.std.specs.Prelude.{◌≡◌, ◌≤◌, ◌^◌, Some, IsTrue, IfErr, IfOk, IfSome};
 ghost use Rattle.sn_directories.specs.Told.{IsShown};
 ghost use Rattle.sn_live.specs.Nodes.{node_moves_of};
-ghost use Rattle.sn_live.specs.Prepared.{IsPrepared, charge_of};
+ghost use Rattle.sn_limits.specs.Versions.{version_1};
+ghost use Rattle.sn_live.specs.Prepared.{CanBeMade, IsPrepared, LosesAtMost, charge_of};
 ghost use Rattle.sn_logged.specs.Laid as laid;
+ghost use Rattle.sn_model.specs.Changes.{apply};
+ghost use Rattle.sn_model.specs.Tree.{Tree};
+ghost use Rattle.sn_model.specs.declared.change.Change.{Change as TheChange};
 ghost use Rattle.sn_overlay.specs.Layers.{through};
 ghost use Rattle.sn_overlay.specs.Overlays.{TakesRoom, layer_of};
 ghost use Rattle.sn_overlay.specs.Seen.{LiesOver};
 ghost use Rattle.sn_overlay_change.specs.Faults.{IfBelow};
 
-use crate::nodes::{NodeMoves, node_moves_of};
+use crate::nodes::{NodeMoves, lost_of, node_moves_of};
 use sn_directories::{Directories, KeepsNames, LoggedTree};
 use sn_logged::{PreparedChange, prepare_change};
 use sn_model::Change;
@@ -30,6 +34,13 @@ impl PreparedLive {
         ensures { result ≡ charge_of self.now }
     {
         self.change.charge()
+    }
+
+    /// The file that loses its last name by the change, if one does.
+    pub fn lost(&self) -> Option<u16>
+        ensures { (tree after : Tree) (change : TheChange) → CanBeMade self.now tree change → apply version_1 change tree ≡ Some after → LosesAtMost tree after result }
+    {
+        lost_of(self.nodes)
     }
 }
 

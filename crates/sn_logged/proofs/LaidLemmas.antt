@@ -14,6 +14,7 @@ use Rattle.sn_overlay.specs.Layers.{Layer, through}
 use Rattle.sn_overlay.specs.Merges.{merge}
 use Rattle.sn_overlay.specs.Overlays.{layer_of}
 use Rattle.sn_overlay.specs.Seen.{LiesOver}
+use Rattle.sn_overlay_change.specs.ChangeLayers.{layer_of_change}
 use Rattle.sn_logged.specs.Laid.{CanBeLaid, IsLaid}
 use Rattle.sn_logged.specs.Moves.{moves_of}
 use Rattle.sn_logged.specs.declared.moving.NameMoves.{NameMoves}
@@ -51,15 +52,17 @@ laid_of older between below change p charge charged after same can applied = (ap
 -- what was prepared over a tree that shows what was shown before
 module _ (now live : Tree) (same : now ≡ live) (change : Change) where
   pub can_be_laid : (charge : ℕ) (moves : NameMoves) (newer : Overlay) → IsHierarchy live → (after : Tree) → apply version_1 change live ≡ Some after
+      → ((a : Tree) → apply version_1 change now ≡ Some a → layer_of newer ≡ layer_of_change now change)
       → ((a : Tree) → IsHierarchy now → apply version_1 change now ≡ Some a → through (layer_of newer) now ≡ a)
       → ((a : Tree) → IsHierarchy now → apply version_1 change now ≡ Some a → LiesOver (layer_of newer) now)
       → charge ≡ charge_for version_1 live change → moves ≡ moves_of live change → CanBeLaid (record { charge = charge; moves = moves; newer = newer }) live change
-  can_be_laid charge moves newer whole after applied shows lies charged moved =
+  can_be_laid charge moves newer whole after applied layered shows lies charged moved =
       let whole_now = subst IsHierarchy (sym same) whole in
       let applied_now = ap (apply version_1 change) same ∙ applied in
       record {
         after = after;
         applied = applied;
+        layer = layered after applied_now ∙ ap (λ (t : Tree). layer_of_change t change) same;
         shows = subst (λ (t : Tree). through (layer_of newer) t ≡ after) same (shows after whole_now applied_now);
         lies = subst (LiesOver (layer_of newer)) same (lies after whole_now applied_now);
         charged = charged;

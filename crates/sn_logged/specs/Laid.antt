@@ -9,6 +9,7 @@ use Rattle.sn_overlay.specs.Layers.{through}
 use Rattle.sn_overlay.specs.Overlays.{HasRoom, and_drops, layer_of, sizes_of}
 use Rattle.sn_overlay.specs.Seen.{LiesOver}
 use Rattle.sn_overlay.specs.declared.overlay.Overlay.{Overlay}
+use Rattle.sn_overlay_change.specs.ChangeLayers.{layer_of_change}
 use Rattle.sn_logged.specs.Moves.{moves_of}
 use Rattle.sn_logged.specs.declared.preparing.PreparedChange.{PreparedChange}
 
@@ -20,10 +21,11 @@ charge_of p = p.charge
 abbrev pub HasRoomFor : Overlay → PreparedChange → ℕ → Type 0
 HasRoomFor overlay p drops = HasRoom overlay (and_drops (sizes_of p.newer) drops)
 
--- A change can be applied to a tree. Through its overlay, which lies over the tree, the tree is what the change makes of it; it is charged so much, and does so to names.
+-- A change can be applied to a tree. Its overlay has the layer of the change; through it, and it lies over the tree, the tree is what the change makes of it; it is charged so much, and does so to names.
 pub record CanBeLaid (p : PreparedChange) (live : Tree) (change : Change) : Type 0 where
   pub after : Tree
   pub applied : apply version_1 change live ≡ Some after
+  pub layer : layer_of p.newer ≡ layer_of_change live change
   pub shows : through (layer_of p.newer) live ≡ after
   pub lies : LiesOver (layer_of p.newer) live
   pub charged : p.charge ≡ charge_for version_1 live change

@@ -7,7 +7,9 @@ ghost use Rattle.sn_model.specs.Changes.{apply};
 ghost use Rattle.sn_model.specs.Tree.{Tree};
 ghost use Rattle.sn_model.specs.declared.change.Change.{Change as TheChange};
 ghost use Rattle.sn_overlay.specs.Layers.{through};
+ghost use Rattle.sn_overlay.specs.Merges.{merge};
 ghost use Rattle.sn_overlay.specs.Overlays.{HasRoom, TakesRoom, layer_of};
+ghost use Rattle.sn_overlay_change.specs.ChangeLayers.{layer_of_change};
 ghost use Rattle.sn_overlay_change.specs.Faults.{IfBelow};
 
 use crate::moving::note_moves;
@@ -74,13 +76,14 @@ pub fn prepare_change<B: KeepsNames>(
 
 /// Lays a change that was prepared over what is seen, where there is room for it: then the tree that is seen is the one that
 /// the change makes of it, and the table tells its directories. It takes no memory, and leaves room for as many drops as
-/// there was beside the change.
+/// there was beside the change. What the overlay makes different is then what it did, and what the change does beside.
 pub fn commit_change(prepared: PreparedChange, overlay: &mut Overlay, directories: &mut Directories)
     requires { HasRoomFor overlay.old prepared 0 }
     ensures shown { (below : Tree) (change : TheChange) → IsShown (layer_of overlay.old) below directories.old → CanBeLaid prepared (through (layer_of overlay.old) below) change
         → IsShown (layer_of overlay.new) below directories.new }
     ensures laid { (below : Tree) (change : TheChange) → IsShown (layer_of overlay.old) below directories.old → CanBeLaid prepared (through (layer_of overlay.old) below) change
         → apply version_1 change (through (layer_of overlay.old) below) ≡ Some (through (layer_of overlay.new) below) }
+    ensures merged { (live : Tree) (change : TheChange) → CanBeLaid prepared live change → layer_of overlay.new ≡ merge (layer_of overlay.old) (layer_of_change live change) }
     ensures drops { (drops : ℕ) → HasRoomFor overlay.old prepared drops → HasRoom overlay.new (record { nodes = drops; names = 0; blocks = 0 }) }
 {
     changes_keep_the_tree();

@@ -20,12 +20,13 @@ gone_is Taken = refl
 gone_is KeptBefore = refl
 gone_is KeptSince = refl
 
-pub none_marked : (n k : ℕ) → get_or (replicate n Free) k Free ≡ Free
-none_marked n k = told (nat_lt k n) refl
+-- in a list of so many of one thing, it is at each index
+pub one_everywhere : {X : Type 0} (x : X) (n k : ℕ) → get_or (replicate n x) k x ≡ x
+one_everywhere {X} x n k = told (nat_lt k n) refl
   where
-    told : (b : Bool) → nat_lt k n ≡ b → get_or (replicate n Free) k Free ≡ Free
-    told true e = get_or-replicate n k Free Free (ltb-true k n e)
-    told false e = get_or_past (replicate n Free) k Free (omega (arith, ltb-false k n e, length-replicate n Free))
+    told : (b : Bool) → nat_lt k n ≡ b → get_or (replicate n x) k x ≡ x
+    told true e = get_or-replicate n k x x (ltb-true k n e)
+    told false e = get_or_past (replicate n x) k x (omega (arith, ltb-false k n e, length-replicate n x))
 
 -- a search went on
 pub passed_on : (marks : Marks) (next end : ℕ) → ArePassed marks next → next ≤ end → end ≤ 65536 → ((n : ℕ) → next ≤ n → n < end → is_used (mark_at marks n) ≡ true) → ArePassed marks end

@@ -1,3 +1,4 @@
 pub mod Marked
 pub mod Marks
+pub mod Nameless
 pub mod Table

@@ -15,6 +15,8 @@
 //! 2. `mark` has what is known of a number, `marks` that of all of them, and `search` the two searches for one.
 //! 3. [`NumberTable`], the table. A search begins where the last one may have ended, which only losses lower and
 //!    the end of what was kept back.
+//! 4. [`NamelessFiles`], the numbers of the files without names, by `specs/Nameless`: a file that goes with its last
+//!    descriptor is known without a look at the tree.
 //!
 //! What the sources leave open is decided in `docs/DECISIONS.md`, under "The tree in memory".
 //!
@@ -30,7 +32,9 @@
 
 mod mark;
 mod marks;
+mod nameless;
 mod search;
 mod table;
 
+pub use nameless::NamelessFiles;
 pub use table::NumberTable;

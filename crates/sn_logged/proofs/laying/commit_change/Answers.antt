@@ -1,3 +1,5 @@
+use Rattle.std.proofs.Common.{ap, ◌∙◌}
+use Rattle.sn_overlay.specs.Merges.{merge}
 use Rattle.sn_overlay.specs.Overlays.{layer_of}
 use Rattle.sn_logged.proofs.LaidLemmas.{laid_now, still_shown}
 use Rattle.sn_logged.proofs.laying.commit_change.Goals as goal
@@ -10,3 +12,6 @@ returns-clause-shown c below change shown can =
 pub returns-clause-laid : goal.returns-clause-laid
 returns-clause-laid c below change shown can =
     laid_now (layer_of c.args.overlay.now) below c.args.directories.now c.note_moves.new.directories change c.args.prepared (layer_of c.merge.new.self) shown can c.merge.ensures.layer c.merges_show_both.ensures
+
+pub returns-clause-merged : goal.returns-clause-merged
+returns-clause-merged c live change can = c.merge.ensures.layer ∙ ap (merge (layer_of c.args.overlay.now)) can.layer

@@ -11,5 +11,5 @@ returns-clause-found g c told whole after applied =
     let charged = c.charge.ensures.same told in
     let moved = c.moves_of.ensures.same told in
     can_be_laid (g.T.Below.shows c.moves_of.new.tree) live (moved ∙ charged) change c.in-Ok.charge c.in-Ok-moves_of.moves c.in_ok-newer.newer whole after applied
-    (c.in_ok-newer.ensures.shows told) (c.in_ok-newer.ensures.lies told) (c.in-Ok.ensures.exact told)
+    (c.in_ok-newer.ensures.layer told) (c.in_ok-newer.ensures.shows told) (c.in_ok-newer.ensures.lies told) (c.in-Ok.ensures.exact told)
     (c.in-Ok-moves_of.ensures.found told ∙ ap (λ (t : Tree). moves_of t change) charged)
