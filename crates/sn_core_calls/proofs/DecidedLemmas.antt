@@ -1,5 +1,5 @@
 -- What was decided over a view, as what a call comes to over a world that it shows.
-use Rattle.std.proofs.Common.{◌≡◌, ℕ, List, Result, Ok, Err}
+use Rattle.std.proofs.Common.{◌≡◌, ℕ, List, Result, Ok, Err, IfOk}
 use Rattle.sn_walk.specs.declared.failure.Failure.{Failure}
 use Rattle.sn_walk.specs.declared.failure.Failure.TheVariants as failure
 use Rattle.sn_walk.specs.declared.object.Home.{Home}
@@ -63,3 +63,9 @@ view_looked_up (fault.View f) P h = h
 pub view_later : {F : Type 0} (e : FileFault F) (P Q : F → Type 0) → ((f : F) → P f → Q f) → OfLookUp e P → OfView (error_of e) Q
 view_later fault.Memory P Q so h = tt
 view_later (fault.View f) P Q so h = so f h
+
+-- ---- a call whose numbers are any
+
+pub if_any : {X E : Type 0} (r : Result X E) → IfOk r (λ x. Unit {0})
+if_any (Ok x) = tt
+if_any (Err e) = tt

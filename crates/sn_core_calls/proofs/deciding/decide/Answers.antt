@@ -7,3 +7,18 @@ use Rattle.sn_core_calls.proofs.deciding.decide.Goals as goal
 pub returns-clause-decided : goal.returns-clause-decided
 returns-clause-decided g c told world shows =
     subst (λ (w : World). Decides w c.args.session c.args.call.now c.decide_shown.result) (shown_world shows) (c.decide_shown.ensures.decided told world shows)
+
+pub returns-clause-kept : goal.returns-clause-kept
+returns-clause-kept g c = c.decide_shown.ensures.kept
+
+pub returns-clause-follows : goal.returns-clause-follows
+returns-clause-follows g c = c.decide_shown.ensures.follows
+
+pub returns-clause-same : goal.returns-clause-same
+returns-clause-same g c told = c.decide_shown.ensures.same told
+
+pub returns-clause-cause : goal.returns-clause-cause
+returns-clause-cause g c = c.decide_shown.ensures.cause
+
+pub returns-clause-numbers : goal.returns-clause-numbers
+returns-clause-numbers g c = c.decide_shown.ensures.numbers

@@ -1,95 +1,286 @@
+use Rattle.std.proofs.Common.{refl}
 use Rattle.std.proofs.lemmas.Result.{err_from_is_err_and}
+use Rattle.sn_core_calls.proofs.DecidedLemmas.{if_any}
 use Rattle.sn_core_calls.proofs.deciding.decide_shown.Goals as goal
 
-pub returns-in-Mkdir-clause-decided : goal.returns-in-Mkdir-clause-decided
-returns-in-Mkdir-clause-decided g c told world shows = rw c.in-Mkdir.is (c.decide_mkdir.ensures.decided told world shows)
+pub returns-in-Mkdir : goal.returns-in-Mkdir
+returns-in-Mkdir g c = record {
+  kept = c.decide_mkdir.ensures.kept;
+  follows = c.decide_mkdir.ensures.follows;
+  same = λ told. c.decide_mkdir.ensures.same told;
+  decided = λ told world shows. rw c.in-Mkdir.is (c.decide_mkdir.ensures.decided told world shows);
+  cause = c.decide_mkdir.ensures.cause;
+  numbers = rw c.in-Mkdir.is (if_any c.decide_mkdir.result);
+}
 
-pub returns-in-Chmod-clause-decided : goal.returns-in-Chmod-clause-decided
-returns-in-Chmod-clause-decided g c told world shows = rw c.in-Chmod.is (c.decide_chmod.ensures.decided told world shows)
+pub returns-in-Chmod : goal.returns-in-Chmod
+returns-in-Chmod g c = record {
+  kept = c.decide_chmod.ensures.kept;
+  follows = c.decide_chmod.ensures.follows;
+  same = λ told. c.decide_chmod.ensures.same told;
+  decided = λ told world shows. rw c.in-Chmod.is (c.decide_chmod.ensures.decided told world shows);
+  cause = c.decide_chmod.ensures.cause;
+  numbers = rw c.in-Chmod.is (if_any c.decide_chmod.result);
+}
 
-pub returns-in-Chown-clause-decided : goal.returns-in-Chown-clause-decided
-returns-in-Chown-clause-decided g c told world shows = rw c.in-Chown.is (c.decide_chown.ensures.decided told world shows)
+pub returns-in-Chown : goal.returns-in-Chown
+returns-in-Chown g c = record {
+  kept = c.decide_chown.ensures.kept;
+  follows = c.decide_chown.ensures.follows;
+  same = λ told. c.decide_chown.ensures.same told;
+  decided = λ told world shows. rw c.in-Chown.is (c.decide_chown.ensures.decided told world shows);
+  cause = c.decide_chown.ensures.cause;
+  numbers = rw c.in-Chown.is (if_any c.decide_chown.result);
+}
 
-pub returns-in-Stat-clause-decided : goal.returns-in-Stat-clause-decided
-returns-in-Stat-clause-decided g c told world shows = rw c.in-Stat.is (c.decide_stat.ensures.decided told world shows)
+pub returns-in-Stat : goal.returns-in-Stat
+returns-in-Stat g c = record {
+  kept = c.decide_stat.ensures.kept;
+  follows = c.decide_stat.ensures.follows;
+  same = λ told. c.decide_stat.ensures.same told;
+  decided = λ told world shows. rw c.in-Stat.is (c.decide_stat.ensures.decided told world shows);
+  cause = c.decide_stat.ensures.cause;
+  numbers = rw c.in-Stat.is (if_any c.decide_stat.result);
+}
 
-pub returns-in-Access-clause-decided : goal.returns-in-Access-clause-decided
-returns-in-Access-clause-decided g c told world shows = rw c.in-Access.is (c.decide_access.ensures.decided told world shows)
+pub returns-in-Access : goal.returns-in-Access
+returns-in-Access g c = record {
+  kept = c.decide_access.ensures.kept;
+  follows = c.decide_access.ensures.follows;
+  same = λ told. c.decide_access.ensures.same told;
+  decided = λ told world shows. rw c.in-Access.is (c.decide_access.ensures.decided told world shows);
+  cause = c.decide_access.ensures.cause;
+  numbers = rw c.in-Access.is (if_any c.decide_access.result);
+}
 
-pub returns-in-GetAcl-clause-decided : goal.returns-in-GetAcl-clause-decided
-returns-in-GetAcl-clause-decided g c told world shows = rw c.in-GetAcl.is (c.decide_getacl.ensures.decided told world shows)
+pub returns-in-GetAcl : goal.returns-in-GetAcl
+returns-in-GetAcl g c = record {
+  kept = c.decide_getacl.ensures.kept;
+  follows = c.decide_getacl.ensures.follows;
+  same = λ told. c.decide_getacl.ensures.same told;
+  decided = λ told world shows. rw c.in-GetAcl.is (c.decide_getacl.ensures.decided told world shows);
+  cause = c.decide_getacl.ensures.cause;
+  numbers = rw c.in-GetAcl.is (if_any c.decide_getacl.result);
+}
 
-pub returns-in-SetAcl-clause-decided : goal.returns-in-SetAcl-clause-decided
-returns-in-SetAcl-clause-decided g c told world shows = rw c.in-SetAcl.is (c.decide_setacl.ensures.decided told world shows)
+pub returns-in-SetAcl : goal.returns-in-SetAcl
+returns-in-SetAcl g c = record {
+  kept = c.decide_setacl.ensures.kept;
+  follows = c.decide_setacl.ensures.follows;
+  same = λ told. c.decide_setacl.ensures.same told;
+  decided = λ told world shows. rw c.in-SetAcl.is (c.decide_setacl.ensures.decided told world shows);
+  cause = c.decide_setacl.ensures.cause;
+  numbers = rw c.in-SetAcl.is (if_any c.decide_setacl.result);
+}
 
-pub returns-in-Rmdir-clause-decided : goal.returns-in-Rmdir-clause-decided
-returns-in-Rmdir-clause-decided g c told world shows = rw c.in-Rmdir.is (c.decide_rmdir.ensures.decided told world shows)
+pub returns-in-Rmdir : goal.returns-in-Rmdir
+returns-in-Rmdir g c = record {
+  kept = c.decide_rmdir.ensures.kept;
+  follows = c.decide_rmdir.ensures.follows;
+  same = λ told. c.decide_rmdir.ensures.same told;
+  decided = λ told world shows. rw c.in-Rmdir.is (c.decide_rmdir.ensures.decided told world shows);
+  cause = c.decide_rmdir.ensures.cause;
+  numbers = rw c.in-Rmdir.is (if_any c.decide_rmdir.result);
+}
 
-pub returns-in-Unlink-clause-decided : goal.returns-in-Unlink-clause-decided
-returns-in-Unlink-clause-decided g c told world shows = rw c.in-Unlink.is (c.decide_unlink.ensures.decided told world shows)
+pub returns-in-Unlink : goal.returns-in-Unlink
+returns-in-Unlink g c = record {
+  kept = c.decide_unlink.ensures.kept;
+  follows = c.decide_unlink.ensures.follows;
+  same = λ told. c.decide_unlink.ensures.same told;
+  decided = λ told world shows. rw c.in-Unlink.is (c.decide_unlink.ensures.decided told world shows);
+  cause = c.decide_unlink.ensures.cause;
+  numbers = rw c.in-Unlink.is (if_any c.decide_unlink.result);
+}
 
-pub returns-in-Link-clause-decided : goal.returns-in-Link-clause-decided
-returns-in-Link-clause-decided g c told world shows = rw c.in-Link.is (c.decide_link.ensures.decided told world shows)
+pub returns-in-Link : goal.returns-in-Link
+returns-in-Link g c = record {
+  kept = c.decide_link.ensures.kept;
+  follows = c.decide_link.ensures.follows;
+  same = λ told. c.decide_link.ensures.same told;
+  decided = λ told world shows. rw c.in-Link.is (c.decide_link.ensures.decided told world shows);
+  cause = c.decide_link.ensures.cause;
+  numbers = rw c.in-Link.is (if_any c.decide_link.result);
+}
 
-pub returns-in-Rename-clause-decided : goal.returns-in-Rename-clause-decided
-returns-in-Rename-clause-decided g c told world shows = rw c.in-Rename.is (c.decide_rename.ensures.decided told world shows)
+pub returns-in-Rename : goal.returns-in-Rename
+returns-in-Rename g c = record {
+  kept = c.decide_rename.ensures.kept;
+  follows = c.decide_rename.ensures.follows;
+  same = λ told. c.decide_rename.ensures.same told;
+  decided = λ told world shows. rw c.in-Rename.is (c.decide_rename.ensures.decided told world shows);
+  cause = c.decide_rename.ensures.cause;
+  numbers = rw c.in-Rename.is (if_any c.decide_rename.result);
+}
 
-pub returns-in-Readdir-clause-decided : goal.returns-in-Readdir-clause-decided
-returns-in-Readdir-clause-decided g c told world shows = rw c.in-Readdir.is (c.decide_readdir.ensures.decided told world shows)
+pub returns-in-Readdir : goal.returns-in-Readdir
+returns-in-Readdir g c = record {
+  kept = c.decide_readdir.ensures.kept;
+  follows = c.decide_readdir.ensures.follows;
+  same = λ told. c.decide_readdir.ensures.same told;
+  decided = λ told world shows. rw c.in-Readdir.is (c.decide_readdir.ensures.decided told world shows);
+  cause = c.decide_readdir.ensures.cause;
+  numbers = rw c.in-Readdir.is (if_any c.decide_readdir.result);
+}
 
-pub returns-in-Open-clause-decided : goal.returns-in-Open-clause-decided
-returns-in-Open-clause-decided g c told world shows = rw c.in-Open.is (c.decide_open.ensures.decided told world shows)
+pub returns-in-Open : goal.returns-in-Open
+returns-in-Open g c = record {
+  kept = c.decide_open.ensures.kept;
+  follows = c.decide_open.ensures.follows;
+  same = λ told. c.decide_open.ensures.same told;
+  decided = λ told world shows. rw c.in-Open.is (c.decide_open.ensures.decided told world shows);
+  cause = c.decide_open.ensures.cause;
+  numbers = rw c.in-Open.is (if_any c.decide_open.result);
+}
 
-pub returns-in-Read-clause-decided : goal.returns-in-Read-clause-decided
-returns-in-Read-clause-decided g c told world shows = rw c.in-Read.is (c.decide_read.ensures.decided told world shows)
+pub returns-in-Read : goal.returns-in-Read
+returns-in-Read g c = record {
+  kept = c.decide_read.ensures.kept;
+  follows = c.decide_read.ensures.follows;
+  same = λ told. c.decide_read.ensures.same told;
+  decided = λ told world shows. rw c.in-Read.is (c.decide_read.ensures.decided told world shows);
+  cause = c.decide_read.ensures.cause;
+  numbers = rw c.in-Read.is (if_any c.decide_read.result);
+}
 
-pub returns-in-Write-clause-decided : goal.returns-in-Write-clause-decided
-returns-in-Write-clause-decided g c told world shows = rw c.in-Write.is (c.decide_write.ensures.decided told world shows)
+pub returns-in-Write : goal.returns-in-Write
+returns-in-Write g c = record {
+  kept = c.decide_write.ensures.kept;
+  follows = c.decide_write.ensures.follows;
+  same = λ told. c.decide_write.ensures.same told;
+  decided = λ told world shows. rw c.in-Write.is (c.decide_write.ensures.decided told world shows);
+  cause = c.decide_write.ensures.cause;
+  numbers = rw c.in-Write.is (if_any c.decide_write.result);
+}
 
-pub returns-in_ok-decide_umask-in-Umask-clause-decided : goal.returns-in_ok-decide_umask-in-Umask-clause-decided
-returns-in_ok-decide_umask-in-Umask-clause-decided g c told world shows = rw c.in-Umask.is (c.in_ok-decide_umask-in-Umask.ensures world)
+pub returns-in_ok-decide_umask-in-Umask : goal.returns-in_ok-decide_umask-in-Umask
+returns-in_ok-decide_umask-in-Umask g c = record {
+  kept = c.requires;
+  follows = g.met.V.TreeView.follows_itself _;
+  same = λ told. refl;
+  decided = λ told world shows. rw c.in-Umask.is (c.in_ok-decide_umask-in-Umask.ensures world);
+  cause = tt;
+  numbers = rw c.in-Umask.is tt;
+}
 
-pub returns-in_err-decide_umask-in-Umask-clause-decided : goal.returns-in_err-decide_umask-in-Umask-clause-decided
-returns-in_err-decide_umask-in-Umask-clause-decided g c told world shows =
+pub returns-in_err-decide_umask-in-Umask : goal.returns-in_err-decide_umask-in-Umask
+returns-in_err-decide_umask-in-Umask g c =
     let p = err_from_is_err_and c.from_residual-in_err-decide_umask-in-Umask.result c.from_residual-in_err-decide_umask-in-Umask.ensures.1 in
-    rw (p.1, p.2, c.in-Umask.is) (c.in_err-decide_umask-in-Umask.ensures world)
+    record {
+      kept = c.requires;
+      follows = g.met.V.TreeView.follows_itself _;
+      same = λ told. refl;
+      decided = λ told world shows. rw (p.1, p.2, c.in-Umask.is) (c.in_err-decide_umask-in-Umask.ensures world);
+      cause = rw (p.1, p.2) tt;
+      numbers = rw p.1 tt;
+    }
 
-pub returns-in_ok-decide_logout-in-Logout-clause-decided : goal.returns-in_ok-decide_logout-in-Logout-clause-decided
-returns-in_ok-decide_logout-in-Logout-clause-decided g c told world shows = rw c.in-Logout.is (c.in_ok-decide_logout-in-Logout.ensures world)
+pub returns-in_ok-decide_logout-in-Logout : goal.returns-in_ok-decide_logout-in-Logout
+returns-in_ok-decide_logout-in-Logout g c = record {
+  kept = c.requires;
+  follows = g.met.V.TreeView.follows_itself _;
+  same = λ told. refl;
+  decided = λ told world shows. rw c.in-Logout.is (c.in_ok-decide_logout-in-Logout.ensures world);
+  cause = tt;
+  numbers = rw c.in-Logout.is tt;
+}
 
-pub returns-in_err-decide_logout-in-Logout-clause-decided : goal.returns-in_err-decide_logout-in-Logout-clause-decided
-returns-in_err-decide_logout-in-Logout-clause-decided g c told world shows =
+pub returns-in_err-decide_logout-in-Logout : goal.returns-in_err-decide_logout-in-Logout
+returns-in_err-decide_logout-in-Logout g c =
     let p = err_from_is_err_and c.from_residual-in_err-decide_logout-in-Logout.result c.from_residual-in_err-decide_logout-in-Logout.ensures.1 in
-    rw (p.1, p.2, c.in-Logout.is) (c.in_err-decide_logout-in-Logout.ensures world)
+    record {
+      kept = c.requires;
+      follows = g.met.V.TreeView.follows_itself _;
+      same = λ told. refl;
+      decided = λ told world shows. rw (p.1, p.2, c.in-Logout.is) (c.in_err-decide_logout-in-Logout.ensures world);
+      cause = rw (p.1, p.2) tt;
+      numbers = rw p.1 tt;
+    }
 
-pub returns-in_ok-decide_close-in-Close-clause-decided : goal.returns-in_ok-decide_close-in-Close-clause-decided
-returns-in_ok-decide_close-in-Close-clause-decided g c told world shows = rw c.in-Close.is (c.in_ok-decide_close-in-Close.ensures world)
+pub returns-in_ok-decide_close-in-Close : goal.returns-in_ok-decide_close-in-Close
+returns-in_ok-decide_close-in-Close g c = record {
+  kept = c.requires;
+  follows = g.met.V.TreeView.follows_itself _;
+  same = λ told. refl;
+  decided = λ told world shows. rw c.in-Close.is (c.in_ok-decide_close-in-Close.ensures world);
+  cause = tt;
+  numbers = rw c.in-Close.is tt;
+}
 
-pub returns-in_err-decide_close-in-Close-clause-decided : goal.returns-in_err-decide_close-in-Close-clause-decided
-returns-in_err-decide_close-in-Close-clause-decided g c told world shows =
+pub returns-in_err-decide_close-in-Close : goal.returns-in_err-decide_close-in-Close
+returns-in_err-decide_close-in-Close g c =
     let p = err_from_is_err_and c.from_residual-in_err-decide_close-in-Close.result c.from_residual-in_err-decide_close-in-Close.ensures.1 in
-    rw (p.1, p.2, c.in-Close.is) (c.in_err-decide_close-in-Close.ensures world)
+    record {
+      kept = c.requires;
+      follows = g.met.V.TreeView.follows_itself _;
+      same = λ told. refl;
+      decided = λ told world shows. rw (p.1, p.2, c.in-Close.is) (c.in_err-decide_close-in-Close.ensures world);
+      cause = rw (p.1, p.2) tt;
+      numbers = rw p.1 tt;
+    }
 
-pub returns-in_ok-decide_seek-in-Seek-clause-decided : goal.returns-in_ok-decide_seek-in-Seek-clause-decided
-returns-in_ok-decide_seek-in-Seek-clause-decided g c told world shows = rw c.in-Seek.is (c.in_ok-decide_seek-in-Seek.ensures world)
+pub returns-in_ok-decide_seek-in-Seek : goal.returns-in_ok-decide_seek-in-Seek
+returns-in_ok-decide_seek-in-Seek g c = record {
+  kept = c.requires;
+  follows = g.met.V.TreeView.follows_itself _;
+  same = λ told. refl;
+  decided = λ told world shows. rw c.in-Seek.is (c.in_ok-decide_seek-in-Seek.ensures world);
+  cause = tt;
+  numbers = rw c.in-Seek.is tt;
+}
 
-pub returns-in_err-decide_seek-in-Seek-clause-decided : goal.returns-in_err-decide_seek-in-Seek-clause-decided
-returns-in_err-decide_seek-in-Seek-clause-decided g c told world shows =
+pub returns-in_err-decide_seek-in-Seek : goal.returns-in_err-decide_seek-in-Seek
+returns-in_err-decide_seek-in-Seek g c =
     let p = err_from_is_err_and c.from_residual-in_err-decide_seek-in-Seek.result c.from_residual-in_err-decide_seek-in-Seek.ensures.1 in
-    rw (p.1, p.2, c.in-Seek.is) (c.in_err-decide_seek-in-Seek.ensures world)
+    record {
+      kept = c.requires;
+      follows = g.met.V.TreeView.follows_itself _;
+      same = λ told. refl;
+      decided = λ told world shows. rw (p.1, p.2, c.in-Seek.is) (c.in_err-decide_seek-in-Seek.ensures world);
+      cause = rw (p.1, p.2) tt;
+      numbers = rw p.1 tt;
+    }
 
-pub returns-in_ok-decide_ftruncate-in-Ftruncate-clause-decided : goal.returns-in_ok-decide_ftruncate-in-Ftruncate-clause-decided
-returns-in_ok-decide_ftruncate-in-Ftruncate-clause-decided g c told world shows = rw c.in-Ftruncate.is (c.in_ok-decide_ftruncate-in-Ftruncate.ensures world)
+pub returns-in_ok-decide_ftruncate-in-Ftruncate : goal.returns-in_ok-decide_ftruncate-in-Ftruncate
+returns-in_ok-decide_ftruncate-in-Ftruncate g c = record {
+  kept = c.requires;
+  follows = g.met.V.TreeView.follows_itself _;
+  same = λ told. refl;
+  decided = λ told world shows. rw c.in-Ftruncate.is (c.in_ok-decide_ftruncate-in-Ftruncate.ensures world);
+  cause = tt;
+  numbers = rw c.in-Ftruncate.is tt;
+}
 
-pub returns-in_err-decide_ftruncate-in-Ftruncate-clause-decided : goal.returns-in_err-decide_ftruncate-in-Ftruncate-clause-decided
-returns-in_err-decide_ftruncate-in-Ftruncate-clause-decided g c told world shows =
+pub returns-in_err-decide_ftruncate-in-Ftruncate : goal.returns-in_err-decide_ftruncate-in-Ftruncate
+returns-in_err-decide_ftruncate-in-Ftruncate g c =
     let p = err_from_is_err_and c.from_residual-in_err-decide_ftruncate-in-Ftruncate.result c.from_residual-in_err-decide_ftruncate-in-Ftruncate.ensures.1 in
-    rw (p.1, p.2, c.in-Ftruncate.is) (c.in_err-decide_ftruncate-in-Ftruncate.ensures world)
+    record {
+      kept = c.requires;
+      follows = g.met.V.TreeView.follows_itself _;
+      same = λ told. refl;
+      decided = λ told world shows. rw (p.1, p.2, c.in-Ftruncate.is) (c.in_err-decide_ftruncate-in-Ftruncate.ensures world);
+      cause = rw (p.1, p.2) tt;
+      numbers = rw p.1 tt;
+    }
 
-pub returns-in_ok-decide_sync-in-Sync-clause-decided : goal.returns-in_ok-decide_sync-in-Sync-clause-decided
-returns-in_ok-decide_sync-in-Sync-clause-decided g c told world shows = rw c.in-Sync.is (c.in_ok-decide_sync-in-Sync.ensures world)
+pub returns-in_ok-decide_sync-in-Sync : goal.returns-in_ok-decide_sync-in-Sync
+returns-in_ok-decide_sync-in-Sync g c = record {
+  kept = c.requires;
+  follows = g.met.V.TreeView.follows_itself _;
+  same = λ told. refl;
+  decided = λ told world shows. rw c.in-Sync.is (c.in_ok-decide_sync-in-Sync.ensures world);
+  cause = tt;
+  numbers = rw c.in-Sync.is tt;
+}
 
-pub returns-in_err-decide_sync-in-Sync-clause-decided : goal.returns-in_err-decide_sync-in-Sync-clause-decided
-returns-in_err-decide_sync-in-Sync-clause-decided g c told world shows =
+pub returns-in_err-decide_sync-in-Sync : goal.returns-in_err-decide_sync-in-Sync
+returns-in_err-decide_sync-in-Sync g c =
     let p = err_from_is_err_and c.from_residual-in_err-decide_sync-in-Sync.result c.from_residual-in_err-decide_sync-in-Sync.ensures.1 in
-    rw (p.1, p.2, c.in-Sync.is) (c.in_err-decide_sync-in-Sync.ensures world)
+    record {
+      kept = c.requires;
+      follows = g.met.V.TreeView.follows_itself _;
+      same = λ told. refl;
+      decided = λ told world shows. rw (p.1, p.2, c.in-Sync.is) (c.in_err-decide_sync-in-Sync.ensures world);
+      cause = rw (p.1, p.2) tt;
+      numbers = rw p.1 tt;
+    }
