@@ -1,5 +1,5 @@
 -- What a check finds of the log, and what is wrong with it.
-use Rattle.std.proofs.Common.{◌≡◌, ◌⊎◌, ℕ, ◌+◌, ◌*◌, ◌<◌, Bool, true, false, List, ◌++◌, Option, Some, Err, refl, sym, ap, subst, ◌∙◌, arith, leb-true, leb-false}
+use Rattle.std.proofs.Common.{◌≡◌, ◌⊎◌, ℕ, ◌+◌, ◌*◌, ◌<◌, Bool, true, false, List, ◌++◌, Option, Some, refl, sym, ap, subst, ◌∙◌, arith, leb-true, leb-false}
 use Rattle.sn_device.specs.Sectors.{Contents}
 use Rattle.sn_limits.specs.declared.limits.Limits.{Limits}
 use Rattle.sn_limits.specs.Versions.{version_1}
@@ -22,7 +22,7 @@ use Rattle.sn_room.specs.Rooms.{is_covered, mounted}
 use Rattle.sn_sound.specs.Charges.{Fits, charges_from}
 use Rattle.sn_sound.specs.Logs.{AreReplayed, HasAgeLeft, HasSoundLog, IsLogFault, IsToRecover, age, charges as overcharged, later}
 use Rattle.sn_examine.specs.Ages.{IsAged, TellsRecovery}
-use Rattle.sn_examine.specs.Both.{HasBoth, ReplaysBoth}
+use Rattle.sn_examine.specs.Both.{BothBreak, HasBoth}
 use Rattle.sn_examine.specs.Examining.{SomeIsLater}
 use Rattle.sn_examine.proofs.FindLemmas.{are_replayed, breaks_log, charges_are, recovers_after, recovers_before, tells_recovery}
 use Rattle.sn_check.specs.Faults.{IsDamageOf}
@@ -62,13 +62,13 @@ has_logged n c root at tree charges dropped recovers fits both nameless some non
 
 -- ---- faults
 
-pub both_tells : (f : MountFault) (n : ℕ) (c : Contents) (root : RootBody) (tree : Tree) (free : ℕ) → IsRootBody root → ReplaysBoth (Err f) c (image (store_of c) root.inode_file) n root.epoch tree → IsDamageOf (IsOfLog n c root free) f
-both_tells (fault.Damaged damage block) n c root tree free fits is = (is.0, breaks_log c n root free block fits is.1)
-both_tells fault.NotFormatted n c root tree free fits is = is
-both_tells fault.Version n c root tree free fits is = is
-both_tells fault.NoRoot n c root tree free fits is = is
-both_tells fault.Memory n c root tree free fits is = tt
-both_tells fault.Device n c root tree free fits is = tt
+pub both_tells : (f : MountFault) (n : ℕ) (c : Contents) (root : RootBody) (free : ℕ) → IsRootBody root → BothBreak f c (image (store_of c) root.inode_file) n root.epoch → IsDamageOf (IsOfLog n c root free) f
+both_tells (fault.Damaged damage block) n c root free fits is = (is.0, breaks_log c n root free block fits is.1)
+both_tells fault.NotFormatted n c root free fits is = is
+both_tells fault.Version n c root free fits is = is
+both_tells fault.NoRoot n c root free fits is = is
+both_tells fault.Memory n c root free fits is = tt
+both_tells fault.Device n c root free fits is = tt
 
 pub later_tells : (f : MountFault) (n : ℕ) (c : Contents) (root : RootBody) (free : ℕ) → SomeIsLater f c n (root.epoch + 1) → IsDamageOf (IsOfLog n c root free) f
 later_tells (fault.Damaged damage block) n c root free is = (is.0, subst (IsLogFault n c root free) (sym is.1.2) (later is.1.0 is.1.1))

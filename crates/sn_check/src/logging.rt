@@ -62,13 +62,13 @@ fn replay_log<D: Device>(
         Ok(dropped) => dropped,
         Err(fault) => return Err(fault),
     };
-    let replayed = match try_both(alloc, blocks, &it) {
-        Ok(replayed) => replayed,
+    let tried = match try_both(alloc, blocks, &it) {
+        Ok(tried) => tried,
         Err(fault) => return Err(fault),
     };
-    let recovers = is_to_recover(replayed.at.count(), dropped);
+    let recovers = is_to_recover(tried.at.count(), dropped);
     Ok(Logged {
-        charges: replayed.charges,
+        charges: tried.charges,
         dropped,
         recovers,
     })

@@ -1,28 +1,33 @@
 -- What look-ups that failed make of a check.
-use Rattle.std.proofs.Common.{◌≡◌, inl, inr, ℕ, Bool, IsTrue, Option, Some, None, List, Err, refl, sym, ap, subst, ◌∙◌}
+use Rattle.std.proofs.Common.{◌≡◌, inl, inr, ℕ, Bool, IsTrue, false, not, ◌&&◌, Option, Some, None, refl, ap, subst, ◌∙◌}
 use Rattle.sn_block.specs.declared.fault.ReadFault.TheVariants.{Device, Memory}
 use Rattle.sn_device.specs.Status.{has_ended}
 use Rattle.sn_device.specs.declared.status.Status.{Status}
-use Rattle.sn_changed.specs.Changed.{HasChanged}
 use Rattle.sn_device.specs.Sectors.{Contents}
-use Rattle.sn_directories.specs.Told.{IsShown, TellsDirectories}
-use Rattle.sn_directories.specs.declared.table.Counted.{Counted}
-use Rattle.sn_examine.specs.Both.{ReplaysBoth, in_older}
-use Rattle.sn_examine.specs.Replaying.{Breaks}
-use Rattle.sn_limits.specs.Versions.{version_1}
-use Rattle.sn_model.specs.NameTree.{IsTree}
-use Rattle.sn_model.specs.Tree.{Tree}
-use Rattle.sn_model.specs.declared.mount.MountFault.{MountFault}
-use Rattle.sn_model.specs.declared.mount.MountFault.TheVariants as fault
-use Rattle.sn_overlay.specs.Layers.{Layer, through}
-use Rattle.sn_overlay.specs.Overlays.{no_changes}
-use Rattle.sn_examine.proofs.ReplayLemmas.{failed_read, fails_reading, idle}
+use Rattle.sn_examine.specs.Both.{BothBreak, in_older}
 use Rattle.sn_examine.specs.Failing.{IsSoOf, WritesNothing}
 use Rattle.sn_examine.specs.Loading.{fault_of_tree}
+use Rattle.sn_examine.specs.Replaying.{Breaks}
 use Rattle.sn_examine.specs.Rooms.{IsNoDamage}
+use Rattle.sn_examine.proofs.ReplayLemmas.{failed_read, fails_reading, idle}
+use Rattle.sn_limits.specs.Versions.{version_1}
+use Rattle.sn_live.specs.Live.{kept_back_of, kept_since_of}
+use Rattle.sn_live.specs.declared.live.LiveTree.{LiveTree}
+use Rattle.sn_model.specs.Changes.{apply}
+use Rattle.sn_model.specs.Charges.{charge_for}
+use Rattle.sn_model.specs.NameTree.{IsTree}
+use Rattle.sn_model.specs.Tree.{Tree}
+use Rattle.sn_model.specs.declared.change.Change.{Change}
+use Rattle.sn_model.specs.declared.change.Change.TheVariants.{Make, AddLink, Remove, Rename, Write, SetSize, SetAttributes}
+use Rattle.sn_model.specs.declared.mount.MountFault.{MountFault}
+use Rattle.sn_model.specs.declared.mount.MountFault.TheVariants as fault
+use Rattle.sn_numbers.specs.Numbers.{kept_after, since_after}
+use Rattle.sn_overlay.specs.Merges.{merge}
+use Rattle.sn_overlay_change.specs.ChangeLayers.{layer_of_change}
 use Rattle.sn_rooted_tree.specs.Looks.{Stands}
 use Rattle.sn_tree_read.specs.declared.fault.TreeFault.{TreeFault}
 use Rattle.sn_tree_read.specs.declared.fault.TreeFault.TheVariants.{Read, Damaged}
+use Rattle.sn_check_log.specs.Trying.{IsTried, KeepsNone, TriesChange, changes_if, tree_of}
 
 -- nothing was written, whether a look-up failed or not
 pub looked_only : (told : Bool) (old new : Status) (fault : Option TreeFault) → Stands told old new None fault → WritesNothing old new
@@ -43,24 +48,54 @@ look_undamaged told old new (Read Device) body is fails = inr refl
 look_undamaged told old new (Read Memory) body is same = inl refl
 look_undamaged told old new (Damaged block) body is fails = absurd (fails.1 is)
 
+-- ---- one change
+
+-- from what shows the same and has changed the same
+pub tries_from : (charge : Option ℕ) (first live : Option LiveTree) (below : Tree) (change : Change) (after : Option LiveTree) → tree_of first below ≡ tree_of live below → changes_if first ≡ changes_if live
+    → TriesChange charge first below change after → TriesChange charge live below change after
+tries_from None first live below change after shows changed none = subst (λ (t : Tree). apply version_1 change t ≡ None) shows none
+tries_from (Some charge) first live below change after shows changed made = record {
+  applied = subst (λ (t : Tree). apply version_1 change t ≡ Some (tree_of after below)) shows made.applied;
+  charged = made.charged ∙ ap (λ (t : Tree). charge_for version_1 t change) shows;
+  merged = made.merged ∙ (λ i. merge (changed i) (layer_of_change (shows i) change));
+}
+
+pub whole_of : (live : Option LiveTree) (below : Tree) → IsTree version_1 below → IsTried live below → IsTree version_1 (tree_of live below)
+whole_of None below whole is = whole
+whole_of (Some live) below whole is = is.0.shown.whole
+
+-- no change keeps a number back
+no_more_kept : (change : Change) (kept : ℕ → Bool) (n : ℕ) → kept n ≡ false → kept_after change kept n ≡ false
+no_more_kept (Make directory name number kind o) kept n none = ap (λ (b : Bool). b && not (kept number)) none
+no_more_kept (AddLink directory name number) kept n none = none
+no_more_kept (Remove directory name) kept n none = none
+no_more_kept (Rename old_directory old_name new_directory new_name) kept n none = none
+no_more_kept (Write number offset bytes) kept n none = none
+no_more_kept (SetSize number size) kept n none = none
+no_more_kept (SetAttributes number o) kept n none = none
+
+no_more_since : (change : Change) (kept since : ℕ → Bool) (n : ℕ) → since n ≡ false → since_after change kept since n ≡ false
+no_more_since (Make directory name number kind o) kept since n none = ap (λ (b : Bool). b && not (kept number)) none
+no_more_since (AddLink directory name number) kept since n none = none
+no_more_since (Remove directory name) kept since n none = none
+no_more_since (Rename old_directory old_name new_directory new_name) kept since n none = none
+no_more_since (Write number offset bytes) kept since n none = none
+no_more_since (SetSize number size) kept since n none = none
+no_more_since (SetAttributes number o) kept since n none = none
+
+pub keeps_after : (change : Change) (old new : LiveTree) → ((n : ℕ) → kept_back_of new n ≡ kept_after change (kept_back_of old) n) → ((n : ℕ) → kept_since_of new n ≡ since_after change (kept_back_of old) (kept_since_of old) n) → KeepsNone old → KeepsNone new
+keeps_after change old new kept since none = record {
+  kept = λ n. kept n ∙ no_more_kept change (kept_back_of old) n (none.kept n);
+  since = λ n. since n ∙ no_more_since change (kept_back_of old) (kept_since_of old) n (none.since n);
+}
+
 -- ---- both epochs
 
--- where nothing changed yet, what is seen is the tree itself
-pub first_shown : (layer : Layer) (tree : Tree) (rows : List Counted) → layer ≡ no_changes → HasChanged version_1 no_changes tree tree 0 → IsTree version_1 tree → TellsDirectories tree rows → IsShown layer tree rows
-first_shown layer tree rows none has whole tells = subst (λ (l : Layer). IsShown l tree rows) (sym none) (record {
-  lies = has.lies;
-  whole = subst (IsTree version_1) (sym has.shows) whole;
-  tells = subst (λ (t : Tree). TellsDirectories t rows) (sym has.shows) tells;
-})
-
-pub seen_first : (layer : Layer) (tree : Tree) → layer ≡ no_changes → HasChanged version_1 no_changes tree tree 0 → through layer tree ≡ tree
-seen_first layer tree none has = ap (λ (l : Layer). through l tree) none ∙ has.shows
-
 -- one that breaks the root's epoch breaks both
-pub older_fails : (f : MountFault) (c : Contents) (from : Tree) (n epoch : ℕ) (tree : Tree) → Breaks f c from n epoch → ReplaysBoth (Err f) c from n epoch tree
-older_fails (fault.Damaged damage block) c from n epoch tree b = (b.0, in_older b.1)
-older_fails fault.NotFormatted c from n epoch tree b = b
-older_fails fault.Version c from n epoch tree b = b
-older_fails fault.NoRoot c from n epoch tree b = b
-older_fails fault.Memory c from n epoch tree b = tt
-older_fails fault.Device c from n epoch tree b = tt
+pub older_fails : (f : MountFault) (c : Contents) (from : Tree) (n epoch : ℕ) → Breaks f c from n epoch → BothBreak f c from n epoch
+older_fails (fault.Damaged damage block) c from n epoch b = (b.0, in_older b.1)
+older_fails fault.NotFormatted c from n epoch b = b
+older_fails fault.Version c from n epoch b = b
+older_fails fault.NoRoot c from n epoch b = b
+older_fails fault.Memory c from n epoch b = tt
+older_fails fault.Device c from n epoch b = tt

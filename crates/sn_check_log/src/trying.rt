@@ -1,25 +1,22 @@
-//! One change, tried over what is seen.
-ghost use Rattle.std.specs.Prelude.{◌≡◌, ◌≤◌, ◌^◌, IsTrue, IfErr, IfOk, IfSome, OnOk};
+//! One change, tried over what is shown.
+ghost use Rattle.std.specs.Prelude.{◌≡◌, ◌≤◌, ◌^◌, Some, IsTrue, IfErr, IfOk, IfSome, OnOk};
 ghost use Rattle.sn_block.specs.Lending.{device_of};
-ghost use Rattle.sn_check_log.specs.Trying.{IsSeen};
-ghost use Rattle.sn_directories.specs.Told.{IsShown};
+ghost use Rattle.sn_check_log.specs.Trying.{HasNoPointIf, IsTried, KeepsNone, KeepsNoneIf, TriesChange, changes_if, tree_of};
 ghost use Rattle.sn_examine.specs.Failing.{FailsAs, WritesNothing};
 ghost use Rattle.sn_examine.specs.Rooms.{IsNoDamage};
-ghost use Rattle.sn_logged.specs.Laid.{IsLaid};
-ghost use Rattle.sn_overlay.specs.Layers.{through};
-ghost use Rattle.sn_overlay.specs.Overlays.{layer_of};
+ghost use Rattle.sn_live.specs.Live.{HasNoPoint, IsLive, changes_of, point_of, shown_of};
+ghost use Rattle.sn_live.specs.Prepared.{CanBeMade, HasRoomFor, charge_of};
+ghost use Rattle.sn_model.specs.Tree.{Tree};
+ghost use Rattle.sn_model.specs.declared.change.Change.{Change as TheChange};
 ghost use Rattle.sn_rooted.specs.Roots.{IsSoundOn, tree_on};
 
-use crate::counting::count_directories;
+use crate::opening::live_over;
 use sn_block::Blocks;
-use sn_changed::changed_laws;
 use sn_device::Device;
-use sn_directories::Directories;
 use sn_examine::fault_of_tree;
 use sn_layout::{Geometry, RootBody};
-use sn_logged::lay_change;
+use sn_live::{LiveTree, PreparedLive};
 use sn_model::{Change, MountFault};
-use sn_overlay::Overlay;
 use sn_rooted_tree::RootedTree;
 use std::alloc::Global;
 
@@ -33,21 +30,36 @@ pub struct CheckedRoot<'a> {
     pub geometry: Geometry,
 }
 
-// Lays a change over what is seen of a root's tree, where it can be applied, and answers what it is charged. `None` where it
+// Makes a change that was prepared, and answers what it is charged.
+fn make_change(live: &mut LiveTree, prepared: PreparedLive) -> u128
+    requires { HasRoomFor live.old prepared 0 }
+    ensures live { (below : Tree) (change : TheChange) → IsLive live.old below → CanBeMade prepared (shown_of live.old below) change → IsLive live.new below }
+    ensures made { (below : Tree) (change : TheChange) → IsLive live.old below → CanBeMade prepared (shown_of live.old below) change
+        → TriesChange (Some result) (Some live.old) below change (Some live.new) }
+    ensures keeps { (tree : Tree) (change : TheChange) → CanBeMade prepared tree change → KeepsNone live.old → KeepsNone live.new }
+    ensures point { point_of live.new ≡ point_of live.old }
+    ensures charge { result ≡ charge_of prepared }
+{
+    let charge = prepared.charge();
+    live.commit(prepared);
+    charge
+}
+
+// Makes a change of what is shown of a root's tree, where it can be applied, and answers what it is charged. `None` where it
 // can't be applied.
 fn try_change<D: Device>(
     alloc: Global,
     blocks: &mut Blocks<D>,
     it: &CheckedRoot<'_>,
-    changed: &mut Overlay,
-    directories: &mut Directories,
+    live: &mut LiveTree,
     change: &Change<'_>,
 ) -> Result<Option<u128>, MountFault>
     requires sound { IsTrue D.tells_bytes → IsSoundOn blocks.old it.now.root.now.limits it.now.root.now.inode_file }
-    requires shown { IsTrue D.tells_bytes → IsShown (layer_of changed.old) (tree_on blocks.old it.now.root.now.inode_file) directories.old }
-    ensures shown { IsTrue D.tells_bytes → OnOk result (IsShown (layer_of changed.new) (tree_on blocks.old it.now.root.now.inode_file) directories.new) }
-    ensures laid { IsTrue D.tells_bytes → IfOk result (λ charge. IsLaid charge (through (layer_of changed.old) (tree_on blocks.old it.now.root.now.inode_file)) change.now
-        (through (layer_of changed.new) (tree_on blocks.old it.now.root.now.inode_file))) }
+    requires live { IsTrue D.tells_bytes → IsLive live.old (tree_on blocks.old it.now.root.now.inode_file) }
+    ensures live { IsTrue D.tells_bytes → OnOk result (IsLive live.new (tree_on blocks.old it.now.root.now.inode_file)) }
+    ensures tries { IsTrue D.tells_bytes → IfOk result (λ charge. TriesChange charge (Some live.old) (tree_on blocks.old it.now.root.now.inode_file) change.now (Some live.new)) }
+    ensures keeps { IsTrue D.tells_bytes → OnOk result (KeepsNone live.old → KeepsNone live.new) }
+    ensures point { point_of live.new ≡ point_of live.old }
     ensures undamaged { IsTrue D.tells_bytes → IfErr result IsNoDamage }
     ensures few { IfOk result (λ charge. IfSome charge (λ n. n ≤ 2 ^ 64)) }
     ensures same { IsTrue D.tells_bytes → D.disk (device_of blocks.new) ≡ D.disk (device_of blocks.old) }
@@ -61,58 +73,63 @@ fn try_change<D: Device>(
         root: it.root,
         fault: None,
     };
-    let laid = lay_change(alloc, &mut tree, changed, directories, change);
+    let prepared = live.prepare(alloc, &mut tree, change, 0);
     match tree.fault {
         Some(fault) => Err(fault_of_tree(fault, it.body)),
-        None => match laid {
-            Ok(charge) => Ok(charge),
+        None => match prepared {
+            Ok(Some(prepared)) => Ok(Some(make_change(live, prepared))),
+            Ok(None) => Ok(None),
             // No look-up has failed.
             Err(_) => Err(MountFault::Memory),
         },
     }
 }
 
-// The table of the directories that are seen. Where it wasn't counted yet, nothing has changed, and it is that of the root's
-// tree.
-fn counted<D: Device>(
+// The live tree so far. Where no record was tried yet, it is that of the root.
+fn opened<D: Device>(
     alloc: Global,
     blocks: &mut Blocks<D>,
     it: &CheckedRoot<'_>,
-    changed: &Overlay,
-    table: Option<Directories>,
-) -> Result<Directories, MountFault>
+    live: Option<LiveTree>,
+) -> Result<LiveTree, MountFault>
     requires sound { IsTrue D.tells_bytes → IsSoundOn blocks.old it.now.root.now.limits it.now.root.now.inode_file }
-    requires seen { IsTrue D.tells_bytes → IsSeen (layer_of changed.now) (tree_on blocks.old it.now.root.now.inode_file) table }
-    ensures shown { IsTrue D.tells_bytes → IfOk result (λ directories. IsShown (layer_of changed.now) (tree_on blocks.old it.now.root.now.inode_file) directories) }
+    requires tried { IsTrue D.tells_bytes → IsTried live (tree_on blocks.old it.now.root.now.inode_file) }
+    requires point { HasNoPointIf live }
+    requires keeps { IsTrue D.tells_bytes → KeepsNoneIf live }
+    ensures live { IsTrue D.tells_bytes → IfOk result (λ l. IsLive l (tree_on blocks.old it.now.root.now.inode_file)) }
+    ensures shown { IsTrue D.tells_bytes → IfOk result (λ l. shown_of l (tree_on blocks.old it.now.root.now.inode_file) ≡ tree_of live (tree_on blocks.old it.now.root.now.inode_file)) }
+    ensures changes { IfOk result (λ l. changes_of l ≡ changes_if live) }
+    ensures point { IfOk result HasNoPoint }
+    ensures keeps { IsTrue D.tells_bytes → IfOk result KeepsNone }
     ensures undamaged { IsTrue D.tells_bytes → IfErr result IsNoDamage }
     ensures same { IsTrue D.tells_bytes → D.disk (device_of blocks.new) ≡ D.disk (device_of blocks.old) }
     ensures idle { OnOk result (D.status (device_of blocks.new) ≡ D.status (device_of blocks.old)) }
     ensures reads { WritesNothing (D.status (device_of blocks.old)) (D.status (device_of blocks.new)) }
     ensures failed { FailsAs result (D.status (device_of blocks.old)) (D.status (device_of blocks.new)) }
 {
-    // Through nothing that changed the root's tree is seen.
-    changed_laws();
-    match table {
-        Some(directories) => Ok(directories),
-        None => count_directories(alloc, blocks, it),
+    match live {
+        Some(live) => Ok(live),
+        None => live_over(alloc, blocks, it),
     }
 }
 
-/// Lays a change over what is seen of a root's tree, where it can be applied, and answers what it is charged. `None` where it
-/// can't be applied. The table is counted once a change asks for it: an empty log needs none.
-pub(crate) fn try_counted<D: Device>(
+/// Makes a change of what is shown of a root's tree, where it can be applied, and answers what it is charged. `None` where it
+/// can't be applied. The tree's tables are counted once a change asks for them: an empty log needs none.
+pub(crate) fn try_opened<D: Device>(
     alloc: Global,
     blocks: &mut Blocks<D>,
     it: &CheckedRoot<'_>,
-    changed: &mut Overlay,
-    table: &mut Option<Directories>,
+    live: &mut Option<LiveTree>,
     change: &Change<'_>,
 ) -> Result<Option<u128>, MountFault>
     requires sound { IsTrue D.tells_bytes → IsSoundOn blocks.old it.now.root.now.limits it.now.root.now.inode_file }
-    requires seen { IsTrue D.tells_bytes → IsSeen (layer_of changed.old) (tree_on blocks.old it.now.root.now.inode_file) table.old }
-    ensures seen { IsTrue D.tells_bytes → OnOk result (IsSeen (layer_of changed.new) (tree_on blocks.old it.now.root.now.inode_file) table.new) }
-    ensures laid { IsTrue D.tells_bytes → IfOk result (λ charge. IsLaid charge (through (layer_of changed.old) (tree_on blocks.old it.now.root.now.inode_file)) change.now
-        (through (layer_of changed.new) (tree_on blocks.old it.now.root.now.inode_file))) }
+    requires tried { IsTrue D.tells_bytes → IsTried live.old (tree_on blocks.old it.now.root.now.inode_file) }
+    requires point { HasNoPointIf live.old }
+    requires keeps { IsTrue D.tells_bytes → KeepsNoneIf live.old }
+    ensures tried { IsTrue D.tells_bytes → OnOk result (IsTried live.new (tree_on blocks.old it.now.root.now.inode_file)) }
+    ensures tries { IsTrue D.tells_bytes → IfOk result (λ charge. TriesChange charge live.old (tree_on blocks.old it.now.root.now.inode_file) change.now live.new) }
+    ensures point { HasNoPointIf live.new }
+    ensures keeps { IsTrue D.tells_bytes → OnOk result (KeepsNoneIf live.new) }
     ensures undamaged { IsTrue D.tells_bytes → IfErr result IsNoDamage }
     ensures few { IfOk result (λ charge. IfSome charge (λ n. n ≤ 2 ^ 64)) }
     ensures same { IsTrue D.tells_bytes → D.disk (device_of blocks.new) ≡ D.disk (device_of blocks.old) }
@@ -120,8 +137,8 @@ pub(crate) fn try_counted<D: Device>(
     ensures reads { WritesNothing (D.status (device_of blocks.old)) (D.status (device_of blocks.new)) }
     ensures failed { FailsAs result (D.status (device_of blocks.old)) (D.status (device_of blocks.new)) }
 {
-    let mut directories = counted(alloc, blocks, it, changed, table.take())?;
-    let charge = try_change(alloc, blocks, it, changed, &mut directories, change)?;
-    *table = Some(directories);
+    let mut opened = opened(alloc, blocks, it, live.take())?;
+    let charge = try_change(alloc, blocks, it, &mut opened, change)?;
+    *live = Some(opened);
     Ok(charge)
 }

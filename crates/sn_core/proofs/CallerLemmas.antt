@@ -29,7 +29,7 @@ use Rattle.sn_model.proofs.SettlingLemmas.{get_without}
 use Rattle.sn_changed.proofs.HoldsLemmas.{StillHolds}
 use Rattle.sn_desc.specs.Closing.{released_if}
 use Rattle.sn_desc.proofs.ReleaseLemmas.{told_last}
-use Rattle.sn_core.specs.Called.{AreNumbers, CanTurn, HasRoom, TellsReleased}
+use Rattle.sn_core.specs.Called.{AreNumbers, CanTurn, HasRoom, HasRoomNow, TellsReleased}
 
 -- ---- what is released
 
@@ -42,6 +42,27 @@ some_within : (sessions : List (Option Session)) (i : ℕ) → IsSomeAnd (slice_
 some_within [] i h = absurd h
 some_within (s ∷ sessions) zero h = omega arith
 some_within (s ∷ sessions) (suc i) h = omega (arith, some_within sessions i h)
+
+-- where a file is opened with its number there is room for it
+pub can_room : (table : Descriptors) (room session : ℕ) (caller : Caller) → CanTurn table room session caller → HasRoomNow caller room
+can_room table room session Stays can = tt
+can_room table room session (LogsIn s) can = tt
+can_room table room session (SetsUmask mask) can = tt
+can_room table room session LogsOut can = tt
+can_room table room session (Opens fd home number flags) can = can.room_left
+can_room table room session (OpensNew fd flags) can = tt
+can_room table room session (Closes fd) can = tt
+can_room table room session (Moves fd offset) can = tt
+
+pub has_room : (room : ℕ) (caller : Caller) → HasRoom caller room → HasRoomNow caller room
+has_room room Stays has = tt
+has_room room (LogsIn s) has = tt
+has_room room (SetsUmask mask) has = tt
+has_room room LogsOut has = tt
+has_room room (Opens fd home number flags) has = has refl
+has_room room (OpensNew fd flags) has = tt
+has_room room (Closes fd) has = tt
+has_room room (Moves fd offset) has = tt
 
 module _ (world : World) (session room : ℕ) (count : length world.sessions ≡ 64) where
   seat_within : IsLoggedIn world session → session < 64

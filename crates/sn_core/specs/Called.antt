@@ -11,6 +11,17 @@ use Rattle.sn_model.specs.World.{World}
 abbrev pub HasRoom : Caller → ℕ → Type 0
 HasRoom caller room = is_opening caller ≡ true → 0 < room
 
+-- the same of a file that is opened with its number: a new one gets that first
+abbrev pub HasRoomNow : Caller → ℕ → Type 0
+HasRoomNow Stays room = Unit {0}
+HasRoomNow (LogsIn s) room = Unit {0}
+HasRoomNow (SetsUmask mask) room = Unit {0}
+HasRoomNow LogsOut room = Unit {0}
+HasRoomNow (Opens fd home number flags) room = 0 < room
+HasRoomNow (OpensNew fd flags) room = Unit {0}
+HasRoomNow (Closes fd) room = Unit {0}
+HasRoomNow (Moves fd offset) room = Unit {0}
+
 -- what is opened gets the session's next descriptor, and there is room for it
 pub record IsNext (table : Descriptors) (room session fd : ℕ) : Type 0 where
   pub session_within : session < 64

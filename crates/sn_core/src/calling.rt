@@ -1,21 +1,21 @@
 //! What becomes of whoever called, and of files that nobody has and no name stands for.
-ghost use Rattle.std.specs.Prelude.{◌≡◌, ◌+◌, ◌<◌, ◌≤◌, ◌==◌, ◌&&◌, ◌||◌, ℕ, true, false, All, Ok, Contains, OnOk, OnErr, is_some, length, if◌then◌else◌};
+ghost use Rattle.std.specs.Prelude.{◌≡◌, ◌+◌, ◌<◌, ◌≤◌, ◌==◌, ◌&&◌, ◌||◌, ℕ, true, false, All, Contains, OnOk, OnErr, is_some, length, if◌then◌else◌};
 ghost use Rattle.arrayvec.specs.ArrayVec.{array_vec_len};
 ghost use Rattle.sn_changed.specs.Dropped.{TellsGone};
-ghost use Rattle.sn_desc.specs.InUse.{descriptor_of, live_in};
+ghost use Rattle.sn_desc.specs.InUse.{live_in};
 ghost use Rattle.sn_limits.specs.Versions.{version_1};
-ghost use Rattle.sn_model.specs.Descriptors.{next_descriptor, opened};
 ghost use Rattle.sn_model.specs.NameTree.{IsTree};
 ghost use Rattle.sn_model.specs.Outcomes.{is_opening};
 ghost use Rattle.sn_model.specs.Settling.{OnlyLost, dropped, dropped_if, is_abandoned, is_held};
-ghost use Rattle.sn_model.specs.Steps.{with_caller, with_descriptors};
+ghost use Rattle.sn_model.specs.Steps.{with_caller};
 ghost use Rattle.sn_core.specs.Called.{AreNumbers, CanTurn, HasRoom, TellsReleased, WereHeld};
 ghost use Rattle.sn_core.specs.Numbering.{has_closed, has_gone};
 ghost use Rattle.sn_core.specs.Told.{dropped_lost, told_if, told_lost};
 
 use crate::PlainWorld;
+use crate::turning::turn;
 use sn_changed::{DroppedFile, DroppedFiles};
-use sn_desc::{OpenFile, Released};
+use sn_desc::Released;
 use sn_model::Caller;
 use std::alloc::AllocError;
 
@@ -37,37 +37,6 @@ impl PlainWorld {
         }
     }
 
-    /// Opens a file under the session's next descriptor.
-    fn open(&mut self, session: u32, file: OpenFile)
-        requires session { session < 64 }
-        requires room { 0 < room_of self.old }
-        ensures kept { kept_of self.new ≡ kept_of self.old }
-        ensures since { kept_since_of self.new ≡ kept_since_of self.old }
-        ensures opened { (fd : ℕ) → next_descriptor (world_of self.old).descriptors session ≡ Ok fd → world_of self.new ≡ with_descriptors (world_of self.old) (opened (world_of self.old).descriptors session fd (descriptor_of file)) }
-    {
-        match self.sessions.open(session, file) {
-            Ok(_) => {}
-            // The session had its next descriptor when the call was decided.
-            Err(_) => {}
-        }
-    }
-
-    /// Closes a descriptor, and tells the live file that no descriptor has any more.
-    fn close(&mut self, session: u32, fd: u32) -> Released
-        ensures world { world_of self.new ≡ with_caller (world_of self.old) session (Caller.Closes fd) }
-        ensures kept { kept_of self.new ≡ kept_of self.old }
-        ensures since { kept_since_of self.new ≡ kept_since_of self.old }
-        ensures released { TellsReleased (world_of self.old) (world_of self.new) result.items }
-        ensures held { WereHeld (world_of self.old) result.items }
-        ensures few { array_vec_len result + live_in (world_of self.new).descriptors ≤ live_in (world_of self.old).descriptors }
-    {
-        let mut released = Released::new();
-        if let Some(number) = self.sessions.close_if_open(session, fd) {
-            released.push(number);
-        }
-        released
-    }
-
     /// Sets what becomes of a caller's session and its descriptors, and tells the live files that no
     /// descriptor has any more.
     fn turn(&mut self, session: u32, caller: Caller) -> Released
@@ -79,31 +48,7 @@ impl PlainWorld {
         ensures held { WereHeld (world_of self.old) result.items }
         ensures few { array_vec_len result + live_in (world_of self.new).descriptors ≤ live_in (world_of self.old).descriptors + (if is_opening caller then 1 else 0) }
     {
-        match caller {
-            Caller::Stays | Caller::OpensNew { .. } => {}
-            Caller::LogsIn(new) => self.sessions.login(session, new),
-            Caller::SetsUmask(mask) => self.sessions.set_umask(session, mask),
-            Caller::LogsOut => return self.sessions.logout(session),
-            Caller::Opens {
-                fd: _,
-                home,
-                number,
-                flags,
-            } => self.open(
-                session,
-                OpenFile {
-                    home,
-                    number,
-                    readable: flags.read,
-                    writable: flags.write,
-                    appends: flags.append,
-                    offset: 0,
-                },
-            ),
-            Caller::Closes { fd } => return self.close(session, fd),
-            Caller::Moves { fd, offset } => self.sessions.set_offset(session, fd, offset),
-        }
-        Released::new()
+        turn(&mut self.sessions, session, caller)
     }
 
     /// Whether a number is that of a live file that no name stands for and nobody has open.

@@ -1,25 +1,30 @@
 -- What a step of a point in progress makes of a mount.
-use Rattle.std.proofs.Common.{◌≡◌, ◌≢◌, Result, refl, sym, subst}
+use Rattle.std.proofs.Common.{◌≡◌, ◌≢◌, [], Result, refl, sym, subst, ◌∙◌}
 use Rattle.std.specs.Prelude.{OnOk}
 use Rattle.sn_block.proofs.EffectLemmas.{OnOk-both, OnOk-then}
 use Rattle.sn_device.specs.Crash.{Touches}
 use Rattle.sn_device.specs.Disk.{Disk, reads}
-use Rattle.sn_device.specs.Sectors.{AreSectors}
+use Rattle.sn_device.specs.Sectors.{AreSectors, Contents}
 use Rattle.sn_device.specs.declared.device.Fault.{Fault}
-use Rattle.sn_device.proofs.CrashLemmas.{Touches-within}
+use Rattle.sn_device.proofs.CrashLemmas.{Always-reads, Touches-within}
 use Rattle.sn_held.specs.Held.{Held}
+use Rattle.sn_held.proofs.RoomLemmas.{image_same}
+use Rattle.sn_layout.specs.declared.root.RootBody.{RootBody}
 use Rattle.sn_model.specs.Tree.{Tree}
 use Rattle.sn_model.specs.World.{World}
 use Rattle.sn_cp.specs.Points.{Work, stage_of, work_of}
 use Rattle.sn_cp.specs.Showing.{InPoint, IsBeforeOpening}
 use Rattle.sn_cp.specs.Steps.{InStep, IsWhole, IsWithin, StandsAtStage, StepsTo, next_stage}
 use Rattle.sn_cp.specs.declared.point.Point.{Point}
+use Rattle.sn_cp.proofs.ShowLemmas.{steps_keep}
+use Rattle.sn_ondisk.specs.Trees.{store_of}
+use Rattle.sn_opening.specs.Opens.{Shows}
 use Rattle.sn_cp.specs.declared.stage.Stage.{Stage}
 use Rattle.sn_cp.specs.declared.stage.Stage.TheVariants.{Blocks, MapBlocks, Stored, Shut, Bodied, Done}
 use Rattle.sn_cp_progress.specs.Meaning.{progress_over}
-use Rattle.sn_cp_progress.specs.Progress.{RunsOn}
-use Rattle.sn_cp_progress.proofs.StepLemmas.{next_within, step_goes_on, step_leaves}
-use Rattle.sn_cp_whole.specs.Going.{StepsOn, going_of}
+use Rattle.sn_cp_progress.specs.Progress.{Progress, RunsOn}
+use Rattle.sn_cp_progress.proofs.StepLemmas.{beside, next_within, step_goes_on, step_leaves}
+use Rattle.sn_cp_whole.specs.Going.{KeepsTree, StepsOn, going_of}
 use Rattle.sn_cp_whole.specs.declared.going.GoingPoint.{GoingPoint}
 
 -- a step that isn't the last comes before the gate is opened
@@ -61,3 +66,14 @@ module _ (old new : Point) where
     where
       ahead : StandsAtStage (work_of old) (next_stage (work_of old) (stage_of old)) d → stage_of new ≡ next_stage (work_of old) (stage_of old) → StandsAtStage (work_of new) (stage_of new) d
       ahead there next = subst (λ (w : Work). StandsAtStage w (stage_of new) d) (sym same) (subst (λ (stage : Stage). StandsAtStage (work_of old) stage d) (sym next) there)
+
+-- It leaves the tree of the root that counts as it is.
+pub tree_stays : (h : Held) (world : World) (p : Progress) (on : RunsOn h world p) (result : Result (Unit {0}) Fault) (d : Disk) → AreSectors (reads d) → IsBeforeOpening p.stage → StepsTo p.work p.stage result h.disk d → KeepsTree h.base.root h.disk d
+tree_stays h world p on result d whole before step =
+    let r = on.runs in
+    let shows = λ (c : Contents). Shows p.work.blocks r.store r.slot r.root r.older r.newer c in
+    let now = beside h world p on in
+    let then = steps_keep p.work on.point.of.whole r.store r.slot r.root r.older r.newer r.newer [] result h.disk d r.stands.disk.whole now p.stage on.point.within before step in
+    let was = Always-reads h.disk shows r.stands.disk.whole now.shown in
+    let is = Always-reads d shows whole then.1.shown in
+    subst (λ (b : RootBody). KeepsTree b h.disk d) (sym on.point.root) (image_same r.store (store_of (reads d)) r.root is.same ∙ sym (image_same r.store (store_of (reads h.disk)) r.root was.same))

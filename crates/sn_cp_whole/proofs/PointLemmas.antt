@@ -29,7 +29,7 @@ use Rattle.sn_ondisk.specs.LogHalf.{InHalf, base_of}
 use Rattle.sn_ondisk.specs.Trees.{store_of}
 use Rattle.sn_opening.specs.Points.{Written}
 use Rattle.sn_overlay.specs.Layers.{Layer}
-use Rattle.sn_overlay.specs.Overlays.{layer_of, no_changes}
+use Rattle.sn_overlay.specs.Overlays.{no_changes}
 use Rattle.sn_room.specs.Rooms.{RoomCounts, begun as begun_room, done, fresh}
 use Rattle.sn_root.specs.declared.following.PointKind.TheVariants.{Ordinary}
 use Rattle.sn_root.specs.Replacing.{closing_writes}
@@ -39,7 +39,6 @@ use Rattle.sn_held.specs.Held.{Held, Kept, RunsReady}
 use Rattle.sn_held.specs.Images.{IsImage}
 use Rattle.sn_sound.specs.Logs.{HasAgeLeft}
 use Rattle.sn_held.proofs.EventLemmas.{runs_show}
-use Rattle.sn_tree.specs.declared.fault.PlanFault.TheVariants as plan
 use Rattle.sn_tree.specs.declared.new_block.NewBlock.{NewBlock}
 use Rattle.sn_cp.specs.Beginning.{Begins}
 use Rattle.sn_cp.specs.Counting.{root_steps, syncs_left, writes_left}
@@ -153,13 +152,13 @@ written_count [] = refl
 written_count (x ∷ xs) = omega (arith, written_count xs)
 
 -- what is planned is what goes on
-pub is_going : (n m : ℕ) (base : PointBase) (built : Built) (next : RootBody) (slot : Slot) (gate : Gate) (going : GoingPoint) → m ≡ n → IsDiskSize m → length base.map ≡ m → IsWellBuilt m base.root.limits base.map (layer_of base.changed) NoEdit built → IsSpellable built
+pub is_going : (n m : ℕ) (base : PointBase) (changed : Layer) (built : Built) (next : RootBody) (slot : Slot) (gate : Gate) (going : GoingPoint) → m ≡ n → IsDiskSize m → length base.map ≡ m → IsWellBuilt m base.root.limits base.map changed NoEdit built → IsSpellable built
     → IsNextRoot Ordinary base.root built next → slot ≡ other_slot base.slot → work_of going.point ≡ record { blocks = m; slot = slot; gate = gate; plan = plan_of built next } → stage_of going.point ≡ first_stage (length built.blocks.items)
-    → IsWithin (work_of going.point) (stage_of going.point) → going.free ≡ free_data built.map (start_of m Data) → IsGoing n base going
-is_going n m base built next slot gate going in_n size count well spelled follows other is first within free =
+    → IsWithin (work_of going.point) (stage_of going.point) → going.free ≡ free_data built.map (start_of m Data) → IsGoing n base changed going
+is_going n m base changed built next slot gate going in_n size count well spelled follows other is first within free =
     let made : Work = record { blocks = m; slot = slot; gate = gate; plan = plan_of built next } in
     record {
-      whole = subst IsWhole (sym is) (whole_work m base.root.limits base.map (layer_of base.changed) built next slot gate size count well spelled follows.body);
+      whole = subst IsWhole (sym is) (whole_work m base.root.limits base.map changed built next slot gate size count well spelled follows.body);
       within = within;
       first = first ∙ ap first_stage (sym (ap (λ (w : Work). length w.plan.blocks) is ∙ written_count built.blocks.items));
       blocks = ap (λ (w : Work). w.blocks) is ∙ in_n;
@@ -235,8 +234,8 @@ begun_costs x old planned new same done =
     record { done = one; later = later-is 1 1 old new one; writes = omega (arith, ap (λ (s : Status). s.writes) one); syncs = omega (arith, ap (λ (s : Status). s.syncs) one); cause = tt }
 
 -- a whole point that hasn't begun costs no more than one
-pub unbegun_costs : {T : Type 0} (result : Result T PointFault) (f : PointFault) (n most : ℕ) (old new : Status) → result ≡ Err f → CostsBeginning result old new → CostsPoint (Err f) n most old new
-unbegun_costs {T} result f n most old new is costs =
+pub unbegun_costs : {T A : Type 0} (result : Result T PointFault) (f : PointFault) (n most : ℕ) (old new : Status) → result ≡ Err f → CostsBeginning result old new → CostsPoint {T = A} (Err f) n most old new
+unbegun_costs {T} {A} result f n most old new is costs =
     let failed : CostsBeginning {T = T} (Err f) old new = subst (λ (r : Result T PointFault). CostsBeginning r old new) is costs in
     record { done = tt; later = failed.later; writes = omega (arith, failed.writes); syncs = omega (arith, failed.syncs); cause = failed.cause }
 
@@ -258,7 +257,7 @@ module _ (n most : ℕ) (w : Work) (stage : Stage) (size : w.blocks ≡ n) (firs
   syncs : new.syncs ≤ old.syncs + most_syncs
   syncs = omega (arith, counts.syncs.1, ap (λ (s : Status). s.syncs) begins, left_syncs, few_steps w.gate)
 
-  pub unfinished_costs : (begun.failures < new.failures) ⊎ IsTrue (has_ended new) → CostsPoint (Err fault.Device) n most old new
+  pub unfinished_costs : {A : Type 0} → (begun.failures < new.failures) ⊎ IsTrue (has_ended new) → CostsPoint {T = A} (Err fault.Device) n most old new
   unfinished_costs cause = record {
     done = tt;
     later = later;
@@ -267,8 +266,8 @@ module _ (n most : ℕ) (w : Work) (stage : Stage) (size : w.blocks ≡ n) (firs
     cause = subst (λ (m : ℕ). (m < new.failures) ⊎ IsTrue (has_ended new)) (ap (λ (s : Status). s.failures) begins) cause;
   }
 
-  pub finished_costs : new ≡ called (writes_left w stage) (syncs_left w stage) begun → CostsPoint (Ok (tt {0})) n most old new
-  finished_costs done =
+  pub finished_costs : {A : Type 0} (x : A) → new ≡ called (writes_left w stage) (syncs_left w stage) begun → CostsPoint (Ok x) n most old new
+  finished_costs x done =
       let all_writes : 1 + writes_left w stage ≡ writes_of_point n w.gate (length w.plan.blocks) = omega (arith, left_writes) in
       let all_syncs : 1 + syncs_left w stage ≡ syncs_of_point w.gate = omega (arith, left_syncs) in
       record {

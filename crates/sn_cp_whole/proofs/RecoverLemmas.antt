@@ -131,6 +131,9 @@ half_apart n epoch slot i is (inr (inr (inl body))) = let low = body_low slot i 
 half_apart n epoch slot i is (inr (inr (inr gate))) = let low = gate_low slot i gate in omega (arith, is.0, low, half_from n (half_of_epoch epoch))
 
 -- so does the clearing with which a point begins
+pub begins_writes : {T E : Type 0} (at : LogPosition) (result : Result T E) (old planned new : Disk) → planned ≡ old → Begins at result planned new → Touches (InHalf (base_of at.blocks (at.epoch + 1))) old new
+begins_writes at result old planned new same begins = subst (λ (d : Disk). Touches (InHalf (base_of at.blocks (at.epoch + 1))) d new) same begins.touched
+
 pub begins_apart : {T E : Type 0} (at : LogPosition) (slot : Slot) (result : Result T E) (old planned new : Disk) → planned ≡ old → Begins at result planned new → Touches (IsApart at.blocks slot) old new
 begins_apart at slot result old planned new same begins =
     subst (λ (d : Disk). Touches (IsApart at.blocks slot) d new) same

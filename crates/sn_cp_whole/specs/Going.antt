@@ -3,15 +3,19 @@ use Rattle.std.specs.Prelude.{◌≡◌, ℕ, ◌+◌, ◌≤◌, Result, Ok, Er
 use Rattle.sn_alloc.specs.Taking.{free_data}
 use Rattle.sn_block.specs.Counts.{IsLater, called}
 use Rattle.sn_device.specs.Crash.{LeavesOnly}
-use Rattle.sn_device.specs.Disk.{Disk}
+use Rattle.sn_device.specs.Disk.{Disk, reads}
 use Rattle.sn_device.specs.declared.device.Fault.{Fault}
 use Rattle.sn_device.specs.declared.status.Status.{Status}
+use Rattle.sn_image.specs.Image.{image}
 use Rattle.sn_layout.specs.declared.geometry.Area.TheVariants.{Data}
+use Rattle.sn_layout.specs.declared.root.RootBody.{RootBody}
 use Rattle.sn_layout.specs.Geometry.{other_slot, start_of}
 use Rattle.sn_log.specs.Positions.{LogPosition}
 use Rattle.sn_model.specs.Settling.{settle}
 use Rattle.sn_model.specs.Tree.{Tree}
 use Rattle.sn_model.specs.World.{World}
+use Rattle.sn_ondisk.specs.Trees.{store_of}
+use Rattle.sn_overlay.specs.Layers.{Layer}
 use Rattle.sn_overlay.specs.Needs.{need}
 use Rattle.sn_overlay.specs.Overlays.{layer_of}
 use Rattle.sn_room.specs.Rooms.{begun, done}
@@ -34,8 +38,8 @@ abbrev pub going_of : GoingPoint → Going
 going_of going = record { work = work_of going.point; stage = stage_of going.point; free = going.free }
 
 -- what is kept once it is done
-abbrev pub base_behind : GoingPoint → PointBase → PointBase
-base_behind going base = record { slot = (work_of going.point).slot; root = (work_of going.point).plan.next; map = (work_of going.point).plan.words; changed = base.changed }
+abbrev pub base_behind : GoingPoint → PointBase
+base_behind going = record { slot = (work_of going.point).slot; root = (work_of going.point).plan.next; map = (work_of going.point).plan.words }
 
 -- a mount with this log and disk
 abbrev pub with_log : Held → LogPosition → Disk → Held
@@ -43,6 +47,10 @@ with_log h at disk = record h { at = at; disk = disk }
 
 abbrev pub with_disk : Held → Disk → Held
 with_disk h disk = record h { disk = disk }
+
+-- The tree of a root is as it was.
+abbrev pub KeepsTree : RootBody → Disk → Disk → Type 0
+KeepsTree root old new = image (store_of (reads new)) root.inode_file ≡ image (store_of (reads old)) root.inode_file
 
 -- At `Ok` the mount runs on with the point in progress, in which the live tree is frozen, and a crash at any moment on the way leaves an image of the settled world; so it does where the device failed. Otherwise nothing was written. What is read can always be used, and is never too much for what is free.
 abbrev pub BeginsPoint : Result Begun PointFault → World → Held → Kept → LogPosition → Disk → Disk → Type 0
@@ -62,8 +70,8 @@ StepsOn result world h going frozen old new = LeavesOnly old new (λ c. IsImage 
 abbrev pub FinishesPoint : Result (Unit {0}) Fault → World → Held → ℕ → Kept → Disk → Disk → Type 0
 FinishesPoint result world h free kept old new = LeavesOnly old new (λ c. IsImage c (settle world)) × OnOk result (RunsReady (record h { room = done free h.room; disk = new }) world kept)
 
--- A point begins over what is kept, on a disk of so many blocks: it writes the slot that doesn't count, of the next epoch, no more new blocks than what changed needs.
-pub record IsGoing (n : ℕ) (base : PointBase) (going : GoingPoint) : Type 0 where
+-- A point of what changed begins over a root, on a disk of so many blocks: it writes the slot that doesn't count, of the next epoch, no more new blocks than what changed needs.
+pub record IsGoing (n : ℕ) (base : PointBase) (changed : Layer) (going : GoingPoint) : Type 0 where
   pub whole : IsWhole (work_of going.point)
   pub within : IsWithin (work_of going.point) (stage_of going.point)
   pub first : stage_of going.point ≡ first_stage (length (work_of going.point).plan.blocks)
@@ -71,7 +79,7 @@ pub record IsGoing (n : ℕ) (base : PointBase) (going : GoingPoint) : Type 0 wh
   pub slot : other_slot base.slot ≡ (work_of going.point).slot
   pub epoch : (work_of going.point).plan.next.epoch ≡ base.root.epoch + 1
   pub age : HasAgeLeft (work_of going.point).plan.next
-  pub few : length (work_of going.point).plan.blocks ≤ need base.root.limits (layer_of base.changed)
+  pub few : length (work_of going.point).plan.blocks ≤ need base.root.limits changed
   pub free : going.free ≡ free_data (work_of going.point).plan.words (start_of n Data)
 
 -- It costs a write and a sync. What was refused called nothing but a read that failed.

@@ -13,6 +13,7 @@ use Rattle.sn_layout.specs.Geometry.{map_blocks, start_of}
 use Rattle.sn_log.specs.Positions.{LogPosition}
 use Rattle.sn_model.specs.Settling.{settle}
 use Rattle.sn_model.specs.World.{World}
+use Rattle.sn_overlay.specs.declared.overlay.Overlay.{Overlay}
 use Rattle.sn_room.specs.Rooms.{RoomCounts, fresh}
 use Rattle.sn_root.specs.Replacing.{closing_writes}
 use Rattle.sn_held.specs.Held.{Held, Kept, RunsReady}
@@ -26,7 +27,7 @@ abbrev pub with_parts : Held → LogPosition → RoomCounts → Disk → Held
 with_parts h at room disk = record h { at = at; room = room; disk = disk }
 
 -- At `Ok` the mount runs on over the next root, and a crash at any moment on the way leaves an image of the settled world; so it does where the device failed. Otherwise nothing was written. What is read can always be used, and is never too much for what is free.
-abbrev pub MakesPoint : Result (Unit {0}) PointFault → World → Disk → Held → Kept → Type 0
+abbrev pub MakesPoint : Result Overlay PointFault → World → Disk → Held → Kept → Type 0
 MakesPoint (Ok _) world old new kept = LeavesOnly old new.disk (λ c. IsImage c (settle world)) × RunsReady new world kept
 MakesPoint (Err Memory) world old new kept = new.disk ≡ old
 MakesPoint (Err Age) world old new kept = new.disk ≡ old
@@ -64,7 +65,7 @@ HasCauseFor Damaged old new = new ≡ old
 HasCauseFor Device old new = (old.failures < new.failures) ⊎ IsTrue (has_ended new)
 
 -- What a point costs that may have so many new blocks.
-pub record CostsPoint (result : Result (Unit {0}) PointFault) (n most : ℕ) (old new : Status) : Type 0 where
+pub record CostsPoint {T : Type 0} (result : Result T PointFault) (n most : ℕ) (old new : Status) : Type 0 where
   pub done : OnOk result ((count : ℕ) × (count ≤ most) × (gate : Gate) × (new ≡ called (writes_of_point n gate count) (syncs_of_point gate) old))
   pub later : IsLater old new
   pub writes : new.writes ≤ old.writes + most_writes n most

@@ -5,7 +5,7 @@ use Rattle.sn_layout.specs.Bytes.{AreNumbers}
 use Rattle.sn_layout.specs.RootBody.{IsRootBody}
 use Rattle.sn_layout.specs.declared.root.RootBody.{RootBody}
 use Rattle.sn_log.specs.Positions.{LogPosition}
-use Rattle.sn_overlay.specs.Overlays.{layer_of}
+use Rattle.sn_overlay.specs.Layers.{Layer}
 use Rattle.sn_root.specs.Following.{epochs_of, following}
 use Rattle.sn_root.specs.declared.following.PointKind.{PointKind}
 use Rattle.sn_held.specs.Held.{Kept}
@@ -22,9 +22,9 @@ use Rattle.sn_cp_whole.specs.declared.base.PointBase.{PointBase}
 use Rattle.sn_cp_whole.specs.declared.fault.PointFault.{PointFault}
 use Rattle.sn_cp_whole.specs.declared.fault.PointFault.TheVariants.{Memory, Age, Read, Damaged, Device}
 
--- what is kept for a point, as `sn_cp_held` speaks of it
-abbrev pub kept_in : PointBase → Kept
-kept_in base = record { slot = base.slot; root = base.root; words = base.map; changed = layer_of base.changed }
+-- what is kept for a point, as `sn_cp_held` speaks of it: the root that counts, and what changed since
+abbrev pub kept_in : PointBase → Layer → Kept
+kept_in base changed = record { slot = base.slot; root = base.root; words = base.map; changed = changed }
 
 -- The base is one of a disk whose log goes on at this position, between two points: its root can be written, its map has a word for each block, and the log goes on under the root's own epoch.
 pub record IsBaseAt (at : LogPosition) (base : PointBase) : Type 0 where

@@ -15,6 +15,7 @@ use Rattle.sn_ondisk.specs.Blocks.{InBlock}
 use Rattle.sn_ondisk.specs.MapCopy.{InMap}
 use Rattle.sn_ondisk.specs.Roots.{body_block}
 use Rattle.sn_ondisk.specs.Trees.{store_of}
+use Rattle.sn_overlay.specs.Overlays.{no_changes}
 use Rattle.sn_root.specs.Replacing.{closing_writes}
 use Rattle.sn_held.specs.Held.{Kept}
 use Rattle.sn_held.specs.Images.{IsImage}
@@ -39,7 +40,7 @@ pub record IsImageOver (d : Disk) (world : World) (n : ℕ) (k : Kept) : Type 0 
 
 -- At `Ok` the disk is an image of the world over the next root, and a crash at any moment on the way leaves an image of it; so it does where the device failed. Otherwise nothing was written. What is read can always be used, and is never too much for what is free.
 abbrev pub MakesRecovery : Result PointBase PointFault → ℕ → World → Disk → Disk → Type 0
-MakesRecovery (Ok base) n world old new = LeavesOnly old new (λ c. IsImage c world) × IsImageOver new world n (kept_in base)
+MakesRecovery (Ok base) n world old new = LeavesOnly old new (λ c. IsImage c world) × IsImageOver new world n (kept_in base no_changes)
 MakesRecovery (Err Memory) n world old new = new ≡ old
 MakesRecovery (Err Age) n world old new = new ≡ old
 MakesRecovery (Err Read) n world old new = new ≡ old

@@ -1,9 +1,9 @@
 //! What a point is built of.
 use sn_layout::{RootBody, Slot};
 use sn_map::Map;
-use sn_overlay::Overlay;
 
-/// What a mounted file system keeps for its next consistency point.
+/// The root that counts, as a mounted file system keeps it for its next consistency point. What changed since is kept
+/// apart.
 #[derive(Drop)]
 pub struct PointBase {
     /// Where the root stands that counts.
@@ -11,6 +11,4 @@ pub struct PointBase {
     pub root: RootBody,
     /// The words of its map.
     pub map: Map,
-    /// What changed of its tree since.
-    pub changed: Overlay,
 }

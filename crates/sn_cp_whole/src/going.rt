@@ -15,14 +15,15 @@ ghost use Rattle.sn_held.specs.Held.{Held, RunsReady};
 ghost use Rattle.sn_log.specs.Positions.{first_of};
 ghost use Rattle.sn_model.specs.Tree.{Tree};
 ghost use Rattle.sn_model.specs.World.{World};
+ghost use Rattle.sn_ondisk.specs.LogHalf.{InHalf, base_of};
 ghost use Rattle.sn_overlay.specs.Overlays.{HasRoom, layer_of, no_changes};
 ghost use Rattle.sn_root.specs.declared.following.PointKind.TheVariants.{Ordinary as OrdinaryPoint};
-ghost use Rattle.sn_cp_whole.specs.Going.{BeginsPoint, CostsBeginning, FinishesPoint, IsGoing, StepsOn, base_behind, going_of, with_disk, with_log};
+ghost use Rattle.sn_cp_whole.specs.Going.{BeginsPoint, CostsBeginning, FinishesPoint, IsGoing, KeepsTree, StepsOn, base_behind, going_of, with_disk, with_log};
 ghost use Rattle.sn_cp_whole.specs.Planning.{HasAgeFor, IsBaseAt, kept_in};
 ghost use Rattle.sn_cp_whole.specs.Recovering.{IsApart};
 ghost use Rattle.sn_cp_whole.specs.declared.fault.PointFault.TheVariants.{Age as AgeFault};
 
-use crate::planning::{Planned, plan};
+use crate::planning::{Planned, empty_overlay, plan};
 use crate::{PointBase, PointFault};
 use sn_block::{Blocks, ReadFault};
 use sn_cp::{Point, Stage, begin};
@@ -51,22 +52,24 @@ pub struct Begun {
 }
 
 /// Begins a point of what changed since the root that counts. From then on the log goes on under the next epoch, behind
-/// the root that is being made; what changes has room for so many drops of files.
+/// the root that is being made, and what changes goes into an overlay of its own, with room for so many drops of files.
 pub fn begin_point<D: Device>(
     alloc: Global,
     blocks: &mut Blocks<D>,
     base: &PointBase,
+    changed: &Overlay,
     log: &mut Log,
     drops: u16,
 ) -> Result<Begun, PointFault>
     requires disk { 8 * log.old.blocks ≤ (D.status (device_of blocks.old)).sectors }
     requires base { IsBaseAt log.old base.now }
     ensures begins { IsTrue D.tells_bytes → (h : Held) (world : World)
-        → RunsReady (with_log h log.old (D.disk (device_of blocks.old))) world (kept_in base.now)
-        → BeginsPoint result world h (kept_in base.now) log.new (D.disk (device_of blocks.old)) (D.disk (device_of blocks.new)) }
-    ensures going { IfOk result (λ begins. IsGoing log.old.blocks base.now begins.going) }
+        → RunsReady (with_log h log.old (D.disk (device_of blocks.old))) world (kept_in base.now (layer_of changed.now))
+        → BeginsPoint result world h (kept_in base.now (layer_of changed.now)) log.new (D.disk (device_of blocks.old)) (D.disk (device_of blocks.new)) }
+    ensures going { IfOk result (λ begins. IsGoing log.old.blocks base.now (layer_of changed.now) begins.going) }
     ensures empty { IfOk result (λ begins. layer_of begins.since ≡ no_changes) }
     ensures stands { IsTrue D.tells_bytes → IfOk result (λ begins. StandsAtStage (work_of begins.going.point) (stage_of begins.going.point) (D.disk (device_of blocks.new))) }
+    ensures wrote { IsTrue D.tells_bytes → Touches (InHalf (base_of log.old.blocks (log.old.epoch + 1))) (D.disk (device_of blocks.old)) (D.disk (device_of blocks.new)) }
     ensures touched { IsTrue D.tells_bytes → Touches (IsApart log.old.blocks base.now.slot) (D.disk (device_of blocks.old)) (D.disk (device_of blocks.new)) }
     ensures costs { CostsBeginning result (D.status (device_of blocks.old)) (D.status (device_of blocks.new)) }
     ensures aged { result ≡ Err AgeFault → HasAgeFor OrdinaryPoint base.now.root → ⊥ }
@@ -77,14 +80,19 @@ pub fn begin_point<D: Device>(
     let geometry = log.position().geometry();
     // It bounds the disk.
     let _blocks = geometry.blocks();
-    let Planned {
-        next,
-        built,
-        gate,
+    let Planned { next, built, gate } = match plan(
+        alloc,
+        blocks,
+        geometry,
+        base,
         changed,
-    } = match plan(alloc, blocks, geometry, base, PointKind::Ordinary, drops) {
+        PointKind::Ordinary,
+    ) {
         Ok(planned) => planned,
         Err(fault) => return Err(fault),
+    };
+    let Ok(since) = empty_overlay(alloc, drops) else {
+        return Err(PointFault::Memory);
     };
     let free = built.map.count_free_from(geometry.start(Area::Data));
     match begin(blocks, geometry, log) {
@@ -97,10 +105,7 @@ pub fn begin_point<D: Device>(
         point: Point::new(geometry, built.blocks, built.map, next, slot, gate),
         free,
     };
-    Ok(Begun {
-        going,
-        since: changed,
-    })
+    Ok(Begun { going, since })
 }
 
 impl GoingPoint {
@@ -121,6 +126,9 @@ impl GoingPoint {
         ensures goes_on { IsTrue D.tells_bytes → (h : Held) (world : World) (frozen : Tree)
             → RunsOn (with_disk h (D.disk (device_of blocks.old))) world (progress_over (going_of self.old) frozen)
             → StepsOn result world h self.new frozen (D.disk (device_of blocks.old)) (D.disk (device_of blocks.new)) }
+        ensures tree { IsTrue D.tells_bytes → (h : Held) (world : World) (frozen : Tree)
+            → RunsOn (with_disk h (D.disk (device_of blocks.old))) world (progress_over (going_of self.old) frozen)
+            → KeepsTree h.base.root (D.disk (device_of blocks.old)) (D.disk (device_of blocks.new)) }
         ensures touched { IsTrue D.tells_bytes → Touches (InPoint (work_of self.old.point)) (D.disk (device_of blocks.old)) (D.disk (device_of blocks.new)) }
         ensures counts { CountsCalls (writes_of (work_of self.old.point) (stage_of self.old.point)) (syncs_of (work_of self.old.point) (stage_of self.old.point)) result
             (D.status (device_of blocks.old)) (D.status (device_of blocks.new)) }
@@ -134,7 +142,7 @@ impl GoingPoint {
     }
 
     /// Makes all steps that are left: then the root that was made counts, and takes the place of the one that the point was
-    /// begun over. What changed since stays as it is. After a fault nothing may be written before the next mount.
+    /// begun over. After a fault nothing may be written before the next mount.
     pub fn finish<D: Device>(
         self,
         blocks: &mut Blocks<D>,
@@ -147,11 +155,11 @@ impl GoingPoint {
         requires stands { IsTrue D.tells_bytes → StandsAtStage (work_of self.point) (stage_of self.point) (D.disk (device_of blocks.old)) }
         ensures finishes { IsTrue D.tells_bytes → (h : Held) (world : World) (frozen : Tree)
             → RunsOn (with_disk h (D.disk (device_of blocks.old))) world (progress_over (going_of self) frozen)
-            → FinishesPoint result world h self.free (record (kept_in base.new) { changed = h.base.changed }) (D.disk (device_of blocks.old)) (D.disk (device_of blocks.new)) }
+            → FinishesPoint result world h self.free (kept_in base.new h.base.changed) (D.disk (device_of blocks.old)) (D.disk (device_of blocks.new)) }
         ensures touched { IsTrue D.tells_bytes → Touches (InPoint (work_of self.point)) (D.disk (device_of blocks.old)) (D.disk (device_of blocks.new)) }
         ensures counts { CountsCalls (writes_left (work_of self.point) (stage_of self.point)) (syncs_left (work_of self.point) (stage_of self.point)) result
             (D.status (device_of blocks.old)) (D.status (device_of blocks.new)) }
-        ensures base { OnOk result (base.new ≡ base_behind self base.old) }
+        ensures base { OnOk result (base.new ≡ base_behind self) }
         ensures keeps { OnErr result (base.new ≡ base.old) }
     {
         let GoingPoint { mut point, .. } = self;

@@ -2,10 +2,10 @@
 //!
 //! The model. `sn_cp_held` says when a mounted file system is ready for a point (`RunsReady`), what a point of its
 //! live tree is, and what a whole one leaves; `sn_cp_progress` when it runs on with one in progress (`RunsOn`). A
-//! [`PointBase`] is what is kept for that beside log and room: the root that counts, its map, and the overlay of what
-//! changed since. [`begin_point`] builds the live tree over them in memory and begins the point: a [`GoingPoint`], with
-//! the overlay of what changes from then on. [`GoingPoint::advance`] makes a step of it, and [`GoingPoint::finish`] all
-//! that are left. [`make_point`] does both in a row; then the base is that of the next root, nothing is charged, and
+//! [`PointBase`] is what is kept for that beside log and room: the root that counts, and its map. What changed since is
+//! an overlay beside it. [`begin_point`] builds the live tree of both in memory and begins the point: a [`GoingPoint`],
+//! with the overlay of what changes from then on. [`GoingPoint::advance`] makes a step of it, and [`GoingPoint::finish`]
+//! all that are left. [`make_point`] does both in a row; then the base is that of the next root, nothing is charged, and
 //! the log goes on empty.
 //!
 //! What its clauses say, those on bytes of each device that tells them:
@@ -25,7 +25,7 @@
 //! What the sources leave open is decided in `docs/DECISIONS.md`, under "Steps of a consistency point".
 //!
 //! ```text
-//! make_point(alloc, &mut blocks, &mut base, &mut log, &mut room, drops)?;
+//! let since = make_point(alloc, &mut blocks, &mut base, &changed, &mut log, &mut room, drops)?;
 //! ```
 #![tactic(auto)]
 

@@ -1,5 +1,5 @@
 //! A whole point.
-ghost use Rattle.std.specs.Prelude.{◌≡◌, ◌≢◌, ◌*◌, ◌+◌, ◌≤◌, Err, IsTrue, IfErr, OnErr, OnOk};
+ghost use Rattle.std.specs.Prelude.{◌≡◌, ◌≢◌, ◌*◌, ◌+◌, ◌≤◌, Err, IsTrue, IfErr, IfOk, OnErr, OnOk};
 ghost use Rattle.sn_block.specs.Lending.{device_of};
 ghost use Rattle.sn_device.specs.Crash.{Touches};
 ghost use Rattle.sn_held.specs.Held.{Held, RunsReady};
@@ -18,38 +18,41 @@ use crate::{Begun, PointBase, PointFault, begin_point};
 use sn_block::Blocks;
 use sn_device::Device;
 use sn_log::Log;
+use sn_overlay::Overlay;
 use sn_room::Room;
 use std::alloc::Global;
 
 /// Makes a whole consistency point of what changed since the root that counts: then the next root counts, the log is
-/// empty, nothing is charged, and the overlay is empty, with room for so many drops of files.
+/// empty, and nothing is charged. Answers the empty overlay for what changes from then on, with room for so many drops
+/// of files.
 pub fn make_point<D: Device>(
     alloc: Global,
     blocks: &mut Blocks<D>,
     base: &mut PointBase,
+    changed: &Overlay,
     log: &mut Log,
     room: &mut Room,
     drops: u16,
-) -> Result<(), PointFault>
+) -> Result<Overlay, PointFault>
     requires disk { 8 * log.old.blocks ≤ (D.status (device_of blocks.old)).sectors }
     requires base { IsBaseAt log.old base.old }
     ensures point { IsTrue D.tells_bytes → (h : Held) (world : World)
-        → RunsReady (with_parts h log.old room.old (D.disk (device_of blocks.old))) world (kept_in base.old)
-        → MakesPoint result world (D.disk (device_of blocks.old)) (with_parts h log.new room.new (D.disk (device_of blocks.new))) (kept_in base.new) }
+        → RunsReady (with_parts h log.old room.old (D.disk (device_of blocks.old))) world (kept_in base.old (layer_of changed.now))
+        → MakesPoint result world (D.disk (device_of blocks.old)) (with_parts h log.new room.new (D.disk (device_of blocks.new))) (kept_in base.new no_changes) }
     ensures touched { IsTrue D.tells_bytes → Touches (IsApart log.old.blocks base.old.slot) (D.disk (device_of blocks.old)) (D.disk (device_of blocks.new)) }
-    ensures costs { CostsPoint result log.old.blocks (need base.old.root.limits (layer_of base.old.changed))
+    ensures costs { CostsPoint result log.old.blocks (need base.old.root.limits (layer_of changed.now))
         (D.status (device_of blocks.old)) (D.status (device_of blocks.new)) }
     ensures aged { result ≡ Err AgeFault → HasAgeFor OrdinaryPoint base.old.root → ⊥ }
     ensures base { OnOk result (IsBaseAt log.new base.new) }
     ensures age { OnOk result (HasAgeLeft base.new.root) }
     ensures log { OnOk result (log.new ≡ first_of log.old.blocks (log.old.epoch + 1)) }
-    ensures room { OnOk result (room.new ≡ room_over log.old.blocks (kept_in base.new)) }
-    ensures empty { OnOk result (layer_of base.new.changed ≡ no_changes) }
-    ensures drops { OnOk result (HasRoom base.new.changed (record { nodes = drops; names = 0; blocks = 0 })) }
+    ensures room { OnOk result (room.new ≡ room_over log.old.blocks (kept_in base.new no_changes)) }
+    ensures empty { IfOk result (λ since. layer_of since ≡ no_changes) }
+    ensures drops { IfOk result (λ since. HasRoom since (record { nodes = drops; names = 0; blocks = 0 })) }
     ensures keeps { OnErr result ((base.new ≡ base.old) × (room.new ≡ room.old)) }
     ensures stays { IfErr result (λ fault. fault ≢ DeviceFault → log.new ≡ log.old) }
 {
-    let Begun { going, since } = match begin_point(alloc, blocks, base, log, drops) {
+    let Begun { going, since } = match begin_point(alloc, blocks, base, changed, log, drops) {
         Ok(begun) => begun,
         Err(fault) => return Err(fault),
     };
@@ -57,8 +60,7 @@ pub fn make_point<D: Device>(
     let Ok(()) = going.finish(blocks, base) else {
         return Err(PointFault::Device);
     };
-    base.changed = since;
     room.begin_point();
     room.end_point(free);
-    Ok(())
+    Ok(since)
 }

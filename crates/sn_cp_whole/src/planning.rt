@@ -26,14 +26,13 @@ use sn_tree::{NewBlock, PlanFault};
 use sn_tree_read::TreeFault;
 use std::alloc::Global;
 
-/// All that a point needs before it begins: the root that follows, what was built of the live tree, the gate of the
-/// slot that is replaced, and the overlay that comes behind the point.
+/// All that is read and built for a point before it begins: the root that follows, what was built of the live tree, and
+/// the gate of the slot that is replaced.
 #[derive(Drop)]
 pub(crate) struct Planned {
     pub next: RootBody,
     pub built: Built,
     pub gate: Gate,
-    pub changed: Overlay,
 }
 
 /// Whether the root that a point of this kind leaves has an age left, where it needs one.
@@ -121,6 +120,7 @@ fn plan_tree<D: Device>(
     blocks: &mut Blocks<D>,
     geometry: Geometry,
     base: &PointBase,
+    changed: &Overlay,
     kind: PointKind,
 ) -> Result<(RootBody, Built), PointFault>
     requires disk { 8 * geometry ≤ (D.status (device_of blocks.old)).sectors }
@@ -128,11 +128,11 @@ fn plan_tree<D: Device>(
     requires words { length base.now.map ≡ geometry }
     ensures next { IfOk result (λ made. IsNextRoot kind base.now.root made.1 made.0) }
     ensures spelled { IfOk result (λ made. IsSpellable made.1) }
-    ensures well { IfOk result (λ made. IsWellBuilt geometry base.now.root.limits base.now.map (layer_of base.now.changed) NoEdit made.1) }
+    ensures well { IfOk result (λ made. IsWellBuilt geometry base.now.root.limits base.now.map (layer_of changed.now) NoEdit made.1) }
     ensures builds { IsTrue D.tells_bytes → IfOk result (λ made. Builds geometry base.now.root.limits
-        (store_of (reads (D.disk (device_of blocks.old)))) base.now.root.inode_file base.now.map (layer_of base.now.changed) made.1) }
+        (store_of (reads (D.disk (device_of blocks.old)))) base.now.root.inode_file base.now.map (layer_of changed.now) made.1) }
     ensures aged { result ≡ Err AgePoint → HasAgeFor kind base.now.root → ⊥ }
-    ensures damaged { IsTrue D.tells_bytes → result ≡ Err DamagedPoint → CanBeBuilt geometry (store_of (reads (D.disk (device_of blocks.old)))) (kept_in base.now) → ⊥ }
+    ensures damaged { IsTrue D.tells_bytes → result ≡ Err DamagedPoint → CanBeBuilt geometry (store_of (reads (D.disk (device_of blocks.old)))) (kept_in base.now (layer_of changed.now)) → ⊥ }
     ensures same { IsTrue D.tells_bytes → D.disk (device_of blocks.new) ≡ D.disk (device_of blocks.old) }
     ensures idle { OnOk result (D.status (device_of blocks.new) ≡ D.status (device_of blocks.old)) }
     ensures cause { IfErr result (λ fault. HasCauseToStop fault (D.status (device_of blocks.old)) (D.status (device_of blocks.new))) }
@@ -140,7 +140,7 @@ fn plan_tree<D: Device>(
     let Some(next) = following_root(&base.root, kind) else {
         return Err(PointFault::Age);
     };
-    let Ok(changed) = base.changed.copy(alloc) else {
+    let Ok(copy) = changed.copy(alloc) else {
         return Err(PointFault::Memory);
     };
     match build(
@@ -149,7 +149,7 @@ fn plan_tree<D: Device>(
         geometry,
         &base.root,
         &base.map,
-        changed,
+        copy,
         SnapshotEdit::None,
     ) {
         Ok(built) => {
@@ -206,41 +206,30 @@ pub(crate) fn plan<D: Device>(
     blocks: &mut Blocks<D>,
     geometry: Geometry,
     base: &PointBase,
+    changed: &Overlay,
     kind: PointKind,
-    drops: u16,
 ) -> Result<Planned, PointFault>
     requires disk { 8 * geometry ≤ (D.status (device_of blocks.old)).sectors }
     requires body { IsRootBody base.now.root }
     requires words { length base.now.map ≡ geometry }
     ensures next { IfOk result (λ p. IsNextRoot kind base.now.root p.built p.next) }
     ensures spelled { IfOk result (λ p. IsSpellable p.built) }
-    ensures well { IfOk result (λ p. IsWellBuilt geometry base.now.root.limits base.now.map (layer_of base.now.changed) NoEdit p.built) }
+    ensures well { IfOk result (λ p. IsWellBuilt geometry base.now.root.limits base.now.map (layer_of changed.now) NoEdit p.built) }
     ensures builds { IsTrue D.tells_bytes → IfOk result (λ p. Builds geometry base.now.root.limits
-        (store_of (reads (D.disk (device_of blocks.old)))) base.now.root.inode_file base.now.map (layer_of base.now.changed) p.built) }
+        (store_of (reads (D.disk (device_of blocks.old)))) base.now.root.inode_file base.now.map (layer_of changed.now) p.built) }
     ensures gate { IsTrue D.tells_bytes → IfOk result (λ p. gate_in (reads (D.disk (device_of blocks.old))) (other_slot base.now.slot) ≡ p.gate) }
-    ensures empty { IfOk result (λ p. layer_of p.changed ≡ no_changes) }
-    ensures room { IfOk result (λ p. HasRoom p.changed (record { nodes = drops; names = 0; blocks = 0 })) }
     ensures aged { result ≡ Err AgePoint → HasAgeFor kind base.now.root → ⊥ }
-    ensures damaged { IsTrue D.tells_bytes → result ≡ Err DamagedPoint → CanBeBuilt geometry (store_of (reads (D.disk (device_of blocks.old)))) (kept_in base.now) → ⊥ }
+    ensures damaged { IsTrue D.tells_bytes → result ≡ Err DamagedPoint → CanBeBuilt geometry (store_of (reads (D.disk (device_of blocks.old)))) (kept_in base.now (layer_of changed.now)) → ⊥ }
     ensures same { IsTrue D.tells_bytes → D.disk (device_of blocks.new) ≡ D.disk (device_of blocks.old) }
     ensures idle { OnOk result (D.status (device_of blocks.new) ≡ D.status (device_of blocks.old)) }
     ensures cause { IfErr result (λ fault. HasCauseToStop fault (D.status (device_of blocks.old)) (D.status (device_of blocks.new))) }
 {
-    let (next, built) = match plan_tree(alloc, blocks, geometry, base, kind) {
+    let (next, built) = match plan_tree(alloc, blocks, geometry, base, changed, kind) {
         Ok(made) => made,
         Err(fault) => return Err(fault),
     };
-    let changed = match empty_overlay(alloc, drops) {
-        Ok(changed) => changed,
-        Err(fault) => return Err(fault),
-    };
     match read_ahead(blocks, geometry, base.slot.other(), next.epoch) {
-        Ok(gate) => Ok(Planned {
-            next,
-            built,
-            gate,
-            changed,
-        }),
+        Ok(gate) => Ok(Planned { next, built, gate }),
         Err(fault) => Err(fault),
     }
 }

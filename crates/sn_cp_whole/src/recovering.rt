@@ -8,7 +8,7 @@ ghost use Rattle.sn_held.specs.Images.{IsImage};
 ghost use Rattle.sn_model.specs.World.{World};
 ghost use Rattle.sn_ondisk.specs.Trees.{store_of};
 ghost use Rattle.sn_overlay.specs.Needs.{need};
-ghost use Rattle.sn_overlay.specs.Overlays.{HasRoom, layer_of, no_changes};
+ghost use Rattle.sn_overlay.specs.Overlays.{layer_of};
 ghost use Rattle.sn_sound.specs.Logs.{HasAgeLeft};
 ghost use Rattle.sn_cp_held.specs.Builds.{CanBeBuilt};
 ghost use Rattle.sn_cp_held.specs.Recovering.{HasReplayed};
@@ -22,46 +22,47 @@ use sn_block::Blocks;
 use sn_cp::Point;
 use sn_device::Device;
 use sn_layout::Geometry;
+use sn_overlay::Overlay;
 use sn_root::PointKind;
 use std::alloc::Global;
 
 /// Makes a whole consistency point of what a mount has replayed on top of the root that counts: then the next root
 /// counts, two epochs on, so that replay finds nothing. The log isn't touched, so no clearing begins it; the disk has to
-/// be synced. Answers what is kept of the next root, with room for so many drops of files in its empty overlay.
+/// be synced. Answers the next root, as it is kept.
 pub fn make_recovery<D: Device>(
     alloc: Global,
     blocks: &mut Blocks<D>,
     geometry: Geometry,
     base: &PointBase,
-    drops: u16,
+    changed: &Overlay,
 ) -> Result<PointBase, PointFault>
     requires disk { 8 * geometry ≤ (D.status (device_of blocks.old)).sectors }
     requires synced { IsTrue D.tells_bytes → IsSynced (D.disk (device_of blocks.old)) }
     requires body { IsRootBody base.now.root }
     requires words { length base.now.map ≡ geometry }
     ensures recovery { IsTrue D.tells_bytes → (world : World) (im : IsImage (reads (D.disk (device_of blocks.old))) world)
-        → im.blocks ≡ geometry → HasReplayed (D.disk (device_of blocks.old)) world im (kept_in base.now)
+        → im.blocks ≡ geometry → HasReplayed (D.disk (device_of blocks.old)) world im (kept_in base.now (layer_of changed.now))
         → MakesRecovery result geometry world (D.disk (device_of blocks.old)) (D.disk (device_of blocks.new)) }
     ensures touched { IsTrue D.tells_bytes → Touches (IsApart geometry base.now.slot) (D.disk (device_of blocks.old)) (D.disk (device_of blocks.new)) }
-    ensures costs { CostsSteps result geometry (need base.now.root.limits (layer_of base.now.changed))
+    ensures costs { CostsSteps result geometry (need base.now.root.limits (layer_of changed.now))
         (D.status (device_of blocks.old)) (D.status (device_of blocks.new)) }
     ensures unwritten { IsTrue D.tells_bytes → IfErr result (λ fault. fault ≢ DevicePoint → D.disk (device_of blocks.new) ≡ D.disk (device_of blocks.old)) }
-    ensures damaged { IsTrue D.tells_bytes → result ≡ Err DamagedPoint → CanBeBuilt geometry (store_of (reads (D.disk (device_of blocks.old)))) (kept_in base.now) → ⊥ }
+    ensures damaged { IsTrue D.tells_bytes → result ≡ Err DamagedPoint → CanBeBuilt geometry (store_of (reads (D.disk (device_of blocks.old)))) (kept_in base.now (layer_of changed.now)) → ⊥ }
     ensures aged { result ≡ Err AgePoint → HasAgeLeft base.now.root → ⊥ }
     ensures body { IfOk result (λ next. IsRootBody next.root) }
     ensures words { IfOk result (λ next. length next.map ≡ geometry) }
     ensures epoch { IfOk result (λ next. next.root.epoch ≡ base.now.root.epoch + 2) }
-    ensures empty { IfOk result (λ next. layer_of next.changed ≡ no_changes) }
-    ensures drops { IfOk result (λ next. HasRoom next.changed (record { nodes = drops; names = 0; blocks = 0 })) }
 {
     // It bounds the disk.
     let _blocks = geometry.blocks();
-    let Planned {
-        next,
-        built,
-        gate,
+    let Planned { next, built, gate } = match plan(
+        alloc,
+        blocks,
+        geometry,
+        base,
         changed,
-    } = match plan(alloc, blocks, geometry, base, PointKind::Recovery, drops) {
+        PointKind::Recovery,
+    ) {
         Ok(planned) => planned,
         Err(fault) => return Err(fault),
     };
@@ -71,10 +72,5 @@ pub fn make_recovery<D: Device>(
         return Err(PointFault::Device);
     };
     let (root, map) = point.into_root();
-    Ok(PointBase {
-        slot,
-        root,
-        map,
-        changed,
-    })
+    Ok(PointBase { slot, root, map })
 }

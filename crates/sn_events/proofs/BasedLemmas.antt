@@ -7,7 +7,6 @@ use Rattle.sn_cp_whole.specs.declared.base.PointBase.{PointBase}
 use Rattle.sn_cp_whole.specs.declared.going.GoingPoint.{GoingPoint}
 use Rattle.sn_device.specs.Disk.{Disk}
 use Rattle.sn_log.specs.Positions.{LogPosition}
-use Rattle.sn_overlay.specs.declared.overlay.Overlay.{Overlay}
 use Rattle.sn_events.specs.Mounted.{IsBased, StandsThere, going_in}
 
 none_going : {A : Type 0} (going : GoingPoint) → going_in (Some going) ≡ None → A
@@ -31,7 +30,3 @@ base_none (Some going) at base none is = none_going going none
 pub stands_none : (going : Option GoingPoint) (d : Disk) → going_in going ≡ None → StandsThere going d
 stands_none None d none = tt
 stands_none (Some going) d none = none_going going none
-
--- whatever has changed since
-pub with_changes : (at : LogPosition) (base : PointBase) (changed : Overlay) → IsBaseAt at base → IsBaseAt at (record base { changed = changed })
-with_changes at base changed is = record { body = is.body; words = is.words; epoch = is.epoch }

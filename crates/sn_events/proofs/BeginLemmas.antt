@@ -16,20 +16,21 @@ use Rattle.sn_cp_whole.specs.Making.{HasCauseFor}
 use Rattle.sn_cp_whole.specs.declared.fault.PointFault.{PointFault}
 use Rattle.sn_cp_whole.specs.declared.fault.PointFault.TheVariants as point
 use Rattle.sn_held.specs.Held.{Going, Held}
+use Rattle.sn_model.specs.World.{World}
 use Rattle.sn_model.specs.declared.reply.Progress.TheVariants as progress
 use Rattle.sn_cp.specs.Counting.{syncs_left, writes_left}
 use Rattle.sn_cp_progress.specs.Meaning.{RunsWith}
 use Rattle.sn_events.specs.Answers.{IsBesideRoot, IsLastRoot}
 use Rattle.sn_events.specs.Pointing.{Advances, Begins, Finishes, FinishesSo, GoesOn, IsUnbegun}
 
--- It wasn't begun.
-pub unbegun : (old : Held) (at : LogPosition) (d : Disk) (status : Status) (fault : PointFault) → BeginsPoint (Err fault) old.world old old.base at old.disk d → at ≡ old.at → HasCauseFor fault old.status status → IsLater old.status status → status.writes ≤ old.status.writes + 1 → status.syncs ≤ old.status.syncs + 1
-    → Touches (IsBesideRoot old) old.disk d → (fault ≡ point.Age → IsLastRoot old.base.root) → IsUnbegun fault old (record old { at = at; disk = d; status = status })
-unbegun old at d status point.Memory made same cause later writes syncs touched aged = λ i. record old { at = same i; disk = made i; status = cause i }
-unbegun old at d status point.Age made same cause later writes syncs touched aged = (λ i. record old { at = same i; disk = made i; status = cause i }, aged refl)
-unbegun old at d status point.Read made same cause later writes syncs touched aged = (λ i. record old { at = same i; disk = made i; status = status }, cause)
-unbegun old at d status point.Damaged made same cause later writes syncs touched aged = absurd made
-unbegun old at d status point.Device made same cause later writes syncs touched aged = record {
+-- It wasn't begun. The world is the same where the disk is.
+pub unbegun : (old : Held) (next : World) (at : LogPosition) (d : Disk) (status : Status) (fault : PointFault) → (d ≡ old.disk → next ≡ old.world) → BeginsPoint (Err fault) old.world old old.base at old.disk d → at ≡ old.at → HasCauseFor fault old.status status → IsLater old.status status → status.writes ≤ old.status.writes + 1 → status.syncs ≤ old.status.syncs + 1
+    → Touches (IsBesideRoot old) old.disk d → (fault ≡ point.Age → IsLastRoot old.base.root) → IsUnbegun fault old (record old { world = next; at = at; disk = d; status = status })
+unbegun old next at d status point.Memory world made same cause later writes syncs touched aged = λ i. record old { world = world made i; at = same i; disk = made i; status = cause i }
+unbegun old next at d status point.Age world made same cause later writes syncs touched aged = (λ i. record old { world = world made i; at = same i; disk = made i; status = cause i }, aged refl)
+unbegun old next at d status point.Read world made same cause later writes syncs touched aged = (λ i. record old { world = world made i; at = same i; disk = made i; status = status }, cause)
+unbegun old next at d status point.Damaged world made same cause later writes syncs touched aged = absurd made
+unbegun old next at d status point.Device world made same cause later writes syncs touched aged = record {
   touched = touched;
   moments = made;
   failed = cause;

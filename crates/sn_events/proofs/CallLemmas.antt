@@ -1,6 +1,6 @@
 -- What a call answers, by how it ends.
-use Rattle.std.specs.Prelude.{is_none, is_some}
-use Rattle.std.proofs.Common.{◌≡◌, ◌⊎◌, inl, inr, ◌&&◌, ◌||◌, ℕ, ◌+◌, ◌-◌, ◌≤◌, if◌then◌else◌, Bool, true, false, Option, Some, None, Result, Ok, Err, refl, sym, ap, subst, ◌∙◌, arith, leb-true}
+use Rattle.std.specs.Prelude.{IsOk, is_none, is_some}
+use Rattle.std.proofs.Common.{◌≡◌, inl, inr, ◌&&◌, ◌||◌, ℕ, ◌+◌, ◌-◌, ◌≤◌, if◌then◌else◌, Bool, true, false, Option, Some, None, Result, Ok, Err, refl, sym, ap, subst, ◌∙◌, arith, leb-true}
 use Rattle.std.specs.FinMap as map
 use Rattle.std.proofs.lemmas.Bool.{true≢false}
 use Rattle.sn_limits.specs.Versions.{version_1}
@@ -10,7 +10,7 @@ use Rattle.sn_model.specs.declared.change.Change.{Change}
 use Rattle.sn_model.specs.declared.change.Change.TheVariants.{Make, AddLink, Remove, Rename, Write as WriteBytes, SetSize, SetAttributes}
 use Rattle.sn_model.specs.declared.outcome.Caller.{Caller}
 use Rattle.sn_model.specs.declared.outcome.Outcome.{Outcome}
-use Rattle.sn_model.specs.declared.reply.Errno.TheVariants.{Estopped, Enomem}
+use Rattle.sn_model.specs.declared.reply.Errno.TheVariants.{Eio, Estopped, Enomem}
 use Rattle.sn_model.specs.declared.reply.Refusal.{Refusal}
 use Rattle.sn_model.specs.declared.reply.Reply.{Reply}
 use Rattle.sn_model.specs.declared.reply.Reply.TheVariants as answer
@@ -21,17 +21,17 @@ use Rattle.sn_overlay.specs.Needs.{AreCharged, nameless_in}
 use Rattle.sn_room.specs.Rooms.{RoomCounts, charged_behind, done, dropping, fits, gives_back}
 use Rattle.sn_room.specs.Rooms.{logged as logs}
 use Rattle.sn_held.specs.Room.{HasRoomFor}
-use Rattle.sn_model.specs.Machine.{State, Running, Stopped, Mishap, Memory, Write, EventStep, refused}
+use Rattle.sn_model.specs.Machine.{State, Running, Stopped, Mishap, Memory, Read, Write, EventStep, refused}
 use Rattle.sn_model.specs.Outcomes.{is_opening}
 use Rattle.sn_model.specs.Settling.{dropped, is_held, settle}
-use Rattle.sn_model.specs.Steps.{Becomes, Comes, asks_for_point, decision, with_caller, with_live}
+use Rattle.sn_model.specs.Steps.{Becomes, Comes, TakesMemory, asks_for_point, decision, with_caller, with_live}
 use Rattle.sn_model.specs.Tree.{Node, Tree}
 use Rattle.sn_model.specs.World.{World}
 use Rattle.sn_model.specs.Worlds.{IsCall, IsWorld}
 use Rattle.sn_core.specs.declared.choosing.Chosen.{Chosen}
-use Rattle.sn_core.specs.Served.{Chooses, HasNone}
-use Rattle.sn_core.specs.declared.fault.CallError.{CallError}
-use Rattle.sn_core.specs.declared.fault.CallError.TheVariants as lack
+use Rattle.sn_core.specs.Served.{Chooses}
+use Rattle.sn_live_world.specs.declared.fault.CallFault.{CallFault}
+use Rattle.sn_live_world.specs.declared.fault.CallFault.TheVariants as lack
 use Rattle.sn_core.specs.Numbering.{gives_kept, has_closed}
 use Rattle.sn_numbers.specs.Numbers.{since_after}
 use Rattle.sn_core.proofs.NumberLemmas.{and_not_false, kept_by, same_numbers}
@@ -44,25 +44,30 @@ use Rattle.sn_changed.proofs.DroppedLemmas.{callers_drop}
 use Rattle.sn_device.specs.Sectors.{AreSectors}
 use Rattle.sn_device.specs.Disk.{Disk, IsSynced, reads}
 use Rattle.sn_device.specs.Crash.{Touches}
-use Rattle.sn_device.proofs.CrashLemmas.{LeavesOnly-start, Touches-start}
+use Rattle.sn_device.proofs.CrashLemmas.{Touches-start}
 use Rattle.sn_block.specs.Effects.{Nowhere}
 use Rattle.sn_ondisk.specs.LogHalf.{InHalf}
 use Rattle.sn_log.specs.Positions.{base_at, behind}
 use Rattle.sn_held.specs.Events.{IsOfTree, LeavesEither, LeavesMore}
 use Rattle.sn_held.specs.Held.{CarriesOn, Going, Held, Kept}
 use Rattle.sn_cp_progress.specs.Meaning.{HasRoomWith, Means, RunsWith}
-use Rattle.sn_cp_progress.proofs.MeaningLemmas.{appends_with, drops_with, room_with, root_with, runs_with, stays_lasts}
-use Rattle.sn_held.specs.Moments.{ShowsState}
+use Rattle.sn_cp_progress.proofs.MeaningLemmas.{appends_with, counted_with, room_with, root_with, runs_with, stays_lasts}
 use Rattle.sn_sound.specs.Logs.{HasAgeLeft}
+use Rattle.sn_examine.specs.Failing.{CostsAtMost, HasFailed}
+use Rattle.sn_block.specs.Counts.{FailsRead, IsLater}
+use Rattle.sn_mount.specs.Recovering.{with_frozen}
+use Rattle.sn_model.specs.Calls.{ready}
 use Rattle.sn_held.proofs.RoomLemmas.{drops_leave_fewer}
-use Rattle.sn_held.proofs.EventLemmas.{left_of_tree, live_show, runs_lasts, still_none, stops_between, stops_lasts}
+use Rattle.sn_held.proofs.EventLemmas.{left_of_tree, runs_lasts, still_none, stops_between, stops_lasts}
 use Rattle.sn_events.specs.Answers.{Answers, AsksFirst, Costs, HasAll, IsChangeOf, Lacks, LacksFirst, MayMeet, NumbersIn, RoomIn, SinceIn, Writes, fits_with, is_fitting, writes_of}
 use Rattle.sn_events.specs.Changing.{FailsChange, IsLogged, errno_of, stops}
-use Rattle.sn_events.specs.Serving.{DropsFiles, Serves, ServesFrom, ServesTo, Turns, reply_to}
+use Rattle.sn_events.specs.Mounted.{RunsIn, in_frozen}
+use Rattle.sn_events.specs.Serving.{DropsFiles, IsUndecided, Serves, ServesFrom, ServesTo, Turns, reply_to}
 use Rattle.sn_events.specs.declared.fault.ChangeFault.{ChangeFault}
 use Rattle.sn_events.specs.declared.fault.ChangeFault.TheVariants as fault
 use Rattle.sn_changed.proofs.DecidedLemmas.{logged_keep_nameless}
-use Rattle.sn_events.proofs.DecisionLemmas.{CanBeMade, can_be_made, charge_of_change, has_no_change, is_charged, is_logged, refused_none}
+use Rattle.sn_events.proofs.ReadLemmas.{fails_read}
+use Rattle.sn_events.proofs.DecisionLemmas.{CanBeMade, can_be_made, charge_of_change, is_charged, is_logged, refused_none}
 
 -- no node is new
 stays_numbers : (session : ℕ) (c : Call) (met : Option Mishap) (s : State) (kept : ℕ → Bool) → NumbersIn (event.Call session c) met s kept s kept
@@ -141,6 +146,16 @@ pub stopped_answers : (h : Held) (session : ℕ) (c : Call) → Answers (event.C
 stopped_answers h session c (Running w) m = absurd (true≢false m.0)
 stopped_answers h session c (Stopped before after) m = (kept h true (Stopped before after) session c None (refused Estopped) tt m refl refl tt (refl, refl)).answers
 
+-- one that runs over a world with the frozen trees of another, which are its own
+pub in_own : (w : World) (h : Held) (x : World) → h.world ≡ x → x.frozen ≡ w.frozen → RunsWith h.point (in_frozen w h) (with_frozen w x) → RunsWith h.point h x
+in_own w h x is same r = subst (λ (k : Held). RunsWith h.point k x) held (subst (λ (y : World). RunsWith h.point (in_frozen w h) y) own r)
+  where
+    own : with_frozen w x ≡ x
+    own = λ i. record x { frozen = sym same i }
+
+    held : in_frozen w h ≡ h
+    held = λ i. record h { world = (ap (with_frozen w) is ∙ own ∙ sym is) i }
+
 -- ---- of one that runs, in the world that it holds
 
 abbrev pub OfWorld : Held → Bool → ℕ → Call → Reply → Held → Type 0
@@ -161,7 +176,7 @@ cannot_ask h session c refusal asks none = absurd (never (asks.decided) none)
     never is not = let e : Ok _ ≡ Err refusal = sym is ∙ not in cc e
 
 -- nor does one that asks for no point
-asks_nothing : {A : Type 0} (h : Held) (session : ℕ) (c : Call) → asks_for_point c ≡ false → AsksFirst h session c → A
+pub asks_nothing : {A : Type 0} (h : Held) (session : ℕ) (c : Call) → asks_for_point c ≡ false → AsksFirst h session c → A
 asks_nothing h session c alone asks = absurd (true≢false (sym asks.asks ∙ alone))
 
 -- a change that gives out no number that is kept back leaves those that are so since the point in progress began
@@ -174,14 +189,50 @@ since_stays (WriteBytes number offset bytes) back since none n = refl
 since_stays (SetSize number size) back since none n = refl
 since_stays (SetAttributes number own) back since none n = refl
 
--- the call has no outcome
-pub undecided_serves : (h : Held) (session : ℕ) (c : Call) (e : CallError) → HasNone e h.world session c → Serves (Some (reply_to e)) h session c h false
-undecided_serves h session c e none = in_world h h false session c (reply_to e) (λ r bare. told r bare e none)
+-- a read that failed, which the device counts
+read_fails : (h new : Held) (session : ℕ) (c : Call) → new ≡ record h { status = new.status } → FailsRead h.status new.status → TakesMemory c × IsOk (ready h.world session c) → RunsWith h.point h h.world → h.world.frozen ≡ map.empty
+    → ServesFrom (Running h.world) session c (refused Eio) h new false
+read_fails h new session c is fails takes r bare = subst (λ (x : Held). ServesFrom (Running h.world) session c (refused Eio) h x false) (sym is) (record {
+  answers = record {
+    met = Some Read;
+    fin = h;
+    finish = inl refl;
+    mid = h;
+    point = inl refl;
+    may = count.0;
+    next = Running h.world;
+    step = (takes, record { told = refl; same = refl });
+    means = (refl, counted_with h.point h h.world new.status r, bare);
+    lasts = stays_lasts h false (Running h.world) (refl, r, bare);
+    writes = writes_nothing h (Running h.world) session c;
+    begins = tt;
+    numbers = stays_numbers session c (Some Read) (Running h.world) h.kept;
+    since = stays_since session c (Some Read) (Running h.world) h.kept_since;
+    room = refl;
+    later = count.1;
+    costs = count.2;
+    steps = tt;
+    works = tt;
+  };
+  at_once = (refl, refl);
+  wrote = Touches-start (InHalf (base_at h.at)) h.disk;
+  met = fails;
+})
   where
-    told : RunsWith h.point h h.world → h.world.frozen ≡ map.empty → (e : CallError) → HasNone e h.world session c → ServesFrom (Running h.world) session c (reply_to e) h h false
-    told r bare (lack.Refused refusal) none = kept h false (Running h.world) session c None (answer.Refused refusal) tt (refl, r, bare) refl (λ asks. cannot_ask h session c refusal asks none, inl (refused_none h.world h.kept session c refusal none, refl)) (inl (refused_none h.world h.kept session c refusal none, nothing_dropped (nameless_in h.world.live) h.room))
-        (record { next = h.world; becomes = subst (λ (d : Result Outcome Refusal). Becomes version_1 h.world session d (answer.Refused refusal) h.world) (sym none) (refl, refl); runs = refl })
-    told r bare lack.Memory none = kept h false (Running h.world) session c (Some Memory) (refused Enomem) tt (refl, r, bare) refl refl refl (none, record { told = refl; same = refl })
+    count : HasFailed h.status new.status × IsLater h.status new.status × CostsAtMost 0 0 h.status new.status
+    count = fails_read h.status new.status fails
+
+-- the call has no outcome
+pub undecided_serves : (h new : Held) (session : ℕ) (c : Call) (e : CallFault) → IsUndecided e h session c new → Serves (Some (reply_to e)) h session c new false
+undecided_serves h new session c e none = in_world h new false session c (reply_to e) (λ r bare. told r bare e none)
+  where
+    told : RunsWith h.point h h.world → h.world.frozen ≡ map.empty → (e : CallFault) → IsUndecided e h session c new → ServesFrom (Running h.world) session c (reply_to e) h new false
+    told r bare (lack.Refused refusal) (none, same) = subst (λ (x : Held). ServesFrom (Running h.world) session c (answer.Refused refusal) h x false) (sym same)
+        (kept h false (Running h.world) session c None (answer.Refused refusal) tt (refl, r, bare) refl (λ asks. cannot_ask h session c refusal asks none, inl (refused_none h.world h.kept session c refusal none, refl)) (inl (refused_none h.world h.kept session c refusal none, nothing_dropped (nameless_in h.world.live) h.room))
+        (record { next = h.world; becomes = subst (λ (d : Result Outcome Refusal). Becomes version_1 h.world session d (answer.Refused refusal) h.world) (sym none) (refl, refl); runs = refl }))
+    told r bare lack.Memory (takes, same) = subst (λ (x : Held). ServesFrom (Running h.world) session c (refused Enomem) h x false) (sym same)
+        (kept h false (Running h.world) session c (Some Memory) (refused Enomem) tt (refl, r, bare) refl refl refl (takes, record { told = refl; same = refl }))
+    told r bare lack.Read (takes, same, fails) = read_fails h new session c same fails takes r bare
 
 -- there is no memory for what is to be opened
 pub unprepared_serves : (h : Held) (session : ℕ) (c : Call) (o : Outcome) → decision version_1 h.world session c ≡ Ok o → is_opening o.caller ≡ true → Serves (Some (refused Enomem)) h session c h false
@@ -191,7 +242,7 @@ pub figures : AreCharged version_1
 figures = record { inodes = omega arith; blocks = refl }
 
 -- what changed is carried on to the tree that a caller leaves
-drops_carry : (old new : Kept) (w : World) (session : ℕ) (caller : Caller) (charged : ℕ) → IsHierarchy w.live → DropsFiles old w.live new (dropped (with_caller w session caller)).live → CarriesOn old w.live charged new (dropped (with_caller w session caller)).live charged
+pub drops_carry : (old new : Kept) (w : World) (session : ℕ) (caller : Caller) (charged : ℕ) → IsHierarchy w.live → DropsFiles old w.live new (dropped (with_caller w session caller)).live → CarriesOn old w.live charged new (dropped (with_caller w session caller)).live charged
 drops_carry old new w session caller charged hierarchy drops = record {
   slot = drops.slot;
   root = drops.root;
@@ -251,18 +302,19 @@ module _ (old : Held) (session : ℕ) (c : Call) (o : Outcome) (picked : Chosen)
   lacking lacks = record { change = change; is = is_change; lacks = lacks }
 
   -- there is no memory for it, or the device fails
-  pub unmade_serves : (new : Held) (f : ChangeFault) → FailsChange true f change old new → HasAll old change o → Serves (Some (refused (errno_of f))) old session c new (stops f)
+  pub unmade_serves : (new : Held) (f : ChangeFault) → FailsChange f change old new → HasAll old change o → Serves (Some (refused (errno_of f))) old session c new (stops f)
   unmade_serves new f fails all = in_world old new (stops f) session c (refused (errno_of f)) (λ r bare. told f r bare fails)
     where
-      told : (f : ChangeFault) → RunsWith old.point old old.world → old.world.frozen ≡ map.empty → FailsChange true f change old new → ServesFrom (Running old.world) session c (refused (errno_of f)) old new (stops f)
+      told : (f : ChangeFault) → RunsWith old.point old old.world → old.world.frozen ≡ map.empty → FailsChange f change old new → ServesFrom (Running old.world) session c (refused (errno_of f)) old new (stops f)
       told fault.Memory r bare fails = subst (λ (x : Held). ServesFrom (Running old.world) session c (refused Enomem) old x false) (sym fails)
           (kept old false (Running old.world) session c (Some Memory) (refused Enomem) tt (refl, r, bare) refl refl refl (change_takes old.world old.kept session c o picked change decided chosen some, record { told = refl; same = refl }))
+      told fault.Read r bare fails = read_fails old new session c fails.0 fails.1 (change_takes old.world old.kept session c o picked change decided chosen some) r bare
       told fault.Device r bare fails =
-          let tree = fails.made.tree in
+          let tree = fails.tree in
           let next = next_with tree in
           let runs = runs_with old old.world old.point r in
           let aged = subst HasAgeLeft (root_with old old.world old.point r) all.age in
-          let between = stops_between old new old.world next change tree runs can.spelled fails.made.applied (of_tree tree) whole.live.hierarchy (has_room all.fits) aged (fails.touched refl) bare (fails.moments refl) in
+          let between = stops_between old new old.world next change tree runs can.spelled fails.applied (of_tree tree) whole.live.hierarchy (has_room all.fits) aged (fails.touched) bare (fails.moments) in
           record {
             answers = record {
               met = Some Write;
@@ -277,12 +329,12 @@ module _ (old : Held) (session : ℕ) (c : Call) (o : Outcome) (picked : Chosen)
                 decided = decided;
                 writes = inl (is_charged old.world old.kept session c o picked change decided chosen some);
                 next = next;
-                comes = comes tree fails.made.applied;
+                comes = comes tree fails.applied;
                 stops = record { told = refl; left = refl };
               };
               means = (refl, between);
-              lasts = stops_lasts old new old.world next change tree runs can.spelled fails.made.applied (of_tree tree) whole.live.hierarchy (has_room all.fits) aged (fails.touched refl) bare (fails.moments refl);
-              writes = inl (fails.touched refl);
+              lasts = stops_lasts old new old.world next change tree runs can.spelled fails.applied (of_tree tree) whole.live.hierarchy (has_room all.fits) aged (fails.touched) bare (fails.moments);
+              writes = inl (fails.touched);
               begins = tt;
               numbers = tt;
               since = tt;
@@ -293,171 +345,125 @@ module _ (old : Held) (session : ℕ) (c : Call) (o : Outcome) (picked : Chosen)
               works = tt;
             };
             at_once = (refl, refl);
-            wrote = fails.touched refl;
+            wrote = fails.touched;
             met = record { change = change; is = is_change; all = all; costs = fails.costs };
           }
 
   -- it is made and logged, and what becomes of the caller is set
-  pub made_serves : ChangesMerge → (mid new : Held) → asks_for_point c ≡ false → IsLogged true change o.charge old mid → HasAll old change o → Turns session picked.caller 0 mid new → Serves (Some o.told) old session c new false
-  made_serves merges mid new alone logged all turned = in_world old new false session c o.told told
-    where
-      tree : Tree
-      tree = logged.made.tree
+  module _ (merges : ChangesMerge) (mid new : Held) (logged : IsLogged change o.charge old mid) (all : HasAll old change o) (turned : Turns session picked.caller 0 mid new) where
+    abbrev tree : Tree
+    tree = logged.made.tree
 
-      next : World
-      next = next_with tree
-
-      world_is : new.world ≡ next
-      world_is = ap (λ (x : Held). x.world) turned.is ∙ ap (λ (w : World). dropped (with_caller w session picked.caller)) logged.made.world
-
-      none : (0 - nameless_in new.world.live) ≡ 0
-      none = omega arith
-
-      room_is : new.room ≡ logs (charge_for version_1 old.world.live change) old.room
-      room_is = ap (λ (x : Held). x.room) turned.is ∙ none_dropped (0 - nameless_in new.world.live) mid.room none ∙ logged.charged ∙ ap (λ (k : ℕ). logs k old.room) charge_is
-
-      at_is : new.at ≡ behind old.at change
-      at_is = ap (λ (x : Held). x.at) turned.is ∙ logged.at
-
-      point_is : new.point ≡ old.point
-      point_is = ap (λ (x : Held). x.point) turned.is ∙ logged.point
-
-      disk_is : new.disk ≡ mid.disk
-      disk_is = ap (λ (x : Held). x.disk) turned.is
-
-      status_is : new.status ≡ mid.status
-      status_is = ap (λ (x : Held). x.status) turned.is
-
-      whole_next : IsWorld version_1 next
-      whole_next = served_whole old.world next session c o.told (becomes tree logged.made.applied) numbers whole
-
-      by_mid : (n : ℕ) → mid.kept n ≡ kept_by picked.change old.kept n
-      by_mid n = logged.kept n ∙ ap (λ (x : Option Change). kept_by x old.kept n) (sym some)
-
-      by_last : (n : ℕ) → new.kept n ≡ (has_closed (with_live old.world tree) next n || mid.kept n)
-      by_last n = turned.kept n ∙ ap (λ (w : World). has_closed w (dropped (with_caller w session picked.caller)) n || mid.kept n) logged.made.world
-
-      since_last : (n : ℕ) → new.kept_since n ≡ (has_closed old.world next n || old.kept_since n)
-      since_last n =
-          turned.since n ∙ ap (λ (w : World). has_closed w (dropped (with_caller w session picked.caller)) n || mid.kept_since n) logged.made.world
-          ∙ ap (λ (b : Bool). b || mid.kept_since n) (chosen_closed old.world old.kept session c o picked tree numbers whole decided chosen (by_change tree logged.made.applied) n)
-          ∙ ap (λ (b : Bool). has_closed old.world next n || b) (logged.since n ∙ since_stays change old.kept old.kept_since all.number n)
-
-      hierarchy : IsHierarchy tree
-      hierarchy = (chosen_whole old.world old.kept session c o picked tree numbers whole decided chosen (by_change tree logged.made.applied)).hierarchy
-
-      drops : DropsFiles mid.base tree new.base next.live
-      drops = subst (λ (w : World). DropsFiles mid.base w.live new.base (dropped (with_caller w session picked.caller)).live) logged.made.world
-          (subst (λ (w : World). DropsFiles mid.base mid.world.live new.base w.live) (ap (λ (x : Held). x.world) turned.is) turned.base)
-
-      carried : (figure : ℕ) → CarriesOn old.base old.world.live figure new.base next.live (figure + charge_for version_1 old.world.live change)
-      carried figure =
-          let on = drops_carry mid.base new.base (with_live old.world tree) session picked.caller (figure + charge_for version_1 old.world.live change) hierarchy drops in
-          record {
-            slot = on.slot ∙ ap (λ (k : Kept). k.slot) logged.base;
-            root = on.root ∙ ap (λ (k : Kept). k.root) logged.base;
-            words = on.words ∙ ap (λ (k : Kept). k.words) logged.base;
-            changed = λ root changed. on.changed root
-                (subst (λ (k : Kept). HasChanged version_1 k.changed root tree (figure + charge_for version_1 old.world.live change)) (sym logged.base)
-                (merges version_1 old.base.changed root old.world.live tree figure change figures whole.live.hierarchy changed logged.made.applied));
-          }
-
-      told : RunsWith old.point old old.world → old.world.frozen ≡ map.empty → ServesFrom (Running old.world) session c o.told old new false
-      told r bare =
-          let runs = runs_with old old.world old.point r in
-          let aged = subst HasAgeLeft (root_with old old.world old.point r) all.age in
-          let of = of_tree tree in
-          let touched = subst (Touches (InHalf (base_at old.at)) old.disk) (sym disk_is) (logged.touched refl) in
-          let more = subst (LeavesMore old.at change old.disk) (sym disk_is) (logged.acknowledged refl) in
-          let moments = subst (LeavesEither old.at change old.disk) (sym disk_is) (logged.moments refl) in
-          let on : RunsWith new.point new next =
-          subst (λ (p : Option Going). RunsWith p new next) (sym point_is)
-          (appends_with old.point old new old.world next change tree r can.spelled logged.made.applied of whole.live.hierarchy (room_along old.point all.fits) all.age touched more (subst (λ (d : Disk). AreSectors (reads d)) (sym disk_is) (logged.sectors refl)) (subst IsSynced (sym disk_is) (logged.synced refl)) at_is room_is world_is
-          (no_fewer tree logged.made.applied) carried whole_next.live) in
-          let served = chosen_served old.world old.kept session c o picked tree numbers whole decided chosen (by_change tree logged.made.applied) mid.kept new.kept by_mid by_last in
-          record {
-            answers = record {
-              met = None;
-              fin = old;
-              finish = inl refl;
-              mid = old;
-              point = inl refl;
-              may = ap (λ (s : Status). s.failures) (status_is ∙ logged.costs);
-              next = Running next;
-              step = record { next = next; becomes = served.0; runs = refl };
-              means = (refl, on, still_none old new old.world next change tree runs can.spelled logged.made.applied of whole.live.hierarchy (has_room all.fits) aged touched bare);
-              lasts = runs_lasts old new old.world next change tree runs can.spelled logged.made.applied of whole.live.hierarchy (has_room all.fits) aged touched bare moments (runs_with new next new.point on);
-              writes = inl touched;
-              begins = tt;
-              numbers = served.1;
-              since = since_last;
-              room = inr (record { change = change; is = is_change; charged = room_is ∙ ap (λ (k : ℕ). logs k old.room) (sym charge_is) });
-              later = later-is (writes_of change) 2 old.status new.status (status_is ∙ logged.costs);
-              costs = (asks_nothing old session c alone, inr (record { change = change; is = is_change; all = all; costs = status_is ∙ logged.costs }));
-              steps = tt;
-              works = tt;
-            };
-            at_once = (refl, refl);
-            wrote = touched;
-            met = tt;
-          }
-
--- a call that changes nothing of the tree, but for files that nobody has
-pub told_serves : (old new : Held) (session : ℕ) (c : Call) (o : Outcome) (picked : Chosen) → asks_for_point c ≡ false → IsCall c → IsWorld version_1 old.world → decision version_1 old.world session c ≡ Ok o → Chooses old.world.live old.kept o.change o.caller picked → picked.change ≡ None
-    → Turns session picked.caller (nameless_in old.world.live) old new → Serves (Some o.told) old session c new false
-told_serves old new session c o picked alone numbers whole decided chosen none turned = in_world old new false session c o.told told
-  where
-    next : World
-    next = dropped (with_caller old.world session picked.caller)
-
-    parked : ℕ
-    parked = nameless_in old.world.live - nameless_in next.live
+    abbrev next : World
+    next = next_with tree
 
     world_is : new.world ≡ next
-    world_is = ap (λ (x : Held). x.world) turned.is
+    world_is = ap (λ (x : Held). x.world) turned.is ∙ ap (λ (w : World). dropped (with_caller w session picked.caller)) logged.made.world
 
-    room_is : new.room ≡ dropping parked old.room
-    room_is = ap (λ (x : Held). x.room) turned.is ∙ ap (λ (w : World). dropping (nameless_in old.world.live - nameless_in w.live) old.room) world_is
+    none : (0 - nameless_in new.world.live) ≡ 0
+    none = omega arith
 
-    after : Held
-    after = record old { world = next; kept = new.kept; kept_since = new.kept_since; room = dropping parked old.room; base = new.base }
+    room_is : new.room ≡ logs (charge_for version_1 old.world.live change) old.room
+    room_is = ap (λ (x : Held). x.room) turned.is ∙ none_dropped (0 - nameless_in new.world.live) mid.room none ∙ logged.charged ∙ ap (λ (k : ℕ). logs k old.room) charge_is
 
-    is : new ≡ after
-    is = λ i. record { world = world_is i; kept = new.kept; kept_since = new.kept_since; room = room_is i; at = ap (λ (x : Held). x.at) turned.is i; base = new.base; point = ap (λ (x : Held). x.point) turned.is i; disk = ap (λ (x : Held). x.disk) turned.is i; status = ap (λ (x : Held). x.status) turned.is i }
+    at_is : new.at ≡ behind old.at change
+    at_is = ap (λ (x : Held). x.at) turned.is ∙ logged.at
 
-    told : RunsWith old.point old old.world → old.world.frozen ≡ map.empty → ServesFrom (Running old.world) session c o.told old new false
-    told r bare =
-        let of = left_of_tree old.world session picked.caller old.world.live in
-        let served = chosen_served old.world old.kept session c o picked old.world.live numbers whole decided chosen (subst (λ (x : Option Change). MadeBy x old.world.live old.world.live) (sym none) refl)
-        old.kept new.kept (λ n. sym (ap (λ (x : Option Change). kept_by x old.kept n) none)) turned.kept in
-        let whole_next = served_whole old.world next session c o.told served.0 numbers whole in
-        let drops = subst (λ (w : World). DropsFiles old.base old.world.live new.base w.live) world_is turned.base in
-        let on : RunsWith old.point after next =
-        drops_with old.point old old.world next new.kept new.kept_since parked new.base r of (omega arith) (λ figure. drops_carry old.base new.base old.world session picked.caller figure whole.live.hierarchy drops) whole_next.live in
-        let shows = live_show after next (runs_with after next old.point on) (of.frozen ∙ bare) in
-        subst (λ (x : Held). ServesFrom (Running old.world) session c o.told old x false) (sym is) (record {
-          answers = record {
-            met = None;
-            fin = old;
-            finish = inl refl;
-            mid = old;
-            point = inl refl;
-            may = refl;
-            next = Running next;
-            step = record { next = next; becomes = served.0; runs = refl };
-            means = (refl, on, of.frozen ∙ bare);
-            lasts = record { moments = LeavesOnly-start old.disk (λ d. ShowsState (Running old.world) d ⊎ ShowsState (Running next) d) (λ d crash. inr (shows d crash)); answered = shows };
-            writes = inl (Touches-start (InHalf (base_at old.at)) old.disk);
-            begins = tt;
-            numbers = served.1;
-            since = turned.since;
-            room = inl (has_no_change old.world old.kept session c o picked decided chosen none, refl);
-            later = later-same old.status old.status refl;
-            costs = (asks_nothing old session c alone, inl (has_no_change old.world old.kept session c o picked decided chosen none, refl));
-            steps = tt;
-            works = tt;
-          };
-          at_once = (refl, refl);
-          wrote = Touches-start (InHalf (base_at old.at)) old.disk;
-          met = tt;
-        })
+    point_is : new.point ≡ old.point
+    point_is = ap (λ (x : Held). x.point) turned.is ∙ logged.point
+
+    disk_is : new.disk ≡ mid.disk
+    disk_is = ap (λ (x : Held). x.disk) turned.is
+
+    status_is : new.status ≡ mid.status
+    status_is = ap (λ (x : Held). x.status) turned.is
+
+    whole_next : IsWorld version_1 next
+    whole_next = served_whole old.world next session c o.told (becomes tree logged.made.applied) numbers whole
+
+    by_mid : (n : ℕ) → mid.kept n ≡ kept_by picked.change old.kept n
+    by_mid n = logged.kept n ∙ ap (λ (x : Option Change). kept_by x old.kept n) (sym some)
+
+    by_last : (n : ℕ) → new.kept n ≡ (has_closed (with_live old.world tree) next n || mid.kept n)
+    by_last n = turned.kept n ∙ ap (λ (w : World). has_closed w (dropped (with_caller w session picked.caller)) n || mid.kept n) logged.made.world
+
+    since_last : (n : ℕ) → new.kept_since n ≡ (has_closed old.world next n || old.kept_since n)
+    since_last n =
+        turned.since n ∙ ap (λ (w : World). has_closed w (dropped (with_caller w session picked.caller)) n || mid.kept_since n) logged.made.world
+        ∙ ap (λ (b : Bool). b || mid.kept_since n) (chosen_closed old.world old.kept session c o picked tree numbers whole decided chosen (by_change tree logged.made.applied) n)
+        ∙ ap (λ (b : Bool). has_closed old.world next n || b) (logged.since n ∙ since_stays change old.kept old.kept_since all.number n)
+
+    hierarchy : IsHierarchy tree
+    hierarchy = (chosen_whole old.world old.kept session c o picked tree numbers whole decided chosen (by_change tree logged.made.applied)).hierarchy
+
+    drops : DropsFiles mid.base tree new.base next.live
+    drops = subst (λ (w : World). DropsFiles mid.base w.live new.base (dropped (with_caller w session picked.caller)).live) logged.made.world
+        (subst (λ (w : World). DropsFiles mid.base mid.world.live new.base w.live) (ap (λ (x : Held). x.world) turned.is) turned.base)
+
+    carried : (figure : ℕ) → CarriesOn old.base old.world.live figure new.base next.live (figure + charge_for version_1 old.world.live change)
+    carried figure =
+        let on = drops_carry mid.base new.base (with_live old.world tree) session picked.caller (figure + charge_for version_1 old.world.live change) hierarchy drops in
+        record {
+          slot = on.slot ∙ ap (λ (k : Kept). k.slot) logged.base;
+          root = on.root ∙ ap (λ (k : Kept). k.root) logged.base;
+          words = on.words ∙ ap (λ (k : Kept). k.words) logged.base;
+          changed = λ root changed. on.changed root
+              (subst (λ (k : Kept). HasChanged version_1 k.changed root tree (figure + charge_for version_1 old.world.live change)) (sym logged.base)
+              (merges version_1 old.base.changed root old.world.live tree figure change figures whole.live.hierarchy changed logged.made.applied));
+        }
+
+    touched : Touches (InHalf (base_at old.at)) old.disk new.disk
+    touched = subst (Touches (InHalf (base_at old.at)) old.disk) (sym disk_is) logged.touched
+
+    -- it runs on over the world that it makes, with whatever frozen trees
+    pub made_runs : (w : World) → RunsWith old.point (in_frozen w old) (with_frozen w old.world) → RunsWith new.point (in_frozen w new) (with_frozen w next)
+    made_runs w r =
+        let of = of_tree tree in
+        let more = subst (LeavesMore old.at change old.disk) (sym disk_is) logged.acknowledged in
+        subst (λ (p : Option Going). RunsWith p (in_frozen w new) (with_frozen w next)) (sym point_is)
+        (appends_with old.point (in_frozen w old) (in_frozen w new) (with_frozen w old.world) (with_frozen w next) change tree r can.spelled logged.made.applied (record { held = of.held; live = of.live; frozen = refl }) whole.live.hierarchy (room_along old.point all.fits) all.age touched more (subst (λ (d : Disk). AreSectors (reads d)) (sym disk_is) logged.sectors) (subst IsSynced (sym disk_is) logged.synced) at_is room_is (ap (with_frozen w) world_is)
+        (no_fewer tree logged.made.applied) carried whole_next.live)
+
+    pub made_whole : IsWorld version_1 new.world
+    made_whole = subst (IsWorld version_1) (sym world_is) whole_next
+
+    pub made_in : RunsIn old → RunsIn new
+    made_in r = record { frozen = r.frozen; runs = subst (λ (x : World). RunsWith new.point (in_frozen r.frozen new) (with_frozen r.frozen x)) (sym world_is) (made_runs r.frozen r.runs) }
+
+    pub made_serves : asks_for_point c ≡ false → Serves (Some o.told) old session c new false
+    made_serves alone = in_world old new false session c o.told told
+      where
+        told : RunsWith old.point old old.world → old.world.frozen ≡ map.empty → ServesFrom (Running old.world) session c o.told old new false
+        told r bare =
+            let runs = runs_with old old.world old.point r in
+            let aged = subst HasAgeLeft (root_with old old.world old.point r) all.age in
+            let of = of_tree tree in
+            let moments = subst (LeavesEither old.at change old.disk) (sym disk_is) (logged.moments) in
+            let on = in_own old.world new next world_is of.frozen (made_runs old.world r) in
+            let served = chosen_served old.world old.kept session c o picked tree numbers whole decided chosen (by_change tree logged.made.applied) mid.kept new.kept by_mid by_last in
+            record {
+              answers = record {
+                met = None;
+                fin = old;
+                finish = inl refl;
+                mid = old;
+                point = inl refl;
+                may = ap (λ (s : Status). s.failures) (status_is ∙ logged.costs);
+                next = Running next;
+                step = record { next = next; becomes = served.0; runs = refl };
+                means = (refl, on, still_none old new old.world next change tree runs can.spelled logged.made.applied of whole.live.hierarchy (has_room all.fits) aged touched bare);
+                lasts = runs_lasts old new old.world next change tree runs can.spelled logged.made.applied of whole.live.hierarchy (has_room all.fits) aged touched bare moments (runs_with new next new.point on);
+                writes = inl touched;
+                begins = tt;
+                numbers = served.1;
+                since = since_last;
+                room = inr (record { change = change; is = is_change; charged = room_is ∙ ap (λ (k : ℕ). logs k old.room) (sym charge_is) });
+                later = later-is (writes_of change) 2 old.status new.status (status_is ∙ logged.costs);
+                costs = (asks_nothing old session c alone, inr (record { change = change; is = is_change; all = all; costs = status_is ∙ logged.costs }));
+                steps = tt;
+                works = tt;
+              };
+              at_once = (refl, refl);
+              wrote = touched;
+              met = tt;
+            }

@@ -21,7 +21,6 @@ use Rattle.sn_held.specs.Moments.{ShowsState}
 use Rattle.sn_held.proofs.EventLemmas.{runs_show}
 use Rattle.sn_cp_progress.specs.Meaning.{RunsWith}
 use Rattle.sn_cp_whole.specs.declared.fault.PointFault.{PointFault}
-use Rattle.sn_cp_whole.specs.declared.fault.PointFault.TheVariants as point
 use Rattle.sn_events.specs.Answers.{Answers, AnswersFrom, IsBehindFinish, NeedsPoint, StepsIn, Works}
 use Rattle.sn_events.specs.Pointing.{Finishes, FinishesSo, errno_of_point, stops_for}
 use Rattle.sn_events.specs.Serving.{Serves}

@@ -1,7 +1,12 @@
 pub mod BasedLemmas
 pub mod DecisionLemmas
+pub mod ReadLemmas
 pub mod CallLemmas
+pub mod ToldLemmas
 pub mod ServeLemmas
+pub mod MeantLemmas
+pub mod LookLemmas
+pub mod LoggedLemmas
 pub mod PointLemmas
 pub mod FinishLemmas
 pub mod StepLemmas

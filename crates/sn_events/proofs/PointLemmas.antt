@@ -1,7 +1,7 @@
 -- What an event answers that makes a whole point first, or whose point isn't made.
 use Rattle.std.proofs.Common.{◌≡◌, ◌≢◌, ◌⊎◌, inl, inr, ℕ, ◌+◌, ◌<◌, Bool, true, false, Option, Some, None, Err, Ok, refl, sym, ap, subst, ◌∙◌, arith}
 use Rattle.std.specs.FinMap as map
-use Rattle.std.specs.Prelude.{IsOk, MatchBool}
+use Rattle.std.specs.Prelude.{IsOk}
 use Rattle.std.proofs.lemmas.Bool.{true≢false}
 use Rattle.sn_limits.specs.Versions.{version_1}
 use Rattle.sn_model.specs.declared.call.Call.{Call}
@@ -26,7 +26,6 @@ use Rattle.sn_block.proofs.CountLemmas.{later-is, later-join, later-same}
 use Rattle.sn_core.specs.Numbering.{gives_kept}
 use Rattle.sn_core.proofs.NumberLemmas.{same_numbers}
 use Rattle.sn_core.proofs.StepLemmas.{change_takes}
-use Rattle.sn_device.specs.Status.{has_ended, one_failure}
 use Rattle.sn_device.specs.declared.status.Status.{Status}
 use Rattle.sn_device.specs.Disk.{Disk}
 use Rattle.sn_device.specs.Crash.{LeavesOnly, Touches}
@@ -52,6 +51,7 @@ use Rattle.sn_events.specs.Answers.{Answers, AnswersFrom, Begins, BuildsOf, Cost
 use Rattle.sn_events.specs.Pointing.{IsPointed, IsUnpointed, Points, errno_of_point, stops_for}
 use Rattle.sn_events.specs.Serving.{Serves, ServesFrom, ServesTo}
 use Rattle.sn_events.proofs.CallLemmas.{comes, next_with}
+use Rattle.sn_events.proofs.ReadLemmas.{fails_read}
 use Rattle.sn_events.proofs.DecisionLemmas.{CanBeMade, can_be_made, is_charged}
 
 -- what is so of the world that is held is so of the one that is meant
@@ -121,7 +121,7 @@ module _ (old mid new : Held) (session : ℕ) (c : Call) (needed : NeedsPoint ol
   may_meet : (at : Held) (met : Option Mishap) → ServesTo met mid session c new.status → MayMeet mid at e met new.status → MayMeet old mid e met new.status
   may_meet at None to may = none_failed old.status mid.status new.status no_failures may
   may_meet at (Some Memory) to may = none_failed old.status mid.status new.status no_failures may
-  may_meet at (Some Read) to may = absurd to
+  may_meet at (Some Read) to may = some_failed old.status mid.status new.status no_failures may
   may_meet at (Some Write) to may = some_failed old.status mid.status new.status no_failures may
   may_meet at (Some Space) to may = absurd to
   may_meet at (Some Age) to may = absurd to
@@ -129,7 +129,7 @@ module _ (old mid new : Held) (session : ℕ) (c : Call) (needed : NeedsPoint ol
   costs_call : (at : Held) (met : Option Mishap) → at ≡ mid → ServesTo met mid session c new.status → CostsCall mid at session c met new.status → CostsCall old mid session c met new.status
   costs_call at None same to costs = (λ _. made, subst (λ (x : Held). (HasNoChange x.world x.kept session c × (new.status ≡ x.status)) ⊎ IsRecorded x session c new.status) same costs.1)
   costs_call at (Some Memory) same to costs = costs ∙ ap (λ (x : Held). x.status) same
-  costs_call at (Some Read) same to costs = absurd to
+  costs_call at (Some Read) same to costs = subst (λ (x : Held). CostsAtMost 0 0 x.status new.status) same costs
   costs_call at (Some Write) same to costs = inl to
   costs_call at (Some Space) same to costs = absurd to
   costs_call at (Some Age) same to costs = absurd to
@@ -242,14 +242,14 @@ space_answers fit old mid session c whole needed p bare lacks = record {
 pub not_device : (fault : PointFault) → stops_for fault ≡ false → fault ≢ point.Device
 not_device fault runs is = true≢false (subst (λ (f : PointFault). stops_for f ≡ false) is runs)
 
--- what is left of what is held
-module _ (e : Event) (old new : Held) (world : new.world ≡ old.world) (kept : new.kept ≡ old.kept) (since : new.kept_since ≡ old.kept_since) (going : new.point ≡ old.point) (room : new.room ≡ old.room) (base : new.base ≡ old.base) (built : Layer) (builds : BuildsOf e old built) where
+-- what is left of what is held, in which the world is the same where the disk is
+module _ (e : Event) (old new : Held) (world : new.disk ≡ old.disk → new.world ≡ old.world) (kept : new.kept ≡ old.kept) (since : new.kept_since ≡ old.kept_since) (going : new.point ≡ old.point) (room : new.room ≡ old.room) (base : new.base ≡ old.base) (built : Layer) (builds : BuildsOf e old built) where
   pub point_unmade : (fault : PointFault) (of : World) (settled_is : settle of ≡ settle old.world) (h : Held) (k : Kept) → h.disk ≡ new.disk → (fault ≢ point.Device → new.at ≡ old.at) → MakesPoint (Err fault) of old.disk h k
       → Touches (IsBesideRoot old) old.disk new.disk → HasCauseFor fault old.status new.status → IsLater old.status new.status
       → CostsAtMost (most_writes old.at.blocks (need old.base.root.limits built)) most_syncs old.status new.status → (fault ≡ point.Age → IsLastRoot old.base.root) → IsUnpointed fault e old new
-  point_unmade point.Memory of settled_is h k disk at made touched cause later costs aged = λ i. record { world = world i; kept = kept i; kept_since = since i; point = going i; room = room i; at = at (not_device point.Memory refl) i; base = base i; disk = (sym disk ∙ made) i; status = cause i }
-  point_unmade point.Age of settled_is h k disk at made touched cause later costs aged = (λ i. record { world = world i; kept = kept i; kept_since = since i; point = going i; room = room i; at = at (not_device point.Age refl) i; base = base i; disk = (sym disk ∙ made) i; status = cause i }, aged refl)
-  point_unmade point.Read of settled_is h k disk at made touched cause later costs aged = (λ i. record { world = world i; kept = kept i; kept_since = since i; point = going i; room = room i; at = at (not_device point.Read refl) i; base = base i; disk = (sym disk ∙ made) i; status = new.status }, cause)
+  point_unmade point.Memory of settled_is h k disk at made touched cause later costs aged = λ i. record { world = world (sym disk ∙ made) i; kept = kept i; kept_since = since i; point = going i; room = room i; at = at (not_device point.Memory refl) i; base = base i; disk = (sym disk ∙ made) i; status = cause i }
+  point_unmade point.Age of settled_is h k disk at made touched cause later costs aged = (λ i. record { world = world (sym disk ∙ made) i; kept = kept i; kept_since = since i; point = going i; room = room i; at = at (not_device point.Age refl) i; base = base i; disk = (sym disk ∙ made) i; status = cause i }, aged refl)
+  point_unmade point.Read of settled_is h k disk at made touched cause later costs aged = (λ i. record { world = world (sym disk ∙ made) i; kept = kept i; kept_since = since i; point = going i; room = room i; at = at (not_device point.Read refl) i; base = base i; disk = (sym disk ∙ made) i; status = new.status }, cause)
   point_unmade point.Damaged of settled_is h k disk at made touched cause later costs aged = absurd made
   point_unmade point.Device of settled_is h k disk at made touched cause later costs aged = record {
     touched = touched;
@@ -299,22 +299,6 @@ pub record PointEvent (e : Event) (old : Held) (w : World) : Type 0 where
   pub costs_none : (m : Mishap) → IsRefusing m → Costs (Running w) old old e (Some m) old.status
   pub costs_read : (new : Status) → CostsAtMost 0 0 old.status new → Costs (Running w) old old e (Some Read) new
   pub costs_cut : (new : Status) → IsCutAtPoint old e new → Costs (Running w) old old e (Some Write) new
-
--- a read that failed
-pub fails_read : (old new : Status) → FailsRead old new → HasFailed old new × IsLater old new × CostsAtMost 0 0 old new
-fails_read old new fails = told (has_ended old) refl fails
-  where
-    told : (ended : Bool) → has_ended old ≡ ended → MatchBool ended (new ≡ old) (new ≡ one_failure old) → HasFailed old new × IsLater old new × CostsAtMost 0 0 old new
-    told true is same = (
-      inr (sym (ap has_ended (sym same)) ∙ is),
-      later-same old new same,
-      subst (CostsAtMost 0 0 old) (sym same) (record { writes = omega arith; syncs = omega arith }),
-    )
-    told false is same = (
-      inl (omega (arith, ap (λ (s : Status). s.failures) same)),
-      subst (IsLater old) (sym same) (record { sectors = refl; failures = omega arith; writes = omega arith; syncs = omega arith; spent = λ was. was }),
-      subst (CostsAtMost 0 0 old) (sym same) (record { writes = omega arith; syncs = omega arith }),
-    )
 
 -- it was cut off, and either world may be there, of which the first is
 pub is_cut : (e : Event) (old : Held) (x : PointEvent e old old.world) (bare : old.world.frozen ≡ map.empty) (new : Held) → Touches (IsBesideRoot old) old.disk new.disk → LeavesOnly old.disk new.disk (λ c. IsImage c (settle old.world)) → HasFailed old.status new.status

@@ -1,6 +1,5 @@
 -- What is left as it is while a call is served.
 use Rattle.std.proofs.Common.{◌≡◌, ℕ, ◌*◌, ◌≤◌, Bool, true, false, if◌then◌else◌, List, Option, None, Some, length, sym, ap, subst, ◌∙◌, arith}
-use Rattle.sn_limits.specs.Versions.{version_1}
 use Rattle.sn_layout.specs.RootBody.{IsRootBody}
 use Rattle.sn_layout.specs.declared.root.RootBody.{RootBody}
 use Rattle.sn_log.specs.Positions.{LogPosition, base_at}
@@ -11,19 +10,6 @@ use Rattle.sn_device.specs.Sectors.{AreSectors}
 use Rattle.sn_layout.specs.Geometry.{other_slot}
 use Rattle.sn_model.specs.declared.change.Change.{Change}
 use Rattle.sn_model.specs.declared.outcome.Outcome.{Outcome}
-use Rattle.sn_model.specs.World.{World}
-use Rattle.sn_model.specs.Changes.{apply}
-use Rattle.sn_model.specs.Steps.{with_live}
-use Rattle.sn_numbers.specs.Numbers.{kept_after}
-use Rattle.sn_desc.specs.InUse.{live_in}
-use Rattle.sn_overlay.specs.Needs.{counts}
-use Rattle.sn_overlay.specs.Overlays.{HasRoom, TakesRoom}
-use Rattle.sn_overlay.specs.declared.overlay.Overlay.{Overlay}
-use Rattle.sn_core.specs.Plain.{kept_of, room_of, world_of}
-use Rattle.sn_core.specs.declared.choosing.Chosen.{Chosen}
-use Rattle.sn_core.specs.declared.world.PlainWorld.{PlainWorld}
-use Rattle.sn_core.proofs.NumberLemmas.{kept_by}
-use Rattle.sn_core.proofs.StepLemmas.{IsMade, MadeBy}
 use Rattle.sn_held.specs.Held.{Held}
 use Rattle.sn_cp.proofs.LogLemmas.{log_keeps}
 use Rattle.sn_cp.specs.Points.{stage_of, work_of}
@@ -31,26 +17,15 @@ use Rattle.sn_cp_whole.specs.declared.going.GoingPoint.{GoingPoint}
 use Rattle.sn_cp_whole.specs.declared.base.PointBase.{PointBase}
 use Rattle.sn_events.specs.Answers.{HasAll, is_fitting}
 use Rattle.std.proofs.lemmas.Bool.{true≢false}
-use Rattle.sn_events.specs.Changing.{FailsChange, IsMade as IsChanged, stops}
+use Rattle.sn_events.specs.Changing.{FailsChange, stops}
 use Rattle.sn_events.specs.declared.fault.ChangeFault.{ChangeFault}
 use Rattle.sn_events.specs.declared.fault.ChangeFault.TheVariants as fault
 use Rattle.sn_events.specs.Mounted.{IsBased, IsSameRoot, StandsThere}
 use Rattle.sn_events.specs.Serving.{LacksNothing, LacksSome, TellsLack}
 
--- room for the drop of each file that is open in the world
-abbrev pub HasRoomFor : Held → Overlay → Type 0
-HasRoomFor h it = HasRoom it (counts (live_in h.world.descriptors) 0 0)
-
 -- the log is on the device still
 pub within_still : (blocks next sectors after : ℕ) → next ≡ blocks → after ≡ sectors → 8 * blocks ≤ sectors → 8 * next ≤ after
 within_still blocks next sectors after e f within = subst (λ (n : ℕ). 8 * n ≤ after) (sym e) (subst (λ (n : ℕ). 8 * blocks ≤ n) (sym f) within)
-
-pub room_kept : (n : ℕ) (old new : Overlay) → HasRoom old (counts n 0 0) → TakesRoom old new (counts 0 0 0) → HasRoom new (counts n 0 0)
-room_kept n old new has takes = record { nodes = omega (arith, has.nodes, takes.nodes); names = omega (arith, has.names, takes.names); blocks = omega (arith, has.blocks, takes.blocks) }
-
--- room for more is room for fewer
-pub room_fewer : (n fewer : ℕ) (it : Overlay) → fewer ≤ n → HasRoom it (counts n 0 0) → HasRoom it (counts fewer 0 0)
-room_fewer n fewer it few has = record { nodes = omega (arith, few, has.nodes); names = has.names; blocks = has.blocks }
 
 pub based_still : (going : Option GoingPoint) (old new : LogPosition) (base next : PointBase) → new.blocks ≡ old.blocks → new.epoch ≡ old.epoch → IsSameRoot base next → IsBased going old base → IsBased going new next
 based_still None old new base next blocks epoch same is = record {
@@ -92,26 +67,16 @@ lacks_nothing h p o change enough told same fits is lacks =
     let nothing : LacksNothing h change (is_fitting h o) = subst (λ (x : Held). LacksNothing x change (is_fitting h o)) same (subst (LacksNothing p change) fits (subst (λ (b : Bool). TellsLack b p change enough) is lacks)) in
     record { room = nothing.room; fits = nothing.fits; number = nothing.number; age = nothing.age }
 
--- a change that is made over a world is made over one that is equal
-pub made_over : (old before : World) (kept first : ℕ → Bool) (picked : Chosen) (room : ℕ) (mid : PlainWorld) (change : Change) → before ≡ old → first ≡ kept → picked.change ≡ Some change → IsChanged change before (world_of mid) → ((n : ℕ) → kept_of mid n ≡ kept_after change first n) → room_of mid ≡ room
-    → IsMade old kept picked room mid
-made_over old before kept first picked room mid change same none some made keeps room_is = record {
-  tree = made.tree;
-  world = made.world ∙ ap (λ (w : World). with_live w made.tree) same;
-  done = subst (λ (x : Option Change). MadeBy x old.live made.tree) (sym some) (ap (λ (w : World). apply version_1 change w.live) (sym same) ∙ made.applied);
-  kept_is = λ n. keeps n ∙ ap (λ (k : ℕ → Bool). kept_after change k n) none ∙ ap (λ (x : Option Change). kept_by x kept n) (sym some);
-  room_is = room_is;
-}
-
 -- what is opened or lost is one file at most
 pub one_at_most : (b : Bool) → (if b then 1 else 0) ≤ 1
 one_at_most true = omega arith
 one_at_most false = omega arith
 
--- where a change isn't made and the mount goes on, it holds what it held
-pub still_same : (told : Bool) (f : ChangeFault) (change : Change) (old new : Held) → FailsChange told f change old new → stops f ≡ false → new ≡ old
-still_same told fault.Memory change old new fails runs = fails
-still_same told fault.Device change old new fails runs = absurd (true≢false runs)
+-- where a change isn't made and the mount goes on, it holds what it held, but for what the device counts
+pub still_same : (f : ChangeFault) (change : Change) (old new : Held) → FailsChange f change old new → stops f ≡ false → new ≡ record old { status = new.status }
+still_same fault.Memory change old new fails runs = λ i. record (fails i) { status = new.status }
+still_same fault.Read change old new fails runs = fails.0
+still_same fault.Device change old new fails runs = absurd (true≢false runs)
 
 -- where the disk is as it was, the point in progress stands there still
 pub stands_same : (going still : Option GoingPoint) (old new : Disk) → still ≡ going → new ≡ old → StandsThere going old → StandsThere still new

@@ -28,7 +28,8 @@ use Rattle.sn_cp_whole.specs.declared.fault.PointFault.TheVariants as point
 use Rattle.sn_block.specs.Counts.{FailsRead, called}
 use Rattle.sn_events.specs.Answers.{Answers, AnswersFrom, Costs, HasBegun, HasGoneOn, IsBesideRoot, MayMeet}
 use Rattle.sn_events.specs.Pointing.{Advances, IsAdvancedTo, IsBegunTo, IsCutStep, IsFinishedTo, IsUnbegun, errno_of_point, stops_for}
-use Rattle.sn_events.proofs.PointLemmas.{fails_read, in_any_world, not_more, running_between}
+use Rattle.sn_events.proofs.ReadLemmas.{fails_read}
+use Rattle.sn_events.proofs.PointLemmas.{in_any_world, not_more, running_between}
 
 pub stopped_step : (h : Held) → Answers event.Step (refused Estopped) h true h true
 stopped_step h (Running w) m = absurd (true≢false m.0)

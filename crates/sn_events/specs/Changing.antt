@@ -1,5 +1,5 @@
--- A change that is made in memory and then appended to the log.
-use Rattle.std.specs.Prelude.{◌≡◌, ℕ, Bool, true, false, Some, Result, Ok, Err, IsTrue}
+-- A change that is appended to the log and then made of the live tree.
+use Rattle.std.specs.Prelude.{◌≡◌, ℕ, Bool, true, false, Option, Some, Result, Ok, Err}
 use Rattle.sn_device.specs.Sectors.{AreSectors}
 use Rattle.sn_device.specs.Disk.{IsSynced, reads}
 use Rattle.sn_device.specs.Crash.{Touches}
@@ -11,10 +11,12 @@ use Rattle.sn_model.specs.Tree.{Tree}
 use Rattle.sn_model.specs.World.{World}
 use Rattle.sn_model.specs.declared.reply.Errno.{Errno}
 use Rattle.sn_model.specs.declared.reply.Errno.TheVariants.{Enomem, Eio}
+use Rattle.sn_live_world.specs.declared.fault.LookFault.{LookFault}
+use Rattle.sn_live_world.specs.declared.fault.LookFault.TheVariants as look
 use Rattle.sn_numbers.specs.Numbers.{kept_after, since_after}
 use Rattle.sn_ondisk.specs.LogHalf.{InHalf}
 use Rattle.sn_log.specs.Positions.{base_at, behind}
-use Rattle.sn_block.specs.Counts.{IsLater, called}
+use Rattle.sn_block.specs.Counts.{FailsRead, IsLater, called}
 use Rattle.sn_events.specs.Answers.{writes_of}
 use Rattle.sn_held.specs.Events.{LeavesEither, LeavesMore}
 use Rattle.sn_held.specs.Held.{Held, Kept}
@@ -23,7 +25,7 @@ use Rattle.sn_overlay_change.specs.ChangeLayers.{layer_of_change}
 use Rattle.sn_room.specs.Rooms.{logged}
 use Rattle.sn_examine.specs.Failing.{CostsAtMost, HasFailed}
 use Rattle.sn_events.specs.declared.fault.ChangeFault.{ChangeFault}
-use Rattle.sn_events.specs.declared.fault.ChangeFault.TheVariants.{Memory, Device}
+use Rattle.sn_events.specs.declared.fault.ChangeFault.TheVariants.{Memory, Read, Device}
 
 -- the world with the change
 pub record IsMade (change : Change) (old new : World) : Type 0 where
@@ -36,7 +38,7 @@ abbrev pub with_change : Kept → Tree → Change → Kept
 with_change k live change = record k { changed = merge k.changed (layer_of_change live change) }
 
 -- it is made and charged, and its record stands in the log
-pub record IsLogged (told : Bool) (change : Change) (charge : ℕ) (old new : Held) : Type 0 where
+pub record IsLogged (change : Change) (charge : ℕ) (old new : Held) : Type 0 where
   pub made : IsMade change old.world new.world
   pub kept : (n : ℕ) → new.kept n ≡ kept_after change old.kept n
   pub since : (n : ℕ) → new.kept_since n ≡ since_after change old.kept old.kept_since n
@@ -44,37 +46,46 @@ pub record IsLogged (told : Bool) (change : Change) (charge : ℕ) (old new : He
   pub at : new.at ≡ behind old.at change
   pub base : new.base ≡ with_change old.base old.world.live change
   pub point : new.point ≡ old.point
-  pub touched : IsTrue told → Touches (InHalf (base_at old.at)) old.disk new.disk
-  pub moments : IsTrue told → LeavesEither old.at change old.disk new.disk
-  pub acknowledged : IsTrue told → LeavesMore old.at change old.disk new.disk
-  pub sectors : IsTrue told → AreSectors (reads new.disk)
-  pub synced : IsTrue told → IsSynced new.disk
+  pub touched : Touches (InHalf (base_at old.at)) old.disk new.disk
+  pub moments : LeavesEither old.at change old.disk new.disk
+  pub acknowledged : LeavesMore old.at change old.disk new.disk
+  pub sectors : AreSectors (reads new.disk)
+  pub synced : IsSynced new.disk
   pub costs : new.status ≡ called (writes_of change) 2 old.status
 
 -- the device failed while its record was appended
-pub record IsCut (told : Bool) (change : Change) (old new : Held) : Type 0 where
-  pub made : IsMade change old.world new.world
-  pub touched : IsTrue told → Touches (InHalf (base_at old.at)) old.disk new.disk
-  pub moments : IsTrue told → LeavesEither old.at change old.disk new.disk
+pub record IsCut (change : Change) (old new : Held) : Type 0 where
+  pub tree : Tree
+  pub applied : apply version_1 change old.world.live ≡ Some tree
+  pub touched : Touches (InHalf (base_at old.at)) old.disk new.disk
+  pub moments : LeavesEither old.at change old.disk new.disk
   pub failed : HasFailed old.status new.status
   pub later : IsLater old.status new.status
   pub costs : CostsAtMost (writes_of change) 2 old.status new.status
 
-abbrev pub FailsChange : Bool → ChangeFault → Change → Held → Held → Type 0
-FailsChange told Memory change old new = new ≡ old
-FailsChange told Device change old new = IsCut told change old new
+abbrev pub FailsChange : ChangeFault → Change → Held → Held → Type 0
+FailsChange Memory change old new = new ≡ old
+FailsChange Read change old new = (new ≡ record old { status = new.status }) × FailsRead old.status new.status
+FailsChange Device change old new = IsCut change old new
 
--- At `Ok` the change is made, logged and charged. Where the device fails, it may be logged or not. Where memory is refused nothing has changed.
-abbrev pub Changes : Bool → Result (Unit {0}) ChangeFault → Change → ℕ → Held → Held → Type 0
-Changes told (Ok _) change charge old new = IsLogged told change charge old new
-Changes told (Err e) change charge old new = FailsChange told e change old new
+-- At `Ok` the change is made, logged and charged. Where the device fails while it is written, it may be logged or not. Where memory is refused, or a block can't be read, nothing has changed.
+abbrev pub Changes : Result (Option ℕ) ChangeFault → Change → ℕ → Held → Held → Type 0
+Changes (Ok lost) change charge old new = IsLogged change charge old new
+Changes (Err e) change charge old new = FailsChange e change old new
+
+-- why a change isn't made whose blocks couldn't be looked at
+abbrev pub change_fault : LookFault → ChangeFault
+change_fault look.Memory = Memory
+change_fault look.Read = Read
 
 -- what a call is refused with
 abbrev pub errno_of : ChangeFault → Errno
 errno_of Memory = Enomem
+errno_of Read = Eio
 errno_of Device = Eio
 
 -- the failure of the device stops the mount
 abbrev pub stops : ChangeFault → Bool
 stops Memory = false
+stops Read = false
 stops Device = true

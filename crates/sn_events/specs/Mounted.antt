@@ -2,21 +2,27 @@
 use Rattle.std.specs.Prelude.{◌≡◌, ◌+◌, ◌*◌, ◌^◌, ◌≤◌, Bool, false, IsTrue, Option, None, Some}
 use Rattle.sn_device.specs.declared.device.Device.{Ghosts}
 use Rattle.sn_device.specs.declared.status.Status.{Status}
-use Rattle.sn_device.specs.Disk.{Disk}
+use Rattle.sn_device.specs.Disk.{Disk, reads}
+use Rattle.sn_image.specs.Image.{image}
 use Rattle.sn_layout.specs.Geometry.{other_slot}
+use Rattle.sn_layout.specs.declared.root.RootBody.{RootBody}
 use Rattle.sn_limits.specs.Versions.{version_1}
+use Rattle.sn_model.specs.Tree.{Tree}
+use Rattle.sn_model.specs.World.{World}
 use Rattle.sn_model.specs.Worlds.{IsWorld}
+use Rattle.sn_mount.specs.Recovering.{with_frozen}
+use Rattle.sn_ondisk.specs.Trees.{store_of}
 use Rattle.sn_block.specs.Lending.{device_of}
 use Rattle.sn_block.specs.declared.blocks.Blocks.{Blocks}
 use Rattle.sn_log.specs.Positions.{LogPosition}
-use Rattle.sn_core.specs.declared.world.PlainWorld.{PlainWorld}
-use Rattle.sn_core.specs.Plain.{kept_of, kept_since_of, world_of}
+use Rattle.sn_live_world.specs.World.{HasDrops, IsOver, changes_of, descriptors_of, kept_of, kept_since_of, nameless_of, point_of, world_over}
+use Rattle.sn_live_world.specs.declared.world.LiveWorld.{LiveWorld}
 use Rattle.sn_desc.specs.InUse.{live_in}
 use Rattle.sn_held.specs.Held.{Going, Held}
-use Rattle.sn_overlay.specs.Needs.{counts, nameless_in}
-use Rattle.sn_overlay.specs.Overlays.{HasRoom}
+use Rattle.sn_overlay.specs.Overlays.{no_changes}
 use Rattle.sn_room.specs.Rooms.{RoomCounts}
 use Rattle.sn_cp.specs.Points.{stage_of, work_of}
+use Rattle.sn_cp_progress.specs.Meaning.{RunsWith}
 use Rattle.sn_cp.specs.Steps.{IsWhole, IsWithin, StandsAtStage}
 use Rattle.sn_cp_whole.specs.Going.{going_of}
 use Rattle.sn_cp_whole.specs.Planning.{IsBaseAt, kept_in}
@@ -41,33 +47,56 @@ abbrev pub StandsThere : Option GoingPoint → Disk → Type 0
 StandsThere None d = Unit {0}
 StandsThere (Some going) d = StandsAtStage (work_of going.point) (stage_of going.point) d
 
--- Unless a failure has stopped it, its log is on a device that has all its blocks, its world is one, no more files are parked than can be counted, a point can begin from what is kept for it or is in progress, and there is room for the drop of each file that is open.
-pub record IsMounted (told : Bool) (disk : Disk) (status : Status) (at : LogPosition) (world : PlainWorld) (room : RoomCounts) (base : PointBase) (going : Option GoingPoint) (has_stopped : Bool) : Type 0 where
-  pub within : has_stopped ≡ false → 8 * at.blocks ≤ status.sectors
-  pub whole : has_stopped ≡ false → IsWorld version_1 (world_of world)
-  pub parked : has_stopped ≡ false → room.dropped + nameless_in (world_of world).live ≤ 2 ^ 33
-  pub based : has_stopped ≡ false → IsBased going at base
-  pub stands : has_stopped ≡ false → IsTrue told → StandsThere going disk
-  pub drops : has_stopped ≡ false → HasRoom base.changed (counts (live_in (world_of world).descriptors) 0 0)
-
 -- the point in progress, as `sn_held` speaks of it
 abbrev pub going_in : Option GoingPoint → Option Going
 going_in None = None
 going_in (Some going) = Some (going_of going)
 
--- what these parts hold
-abbrev pub holding : {D : Type 0} (g : Ghosts D) → Blocks D g → LogPosition → PlainWorld → RoomCounts → PointBase → Option GoingPoint → Held
-holding g blocks at world room base going = record {
-  world = world_of world;
+-- the tree of a root, as it stands on a disk
+abbrev pub tree_at : Disk → RootBody → Tree
+tree_at disk root = image (store_of (reads disk)) root.inode_file
+
+-- what these parts hold over a disk
+abbrev pub holding_on : Disk → Status → LogPosition → LiveWorld → RoomCounts → PointBase → Option GoingPoint → Held
+holding_on disk status at world room base going = record {
+  world = world_over world (tree_at disk base.root);
   kept = kept_of world;
   kept_since = kept_since_of world;
   room = room;
   at = at;
-  base = kept_in base;
+  base = kept_in base (changes_of world);
   point = going_in going;
-  disk = g.disk (device_of blocks);
-  status = g.status (device_of blocks);
+  disk = disk;
+  status = status;
 }
+
+abbrev pub holding : {D : Type 0} (g : Ghosts D) → Blocks D g → LogPosition → LiveWorld → RoomCounts → PointBase → Option GoingPoint → Held
+holding g blocks at world room base going = holding_on (g.disk (device_of blocks)) (g.status (device_of blocks)) at world room base going
+
+-- the same with the frozen trees of another world
+abbrev pub in_frozen : World → Held → Held
+in_frozen w h = record h { world = with_frozen w h.world }
+
+-- It runs over the world that it holds, with frozen trees, which it doesn't hold.
+pub record RunsIn (h : Held) : Type 0 where
+  pub frozen : World
+  pub runs : RunsWith h.point (in_frozen frozen h) (with_frozen frozen h.world)
+
+-- What is so of what it reads, where the device tells its bytes: its live tree lies over the root's, its world is one, it runs over that, and the disk is where the point in progress takes it to be.
+pub record IsMeant (disk : Disk) (status : Status) (at : LogPosition) (world : LiveWorld) (room : RoomCounts) (base : PointBase) (going : Option GoingPoint) : Type 0 where
+  pub over : IsOver world (tree_at disk base.root)
+  pub whole : IsWorld version_1 (world_over world (tree_at disk base.root))
+  pub runs : RunsIn (holding_on disk status at world room base going)
+  pub stands : StandsThere going disk
+
+-- Unless a failure has stopped it, its log is on a device that has all its blocks, no more files are parked than can be counted, a point can begin from what is kept for it or is in progress, there is room for the drop of each file that is open, and what it reads is meant.
+pub record IsMounted (told : Bool) (disk : Disk) (status : Status) (at : LogPosition) (world : LiveWorld) (room : RoomCounts) (base : PointBase) (going : Option GoingPoint) (has_stopped : Bool) : Type 0 where
+  pub within : has_stopped ≡ false → 8 * at.blocks ≤ status.sectors
+  pub parked : has_stopped ≡ false → room.dropped + nameless_of world ≤ 2 ^ 33
+  pub based : has_stopped ≡ false → IsBased going at base
+  pub between : has_stopped ≡ false → going ≡ None → point_of world ≡ no_changes
+  pub drops : has_stopped ≡ false → HasDrops world (live_in (descriptors_of world))
+  pub meant : has_stopped ≡ false → IsTrue told → IsMeant disk status at world room base going
 
 -- What is kept is of the same root still.
 pub record IsSameRoot (old new : PointBase) : Type 0 where

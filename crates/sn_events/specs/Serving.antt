@@ -1,20 +1,23 @@
 -- A call that is served without a point, or that needs one.
-use Rattle.std.specs.Prelude.{◌≡◌, ◌⊎◌, ℕ, ◌-◌, Bool, false, true, ◌||◌, Option, None, Some}
+use Rattle.std.specs.Prelude.{◌≡◌, ◌⊎◌, ℕ, ◌-◌, Bool, false, true, ◌||◌, Option, None, Some, Err}
 use Rattle.sn_model.specs.declared.call.Call.{Call}
 use Rattle.sn_model.specs.declared.call.Event.TheVariants as event
 use Rattle.sn_model.specs.declared.change.Change.{Change}
 use Rattle.sn_model.specs.declared.outcome.Caller.{Caller}
-use Rattle.sn_model.specs.declared.reply.Errno.TheVariants.{Enomem}
+use Rattle.sn_model.specs.declared.reply.Errno.TheVariants.{Eio, Enomem}
 use Rattle.sn_model.specs.declared.reply.Reply.{Reply}
 use Rattle.sn_model.specs.declared.reply.Reply.TheVariants as answer
-use Rattle.sn_core.specs.declared.fault.CallError.{CallError}
-use Rattle.sn_core.specs.declared.fault.CallError.TheVariants as lack
+use Rattle.sn_live_world.specs.declared.fault.CallFault.{CallFault}
+use Rattle.sn_live_world.specs.declared.fault.CallFault.TheVariants as lack
+use Rattle.sn_block.specs.Counts.{FailsRead}
 use Rattle.sn_device.specs.Crash.{Touches}
 use Rattle.sn_device.specs.declared.status.Status.{Status}
 use Rattle.sn_ondisk.specs.LogHalf.{InHalf}
 use Rattle.sn_model.specs.Machine.{State, Mishap, Memory, Read, Write, Space, Age, refused}
 use Rattle.sn_model.specs.Settling.{dropped}
-use Rattle.sn_model.specs.Steps.{with_caller}
+use Rattle.sn_model.specs.Steps.{decision, with_caller}
+use Rattle.sn_limits.specs.Versions.{version_1}
+use Rattle.sn_core_calls.specs.Decided.{MayLack}
 use Rattle.sn_model.specs.Worlds.{IsCall}
 use Rattle.sn_core.specs.Numbering.{gives_kept, has_closed}
 use Rattle.sn_overlay.specs.Needs.{nameless_in}
@@ -27,15 +30,16 @@ use Rattle.sn_events.specs.Answers.{AnswersFrom, IsTried, LacksFirst}
 pub use Rattle.sn_events.specs.Dropping.{DropsFiles}
 
 -- what a call is answered that comes to nothing
-abbrev pub reply_to : CallError → Reply
+abbrev pub reply_to : CallFault → Reply
 reply_to (lack.Refused r) = answer.Refused r
 reply_to lack.Memory = refused Enomem
+reply_to lack.Read = refused Eio
 
--- without a point a call meets with want of memory alone, or its append was cut off
+-- without a point a call meets with want of memory, with a read that fails, or its append was cut off
 abbrev pub ServesTo : Option Mishap → Held → ℕ → Call → Status → Type 0
 ServesTo None h session c new = Unit {0}
 ServesTo (Some Memory) h session c new = Unit {0}
-ServesTo (Some Read) h session c new = ⊥
+ServesTo (Some Read) h session c new = FailsRead h.status new
 ServesTo (Some Write) h session c new = IsTried h session c new
 ServesTo (Some Space) h session c new = ⊥
 ServesTo (Some Age) h session c new = ⊥
@@ -73,3 +77,9 @@ pub record Turns (session : ℕ) (caller : Caller) (parked : ℕ) (old new : Hel
   pub kept : (n : ℕ) → new.kept n ≡ (has_closed old.world (dropped (with_caller old.world session caller)) n || old.kept n)
   pub since : (n : ℕ) → new.kept_since n ≡ (has_closed old.world (dropped (with_caller old.world session caller)) n || old.kept_since n)
   pub base : DropsFiles old.base old.world.live new.base new.world.live
+
+-- Why a call has no outcome: it is refused, or memory was refused or a read failed once session and arguments had passed. Nothing has changed but what the device counts.
+abbrev pub IsUndecided : CallFault → Held → ℕ → Call → Held → Type 0
+IsUndecided (lack.Refused r) h session c new = (decision version_1 h.world session c ≡ Err r) × (new ≡ h)
+IsUndecided lack.Memory h session c new = MayLack h.world session c × (new ≡ h)
+IsUndecided lack.Read h session c new = MayLack h.world session c × (new ≡ record h { status = new.status }) × FailsRead h.status new.status

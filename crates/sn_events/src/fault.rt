@@ -9,6 +9,8 @@ use sn_model::Errno;
 pub enum ChangeFault {
     /// No memory is left for it: nothing has changed.
     Memory,
+    /// A block couldn't be read that tells what it changes: nothing has changed.
+    Read,
     /// The device failed while its record was written: what stands on the disk isn't known.
     Device,
 }
@@ -20,7 +22,7 @@ impl ChangeFault {
     {
         match self {
             ChangeFault::Memory => Errno::Enomem,
-            ChangeFault::Device => Errno::Eio,
+            ChangeFault::Read | ChangeFault::Device => Errno::Eio,
         }
     }
 

@@ -1,5 +1,5 @@
 -- Replay of two epochs, one behind the other.
-use Rattle.std.proofs.Common.{◌≡◌, ℕ, ◌+◌, Err, sym, subst, arith}
+use Rattle.std.proofs.Common.{◌≡◌, ℕ, ◌+◌, sym, subst, arith}
 use Rattle.sn_device.specs.Sectors.{Contents}
 use Rattle.sn_model.specs.declared.mount.MountFault.{MountFault}
 use Rattle.sn_model.specs.declared.mount.MountFault.TheVariants as fault
@@ -9,16 +9,16 @@ use Rattle.sn_overlay.specs.Overlays.{no_changes}
 use Rattle.sn_changed.specs.Changed.{HasChanged}
 use Rattle.sn_limits.specs.Versions.{version_1}
 use Rattle.sn_log.specs.Positions.{LogPosition}
-use Rattle.sn_examine.specs.Both.{Replays, ReplaysBoth, in_newer}
+use Rattle.sn_examine.specs.Both.{BothBreak, Replays, in_newer}
 use Rattle.sn_examine.specs.Replaying.{Breaks, LeadsOn}
 
-pub newer_fails : (f : MountFault) (c : Contents) (from : Tree) (n epoch : ℕ) (at : LogPosition) (middle tree : Tree) (charges : ℕ) → Replays c from n epoch at middle charges → Breaks f c middle n (epoch + 1) → ReplaysBoth (Err f) c from n epoch tree
-newer_fails (fault.Damaged damage block) c from n epoch at middle tree charges first b = (b.0, in_newer at middle charges first b.1)
-newer_fails fault.NotFormatted c from n epoch at middle tree charges first b = b
-newer_fails fault.Version c from n epoch at middle tree charges first b = b
-newer_fails fault.NoRoot c from n epoch at middle tree charges first b = b
-newer_fails fault.Memory c from n epoch at middle tree charges first b = tt
-newer_fails fault.Device c from n epoch at middle tree charges first b = tt
+pub newer_fails : (f : MountFault) (c : Contents) (from : Tree) (n epoch : ℕ) (at : LogPosition) (middle : Tree) (charges : ℕ) → Replays c from n epoch at middle charges → Breaks f c middle n (epoch + 1) → BothBreak f c from n epoch
+newer_fails (fault.Damaged damage block) c from n epoch at middle charges first b = (b.0, in_newer at middle charges first b.1)
+newer_fails fault.NotFormatted c from n epoch at middle charges first b = b
+newer_fails fault.Version c from n epoch at middle charges first b = b
+newer_fails fault.NoRoot c from n epoch at middle charges first b = b
+newer_fails fault.Memory c from n epoch at middle charges first b = tt
+newer_fails fault.Device c from n epoch at middle charges first b = tt
 
 -- what changed leads on over both
 pub leads_both : (first middle last : Layer) (from between tree : Tree) (older newer : ℕ) → first ≡ no_changes → LeadsOn first from 0 middle between older → LeadsOn middle between 0 last tree newer → LeadsOn no_changes from 0 last tree (older + newer)

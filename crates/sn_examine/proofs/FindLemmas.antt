@@ -1,12 +1,10 @@
 -- What a mount finds on an image, and why it finds none elsewhere.
-use Rattle.std.proofs.Common.{◌≡◌, ◌≢◌, ◌⊎◌, inl, inr, ⊎_elim, ℕ, ◌+◌, ◌*◌, ◌<◌, ◌≤◌, Bool, true, false, List, [], ◌∷◌, ◌++◌, length, slice_index, Option, Some, None, Err, refl, sym, ap, subst, ◌∙◌, arith, leb-false, length-append}
+use Rattle.std.proofs.Common.{◌≡◌, ◌≢◌, ◌⊎◌, inl, inr, ⊎_elim, ℕ, ◌+◌, ◌*◌, ◌<◌, ◌≤◌, Bool, true, false, List, [], ◌∷◌, ◌++◌, length, slice_index, Option, Some, None, refl, sym, ap, subst, ◌∙◌, arith, leb-false, length-append}
 use Rattle.std.proofs.lemmas.List.{nil_from_length}
 use Rattle.sn_device.specs.Sectors.{Contents}
 use Rattle.sn_limits.specs.declared.limits.Limits.{Limits}
 use Rattle.sn_limits.specs.Versions.{version_1}
-use Rattle.sn_layout.specs.Geometry.{start_of}
 use Rattle.sn_layout.specs.RootBody.{IsRootBody}
-use Rattle.sn_layout.specs.declared.geometry.Area.TheVariants.{RootBody as Body}
 use Rattle.sn_layout.specs.declared.geometry.Slot.{Slot}
 use Rattle.sn_layout.specs.declared.root.RootBody.{RootBody}
 use Rattle.sn_model.specs.declared.mount.Damage.{Damage}
@@ -14,11 +12,10 @@ use Rattle.sn_model.specs.declared.mount.Damage.TheVariants.{Log}
 use Rattle.sn_model.specs.declared.mount.MountFault.{MountFault}
 use Rattle.sn_model.specs.declared.mount.MountFault.TheVariants as fault
 use Rattle.sn_model.specs.declared.change.Change.{Change}
-use Rattle.sn_model.specs.Steps.{with_live}
 use Rattle.sn_model.specs.Chains.{◌>>=◌}
 use Rattle.sn_model.specs.Changes.{apply_all}
 use Rattle.sn_model.specs.Tree.{Tree}
-use Rattle.sn_model.specs.World.{World, new_world}
+use Rattle.sn_model.specs.World.{World}
 use Rattle.sn_changed.specs.Changed.{HasChanged}
 use Rattle.sn_changed.proofs.ChangedLemmas.{nothing_changed}
 use Rattle.sn_model.proofs.ListLemmas.{lists_join}
@@ -28,7 +25,6 @@ use Rattle.sn_ondisk.specs.Trees.{store_of}
 use Rattle.sn_ondisk.proofs.OneRootLemmas.{newest_is_one}
 use Rattle.sn_log.specs.Positions.{LogPosition, payloads_of}
 use Rattle.sn_image.specs.Image.{image}
-use Rattle.sn_image.specs.Sound.{IsSound}
 use Rattle.sn_image.proofs.SoundNodeLemmas.{only_version}
 use Rattle.sn_opening.proofs.OpeningLemmas.{half_lies}
 use Rattle.sn_sound.specs.Disks.{IsFormatted}
@@ -46,10 +42,9 @@ use Rattle.sn_held.proofs.RoomLemmas.{charges_join}
 use Rattle.sn_examine.specs.Ages.{IsAged, TellsRecovery}
 use Rattle.sn_examine.specs.Replaying.{LeadsOn}
 use Rattle.sn_examine.specs.Rooms.{FindsRoom, IsUncovered}
-use Rattle.sn_examine.specs.Both.{BreaksBoth, HasBoth, Replays, ReplaysBoth, in_newer, in_older}
+use Rattle.sn_examine.specs.Both.{BothBreak, BreaksBoth, HasBoth, Replays, in_newer, in_older}
 use Rattle.sn_examine.specs.Examining.{SomeIsLater}
 use Rattle.sn_examine.specs.Finding.{HasFound, HasRoot}
-use Rattle.sn_examine.specs.Loading.{IsOfTree, IsToldAt, IsToldOf, IsUnsound}
 use Rattle.sn_examine.specs.Refusing.{HasLogFault, IsNoImage, Refuses, TellsFree}
 
 -- ---- the same root
@@ -222,13 +217,13 @@ recovers_at c at tree charges n m root other in_n is both recovers =
     (subst (λ (r : RootBody). (b : HasBoth c (image (store_of c) r.inode_file) n r.epoch at tree charges) × IsToRecover (b.has_older.all.replayed.changes ++ b.has_newer.all.replayed.changes) (image (store_of c) r.inode_file)) (sym is) (both, recovers))
 
 -- all that is found
-pub has_found : (sectors : ℕ) (c : Contents) (n : ℕ) (k : Kept) (at : LogPosition) (world : World) (room : RoomCounts) (recovers : Bool) (charges dropped : ℕ) → at.blocks ≡ n → HasRoot sectors c n k.slot k.root → ((words : List ℕ) → HasMap n c k.slot words → k.words ≡ words)
-    → HasBoth c (image (store_of c) k.root.inode_file) n k.root.epoch at world.live charges → LeadsOn no_changes (image (store_of c) k.root.inode_file) 0 k.changed world.live charges → FindsRoom n c k.slot k.root charges dropped room
-    → dropped ≡ nameless_in (image (store_of c) k.root.inode_file) → (recovers ≡ true → (0 < at.count) ⊎ (0 < dropped)) → (recovers ≡ false → (at.count ≡ 0) × (dropped ≡ 0)) → (recovers ≡ true → HasAgeLeft k.root) → world ≡ with_live new_world world.live
-    → HasFound sectors c k at world room recovers
-has_found sectors c n k at world room recovers charges dropped in_n roots words both leads finds is some none age rest =
+pub has_found : (sectors : ℕ) (c : Contents) (n : ℕ) (k : Kept) (at : LogPosition) (tree : Tree) (room : RoomCounts) (recovers : Bool) (charges dropped : ℕ) → at.blocks ≡ n → HasRoot sectors c n k.slot k.root → ((words : List ℕ) → HasMap n c k.slot words → k.words ≡ words)
+    → HasBoth c (image (store_of c) k.root.inode_file) n k.root.epoch at tree charges → LeadsOn no_changes (image (store_of c) k.root.inode_file) 0 k.changed tree charges → FindsRoom n c k.slot k.root charges dropped room
+    → dropped ≡ nameless_in (image (store_of c) k.root.inode_file) → (recovers ≡ true → (0 < at.count) ⊎ (0 < dropped)) → (recovers ≡ false → (at.count ≡ 0) × (dropped ≡ 0)) → (recovers ≡ true → HasAgeLeft k.root)
+    → HasFound sectors c k at tree room recovers
+has_found sectors c n k at tree room recovers charges dropped in_n roots words both leads finds is some none age =
     let img = image (store_of c) k.root.inode_file in
-    let here = subst (λ (m : ℕ). HasBoth c img m k.root.epoch at world.live charges) (sym in_n) both in
+    let here = subst (λ (m : ℕ). HasBoth c img m k.root.epoch at tree charges) (sym in_n) both in
     let start : HasChanged version_1 no_changes img img (0 + 0) = nothing_changed version_1 img in
     let sum : 0 + charges ≡ charges = omega arith in
     record {
@@ -236,11 +231,10 @@ has_found sectors c n k at world room recovers charges dropped in_n roots words 
       words = subst (λ (m : ℕ). (words : List ℕ) → HasMap m c k.slot words → k.words ≡ words) (sym in_n) words;
       charges = charges;
       both = here;
-      changed = subst (HasChanged version_1 k.changed img world.live) sum (leads img 0 start);
+      changed = subst (HasChanged version_1 k.changed img tree) sum (leads img 0 start);
       finds = subst (λ (d : ℕ). FindsRoom at.blocks c k.slot k.root charges d room) is (subst (λ (m : ℕ). FindsRoom m c k.slot k.root charges dropped room) (sym in_n) finds);
-      recovery = tells_recovery c img at.blocks k.root.epoch at world.live charges here recovers dropped is some none;
+      recovery = tells_recovery c img at.blocks k.root.epoch at tree charges here recovers dropped is some none;
       age = age;
-      is = rest;
     }
 
 -- ---- refusals
@@ -250,47 +244,6 @@ uncovered_is : (free charges dropped : ℕ) → is_covered version_1 (mounted fr
 uncovered_is free charges dropped is = leb-false (charges + version_1.inode_charge * dropped) free is
 
 module _ (sectors : ℕ) (c : Contents) (n : ℕ) (slot : Slot) (root : RootBody) (count : length c ≡ sectors) where
-  -- the live tree of an image is sound
-  image_sound : IsFormatted sectors c n → IsNewest c slot root → (w : World) → IsImage c w → IsSound version_1 n (store_of c) root.inode_file
-  image_sound formatted newest w im =
-      let same = same_root sectors c n slot root w im count formatted newest in
-      let live = im.sound.roots (record { bit = 0; inodes = im.opens.root.inode_file }) (0, omega arith, refl) in
-      let sized = subst (λ (m : ℕ). IsSound im.opens.root.limits m (store_of c) im.opens.root.inode_file) same.blocks live in
-      let own = subst (λ (r : RootBody). IsSound r.limits n (store_of c) r.inode_file) same.roots sized in
-      subst (λ (l : Limits). IsSound l n (store_of c) root.inode_file) (sym (only_version root.limits newest.body.fits.version)) own
-
-  -- the block that a tree is told of
-  told_there : (block body : ℕ) → body ≡ start_of n (Body slot) → version_1 ≡ root.limits → IsToldAt version_1 sectors (store_of c) root.inode_file body block → IsToldAt root.limits sectors (store_of c) root.inode_file (start_of n (Body slot)) block
-  told_there block body at version is =
-      subst (λ (l : Limits). IsToldAt l sectors (store_of c) root.inode_file (start_of n (Body slot)) block) version
-      (subst (λ (b : ℕ). IsToldAt version_1 sectors (store_of c) root.inode_file b block) at is)
-
-  -- a tree that can't be read
-  pub tree_refuses : (f : MountFault) (body : ℕ) → body ≡ start_of n (Body slot) → IsFormatted sectors c n → IsNewest c slot root → IsOfTree f → IsToldOf body sectors c root.inode_file f → IsUnsound sectors c root.inode_file f → Refuses f sectors c
-  tree_refuses (fault.Damaged damage block) body at formatted newest is told unsound =
-      let bad = unsound n formatted.room in
-      let limits_is = only_version root.limits newest.body.fits.version in
-      subst (λ (d : Damage). Refuses (fault.Damaged d block) sectors c) (sym is) (
-        (n, formatted),
-        (
-          λ w im. bad (image_sound formatted newest w im),
-          record {
-            blocks = n;
-            formatted = formatted;
-            slot = slot;
-            root = root;
-            newest = newest;
-            unsound = λ sound. bad (subst (λ (l : Limits). IsSound l n (store_of c) root.inode_file) (sym limits_is) sound);
-            is = told_there block body at limits_is told;
-          },
-        ),
-      )
-  tree_refuses fault.NotFormatted body at formatted newest is told unsound = absurd is
-  tree_refuses fault.Version body at formatted newest is told unsound = absurd is
-  tree_refuses fault.NoRoot body at formatted newest is told unsound = absurd is
-  tree_refuses fault.Memory body at formatted newest is told unsound = tt
-  tree_refuses fault.Device body at formatted newest is told unsound = tt
-
   -- a damage of the log
   log_refuses : (damage : Damage) (block : ℕ) → damage ≡ Log → IsNoImage c → HasLogFault sectors c block → Refuses (fault.Damaged damage block) sectors c
   log_refuses damage block is none has = subst (λ (d : Damage). Refuses (fault.Damaged d block) sectors c) (sym is) ((has.blocks, has.formatted), (none, has))
@@ -309,8 +262,8 @@ module _ (sectors : ℕ) (c : Contents) (n : ℕ) (slot : Slot) (root : RootBody
   later_refuses fault.Device formatted newest is = tt
 
   -- a record that can't be replayed
-  pub both_refuses : (f : MountFault) (tree : Tree) → IsFormatted sectors c n → IsNewest c slot root → ReplaysBoth (Err f) c (image (store_of c) root.inode_file) n root.epoch tree → Refuses f sectors c
-  both_refuses (fault.Damaged damage block) tree formatted newest is =
+  pub both_refuses : (f : MountFault) → IsFormatted sectors c n → IsNewest c slot root → BothBreak f c (image (store_of c) root.inode_file) n root.epoch → Refuses f sectors c
+  both_refuses (fault.Damaged damage block) formatted newest is =
       log_refuses damage block is.0
       (λ w im.
       let same = same_root sectors c n slot root w im count formatted newest in
@@ -318,11 +271,11 @@ module _ (sectors : ℕ) (c : Contents) (n : ℕ) (slot : Slot) (root : RootBody
       (subst (λ (m : ℕ). BreaksBoth c (image (store_of c) im.opens.root.inode_file) m im.opens.root.epoch block) (sym same.blocks)
       (subst (λ (r : RootBody). BreaksBoth c (image (store_of c) r.inode_file) n r.epoch block) (sym same.roots) is.1)))
       (record { blocks = n; formatted = formatted; slot = slot; root = root; newest = newest; free = free_blocks n (store_of c) root; told = λ words has sound. refl; is = breaks_log c n root (free_blocks n (store_of c) root) block newest.body.fits is.1 })
-  both_refuses fault.NotFormatted tree formatted newest is = absurd is
-  both_refuses fault.Version tree formatted newest is = absurd is
-  both_refuses fault.NoRoot tree formatted newest is = absurd is
-  both_refuses fault.Memory tree formatted newest is = tt
-  both_refuses fault.Device tree formatted newest is = tt
+  both_refuses fault.NotFormatted formatted newest is = absurd is
+  both_refuses fault.Version formatted newest is = absurd is
+  both_refuses fault.NoRoot formatted newest is = absurd is
+  both_refuses fault.Memory formatted newest is = tt
+  both_refuses fault.Device formatted newest is = tt
 
   -- charges that aren't covered by what is free
   uncovered_never : (at : LogPosition) (tree : Tree) (charges free : ℕ) → IsFormatted sectors c n → IsNewest c slot root → HasBoth c (image (store_of c) root.inode_file) n root.epoch at tree charges → TellsFree n c slot root free

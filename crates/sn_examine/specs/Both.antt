@@ -1,5 +1,5 @@
 -- What replay of a root's epoch and of the next one makes of its tree.
-use Rattle.std.specs.Prelude.{◌≡◌, ◌⊎◌, ℕ, ◌+◌, Result, Ok, Err}
+use Rattle.std.specs.Prelude.{◌≡◌, ◌⊎◌, ℕ, ◌+◌}
 use Rattle.sn_device.specs.Sectors.{Contents}
 use Rattle.sn_limits.specs.Versions.{version_1}
 use Rattle.sn_model.specs.declared.mount.Damage.TheVariants.{Log}
@@ -9,7 +9,6 @@ use Rattle.sn_model.specs.Tree.{Tree}
 use Rattle.sn_log.specs.Positions.{LogPosition}
 use Rattle.sn_sound.specs.Logs.{BreaksAt}
 use Rattle.sn_examine.specs.Replaying.{HasAll}
-use Rattle.sn_examine.specs.declared.replaying.Replayed.{Replayed}
 
 -- All records of an epoch were replayed, up to this position, and are charged so much.
 pub record Replays (c : Contents) (from : Tree) (n epoch : ℕ) (at : LogPosition) (tree : Tree) (charges : ℕ) : Type 0 where
@@ -35,11 +34,11 @@ pub data BreaksBoth (c : Contents) (from : Tree) (n epoch block : ℕ) : Type 0 
   in_older : BreaksAt c version_1 from n epoch block → BreaksBoth c from n epoch block
   in_newer : (at : LogPosition) (middle : Tree) (charges : ℕ) → Replays c from n epoch at middle charges → BreaksAt c version_1 middle n (epoch + 1) block → BreaksBoth c from n epoch block
 
-abbrev pub ReplaysBoth : Result Replayed MountFault → Contents → Tree → ℕ → ℕ → Tree → Type 0
-ReplaysBoth (Ok r) c from n epoch tree = HasBoth c from n epoch r.at tree r.charges
-ReplaysBoth (Err (fault.Damaged damage block)) c from n epoch tree = (damage ≡ Log) × BreaksBoth c from n epoch block
-ReplaysBoth (Err fault.NotFormatted) c from n epoch tree = ⊥
-ReplaysBoth (Err fault.Version) c from n epoch tree = ⊥
-ReplaysBoth (Err fault.NoRoot) c from n epoch tree = ⊥
-ReplaysBoth (Err fault.Memory) c from n epoch tree = Unit {0}
-ReplaysBoth (Err fault.Device) c from n epoch tree = Unit {0}
+-- It fails for memory, for the device, or for a record that breaks the log of both, in the block of its gate.
+abbrev pub BothBreak : MountFault → Contents → Tree → ℕ → ℕ → Type 0
+BothBreak (fault.Damaged damage block) c from n epoch = (damage ≡ Log) × BreaksBoth c from n epoch block
+BothBreak fault.NotFormatted c from n epoch = ⊥
+BothBreak fault.Version c from n epoch = ⊥
+BothBreak fault.NoRoot c from n epoch = ⊥
+BothBreak fault.Memory c from n epoch = Unit {0}
+BothBreak fault.Device c from n epoch = Unit {0}

@@ -7,5 +7,4 @@ pub mod Both
 pub mod Rooms
 pub mod Finding
 pub mod Ages
-pub mod FoundDisk
 pub mod Laws

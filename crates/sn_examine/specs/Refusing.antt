@@ -2,7 +2,7 @@
 use Rattle.std.specs.Prelude.{◌≡◌, ℕ, List, Result, IfErr, slice_index}
 use Rattle.sn_device.specs.Sectors.{Contents}
 use Rattle.sn_layout.specs.Geometry.{start_of}
-use Rattle.sn_layout.specs.declared.geometry.Area.TheVariants.{MapCopy, RootBody as Body}
+use Rattle.sn_layout.specs.declared.geometry.Area.TheVariants.{MapCopy}
 use Rattle.sn_layout.specs.declared.geometry.Slot.{Slot}
 use Rattle.sn_layout.specs.declared.root.RootBody.{RootBody}
 use Rattle.sn_model.specs.declared.mount.Damage.{Damage}
@@ -13,13 +13,11 @@ use Rattle.sn_model.specs.World.{World}
 use Rattle.sn_ondisk.specs.MapCopy.{HasMap}
 use Rattle.sn_ondisk.specs.Roots.{IsNewest}
 use Rattle.sn_ondisk.specs.Trees.{store_of}
-use Rattle.sn_image.specs.Sound.{IsSound}
 use Rattle.sn_sound.specs.Disks.{IsFormatted}
 use Rattle.sn_sound.specs.Logs.{IsLogFault}
 use Rattle.sn_sound.specs.Maps.{IsSoundRoot, free_blocks}
 use Rattle.sn_sound.specs.Verdicts.{HasNoVerdict, IsRootFault, IsSomeSize}
 use Rattle.sn_held.specs.Images.{IsImage}
-use Rattle.sn_examine.specs.Loading.{IsToldAt}
 
 -- the contents are an image of no world
 abbrev pub IsNoImage : Contents → Type 0
@@ -40,16 +38,6 @@ pub record HasLogFault (sectors : ℕ) (c : Contents) (block : ℕ) : Type 0 whe
   pub told : TellsFree blocks c slot root free
   pub is : IsLogFault blocks c root free block
 
--- The tree of the newest root is unsound, which is told of the block of what can't be read of it, or else of that of the root's body.
-pub record HasUnsoundTree (sectors : ℕ) (c : Contents) (block : ℕ) : Type 0 where
-  pub blocks : ℕ
-  pub formatted : IsFormatted sectors c blocks
-  pub slot : Slot
-  pub root : RootBody
-  pub newest : IsNewest c slot root
-  pub unsound : IsSound root.limits blocks (store_of c) root.inode_file → ⊥
-  pub is : IsToldAt root.limits sectors (store_of c) root.inode_file (start_of blocks (Body slot)) block
-
 -- The map beside the newest root isn't that of a root that is sound with its snapshots, which is told of its first block.
 pub record HasUnsoundMap (sectors : ℕ) (c : Contents) (block : ℕ) : Type 0 where
   pub blocks : ℕ
@@ -60,13 +48,13 @@ pub record HasUnsoundMap (sectors : ℕ) (c : Contents) (block : ℕ) : Type 0 w
   pub unsound : (words : List ℕ) → HasMap blocks c slot words → IsSoundRoot blocks (store_of c) root (slice_index words) → ⊥
   pub is : block ≡ start_of blocks (MapCopy slot)
 
--- A damage of the roots, of the live tree, of its map or of the log stands at the block that it is told of, and the contents are an image of no world.
+-- A damage of the roots, of the map of the newest one or of the log stands at the block that it is told of, and the contents are an image of no world.
 abbrev pub StandsAt : Damage → ℕ → Contents → ℕ → Type 0
 StandsAt Root sectors c block = IsNoImage c × IsRootFault c Root block
 StandsAt Pointer sectors c block = ⊥
 StandsAt ReachedTwice sectors c block = ⊥
 StandsAt MapWord sectors c block = IsNoImage c × HasUnsoundMap sectors c block
-StandsAt Misspelt sectors c block = IsNoImage c × HasUnsoundTree sectors c block
+StandsAt Misspelt sectors c block = ⊥
 StandsAt Links sectors c block = ⊥
 StandsAt Log sectors c block = IsNoImage c × HasLogFault sectors c block
 

@@ -15,7 +15,6 @@ use Rattle.sn_log.specs.Positions.{LogPosition, IsBehind, base_at}
 use Rattle.sn_opening.specs.Spelled.{AreSpelled}
 use Rattle.sn_sound.specs.Charges.{charges_from}
 use Rattle.sn_sound.specs.Logs.{BreaksAt}
-use Rattle.sn_examine.specs.declared.replaying.Replayed.{Replayed}
 
 -- Up to a position of its epoch stand the records of these changes, which make this tree of another and are charged so much for it.
 pub record HasReplayed (c : Contents) (from : Tree) (at : LogPosition) (tree : Tree) (charges : ℕ) : Type 0 where
@@ -52,10 +51,6 @@ pub record HasAll (c : Contents) (from : Tree) (at : LogPosition) (tree : Tree) 
 abbrev pub ReplaysSo : Bool → Contents → Tree → LogPosition → Tree → ℕ → Type 0
 ReplaysSo true c from at tree charges = HasReplayed c from at tree charges
 ReplaysSo false c from at tree charges = HasAll c from at tree charges
-
-abbrev pub ReplaysAll : Result Replayed MountFault → Contents → Tree → ℕ → ℕ → Tree → Type 0
-ReplaysAll (Ok r) c from n epoch tree = HasAll c from r.at tree r.charges
-ReplaysAll (Err fault) c from n epoch tree = Breaks fault c from n epoch
 
 -- ---- beside what changed
 

@@ -1,49 +1,42 @@
-//! What stands on a disk: its size, its newest root, the live tree with the log on top of it, and the room that is
-//! left. It only reads. A mount begins with it (`sn_mount`).
+//! What stands on a disk beside its trees: its size, its newest root with its map, and the room that is left; and what the
+//! log makes of a root's tree. It only reads. A mount begins with it (`sn_mount`), and so does the image check (`sn_check`).
 //!
-//! The model. `sn_held` says when contents are an image of a world (`IsImage`). [`find`] reads superblock and roots, looks
-//! at the first places of both halves of the log, loads the newest root's tree by `sn_load`, replays the records of its
-//! epoch and then those of the next one beside what they change of the root's tree, and looks whether what they are
-//! charged is free, and an age is left where something is to recover.
+//! The model. `sn_held` says when contents are an image of a world (`IsImage`). [`find_root`] reads superblock and roots,
+//! and looks at the first places of both halves of the log. The records of the root's epoch and of the next one are
+//! replayed over the root's tree by `sn_check_log`, to what `Both.antt` says here. [`find_room`] looks whether what they
+//! are charged is free, and [`test_age`] whether an age is left where something is to recover.
 //!
 //! What the clauses say, those on bytes of each device that tells them:
-//! - `found`: the newest root's tree with the records of both epochs is the live tree of the world that is found, and
-//!   what is kept beside the root is what the records changed.
+//! - `found`: the newest root of a formatted disk is found, and no record of an epoch after the next one stands first.
 //! - `refuses`: the faults of superblock, gates and versions come in this order, and a damage of the roots or the log
-//!   stands at the block that it is told of (`Refuses`). What can't be read of a tree is told as misspelt, at its block,
-//!   or, where it has none, at that of the root's body (`IsToldOf`), and then the root is unsound.
+//!   stands at the block that it is told of (`Refuses`).
 //! - Nothing is written, and the device is told to have failed only where it did.
 //!
-//! The parts of `find` are public for the image check (`sn_check`), which asks for them in another order. That what it calls
-//! clean are the images of worlds, and no other disks, is the law `image_laws`.
+//! What a mount finds in all is `HasFound`: `sn_mount` puts it together. That what the image check calls clean are the
+//! images of worlds, and no other disks, is the law `image_laws`.
 //!
 //! The way through: `specs/Refusing.antt` says why a disk is none that can be mounted, `Finding.antt` and `Both.antt`
-//! what is read, `Loading.antt` what is made of a tree that can't be. `examining` reads what stands first, `loading` the tree, `replaying` and `both` the log, `room` the
-//! map, `ages` whether there is an age for a recovery; `finding` puts them together.
+//! what is read, `Replaying.antt` what replay makes of a tree. `examining` and `finding` read what stands first, `room` the
+//! map, `ages` tells whether there is an age for a recovery.
 //!
 //! What the sources leave open is decided in `docs/DECISIONS.md`, under "Mount of a root".
 //!
 //! ```text
-//! let FoundDisk { root, map, at, world, changed, room, .. } = find(alloc, &mut blocks, &mut buffer)?;
+//! let DiskRoot { geometry, slot, root } = find_root(&mut blocks)?;
+//! let (map, room) = find_room(alloc, &mut blocks, geometry, slot, &root, charges, dropped)?;
 //! ```
 #![tactic(auto)]
 
 mod ages;
-mod both;
 mod examining;
 mod fault;
 mod finding;
 mod laws;
-mod loading;
-mod replaying;
 mod room;
 
 pub use ages::{is_to_recover, test_age};
-pub use both::replay_both;
 pub use examining::none_later;
 pub use fault::{fault_of, fault_of_tree};
-pub use finding::{DiskRoot, FoundDisk, find, find_newest, find_root};
+pub use finding::{DiskRoot, find_newest, find_root};
 pub use laws::image_laws;
-pub use loading::load_world;
-pub use replaying::Replayed;
-pub use room::read_map;
+pub use room::{find_room, read_map};

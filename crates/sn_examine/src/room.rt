@@ -101,7 +101,7 @@ pub fn read_map<D: Device>(
 
 /// The room that is left on top of a root whose log is charged so much, and whose tree has so many files without names,
 /// and the map that tells it. Damaged where more is charged than is free, which is told of the half of the root's epoch.
-pub(crate) fn find_room<D: Device>(
+pub fn find_room<D: Device>(
     alloc: Global,
     blocks: &mut Blocks<D>,
     geometry: Geometry,

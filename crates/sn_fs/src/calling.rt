@@ -42,9 +42,9 @@ impl<D: Device> Fs<D> {
             (held self.old) (has_stopped self.old) (held self.new) (has_stopped self.new) }
         ensures sound { IsFs self.new }
     {
-        let outcome = match self.world.decide(self.alloc, session, call) {
+        let outcome = match self.decide(session, call) {
             Ok(outcome) => outcome,
-            Err(error) => return reply_of(error),
+            Err(fault) => return reply_of(fault),
         };
         let Outcome { told, .. } = outcome;
         if let Err(fault) = self.finish() {
@@ -89,8 +89,8 @@ impl<D: Device> Fs<D> {
     /// Answers a call. Once it is answered, a crash loses nothing of it. Where the log has no room for its record, the
     /// disk none for its charge, or no number is left but those kept back, the consistency point in progress is finished, and
     /// a whole one comes where that isn't enough: so ENOSPC comes only where the call doesn't fit behind that. So it does
-    /// where the call asks for one. EIO comes where the device fails. Where that was in a write or a sync, it stops the
-    /// mount: then every call is ESTOPPED.
+    /// where the call asks for one. EIO comes where the device fails. Where that was in a read, nothing has changed; in a
+    /// write or a sync it stops the mount: then every call is ESTOPPED.
     pub fn call(&mut self, session: u32, call: &Call) -> Reply
         requires { IsFs self.old }
         ensures answered { IsTrue D.tells_bytes → Answers (event.Call session call.now) result

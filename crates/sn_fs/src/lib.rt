@@ -1,11 +1,13 @@
 //! The file system over a device: mount, calls, and the device back.
 //!
-//! The model. A mounted file system holds a world in memory, a position in its log, the room that is left, what the next
-//! consistency point is built of, the one in progress, and a device (`Held` of `sn_held`). It means a state of the machine of
+//! The model. A mounted file system holds a world, a position in its log, the room that is left, what the next consistency
+//! point is built of, the one in progress, and a device (`Held` of `sn_held`). The live tree of the world isn't in memory: it
+//! is the tree of the root on the device, seen through what changed since (`LiveWorld` of `sn_live_world`), and read when a call
+//! needs it. It means a state of the machine of
 //! `sn_model` (`Means` of `sn_cp_progress`): one that runs over a world stands on a sound root, keeps the changes of its log,
 //! which make of the root's tree one that covers the live one, whatever a crash leaves, and is ready for a point or has one
 //! in progress; one that a failure has stopped knows that each crash leaves one of two worlds. The world has no frozen trees:
-//! those of a root's snapshots aren't kept in memory yet.
+//! those of a root's snapshots aren't shown yet.
 //!
 //! What the clauses say, those on bytes of each device that tells them:
 //! - [`Fs::call`]: from each state that is meant, the reply is that of a step of the machine, and the next state is meant. A
@@ -22,9 +24,9 @@
 //!   cause that a check tells (`IsCause` of `sn_check`).
 //!
 //! The way through: `sn_held` says what is meant, and of what the disk is an image, `sn_events` what each event leads to. A
-//! call is decided by `sn_core`; `serving` asks whether it lacks something and does it, `changing` makes its change in memory,
-//! which takes all the memory, and then appends its record, `pointing` makes points of what changed since the root, whole or
-//! in steps, by `sn_cp_whole`, and `calling` puts them together; `unmounting` makes the last one, and a mount is `sn_mount`'s.
+//! call is decided in `reading`, by `sn_live_world`; `serving` asks whether it lacks something and does it, `changing` reads
+//! and grows all that its change needs, then appends its record, and last makes it, `pointing` makes points of what changed
+//! since the root, whole or in steps, by `sn_cp_whole`, and `calling` puts them together; `unmounting` makes the last one, and a mount is `sn_mount`'s.
 //!
 //! What the sources leave open is decided in `docs/DECISIONS.md`, under "Mount and calls over a device".
 //!
@@ -41,6 +43,7 @@ mod found;
 mod fs;
 mod mounting;
 mod pointing;
+mod reading;
 mod serving;
 mod unmounting;
 

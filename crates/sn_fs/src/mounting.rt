@@ -14,9 +14,9 @@ use sn_model::MountFault;
 use sn_mount::{Recovered, recover};
 use std::alloc::Global;
 
-/// Mounts a device: syncs it, checks all of it, reads the newest root's tree, replays the log into it, and drops the files
-/// that no name stands for. Where anything was replayed or dropped, a consistency point makes a root of it; then the first
-/// place of the log is cleared. `NotFormatted`, `NoRoot`, `Version` and `Damaged` come in this order, each before anything
+/// Mounts a device: syncs it, checks all of it, tries the log over the newest root's tree, which stays on the device, and drops
+/// the files that no name stands for. Where anything was replayed or dropped, a consistency point makes a root of it; then
+/// the first place of the log is cleared. `NotFormatted`, `NoRoot`, `Version` and `Damaged` come in this order, each before anything
 /// is written, and as the check of the image tells them.
 pub fn mount<D: Device>(alloc: Global, device: D) -> Result<Fs<D>, Unmounted<D>>
     ensures mounted { IsTrue D.tells_bytes → IfOk result (λ fs. Mounts (D.status device).sectors (D.disk device) (held fs) (has_stopped fs)) }

@@ -1,31 +1,28 @@
 //! A call for which all is there that it needs.
-ghost use Rattle.std.specs.Prelude.{◌≡◌, ◌+◌, ◌-◌, ◌^◌, ◌<◌, false, true, IsTrue, IfNone, OnErr, OnOk, is_some, if◌then◌else◌};
-ghost use Rattle.sn_core.specs.Called.{CanTurn, HasRoom as HasCallRoom};
-ghost use Rattle.sn_core.specs.Plain.{room_of, world_of};
+ghost use Rattle.std.specs.Prelude.{◌≡◌, ◌+◌, ◌-◌, ◌≤◌, ◌^◌, ◌<◌, false, true, IsTrue, IfNone, OnErr, OnOk, is_some, if◌then◌else◌};
+ghost use Rattle.sn_core.specs.Called.{HasRoom as HasCallRoom};
 ghost use Rattle.sn_desc.specs.InUse.{live_in};
 ghost use Rattle.sn_limits.specs.Versions.{version_1};
+ghost use Rattle.sn_live_world.specs.Turned.{Turns as CanTurnOver};
+ghost use Rattle.sn_live_world.specs.World.{HasDrops, IsOver, descriptors_of, nameless_of, point_of, room_of};
 ghost use Rattle.sn_model.specs.Machine as machine;
-ghost use Rattle.sn_model.specs.NameTree.{IsTree};
 ghost use Rattle.sn_model.specs.Outcomes.{is_opening};
-ghost use Rattle.sn_model.specs.Settling.{OnlyLost};
 ghost use Rattle.sn_model.specs.Steps.{asks_for_point};
-ghost use Rattle.sn_overlay.specs.Needs.{counts, nameless_in};
-ghost use Rattle.sn_overlay.specs.Overlays.{HasRoom};
 ghost use Rattle.sn_record.specs.Payload.{IsSpelled};
 ghost use Rattle.sn_sound.specs.Logs.{HasAgeLeft};
-ghost use Rattle.sn_room.specs.Rooms.{charged_behind};
+ghost use Rattle.sn_room.specs.Rooms.{charged_behind, dropping};
 ghost use Rattle.sn_events.specs.Answers.{is_fitting};
-ghost use Rattle.sn_fs.specs.Filesystem.{IsFs, has_stopped, held};
-ghost use Rattle.sn_events.specs.Mounted.{IsSameRoot};
+ghost use Rattle.sn_fs.specs.Filesystem.{IsFs, has_stopped, held, tree_of};
 ghost use Rattle.sn_events.specs.Serving.{Serves, TellsLack, Turns, reply_to};
 
 use crate::Fs;
-use sn_changed::{changed_laws, drop_each};
-use sn_core::{CallError, Chosen};
+use sn_changed::changed_laws;
 use sn_device::Device;
 use sn_layout::{LARGEST_AGE, RootBody};
 use sn_limits::Limits;
+use sn_live_world::{CallFault, Picked};
 use sn_model::{Call, Caller, Change, Errno, Outcome, Refusal, Reply};
+use sn_record::is_valid;
 use std::alloc::AllocError;
 
 /// Whether a mount could make a point of what is logged on top of this root.
@@ -43,43 +40,38 @@ pub(crate) fn refused(errno: Errno) -> Reply
 }
 
 /// What a call is answered that comes to nothing.
-pub(crate) fn reply_of(error: CallError) -> Reply
-    ensures { result ≡ reply_to error }
+pub(crate) fn reply_of(fault: CallFault) -> Reply
+    ensures { result ≡ reply_to fault }
 {
-    match error {
-        CallError::Refused(refusal) => Reply::Refused(refusal),
-        CallError::Memory => refused(Errno::Enomem),
+    match fault {
+        CallFault::Refused(refusal) => Reply::Refused(refusal),
+        CallFault::Memory => refused(Errno::Enomem),
+        CallFault::Read => refused(Errno::Eio),
     }
 }
 
 impl<D: Device> Fs<D> {
     /// Makes room for the file that a caller opens, and for its drop. Where memory is refused nothing changes.
     fn prepare(&mut self, caller: &Caller) -> Result<(), AllocError>
-        requires { HasRoom self.old.base.changed (counts (live_in (world_of self.old.world).descriptors) 0 0) }
+        requires running { has_stopped self.old ≡ false }
+        requires sound { IsFs self.old }
         ensures held { held self.new ≡ held self.old }
-        ensures stopped { has_stopped self.new ≡ has_stopped self.old }
         ensures room { OnOk result (HasCallRoom caller.now (room_of self.new.world)) }
-        ensures drops { OnOk result (HasRoom self.new.base.changed
-            (counts (live_in (world_of self.old.world).descriptors + (if is_opening caller.now then 1 else 0)) 0 0)) }
+        ensures drops { OnOk result (HasDrops self.new.world (live_in (descriptors_of self.old.world) + (if is_opening caller.now then 1 else 0))) }
+        ensures descriptors { descriptors_of self.new.world ≡ descriptors_of self.old.world }
         ensures opening { OnErr result (is_opening caller.now ≡ true) }
-        ensures kept { HasRoom self.new.base.changed (counts (live_in (world_of self.old.world).descriptors) 0 0) }
-        ensures base { IsSameRoot self.old.base self.new.base }
-        ensures going { self.new.going ≡ self.old.going }
+        ensures nameless { nameless_of self.new.world ≡ nameless_of self.old.world }
+        ensures point { point_of self.new.world ≡ point_of self.old.world }
+        ensures rest { self.new ≡ record self.old { world = self.new.world } }
+        ensures sound { IsFs self.new }
     {
-        self.world.prepare(caller)?;
-        match caller {
-            Caller::Opens { .. } | Caller::OpensNew { .. } => {
-                let drops = usize::from(self.world.open_files()) + 1;
-                self.base.changed.reserve(drops, 0, 0)
-            }
-            _ => Ok(()),
-        }
+        self.world.prepare_caller(caller)
     }
 
     /// Whether a call fits that comes to this: on the root that counts, and on that of the point in progress.
     fn fits(&self, outcome: &Outcome<'_>) -> bool
-        ensures exact { result ≡ is_fitting (held self.now) outcome.now }
-        ensures within { IsTrue result → charged_behind version_1 self.now.room (nameless_in (world_of self.now.world).live) outcome.now < 2 ^ 32 }
+        ensures exact { IsOver self.now.world (tree_of self.now) → result ≡ is_fitting (held self.now) outcome.now }
+        ensures within { IsTrue result → charged_behind version_1 self.now.room (nameless_of self.now.world) outcome.now < 2 ^ 32 }
     {
         let nameless = self.world.nameless();
         if !self.room.fits(&Limits::VERSION_1, nameless, outcome) {
@@ -110,21 +102,20 @@ impl<D: Device> Fs<D> {
     /// Sets what becomes of a caller, and takes the files that go with it out of what changed. Of so many files without
     /// names those that are left no more are counted as dropped.
     fn turn(&mut self, session: u32, caller: Caller, lost: Option<u16>, parked: u32)
-        requires whole { IsTree version_1 (world_of self.old.world).live }
-        requires opens { CanTurn (world_of self.old.world).descriptors (room_of self.old.world) session caller }
-        requires lost { OnlyLost (world_of self.old.world) lost }
-        requires drops { HasRoom self.old.base.changed (counts (live_in (world_of self.old.world).descriptors
-            + (if is_opening caller then 1 else 0) + (if is_some lost then 1 else 0)) 0 0) }
+        requires opens { HasCallRoom caller (room_of self.old.world) }
+        requires drops { HasDrops self.old.world (live_in (descriptors_of self.old.world)
+            + (if is_opening caller then 1 else 0) + (if is_some lost then 1 else 0)) }
         requires count { self.old.room.dropped + parked < 2 ^ 64 }
-        ensures turned { Turns session caller parked (held self.old) (held self.new) }
-        ensures stopped { has_stopped self.new ≡ has_stopped self.old }
-        ensures few { nameless_in (world_of self.new.world).live < 2 ^ 32 }
-        ensures drops { HasRoom self.new.base.changed (counts (live_in (world_of self.new.world).descriptors) 0 0) }
-        ensures base { IsSameRoot self.old.base self.new.base }
-        ensures going { self.new.going ≡ self.old.going }
+        ensures turned { CanTurnOver self.old.world (tree_of self.old) session caller lost → Turns session caller parked (held self.old) (held self.new) }
+        ensures over { CanTurnOver self.old.world (tree_of self.old) session caller lost → IsOver self.new.world (tree_of self.new) }
+        ensures fewer { nameless_of self.new.world ≤ nameless_of self.old.world }
+        ensures few { nameless_of self.new.world < 2 ^ 32 }
+        ensures room { self.new.room ≡ dropping (parked - nameless_of self.new.world) self.old.room }
+        ensures drops { HasDrops self.new.world (live_in (descriptors_of self.new.world)) }
+        ensures point { point_of self.new.world ≡ point_of self.old.world }
+        ensures rest { self.new ≡ record self.old { world = self.new.world; room = self.new.room } }
     {
-        let dropped = self.world.set_caller(session, caller, lost);
-        drop_each(&mut self.base.changed, dropped.as_slice());
+        self.world.set_caller(session, caller, lost);
         self.room
             .drop_files(parked.saturating_sub(self.world.nameless()));
     }
@@ -141,9 +132,9 @@ impl<D: Device> Fs<D> {
         ensures sound { IsFs self.new }
     {
         changed_laws();
-        let outcome = match self.world.decide(self.alloc, session, call) {
+        let outcome = match self.decide(session, call) {
             Ok(outcome) => outcome,
-            Err(error) => return Some(reply_of(error)),
+            Err(fault) => return Some(reply_of(fault)),
         };
         let fits = self.fits(&outcome);
         let Outcome {
@@ -155,31 +146,32 @@ impl<D: Device> Fs<D> {
         let Ok(()) = self.prepare(&caller) else {
             return Some(refused(Errno::Enomem));
         };
-        let Chosen {
-            change,
-            caller,
-            lost,
-        } = self.world.choose(change, caller);
+        // Over a device that tells its bytes a number is left for what was decided, and it has a record.
+        let Some(Picked { change, caller }) = self.world.choose(change, caller) else {
+            return Some(refused(Errno::Eio));
+        };
         match change {
             Some(change) => {
+                if !is_valid(&change) {
+                    return Some(refused(Errno::Eio));
+                }
                 if self.lacks(&change, fits) {
                     return None;
                 }
                 match self.log_change(&change, charge) {
-                    Ok(()) => {}
+                    // A file that goes with its last name was charged by its call.
+                    Ok(lost) => self.turn(session, caller, lost, 0),
                     Err(fault) => {
                         self.has_stopped = fault.stops();
                         return Some(refused(fault.errno()));
                     }
                 }
-                // A file that goes with its last name was charged by its call.
-                self.turn(session, caller, lost, 0);
                 Some(told)
             }
             None => {
                 // One that a close or a logout drops is parked.
                 let parked = self.world.nameless();
-                self.turn(session, caller, lost, parked);
+                self.turn(session, caller, None, parked);
                 Some(told)
             }
         }

@@ -1,17 +1,12 @@
 -- What is seen of the live tree, and the table of its numbers.
 use Rattle.std.specs.FinMap as map
 use Rattle.sn_desc.specs.InUse.{InUse}
-use Rattle.sn_directories.specs.Told.{IsShown}
 use Rattle.sn_limits.specs.Versions.{version_1}
-use Rattle.sn_live_view.specs.declared.deciding.LiveState.{LiveState}
 use Rattle.sn_model.specs.NameTree.{IsTree}
 use Rattle.sn_model.specs.Tree.{Tree}
 use Rattle.sn_model.specs.World.{Trees, World}
 use Rattle.sn_number_table.specs.Table.{TellsNumbers}
 use Rattle.sn_number_table.specs.declared.table.NumberTable.{NumberTable}
-use Rattle.sn_overlay.specs.Layers.{through}
-use Rattle.sn_overlay.specs.Overlays.{layer_of}
-use Rattle.sn_overlay.specs.Seen.{LiesOver}
 use Rattle.sn_overlay.specs.declared.node.SeenNode.{SeenNode}
 use Rattle.sn_walk.specs.declared.view.Attributes.{Attributes}
 
@@ -37,16 +32,6 @@ pub record IsNumbered (tree : Tree) (numbers : NumberTable) : Type 0 where
   pub whole : IsTree version_1 tree
   pub tells : TellsNumbers tree numbers
 
--- a root's tree, seen through the overlay that lies over it and the one over that
-abbrev pub live_tree : LiveState → Tree → Tree
-live_tree state root = through (layer_of state.top.now) (through (layer_of state.bottom.now) root)
-
 -- a live tree without snapshots, with who is logged in and what is open
 abbrev pub live_world : InUse → Tree → World
 live_world used tree = record { live = tree; frozen = map.empty; sessions = used.sessions; descriptors = used.descriptors }
-
--- Each overlay lies over what is below it; what is seen through both is a name tree, and the tables tell its directories and its numbers.
-pub record IsLive (state : LiveState) (root : Tree) : Type 0 where
-  pub lies : LiesOver (layer_of state.bottom.now) root
-  pub shown : IsShown (layer_of state.top.now) (through (layer_of state.bottom.now) root) state.directories.now
-  pub numbered : IsNumbered (live_tree state root) state.numbers.now

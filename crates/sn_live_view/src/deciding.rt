@@ -7,31 +7,21 @@ ghost use Rattle.sn_directories.specs.Told.{IsShown};
 ghost use Rattle.sn_model.specs.Worlds.{IsCall};
 ghost use Rattle.sn_overlay.specs.Layers.{through};
 ghost use Rattle.sn_overlay.specs.Overlays.{layer_of};
-ghost use Rattle.sn_live_view.specs.Live.{IsLive, IsNumbered, live_tree, live_world};
+ghost use Rattle.sn_live.specs.Live.{IsLive, shown_of};
+ghost use Rattle.sn_live_view.specs.Live.{IsNumbered, live_world};
 
 use crate::LiveView;
+use crate::unread::{Unread, UnreadView};
 use sn_applies::NamedTree;
 use sn_core_calls::{CallError, decide};
 use sn_desc::Sessions;
 use sn_directories::{Directories, KeepsNames, LoggedTree};
+use sn_live::LiveTree;
 use sn_live_files::ListsNames;
 use sn_model::{Call, Outcome};
 use sn_number_table::NumberTable;
-use sn_overlay::{Overlay, Through};
+use sn_overlay::{Below, Overlay, Through};
 use std::alloc::Global;
-
-/// What changed since a root, in two overlays, and the tables of what is seen through both.
-#[derive(Clone, Copy)]
-pub struct LiveState<'a> {
-    /// What changed first; it lies over the root.
-    pub bottom: &'a Overlay,
-    /// What changed since then.
-    pub top: &'a Overlay,
-    /// The directories of the live tree.
-    pub directories: &'a Directories,
-    /// The numbers of the live tree.
-    pub numbers: &'a NumberTable,
-}
 
 // What a call comes to over a live tree, with the table of its numbers.
 fn decide_on<'x, 'c, T: NamedTree + ListsNames>(
@@ -83,43 +73,54 @@ fn decide_over<'x, 'c, B: KeepsNames + ListsNames>(
     decide_on(alloc, &mut tree, numbers, sessions, session, call)
 }
 
-/// What a call comes to over a root that is seen through what changed since, or why it has no outcome: `Memory` where
-/// what it tells found none, `View` where the root found a fault. Nothing changes.
+/// What a call comes to over a live tree of a root, or why it has no outcome: `Memory` where what it tells found none,
+/// `View` where the root found a fault. Nothing changes.
 pub fn decide_live<'x, 'c, B: KeepsNames + ListsNames>(
     alloc: Global,
     root: &'x mut B,
-    state: LiveState<'x>,
+    live: &'x LiveTree,
     sessions: &Sessions,
     session: u32,
     call: &'c Call,
 ) -> Result<Outcome<'c>, CallError<B::Fault>>
     requires holds { B.holds root.old }
-    requires live { IsTrue B.is_told → IsLive state (B.shows root.old) }
+    requires live { IsTrue B.is_told → IsLive live.now (B.shows root.old) }
     ensures kept { B.holds root.new }
     ensures follows { B.follows root.old root.new }
     ensures same { IsTrue B.is_told → B.shows root.new ≡ B.shows root.old }
-    ensures decided { IsTrue B.is_told → Decides (live_world (in_use_of sessions.now) (live_tree state.entry (B.shows root.old))) session call.now result }
+    ensures decided { IsTrue B.is_told → Decides (live_world (in_use_of sessions.now) (shown_of live.now (B.shows root.old))) session call.now result }
     ensures cause { IfView result (λ f. B.causes root.old root.new f) }
     ensures numbers { IfOk result (λ o. IsCall call.now) }
 {
-    let LiveState {
-        bottom,
-        top,
-        directories,
-        numbers,
-    } = state;
     let mut below = Through {
-        overlay: bottom,
+        overlay: live.point(),
         below: root,
     };
     decide_over(
         alloc,
         &mut below,
-        top,
-        directories,
-        numbers,
+        live.changes(),
+        live.directories(),
+        live.numbers(),
         sessions,
         session,
         call,
     )
+}
+
+/// What a call comes to that needs no look-up of the live tree, or why it has no outcome: `Memory` where what it tells
+/// found none, `View` where a look-up is needed. In both cases its session and arguments have passed.
+pub fn decide_unread<'x, 'c, B: Below>(
+    alloc: Global,
+    root: &'x B,
+    live: &'x LiveTree,
+    sessions: &Sessions,
+    session: u32,
+    call: &'c Call,
+) -> Result<Outcome<'c>, CallError<Unread>>
+    ensures decided { Decides (live_world (in_use_of sessions.now) (shown_of live.now (B.shows root.now))) session call.now result }
+    ensures numbers { IfOk result (λ o. IsCall call.now) }
+{
+    let mut view = UnreadView { root, live };
+    decide(alloc, &mut view, sessions, session, call)
 }

@@ -13,8 +13,9 @@
 //! (`FileView` of `sn_core_calls`): its files are read, and its directories listed.
 //!
 //! The way through it: `specs/Live` says which trees are seen, and when a table belongs to one; `reads` has what
-//! is made of one look-up, and `view` and `files` the view, [`LiveView`]. `deciding` decides a call over a root
-//! that is seen through two overlays, [`decide_live`].
+//! is made of one look-up, and `view` and `files` the view, [`LiveView`]. `deciding` decides a call over a live tree
+//! of `sn_live` and the root below it, [`decide_live`]. `unread` is a view of which nothing is read: by it
+//! [`decide_unread`] decides what needs no look-up, and tells of each other call that its arguments have passed.
 //!
 //! What the sources leave open is decided in `docs/DECISIONS.md`, under "Reading a root on demand".
 //!
@@ -27,7 +28,9 @@
 mod deciding;
 mod files;
 mod reads;
+mod unread;
 mod view;
 
-pub use deciding::{LiveState, decide_live};
+pub use deciding::{decide_live, decide_unread};
+pub use unread::Unread;
 pub use view::LiveView;

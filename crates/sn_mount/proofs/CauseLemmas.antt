@@ -26,7 +26,7 @@ no_damage damage.Root sectors c block world image h = h.0 world image
 no_damage damage.Pointer sectors c block world image h = h
 no_damage damage.ReachedTwice sectors c block world image h = h
 no_damage damage.MapWord sectors c block world image h = h.0 world image
-no_damage damage.Misspelt sectors c block world image h = h.0 world image
+no_damage damage.Misspelt sectors c block world image h = h
 no_damage damage.Links sectors c block world image h = h
 no_damage damage.Log sectors c block world image h = h.0 world image
 

@@ -1,12 +1,7 @@
 -- What stands once the first place of the log is cleared, over a root on which nothing is logged.
-use Rattle.std.proofs.Common.{◌≡◌, inl, ℕ, ◌+◌, Bool, false, List, [], ◌∷◌, ◌++◌, None, length, slice_index, count_by, Result, Ok, refl, sym, ap, subst, ◌∙◌, arith}
+use Rattle.std.proofs.Common.{◌≡◌, inl, ℕ, ◌+◌, Bool, false, List, [], ◌∷◌, ◌++◌, None, length, replicate, slice_index, Result, Ok, refl, sym, ap, subst, ◌∙◌, arith}
 use Rattle.std.specs.Prelude.{IfOk}
 use Rattle.std.specs.FinMap as fin
-use Rattle.std.proofs.lemmas.List.{nil_from_length}
-use Rattle.sn_desc.specs.Holders.{is_live}
-use Rattle.sn_desc.specs.InUse.{live_in}
-use Rattle.sn_model.specs.Descriptors.{Descriptors}
-use Rattle.std.specs.declared.cmp.Ordering.{Ordering}
 use Rattle.sn_alloc.specs.Taking.{free_data}
 use Rattle.sn_changed.specs.Changed.{HasChanged}
 use Rattle.sn_changed.proofs.ChangedLemmas.{nothing_changed}
@@ -29,9 +24,9 @@ use Rattle.sn_map.specs.Free.{is_free_word}
 use Rattle.sn_model.specs.declared.change.Change.{Change}
 use Rattle.sn_model.specs.declared.mount.MountFault.{MountFault}
 use Rattle.sn_model.specs.NameTree.{IsTree}
-use Rattle.sn_model.specs.Settling.{settle}
+use Rattle.sn_model.specs.Settling.{settled}
 use Rattle.sn_model.specs.Tree.{Tree}
-use Rattle.sn_model.specs.World.{Descriptor, World}
+use Rattle.sn_model.specs.World.{World, new_world}
 use Rattle.sn_model.proofs.DropLemmas.{dropping_tree}
 use Rattle.sn_ondisk.specs.Blocks.{block_at}
 use Rattle.sn_ondisk.specs.Gates.{IsClosed}
@@ -51,7 +46,7 @@ use Rattle.sn_opening.proofs.CoveringLemmas.{replay_covers}
 use Rattle.sn_opening.proofs.OpeningLemmas.{half_lies}
 use Rattle.sn_overlay.specs.Layers.{Layer}
 use Rattle.sn_overlay.specs.Needs.{nameless_in}
-use Rattle.sn_overlay.specs.Overlays.{layer_of, no_changes}
+use Rattle.sn_overlay.specs.Overlays.{no_changes}
 use Rattle.sn_room.specs.Rooms.{RoomCounts, fresh, mounted}
 use Rattle.sn_sound.specs.Charges.{Fits, charges_from}
 use Rattle.sn_sound.specs.Maps.{free_blocks}
@@ -69,7 +64,7 @@ use Rattle.sn_cp_whole.specs.Recovering.{IsApart, IsImageOver}
 use Rattle.sn_cp_whole.specs.declared.base.PointBase.{PointBase}
 use Rattle.sn_cp_whole.proofs.RecoverLemmas.{half_apart}
 use Rattle.sn_examine.specs.Finding.{HasFound}
-use Rattle.sn_mount.specs.Recovering.{IsRecovered, LeavesTheWorld}
+use Rattle.sn_mount.specs.Recovering.{IsRecovered, LeavesTheWorld, with_frozen}
 use Rattle.sn_mount.specs.Settling.{MakesRoot, SettlesChanges}
 use Rattle.sn_mount.proofs.RecoverLemmas.{root_leaves, root_over, settled_is}
 
@@ -83,13 +78,6 @@ nothing_at c base epoch changes none replays =
     let here : Replays c base epoch (payloads_of []) = subst (λ (xs : List Change). Replays c base epoch (payloads_of xs)) none replays in
     let first : here.0 ≡ 0 = here.1.leads in
     subst (λ (end : ℕ). ReplaysTo c base epoch [] end) first here.1
-
--- nothing is open where there is no descriptor
-no_entries : {K : Type 0} (R : K → K → Ordering) (X : Type 0) → fin.entries (fin.empty {X = X} {R = R}) ≡ []
-no_entries R X = nil_from_length (fin.entries (fin.empty {X = X} {R = R})) (sym (fin.len-entries (fin.empty {X = X} {R = R})) ∙ fin.len-empty R X)
-
-pub none_open : (table : Descriptors) → table ≡ fin.empty → live_in table ≡ 0
-none_open table none = ap live_in none ∙ ap (count_by (λ (e : (ℕ × ℕ) × Descriptor). is_live e.1.home)) (no_entries _ Descriptor)
 
 -- ---- the place is cleared
 
@@ -309,38 +297,61 @@ touches_apart n epoch slot mid rooted new result first clears =
     (Touches-within (Single (cleared_sector (reads rooted) (base_of n epoch) 0)) (IsApart n slot) rooted new
     (λ i is. half_apart n epoch slot i (subst (InHalf (base_of n epoch)) (sym is) (cleared_within (reads rooted) (base_of n epoch) 0 (omega arith)))) clears.written.touched)
 
-module _ (sectors : ℕ) (old mid rooted new : Disk) (k : Kept) (at : LogPosition) (world : World) (room : RoomCounts) (recovers : Bool) (f : HasFound sectors (reads mid) k at world room recovers) (count : length (reads mid) ≡ sectors) (whole : AreSectors (reads mid))
-    (synced : IsSynced mid) (k2 : Kept) (settles : SettlesChanges k world.live k2) (tree : IsTree version_1 world.live) (first : Touches Nowhere old mid) (same : reads mid ≡ reads old)
-    (result : Result PointBase MountFault) (makes : MakesRoot result at.blocks k2 recovers mid rooted) (w : World) (is : IsImage (reads old) w) (empty : w.frozen ≡ fin.empty) where
-  found_image : IsImage (reads mid) w
-  found_image = subst (λ (c : Contents). IsImage c w) (sym same) is
-
+module _ (sectors : ℕ) (old mid rooted new : Disk) (k : Kept) (at : LogPosition) (shown : Tree) (room : RoomCounts) (recovers : Bool) (f : HasFound sectors (reads mid) k at shown room recovers) (count : length (reads mid) ≡ sectors) (whole : AreSectors (reads mid))
+    (synced : IsSynced mid) (k2 : Kept) (settles : SettlesChanges k shown k2) (tree : IsTree version_1 shown) (result : Result PointBase MountFault) (makes : MakesRoot result at.blocks k2 recovers mid rooted) (w : World) (is : IsImage (reads mid) w) where
   to_root : LeavesOnly mid rooted (λ c. IsImage c w)
-  to_root = root_leaves sectors mid k at world room recovers f count whole synced k2 settles tree w found_image empty result rooted makes
+  to_root = root_leaves sectors mid k at shown room recovers f count whole synced k2 settles tree w is result rooted makes
 
-  leaves_by : (d : Disk) → LeavesOnly mid d (λ c. IsImage c w) → LeavesTheWorld old d w
-  leaves_by d leaves = record { mid = mid; first = first; same = same; synced = synced; moments = LeavesOnly-weaker mid d (λ c. IsImage c w) (λ c. IsLiveImage c w) (λ c h. record { image = h; frozen = empty }) leaves }
+  module _ (first : Touches Nowhere old mid) (same : reads mid ≡ reads old) (empty : w.frozen ≡ fin.empty) where
+    leaves_by : (d : Disk) → LeavesOnly mid d (λ c. IsImage c w) → LeavesTheWorld old d w
+    leaves_by d leaves = record { mid = mid; first = first; same = same; synced = synced; moments = LeavesOnly-weaker mid d (λ c. IsImage c w) (λ c. IsLiveImage c w) (λ c h. record { image = h; frozen = empty }) leaves }
 
-  -- where no root was made
-  pub leaves_at_root : LeavesTheWorld old rooted w
-  leaves_at_root = leaves_by rooted to_root
+    -- where no root was made
+    pub leaves_at_root : LeavesTheWorld old rooted w
+    leaves_at_root = leaves_by rooted to_root
 
-  module _ (base : PointBase) (done : result ≡ Ok base) {T E : Type 0} (cleared : Result T E) (clears : Clears (base_of at.blocks base.root.epoch) 0 cleared rooted new) where
-    over : IsImageOver rooted w at.blocks (kept_in base)
-    over = subst (λ (r : Result PointBase MountFault). IfOk r (λ next. IsImageOver rooted w at.blocks (kept_in next))) done (root_over sectors mid k at world room recovers f count whole synced k2 settles tree w found_image empty result rooted makes)
+  module _ (base : PointBase) (done : result ≡ Ok base) (layer : Layer) (none : layer ≡ no_changes) {T E : Type 0} (cleared : Result T E) (clears : Clears (base_of at.blocks base.root.epoch) 0 cleared rooted new) where
+    over : IsImageOver rooted w at.blocks (kept_in base layer)
+    over =
+        subst (λ (l : Layer). IsImageOver rooted w at.blocks (kept_in base l)) (sym none)
+        (subst (λ (r : Result PointBase MountFault). IfOk r (λ next. IsImageOver rooted w at.blocks (kept_in next no_changes))) done (root_over sectors mid k at shown room recovers f count whole synced k2 settles tree w is result rooted makes))
 
-    pub leaves_at_end : LeavesTheWorld old new w
-    leaves_at_end = leaves_by new (LeavesOnly-join mid rooted new (λ c. IsImage c w) to_root (over_keeps rooted new w at.blocks (kept_in base) over cleared clears))
+    pub leaves_at_end : Touches Nowhere old mid → reads mid ≡ reads old → w.frozen ≡ fin.empty → LeavesTheWorld old new w
+    leaves_at_end first same empty = leaves_by first same empty new (LeavesOnly-join mid rooted new (λ c. IsImage c w) to_root (over_keeps rooted new w at.blocks (kept_in base layer) over cleared clears))
 
-    pub recovered : (p : LogPosition) (x : World) (q : RoomCounts) → p ≡ first_of at.blocks base.root.epoch → x ≡ settle world → q ≡ fresh (free_data base.map (start_of at.blocks Data)) → layer_of base.changed ≡ no_changes
-        → Always new (λ c. IsClosed c (base_of at.blocks base.root.epoch + 0)) → AreSectors (reads new) → IsSynced new → IsRecovered p x q (kept_in base) old new w
-    recovered p x q at_is found_is room_is none closed whole_new synced_new =
-        let stays = over_stays rooted new w at.blocks (kept_in base) over cleared clears whole_new synced_new in
-        let settled_here : settle world ≡ w = settled_is sectors (reads mid) k at world room recovers f whole count w found_image empty in
-        let tree_here = subst (λ (y : World). IsTree version_1 y.live) settled_here (dropping_tree version_1 world.live (λ _. false) tree) in
-        record {
-          is = found_is ∙ settled_here;
-          room_is = has_room new w at.blocks (kept_in base) stays q room_is;
-          runs = λ keeps_back since status. runs_over new w at.blocks (kept_in base) stays tree_here none closed keeps_back since status q p room_is at_is;
-          leaves = leaves_at_end;
+    module _ (whole_new : AreSectors (reads new)) (synced_new : IsSynced new) where
+      stays : IsImageOver new w at.blocks (kept_in base layer)
+      stays = over_stays rooted new w at.blocks (kept_in base layer) over cleared clears whole_new synced_new
+
+      settled_here : with_frozen w (record new_world { live = settled shown }) ≡ w
+      settled_here = settled_is sectors (reads mid) k at shown room recovers f whole count w is
+
+      -- the tree of the root that counts then is the settled one
+      pub below_is : image (store_of (reads new)) base.root.inode_file ≡ settled shown
+      below_is = stays.live ∙ ap (λ (x : World). x.live) (sym settled_here)
+
+      module _ (p : LogPosition) (x : World) (q : RoomCounts) (at_is : p ≡ first_of at.blocks base.root.epoch) (found_is : x ≡ record new_world { live = settled shown }) (room_is : q ≡ fresh (free_data base.map (start_of at.blocks Data)))
+          (closed : Always new (λ c. IsClosed c (base_of at.blocks base.root.epoch + 0))) where
+        tree_here : IsTree version_1 w.live
+        tree_here = subst (λ (y : World). IsTree version_1 y.live) settled_here (dropping_tree version_1 shown (λ _. false) tree)
+
+        -- with the frozen trees of the root
+        world_is : with_frozen w x ≡ w
+        world_is = ap (with_frozen w) found_is ∙ settled_here
+
+        runs_now : (keeps_back since : ℕ → Bool) (status : Status) → RunsReady (record { world = w; kept = keeps_back; kept_since = since; room = q; at = p; base = kept_in base layer; point = None; disk = new; status = status }) w (kept_in base layer)
+        runs_now keeps_back since status = runs_over new w at.blocks (kept_in base layer) stays tree_here none closed keeps_back since status q p room_is at_is
+
+        pub runs_frozen : (keeps_back since : ℕ → Bool) (status : Status)
+            → RunsReady (record { world = with_frozen w x; kept = keeps_back; kept_since = since; room = q; at = p; base = kept_in base layer; point = None; disk = new; status = status }) (with_frozen w x) (kept_in base layer)
+        runs_frozen keeps_back since status =
+            subst (λ (y : World). RunsReady (record { world = y; kept = keeps_back; kept_since = since; room = q; at = p; base = kept_in base layer; point = None; disk = new; status = status }) y (kept_in base layer)) (sym world_is)
+            (runs_now keeps_back since status)
+
+        pub recovered : Touches Nowhere old mid → reads mid ≡ reads old → w.frozen ≡ fin.empty → IsRecovered p x q (kept_in base layer) old new w
+        recovered first same empty = record {
+          is = found_is ∙ (λ i. record { live = settled shown; frozen = sym empty i; sessions = replicate 64 None; descriptors = fin.empty }) ∙ settled_here;
+          room_is = has_room new w at.blocks (kept_in base layer) stays q room_is;
+          runs = runs_now;
+          leaves = leaves_at_end first same empty;
         }

@@ -27,9 +27,9 @@ use Rattle.sn_model.specs.declared.mount.MountFault.TheVariants as fault
 use Rattle.sn_model.specs.Chains.{◌>>=◌}
 use Rattle.sn_model.specs.Changes.{apply_all}
 use Rattle.sn_model.specs.NameTree.{IsTree}
-use Rattle.sn_model.specs.Settling.{is_nameless, settle, settled}
+use Rattle.sn_model.specs.Settling.{is_nameless, settled}
 use Rattle.sn_model.specs.Tree.{Tree}
-use Rattle.sn_model.specs.World.{World}
+use Rattle.sn_model.specs.World.{World, new_world}
 use Rattle.sn_model.proofs.DropLemmas.{dropping_tree}
 use Rattle.sn_model.proofs.ListLemmas.{lists_join}
 use Rattle.sn_model.proofs.SettlingLemmas.{get_without}
@@ -67,7 +67,7 @@ use Rattle.sn_examine.specs.Finding.{HasFound}
 use Rattle.sn_examine.specs.Refusing.{Refuses}
 use Rattle.sn_examine.proofs.FindLemmas.{IsSameRoot, are_replayed, charges_are, same_root}
 use Rattle.sn_examine.specs.Failing.{read_fault}
-use Rattle.sn_mount.specs.Recovering.{KeepsTheRoot, WritesAtFault}
+use Rattle.sn_mount.specs.Recovering.{KeepsTheRoot, WritesAtFault, with_frozen}
 use Rattle.sn_mount.specs.Settling.{IsNoRoot, MakesRoot, SettlesChanges}
 
 -- ---- nothing to recover
@@ -99,7 +99,7 @@ made_of_none limits (change ∷ changes) from tree none made = absurd cc
 
 -- ---- what is found
 
-module _ (sectors : ℕ) (c : Contents) (k : Kept) (at : LogPosition) (world : World) (room : RoomCounts) (recovers : Bool) (f : HasFound sectors c k at world room recovers) where
+module _ (sectors : ℕ) (c : Contents) (k : Kept) (at : LogPosition) (shown : Tree) (room : RoomCounts) (recovers : Bool) (f : HasFound sectors c k at shown room recovers) where
   abbrev pub n : ℕ
   n = at.blocks
 
@@ -115,20 +115,24 @@ module _ (sectors : ℕ) (c : Contents) (k : Kept) (at : LogPosition) (world : W
   abbrev pub newer : List Change
   newer = f.both.has_newer.all.replayed.changes
 
+  -- nobody is logged in over the tree without files that no name stands for
+  abbrev pub settled_world : World
+  settled_world = record new_world { live = settled shown }
+
   pub limits_one : version_1 ≡ k.root.limits
   limits_one = only_version k.root.limits f.roots.newest.body.fits.version
 
-  made_one : apply_all version_1 (older ++ newer) img ≡ Some world.live
+  made_one : apply_all version_1 (older ++ newer) img ≡ Some shown
   made_one = lists_join version_1 older newer img ∙ ap (λ (o : Option Tree). o >>= apply_all version_1 newer) f.both.has_older.all.replayed.applied ∙ f.both.has_newer.all.replayed.applied
 
   charged_one : f.charges ≡ charges_from version_1 (older ++ newer) img
-  charged_one = charges_are c img n k.root.epoch at world.live f.charges f.both
+  charged_one = charges_are c img n k.root.epoch at shown f.charges f.both
 
   pub shown_here : Shown n c k.slot k.root (payloads_of older) (payloads_of newer)
   shown_here = record {
     newest = f.roots.newest;
     has_older = (are_replayed c img n k.root.epoch f.both.older f.both.middle f.both.first f.both.has_older).records;
-    has_newer = (are_replayed c f.both.middle n (k.root.epoch + 1) f.both.newer world.live f.both.second f.both.has_newer).records;
+    has_newer = (are_replayed c f.both.middle n (k.root.epoch + 1) f.both.newer shown f.both.second f.both.has_newer).records;
   }
 
   -- where the map is that of a sound root
@@ -142,9 +146,9 @@ module _ (sectors : ℕ) (c : Contents) (k : Kept) (at : LogPosition) (world : W
     pub fits_one : Fits version_1 (older ++ newer) img (free_blocks n s k.root)
     fits_one = omega (arith, covers, charged_one)
 
-    module _ (k2 : Kept) (w : World) (settles : SettlesChanges k world.live k2) (live : w.live ≡ settled world.live) (tree : IsTree version_1 world.live) where
+    module _ (k2 : Kept) (w : World) (settles : SettlesChanges k shown k2) (live : w.live ≡ settled shown) (tree : IsTree version_1 shown) where
       tree_left : IsTree version_1 w.live
-      tree_left = subst (IsTree version_1) (sym live) (dropping_tree version_1 world.live (λ _. false) tree)
+      tree_left = subst (IsTree version_1) (sym live) (dropping_tree version_1 shown (λ _. false) tree)
 
       changed_left : HasChanged version_1 k2.changed img w.live f.charges
       changed_left = subst (λ (t : Tree). HasChanged version_1 k2.changed img t f.charges) (sym live) (settles.changed img f.charges f.changed)
@@ -166,11 +170,11 @@ module _ (sectors : ℕ) (c : Contents) (k : Kept) (at : LogPosition) (world : W
       }
 
   -- where no root can be made of it, it isn't
-  module _ (whole : AreSectors c) (count : length c ≡ sectors) (k2 : Kept) (settles : SettlesChanges k world.live k2) (tree : IsTree version_1 world.live) (never : CanBeBuilt n s k2 → ⊥) where
+  module _ (whole : AreSectors c) (count : length c ≡ sectors) (k2 : Kept) (settles : SettlesChanges k shown k2) (tree : IsTree version_1 shown) (never : CanBeBuilt n s k2 → ⊥) where
     unsound : (words : List ℕ) → HasMap n c k.slot words → IsSoundRoot n s k.root (slice_index words) → ⊥
     unsound words spelled sound =
         let same = f.words words spelled in
-        never (kept_can_be_built n c (settle world) k2 (stands whole count (subst (λ (ws : List ℕ). HasMap n c k.slot ws) (sym same) spelled) (subst (λ (ws : List ℕ). IsSoundRoot n s k.root (slice_index ws)) (sym same) sound) k2 (settle world) settles refl tree))
+        never (kept_can_be_built n c settled_world k2 (stands whole count (subst (λ (ws : List ℕ). HasMap n c k.slot ws) (sym same) spelled) (subst (λ (ws : List ℕ). IsSoundRoot n s k.root (slice_index ws)) (sym same) sound) k2 settled_world settles refl tree))
 
     pub map_refuses : (damage : Damage) (block : ℕ) → damage ≡ MapWord → block ≡ start_of n (MapCopy k2.slot) → Refuses (fault.Damaged damage block) sectors c
     map_refuses damage block is at_map =
@@ -188,7 +192,7 @@ module _ (sectors : ℕ) (c : Contents) (k : Kept) (at : LogPosition) (world : W
 
   -- ---- on an image
 
-  module _ (whole : AreSectors c) (count : length c ≡ sectors) (w : World) (im : IsImage c w) (empty : w.frozen ≡ map.empty) where
+  module _ (whole : AreSectors c) (count : length c ≡ sectors) (w : World) (im : IsImage c w) where
     same : IsSameRoot c n k.slot k.root w im
     same = same_root sectors c n k.slot k.root w im count f.roots.formatted f.roots.newest
 
@@ -208,10 +212,10 @@ module _ (sectors : ℕ) (c : Contents) (k : Kept) (at : LogPosition) (world : W
 
     -- the world that the root and these records stand for
     abbrev pub standing : World
-    standing = found world.live (frozen_of s k.root.snapshots)
+    standing = found shown (frozen_of s k.root.snapshots)
 
-    pub made : apply_all k.root.limits (older ++ newer) img ≡ Some world.live
-    made = subst (λ (l : Limits). apply_all l (older ++ newer) img ≡ Some world.live) limits_one made_one
+    pub made : apply_all k.root.limits (older ++ newer) img ≡ Some shown
+    made = subst (λ (l : Limits). apply_all l (older ++ newer) img ≡ Some shown) limits_one made_one
 
     abbrev pub opens_it : Opens n c standing
     opens_it = record {
@@ -222,7 +226,7 @@ module _ (sectors : ℕ) (c : Contents) (k : Kept) (at : LogPosition) (world : W
       older_spelled = f.both.has_older.all.replayed.spelled;
       newer_spelled = f.both.has_newer.all.replayed.spelled;
       shown = shown_here;
-      stands = record { tree = world.live; applied = made; settles = refl };
+      stands = record { tree = shown; applied = made; settles = refl };
     }
 
     pub age_left : (b : Bool) → recovers ≡ b → IsToRecover (older ++ newer) img → HasAgeLeft k.root
@@ -246,11 +250,11 @@ module _ (sectors : ℕ) (c : Contents) (k : Kept) (at : LogPosition) (world : W
     pub standing_is : standing ≡ w
     standing_is = images_one c standing w image_found im
 
-    -- and so is what is left once it is settled
-    pub settled_is : settle world ≡ w
+    -- and so is the settled tree, where nobody is logged in, with the frozen trees of the root
+    pub settled_is : with_frozen w settled_world ≡ w
     settled_is =
-        let frozen : world.frozen ≡ frozen_of s k.root.snapshots = ap (λ (x : World). x.frozen) f.is ∙ sym (ap (λ (x : World). x.frozen) standing_is ∙ empty) in
-        let same : settle world ≡ standing = λ i. record { live = settled world.live; frozen = frozen i; sessions = replicate 64 None; descriptors = map.empty } in
+        let frozen : w.frozen ≡ frozen_of s k.root.snapshots = sym (ap (λ (x : World). x.frozen) standing_is) in
+        let same : with_frozen w settled_world ≡ standing = λ i. record { live = settled shown; frozen = frozen i; sessions = replicate 64 None; descriptors = map.empty } in
         same ∙ standing_is
 
     -- where nothing is to recover
@@ -261,21 +265,21 @@ module _ (sectors : ℕ) (c : Contents) (k : Kept) (at : LogPosition) (world : W
       pub no_records : (older ≡ []) × (newer ≡ [])
       no_records = both_nil older newer (λ some. left (inl some))
 
-      pub tree_stays : img ≡ settled world.live
+      pub tree_stays : img ≡ settled shown
       tree_stays =
-          let live : world.live ≡ img = made_of_none version_1 (older ++ newer) img world.live (λ i. no_records.0 i ++ no_records.1 i) made_one in
+          let live : shown ≡ img = made_of_none version_1 (older ++ newer) img shown (λ i. no_records.0 i ++ no_records.1 i) made_one in
           sym (settled_same img (is_zero (nameless_in img) (λ some. left (inr some)))) ∙ ap settled (sym live)
 
 -- ---- the root that is made
 
-module _ (sectors : ℕ) (mid : Disk) (k : Kept) (at : LogPosition) (world : World) (room : RoomCounts) (recovers : Bool) (f : HasFound sectors (reads mid) k at world room recovers) (count : length (reads mid) ≡ sectors) (whole : AreSectors (reads mid))
-    (synced : IsSynced mid) (k2 : Kept) (settles : SettlesChanges k world.live k2) (tree : IsTree version_1 world.live) where
-  module _ (w : World) (im : IsImage (reads mid) w) (empty : w.frozen ≡ map.empty) where
+module _ (sectors : ℕ) (mid : Disk) (k : Kept) (at : LogPosition) (shown : Tree) (room : RoomCounts) (recovers : Bool) (f : HasFound sectors (reads mid) k at shown room recovers) (count : length (reads mid) ≡ sectors) (whole : AreSectors (reads mid))
+    (synced : IsSynced mid) (k2 : Kept) (settles : SettlesChanges k shown k2) (tree : IsTree version_1 shown) where
+  module _ (w : World) (im : IsImage (reads mid) w) where
     abbrev here : World
-    here = standing sectors (reads mid) k at world room recovers f whole count w im empty
+    here = standing sectors (reads mid) k at shown room recovers f whole count w im
 
     abbrev its : IsImage (reads mid) here
-    its = image_found sectors (reads mid) k at world room recovers f whole count w im empty
+    its = image_found sectors (reads mid) k at shown room recovers f whole count w im
 
     replayed : HasReplayed mid here its k2
     replayed = record {
@@ -283,33 +287,33 @@ module _ (sectors : ℕ) (mid : Disk) (k : Kept) (at : LogPosition) (world : Wor
       slot = settles.slot;
       root = settles.root;
       words = settles.words;
-      changed = subst (λ (charges : ℕ). HasChanged version_1 k2.changed (image (store_of (reads mid)) k.root.inode_file) here.live charges) (charged_one sectors (reads mid) k at world room recovers f)
+      changed = subst (λ (charges : ℕ). HasChanged version_1 k2.changed (image (store_of (reads mid)) k.root.inode_file) here.live charges) (charged_one sectors (reads mid) k at shown room recovers f)
           (settles.changed (image (store_of (reads mid)) k.root.inode_file) f.charges f.changed);
-      tree = dropping_tree version_1 world.live (λ _. false) tree;
+      tree = dropping_tree version_1 shown (λ _. false) tree;
     }
 
     stays : recovers ≡ false → IsImageOver mid here at.blocks (record k2 { changed = no_changes })
     stays none = record {
-      live = ap (λ (b : RootBody). image (store_of (reads mid)) b.inode_file) settles.root ∙ tree_stays sectors (reads mid) k at world room recovers f whole count w im empty none;
+      live = ap (λ (b : RootBody). image (store_of (reads mid)) b.inode_file) settles.root ∙ tree_stays sectors (reads mid) k at shown room recovers f whole count w im none;
       image = its;
       blocks = refl;
       slot = sym settles.slot;
       root = sym settles.root;
       words = sym settles.words;
-      older = (no_records sectors (reads mid) k at world room recovers f whole count w im empty none).0;
-      newer = (no_records sectors (reads mid) k at world room recovers f whole count w im empty none).1;
+      older = (no_records sectors (reads mid) k at shown room recovers f whole count w im none).0;
+      newer = (no_records sectors (reads mid) k at shown room recovers f whole count w im none).1;
       synced = synced;
     }
 
     is_it : here ≡ w
-    is_it = standing_is sectors (reads mid) k at world room recovers f whole count w im empty
+    is_it = standing_is sectors (reads mid) k at shown room recovers f whole count w im
 
     module _ (result : Result PointBase MountFault) (d : Disk) (makes : MakesRoot result at.blocks k2 recovers mid d) where
       pub root_leaves : LeavesOnly mid d (λ c. IsImage c w)
       root_leaves = subst (λ (x : World). LeavesOnly mid d (λ c. IsImage c x)) is_it (makes here its refl replayed stays).0
 
-      pub root_over : IfOk result (λ next. IsImageOver d w at.blocks (kept_in next))
-      root_over = subst (λ (x : World). IfOk result (λ next. IsImageOver d x at.blocks (kept_in next))) is_it (makes here its refl replayed stays).1
+      pub root_over : IfOk result (λ next. IsImageOver d w at.blocks (kept_in next no_changes))
+      root_over = subst (λ (x : World). IfOk result (λ next. IsImageOver d x at.blocks (kept_in next no_changes))) is_it (makes here its refl replayed stays).1
 
   -- what was never written
   pub root_kept : (old new : Disk) → Touches Nowhere old mid → reads mid ≡ reads old → Touches (IsApart at.blocks k.slot) mid new → KeepsTheRoot sectors old new
@@ -324,7 +328,7 @@ module _ (sectors : ℕ) (mid : Disk) (k : Kept) (at : LogPosition) (world : Wor
 
   -- where no root can be made
   pub no_root_refuses : (fault : MountFault) (d : Disk) → IsNoRoot fault at.blocks k2 mid d → Refuses fault sectors (reads mid)
-  no_root_refuses (fault.Damaged damage block) d is = map_refuses sectors (reads mid) k at world room recovers f whole count k2 settles tree is.3 damage block is.0 is.1
+  no_root_refuses (fault.Damaged damage block) d is = map_refuses sectors (reads mid) k at shown room recovers f whole count k2 settles tree is.3 damage block is.0 is.1
   no_root_refuses fault.NotFormatted d is = absurd is
   no_root_refuses fault.Version d is = absurd is
   no_root_refuses fault.NoRoot d is = absurd is

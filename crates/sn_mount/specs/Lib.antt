@@ -1,3 +1,4 @@
 pub mod Costs
+pub mod FoundDisk
 pub mod Settling
 pub mod Recovering

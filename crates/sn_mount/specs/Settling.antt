@@ -1,8 +1,6 @@
 -- What becomes of what was found: files without names go, and what is to recover becomes a root.
-use Rattle.std.specs.Prelude.{◌≡◌, ℕ, Bool, false, List, [], ◌∷◌, ◌++◌, Result, IfOk, if◌then◌else◌}
-use Rattle.std.specs.FinMap as map
+use Rattle.std.specs.Prelude.{◌≡◌, ℕ, Bool, false, Result, IfOk}
 use Rattle.sn_changed.specs.Changed.{HasChanged}
-use Rattle.sn_changed.specs.declared.dropped.DroppedFile.{DroppedFile}
 use Rattle.sn_device.specs.Crash.{LeavesOnly}
 use Rattle.sn_device.specs.Disk.{Disk, reads}
 use Rattle.sn_layout.specs.declared.geometry.Area.TheVariants.{MapCopy}
@@ -11,7 +9,7 @@ use Rattle.sn_limits.specs.Versions.{version_1}
 use Rattle.sn_model.specs.declared.mount.Damage.TheVariants.{MapWord}
 use Rattle.sn_model.specs.declared.mount.MountFault.{MountFault}
 use Rattle.sn_model.specs.declared.mount.MountFault.TheVariants as fault
-use Rattle.sn_model.specs.Settling.{is_nameless, settled}
+use Rattle.sn_model.specs.Settling.{settled}
 use Rattle.sn_model.specs.Tree.{Tree}
 use Rattle.sn_model.specs.World.{World}
 use Rattle.sn_ondisk.specs.Trees.{store_of}
@@ -25,10 +23,6 @@ use Rattle.sn_cp_whole.specs.Recovering.{IsImageOver}
 use Rattle.sn_cp_whole.specs.declared.base.PointBase.{PointBase}
 use Rattle.sn_cp_whole.specs.declared.fault.PointFault.{PointFault}
 use Rattle.sn_cp_whole.specs.declared.fault.PointFault.TheVariants as point
-
--- a file of a tree, behind others, where no name stands for it
-abbrev pub listed_if : Tree → ℕ → List DroppedFile → List DroppedFile
-listed_if tree number files = if is_nameless tree number (map.get tree.nodes number) then files ++ (record { number = number; by_close = false }) ∷ [] else files
 
 -- The same root is kept, and what changed of its tree up to this live tree is on what changed up to the settled one.
 pub record SettlesChanges (old : Kept) (live : Tree) (new : Kept) : Type 0 where
@@ -48,7 +42,7 @@ mount_fault point.Age map = fault.Damaged MapWord map
 -- Of a disk that is an image of a world, and of which this was kept, a crash at any moment leaves an image of it. At `Ok` it is one over the root that is kept then, on which nothing is logged. Where nothing is to recover it is so from the start.
 abbrev pub MakesRoot : Result PointBase MountFault → ℕ → Kept → Bool → Disk → Disk → Type 0
 MakesRoot result n k recovers old new = (world : World) (im : IsImage (reads old) world) → im.blocks ≡ n → HasReplayed old world im k → (recovers ≡ false → IsImageOver old world n (record k { changed = no_changes }))
-    → LeavesOnly old new (λ c. IsImage c world) × IfOk result (λ next. IsImageOver new world n (kept_in next))
+    → LeavesOnly old new (λ c. IsImage c world) × IfOk result (λ next. IsImageOver new world n (kept_in next no_changes))
 
 -- why no root is made: memory was refused, the device failed, or root and map can't be used, which comes before anything is written
 abbrev pub IsNoRoot : MountFault → ℕ → Kept → Disk → Disk → Type 0

@@ -2,40 +2,37 @@
 ghost use Rattle.std.specs.Prelude.{◌≡◌, ◌*◌, ◌≤◌, ◌^◌, true, length, IsTrue, IfErr, IfOk, OnOk};
 ghost use Rattle.sn_device.specs.Disk.{reads};
 ghost use Rattle.sn_block.specs.Lending.{device_of};
-ghost use Rattle.sn_core.specs.Plain.{world_of};
 ghost use Rattle.sn_layout.specs.RootBody.{IsRootBody};
-ghost use Rattle.sn_limits.specs.Versions.{version_1};
-ghost use Rattle.sn_model.specs.NameTree.{IsTree};
-ghost use Rattle.sn_model.specs.Steps.{with_live};
-ghost use Rattle.sn_model.specs.World.{new_world};
+ghost use Rattle.sn_live.specs.Live.{HasNoPoint, IsLive, shown_of};
+ghost use Rattle.sn_rooted.specs.Roots.{tree_on};
 ghost use Rattle.sn_sound.specs.Logs.{HasAgeLeft};
 ghost use Rattle.sn_examine.specs.Failing.{FailsAs, WritesNothing};
 ghost use Rattle.sn_examine.specs.Finding.{HasFound};
-ghost use Rattle.sn_examine.specs.FoundDisk.{kept_of};
 ghost use Rattle.sn_examine.specs.Laws.{IsSomeClean};
 ghost use Rattle.sn_check.specs.Verdicts.{IsCause};
+ghost use Rattle.sn_mount.specs.FoundDisk.{kept_of};
 
+use crate::finding::find;
+use crate::found::FoundDisk;
 use sn_block::Blocks;
 use sn_check::test_disk;
 use sn_device::Device;
-use sn_examine::{FoundDisk, find};
-use sn_log::Buffer;
 use sn_model::MountFault;
 use std::alloc::Global;
 
-/// Checks the whole disk, and reads the newest root's tree with the log on top of it where that is sound. A fault is the
-/// one that the check tells.
+/// Checks the whole disk, and finds the newest root with the log on top of it where that is sound. A fault is the one that
+/// the check tells.
 pub(crate) fn examine<D: Device>(
     alloc: Global,
     blocks: &mut Blocks<D>,
-    buffer: &mut Buffer,
 ) -> Result<FoundDisk, MountFault>
     ensures clean { IsTrue D.tells_bytes → OnOk result (IsSomeClean (D.status (device_of blocks.old)).sectors (reads (D.disk (device_of blocks.old)))) }
     ensures cause { IsTrue D.tells_bytes → IfErr result (IsCause (D.status (device_of blocks.old)).sectors (reads (D.disk (device_of blocks.old)))) }
-    ensures found { IsTrue D.tells_bytes → IfOk result (λ f. HasFound (D.status (device_of blocks.old)).sectors (reads (D.disk (device_of blocks.old))) (kept_of f) f.at (world_of f.world) f.room f.recovers) }
+    ensures found { IsTrue D.tells_bytes → IfOk result (λ f. HasFound (D.status (device_of blocks.old)).sectors (reads (D.disk (device_of blocks.old))) (kept_of f) f.at
+        (shown_of f.live (tree_on blocks.old f.root.inode_file)) f.room f.recovers) }
+    ensures live { IsTrue D.tells_bytes → IfOk result (λ f. IsLive f.live (tree_on blocks.old f.root.inode_file)) }
+    ensures point { IfOk result (λ f. HasNoPoint f.live) }
     ensures few { IfOk result (λ f. f.room.dropped ≤ 2 ^ 32) }
-    ensures rest { IfOk result (λ f. world_of f.world ≡ with_live new_world (world_of f.world).live) }
-    ensures whole { IfOk result (λ f. IsTree version_1 (world_of f.world).live) }
     ensures blocks { IfOk result (λ f. f.at.blocks ≡ f.geometry) }
     ensures body { IfOk result (λ f. IsRootBody f.root) }
     ensures words { IfOk result (λ f. length f.map ≡ f.geometry) }
@@ -50,7 +47,7 @@ pub(crate) fn examine<D: Device>(
         Ok(free) => free,
         Err(fault) => return Err(fault),
     };
-    match find(alloc, blocks, buffer) {
+    match find(alloc, blocks) {
         Ok(found) => Ok(found),
         Err(fault) => Err(fault),
     }

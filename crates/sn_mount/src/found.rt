@@ -1,14 +1,35 @@
 //! What a mount has found.
-use sn_core::PlainWorld;
 use sn_cp_whole::PointBase;
-use sn_log::Log;
+use sn_layout::{Geometry, RootBody, Slot};
+use sn_live::LiveTree;
+use sn_live_world::LiveWorld;
+use sn_log::{Log, Position};
+use sn_map::Map;
 use sn_room::Room;
 
-/// What a mount has found: the world, where its log goes on, the room that is left, and what is kept for the next point.
+/// What a mount has read: the newest root with its map, the live tree over the root's with the log on top of it, where
+/// the log goes on, and the room that is left.
+#[derive(Drop)]
+pub(crate) struct FoundDisk {
+    pub geometry: Geometry,
+    pub slot: Slot,
+    pub root: RootBody,
+    pub map: Map,
+    pub at: Position,
+    /// What the log changed of the root's tree, which stays on the device.
+    pub live: LiveTree,
+    pub room: Room,
+    /// Whether something is to recover: a record is logged, or a file has no name.
+    pub recovers: bool,
+}
+
+/// What a mount has made ready: the world, where its log goes on, the room that is left, and what is kept for the next
+/// point.
 #[derive(Drop)]
 pub struct Recovered {
     pub log: Log,
-    pub world: PlainWorld,
+    /// The live tree over that of the root that counts, in which nobody is logged in.
+    pub world: LiveWorld,
     pub room: Room,
     pub base: PointBase,
 }

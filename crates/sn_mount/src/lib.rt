@@ -1,24 +1,25 @@
-//! A mount of any root: what a disk is an image of, in memory, and where its log goes on.
+//! A mount of any root: what a disk is an image of, over its root on the device, and where its log goes on.
 //!
 //! The model. `sn_held` says when contents are an image of a world (`IsImage`), and when a mounted file system over a
 //! root runs and is ready for a point (`RunsReady`). [`recover`] leads from the one to the other: it syncs, checks the
-//! whole disk (`sn_check`), finds what stands on it (`sn_examine`), and drops the files that no name stands for. Where a
-//! record was replayed or a file dropped, it makes a root of that by a whole point (`sn_cp_whole`). Last it clears the
-//! first place of the half of the log that the root's epoch has.
+//! whole disk (`sn_check`), finds its newest root (`sn_examine`), tries the log over it (`sn_check_log`), and drops the
+//! files that no name stands for. Where a record was replayed or a file dropped, it makes a root of that by a whole point
+//! (`sn_cp_whole`). Last it clears the first place of the half of the log that the root's epoch has. No tree is read into
+//! memory: the world is one over the tree of the root that counts (`sn_live_world`).
 //!
 //! What the clauses say, those on bytes of each device that tells them:
 //! - `recovers`: where the disk was an image of a world without snapshots, that world runs, and from the first sync on
 //!   every crash leaves an image of it, also where the mount fails (`IsRecovered`, `KeepsTheWorld`). Superblock, the root
 //!   that counted and its map were never written, and nothing was where the disk itself is why there is no mount; that is
 //!   so for a cause (`IsCause` of `sn_check`), which is the one that a check of the image tells.
+//! - `runs`: what is found on any clean disk runs, with the frozen trees of its snapshots (`RunsWithFrozen`).
 //! - `clean`: only a disk without a fault is mounted.
-//! - Behind a mount nothing is logged, and nothing is charged.
+//! - `over`: the world belongs to the tree of the root that counts then. Behind a mount nothing has changed of that,
+//!   nothing is logged, and nothing is charged.
 //! - A mount that succeeds costs one write and two syncs, or those of a whole point and a sync.
 //!
-//! [`nameless_files`] lists the files that a mount drops, for whoever leaves a world as a mount finds it.
-//!
 //! The way through: `specs/Recovering.antt` says what a mount makes of a disk, `Settling.antt` what becomes of what was
-//! found, `Costs.antt` what it costs; `examining` checks and reads, `settling` drops the files and makes the root,
+//! found, `Costs.antt` what it costs; `examining` checks, `finding` reads, `settling` drops the files and makes the root,
 //! `recovering` puts all together.
 //!
 //! What the sources leave open is decided in `docs/DECISIONS.md`, under "Mount of a root".
@@ -30,10 +31,10 @@
 #![tactic(auto)]
 
 mod examining;
+mod finding;
 mod found;
 mod recovering;
 mod settling;
 
 pub use found::Recovered;
 pub use recovering::recover;
-pub use settling::nameless_files;

@@ -3,19 +3,19 @@ ghost use Rattle.std.specs.Prelude.{◌≡◌, ◌+◌, ◌*◌, ◌≤◌, ◌^
 ghost use Rattle.sn_device.specs.Disk.{reads};
 ghost use Rattle.sn_block.specs.Counts.{IsLater};
 ghost use Rattle.sn_block.specs.Lending.{device_of};
-ghost use Rattle.sn_core.specs.Plain.{kept_of, kept_since_of, world_of};
 ghost use Rattle.sn_cp_whole.specs.Making.{room_over};
 ghost use Rattle.sn_cp_whole.specs.Planning.{IsBaseAt, kept_in};
+ghost use Rattle.sn_desc.specs.InUse.{live_in};
 ghost use Rattle.sn_limits.specs.Versions.{version_1};
+ghost use Rattle.sn_live_world.specs.World.{HasDrops, IsOver, changes_of, descriptors_of, kept_of, kept_since_of, nameless_of, point_of, world_over};
 ghost use Rattle.sn_log.specs.Positions.{first_of};
 ghost use Rattle.sn_model.specs.Worlds.{IsWorld};
-ghost use Rattle.sn_desc.specs.InUse.{live_in};
-ghost use Rattle.sn_overlay.specs.Needs.{counts, nameless_in};
-ghost use Rattle.sn_overlay.specs.Overlays.{HasRoom, layer_of, no_changes};
+ghost use Rattle.sn_overlay.specs.Overlays.{no_changes};
+ghost use Rattle.sn_rooted.specs.Roots.{tree_on};
 ghost use Rattle.sn_examine.specs.Failing.{FailsAs};
 ghost use Rattle.sn_examine.specs.Laws.{IsSomeClean};
 ghost use Rattle.sn_mount.specs.Costs.{CostsFew, CostsMount};
-ghost use Rattle.sn_mount.specs.Recovering.{Recovers};
+ghost use Rattle.sn_mount.specs.Recovering.{Recovers, RunsWithFrozen};
 
 use crate::examining::examine;
 use crate::found::Recovered;
@@ -29,22 +29,25 @@ use sn_model::MountFault;
 use sn_room::Room;
 use std::alloc::Global;
 
-/// Syncs, checks the whole disk, reads the newest root's tree, replays the log into it, and drops the files that no name
-/// stands for. Where a record was replayed or a file dropped, a whole point makes a root of that. Last it clears the
-/// first place of the root's half of the log, where nothing is logged then. `NotFormatted`, `NoRoot`, `Version` and
-/// `Damaged` come in this order, each before anything is written, and as the check tells them.
+/// Syncs, checks the whole disk, finds the newest root with the log on top of it, and drops the files that no name stands
+/// for. Where a record was replayed or a file dropped, a whole point makes a root of that. Last it clears the first place of
+/// the root's half of the log, where nothing is logged then. `NotFormatted`, `NoRoot`, `Version` and `Damaged` come in this
+/// order, each before anything is written, and as the check tells them.
 pub fn recover<D: Device>(alloc: Global, blocks: &mut Blocks<D>) -> Result<Recovered, MountFault>
     ensures recovers { IsTrue D.tells_bytes → Recovers result (D.status (device_of blocks.old)).sectors (D.disk (device_of blocks.old)) (D.disk (device_of blocks.new)) }
     ensures clean { IsTrue D.tells_bytes → OnOk result (IsSomeClean (D.status (device_of blocks.old)).sectors (reads (D.disk (device_of blocks.old)))) }
-    ensures whole { IfOk result (λ r. IsWorld version_1 (world_of r.world)) }
+    ensures over { IsTrue D.tells_bytes → IfOk result (λ r. IsOver r.world (tree_on blocks.new r.base.root.inode_file)) }
+    ensures whole { IsTrue D.tells_bytes → IfOk result (λ r. IsWorld version_1 (world_over r.world (tree_on blocks.new r.base.root.inode_file))) }
+    ensures runs { IsTrue D.tells_bytes → IfOk result (λ r. RunsWithFrozen r (D.disk (device_of blocks.new))) }
     ensures kept { IfOk result (λ r. (number : ℕ) → kept_of r.world number ≡ false) }
     ensures since { IfOk result (λ r. (number : ℕ) → kept_since_of r.world number ≡ false) }
-    ensures few { IfOk result (λ r. r.room.dropped + nameless_in (world_of r.world).live ≤ 2 ^ 33) }
+    ensures few { IfOk result (λ r. r.room.dropped + nameless_of r.world ≤ 2 ^ 33) }
     ensures base { IfOk result (λ r. IsBaseAt r.log r.base) }
     ensures log { IfOk result (λ r. r.log ≡ first_of r.log.blocks r.base.root.epoch) }
-    ensures room { IfOk result (λ r. r.room ≡ room_over r.log.blocks (kept_in r.base)) }
-    ensures empty { IfOk result (λ r. layer_of r.base.changed ≡ no_changes) }
-    ensures drops { IfOk result (λ r. HasRoom r.base.changed (counts (live_in (world_of r.world).descriptors) 0 0)) }
+    ensures room { IfOk result (λ r. r.room ≡ room_over r.log.blocks (kept_in r.base (changes_of r.world))) }
+    ensures empty { IfOk result (λ r. changes_of r.world ≡ no_changes) }
+    ensures point { IfOk result (λ r. point_of r.world ≡ no_changes) }
+    ensures drops { IfOk result (λ r. HasDrops r.world (live_in (descriptors_of r.world))) }
     ensures within { IfOk result (λ r. 8 * r.log.blocks ≤ (D.status (device_of blocks.old)).sectors) }
     ensures sectors { (D.status (device_of blocks.new)).sectors ≡ (D.status (device_of blocks.old)).sectors }
     ensures later { IsLater (D.status (device_of blocks.old)) (D.status (device_of blocks.new)) }
@@ -52,27 +55,35 @@ pub fn recover<D: Device>(alloc: Global, blocks: &mut Blocks<D>) -> Result<Recov
     ensures failed { FailsAs result (D.status (device_of blocks.old)) (D.status (device_of blocks.new)) }
     ensures costs { CostsFew (D.status (device_of blocks.old)) (D.status (device_of blocks.new)) }
 {
-    let Ok(mut buffer) = Buffer::new(alloc) else {
+    let Ok(buffer) = Buffer::new(alloc) else {
         return Err(MountFault::Memory);
     };
     let Ok(()) = blocks.sync() else {
         return Err(MountFault::Device);
     };
-    let found = match examine(alloc, blocks, &mut buffer) {
+    let found = match examine(alloc, blocks) {
         Ok(found) => found,
         Err(fault) => return Err(fault),
     };
     let geometry = found.geometry;
     let recovers = found.recovers;
-    let Ok(Settled { world, base }) = settle(alloc, found) else {
+    let Ok(
+        Settled {
+            mut world,
+            base,
+            since,
+        },
+    ) = settle(alloc, found)
+    else {
         return Err(MountFault::Memory);
     };
-    // It bounds the files without names.
-    let _nameless = world.nameless();
-    let base = match make_root(alloc, blocks, geometry, base, recovers) {
+    let base = match make_root(alloc, blocks, geometry, base, world.changes(), recovers) {
         Ok(base) => base,
         Err(fault) => return Err(fault),
     };
+    world.replace_root(alloc, since);
+    // It bounds the files without names.
+    let _nameless = world.nameless();
     let at = Position::first(geometry, base.root.epoch);
     let room = Room::fresh(base.map.count_free_from(geometry.start(Area::Data)));
     match clear(blocks, geometry, LogHalf::of_epoch(base.root.epoch), 0) {

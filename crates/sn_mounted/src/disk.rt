@@ -27,7 +27,8 @@ enum State {
 }
 
 impl Disk {
-    fn of_device(alloc: Global, device: MemDevice) -> Disk {
+    /// A disk that is this device, with the faults that are planned of it.
+    pub fn of_device(alloc: Global, device: MemDevice) -> Disk {
         Disk {
             alloc,
             state: State::Unmounted(device),

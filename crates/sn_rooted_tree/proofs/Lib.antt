@@ -3,3 +3,4 @@ pub mod ListedLemmas
 pub mod LookLemmas
 pub mod NamelessLemmas
 pub mod SeenLemmas
+pub mod NumberingLemmas

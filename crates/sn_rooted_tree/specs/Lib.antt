@@ -2,3 +2,4 @@ pub mod Looks
 pub mod Counting
 pub mod LookLaws
 pub mod Nodes
+pub mod Numbering

@@ -1,5 +1,5 @@
-//! The live tree of a root on a device, as what lies below an overlay, the table of its directories, and how many
-//! of its files have no name.
+//! The live tree of a root on a device, as what lies below an overlay, the tables of its directories and of its numbers,
+//! and which of its files have no name.
 //!
 //! The model is that of `sn_rooted`: the tree that the root denotes. Over a device that tells its bytes, and where
 //! the root is sound there, each look-up answers what that tree says. Nothing is kept of the tree: a look-up reads
@@ -15,9 +15,10 @@
 //! 3. [`RootedTree`], which is a `Below` of `sn_overlay`, and keeps names for `sn_directories`; `listing` lists those of a
 //!    directory for `sn_live_files`.
 //! 4. [`directories_of`] counts the names of each directory once, and notes which directory each is in.
-//! 5. [`nameless_of`] counts the files that have no name.
+//! 5. [`numbers_of`] notes which numbers have a node, and which of these are files that have no name. [`nameless_of`] counts
+//!    these files alone.
 //!
-//! Both counts go over as many numbers as the inode file has records.
+//! All three go over as many numbers as the inode file has records.
 //!
 //! What the sources leave open is decided in `docs/DECISIONS.md`, under "Reading a root on demand".
 //!
@@ -31,9 +32,11 @@
 mod listing;
 mod loading;
 mod nameless;
+mod numbers;
 mod rooted;
 mod seeing;
 
 pub use loading::directories_of;
 pub use nameless::nameless_of;
+pub use numbers::{RootNumbers, numbers_of};
 pub use rooted::RootedTree;

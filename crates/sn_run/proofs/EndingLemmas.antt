@@ -31,7 +31,8 @@ use Rattle.sn_events.specs.Answers.{HasMadePoint, IsCutAtPoint, MayMeet}
 use Rattle.sn_events.specs.Pointing.{FinishesSo, IsUnpointed, errno_of_point}
 use Rattle.sn_events.proofs.FinishLemmas.{IsFin, is_fin, one_finish}
 use Rattle.sn_events.specs.Unmounting.{HasUnmounted, IsRefusedFor, IsRefusedTo, IsUnmountedTo}
-use Rattle.sn_events.proofs.PointLemmas.{fails_read, made_point, settled_all}
+use Rattle.sn_events.proofs.PointLemmas.{made_point, settled_all}
+use Rattle.sn_events.proofs.ReadLemmas.{fails_read}
 use Rattle.sn_run.specs.Ending.{EndsSo, IsEnded, end_for}
 
 done_is_refused : (errno : Errno) → refused errno ≡ answer.Done → ⊥

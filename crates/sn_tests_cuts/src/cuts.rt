@@ -29,6 +29,9 @@ const MOST_BLOCKS: u64 = 18 * 6;
 /// More calls than a list or a mount makes of its device.
 const MOST_CALLS: u32 = 1_000;
 
+/// Of a mount: a sync, the write that clears the first place of the log, and a sync of that.
+const LEAST_CALLS: u32 = 3;
+
 /// The crashes behind each number of writes: the fills of one kind, and those that tear sectors.
 const FILLED: u32 = 2;
 
@@ -73,7 +76,7 @@ fn run_on(report: &mut Report<'_>, image: &[u8]) -> Result<()> {
     report.add("calls cut short", tally)?;
     let tally = lists(report, image, FILLS, FILLS + TORN)?;
     report.add("calls cut short that tear sectors", tally)?;
-    let tally = failures(report, image)?;
+    let tally = failures(report, image, writes)?;
     report.add("calls of which one of the device fails", tally)?;
     run_mounts(report, image, writes)
 }
@@ -322,13 +325,29 @@ fn crash_for(number: u32) -> u32 {
     }
 }
 
-/// The list with each call of the device failing in turn.
-fn failures(report: &Report<'_>, image: &[u8]) -> Result<Tally> {
+/// Counts the end of the calls of the device that were let fail in turn, behind so many, and what went wrong on the way. How
+/// many reads there are isn't promised, so that the end is one case: it is right where it doesn't come before the writes' own.
+fn count_failure(
+    report: &Report<'_>,
+    tally: &mut Tally,
+    outcome: Outcome,
+    number: u32,
+    writes: u32,
+) -> Result<()> {
+    let is_enough = outcome.was_cut || number >= writes;
+    if !outcome.was_cut || !outcome.is_right {
+        tally.check(report.runtime(), outcome.is_right && is_enough, &[number])?;
+    }
+    Ok(())
+}
+
+/// The list with each call of the device failing in turn, which are more than these writes.
+fn failures(report: &Report<'_>, image: &[u8], writes: u32) -> Result<Tally> {
     let mut tally = Tally::new();
     for number in 0..MOST_CALLS {
         let cut = Cut::Failure(number);
         let outcome = list_behind(report.alloc(), image, cut, crash_for(number))?;
-        tally.check(report.runtime(), outcome.is_right, &[number])?;
+        count_failure(report, &mut tally, outcome, number, writes)?;
         if !outcome.was_cut {
             return Ok(tally);
         }
@@ -403,7 +422,7 @@ fn failed_mounts(
     for again in 0..MOST_CALLS {
         let cut = Cut::Failure(again);
         let outcome = mount_between(report.alloc(), left, cut, crash_for(again), wanted)?;
-        tally.check(report.runtime(), outcome.is_right, &[again])?;
+        count_failure(report, tally, outcome, again, LEAST_CALLS)?;
         if !outcome.was_cut {
             return Ok(());
         }

@@ -2,12 +2,12 @@
 
 use crate::checking::checked;
 use crate::formatting::formatted;
-use crate::mounting::recovered;
 use anyhow::{Result, bail, ensure};
 use sn_block::Blocks;
 use sn_device::MemDevice;
 use sn_mkfs::{MkfsFault, Unformatted, mkfs};
 use sn_model::MountFault;
+use sn_mounted::Disk;
 use sn_table::{Report, Tally};
 use std::alloc::{AllocError, Global};
 
@@ -61,11 +61,20 @@ fn formats(report: &Report<'_>) -> Result<Tally> {
 
 /// Why a task isn't done, if it isn't.
 fn perform(alloc: Global, device: MemDevice, task: Task) -> Result<Option<MountFault>> {
+    match task {
+        Task::Mount => mount_once(alloc, device),
+        Task::Check => check_once(alloc, device),
+    }
+}
+
+fn mount_once(alloc: Global, device: MemDevice) -> Result<Option<MountFault>> {
+    let mut disk = Disk::of_device(alloc, device);
+    disk.mount()
+}
+
+fn check_once(alloc: Global, device: MemDevice) -> Result<Option<MountFault>> {
     let mut blocks = Blocks::new(alloc, device).map_err(AllocError::from)?;
-    Ok(match task {
-        Task::Mount => recovered(alloc, &mut blocks).err(),
-        Task::Check => checked(alloc, &mut blocks).err(),
-    })
+    Ok(checked(alloc, &mut blocks).err())
 }
 
 /// The same of a formatted device whose next calls are counted up to one that fails.

@@ -1,69 +1,27 @@
 //! What a mount finds.
-ghost use Rattle.sn_core.specs.Plain.{world_of};
-ghost use Rattle.sn_limits.specs.Versions.{version_1};
-ghost use Rattle.sn_model.specs.Worlds.{IsWorld};
 
 use crate::formatting::{formatted, number, sector};
 use anyhow::{Context, Result, bail, ensure};
-use sn_block::Blocks;
-use sn_core::PlainWorld;
 use sn_device::{Device, MemDevice};
-use sn_model::{Event, MountFault, Reply};
-use sn_mount::recover;
-use sn_replies::print_replies;
-use sn_script::read_script;
+use sn_mounted::Disk;
 use sn_table::Case;
-use std::alloc::{AllocError, Global};
-use std::marker::Model;
-use std::{slice, str};
+use std::alloc::Global;
 
 /// What is asked of a world that was found.
-const QUESTIONS: &[u8] =
-    b"0 login 0 0 -\n0 stat /\n0 readdir /\n0 stat /f\n0 open /f r\n0 read 0 64\n";
-
-/// A world that a mount found.
-#[derive(Drop)]
-pub struct FoundWorld {
-    world: PlainWorld,
-}
-
-impl Model for FoundWorld {
-    ghost Value = { Unit {0} };
-
-    ghost view = { λ found. tt };
-
-    ghost invariant = { λ found. IsWorld version_1 (world_of found.world) };
-}
-
-impl FoundWorld {
-    fn answer(&mut self, alloc: Global, event: &Event) -> Reply {
-        self.world.answer(alloc, event)
-    }
-}
+const QUESTIONS: &str =
+    "0 login 0 0 -\n0 stat /\n0 readdir /\n0 stat /f\n0 open /f r\n0 read 0 64\n";
 
 /// A disk of BLOCKS blocks is formatted, runs AT:HEX are written over it, and it is mounted: the replies of the world,
 /// or the fault.
 pub fn found(alloc: Global, case: Case<'_>) -> Result<String> {
-    let device = changed(alloc, case)?;
-    match mounted(alloc, device)? {
-        Ok(mut world) => told(alloc, &mut world),
-        Err(fault) => Ok(format!(in alloc; "{fault}")?),
-    }
+    let mut disk = Disk::of_device(alloc, changed(alloc, case)?);
+    told_by(alloc, &mut disk)
 }
 
-/// Mounts a device.
-fn mounted(alloc: Global, device: MemDevice) -> Result<Result<FoundWorld, MountFault>> {
-    let mut blocks = Blocks::new(alloc, device).map_err(AllocError::from)?;
-    Ok(recovered(alloc, &mut blocks))
-}
-
-/// The world that a mount finds, or why there is none: of it nothing is promised, since it is compared.
-pub fn recovered(alloc: Global, blocks: &mut Blocks<MemDevice>) -> Result<FoundWorld, MountFault> {
-    match recover(alloc, blocks) {
-        Ok(recovered) => Ok(FoundWorld {
-            world: recovered.world,
-        }),
-        Err(fault) => Err(fault),
+fn told_by(alloc: Global, disk: &mut Disk) -> Result<String> {
+    match disk.mount()? {
+        None => told(alloc, disk),
+        Some(fault) => Ok(format!(in alloc; "{fault}")?),
     }
 }
 
@@ -106,24 +64,18 @@ fn put(device: &mut MemDevice, at: u32, run: &[u8]) -> Result<()> {
 }
 
 /// The lines of the replies, one behind the other.
-fn told(alloc: Global, world: &mut FoundWorld) -> Result<String> {
-    let questions = read_script(alloc, QUESTIONS)?;
-    told_of(alloc, world, questions.as_slice())
-}
-
-fn told_of(alloc: Global, world: &mut FoundWorld, questions: &[Event]) -> Result<String> {
+fn told(alloc: Global, disk: &mut Disk) -> Result<String> {
     let mut text = String::new(alloc);
-    for question in questions {
-        if !text.is_empty() {
-            text.push_str("; ")?;
-        }
-        let reply = world.answer(alloc, question);
-        push_line(alloc, &reply, &mut text)?;
+    for question in QUESTIONS.lines() {
+        push_told(disk, question, &mut text)?;
     }
     Ok(text)
 }
 
-fn push_line(alloc: Global, reply: &Reply, text: &mut String) -> Result<()> {
-    let line = print_replies(alloc, slice::from_ref(reply))?;
-    Ok(text.push_str(str::from_utf8(line.as_slice())?.trim_end())?)
+fn push_told(disk: &mut Disk, question: &str, text: &mut String) -> Result<()> {
+    if !text.is_empty() {
+        text.push_str("; ")?;
+    }
+    let line = disk.ask(question)?;
+    Ok(text.push_str(line.as_str().trim_end())?)
 }

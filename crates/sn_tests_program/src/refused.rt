@@ -1,10 +1,14 @@
 //! A run with each call of the device refused in turn.
+//!
+//! How many reads a run makes isn't promised. So the refused calls of a run are one case, which is right where each of them is
+//! told as it may be, and where there are as many of them as the run has writes and syncs.
 
-use crate::events::events_of;
-use anyhow::{Result, bail};
+use crate::events::{events_of, ran};
+use anyhow::{Result, bail, ensure};
+use sn_device::{Device, MemDevice};
 use sn_model::{Call, End, Errno, Event, MountFault, Progress, Reply};
 use sn_mounted::new_device;
-use sn_run::{Ran, Unwatched};
+use sn_run::Ran;
 use sn_table::{Report, Tally};
 use std::alloc::Global;
 
@@ -16,18 +20,28 @@ const EVENTS: &str =
 /// No run of these events makes as many calls of its device.
 const MOST_CALLS: u64 = 1_000;
 
+/// What is known of a directory that was asked for.
+#[derive(Clone, Copy, PartialEq, Eq)]
+enum Made {
+    There,
+    /// It was refused, and nothing has stopped.
+    Absent,
+    /// It was refused, and it isn't known whether that has stopped the mount.
+    Either,
+}
+
 /// What a run with one refused call may still answer.
 #[derive(Drop)]
 struct Course {
     /// The refused call has been told.
     is_told: bool,
     has_stopped: bool,
-    /// A root has told it: if it was a read, nothing has stopped, as the next reply tells.
+    /// A root or a directory has told it: if it was a read, nothing has stopped, as the next reply tells.
     may_have_stopped: bool,
     /// The session is open: a restart ends it that isn't refused.
     is_open: bool,
-    /// Whether each directory was answered, in the order in which they are made.
-    made: Vec<bool>,
+    /// What is known of each directory, in the order in which they are made.
+    made: Vec<Made>,
     /// How many were asked for in the end, in the same order.
     asked: usize,
 }
@@ -51,17 +65,22 @@ impl Course {
         }
     }
 
-    /// A root that is refused tells the refused call.
-    fn makes_no_root(&mut self, reply: &Reply) -> bool {
+    /// What is refused tells the refused call.
+    fn tells(&mut self, reply: &Reply) -> bool {
         let is_first = !self.is_told;
         self.is_told = true;
-        self.may_have_stopped = true;
         is_first && is_refused(reply, Errno::Eio)
+    }
+
+    /// A root or a directory that is refused tells the refused call.
+    fn makes_none(&mut self, reply: &Reply) -> bool {
+        self.may_have_stopped = true;
+        self.tells(reply)
     }
 
     /// A `sync` is done, and a step isn't the last, or it is refused.
     fn steps(&mut self, reply: &Reply) -> bool {
-        matches!(reply, Reply::Done | Reply::Progress(Progress::More)) || self.makes_no_root(reply)
+        matches!(reply, Reply::Done | Reply::Progress(Progress::More)) || self.makes_none(reply)
     }
 
     /// A session is opened, unless it is open still.
@@ -76,7 +95,7 @@ impl Course {
     /// A restart mounts, or tells the refused call: its unmount is refused, or it stops.
     fn restarts(&mut self, reply: &Reply) -> bool {
         if let Reply::Refused(_) = reply {
-            return self.makes_no_root(reply);
+            return self.makes_none(reply);
         }
         self.may_have_stopped = false;
         self.is_open = false;
@@ -90,24 +109,38 @@ impl Course {
         is_first && matches!(reply, Reply::Unmounted(MountFault::Device))
     }
 
-    /// A directory is made, or tells the refused call and stops.
+    /// A directory is made, or tells the refused call.
     fn makes(&mut self, reply: &Reply) -> Result<bool> {
-        let is_made = matches!(reply, Reply::Done);
-        self.made.push(is_made)?;
-        if is_made {
+        if let Reply::Done = reply {
+            self.made.push(Made::There)?;
             return Ok(true);
         }
-        let is_first = !self.is_told;
-        self.is_told = true;
-        self.has_stopped = true;
-        Ok(is_first && is_refused(reply, Errno::Eio))
+        self.made.push(Made::Either)?;
+        Ok(self.makes_none(reply))
     }
 
-    /// A directory that was answered is there, and one that wasn't may be.
+    /// A directory that was answered is there, and one that was refused isn't, unless that may have stopped the mount. To ask
+    /// for it writes nothing, so that a refused call that it tells has stopped nothing.
     fn finds(&mut self, reply: &Reply) -> bool {
-        let was_made = self.made.get(self.asked).copied().unwrap_or(false);
+        let made = self.made.get(self.asked).copied().unwrap_or(Made::Absent);
         self.asked = self.asked.saturating_add(1);
-        matches!(reply, Reply::Status(_)) || (!was_made && is_refused(reply, Errno::Enoent))
+        match reply {
+            Reply::Status(_) => made != Made::Absent,
+            _ if is_refused(reply, Errno::Enoent) => made != Made::There,
+            _ => self.tells(reply),
+        }
+    }
+
+    /// Behind what may have stopped the mount the next reply tells whether it has. Where it goes on, nothing was made.
+    fn goes_on(&mut self, reply: &Reply) {
+        self.may_have_stopped = false;
+        self.has_stopped = is_refused(reply, Errno::Estopped);
+        if !self.has_stopped
+            && let Some(last) = self.made.last_mut()
+            && *last == Made::Either
+        {
+            *last = Made::Absent;
+        }
     }
 
     fn allows(&mut self, event: &Event, reply: &Reply) -> Result<bool> {
@@ -115,8 +148,7 @@ impl Course {
             return Ok(self.restarts(reply));
         }
         if self.may_have_stopped {
-            self.may_have_stopped = false;
-            self.has_stopped = is_refused(reply, Errno::Estopped);
+            self.goes_on(reply);
         }
         if self.has_stopped {
             return Ok(is_refused(reply, Errno::Estopped));
@@ -190,24 +222,44 @@ fn told_by(alloc: Global, events: &[Event], replies: &[Reply], end: End) -> Resu
     Ok(course.ends(end))
 }
 
+/// How many writes and syncs a device has made.
+fn written(device: &MemDevice) -> u64 {
+    let status = device.status();
+    status.writes.saturating_add(status.syncs)
+}
+
+/// What a run of the events tells of a refused call, the one of this number, and how many writes and syncs it made.
+fn refused_at(alloc: Global, events: &[Event], call: u64) -> Result<(Told, u64)> {
+    ensure!(call > 0, "calls are counted from 1");
+    let mut device = new_device(alloc)?;
+    device.fail_at(call);
+    let Ran {
+        replies,
+        end,
+        device,
+    } = ran(alloc, device, events);
+    let told = told_by(alloc, events, replies.as_slice(), end)?;
+    Ok((told, written(&device)))
+}
+
 /// Runs the events with one call of the device refused after the other, until no call is left.
 pub fn run(report: &mut Report<'_>) -> Result<()> {
-    let alloc = report.alloc();
-    let events = events_of(alloc, EVENTS)?;
+    let events = events_of(report.alloc(), EVENTS)?;
+    let tally = refused(report, events.as_slice())?;
+    report.add("refused calls of the device", tally)
+}
+
+fn refused(report: &Report<'_>, events: &[Event]) -> Result<Tally> {
     let mut tally = Tally::new();
     for call in 1..MOST_CALLS {
-        let mut device = new_device(alloc)?;
-        device.fail_at(call);
-        let Ran { replies, end, .. } = sn_run::run(
-            alloc,
-            device,
-            events.as_slice(),
-            &mut Unwatched,
-        );
-        match told_by(alloc, events.as_slice(), replies.as_slice(), end)? {
-            Told::Nothing => return report.add("refused calls of the device", tally),
-            Told::OneCall => tally.count(true),
-            Told::Wrong => tally.count(false),
+        let case = [call as u32];
+        match refused_at(report.alloc(), events, call)? {
+            (Told::Nothing, writes) => {
+                tally.check(report.runtime(), call > writes, &case)?;
+                return Ok(tally);
+            }
+            (Told::OneCall, _) => {}
+            (Told::Wrong, _) => tally.check(report.runtime(), false, &case)?,
         }
     }
     bail!("there is no end of calls")

@@ -1,12 +1,10 @@
-use Rattle.std.proofs.Common.{◌≡◌, ◌⊎◌, ℕ, ◌<◌, Err, sym, subst, ◌∙◌}
+use Rattle.std.proofs.Common.{◌⊎◌, ℕ, ◌<◌, sym, subst, ◌∙◌}
 use Rattle.sn_block.specs.Lending.{device_of}
 use Rattle.sn_device.specs.Disk.{Disk, reads}
 use Rattle.sn_ondisk.specs.Trees.{store_of}
 use Rattle.sn_image.specs.Image.{image}
-use Rattle.sn_overlay.specs.Layers.{through}
-use Rattle.sn_overlay.specs.Needs.{nameless_in}
-use Rattle.sn_overlay.specs.Overlays.{layer_of}
-use Rattle.sn_examine.specs.Both.{HasBoth, ReplaysBoth}
+use Rattle.sn_examine.specs.Both.{BothBreak, HasBoth}
+use Rattle.sn_check_log.specs.Trying.{tree_of}
 use Rattle.sn_check.proofs.LogLemmas.{both_tells, has_logged}
 use Rattle.sn_check.proofs.logging.replay_log.Goals as goal
 
@@ -16,18 +14,18 @@ returns-in-Err-try_both-clause-fault g c told free =
     let disk = reads (g.D.Device.disk (device_of c.args.blocks.now)) in
     let f = c.in-Err-try_both.fault in
     let same = c.count_nameless.ensures.same told in
-    let is = subst (λ (d : Disk). ReplaysBoth (Err f) (reads d) (image (store_of (reads d)) root.inode_file) c.args.geometry root.epoch (image (store_of (reads d)) root.inode_file)) same (c.in-Err-try_both.ensures.replayed told) in
-    both_tells f c.args.geometry disk root (image (store_of disk) root.inode_file) free c.requires.fits is
+    let is = subst (λ (d : Disk). BothBreak f (reads d) (image (store_of (reads d)) root.inode_file) c.args.geometry root.epoch) same (c.in-Err-try_both.ensures.replayed told) in
+    both_tells f c.args.geometry disk root free c.requires.fits is
 
 pub returns-clause-logged : goal.returns-clause-logged
 returns-clause-logged g c told =
     let root = c.args.root.now in
     let disk = reads (g.D.Device.disk (device_of c.args.blocks.now)) in
-    let r = c.in-Ok-try_both.replayed in
+    let r = c.in-Ok-try_both.tried in
     let dropped = c.in-Ok.dropped in
     let same = c.count_nameless.ensures.same told in
-    let tree = through (layer_of r.changed) (image (store_of disk) root.inode_file) in
-    let both = subst (λ (d : Disk). HasBoth (reads d) (image (store_of (reads d)) root.inode_file) c.args.geometry root.epoch r.at (through (layer_of r.changed) (image (store_of (reads d)) root.inode_file)) r.charges) same (c.in-Ok-try_both.ensures.replayed told) in
+    let tree = tree_of r.live (image (store_of disk) root.inode_file) in
+    let both = subst (λ (d : Disk). HasBoth (reads d) (image (store_of (reads d)) root.inode_file) c.args.geometry root.epoch r.at (tree_of r.live (image (store_of (reads d)) root.inode_file)) r.charges) same (c.in-Ok-try_both.ensures.replayed told) in
     let nameless = c.in-Ok.ensures.count told in
     has_logged c.args.geometry disk root r.at tree r.charges dropped c.is_to_recover-recovers.result c.requires.fits both nameless
     (λ e. subst (λ (n : ℕ). (0 < n) ⊎ (0 < dropped)) c.count.ensures (c.is_to_recover-recovers.ensures.some e))

@@ -1,21 +1,25 @@
-use Rattle.std.proofs.Common.{rules, ◌≡◌, ℕ, ◌+◌, ◌-◌, ◌<◌, ◌≤◌, Bool, true, false, if◌then◌else◌, refl, sym, ap, subst, arith}
-use Rattle.sn_device.specs.Disk.{reads}
+use Rattle.std.proofs.Common.{rules, ◌≡◌, IsTrue, ℕ, ◌+◌, ◌-◌, ◌<◌, ◌≤◌, Bool, true, false, if◌then◌else◌, refl, sym, ap, subst, arith}
+use Rattle.sn_device.specs.Disk.{Disk, reads}
+use Rattle.sn_image.specs.Image.{image}
+use Rattle.sn_ondisk.specs.Trees.{store_of}
 use Rattle.sn_block.specs.Lending.{device_of}
 use Rattle.sn_log.specs.Positions.{LogPosition}
-use Rattle.sn_overlay.specs.Layers.{through}
-use Rattle.sn_overlay.specs.Overlays.{layer_of}
 use Rattle.sn_rooted.specs.Roots.{tree_on}
-use Rattle.sn_examine.specs.Replaying.{HasReplayed}
+use Rattle.sn_examine.specs.Replaying.{HasReplayed, LeadsOn}
 use Rattle.sn_examine.proofs.ReplayLemmas.{starts}
+use Rattle.sn_check_log.specs.Trying.{changes_if, tree_of}
 use Rattle.sn_check_log.proofs.replaying.try_epoch.Goals as goal
 
 pub loop-more-init : goal.loop-more-init
 loop-more-init g c =
     let first = c.new-replay.ensures in
-    let from = through (layer_of c.args.changed) (tree_on c.args.blocks.now c.args.it.now.root.now.inode_file) in
+    let from = tree_of c.args.live (tree_on c.args.blocks.now c.args.it.now.root.now.inode_file) in
     record {
       replayed = λ told. subst (λ (p : LogPosition). HasReplayed (reads (g.D.Device.disk (device_of c.args.blocks.now))) from p from 0) (sym first) (starts (reads (g.D.Device.disk (device_of c.args.blocks.now))) from c.args.it.now.geometry c.args.epoch);
-      seen = c.requires.seen;
+      changed = λ told root before has. has;
+      tried = c.requires.tried;
+      point = c.requires.point;
+      keeps = c.requires.keeps;
       few = omega arith;
       blocks = ap (λ (p : LogPosition). p.blocks) first;
       epoch = ap (λ (p : LogPosition). p.epoch) first;
@@ -26,13 +30,22 @@ loop-more-init g c =
 pub loop-more-preserved : goal.loop-more-preserved
 loop-more-preserved g c = record {
   replayed = search rules;
-  seen = search rules;
+  changed = λ told root before has. step told root before (c.loop-more.invariant.changed told root before has);
+  tried = search rules;
+  point = search rules;
+  keeps = search rules;
   few = search rules;
   blocks = search rules;
   epoch = search rules;
   same = search rules;
   status = search rules;
 }
+  where
+    step : IsTrue g.D.Device.tells_bytes → LeadsOn (changes_if c.loop-more.live) (tree_of c.loop-more.live (tree_on c.args.blocks.now c.args.it.now.root.now.inode_file)) c.loop-more.charges
+        (changes_if c.try_next.new.live) (tree_of c.try_next.new.live (tree_on c.args.blocks.now c.args.it.now.root.now.inode_file)) c.try_next.new.charges
+    step told =
+        subst (λ (d : Disk). LeadsOn (changes_if c.loop-more.live) (tree_of c.loop-more.live (image (store_of (reads d)) c.args.it.now.root.now.inode_file)) c.loop-more.charges (changes_if c.try_next.new.live) (tree_of c.try_next.new.live (image (store_of (reads d)) c.args.it.now.root.now.inode_file)) c.try_next.new.charges)
+        (c.loop-more.invariant.same told) (c.in_ok-more.ensures.changed told)
 
 smaller : (old new : ℕ) (more : Bool) → old ≤ 255 → old ≤ new → (more ≡ true → old < new) → 256 - new + (if more then 1 else 0) < 256 - old + 1
 smaller old new true within onward further = let h = further refl in omega (arith, within, h)

@@ -7,7 +7,8 @@ use Rattle.sn_held.specs.Held.{Held, RunsReady}
 use Rattle.sn_held.proofs.EventLemmas.{ready_with}
 use Rattle.sn_log.specs.Positions.{LogPosition}
 use Rattle.sn_device.specs.Disk.{Disk}
-use Rattle.sn_overlay.specs.Overlays.{layer_of}
+use Rattle.sn_overlay.specs.Layers.{Layer}
+use Rattle.sn_overlay.specs.Overlays.{layer_of, no_changes}
 use Rattle.sn_cp_whole.specs.declared.base.PointBase.{PointBase}
 use Rattle.sn_cp_whole.specs.declared.going.Begun.{Begun}
 use Rattle.sn_model.specs.Settling.{settle}
@@ -20,7 +21,7 @@ use Rattle.sn_cp_whole.proofs.making.make_point.Goals as goal
 
 -- what is held once it has begun
 abbrev after_begin : Held → LogPosition → RoomCounts → PointBase → Begun → Disk → Held
-after_begin h at room base begins disk = record h { at = at; room = begun room; base = record (kept_in base) { changed = layer_of begins.since }; disk = disk }
+after_begin h at room base begins disk = record h { at = at; room = begun room; base = kept_in base (layer_of begins.since); disk = disk }
 
 pub returns-in-Err-clause-point : goal.returns-in-Err-clause-point
 returns-in-Err-clause-point g c told h world rr =
@@ -51,8 +52,9 @@ returns-clause-point g c told h world rr =
     let rest = c.in-Ok-finish.ensures.finishes told (after_begin h c.begin_point.new.log c.args.room.now c.args.base.now c.in-Ok.begun (g.D.Device.disk (device_of c.begin_point.new.blocks))) world world.live begins.1 in
     let room = c.end_point.ensures.counts ∙ ap (done c.in-Ok.begun.going.free) c.begin_point-2.ensures in (
       LeavesOnly-join (g.D.Device.disk (device_of c.args.blocks.now)) (g.D.Device.disk (device_of c.begin_point.new.blocks)) (g.D.Device.disk (device_of c.finish.new.blocks)) (λ c. IsImage c (settle world)) begins.0 rest.0,
-      subst (λ (r : RoomCounts). RunsReady (with_parts h c.begin_point.new.log r (g.D.Device.disk (device_of c.finish.new.blocks))) world (record (kept_in c.finish.new.base) { changed = layer_of c.in-Ok.begun.since })) (sym room)
-          (ready_with _ world _ h.kept h.kept_since h.base h.point h.status rest.1),
+      subst (λ (r : RoomCounts). RunsReady (with_parts h c.begin_point.new.log r (g.D.Device.disk (device_of c.finish.new.blocks))) world (kept_in c.finish.new.base no_changes)) (sym room)
+          (subst (λ (l : Layer). RunsReady (with_parts h c.begin_point.new.log (done c.in-Ok.begun.going.free (begun c.args.room.now)) (g.D.Device.disk (device_of c.finish.new.blocks))) world (kept_in c.finish.new.base l)) c.in-Ok.ensures.empty
+          (ready_with _ world _ h.kept h.kept_since h.base h.point h.status rest.1)),
     )
 
 pub returns-clause-touched : goal.returns-clause-touched
@@ -63,4 +65,4 @@ returns-clause-touched g c told =
 pub returns-clause-costs : goal.returns-clause-costs
 returns-clause-costs g c =
     let going = c.in-Ok.ensures.going in
-    finished_costs _ _ (work_of c.in-Ok.begun.going.point) (stage_of c.in-Ok.begun.going.point) going.blocks going.first going.few _ _ _ c.in-Ok.ensures.costs.done _ c.in-Ok-finish.ensures.counts c.in-Ok-finish.ensures.counts.done
+    finished_costs _ _ (work_of c.in-Ok.begun.going.point) (stage_of c.in-Ok.begun.going.point) going.blocks going.first going.few _ _ _ c.in-Ok.ensures.costs.done _ c.in-Ok-finish.ensures.counts _ c.in-Ok-finish.ensures.counts.done

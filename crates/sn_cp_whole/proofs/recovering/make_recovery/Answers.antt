@@ -8,7 +8,7 @@ use Rattle.sn_cp_held.specs.Builds.{CanBeBuilt, plan_of, work_for}
 use Rattle.sn_device.specs.Disk.{Disk, IsSynced, reads}
 use Rattle.sn_device.proofs.CrashLemmas.{Always-synced}
 use Rattle.sn_ondisk.specs.Trees.{store_of}
-use Rattle.sn_overlay.specs.Overlays.{layer_of}
+use Rattle.sn_overlay.specs.Overlays.{layer_of, no_changes}
 use Rattle.sn_root.specs.Slots.{gate_in}
 use Rattle.sn_cp_whole.specs.Planning.{kept_in}
 use Rattle.sn_cp_whole.specs.declared.fault.PointFault.TheVariants as fault
@@ -19,7 +19,7 @@ use Rattle.sn_cp_whole.proofs.recovering.make_recovery.Goals as goal
 pub returns-in-Err-clause-recovery : goal.returns-in-Err-clause-recovery
 returns-in-Err-clause-recovery g c told world im in_n r =
     nothing_recovered _ world im _ r c.plan.result c.in-Err.fault _ _ c.in-Err.is (c.in-Err.ensures.same told)
-    (λ e can. c.plan.ensures.damaged told e (subst (λ (n : ℕ). CanBeBuilt n (store_of (reads (g.D.Device.disk (device_of c.args.blocks.now)))) (kept_in c.args.base.now)) in_n can))
+    (λ e can. c.plan.ensures.damaged told e (subst (λ (n : ℕ). CanBeBuilt n (store_of (reads (g.D.Device.disk (device_of c.args.blocks.now)))) (kept_in c.args.base.now (layer_of c.args.changed.now))) in_n can))
 
 pub returns-in-Err-clause-damaged : goal.returns-in-Err-clause-damaged
 returns-in-Err-clause-damaged g c told e can =
@@ -42,7 +42,7 @@ finish-requires-clause-whole g c =
     let base = c.args.base.now in
     let p = c.in-Ok.planned in
     subst (λ (w : Work). IsWhole w) (sym c.new-point.ensures.work)
-    (whole_work c.args.geometry base.root.limits base.map (layer_of base.changed) p.built p.next c.other-slot.result p.gate c.blocks-blocks.ensures.valid c.requires.words c.in-Ok.ensures.well c.in-Ok.ensures.spelled c.in-Ok.ensures.next.body)
+    (whole_work c.args.geometry base.root.limits base.map (layer_of c.args.changed.now) p.built p.next c.other-slot.result p.gate c.blocks-blocks.ensures.valid c.requires.words c.in-Ok.ensures.well c.in-Ok.ensures.spelled c.in-Ok.ensures.next.body)
 
 pub finish-requires-clause-stands : goal.finish-requires-clause-stands
 finish-requires-clause-stands g c told =
@@ -56,8 +56,8 @@ pub returns-in_default-clause-recovery : goal.returns-in_default-clause-recovery
 returns-in_default-clause-recovery g c told world im in_n r =
     let base = c.args.base.now in
     let p = c.in-Ok.planned in
-    let well = subst (λ (n : ℕ). IsWellBuilt n base.root.limits base.map (layer_of base.changed) NoEdit p.built) (sym in_n) c.in-Ok.ensures.well in
-    let builds = subst (λ (n : ℕ). Builds n base.root.limits (store_of (reads (g.D.Device.disk (device_of c.args.blocks.now)))) base.root.inode_file base.map (layer_of base.changed) p.built) (sym in_n) (c.in-Ok.ensures.builds told) in
+    let well = subst (λ (n : ℕ). IsWellBuilt n base.root.limits base.map (layer_of c.args.changed.now) NoEdit p.built) (sym in_n) c.in-Ok.ensures.well in
+    let builds = subst (λ (n : ℕ). Builds n base.root.limits (store_of (reads (g.D.Device.disk (device_of c.args.blocks.now)))) base.root.inode_file base.map (layer_of c.args.changed.now) p.built) (sym in_n) (c.in-Ok.ensures.builds told) in
     leaves_image _ world im _ r p.built p.next p.gate well builds c.in-Ok.ensures.spelled c.in-Ok.ensures.next _ _ (c.in-Ok.ensures.same told) (g.met.D.Device.whole (device_of c.finish.new.blocks) told) _ _
     (c.new-point.ensures.work ∙ (λ i. record { blocks = sym in_n i; slot = c.other-slot.ensures i; gate = p.gate; plan = plan_of p.built p.next })) (c.in_default.ensures.bytes told)
 
@@ -66,7 +66,7 @@ returns-in_default-clause-touched g c told =
     let base = c.args.base.now in
     let p = c.in-Ok.planned in
     writes_apart (record { blocks = c.args.geometry; slot = c.other-slot.result; gate = p.gate; plan = plan_of p.built p.next })
-    (whole_work c.args.geometry base.root.limits base.map (layer_of base.changed) p.built p.next c.other-slot.result p.gate c.blocks-blocks.ensures.valid c.requires.words c.in-Ok.ensures.well c.in-Ok.ensures.spelled c.in-Ok.ensures.next.body)
+    (whole_work c.args.geometry base.root.limits base.map (layer_of c.args.changed.now) p.built p.next c.other-slot.result p.gate c.blocks-blocks.ensures.valid c.requires.words c.in-Ok.ensures.well c.in-Ok.ensures.spelled c.in-Ok.ensures.next.body)
     base.slot (sym c.other-slot.ensures) _ _ _ _ _ c.new-point.ensures.work (c.in-Ok.ensures.same told) (c.in_default.ensures.bytes told)
 
 pub returns-in_default-clause-costs : goal.returns-in_default-clause-costs
@@ -80,14 +80,14 @@ pub returns-clause-recovery : goal.returns-clause-recovery
 returns-clause-recovery g c told world im in_n r =
     let base = c.args.base.now in
     let p = c.in-Ok.planned in
-    let well = subst (λ (n : ℕ). IsWellBuilt n base.root.limits base.map (layer_of base.changed) NoEdit p.built) (sym in_n) c.in-Ok.ensures.well in
-    let builds = subst (λ (n : ℕ). Builds n base.root.limits (store_of (reads (g.D.Device.disk (device_of c.args.blocks.now)))) base.root.inode_file base.map (layer_of base.changed) p.built) (sym in_n) (c.in-Ok.ensures.builds told) in
+    let well = subst (λ (n : ℕ). IsWellBuilt n base.root.limits base.map (layer_of c.args.changed.now) NoEdit p.built) (sym in_n) c.in-Ok.ensures.well in
+    let builds = subst (λ (n : ℕ). Builds n base.root.limits (store_of (reads (g.D.Device.disk (device_of c.args.blocks.now)))) base.root.inode_file base.map (layer_of c.args.changed.now) p.built) (sym in_n) (c.in-Ok.ensures.builds told) in
     let whole = g.met.D.Device.whole (device_of c.finish.new.blocks) told in
     let work = c.new-point.ensures.work ∙ (λ i. record { blocks = sym in_n i; slot = c.other-slot.ensures i; gate = p.gate; plan = plan_of p.built p.next }) in
     let after = c.in-Ok-finish.ensures.same ∙ work in (
       leaves_image _ world im _ r p.built p.next p.gate well builds c.in-Ok.ensures.spelled c.in-Ok.ensures.next _ _ (c.in-Ok.ensures.same told) whole _ _ work (c.in-Ok-finish.ensures.bytes told),
-      image_over _ world (work_for im.blocks (kept_in base) p.gate p.built p.next) _ _ in_n
-          (λ i. record { slot = sym c.other-slot.ensures i; root = sym (c.into_root-root.ensures.root ∙ ap (λ (w : Work). w.plan.next) after) i; words = sym (c.into_root-root.ensures.words ∙ ap (λ (w : Work). w.plan.words) after) i; changed = sym c.in-Ok.ensures.empty i })
+      image_over _ world (work_for im.blocks (kept_in base (layer_of c.args.changed.now)) p.gate p.built p.next) _ _ in_n
+          (λ i. record { slot = sym c.other-slot.ensures i; root = sym (c.into_root-root.ensures.root ∙ ap (λ (w : Work). w.plan.next) after) i; words = sym (c.into_root-root.ensures.words ∙ ap (λ (w : Work). w.plan.words) after) i; changed = no_changes })
           (is_recovered _ world im _ r p.built p.next p.gate well builds c.in-Ok.ensures.spelled c.in-Ok.ensures.next _ _ (c.in-Ok.ensures.same told) whole _ _ work (c.in-Ok-finish.ensures.bytes told)),
     )
 
@@ -96,7 +96,7 @@ returns-clause-touched g c told =
     let base = c.args.base.now in
     let p = c.in-Ok.planned in
     writes_apart (record { blocks = c.args.geometry; slot = c.other-slot.result; gate = p.gate; plan = plan_of p.built p.next })
-    (whole_work c.args.geometry base.root.limits base.map (layer_of base.changed) p.built p.next c.other-slot.result p.gate c.blocks-blocks.ensures.valid c.requires.words c.in-Ok.ensures.well c.in-Ok.ensures.spelled c.in-Ok.ensures.next.body)
+    (whole_work c.args.geometry base.root.limits base.map (layer_of c.args.changed.now) p.built p.next c.other-slot.result p.gate c.blocks-blocks.ensures.valid c.requires.words c.in-Ok.ensures.well c.in-Ok.ensures.spelled c.in-Ok.ensures.next.body)
     base.slot (sym c.other-slot.ensures) _ _ _ _ _ c.new-point.ensures.work (c.in-Ok.ensures.same told) (c.in-Ok-finish.ensures.bytes told)
 
 pub returns-clause-costs : goal.returns-clause-costs

@@ -1,6 +1,7 @@
-use Rattle.std.proofs.Common.{false, None, refl, sym, ap, subst}
+use Rattle.std.proofs.Common.{false, None, refl, sym, ap, subst, arith}
 use Rattle.sn_device.specs.Disk.{Disk}
 use Rattle.sn_block.specs.Lending.{device_of}
+use Rattle.sn_live_world.specs.World.{kept_of, kept_since_of}
 use Rattle.sn_model.specs.declared.mount.MountFault.TheVariants.{Memory}
 use Rattle.sn_events.specs.Mounted.{holding}
 use Rattle.sn_events.specs.Mounting.{IsLeft, Mounts}
@@ -30,3 +31,18 @@ returns-in-Err-clause-unmounted g c told =
     let old = g.D.Device.disk c.args.device in
     let sectors = (g.D.Device.status c.args.device).sectors in
     subst (λ (d : Disk). IsLeft Memory sectors old d) (sym (ap g.D.Device.disk c.in-Err.ensures.value_returned)) (refused_memory sectors old)
+
+pub returns-in-Ok-recover-clause-sound : goal.returns-in-Ok-recover-clause-sound
+returns-in-Ok-recover-clause-sound g c =
+    let e = c.in-Ok-recover.ensures in
+    let status = g.D.Device.status (device_of c.recover.new.blocks) in
+    record {
+      within = λ _. omega (arith, e.within, e.sectors);
+      parked = λ _. e.few;
+      based = λ _. e.base;
+      between = λ _ _. e.point;
+      drops = λ _. e.drops;
+      meant = λ _ told.
+          let runs = e.runs told (kept_of c.in-Ok-recover.field-0.world) (kept_since_of c.in-Ok-recover.field-0.world) status in
+          record { over = e.over told; whole = e.whole told; runs = record { frozen = runs.0; runs = runs.1 }; stands = tt };
+    }

@@ -36,5 +36,4 @@ returns-clause-base g c =
       slot = (c.other-base.ensures ∙ c.requires.slot) i;
       root = (c.into_root-root.ensures.root ∙ ap (λ (w : Work). w.plan.next) after) i;
       map = (c.into_root-root.ensures.words ∙ ap (λ (w : Work). w.plan.words) after) i;
-      changed = c.args.base.now.changed;
     })

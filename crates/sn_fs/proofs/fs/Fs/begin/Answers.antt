@@ -1,80 +1,89 @@
-use Rattle.std.proofs.Common.{ℕ, ◌+◌, Err, Some, refl, sym, ap, subst, ◌∙◌, arith}
+use Rattle.std.proofs.Common.{◌≡◌, ℕ, ◌+◌, ◌≤◌, Err, None, Some, Option, length, refl, sym, ap, subst, ◌∙◌, arith}
 use Rattle.sn_block.specs.Lending.{device_of}
-use Rattle.sn_core.specs.Plain.{kept_of, kept_since_of, world_of}
-use Rattle.sn_cp_progress.proofs.MeaningLemmas.{on_with}
-use Rattle.sn_cp_progress.specs.Meaning.{progress_over}
+use Rattle.sn_cp_progress.specs.Meaning.{RunsWith, progress_over}
 use Rattle.sn_cp_progress.specs.Progress.{RunsOn}
-use Rattle.sn_cp_whole.specs.Going.{going_of}
-use Rattle.sn_desc.specs.InUse.{live_in}
-use Rattle.sn_held.specs.Held.{Held}
+use Rattle.sn_cp.specs.Points.{work_of}
+use Rattle.sn_cp_whole.specs.Going.{BeginsPoint, going_of, with_log}
+use Rattle.sn_cp_whole.specs.Planning.{kept_in}
+use Rattle.sn_desc.specs.InUse.{InUse, live_in}
+use Rattle.sn_device.specs.Crash.{LeavesOnly}
+use Rattle.sn_held.specs.Held.{Going, Held, RunsReady}
+use Rattle.sn_held.specs.Images.{IsImage}
 use Rattle.sn_limits.specs.Versions.{version_1}
+use Rattle.sn_live_world.specs.World.{HasDrops, IsOver, changes_of, world_over}
 use Rattle.sn_log.specs.Positions.{LogPosition}
+use Rattle.sn_model.specs.Settling.{settle}
 use Rattle.sn_model.specs.World.{World}
 use Rattle.sn_model.specs.Worlds.{IsWorld}
-use Rattle.sn_overlay.specs.Needs.{counts, nameless_in}
-use Rattle.sn_overlay.specs.Overlays.{HasRoom, layer_of}
+use Rattle.sn_mount.specs.Recovering.{with_frozen}
+use Rattle.sn_overlay.specs.Layers.{Layer}
+use Rattle.sn_overlay.specs.Needs.{need}
+use Rattle.sn_overlay.specs.Overlays.{no_changes}
 use Rattle.sn_room.specs.Rooms.{RoomCounts, begun}
-use Rattle.sn_fs.specs.Filesystem.{held}
-use Rattle.sn_events.specs.Mounted.{IsBased}
-use Rattle.sn_events.proofs.BasedLemmas.{base_none, stands_none}
+use Rattle.sn_events.specs.Mounted.{RunsIn, in_frozen, tree_at}
+use Rattle.sn_events.proofs.BasedLemmas.{base_none}
 use Rattle.sn_events.proofs.BeginLemmas.{unbegun}
+use Rattle.sn_events.proofs.MeantLemmas.{tree_logged}
+use Rattle.sn_events.proofs.PointLemmas.{not_device, running_between}
+use Rattle.sn_fs.specs.Filesystem.{held, tree_of}
+use Rattle.sn_fs.proofs.MountedLemmas.{kept_mounted, unbegun_same}
+use Rattle.sn_fs.proofs.PointedLemmas.{moments_begun, on_begun, runs_begun, world_begun}
 use Rattle.sn_fs.proofs.fs.Fs.begin.Goals as goal
 
 pub begin_point-requires-clause-base : goal.begin_point-requires-clause-base
 begin_point-requires-clause-base g c = base_none c.args.self.now.going c.args.self.now.log c.args.self.now.base c.requires.between (c.requires.sound.based c.requires.running)
 
 pub returns-in-Ok-clause-begins : goal.returns-in-Ok-clause-begins
-returns-in-Ok-clause-begins g c told r =
-    let old = held c.args.self.now in
+returns-in-Ok-clause-begins g c told f r =
+    let fs = c.args.self.now in
+    let d0 = g.D.Device.disk (device_of fs.blocks) in
+    let d1 = g.D.Device.disk (device_of c.begin_point.new.blocks) in
+    let s0 = g.D.Device.status (device_of fs.blocks) in
+    let s1 = g.D.Device.status (device_of c.begin_point.new.blocks) in
     let e = c.in-Ok.ensures in
-    let going = c.in-Ok.begun.going in
-    let world = c.begin_point-in-Ok-2.new.self in
-    let new = record old {
-      world = world_of world;
-      kept = kept_of world;
-      kept_since = kept_since_of world;
-      room = c.begin_point-in-Ok.new.self;
-      at = c.begin_point.new.log;
-      base = record old.base { changed = layer_of c.in-Ok.begun.since };
-      point = Some (going_of going);
-      disk = g.D.Device.disk (device_of c.begin_point.new.blocks);
-      status = g.D.Device.status (device_of c.begin_point.new.blocks);
-    } in
-    let begins = e.begins told old old.world r in
-    let on = on_with _ old.world (progress_over (going_of going) old.world.live) new.kept new.kept_since new.point new.status begins.1 in
+    let point = c.in-Ok.begun.going in
+    let next = c.begin_point-in-Ok.ensures in
+    let room = c.begin_point-in-Ok-2.ensures in
+    let begins : (h : Held) (world : World) → RunsReady (with_log h fs.log d0) world (kept_in fs.base (changes_of fs.world)) → LeavesOnly d0 d1 (λ x. IsImage x (settle world)) × RunsOn (record h { room = begun h.room; at = c.begin_point.new.log; base = kept_in fs.base no_changes; disk = d1 }) world (progress_over (going_of point) world.live) =
+    λ h world ready. let made = e.begins told h world (subst (λ (l : Layer). RunsReady (with_log h fs.log d0) world (kept_in fs.base l)) (sym c.changes.ensures) ready) in
+    (made.0, subst (λ (l : Layer). RunsOn (record h { room = begun h.room; at = c.begin_point.new.log; base = kept_in fs.base l; disk = d1 }) world (progress_over (going_of point) world.live)) e.empty made.1) in
+    let in_it : RunsIn (held fs) = record { frozen = f; runs = running_between (in_frozen f (held fs)) (with_frozen f (held fs).world) c.requires.between r } in
+    let tree = tree_logged (held fs) in_it (g.met.D.Device.whole (device_of fs.blocks) told) (fs.log.epoch + 1) d1 (g.met.D.Device.whole (device_of c.begin_point.new.blocks) told) (e.wrote told) in
     record {
       begun = record {
         between = c.requires.between;
-        going = going_of going;
+        going = going_of point;
         is = refl;
         size = e.going.blocks;
-        few = e.going.few;
+        few = subst (λ (l : Layer). length (work_of point.point).plan.blocks ≤ need fs.base.root.limits l) c.changes.ensures e.going.few;
         first = e.going.first;
-        world = c.begin_point-in-Ok-2.ensures.world;
-        kept = c.begin_point-in-Ok-2.ensures.kept;
-        none_since = c.begin_point-in-Ok-2.ensures.since;
+        world = ap (with_frozen f) (world_begun d0 d1 s0 s1 fs.log c.begin_point.new.log fs.world c.begin_point-in-Ok.new.self fs.room c.begin_point-in-Ok-2.new.self fs.base fs.going c.requires.between point begins tree next.world next.changes room);
+        kept = next.kept;
+        none_since = next.since;
         log = e.log;
-        room = c.begin_point-in-Ok.ensures;
-        base = λ i. record old.base { changed = e.empty i };
+        room = room;
+        base = λ i. kept_in fs.base (next.changes i);
         costs = e.costs.done;
       };
-      moments = begins.0;
+      moments = moments_begun d0 d1 s0 s1 fs.log c.begin_point.new.log fs.world c.begin_point-in-Ok.new.self fs.room c.begin_point-in-Ok-2.new.self fs.base fs.going c.requires.between point begins tree next.world next.changes room f r;
       touched = e.touched told;
-      runs = (
-        old.world.live,
-        subst (λ (h : Held). RunsOn h old.world (progress_over (going_of going) old.world.live)) (λ i. record new { world = sym c.begin_point-in-Ok-2.ensures.world i; room = sym c.begin_point-in-Ok.ensures i }) on,
-      );
+      runs = subst (λ (w : World). RunsWith (Some (going_of point)) (in_frozen f (held (record fs { blocks = c.begin_point.new.blocks; log = c.begin_point.new.log; world = c.begin_point-in-Ok.new.self; room = c.begin_point-in-Ok-2.new.self; going = Some point }))) w) refl
+          (on_begun d0 d1 s0 s1 fs.log c.begin_point.new.log fs.world c.begin_point-in-Ok.new.self fs.room c.begin_point-in-Ok-2.new.self fs.base fs.going c.requires.between point begins tree next.world next.changes room f r);
     }
 
 pub returns-in-Ok-clause-sound : goal.returns-in-Ok-clause-sound
 returns-in-Ok-clause-sound g c =
+    let fs = c.args.self.now in
     let running = c.requires.running in
+    let sound = c.requires.sound in
     let e = c.in-Ok.ensures in
-    let base = base_none c.args.self.now.going c.args.self.now.log c.args.self.now.base c.requires.between (c.requires.sound.based running) in
+    let point = c.in-Ok.begun.going in
+    let next = c.begin_point-in-Ok.ensures in
+    let room = c.begin_point-in-Ok-2.ensures in
+    let base = base_none fs.going fs.log fs.base c.requires.between (sound.based running) in
     record {
-      within = λ _. omega (arith, c.requires.sound.within running, ap (λ (at : LogPosition). at.blocks) e.log, e.costs.later.sectors);
-      whole = λ _. subst (IsWorld version_1) (sym c.begin_point-in-Ok-2.ensures.world) (c.requires.sound.whole running);
-      parked = λ _. omega (arith, ap (λ (r : RoomCounts). r.dropped) c.begin_point-in-Ok.ensures, ap (λ (w : World). nameless_in w.live) c.begin_point-in-Ok-2.ensures.world, c.requires.sound.parked running);
+      within = λ _. omega (arith, sound.within running, ap (λ (at : LogPosition). at.blocks) e.log, e.costs.later.sectors);
+      parked = λ _. omega (arith, ap (λ (r : RoomCounts). r.dropped) room, next.counted, sound.parked running);
       based = λ _. record {
         whole = e.going.whole;
         within = e.going.within;
@@ -82,25 +91,44 @@ returns-in-Ok-clause-sound g c =
         slot = e.going.slot;
         epoch = ap (λ (at : LogPosition). at.epoch) e.log ∙ ap (λ (n : ℕ). n + 1) base.epoch ∙ sym e.going.epoch;
       };
-      stands = λ _ told. e.stands told;
-      drops = λ _. subst (λ (n : ℕ). HasRoom c.in-Ok.begun.since (counts n 0 0)) (c.open_files-drops.ensures ∙ ap (λ (w : World). live_in w.descriptors) (sym c.begin_point-in-Ok-2.ensures.world)) e.drops;
+      between = λ _ none. let never : Some point ≡ None = none in absurd cc;
+      drops = λ _. subst (HasDrops c.begin_point-in-Ok.new.self) (c.open_files-drops.ensures ∙ ap (λ (u : InUse). live_in u.descriptors) (sym next.sessions)) (next.drops c.open_files-drops.result e.drops);
+      meant = λ _ told.
+          let m = sound.meant running told in
+          let d0 = g.D.Device.disk (device_of fs.blocks) in
+          let d1 = g.D.Device.disk (device_of c.begin_point.new.blocks) in
+          let s0 = g.D.Device.status (device_of fs.blocks) in
+          let s1 = g.D.Device.status (device_of c.begin_point.new.blocks) in
+          let begins : (h : Held) (world : World) → RunsReady (with_log h fs.log d0) world (kept_in fs.base (changes_of fs.world)) → LeavesOnly d0 d1 (λ x. IsImage x (settle world)) × RunsOn (record h { room = begun h.room; at = c.begin_point.new.log; base = kept_in fs.base no_changes; disk = d1 }) world (progress_over (going_of point) world.live) =
+          λ h world ready. let made = e.begins told h world (subst (λ (l : Layer). RunsReady (with_log h fs.log d0) world (kept_in fs.base l)) (sym c.changes.ensures) ready) in
+          (made.0, subst (λ (l : Layer). RunsOn (record h { room = begun h.room; at = c.begin_point.new.log; base = kept_in fs.base l; disk = d1 }) world (progress_over (going_of point) world.live)) e.empty made.1) in
+          let tree = tree_logged (held fs) m.runs (g.met.D.Device.whole (device_of fs.blocks) told) (fs.log.epoch + 1) d1 (g.met.D.Device.whole (device_of c.begin_point.new.blocks) told) (e.wrote told) in
+          record {
+            over = subst (IsOver c.begin_point-in-Ok.new.self) (sym tree) (next.over (tree_of fs) m.over);
+            whole = subst (IsWorld version_1) (sym (world_begun d0 d1 s0 s1 fs.log c.begin_point.new.log fs.world c.begin_point-in-Ok.new.self fs.room c.begin_point-in-Ok-2.new.self fs.base fs.going c.requires.between point begins tree next.world next.changes room)) m.whole;
+            runs = runs_begun d0 d1 s0 s1 fs.log c.begin_point.new.log fs.world c.begin_point-in-Ok.new.self fs.room c.begin_point-in-Ok-2.new.self fs.base fs.going c.requires.between point begins tree next.world next.changes room m.runs;
+            stands = e.stands told;
+          };
     }
 
 pub returns-in-Err-clause-begins : goal.returns-in-Err-clause-begins
-returns-in-Err-clause-begins g c told r =
-    let old = held c.args.self.now in
+returns-in-Err-clause-begins g c told f r =
+    let fs = c.args.self.now in
+    let old = in_frozen f (held fs) in
     let e = c.in-Err.ensures in
-    unbegun old c.begin_point.new.log _ _ c.in-Err.fault (e.begins told old old.world r) e.stays e.costs.cause e.costs.later e.costs.writes e.costs.syncs (e.touched told) (λ is. e.aged (ap Err is))
+    let d1 = g.D.Device.disk (device_of c.begin_point.new.blocks) in
+    let ready = subst (λ (l : Layer). RunsReady old old.world (kept_in fs.base l)) (sym c.changes.ensures) r in
+    unbegun old (with_frozen f (world_over fs.world (tree_at d1 fs.base.root))) c.begin_point.new.log _ _ c.in-Err.fault (λ same. λ i. with_frozen f (world_over fs.world (tree_at (same i) fs.base.root))) (subst (λ (l : Layer). BeginsPoint (Err c.in-Err.fault) old.world old (kept_in fs.base l) c.begin_point.new.log old.disk d1) c.changes.ensures (e.begins told old old.world ready)) e.stays e.costs.cause e.costs.later e.costs.writes e.costs.syncs (e.touched told) (λ is. e.aged (ap Err is))
 
 pub returns-in-Err-clause-sound : goal.returns-in-Err-clause-sound
 returns-in-Err-clause-sound g c =
-    let running = c.requires.running in
+    let fs = c.args.self.now in
     let e = c.in-Err.ensures in
-    record {
-      within = λ _. omega (arith, c.requires.sound.within running, ap (λ (at : LogPosition). at.blocks) e.stays, e.costs.later.sectors);
-      whole = λ _. c.requires.sound.whole running;
-      parked = λ _. c.requires.sound.parked running;
-      based = λ _. subst (λ (at : LogPosition). IsBased c.args.self.now.going at c.args.self.now.base) (sym e.stays) (c.requires.sound.based running);
-      stands = λ _ told. stands_none c.args.self.now.going _ c.requires.between;
-      drops = λ _. c.requires.sound.drops running;
-    }
+    let d0 = g.D.Device.disk (device_of fs.blocks) in
+    kept_mounted g.D.Device.tells_bytes d0 _ _ _ fs.log c.begin_point.new.log fs.world fs.room fs.room fs.base fs.base fs.going fs.has_stopped c.stops-self.result c.requires.running refl refl (λ goes_on. e.stays) e.costs.later.sectors
+    (λ goes_on told.
+    let m = c.requires.sound.meant c.requires.running told in
+    let old = in_frozen m.runs.frozen (held fs) in
+    let r = subst (λ (p : Option Going). RunsWith p old old.world) c.requires.between m.runs.runs in
+    let ready = subst (λ (l : Layer). RunsReady old old.world (kept_in fs.base l)) (sym c.changes.ensures) r in
+    unbegun_same c.in-Err.fault (not_device c.in-Err.fault (sym c.stops-self.ensures ∙ goes_on)) old.world old _ _ d0 _ (e.begins told old old.world ready)) c.requires.sound

@@ -1,17 +1,29 @@
-use Rattle.std.proofs.Common.{Some, refl, sym, ap, subst, ◌∙◌, arith}
+use Rattle.std.proofs.Common.{◌≡◌, None, Some, refl, sym, ap, subst, ◌∙◌, arith}
 use Rattle.sn_block.specs.Lending.{device_of}
 use Rattle.sn_block.proofs.CountLemmas.{later-calls}
 use Rattle.sn_cp.specs.Points.{Work, stage_of, work_of}
 use Rattle.sn_cp.specs.Steps.{IsWhole}
-use Rattle.sn_cp_progress.proofs.MeaningLemmas.{on_with}
 use Rattle.sn_cp_progress.specs.Meaning.{progress_over}
-use Rattle.sn_cp_whole.specs.Going.{going_of}
+use Rattle.sn_cp_progress.specs.Progress.{RunsOn}
+use Rattle.sn_cp_whole.specs.Going.{going_of, with_disk}
 use Rattle.sn_cp_whole.proofs.RecoverLemmas.{point_apart}
 use Rattle.sn_device.proofs.CrashLemmas.{Touches-start}
+use Rattle.sn_device.specs.Crash.{LeavesOnly}
 use Rattle.sn_device.specs.declared.status.Status.{Status}
+use Rattle.sn_held.specs.Held.{Held}
+use Rattle.sn_held.specs.Images.{IsImage}
+use Rattle.sn_limits.specs.Versions.{version_1}
+use Rattle.sn_live_world.specs.World.{IsOver}
+use Rattle.sn_model.specs.Settling.{settle}
+use Rattle.sn_model.specs.Tree.{Tree}
+use Rattle.sn_model.specs.World.{World}
+use Rattle.sn_model.specs.Worlds.{IsWorld}
+use Rattle.sn_mount.specs.Recovering.{with_frozen}
 use Rattle.sn_events.specs.Answers.{IsBesideRoot}
-use Rattle.sn_fs.specs.Filesystem.{held, with_point}
+use Rattle.sn_events.specs.Mounted.{in_frozen}
 use Rattle.sn_events.proofs.BeginLemmas.{step_writes}
+use Rattle.sn_fs.specs.Filesystem.{held, with_point}
+use Rattle.sn_fs.proofs.PointedLemmas.{moments_gone, on_gone, runs_gone, tree_gone, world_gone}
 use Rattle.sn_fs.proofs.fs.Fs.go_on.Goals as goal
 
 pub advance-requires-clause-disk : goal.advance-requires-clause-disk
@@ -24,17 +36,23 @@ pub advance-requires-clause-within : goal.advance-requires-clause-within
 advance-requires-clause-within g c = (c.requires.sound.based c.requires.running).within
 
 pub advance-requires-clause-stands : goal.advance-requires-clause-stands
-advance-requires-clause-stands g c told = c.requires.sound.stands c.requires.running told
+advance-requires-clause-stands g c told = (c.requires.sound.meant c.requires.running told).stands
 
 pub returns-in-Ok-clause-goes_on : goal.returns-in-Ok-clause-goes_on
-returns-in-Ok-clause-goes_on g c told r =
-    let old = held (with_point c.args.self.now c.args.going) in
+returns-in-Ok-clause-goes_on g c told f r =
+    let fs = c.args.self.now in
+    let old = in_frozen f (held (with_point fs c.args.going)) in
     let after = c.advance.new.self in
+    let d0 = g.D.Device.disk (device_of fs.blocks) in
+    let d1 = g.D.Device.disk (device_of c.advance.new.blocks) in
+    let s0 = g.D.Device.status (device_of fs.blocks) in
     let status = g.D.Device.status (device_of c.advance.new.blocks) in
     let is = c.requires.sound.based c.requires.running in
     let some = step_writes (work_of c.args.going.point) (stage_of c.args.going.point) is.within in
     let e = c.in-Ok.ensures in
-    let on = e.goes_on told old old.world r.0 r.1 in
+    let goes : (h : Held) (world : World) (frozen : Tree) → RunsOn (with_disk h d0) world (progress_over (going_of c.args.going) frozen) → LeavesOnly d0 d1 (λ x. IsImage x (settle world)) × RunsOn (record h { disk = d1 }) world (progress_over (going_of after) frozen) =
+    e.goes_on told in
+    let world = world_gone d0 d1 s0 status fs.log fs.world fs.room fs.base c.args.going after goes (e.tree told) f r in
     let writes = ap (λ (s : Status). s.writes) e.counts.done in
     let syncs = ap (λ (s : Status). s.syncs) e.counts.done in
     record {
@@ -42,24 +60,26 @@ returns-in-Ok-clause-goes_on g c told r =
         going = going_of c.args.going;
         is = refl;
         more = c.requires.more;
-        held = λ i. record old { point = Some (record { work = e.same.0 i; stage = e.onward i; free = e.same.1 i }); disk = g.D.Device.disk (device_of c.advance.new.blocks); status = status };
+        held = λ i. record old { world = with_frozen f (world i); point = Some (record { work = e.same.0 i; stage = e.onward i; free = e.same.1 i }); disk = d1; status = status };
         costs = e.counts.done;
       };
       some = (omega (arith, writes, some.0), omega (arith, writes, some.1), omega (arith, syncs, some.2));
-      moments = on.0;
-      touched = point_apart (work_of c.args.going.point) is.whole c.args.self.now.base.slot is.slot c.args.self.now.log.blocks old.disk old.disk _ is.blocks (Touches-start (IsBesideRoot old) old.disk) (e.touched told);
-      runs = (r.0, on_with _ old.world (progress_over (going_of after) r.0) old.kept old.kept_since (Some (going_of after)) status on.1);
+      moments = moments_gone d0 d1 s0 status fs.log fs.world fs.room fs.base c.args.going after goes (e.tree told) f r;
+      touched = point_apart (work_of c.args.going.point) is.whole fs.base.slot is.slot fs.log.blocks old.disk old.disk _ is.blocks (Touches-start (IsBesideRoot old) old.disk) (e.touched told);
+      runs = on_gone d0 d1 s0 status fs.log fs.world fs.room fs.base c.args.going after goes (e.tree told) f r;
     }
 
 pub returns-in-Ok-clause-sound : goal.returns-in-Ok-clause-sound
 returns-in-Ok-clause-sound g c =
+    let fs = c.args.self.now in
     let running = c.requires.running in
-    let is = c.requires.sound.based running in
+    let sound = c.requires.sound in
+    let is = sound.based running in
+    let after = c.advance.new.self in
     let e = c.in-Ok.ensures in
     record {
-      within = λ _. omega (arith, c.requires.sound.within running, e.counts.sectors);
-      whole = λ _. c.requires.sound.whole running;
-      parked = λ _. c.requires.sound.parked running;
+      within = λ _. omega (arith, sound.within running, e.counts.sectors);
+      parked = λ _. sound.parked running;
       based = λ _. record {
         whole = subst (λ (w : Work). IsWhole w) (sym e.same.0) is.whole;
         within = e.within;
@@ -67,13 +87,27 @@ returns-in-Ok-clause-sound g c =
         slot = is.slot ∙ sym (ap (λ (w : Work). w.slot) e.same.0);
         epoch = is.epoch ∙ sym (ap (λ (w : Work). w.plan.next.epoch) e.same.0);
       };
-      stands = λ _ told. e.stands told;
-      drops = λ _. c.requires.sound.drops running;
+      between = λ _ none. let never : Some after ≡ None = none in absurd cc;
+      drops = λ _. sound.drops running;
+      meant = λ _ told.
+          let m = sound.meant running told in
+          let d0 = g.D.Device.disk (device_of fs.blocks) in
+          let d1 = g.D.Device.disk (device_of c.advance.new.blocks) in
+          let s0 = g.D.Device.status (device_of fs.blocks) in
+          let status = g.D.Device.status (device_of c.advance.new.blocks) in
+          let goes : (h : Held) (world : World) (frozen : Tree) → RunsOn (with_disk h d0) world (progress_over (going_of c.args.going) frozen) → LeavesOnly d0 d1 (λ x. IsImage x (settle world)) × RunsOn (record h { disk = d1 }) world (progress_over (going_of after) frozen) =
+          e.goes_on told in
+          record {
+            over = subst (IsOver fs.world) (sym (tree_gone d0 d1 s0 status fs.log fs.world fs.room fs.base c.args.going after goes (e.tree told) m.runs.frozen m.runs.runs)) m.over;
+            whole = subst (IsWorld version_1) (sym (world_gone d0 d1 s0 status fs.log fs.world fs.room fs.base c.args.going after goes (e.tree told) m.runs.frozen m.runs.runs)) m.whole;
+            runs = runs_gone d0 d1 s0 status fs.log fs.world fs.room fs.base c.args.going after goes (e.tree told) m.runs;
+            stands = e.stands told;
+          };
     }
 
 pub returns-in-Err-clause-goes_on : goal.returns-in-Err-clause-goes_on
-returns-in-Err-clause-goes_on g c told r =
-    let old = held (with_point c.args.self.now c.args.going) in
+returns-in-Err-clause-goes_on g c told f r =
+    let old = in_frozen f (held (with_point c.args.self.now c.args.going)) in
     let is = c.requires.sound.based c.requires.running in
     let some = step_writes (work_of c.args.going.point) (stage_of c.args.going.point) is.within in
     let e = c.in-Err.ensures in (

@@ -1,49 +1,47 @@
-use Rattle.std.proofs.Common.{◌≡◌, ℕ, Err, false, refl, sym, ap, subst, ◌∙◌, arith}
+use Rattle.std.proofs.Common.{◌≡◌, ℕ, Err, Option, false, refl, sym, ap, subst, ◌∙◌}
 use Rattle.sn_block.specs.Lending.{device_of}
-use Rattle.sn_core.specs.Plain.{world_of}
-use Rattle.sn_desc.specs.InUse.{live_in}
-use Rattle.sn_held.proofs.EventLemmas.{ready_with}
-use Rattle.sn_log.specs.Positions.{LogPosition}
-use Rattle.sn_model.specs.declared.call.Event.TheVariants.{Restart}
-use Rattle.sn_model.specs.Settling.{settle, settled}
-use Rattle.sn_model.specs.World.{World}
-use Rattle.sn_overlay.specs.Needs.{counts}
-use Rattle.sn_overlay.specs.Overlays.{HasRoom, layer_of}
-use Rattle.sn_overlay.specs.declared.overlay.Overlay.{Overlay}
-use Rattle.sn_room.specs.Rooms.{RoomCounts, dropping, fresh}
+use Rattle.sn_cp_progress.specs.Meaning.{RunsWith}
 use Rattle.sn_cp_whole.specs.Making.{with_parts}
 use Rattle.sn_cp_whole.specs.Planning.{kept_in}
 use Rattle.sn_cp_whole.specs.declared.base.PointBase.{PointBase}
 use Rattle.sn_device.specs.Crash.{LeavesOnly}
+use Rattle.sn_held.specs.Held.{Going}
 use Rattle.sn_held.specs.Images.{IsImage}
+use Rattle.sn_held.proofs.EventLemmas.{ready_with}
+use Rattle.sn_live_world.specs.World.{changes_of, world_over}
+use Rattle.sn_model.specs.declared.call.Event.TheVariants.{Restart}
+use Rattle.sn_model.specs.Settling.{settle, settled}
+use Rattle.sn_model.specs.World.{World}
+use Rattle.sn_mount.specs.Recovering.{with_frozen}
+use Rattle.sn_overlay.specs.Overlays.{layer_of, no_changes}
+use Rattle.sn_room.specs.Rooms.{RoomCounts, dropping, fresh}
 use Rattle.sn_events.specs.Dropping.{DropsFiles}
-use Rattle.sn_fs.specs.Filesystem.{held}
-use Rattle.sn_events.specs.Mounted.{IsBased}
-use Rattle.sn_events.proofs.BasedLemmas.{base_none, stands_none, with_changes}
+use Rattle.sn_events.specs.Mounted.{in_frozen, tree_at}
+use Rattle.sn_events.proofs.BasedLemmas.{base_none}
 use Rattle.sn_events.proofs.PointLemmas.{not_device, point_unmade}
 use Rattle.sn_events.proofs.UnmountLemmas.{last, ready_as, settles_twice}
+use Rattle.sn_fs.specs.Filesystem.{held, tree_of}
+use Rattle.sn_fs.proofs.MountedLemmas.{kept_mounted, unmade_same}
 use Rattle.sn_fs.proofs.fs.Fs.make_last_point.Goals as goal
 
-pub drop_files-requires : goal.drop_files-requires
-drop_files-requires g c = let running = c.requires.running in omega (arith, c.nameless.ensures, c.requires.sound.parked running)
-
 pub make_point-requires-clause-base : goal.make_point-requires-clause-base
-make_point-requires-clause-base g c =
-    with_changes c.args.self.now.log c.args.self.now.base c.replace-kept.new.dest (base_none c.args.self.now.going c.args.self.now.log c.args.self.now.base c.requires.between (c.requires.sound.based c.requires.running))
+make_point-requires-clause-base g c = base_none c.args.self.now.going c.args.self.now.log c.args.self.now.base c.requires.between (c.requires.sound.based c.requires.running)
 
 pub returns-in-Ok-clause-points : goal.returns-in-Ok-clause-points
-returns-in-Ok-clause-points g c told r =
-    let old = held c.args.self.now in
-    let built = layer_of c.replace-kept.new.dest in
-    let live = old.world.live in
-    let drops = subst (λ (x : Overlay). DropsFiles old.base live (record old.base { changed = layer_of x }) (settled live)) (sym c.replace-kept.ensures.after) c.requires.settled in
-    let whole = c.requires.sound.whole c.requires.running in
+returns-in-Ok-clause-points g c told f r =
+    let fs = c.args.self.now in
+    let old = in_frozen f (held fs) in
+    let built = layer_of c.args.changed.now in
+    let m = c.requires.sound.meant c.requires.running told in
+    let s = c.requires.settled told in
+    let drops : DropsFiles old.base old.world.live (record old.base { changed = built }) (settled old.world.live) = record { files = s.files; slot = refl; root = refl; words = refl; gone = s.gone; leads = s.leads } in
+    let whole = m.whole.live in
     let room = c.drop_files.new.self in
-    let room_is = c.drop_files.ensures ∙ ap (λ (n : ℕ). dropping n old.room) c.nameless.ensures in
+    let room_is = c.drop_files.ensures ∙ ap (λ (n : ℕ). dropping n old.room) (c.nameless.ensures.tells (tree_of fs) m.over) in
     let ready = ready_as old built drops whole r room room_is in
     let from = record (last old built drops whole r) { room = room } in
     let made = c.in-Ok.ensures.point told from (settle old.world) ready in
-    let base = kept_in c.make_point.new.base in
+    let base = kept_in c.make_point.new.base no_changes in
     let disk = g.D.Device.disk (device_of c.make_point.new.blocks) in
     let status = g.D.Device.status (device_of c.make_point.new.blocks) in
     let parts = with_parts from c.make_point.new.log c.make_point.new.room disk in
@@ -57,7 +55,7 @@ returns-in-Ok-clause-points g c told r =
         none_since = λ n. refl;
         log = c.in-Ok.ensures.log;
         room = c.in-Ok.ensures.room ∙ ap fresh (sym (ap (λ (x : RoomCounts). x.free) c.in-Ok.ensures.room));
-        changed = c.in-Ok.ensures.empty;
+        changed = refl;
         age = c.in-Ok.ensures.age;
         moments = subst (λ (w : World). LeavesOnly old.disk disk (λ d. IsImage d w)) (settles_twice old.world) made.0;
         runs = ready_with parts (settle old.world) base (λ n. false) (λ n. false) base old.point status made.1;
@@ -74,35 +72,44 @@ returns-in-Ok-clause-points g c told r =
     )
 
 pub returns-in-Err-clause-points : goal.returns-in-Err-clause-points
-returns-in-Err-clause-points g c told r =
-    let old = held c.args.self.now in
-    let built = layer_of c.replace-kept.new.dest in
-    let live = old.world.live in
-    let drops = subst (λ (x : Overlay). DropsFiles old.base live (record old.base { changed = layer_of x }) (settled live)) (sym c.replace-kept.ensures.after) c.requires.settled in
-    let whole = c.requires.sound.whole c.requires.running in
+returns-in-Err-clause-points g c told f r =
+    let fs = c.args.self.now in
+    let old = in_frozen f (held fs) in
+    let built = layer_of c.args.changed.now in
+    let m = c.requires.sound.meant c.requires.running told in
+    let s = c.requires.settled told in
+    let drops : DropsFiles old.base old.world.live (record old.base { changed = built }) (settled old.world.live) = record { files = s.files; slot = refl; root = refl; words = refl; gone = s.gone; leads = s.leads } in
+    let whole = m.whole.live in
     let room = c.drop_files.new.self in
-    let room_is = c.drop_files.ensures ∙ ap (λ (n : ℕ). dropping n old.room) c.nameless.ensures in
+    let room_is = c.drop_files.ensures ∙ ap (λ (n : ℕ). dropping n old.room) (c.nameless.ensures.tells (tree_of fs) m.over) in
     let ready = ready_as old built drops whole r room room_is in
     let from = record (last old built drops whole r) { room = room } in
     let e = c.in-Err.ensures in
     let disk = g.D.Device.disk (device_of c.make_point.new.blocks) in
-    let new = record old { at = c.make_point.new.log; base = kept_in (record c.make_point.new.base { changed = c.replace-kept.result }); disk = disk; status = g.D.Device.status (device_of c.make_point.new.blocks) } in
-    let base_is = ap (λ (b : PointBase). kept_in (record b { changed = c.replace-kept.result })) e.keeps.0 ∙ ap (λ (x : Overlay). kept_in (record c.args.self.now.base { changed = x })) c.replace-kept.ensures.value in
+    let new = in_frozen f (held (record fs { blocks = c.make_point.new.blocks; base = c.make_point.new.base; log = c.make_point.new.log })) in
+    let base_is = ap (λ (b : PointBase). kept_in b (changes_of fs.world)) e.keeps.0 in
     let parts = with_parts from c.make_point.new.log c.make_point.new.room disk in
-    point_unmade Restart old new refl refl refl refl refl base_is built drops c.in-Err.fault (settle old.world) (settles_twice old.world) parts (kept_in c.make_point.new.base) refl e.stays (e.point told from (settle old.world) ready) (e.touched told) e.costs.cause e.costs.later
+    point_unmade Restart old new (λ same. λ i. with_frozen f (world_over fs.world (tree_at (same i) (e.keeps.0 i).root))) refl refl refl refl base_is built drops c.in-Err.fault (settle old.world) (settles_twice old.world) parts (kept_in c.make_point.new.base no_changes) refl e.stays (e.point told from (settle old.world) ready) (e.touched told) e.costs.cause e.costs.later
     (record { writes = e.costs.writes; syncs = e.costs.syncs }) (λ is. e.aged (ap Err is))
 
 pub returns-in-Err-clause-sound : goal.returns-in-Err-clause-sound
 returns-in-Err-clause-sound g c =
-    let running = c.requires.running in
+    let fs = c.args.self.now in
     let e = c.in-Err.ensures in
+    let d0 = g.D.Device.disk (device_of fs.blocks) in
     let not_cut = λ (goes_on : c.stops-self.result ≡ false). not_device c.in-Err.fault (sym c.stops-self.ensures ∙ goes_on) in
-    let base_is = ap (λ (b : PointBase). record b { changed = c.replace-kept.result }) e.keeps.0 ∙ ap (λ (x : Overlay). record c.args.self.now.base { changed = x }) c.replace-kept.ensures.value in
-    record {
-      within = λ goes_on. omega (arith, c.requires.sound.within running, ap (λ (at : LogPosition). at.blocks) (e.stays (not_cut goes_on)), e.costs.later.sectors);
-      whole = λ _. c.requires.sound.whole running;
-      parked = λ _. c.requires.sound.parked running;
-      based = λ goes_on. subst (λ (b : PointBase). IsBased c.args.self.now.going c.make_point.new.log b) (sym base_is) (subst (λ (at : LogPosition). IsBased c.args.self.now.going at c.args.self.now.base) (sym (e.stays (not_cut goes_on))) (c.requires.sound.based running));
-      stands = λ _ told. stands_none c.args.self.now.going _ c.requires.between;
-      drops = λ _. subst (λ (b : PointBase). HasRoom b.changed (counts (live_in (world_of c.args.self.now.world).descriptors) 0 0)) (sym base_is) (c.requires.sound.drops running);
-    }
+    kept_mounted g.D.Device.tells_bytes d0 _ _ _ fs.log c.make_point.new.log fs.world fs.room fs.room fs.base c.make_point.new.base fs.going fs.has_stopped c.stops-self.result c.requires.running e.keeps.0 refl (λ goes_on. e.stays (not_cut goes_on)) e.costs.later.sectors
+    (λ goes_on told.
+    let m = c.requires.sound.meant c.requires.running told in
+    let f = m.runs.frozen in
+    let old = in_frozen f (held fs) in
+    let r = subst (λ (p : Option Going). RunsWith p old old.world) c.requires.between m.runs.runs in
+    let built = layer_of c.args.changed.now in
+    let s = c.requires.settled told in
+    let drops : DropsFiles old.base old.world.live (record old.base { changed = built }) (settled old.world.live) = record { files = s.files; slot = refl; root = refl; words = refl; gone = s.gone; leads = s.leads } in
+    let whole = m.whole.live in
+    let room = c.drop_files.new.self in
+    let room_is = c.drop_files.ensures ∙ ap (λ (n : ℕ). dropping n old.room) (c.nameless.ensures.tells (tree_of fs) m.over) in
+    let ready = ready_as old built drops whole r room room_is in
+    let from = record (last old built drops whole r) { room = room } in
+    unmade_same c.in-Err.fault (not_cut goes_on) (settle old.world) d0 _ _ (e.point told from (settle old.world) ready)) c.requires.sound

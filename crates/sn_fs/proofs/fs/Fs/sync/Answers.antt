@@ -1,22 +1,26 @@
-use Rattle.std.proofs.Common.{Bool, false, sym, ap, subst, ◌∙◌}
+use Rattle.std.proofs.Common.{Bool, Err, Ok, false, sym, ap, subst, ◌∙◌}
+use Rattle.sn_held.specs.Held.{Held}
 use Rattle.sn_model.specs.declared.call.Event.TheVariants.{Call}
 use Rattle.sn_model.specs.declared.reply.Reply.{Reply}
 use Rattle.sn_model.specs.Machine.{refused}
 use Rattle.sn_events.specs.Answers.{Answers, AsksFirst}
-use Rattle.sn_fs.specs.Filesystem.{has_stopped, held}
-use Rattle.sn_events.specs.Pointing.{errno_of_point}
+use Rattle.sn_events.specs.Pointing.{Finishes, errno_of_point}
 use Rattle.sn_events.specs.Serving.{reply_to}
 use Rattle.sn_events.proofs.AskLemmas.{asked_behind, asked_cut, asked_unpointed}
 use Rattle.sn_events.proofs.CallLemmas.{undecided_serves}
+use Rattle.sn_fs.specs.Filesystem.{has_stopped, held}
 use Rattle.sn_fs.proofs.fs.Fs.sync.Goals as goal
 
 pub returns-in-Err-clause-answered : goal.returns-in-Err-clause-answered
 returns-in-Err-clause-answered g c told =
     let h = held c.args.self.now in
     let e = Call c.args.session c.args.call.now in
-    subst (λ (r : Reply). Answers e r h c.args.self.now.has_stopped h c.args.self.now.has_stopped) (sym c.reply_of.ensures)
-    (subst (λ (b : Bool). Answers e (reply_to c.in-Err.error) h b h b) (sym c.requires.running)
-    (λ s m. (undecided_serves h c.args.session c.args.call.now c.in-Err.error c.in-Err.ensures.decided s m).answers))
+    let new = held c.decide.new.self in
+    let stopped = has_stopped c.decide.new.self in
+    subst (λ (r : Reply). Answers e r h c.args.self.now.has_stopped new stopped) (sym c.reply_of.ensures)
+    (subst (λ (b : Bool). Answers e (reply_to c.in-Err.fault) h b new stopped) (sym c.requires.running)
+    (subst (λ (b : Bool). Answers e (reply_to c.in-Err.fault) h false new b) (sym (ap has_stopped c.in-Err.ensures.rest ∙ c.requires.running))
+    (λ s m. (undecided_serves h new c.args.session c.args.call.now c.in-Err.fault (c.in-Err.ensures.undecided told) s m).answers)))
 
 -- the point in progress was cut off
 pub returns-in-Err-finish-clause-answered : goal.returns-in-Err-finish-clause-answered
@@ -26,32 +30,37 @@ returns-in-Err-finish-clause-answered g c told =
     let new = held c.finish.new.self in
     let stopped = has_stopped c.finish.new.self in
     let fault = c.in-Err-finish.fault in
-    let asked : AsksFirst h c.args.session c.args.call.now = record { asks = c.requires.asks; outcome = c.in-Ok.outcome; decided = c.in-Ok.ensures.decided } in
+    let asked : AsksFirst h c.args.session c.args.call.now = record { asks = c.requires.asks; outcome = c.in-Ok.outcome; decided = c.in-Ok.ensures.decided told } in
+    let finishes = subst (λ (x : Held). Finishes (Err fault) x new) (c.in-Ok.ensures.quiet told) (c.in-Err-finish.ensures.finishes told h.world) in
     subst (λ (r : Reply). Answers e r h c.args.self.now.has_stopped new stopped) (sym (c.refused.ensures ∙ ap refused c.errno_of.ensures))
     (subst (λ (b : Bool). Answers e (refused (errno_of_point fault)) h b new stopped) (sym c.requires.running)
     (subst (λ (b : Bool). Answers e (refused (errno_of_point fault)) h false new b) (sym c.in-Err-finish.ensures.stopped)
-    (asked_cut h new c.args.session c.args.call.now fault asked (c.requires.sound.whole c.requires.running) (c.in-Err-finish.ensures.finishes told))))
+    (asked_cut h new c.args.session c.args.call.now fault asked (c.requires.sound.meant c.requires.running told).whole finishes)))
 
 pub returns-in-Ok-make_point-clause-answered : goal.returns-in-Ok-make_point-clause-answered
 returns-in-Ok-make_point-clause-answered g c told =
     let h = held c.args.self.now in
     let e = Call c.args.session c.args.call.now in
+    let fin = held c.finish.new.self in
     let new = held c.make_point.new.self in
     let o = c.in-Ok.outcome in
-    let asked : AsksFirst h c.args.session c.args.call.now = record { asks = c.requires.asks; outcome = o; decided = c.in-Ok.ensures.decided } in
+    let asked : AsksFirst h c.args.session c.args.call.now = record { asks = c.requires.asks; outcome = o; decided = c.in-Ok.ensures.decided told } in
+    let finishes = subst (λ (x : Held). Finishes (Ok tt) x fin) (c.in-Ok.ensures.quiet told) (c.in_default.ensures.finishes told h.world) in
     subst (λ (b : Bool). Answers e o.told h b new (has_stopped c.make_point.new.self)) (sym c.requires.running)
     (subst (λ (b : Bool). Answers e o.told h false new b) (sym c.in-Ok-make_point.ensures.stopped)
-    (asked_behind h (held c.finish.new.self) new c.args.session c.args.call.now asked (c.requires.sound.whole c.requires.running) (c.in_default.ensures.finishes told) (c.in-Ok-make_point.ensures.points told)))
+    (asked_behind h fin new c.args.session c.args.call.now asked (c.requires.sound.meant c.requires.running told).whole finishes (c.in-Ok-make_point.ensures.points told h.world)))
 
 pub returns-in-Err-make_point-clause-answered : goal.returns-in-Err-make_point-clause-answered
 returns-in-Err-make_point-clause-answered g c told =
     let h = held c.args.self.now in
     let e = Call c.args.session c.args.call.now in
+    let fin = held c.finish.new.self in
     let new = held c.make_point.new.self in
     let stopped = has_stopped c.make_point.new.self in
     let fault = c.in-Err-make_point.fault in
-    let asked : AsksFirst h c.args.session c.args.call.now = record { asks = c.requires.asks; outcome = c.in-Ok.outcome; decided = c.in-Ok.ensures.decided } in
+    let asked : AsksFirst h c.args.session c.args.call.now = record { asks = c.requires.asks; outcome = c.in-Ok.outcome; decided = c.in-Ok.ensures.decided told } in
+    let finishes = subst (λ (x : Held). Finishes (Ok tt) x fin) (c.in-Ok.ensures.quiet told) (c.in_default.ensures.finishes told h.world) in
     subst (λ (r : Reply). Answers e r h c.args.self.now.has_stopped new stopped) (sym (c.refused-in-Err-make_point.ensures ∙ ap refused c.errno_of-in-Err-make_point.ensures))
     (subst (λ (b : Bool). Answers e (refused (errno_of_point fault)) h b new stopped) (sym c.requires.running)
     (subst (λ (b : Bool). Answers e (refused (errno_of_point fault)) h false new b) (sym c.in-Err-make_point.ensures.stopped)
-    (asked_unpointed h (held c.finish.new.self) new c.args.session c.args.call.now fault asked (c.requires.sound.whole c.requires.running) (c.in_default.ensures.finishes told) (c.in-Err-make_point.ensures.points told))))
+    (asked_unpointed h fin new c.args.session c.args.call.now fault asked (c.requires.sound.meant c.requires.running told).whole finishes (c.in-Err-make_point.ensures.points told h.world))))

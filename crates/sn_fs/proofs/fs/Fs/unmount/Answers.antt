@@ -1,4 +1,4 @@
-use Rattle.std.proofs.Common.{inl, inr, false, true, refl, sym, subst, ◌∙◌}
+use Rattle.std.proofs.Common.{inl, inr, refl, sym, subst, ◌∙◌}
 use Rattle.std.proofs.lemmas.Bool.{true≢false}
 use Rattle.sn_device.specs.Disk.{Disk}
 use Rattle.sn_device.specs.declared.status.Status.{Status}
@@ -13,30 +13,30 @@ returns-then-fs-clause-refused g c told running = absurd (true≢false (sym c.if
 
 -- the point in progress was cut off
 pub returns-in-Err-clause-refused : goal.returns-in-Err-clause-refused
-returns-in-Err-clause-refused g c told running = record { fault = c.in-Err.fault; told = c.errno_of.ensures; stops = c.in-Err.ensures.stopped; unpointed = λ r. inl (c.in-Err.ensures.finishes told r) }
+returns-in-Err-clause-refused g c told running = record { fault = c.in-Err.fault; told = c.errno_of.ensures; stops = c.in-Err.ensures.stopped; unpointed = λ r. inl (c.in-Err.ensures.finishes told (held c.args.self).world r) }
 
 pub returns-in_default-settled_changes-clause-refused : goal.returns-in_default-settled_changes-clause-refused
 returns-in_default-settled_changes-clause-refused g c told running =
-    record { fault = point.Memory; told = refl; stops = c.in_default.ensures.stopped; unpointed = λ r. inr (held c.finish.new.self, c.in_default.ensures.finishes told r, refl) }
+    record { fault = point.Memory; told = refl; stops = c.in_default.ensures.stopped; unpointed = λ r. inr (held c.finish.new.self, c.in_default.ensures.finishes told (held c.args.self).world r, refl) }
 
-pub returns-in-Ok-make_last_point-clause-unmounted : goal.returns-in-Ok-make_last_point-clause-unmounted
-returns-in-Ok-make_last_point-clause-unmounted g c told =
+pub returns-in-Ok-made-clause-unmounted : goal.returns-in-Ok-made-clause-unmounted
+returns-in-Ok-made-clause-unmounted g c told =
     let old = held c.args.self in
     let fin = held c.finish.new.self in
-    let new = held c.make_last_point.new.self in
+    let new = held c.make_last_point-made.new.self in
     subst (λ (s : Status). HasUnmounted old (g.D.Device.disk c.into_device.result) s) (sym c.into_device.ensures.status)
     (subst (λ (d : Disk). HasUnmounted old d new.status) (sym c.into_device.ensures.disk) (λ r.
-    let so = c.in_default.ensures.finishes told r in
-    let made = c.in-Ok-make_last_point.ensures.points told (is_fin old fin so r).ready in
+    let so = c.in_default.ensures.finishes told old.world r in
+    let made = c.in-Ok-made.ensures.points told old.world (is_fin old fin so r).ready in
     record { fin = fin; finish = so; mid = made.0; pointed = made.1; disk_is = made.2; status_is = made.3 }))
 
-pub returns-in-Err-make_last_point-clause-refused : goal.returns-in-Err-make_last_point-clause-refused
-returns-in-Err-make_last_point-clause-refused g c told running =
+pub returns-in-Err-made-clause-refused : goal.returns-in-Err-made-clause-refused
+returns-in-Err-made-clause-refused g c told running =
     let old = held c.args.self in
     let fin = held c.finish.new.self in
     record {
-      fault = c.in-Err-make_last_point.fault;
-      told = c.errno_of-in-Err-make_last_point.ensures;
-      stops = c.in-Err-make_last_point.ensures.stopped;
-      unpointed = λ r. let so = c.in_default.ensures.finishes told r in inr (fin, so, c.in-Err-make_last_point.ensures.points told (is_fin old fin so r).ready);
+      fault = c.in-Err-made.fault;
+      told = c.errno_of-in-Err-made.ensures;
+      stops = c.in-Err-made.ensures.stopped;
+      unpointed = λ r. let so = c.in_default.ensures.finishes told old.world r in inr (fin, so, c.in-Err-made.ensures.points told old.world (is_fin old fin so r).ready);
     }

@@ -1,0 +1,110 @@
+-- What a call answers that changes nothing of the tree, but for files that nobody has.
+use Rattle.std.proofs.Common.{◌≡◌, ◌⊎◌, inl, inr, ℕ, ◌-◌, false, Option, Some, None, Ok, refl, sym, ap, subst, ◌∙◌, arith}
+use Rattle.std.specs.FinMap as map
+use Rattle.sn_limits.specs.Versions.{version_1}
+use Rattle.sn_model.specs.declared.call.Call.{Call}
+use Rattle.sn_model.specs.declared.change.Change.{Change}
+use Rattle.sn_model.specs.declared.outcome.Outcome.{Outcome}
+use Rattle.sn_overlay.specs.Needs.{nameless_in}
+use Rattle.sn_room.specs.Rooms.{dropping}
+use Rattle.sn_model.specs.Machine.{Running}
+use Rattle.sn_model.specs.Settling.{dropped}
+use Rattle.sn_model.specs.Steps.{asks_for_point, decision, with_caller}
+use Rattle.sn_model.specs.World.{World}
+use Rattle.sn_model.specs.Worlds.{IsCall, IsWorld}
+use Rattle.sn_core.specs.declared.choosing.Chosen.{Chosen}
+use Rattle.sn_core.specs.Served.{Chooses}
+use Rattle.sn_core.proofs.NumberLemmas.{kept_by}
+use Rattle.sn_core.proofs.StepLemmas.{IsServed, MadeBy, chosen_served, served_whole}
+use Rattle.sn_block.proofs.CountLemmas.{later-same}
+use Rattle.sn_device.proofs.CrashLemmas.{LeavesOnly-start, Touches-start}
+use Rattle.sn_ondisk.specs.LogHalf.{InHalf}
+use Rattle.sn_log.specs.Positions.{base_at}
+use Rattle.sn_held.specs.Events.{IsOfTree}
+use Rattle.sn_held.specs.Held.{Held}
+use Rattle.sn_cp_progress.specs.Meaning.{RunsWith}
+use Rattle.sn_cp_progress.proofs.MeaningLemmas.{drops_with, runs_with}
+use Rattle.sn_held.specs.Moments.{ShowsState}
+use Rattle.sn_mount.specs.Recovering.{with_frozen}
+use Rattle.sn_held.proofs.EventLemmas.{left_of_tree, live_show}
+use Rattle.sn_events.specs.Mounted.{RunsIn, in_frozen}
+use Rattle.sn_events.specs.Serving.{DropsFiles, Serves, ServesFrom, Turns}
+use Rattle.sn_events.proofs.DecisionLemmas.{has_no_change}
+use Rattle.sn_events.proofs.CallLemmas.{asks_nothing, drops_carry, in_own, in_world}
+
+module _ (old new : Held) (session : ℕ) (c : Call) (o : Outcome) (picked : Chosen) (numbers : IsCall c) (whole : IsWorld version_1 old.world) (decided : decision version_1 old.world session c ≡ Ok o) (chosen : Chooses old.world.live old.kept o.change o.caller picked) (none : picked.change ≡ None)
+    (turned : Turns session picked.caller (nameless_in old.world.live) old new) where
+  abbrev next : World
+  next = dropped (with_caller old.world session picked.caller)
+
+  abbrev parked : ℕ
+  parked = nameless_in old.world.live - nameless_in next.live
+
+  world_is : new.world ≡ next
+  world_is = ap (λ (x : Held). x.world) turned.is
+
+  room_is : new.room ≡ dropping parked old.room
+  room_is = ap (λ (x : Held). x.room) turned.is ∙ ap (λ (w : World). dropping (nameless_in old.world.live - nameless_in w.live) old.room) world_is
+
+  abbrev after : Held
+  after = record old { world = next; kept = new.kept; kept_since = new.kept_since; room = dropping parked old.room; base = new.base }
+
+  is : new ≡ after
+  is = λ i. record { world = world_is i; kept = new.kept; kept_since = new.kept_since; room = room_is i; at = ap (λ (x : Held). x.at) turned.is i; base = new.base; point = ap (λ (x : Held). x.point) turned.is i; disk = ap (λ (x : Held). x.disk) turned.is i; status = ap (λ (x : Held). x.status) turned.is i }
+
+  of : IsOfTree old.world old.world.live next
+  of = left_of_tree old.world session picked.caller old.world.live
+
+  served : IsServed old.world old.kept session c o.told next new.kept
+  served =
+      chosen_served old.world old.kept session c o picked old.world.live numbers whole decided chosen (subst (λ (x : Option Change). MadeBy x old.world.live old.world.live) (sym none) refl)
+      old.kept new.kept (λ n. sym (ap (λ (x : Option Change). kept_by x old.kept n) none)) turned.kept
+
+  whole_next : IsWorld version_1 next
+  whole_next = served_whole old.world next session c o.told served.0 numbers whole
+
+  runs_after : (w : World) → RunsWith old.point (in_frozen w old) (with_frozen w old.world) → RunsWith old.point (in_frozen w after) (with_frozen w next)
+  runs_after w r =
+      let drops = subst (λ (w : World). DropsFiles old.base old.world.live new.base w.live) world_is turned.base in
+      drops_with old.point (in_frozen w old) (with_frozen w old.world) (with_frozen w next) new.kept new.kept_since parked new.base r (record { held = of.held; live = of.live; frozen = refl }) (omega arith) (λ figure. drops_carry old.base new.base old.world session picked.caller figure whole.live.hierarchy drops) whole_next.live
+
+  pub told_whole : IsWorld version_1 new.world
+  told_whole = subst (IsWorld version_1) (sym world_is) whole_next
+
+  pub told_runs : RunsIn old → RunsIn new
+  told_runs r = subst RunsIn (sym is) (record { frozen = r.frozen; runs = runs_after r.frozen r.runs })
+
+  pub told_serves : asks_for_point c ≡ false → Serves (Some o.told) old session c new false
+  told_serves alone = in_world old new false session c o.told told
+    where
+      told : RunsWith old.point old old.world → old.world.frozen ≡ map.empty → ServesFrom (Running old.world) session c o.told old new false
+      told r bare =
+          let of = left_of_tree old.world session picked.caller old.world.live in
+          let on = in_own old.world after next refl of.frozen (runs_after old.world r) in
+          let shows = live_show after next (runs_with after next old.point on) (of.frozen ∙ bare) in
+          subst (λ (x : Held). ServesFrom (Running old.world) session c o.told old x false) (sym is) (record {
+            answers = record {
+              met = None;
+              fin = old;
+              finish = inl refl;
+              mid = old;
+              point = inl refl;
+              may = refl;
+              next = Running next;
+              step = record { next = next; becomes = served.0; runs = refl };
+              means = (refl, on, of.frozen ∙ bare);
+              lasts = record { moments = LeavesOnly-start old.disk (λ d. ShowsState (Running old.world) d ⊎ ShowsState (Running next) d) (λ d crash. inr (shows d crash)); answered = shows };
+              writes = inl (Touches-start (InHalf (base_at old.at)) old.disk);
+              begins = tt;
+              numbers = served.1;
+              since = turned.since;
+              room = inl (has_no_change old.world old.kept session c o picked decided chosen none, refl);
+              later = later-same old.status old.status refl;
+              costs = (asks_nothing old session c alone, inl (has_no_change old.world old.kept session c o picked decided chosen none, refl));
+              steps = tt;
+              works = tt;
+            };
+            at_once = (refl, refl);
+            wrote = Touches-start (InHalf (base_at old.at)) old.disk;
+            met = tt;
+          })

@@ -1,0 +1,3 @@
+pub mod MountedLemmas
+pub mod PointedLemmas
+pub mod ServedLemmas

@@ -1,0 +1,4 @@
+pub mod DropLemmas
+pub mod TurnLemmas
+pub mod ChoiceLemmas
+pub mod CommitLemmas

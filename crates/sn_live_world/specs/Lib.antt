@@ -1,0 +1,4 @@
+pub mod Dropping
+pub mod Faults
+pub mod Turned
+pub mod World

@@ -1,0 +1,113 @@
+//! What calls come to over the live tree of a root on a device.
+ghost use Rattle.std.specs.Prelude.{◌≡◌, IsTrue, IfErr, IfNone, IfOk, IfSome};
+ghost use Rattle.sn_block.specs.Lending.{device_of};
+ghost use Rattle.sn_core_calls.specs.Decided.{MayLack};
+ghost use Rattle.sn_live_world.specs.Faults.{CountsCall};
+ghost use Rattle.sn_live_world.specs.Turned.{Decides};
+ghost use Rattle.sn_live_world.specs.declared.fault.CallFault.TheVariants.{Read};
+ghost use Rattle.sn_model.specs.Worlds.{IsCall};
+ghost use Rattle.sn_rooted.specs.Roots.{IsSoundOn, tree_on};
+
+use crate::LiveWorld;
+use crate::fault::{CallFault, look_fault_of};
+use sn_block::Blocks;
+use sn_core_calls::CallError;
+use sn_device::Device;
+use sn_layout::RootBody;
+use sn_live_view::{decide_live, decide_unread};
+use sn_model::{Call, Outcome};
+use sn_rooted_tree::RootedTree;
+use std::alloc::Global;
+
+impl LiveWorld {
+    ghost use Rattle.sn_live_world.specs.World.{IsOver, world_over};
+
+    // The same of a call that may find no memory, once its session and arguments have passed.
+    fn decide_read<'c, D: Device>(
+        &self,
+        alloc: Global,
+        blocks: &mut Blocks<D>,
+        root: &RootBody,
+        session: u32,
+        call: &'c Call,
+    ) -> Result<Outcome<'c>, CallFault>
+        requires readable { IsTrue D.tells_bytes → IsSoundOn blocks.old root.now.limits root.now.inode_file }
+        requires live { IsTrue D.tells_bytes → IsOver self.now (tree_on blocks.old root.now.inode_file) }
+        requires passed { MayLack (world_over self.now (tree_on blocks.old root.now.inode_file)) session call.now }
+        ensures decided { IsTrue D.tells_bytes → Decides (world_over self.now (tree_on blocks.old root.now.inode_file)) session call.now result }
+        ensures numbers { IfOk result (λ o. IsCall call.now) }
+        ensures same { IsTrue D.tells_bytes → D.disk (device_of blocks.new) ≡ D.disk (device_of blocks.old) }
+        ensures counts { CountsCall D.tells_bytes result (D.status (device_of blocks.old)) (D.status (device_of blocks.new)) }
+    {
+        let mut tree = RootedTree {
+            alloc,
+            blocks,
+            root,
+            fault: None,
+        };
+        let decided = decide_live(alloc, &mut tree, &self.live, &self.sessions, session, call);
+        match tree.fault {
+            Some(fault) => Err(CallFault::from(look_fault_of(fault))),
+            None => match decided {
+                Ok(outcome) => Ok(outcome),
+                Err(CallError::Refused(refusal)) => Err(CallFault::Refused(refusal)),
+                // No look-up has failed.
+                Err(_) => Err(CallFault::Memory),
+            },
+        }
+    }
+
+    // What a call comes to, as far as it needs no look-up, and `None` where it needs one: then its session and
+    // arguments have passed.
+    fn decide_alone<'c, D: Device>(
+        &self,
+        alloc: Global,
+        blocks: &mut Blocks<D>,
+        root: &RootBody,
+        session: u32,
+        call: &'c Call,
+    ) -> Option<Result<Outcome<'c>, CallFault>>
+        ensures decided { IfSome result (λ r. Decides (world_over self.now (tree_on blocks.old root.now.inode_file)) session call.now r) }
+        ensures passed { IfNone result (MayLack (world_over self.now (tree_on blocks.old root.now.inode_file)) session call.now) }
+        ensures numbers { IfSome result (λ r. IfOk r (λ o. IsCall call.now)) }
+        ensures unread { IfSome result (λ r. IfErr r (λ e. e ≡ Read → ⊥)) }
+        ensures same { D.disk (device_of blocks.new) ≡ D.disk (device_of blocks.old) }
+        ensures idle { D.status (device_of blocks.new) ≡ D.status (device_of blocks.old) }
+    {
+        let tree = RootedTree {
+            alloc,
+            blocks,
+            root,
+            fault: None,
+        };
+        match decide_unread(alloc, &tree, &self.live, &self.sessions, session, call) {
+            Ok(outcome) => Some(Ok(outcome)),
+            Err(CallError::Refused(refusal)) => Some(Err(CallFault::Refused(refusal))),
+            Err(CallError::Memory) => Some(Err(CallFault::Memory)),
+            Err(CallError::View(_)) => None,
+        }
+    }
+
+    /// What a call comes to, or why it comes to nothing. `Memory` and `Read` come only once its session and arguments
+    /// have passed, and of calls that may find no memory. Nothing changes. A call that needs no look-up reads nothing.
+    pub fn decide<'c, D: Device>(
+        &self,
+        alloc: Global,
+        blocks: &mut Blocks<D>,
+        root: &RootBody,
+        session: u32,
+        call: &'c Call,
+    ) -> Result<Outcome<'c>, CallFault>
+        requires readable { IsTrue D.tells_bytes → IsSoundOn blocks.old root.now.limits root.now.inode_file }
+        requires live { IsTrue D.tells_bytes → IsOver self.now (tree_on blocks.old root.now.inode_file) }
+        ensures decided { IsTrue D.tells_bytes → Decides (world_over self.now (tree_on blocks.old root.now.inode_file)) session call.now result }
+        ensures numbers { IfOk result (λ o. IsCall call.now) }
+        ensures same { IsTrue D.tells_bytes → D.disk (device_of blocks.new) ≡ D.disk (device_of blocks.old) }
+        ensures counts { CountsCall D.tells_bytes result (D.status (device_of blocks.old)) (D.status (device_of blocks.new)) }
+    {
+        match self.decide_alone(alloc, blocks, root, session, call) {
+            Some(decided) => decided,
+            None => self.decide_read(alloc, blocks, root, session, call),
+        }
+    }
+}

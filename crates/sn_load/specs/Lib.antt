@@ -1,4 +1,0 @@
-pub mod Loading
-pub mod Sound
-pub mod Steps
-pub mod Unread
