@@ -2,4 +2,3 @@ pub mod ChangedLemmas
 pub mod HoldsLemmas
 pub mod DecidedLemmas
 pub mod DroppedLemmas
-pub mod MemoryLemmas

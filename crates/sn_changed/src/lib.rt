@@ -5,17 +5,14 @@
 //! what the root leaves free, so that no point finds the disk full.
 //!
 //! The way through: `specs/Changed` says when a layer is what changed, and `specs/Laws` how it grows and that it fits.
-//! [`overlay_of`] gives the layer of a change over the live tree in memory, and [`drop_each`] takes files out that went
-//! from it ([`DroppedFile`]), by `specs/Dropped`. `specs/Decided` says that a call which is logged leaves files without
-//! names as they are.
+//! [`drop_each`] takes files out that went ([`DroppedFile`]), by `specs/Dropped`. `specs/Decided` says that a call which is
+//! logged leaves files without names as they are.
 //!
 //! What the sources leave open is decided in `docs/DECISIONS.md`, under "What changed since a root".
 #![tactic(auto)]
 
 mod dropped;
 mod laws;
-mod memory;
 
 pub use dropped::{DroppedFile, DroppedFiles, drop_each};
 pub use laws::{changed_laws, decided_laws, dropped_laws};
-pub use memory::overlay_of;

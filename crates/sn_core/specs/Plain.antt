@@ -2,14 +2,14 @@
 use Rattle.std.specs.Prelude.{ℕ, Bool}
 use Rattle.std.specs.FinMap as map
 use Rattle.sn_model.specs.Tree.{Tree}
-use Rattle.sn_model.specs.World.{Trees, World, new_world}
+use Rattle.sn_model.specs.World.{Trees, World}
 use Rattle.sn_desc.specs.Sessions.{in_use_of}
 use Rattle.sn_numbers.specs.Live.{kept_back_of, live_of}
 use Rattle.sn_numbers.specs.Live as numbers
 use Rattle.sn_core.specs.PlainRuns.{Numbered}
 use Rattle.sn_core.specs.declared.world.PlainWorld.{PlainWorld}
 
--- there are no snapshots yet
+-- a run without a device has no snapshots
 abbrev pub plain_trees : Tree → Trees
 plain_trees tree = record { live = tree; frozen = map.empty }
 
@@ -30,7 +30,3 @@ numbered_of w = record { world = world_of w; kept = kept_of w }
 -- so many more files can be opened without memory
 abbrev pub room_of : PlainWorld → ℕ
 room_of w = (in_use_of w.sessions).room
-
--- nobody is logged in over a tree that is there
-abbrev pub world_over : Tree → World
-world_over tree = record new_world { live = tree }

@@ -151,11 +151,4 @@ impl PlainWorld {
         self.drop_lost(lost, &mut dropped);
         dropped
     }
-
-    /// How many descriptors have live files. It is kept, and not counted anew.
-    pub fn open_files(&self) -> u16
-        ensures { result ≡ live_in (world_of self.now).descriptors }
-    {
-        self.sessions.live()
-    }
 }

@@ -1,8 +1,5 @@
-ghost use Rattle.std.specs.Prelude.{◌≡◌, ℕ, ◌<◌, false, IfOk, OnErr, OnOk};
-ghost use Rattle.sn_limits.specs.declared.kind.Kind.TheVariants.{File};
-ghost use Rattle.sn_model.specs.NameTree.{HasKind, IsTree};
-ghost use Rattle.sn_model.specs.Tree.{names_for};
-ghost use Rattle.sn_plain.specs.Plain.{tree_of};
+ghost use Rattle.std.specs.Prelude.{◌≡◌, ℕ, false, IfOk, OnErr, OnOk};
+ghost use Rattle.sn_model.specs.NameTree.{IsTree};
 ghost use Rattle.sn_model.specs.Settling.{settle};
 ghost use Rattle.sn_limits.specs.Versions.{version_1};
 ghost use Rattle.sn_model.specs.Worlds.{IsWorld};
@@ -19,7 +16,7 @@ use sn_desc::Sessions;
 use sn_limits::Limits;
 use sn_model::{Call, Change, Errno, Event, Outcome, Progress, Refusal, Reply};
 use sn_numbers::LiveTree;
-use sn_plain::{ApplyError, PlainTree};
+use sn_plain::ApplyError;
 use std::alloc::{AllocError, Global};
 
 /// The live tree, and who is logged in.
@@ -32,7 +29,7 @@ pub struct PlainWorld {
 }
 
 impl PlainWorld {
-    ghost use Rattle.sn_core.specs.Plain.{kept_of, kept_since_of, numbered_of, room_of, world_of, world_over};
+    ghost use Rattle.sn_core.specs.Plain.{kept_of, kept_since_of, numbered_of, room_of, world_of};
 
     /// A root directory alone, nobody logged in, and no number kept back.
     pub fn new(alloc: Global) -> Result<PlainWorld, AllocError>
@@ -42,22 +39,6 @@ impl PlainWorld {
         ensures whole { IfOk result (λ w. IsWorld version_1 (world_of w)) }
     {
         let tree = LiveTree::new(alloc)?;
-        let sessions = Sessions::new(alloc)?;
-        Ok(PlainWorld { tree, sessions })
-    }
-
-    /// A name tree that is there already, nobody logged in, and no number kept back. A tree with a file
-    /// that no name stands for has to be settled before calls are answered: nobody has that file open.
-    pub fn over(alloc: Global, tree: PlainTree) -> Result<PlainWorld, AllocError>
-        requires { IsTree version_1 (tree_of tree) }
-        ensures world { IfOk result (λ w. world_of w ≡ world_over (tree_of tree)) }
-        ensures kept { IfOk result (λ w. (n : ℕ) → kept_of w n ≡ false) }
-        ensures since { IfOk result (λ w. (n : ℕ) → kept_since_of w n ≡ false) }
-        ensures whole { IfOk result (λ w. ((number : ℕ) → HasKind (tree_of tree) number File
-            → 0 < names_for (tree_of tree) number) → IsWorld version_1 (world_of w)) }
-        ensures settled { IfOk result (λ w. IsWorld version_1 (settle (world_of w))) }
-    {
-        let tree = LiveTree::over(alloc, tree)?;
         let sessions = Sessions::new(alloc)?;
         Ok(PlainWorld { tree, sessions })
     }

@@ -23,7 +23,7 @@ use Rattle.sn_held.specs.Events.{IsOfTree, LeavesMore}
 use Rattle.sn_held.specs.Held.{CarriesOn, Going, Held, Kept, Runs}
 use Rattle.sn_held.specs.Moments.{LastsOver, ShowsState}
 use Rattle.sn_held.specs.Room.{HasRoomFor}
-use Rattle.sn_held.proofs.EventLemmas.{appends_ready, drops_ready, live_show, ready_with, runs_beside}
+use Rattle.sn_held.proofs.EventLemmas.{appends_ready, drops_ready, ready_with, runs_beside, runs_show}
 use Rattle.sn_cp_progress.specs.Meaning.{HasRoomWith, Means, RunsWith, progress_over}
 use Rattle.sn_cp_progress.specs.Progress.{Progress, RunsOn}
 use Rattle.sn_cp_progress.proofs.CallLemmas.{appends_go_on, drops_go_on}
@@ -50,7 +50,7 @@ room_with (Some going) room tree change has = has.0
 -- ---- what a crash leaves
 
 pub means_show : (h : Held) (has_stopped : Bool) (s : State) → Means h has_stopped s → Always h.disk (ShowsState s)
-means_show h has_stopped (Running w) m = live_show h w (runs_with h w h.point m.1) m.2
+means_show h has_stopped (Running w) m = runs_show h w (runs_with h w h.point m.1)
 means_show h has_stopped (Stopped before after) m = m.1
 
 -- an event that leaves state and disk as they are

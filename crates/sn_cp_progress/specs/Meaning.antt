@@ -1,6 +1,5 @@
 -- What a mounted file system means: a state of the machine, between two points or with one in progress.
 use Rattle.std.specs.Prelude.{◌≡◌, Bool, true, false, Option, None, Some}
-use Rattle.std.specs.FinMap as map
 use Rattle.sn_device.specs.Disk.{Always}
 use Rattle.sn_model.specs.declared.change.Change.{Change}
 use Rattle.sn_model.specs.Machine.{State, Running, Stopped}
@@ -21,9 +20,9 @@ abbrev pub RunsWith : Option Going → Held → World → Type 0
 RunsWith None h world = RunsReady h world h.base
 RunsWith (Some going) h world = (frozen : Tree) × RunsOn h world (progress_over going frozen)
 
--- One that runs does so over this world, which has no frozen trees. One that a failure has stopped knows of its disk alone, that the next mount finds one of two worlds there.
+-- One that runs does so over this world. One that a failure has stopped knows of its disk alone, that the next mount finds one of two worlds there.
 abbrev pub Means : Held → Bool → State → Type 0
-Means h has_stopped (Running world) = (has_stopped ≡ false) × RunsWith h.point h world × (world.frozen ≡ map.empty)
+Means h has_stopped (Running world) = (has_stopped ≡ false) × RunsWith h.point h world
 Means h has_stopped (Stopped before after) = (has_stopped ≡ true) × Always h.disk (ShowsState (Stopped before after))
 
 -- A change has room on the root that counts, and on that of the point in progress.

@@ -1,6 +1,5 @@
 -- What a call answers that asks for a whole point.
 use Rattle.std.proofs.Common.{◌≡◌, ◌⊎◌, inl, inr, ℕ, Bool, true, false, None, Result, Ok, Err, refl, sym, ap, subst, ◌∙◌}
-use Rattle.std.specs.FinMap as map
 use Rattle.std.specs.Prelude.{◌-◌, IsOk}
 use Rattle.std.proofs.lemmas.Bool.{true≢false}
 use Rattle.sn_limits.specs.Versions.{version_1}
@@ -30,9 +29,9 @@ use Rattle.sn_block.proofs.CountLemmas.{later-is}
 use Rattle.sn_device.proofs.CrashLemmas.{LeavesOnly-weaker}
 use Rattle.sn_device.specs.declared.status.Status.{Status}
 use Rattle.sn_held.specs.Held.{Held}
-use Rattle.sn_held.specs.Images.{IsLiveImage}
+use Rattle.sn_held.specs.Images.{IsImage}
 use Rattle.sn_held.specs.Moments.{ShowsState}
-use Rattle.sn_held.proofs.EventLemmas.{live_show}
+use Rattle.sn_held.proofs.EventLemmas.{runs_show}
 use Rattle.sn_cp_whole.specs.declared.fault.PointFault.{PointFault}
 use Rattle.sn_events.specs.Answers.{Answers, AnswersFrom, AsksFirst, HasMadePoint, HasNoChange}
 use Rattle.sn_events.specs.Pointing.{Finishes, IsPointed, Points, errno_of_point, stops_for}
@@ -92,8 +91,8 @@ module _ (w : World) (session : ℕ) (c : Call) (asks : asks_for_point c ≡ tru
   no_change kept = has_no_change w kept session c (tells answer.Done) (record { change = None; caller = Stays; lost = None }) decided_is refl refl
 
 -- it is made, and the call is answered
-asked_answers : (old new : Held) (session : ℕ) (c : Call) (asked : AsksFirst old session c) → IsWorld version_1 old.world → IsPointed (event.Call session c) old new → old.world.frozen ≡ map.empty → AnswersFrom (Running old.world) (event.Call session c) asked.outcome.told old new false
-asked_answers old new session c asked whole p bare = record {
+asked_answers : (old new : Held) (session : ℕ) (c : Call) (asked : AsksFirst old session c) → IsWorld version_1 old.world → IsPointed (event.Call session c) old new → AnswersFrom (Running old.world) (event.Call session c) asked.outcome.told old new false
+asked_answers old new session c asked whole p = record {
   met = None;
   fin = old;
   finish = inl refl;
@@ -102,10 +101,10 @@ asked_answers old new session c asked whole p bare = record {
   may = ap (λ (s : Status). s.failures) p.costs;
   next = Running old.world;
   step = record { next = old.world; becomes = becomes old.world session c asked.asks asked.outcome asked.decided whole; runs = refl };
-  means = (refl, running_between new old.world p.point p.runs, bare);
+  means = (refl, running_between new old.world p.point p.runs);
   lasts = record {
-    moments = LeavesOnly-weaker old.disk new.disk (λ d. IsLiveImage d (settle old.world)) (λ d. ShowsState (Running old.world) d ⊎ ShowsState (Running old.world) d) (λ d h. inl h) (settled_all (event.Call session c) old new p bare);
-    answered = live_show new old.world p.runs.runs bare;
+    moments = LeavesOnly-weaker old.disk new.disk (λ d. IsImage d (settle old.world)) (λ d. ShowsState (Running old.world) d ⊎ ShowsState (Running old.world) d) (λ d h. inl h) (settled_all (event.Call session c) old new p);
+    answered = runs_show new old.world p.runs.runs;
   };
   writes = inr (inr asked, p.touched);
   begins = tt;
@@ -160,20 +159,20 @@ asks_still old fin session c same asked = record { asks = asked.asks; outcome = 
 pub asked_behind : (old fin new : Held) (session : ℕ) (c : Call) (asked : AsksFirst old session c) → IsWorld version_1 old.world → Finishes (Ok tt) old fin → Points (Ok tt) fin new → Answers (event.Call session c) asked.outcome.told old false new false
 unfolding asks_still
 asked_behind old fin new session c asked whole finishes points =
-    in_any_world (event.Call session c) old new asked.outcome.told false (λ r bare.
+    in_any_world (event.Call session c) old new asked.outcome.told false (λ r.
     let f = is_fin old fin (finishes r) r in
-    behind_finish (event.Call session c) old fin new f (inr asked) bare asked.outcome.told false tt tt
-    (asked_answers fin new session c (asks_still old fin session c f.world asked) (subst (IsWorld version_1) (sym f.world) whole) (points f.ready) (ap (λ (w : World). w.frozen) f.world ∙ bare)))
+    behind_finish (event.Call session c) old fin new f (inr asked) asked.outcome.told false tt tt
+    (asked_answers fin new session c (asks_still old fin session c f.world asked) (subst (IsWorld version_1) (sym f.world) whole) (points f.ready)))
 
 pub asked_unpointed : (old fin new : Held) (session : ℕ) (c : Call) (fault : PointFault) → AsksFirst old session c → IsWorld version_1 old.world → Finishes (Ok tt) old fin → Points (Err fault) fin new → Answers (event.Call session c) (refused (errno_of_point fault)) old false new (stops_for fault)
 asked_unpointed old fin new session c fault asked whole finishes points =
-    in_any_world (event.Call session c) old new (refused (errno_of_point fault)) (stops_for fault) (λ r bare.
+    in_any_world (event.Call session c) old new (refused (errno_of_point fault)) (stops_for fault) (λ r.
     let f = is_fin old fin (finishes r) r in
-    behind_finish (event.Call session c) old fin new f (inr asked) bare (refused (errno_of_point fault)) (stops_for fault) tt tt
-    (unpointed_answers (event.Call session c) fin (asked_point fin session c (subst (IsWorld version_1) (sym f.world) whole) (asks_still old fin session c f.world asked)) f.between f.ready (ap (λ (w : World). w.frozen) f.world ∙ bare) fault new
+    behind_finish (event.Call session c) old fin new f (inr asked) (refused (errno_of_point fault)) (stops_for fault) tt tt
+    (unpointed_answers (event.Call session c) fin (asked_point fin session c (subst (IsWorld version_1) (sym f.world) whole) (asks_still old fin session c f.world asked)) f.between f.ready fault new
     (unmade_in_call fault session c fin new (points f.ready))))
 
 -- the point in progress was cut off
 pub asked_cut : (old new : Held) (session : ℕ) (c : Call) (fault : PointFault) → AsksFirst old session c → IsWorld version_1 old.world → Finishes (Err fault) old new → Answers (event.Call session c) (refused (errno_of_point fault)) old false new (stops_for fault)
 asked_cut old new session c fault asked whole finishes =
-    in_any_world (event.Call session c) old new (refused (errno_of_point fault)) (stops_for fault) (λ r bare. cut_finish (event.Call session c) old (asked_point old session c whole asked) bare new fault (finishes r))
+    in_any_world (event.Call session c) old new (refused (errno_of_point fault)) (stops_for fault) (λ r. cut_finish (event.Call session c) old (asked_point old session c whole asked) new fault (finishes r))

@@ -55,13 +55,12 @@ use Rattle.sn_cp_progress.proofs.MeaningLemmas.{appends_with, counted_with, room
 use Rattle.sn_sound.specs.Logs.{HasAgeLeft}
 use Rattle.sn_examine.specs.Failing.{CostsAtMost, HasFailed}
 use Rattle.sn_block.specs.Counts.{FailsRead, IsLater}
-use Rattle.sn_mount.specs.Recovering.{with_frozen}
 use Rattle.sn_model.specs.Calls.{ready}
 use Rattle.sn_held.proofs.RoomLemmas.{drops_leave_fewer}
-use Rattle.sn_held.proofs.EventLemmas.{left_of_tree, runs_lasts, still_none, stops_between, stops_lasts}
+use Rattle.sn_held.proofs.EventLemmas.{left_of_tree, runs_lasts, stops_between, stops_lasts}
 use Rattle.sn_events.specs.Answers.{Answers, AsksFirst, Costs, HasAll, IsChangeOf, Lacks, LacksFirst, MayMeet, NumbersIn, RoomIn, SinceIn, Writes, fits_with, is_fitting, writes_of}
 use Rattle.sn_events.specs.Changing.{FailsChange, IsLogged, errno_of, stops}
-use Rattle.sn_events.specs.Mounted.{RunsIn, in_frozen}
+use Rattle.sn_events.specs.Mounted.{RunsNow}
 use Rattle.sn_events.specs.Serving.{DropsFiles, IsUndecided, Serves, ServesFrom, ServesTo, Turns, reply_to}
 use Rattle.sn_events.specs.declared.fault.ChangeFault.{ChangeFault}
 use Rattle.sn_events.specs.declared.fault.ChangeFault.TheVariants as fault
@@ -107,10 +106,6 @@ none_dropped count room none = λ i. record room { dropped = same room.dropped i
     same : (k : ℕ) → k + count ≡ k
     same k = omega (arith, none)
 
--- what a call drops leaves no more files without names
-pub fewer_left : (w : World) (session : ℕ) (caller : Caller) → nameless_in (dropped (with_caller w session caller)).live ≤ nameless_in w.live
-fewer_left w session caller = let of = left_of_tree w session caller w.live in omega (arith, ap nameless_in of.live, drops_leave_fewer of.held w.live)
-
 -- an event that a state answers with a refusal, and that changes nothing
 kept : (h : Held) (has_stopped : Bool) (s : State) (session : ℕ) (c : Call) (met : Option Mishap) (reply : Reply) → ServesTo met h session c h.status → Means h has_stopped s → MayMeet h h (event.Call session c) met h.status → Costs s h h (event.Call session c) met h.status
     → RoomIn (event.Call session c) h h.disk met s h.room → EventStep version_1 s (event.Call session c) met reply s → ServesFrom s session c reply h h has_stopped
@@ -146,26 +141,16 @@ pub stopped_answers : (h : Held) (session : ℕ) (c : Call) → Answers (event.C
 stopped_answers h session c (Running w) m = absurd (true≢false m.0)
 stopped_answers h session c (Stopped before after) m = (kept h true (Stopped before after) session c None (refused Estopped) tt m refl refl tt (refl, refl)).answers
 
--- one that runs over a world with the frozen trees of another, which are its own
-pub in_own : (w : World) (h : Held) (x : World) → h.world ≡ x → x.frozen ≡ w.frozen → RunsWith h.point (in_frozen w h) (with_frozen w x) → RunsWith h.point h x
-in_own w h x is same r = subst (λ (k : Held). RunsWith h.point k x) held (subst (λ (y : World). RunsWith h.point (in_frozen w h) y) own r)
-  where
-    own : with_frozen w x ≡ x
-    own = λ i. record x { frozen = sym same i }
-
-    held : in_frozen w h ≡ h
-    held = λ i. record h { world = (ap (with_frozen w) is ∙ own ∙ sym is) i }
-
 -- ---- of one that runs, in the world that it holds
 
 abbrev pub OfWorld : Held → Bool → ℕ → Call → Reply → Held → Type 0
-OfWorld h has_stopped session c reply new = RunsWith h.point h h.world → h.world.frozen ≡ map.empty → ServesFrom (Running h.world) session c reply h new has_stopped
+OfWorld h has_stopped session c reply new = RunsWith h.point h h.world → ServesFrom (Running h.world) session c reply h new has_stopped
 
 -- so it is served in each state that is meant
 pub in_world : (h new : Held) (has_stopped : Bool) (session : ℕ) (c : Call) (reply : Reply) → OfWorld h has_stopped session c reply new → Serves (Some reply) h session c new has_stopped
 in_world h new has_stopped session c reply f (Running w) m =
     let is = (runs_with h w h.point m.1).is in
-    subst (λ (x : World). ServesFrom (Running x) session c reply h new has_stopped) is (f (subst (λ (x : World). RunsWith h.point h x) (sym is) m.1) (ap (λ (x : World). x.frozen) is ∙ m.2))
+    subst (λ (x : World). ServesFrom (Running x) session c reply h new has_stopped) is (f (subst (λ (x : World). RunsWith h.point h x) (sym is) m.1))
 in_world h new has_stopped session c reply f (Stopped before after) m = absurd (true≢false (sym m.0))
 
 -- a call that is refused asks for nothing
@@ -190,9 +175,9 @@ since_stays (SetSize number size) back since none n = refl
 since_stays (SetAttributes number own) back since none n = refl
 
 -- a read that failed, which the device counts
-read_fails : (h new : Held) (session : ℕ) (c : Call) → new ≡ record h { status = new.status } → FailsRead h.status new.status → TakesMemory c × IsOk (ready h.world session c) → RunsWith h.point h h.world → h.world.frozen ≡ map.empty
+read_fails : (h new : Held) (session : ℕ) (c : Call) → new ≡ record h { status = new.status } → FailsRead h.status new.status → TakesMemory c × IsOk (ready h.world session c) → RunsWith h.point h h.world
     → ServesFrom (Running h.world) session c (refused Eio) h new false
-read_fails h new session c is fails takes r bare = subst (λ (x : Held). ServesFrom (Running h.world) session c (refused Eio) h x false) (sym is) (record {
+read_fails h new session c is fails takes r = subst (λ (x : Held). ServesFrom (Running h.world) session c (refused Eio) h x false) (sym is) (record {
   answers = record {
     met = Some Read;
     fin = h;
@@ -202,8 +187,8 @@ read_fails h new session c is fails takes r bare = subst (λ (x : Held). ServesF
     may = count.0;
     next = Running h.world;
     step = (takes, record { told = refl; same = refl });
-    means = (refl, counted_with h.point h h.world new.status r, bare);
-    lasts = stays_lasts h false (Running h.world) (refl, r, bare);
+    means = (refl, counted_with h.point h h.world new.status r);
+    lasts = stays_lasts h false (Running h.world) (refl, r);
     writes = writes_nothing h (Running h.world) session c;
     begins = tt;
     numbers = stays_numbers session c (Some Read) (Running h.world) h.kept;
@@ -224,19 +209,19 @@ read_fails h new session c is fails takes r bare = subst (λ (x : Held). ServesF
 
 -- the call has no outcome
 pub undecided_serves : (h new : Held) (session : ℕ) (c : Call) (e : CallFault) → IsUndecided e h session c new → Serves (Some (reply_to e)) h session c new false
-undecided_serves h new session c e none = in_world h new false session c (reply_to e) (λ r bare. told r bare e none)
+undecided_serves h new session c e none = in_world h new false session c (reply_to e) (λ r. told r e none)
   where
-    told : RunsWith h.point h h.world → h.world.frozen ≡ map.empty → (e : CallFault) → IsUndecided e h session c new → ServesFrom (Running h.world) session c (reply_to e) h new false
-    told r bare (lack.Refused refusal) (none, same) = subst (λ (x : Held). ServesFrom (Running h.world) session c (answer.Refused refusal) h x false) (sym same)
-        (kept h false (Running h.world) session c None (answer.Refused refusal) tt (refl, r, bare) refl (λ asks. cannot_ask h session c refusal asks none, inl (refused_none h.world h.kept session c refusal none, refl)) (inl (refused_none h.world h.kept session c refusal none, nothing_dropped (nameless_in h.world.live) h.room))
+    told : RunsWith h.point h h.world → (e : CallFault) → IsUndecided e h session c new → ServesFrom (Running h.world) session c (reply_to e) h new false
+    told r (lack.Refused refusal) (none, same) = subst (λ (x : Held). ServesFrom (Running h.world) session c (answer.Refused refusal) h x false) (sym same)
+        (kept h false (Running h.world) session c None (answer.Refused refusal) tt (refl, r) refl (λ asks. cannot_ask h session c refusal asks none, inl (refused_none h.world h.kept session c refusal none, refl)) (inl (refused_none h.world h.kept session c refusal none, nothing_dropped (nameless_in h.world.live) h.room))
         (record { next = h.world; becomes = subst (λ (d : Result Outcome Refusal). Becomes version_1 h.world session d (answer.Refused refusal) h.world) (sym none) (refl, refl); runs = refl }))
-    told r bare lack.Memory (takes, same) = subst (λ (x : Held). ServesFrom (Running h.world) session c (refused Enomem) h x false) (sym same)
-        (kept h false (Running h.world) session c (Some Memory) (refused Enomem) tt (refl, r, bare) refl refl refl (takes, record { told = refl; same = refl }))
-    told r bare lack.Read (takes, same, fails) = read_fails h new session c same fails takes r bare
+    told r lack.Memory (takes, same) = subst (λ (x : Held). ServesFrom (Running h.world) session c (refused Enomem) h x false) (sym same)
+        (kept h false (Running h.world) session c (Some Memory) (refused Enomem) tt (refl, r) refl refl refl (takes, record { told = refl; same = refl }))
+    told r lack.Read (takes, same, fails) = read_fails h new session c same fails takes r
 
 -- there is no memory for what is to be opened
 pub unprepared_serves : (h : Held) (session : ℕ) (c : Call) (o : Outcome) → decision version_1 h.world session c ≡ Ok o → is_opening o.caller ≡ true → Serves (Some (refused Enomem)) h session c h false
-unprepared_serves h session c o decided opens = in_world h h false session c (refused Enomem) (λ r bare. kept h false (Running h.world) session c (Some Memory) (refused Enomem) tt (refl, r, bare) refl refl refl (opening_takes h.world session c o decided opens, record { told = refl; same = refl }))
+unprepared_serves h session c o decided opens = in_world h h false session c (refused Enomem) (λ r. kept h false (Running h.world) session c (Some Memory) (refused Enomem) tt (refl, r) refl refl refl (opening_takes h.world session c o decided opens, record { told = refl; same = refl }))
 
 pub figures : AreCharged version_1
 figures = record { inodes = omega arith; blocks = refl }
@@ -303,18 +288,18 @@ module _ (old : Held) (session : ℕ) (c : Call) (o : Outcome) (picked : Chosen)
 
   -- there is no memory for it, or the device fails
   pub unmade_serves : (new : Held) (f : ChangeFault) → FailsChange f change old new → HasAll old change o → Serves (Some (refused (errno_of f))) old session c new (stops f)
-  unmade_serves new f fails all = in_world old new (stops f) session c (refused (errno_of f)) (λ r bare. told f r bare fails)
+  unmade_serves new f fails all = in_world old new (stops f) session c (refused (errno_of f)) (λ r. told f r fails)
     where
-      told : (f : ChangeFault) → RunsWith old.point old old.world → old.world.frozen ≡ map.empty → FailsChange f change old new → ServesFrom (Running old.world) session c (refused (errno_of f)) old new (stops f)
-      told fault.Memory r bare fails = subst (λ (x : Held). ServesFrom (Running old.world) session c (refused Enomem) old x false) (sym fails)
-          (kept old false (Running old.world) session c (Some Memory) (refused Enomem) tt (refl, r, bare) refl refl refl (change_takes old.world old.kept session c o picked change decided chosen some, record { told = refl; same = refl }))
-      told fault.Read r bare fails = read_fails old new session c fails.0 fails.1 (change_takes old.world old.kept session c o picked change decided chosen some) r bare
-      told fault.Device r bare fails =
+      told : (f : ChangeFault) → RunsWith old.point old old.world → FailsChange f change old new → ServesFrom (Running old.world) session c (refused (errno_of f)) old new (stops f)
+      told fault.Memory r fails = subst (λ (x : Held). ServesFrom (Running old.world) session c (refused Enomem) old x false) (sym fails)
+          (kept old false (Running old.world) session c (Some Memory) (refused Enomem) tt (refl, r) refl refl refl (change_takes old.world old.kept session c o picked change decided chosen some, record { told = refl; same = refl }))
+      told fault.Read r fails = read_fails old new session c fails.0 fails.1 (change_takes old.world old.kept session c o picked change decided chosen some) r
+      told fault.Device r fails =
           let tree = fails.tree in
           let next = next_with tree in
           let runs = runs_with old old.world old.point r in
           let aged = subst HasAgeLeft (root_with old old.world old.point r) all.age in
-          let between = stops_between old new old.world next change tree runs can.spelled fails.applied (of_tree tree) whole.live.hierarchy (has_room all.fits) aged (fails.touched) bare (fails.moments) in
+          let between = stops_between old new old.world next change tree runs can.spelled fails.applied (of_tree tree) whole.live.hierarchy (has_room all.fits) aged (fails.touched) (fails.moments) in
           record {
             answers = record {
               met = Some Write;
@@ -333,7 +318,7 @@ module _ (old : Held) (session : ℕ) (c : Call) (o : Outcome) (picked : Chosen)
                 stops = record { told = refl; left = refl };
               };
               means = (refl, between);
-              lasts = stops_lasts old new old.world next change tree runs can.spelled fails.applied (of_tree tree) whole.live.hierarchy (has_room all.fits) aged (fails.touched) bare (fails.moments);
+              lasts = stops_lasts old new old.world next change tree runs can.spelled fails.applied (of_tree tree) whole.live.hierarchy (has_room all.fits) aged (fails.touched) (fails.moments);
               writes = inl (fails.touched);
               begins = tt;
               numbers = tt;
@@ -415,31 +400,31 @@ module _ (old : Held) (session : ℕ) (c : Call) (o : Outcome) (picked : Chosen)
     touched : Touches (InHalf (base_at old.at)) old.disk new.disk
     touched = subst (Touches (InHalf (base_at old.at)) old.disk) (sym disk_is) logged.touched
 
-    -- it runs on over the world that it makes, with whatever frozen trees
-    pub made_runs : (w : World) → RunsWith old.point (in_frozen w old) (with_frozen w old.world) → RunsWith new.point (in_frozen w new) (with_frozen w next)
-    made_runs w r =
+    -- it runs on over the world that it makes
+    made_runs : RunsNow old → RunsWith new.point new next
+    made_runs r =
         let of = of_tree tree in
         let more = subst (LeavesMore old.at change old.disk) (sym disk_is) logged.acknowledged in
-        subst (λ (p : Option Going). RunsWith p (in_frozen w new) (with_frozen w next)) (sym point_is)
-        (appends_with old.point (in_frozen w old) (in_frozen w new) (with_frozen w old.world) (with_frozen w next) change tree r can.spelled logged.made.applied (record { held = of.held; live = of.live; frozen = refl }) whole.live.hierarchy (room_along old.point all.fits) all.age touched more (subst (λ (d : Disk). AreSectors (reads d)) (sym disk_is) logged.sectors) (subst IsSynced (sym disk_is) logged.synced) at_is room_is (ap (with_frozen w) world_is)
+        subst (λ (p : Option Going). RunsWith p new next) (sym point_is)
+        (appends_with old.point old new old.world next change tree r can.spelled logged.made.applied of whole.live.hierarchy (room_along old.point all.fits) all.age touched more (subst (λ (d : Disk). AreSectors (reads d)) (sym disk_is) logged.sectors) (subst IsSynced (sym disk_is) logged.synced) at_is room_is world_is
         (no_fewer tree logged.made.applied) carried whole_next.live)
 
     pub made_whole : IsWorld version_1 new.world
     made_whole = subst (IsWorld version_1) (sym world_is) whole_next
 
-    pub made_in : RunsIn old → RunsIn new
-    made_in r = record { frozen = r.frozen; runs = subst (λ (x : World). RunsWith new.point (in_frozen r.frozen new) (with_frozen r.frozen x)) (sym world_is) (made_runs r.frozen r.runs) }
+    pub made_now : RunsNow old → RunsNow new
+    made_now r = subst (RunsWith new.point new) (sym world_is) (made_runs r)
 
     pub made_serves : asks_for_point c ≡ false → Serves (Some o.told) old session c new false
     made_serves alone = in_world old new false session c o.told told
       where
-        told : RunsWith old.point old old.world → old.world.frozen ≡ map.empty → ServesFrom (Running old.world) session c o.told old new false
-        told r bare =
+        told : RunsWith old.point old old.world → ServesFrom (Running old.world) session c o.told old new false
+        told r =
             let runs = runs_with old old.world old.point r in
             let aged = subst HasAgeLeft (root_with old old.world old.point r) all.age in
             let of = of_tree tree in
             let moments = subst (LeavesEither old.at change old.disk) (sym disk_is) (logged.moments) in
-            let on = in_own old.world new next world_is of.frozen (made_runs old.world r) in
+            let on = made_runs r in
             let served = chosen_served old.world old.kept session c o picked tree numbers whole decided chosen (by_change tree logged.made.applied) mid.kept new.kept by_mid by_last in
             record {
               answers = record {
@@ -451,8 +436,8 @@ module _ (old : Held) (session : ℕ) (c : Call) (o : Outcome) (picked : Chosen)
                 may = ap (λ (s : Status). s.failures) (status_is ∙ logged.costs);
                 next = Running next;
                 step = record { next = next; becomes = served.0; runs = refl };
-                means = (refl, on, still_none old new old.world next change tree runs can.spelled logged.made.applied of whole.live.hierarchy (has_room all.fits) aged touched bare);
-                lasts = runs_lasts old new old.world next change tree runs can.spelled logged.made.applied of whole.live.hierarchy (has_room all.fits) aged touched bare moments (runs_with new next new.point on);
+                means = (refl, on);
+                lasts = runs_lasts old new old.world next change tree runs can.spelled logged.made.applied of whole.live.hierarchy (has_room all.fits) aged touched moments (runs_with new next new.point on);
                 writes = inl touched;
                 begins = tt;
                 numbers = served.1;

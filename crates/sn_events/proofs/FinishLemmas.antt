@@ -1,6 +1,5 @@
 -- What an event answers behind the point in progress, once that is finished, or where it is cut off.
 use Rattle.std.proofs.Common.{◌≡◌, ◌⊎◌, inl, inr, ℕ, Bool, false, Option, Some, None, Err, Ok, refl, sym, ap, subst, ◌∙◌}
-use Rattle.std.specs.FinMap as map
 use Rattle.sn_limits.specs.Versions.{version_1}
 use Rattle.sn_model.specs.declared.call.Call.{Call}
 use Rattle.sn_model.specs.declared.call.Event.{Event}
@@ -73,10 +72,7 @@ one_finish e old fin last f needed (inl same) = subst (λ (h : Held). IsBehindFi
 one_finish e old fin last f needed (inr again) = none_is_none fin.point again.1.going f.between again.1.is
 
 -- what is answered behind it
-module _ (e : Event) (old fin new : Held) (f : IsFin old fin) (needed : NeedsPoint old e) (bare : old.world.frozen ≡ map.empty) where
-  bare_still : fin.world.frozen ≡ map.empty
-  bare_still = ap (λ (w : World). w.frozen) f.world ∙ bare
-
+module _ (e : Event) (old fin new : Held) (f : IsFin old fin) (needed : NeedsPoint old e) where
   pub behind_finish : (reply : Reply) (has_stopped : Bool) → StepsIn e (Running fin.world) reply old new → Works e reply old.status new.status → AnswersFrom (Running fin.world) e reply fin new has_stopped → AnswersFrom (Running old.world) e reply old new has_stopped
   behind_finish reply has_stopped steps works a = subst (λ (w : World). AnswersFrom (Running w) e reply old new has_stopped) f.world (record {
     met = a.met;
@@ -91,7 +87,7 @@ module _ (e : Event) (old fin new : Held) (f : IsFin old fin) (needed : NeedsPoi
     lasts = record {
       moments = LeavesOnly-join old.disk fin.disk new.disk (λ d. ShowsState (Running fin.world) d ⊎ ShowsState a.next d)
           (LeavesOnly-weaker old.disk fin.disk (λ d. IsImage d (settle old.world)) (λ d. ShowsState (Running fin.world) d ⊎ ShowsState a.next d)
-          (λ d im. inl (record { image = subst (λ (w : World). IsImage d (settle w)) (sym f.world) im; frozen = bare_still })) f.moments) a.lasts.moments;
+          (λ d im. inl (subst (λ (w : World). IsImage d (settle w)) (sym f.world) im)) f.moments) a.lasts.moments;
       answered = a.lasts.answered;
     };
     writes = a.writes;
@@ -108,38 +104,38 @@ module _ (e : Event) (old fin new : Held) (f : IsFin old fin) (needed : NeedsPoi
   -- from each state that is meant
   pub answers_behind : (reply : Reply) (has_stopped : Bool) → StepsIn e (Running fin.world) reply old new → Works e reply old.status new.status → Answers e reply fin false new has_stopped → AnswersFrom (Running old.world) e reply old new has_stopped
   answers_behind reply has_stopped steps works answers =
-      behind_finish reply has_stopped steps works (answers (Running fin.world) (refl, running_between fin fin.world f.between f.ready, bare_still))
+      behind_finish reply has_stopped steps works (answers (Running fin.world) (refl, running_between fin fin.world f.between f.ready))
 
 -- it was cut off
-pub cut_finish : (e : Event) (old : Held) (x : PointEvent e old old.world) (bare : old.world.frozen ≡ map.empty) (new : Held) (fault : PointFault) → FinishesSo (Err fault) old.point old new → AnswersFrom (Running old.world) e (refused (errno_of_point fault)) old new (stops_for fault)
-cut_finish e old x bare new fault so = told old.point so
+pub cut_finish : (e : Event) (old : Held) (x : PointEvent e old old.world) (new : Held) (fault : PointFault) → FinishesSo (Err fault) old.point old new → AnswersFrom (Running old.world) e (refused (errno_of_point fault)) old new (stops_for fault)
+cut_finish e old x new fault so = told old.point so
   where
     told : (at : Option Going) → FinishesSo (Err fault) at old new → AnswersFrom (Running old.world) e (refused (errno_of_point fault)) old new (stops_for fault)
     told None never = absurd never
     told (Some going) (is, cut) = subst (λ (f : PointFault). AnswersFrom (Running old.world) e (refused (errno_of_point f)) old new (stops_for f)) (sym is)
-        (is_cut e old x bare new cut.touched cut.moments cut.failed cut.later (inr (record { needed = x.needed; going = cut.going; is = cut.is; costs = cut.costs })))
+        (is_cut e old x new cut.touched cut.moments cut.failed cut.later (inr (record { needed = x.needed; going = cut.going; is = cut.is; costs = cut.costs })))
 
 -- ---- a call that lacked something
 
 pub call_after_finish : (old asked fin new : Held) (session : ℕ) (c : Call) (reply : Reply) (has_stopped : Bool) → Serves None old session c asked false → Finishes (Ok (tt {0})) asked fin → Answers (event.Call session c) reply fin false new has_stopped → Answers (event.Call session c) reply old false new has_stopped
 call_after_finish old asked fin new session c reply has_stopped lacks finishes answers =
-    in_any_world (event.Call session c) old new reply has_stopped (λ r bare.
+    in_any_world (event.Call session c) old new reply has_stopped (λ r.
     let f = is_fin old fin (subst (λ (h : Held). Finishes (Ok (tt {0})) h fin) lacks.1 finishes r) r in
-    answers_behind (event.Call session c) old fin new f (inl lacks.0) bare reply has_stopped tt tt answers)
+    answers_behind (event.Call session c) old fin new f (inl lacks.0) reply has_stopped tt tt answers)
 
 pub call_cut : (old asked new : Held) (session : ℕ) (c : Call) (fault : PointFault) → IsWorld version_1 old.world → Serves None old session c asked false → Finishes (Err fault) asked new → Answers (event.Call session c) (refused (errno_of_point fault)) old false new (stops_for fault)
 call_cut old asked new session c fault whole lacks finishes =
-    in_any_world (event.Call session c) old new (refused (errno_of_point fault)) (stops_for fault) (λ r bare.
-    cut_finish (event.Call session c) old (call_point old session c lacks.2 whole lacks.0) bare new fault (subst (λ (h : Held). Finishes (Err fault) h new) lacks.1 finishes r))
+    in_any_world (event.Call session c) old new (refused (errno_of_point fault)) (stops_for fault) (λ r.
+    cut_finish (event.Call session c) old (call_point old session c lacks.2 whole lacks.0) new fault (subst (λ (h : Held). Finishes (Err fault) h new) lacks.1 finishes r))
 
 -- ---- a restart
 
 pub restart_refused : (old new : Held) (fault : PointFault) → (RunsWith old.point old old.world → IsRefusedFor fault old new) → Answers event.Restart (refused (errno_of_point fault)) old false new (stops_for fault)
-restart_refused old new fault refuses = in_any_world event.Restart old new (refused (errno_of_point fault)) (stops_for fault) (λ r bare. told r bare (refuses r))
+restart_refused old new fault refuses = in_any_world event.Restart old new (refused (errno_of_point fault)) (stops_for fault) (λ r. told r (refuses r))
   where
-    told : RunsWith old.point old old.world → old.world.frozen ≡ map.empty → IsRefusedFor fault old new → AnswersFrom (Running old.world) event.Restart (refused (errno_of_point fault)) old new (stops_for fault)
-    told r bare (inl cut) = cut_finish event.Restart old (unmount_point old) bare new fault cut
-    told r bare (inr (fin, so, unpointed)) =
+    told : RunsWith old.point old old.world → IsRefusedFor fault old new → AnswersFrom (Running old.world) event.Restart (refused (errno_of_point fault)) old new (stops_for fault)
+    told r (inl cut) = cut_finish event.Restart old (unmount_point old) new fault cut
+    told r (inr (fin, so, unpointed)) =
         let f = is_fin old fin so r in
-        behind_finish event.Restart old fin new f tt bare (refused (errno_of_point fault)) (stops_for fault) tt tt
-        (unpointed_restart fin new fault f.between f.ready (ap (λ (w : World). w.frozen) f.world ∙ bare) unpointed)
+        behind_finish event.Restart old fin new f tt (refused (errno_of_point fault)) (stops_for fault) tt tt
+        (unpointed_restart fin new fault f.between f.ready unpointed)

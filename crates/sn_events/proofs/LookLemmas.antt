@@ -12,7 +12,7 @@ use Rattle.sn_held.specs.Held.{Held}
 use Rattle.sn_limits.specs.Versions.{version_1}
 use Rattle.sn_live_world.specs.Faults.{CountsCall, CountsCallFault, CountsLook, CountsLookFault}
 use Rattle.sn_live_world.specs.Turned.{Decides, HasNone}
-use Rattle.sn_live_world.specs.World.{Alike}
+use Rattle.sn_live_world.specs.World.{Alike, world_in}
 use Rattle.sn_live_world.specs.declared.fault.CallFault.{CallFault}
 use Rattle.sn_live_world.specs.declared.fault.CallFault.TheVariants.{Refused, Memory, Read}
 use Rattle.sn_live_world.specs.declared.fault.LookFault.{LookFault}
@@ -20,15 +20,15 @@ use Rattle.sn_live_world.specs.declared.fault.LookFault.TheVariants as look
 use Rattle.sn_live_world.specs.declared.world.LiveWorld.{LiveWorld}
 use Rattle.sn_log.specs.Positions.{LogPosition}
 use Rattle.sn_model.specs.Steps.{decision}
+use Rattle.sn_model.specs.World.{World}
 use Rattle.sn_model.specs.Worlds.{IsWorld}
 use Rattle.sn_model.specs.declared.call.Call.{Call}
 use Rattle.sn_model.specs.declared.change.Change.{Change}
 use Rattle.sn_model.specs.declared.outcome.Outcome.{Outcome}
-use Rattle.sn_mount.specs.Recovering.{with_frozen}
 use Rattle.sn_room.specs.Rooms.{RoomCounts}
 use Rattle.sn_cp_whole.specs.Planning.{kept_in}
 use Rattle.sn_events.specs.Changing.{FailsChange, change_fault}
-use Rattle.sn_events.specs.Mounted.{IsMeant, RunsIn, going_in, holding_on, in_frozen, tree_at}
+use Rattle.sn_events.specs.Mounted.{IsMeant, RunsNow, going_in, holding_on, tree_at, trees_there}
 use Rattle.sn_events.specs.Serving.{IsUndecided}
 
 -- ---- what is counted
@@ -104,16 +104,19 @@ module _ (disk now : Disk) (status after : Status) (at : LogPosition) (world : L
   meant_looked m = subst (λ (d : Disk). IsMeant d after at world room base going) (sym same) (record {
     over = m.over;
     whole = m.whole;
-    runs = record { frozen = m.runs.frozen; runs = counted_with (going_in going) (in_frozen m.runs.frozen h) (with_frozen m.runs.frozen h.world) after m.runs.runs };
+    runs = counted_with (going_in going) h h.world after m.runs;
     stands = m.stands;
   })
 
 -- ---- another state of the live tree, that shows the same
 
 module _ (disk : Disk) (status : Status) (at : LogPosition) (old new : LiveWorld) (room : RoomCounts) (base : PointBase) (going : Option GoingPoint) (alike : Alike old new) where
+  alike_worlds : world_in new (trees_there disk base.root) ≡ world_in old (trees_there disk base.root)
+  alike_worlds = ap (λ (w : World). record w { frozen = (trees_there disk base.root).frozen }) (alike.worlds (tree_at disk base.root))
+
   pub alike_held : holding_on disk status at new room base going ≡ holding_on disk status at old room base going
   alike_held = λ i. record (holding_on disk status at old room base going) {
-    world = alike.worlds (tree_at disk base.root) i;
+    world = alike_worlds i;
     kept = λ n. alike.kept n i;
     kept_since = λ n. alike.since n i;
     base = kept_in base (alike.changes i);
@@ -122,7 +125,7 @@ module _ (disk : Disk) (status : Status) (at : LogPosition) (old new : LiveWorld
   pub alike_meant : IsMeant disk status at old room base going → IsMeant disk status at new room base going
   alike_meant m = record {
     over = alike.over (tree_at disk base.root) m.over;
-    whole = subst (IsWorld version_1) (sym (alike.worlds (tree_at disk base.root))) m.whole;
-    runs = subst RunsIn (sym alike_held) m.runs;
+    whole = subst (IsWorld version_1) (sym alike_worlds) m.whole;
+    runs = subst RunsNow (sym alike_held) m.runs;
     stands = m.stands;
   }

@@ -23,7 +23,7 @@ mounts sectors old h r clean none none_since between = record {
   touched = r.0;
   runs = λ world image. let is = r.1 world image in record {
     room = is.room_is;
-    means = (refl, running_between h world between (subst (λ (w : World). RunsReady (record h { world = w }) world h.base) (sym is.is) (subst (λ (p : Option Going). RunsReady (record h { world = world; point = p }) world h.base) (sym between) (is.runs h.kept h.kept_since h.status))), image.frozen);
+    means = (refl, running_between h world between (subst (λ (w : World). RunsReady (record h { world = w }) world h.base) (sym is.is) (subst (λ (p : Option Going). RunsReady (record h { world = world; point = p }) world h.base) (sym between) (is.runs h.kept h.kept_since h.status))));
     leaves = is.leaves;
   };
 }

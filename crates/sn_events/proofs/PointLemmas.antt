@@ -1,6 +1,5 @@
 -- What an event answers that makes a whole point first, or whose point isn't made.
 use Rattle.std.proofs.Common.{◌≡◌, ◌≢◌, ◌⊎◌, inl, inr, ℕ, ◌+◌, ◌<◌, Bool, true, false, Option, Some, None, Err, Ok, refl, sym, ap, subst, ◌∙◌, arith}
-use Rattle.std.specs.FinMap as map
 use Rattle.std.specs.Prelude.{IsOk}
 use Rattle.std.proofs.lemmas.Bool.{true≢false}
 use Rattle.sn_limits.specs.Versions.{version_1}
@@ -37,9 +36,9 @@ use Rattle.sn_room.specs.Rooms.{RoomCounts}
 use Rattle.sn_held.specs.Held.{Going, Held, Kept, RunsReady}
 use Rattle.sn_cp_progress.specs.Meaning.{RunsWith}
 use Rattle.sn_cp_progress.proofs.MeaningLemmas.{runs_with, stays_lasts}
-use Rattle.sn_held.specs.Images.{IsImage, IsLiveImage}
+use Rattle.sn_held.specs.Images.{IsImage}
 use Rattle.sn_held.specs.Moments.{ShowsState}
-use Rattle.sn_held.proofs.EventLemmas.{live_show, ready_with}
+use Rattle.sn_held.proofs.EventLemmas.{ready_with, runs_show}
 use Rattle.sn_overlay.specs.Layers.{Layer}
 use Rattle.sn_overlay.specs.Needs.{need}
 use Rattle.sn_cp_whole.specs.Making.{HasCauseFor, MakesPoint, most_syncs, most_writes}
@@ -55,15 +54,15 @@ use Rattle.sn_events.proofs.ReadLemmas.{fails_read}
 use Rattle.sn_events.proofs.DecisionLemmas.{CanBeMade, can_be_made, is_charged}
 
 -- what is so of the world that is held is so of the one that is meant
-pub in_any_world : (e : Event) (old new : Held) (reply : Reply) (has_stopped : Bool) → (RunsWith old.point old old.world → old.world.frozen ≡ map.empty → AnswersFrom (Running old.world) e reply old new has_stopped) → Answers e reply old false new has_stopped
+pub in_any_world : (e : Event) (old new : Held) (reply : Reply) (has_stopped : Bool) → (RunsWith old.point old old.world → AnswersFrom (Running old.world) e reply old new has_stopped) → Answers e reply old false new has_stopped
 in_any_world e old new reply has_stopped f (Running w) m =
     let is = (runs_with old w old.point m.1).is in
-    subst (λ (x : World). AnswersFrom (Running x) e reply old new has_stopped) is (f (subst (λ (x : World). RunsWith old.point old x) (sym is) m.1) (ap (λ (x : World). x.frozen) is ∙ m.2))
+    subst (λ (x : World). AnswersFrom (Running x) e reply old new has_stopped) is (f (subst (λ (x : World). RunsWith old.point old x) (sym is) m.1))
 in_any_world e old new reply has_stopped f (Stopped before after) m = absurd (true≢false (sym m.0))
 
 -- where no point is in progress
-pub in_its_world : (e : Event) (old new : Held) (reply : Reply) (has_stopped : Bool) → old.point ≡ None → (RunsReady old old.world old.base → old.world.frozen ≡ map.empty → AnswersFrom (Running old.world) e reply old new has_stopped) → Answers e reply old false new has_stopped
-in_its_world e old new reply has_stopped between f = in_any_world e old new reply has_stopped (λ r bare. f (subst (λ (p : Option Going). RunsWith p old old.world) between r) bare)
+pub in_its_world : (e : Event) (old new : Held) (reply : Reply) (has_stopped : Bool) → old.point ≡ None → (RunsReady old old.world old.base → AnswersFrom (Running old.world) e reply old new has_stopped) → Answers e reply old false new has_stopped
+in_its_world e old new reply has_stopped between f = in_any_world e old new reply has_stopped (λ r. f (subst (λ (p : Option Going). RunsWith p old old.world) between r))
 
 -- it runs without one
 pub running_between : (h : Held) (world : World) → h.point ≡ None → RunsReady h world h.base → RunsWith h.point h world
@@ -93,8 +92,8 @@ made_point e old mid needed p = record {
 }
 
 -- it shows the settled world all the time
-pub settled_all : (e : Event) (old mid : Held) → IsPointed e old mid → old.world.frozen ≡ map.empty → LeavesOnly old.disk mid.disk (λ c. IsLiveImage c (settle old.world))
-settled_all e old mid p bare = LeavesOnly-weaker old.disk mid.disk (λ c. IsImage c (settle old.world)) (λ c. IsLiveImage c (settle old.world)) (λ c im. record { image = im; frozen = bare }) p.moments
+pub settled_all : (e : Event) (old mid : Held) → IsPointed e old mid → LeavesOnly old.disk mid.disk (λ c. IsImage c (settle old.world))
+settled_all e old mid p = p.moments
 
 pub none_failed : (old mid new : Status) → mid.failures ≡ old.failures → HasNotFailed mid new → HasNotFailed old new
 none_failed old mid new same none = none ∙ same
@@ -105,7 +104,7 @@ some_failed old mid new same (inr ended) = inr ended
 
 -- ---- a call that is served behind it
 
-module _ (old mid new : Held) (session : ℕ) (c : Call) (needed : NeedsPoint old (event.Call session c)) (p : IsPointed (event.Call session c) old mid) (bare : old.world.frozen ≡ map.empty) where
+module _ (old mid new : Held) (session : ℕ) (c : Call) (needed : NeedsPoint old (event.Call session c)) (p : IsPointed (event.Call session c) old mid) where
   abbrev e : Event
   e = event.Call session c
 
@@ -160,7 +159,7 @@ module _ (old mid new : Held) (session : ℕ) (c : Call) (needed : NeedsPoint ol
         means = a.means;
         lasts = record {
           moments = LeavesOnly-join old.disk mid.disk new.disk (λ d. ShowsState (Running old.world) d ⊎ ShowsState a.next d)
-              (LeavesOnly-weaker old.disk mid.disk (λ d. IsLiveImage d (settle old.world)) (λ d. ShowsState (Running old.world) d ⊎ ShowsState a.next d) (λ d h. inl h) (settled_all e old mid p bare)) a.lasts.moments;
+              (LeavesOnly-weaker old.disk mid.disk (λ d. IsImage d (settle old.world)) (λ d. ShowsState (Running old.world) d ⊎ ShowsState a.next d) (λ d h. inl h) (settled_all e old mid p)) a.lasts.moments;
           answered = a.lasts.answered;
         };
         writes = inr (needed, beside served.wrote);
@@ -208,8 +207,8 @@ still_lacks fit e old mid session c whole made lacks = record { change = change;
     told (inr (inr (inl kept))) = absurd (true≢false (sym kept ∙ gives_none change mid.kept made.none_kept))
     told (inr (inr (inr over))) = absurd (over made.age)
 
-space_answers : PayloadsFit → (old mid : Held) (session : ℕ) (c : Call) → IsWorld version_1 mid.world → LacksFirst old session c → IsPointed (event.Call session c) old mid → old.world.frozen ≡ map.empty → LacksFirst mid session c → AnswersFrom (Running old.world) (event.Call session c) (refused Enospc) old mid false
-space_answers fit old mid session c whole needed p bare lacks = record {
+space_answers : PayloadsFit → (old mid : Held) (session : ℕ) (c : Call) → IsWorld version_1 mid.world → LacksFirst old session c → IsPointed (event.Call session c) old mid → LacksFirst mid session c → AnswersFrom (Running old.world) (event.Call session c) (refused Enospc) old mid false
+space_answers fit old mid session c whole needed p lacks = record {
   met = Some Space;
   fin = old;
   finish = inl refl;
@@ -218,10 +217,10 @@ space_answers fit old mid session c whole needed p bare lacks = record {
   may = (still_lacks fit (event.Call session c) old mid session c whole made lacks, made, ap (λ (s : Status). s.failures) p.costs);
   next = Running old.world;
   step = (subst (λ (w : World). IsCharged version_1 w session c) p.world (lacks.is.outcome, lacks.is.decided, is_charged mid.world mid.kept session c lacks.is.outcome lacks.is.picked lacks.change lacks.is.decided lacks.is.chosen lacks.is.is), record { told = refl; same = refl });
-  means = (refl, running_between mid old.world p.point p.runs, bare);
+  means = (refl, running_between mid old.world p.point p.runs);
   lasts = record {
-    moments = LeavesOnly-weaker old.disk mid.disk (λ d. IsLiveImage d (settle old.world)) (λ d. ShowsState (Running old.world) d ⊎ ShowsState (Running old.world) d) (λ d h. inl h) (settled_all (event.Call session c) old mid p bare);
-    answered = live_show mid old.world p.runs.runs bare;
+    moments = LeavesOnly-weaker old.disk mid.disk (λ d. IsImage d (settle old.world)) (λ d. ShowsState (Running old.world) d ⊎ ShowsState (Running old.world) d) (λ d h. inl h) (settled_all (event.Call session c) old mid p);
+    answered = runs_show mid old.world p.runs.runs;
   };
   writes = inr (inl needed, p.touched);
   begins = tt;
@@ -301,11 +300,11 @@ pub record PointEvent (e : Event) (old : Held) (w : World) : Type 0 where
   pub costs_cut : (new : Status) → IsCutAtPoint old e new → Costs (Running w) old old e (Some Write) new
 
 -- it was cut off, and either world may be there, of which the first is
-pub is_cut : (e : Event) (old : Held) (x : PointEvent e old old.world) (bare : old.world.frozen ≡ map.empty) (new : Held) → Touches (IsBesideRoot old) old.disk new.disk → LeavesOnly old.disk new.disk (λ c. IsImage c (settle old.world)) → HasFailed old.status new.status
+pub is_cut : (e : Event) (old : Held) (x : PointEvent e old old.world) (new : Held) → Touches (IsBesideRoot old) old.disk new.disk → LeavesOnly old.disk new.disk (λ c. IsImage c (settle old.world)) → HasFailed old.status new.status
     → IsLater old.status new.status → IsCutAtPoint old e new.status → AnswersFrom (Running old.world) e (refused Eio) old new true
-is_cut e old x bare new touched settled_always failed later cut =
-    let moments = LeavesOnly-weaker old.disk new.disk (λ d. IsImage d (settle old.world)) (λ d. IsLiveImage d (settle old.world) ⊎ IsLiveImage d x.after) (λ d im. inl (record { image = im; frozen = bare })) settled_always in
-    let now = LeavesOnly-now old.disk new.disk (λ d. IsLiveImage d (settle old.world) ⊎ IsLiveImage d x.after) moments in
+is_cut e old x new touched settled_always failed later cut =
+    let moments = LeavesOnly-weaker old.disk new.disk (λ d. IsImage d (settle old.world)) (λ d. IsImage d (settle old.world) ⊎ IsImage d x.after) (λ d im. inl im) settled_always in
+    let now = LeavesOnly-now old.disk new.disk (λ d. IsImage d (settle old.world) ⊎ IsImage d x.after) moments in
     record {
       met = Some Write;
       fin = old;
@@ -317,7 +316,7 @@ is_cut e old x bare new touched settled_always failed later cut =
       step = x.cut;
       means = (refl, now);
       lasts = record {
-        moments = LeavesOnly-weaker old.disk new.disk (λ d. IsLiveImage d (settle old.world) ⊎ IsLiveImage d x.after) (λ d. ShowsState (Running old.world) d ⊎ ShowsState (Stopped (settle old.world) x.after) d) (λ d h. inr h) moments;
+        moments = LeavesOnly-weaker old.disk new.disk (λ d. IsImage d (settle old.world) ⊎ IsImage d x.after) (λ d. ShowsState (Running old.world) d ⊎ ShowsState (Stopped (settle old.world) x.after) d) (λ d h. inr h) moments;
         answered = now;
       };
       writes = x.writes new.disk touched;
@@ -331,7 +330,7 @@ is_cut e old x bare new touched settled_always failed later cut =
       works = x.works Write new.status;
     }
 
-module _ (e : Event) (old : Held) (x : PointEvent e old old.world) (between : old.point ≡ None) (r : RunsReady old old.world old.base) (bare : old.world.frozen ≡ map.empty) where
+module _ (e : Event) (old : Held) (x : PointEvent e old old.world) (between : old.point ≡ None) (r : RunsReady old old.world old.base) where
   abbrev running : RunsWith old.point old old.world
   running = running_between old old.world between r
 
@@ -346,8 +345,8 @@ module _ (e : Event) (old : Held) (x : PointEvent e old old.world) (between : ol
     may = may;
     next = Running old.world;
     step = step;
-    means = (refl, running, bare);
-    lasts = stays_lasts old false (Running old.world) (refl, running, bare);
+    means = (refl, running);
+    lasts = stays_lasts old false (Running old.world) (refl, running);
     writes = x.writes old.disk (Touches-start (IsBesideRoot old) old.disk);
     begins = x.begins m (Running old.world) old.disk;
     numbers = x.numbers m;
@@ -372,8 +371,8 @@ module _ (e : Event) (old : Held) (x : PointEvent e old old.world) (between : ol
         may = told.0;
         next = Running old.world;
         step = x.read;
-        means = (refl, running_between (record old { status = new.status }) old.world between (ready_with old old.world old.base old.kept old.kept_since old.base old.point new.status r), bare);
-        lasts = stays_lasts old false (Running old.world) (refl, running, bare);
+        means = (refl, running_between (record old { status = new.status }) old.world between (ready_with old old.world old.base old.kept old.kept_since old.base old.point new.status r));
+        lasts = stays_lasts old false (Running old.world) (refl, running);
         writes = x.writes old.disk (Touches-start (IsBesideRoot old) old.disk);
         begins = x.begins Read (Running old.world) old.disk;
         numbers = x.numbers Read;
@@ -390,7 +389,7 @@ module _ (e : Event) (old : Held) (x : PointEvent e old old.world) (between : ol
   unpointed_answers point.Age new is = subst (λ (h : Held). AnswersFrom (Running old.world) e (refused Elimit) old h false) (sym is.0) (refuses Age tt (x.needed, is.1, refl) x.age)
   unpointed_answers point.Read new is = cannot_read new is.0 is.1
   unpointed_answers point.Damaged new is = absurd is
-  unpointed_answers point.Device new is = is_cut e old x bare new is.touched is.moments is.failed is.later (inl (record { needed = x.needed; built = is.built; builds = is.builds; costs = is.costs }))
+  unpointed_answers point.Device new is = is_cut e old x new is.touched is.moments is.failed is.later (inl (record { needed = x.needed; built = is.built; builds = is.builds; costs = is.costs }))
 
 -- ---- a call
 
@@ -444,9 +443,9 @@ call_point old session c numbers whole needed = record {
     takes : TakesMemory c × IsOk (ready old.world session c)
     takes = change_takes old.world old.kept session c o is.picked needed.change is.decided is.chosen is.is
 
-unpointed_call : (old new : Held) (session : ℕ) (c : Call) (fault : PointFault) → IsCall c → IsWorld version_1 old.world → LacksFirst old session c → old.point ≡ None → RunsReady old old.world old.base → old.world.frozen ≡ map.empty → IsUnpointed fault (event.Call session c) old new
+unpointed_call : (old new : Held) (session : ℕ) (c : Call) (fault : PointFault) → IsCall c → IsWorld version_1 old.world → LacksFirst old session c → old.point ≡ None → RunsReady old old.world old.base → IsUnpointed fault (event.Call session c) old new
     → AnswersFrom (Running old.world) (event.Call session c) (refused (errno_of_point fault)) old new (stops_for fault)
-unpointed_call old new session c fault numbers whole needed between r bare is = unpointed_answers (event.Call session c) old (call_point old session c numbers whole needed) between r bare fault new is
+unpointed_call old new session c fault numbers whole needed between r is = unpointed_answers (event.Call session c) old (call_point old session c numbers whole needed) between r fault new is
 
 -- a point that isn't made in a call is as one in a step
 pub unmade_in_call : (fault : PointFault) (session : ℕ) (c : Call) (old new : Held) → IsUnpointed fault event.Step old new → IsUnpointed fault (event.Call session c) old new
@@ -459,16 +458,16 @@ unmade_in_call point.Device session c old new is = is
 -- the same in each world that is meant
 pub call_behind : (old mid new : Held) (session : ℕ) (c : Call) (reply : Reply) (has_stopped : Bool) → old.point ≡ None → LacksFirst old session c → Points (Ok tt) old mid → Serves (Some reply) mid session c new has_stopped → Answers (event.Call session c) reply old false new has_stopped
 call_behind old mid new session c reply has_stopped between needed points serves =
-    in_its_world (event.Call session c) old new reply has_stopped between (λ r bare. let p = points r in behind_point old mid new session c (inl needed) p bare (serves (Running old.world) (refl, running_between mid old.world p.point p.runs, bare)))
+    in_its_world (event.Call session c) old new reply has_stopped between (λ r. let p = points r in behind_point old mid new session c (inl needed) p (serves (Running old.world) (refl, running_between mid old.world p.point p.runs)))
 
 pub call_without_room : PayloadsFit → (old mid new : Held) (session : ℕ) (c : Call) → IsWorld version_1 mid.world → old.point ≡ None → LacksFirst old session c → Points (Ok tt) old mid → Serves None mid session c new false → Answers (event.Call session c) (refused Enospc) old false new false
 call_without_room fit old mid new session c whole between needed points serves =
     subst (λ (h : Held). Answers (event.Call session c) (refused Enospc) old false h false) (sym serves.1)
-    (in_its_world (event.Call session c) old mid (refused Enospc) false between (λ r bare. space_answers fit old mid session c whole needed (points r) bare serves.0))
+    (in_its_world (event.Call session c) old mid (refused Enospc) false between (λ r. space_answers fit old mid session c whole needed (points r) serves.0))
 
 pub call_unpointed : (old new : Held) (session : ℕ) (c : Call) (fault : PointFault) → IsCall c → IsWorld version_1 old.world → old.point ≡ None → LacksFirst old session c → Points (Err fault) old new → Answers (event.Call session c) (refused (errno_of_point fault)) old false new (stops_for fault)
 call_unpointed old new session c fault numbers whole between needed points =
-    in_its_world (event.Call session c) old new (refused (errno_of_point fault)) (stops_for fault) between (λ r bare. unpointed_call old new session c fault numbers whole needed between r bare (unmade_in_call fault session c old new (points r)))
+    in_its_world (event.Call session c) old new (refused (errno_of_point fault)) (stops_for fault) between (λ r. unpointed_call old new session c fault numbers whole needed between r (unmade_in_call fault session c old new (points r)))
 
 -- ---- a restart whose unmount is refused
 
@@ -500,6 +499,6 @@ unmount_point old = record {
     none Space is = absurd is
     none Age is = refl
 
-pub unpointed_restart : (old new : Held) (fault : PointFault) → old.point ≡ None → RunsReady old old.world old.base → old.world.frozen ≡ map.empty → IsUnpointed fault event.Restart old new
+pub unpointed_restart : (old new : Held) (fault : PointFault) → old.point ≡ None → RunsReady old old.world old.base → IsUnpointed fault event.Restart old new
     → AnswersFrom (Running old.world) event.Restart (refused (errno_of_point fault)) old new (stops_for fault)
-unpointed_restart old new fault between r bare is = unpointed_answers event.Restart old (unmount_point old) between r bare fault new is
+unpointed_restart old new fault between r is = unpointed_answers event.Restart old (unmount_point old) between r fault new is

@@ -54,9 +54,6 @@ stands_still (Some going) at base old new is whole touched stands =
 pub still_stands : (going still : Option GoingPoint) (at : LogPosition) (base : PointBase) (old new : Disk) → still ≡ going → IsBased going at base → AreSectors (reads old) → Touches (InHalf (base_at at)) old new → StandsThere going old → StandsThere still new
 still_stands going still at base old new there based whole touched stands = subst (λ (g : Option GoingPoint). StandsThere g new) (sym there) (stands_still going at base old new based whole touched stands)
 
-pub same_twice : (a b c : PointBase) → IsSameRoot a b → IsSameRoot b c → IsSameRoot a c
-same_twice a b c first second = record { slot = second.slot ∙ first.slot; root = second.root ∙ first.root; map = second.map ∙ first.map }
-
 -- what a change lacks, as the call that came to it says it
 pub some_lack : (h p : Held) (o : Outcome) (change : Change) (enough told : Bool) → p ≡ h → enough ≡ is_fitting h o → told ≡ true → TellsLack told p change enough → LacksSome h change (is_fitting h o)
 some_lack h p o change enough told same fits is lacks =
@@ -77,7 +74,3 @@ pub still_same : (f : ChangeFault) (change : Change) (old new : Held) → FailsC
 still_same fault.Memory change old new fails runs = λ i. record (fails i) { status = new.status }
 still_same fault.Read change old new fails runs = fails.0
 still_same fault.Device change old new fails runs = absurd (true≢false runs)
-
--- where the disk is as it was, the point in progress stands there still
-pub stands_same : (going still : Option GoingPoint) (old new : Disk) → still ≡ going → new ≡ old → StandsThere going old → StandsThere still new
-stands_same going still old new there same stands = subst (λ (g : Option GoingPoint). StandsThere g new) (sym there) (subst (StandsThere going) (sym same) stands)

@@ -1,6 +1,5 @@
 -- What a step answers.
 use Rattle.std.proofs.Common.{◌≡◌, ◌⊎◌, inl, inr, ℕ, ◌+◌, ◌<◌, ◌≤◌, false, true, Some, None, Err, Ok, refl, sym, ap, subst, arith}
-use Rattle.std.specs.FinMap as map
 use Rattle.std.proofs.lemmas.Bool.{true≢false}
 use Rattle.sn_limits.specs.Versions.{version_1}
 use Rattle.sn_model.specs.declared.call.Event.TheVariants as event
@@ -17,9 +16,9 @@ use Rattle.sn_device.specs.Crash.{LeavesOnly, Touches}
 use Rattle.sn_device.specs.declared.status.Status.{Status}
 use Rattle.sn_device.proofs.CrashLemmas.{LeavesOnly-now, LeavesOnly-weaker, Touches-start}
 use Rattle.sn_held.specs.Held.{Held}
-use Rattle.sn_held.specs.Images.{IsImage, IsLiveImage}
+use Rattle.sn_held.specs.Images.{IsImage}
 use Rattle.sn_held.specs.Moments.{LastsOver, ShowsState}
-use Rattle.sn_held.proofs.EventLemmas.{live_show}
+use Rattle.sn_held.proofs.EventLemmas.{runs_show}
 use Rattle.sn_cp.specs.declared.stage.Stage.TheVariants.{Bodied}
 use Rattle.sn_cp_progress.specs.Meaning.{RunsWith}
 use Rattle.sn_cp_progress.proofs.MeaningLemmas.{counted_with, runs_with, stays_lasts}
@@ -59,18 +58,18 @@ done_is_not_more : answer.Progress progress.Done ≡ answer.Progress progress.Mo
 done_is_not_more e = cc
 
 -- a crash leaves the settled world on the way, and so it does behind it
-goes_on_lasting : (old new : Held) → LeavesOnly old.disk new.disk (λ c. IsImage c (settle old.world)) → RunsWith new.point new old.world → old.world.frozen ≡ map.empty → LastsOver (Running old.world) (Running old.world) old.disk new.disk
-goes_on_lasting old new moments runs bare = record {
-  moments = LeavesOnly-weaker old.disk new.disk (λ d. IsImage d (settle old.world)) (λ d. ShowsState (Running old.world) d ⊎ ShowsState (Running old.world) d) (λ d im. inl (record { image = im; frozen = bare })) moments;
-  answered = live_show new old.world (runs_with new old.world new.point runs) bare;
+goes_on_lasting : (old new : Held) → LeavesOnly old.disk new.disk (λ c. IsImage c (settle old.world)) → RunsWith new.point new old.world → LastsOver (Running old.world) (Running old.world) old.disk new.disk
+goes_on_lasting old new moments runs = record {
+  moments = LeavesOnly-weaker old.disk new.disk (λ d. IsImage d (settle old.world)) (λ d. ShowsState (Running old.world) d ⊎ ShowsState (Running old.world) d) (λ d im. inl im) moments;
+  answered = runs_show new old.world (runs_with new old.world new.point runs);
 }
 
 -- it has begun a point, or gone on with one
 more_step : (writes syncs : ℕ) (old new : Held) → HasBegun old new ⊎ HasGoneOn old new → ((n : ℕ) → new.kept n ≡ old.kept n) → new.status ≡ called writes syncs old.status
     → (old.status.writes < new.status.writes) × (new.status.writes ≤ old.status.writes + 8) × (new.status.syncs ≤ old.status.syncs + 1)
-    → LeavesOnly old.disk new.disk (λ c. IsImage c (settle old.world)) → Touches (IsBesideRoot old) old.disk new.disk → RunsWith new.point new old.world → old.world.frozen ≡ map.empty
+    → LeavesOnly old.disk new.disk (λ c. IsImage c (settle old.world)) → Touches (IsBesideRoot old) old.disk new.disk → RunsWith new.point new old.world
     → AnswersFrom (Running old.world) event.Step (answer.Progress progress.More) old new false
-more_step writes syncs old new made kept costs some moments touched runs bare = record {
+more_step writes syncs old new made kept costs some moments touched runs = record {
   met = None;
   fin = old;
   finish = inl refl;
@@ -79,8 +78,8 @@ more_step writes syncs old new made kept costs some moments touched runs bare = 
   may = ap (λ (s : Status). s.failures) costs;
   next = Running old.world;
   step = (inl refl, refl);
-  means = (refl, runs, bare);
-  lasts = goes_on_lasting old new moments runs bare;
+  means = (refl, runs);
+  lasts = goes_on_lasting old new moments runs;
   writes = touched;
   begins = tt;
   numbers = record { next = (step_numbers old.world old.kept).next; keeps = kept };
@@ -92,18 +91,18 @@ more_step writes syncs old new made kept costs some moments touched runs bare = 
   works = λ more. some;
 }
 
-begun_step : (old new : Held) → IsBegunTo old new → old.world.frozen ≡ map.empty → AnswersFrom (Running old.world) event.Step (answer.Progress progress.More) old new false
-begun_step old new b bare =
+begun_step : (old new : Held) → IsBegunTo old new → AnswersFrom (Running old.world) event.Step (answer.Progress progress.More) old new false
+begun_step old new b =
     let writes = ap (λ (s : Status). s.writes) b.begun.costs in
     let syncs = ap (λ (s : Status). s.syncs) b.begun.costs in
-    more_step 1 1 old new (inl b.begun) b.begun.kept b.begun.costs (omega (arith, writes), omega (arith, writes), omega (arith, syncs)) b.moments b.touched b.runs bare
+    more_step 1 1 old new (inl b.begun) b.begun.kept b.begun.costs (omega (arith, writes), omega (arith, writes), omega (arith, syncs)) b.moments b.touched b.runs
 
-advanced_step : (old new : Held) → IsAdvancedTo old new → old.world.frozen ≡ map.empty → AnswersFrom (Running old.world) event.Step (answer.Progress progress.More) old new false
-advanced_step old new a bare = more_step _ _ old new (inr a.gone) (λ n. ap (λ (h : Held). h.kept n) a.gone.held) a.gone.costs a.some a.moments a.touched a.runs bare
+advanced_step : (old new : Held) → IsAdvancedTo old new → AnswersFrom (Running old.world) event.Step (answer.Progress progress.More) old new false
+advanced_step old new a = more_step _ _ old new (inr a.gone) (λ n. ap (λ (h : Held). h.kept n) a.gone.held) a.gone.costs a.some a.moments a.touched a.runs
 
 -- it has finished one
-ended_step : (old new : Held) (f : IsFinishedTo old new) → f.finished.going.stage ≡ Bodied → old.world.frozen ≡ map.empty → AnswersFrom (Running old.world) event.Step (answer.Progress progress.Done) old new false
-ended_step old new f last bare =
+ended_step : (old new : Held) (f : IsFinishedTo old new) → f.finished.going.stage ≡ Bodied → AnswersFrom (Running old.world) event.Step (answer.Progress progress.Done) old new false
+ended_step old new f last =
     let runs = running_between new old.world f.finished.point f.runs in
     record {
       met = None;
@@ -114,8 +113,8 @@ ended_step old new f last bare =
       may = refl;
       next = Running old.world;
       step = (inr refl, refl);
-      means = (refl, runs, bare);
-      lasts = goes_on_lasting old new f.moments runs bare;
+      means = (refl, runs);
+      lasts = goes_on_lasting old new f.moments runs;
       writes = Touches-start (IsBesideRoot new) new.disk;
       begins = tt;
       numbers = step_numbers old.world new.kept;
@@ -128,9 +127,9 @@ ended_step old new f last bare =
     }
 
 -- it was refused, and nothing has changed
-refused_step : (old : Held) (m : Mishap) → RunsWith old.point old old.world → old.world.frozen ≡ map.empty → MayMeet old old event.Step (Some m) old.status → EventStep version_1 (Running old.world) event.Step (Some m) (refused (errno_of m)) (Running old.world)
+refused_step : (old : Held) (m : Mishap) → RunsWith old.point old old.world → MayMeet old old event.Step (Some m) old.status → EventStep version_1 (Running old.world) event.Step (Some m) (refused (errno_of m)) (Running old.world)
     → Costs (Running old.world) old old event.Step (Some m) old.status → AnswersFrom (Running old.world) event.Step (refused (errno_of m)) old old false
-refused_step old m runs bare may step costs = record {
+refused_step old m runs may step costs = record {
   met = Some m;
   fin = old;
   finish = inl refl;
@@ -139,8 +138,8 @@ refused_step old m runs bare may step costs = record {
   may = may;
   next = Running old.world;
   step = step;
-  means = (refl, runs, bare);
-  lasts = stays_lasts old false (Running old.world) (refl, runs, bare);
+  means = (refl, runs);
+  lasts = stays_lasts old false (Running old.world) (refl, runs);
   writes = Touches-start (IsBesideRoot old) old.disk;
   begins = tt;
   numbers = step_numbers old.world old.kept;
@@ -153,8 +152,8 @@ refused_step old m runs bare may step costs = record {
 }
 
 -- but what the device counts
-unread_step : (old new : Held) → RunsWith old.point old old.world → old.world.frozen ≡ map.empty → new ≡ record old { status = new.status } → FailsRead old.status new.status → AnswersFrom (Running old.world) event.Step (refused Eio) old new false
-unread_step old new runs bare is fails =
+unread_step : (old new : Held) → RunsWith old.point old old.world → new ≡ record old { status = new.status } → FailsRead old.status new.status → AnswersFrom (Running old.world) event.Step (refused Eio) old new false
+unread_step old new runs is fails =
     let told = fails_read old.status new.status fails in
     subst (λ (h : Held). AnswersFrom (Running old.world) event.Step (refused Eio) old h false) (sym is) (record {
       met = Some Read;
@@ -165,8 +164,8 @@ unread_step old new runs bare is fails =
       may = told.0;
       next = Running old.world;
       step = record { told = refl; same = refl };
-      means = (refl, counted_with old.point old old.world new.status runs, bare);
-      lasts = stays_lasts old false (Running old.world) (refl, runs, bare);
+      means = (refl, counted_with old.point old old.world new.status runs);
+      lasts = stays_lasts old false (Running old.world) (refl, runs);
       writes = Touches-start (IsBesideRoot old) old.disk;
       begins = tt;
       numbers = step_numbers old.world old.kept;
@@ -179,11 +178,11 @@ unread_step old new runs bare is fails =
     })
 
 -- it was cut off
-cut_step : (old new : Held) → IsCutStep old new → old.world.frozen ≡ map.empty → AnswersFrom (Running old.world) event.Step (refused Eio) old new true
-cut_step old new cut bare =
-    let either : LeavesOnly old.disk new.disk (λ d. IsLiveImage d (settle old.world) ⊎ IsLiveImage d (settle old.world)) =
-    LeavesOnly-weaker old.disk new.disk (λ d. IsImage d (settle old.world)) (λ d. IsLiveImage d (settle old.world) ⊎ IsLiveImage d (settle old.world)) (λ d im. inl (record { image = im; frozen = bare })) cut.moments in
-    let now = LeavesOnly-now old.disk new.disk (λ d. IsLiveImage d (settle old.world) ⊎ IsLiveImage d (settle old.world)) either in
+cut_step : (old new : Held) → IsCutStep old new → AnswersFrom (Running old.world) event.Step (refused Eio) old new true
+cut_step old new cut =
+    let either : LeavesOnly old.disk new.disk (λ d. IsImage d (settle old.world) ⊎ IsImage d (settle old.world)) =
+    LeavesOnly-weaker old.disk new.disk (λ d. IsImage d (settle old.world)) (λ d. IsImage d (settle old.world) ⊎ IsImage d (settle old.world)) (λ d im. inl im) cut.moments in
+    let now = LeavesOnly-now old.disk new.disk (λ d. IsImage d (settle old.world) ⊎ IsImage d (settle old.world)) either in
     record {
       met = Some Write;
       fin = old;
@@ -195,7 +194,7 @@ cut_step old new cut bare =
       step = record { told = refl; left = refl };
       means = (refl, now);
       lasts = record {
-        moments = LeavesOnly-weaker old.disk new.disk (λ d. IsLiveImage d (settle old.world) ⊎ IsLiveImage d (settle old.world))
+        moments = LeavesOnly-weaker old.disk new.disk (λ d. IsImage d (settle old.world) ⊎ IsImage d (settle old.world))
             (λ d. ShowsState (Running old.world) d ⊎ ShowsState (Stopped (settle old.world) (settle old.world)) d) (λ d h. inr h) either;
         answered = now;
       };
@@ -210,25 +209,25 @@ cut_step old new cut bare =
       works = λ more. absurd (not_more Eio more);
     }
 
-unmade_step : (old new : Held) (fault : PointFault) → RunsWith old.point old old.world → old.world.frozen ≡ map.empty → IsUnbegun fault old new → AnswersFrom (Running old.world) event.Step (refused (errno_of_point fault)) old new (stops_for fault)
-unmade_step old new point.Memory runs bare is =
-    subst (λ (h : Held). AnswersFrom (Running old.world) event.Step (refused Enomem) old h false) (sym is) (refused_step old Memory runs bare refl (record { told = refl; same = refl }) refl)
-unmade_step old new point.Age runs bare is =
-    subst (λ (h : Held). AnswersFrom (Running old.world) event.Step (refused Elimit) old h false) (sym is.0) (refused_step old Age runs bare (tt, is.1, refl) (record { told = refl; same = refl }) refl)
-unmade_step old new point.Read runs bare is = unread_step old new runs bare is.0 is.1
-unmade_step old new point.Damaged runs bare is = absurd is
-unmade_step old new point.Device runs bare is = cut_step old new is bare
+unmade_step : (old new : Held) (fault : PointFault) → RunsWith old.point old old.world → IsUnbegun fault old new → AnswersFrom (Running old.world) event.Step (refused (errno_of_point fault)) old new (stops_for fault)
+unmade_step old new point.Memory runs is =
+    subst (λ (h : Held). AnswersFrom (Running old.world) event.Step (refused Enomem) old h false) (sym is) (refused_step old Memory runs refl (record { told = refl; same = refl }) refl)
+unmade_step old new point.Age runs is =
+    subst (λ (h : Held). AnswersFrom (Running old.world) event.Step (refused Elimit) old h false) (sym is.0) (refused_step old Age runs (tt, is.1, refl) (record { told = refl; same = refl }) refl)
+unmade_step old new point.Read runs is = unread_step old new runs is.0 is.1
+unmade_step old new point.Damaged runs is = absurd is
+unmade_step old new point.Device runs is = cut_step old new is
 
-made_step : (old new : Held) (p : Progress) → RunsWith old.point old old.world → old.world.frozen ≡ map.empty → Advances (Ok p) old new → AnswersFrom (Running old.world) event.Step (answer.Progress p) old new false
-made_step old new progress.More runs bare made = either (made runs)
+made_step : (old new : Held) (p : Progress) → RunsWith old.point old old.world → Advances (Ok p) old new → AnswersFrom (Running old.world) event.Step (answer.Progress p) old new false
+made_step old new progress.More runs made = either (made runs)
   where
     either : IsBegunTo old new ⊎ IsAdvancedTo old new → AnswersFrom (Running old.world) event.Step (answer.Progress progress.More) old new false
-    either (inl b) = begun_step old new b bare
-    either (inr a) = advanced_step old new a bare
-made_step old new progress.Done runs bare made = let ends = made runs in ended_step old new ends.0 ends.1 bare
+    either (inl b) = begun_step old new b
+    either (inr a) = advanced_step old new a
+made_step old new progress.Done runs made = let ends = made runs in ended_step old new ends.0 ends.1
 
 pub step_answers : (old new : Held) (p : Progress) → Advances (Ok p) old new → Answers event.Step (answer.Progress p) old false new false
-step_answers old new p made = in_any_world event.Step old new (answer.Progress p) false (λ r bare. made_step old new p r bare made)
+step_answers old new p made = in_any_world event.Step old new (answer.Progress p) false (λ r. made_step old new p r made)
 
 pub step_refused : (old new : Held) (fault : PointFault) → Advances (Err fault) old new → Answers event.Step (refused (errno_of_point fault)) old false new (stops_for fault)
-step_refused old new fault unmade = in_any_world event.Step old new (refused (errno_of_point fault)) (stops_for fault) (λ r bare. unmade_step old new fault r bare (unmade r))
+step_refused old new fault unmade = in_any_world event.Step old new (refused (errno_of_point fault)) (stops_for fault) (λ r. unmade_step old new fault r (unmade r))

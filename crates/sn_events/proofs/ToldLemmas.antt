@@ -1,6 +1,5 @@
 -- What a call answers that changes nothing of the tree, but for files that nobody has.
 use Rattle.std.proofs.Common.{◌≡◌, ◌⊎◌, inl, inr, ℕ, ◌-◌, false, Option, Some, None, Ok, refl, sym, ap, subst, ◌∙◌, arith}
-use Rattle.std.specs.FinMap as map
 use Rattle.sn_limits.specs.Versions.{version_1}
 use Rattle.sn_model.specs.declared.call.Call.{Call}
 use Rattle.sn_model.specs.declared.change.Change.{Change}
@@ -25,12 +24,11 @@ use Rattle.sn_held.specs.Held.{Held}
 use Rattle.sn_cp_progress.specs.Meaning.{RunsWith}
 use Rattle.sn_cp_progress.proofs.MeaningLemmas.{drops_with, runs_with}
 use Rattle.sn_held.specs.Moments.{ShowsState}
-use Rattle.sn_mount.specs.Recovering.{with_frozen}
-use Rattle.sn_held.proofs.EventLemmas.{left_of_tree, live_show}
-use Rattle.sn_events.specs.Mounted.{RunsIn, in_frozen}
+use Rattle.sn_held.proofs.EventLemmas.{left_of_tree, runs_show}
+use Rattle.sn_events.specs.Mounted.{RunsNow}
 use Rattle.sn_events.specs.Serving.{DropsFiles, Serves, ServesFrom, Turns}
 use Rattle.sn_events.proofs.DecisionLemmas.{has_no_change}
-use Rattle.sn_events.proofs.CallLemmas.{asks_nothing, drops_carry, in_own, in_world}
+use Rattle.sn_events.proofs.CallLemmas.{asks_nothing, drops_carry, in_world}
 
 module _ (old new : Held) (session : ℕ) (c : Call) (o : Outcome) (picked : Chosen) (numbers : IsCall c) (whole : IsWorld version_1 old.world) (decided : decision version_1 old.world session c ≡ Ok o) (chosen : Chooses old.world.live old.kept o.change o.caller picked) (none : picked.change ≡ None)
     (turned : Turns session picked.caller (nameless_in old.world.live) old new) where
@@ -63,25 +61,24 @@ module _ (old new : Held) (session : ℕ) (c : Call) (o : Outcome) (picked : Cho
   whole_next : IsWorld version_1 next
   whole_next = served_whole old.world next session c o.told served.0 numbers whole
 
-  runs_after : (w : World) → RunsWith old.point (in_frozen w old) (with_frozen w old.world) → RunsWith old.point (in_frozen w after) (with_frozen w next)
-  runs_after w r =
+  runs_after : RunsNow old → RunsNow after
+  runs_after r =
       let drops = subst (λ (w : World). DropsFiles old.base old.world.live new.base w.live) world_is turned.base in
-      drops_with old.point (in_frozen w old) (with_frozen w old.world) (with_frozen w next) new.kept new.kept_since parked new.base r (record { held = of.held; live = of.live; frozen = refl }) (omega arith) (λ figure. drops_carry old.base new.base old.world session picked.caller figure whole.live.hierarchy drops) whole_next.live
+      drops_with old.point old old.world next new.kept new.kept_since parked new.base r of (omega arith) (λ figure. drops_carry old.base new.base old.world session picked.caller figure whole.live.hierarchy drops) whole_next.live
 
   pub told_whole : IsWorld version_1 new.world
   told_whole = subst (IsWorld version_1) (sym world_is) whole_next
 
-  pub told_runs : RunsIn old → RunsIn new
-  told_runs r = subst RunsIn (sym is) (record { frozen = r.frozen; runs = runs_after r.frozen r.runs })
+  pub told_runs : RunsNow old → RunsNow new
+  told_runs r = subst RunsNow (sym is) (runs_after r)
 
   pub told_serves : asks_for_point c ≡ false → Serves (Some o.told) old session c new false
   told_serves alone = in_world old new false session c o.told told
     where
-      told : RunsWith old.point old old.world → old.world.frozen ≡ map.empty → ServesFrom (Running old.world) session c o.told old new false
-      told r bare =
-          let of = left_of_tree old.world session picked.caller old.world.live in
-          let on = in_own old.world after next refl of.frozen (runs_after old.world r) in
-          let shows = live_show after next (runs_with after next old.point on) (of.frozen ∙ bare) in
+      told : RunsWith old.point old old.world → ServesFrom (Running old.world) session c o.told old new false
+      told r =
+          let on = runs_after r in
+          let shows = runs_show after next (runs_with after next old.point on) in
           subst (λ (x : Held). ServesFrom (Running old.world) session c o.told old x false) (sym is) (record {
             answers = record {
               met = None;
@@ -92,7 +89,7 @@ module _ (old new : Held) (session : ℕ) (c : Call) (o : Outcome) (picked : Cho
               may = refl;
               next = Running next;
               step = record { next = next; becomes = served.0; runs = refl };
-              means = (refl, on, of.frozen ∙ bare);
+              means = (refl, on);
               lasts = record { moments = LeavesOnly-start old.disk (λ d. ShowsState (Running old.world) d ⊎ ShowsState (Running next) d) (λ d crash. inr (shows d crash)); answered = shows };
               writes = inl (Touches-start (InHalf (base_at old.at)) old.disk);
               begins = tt;

@@ -8,14 +8,14 @@ use Rattle.sn_layout.specs.Geometry.{other_slot}
 use Rattle.sn_layout.specs.declared.root.RootBody.{RootBody}
 use Rattle.sn_limits.specs.Versions.{version_1}
 use Rattle.sn_model.specs.Tree.{Tree}
-use Rattle.sn_model.specs.World.{World}
+use Rattle.sn_model.specs.World.{Trees}
 use Rattle.sn_model.specs.Worlds.{IsWorld}
-use Rattle.sn_mount.specs.Recovering.{with_frozen}
 use Rattle.sn_ondisk.specs.Trees.{store_of}
+use Rattle.sn_rooted.specs.Roots.{trees_at}
 use Rattle.sn_block.specs.Lending.{device_of}
 use Rattle.sn_block.specs.declared.blocks.Blocks.{Blocks}
 use Rattle.sn_log.specs.Positions.{LogPosition}
-use Rattle.sn_live_world.specs.World.{HasDrops, IsOver, changes_of, descriptors_of, kept_of, kept_since_of, nameless_of, point_of, world_over}
+use Rattle.sn_live_world.specs.World.{HasDrops, IsOver, changes_of, descriptors_of, kept_of, kept_since_of, nameless_of, point_of, world_in}
 use Rattle.sn_live_world.specs.declared.world.LiveWorld.{LiveWorld}
 use Rattle.sn_desc.specs.InUse.{live_in}
 use Rattle.sn_held.specs.Held.{Going, Held}
@@ -56,10 +56,14 @@ going_in (Some going) = Some (going_of going)
 abbrev pub tree_at : Disk → RootBody → Tree
 tree_at disk root = image (store_of (reads disk)) root.inode_file
 
+-- the live tree of a root and its frozen ones, so
+abbrev pub trees_there : Disk → RootBody → Trees
+trees_there disk root = trees_at (store_of (reads disk)) root
+
 -- what these parts hold over a disk
 abbrev pub holding_on : Disk → Status → LogPosition → LiveWorld → RoomCounts → PointBase → Option GoingPoint → Held
 holding_on disk status at world room base going = record {
-  world = world_over world (tree_at disk base.root);
+  world = world_in world (trees_there disk base.root);
   kept = kept_of world;
   kept_since = kept_since_of world;
   room = room;
@@ -73,20 +77,15 @@ holding_on disk status at world room base going = record {
 abbrev pub holding : {D : Type 0} (g : Ghosts D) → Blocks D g → LogPosition → LiveWorld → RoomCounts → PointBase → Option GoingPoint → Held
 holding g blocks at world room base going = holding_on (g.disk (device_of blocks)) (g.status (device_of blocks)) at world room base going
 
--- the same with the frozen trees of another world
-abbrev pub in_frozen : World → Held → Held
-in_frozen w h = record h { world = with_frozen w h.world }
-
--- It runs over the world that it holds, with frozen trees, which it doesn't hold.
-pub record RunsIn (h : Held) : Type 0 where
-  pub frozen : World
-  pub runs : RunsWith h.point (in_frozen frozen h) (with_frozen frozen h.world)
+-- It runs over the world that it holds.
+abbrev pub RunsNow : Held → Type 0
+RunsNow h = RunsWith h.point h h.world
 
 -- What is so of what it reads, where the device tells its bytes: its live tree lies over the root's, its world is one, it runs over that, and the disk is where the point in progress takes it to be.
 pub record IsMeant (disk : Disk) (status : Status) (at : LogPosition) (world : LiveWorld) (room : RoomCounts) (base : PointBase) (going : Option GoingPoint) : Type 0 where
   pub over : IsOver world (tree_at disk base.root)
-  pub whole : IsWorld version_1 (world_over world (tree_at disk base.root))
-  pub runs : RunsIn (holding_on disk status at world room base going)
+  pub whole : IsWorld version_1 (world_in world (trees_there disk base.root))
+  pub runs : RunsNow (holding_on disk status at world room base going)
   pub stands : StandsThere going disk
 
 -- Unless a failure has stopped it, its log is on a device that has all its blocks, no more files are parked than can be counted, a point can begin from what is kept for it or is in progress, there is room for the drop of each file that is open, and what it reads is meant.

@@ -20,7 +20,11 @@ use Rattle.sn_log.specs.Appending.{Appends}
 use Rattle.sn_log.specs.Positions.{LogPosition}
 use Rattle.sn_model.specs.Changes.{apply}
 use Rattle.sn_model.specs.Tree.{Tree}
-use Rattle.sn_model.specs.World.{World}
+use Rattle.sn_model.specs.Settling.{dropped}
+use Rattle.sn_model.specs.Steps.{with_caller}
+use Rattle.sn_model.specs.World.{Trees, World}
+use Rattle.sn_model.specs.declared.outcome.Caller.{Caller}
+use Rattle.sn_model.specs.declared.outcome.Caller.TheVariants.{Stays, LogsIn, SetsUmask, LogsOut, Opens, OpensNew, Closes, Moves}
 use Rattle.sn_model.specs.declared.change.Change.{Change}
 use Rattle.sn_model.specs.Descriptors.{Descriptors}
 use Rattle.sn_room.specs.Rooms.{RoomCounts}
@@ -68,6 +72,19 @@ stopped_mounted told disk status at world room base going now stops running soun
   drops = λ goes_on. (sound goes_on).drops running;
   meant = λ goes_on. (sound goes_on).meant running;
 }
+
+-- ---- a caller that turns
+
+-- which makes no difference of the frozen trees
+pub turned_frozen : (w : World) (trees : Trees) (session : ℕ) (caller : Caller) → record (dropped (with_caller w session caller)) { frozen = trees.frozen } ≡ dropped (with_caller (record w { frozen = trees.frozen }) session caller)
+turned_frozen w trees session Stays = refl
+turned_frozen w trees session (LogsIn s) = refl
+turned_frozen w trees session (SetsUmask mask) = refl
+turned_frozen w trees session LogsOut = refl
+turned_frozen w trees session (Opens fd home number flags) = refl
+turned_frozen w trees session (OpensNew fd flags) = refl
+turned_frozen w trees session (Closes fd) = refl
+turned_frozen w trees session (Moves fd offset) = refl
 
 -- ---- a point that isn't made
 

@@ -18,23 +18,26 @@ use Rattle.sn_held.specs.Images.{IsImage}
 use Rattle.sn_held.proofs.EventLemmas.{ready_with}
 use Rattle.sn_limits.specs.Versions.{version_1}
 use Rattle.sn_live.proofs.LiveLemmas.{none_shows}
-use Rattle.sn_live_world.specs.World.{changes_of, tree_over, world_over}
+use Rattle.sn_live_world.specs.World.{changes_of, tree_over, world_in, world_over}
 use Rattle.sn_live_world.specs.declared.world.LiveWorld.{LiveWorld}
 use Rattle.sn_log.specs.Positions.{LogPosition}
 use Rattle.sn_model.specs.Settling.{settle}
 use Rattle.sn_model.specs.Tree.{Tree}
-use Rattle.sn_model.specs.World.{World}
-use Rattle.sn_mount.specs.Recovering.{with_frozen}
+use Rattle.sn_model.specs.World.{Trees, World}
 use Rattle.sn_overlay.specs.Layers.{through}
 use Rattle.sn_overlay.specs.Overlays.{no_changes}
 use Rattle.sn_room.specs.Rooms.{RoomCounts, begun, done}
-use Rattle.sn_events.specs.Mounted.{RunsIn, going_in, holding_on, in_frozen, tree_at}
-use Rattle.sn_events.proofs.MeantLemmas.{tree_ready}
+use Rattle.sn_events.specs.Mounted.{RunsNow, going_in, holding_on, tree_at, trees_there}
+use Rattle.sn_events.proofs.MeantLemmas.{frozen_read, tree_ready}
 use Rattle.sn_events.proofs.PointLemmas.{running_between}
 
 -- a root on which nothing has changed shows what runs over it
 bare_root : (h : Held) (w : World) (k : Kept) → AreSectors (reads h.disk) → k.changed ≡ no_changes → RunsReady h w k → tree_at h.disk k.root ≡ w.live
 bare_root h w k whole none ready = sym (none_shows k.changed (tree_at h.disk k.root) none) ∙ (tree_ready h w k whole ready).shows
+
+-- over the same frozen trees a live tree that shows the same gives the same world
+same_world : (w0 w1 : LiveWorld) (old new : Trees) → new.frozen ≡ old.frozen → world_over w1 new.live ≡ world_over w0 old.live → world_in w1 new ≡ world_in w0 old
+same_world w0 w1 old new frozen live = λ i. record (live i) { frozen = frozen i }
 
 -- ---- a whole point was made
 
@@ -47,46 +50,45 @@ module _ (d0 d1 : Disk) (s0 s1 : Status) (at0 at1 : LogPosition) (w0 w1 : LiveWo
   abbrev new : Held
   new = holding_on d1 s1 at1 w1 room1 base1 going
 
-  module _ (f : World) (r : RunsReady (in_frozen f old) (with_frozen f old.world) old.base) where
-    made : LeavesOnly d0 d1 (λ c. IsImage c (settle (with_frozen f old.world))) × RunsReady (with_parts (in_frozen f old) at1 room1 d1) (with_frozen f old.world) (kept_in base1 no_changes)
-    made = point (in_frozen f old) (with_frozen f old.world) r
+  module _ (r : RunsReady old old.world old.base) where
+    made : LeavesOnly d0 d1 (λ c. IsImage c (settle old.world)) × RunsReady (with_parts old at1 room1 d1) old.world (kept_in base1 no_changes)
+    made = point old old.world r
 
-    pub moments_pointed : LeavesOnly d0 d1 (λ c. IsImage c (settle (with_frozen f old.world)))
+    pub moments_pointed : LeavesOnly d0 d1 (λ c. IsImage c (settle old.world))
     moments_pointed = made.0
 
     tree_pointed : tree_at d1 base1.root ≡ tree_over w0 (tree_at d0 base0.root)
-    tree_pointed = bare_root (with_parts (in_frozen f old) at1 room1 d1) (with_frozen f old.world) (kept_in base1 no_changes) whole refl made.1
+    tree_pointed = bare_root (with_parts old at1 room1 d1) old.world (kept_in base1 no_changes) whole refl made.1
 
     pub world_pointed : new.world ≡ old.world
-    world_pointed = shown (tree_at d0 base0.root) (tree_at d1 base1.root) tree_pointed
+    world_pointed =
+        same_world w0 w1 (trees_there d0 base0.root) (trees_there d1 base1.root)
+        (frozen_read (with_parts old at1 room1 d1) old.world made.1.runs whole base1.root made.1.ready.root) (shown (tree_at d0 base0.root) (tree_at d1 base1.root) tree_pointed)
 
-    pub ready_pointed : RunsReady (in_frozen f new) (with_frozen f old.world) new.base
+    pub ready_pointed : RunsReady new old.world new.base
     ready_pointed =
-        subst (λ (k : Kept). RunsReady (record (in_frozen f new) { base = k }) (with_frozen f old.world) k) (λ i. kept_in base1 (sym empty i))
-        (subst (λ (w : World). RunsReady (record (in_frozen f new) { world = with_frozen f w; base = kept_in base1 no_changes }) (with_frozen f old.world) (kept_in base1 no_changes)) (sym world_pointed)
-        (ready_with (with_parts (in_frozen f old) at1 room1 d1) (with_frozen f old.world) (kept_in base1 no_changes) new.kept new.kept_since (kept_in base1 no_changes) old.point s1 made.1))
+        subst (λ (k : Kept). RunsReady (record new { base = k }) old.world k) (λ i. kept_in base1 (sym empty i))
+        (subst (λ (w : World). RunsReady (record new { world = w; base = kept_in base1 no_changes }) old.world (kept_in base1 no_changes)) (sym world_pointed)
+        (ready_with (with_parts old at1 room1 d1) old.world (kept_in base1 no_changes) new.kept new.kept_since (kept_in base1 no_changes) old.point s1 made.1))
 
-  module _ (r : RunsIn old) where
-    ready : RunsReady (in_frozen r.frozen old) (with_frozen r.frozen old.world) old.base
-    ready = subst (λ (p : Option Going). RunsWith p (in_frozen r.frozen old) (with_frozen r.frozen old.world)) none r.runs
+  module _ (r : RunsNow old) where
+    ready : RunsReady old old.world old.base
+    ready = subst (λ (p : Option Going). RunsWith p old old.world) none r
 
     pub tree_made : tree_at d1 base1.root ≡ tree_over w0 (tree_at d0 base0.root)
-    tree_made = tree_pointed r.frozen ready
+    tree_made = tree_pointed ready
 
     pub world_made : new.world ≡ old.world
-    world_made = world_pointed r.frozen ready
+    world_made = world_pointed ready
 
-    pub runs_made : RunsIn new
-    runs_made = record {
-      frozen = r.frozen;
-      runs = subst (λ (w : World). RunsWith (going_in going) (in_frozen r.frozen new) (with_frozen r.frozen w)) (sym world_made) (running_between (in_frozen r.frozen new) (with_frozen r.frozen old.world) none (ready_pointed r.frozen ready));
-    }
+    pub runs_made : RunsNow new
+    runs_made = subst (RunsWith (going_in going) new) (sym world_made) (running_between new old.world none (ready_pointed ready))
 
 -- ---- a point has begun
 
 module _ (d0 d1 : Disk) (s0 s1 : Status) (at0 at1 : LogPosition) (w0 w1 : LiveWorld) (room0 room1 : RoomCounts) (base : PointBase) (going : Option GoingPoint) (none : going_in going ≡ None) (point : GoingPoint)
     (begins : (h : Held) (world : World) → RunsReady (with_log h at0 d0) world (kept_in base (changes_of w0)) → LeavesOnly d0 d1 (λ c. IsImage c (settle world)) × RunsOn (record h { room = begun h.room; at = at1; base = kept_in base no_changes; disk = d1 }) world (progress_over (going_of point) world.live))
-    (tree : tree_at d1 base.root ≡ tree_at d0 base.root) (shown : (below : Tree) → world_over w1 below ≡ world_over w0 below) (empty : changes_of w1 ≡ no_changes) (room : room1 ≡ begun room0) where
+    (trees : trees_there d1 base.root ≡ trees_there d0 base.root) (shown : (below : Tree) → world_over w1 below ≡ world_over w0 below) (empty : changes_of w1 ≡ no_changes) (room : room1 ≡ begun room0) where
   abbrev before : Held
   before = holding_on d0 s0 at0 w0 room0 base going
 
@@ -94,33 +96,29 @@ module _ (d0 d1 : Disk) (s0 s1 : Status) (at0 at1 : LogPosition) (w0 w1 : LiveWo
   under_way = holding_on d1 s1 at1 w1 room1 base (Some point)
 
   pub world_begun : under_way.world ≡ before.world
-  world_begun = ap (world_over w1) tree ∙ shown (tree_at d0 base.root)
+  world_begun = ap (world_in w1) trees ∙ same_world w0 w1 (trees_there d0 base.root) (trees_there d0 base.root) refl (shown (tree_at d0 base.root))
 
-  module _ (f : World) (r : RunsReady (in_frozen f before) (with_frozen f before.world) before.base) where
-    first : LeavesOnly d0 d1 (λ c. IsImage c (settle (with_frozen f before.world))) × RunsOn (record (in_frozen f before) { room = begun room0; at = at1; base = kept_in base no_changes; disk = d1 }) (with_frozen f before.world) (progress_over (going_of point) before.world.live)
-    first = begins (in_frozen f before) (with_frozen f before.world) r
+  module _ (r : RunsReady before before.world before.base) where
+    first : LeavesOnly d0 d1 (λ c. IsImage c (settle before.world)) × RunsOn (record before { room = begun room0; at = at1; base = kept_in base no_changes; disk = d1 }) before.world (progress_over (going_of point) before.world.live)
+    first = begins before before.world r
 
-    pub moments_begun : LeavesOnly d0 d1 (λ c. IsImage c (settle (with_frozen f before.world)))
+    pub moments_begun : LeavesOnly d0 d1 (λ c. IsImage c (settle before.world))
     moments_begun = first.0
 
-    pub on_begun : RunsWith (Some (going_of point)) (in_frozen f under_way) (with_frozen f before.world)
+    pub on_begun : RunsWith (Some (going_of point)) under_way before.world
     on_begun = (
       before.world.live,
-      subst (λ (h : Held). RunsOn h (with_frozen f before.world) (progress_over (going_of point) before.world.live))
-          (λ i. record (in_frozen f under_way) { world = with_frozen f (sym world_begun i); room = sym room i; base = kept_in base (sym empty i) })
-          (on_with (record (in_frozen f before) { room = begun room0; at = at1; base = kept_in base no_changes; disk = d1 }) (with_frozen f before.world) (progress_over (going_of point) before.world.live) under_way.kept under_way.kept_since under_way.point s1 first.1),
+      subst (λ (h : Held). RunsOn h before.world (progress_over (going_of point) before.world.live))
+          (λ i. record under_way { world = sym world_begun i; room = sym room i; base = kept_in base (sym empty i) })
+          (on_with (record before { room = begun room0; at = at1; base = kept_in base no_changes; disk = d1 }) before.world (progress_over (going_of point) before.world.live) under_way.kept under_way.kept_since under_way.point s1 first.1),
     )
 
-  pub runs_begun : RunsIn before → RunsIn under_way
-  runs_begun r = record {
-    frozen = r.frozen;
-    runs = subst (λ (w : World). RunsWith (Some (going_of point)) (in_frozen r.frozen under_way) (with_frozen r.frozen w)) (sym world_begun)
-        (on_begun r.frozen (subst (λ (p : Option Going). RunsWith p (in_frozen r.frozen before) (with_frozen r.frozen before.world)) none r.runs));
-  }
+  pub runs_begun : RunsNow before → RunsNow under_way
+  runs_begun r = subst (RunsWith (Some (going_of point)) under_way) (sym world_begun) (on_begun (subst (λ (p : Option Going). RunsWith p before before.world) none r))
 
 -- ---- a step was made that isn't the last
 
-module _ (d0 d1 : Disk) (s0 s1 : Status) (at : LogPosition) (w : LiveWorld) (room : RoomCounts) (base : PointBase) (point next : GoingPoint)
+module _ (d0 d1 : Disk) (s0 s1 : Status) (at : LogPosition) (w : LiveWorld) (room : RoomCounts) (base : PointBase) (point next : GoingPoint) (whole : AreSectors (reads d1))
     (goes : (h : Held) (world : World) (frozen : Tree) → RunsOn (with_disk h d0) world (progress_over (going_of point) frozen) → LeavesOnly d0 d1 (λ c. IsImage c (settle world)) × RunsOn (record h { disk = d1 }) world (progress_over (going_of next) frozen))
     (keeps : (h : Held) (world : World) (frozen : Tree) → RunsOn (with_disk h d0) world (progress_over (going_of point) frozen) → tree_at d1 h.base.root ≡ tree_at d0 h.base.root) where
   abbrev here : Held
@@ -129,25 +127,28 @@ module _ (d0 d1 : Disk) (s0 s1 : Status) (at : LogPosition) (w : LiveWorld) (roo
   abbrev there : Held
   there = holding_on d1 s1 at w room base (Some next)
 
-  module _ (f : World) (r : RunsWith here.point (in_frozen f here) (with_frozen f here.world)) where
+  module _ (r : RunsNow here) where
+    on : RunsOn (record here { disk = d1 }) here.world (progress_over (going_of next) r.0)
+    on = (goes here here.world r.0 r.1).1
+
     pub tree_gone : tree_at d1 base.root ≡ tree_at d0 base.root
-    tree_gone = keeps (in_frozen f here) (with_frozen f here.world) r.0 r.1
+    tree_gone = keeps here here.world r.0 r.1
 
     pub world_gone : there.world ≡ here.world
-    world_gone = ap (world_over w) tree_gone
+    world_gone = same_world w w (trees_there d0 base.root) (trees_there d1 base.root) (frozen_read (record here { disk = d1 }) here.world on.runs whole base.root on.point.root) (ap (world_over w) tree_gone)
 
-    pub moments_gone : LeavesOnly d0 d1 (λ c. IsImage c (settle (with_frozen f here.world)))
-    moments_gone = (goes (in_frozen f here) (with_frozen f here.world) r.0 r.1).0
+    pub moments_gone : LeavesOnly d0 d1 (λ c. IsImage c (settle here.world))
+    moments_gone = (goes here here.world r.0 r.1).0
 
-    pub on_gone : RunsWith there.point (in_frozen f there) (with_frozen f here.world)
+    pub on_gone : RunsWith there.point there here.world
     on_gone = (
       r.0,
-      subst (λ (h : Held). RunsOn h (with_frozen f here.world) (progress_over (going_of next) r.0)) (λ i. record (in_frozen f there) { world = with_frozen f (sym world_gone i) })
-          (on_with (record (in_frozen f here) { disk = d1 }) (with_frozen f here.world) (progress_over (going_of next) r.0) here.kept here.kept_since there.point s1 (goes (in_frozen f here) (with_frozen f here.world) r.0 r.1).1),
+      subst (λ (h : Held). RunsOn h here.world (progress_over (going_of next) r.0)) (λ i. record there { world = sym world_gone i })
+          (on_with (record here { disk = d1 }) here.world (progress_over (going_of next) r.0) here.kept here.kept_since there.point s1 on),
     )
 
-  pub runs_gone : RunsIn here → RunsIn there
-  runs_gone r = record { frozen = r.frozen; runs = subst (λ (w : World). RunsWith there.point (in_frozen r.frozen there) (with_frozen r.frozen w)) (sym (world_gone r.frozen r.runs)) (on_gone r.frozen r.runs) }
+    pub runs_gone : RunsNow there
+    runs_gone = subst (RunsWith there.point there) (sym world_gone) on_gone
 
 -- ---- the last one was made
 
@@ -160,24 +161,26 @@ module _ (d0 d1 : Disk) (s0 s1 : Status) (at : LogPosition) (w0 w1 : LiveWorld) 
   abbrev ended : Held
   ended = holding_on d1 s1 at w1 room1 base1 going
 
-  module _ (f : World) (r : RunsWith last.point (in_frozen f last) (with_frozen f last.world)) where
-    ends : LeavesOnly d0 d1 (λ c. IsImage c (settle (with_frozen f last.world))) × RunsReady (record (in_frozen f last) { room = done point.free room0; disk = d1 }) (with_frozen f last.world) (kept_in base1 (changes_of w0))
-    ends = finish (in_frozen f last) (with_frozen f last.world) r.0 r.1
+  module _ (r : RunsNow last) where
+    ends : LeavesOnly d0 d1 (λ c. IsImage c (settle last.world)) × RunsReady (record last { room = done point.free room0; disk = d1 }) last.world (kept_in base1 (changes_of w0))
+    ends = finish last last.world r.0 r.1
 
-    pub moments_ended : LeavesOnly d0 d1 (λ c. IsImage c (settle (with_frozen f last.world)))
+    pub moments_ended : LeavesOnly d0 d1 (λ c. IsImage c (settle last.world))
     moments_ended = ends.0
 
     pub changed_ended : HasChanged version_1 (changes_of w0) (tree_at d1 base1.root) last.world.live (done point.free room0).charged
-    changed_ended = tree_ready (record (in_frozen f last) { room = done point.free room0; disk = d1 }) (with_frozen f last.world) (kept_in base1 (changes_of w0)) whole ends.1
+    changed_ended = tree_ready (record last { room = done point.free room0; disk = d1 }) last.world (kept_in base1 (changes_of w0)) whole ends.1
 
     pub world_ended : ended.world ≡ last.world
-    world_ended = shown (tree_at d0 base0.root) (tree_at d1 base1.root) changed_ended.shows
+    world_ended =
+        same_world w0 w1 (trees_there d0 base0.root) (trees_there d1 base1.root)
+        (frozen_read (record last { room = done point.free room0; disk = d1 }) last.world ends.1.runs whole base1.root ends.1.ready.root) (shown (tree_at d0 base0.root) (tree_at d1 base1.root) changed_ended.shows)
 
-    pub ready_ended : RunsReady (in_frozen f ended) (with_frozen f last.world) ended.base
+    pub ready_ended : RunsReady ended last.world ended.base
     ready_ended =
-        subst (λ (k : Kept). RunsReady (record (in_frozen f ended) { base = k }) (with_frozen f last.world) k) (λ i. kept_in base1 (sym same i))
-        (subst (λ (h : Held). RunsReady h (with_frozen f last.world) (kept_in base1 (changes_of w0))) (λ i. record (in_frozen f ended) { world = with_frozen f (sym world_ended i); room = sym room i; base = kept_in base1 (changes_of w0) })
-        (ready_with (record (in_frozen f last) { room = done point.free room0; disk = d1 }) (with_frozen f last.world) (kept_in base1 (changes_of w0)) ended.kept ended.kept_since (kept_in base1 (changes_of w0)) ended.point s1 ends.1))
+        subst (λ (k : Kept). RunsReady (record ended { base = k }) last.world k) (λ i. kept_in base1 (sym same i))
+        (subst (λ (h : Held). RunsReady h last.world (kept_in base1 (changes_of w0))) (λ i. record ended { world = sym world_ended i; room = sym room i; base = kept_in base1 (changes_of w0) })
+        (ready_with (record last { room = done point.free room0; disk = d1 }) last.world (kept_in base1 (changes_of w0)) ended.kept ended.kept_since (kept_in base1 (changes_of w0)) ended.point s1 ends.1))
 
-  pub runs_ended : RunsIn last → RunsIn ended
-  runs_ended r = record { frozen = r.frozen; runs = subst (λ (w : World). RunsWith (going_in going) (in_frozen r.frozen ended) (with_frozen r.frozen w)) (sym (world_ended r.frozen r.runs)) (running_between (in_frozen r.frozen ended) (with_frozen r.frozen last.world) none (ready_ended r.frozen r.runs)) }
+    pub runs_ended : RunsNow ended
+    runs_ended = subst (RunsWith (going_in going) ended) (sym world_ended) (running_between ended last.world none ready_ended)

@@ -23,10 +23,10 @@ use Rattle.sn_overlay.specs.Needs.{nameless_in}
 use Rattle.sn_record.specs.Payload.{IsSpelled}
 use Rattle.sn_events.specs.Answers.{HasAll, LacksFirst, is_fitting}
 use Rattle.sn_events.specs.Changing.{FailsChange, IsLogged, errno_of, stops}
-use Rattle.sn_events.specs.Mounted.{RunsIn}
+use Rattle.sn_events.specs.Mounted.{RunsNow}
 use Rattle.sn_events.specs.Serving.{Serves, TellsLack, Turns}
 use Rattle.sn_events.specs.declared.fault.ChangeFault.{ChangeFault}
-use Rattle.sn_events.proofs.CallLemmas.{lacking, made_in, made_serves, made_whole, unmade_serves}
+use Rattle.sn_events.proofs.CallLemmas.{lacking, made_now, made_serves, made_whole, unmade_serves}
 use Rattle.sn_events.proofs.DecisionLemmas.{CanBeMade, can_be_made}
 use Rattle.sn_events.proofs.ServeLemmas.{lacks_nothing, some_lack}
 use Rattle.sn_events.proofs.ToldLemmas.{told_runs, told_serves, told_whole}
@@ -94,8 +94,8 @@ module _ (h p : Held) (session : ℕ) (c : Call) (o : Outcome) (numbers : IsCall
               pub whole_then : IsWorld version_1 new.world
               whole_then = made_whole h session c o k.chosen change numbers whole decided chosen is merges mid new here all turned_so
 
-              pub runs_then : RunsIn p → RunsIn new
-              runs_then r = made_in h session c o k.chosen change numbers whole decided chosen is merges mid new here all turned_so (subst RunsIn same r)
+              pub runs_then : RunsNow p → RunsNow new
+              runs_then r = made_now h session c o k.chosen change numbers whole decided chosen is merges mid new here all turned_so (subst RunsNow same r)
 
     -- ---- none was
 
@@ -117,5 +117,5 @@ module _ (h p : Held) (session : ℕ) (c : Call) (o : Outcome) (numbers : IsCall
         pub whole_on : IsWorld version_1 new.world
         whole_on = told_whole h new session c o k.chosen numbers whole decided chosen (k.change ∙ none) turned_on
 
-        pub runs_on : RunsIn p → RunsIn new
-        runs_on r = told_runs h new session c o k.chosen numbers whole decided chosen (k.change ∙ none) turned_on (subst RunsIn same r)
+        pub runs_on : RunsNow p → RunsNow new
+        runs_on r = told_runs h new session c o k.chosen numbers whole decided chosen (k.change ∙ none) turned_on (subst RunsNow same r)

@@ -1,13 +1,12 @@
 //! The file system over a device: mount, calls, and the device back.
 //!
 //! The model. A mounted file system holds a world, a position in its log, the room that is left, what the next consistency
-//! point is built of, the one in progress, and a device (`Held` of `sn_held`). The live tree of the world isn't in memory: it
-//! is the tree of the root on the device, seen through what changed since (`LiveWorld` of `sn_live_world`), and read when a call
-//! needs it. It means a state of the machine of
+//! point is built of, the one in progress, and a device (`Held` of `sn_held`). No tree of the world is in memory: the live one
+//! is that of the root on the device, seen through what changed since (`LiveWorld` of `sn_live_world`), the frozen ones are those
+//! of the root's snapshots as they stand, and both are read when a call needs them. It means a state of the machine of
 //! `sn_model` (`Means` of `sn_cp_progress`): one that runs over a world stands on a sound root, keeps the changes of its log,
 //! which make of the root's tree one that covers the live one, whatever a crash leaves, and is ready for a point or has one
-//! in progress; one that a failure has stopped knows that each crash leaves one of two worlds. The world has no frozen trees:
-//! those of a root's snapshots aren't shown yet.
+//! in progress; one that a failure has stopped knows that each crash leaves one of two worlds.
 //!
 //! What the clauses say, those on bytes of each device that tells them:
 //! - [`Fs::call`]: from each state that is meant, the reply is that of a step of the machine, and the next state is meant. A
@@ -19,7 +18,7 @@
 //! - [`Fs::step`]: begins a point, goes on with it, or ends it (`StepsTo`), which changes no world.
 //! - [`Fs::unmount`]: makes a whole one of the tree without the files that no name stands for, and hands the device back; or
 //!   it is refused as a step is, and the file system is there still.
-//! - [`mount`]: where the contents are an image of a world without snapshots, that world runs; from the first sync on every
+//! - [`mount`]: where the contents are an image of a world, that world runs; from the first sync on every
 //!   crash leaves an image of it, also where the mount fails. Only a disk without a fault is mounted; a mount fails for the
 //!   cause that a check tells (`IsCause` of `sn_check`).
 //!

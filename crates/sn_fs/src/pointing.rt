@@ -4,9 +4,7 @@ ghost use Rattle.sn_cp.specs.Points.{stage_of};
 ghost use Rattle.sn_cp.specs.declared.stage.Stage.TheVariants.{Bodied};
 ghost use Rattle.sn_model.specs.declared.call.Event.TheVariants as event;
 ghost use Rattle.sn_events.specs.Answers.{Answers, left_of};
-ghost use Rattle.sn_events.specs.Mounted.{in_frozen};
 ghost use Rattle.sn_fs.specs.Filesystem.{IsFs, has_stopped, held, with_point};
-ghost use Rattle.sn_model.specs.World.{World};
 ghost use Rattle.sn_events.specs.Pointing.{Advances, Begins, Finishes, GoesOn, Points, errno_of_point, stops_for, stops_point};
 
 use crate::Fs;
@@ -40,7 +38,7 @@ impl<D: Device> Fs<D> {
         requires running { has_stopped self.old ≡ false }
         requires sound { IsFs self.old }
         requires between { (held self.old).point ≡ None }
-        ensures points { IsTrue D.tells_bytes → (frozen : World) → Points result (in_frozen frozen (held self.old)) (in_frozen frozen (held self.new)) }
+        ensures points { IsTrue D.tells_bytes → Points result (held self.old) (held self.new) }
         ensures stopped { has_stopped self.new ≡ stops_point result }
         ensures sound { IsFs self.new }
     {
@@ -71,7 +69,7 @@ impl<D: Device> Fs<D> {
         requires running { has_stopped self.old ≡ false }
         requires sound { IsFs self.old }
         requires between { (held self.old).point ≡ None }
-        ensures begins { IsTrue D.tells_bytes → (frozen : World) → Begins result (in_frozen frozen (held self.old)) (in_frozen frozen (held self.new)) }
+        ensures begins { IsTrue D.tells_bytes → Begins result (held self.old) (held self.new) }
         ensures stopped { has_stopped self.new ≡ stops_point result }
         ensures sound { IsFs self.new }
     {
@@ -103,7 +101,7 @@ impl<D: Device> Fs<D> {
         requires running { has_stopped self.old ≡ false }
         requires sound { IsFs (with_point self.old going) }
         requires more { stage_of going.point ≢ Bodied }
-        ensures goes_on { IsTrue D.tells_bytes → (frozen : World) → GoesOn result (in_frozen frozen (held (with_point self.old going))) (in_frozen frozen (held self.new)) }
+        ensures goes_on { IsTrue D.tells_bytes → GoesOn result (held (with_point self.old going)) (held self.new) }
         ensures stopped { has_stopped self.new ≡ stops_point result }
         ensures sound { IsFs self.new }
     {
@@ -126,7 +124,7 @@ impl<D: Device> Fs<D> {
         requires running { has_stopped self.old ≡ false }
         requires sound { IsFs (with_point self.old going) }
         requires alone { (held self.old).point ≡ None }
-        ensures finishes { IsTrue D.tells_bytes → (frozen : World) → Finishes result (in_frozen frozen (held (with_point self.old going))) (in_frozen frozen (held self.new)) }
+        ensures finishes { IsTrue D.tells_bytes → Finishes result (held (with_point self.old going)) (held self.new) }
         ensures stopped { has_stopped self.new ≡ stops_point result }
         ensures between { OnOk result ((held self.new).point ≡ None) }
         ensures sound { IsFs self.new }
@@ -145,7 +143,7 @@ impl<D: Device> Fs<D> {
     pub(crate) fn finish(&mut self) -> Result<(), PointFault>
         requires running { has_stopped self.old ≡ false }
         requires sound { IsFs self.old }
-        ensures finishes { IsTrue D.tells_bytes → (frozen : World) → Finishes result (in_frozen frozen (held self.old)) (in_frozen frozen (held self.new)) }
+        ensures finishes { IsTrue D.tells_bytes → Finishes result (held self.old) (held self.new) }
         ensures stopped { has_stopped self.new ≡ stops_point result }
         ensures between { OnOk result ((held self.new).point ≡ None) }
         ensures sound { IsFs self.new }
@@ -160,7 +158,7 @@ impl<D: Device> Fs<D> {
     fn advance(&mut self) -> Result<Progress, PointFault>
         requires running { has_stopped self.old ≡ false }
         requires sound { IsFs self.old }
-        ensures advances { IsTrue D.tells_bytes → (frozen : World) → Advances result (in_frozen frozen (held self.old)) (in_frozen frozen (held self.new)) }
+        ensures advances { IsTrue D.tells_bytes → Advances result (held self.old) (held self.new) }
         ensures stopped { has_stopped self.new ≡ stops_point result }
         ensures sound { IsFs self.new }
     {

@@ -2,10 +2,8 @@
 ghost use Rattle.std.specs.Prelude.{◌≡◌, false, true, IsTrue, IfErr, IfOk, OnOk};
 ghost use Rattle.sn_live.specs.Unnamed.{DropsNameless};
 ghost use Rattle.sn_live_world.specs.World.{changes_of};
-ghost use Rattle.sn_model.specs.World.{World};
 ghost use Rattle.sn_model.specs.declared.reply.Errno.TheVariants.{Estopped};
 ghost use Rattle.sn_overlay.specs.Overlays.{layer_of};
-ghost use Rattle.sn_events.specs.Mounted.{in_frozen};
 ghost use Rattle.sn_events.specs.Pointing.{stops_point};
 ghost use Rattle.sn_events.specs.Unmounting.{HasUnmounted, IsRefusedTo, PointsLast};
 ghost use Rattle.sn_fs.specs.Filesystem.{IsFs, has_stopped, held};
@@ -32,7 +30,7 @@ impl<D: Device> Fs<D> {
         requires sound { IsFs self.old }
         requires between { (held self.old).point ≡ None }
         requires settled { IsTrue D.tells_bytes → DropsNameless (held self.old).world.live (changes_of self.old.world) (layer_of changed.now) }
-        ensures points { IsTrue D.tells_bytes → (frozen : World) → PointsLast result (in_frozen frozen (held self.old)) (in_frozen frozen (held self.new)) }
+        ensures points { IsTrue D.tells_bytes → PointsLast result (held self.old) (held self.new) }
         ensures stopped { has_stopped self.new ≡ stops_point result }
         ensures sound { IfErr result (λ fault. IsFs self.new) }
     {

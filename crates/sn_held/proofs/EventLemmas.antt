@@ -43,7 +43,7 @@ use Rattle.sn_sound.specs.Maps.{free_blocks}
 use Rattle.sn_sound.proofs.DiskLemmas.{one_size}
 use Rattle.sn_sound.proofs.StandingLemmas.{lies_in_data}
 use Rattle.sn_held.specs.Held.{CarriesOn, Going, Held, Kept, Runs, RunsReady}
-use Rattle.sn_held.specs.Images.{IsImage, IsLiveImage}
+use Rattle.sn_held.specs.Images.{IsImage}
 use Rattle.sn_held.specs.Moments.{LastsOver, ShowsState}
 use Rattle.sn_held.specs.Room.{HasRoomFor, IsCharged}
 use Rattle.sn_held.specs.Events.{IsOfTree, LeavesEither, LeavesMore}
@@ -78,10 +78,6 @@ module _ (h : Held) (w : World) (r : Runs h w) where
   runs_show c crash =
       image_shown h.at.blocks r.store r.slot r.root r.words r.older r.newer (settle w) r.older_spelled r.newer_spelled r.stands.sound stands_for (fits_now h w r) r.age c
       (disk_always h.at.blocks h.disk r.stands.disk c crash) (r.formatted c crash) (r.stands.map c crash) (λ epoch. r.none_later epoch c crash) (r.stands.shows c crash)
-
--- so it is of a world without frozen trees
-pub live_show : (h : Held) (w : World) → Runs h w → w.frozen ≡ map.empty → Always h.disk (λ c. IsLiveImage c (settle w))
-live_show h w r none c crash = record { image = runs_show h w r c crash; frozen = none }
 
 -- ---- what a call leaves of the tree
 
@@ -245,27 +241,18 @@ module _ (old new : Held) (w next : World) (change : Change) (tree : Tree) (r : 
         frozen = more_frozen;
       }
 
-  module _ (none : w.frozen ≡ map.empty) where
-    pub still_none : next.frozen ≡ map.empty
-    still_none = of.frozen ∙ none
+  pub runs_lasts : LeavesEither old.at change old.disk new.disk → Runs new next → LastsOver (Running w) (Running next) old.disk new.disk
+  runs_lasts leaves runs = record { moments = leaves_either leaves; answered = runs_show new next runs }
 
-    live_either : LeavesEither old.at change old.disk new.disk → LeavesOnly old.disk new.disk (λ c. IsLiveImage c (settle w) ⊎ IsLiveImage c (settle next))
-    live_either leaves =
-        LeavesOnly-weaker old.disk new.disk (λ c. IsImage c (settle w) ⊎ IsImage c (settle next)) (λ c. IsLiveImage c (settle w) ⊎ IsLiveImage c (settle next))
-        (λ c. ⊎_elim (λ h. inl (record { image = h; frozen = none })) (λ h. inr (record { image = h; frozen = still_none }))) (leaves_either leaves)
+  -- and where the device failed, the mount has stopped between the two
+  pub stops_between : LeavesEither old.at change old.disk new.disk → Always new.disk (ShowsState (Stopped (settle w) (settle next)))
+  stops_between leaves = LeavesOnly-now old.disk new.disk (λ c. IsImage c (settle w) ⊎ IsImage c (settle next)) (leaves_either leaves)
 
-    pub runs_lasts : LeavesEither old.at change old.disk new.disk → Runs new next → LastsOver (Running w) (Running next) old.disk new.disk
-    runs_lasts leaves runs = record { moments = live_either leaves; answered = live_show new next runs still_none }
-
-    -- and where the device failed, the mount has stopped between the two
-    pub stops_between : LeavesEither old.at change old.disk new.disk → Always new.disk (ShowsState (Stopped (settle w) (settle next)))
-    stops_between leaves = LeavesOnly-now old.disk new.disk (λ c. IsLiveImage c (settle w) ⊎ IsLiveImage c (settle next)) (live_either leaves)
-
-    pub stops_lasts : LeavesEither old.at change old.disk new.disk → LastsOver (Running w) (Stopped (settle w) (settle next)) old.disk new.disk
-    stops_lasts leaves = record {
-      moments = LeavesOnly-weaker old.disk new.disk (λ c. IsLiveImage c (settle w) ⊎ IsLiveImage c (settle next)) (λ c. ShowsState (Running w) c ⊎ ShowsState (Stopped (settle w) (settle next)) c) (λ c h. inr h) (live_either leaves);
-      answered = stops_between leaves;
-    }
+  pub stops_lasts : LeavesEither old.at change old.disk new.disk → LastsOver (Running w) (Stopped (settle w) (settle next)) old.disk new.disk
+  stops_lasts leaves = record {
+    moments = LeavesOnly-weaker old.disk new.disk (λ c. IsImage c (settle w) ⊎ IsImage c (settle next)) (λ c. ShowsState (Running w) c ⊎ ShowsState (Stopped (settle w) (settle next)) c) (λ c h. inr h) (leaves_either leaves);
+    answered = stops_between leaves;
+  }
 
 -- ---- what makes a mount ready for a point
 

@@ -1,6 +1,5 @@
 -- What a mount finds on a disk, and a mounted file system keeps there whatever a crash leaves.
 use Rattle.std.specs.Prelude.{◌≡◌, ◌⊎◌, ℕ, ◌+◌, List, [], ◌++◌, length, slice_index}
-use Rattle.std.specs.FinMap as map
 use Rattle.sn_device.specs.Sectors.{Contents}
 use Rattle.sn_layout.specs.Superblock.{superblock_bytes}
 use Rattle.sn_model.specs.World.{World}
@@ -29,11 +28,6 @@ pub record IsImage (c : Contents) (world : World) : Type 0 where
   pub fits : Fits opens.root.limits (opens.older ++ opens.newer) (image (store_of c) opens.root.inode_file) (free_blocks blocks (store_of c) opens.root)
   -- a mount of it can make a point, where it has to
   pub age : IsToRecover (opens.older ++ opens.newer) (image (store_of c) opens.root.inode_file) → HasAgeLeft opens.root
-
--- They are one of a world without frozen trees: those of a root's snapshots aren't kept in memory yet.
-pub record IsLiveImage (c : Contents) (world : World) : Type 0 where
-  pub image : IsImage c world
-  pub frozen : world.frozen ≡ map.empty
 
 -- The log of an image ends at this position, behind the records of its root's epoch while the next one has none, else behind those of that.
 abbrev pub EndsAt : (c : Contents) (world : World) → IsImage c world → LogPosition → Type 0

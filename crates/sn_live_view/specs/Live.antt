@@ -1,6 +1,7 @@
--- What is seen of the live tree, and the table of its numbers.
+-- What is seen of the live tree and the frozen ones, and the table of the live one's numbers.
 use Rattle.std.specs.FinMap as map
 use Rattle.sn_desc.specs.InUse.{InUse}
+use Rattle.sn_frozen.specs.Frozen.{FrozenTrees}
 use Rattle.sn_limits.specs.Versions.{version_1}
 use Rattle.sn_model.specs.NameTree.{IsTree}
 use Rattle.sn_model.specs.Tree.{Tree}
@@ -10,9 +11,9 @@ use Rattle.sn_number_table.specs.declared.table.NumberTable.{NumberTable}
 use Rattle.sn_overlay.specs.declared.node.SeenNode.{SeenNode}
 use Rattle.sn_walk.specs.declared.view.Attributes.{Attributes}
 
--- there are no snapshots yet
-abbrev pub live_trees : Tree → Trees
-live_trees tree = record { live = tree; frozen = map.empty }
+-- a live tree, with frozen trees beside it
+abbrev pub live_trees : Tree → FrozenTrees → Trees
+live_trees tree frozen = record { live = tree; frozen = frozen }
 
 -- what a walk is told of a node that is seen
 abbrev pub attributes_of : SeenNode → Attributes
@@ -32,6 +33,10 @@ pub record IsNumbered (tree : Tree) (numbers : NumberTable) : Type 0 where
   pub whole : IsTree version_1 tree
   pub tells : TellsNumbers tree numbers
 
--- a live tree without snapshots, with who is logged in and what is open
+-- trees with who is logged in and what is open
+abbrev pub world_of : InUse → Trees → World
+world_of used trees = record { live = trees.live; frozen = trees.frozen; sessions = used.sessions; descriptors = used.descriptors }
+
+-- a live tree alone, without frozen ones
 abbrev pub live_world : InUse → Tree → World
-live_world used tree = record { live = tree; frozen = map.empty; sessions = used.sessions; descriptors = used.descriptors }
+live_world used tree = world_of used (live_trees tree map.empty)

@@ -8,7 +8,7 @@ ghost use Rattle.sn_model.specs.Worlds.{IsCall};
 ghost use Rattle.sn_overlay.specs.Layers.{through};
 ghost use Rattle.sn_overlay.specs.Overlays.{layer_of};
 ghost use Rattle.sn_live.specs.Live.{IsLive, shown_of};
-ghost use Rattle.sn_live_view.specs.Live.{IsNumbered, live_world};
+ghost use Rattle.sn_live_view.specs.Live.{IsNumbered, live_trees, world_of};
 
 use crate::LiveView;
 use crate::unread::{Unread, UnreadView};
@@ -16,15 +16,16 @@ use sn_applies::NamedTree;
 use sn_core_calls::{CallError, decide};
 use sn_desc::Sessions;
 use sn_directories::{Directories, KeepsNames, LoggedTree};
+use sn_frozen::HasSnapshots;
 use sn_live::LiveTree;
 use sn_live_files::ListsNames;
 use sn_model::{Call, Outcome};
 use sn_number_table::NumberTable;
-use sn_overlay::{Below, Overlay, Through};
+use sn_overlay::{Overlay, Through};
 use std::alloc::Global;
 
 // What a call comes to over a live tree, with the table of its numbers.
-fn decide_on<'x, 'c, T: NamedTree + ListsNames>(
+fn decide_on<'x, 'c, T: NamedTree + ListsNames + HasSnapshots>(
     alloc: Global,
     tree: &'x mut T,
     numbers: &'x NumberTable,
@@ -33,11 +34,12 @@ fn decide_on<'x, 'c, T: NamedTree + ListsNames>(
     call: &'c Call,
 ) -> Result<Outcome<'c>, CallError<T::Fault>>
     requires holds { T.holds tree.old }
+    requires frozen { T.holds_frozen tree.old }
     requires numbered { IsTrue T.is_told → IsNumbered (T.shows tree.old) numbers.now }
     ensures kept { T.holds tree.new }
     ensures follows { T.follows tree.old tree.new }
     ensures same { IsTrue T.is_told → T.shows tree.new ≡ T.shows tree.old }
-    ensures decided { IsTrue T.is_told → Decides (live_world (in_use_of sessions.now) (T.shows tree.old)) session call.now result }
+    ensures decided { IsTrue T.is_told → Decides (world_of (in_use_of sessions.now) (live_trees (T.shows tree.old) (T.frozen tree.old))) session call.now result }
     ensures cause { IfView result (λ f. T.causes tree.old tree.new f) }
     ensures numbers { IfOk result (λ o. IsCall call.now) }
 {
@@ -46,7 +48,7 @@ fn decide_on<'x, 'c, T: NamedTree + ListsNames>(
 }
 
 // What a call comes to over a tree that is seen through an overlay.
-fn decide_over<'x, 'c, B: KeepsNames + ListsNames>(
+fn decide_over<'x, 'c, B: KeepsNames + ListsNames + HasSnapshots>(
     alloc: Global,
     below: &'x mut B,
     overlay: &'x Overlay,
@@ -57,12 +59,13 @@ fn decide_over<'x, 'c, B: KeepsNames + ListsNames>(
     call: &'c Call,
 ) -> Result<Outcome<'c>, CallError<B::Fault>>
     requires holds { B.holds below.old }
+    requires frozen { B.holds_frozen below.old }
     requires shown { IsTrue B.is_told → IsShown (layer_of overlay.now) (B.shows below.old) directories.now }
     requires numbered { IsTrue B.is_told → IsNumbered (through (layer_of overlay.now) (B.shows below.old)) numbers.now }
     ensures kept { B.holds below.new }
     ensures follows { B.follows below.old below.new }
     ensures same { IsTrue B.is_told → B.shows below.new ≡ B.shows below.old }
-    ensures decided { IsTrue B.is_told → Decides (live_world (in_use_of sessions.now) (through (layer_of overlay.now) (B.shows below.old))) session call.now result }
+    ensures decided { IsTrue B.is_told → Decides (world_of (in_use_of sessions.now) (live_trees (through (layer_of overlay.now) (B.shows below.old)) (B.frozen below.old))) session call.now result }
     ensures cause { IfView result (λ f. B.causes below.old below.new f) }
     ensures numbers { IfOk result (λ o. IsCall call.now) }
 {
@@ -73,9 +76,9 @@ fn decide_over<'x, 'c, B: KeepsNames + ListsNames>(
     decide_on(alloc, &mut tree, numbers, sessions, session, call)
 }
 
-/// What a call comes to over a live tree of a root, or why it has no outcome: `Memory` where what it tells found none,
-/// `View` where the root found a fault. Nothing changes.
-pub fn decide_live<'x, 'c, B: KeepsNames + ListsNames>(
+/// What a call comes to over a live tree of a root and the frozen ones, or why it has no outcome: `Memory` where what it
+/// tells found none, `View` where the root found a fault. Nothing changes.
+pub fn decide_live<'x, 'c, B: KeepsNames + ListsNames + HasSnapshots>(
     alloc: Global,
     root: &'x mut B,
     live: &'x LiveTree,
@@ -84,11 +87,12 @@ pub fn decide_live<'x, 'c, B: KeepsNames + ListsNames>(
     call: &'c Call,
 ) -> Result<Outcome<'c>, CallError<B::Fault>>
     requires holds { B.holds root.old }
+    requires frozen { B.holds_frozen root.old }
     requires live { IsTrue B.is_told → IsLive live.now (B.shows root.old) }
     ensures kept { B.holds root.new }
     ensures follows { B.follows root.old root.new }
     ensures same { IsTrue B.is_told → B.shows root.new ≡ B.shows root.old }
-    ensures decided { IsTrue B.is_told → Decides (live_world (in_use_of sessions.now) (shown_of live.now (B.shows root.old))) session call.now result }
+    ensures decided { IsTrue B.is_told → Decides (world_of (in_use_of sessions.now) (live_trees (shown_of live.now (B.shows root.old)) (B.frozen root.old))) session call.now result }
     ensures cause { IfView result (λ f. B.causes root.old root.new f) }
     ensures numbers { IfOk result (λ o. IsCall call.now) }
 {
@@ -108,9 +112,9 @@ pub fn decide_live<'x, 'c, B: KeepsNames + ListsNames>(
     )
 }
 
-/// What a call comes to that needs no look-up of the live tree, or why it has no outcome: `Memory` where what it tells
-/// found none, `View` where a look-up is needed. In both cases its session and arguments have passed.
-pub fn decide_unread<'x, 'c, B: Below>(
+/// What a call comes to that needs no look-up of a tree, or why it has no outcome: `Memory` where what it tells found
+/// none, `View` where a look-up is needed. In both cases its session and arguments have passed.
+pub fn decide_unread<'x, 'c, B: HasSnapshots>(
     alloc: Global,
     root: &'x B,
     live: &'x LiveTree,
@@ -118,7 +122,7 @@ pub fn decide_unread<'x, 'c, B: Below>(
     session: u32,
     call: &'c Call,
 ) -> Result<Outcome<'c>, CallError<Unread>>
-    ensures decided { Decides (live_world (in_use_of sessions.now) (shown_of live.now (B.shows root.now))) session call.now result }
+    ensures decided { Decides (world_of (in_use_of sessions.now) (live_trees (shown_of live.now (B.shows root.now)) (B.frozen root.now))) session call.now result }
     ensures numbers { IfOk result (λ o. IsCall call.now) }
 {
     let mut view = UnreadView { root, live };

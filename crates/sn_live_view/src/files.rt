@@ -1,10 +1,11 @@
-//! The bytes of files and the names of directories of the live tree.
+//! The bytes of files and the names of directories.
 ghost use Rattle.std.specs.Prelude.{◌≡◌, ℕ, IfOk, map};
 ghost use Rattle.sn_model.specs.declared.link.Link.{Link as TheLink};
 
 use crate::LiveView;
 use sn_applies::NamedTree;
 use sn_core_calls::{FileFault, FileView};
+use sn_frozen::HasSnapshots;
 use sn_live_files::{ListsNames, read, size};
 use sn_model::{Link, Names};
 use sn_walk::{Home, Object};
@@ -21,17 +22,17 @@ fn names_alone(alloc: Global, links: Vec<(Link, u16)>) -> Result<Names, AllocErr
     Ok(Names::new(names))
 }
 
-impl<'a, T: NamedTree + ListsNames> FileView for LiveView<'a, T> {
-    ghost use Rattle.std.proofs.Common.{ap};
+impl<'a, T: NamedTree + ListsNames + HasSnapshots> FileView for LiveView<'a, T> {
+    ghost use Rattle.std.proofs.Common.{ap₂};
     ghost use Rattle.sn_core_calls.specs.Shown.{bytes_in};
     ghost use Rattle.sn_live_view.specs.Live.{live_trees};
 
-    ghost bytes = { λ v. bytes_in (live_trees (T.shows v.tree.now)) };
+    ghost bytes = { λ v. bytes_in (live_trees (T.shows v.tree.now) (T.frozen v.tree.now)) };
 
     fn size(&mut self, home: &Home, number: u16) -> Result<u64, T::Fault> {
         match home {
             Home::Live => size(self.tree, number),
-            Home::Frozen(_) => Ok(0),
+            Home::Frozen(snapshot) => self.tree.frozen_size(snapshot, number),
         }
     }
 
@@ -45,22 +46,22 @@ impl<'a, T: NamedTree + ListsNames> FileView for LiveView<'a, T> {
     ) -> Result<Vec<u8>, FileFault<T::Fault>> {
         match home {
             Home::Live => read(self.tree, alloc, number, offset, most),
-            Home::Frozen(_) => Ok(Vec::new(alloc)),
+            Home::Frozen(snapshot) => self.tree.frozen_read(alloc, snapshot, number, offset, most),
         }
     }
 
     fn listed(&mut self, alloc: Global, object: &Object) -> Result<Names, FileFault<T::Fault>> {
         let Object::Node { home, number } = object else {
-            return Ok(Names::new(Vec::new(alloc)));
+            return Ok(self.tree.snapshots(alloc)?);
         };
         match home {
             Home::Live => {
                 let links = self.tree.names(alloc, *number)?;
                 Ok(names_alone(alloc, links)?)
             }
-            Home::Frozen(_) => Ok(Names::new(Vec::new(alloc))),
+            Home::Frozen(snapshot) => self.tree.frozen_names(alloc, snapshot, *number),
         }
     }
 
-    ghost bytes_stay = { λ u v told p. ap (λ tree. bytes_in (live_trees tree)) (p.2 told) };
+    ghost bytes_stay = { λ u v told p. ap₂ (λ tree frozen. bytes_in (live_trees tree frozen)) (p.2 told) (T.frozen_stay u.tree.now v.tree.now told p.0) };
 }

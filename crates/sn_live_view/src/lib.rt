@@ -1,13 +1,13 @@
-//! The live tree as walks and decisions see it, read on demand.
+//! The live tree and the frozen ones as walks and decisions see them, read on demand.
 //!
 //! Decisions are made over a view (`TreeView`, `CallView` and `MoveView`), and changes are tried on a tree that
 //! is read (`NamedTree` of `sn_applies`). Here such a tree, with the table of its numbers (`sn_number_table`), is
 //! a view of the live tree: a root on disk, seen through what changed since, with the table of its directories.
-//! There are no snapshots yet, so that nothing is seen of a frozen tree.
+//! The frozen trees of snapshots are seen as they stand beside it (`HasSnapshots` of `sn_frozen`).
 //!
-//! Each look-up of the view is one of the tree, and whether a number is left is one of the table. Where the tree
-//! is told, it has to be a name tree, and the table has to tell its numbers (`IsNumbered`); then each answer is
-//! the one that the model has. A fault is the tree's.
+//! Each look-up of the view is one of the tree, in the live tree or in a frozen one, and whether a number is left is
+//! one of the table. Where the tree is told, it has to be a name tree, and the table has to tell its numbers
+//! (`IsNumbered`); then each answer is the one that the model has. A fault is the tree's.
 //!
 //! Where the tree lists names too (`ListsNames` of `sn_live_files`), it is a view that calls are decided over
 //! (`FileView` of `sn_core_calls`): its files are read, and its directories listed.

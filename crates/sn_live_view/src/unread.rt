@@ -2,10 +2,10 @@ use sn_acl::Acl;
 use sn_core_calls::{FileFault, FileView};
 use sn_core_decide::CallView;
 use sn_core_names::MoveView;
+use sn_frozen::HasSnapshots;
 use sn_limits::SnapshotName;
 use sn_live::LiveTree;
 use sn_model::{Names, Refusal};
-use sn_overlay::Below;
 use sn_walk::{Attributes, Failure, Home, Object, TreeView};
 use std::alloc::Global;
 
@@ -13,15 +13,15 @@ use std::alloc::Global;
 #[derive(Clone, Copy)]
 pub struct Unread;
 
-/// The live tree of a root, of which nothing is read: each look-up fails. Whatever is decided over it asks nothing of
-/// the tree.
+/// The live tree of a root and the frozen ones, of which nothing is read: each look-up fails. Whatever is decided over
+/// it asks nothing of the trees.
 #[derive(Drop)]
 pub(crate) struct UnreadView<'a, B> {
     pub root: &'a B,
     pub live: &'a LiveTree,
 }
 
-impl<'a, B: Below> TreeView for UnreadView<'a, B> {
+impl<'a, B: HasSnapshots> TreeView for UnreadView<'a, B> {
     ghost use Rattle.std.specs.Prelude.{◌≡◌, true};
     ghost use Rattle.std.proofs.Common.{refl, ◌∙◌};
     ghost use Rattle.sn_live.specs.Live.{shown_of};
@@ -32,7 +32,7 @@ impl<'a, B: Below> TreeView for UnreadView<'a, B> {
 
     ghost is_told = { true };
 
-    ghost shows = { λ v. viewed_trees (live_trees (shown_of v.live.now (B.shows v.root.now))) };
+    ghost shows = { λ v. viewed_trees (live_trees (shown_of v.live.now (B.shows v.root.now)) (B.frozen v.root.now)) };
 
     ghost holds = { λ v. Unit {0} };
 
@@ -71,7 +71,7 @@ impl<'a, B: Below> TreeView for UnreadView<'a, B> {
     ghost causes_later = { λ u v w f p q. tt };
 }
 
-impl<'a, B: Below> CallView for UnreadView<'a, B> {
+impl<'a, B: HasSnapshots> CallView for UnreadView<'a, B> {
     ghost use Rattle.std.proofs.Common.{ap};
     ghost use Rattle.sn_limits.specs.Versions.{version_1};
     ghost use Rattle.sn_live.specs.Live.{shown_of};
@@ -85,7 +85,7 @@ impl<'a, B: Below> CallView for UnreadView<'a, B> {
         Err(Failure::Fault(Unread))
     }
 
-    ghost names = { λ v. seen_names version_1 (live_trees (shown_of v.live.now (B.shows v.root.now))) };
+    ghost names = { λ v. seen_names version_1 (live_trees (shown_of v.live.now (B.shows v.root.now)) (B.frozen v.root.now)) };
 
     fn has_room_for_name(&mut self, _directory: u16) -> Result<(), Failure<Refusal, Unread>> {
         Err(Failure::Fault(Unread))
@@ -97,22 +97,22 @@ impl<'a, B: Below> CallView for UnreadView<'a, B> {
 
     ghost room_stays = { λ u v told e. ap (λ w. has_room version_1 (shown_of w.live.now (B.shows w.root.now))) e };
 
-    ghost names_stay = { λ u v told e. ap (λ w. seen_names version_1 (live_trees (shown_of w.live.now (B.shows w.root.now)))) e };
+    ghost names_stay = { λ u v told e. ap (λ w. seen_names version_1 (live_trees (shown_of w.live.now (B.shows w.root.now)) (B.frozen w.root.now))) e };
 }
 
-impl<'a, B: Below> MoveView for UnreadView<'a, B> {
+impl<'a, B: HasSnapshots> MoveView for UnreadView<'a, B> {
     fn is_below(&mut self, _top: u16, _directory: u16) -> Result<bool, Unread> {
         Err(Unread)
     }
 }
 
-impl<'a, B: Below> FileView for UnreadView<'a, B> {
+impl<'a, B: HasSnapshots> FileView for UnreadView<'a, B> {
     ghost use Rattle.std.proofs.Common.{ap};
     ghost use Rattle.sn_core_calls.specs.Shown.{bytes_in};
     ghost use Rattle.sn_live.specs.Live.{shown_of};
     ghost use Rattle.sn_live_view.specs.Live.{live_trees};
 
-    ghost bytes = { λ v. bytes_in (live_trees (shown_of v.live.now (B.shows v.root.now))) };
+    ghost bytes = { λ v. bytes_in (live_trees (shown_of v.live.now (B.shows v.root.now)) (B.frozen v.root.now)) };
 
     fn size(&mut self, _home: &Home, _number: u16) -> Result<u64, Unread> {
         Err(Unread)
@@ -133,5 +133,5 @@ impl<'a, B: Below> FileView for UnreadView<'a, B> {
         Err(FileFault::View(Unread))
     }
 
-    ghost bytes_stay = { λ u v told e. ap (λ w. bytes_in (live_trees (shown_of w.live.now (B.shows w.root.now)))) e };
+    ghost bytes_stay = { λ u v told e. ap (λ w. bytes_in (live_trees (shown_of w.live.now (B.shows w.root.now)) (B.frozen w.root.now))) e };
 }

@@ -5,13 +5,14 @@ use sn_acl::Acl;
 use sn_applies::NamedTree;
 use sn_core_decide::CallView;
 use sn_core_names::MoveView;
+use sn_frozen::HasSnapshots;
 use sn_limits::{Limits, SnapshotName};
 use sn_model::{Errno, Refusal};
 use sn_number_table::NumberTable;
 use sn_walk::{Attributes, Failure, Home, TreeView};
 
-/// The live tree as walks and decisions see it, with the table of its numbers; there are no snapshots yet. What
-/// a look-up reads, and how it can fail, is the tree's. It is made by a function that is lent the tree.
+/// The live tree and the frozen ones beside it as walks and decisions see them, with the table of the live tree's
+/// numbers. What a look-up reads, and how it can fail, is the tree's. It is made by a function that is lent the tree.
 ///
 /// ```text
 /// let mut view = LiveView { tree, numbers };
@@ -22,7 +23,7 @@ pub struct LiveView<'a, T> {
     pub numbers: &'a NumberTable,
 }
 
-impl<'a, T: NamedTree> TreeView for LiveView<'a, T> {
+impl<'a, T: NamedTree + HasSnapshots> TreeView for LiveView<'a, T> {
     ghost use Rattle.std.specs.Prelude.{◌≡◌, IsTrue};
     ghost use Rattle.std.proofs.Common.{refl, ◌∙◌};
     ghost use Rattle.sn_model.specs.World.{viewed_trees};
@@ -32,9 +33,9 @@ impl<'a, T: NamedTree> TreeView for LiveView<'a, T> {
 
     ghost is_told = { T.is_told };
 
-    ghost shows = { λ v. viewed_trees (live_trees (T.shows v.tree.now)) };
+    ghost shows = { λ v. viewed_trees (live_trees (T.shows v.tree.now) (T.frozen v.tree.now)) };
 
-    ghost holds = { λ v. T.holds v.tree.now × (IsTrue T.is_told → IsNumbered (T.shows v.tree.now) v.numbers.now) };
+    ghost holds = { λ v. T.holds v.tree.now × T.holds_frozen v.tree.now × (IsTrue T.is_told → IsNumbered (T.shows v.tree.now) v.numbers.now) };
 
     // the tree is the same one, and shows the same; so does the table
     ghost follows = { λ u v. T.follows u.tree.now v.tree.now × (v.tree.ghost_name ≡ u.tree.ghost_name)
@@ -48,26 +49,26 @@ impl<'a, T: NamedTree> TreeView for LiveView<'a, T> {
     fn node(&mut self, home: &Home, number: u16) -> Result<Option<Attributes>, T::Fault> {
         match home {
             Home::Live => attributes(self.tree, number),
-            Home::Frozen(_) => Ok(None),
+            Home::Frozen(snapshot) => self.tree.frozen_node(snapshot, number),
         }
     }
 
     fn link(&mut self, home: &Home, directory: u16, name: &[u8]) -> Result<Option<u16>, T::Fault> {
         match home {
             Home::Live => self.tree.number(directory, name),
-            Home::Frozen(_) => Ok(None),
+            Home::Frozen(snapshot) => self.tree.frozen_link(snapshot, directory, name),
         }
     }
 
     fn default_acl(&mut self, home: &Home, number: u16) -> Result<Option<Acl>, T::Fault> {
         match home {
             Home::Live => default_acl(self.tree, number),
-            Home::Frozen(_) => Ok(None),
+            Home::Frozen(snapshot) => self.tree.frozen_default_acl(snapshot, number),
         }
     }
 
-    fn has_snapshot(&mut self, _name: &SnapshotName) -> Result<bool, T::Fault> {
-        Ok(false)
+    fn has_snapshot(&mut self, name: &SnapshotName) -> Result<bool, T::Fault> {
+        Ok(self.tree.has_snapshot(name))
     }
 
     ghost follows_itself = { λ v. (T.follows_itself v.tree.now, refl, λ told. refl, refl) };
@@ -81,8 +82,8 @@ impl<'a, T: NamedTree> TreeView for LiveView<'a, T> {
     ghost causes_later = { λ u v w f p q. T.causes_later u.tree.now v.tree.now w.tree.now f p.0 q };
 }
 
-impl<'a, T: NamedTree> CallView for LiveView<'a, T> {
-    ghost use Rattle.std.proofs.Common.{ap};
+impl<'a, T: NamedTree + HasSnapshots> CallView for LiveView<'a, T> {
+    ghost use Rattle.std.proofs.Common.{ap, ap₂};
     ghost use Rattle.sn_model.specs.Seen.{seen_names};
     ghost use Rattle.sn_model.specs.Tests.{has_room};
     ghost use Rattle.sn_live_view.specs.Live.{live_trees};
@@ -96,7 +97,7 @@ impl<'a, T: NamedTree> CallView for LiveView<'a, T> {
         room_for_name(self.tree, directory)
     }
 
-    ghost names = { λ v. seen_names version_1 (live_trees (T.shows v.tree.now)) };
+    ghost names = { λ v. seen_names version_1 (live_trees (T.shows v.tree.now) (T.frozen v.tree.now)) };
 
     fn has_room_for_name(&mut self, directory: u16) -> Result<(), Failure<Refusal, T::Fault>> {
         room_for_name(self.tree, directory)
@@ -111,10 +112,10 @@ impl<'a, T: NamedTree> CallView for LiveView<'a, T> {
 
     ghost room_stays = { λ u v told p. ap (has_room version_1) (p.2 told) };
 
-    ghost names_stay = { λ u v told p. ap (λ tree. seen_names version_1 (live_trees tree)) (p.2 told) };
+    ghost names_stay = { λ u v told p. ap₂ (λ tree frozen. seen_names version_1 (live_trees tree frozen)) (p.2 told) (T.frozen_stay u.tree.now v.tree.now told p.0) };
 }
 
-impl<'a, T: NamedTree> MoveView for LiveView<'a, T> {
+impl<'a, T: NamedTree + HasSnapshots> MoveView for LiveView<'a, T> {
     fn is_below(&mut self, top: u16, directory: u16) -> Result<bool, T::Fault> {
         self.tree.is_below(top, directory)
     }

@@ -15,7 +15,6 @@ use Rattle.sn_live.specs.declared.live.LiveTree.{LiveTree}
 use Rattle.sn_live_world.specs.Dropping.{DropsClosed, DropsIf, DropsLost}
 use Rattle.sn_live_world.specs.World.{IsOver, changes_of, kept_of, kept_since_of, tree_over, world_over}
 use Rattle.sn_live_world.specs.declared.world.LiveWorld.{LiveWorld}
-use Rattle.sn_model.specs.Changes.{take_node}
 use Rattle.sn_model.specs.Settling.{dropped, is_abandoned}
 use Rattle.sn_model.specs.Tree.{Node, Tree}
 use Rattle.sn_model.specs.World.{World}
@@ -51,43 +50,6 @@ if_behind first mid last world number by_close files before then =
 pub lost_behind : (first mid last : Layer) (world : World) (lost : Option ℕ) (files : List DroppedFile) → mid ≡ with_drops first files → last ≡ with_drops mid (told_lost world lost []) → last ≡ with_drops first (told_lost world lost files)
 lost_behind first mid last world None files before then = then ∙ before
 lost_behind first mid last world (Some number) files before then = if_behind first mid last world number false files before then
-
--- ---- one
-
-not_so : (a b : Bool) → (a && (false && b)) ≡ false
-not_so true b = refl
-not_so false b = refl
-
-module _ (number : ℕ) (by_close : Bool) (old : LiveWorld) (below : Tree) where
-  abbrev world : World
-  world = world_over old below
-
-  abbrev without : World
-  without = record world { live = take_node world.live number }
-
-  abbrev file : DroppedFile
-  file = record { number = number; by_close = by_close }
-
-  -- it is so, and goes
-  pub it_goes : (it : LiveTree) → is_abandoned world number ≡ true → live.IsLive it below → live.shown_of it below ≡ take_node (tree_over old below) number → live.changes_of it ≡ merge (changes_of old) (gone number by_close)
-      → ((n : ℕ) → live.kept_back_of it n ≡ (by_close && n == number || kept_of old n)) → ((n : ℕ) → live.kept_since_of it n ≡ (by_close && n == number || kept_since_of old n)) → DropsIf number by_close old (record old { live = it }) below
-  it_goes it is over shown changes kept since = record {
-    over = over;
-    world = ap (λ (t : Tree). record world { live = t }) shown ∙ sym (ap (λ (b : Bool). cond b without world) is);
-    changes = changes ∙ sym (ap (λ (b : Bool). with_drops (changes_of old) (cond b ([] ++ file ∷ []) [])) is);
-    kept = λ n. kept n ∙ sym (ap (λ (b : Bool). by_close && (b && n == number) || kept_of old n) is);
-    since = λ n. since n ∙ sym (ap (λ (b : Bool). by_close && (b && n == number) || kept_since_of old n) is);
-  }
-
-  -- or it isn't, and stays
-  pub it_stays : is_abandoned world number ≡ false → IsOver old below → DropsIf number by_close old old below
-  it_stays is over = record {
-    over = over;
-    world = sym (ap (λ (b : Bool). cond b without world) is);
-    changes = sym (ap (λ (b : Bool). with_drops (changes_of old) (cond b ([] ++ file ∷ []) [])) is);
-    kept = λ n. sym (ap (λ (b : Bool). by_close && (b && n == number) || kept_of old n) is ∙ ap (λ (b : Bool). b || kept_of old n) (not_so by_close (n == number)));
-    since = λ n. sym (ap (λ (b : Bool). by_close && (b && n == number) || kept_since_of old n) is ∙ ap (λ (b : Bool). b || kept_since_of old n) (not_so by_close (n == number)));
-  }
 
 -- ---- one after the other
 
@@ -168,9 +130,6 @@ module _ (numbers : List ℕ) (number : ℕ) (old mid new : LiveWorld) (below : 
       apart n e (inr same) = (still n e).1 (sym same)
 
 -- ---- the one that lost its name
-
-pub none_lost : (w : LiveWorld) (below : Tree) → IsOver w below → DropsLost None w w below
-none_lost w below over = record { over = over; world = refl; changes = refl; kept = λ n. refl; since = λ n. refl }
 
 pub one_lost : (number : ℕ) (old new : LiveWorld) (below : Tree) → DropsIf number false old new below → DropsLost (Some number) old new below
 one_lost number old new below next = record { over = next.over; world = next.world; changes = next.changes; kept = next.kept; since = next.since }

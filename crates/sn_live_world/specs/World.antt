@@ -8,7 +8,7 @@ use Rattle.sn_live_view.specs.Live.{live_world}
 use Rattle.sn_live_world.specs.declared.world.LiveWorld.{LiveWorld}
 use Rattle.sn_model.specs.Descriptors.{Descriptors}
 use Rattle.sn_model.specs.Tree.{Tree}
-use Rattle.sn_model.specs.World.{World}
+use Rattle.sn_model.specs.World.{Trees, World}
 use Rattle.sn_overlay.specs.Layers.{Layer}
 use Rattle.sn_overlay.specs.Overlays.{no_changes}
 
@@ -16,9 +16,13 @@ use Rattle.sn_overlay.specs.Overlays.{no_changes}
 abbrev pub tree_over : LiveWorld → Tree → Tree
 tree_over w below = live.shown_of w.live below
 
--- with who is logged in, and without snapshots
+-- with who is logged in, and without frozen trees: no change makes any difference of them
 abbrev pub world_over : LiveWorld → Tree → World
 world_over w below = live_world (in_use_of w.sessions) (tree_over w below)
+
+-- over the live tree of a root, and with the frozen ones beside it
+abbrev pub world_in : LiveWorld → Trees → World
+world_in w trees = record (world_over w trees.live) { frozen = trees.frozen }
 
 -- the state belongs to a tree below
 abbrev pub IsOver : LiveWorld → Tree → Type 0

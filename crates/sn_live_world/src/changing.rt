@@ -9,6 +9,7 @@ ghost use Rattle.sn_model.specs.Changes.{apply};
 ghost use Rattle.sn_model.specs.Settling.{OnlyLost};
 ghost use Rattle.sn_model.specs.Steps.{with_live};
 ghost use Rattle.sn_model.specs.Tree.{Tree};
+ghost use Rattle.sn_model.specs.World.{Trees};
 ghost use Rattle.sn_model.specs.Worlds.{IsWorld};
 ghost use Rattle.sn_model.specs.declared.change.Change.{Change as TheChange};
 ghost use Rattle.sn_numbers.specs.Numbers.{kept_after, since_after};
@@ -27,7 +28,7 @@ use sn_rooted_tree::RootedTree;
 use std::alloc::Global;
 
 impl LiveWorld {
-    ghost use Rattle.sn_live_world.specs.World.{Alike, HasDrops, HasRoomFor, HasSessions, IsOver, changes_of, descriptors_of, kept_of, kept_since_of, point_of, tree_over, world_over};
+    ghost use Rattle.sn_live_world.specs.World.{Alike, HasDrops, HasRoomFor, HasSessions, IsOver, changes_of, descriptors_of, kept_of, kept_since_of, point_of, tree_over, world_in, world_over};
 
     // Reads and grows what a change asks for, with room for so many drops beside.
     fn prepare_beside<D: Device>(
@@ -100,8 +101,8 @@ impl LiveWorld {
             → (tree : Tree) × (apply version_1 change (world_over self.old below).live ≡ Some tree) × (world_over self.new below ≡ with_live (world_over self.old below) tree) }
         ensures merged { (below : Tree) (change : TheChange) → IsOver self.old below → CanBeMade prepared (tree_over self.old below) change
             → changes_of self.new ≡ merge (changes_of self.old) (layer_of_change (tree_over self.old below) change) }
-        ensures lost { (below : Tree) (change : TheChange) → IsOver self.old below → CanBeMade prepared (tree_over self.old below) change
-            → IsWorld version_1 (world_over self.old below) → OnlyLost (world_over self.new below) result }
+        ensures lost { (trees : Trees) (change : TheChange) → IsOver self.old trees.live → CanBeMade prepared (tree_over self.old trees.live) change
+            → IsWorld version_1 (world_in self.old trees) → OnlyLost (world_in self.new trees) result }
         ensures kept { (tree : Tree) (change : TheChange) → CanBeMade prepared tree change → (n : ℕ) → kept_of self.new n ≡ kept_after change (kept_of self.old) n }
         ensures since { (tree : Tree) (change : TheChange) → CanBeMade prepared tree change → (n : ℕ)
             → kept_since_of self.new n ≡ since_after change (kept_of self.old) (kept_since_of self.old) n }

@@ -1,4 +1,4 @@
-//! What calls come to over the live tree of a root on a device.
+//! What calls come to over the trees of a root on a device.
 ghost use Rattle.std.specs.Prelude.{◌≡◌, IsTrue, IfErr, IfNone, IfOk, IfSome};
 ghost use Rattle.sn_block.specs.Lending.{device_of};
 ghost use Rattle.sn_core_calls.specs.Decided.{MayLack};
@@ -6,7 +6,7 @@ ghost use Rattle.sn_live_world.specs.Faults.{CountsCall};
 ghost use Rattle.sn_live_world.specs.Turned.{Decides};
 ghost use Rattle.sn_live_world.specs.declared.fault.CallFault.TheVariants.{Read};
 ghost use Rattle.sn_model.specs.Worlds.{IsCall};
-ghost use Rattle.sn_rooted.specs.Roots.{IsSoundOn, tree_on};
+ghost use Rattle.sn_rooted.specs.Roots.{AreSound, store_on, tree_on, trees_at};
 
 use crate::LiveWorld;
 use crate::fault::{CallFault, look_fault_of};
@@ -20,7 +20,7 @@ use sn_rooted_tree::RootedTree;
 use std::alloc::Global;
 
 impl LiveWorld {
-    ghost use Rattle.sn_live_world.specs.World.{IsOver, world_over};
+    ghost use Rattle.sn_live_world.specs.World.{IsOver, world_in};
 
     // The same of a call that may find no memory, once its session and arguments have passed.
     fn decide_read<'c, D: Device>(
@@ -31,10 +31,10 @@ impl LiveWorld {
         session: u32,
         call: &'c Call,
     ) -> Result<Outcome<'c>, CallFault>
-        requires readable { IsTrue D.tells_bytes → IsSoundOn blocks.old root.now.limits root.now.inode_file }
+        requires readable { IsTrue D.tells_bytes → AreSound (D.status (device_of blocks.old)).sectors (store_on blocks.old) root.now }
         requires live { IsTrue D.tells_bytes → IsOver self.now (tree_on blocks.old root.now.inode_file) }
-        requires passed { MayLack (world_over self.now (tree_on blocks.old root.now.inode_file)) session call.now }
-        ensures decided { IsTrue D.tells_bytes → Decides (world_over self.now (tree_on blocks.old root.now.inode_file)) session call.now result }
+        requires passed { MayLack (world_in self.now (trees_at (store_on blocks.old) root.now)) session call.now }
+        ensures decided { IsTrue D.tells_bytes → Decides (world_in self.now (trees_at (store_on blocks.old) root.now)) session call.now result }
         ensures numbers { IfOk result (λ o. IsCall call.now) }
         ensures same { IsTrue D.tells_bytes → D.disk (device_of blocks.new) ≡ D.disk (device_of blocks.old) }
         ensures counts { CountsCall D.tells_bytes result (D.status (device_of blocks.old)) (D.status (device_of blocks.new)) }
@@ -67,8 +67,8 @@ impl LiveWorld {
         session: u32,
         call: &'c Call,
     ) -> Option<Result<Outcome<'c>, CallFault>>
-        ensures decided { IfSome result (λ r. Decides (world_over self.now (tree_on blocks.old root.now.inode_file)) session call.now r) }
-        ensures passed { IfNone result (MayLack (world_over self.now (tree_on blocks.old root.now.inode_file)) session call.now) }
+        ensures decided { IfSome result (λ r. Decides (world_in self.now (trees_at (store_on blocks.old) root.now)) session call.now r) }
+        ensures passed { IfNone result (MayLack (world_in self.now (trees_at (store_on blocks.old) root.now)) session call.now) }
         ensures numbers { IfSome result (λ r. IfOk r (λ o. IsCall call.now)) }
         ensures unread { IfSome result (λ r. IfErr r (λ e. e ≡ Read → ⊥)) }
         ensures same { D.disk (device_of blocks.new) ≡ D.disk (device_of blocks.old) }
@@ -98,9 +98,9 @@ impl LiveWorld {
         session: u32,
         call: &'c Call,
     ) -> Result<Outcome<'c>, CallFault>
-        requires readable { IsTrue D.tells_bytes → IsSoundOn blocks.old root.now.limits root.now.inode_file }
+        requires readable { IsTrue D.tells_bytes → AreSound (D.status (device_of blocks.old)).sectors (store_on blocks.old) root.now }
         requires live { IsTrue D.tells_bytes → IsOver self.now (tree_on blocks.old root.now.inode_file) }
-        ensures decided { IsTrue D.tells_bytes → Decides (world_over self.now (tree_on blocks.old root.now.inode_file)) session call.now result }
+        ensures decided { IsTrue D.tells_bytes → Decides (world_in self.now (trees_at (store_on blocks.old) root.now)) session call.now result }
         ensures numbers { IfOk result (λ o. IsCall call.now) }
         ensures same { IsTrue D.tells_bytes → D.disk (device_of blocks.new) ≡ D.disk (device_of blocks.old) }
         ensures counts { CountsCall D.tells_bytes result (D.status (device_of blocks.old)) (D.status (device_of blocks.new)) }

@@ -3,11 +3,13 @@
 //!
 //! The live tree is read on demand. It is the tree of a root on disk, seen through what changed since (`sn_live`), and
 //! nobody holds it in memory. Beside it stand the sessions of `sn_desc`. The model is the world of `sn_model` that is
-//! shown of a tree below; there are no snapshots yet.
+//! shown of a tree below. A call is decided in the world that has the frozen trees of the root's snapshots too, which are
+//! read on demand as well; of changes and callers it is said over the live tree alone, since they change nothing else.
 //!
 //! A call is served in parts, and whoever serves it may record the change in between:
 //!
-//! 1. [`LiveWorld::decide`] reads what the call comes to. A call that needs no look-up is decided without the root.
+//! 1. [`LiveWorld::decide`] reads what the call comes to, in the live tree and the frozen ones. A call that needs no look-up
+//!    is decided without the root.
 //! 2. [`LiveWorld::prepare_caller`] makes room for the file that it opens, [`LiveWorld::choose`] fills in the number of a
 //!    new node, and [`LiveWorld::prepare_change`] reads and grows what the change asks for. Nothing changes by these.
 //! 3. [`LiveWorld::commit`] makes the change, and [`LiveWorld::set_caller`] sets what becomes of the caller, and takes

@@ -34,7 +34,7 @@ use Rattle.sn_sound.specs.Disks.{IsFormatted, IsSoundDisk}
 use Rattle.sn_sound.specs.Logs.{AreReplayed, HasSoundLog}
 use Rattle.sn_sound.specs.Maps.{IsSetOfRoots, IsSoundRoot, Rooted, free_blocks, is_reached, rooted_in}
 use Rattle.sn_sound.proofs.StandingLemmas.{first_among}
-use Rattle.sn_held.specs.Images.{IsLiveImage}
+use Rattle.sn_held.specs.Images.{IsImage}
 use Rattle.sn_held.proofs.RoomLemmas.{none_nameless}
 use Rattle.sn_mkfs.specs.Faults.{HasRoom}
 use Rattle.sn_mkfs.specs.Fresh.{IsFresh, fresh_root, fresh_words, inode_file}
@@ -220,23 +220,20 @@ module _ (sectors n : ℕ) (c : Contents) (room : HasRoom sectors n) (fresh : Is
   }
 
   -- it is an image of the new world, as a mount takes it
-  pub is_image : AreSectors c → length c ≡ sectors → IsLiveImage c new_world
+  pub is_image : AreSectors c → length c ≡ sectors → IsImage c new_world
   unfolding opens_new
   is_image whole count = record {
-    image = record {
-      blocks = n;
-      disk = record { size = room.size; whole = whole; long = subst (λ (m : ℕ). 8 * n ≤ m) (sym count) room.room };
-      spelled = fresh.prepared.superblock;
-      opens = opens_new;
-      words = fresh_words n;
-      map = fresh.prepared.map;
-      sound = record {
-        roots = sound_root.roots;
-        map = λ block within. subst (IsSetOfRoots store (rooted_in (fresh_root n)) block) (map_word-spelled n c A (fresh_words n) fresh.prepared.map block) (sound_root.map block within);
-      };
-      none_later = λ epoch. inl (fresh.prepared.log epoch);
-      fits = fits;
-      age = λ recovers. record { generation = omega arith; epoch = omega arith };
+    blocks = n;
+    disk = record { size = room.size; whole = whole; long = subst (λ (m : ℕ). 8 * n ≤ m) (sym count) room.room };
+    spelled = fresh.prepared.superblock;
+    opens = opens_new;
+    words = fresh_words n;
+    map = fresh.prepared.map;
+    sound = record {
+      roots = sound_root.roots;
+      map = λ block within. subst (IsSetOfRoots store (rooted_in (fresh_root n)) block) (map_word-spelled n c A (fresh_words n) fresh.prepared.map block) (sound_root.map block within);
     };
-    frozen = refl;
+    none_later = λ epoch. inl (fresh.prepared.log epoch);
+    fits = fits;
+    age = λ recovers. record { generation = omega arith; epoch = omega arith };
   }

@@ -10,7 +10,7 @@ ghost use Rattle.sn_ondisk.specs.Trees.{store_of};
 ghost use Rattle.sn_opening.specs.Opens.{Opens};
 ghost use Rattle.sn_sound.specs.Disks.{IsSoundDisk};
 ghost use Rattle.sn_sound.specs.Maps.{free_blocks};
-ghost use Rattle.sn_held.specs.Images.{IsLiveImage};
+ghost use Rattle.sn_held.specs.Images.{IsImage};
 ghost use Rattle.sn_mkfs.specs.Writing.{format_writes};
 ghost use Rattle.sn_mkfs.specs.Faults.{HasRoom, IsCutOff};
 ghost use Rattle.sn_mkfs.specs.Fresh.{fresh_root};
@@ -32,7 +32,7 @@ pub fn mkfs<D: Device>(alloc: Global, device: D, blocks: u32) -> Result<D, Unfor
         → IfOk result (λ formatted. Opens blocks (reads (D.disk formatted)) new_world) }
     ensures sound { IsTrue D.tells_bytes → IfOk result (λ formatted.
         IsSoundDisk (D.status device).sectors (reads (D.disk formatted)) blocks A (fresh_root blocks)) }
-    ensures image { IsTrue D.tells_bytes → IfOk result (λ formatted. IsLiveImage (reads (D.disk formatted)) new_world) }
+    ensures image { IsTrue D.tells_bytes → IfOk result (λ formatted. IsImage (reads (D.disk formatted)) new_world) }
     ensures free { IsTrue D.tells_bytes → IfOk result (λ formatted.
         free_blocks blocks (store_of (reads (D.disk formatted))) (fresh_root blocks) ≡ blocks - start_of blocks Data - 1) }
     ensures synced { IsTrue D.tells_bytes → IfOk result (λ formatted. IsSynced (D.disk formatted)) }

@@ -1,7 +1,5 @@
 -- What stands once the first place of the log is cleared, over a root on which nothing is logged.
-use Rattle.std.proofs.Common.{◌≡◌, inl, ℕ, ◌+◌, Bool, false, List, [], ◌∷◌, ◌++◌, None, length, replicate, slice_index, Result, Ok, refl, sym, ap, subst, ◌∙◌, arith}
-use Rattle.std.specs.Prelude.{IfOk}
-use Rattle.std.specs.FinMap as fin
+use Rattle.std.proofs.Common.{◌≡◌, inl, ℕ, ◌+◌, Bool, List, [], ◌∷◌, ◌++◌, None, length, slice_index, Result, refl, sym, ap, subst, ◌∙◌, arith}
 use Rattle.sn_alloc.specs.Taking.{free_data}
 use Rattle.sn_changed.specs.Changed.{HasChanged}
 use Rattle.sn_changed.proofs.ChangedLemmas.{nothing_changed}
@@ -9,8 +7,7 @@ use Rattle.sn_device.specs.Sectors.{AreSectors, Contents, Single}
 use Rattle.sn_device.specs.Disk.{Always, Disk, IsSynced, reads}
 use Rattle.sn_device.specs.Crash.{LeavesOnly, Touches}
 use Rattle.sn_device.specs.declared.status.Status.{Status}
-use Rattle.sn_device.proofs.CrashLemmas.{Always-reads, Always-synced, LeavesOnly-join, LeavesOnly-now, LeavesOnly-weaker, Touches-join, Touches-within}
-use Rattle.sn_block.specs.Effects.{Nowhere}
+use Rattle.sn_device.proofs.CrashLemmas.{Always-reads, Always-synced, LeavesOnly-now, Touches-within}
 use Rattle.sn_layout.specs.declared.geometry.Area.TheVariants.{Data}
 use Rattle.sn_layout.specs.declared.geometry.Slot.{Slot}
 use Rattle.sn_layout.specs.declared.root.RootBody.{RootBody}
@@ -22,12 +19,9 @@ use Rattle.sn_log.specs.Clearing.{Clears}
 use Rattle.sn_log.specs.Positions.{IsReadyAt, LogPosition, first_of, payloads_of}
 use Rattle.sn_map.specs.Free.{is_free_word}
 use Rattle.sn_model.specs.declared.change.Change.{Change}
-use Rattle.sn_model.specs.declared.mount.MountFault.{MountFault}
 use Rattle.sn_model.specs.NameTree.{IsTree}
-use Rattle.sn_model.specs.Settling.{settled}
 use Rattle.sn_model.specs.Tree.{Tree}
-use Rattle.sn_model.specs.World.{World, new_world}
-use Rattle.sn_model.proofs.DropLemmas.{dropping_tree}
+use Rattle.sn_model.specs.World.{World}
 use Rattle.sn_ondisk.specs.Blocks.{block_at}
 use Rattle.sn_ondisk.specs.Gates.{IsClosed}
 use Rattle.sn_ondisk.specs.LogHalf.{HasNoLater, InHalf, Leads, Replays, ReplaysTo, base_of, cleared_sector}
@@ -54,19 +48,12 @@ use Rattle.sn_sound.proofs.DiskLemmas.{one_size}
 use Rattle.sn_sound.proofs.FreeLemmas.{free_counted, words_counted}
 use Rattle.sn_sound.proofs.StandingLemmas.{lies_in_data}
 use Rattle.sn_held.specs.Held.{Held, IsReady, Kept, Runs, RunsReady}
-use Rattle.sn_held.specs.Images.{EndsAt, IsImage, IsLiveImage}
+use Rattle.sn_held.specs.Images.{EndsAt, IsImage}
 use Rattle.sn_held.specs.Room.{HasRoomOf, room_of_image}
 use Rattle.sn_held.proofs.HeldLemmas.{Rests, rests_stay}
 use Rattle.sn_mount.proofs.ClearingLemmas.{cleared_within, clearing_keeps}
 use Rattle.sn_held.proofs.RoomLemmas.{image_same, settled_has_none}
-use Rattle.sn_cp_whole.specs.Planning.{kept_in}
-use Rattle.sn_cp_whole.specs.Recovering.{IsApart, IsImageOver}
-use Rattle.sn_cp_whole.specs.declared.base.PointBase.{PointBase}
-use Rattle.sn_cp_whole.proofs.RecoverLemmas.{half_apart}
-use Rattle.sn_examine.specs.Finding.{HasFound}
-use Rattle.sn_mount.specs.Recovering.{IsRecovered, LeavesTheWorld, with_frozen}
-use Rattle.sn_mount.specs.Settling.{MakesRoot, SettlesChanges}
-use Rattle.sn_mount.proofs.RecoverLemmas.{root_leaves, root_over, settled_is}
+use Rattle.sn_cp_whole.specs.Recovering.{IsImageOver}
 
 none_spelled : (changes : List Change) → payloads_of changes ≡ [] → changes ≡ []
 none_spelled [] none = refl
@@ -288,70 +275,3 @@ module _ (d : Disk) (w : World) (n : ℕ) (k : Kept) (over : IsImageOver d w n k
         let rooms : room_of_image (reads d) w its ≡ room = room_over_is ∙ sym room_is in
         subst (λ (p : LogPosition). RunsReady (held_at room p) w k) there
         (subst (λ (r : RoomCounts). RunsReady (held_at r (first_of its.blocks opened.root.epoch)) w k) rooms (record { runs = runs_here; ready = is_ready }))
-
--- ---- the mount as a whole
-
-pub touches_apart : (n epoch : ℕ) (slot : Slot) (mid rooted new : Disk) {T E : Type 0} (result : Result T E) → Touches (IsApart n slot) mid rooted → Clears (base_of n epoch) 0 result rooted new → Touches (IsApart n slot) mid new
-touches_apart n epoch slot mid rooted new result first clears =
-    Touches-join (IsApart n slot) mid rooted new first
-    (Touches-within (Single (cleared_sector (reads rooted) (base_of n epoch) 0)) (IsApart n slot) rooted new
-    (λ i is. half_apart n epoch slot i (subst (InHalf (base_of n epoch)) (sym is) (cleared_within (reads rooted) (base_of n epoch) 0 (omega arith)))) clears.written.touched)
-
-module _ (sectors : ℕ) (old mid rooted new : Disk) (k : Kept) (at : LogPosition) (shown : Tree) (room : RoomCounts) (recovers : Bool) (f : HasFound sectors (reads mid) k at shown room recovers) (count : length (reads mid) ≡ sectors) (whole : AreSectors (reads mid))
-    (synced : IsSynced mid) (k2 : Kept) (settles : SettlesChanges k shown k2) (tree : IsTree version_1 shown) (result : Result PointBase MountFault) (makes : MakesRoot result at.blocks k2 recovers mid rooted) (w : World) (is : IsImage (reads mid) w) where
-  to_root : LeavesOnly mid rooted (λ c. IsImage c w)
-  to_root = root_leaves sectors mid k at shown room recovers f count whole synced k2 settles tree w is result rooted makes
-
-  module _ (first : Touches Nowhere old mid) (same : reads mid ≡ reads old) (empty : w.frozen ≡ fin.empty) where
-    leaves_by : (d : Disk) → LeavesOnly mid d (λ c. IsImage c w) → LeavesTheWorld old d w
-    leaves_by d leaves = record { mid = mid; first = first; same = same; synced = synced; moments = LeavesOnly-weaker mid d (λ c. IsImage c w) (λ c. IsLiveImage c w) (λ c h. record { image = h; frozen = empty }) leaves }
-
-    -- where no root was made
-    pub leaves_at_root : LeavesTheWorld old rooted w
-    leaves_at_root = leaves_by rooted to_root
-
-  module _ (base : PointBase) (done : result ≡ Ok base) (layer : Layer) (none : layer ≡ no_changes) {T E : Type 0} (cleared : Result T E) (clears : Clears (base_of at.blocks base.root.epoch) 0 cleared rooted new) where
-    over : IsImageOver rooted w at.blocks (kept_in base layer)
-    over =
-        subst (λ (l : Layer). IsImageOver rooted w at.blocks (kept_in base l)) (sym none)
-        (subst (λ (r : Result PointBase MountFault). IfOk r (λ next. IsImageOver rooted w at.blocks (kept_in next no_changes))) done (root_over sectors mid k at shown room recovers f count whole synced k2 settles tree w is result rooted makes))
-
-    pub leaves_at_end : Touches Nowhere old mid → reads mid ≡ reads old → w.frozen ≡ fin.empty → LeavesTheWorld old new w
-    leaves_at_end first same empty = leaves_by first same empty new (LeavesOnly-join mid rooted new (λ c. IsImage c w) to_root (over_keeps rooted new w at.blocks (kept_in base layer) over cleared clears))
-
-    module _ (whole_new : AreSectors (reads new)) (synced_new : IsSynced new) where
-      stays : IsImageOver new w at.blocks (kept_in base layer)
-      stays = over_stays rooted new w at.blocks (kept_in base layer) over cleared clears whole_new synced_new
-
-      settled_here : with_frozen w (record new_world { live = settled shown }) ≡ w
-      settled_here = settled_is sectors (reads mid) k at shown room recovers f whole count w is
-
-      -- the tree of the root that counts then is the settled one
-      pub below_is : image (store_of (reads new)) base.root.inode_file ≡ settled shown
-      below_is = stays.live ∙ ap (λ (x : World). x.live) (sym settled_here)
-
-      module _ (p : LogPosition) (x : World) (q : RoomCounts) (at_is : p ≡ first_of at.blocks base.root.epoch) (found_is : x ≡ record new_world { live = settled shown }) (room_is : q ≡ fresh (free_data base.map (start_of at.blocks Data)))
-          (closed : Always new (λ c. IsClosed c (base_of at.blocks base.root.epoch + 0))) where
-        tree_here : IsTree version_1 w.live
-        tree_here = subst (λ (y : World). IsTree version_1 y.live) settled_here (dropping_tree version_1 shown (λ _. false) tree)
-
-        -- with the frozen trees of the root
-        world_is : with_frozen w x ≡ w
-        world_is = ap (with_frozen w) found_is ∙ settled_here
-
-        runs_now : (keeps_back since : ℕ → Bool) (status : Status) → RunsReady (record { world = w; kept = keeps_back; kept_since = since; room = q; at = p; base = kept_in base layer; point = None; disk = new; status = status }) w (kept_in base layer)
-        runs_now keeps_back since status = runs_over new w at.blocks (kept_in base layer) stays tree_here none closed keeps_back since status q p room_is at_is
-
-        pub runs_frozen : (keeps_back since : ℕ → Bool) (status : Status)
-            → RunsReady (record { world = with_frozen w x; kept = keeps_back; kept_since = since; room = q; at = p; base = kept_in base layer; point = None; disk = new; status = status }) (with_frozen w x) (kept_in base layer)
-        runs_frozen keeps_back since status =
-            subst (λ (y : World). RunsReady (record { world = y; kept = keeps_back; kept_since = since; room = q; at = p; base = kept_in base layer; point = None; disk = new; status = status }) y (kept_in base layer)) (sym world_is)
-            (runs_now keeps_back since status)
-
-        pub recovered : Touches Nowhere old mid → reads mid ≡ reads old → w.frozen ≡ fin.empty → IsRecovered p x q (kept_in base layer) old new w
-        recovered first same empty = record {
-          is = found_is ∙ (λ i. record { live = settled shown; frozen = sym empty i; sessions = replicate 64 None; descriptors = fin.empty }) ∙ settled_here;
-          room_is = has_room new w at.blocks (kept_in base layer) stays q room_is;
-          runs = runs_now;
-          leaves = leaves_at_end first same empty;
-        }

@@ -3,4 +3,5 @@ pub mod RecoverLemmas
 pub mod ClearedLemmas
 pub mod CostLemmas
 pub mod CauseLemmas
+pub mod MountLemmas
 pub mod FoundLemmas

@@ -1,5 +1,5 @@
 -- What a mount makes of what it has found: it is the disk's world, and where a root can't be made of it, the map is no sound root's.
-use Rattle.std.proofs.Common.{◌≡◌, ◌≢◌, inl, inr, ℕ, zero, suc, ◌+◌, ◌*◌, ◌≤◌, Bool, true, false, List, [], ◌∷◌, ◌++◌, length, replicate, slice_index, Option, Some, None, Result, Err, refl, sym, ap, subst, ◌∙◌, arith, leb-true}
+use Rattle.std.proofs.Common.{◌≡◌, ◌≢◌, inl, inr, ℕ, zero, suc, ◌+◌, ◌*◌, ◌≤◌, Bool, true, false, List, [], ◌∷◌, ◌++◌, length, slice_index, Option, Some, None, Result, Err, refl, sym, ap, subst, ◌∙◌, arith, leb-true}
 use Rattle.std.specs.Prelude.{IfOk}
 use Rattle.std.specs.FinMap as map
 use Rattle.std.specs.Cmp.{nat_cmp_total}
@@ -67,7 +67,7 @@ use Rattle.sn_examine.specs.Finding.{HasFound}
 use Rattle.sn_examine.specs.Refusing.{Refuses}
 use Rattle.sn_examine.proofs.FindLemmas.{IsSameRoot, are_replayed, charges_are, same_root}
 use Rattle.sn_examine.specs.Failing.{read_fault}
-use Rattle.sn_mount.specs.Recovering.{KeepsTheRoot, WritesAtFault, with_frozen}
+use Rattle.sn_mount.specs.Recovering.{KeepsTheRoot, WritesAtFault}
 use Rattle.sn_mount.specs.Settling.{IsNoRoot, MakesRoot, SettlesChanges}
 
 -- ---- nothing to recover
@@ -250,12 +250,9 @@ module _ (sectors : ℕ) (c : Contents) (k : Kept) (at : LogPosition) (shown : T
     pub standing_is : standing ≡ w
     standing_is = images_one c standing w image_found im
 
-    -- and so is the settled tree, where nobody is logged in, with the frozen trees of the root
-    pub settled_is : with_frozen w settled_world ≡ w
-    settled_is =
-        let frozen : w.frozen ≡ frozen_of s k.root.snapshots = sym (ap (λ (x : World). x.frozen) standing_is) in
-        let same : with_frozen w settled_world ≡ standing = λ i. record { live = settled shown; frozen = frozen i; sessions = replicate 64 None; descriptors = map.empty } in
-        same ∙ standing_is
+    -- and it is what was found with the world's own frozen trees
+    pub found_is : found shown w.frozen ≡ w
+    found_is = ap (λ (x : World). found shown x.frozen) (sym standing_is) ∙ standing_is
 
     -- where nothing is to recover
     module _ (none : recovers ≡ false) where

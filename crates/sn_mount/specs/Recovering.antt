@@ -6,18 +6,17 @@ use Rattle.sn_device.specs.declared.status.Status.{Status}
 use Rattle.sn_layout.specs.declared.geometry.Slot.{Slot}
 use Rattle.sn_layout.specs.declared.root.RootBody.{RootBody}
 use Rattle.sn_block.specs.Effects.{Nowhere}
-use Rattle.sn_image.specs.Image.{image}
-use Rattle.sn_live_world.specs.World.{changes_of, world_over}
+use Rattle.sn_live_world.specs.World.{changes_of, world_in}
 use Rattle.sn_model.specs.declared.mount.MountFault.{MountFault}
 use Rattle.sn_model.specs.declared.mount.MountFault.TheVariants as fault
 use Rattle.sn_model.specs.World.{World}
-use Rattle.sn_model.specs.Tree.{Tree}
 use Rattle.sn_ondisk.specs.Roots.{IsNewest}
 use Rattle.sn_ondisk.specs.Trees.{store_of}
+use Rattle.sn_rooted.specs.Roots.{trees_at}
 use Rattle.sn_log.specs.Positions.{LogPosition}
 use Rattle.sn_sound.specs.Disks.{IsFormatted}
 use Rattle.sn_held.specs.Held.{Held, Kept, RunsReady}
-use Rattle.sn_held.specs.Images.{IsLiveImage}
+use Rattle.sn_held.specs.Images.{IsImage}
 use Rattle.sn_held.specs.Room.{HasRoomOf}
 use Rattle.sn_room.specs.Rooms.{RoomCounts}
 use Rattle.sn_cp_whole.specs.Planning.{kept_in}
@@ -40,7 +39,7 @@ pub record LeavesTheWorld (old new : Disk) (world : World) : Type 0 where
   pub first : Touches Nowhere old mid
   pub same : reads mid ≡ reads old
   pub synced : IsSynced mid
-  pub moments : LeavesOnly mid new (λ c. IsLiveImage c world)
+  pub moments : LeavesOnly mid new (λ c. IsImage c world)
 
 -- The world that the disk was an image of runs, ready for a point, over a root on which nothing is logged: with the room that its image has now. At no moment a crash would have left another.
 pub record IsRecovered (at : LogPosition) (found : World) (room : RoomCounts) (base : Kept) (old new : Disk) (world : World) : Type 0 where
@@ -62,17 +61,13 @@ WritesAtFault fault.NoRoot sectors old new = Touches Nowhere old new
 WritesAtFault fault.Memory sectors old new = Touches Nowhere old new ⊎ KeepsTheRoot sectors old new
 WritesAtFault fault.Device sectors old new = Touches Nowhere old new ⊎ KeepsTheRoot sectors old new
 
--- of a disk that is an image of a world without frozen trees
+-- of a disk that is an image of a world
 abbrev pub OfImage : Disk → (World → Type 0) → Type 0
-OfImage old P = (world : World) → IsLiveImage (reads old) world → P world
+OfImage old P = (world : World) → IsImage (reads old) world → P world
 
--- the tree of the root that counts, below what changes
-abbrev pub recovered_below : Recovered → Disk → Tree
-recovered_below r new = image (store_of (reads new)) r.base.root.inode_file
-
--- the world over it, without frozen trees
+-- the world over the trees of the root that counts
 abbrev pub recovered_world : Recovered → Disk → World
-recovered_world r new = world_over r.world (recovered_below r new)
+recovered_world r new = world_in r.world (trees_at (store_of (reads new)) r.base.root)
 
 abbrev pub recovered_base : Recovered → Kept
 recovered_base r = kept_in r.base (changes_of r.world)
@@ -82,16 +77,10 @@ abbrev pub Recovers : Result Recovered MountFault → ℕ → Disk → Disk → 
 Recovers (Ok r) sectors old new = KeepsTheRoot sectors old new × OfImage old (IsRecovered r.log (recovered_world r new) r.room (recovered_base r) old new)
 Recovers (Err f) sectors old new = IsCause sectors (reads old) f × WritesAtFault f sectors old new × OfImage old (KeepsTheWorld old new)
 
--- ---- with snapshots or without
+-- what runs over it
+abbrev pub held_over : Recovered → Disk → (kept since : ℕ → Bool) → Status → Held
+held_over r new kept since status = record { world = recovered_world r new; kept = kept; kept_since = since; room = r.room; at = r.log; base = recovered_base r; point = None; disk = new; status = status }
 
--- a world with the frozen trees of another one
-abbrev pub with_frozen : World → World → World
-with_frozen w x = record x { frozen = w.frozen }
-
--- what runs, over a world
-abbrev pub held_over : Recovered → Disk → World → (kept since : ℕ → Bool) → Status → Held
-held_over r new w kept since status = record { world = w; kept = kept; kept_since = since; room = r.room; at = r.log; base = recovered_base r; point = None; disk = new; status = status }
-
--- The world runs, ready for a point, with the frozen trees of the snapshots that the root has.
-abbrev pub RunsWithFrozen : Recovered → Disk → Type 0
-RunsWithFrozen r new = (kept since : ℕ → Bool) (status : Status) → (w : World) × RunsReady (held_over r new (with_frozen w (recovered_world r new)) kept since status) (with_frozen w (recovered_world r new)) (recovered_base r)
+-- It runs, ready for a point.
+abbrev pub RunsOver : Recovered → Disk → Type 0
+RunsOver r new = (kept since : ℕ → Bool) (status : Status) → RunsReady (held_over r new kept since status) (recovered_world r new) (recovered_base r)

@@ -5,15 +5,16 @@
 //! whole disk (`sn_check`), finds its newest root (`sn_examine`), tries the log over it (`sn_check_log`), and drops the
 //! files that no name stands for. Where a record was replayed or a file dropped, it makes a root of that by a whole point
 //! (`sn_cp_whole`). Last it clears the first place of the half of the log that the root's epoch has. No tree is read into
-//! memory: the world is one over the tree of the root that counts (`sn_live_world`).
+//! memory: the world is one over the live tree of the root that counts (`sn_live_world`), and has the frozen ones of that
+//! root's snapshots beside it.
 //!
 //! What the clauses say, those on bytes of each device that tells them:
-//! - `recovers`: where the disk was an image of a world without snapshots, that world runs, and from the first sync on
-//!   every crash leaves an image of it, also where the mount fails (`IsRecovered`, `KeepsTheWorld`). Superblock, the root
-//!   that counted and its map were never written, and nothing was where the disk itself is why there is no mount; that is
-//!   so for a cause (`IsCause` of `sn_check`), which is the one that a check of the image tells.
-//! - `runs`: what is found on any clean disk runs, with the frozen trees of its snapshots (`RunsWithFrozen`).
-//! - `clean`: only a disk without a fault is mounted.
+//! - `recovers`: where the disk was an image of a world, that world runs, and from the first sync on every crash leaves an
+//!   image of it, also where the mount fails (`IsRecovered`, `KeepsTheWorld`). Superblock, the root that counted and its map
+//!   were never written, and nothing was where the disk itself is why there is no mount; that is so for a cause (`IsCause`
+//!   of `sn_check`), which is the one that a check of the image tells.
+//! - `clean`, `runs` and `whole`: only a disk without a fault is mounted, and what is found there is a world, with the
+//!   frozen trees of its snapshots, that runs (`RunsOver`).
 //! - `over`: the world belongs to the tree of the root that counts then. Behind a mount nothing has changed of that,
 //!   nothing is logged, and nothing is charged.
 //! - A mount that succeeds costs one write and two syncs, or those of a whole point and a sync.

@@ -7,7 +7,7 @@ ghost use Rattle.sn_cp_whole.specs.Making.{room_over};
 ghost use Rattle.sn_cp_whole.specs.Planning.{IsBaseAt, kept_in};
 ghost use Rattle.sn_desc.specs.InUse.{live_in};
 ghost use Rattle.sn_limits.specs.Versions.{version_1};
-ghost use Rattle.sn_live_world.specs.World.{HasDrops, IsOver, changes_of, descriptors_of, kept_of, kept_since_of, nameless_of, point_of, world_over};
+ghost use Rattle.sn_live_world.specs.World.{HasDrops, IsOver, changes_of, descriptors_of, kept_of, kept_since_of, nameless_of, point_of};
 ghost use Rattle.sn_log.specs.Positions.{first_of};
 ghost use Rattle.sn_model.specs.Worlds.{IsWorld};
 ghost use Rattle.sn_overlay.specs.Overlays.{no_changes};
@@ -15,7 +15,7 @@ ghost use Rattle.sn_rooted.specs.Roots.{tree_on};
 ghost use Rattle.sn_examine.specs.Failing.{FailsAs};
 ghost use Rattle.sn_examine.specs.Laws.{IsSomeClean};
 ghost use Rattle.sn_mount.specs.Costs.{CostsFew, CostsMount};
-ghost use Rattle.sn_mount.specs.Recovering.{Recovers, RunsWithFrozen};
+ghost use Rattle.sn_mount.specs.Recovering.{Recovers, RunsOver, recovered_world};
 
 use crate::examining::examine;
 use crate::found::Recovered;
@@ -37,8 +37,8 @@ pub fn recover<D: Device>(alloc: Global, blocks: &mut Blocks<D>) -> Result<Recov
     ensures recovers { IsTrue D.tells_bytes → Recovers result (D.status (device_of blocks.old)).sectors (D.disk (device_of blocks.old)) (D.disk (device_of blocks.new)) }
     ensures clean { IsTrue D.tells_bytes → OnOk result (IsSomeClean (D.status (device_of blocks.old)).sectors (reads (D.disk (device_of blocks.old)))) }
     ensures over { IsTrue D.tells_bytes → IfOk result (λ r. IsOver r.world (tree_on blocks.new r.base.root.inode_file)) }
-    ensures whole { IsTrue D.tells_bytes → IfOk result (λ r. IsWorld version_1 (world_over r.world (tree_on blocks.new r.base.root.inode_file))) }
-    ensures runs { IsTrue D.tells_bytes → IfOk result (λ r. RunsWithFrozen r (D.disk (device_of blocks.new))) }
+    ensures whole { IsTrue D.tells_bytes → IfOk result (λ r. IsWorld version_1 (recovered_world r (D.disk (device_of blocks.new)))) }
+    ensures runs { IsTrue D.tells_bytes → IfOk result (λ r. RunsOver r (D.disk (device_of blocks.new))) }
     ensures kept { IfOk result (λ r. (number : ℕ) → kept_of r.world number ≡ false) }
     ensures since { IfOk result (λ r. (number : ℕ) → kept_since_of r.world number ≡ false) }
     ensures few { IfOk result (λ r. r.room.dropped + nameless_of r.world ≤ 2 ^ 33) }

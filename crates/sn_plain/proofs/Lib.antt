@@ -6,5 +6,4 @@ pub mod SettledLemmas
 pub mod RenamingLemmas
 pub mod WayLemmas
 pub mod WritingLemmas
-pub mod AddedLemmas
 pub mod NamelessLemmas

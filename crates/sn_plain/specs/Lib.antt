@@ -1,4 +1,3 @@
-pub mod Added
 pub mod Moves
 pub mod Plain
 pub mod Stored

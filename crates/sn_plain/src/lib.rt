@@ -1,4 +1,5 @@
-//! The live tree in memory: a program over maps, without a device.
+//! A tree in memory: a program over maps, without a device. Runs without a device have their live tree here; that of a
+//! mounted file system is read on demand (`sn_live`), and is held against this one by tests.
 //!
 //! [`PlainTree`] stands for a tree of `sn_model` (`tree_of` in `specs/Plain`). Its methods are the
 //! look-ups of a walk and the changes of the model, each exact: at `Ok` the change applies, and the
@@ -10,16 +11,12 @@
 //! counts over the whole tree. `tests` has the tests that changes share; `making`, `linking`,
 //! `renaming` and `writing` have the changes, each with its test first, then all that takes memory,
 //! then the rest (`moving` has that of a rename, over the nodes). `applying` makes any change, as the
-//! model's `apply` does. `adding` makes a file without a name (`file_added` in `specs/Added`), as whoever
-//! fills a tree with what stands on a disk does. `reading` hands out the bytes of a file,
-//! and `charging` tells what a change is charged.
+//! model's `apply` does, and `reading` hands out the bytes of a file.
 //!
 //! What the sources leave open is decided in `docs/DECISIONS.md`, under "The tree in memory".
 #![tactic(auto)]
 
-mod adding;
 mod applying;
-mod charging;
 mod fault;
 mod linking;
 mod making;
@@ -31,6 +28,5 @@ mod tests;
 mod tree;
 mod writing;
 
-pub use adding::adding_laws;
 pub use fault::ApplyError;
 pub use tree::PlainTree;

@@ -20,7 +20,7 @@ use Rattle.sn_model.specs.declared.mount.End.TheVariants as ending
 use Rattle.sn_model.specs.declared.reply.Reply.{Reply}
 use Rattle.sn_model.specs.Machine.{State, Running, Anything, CutRun}
 use Rattle.sn_model.specs.World.{World}
-use Rattle.sn_held.specs.Images.{IsLiveImage}
+use Rattle.sn_held.specs.Images.{IsImage}
 use Rattle.sn_run.specs.Runs.{IsRunOf, LeavesAll, LeavesFrom, LeavesItsRun, ShowsCut}
 use Rattle.sn_run.proofs.CutLemmas.{cut_now, found_settled}
 use Rattle.sn_program.specs.Answers.{AreEventsOf, IsRun}
@@ -47,13 +47,13 @@ untouched P old new whole synced here touches =
     LeavesOnly-now old new P (LeavesOnly-torn Nowhere P P (λ c d whole_c whole_d agrees h. subst P (agrees_same c d agrees) h) old new whole (Always-synced old P synced here) touches)
 
 -- an image of a world that the run leaves, cut short behind its last reply
-pub kept : (copy last : Disk) (world : World) (events : List Event) (replies : List Reply) (end : End) (left : Contents) → AreSectors (reads copy) → IsSynced copy → IsLiveImage (reads copy) world
+pub kept : (copy last : Disk) (world : World) (events : List Event) (replies : List Reply) (end : End) (left : Contents) → AreSectors (reads copy) → IsSynced copy → IsImage (reads copy) world
     → IsRunOf world events replies end copy last → CrashNow last left → ShowsCut (Running world) events replies left
 kept copy last world events replies end left whole synced image run crash = of run.crash
   where
     of : LeavesAll replies copy last ⊎ LeavesItsRun world events replies copy last → ShowsCut (Running world) events replies left
     of (inl h) =
-        let here = untouched (λ c. IsLiveImage c world) copy last whole synced image h.touches left crash in
+        let here = untouched (λ c. IsImage c world) copy last whole synced image h.touches left crash in
         let cut : CutRun Anything version_1 (Running world) events replies world = subst (λ (r : List Reply). CutRun Anything version_1 (Running world) events r world) (sym h.none) (cut_now world events (found_settled (reads copy) world image)) in
         (world, here, cut)
     of (inr h) = at_last (Running world) events [] replies h.mounted last h.moments left crash

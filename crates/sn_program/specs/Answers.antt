@@ -11,7 +11,7 @@ use Rattle.sn_model.specs.declared.mount.MountFault.{MountFault}
 use Rattle.sn_model.specs.declared.reply.Reply.{Reply}
 use Rattle.sn_model.specs.Machine.{Anything, Lacks, WholeRun}
 use Rattle.sn_model.specs.World.{World}
-use Rattle.sn_held.specs.Images.{IsLiveImage}
+use Rattle.sn_held.specs.Images.{IsImage}
 use Rattle.sn_run.specs.Causes.{HasCauses}
 use Rattle.sn_run.specs.Runs.{IsRunOf, LacksRoot, RunsTo}
 use Rattle.sn_script.specs.Scripts.{IsScript}
@@ -19,7 +19,7 @@ use Rattle.sn_script.specs.Scripts.{IsScript}
 -- Events were run on a device that tells its bytes. Where its disk is an image of a world, that was a run of the machine from this world on; where it has no root, the mount was refused for that. And where it counted no failure, all that failed was its end.
 pub record IsRun (end : End) (events : List Event) (replies : List Reply) (disk : Disk) (status : Status) (last_disk : Disk) (last_status : Status) : Type 0 where
   pub runs : RunsTo end events replies disk status last_disk last_status
-  pub machine : (world : World) → IsLiveImage (reads disk) world → IsRunOf world events replies end disk last_disk
+  pub machine : (world : World) → IsImage (reads disk) world → IsRunOf world events replies end disk last_disk
   pub unfit : (fault : MountFault) → LacksRoot status.sectors (reads disk) fault → WholeRun Anything version_1 (Lacks fault) events replies end
   pub causes : last_status.failures ≡ status.failures → HasCauses end events replies disk status last_disk last_status runs
 

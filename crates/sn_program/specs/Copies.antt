@@ -10,7 +10,7 @@ use Rattle.sn_model.specs.declared.mount.End.{End}
 use Rattle.sn_model.specs.declared.reply.Reply.{Reply}
 use Rattle.sn_model.specs.Machine.{Running}
 use Rattle.sn_model.specs.World.{World}
-use Rattle.sn_held.specs.Images.{IsLiveImage}
+use Rattle.sn_held.specs.Images.{IsImage}
 use Rattle.sn_run.specs.Runs.{ShowsCut}
 use Rattle.sn_program.specs.Answers.{IsRun}
 
@@ -21,4 +21,4 @@ pub record IsCutShort (copy : Disk) (status : Status) (how : Fill) (end : End) (
   pub run : IsRun end events replies copy status last last_status
   pub crash : CrashNow last left
   pub filled : EachIndex (reads last) (λ i. Contains last.present.unsynced i → sector_at left i ≡ filling how i (sector_at (last_synced last) i) (sector_at (reads last) i))
-  pub kept : IsSynced copy → (world : World) → IsLiveImage (reads copy) world → ShowsCut (Running world) events replies left
+  pub kept : IsSynced copy → (world : World) → IsImage (reads copy) world → ShowsCut (Running world) events replies left

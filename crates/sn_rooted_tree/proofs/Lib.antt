@@ -1,4 +1,5 @@
 pub mod CountLemmas
+pub mod FrozenLemmas
 pub mod ListedLemmas
 pub mod LookLemmas
 pub mod NamelessLemmas

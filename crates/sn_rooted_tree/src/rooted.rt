@@ -37,8 +37,8 @@ fn kept_name(alloc: Global, directory: u16, name: &[u8]) -> Result<Link, TreeFau
     }
 }
 
-/// The live tree of a root on a device. Nothing is kept of it, and each look-up reads what it needs. Once one has
-/// failed, each later one fails so, and reads nothing.
+/// The live tree of a root on a device, with the frozen ones of its snapshots beside it. Nothing is kept of them, and
+/// each look-up reads what it needs. Once one has failed, each later one fails so, and reads nothing.
 #[derive(Drop)]
 pub struct RootedTree<'a, D: Device> {
     pub alloc: Global,

@@ -18,7 +18,7 @@ use Rattle.sn_model.specs.declared.reply.Reply.TheVariants as answer
 use Rattle.sn_model.specs.Machine.{State, Running, Stopped, Mishap, Memory, Read, Write, Space, Age, Ends, EventStep, IsUnmounted, RunBy}
 use Rattle.sn_model.specs.World.{World}
 use Rattle.sn_held.specs.Held.{Held}
-use Rattle.sn_held.specs.Images.{IsLiveImage}
+use Rattle.sn_held.specs.Images.{IsImage}
 use Rattle.sn_examine.specs.Failing.{HasFailed, IsSoOf}
 use Rattle.sn_mount.specs.Costs.{CostsMount}
 use Rattle.sn_events.specs.Answers.{MayMeet}
@@ -169,7 +169,7 @@ module _ (events : List Event) (replies : List Reply) (disk last_disk : Disk) (s
   cause_of (Running w) h fin mid (Some Space) ends may failed later stops = absurd ends.unmounts
   cause_of (Running w) h fin mid (Some Age) ends may failed later stops = inr (inr refl)
 
-  served_cause : (s : Served events replies ending.Stopped disk status last_disk last_status) (world : World) (image : IsLiveImage (reads disk) world) → IsTrue (has_ended last_status) ⊎ HasNoMemory replies ⊎ ((s.served world image).ended.met ≡ Some Age)
+  served_cause : (s : Served events replies ending.Stopped disk status last_disk last_status) (world : World) (image : IsImage (reads disk) world) → IsTrue (has_ended last_status) ⊎ HasNoMemory replies ⊎ ((s.served world image).ended.met ≡ Some Age)
   served_cause s world image =
       let it = s.served world image in
       let e = it.ended in

@@ -21,7 +21,7 @@ use Rattle.sn_model.specs.World.{World}
 use Rattle.sn_events.proofs.UnmountLemmas.{settled_twice, settles_twice}
 use Rattle.sn_ondisk.specs.Trees.{store_of}
 use Rattle.sn_opening.specs.Worlds.{frozen_of}
-use Rattle.sn_held.specs.Images.{IsLiveImage}
+use Rattle.sn_held.specs.Images.{IsImage}
 use Rattle.sn_held.specs.Moments.{ShowsState}
 use Rattle.sn_core.proofs.StepLemmas.{run_more}
 use Rattle.sn_run.specs.Runs.{Goes, LeavesFrom, ShowsCut, Standing}
@@ -71,10 +71,10 @@ step_settled (Stopped before after) event.Restart (Some m) reply next here h = s
 
 -- the contents are an image of a world that a crash in an event leaves
 abbrev ShowsLeft : State → Event → Contents → Type 0
-ShowsLeft s e c = (w : World) × IsLiveImage c w × LeftIn version_1 s e w
+ShowsLeft s e c = (w : World) × IsImage c w × LeftIn version_1 s e w
 
 abbrev ShowsNow : State → Contents → Type 0
-ShowsNow s c = (w : World) × IsLiveImage c w × Left s w
+ShowsNow s c = (w : World) × IsImage c w × Left s w
 
 shown_now : (s : State) (c : Contents) → ShowsState s c → ShowsNow s c
 shown_now (Running w) c h = (settle w, h, refl)
@@ -99,7 +99,7 @@ shown_same s next e c same h = left_now s e c (shown_now s c (subst (λ (x : Sta
 shown_stopped : (old : World) (next : State) (e : Event) (c : Contents) → next ≡ Stopped (settle old) (settle old) → ShowsState next c → ShowsLeft (Running old) e c
 shown_stopped old next e c same h = told (subst (λ (x : State). ShowsState x c) same h)
   where
-    told : IsLiveImage c (settle old) ⊎ IsLiveImage c (settle old) → ShowsLeft (Running old) e c
+    told : IsImage c (settle old) ⊎ IsImage c (settle old) → ShowsLeft (Running old) e c
     told (inl k) = left_now (Running old) e c (settle old, k, refl)
     told (inr k) = left_now (Running old) e c (settle old, k, refl)
 
@@ -112,7 +112,7 @@ after_answer old session x reply next c h shows =
 after_cut : (old : World) (session : ℕ) (x : Call) (reply : Reply) (next : State) (c : Contents) → IsCutOff version_1 old session x reply next → ShowsState next c → ShowsLeft (Running old) (event.Call session x) c
 after_cut old session x reply next c h shows = told (subst (λ (s : State). ShowsState s c) h.stops.left shows)
   where
-    told : IsLiveImage c (settle old) ⊎ IsLiveImage c (settle h.next) → ShowsLeft (Running old) (event.Call session x) c
+    told : IsImage c (settle old) ⊎ IsImage c (settle h.next) → ShowsLeft (Running old) (event.Call session x) c
     told (inl k) = left_now (Running old) (event.Call session x) c (settle old, k, refl)
     told (inr k) = (
       settle h.next,
@@ -142,13 +142,13 @@ after_failing old e machine.Age reply next c h shows = shown_same (Running old) 
 
 after_restart : (old : World) (met : Option Mishap) (reply : Reply) (next : State) (c : Contents) → RestartStep old met reply next → ShowsState next c → ShowsLeft (Running old) event.Restart c
 after_restart old None reply next c h shows =
-    (settle old, subst (IsLiveImage c) (settles_twice old) (subst (λ (s : State). ShowsState s c) h.1 shows), refl)
+    (settle old, subst (IsImage c) (settles_twice old) (subst (λ (s : State). ShowsState s c) h.1 shows), refl)
 after_restart old (Some m) reply next c (inl h) shows = after_failing old event.Restart m reply next c h shows
 after_restart old (Some m) reply next c (inr h) shows = shown_stopped old next event.Restart c h.left shows
 
 after_mount : (before after : World) (met : Option Mishap) (reply : Reply) (next : State) (c : Contents) → AreSettled (Stopped before after) → MountStep before after met reply next → ShowsState next c → ShowsLeft (Stopped before after) event.Restart c
-after_mount before after None reply next c here (told, inl h) shows = (before, subst (IsLiveImage c) here.0 (subst (λ (s : State). ShowsState s c) h shows), inl refl)
-after_mount before after None reply next c here (told, inr h) shows = (after, subst (IsLiveImage c) here.1 (subst (λ (s : State). ShowsState s c) h shows), inr refl)
+after_mount before after None reply next c here (told, inl h) shows = (before, subst (IsImage c) here.0 (subst (λ (s : State). ShowsState s c) h shows), inl refl)
+after_mount before after None reply next c here (told, inr h) shows = (after, subst (IsImage c) here.1 (subst (λ (s : State). ShowsState s c) h shows), inr refl)
 after_mount before after (Some m) reply next c here h shows = shown_same (Stopped before after) next event.Restart c h.left shows
 
 after_event : (s : State) (e : Event) (met : Option Mishap) (reply : Reply) (next : State) (c : Contents) → AreSettled s → EventStep version_1 s e met reply next → ShowsState next c → ShowsLeft s e c
@@ -236,7 +236,7 @@ cut_now world [] settled = sym settled
 cut_now world (e ∷ events) settled = left_in (Running world) e world (sym settled)
 
 -- what contents are an image of is settled
-pub found_settled : (c : Contents) (world : World) → IsLiveImage c world → settle world ≡ world
+pub found_settled : (c : Contents) (world : World) → IsImage c world → settle world ≡ world
 found_settled c world h =
-    let stands = h.image.opens.stands in
-    ap settle stands.settles ∙ ap (λ (t : Tree). record { live = t; frozen = frozen_of (store_of c) h.image.opens.root.snapshots; sessions = replicate 64 None; descriptors = map.empty }) (settled_twice stands.tree) ∙ sym stands.settles
+    let stands = h.opens.stands in
+    ap settle stands.settles ∙ ap (λ (t : Tree). record { live = t; frozen = frozen_of (store_of c) h.opens.root.snapshots; sessions = replicate 64 None; descriptors = map.empty }) (settled_twice stands.tree) ∙ sym stands.settles

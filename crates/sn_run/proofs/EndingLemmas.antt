@@ -1,6 +1,5 @@
 -- The last unmount.
-use Rattle.std.proofs.Common.{◌≡◌, ◌≢◌, inl, inr, Bool, true, false, Option, Some, None, Err, refl, sym, ap, subst, ◌∙◌}
-use Rattle.std.specs.FinMap as map
+use Rattle.std.proofs.Common.{◌≡◌, ◌≢◌, inl, inr, Bool, true, false, Option, Some, None, Err, refl, sym, ap, subst}
 use Rattle.std.proofs.lemmas.Bool.{true≢false}
 use Rattle.sn_device.specs.Disk.{Disk}
 use Rattle.sn_device.specs.Crash.{LeavesOnly}
@@ -24,14 +23,14 @@ use Rattle.sn_cp_progress.specs.Meaning.{RunsWith}
 use Rattle.sn_cp_progress.proofs.MeaningLemmas.{runs_with}
 use Rattle.sn_held.specs.Images.{IsImage}
 use Rattle.sn_held.specs.Moments.{ShowsState}
-use Rattle.sn_held.proofs.EventLemmas.{live_show}
+use Rattle.sn_held.proofs.EventLemmas.{runs_show}
 use Rattle.sn_cp_whole.specs.declared.fault.PointFault.{PointFault}
 use Rattle.sn_cp_whole.specs.declared.fault.PointFault.TheVariants as point
 use Rattle.sn_events.specs.Answers.{HasMadePoint, IsCutAtPoint, MayMeet}
 use Rattle.sn_events.specs.Pointing.{FinishesSo, IsUnpointed, errno_of_point}
 use Rattle.sn_events.proofs.FinishLemmas.{IsFin, is_fin, one_finish}
 use Rattle.sn_events.specs.Unmounting.{HasUnmounted, IsRefusedFor, IsRefusedTo, IsUnmountedTo}
-use Rattle.sn_events.proofs.PointLemmas.{made_point, settled_all}
+use Rattle.sn_events.proofs.PointLemmas.{made_point}
 use Rattle.sn_events.proofs.ReadLemmas.{fails_read}
 use Rattle.sn_run.specs.Ending.{EndsSo, IsEnded, end_for}
 
@@ -45,15 +44,15 @@ is_memory errno apart e =
     apart (ap (λ (r : Refusal). r.errno) same)
 
 -- what is so of the world that is held is so of the one that is meant
-in_its_world : (last : Held) (end : End) (disk : Disk) (status : Status) → (RunsWith last.point last last.world → last.world.frozen ≡ map.empty → IsEnded (Running last.world) last end disk status) → EndsSo end last false disk status
+in_its_world : (last : Held) (end : End) (disk : Disk) (status : Status) → (RunsWith last.point last last.world → IsEnded (Running last.world) last end disk status) → EndsSo end last false disk status
 in_its_world last end disk status f (Running w) m =
     let is = (runs_with last w last.point m.1).is in
-    subst (λ (x : World). IsEnded (Running x) last end disk status) is (f (subst (λ (x : World). RunsWith last.point last x) (sym is) m.1) (ap (λ (x : World). x.frozen) is ∙ m.2))
+    subst (λ (x : World). IsEnded (Running x) last end disk status) is (f (subst (λ (x : World). RunsWith last.point last x) (sym is) m.1))
 in_its_world last end disk status f (Stopped before after) m = absurd (true≢false (sym m.0))
 
 -- what ends behind the point in progress, once that is finished
-ended_behind : (last fin : Held) → IsFin last fin → last.world.frozen ≡ map.empty → (end : End) (disk : Disk) (status : Status) → IsEnded (Running fin.world) fin end disk status → IsEnded (Running last.world) last end disk status
-ended_behind last fin f bare end disk status e = subst (λ (w : World). IsEnded (Running w) last end disk status) f.world (record {
+ended_behind : (last fin : Held) → IsFin last fin → (end : End) (disk : Disk) (status : Status) → IsEnded (Running fin.world) fin end disk status → IsEnded (Running last.world) last end disk status
+ended_behind last fin f end disk status e = subst (λ (w : World). IsEnded (Running w) last end disk status) f.world (record {
   met = e.met;
   ends = e.ends;
   fin = e.fin;
@@ -63,7 +62,7 @@ ended_behind last fin f bare end disk status e = subst (λ (w : World). IsEnded 
   may = e.may;
   lasts = LeavesOnly-join last.disk fin.disk disk (ShowsState (Running fin.world))
       (LeavesOnly-weaker last.disk fin.disk (λ c. IsImage c (settle last.world)) (ShowsState (Running fin.world))
-      (λ c im. record { image = subst (λ (w : World). IsImage c (settle w)) (sym f.world) im; frozen = ap (λ (w : World). w.frozen) f.world ∙ bare }) f.moments) e.lasts;
+      (λ c im. subst (λ (w : World). IsImage c (settle w)) (sym f.world) im) f.moments) e.lasts;
   later = later-join last.status fin.status status f.later e.later;
   costs = e.costs;
 })
@@ -86,10 +85,10 @@ ends_stopped last (Stopped before after) m = record {
 
 -- one that is made
 pub ends_clean : (last : Held) (disk : Disk) (status : Status) → HasUnmounted last disk status → EndsSo ending.Clean last false disk status
-ends_clean last disk status unmounts = in_its_world last ending.Clean disk status (λ r bare. let u = unmounts r in let f = is_fin last u.fin u.finish r in ended_behind last u.fin f bare ending.Clean disk status (at u (ap (λ (w : World). w.frozen) f.world ∙ bare)))
+ends_clean last disk status unmounts = in_its_world last ending.Clean disk status (λ r. let u = unmounts r in ended_behind last u.fin (is_fin last u.fin u.finish r) ending.Clean disk status (at u))
   where
-    at : (u : IsUnmountedTo last disk status) → u.fin.world.frozen ≡ map.empty → IsEnded (Running u.fin.world) u.fin ending.Clean disk status
-    at u bare =
+    at : (u : IsUnmountedTo last disk status) → IsEnded (Running u.fin.world) u.fin ending.Clean disk status
+    at u =
         let p = u.pointed in
         let made : HasMadePoint event.Restart u.fin u.mid = made_point event.Restart u.fin u.mid tt p in
         let over : IsEnded (Running u.fin.world) u.fin ending.Clean u.mid.disk u.mid.status = record {
@@ -100,7 +99,7 @@ ends_clean last disk status unmounts = in_its_world last ending.Clean disk statu
           mid = u.mid;
           point = inr made;
           may = ap (λ (s : Status). s.failures) p.costs;
-          lasts = settled_all event.Restart u.fin u.mid p bare;
+          lasts = p.moments;
           later = later-is _ _ u.fin.status u.mid.status p.costs;
           costs = (made, refl);
         } in
@@ -109,9 +108,9 @@ ends_clean last disk status unmounts = in_its_world last ending.Clean disk statu
 -- ---- one that is cut off
 
 -- the device failed while a point was made or finished, at no moment of which a crash leaves another world
-ends_cut_off : (last new : Held) → last.world.frozen ≡ map.empty → MayMeet last last event.Restart (Some Write) new.status → LeavesOnly last.disk new.disk (λ c. IsImage c (settle last.world))
+ends_cut_off : (last new : Held) → MayMeet last last event.Restart (Some Write) new.status → LeavesOnly last.disk new.disk (λ c. IsImage c (settle last.world))
     → IsLater last.status new.status → IsCutAtPoint last event.Restart new.status → IsEnded (Running last.world) last ending.Stopped new.disk new.status
-ends_cut_off last new bare may moments later costs = record {
+ends_cut_off last new may moments later costs = record {
   met = Some Write;
   ends = record { reply = refused Eio; unmounts = refl; ends = (done_is_refused Eio, is_memory Eio (λ e. cc e)) };
   fin = last;
@@ -119,16 +118,16 @@ ends_cut_off last new bare may moments later costs = record {
   mid = last;
   point = inl refl;
   may = may;
-  lasts = LeavesOnly-weaker last.disk new.disk (λ c. IsImage c (settle last.world)) (ShowsState (Running last.world)) (λ c im. record { image = im; frozen = bare }) moments;
+  lasts = moments;
   later = later;
   costs = costs;
 }
 
 -- ---- one that is refused
 
-module _ (last : Held) (r : RunsReady last last.world last.base) (bare : last.world.frozen ≡ map.empty) where
+module _ (last : Held) (r : RunsReady last last.world last.base) where
   shows_still : LeavesOnly last.disk last.disk (ShowsState (Running last.world))
-  shows_still = LeavesOnly-start last.disk (ShowsState (Running last.world)) (live_show last last.world r.runs bare)
+  shows_still = LeavesOnly-start last.disk (ShowsState (Running last.world)) (runs_show last last.world r.runs)
 
   ends_refused : (fault : PointFault) (new : Held) → IsUnpointed fault event.Restart last new → IsEnded (Running last.world) last (end_for (errno_of_point fault)) new.disk new.status
   ends_refused point.Memory new is = subst (λ (h : Held). IsEnded (Running last.world) last ending.Memory h.disk h.status) (sym is) (record {
@@ -170,27 +169,27 @@ module _ (last : Held) (r : RunsReady last last.world last.base) (bare : last.wo
         costs = told.2;
       })
   ends_refused point.Damaged new is = absurd is
-  ends_refused point.Device new cut = ends_cut_off last new bare cut.failed cut.moments cut.later (inl (record { needed = tt; built = cut.built; builds = cut.builds; costs = cut.costs }))
+  ends_refused point.Device new cut = ends_cut_off last new cut.failed cut.moments cut.later (inl (record { needed = tt; built = cut.built; builds = cut.builds; costs = cut.costs }))
 
 -- the point in progress was cut off
-ends_cut : (last : Held) → last.world.frozen ≡ map.empty → (fault : PointFault) (new : Held) → FinishesSo (Err fault) last.point last new → IsEnded (Running last.world) last (end_for (errno_of_point fault)) new.disk new.status
-ends_cut last bare fault new so = told last.point so
+ends_cut : (last : Held) (fault : PointFault) (new : Held) → FinishesSo (Err fault) last.point last new → IsEnded (Running last.world) last (end_for (errno_of_point fault)) new.disk new.status
+ends_cut last fault new so = told last.point so
   where
     told : (at : Option Going) → FinishesSo (Err fault) at last new → IsEnded (Running last.world) last (end_for (errno_of_point fault)) new.disk new.status
     told None never = absurd never
     told (Some going) (is, cut) = subst (λ (f : PointFault). IsEnded (Running last.world) last (end_for (errno_of_point f)) new.disk new.status) (sym is)
-        (ends_cut_off last new bare cut.failed cut.moments cut.later (inr (record { needed = tt; going = cut.going; is = cut.is; costs = cut.costs })))
+        (ends_cut_off last new cut.failed cut.moments cut.later (inr (record { needed = tt; going = cut.going; is = cut.is; costs = cut.costs })))
 
-ends_for : (last : Held) (fault : PointFault) (new : Held) → RunsWith last.point last last.world → last.world.frozen ≡ map.empty → IsRefusedFor fault last new → IsEnded (Running last.world) last (end_for (errno_of_point fault)) new.disk new.status
-ends_for last fault new r bare (inl cut) = ends_cut last bare fault new cut
-ends_for last fault new r bare (inr (fin, so, unpointed)) =
+ends_for : (last : Held) (fault : PointFault) (new : Held) → RunsWith last.point last last.world → IsRefusedFor fault last new → IsEnded (Running last.world) last (end_for (errno_of_point fault)) new.disk new.status
+ends_for last fault new r (inl cut) = ends_cut last fault new cut
+ends_for last fault new r (inr (fin, so, unpointed)) =
     let f = is_fin last fin so r in
-    ended_behind last fin f bare (end_for (errno_of_point fault)) new.disk new.status (ends_refused fin f.ready (ap (λ (w : World). w.frozen) f.world ∙ bare) fault new unpointed)
+    ended_behind last fin f (end_for (errno_of_point fault)) new.disk new.status (ends_refused fin f.ready fault new unpointed)
 
 ends_by : (last new : Held) (errno : Errno) (has_stopped : Bool) → IsRefusedTo errno last new has_stopped → EndsSo (end_for errno) last false new.disk new.status
 ends_by last new errno has_stopped refuses =
     subst (λ (x : Errno). EndsSo (end_for x) last false new.disk new.status) (sym refuses.told)
-    (in_its_world last (end_for (errno_of_point refuses.fault)) new.disk new.status (λ r bare. ends_for last refuses.fault new r bare (refuses.unpointed r)))
+    (in_its_world last (end_for (errno_of_point refuses.fault)) new.disk new.status (λ r. ends_for last refuses.fault new r (refuses.unpointed r)))
 
 -- it had stopped before, or not
 pub ends_either : (last new : Held) (errno : Errno) (had has : Bool) → (had ≡ false → IsRefusedTo errno last new has) → (had ≡ true → (errno ≡ Estopped) × (new ≡ last) × (has ≡ true)) → EndsSo (end_for errno) last had new.disk new.status

@@ -1,6 +1,5 @@
 -- What a mount answers to a restart.
 use Rattle.std.proofs.Common.{◌≡◌, ◌⊎◌, inl, inr, ℕ, ◌*◌, ◌<◌, ◌≤◌, Bool, false, true, length, [], Some, None, refl, sym, ap, subst, ◌∙◌, arith}
-use Rattle.std.specs.FinMap as map
 use Rattle.std.proofs.lemmas.Bool.{true≢false}
 use Rattle.std.proofs.lemmas.List.{same_lists, get_or_default}
 use Rattle.sn_device.specs.Sectors.{AgreesOutside, AreSectors, Contents}
@@ -23,7 +22,7 @@ use Rattle.sn_model.specs.World.{World}
 use Rattle.sn_core.proofs.RestartLemmas.{restart_numbers}
 use Rattle.sn_held.specs.Held.{Held}
 use Rattle.sn_cp_progress.specs.Meaning.{RunsWith}
-use Rattle.sn_held.specs.Images.{IsImage, IsLiveImage}
+use Rattle.sn_held.specs.Images.{IsImage}
 use Rattle.sn_held.specs.Moments.{LastsOver, ShowsState}
 use Rattle.sn_examine.specs.Failing.{IsSoOf}
 use Rattle.sn_mount.specs.Costs.{CostsFew}
@@ -38,7 +37,7 @@ use Rattle.sn_events.specs.Mounting.{IsLeft, WritesToMount}
 use Rattle.sn_events.specs.Pointing.{IsPointed}
 use Rattle.sn_events.specs.Unmounting.{HasUnmounted, IsUnmountedTo}
 use Rattle.sn_events.proofs.FinishLemmas.{IsFin, behind_finish, is_fin}
-use Rattle.sn_events.proofs.PointLemmas.{in_any_world, made_point, none_failed, settled_all, some_failed}
+use Rattle.sn_events.proofs.PointLemmas.{in_any_world, made_point, none_failed, some_failed}
 use Rattle.sn_run.specs.Restarting.{IsNotRemounted, IsRemounted, IsWholeDisk, Remounts}
 use Rattle.sn_run.specs.Runs.{LacksRoot}
 use Rattle.sn_run.proofs.CutLemmas.{found_settled}
@@ -57,12 +56,12 @@ nowhere_leaves P old new whole here touches =
     LeavesOnly-torn Nowhere P P (λ c d whole_c whole_d agrees h. subst P (agrees_same c d agrees) h) old new whole here touches
 
 -- and where a world was left
-kept_leaves : (P : Contents → Type 0) (old new : Disk) (world : World) → AreSectors (reads old) → Always old P → ((c : Contents) → IsLiveImage c world → P c)
+kept_leaves : (P : Contents → Type 0) (old new : Disk) (world : World) → AreSectors (reads old) → Always old P → ((c : Contents) → IsImage c world → P c)
     → Touches Nowhere old new ⊎ LeavesTheWorld old new world → LeavesOnly old new P
 kept_leaves P old new world whole here so (inl touches) = nowhere_leaves P old new whole here touches
 kept_leaves P old new world whole here so (inr leaves) =
     LeavesOnly-join old leaves.mid new P (nowhere_leaves P old leaves.mid whole here leaves.first)
-    (LeavesOnly-weaker leaves.mid new (λ c. IsLiveImage c world) P so leaves.moments)
+    (LeavesOnly-weaker leaves.mid new (λ c. IsImage c world) P so leaves.moments)
 
 mount_unfailing : (old new : Status) → CostsMountOf old new → new.failures ≡ old.failures
 mount_unfailing old new (n, within, inl is) = ap (λ (x : Status). x.failures) is
@@ -74,11 +73,11 @@ mount_later old new (n, within, inr (count, few, gate, is)) = later-is _ _ old n
 
 -- the mount runs over the world that the disk was an image of
 module _ (old new : Held) (whole : AreSectors (reads old.disk)) where
-  mounted_lasts : (s : State) (world : World) → Always old.disk (λ c. ShowsState s c) → IsLiveImage (reads old.disk) world → LeavesTheWorld old.disk new.disk world → LastsOver s (Running world) old.disk new.disk
+  mounted_lasts : (s : State) (world : World) → Always old.disk (λ c. ShowsState s c) → IsImage (reads old.disk) world → LeavesTheWorld old.disk new.disk world → LastsOver s (Running world) old.disk new.disk
   mounted_lasts s world shows image leaves =
       let settled = found_settled (reads old.disk) world image in
       let P = λ (c : Contents). ShowsState s c ⊎ ShowsState (Running world) c in
-      let later = LeavesOnly-weaker leaves.mid new.disk (λ c. IsLiveImage c world) (λ c. ShowsState (Running world) c) (λ c h. subst (IsLiveImage c) (sym settled) h) leaves.moments in
+      let later = LeavesOnly-weaker leaves.mid new.disk (λ c. IsImage c world) (λ c. ShowsState (Running world) c) (λ c h. subst (IsImage c) (sym settled) h) leaves.moments in
       record {
         moments = LeavesOnly-join old.disk leaves.mid new.disk P
             (LeavesOnly-weaker old.disk leaves.mid (λ c. ShowsState s c) P (λ c h. inl h) (nowhere_leaves (λ c. ShowsState s c) old.disk leaves.mid whole shows leaves.first))
@@ -91,7 +90,7 @@ module _ (old new : Held) (whole : AreSectors (reads old.disk)) where
   mounted_answers has m (Running w) means = absurd (true≢false means.0)
   mounted_answers has m (Stopped before after) means = told (Always-reads old.disk (λ c. ShowsState (Stopped before after) c) whole means.1)
     where
-      answers : (world : World) → (Running world ≡ Running before) ⊎ (Running world ≡ Running after) → IsLiveImage (reads old.disk) world → AnswersFrom (Stopped before after) event.Restart answer.Done old new has
+      answers : (world : World) → (Running world ≡ Running before) ⊎ (Running world ≡ Running after) → IsImage (reads old.disk) world → AnswersFrom (Stopped before after) event.Restart answer.Done old new has
       answers world same image =
           let it = m.mounts.runs world image in
           record {
@@ -116,21 +115,21 @@ module _ (old new : Held) (whole : AreSectors (reads old.disk)) where
             works = tt;
           }
 
-      told : IsLiveImage (reads old.disk) before ⊎ IsLiveImage (reads old.disk) after → AnswersFrom (Stopped before after) event.Restart answer.Done old new has
+      told : IsImage (reads old.disk) before ⊎ IsImage (reads old.disk) after → AnswersFrom (Stopped before after) event.Restart answer.Done old new has
       told (inl h) = answers before (inl refl) h
       told (inr h) = answers after (inr refl) h
 
 -- ---- mounts behind the point of an unmount
 
-module _ (old mid new : Held) (whole : AreSectors (reads mid.disk)) (p : IsPointed event.Restart old mid) (bare : old.world.frozen ≡ map.empty) where
-  settled_here : LeavesOnly old.disk mid.disk (λ c. IsLiveImage c (settle old.world))
-  settled_here = settled_all event.Restart old mid p bare
+module _ (old mid new : Held) (whole : AreSectors (reads mid.disk)) (p : IsPointed event.Restart old mid) where
+  settled_here : LeavesOnly old.disk mid.disk (λ c. IsImage c (settle old.world))
+  settled_here = p.moments
 
-  settled_now : Always mid.disk (λ c. IsLiveImage c (settle old.world))
-  settled_now = LeavesOnly-now old.disk mid.disk (λ c. IsLiveImage c (settle old.world)) settled_here
+  settled_now : Always mid.disk (λ c. IsImage c (settle old.world))
+  settled_now = LeavesOnly-now old.disk mid.disk (λ c. IsImage c (settle old.world)) settled_here
 
-  is_image : IsLiveImage (reads mid.disk) (settle old.world)
-  is_image = Always-reads mid.disk (λ c. IsLiveImage c (settle old.world)) whole settled_now
+  is_image : IsImage (reads mid.disk) (settle old.world)
+  is_image = Always-reads mid.disk (λ c. IsImage c (settle old.world)) whole settled_now
 
   point_made : HasMadePoint event.Restart old mid
   point_made = made_point event.Restart old mid tt p
@@ -157,7 +156,7 @@ module _ (old mid new : Held) (whole : AreSectors (reads mid.disk)) (p : IsPoint
         step = (refl, refl);
         means = it.means;
         lasts = record {
-          moments = LeavesOnly-join old.disk mid.disk new.disk P (LeavesOnly-weaker old.disk mid.disk (λ c. IsLiveImage c (settle old.world)) P (λ c h. inl h) settled_here) over.moments;
+          moments = LeavesOnly-join old.disk mid.disk new.disk P (LeavesOnly-weaker old.disk mid.disk (λ c. IsImage c (settle old.world)) P (λ c h. inl h) settled_here) over.moments;
           answered = over.answered;
         };
         writes = inr (point_made, inr m.mounts.touched);
@@ -183,12 +182,12 @@ found_root f sectors c world im count lacks =
     lacks_none f sectors c im.blocks im.opens.slot im.opens.root (record { size = im.disk.size; spelled = im.spelled; room = subst (λ (m : ℕ). 8 * im.blocks ≤ m) count im.disk.long }) im.opens.shown.newest lacks
 
 -- the mishap of a fault, where the contents are an image of a world
-pub met_with : (f : MountFault) (c : Contents) (world : World) (sectors : ℕ) (old new : Held) → IsLiveImage c world → IsOfDevice sectors c → IsCause sectors c f → IsSoOf f old.status new.status
+pub met_with : (f : MountFault) (c : Contents) (world : World) (sectors : ℕ) (old new : Held) → IsImage c world → IsOfDevice sectors c → IsCause sectors c f → IsSoOf f old.status new.status
     → (m : Mishap) × (mount_fault_of m ≡ Some f) × MayMeet old old event.Restart (Some m) new.status
-met_with (fault.Damaged damage block) c world sectors old new is device cause failed = absurd (never_faulty damage sectors c block world device is.image cause)
-met_with fault.NotFormatted c world sectors old new is device cause failed = absurd (found_root fault.NotFormatted sectors c world is.image device.count cause)
-met_with fault.Version c world sectors old new is device cause failed = absurd (found_root fault.Version sectors c world is.image device.count cause)
-met_with fault.NoRoot c world sectors old new is device cause failed = absurd (found_root fault.NoRoot sectors c world is.image device.count cause)
+met_with (fault.Damaged damage block) c world sectors old new is device cause failed = absurd (never_faulty damage sectors c block world device is cause)
+met_with fault.NotFormatted c world sectors old new is device cause failed = absurd (found_root fault.NotFormatted sectors c world is device.count cause)
+met_with fault.Version c world sectors old new is device cause failed = absurd (found_root fault.Version sectors c world is device.count cause)
+met_with fault.NoRoot c world sectors old new is device cause failed = absurd (found_root fault.NoRoot sectors c world is device.count cause)
 met_with fault.Memory c world sectors old new is device cause failed = (Memory, refl, failed)
 met_with fault.Device c world sectors old new is device cause failed = (Read, refl, failed)
 
@@ -201,18 +200,18 @@ writes_to_mount fault.Memory sectors old new touched = touched
 writes_to_mount fault.Device sectors old new touched = touched
 
 -- and behind the point of an unmount
-met_behind : (f : MountFault) (c : Contents) (world : World) (sectors : ℕ) (old mid new : Held) → IsLiveImage c world → IsOfDevice sectors c → IsCause sectors c f → IsSoOf f mid.status new.status → mid.status.failures ≡ old.status.failures → HasMadePoint event.Restart old mid → CostsFew mid.status new.status
+met_behind : (f : MountFault) (c : Contents) (world : World) (sectors : ℕ) (old mid new : Held) → IsImage c world → IsOfDevice sectors c → IsCause sectors c f → IsSoOf f mid.status new.status → mid.status.failures ≡ old.status.failures → HasMadePoint event.Restart old mid → CostsFew mid.status new.status
     → (m : Mishap) × (mount_fault_of m ≡ Some f) × MayMeet old mid event.Restart (Some m) new.status × CostsRestart old mid (Some m) new.status
-met_behind (fault.Damaged damage block) c world sectors old mid new is device cause failed same made few = absurd (never_faulty damage sectors c block world device is.image cause)
-met_behind fault.NotFormatted c world sectors old mid new is device cause failed same made few = absurd (found_root fault.NotFormatted sectors c world is.image device.count cause)
-met_behind fault.Version c world sectors old mid new is device cause failed same made few = absurd (found_root fault.Version sectors c world is.image device.count cause)
-met_behind fault.NoRoot c world sectors old mid new is device cause failed same made few = absurd (found_root fault.NoRoot sectors c world is.image device.count cause)
+met_behind (fault.Damaged damage block) c world sectors old mid new is device cause failed same made few = absurd (never_faulty damage sectors c block world device is cause)
+met_behind fault.NotFormatted c world sectors old mid new is device cause failed same made few = absurd (found_root fault.NotFormatted sectors c world is device.count cause)
+met_behind fault.Version c world sectors old mid new is device cause failed same made few = absurd (found_root fault.Version sectors c world is device.count cause)
+met_behind fault.NoRoot c world sectors old mid new is device cause failed same made few = absurd (found_root fault.NoRoot sectors c world is device.count cause)
 met_behind fault.Memory c world sectors old mid new is device cause failed same made few = (Memory, refl, none_failed old.status mid.status new.status same failed, inr (made, few))
 met_behind fault.Device c world sectors old mid new is device cause failed same made few = (Read, refl, some_failed old.status mid.status new.status same failed, inr (made, few))
 
 -- where a mount failed a crash leaves what it would have left before
-unmounted_over : (f : MountFault) (old new : Held) (before after world : World) → AreSectors (reads old.disk) → IsLeft f old.status.sectors old.disk new.disk → Always old.disk (λ c. ShowsState (Stopped before after) c) → IsLiveImage (reads old.disk) world
-    → ((c : Contents) → IsLiveImage c world → ShowsState (Stopped before after) c) → LeavesOnly old.disk new.disk (λ c. ShowsState (Stopped before after) c)
+unmounted_over : (f : MountFault) (old new : Held) (before after world : World) → AreSectors (reads old.disk) → IsLeft f old.status.sectors old.disk new.disk → Always old.disk (λ c. ShowsState (Stopped before after) c) → IsImage (reads old.disk) world
+    → ((c : Contents) → IsImage c world → ShowsState (Stopped before after) c) → LeavesOnly old.disk new.disk (λ c. ShowsState (Stopped before after) c)
 unmounted_over f old new before after world whole left shows opens so = kept_leaves (λ c. ShowsState (Stopped before after) c) old.disk new.disk world whole shows so (left.keeps world opens)
 
 module _ (old new : Held) (f : MountFault) (disk : IsWholeDisk old.status old.disk) (has : Bool) (n : IsNotRemounted f old.status old.disk new has) where
@@ -220,7 +219,7 @@ module _ (old new : Held) (f : MountFault) (disk : IsWholeDisk old.status old.di
   unmounted_answers (Running w) means = absurd (true≢false means.0)
   unmounted_answers (Stopped before after) means = told (Always-reads old.disk (λ c. ShowsState (Stopped before after) c) disk.whole means.1)
     where
-      from : (world : World) → IsLiveImage (reads old.disk) world → ((c : Contents) → IsLiveImage c world → ShowsState (Stopped before after) c) → AnswersFrom (Stopped before after) event.Restart (answer.Unmounted f) old new true
+      from : (world : World) → IsImage (reads old.disk) world → ((c : Contents) → IsImage c world → ShowsState (Stopped before after) c) → AnswersFrom (Stopped before after) event.Restart (answer.Unmounted f) old new true
       from world here so =
           let met = met_with f (reads old.disk) world old.status.sectors old new here (record { whole = disk.whole; count = disk.count }) n.left.cause n.failed in
           let all = unmounted_over f old new before after world disk.whole n.left means.1 here so in
@@ -249,20 +248,20 @@ module _ (old new : Held) (f : MountFault) (disk : IsWholeDisk old.status old.di
             works = tt;
           }
 
-      told : IsLiveImage (reads old.disk) before ⊎ IsLiveImage (reads old.disk) after → AnswersFrom (Stopped before after) event.Restart (answer.Unmounted f) old new true
+      told : IsImage (reads old.disk) before ⊎ IsImage (reads old.disk) after → AnswersFrom (Stopped before after) event.Restart (answer.Unmounted f) old new true
       told (inl h) = from before h (λ c k. inl k)
       told (inr h) = from after h (λ c k. inr k)
 
-module _ (old mid new : Held) (disk : IsWholeDisk mid.status mid.disk) (p : IsPointed event.Restart old mid) (bare : old.world.frozen ≡ map.empty) (f : MountFault) (has : Bool) (n : IsNotRemounted f mid.status mid.disk new has) where
+module _ (old mid new : Held) (disk : IsWholeDisk mid.status mid.disk) (p : IsPointed event.Restart old mid) (f : MountFault) (has : Bool) (n : IsNotRemounted f mid.status mid.disk new has) where
   unmounted_behind : AnswersFrom (Running old.world) event.Restart (answer.Unmounted f) old new true
   unmounted_behind =
       let w = settle old.world in
-      let first = settled_here old mid new disk.whole p bare in
-      let here = is_image old mid new disk.whole p bare in
-      let made = point_made old mid new disk.whole p bare in
-      let met = met_behind f (reads mid.disk) w mid.status.sectors old mid new here (record { whole = disk.whole; count = disk.count }) n.left.cause n.failed (same_failures old mid new disk.whole p bare) made n.costs in
+      let first = settled_here old mid new disk.whole p in
+      let here = is_image old mid new disk.whole p in
+      let made = point_made old mid new disk.whole p in
+      let met = met_behind f (reads mid.disk) w mid.status.sectors old mid new here (record { whole = disk.whole; count = disk.count }) n.left.cause n.failed (same_failures old mid new disk.whole p) made n.costs in
       let next = Stopped w w in
-      let shows = settled_now old mid new disk.whole p bare in
+      let shows = settled_now old mid new disk.whole p in
       let all = unmounted_over f mid new w w w disk.whole n.left (λ c crash. inl (shows c crash)) here (λ c h. inl h) in
       let P = λ (c : Contents). ShowsState (Running old.world) c ⊎ ShowsState next c in
       record {
@@ -277,7 +276,7 @@ module _ (old mid new : Held) (disk : IsWholeDisk mid.status mid.disk) (p : IsPo
         means = (refl, LeavesOnly-now mid.disk new.disk (λ c. ShowsState next c) all);
         lasts = record {
           moments = LeavesOnly-join old.disk mid.disk new.disk P
-              (LeavesOnly-weaker old.disk mid.disk (λ c. IsLiveImage c w) P (λ c h. inl h) first)
+              (LeavesOnly-weaker old.disk mid.disk (λ c. IsImage c w) P (λ c h. inl h) first)
               (LeavesOnly-weaker mid.disk new.disk (λ c. ShowsState next c) P (λ c h. inr h) all);
           answered = LeavesOnly-now mid.disk new.disk (λ c. ShowsState next c) all;
         };
@@ -286,7 +285,7 @@ module _ (old mid new : Held) (disk : IsWholeDisk mid.status mid.disk) (p : IsPo
         numbers = tt;
         since = tt;
         room = tt;
-        later = later-join old.status mid.status new.status (point_later old mid new disk.whole p bare) n.later;
+        later = later-join old.status mid.status new.status (point_later old mid new disk.whole p) n.later;
         costs = met.3;
         steps = tt;
         works = tt;
@@ -309,22 +308,19 @@ restart_stopped old new has reply r = told r.1
 
 -- of one that was unmounted first
 pub restart_running : (old new : Held) (has : Bool) (reply : Reply) (disk : Disk) (status : Status) → HasUnmounted old disk status → Remounts reply status disk new has → Answers event.Restart reply old false new has
-restart_running old new has reply disk status unmounts r = in_any_world event.Restart old new reply has (λ runs bare. at runs (unmounts runs) bare)
+restart_running old new has reply disk status unmounts r = in_any_world event.Restart old new reply has (λ runs. at runs (unmounts runs))
   where
-    at : RunsWith old.point old old.world → IsUnmountedTo old disk status → old.world.frozen ≡ map.empty → AnswersFrom (Running old.world) event.Restart reply old new has
-    at runs u bare = behind_finish event.Restart old u.fin new f tt bare reply has tt tt (told whole_r.1)
+    at : RunsWith old.point old old.world → IsUnmountedTo old disk status → AnswersFrom (Running old.world) event.Restart reply old new has
+    at runs u = behind_finish event.Restart old u.fin new f tt reply has tt tt (told whole_r.1)
       where
         f : IsFin old u.fin
         f = is_fin old u.fin u.finish runs
-
-        bare_still : u.fin.world.frozen ≡ map.empty
-        bare_still = ap (λ (w : World). w.frozen) f.world ∙ bare
 
         whole_r : Remounts reply u.mid.status u.mid.disk new has
         whole_r = subst (λ (s : Status). Remounts reply s u.mid.disk new has) (sym u.status_is) (subst (λ (d : Disk). Remounts reply status d new has) (sym u.disk_is) r)
 
         told : Remounted u.mid.status u.mid.disk new has reply → AnswersFrom (Running u.fin.world) event.Restart reply u.fin new has
-        told (inl (is, m)) = subst (λ (x : Reply). AnswersFrom (Running u.fin.world) event.Restart x u.fin new has) (sym is) (remounted_from u.fin u.mid new whole_r.0.whole u.pointed bare_still has m)
+        told (inl (is, m)) = subst (λ (x : Reply). AnswersFrom (Running u.fin.world) event.Restart x u.fin new has) (sym is) (remounted_from u.fin u.mid new whole_r.0.whole u.pointed has m)
         told (inr (f, is, n)) =
             subst (λ (x : Reply). AnswersFrom (Running u.fin.world) event.Restart x u.fin new has) (sym is)
-            (subst (λ (b : Bool). AnswersFrom (Running u.fin.world) event.Restart (answer.Unmounted f) u.fin new b) (sym n.stopped) (unmounted_behind u.fin u.mid new whole_r.0 u.pointed bare_still f has n))
+            (subst (λ (b : Bool). AnswersFrom (Running u.fin.world) event.Restart (answer.Unmounted f) u.fin new b) (sym n.stopped) (unmounted_behind u.fin u.mid new whole_r.0 u.pointed f has n))

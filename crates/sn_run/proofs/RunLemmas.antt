@@ -21,7 +21,7 @@ use Rattle.sn_room.specs.Rooms.{fresh}
 use Rattle.sn_sound.specs.Disks.{IsOfDevice}
 use Rattle.sn_held.specs.Held.{Held}
 use Rattle.sn_cp_progress.specs.Meaning.{Means}
-use Rattle.sn_held.specs.Images.{IsLiveImage}
+use Rattle.sn_held.specs.Images.{IsImage}
 use Rattle.sn_held.proofs.EventLemmas.{images_one}
 use Rattle.sn_mount.specs.Recovering.{LeavesTheWorld}
 use Rattle.sn_events.specs.Answers.{Answers}
@@ -85,10 +85,10 @@ module _ (events : List Event) (replies : List Reply) (disk last_disk : Disk) (s
 -- ---- in the machine's words
 
 -- a device alone
-abbrev bare : Disk → Status → Held
-bare disk status = record { world = new_world; kept = λ number. false; kept_since = λ number. false; room = fresh 0; at = first_of 256 1; base = no_base; point = None; disk = disk; status = status }
+abbrev device_alone : Disk → Status → Held
+device_alone disk status = record { world = new_world; kept = λ number. false; kept_since = λ number. false; room = fresh 0; at = first_of 256 1; base = no_base; point = None; disk = disk; status = status }
 
-module _ (events : List Event) (replies : List Reply) (disk last_disk : Disk) (status last_status : Status) (world : World) (device : IsOfDevice status.sectors (reads disk)) (image : IsLiveImage (reads disk) world) where
+module _ (events : List Event) (replies : List Reply) (disk last_disk : Disk) (status last_status : Status) (world : World) (device : IsOfDevice status.sectors (reads disk)) (image : IsImage (reads disk) world) where
   served_leaves : (end : End) (mounted : Held) → IsServed world events replies end disk mounted last_disk last_status → LeavesItsRun world events replies disk last_disk
   served_leaves end mounted s =
       record {
@@ -112,7 +112,7 @@ module _ (events : List Event) (replies : List Reply) (disk last_disk : Disk) (s
       }
 
   -- what a mount that failed leaves, before any event
-  shows_cut : (c : Contents) → IsLiveImage c world → ShowsCut (Running world) events [] c
+  shows_cut : (c : Contents) → IsImage c world → ShowsCut (Running world) events [] c
   shows_cut c h = (world, h, cut_now world events (found_settled (reads disk) world image))
 
   left_so : replies ≡ [] → Touches Nowhere disk last_disk ⊎ LeavesTheWorld disk last_disk world → LeavesAll replies disk last_disk ⊎ LeavesItsRun world events replies disk last_disk
@@ -122,12 +122,12 @@ module _ (events : List Event) (replies : List Reply) (disk last_disk : Disk) (s
     mounts = leaves;
     moments = subst (λ (said : List Reply). LeavesFrom (Running world) events [] said last_disk last_disk) (sym none)
         (LeavesOnly-start last_disk (ShowsCut (Running world) events [])
-        (LeavesOnly-now leaves.mid last_disk (ShowsCut (Running world) events []) (LeavesOnly-weaker leaves.mid last_disk (λ c. IsLiveImage c world) (ShowsCut (Running world) events []) shows_cut leaves.moments)));
+        (LeavesOnly-now leaves.mid last_disk (ShowsCut (Running world) events []) (LeavesOnly-weaker leaves.mid last_disk (λ c. IsImage c world) (ShowsCut (Running world) events []) shows_cut leaves.moments)));
   })
 
   unserved_run : (f : MountFault) → NotMounted f replies disk status last_disk last_status → IsRunOf world events replies (ending.Mount f) disk last_disk
   unserved_run f n =
-      let met = met_with f (reads disk) world status.sectors (bare disk status) (bare last_disk last_status) image device n.left.cause n.failed in
+      let met = met_with f (reads disk) world status.sectors (device_alone disk status) (device_alone last_disk last_status) image device n.left.cause n.failed in
       record {
         run = inr (inl (record { met = met.0; may = tt; fault = f; is = met.1; none = n.none; ends = refl }));
         crash = left_so n.none (n.left.keeps world image);
@@ -159,10 +159,10 @@ module _ (events : List Event) (replies : List Reply) (disk last_disk : Disk) (s
 
 -- ---- lives
 
-pub lives : (c last : Contents) (runs : List (List Event × List Reply)) (first : World) → IsLiveImage c first → LivesOn c runs last → (world : World) × IsLiveImage last world × Life Anything version_1 first runs world
-lives c last [] first image life = (first, subst (λ (x : Contents). IsLiveImage x first) (sym life) image, refl)
+pub lives : (c last : Contents) (runs : List (List Event × List Reply)) (first : World) → IsImage c first → LivesOn c runs last → (world : World) × IsImage last world × Life Anything version_1 first runs world
+lives c last [] first image life = (first, subst (λ (x : Contents). IsImage x first) (sym life) image, refl)
 lives c last (r ∷ rs) first image life =
     let cut = life.1 in
-    let same = images_one c cut.world first cut.image.image image.image in
+    let same = images_one c cut.world first cut.image image in
     let rest = lives life.0 last rs cut.cut.0 cut.cut.1 life.2 in
     (rest.0, rest.1, (cut.cut.0, subst (λ (w : World). CutRun Anything version_1 (Running w) r.0 r.1 cut.cut.0) same cut.cut.2, rest.2))

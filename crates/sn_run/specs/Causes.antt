@@ -12,7 +12,7 @@ use Rattle.sn_model.specs.declared.reply.Reply.{Reply}
 use Rattle.sn_model.specs.declared.reply.Reply.TheVariants as answer
 use Rattle.sn_model.specs.Machine.{Mishap, Memory, Read, Write, Space, Age, RunBy}
 use Rattle.sn_model.specs.World.{World}
-use Rattle.sn_held.specs.Images.{IsLiveImage}
+use Rattle.sn_held.specs.Images.{IsImage}
 use Rattle.sn_run.specs.Runs.{Goes, RunsTo, Served, Standing, start}
 
 -- a read, a write or a sync failed
@@ -40,13 +40,13 @@ FailsAtItsEnd fault last_status = Unit {0}
 
 -- each failure in what was served was the device's end
 abbrev pub ServedToItsEnd : (end : End) (events : List Event) (replies : List Reply) (disk : Disk) (status : Status) (last_disk : Disk) (last_status : Status) → Served events replies end disk status last_disk last_status → Type 0
-ServedToItsEnd end events replies disk status last_disk last_status s = (world : World) (image : IsLiveImage (reads disk) world) → RunBy GoesOrEnds (start world s.mounted) events replies (s.served world image).last
+ServedToItsEnd end events replies disk status last_disk last_status s = (world : World) (image : IsImage (reads disk) world) → RunBy GoesOrEnds (start world s.mounted) events replies (s.served world image).last
 
 -- Each failure in a run was the device's end, and where the run stopped it was for one, for memory at a restart, or since no root can follow that the last unmount makes.
 abbrev pub HasCauses : (end : End) (events : List Event) (replies : List Reply) (disk : Disk) (status : Status) (last_disk : Disk) (last_status : Status) → RunsTo end events replies disk status last_disk last_status → Type 0
 HasCauses ending.Clean events replies disk status last_disk last_status served = ServedToItsEnd ending.Clean events replies disk status last_disk last_status served
 HasCauses ending.Stopped events replies disk status last_disk last_status served = ServedToItsEnd ending.Stopped events replies disk status last_disk last_status served
-    × ((world : World) (image : IsLiveImage (reads disk) world) → IsTrue (has_ended last_status) ⊎ HasNoMemory replies ⊎ ((served.served world image).ended.met ≡ Some Age))
+    × ((world : World) (image : IsImage (reads disk) world) → IsTrue (has_ended last_status) ⊎ HasNoMemory replies ⊎ ((served.served world image).ended.met ≡ Some Age))
 HasCauses ending.Memory events replies disk status last_disk last_status either = (served : Served events replies ending.Memory disk status last_disk last_status) → ServedToItsEnd ending.Memory events replies disk status last_disk last_status served
 HasCauses (ending.Mount fault) events replies disk status last_disk last_status unmounted = FailsAtItsEnd fault last_status
 

@@ -7,13 +7,13 @@ use Rattle.sn_model.specs.declared.call.Event.{Event}
 use Rattle.sn_model.specs.declared.reply.Reply.{Reply}
 use Rattle.sn_model.specs.Machine.{Running, Anything, Life, Mishap, Memory, Read, Write, Space, Age, Run, RunBy}
 use Rattle.sn_model.specs.World.{World}
-use Rattle.sn_held.specs.Images.{IsLiveImage}
+use Rattle.sn_held.specs.Images.{IsImage}
 use Rattle.sn_run.specs.Runs.{Goes, ShowsCut, Standing}
 
 -- a run from what the contents are an image of, of which a crash behind these replies left the others, as the contract of a run says
 pub record Cuts (c : Contents) (events : List Event) (said : List Reply) (left : Contents) : Type 0 where
   pub world : World
-  pub image : IsLiveImage c world
+  pub image : IsImage c world
   pub cut : ShowsCut (Running world) events said left
 
 -- runs, each from what a crash in the run before has left
@@ -23,8 +23,8 @@ LivesOn c (r ∷ rs) last = (next : Contents) × Cuts c r.0 r.1 next × LivesOn 
 
 -- They are a life of the machine, whose last world the last contents are an image of.
 abbrev pub LivesAreLives : Type 0
-LivesAreLives = (c last : Contents) (runs : List (List Event × List Reply)) (first : World) → IsLiveImage c first → LivesOn c runs last
-    → (world : World) × IsLiveImage last world × Life Anything version_1 first runs world
+LivesAreLives = (c last : Contents) (runs : List (List Event × List Reply)) (first : World) → IsImage c first → LivesOn c runs last
+    → (world : World) × IsImage last world × Life Anything version_1 first runs world
 
 -- no read, no write and no sync of a device failed
 abbrev pub Unfailing : Option Mishap → Type 0

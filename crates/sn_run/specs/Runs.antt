@@ -18,7 +18,7 @@ use Rattle.sn_model.specs.World.{World}
 use Rattle.sn_sound.specs.Verdicts.{HasNoVerdict}
 use Rattle.sn_held.specs.Held.{Held}
 use Rattle.sn_cp_progress.specs.Meaning.{Means}
-use Rattle.sn_held.specs.Images.{IsLiveImage}
+use Rattle.sn_held.specs.Images.{IsImage}
 use Rattle.sn_held.specs.Room.{HasRoomOf}
 use Rattle.sn_examine.specs.Failing.{IsSoOf}
 use Rattle.sn_examine.specs.Laws.{IsSomeClean}
@@ -96,7 +96,7 @@ RunsTo (ending.Mount fault) events replies disk status last_disk last_status = N
 
 -- the contents are an image of a world that the machine's run, cut short after these replies, leaves
 abbrev pub ShowsCut : State → List Event → List Reply → Contents → Type 0
-ShowsCut s events said c = (world : World) × IsLiveImage c world × CutRun Anything version_1 s events said world
+ShowsCut s events said c = (world : World) × IsImage c world × CutRun Anything version_1 s events said world
 
 -- From a disk on the events that are left get these replies, behind those that were given: in the course of each a crash leaves a run that was cut short in it or behind it, and once all are answered one that was cut short behind the last, in the course of the last unmount too.
 abbrev pub LeavesFrom : State → List Event → List Reply → List Reply → Disk → Disk → Type 0

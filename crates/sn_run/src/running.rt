@@ -6,7 +6,7 @@ ghost use Rattle.sn_model.specs.Machine.{Anything, Lacks, WholeRun};
 ghost use Rattle.sn_model.specs.World.{World};
 ghost use Rattle.sn_model.specs.declared.mount.End.TheVariants as ending;
 ghost use Rattle.sn_model.specs.declared.mount.MountFault.{MountFault};
-ghost use Rattle.sn_held.specs.Images.{IsLiveImage};
+ghost use Rattle.sn_held.specs.Images.{IsImage};
 ghost use Rattle.sn_run.specs.Runs.{AnswersAll, IsRunOf, LacksRoot, RunsTo};
 ghost use Rattle.sn_run.specs.Servers.{IsServer, is_stopped, standing};
 
@@ -68,7 +68,7 @@ fn answer_all<D: Device, W: Watch>(
 pub fn run<D: Device, W: Watch>(alloc: Global, device: D, events: &[Event], watch: &mut W) -> Ran<D>
     ensures runs { IsTrue D.tells_bytes → RunsTo result.end events.now result.replies.items
         (D.disk device) (D.status device) (D.disk result.device) (D.status result.device) }
-    ensures machine { IsTrue D.tells_bytes → (world : World) → IsLiveImage (reads (D.disk device)) world
+    ensures machine { IsTrue D.tells_bytes → (world : World) → IsImage (reads (D.disk device)) world
         → IsRunOf world events.now result.replies.items result.end (D.disk device) (D.disk result.device) }
     ensures unfit { IsTrue D.tells_bytes → (fault : MountFault) → LacksRoot (D.status device).sectors (reads (D.disk device)) fault
         → WholeRun Anything version_1 (Lacks fault) events.now result.replies.items result.end }

@@ -1,21 +1,21 @@
 -- Names that are put in order one by one are the keys of the map.
-use Rattle.std.proofs.Common.{◌≡◌, ℕ, zero, suc, ◌<◌, ◌+◌, Bool, true, false, cond, not, ◌||◌, List, [], ◌∷◌, map, length, get_or, take, Option, Some, None, refl, sym, ap, ap₂, ◌∙◌, arith, true≢false}
+use Rattle.std.proofs.Common.{◌≡◌, ℕ, suc, ◌<◌, ◌+◌, Bool, true, false, cond, not, List, [], ◌∷◌, ◌++◌, map, length, get_or, take, Option, Some, None, refl, sym, ap, ap₂, ◌∙◌, arith, true≢false}
 use Rattle.std.specs.Prelude.{insert, is_some, nat_lt, position, unwrap_or}
 use Rattle.std.specs.List.{list_any, position_or_len}
+use Rattle.std.specs.Option.{option_or}
 use Rattle.std.specs.declared.cmp.Ordering.{Ordering}
 use Rattle.std.specs.declared.cmp.Ordering.TheVariants.{Less, Equal, Greater}
 use Rattle.std.specs.Ordering.{eq_by_cmp, is_eq, is_gt, ordering_reverse}
 use Rattle.std.specs.FinMap as fin
-use Rattle.std.specs.FinMap.Entries.{by_order, put}
+use Rattle.std.specs.Cmp.Lexicographic.{texts_ties}
+use Rattle.std.specs.FinMap.Entries.{by_order, find, put}
 use Rattle.std.specs.Str.{bytes_eq}
-use Rattle.std.proofs.lemmas.Bool.{and_parts, ltb-false, not-true, or_parts}
+use Rattle.std.proofs.lemmas.Bool.{ltb-false, or_parts}
 use Rattle.std.proofs.lemmas.List.{map-append, take_more}
-use Rattle.std.proofs.lemmas.List.Folds.{list_any_at}
 use Rattle.std.proofs.lemmas.List.Sums.{prefix_len-le-length}
 use Rattle.sn_layout.specs.declared.snapshot.Snapshot.{Snapshot}
-use Rattle.sn_layout.specs.Snapshot.{are_distinct}
 use Rattle.sn_snap.specs.Catalogue.{by_name}
-use Rattle.sn_snap.proofs.NameLemmas.{by_bytes, get_is, has_name, names_total, other_way, same_names, told_by, unfound}
+use Rattle.sn_snap.proofs.NameLemmas.{by_bytes, get_is, has_name, named, names_total, same_bytes, same_names, told_by, unfound}
 
 -- the first index, or else the end
 pub place_or_end : (p : List ℕ → Bool) (names : List (List ℕ)) → unwrap_or (position p names) (length names) ≡ position_or_len p names
@@ -53,39 +53,77 @@ module _ {X : Type 0} where
       let apart = or_parts (eq_by_cmp by_bytes k e.0) (list_any (eq_by_cmp by_bytes k) (map (λ x. x.0) es)) new in
       put_first k v e es (by_bytes k e.0) refl apart.0 (names-put k v es apart.1)
 
-none_at : (p : Snapshot → Bool) (snapshots : List Snapshot) (i : ℕ) (d : Snapshot) → i < length snapshots → list_any p snapshots ≡ false → p (get_or snapshots i d) ≡ false
-none_at p snapshots i d within none = told (p (get_or snapshots i d)) refl
-  where
-    told : (b : Bool) → p (get_or snapshots i d) ≡ b → b ≡ false
-    told true e = absurd (true≢false (sym (list_any_at p snapshots i d within e) ∙ none))
-    told false e = refl
+-- ---- a name that stands before
 
--- none before a snapshot has its name
-front_apart : (snapshots : List Snapshot) (i : ℕ) (d : Snapshot) → are_distinct snapshots ≡ true → i < length snapshots → has_name (get_or snapshots i d).name (take i snapshots) ≡ false
-front_apart [] i d distinct within = absurd (omega arith)
-front_apart (s ∷ more) zero d distinct within = refl
-front_apart (s ∷ more) (suc i) d distinct within =
-    let parts = and_parts (not (has_name s.name more)) (are_distinct more) distinct in
-    let name = (get_or more i d).name in
-    ap₂ (λ a b. a || b)
-    (other_way name s.name ∙ none_at (λ other. bytes_eq s.name other.name) more i d (omega arith) (not-true (has_name s.name more) parts.0))
-    (front_apart more i d parts.1 (omega arith))
+module _ {X : Type 0} (f : Snapshot → X) where
+  find-behind : (es : List (List ℕ × X)) (k : List ℕ) (v : X) (q : List ℕ) → find by_bytes q (es ++ (k, v) ∷ []) ≡ option_or (find by_bytes q es) (cond (eq_by_cmp by_bytes q k) (Some v) None)
+  find-behind [] k v q = refl
+  find-behind (e ∷ es) k v q = told (eq_by_cmp by_bytes q e.0) (find-behind es k v q)
+    where
+      told : (b : Bool) → find by_bytes q (es ++ (k, v) ∷ []) ≡ option_or (find by_bytes q es) (cond (eq_by_cmp by_bytes q k) (Some v) None)
+          → cond b (Some e.1) (find by_bytes q (es ++ (k, v) ∷ [])) ≡ option_or (cond b (Some e.1) (find by_bytes q es)) (cond (eq_by_cmp by_bytes q k) (Some v) None)
+      told true rest = refl
+      told false rest = rest
 
--- one more snapshot's name goes to its index
-pub keys_more : {X : Type 0} (f : Snapshot → X) (snapshots : List Snapshot) (i : ℕ) (d : Snapshot) → are_distinct snapshots ≡ true → i < length snapshots
-    → fin.keys (by_name f (take (i + 1) snapshots))
-    ≡ insert (fin.keys (by_name f (take i snapshots))) (index_among (get_or snapshots i d).name (fin.keys (by_name f (take i snapshots)))) (get_or snapshots i d).name
-keys_more f snapshots i d distinct within =
-    let s = get_or snapshots i d in
-    let front = take i snapshots in
-    let map_of = by_name f front in
-    let new = unfound f front s.name (front_apart snapshots i d distinct within) in
-    let absent : fin.get map_of s.name ≡ None = get_is f front s.name ∙ new in
-    ap (λ l. fin.keys (by_name f l)) (take_more snapshots i d within)
-    ∙ ap (λ es. fin.keys (fin.from_entries {R = by_bytes} es)) (map-append (λ (x : Snapshot). (x.name, f x)) front (s ∷ []))
-    ∙ ap fin.keys (fin.from_entries_push names_total same_names (told_by f front) s.name (f s) new)
-    ∙ ap (map (λ e. e.0)) (fin.entries-insert names_total map_of s.name (f s))
-    ∙ names-put s.name (f s) (fin.entries map_of) (sym (fin.contains_key-keys map_of s.name) ∙ ap is_some absent)
+  -- what stands behind is not found by it
+  found_before : (front : List Snapshot) (s : Snapshot) (q : List ℕ) → has_name s.name front ≡ true → option_or (find by_bytes q (told_by f front)) (cond (eq_by_cmp by_bytes q s.name) (Some (f s)) None) ≡ find by_bytes q (told_by f front)
+  found_before front s q again = told (find by_bytes q (told_by f front)) refl (eq_by_cmp by_bytes q s.name) refl
+    where
+      told : (o : Option X) → find by_bytes q (told_by f front) ≡ o → (b : Bool) → eq_by_cmp by_bytes q s.name ≡ b → option_or o (cond b (Some (f s)) None) ≡ o
+      told (Some x) found b e = refl
+      told None found false e = refl
+      told None found true e =
+          let same : q ≡ s.name = same_bytes q s.name (texts_ties q s.name ∙ e) in
+          absurd (true≢false (sym (ap (λ name. has_name name front) same ∙ again) ∙ named f front q ∙ ap is_some found))
+
+  pub told_again : (front : List Snapshot) (s : Snapshot) → has_name s.name front ≡ true → by_name f (front ++ s ∷ []) ≡ by_name f front
+  told_again front s again = fin.same_map names_total same_names _ _ (λ q.
+      get_is f (front ++ s ∷ []) q
+      ∙ ap (find by_bytes q) (map-append (λ (x : Snapshot). (x.name, f x)) front (s ∷ []))
+      ∙ find-behind (told_by f front) s.name (f s) q
+      ∙ found_before front s q again
+      ∙ sym (get_is f front q))
+
+  -- whether a snapshot's name stands before is told by the keys
+  among_keys : (front : List Snapshot) (name : List ℕ) → list_any (bytes_eq name) (fin.keys (by_name f front)) ≡ has_name name front
+  among_keys front name =
+      (λ i. list_any (λ other. texts_ties name other i) (fin.keys (by_name f front)))
+      ∙ sym (fin.contains_key-keys (by_name f front) name)
+      ∙ ap is_some (get_is f front name)
+      ∙ sym (named f front name)
+
+  pub told_among : (snapshots : List Snapshot) (i : ℕ) (s : Snapshot) (names : List (List ℕ)) (b : Bool) → s ≡ get_or snapshots i s → names ≡ fin.keys (by_name f (take i snapshots))
+      → list_any (bytes_eq s.name) names ≡ b → has_name (get_or snapshots i s).name (take i snapshots) ≡ b
+  told_among snapshots i s names b item keys is =
+      ap (λ (x : Snapshot). has_name x.name (take i snapshots)) (sym item)
+      ∙ sym (among_keys (take i snapshots) s.name)
+      ∙ ap (list_any (bytes_eq s.name)) (sym keys)
+      ∙ is
+
+-- ---- one snapshot more
+
+module _ {X : Type 0} (f : Snapshot → X) (snapshots : List Snapshot) (i : ℕ) (d : Snapshot) (within : i < length snapshots) where
+  abbrev next : Snapshot
+  next = get_or snapshots i d
+
+  abbrev front : List Snapshot
+  front = take i snapshots
+
+  -- whose name is new goes to its index
+  pub keys_more : has_name next.name front ≡ false
+      → fin.keys (by_name f (take (i + 1) snapshots)) ≡ insert (fin.keys (by_name f front)) (index_among next.name (fin.keys (by_name f front))) next.name
+  keys_more new =
+      let none = unfound f front next.name new in
+      let absent : fin.get (by_name f front) next.name ≡ None = get_is f front next.name ∙ none in
+      ap (λ l. fin.keys (by_name f l)) (take_more snapshots i d within)
+      ∙ ap (λ es. fin.keys (fin.from_entries {R = by_bytes} es)) (map-append (λ (x : Snapshot). (x.name, f x)) front (next ∷ []))
+      ∙ ap fin.keys (fin.from_entries_push names_total same_names (told_by f front) next.name (f next) none)
+      ∙ ap (map (λ e. e.0)) (fin.entries-insert names_total (by_name f front) next.name (f next))
+      ∙ names-put next.name (f next) (fin.entries (by_name f front)) (sym (fin.contains_key-keys (by_name f front) next.name) ∙ ap is_some absent)
+
+  -- and one whose name is not adds none
+  pub keys_same : has_name next.name front ≡ true → fin.keys (by_name f (take (i + 1) snapshots)) ≡ fin.keys (by_name f front)
+  keys_same again = ap (λ l. fin.keys (by_name f l)) (take_more snapshots i d within) ∙ ap fin.keys (told_again f front next again)
 
 pub no_keys : (X : Type 0) → fin.keys (fin.empty {X = X} {R = by_bytes}) ≡ []
 no_keys X = none (fin.entries (fin.empty {X = X} {R = by_bytes})) (sym (fin.len-entries _) ∙ fin.len-empty by_bytes X)

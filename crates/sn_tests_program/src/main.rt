@@ -4,9 +4,10 @@
 //!
 //! It runs in the folder `data/`, where `examples` is a copy of the repository's folder of that name. Each part prints
 //! what isn't as the files there say, and how many cases it had; the status is 1 where one was wrong. `runs.txt` is one
-//! run on a new disk, an event a line with its reply. `refused` makes a run with each call of the device refused in
-//! turn, and looks at what it answers from then on; `torn` cuts runs off behind each of their writes by crashes of many
-//! kinds, and looks at what they leave (`torn.txt`, and `points.txt` of consistency points).
+//! run on a new disk, an event a line with its reply. `frozen` has runs between which a snapshot is put on the disk
+//! (`frozen.txt`). `refused` makes a run with each call of the device refused in turn, and looks at what it answers from
+//! then on; `torn` cuts runs off behind each of their writes by crashes of many kinds, and looks at what they leave
+//! (`torn.txt`, and `points.txt` of consistency points).
 #![tactic(auto)]
 
 mod commands;
@@ -15,6 +16,7 @@ mod events;
 mod examples;
 mod faults;
 mod files;
+mod frozen;
 mod images;
 mod refused;
 mod rows;
@@ -45,6 +47,7 @@ fn main(rt: HostRuntime) -> Result<()> {
     commands::run(&mut report, "commands.txt")?;
     commands::run(&mut report, "examples/images.txt")?;
     report.script("runs.txt", events::replies)?;
+    report.script("frozen.txt", frozen::replies)?;
     refused::run(&mut report)?;
     report.script("torn.txt", torn::torn)?;
     report.script("points.txt", torn::torn)?;

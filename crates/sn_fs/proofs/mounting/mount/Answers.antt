@@ -43,6 +43,5 @@ returns-in-Ok-recover-clause-sound g c =
       between = λ _ _. e.point;
       drops = λ _. e.drops;
       meant = λ _ told.
-          let runs = e.runs told (kept_of c.in-Ok-recover.field-0.world) (kept_since_of c.in-Ok-recover.field-0.world) status in
-          record { over = e.over told; whole = e.whole told; runs = record { frozen = runs.0; runs = runs.1 }; stands = tt };
+          record { over = e.over told; whole = e.whole told; runs = e.runs told (kept_of c.in-Ok-recover.field-0.world) (kept_since_of c.in-Ok-recover.field-0.world) status; stands = tt };
     }

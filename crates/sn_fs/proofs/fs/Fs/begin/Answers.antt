@@ -10,20 +10,19 @@ use Rattle.sn_device.specs.Crash.{LeavesOnly}
 use Rattle.sn_held.specs.Held.{Going, Held, RunsReady}
 use Rattle.sn_held.specs.Images.{IsImage}
 use Rattle.sn_limits.specs.Versions.{version_1}
-use Rattle.sn_live_world.specs.World.{HasDrops, IsOver, changes_of, world_over}
+use Rattle.sn_live_world.specs.World.{HasDrops, IsOver, changes_of, world_in}
 use Rattle.sn_log.specs.Positions.{LogPosition}
 use Rattle.sn_model.specs.Settling.{settle}
-use Rattle.sn_model.specs.World.{World}
+use Rattle.sn_model.specs.World.{Trees, World}
 use Rattle.sn_model.specs.Worlds.{IsWorld}
-use Rattle.sn_mount.specs.Recovering.{with_frozen}
 use Rattle.sn_overlay.specs.Layers.{Layer}
 use Rattle.sn_overlay.specs.Needs.{need}
 use Rattle.sn_overlay.specs.Overlays.{no_changes}
 use Rattle.sn_room.specs.Rooms.{RoomCounts, begun}
-use Rattle.sn_events.specs.Mounted.{RunsIn, in_frozen, tree_at}
+use Rattle.sn_events.specs.Mounted.{tree_at, trees_there}
 use Rattle.sn_events.proofs.BasedLemmas.{base_none}
 use Rattle.sn_events.proofs.BeginLemmas.{unbegun}
-use Rattle.sn_events.proofs.MeantLemmas.{tree_logged}
+use Rattle.sn_events.proofs.MeantLemmas.{trees_logged}
 use Rattle.sn_events.proofs.PointLemmas.{not_device, running_between}
 use Rattle.sn_fs.specs.Filesystem.{held, tree_of}
 use Rattle.sn_fs.proofs.MountedLemmas.{kept_mounted, unbegun_same}
@@ -34,7 +33,7 @@ pub begin_point-requires-clause-base : goal.begin_point-requires-clause-base
 begin_point-requires-clause-base g c = base_none c.args.self.now.going c.args.self.now.log c.args.self.now.base c.requires.between (c.requires.sound.based c.requires.running)
 
 pub returns-in-Ok-clause-begins : goal.returns-in-Ok-clause-begins
-returns-in-Ok-clause-begins g c told f r =
+returns-in-Ok-clause-begins g c told r =
     let fs = c.args.self.now in
     let d0 = g.D.Device.disk (device_of fs.blocks) in
     let d1 = g.D.Device.disk (device_of c.begin_point.new.blocks) in
@@ -47,8 +46,7 @@ returns-in-Ok-clause-begins g c told f r =
     let begins : (h : Held) (world : World) → RunsReady (with_log h fs.log d0) world (kept_in fs.base (changes_of fs.world)) → LeavesOnly d0 d1 (λ x. IsImage x (settle world)) × RunsOn (record h { room = begun h.room; at = c.begin_point.new.log; base = kept_in fs.base no_changes; disk = d1 }) world (progress_over (going_of point) world.live) =
     λ h world ready. let made = e.begins told h world (subst (λ (l : Layer). RunsReady (with_log h fs.log d0) world (kept_in fs.base l)) (sym c.changes.ensures) ready) in
     (made.0, subst (λ (l : Layer). RunsOn (record h { room = begun h.room; at = c.begin_point.new.log; base = kept_in fs.base l; disk = d1 }) world (progress_over (going_of point) world.live)) e.empty made.1) in
-    let in_it : RunsIn (held fs) = record { frozen = f; runs = running_between (in_frozen f (held fs)) (with_frozen f (held fs).world) c.requires.between r } in
-    let tree = tree_logged (held fs) in_it (g.met.D.Device.whole (device_of fs.blocks) told) (fs.log.epoch + 1) d1 (g.met.D.Device.whole (device_of c.begin_point.new.blocks) told) (e.wrote told) in
+    let trees = trees_logged (held fs) (running_between (held fs) (held fs).world c.requires.between r) (g.met.D.Device.whole (device_of fs.blocks) told) (fs.log.epoch + 1) d1 (g.met.D.Device.whole (device_of c.begin_point.new.blocks) told) (e.wrote told) in
     record {
       begun = record {
         between = c.requires.between;
@@ -57,7 +55,7 @@ returns-in-Ok-clause-begins g c told f r =
         size = e.going.blocks;
         few = subst (λ (l : Layer). length (work_of point.point).plan.blocks ≤ need fs.base.root.limits l) c.changes.ensures e.going.few;
         first = e.going.first;
-        world = ap (with_frozen f) (world_begun d0 d1 s0 s1 fs.log c.begin_point.new.log fs.world c.begin_point-in-Ok.new.self fs.room c.begin_point-in-Ok-2.new.self fs.base fs.going c.requires.between point begins tree next.world next.changes room);
+        world = world_begun d0 d1 s0 s1 fs.log c.begin_point.new.log fs.world c.begin_point-in-Ok.new.self fs.room c.begin_point-in-Ok-2.new.self fs.base fs.going c.requires.between point begins trees next.world next.changes room;
         kept = next.kept;
         none_since = next.since;
         log = e.log;
@@ -65,10 +63,10 @@ returns-in-Ok-clause-begins g c told f r =
         base = λ i. kept_in fs.base (next.changes i);
         costs = e.costs.done;
       };
-      moments = moments_begun d0 d1 s0 s1 fs.log c.begin_point.new.log fs.world c.begin_point-in-Ok.new.self fs.room c.begin_point-in-Ok-2.new.self fs.base fs.going c.requires.between point begins tree next.world next.changes room f r;
+      moments = moments_begun d0 d1 s0 s1 fs.log c.begin_point.new.log fs.world c.begin_point-in-Ok.new.self fs.room c.begin_point-in-Ok-2.new.self fs.base fs.going c.requires.between point begins trees next.world next.changes room r;
       touched = e.touched told;
-      runs = subst (λ (w : World). RunsWith (Some (going_of point)) (in_frozen f (held (record fs { blocks = c.begin_point.new.blocks; log = c.begin_point.new.log; world = c.begin_point-in-Ok.new.self; room = c.begin_point-in-Ok-2.new.self; going = Some point }))) w) refl
-          (on_begun d0 d1 s0 s1 fs.log c.begin_point.new.log fs.world c.begin_point-in-Ok.new.self fs.room c.begin_point-in-Ok-2.new.self fs.base fs.going c.requires.between point begins tree next.world next.changes room f r);
+      runs = subst (λ (w : World). RunsWith (Some (going_of point)) (held (record fs { blocks = c.begin_point.new.blocks; log = c.begin_point.new.log; world = c.begin_point-in-Ok.new.self; room = c.begin_point-in-Ok-2.new.self; going = Some point })) w) refl
+          (on_begun d0 d1 s0 s1 fs.log c.begin_point.new.log fs.world c.begin_point-in-Ok.new.self fs.room c.begin_point-in-Ok-2.new.self fs.base fs.going c.requires.between point begins trees next.world next.changes room r);
     }
 
 pub returns-in-Ok-clause-sound : goal.returns-in-Ok-clause-sound
@@ -102,23 +100,23 @@ returns-in-Ok-clause-sound g c =
           let begins : (h : Held) (world : World) → RunsReady (with_log h fs.log d0) world (kept_in fs.base (changes_of fs.world)) → LeavesOnly d0 d1 (λ x. IsImage x (settle world)) × RunsOn (record h { room = begun h.room; at = c.begin_point.new.log; base = kept_in fs.base no_changes; disk = d1 }) world (progress_over (going_of point) world.live) =
           λ h world ready. let made = e.begins told h world (subst (λ (l : Layer). RunsReady (with_log h fs.log d0) world (kept_in fs.base l)) (sym c.changes.ensures) ready) in
           (made.0, subst (λ (l : Layer). RunsOn (record h { room = begun h.room; at = c.begin_point.new.log; base = kept_in fs.base l; disk = d1 }) world (progress_over (going_of point) world.live)) e.empty made.1) in
-          let tree = tree_logged (held fs) m.runs (g.met.D.Device.whole (device_of fs.blocks) told) (fs.log.epoch + 1) d1 (g.met.D.Device.whole (device_of c.begin_point.new.blocks) told) (e.wrote told) in
+          let trees = trees_logged (held fs) m.runs (g.met.D.Device.whole (device_of fs.blocks) told) (fs.log.epoch + 1) d1 (g.met.D.Device.whole (device_of c.begin_point.new.blocks) told) (e.wrote told) in
           record {
-            over = subst (IsOver c.begin_point-in-Ok.new.self) (sym tree) (next.over (tree_of fs) m.over);
-            whole = subst (IsWorld version_1) (sym (world_begun d0 d1 s0 s1 fs.log c.begin_point.new.log fs.world c.begin_point-in-Ok.new.self fs.room c.begin_point-in-Ok-2.new.self fs.base fs.going c.requires.between point begins tree next.world next.changes room)) m.whole;
-            runs = runs_begun d0 d1 s0 s1 fs.log c.begin_point.new.log fs.world c.begin_point-in-Ok.new.self fs.room c.begin_point-in-Ok-2.new.self fs.base fs.going c.requires.between point begins tree next.world next.changes room m.runs;
+            over = subst (λ (t : Trees). IsOver c.begin_point-in-Ok.new.self t.live) (sym trees) (next.over (tree_of fs) m.over);
+            whole = subst (IsWorld version_1) (sym (world_begun d0 d1 s0 s1 fs.log c.begin_point.new.log fs.world c.begin_point-in-Ok.new.self fs.room c.begin_point-in-Ok-2.new.self fs.base fs.going c.requires.between point begins trees next.world next.changes room)) m.whole;
+            runs = runs_begun d0 d1 s0 s1 fs.log c.begin_point.new.log fs.world c.begin_point-in-Ok.new.self fs.room c.begin_point-in-Ok-2.new.self fs.base fs.going c.requires.between point begins trees next.world next.changes room m.runs;
             stands = e.stands told;
           };
     }
 
 pub returns-in-Err-clause-begins : goal.returns-in-Err-clause-begins
-returns-in-Err-clause-begins g c told f r =
+returns-in-Err-clause-begins g c told r =
     let fs = c.args.self.now in
-    let old = in_frozen f (held fs) in
+    let old = held fs in
     let e = c.in-Err.ensures in
     let d1 = g.D.Device.disk (device_of c.begin_point.new.blocks) in
     let ready = subst (λ (l : Layer). RunsReady old old.world (kept_in fs.base l)) (sym c.changes.ensures) r in
-    unbegun old (with_frozen f (world_over fs.world (tree_at d1 fs.base.root))) c.begin_point.new.log _ _ c.in-Err.fault (λ same. λ i. with_frozen f (world_over fs.world (tree_at (same i) fs.base.root))) (subst (λ (l : Layer). BeginsPoint (Err c.in-Err.fault) old.world old (kept_in fs.base l) c.begin_point.new.log old.disk d1) c.changes.ensures (e.begins told old old.world ready)) e.stays e.costs.cause e.costs.later e.costs.writes e.costs.syncs (e.touched told) (λ is. e.aged (ap Err is))
+    unbegun old (world_in fs.world (trees_there d1 fs.base.root)) c.begin_point.new.log _ _ c.in-Err.fault (λ same. λ i. world_in fs.world (trees_there (same i) fs.base.root)) (subst (λ (l : Layer). BeginsPoint (Err c.in-Err.fault) old.world old (kept_in fs.base l) c.begin_point.new.log old.disk d1) c.changes.ensures (e.begins told old old.world ready)) e.stays e.costs.cause e.costs.later e.costs.writes e.costs.syncs (e.touched told) (λ is. e.aged (ap Err is))
 
 pub returns-in-Err-clause-sound : goal.returns-in-Err-clause-sound
 returns-in-Err-clause-sound g c =
@@ -128,7 +126,7 @@ returns-in-Err-clause-sound g c =
     kept_mounted g.D.Device.tells_bytes d0 _ _ _ fs.log c.begin_point.new.log fs.world fs.room fs.room fs.base fs.base fs.going fs.has_stopped c.stops-self.result c.requires.running refl refl (λ goes_on. e.stays) e.costs.later.sectors
     (λ goes_on told.
     let m = c.requires.sound.meant c.requires.running told in
-    let old = in_frozen m.runs.frozen (held fs) in
-    let r = subst (λ (p : Option Going). RunsWith p old old.world) c.requires.between m.runs.runs in
+    let old = held fs in
+    let r = subst (λ (p : Option Going). RunsWith p old old.world) c.requires.between m.runs in
     let ready = subst (λ (l : Layer). RunsReady old old.world (kept_in fs.base l)) (sym c.changes.ensures) r in
     unbegun_same c.in-Err.fault (not_device c.in-Err.fault (sym c.stops-self.ensures ∙ goes_on)) old.world old _ _ d0 _ (e.begins told old old.world ready)) c.requires.sound

@@ -38,7 +38,7 @@ returns-in-Err-clause-answered g c told =
     let new = held c.finish.new.self in
     let stopped = has_stopped c.finish.new.self in
     let fault = c.in-Err.fault in
-    let a = call_cut h (held c.serve.new.self) new c.args.session c.args.call.now fault (c.requires.meant c.if-self.false told).whole (c.in_default.ensures.served told) (c.in-Err.ensures.finishes told h.world) in
+    let a = call_cut h (held c.serve.new.self) new c.args.session c.args.call.now fault (c.requires.meant c.if-self.false told).whole (c.in_default.ensures.served told) (c.in-Err.ensures.finishes told) in
     subst (λ (r : Reply). Answers e r h c.args.self.now.has_stopped new stopped) (sym (c.refused-in-Err.ensures ∙ ap refused c.errno_of.ensures))
     (subst (λ (b : Bool). Answers e (refused (errno_of_point fault)) h b new stopped) (sym c.if-self.false)
     (subst (λ (b : Bool). Answers e (refused (errno_of_point fault)) h false new b) (sym c.in-Err.ensures.stopped) a))
@@ -50,4 +50,4 @@ returns-clause-answered g c told =
     let new = c.serve_between-2.new.self in
     let reply = c.serve_between-2.result in
     subst (λ (b : Bool). Answers e reply h b (held new) (has_stopped new)) (sym c.if-self.false)
-    (call_after_finish h (held c.serve.new.self) (held c.finish.new.self) (held new) c.args.session c.args.call.now reply (has_stopped new) (c.in_default.ensures.served told) (c.in_default-finish.ensures.finishes told h.world) (c.serve_between-2.ensures.answered told))
+    (call_after_finish h (held c.serve.new.self) (held c.finish.new.self) (held new) c.args.session c.args.call.now reply (has_stopped new) (c.in_default.ensures.served told) (c.in_default-finish.ensures.finishes told) (c.serve_between-2.ensures.answered told))

@@ -19,11 +19,10 @@ use Rattle.sn_model.specs.Settling.{settle}
 use Rattle.sn_model.specs.Tree.{Tree}
 use Rattle.sn_model.specs.World.{World}
 use Rattle.sn_model.specs.Worlds.{IsWorld}
-use Rattle.sn_mount.specs.Recovering.{with_frozen}
 use Rattle.sn_overlay.specs.Layers.{Layer}
 use Rattle.sn_room.specs.Rooms.{done as done_room}
 use Rattle.sn_events.specs.Answers.{IsBesideRoot}
-use Rattle.sn_events.specs.Mounted.{in_frozen, tree_at}
+use Rattle.sn_events.specs.Mounted.{tree_at}
 use Rattle.sn_events.proofs.BasedLemmas.{based_none, stands_none}
 use Rattle.sn_fs.specs.Filesystem.{held, tree_of, with_point}
 use Rattle.sn_fs.proofs.PointedLemmas.{changed_ended, moments_ended, ready_ended, runs_ended, world_ended}
@@ -45,8 +44,8 @@ pub finish-requires-clause-stands : goal.finish-requires-clause-stands
 finish-requires-clause-stands g c told = (c.requires.sound.meant c.requires.running told).stands
 
 pub returns-in_default-clause-finishes : goal.returns-in_default-clause-finishes
-returns-in_default-clause-finishes g c told f r =
-    let old = in_frozen f (held (with_point c.args.self.now c.args.going)) in
+returns-in_default-clause-finishes g c told r =
+    let old = held (with_point c.args.self.now c.args.going) in
     let is = c.requires.sound.based c.requires.running in
     let e = c.in_default.ensures in (
       refl,
@@ -62,10 +61,10 @@ returns-in_default-clause-finishes g c told f r =
     )
 
 pub returns-clause-finishes : goal.returns-clause-finishes
-returns-clause-finishes g c told f r =
+returns-clause-finishes g c told r =
     let fs = c.args.self.now in
     let point = c.args.going in
-    let old = in_frozen f (held (with_point fs point)) in
+    let old = held (with_point fs point) in
     let d0 = g.D.Device.disk (device_of fs.blocks) in
     let d1 = g.D.Device.disk (device_of c.finish.new.blocks) in
     let s0 = g.D.Device.status (device_of fs.blocks) in
@@ -83,7 +82,7 @@ returns-clause-finishes g c told f r =
         going = going_of point;
         is = refl;
         point = c.requires.alone;
-        world = ap (with_frozen f) (world_ended d0 d1 s0 s1 fs.log fs.world c.end_point-2.new.self fs.room c.end_point.new.self fs.base c.finish.new.base point fs.going c.requires.alone whole finish next.world next.changes room f r);
+        world = world_ended d0 d1 s0 s1 fs.log fs.world c.end_point-2.new.self fs.room c.end_point.new.self fs.base c.finish.new.base point fs.going c.requires.alone whole finish next.world next.changes room r;
         kept = next.kept;
         since = next.since;
         log = refl;
@@ -92,8 +91,8 @@ returns-clause-finishes g c told f r =
         touched = point_apart (work_of point.point) is.whole fs.base.slot is.slot fs.log.blocks old.disk old.disk _ is.blocks (Touches-start (IsBesideRoot old) old.disk) (e.touched told);
         costs = e.counts.done;
       };
-      moments = moments_ended d0 d1 s0 s1 fs.log fs.world c.end_point-2.new.self fs.room c.end_point.new.self fs.base c.finish.new.base point fs.going c.requires.alone whole finish next.world next.changes room f r;
-      runs = ready_ended d0 d1 s0 s1 fs.log fs.world c.end_point-2.new.self fs.room c.end_point.new.self fs.base c.finish.new.base point fs.going c.requires.alone whole finish next.world next.changes room f r;
+      moments = moments_ended d0 d1 s0 s1 fs.log fs.world c.end_point-2.new.self fs.room c.end_point.new.self fs.base c.finish.new.base point fs.going c.requires.alone whole finish next.world next.changes room r;
+      runs = ready_ended d0 d1 s0 s1 fs.log fs.world c.end_point-2.new.self fs.room c.end_point.new.self fs.base c.finish.new.base point fs.going c.requires.alone whole finish next.world next.changes room r;
     }
 
 pub returns-clause-sound : goal.returns-clause-sound
@@ -121,10 +120,10 @@ returns-clause-sound g c =
           let whole = g.met.D.Device.whole (device_of c.finish.new.blocks) told in
           let finish : (h : Held) (world : World) (frozen : Tree) → RunsOn (with_disk h d0) world (progress_over (going_of point) frozen) → LeavesOnly d0 d1 (λ x. IsImage x (settle world)) × RunsReady (record h { room = done_room point.free h.room; disk = d1 }) world (kept_in c.finish.new.base h.base.changed) =
           e.finishes told in
-          let changed = changed_ended d0 d1 s0 s1 fs.log fs.world c.end_point-2.new.self fs.room c.end_point.new.self fs.base c.finish.new.base point fs.going c.requires.alone whole finish next.world next.changes room m.runs.frozen m.runs.runs in
+          let changed = changed_ended d0 d1 s0 s1 fs.log fs.world c.end_point-2.new.self fs.room c.end_point.new.self fs.base c.finish.new.base point fs.going c.requires.alone whole finish next.world next.changes room m.runs in
           record {
             over = next.over (tree_of fs) (tree_at d1 c.finish.new.base.root) changed.lies changed.shows m.over;
-            whole = subst (IsWorld version_1) (sym (world_ended d0 d1 s0 s1 fs.log fs.world c.end_point-2.new.self fs.room c.end_point.new.self fs.base c.finish.new.base point fs.going c.requires.alone whole finish next.world next.changes room m.runs.frozen m.runs.runs)) m.whole;
+            whole = subst (IsWorld version_1) (sym (world_ended d0 d1 s0 s1 fs.log fs.world c.end_point-2.new.self fs.room c.end_point.new.self fs.base c.finish.new.base point fs.going c.requires.alone whole finish next.world next.changes room m.runs)) m.whole;
             runs = runs_ended d0 d1 s0 s1 fs.log fs.world c.end_point-2.new.self fs.room c.end_point.new.self fs.base c.finish.new.base point fs.going c.requires.alone whole finish next.world next.changes room m.runs;
             stands = stands_none fs.going _ c.requires.alone;
           };

@@ -18,9 +18,7 @@ use Rattle.sn_model.specs.Settling.{settle}
 use Rattle.sn_model.specs.Tree.{Tree}
 use Rattle.sn_model.specs.World.{World}
 use Rattle.sn_model.specs.Worlds.{IsWorld}
-use Rattle.sn_mount.specs.Recovering.{with_frozen}
 use Rattle.sn_events.specs.Answers.{IsBesideRoot}
-use Rattle.sn_events.specs.Mounted.{in_frozen}
 use Rattle.sn_events.proofs.BeginLemmas.{step_writes}
 use Rattle.sn_fs.specs.Filesystem.{held, with_point}
 use Rattle.sn_fs.proofs.PointedLemmas.{moments_gone, on_gone, runs_gone, tree_gone, world_gone}
@@ -39,9 +37,9 @@ pub advance-requires-clause-stands : goal.advance-requires-clause-stands
 advance-requires-clause-stands g c told = (c.requires.sound.meant c.requires.running told).stands
 
 pub returns-in-Ok-clause-goes_on : goal.returns-in-Ok-clause-goes_on
-returns-in-Ok-clause-goes_on g c told f r =
+returns-in-Ok-clause-goes_on g c told r =
     let fs = c.args.self.now in
-    let old = in_frozen f (held (with_point fs c.args.going)) in
+    let old = held (with_point fs c.args.going) in
     let after = c.advance.new.self in
     let d0 = g.D.Device.disk (device_of fs.blocks) in
     let d1 = g.D.Device.disk (device_of c.advance.new.blocks) in
@@ -50,9 +48,10 @@ returns-in-Ok-clause-goes_on g c told f r =
     let is = c.requires.sound.based c.requires.running in
     let some = step_writes (work_of c.args.going.point) (stage_of c.args.going.point) is.within in
     let e = c.in-Ok.ensures in
+    let whole = g.met.D.Device.whole (device_of c.advance.new.blocks) told in
     let goes : (h : Held) (world : World) (frozen : Tree) → RunsOn (with_disk h d0) world (progress_over (going_of c.args.going) frozen) → LeavesOnly d0 d1 (λ x. IsImage x (settle world)) × RunsOn (record h { disk = d1 }) world (progress_over (going_of after) frozen) =
     e.goes_on told in
-    let world = world_gone d0 d1 s0 status fs.log fs.world fs.room fs.base c.args.going after goes (e.tree told) f r in
+    let world = world_gone d0 d1 s0 status fs.log fs.world fs.room fs.base c.args.going after whole goes (e.tree told) r in
     let writes = ap (λ (s : Status). s.writes) e.counts.done in
     let syncs = ap (λ (s : Status). s.syncs) e.counts.done in
     record {
@@ -60,13 +59,13 @@ returns-in-Ok-clause-goes_on g c told f r =
         going = going_of c.args.going;
         is = refl;
         more = c.requires.more;
-        held = λ i. record old { world = with_frozen f (world i); point = Some (record { work = e.same.0 i; stage = e.onward i; free = e.same.1 i }); disk = d1; status = status };
+        held = λ i. record old { world = world i; point = Some (record { work = e.same.0 i; stage = e.onward i; free = e.same.1 i }); disk = d1; status = status };
         costs = e.counts.done;
       };
       some = (omega (arith, writes, some.0), omega (arith, writes, some.1), omega (arith, syncs, some.2));
-      moments = moments_gone d0 d1 s0 status fs.log fs.world fs.room fs.base c.args.going after goes (e.tree told) f r;
+      moments = moments_gone d0 d1 s0 status fs.log fs.world fs.room fs.base c.args.going after whole goes (e.tree told) r;
       touched = point_apart (work_of c.args.going.point) is.whole fs.base.slot is.slot fs.log.blocks old.disk old.disk _ is.blocks (Touches-start (IsBesideRoot old) old.disk) (e.touched told);
-      runs = on_gone d0 d1 s0 status fs.log fs.world fs.room fs.base c.args.going after goes (e.tree told) f r;
+      runs = on_gone d0 d1 s0 status fs.log fs.world fs.room fs.base c.args.going after whole goes (e.tree told) r;
     }
 
 pub returns-in-Ok-clause-sound : goal.returns-in-Ok-clause-sound
@@ -95,19 +94,20 @@ returns-in-Ok-clause-sound g c =
           let d1 = g.D.Device.disk (device_of c.advance.new.blocks) in
           let s0 = g.D.Device.status (device_of fs.blocks) in
           let status = g.D.Device.status (device_of c.advance.new.blocks) in
+          let whole = g.met.D.Device.whole (device_of c.advance.new.blocks) told in
           let goes : (h : Held) (world : World) (frozen : Tree) → RunsOn (with_disk h d0) world (progress_over (going_of c.args.going) frozen) → LeavesOnly d0 d1 (λ x. IsImage x (settle world)) × RunsOn (record h { disk = d1 }) world (progress_over (going_of after) frozen) =
           e.goes_on told in
           record {
-            over = subst (IsOver fs.world) (sym (tree_gone d0 d1 s0 status fs.log fs.world fs.room fs.base c.args.going after goes (e.tree told) m.runs.frozen m.runs.runs)) m.over;
-            whole = subst (IsWorld version_1) (sym (world_gone d0 d1 s0 status fs.log fs.world fs.room fs.base c.args.going after goes (e.tree told) m.runs.frozen m.runs.runs)) m.whole;
-            runs = runs_gone d0 d1 s0 status fs.log fs.world fs.room fs.base c.args.going after goes (e.tree told) m.runs;
+            over = subst (IsOver fs.world) (sym (tree_gone d0 d1 s0 status fs.log fs.world fs.room fs.base c.args.going after whole goes (e.tree told) m.runs)) m.over;
+            whole = subst (IsWorld version_1) (sym (world_gone d0 d1 s0 status fs.log fs.world fs.room fs.base c.args.going after whole goes (e.tree told) m.runs)) m.whole;
+            runs = runs_gone d0 d1 s0 status fs.log fs.world fs.room fs.base c.args.going after whole goes (e.tree told) m.runs;
             stands = e.stands told;
           };
     }
 
 pub returns-in-Err-clause-goes_on : goal.returns-in-Err-clause-goes_on
-returns-in-Err-clause-goes_on g c told f r =
-    let old = in_frozen f (held (with_point c.args.self.now c.args.going)) in
+returns-in-Err-clause-goes_on g c told r =
+    let old = held (with_point c.args.self.now c.args.going) in
     let is = c.requires.sound.based c.requires.running in
     let some = step_writes (work_of c.args.going.point) (stage_of c.args.going.point) is.within in
     let e = c.in-Err.ensures in (

@@ -18,7 +18,7 @@ pub prepare_change-requires-clause-readable : goal.prepare_change-requires-claus
 prepare_change-requires-clause-readable g c told =
     let fs = c.args.self.now in
     let m = c.requires.sound.meant c.requires.running told in
-    readable (held fs) m.runs (g.met.D.Device.whole (device_of fs.blocks) told) (g.D.Device.status (device_of fs.blocks)).sectors (c.requires.sound.within c.requires.running)
+    (readable (held fs) m.runs (g.met.D.Device.whole (device_of fs.blocks) told) (g.D.Device.status (device_of fs.blocks)).sectors (c.requires.sound.within c.requires.running)).live
 
 pub prepare_change-requires-clause-live : goal.prepare_change-requires-clause-live
 prepare_change-requires-clause-live g c told = (c.requires.sound.meant c.requires.running told).over

@@ -8,15 +8,14 @@ use Rattle.sn_device.specs.Crash.{LeavesOnly}
 use Rattle.sn_held.specs.Held.{Going}
 use Rattle.sn_held.specs.Images.{IsImage}
 use Rattle.sn_held.proofs.EventLemmas.{ready_with}
-use Rattle.sn_live_world.specs.World.{changes_of, world_over}
+use Rattle.sn_live_world.specs.World.{changes_of, world_in}
 use Rattle.sn_model.specs.declared.call.Event.TheVariants.{Restart}
 use Rattle.sn_model.specs.Settling.{settle, settled}
 use Rattle.sn_model.specs.World.{World}
-use Rattle.sn_mount.specs.Recovering.{with_frozen}
 use Rattle.sn_overlay.specs.Overlays.{layer_of, no_changes}
 use Rattle.sn_room.specs.Rooms.{RoomCounts, dropping, fresh}
 use Rattle.sn_events.specs.Dropping.{DropsFiles}
-use Rattle.sn_events.specs.Mounted.{in_frozen, tree_at}
+use Rattle.sn_events.specs.Mounted.{trees_there}
 use Rattle.sn_events.proofs.BasedLemmas.{base_none}
 use Rattle.sn_events.proofs.PointLemmas.{not_device, point_unmade}
 use Rattle.sn_events.proofs.UnmountLemmas.{last, ready_as, settles_twice}
@@ -28,9 +27,9 @@ pub make_point-requires-clause-base : goal.make_point-requires-clause-base
 make_point-requires-clause-base g c = base_none c.args.self.now.going c.args.self.now.log c.args.self.now.base c.requires.between (c.requires.sound.based c.requires.running)
 
 pub returns-in-Ok-clause-points : goal.returns-in-Ok-clause-points
-returns-in-Ok-clause-points g c told f r =
+returns-in-Ok-clause-points g c told r =
     let fs = c.args.self.now in
-    let old = in_frozen f (held fs) in
+    let old = held fs in
     let built = layer_of c.args.changed.now in
     let m = c.requires.sound.meant c.requires.running told in
     let s = c.requires.settled told in
@@ -72,9 +71,9 @@ returns-in-Ok-clause-points g c told f r =
     )
 
 pub returns-in-Err-clause-points : goal.returns-in-Err-clause-points
-returns-in-Err-clause-points g c told f r =
+returns-in-Err-clause-points g c told r =
     let fs = c.args.self.now in
-    let old = in_frozen f (held fs) in
+    let old = held fs in
     let built = layer_of c.args.changed.now in
     let m = c.requires.sound.meant c.requires.running told in
     let s = c.requires.settled told in
@@ -86,10 +85,10 @@ returns-in-Err-clause-points g c told f r =
     let from = record (last old built drops whole r) { room = room } in
     let e = c.in-Err.ensures in
     let disk = g.D.Device.disk (device_of c.make_point.new.blocks) in
-    let new = in_frozen f (held (record fs { blocks = c.make_point.new.blocks; base = c.make_point.new.base; log = c.make_point.new.log })) in
+    let new = held (record fs { blocks = c.make_point.new.blocks; base = c.make_point.new.base; log = c.make_point.new.log }) in
     let base_is = ap (λ (b : PointBase). kept_in b (changes_of fs.world)) e.keeps.0 in
     let parts = with_parts from c.make_point.new.log c.make_point.new.room disk in
-    point_unmade Restart old new (λ same. λ i. with_frozen f (world_over fs.world (tree_at (same i) (e.keeps.0 i).root))) refl refl refl refl base_is built drops c.in-Err.fault (settle old.world) (settles_twice old.world) parts (kept_in c.make_point.new.base no_changes) refl e.stays (e.point told from (settle old.world) ready) (e.touched told) e.costs.cause e.costs.later
+    point_unmade Restart old new (λ same. λ i. world_in fs.world (trees_there (same i) (e.keeps.0 i).root)) refl refl refl refl base_is built drops c.in-Err.fault (settle old.world) (settles_twice old.world) parts (kept_in c.make_point.new.base no_changes) refl e.stays (e.point told from (settle old.world) ready) (e.touched told) e.costs.cause e.costs.later
     (record { writes = e.costs.writes; syncs = e.costs.syncs }) (λ is. e.aged (ap Err is))
 
 pub returns-in-Err-clause-sound : goal.returns-in-Err-clause-sound
@@ -101,9 +100,8 @@ returns-in-Err-clause-sound g c =
     kept_mounted g.D.Device.tells_bytes d0 _ _ _ fs.log c.make_point.new.log fs.world fs.room fs.room fs.base c.make_point.new.base fs.going fs.has_stopped c.stops-self.result c.requires.running e.keeps.0 refl (λ goes_on. e.stays (not_cut goes_on)) e.costs.later.sectors
     (λ goes_on told.
     let m = c.requires.sound.meant c.requires.running told in
-    let f = m.runs.frozen in
-    let old = in_frozen f (held fs) in
-    let r = subst (λ (p : Option Going). RunsWith p old old.world) c.requires.between m.runs.runs in
+    let old = held fs in
+    let r = subst (λ (p : Option Going). RunsWith p old old.world) c.requires.between m.runs in
     let built = layer_of c.args.changed.now in
     let s = c.requires.settled told in
     let drops : DropsFiles old.base old.world.live (record old.base { changed = built }) (settled old.world.live) = record { files = s.files; slot = refl; root = refl; words = refl; gone = s.gone; leads = s.leads } in

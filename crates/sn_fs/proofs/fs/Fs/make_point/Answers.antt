@@ -9,7 +9,7 @@ use Rattle.sn_device.specs.Crash.{LeavesOnly}
 use Rattle.sn_held.specs.Held.{Going, Held, RunsReady}
 use Rattle.sn_held.specs.Images.{IsImage}
 use Rattle.sn_limits.specs.Versions.{version_1}
-use Rattle.sn_live_world.specs.World.{HasDrops, changes_of, world_over}
+use Rattle.sn_live_world.specs.World.{HasDrops, changes_of, world_in}
 use Rattle.sn_log.specs.Positions.{LogPosition}
 use Rattle.sn_model.specs.Settling.{settle}
 use Rattle.sn_model.specs.World.{World}
@@ -19,10 +19,9 @@ use Rattle.sn_overlay.specs.Layers.{Layer}
 use Rattle.sn_overlay.specs.Needs.{need}
 use Rattle.sn_overlay.specs.Overlays.{no_changes}
 use Rattle.sn_room.specs.Rooms.{RoomCounts, fresh}
-use Rattle.sn_events.specs.Mounted.{in_frozen, tree_at}
+use Rattle.sn_events.specs.Mounted.{tree_at, trees_there}
 use Rattle.sn_events.proofs.BasedLemmas.{base_none, based_none, stands_none}
 use Rattle.sn_events.proofs.PointLemmas.{not_device, point_unmade}
-use Rattle.sn_mount.specs.Recovering.{with_frozen}
 use Rattle.sn_fs.specs.Filesystem.{held, tree_of}
 use Rattle.sn_fs.proofs.MountedLemmas.{kept_mounted, unmade_same}
 use Rattle.sn_fs.proofs.PointedLemmas.{moments_pointed, ready_pointed, runs_made, tree_made, world_made, world_pointed}
@@ -32,7 +31,7 @@ pub make_point-requires-clause-base : goal.make_point-requires-clause-base
 make_point-requires-clause-base g c = base_none c.args.self.now.going c.args.self.now.log c.args.self.now.base c.requires.between (c.requires.sound.based c.requires.running)
 
 pub returns-in-Ok-clause-points : goal.returns-in-Ok-clause-points
-returns-in-Ok-clause-points g c told f r =
+returns-in-Ok-clause-points g c told r =
     let fs = c.args.self.now in
     let d0 = g.D.Device.disk (device_of fs.blocks) in
     let d1 = g.D.Device.disk (device_of c.make_point.new.blocks) in
@@ -48,18 +47,18 @@ returns-in-Ok-clause-points g c told f r =
     record {
       between = c.requires.between;
       point = c.requires.between;
-      world = ap (with_frozen f) (world_pointed d0 d1 s0 s1 fs.log c.make_point.new.log fs.world c.replace_root.new.self fs.room c.make_point.new.room fs.base c.make_point.new.base fs.going c.requires.between whole point next.world next.changes f r);
+      world = world_pointed d0 d1 s0 s1 fs.log c.make_point.new.log fs.world c.replace_root.new.self fs.room c.make_point.new.room fs.base c.make_point.new.base fs.going c.requires.between whole point next.world next.changes r;
       none_kept = next.kept;
       none_since = next.since;
       log = e.log;
       room = e.room ∙ ap fresh (sym (ap (λ (x : RoomCounts). x.free) e.room));
       changed = next.changes;
       age = e.age;
-      moments = moments_pointed d0 d1 s0 s1 fs.log c.make_point.new.log fs.world c.replace_root.new.self fs.room c.make_point.new.room fs.base c.make_point.new.base fs.going c.requires.between whole point next.world next.changes f r;
+      moments = moments_pointed d0 d1 s0 s1 fs.log c.make_point.new.log fs.world c.replace_root.new.self fs.room c.make_point.new.room fs.base c.make_point.new.base fs.going c.requires.between whole point next.world next.changes r;
       touched = e.touched told;
       built = changes_of fs.world;
       builds = refl;
-      runs = ready_pointed d0 d1 s0 s1 fs.log c.make_point.new.log fs.world c.replace_root.new.self fs.room c.make_point.new.room fs.base c.make_point.new.base fs.going c.requires.between whole point next.world next.changes f r;
+      runs = ready_pointed d0 d1 s0 s1 fs.log c.make_point.new.log fs.world c.replace_root.new.self fs.room c.make_point.new.room fs.base c.make_point.new.base fs.going c.requires.between whole point next.world next.changes r;
       count = done.0;
       few = subst (λ (l : Layer). done.0 ≤ need fs.base.root.limits l) of_changes done.1;
       gate = done.2;
@@ -97,16 +96,16 @@ returns-in-Ok-clause-sound g c =
     }
 
 pub returns-in-Err-clause-points : goal.returns-in-Err-clause-points
-returns-in-Err-clause-points g c told f r =
+returns-in-Err-clause-points g c told r =
     let fs = c.args.self.now in
-    let old = in_frozen f (held fs) in
+    let old = held fs in
     let e = c.in-Err.ensures in
     let d1 = g.D.Device.disk (device_of c.make_point.new.blocks) in
-    let new = in_frozen f (held (record fs { blocks = c.make_point.new.blocks; base = c.make_point.new.base; log = c.make_point.new.log; room = c.make_point.new.room })) in
+    let new = held (record fs { blocks = c.make_point.new.blocks; base = c.make_point.new.base; log = c.make_point.new.log; room = c.make_point.new.room }) in
     let parts = with_parts old c.make_point.new.log c.make_point.new.room d1 in
     let ready = subst (λ (l : Layer). RunsReady old old.world (kept_in fs.base l)) (sym c.changes.ensures) r in
     let costs = subst (λ (l : Layer). CostsPoint c.make_point.result fs.log.blocks (need fs.base.root.limits l) old.status new.status) c.changes.ensures c.make_point.ensures.costs in
-    point_unmade Step old new (λ same. λ i. with_frozen f (world_over fs.world (tree_at (same i) (e.keeps.0 i).root))) refl refl refl e.keeps.1 (ap (λ (b : PointBase). kept_in b (changes_of fs.world)) e.keeps.0) (changes_of fs.world) refl c.in-Err.fault old.world refl parts (kept_in c.make_point.new.base no_changes) refl e.stays (e.point told old old.world ready) (e.touched told) e.costs.cause e.costs.later
+    point_unmade Step old new (λ same. λ i. world_in fs.world (trees_there (same i) (e.keeps.0 i).root)) refl refl refl e.keeps.1 (ap (λ (b : PointBase). kept_in b (changes_of fs.world)) e.keeps.0) (changes_of fs.world) refl c.in-Err.fault old.world refl parts (kept_in c.make_point.new.base no_changes) refl e.stays (e.point told old old.world ready) (e.touched told) e.costs.cause e.costs.later
     (record { writes = costs.writes; syncs = costs.syncs }) (λ is. e.aged (ap Err is))
 
 pub returns-in-Err-clause-sound : goal.returns-in-Err-clause-sound
@@ -118,7 +117,7 @@ returns-in-Err-clause-sound g c =
     kept_mounted g.D.Device.tells_bytes d0 _ _ _ fs.log c.make_point.new.log fs.world fs.room c.make_point.new.room fs.base c.make_point.new.base fs.going fs.has_stopped c.stops-self.result c.requires.running e.keeps.0 e.keeps.1 (λ goes_on. e.stays (not_cut goes_on)) e.costs.later.sectors
     (λ goes_on told.
     let m = c.requires.sound.meant c.requires.running told in
-    let old = in_frozen m.runs.frozen (held fs) in
-    let r = subst (λ (p : Option Going). RunsWith p old old.world) c.requires.between m.runs.runs in
+    let old = held fs in
+    let r = subst (λ (p : Option Going). RunsWith p old old.world) c.requires.between m.runs in
     let ready = subst (λ (l : Layer). RunsReady old old.world (kept_in fs.base l)) (sym c.changes.ensures) r in
     unmade_same c.in-Err.fault (not_cut goes_on) old.world d0 _ _ (e.point told old old.world ready)) c.requires.sound

@@ -24,7 +24,7 @@ returns-in-Err-clause-answered g c told =
     let stopped = has_stopped c.make_point.new.self in
     let fault = c.in-Err.fault in
     let lacks = c.in_default.ensures.served told in
-    let points = subst (λ (x : Held). Points (Err fault) x new) lacks.1 (c.in-Err.ensures.points told h.world) in
+    let points = subst (λ (x : Held). Points (Err fault) x new) lacks.1 (c.in-Err.ensures.points told) in
     let a = call_unpointed h new c.args.session c.args.call.now fault lacks.2 (c.requires.sound.meant c.requires.running told).whole c.requires.between lacks.0 points in
     subst (λ (r : Reply). Answers e r h false new stopped) (sym (c.refused.ensures ∙ ap refused c.errno_of.ensures))
     (subst (λ (b : Bool). Answers e (refused (errno_of_point fault)) h false new b) (sym c.in-Err.ensures.stopped) a)
@@ -35,7 +35,7 @@ returns-in-Some-serve-clause-answered g c told =
     let mid = held c.make_point.new.self in
     let new = c.serve-2.new.self in
     let lacks = c.in_default.ensures.served told in
-    let points = subst (λ (x : Held). Points (Ok tt) x mid) lacks.1 (c.in_default-make_point.ensures.points told h.world) in
+    let points = subst (λ (x : Held). Points (Ok tt) x mid) lacks.1 (c.in_default-make_point.ensures.points told) in
     call_behind h mid (held new) c.args.session c.args.call.now c.in-Some-serve.reply (has_stopped new) c.requires.between lacks.0 points (c.in-Some-serve.ensures.served told)
 
 pub returns-in-None-clause-answered : goal.returns-in-None-clause-answered
@@ -46,7 +46,7 @@ returns-in-None-clause-answered g c told =
     let new = held c.serve-2.new.self in
     let stopped = has_stopped c.serve-2.new.self in
     let lacks = c.in_default.ensures.served told in
-    let points = subst (λ (x : Held). Points (Ok tt) x mid) lacks.1 (c.in_default-make_point.ensures.points told h.world) in
+    let points = subst (λ (x : Held). Points (Ok tt) x mid) lacks.1 (c.in_default-make_point.ensures.points told) in
     let whole = (c.make_point.ensures.sound.meant c.in_default-make_point.ensures.stopped told).whole in
     let a = call_without_room c.payloads_fit.ensures h mid new c.args.session c.args.call.now whole c.requires.between lacks.0 points (c.in-None.ensures.served told) in
     subst (λ (r : Reply). Answers e r h false new stopped) (sym c.refused-in-None.ensures) (subst (λ (b : Bool). Answers e (refused Enospc) h false new b) (sym c.in-None.ensures.running) a)

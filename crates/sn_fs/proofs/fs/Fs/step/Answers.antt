@@ -21,7 +21,7 @@ returns-in-Ok-clause-answered g c told =
     let h = held c.args.self.now in
     let new = held c.advance.new.self in
     subst (λ (b : Bool). Answers Step (Progress c.in-Ok.progress) h b new (has_stopped c.advance.new.self)) (sym c.if-self.false)
-    (subst (λ (b : Bool). Answers Step (Progress c.in-Ok.progress) h false new b) (sym c.in-Ok.ensures.stopped) (step_answers h new c.in-Ok.progress (c.in-Ok.ensures.advances told h.world)))
+    (subst (λ (b : Bool). Answers Step (Progress c.in-Ok.progress) h false new b) (sym c.in-Ok.ensures.stopped) (step_answers h new c.in-Ok.progress (c.in-Ok.ensures.advances told)))
 
 pub returns-in-Err-clause-answered : goal.returns-in-Err-clause-answered
 returns-in-Err-clause-answered g c told =
@@ -29,4 +29,4 @@ returns-in-Err-clause-answered g c told =
     let new = held c.advance.new.self in
     subst (λ (r : Reply). Answers Step r h c.args.self.now.has_stopped new (has_stopped c.advance.new.self)) (sym (c.refused-in-Err.ensures ∙ ap refused c.errno_of.ensures))
     (subst (λ (b : Bool). Answers Step (refused (errno_of_point c.in-Err.fault)) h b new (has_stopped c.advance.new.self)) (sym c.if-self.false)
-    (subst (λ (b : Bool). Answers Step (refused (errno_of_point c.in-Err.fault)) h false new b) (sym c.in-Err.ensures.stopped) (step_refused h new c.in-Err.fault (c.in-Err.ensures.advances told h.world))))
+    (subst (λ (b : Bool). Answers Step (refused (errno_of_point c.in-Err.fault)) h false new b) (sym c.in-Err.ensures.stopped) (step_refused h new c.in-Err.fault (c.in-Err.ensures.advances told))))

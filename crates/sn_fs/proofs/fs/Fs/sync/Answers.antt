@@ -31,7 +31,7 @@ returns-in-Err-finish-clause-answered g c told =
     let stopped = has_stopped c.finish.new.self in
     let fault = c.in-Err-finish.fault in
     let asked : AsksFirst h c.args.session c.args.call.now = record { asks = c.requires.asks; outcome = c.in-Ok.outcome; decided = c.in-Ok.ensures.decided told } in
-    let finishes = subst (λ (x : Held). Finishes (Err fault) x new) (c.in-Ok.ensures.quiet told) (c.in-Err-finish.ensures.finishes told h.world) in
+    let finishes = subst (λ (x : Held). Finishes (Err fault) x new) (c.in-Ok.ensures.quiet told) (c.in-Err-finish.ensures.finishes told) in
     subst (λ (r : Reply). Answers e r h c.args.self.now.has_stopped new stopped) (sym (c.refused.ensures ∙ ap refused c.errno_of.ensures))
     (subst (λ (b : Bool). Answers e (refused (errno_of_point fault)) h b new stopped) (sym c.requires.running)
     (subst (λ (b : Bool). Answers e (refused (errno_of_point fault)) h false new b) (sym c.in-Err-finish.ensures.stopped)
@@ -45,10 +45,10 @@ returns-in-Ok-make_point-clause-answered g c told =
     let new = held c.make_point.new.self in
     let o = c.in-Ok.outcome in
     let asked : AsksFirst h c.args.session c.args.call.now = record { asks = c.requires.asks; outcome = o; decided = c.in-Ok.ensures.decided told } in
-    let finishes = subst (λ (x : Held). Finishes (Ok tt) x fin) (c.in-Ok.ensures.quiet told) (c.in_default.ensures.finishes told h.world) in
+    let finishes = subst (λ (x : Held). Finishes (Ok tt) x fin) (c.in-Ok.ensures.quiet told) (c.in_default.ensures.finishes told) in
     subst (λ (b : Bool). Answers e o.told h b new (has_stopped c.make_point.new.self)) (sym c.requires.running)
     (subst (λ (b : Bool). Answers e o.told h false new b) (sym c.in-Ok-make_point.ensures.stopped)
-    (asked_behind h fin new c.args.session c.args.call.now asked (c.requires.sound.meant c.requires.running told).whole finishes (c.in-Ok-make_point.ensures.points told h.world)))
+    (asked_behind h fin new c.args.session c.args.call.now asked (c.requires.sound.meant c.requires.running told).whole finishes (c.in-Ok-make_point.ensures.points told)))
 
 pub returns-in-Err-make_point-clause-answered : goal.returns-in-Err-make_point-clause-answered
 returns-in-Err-make_point-clause-answered g c told =
@@ -59,8 +59,8 @@ returns-in-Err-make_point-clause-answered g c told =
     let stopped = has_stopped c.make_point.new.self in
     let fault = c.in-Err-make_point.fault in
     let asked : AsksFirst h c.args.session c.args.call.now = record { asks = c.requires.asks; outcome = c.in-Ok.outcome; decided = c.in-Ok.ensures.decided told } in
-    let finishes = subst (λ (x : Held). Finishes (Ok tt) x fin) (c.in-Ok.ensures.quiet told) (c.in_default.ensures.finishes told h.world) in
+    let finishes = subst (λ (x : Held). Finishes (Ok tt) x fin) (c.in-Ok.ensures.quiet told) (c.in_default.ensures.finishes told) in
     subst (λ (r : Reply). Answers e r h c.args.self.now.has_stopped new stopped) (sym (c.refused-in-Err-make_point.ensures ∙ ap refused c.errno_of-in-Err-make_point.ensures))
     (subst (λ (b : Bool). Answers e (refused (errno_of_point fault)) h b new stopped) (sym c.requires.running)
     (subst (λ (b : Bool). Answers e (refused (errno_of_point fault)) h false new b) (sym c.in-Err-make_point.ensures.stopped)
-    (asked_unpointed h fin new c.args.session c.args.call.now fault asked (c.requires.sound.meant c.requires.running told).whole finishes (c.in-Err-make_point.ensures.points told h.world))))
+    (asked_unpointed h fin new c.args.session c.args.call.now fault asked (c.requires.sound.meant c.requires.running told).whole finishes (c.in-Err-make_point.ensures.points told))))

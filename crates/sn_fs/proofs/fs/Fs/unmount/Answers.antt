@@ -13,11 +13,11 @@ returns-then-fs-clause-refused g c told running = absurd (true≢false (sym c.if
 
 -- the point in progress was cut off
 pub returns-in-Err-clause-refused : goal.returns-in-Err-clause-refused
-returns-in-Err-clause-refused g c told running = record { fault = c.in-Err.fault; told = c.errno_of.ensures; stops = c.in-Err.ensures.stopped; unpointed = λ r. inl (c.in-Err.ensures.finishes told (held c.args.self).world r) }
+returns-in-Err-clause-refused g c told running = record { fault = c.in-Err.fault; told = c.errno_of.ensures; stops = c.in-Err.ensures.stopped; unpointed = λ r. inl (c.in-Err.ensures.finishes told r) }
 
 pub returns-in_default-settled_changes-clause-refused : goal.returns-in_default-settled_changes-clause-refused
 returns-in_default-settled_changes-clause-refused g c told running =
-    record { fault = point.Memory; told = refl; stops = c.in_default.ensures.stopped; unpointed = λ r. inr (held c.finish.new.self, c.in_default.ensures.finishes told (held c.args.self).world r, refl) }
+    record { fault = point.Memory; told = refl; stops = c.in_default.ensures.stopped; unpointed = λ r. inr (held c.finish.new.self, c.in_default.ensures.finishes told r, refl) }
 
 pub returns-in-Ok-made-clause-unmounted : goal.returns-in-Ok-made-clause-unmounted
 returns-in-Ok-made-clause-unmounted g c told =
@@ -26,8 +26,8 @@ returns-in-Ok-made-clause-unmounted g c told =
     let new = held c.make_last_point-made.new.self in
     subst (λ (s : Status). HasUnmounted old (g.D.Device.disk c.into_device.result) s) (sym c.into_device.ensures.status)
     (subst (λ (d : Disk). HasUnmounted old d new.status) (sym c.into_device.ensures.disk) (λ r.
-    let so = c.in_default.ensures.finishes told old.world r in
-    let made = c.in-Ok-made.ensures.points told old.world (is_fin old fin so r).ready in
+    let so = c.in_default.ensures.finishes told r in
+    let made = c.in-Ok-made.ensures.points told (is_fin old fin so r).ready in
     record { fin = fin; finish = so; mid = made.0; pointed = made.1; disk_is = made.2; status_is = made.3 }))
 
 pub returns-in-Err-made-clause-refused : goal.returns-in-Err-made-clause-refused
@@ -38,5 +38,5 @@ returns-in-Err-made-clause-refused g c told running =
       fault = c.in-Err-made.fault;
       told = c.errno_of-in-Err-made.ensures;
       stops = c.in-Err-made.ensures.stopped;
-      unpointed = λ r. let so = c.in_default.ensures.finishes told old.world r in inr (fin, so, c.in-Err-made.ensures.points told old.world (is_fin old fin so r).ready);
+      unpointed = λ r. let so = c.in_default.ensures.finishes told r in inr (fin, so, c.in-Err-made.ensures.points told (is_fin old fin so r).ready);
     }
