@@ -1,0 +1,24 @@
+#!/bin/bash
+# Times calls that only read, over a device in memory, where each reads what it needs of the root through the cache, beside the
+# same calls in the tree in memory. Run by hand.
+#
+# Prints what a stat of a path of eight names costs, and a read of 64 KiB with the seek before it, whose blocks are in the cache;
+# each beside the tree in memory, and the read beside two copies of as many bytes. Each time is the least of twenty runs, without
+# that of a run that makes none. The C library keeps the memory that a run frees, as in `bench/files.sh`.
+set -eu
+top=$(cd "$(dirname "$0")/.." && pwd)
+work=$(mktemp -d)
+trap 'rm -rf "$work"' EXIT
+"$top/bench/program.py" measure_runs
+
+MALLOC_TRIM_THRESHOLD_=4294967296 MALLOC_TOP_PAD_=268435456 MALLOC_MMAP_THRESHOLD_=33554432 \
+    "$top/bench/out/measure_runs" reads > "$work/times"
+awk '{ device[$1, $2] = $3; memory[$1, $2] = $4 } END {
+    walk = (device["walks", 1000] - device["walks", 0]) / 1000
+    plain = (memory["walks", 1000] - memory["walks", 0]) / 1000
+    printf "a walk of eight names: %.2f us, %.1f of one in the tree in memory (%.2f us)\n", walk / 1000, walk / plain, plain / 1000
+    read = (device["reads", 100] - device["reads", 0]) / 100
+    plain = (memory["reads", 100] - memory["reads", 0]) / 100
+    copy = device["copies", 400] / 400
+    printf "a read of 64 KiB: %.1f us, %.2f of two copies, %.1f of one in the tree in memory (%.1f us)\n", read / 1000, read / (2 * copy), read / plain, plain / 1000
+}' "$work/times"
