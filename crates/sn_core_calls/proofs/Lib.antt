@@ -1,1 +1,1 @@
-pub mod SnapshotLemmas
+pub mod DecidedLemmas

@@ -12,8 +12,7 @@ use sn_core_decide::{
 };
 use sn_limits::{Kind, Limits};
 use sn_model::{
-    AskedPoint, Bytes, Caller, Change, Errno, Moving, Outcome, PathNumber, Pending, Refusal, Reply,
-    Session,
+    Bytes, Caller, Change, Errno, Moving, Outcome, PathNumber, Pending, Refusal, Reply, Session,
 };
 use sn_walk::{Attributes, Failure, Found, Object, Path, TreeView, reached};
 
@@ -257,7 +256,6 @@ pub fn rename<'a, V: MoveView>(
             change: Pending::Nothing,
             caller: Caller::Stays,
             told: Reply::Done,
-            point: AskedPoint::Unasked,
         });
     }
     moved(limits, view, caller, old, new, &moving)
