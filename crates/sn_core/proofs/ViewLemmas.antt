@@ -17,10 +17,10 @@ use Rattle.sn_model.specs.World.{World, tree_in, viewed_if, viewed_trees}
 use Rattle.sn_desc.specs.Sessions.{in_use_of}
 use Rattle.sn_numbers.specs.declared.live.LiveTree.{LiveTree}
 use Rattle.sn_numbers.specs.Live.{live_of}
-use Rattle.sn_core_calls.specs.declared.fault.CallError.{CallError}
-use Rattle.sn_core_calls.specs.declared.fault.CallError.TheVariants.{Refused, Memory, View}
-use Rattle.sn_core_calls.specs.Decided as calls
-use Rattle.sn_core_calls.specs.Shown.{Shows, bytes_in}
+use Rattle.sn_core_files.specs.declared.fault.CallError.{CallError}
+use Rattle.sn_core_files.specs.declared.fault.CallError.TheVariants.{Refused, Memory, View}
+use Rattle.sn_core_files.specs.Decided as calls
+use Rattle.sn_core_files.specs.Shown.{Shows, bytes_in}
 use Rattle.sn_core.specs.declared.view.PlainView.{PlainView}
 use Rattle.sn_core.specs.declared.world.PlainWorld.{PlainWorld}
 use Rattle.sn_core.specs.Plain.{plain_trees, world_of}

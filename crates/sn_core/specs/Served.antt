@@ -19,8 +19,8 @@ use Rattle.sn_model.specs.Steps.{Becomes, TakesMemory, decision, filled, with_li
 use Rattle.sn_plain.specs.declared.fault.ApplyError.{ApplyError}
 use Rattle.sn_plain.specs.declared.fault.ApplyError.TheVariants as lack
 use Rattle.sn_numbers.specs.Numbers.{next_number}
-use Rattle.sn_core_calls.specs.declared.fault.CallError as calls
-use Rattle.sn_core_calls.specs.declared.fault.CallError.TheVariants as undecided
+use Rattle.sn_core_files.specs.declared.fault.CallError as calls
+use Rattle.sn_core_files.specs.declared.fault.CallError.TheVariants as undecided
 use Rattle.sn_core.specs.Numbering.{Numbers}
 use Rattle.sn_core.specs.PlainRuns.{Numbered}
 use Rattle.sn_core.specs.declared.choosing.Chosen.{Chosen}

@@ -1,7 +1,7 @@
 ghost use Rattle.std.specs.Prelude.{◌≡◌};
 ghost use Rattle.sn_core.specs.declared.fault.CallError.TheVariants.{Memory, Refused};
 
-use sn_core_calls as calls;
+use sn_core_files as calls;
 use sn_model::Refusal;
 use std::alloc::AllocError;
 use std::convert::Infallible;

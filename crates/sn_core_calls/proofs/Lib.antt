@@ -1,1 +1,1 @@
-pub mod DecidedLemmas
+pub mod SnapshotLemmas

@@ -5,59 +5,35 @@ ghost use Rattle.sn_limits.specs.Versions.{version_1};
 ghost use Rattle.sn_model.specs.Calls.{new_session};
 ghost use Rattle.sn_model.specs.Outcomes.{opens};
 ghost use Rattle.sn_model.specs.Steps.{decision};
-ghost use Rattle.sn_model.specs.Tests.{logged_in, logged_out};
 ghost use Rattle.sn_model.specs.World.{World};
 ghost use Rattle.sn_model.specs.Worlds.{IsCall};
 ghost use Rattle.sn_walk.specs.Gives.{Answers};
 ghost use Rattle.sn_desc.specs.InUse.{in_world};
 ghost use Rattle.sn_desc.specs.Sessions.{in_use_of};
-ghost use Rattle.sn_core_calls.specs.Decided.{Decides, DecidesShown};
-ghost use Rattle.sn_core_calls.specs.Faults.{IfView, answer_of};
-ghost use Rattle.sn_core_calls.specs.Shown.{Shows, alone};
+ghost use Rattle.sn_core_files.specs.Decided.{Decides, DecidesShown};
+ghost use Rattle.sn_core_files.specs.Faults.{IfView};
+ghost use Rattle.sn_core_files.specs.Shown.{Shows};
 
-use crate::deciding_files::{
-    decide_close, decide_ftruncate, decide_logout, decide_open, decide_read, decide_seek,
-    decide_sync, decide_unlink, decide_write,
-};
 use crate::deciding_names::{decide_link, decide_readdir, decide_rename, decide_rmdir};
-use crate::fault::CallError;
-use crate::view::FileView;
+use crate::deciding_snapshots::{
+    decide_snap_create, decide_snap_delete, decide_snap_list, decide_sync,
+};
 use sn_acl::{Cred, Mode, Permissions};
 use sn_core_decide as decide;
 use sn_core_decide::{
     acl_argument, id_argument, mode_bits_argument, new_mode_argument, path_argument,
 };
+use sn_core_files::{
+    CallError, FileView, decide_close, decide_ftruncate, decide_logout, decide_open, decide_read,
+    decide_seek, decide_unlink, decide_write, decided, logged_in, logged_out,
+};
 use sn_desc::Sessions;
 use sn_limits::Limits;
 use sn_model::{
-    Access, AclKind, Call, Caller, Groups, Outcome, Pending, Refusal, Reply, Session, StoredAcl,
-    Word,
+    Access, AclKind, AskedPoint, Call, Caller, Groups, Outcome, Pending, Refusal, Reply, Session,
+    StoredAcl, Word,
 };
-use sn_walk::Failure;
 use std::alloc::Global;
-
-/// What was decided, as what a call comes to.
-pub(crate) fn decided<'a, F>(
-    outcome: Result<Outcome<'a>, Failure<Refusal, F>>,
-) -> Result<Outcome<'a>, CallError<F>>
-    ensures { result ≡ answer_of outcome.entry }
-{
-    Ok(outcome?)
-}
-
-/// The session with this number, which has to be logged in.
-pub(crate) fn logged_in(sessions: &Sessions, session: u32) -> Result<&Session, Refusal>
-    ensures { Answers (λ s. s.now) result (logged_in (alone (in_use_of sessions.now)) session) }
-{
-    sessions.logged_in(session)
-}
-
-/// Whether nobody is logged in under this number.
-fn logged_out(sessions: &Sessions, session: u32) -> Result<(), Refusal>
-    ensures { result ≡ logged_out (alone (in_use_of sessions.now)) session }
-{
-    sessions.logged_out(session)
-}
 
 /// What a login comes to.
 fn login(uid: u32, gid: u32, groups: &Groups) -> Outcome<'static>
@@ -77,6 +53,7 @@ fn login(uid: u32, gid: u32, groups: &Groups) -> Outcome<'static>
             },
         }),
         told: Reply::Done,
+        point: AskedPoint::Unasked,
     }
 }
 
@@ -211,6 +188,7 @@ fn decide_getacl<V: FileView>(
         change: Pending::Nothing,
         caller: Caller::Stays,
         told,
+        point: AskedPoint::Unasked,
     })
 }
 
@@ -285,6 +263,9 @@ fn decide_shown<'a, V: FileView>(
         Call::Seek { fd, offset } => Ok(decide_seek(sessions, session, *fd, *offset)?),
         Call::Ftruncate { fd, size } => Ok(decide_ftruncate(sessions, session, *fd, *size)?),
         Call::Sync => Ok(decide_sync(sessions, session)?),
+        Call::SnapCreate { name } => decide_snap_create(alloc, view, sessions, session, name),
+        Call::SnapDelete { name } => decide_snap_delete(view, sessions, session, name),
+        Call::SnapList => decide_snap_list(alloc, view, sessions, session),
     }
 }
 

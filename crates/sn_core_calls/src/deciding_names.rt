@@ -2,17 +2,15 @@
 ghost use Rattle.std.specs.Prelude.{◌≡◌, IsTrue};
 ghost use Rattle.sn_model.specs.declared.call.Call.TheVariants as call;
 ghost use Rattle.sn_desc.specs.Sessions.{in_use_of};
-ghost use Rattle.sn_core_calls.specs.Decided.{DecidesShown};
-ghost use Rattle.sn_core_calls.specs.Faults.{IfView};
+ghost use Rattle.sn_core_files.specs.Decided.{DecidesShown};
+ghost use Rattle.sn_core_files.specs.Faults.{IfView};
 
-use crate::deciding::{decided, logged_in};
-use crate::fault::CallError;
-use crate::view::FileView;
 use sn_core_decide::path_argument;
+use sn_core_files::{CallError, FileView, decided, logged_in};
 use sn_core_names as decide;
 use sn_desc::Sessions;
 use sn_limits::Limits;
-use sn_model::{Caller, Outcome, Pending, Reply, Word};
+use sn_model::{AskedPoint, Caller, Outcome, Pending, Reply, Word};
 use std::alloc::Global;
 
 pub(crate) fn decide_rmdir<'a, V: FileView>(
@@ -96,5 +94,6 @@ pub(crate) fn decide_readdir<V: FileView>(
         change: Pending::Nothing,
         caller: Caller::Stays,
         told: Reply::Names(names),
+        point: AskedPoint::Unasked,
     })
 }

@@ -8,8 +8,8 @@ use crate::rights::{by_owner, full, granted, has_acl, live, live_if, to_group, t
 use sn_acl::{Acl, Cred, Mode};
 use sn_limits::{Kind, Limits};
 use sn_model::{
-    Access, AclKind, Caller, Change, ModeBits, NewAcl, Outcome, Ownership, PathNumber, Pending,
-    Refusal, Reply, Session,
+    Access, AclKind, AskedPoint, Caller, Change, ModeBits, NewAcl, Outcome, Ownership, PathNumber,
+    Pending, Refusal, Reply, Session,
 };
 use sn_walk::{Attributes, Failure, Found, Object, Path, TreeView};
 
@@ -121,6 +121,7 @@ fn sets(limits: &Limits, number: u16, ownership: Ownership) -> Outcome<'static>
         change: Pending::Does(Change::SetAttributes { number, ownership }),
         caller: Caller::Stays,
         told: Reply::Done,
+        point: AskedPoint::Unasked,
     }
 }
 
@@ -133,6 +134,7 @@ pub fn umask(caller: &Session, mask: Mode) -> Outcome<'static>
         change: Pending::Nothing,
         caller: Caller::SetsUmask(mask),
         told: Reply::Mode(caller.umask),
+        point: AskedPoint::Unasked,
     }
 }
 
@@ -222,6 +224,7 @@ pub fn access<V: TreeView>(
         change: Pending::Nothing,
         caller: Caller::Stays,
         told: Reply::Done,
+        point: AskedPoint::Unasked,
     })
 }
 

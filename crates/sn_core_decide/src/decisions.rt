@@ -9,7 +9,8 @@ use crate::view::CallView;
 use sn_acl::{Acl, Inherited, Mode, inherit};
 use sn_limits::{Kind, Limits};
 use sn_model::{
-    Bytes, Caller, FileStatus, Outcome, Ownership, PathNumber, Pending, Refusal, Reply, Session,
+    AskedPoint, Bytes, Caller, FileStatus, Outcome, Ownership, PathNumber, Pending, Refusal, Reply,
+    Session,
 };
 use sn_walk::{Attributes, Failure, Path, TreeView};
 
@@ -68,6 +69,7 @@ pub fn mkdir<'a, V: CallView>(
         },
         caller: Caller::Stays,
         told: Reply::Done,
+        point: AskedPoint::Unasked,
     })
 }
 
@@ -107,5 +109,6 @@ pub fn stat<'a, V: TreeView>(
         change: Pending::Nothing,
         caller: Caller::Stays,
         told: Reply::Status(status_of(found.object.number(), &found.attributes)),
+        point: AskedPoint::Unasked,
     })
 }

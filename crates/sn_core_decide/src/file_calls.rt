@@ -17,8 +17,8 @@ use crate::view::CallView;
 use sn_acl::{Acl, Inherited, Mode, inherit};
 use sn_limits::{Kind, Limits};
 use sn_model::{
-    Access, Bytes, Caller, Change, Errno, OpenFlags, Outcome, Ownership, PathNumber, Pending,
-    Refusal, Reply, Session,
+    Access, AskedPoint, Bytes, Caller, Change, Errno, OpenFlags, Outcome, Ownership, PathNumber,
+    Pending, Refusal, Reply, Session,
 };
 use sn_walk::{Attributes, Failure, Found, Home, Object, Path, TreeView, reached};
 
@@ -75,6 +75,7 @@ fn opens_there(
             change: Pending::Does(Change::SetSize { number, size: 0 }),
             caller,
             told,
+            point: AskedPoint::Unasked,
         };
     }
     Outcome {
@@ -82,6 +83,7 @@ fn opens_there(
         change: Pending::Nothing,
         caller,
         told,
+        point: AskedPoint::Unasked,
     }
 }
 
@@ -170,6 +172,7 @@ fn open_in<'a, V: CallView>(
         },
         caller: Caller::OpensNew { fd, flags },
         told: Reply::Number(u64::from(fd)),
+        point: AskedPoint::Unasked,
     })
 }
 
@@ -250,6 +253,7 @@ fn unlink_in<'a, V: TreeView>(
         }),
         caller: Caller::Stays,
         told: Reply::Done,
+        point: AskedPoint::Unasked,
     })
 }
 

@@ -33,7 +33,7 @@ pub use charges::{name_charge, rename_charge, size_charge, unlink_charge};
 pub use decisions::{mkdir, stat};
 pub use file_calls::{open, unlink};
 pub use rights::{
-    by_owner, full, granted, has_acl, live, live_if, no_directory, not_present, one_tree,
-    parent_of, prefix, sticky, there, to_group, to_owner, writable_parent,
+    by_owner, forbidden, full, granted, has_acl, live, live_if, no_directory, not_present,
+    one_tree, parent_of, prefix, sticky, there, to_group, to_owner, writable_parent,
 };
 pub use view::CallView;

@@ -33,7 +33,7 @@ fn denied(path: PathNumber, place: u16, want: Access, tag: Tag) -> Refusal
 }
 
 /// A rule that is no entry of an ACL denies at a place.
-fn forbidden(path: PathNumber, place: u16, rule: Rule) -> Refusal
+pub fn forbidden(path: PathNumber, place: u16, rule: Rule) -> Refusal
     ensures { result ≡ tests.forbidden path place rule }
 {
     Refusal {

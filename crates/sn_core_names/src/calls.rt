@@ -11,7 +11,8 @@ use sn_core_decide::{
 };
 use sn_limits::{Kind, Limits};
 use sn_model::{
-    Access, Bytes, Caller, Change, Errno, Outcome, PathNumber, Pending, Refusal, Reply, Session,
+    Access, AskedPoint, Bytes, Caller, Change, Errno, Outcome, PathNumber, Pending, Refusal, Reply,
+    Session,
 };
 use sn_walk::{Failure, Found, Object, Path, Walked};
 
@@ -73,6 +74,7 @@ pub(crate) fn does(charge: u64, change: Change<'_>) -> Outcome<'_>
         change: Pending::Does(change),
         caller: Caller::Stays,
         told: Reply::Done,
+        point: AskedPoint::Unasked,
     }
 }
 

@@ -12,7 +12,8 @@ use sn_core_decide::{
 };
 use sn_limits::{Kind, Limits};
 use sn_model::{
-    Bytes, Caller, Change, Errno, Moving, Outcome, PathNumber, Pending, Refusal, Reply, Session,
+    AskedPoint, Bytes, Caller, Change, Errno, Moving, Outcome, PathNumber, Pending, Refusal, Reply,
+    Session,
 };
 use sn_walk::{Attributes, Failure, Found, Object, Path, TreeView, reached};
 
@@ -256,6 +257,7 @@ pub fn rename<'a, V: MoveView>(
             change: Pending::Nothing,
             caller: Caller::Stays,
             told: Reply::Done,
+            point: AskedPoint::Unasked,
         });
     }
     moved(limits, view, caller, old, new, &moving)

@@ -17,7 +17,7 @@ use Rattle.sn_model.specs.Machine.{State, Mishap, Memory, Read, Write, Space, Ag
 use Rattle.sn_model.specs.Settling.{dropped}
 use Rattle.sn_model.specs.Steps.{decision, with_caller}
 use Rattle.sn_limits.specs.Versions.{version_1}
-use Rattle.sn_core_calls.specs.Decided.{MayLack}
+use Rattle.sn_core_files.specs.Decided.{MayLack}
 use Rattle.sn_model.specs.Worlds.{IsCall}
 use Rattle.sn_core.specs.Numbering.{gives_kept, has_closed}
 use Rattle.sn_overlay.specs.Needs.{nameless_in}

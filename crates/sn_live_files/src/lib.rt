@@ -7,7 +7,7 @@
 //! with its number. Through an overlay these are the ones that changed, merged with those below in one pass, and
 //! below nothing is asked of a directory that is gone or was made anew.
 //!
-//! Memory for an answer is told apart from the tree's own fault (`FileFault` of `sn_core_calls`).
+//! Memory for an answer is told apart from the tree's own fault (`FileFault` of `sn_core_files`).
 //!
 //! The way through it:
 //!

@@ -1,4 +1,4 @@
-use sn_core_calls::FileFault;
+use sn_core_files::FileFault;
 use sn_model::Link;
 use sn_overlay::Below;
 use std::alloc::Global;
@@ -6,7 +6,7 @@ use std::alloc::Global;
 /// A tree below an overlay that lists the names of a directory.
 pub trait ListsNames: Below {
     ghost use Rattle.std.specs.Prelude.{◌≡◌, IsTrue, IfOk};
-    ghost use Rattle.sn_core_calls.specs.Faults.{IfLookUp};
+    ghost use Rattle.sn_core_files.specs.Faults.{IfLookUp};
     ghost use Rattle.sn_live_files.specs.Listing.{links_of};
 
     /// The names of a directory in the order of their bytes, each with its number: none where the number isn't a

@@ -1,5 +1,5 @@
 use crate::ListsNames;
-use sn_core_calls::FileFault;
+use sn_core_files::FileFault;
 use sn_directories::{KeepsNames, LoggedTree};
 use sn_model::Link;
 use std::alloc::Global;

@@ -4,7 +4,7 @@ ghost use Rattle.sn_overlay.specs.Layers.{hides_names};
 
 use crate::ListsNames;
 use crate::merge::merged;
-use sn_core_calls::FileFault;
+use sn_core_files::FileFault;
 use sn_model::Link;
 use sn_overlay::{NodeChange, Through};
 use std::alloc::Global;

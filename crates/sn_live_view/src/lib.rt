@@ -10,7 +10,7 @@
 //! (`IsNumbered`); then each answer is the one that the model has. A fault is the tree's.
 //!
 //! Where the tree lists names too (`ListsNames` of `sn_live_files`), it is a view that calls are decided over
-//! (`FileView` of `sn_core_calls`): its files are read, and its directories listed.
+//! (`FileView` of `sn_core_files`): its files are read, and its directories listed.
 //!
 //! The way through it: `specs/Live` says which trees are seen, and when a table belongs to one; `reads` has what
 //! is made of one look-up, and `view` and `files` the view, [`LiveView`]. `deciding` decides a call over a live tree

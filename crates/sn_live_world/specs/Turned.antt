@@ -3,7 +3,7 @@ use Rattle.std.specs.Prelude.{◌≡◌, ℕ, Bool, List, Option, None, Some, Re
 use Rattle.sn_changed.specs.Dropped.{LeadsOn, TellsGone}
 use Rattle.sn_changed.specs.declared.dropped.DroppedFile.{DroppedFile}
 use Rattle.sn_core.specs.Called.{CanTurn}
-use Rattle.sn_core_calls.specs.Decided.{MayLack}
+use Rattle.sn_core_files.specs.Decided.{MayLack}
 use Rattle.sn_limits.specs.Versions.{version_1}
 use Rattle.sn_live_world.specs.World.{IsOver, changes_of, descriptors_of, room_of, tree_over, world_over}
 use Rattle.sn_live_world.specs.declared.choosing.Picked.{Picked}

@@ -1,7 +1,7 @@
 //! What calls come to over the trees of a root on a device.
 ghost use Rattle.std.specs.Prelude.{◌≡◌, IsTrue, IfErr, IfNone, IfOk, IfSome};
 ghost use Rattle.sn_block.specs.Lending.{device_of};
-ghost use Rattle.sn_core_calls.specs.Decided.{MayLack};
+ghost use Rattle.sn_core_files.specs.Decided.{MayLack};
 ghost use Rattle.sn_live_world.specs.Faults.{CountsCall};
 ghost use Rattle.sn_live_world.specs.Turned.{Decides};
 ghost use Rattle.sn_live_world.specs.declared.fault.CallFault.TheVariants.{Read};
@@ -11,7 +11,7 @@ ghost use Rattle.sn_rooted.specs.Roots.{AreSound, store_on, tree_on, trees_at};
 use crate::LiveWorld;
 use crate::fault::{CallFault, look_fault_of};
 use sn_block::Blocks;
-use sn_core_calls::CallError;
+use sn_core_files::CallError;
 use sn_device::Device;
 use sn_layout::RootBody;
 use sn_live_view::{decide_live, decide_unread};

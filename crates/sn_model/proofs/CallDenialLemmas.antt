@@ -28,6 +28,8 @@ use Rattle.sn_model.specs.Denials.{IsDenied, path_of}
 use Rattle.sn_model.specs.Steps.{decision}
 use Rattle.sn_model.specs.Tests.{plain, flat, session_at, is_open, is_free, logged_in, logged_out, read_path, path_argument, mode_from_bits, new_mode_argument}
 use Rattle.sn_model.specs.World.{World, trees_of, viewed_trees}
+use Rattle.sn_model.specs.SnapshotCalls.{snapshot_argument}
+use Rattle.sn_model.proofs.SnapshotLemmas.{argument_other, create_other, delete_other}
 use Rattle.sn_model.proofs.AccessDenialLemmas.{denies}
 use Rattle.sn_model.proofs.DecisionLemmas.{IsCalled, called}
 use Rattle.sn_model.proofs.DenialLemmas.{IsDeniedAt, bind_err, mkdir_denied, stat_denied}
@@ -152,6 +154,13 @@ module _ (world : World) (session : ℕ) (r : Refusal) (is : r.errno ≡ Eacces)
   ready_other (call.Seek fd offset) = behind_caller (λ _. ready_ok (calls.Seek session fd offset)) (λ s h. never_ok _ r h)
   ready_other (call.Ftruncate fd size) = behind_caller (λ _. ready_ok (calls.Ftruncate session fd size)) (λ s h. never_ok _ r h)
   ready_other call.Sync = behind_caller (λ _. ready_ok calls.Sync) (λ s h. never_ok _ r h)
+  ready_other (call.SnapCreate name) =
+      behind_caller (λ s. snapshot_argument name >>= (λ new. ready_ok (calls.SnapCreate s new)))
+      (λ s. chain_other (snapshot_argument name) (λ new. ready_ok (calls.SnapCreate s new)) r (λ h. argument_other r is name h) (λ new h. never_ok _ r h))
+  ready_other (call.SnapDelete name) =
+      behind_caller (λ s. snapshot_argument name >>= (λ old. ready_ok (calls.SnapDelete s old)))
+      (λ s. chain_other (snapshot_argument name) (λ old. ready_ok (calls.SnapDelete s old)) r (λ h. argument_other r is name h) (λ old h. never_ok _ r h))
+  ready_other call.SnapList = behind_caller (λ _. ready_ok calls.SnapList) (λ s h. never_ok _ r h)
 
 read_ok : (p : Result (List (List ℕ)) PathFault) (names : List (List ℕ)) → read_path p ≡ Ok names → p ≡ Ok names
 read_ok (Ok all) names e = let same : all ≡ names = cc e in ap (λ (x : List (List ℕ)). Ok x) same
@@ -300,6 +309,21 @@ module _ (limits : Limits) (world : World) (session : ℕ) (r : Refusal) (is : r
   sync_denies : Denies call.Sync
   sync_denies x f g = absurd (never_refused _ r (behind_session call.Sync calls.Sync x f g))
 
+  snap_create_denies : (name : List ℕ) → Denies (call.SnapCreate name)
+  snap_create_denies name x f g =
+      let p = bind_ok (logged_in world session) (λ s. snapshot_argument name >>= (λ new. ready_ok (calls.SnapCreate s new))) x f in
+      let n = bind_ok (snapshot_argument name) (λ new. ready_ok (calls.SnapCreate p.0 new)) x p.2 in
+      absurd (create_other limits world p.0 n.0 r is (goes_on (calls.SnapCreate p.0 n.0) x n.2 g))
+
+  snap_delete_denies : (name : List ℕ) → Denies (call.SnapDelete name)
+  snap_delete_denies name x f g =
+      let p = bind_ok (logged_in world session) (λ s. snapshot_argument name >>= (λ old. ready_ok (calls.SnapDelete s old))) x f in
+      let n = bind_ok (snapshot_argument name) (λ old. ready_ok (calls.SnapDelete p.0 old)) x p.2 in
+      absurd (delete_other world p.0 n.0 r is (goes_on (calls.SnapDelete p.0 n.0) x n.2 g))
+
+  snap_list_denies : Denies call.SnapList
+  snap_list_denies x f g = absurd (never_refused _ r (behind_session call.SnapList calls.SnapList x f g))
+
   open_denies : (path : List ℕ) (flags : OpenFlags) (mode : ℕ) → Denies (call.Open path flags mode)
   open_denies path flags mode x f g =
       let more = λ (s : Session) (names : List (List ℕ)). flags_argument flags >>= (λ asked. new_mode_argument mode >>= (λ bits. ready_ok (calls.Open session s names asked bits))) in
@@ -352,6 +376,9 @@ module _ (limits : Limits) (world : World) (session : ℕ) (r : Refusal) (is : r
   decided_denies (call.Seek fd offset) = seek_denies fd offset
   decided_denies (call.Ftruncate fd size) = ftruncate_denies fd size
   decided_denies call.Sync = sync_denies
+  decided_denies (call.SnapCreate name) = snap_create_denies name
+  decided_denies (call.SnapDelete name) = snap_delete_denies name
+  decided_denies call.SnapList = snap_list_denies
 
 pub access_denied : (limits : Limits) (world : World) (session : ℕ) (c : Call) (r : Refusal) → decision limits world session c ≡ Err r → r.errno ≡ Eacces → IsDenied world session c r
 access_denied limits world session c r e is = told (bind_err (ready world session c) (outcome_of limits world) r e)

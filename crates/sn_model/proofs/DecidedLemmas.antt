@@ -1,6 +1,7 @@
 -- Every decided change can be applied.
 use Rattle.std.proofs.Common.{◌≡◌, ℕ, zero, suc, ◌+◌, ◌*◌, ◌-◌, ◌<◌, ◌^◌, Bool, true, false, not, cond, ◌&&◌, ◌||◌, ◌==◌, nat_lt, List, [], ◌∷◌, length, Option, Some, None, Result, Ok, Err, is_some, is_none, refl, sym, ap, subst, ◌∙◌, ◌⊎◌, inl, inr, arith, ltb-true}
 use Rattle.std.specs.Prelude.{IfSome, slice_get}
+use Rattle.std.specs.FinMap as map
 use Rattle.std.specs.List.{list_all, AllByRecursion}
 use Rattle.std.proofs.lemmas.Bool.{true≢false, lt-ltb, le-leb, leb-false}
 use Rattle.std.proofs.lemmas.Nat.{and_le_l, and_le_r}
@@ -35,7 +36,7 @@ use Rattle.sn_model.specs.declared.reply.Reply.{Reply}
 use Rattle.sn_model.specs.declared.reply.Reply.TheVariants as reply
 use Rattle.sn_limits.specs.declared.limits.Limits.{Limits}
 use Rattle.sn_model.specs.declared.change.Ownership.{Ownership}
-use Rattle.sn_model.specs.Outcomes.{Outcome, LogsIn, SetsUmask, tells}
+use Rattle.sn_model.specs.Outcomes.{AskedPoint, Plain, Freezes, Thaws, Nothing, Outcome, LogsIn, SetsUmask, Stays, points, tells}
 use Rattle.sn_model.specs.AccessCalls.{AclKind, acl_argument, id_argument, mode_bits_argument}
 use Rattle.sn_model.specs.declared.change.Change.TheVariants.{AddLink, Remove, Rename, SetAttributes}
 use Rattle.sn_model.specs.FileCalls.{OpenFlags, bytes_argument, count_argument, flags_argument, new_file}
@@ -43,12 +44,14 @@ use Rattle.sn_model.proofs.OpenLemmas.{opening_is, unlink_is}
 use Rattle.sn_model.proofs.SeatLemmas.{seat_of}
 use Rattle.sn_model.proofs.FileDecidedLemmas.{bytes_are, close_is, ftruncate_is, logout_is, reads_is, seek_is, write_is}
 use Rattle.sn_model.proofs.ChargeLemmas.{remove_pays}
-use Rattle.sn_model.proofs.OutcomeLemmas.{IsAnswer, done, told, turned}
+use Rattle.sn_model.proofs.OutcomeLemmas.{FitsPoint, IsAlone, IsAnswer, done, is_asked, told, turned}
+use Rattle.sn_model.proofs.SnapshotLemmas.{argument_is, create_is, delete_is}
+use Rattle.sn_model.specs.SnapshotCalls.{snapshot_argument}
 pub use Rattle.sn_model.proofs.OutcomeLemmas.{IsDecided}
 use Rattle.sn_model.specs.AccessLaws.{GivesTo, SetsAcl, ShowsMode}
 use Rattle.sn_model.specs.Calls as calls
 use Rattle.sn_model.specs.Calls.{Ready, ready, outcome_of, new_session, new_directory, last_name}
-use Rattle.sn_model.specs.Steps.{IsNumber, IsNumberFor, TakesMemory, changed, decision}
+use Rattle.sn_model.specs.Steps.{IsNumber, IsNumberFor, TakesMemory, asks_for_point, changed, decision}
 use Rattle.sn_model.specs.Worlds.{IsCaller, IsSession, IsWorld}
 use Rattle.sn_model.proofs.ChainLemmas.{and_left, and_right, and_both}
 use Rattle.sn_model.proofs.NameLemmas.{no_names_for}
@@ -215,22 +218,38 @@ module _ (limits : Limits) (world : World) (session : ℕ) where
   goes_on : (r q : Ready) (o : Outcome) → found.ok r ≡ Ok q → outcome_of limits world q ≡ Ok o → outcome_of limits world r ≡ Ok o
   goes_on r q o same e = subst (λ (x : Ready). outcome_of limits world x ≡ Ok o) (sym (same_ok r q same)) e
 
-  tells_decided : (c : Call) (o : Outcome) (answer : Reply) → IsAnswer answer → o ≡ tells answer → IsDecided limits world session c o
-  tells_decided c o answer is e = subst (IsDecided limits world session c) (sym e) (told limits world session c answer is)
+  tells_decided : (c : Call) → asks_for_point c ≡ false → (o : Outcome) (answer : Reply) → IsAnswer answer → o ≡ tells answer → IsDecided limits world session c o
+  tells_decided c alone o answer is e = subst (IsDecided limits world session c) (sym e) (told limits world session c alone answer is)
+
+  -- a point that is asked for
+  asked : (c : Call) (o : Outcome) (p : AskedPoint) → is_asked p ≡ asks_for_point c → IsAlone p Nothing Stays → FitsPoint limits world p → TakesMemory c → points p ≡ o → IsDecided limits world session c o
+  asked c o p asks alone fits takes e = subst (IsDecided limits world session c) e (record {
+    answers = λ refusal f. cc f;
+    left = tt;
+    of_old = tt;
+    keeps = λ h. tt;
+    charged = λ h. tt;
+    pays = refl;
+    takes = tt;
+    opens = λ f. cc f;
+    applies = λ n l w f. refl;
+    fits = λ k w. tt;
+    points = record { asks = asks; alone = alone; fits = fits };
+  })
 
   login_decided : (uid gid : ℕ) (groups : List ℕ) (o : Outcome) → ReadyTo (call.Login uid gid groups) o → IsDecided limits world session (call.Login uid gid groups) o
   login_decided uid gid groups o r =
       let s = new_session uid gid groups in
       let p = bind_ok (logged_out world session) (λ _. found.ok (calls.Login s)) r.0 r.1 in
       subst (IsDecided limits world session (call.Login uid gid groups)) (same_ok _ _ (goes_on (calls.Login s) r.0 o p.2 r.2))
-      (turned limits world session (call.Login uid gid groups) (LogsIn s) reply.Done (λ refusal e. cc e) (λ f. cc f) (λ k w. record { uid = k.0; gid = k.1 }))
+      (turned limits world session (call.Login uid gid groups) refl (LogsIn s) reply.Done (λ refusal e. cc e) (λ f. cc f) (λ k w. record { uid = k.0; gid = k.1 }))
 
   umask_decided : (mask : ℕ) (o : Outcome) → ReadyTo (call.Umask mask) o → IsDecided limits world session (call.Umask mask) o
   umask_decided mask o r =
       let p = bind_ok (logged_in world session) (λ s. new_mode_argument mask >>= (λ bits. found.ok (calls.Umask s bits))) r.0 r.1 in
       let q = bind_ok (new_mode_argument mask) (λ bits. found.ok (calls.Umask p.0 bits)) r.0 p.2 in
       subst (IsDecided limits world session (call.Umask mask)) (same_ok _ _ (goes_on (calls.Umask p.0 q.0) r.0 o q.2 r.2))
-      (turned limits world session (call.Umask mask) (SetsUmask q.0) (reply.Mode p.0.umask) (λ refusal e. cc e) (λ f. cc f) (λ k w. tt))
+      (turned limits world session (call.Umask mask) refl (SetsUmask q.0) (reply.Mode p.0.umask) (λ refusal e. cc e) (λ f. cc f) (λ k w. tt))
 
   mkdir_decided : (path : List ℕ) (mode : ℕ) (o : Outcome) → ReadyTo (call.Mkdir path mode) o → IsDecided limits world session (call.Mkdir path mode) o
   mkdir_decided path mode o r =
@@ -251,11 +270,12 @@ module _ (limits : Limits) (world : World) (session : ℕ) where
             let owned = new_ownership limits k.caller m.0 world.live p.directory p.at.parent (caller_is world session k.caller whole.callers k.called_by) (mode_is mode m.0 m.1) (whole.live.nodes.nodes p.directory p.at.parent p.at.there) in
             ap is_some (place_applies limits world.live k.names p.directory number Directory own some_links whole.live (path_names path k.names k.read) p.at free owned);
         fits = λ n w. tt;
+        points = record { asks = refl; alone = tt; fits = tt };
       })
 
   -- attributes that are set
-  set_decided : (c : Call) (o : Outcome) (is : SetsSome limits o) → TakesMemory c → (IsWorld limits world → is_some (owned world.live is.0 is.1) ≡ true) → IsDecided limits world session c o
-  set_decided c o is takes can = subst (IsDecided limits world session c) (sym is.2) (done limits world session c limits.inode_charge (SetAttributes is.0 is.1) refl takes tt (λ _. tt) (λ h. h) can)
+  set_decided : (c : Call) → asks_for_point c ≡ false → (o : Outcome) (is : SetsSome limits o) → TakesMemory c → (IsWorld limits world → is_some (owned world.live is.0 is.1) ≡ true) → IsDecided limits world session c o
+  set_decided c alone o is takes can = subst (IsDecided limits world session c) (sym is.2) (done limits world session c alone limits.inode_charge (SetAttributes is.0 is.1) refl takes tt (λ _. tt) (λ h. h) can)
 
   chmod_decided : (path : List ℕ) (mode : ℕ) (o : Outcome) → ReadyTo (call.Chmod path mode) o → IsDecided limits world session (call.Chmod path mode) o
   chmod_decided path mode o r =
@@ -263,7 +283,7 @@ module _ (limits : Limits) (world : World) (session : ℕ) where
       let m = bind_ok (mode_bits_argument mode) (λ bits. found.ok (calls.Chmod k.caller k.names bits)) r.0 k.passed in
       let e = goes_on (calls.Chmod k.caller k.names m.0) r.0 o m.2 r.2 in
       let is = chmod_some limits trees k.caller k.names m.0 o e in
-      set_decided (call.Chmod path mode) o is tt (λ whole. can_be_set limits world k.caller o (ShowsMode k.caller m.0) is (chmod_is limits world k.caller k.names mode m.0 o whole m.1 e))
+      set_decided (call.Chmod path mode) refl o is tt (λ whole. can_be_set limits world k.caller o (ShowsMode k.caller m.0) is (chmod_is limits world k.caller k.names mode m.0 o whole m.1 e))
 
   chown_decided : (path : List ℕ) (uid gid : Option ℕ) (o : Outcome) → ReadyTo (call.Chown path uid gid) o → IsDecided limits world session (call.Chown path uid gid) o
   chown_decided path uid gid o r =
@@ -272,24 +292,24 @@ module _ (limits : Limits) (world : World) (session : ℕ) where
       let b = bind_ok (id_argument gid) (λ group. found.ok (calls.Chown k.caller k.names a.0 group)) r.0 a.2 in
       let e = goes_on (calls.Chown k.caller k.names a.0 b.0) r.0 o b.2 r.2 in
       let is = chown_some limits trees k.caller k.names a.0 b.0 o e in
-      set_decided (call.Chown path uid gid) o is tt (λ whole. can_be_set limits world k.caller o (GivesTo k.caller a.0 b.0) is (chown_is limits world k.caller k.names uid a.0 gid b.0 o whole a.1 b.1 e))
+      set_decided (call.Chown path uid gid) refl o is tt (λ whole. can_be_set limits world k.caller o (GivesTo k.caller a.0 b.0) is (chown_is limits world k.caller k.names uid a.0 gid b.0 o whole a.1 b.1 e))
 
   stat_decided : (path : List ℕ) (o : Outcome) → ReadyTo (call.Stat path) o → IsDecided limits world session (call.Stat path) o
   stat_decided path o r =
       let k = called world session path (λ s names. found.ok (calls.Stat s names)) r.0 r.1 in
       let t = stat_is world k.caller k.names o (goes_on (calls.Stat k.caller k.names) r.0 o k.passed r.2) in
-      tells_decided (call.Stat path) o (reply.Status t.0) (λ refusal e. cc e) t.1
+      tells_decided (call.Stat path) refl o (reply.Status t.0) (λ refusal e. cc e) t.1
 
   access_decided : (path : List ℕ) (want : access.Access) (o : Outcome) → ReadyTo (call.Access path want) o → IsDecided limits world session (call.Access path want) o
   access_decided path want o r =
       let k = called world session path (λ s names. found.ok (calls.Access s names want)) r.0 r.1 in
-      tells_decided (call.Access path want) o reply.Done (λ refusal e. cc e) (access_tells trees k.caller k.names want o (goes_on (calls.Access k.caller k.names want) r.0 o k.passed r.2))
+      tells_decided (call.Access path want) refl o reply.Done (λ refusal e. cc e) (access_tells trees k.caller k.names want o (goes_on (calls.Access k.caller k.names want) r.0 o k.passed r.2))
 
   getacl_decided : (path : List ℕ) (kind : AclKind) (o : Outcome) → ReadyTo (call.GetAcl path kind) o → IsDecided limits world session (call.GetAcl path kind) o
   getacl_decided path kind o r =
       let k = called world session path (λ s names. found.ok (calls.GetAcl s names kind)) r.0 r.1 in
       let t = getacl_tells trees k.caller k.names kind o (goes_on (calls.GetAcl k.caller k.names kind) r.0 o k.passed r.2) in
-      tells_decided (call.GetAcl path kind) o (reply.Acl t.0) (λ refusal e. cc e) t.1
+      tells_decided (call.GetAcl path kind) refl o (reply.Acl t.0) (λ refusal e. cc e) t.1
 
   setacl_decided : (path : List ℕ) (kind : AclKind) (acl : List ℕ) (o : Outcome) → ReadyTo (call.SetAcl path kind acl) o → IsDecided limits world session (call.SetAcl path kind acl) o
   setacl_decided path kind acl o r =
@@ -297,7 +317,7 @@ module _ (limits : Limits) (world : World) (session : ℕ) where
       let a = bind_ok (acl_argument kind acl) (λ new. found.ok (calls.SetAcl k.caller k.names new)) r.0 k.passed in
       let e = goes_on (calls.SetAcl k.caller k.names a.0) r.0 o a.2 r.2 in
       let is = setacl_some limits trees k.caller k.names a.0 o e in
-      set_decided (call.SetAcl path kind acl) o is tt (λ whole. can_be_set limits world k.caller o (SetsAcl a.0) is (setacl_is limits world k.caller k.names kind acl a.0 o whole a.1 e))
+      set_decided (call.SetAcl path kind acl) refl o is tt (λ whole. can_be_set limits world k.caller o (SetsAcl a.0) is (setacl_is limits world k.caller k.names kind acl a.0 o whole a.1 e))
 
   -- a call of a session that is logged in
   seated : (more : Session → Result Ready Refusal) (r : Ready) → (logged_in world session >>= more) ≡ Ok r → (s : Session) × (logged_in world session ≡ Ok s) × (more s ≡ Ok r)
@@ -307,7 +327,7 @@ module _ (limits : Limits) (world : World) (session : ℕ) where
   rmdir_decided path o r =
       let k = called world session path (λ s names. found.ok (calls.Rmdir s names)) r.0 r.1 in
       let p = rmdir_is limits world k.caller k.names o (goes_on (calls.Rmdir k.caller k.names) r.0 o k.passed r.2) in
-      subst (IsDecided limits world session (call.Rmdir path)) (sym p.made) (done limits world session (call.Rmdir path) (2 * limits.inode_charge + limits.block_charge) (Remove p.directory (last_name k.names)) (remove_pays limits world.live p.directory (last_name k.names) p.number p.node true p.named p.there p.kind) tt tt (λ h. cc h) (λ h. omega (arith, h)) (λ whole. rmdir_applies limits world.live k.names o p))
+      subst (IsDecided limits world session (call.Rmdir path)) (sym p.made) (done limits world session (call.Rmdir path) refl (2 * limits.inode_charge + limits.block_charge) (Remove p.directory (last_name k.names)) (remove_pays limits world.live p.directory (last_name k.names) p.number p.node true p.named p.there p.kind) tt tt (λ h. cc h) (λ h. omega (arith, h)) (λ whole. rmdir_applies limits world.live k.names o p))
 
   unlink_decided : (path : List ℕ) (o : Outcome) → ReadyTo (call.Unlink path) o → IsDecided limits world session (call.Unlink path) o
   unlink_decided path o r =
@@ -319,12 +339,12 @@ module _ (limits : Limits) (world : World) (session : ℕ) where
       let k = called world session old (λ s names. path_argument new >>= (λ others. found.ok (calls.Link s names others))) r.0 r.1 in
       let n = bind_ok (path_argument new) (λ others. found.ok (calls.Link k.caller k.names others)) r.0 k.passed in
       let p = link_is limits world k.caller k.names n.0 o (goes_on (calls.Link k.caller k.names n.0) r.0 o n.2 r.2) in
-      subst (IsDecided limits world session (call.Link old new)) (sym p.made) (done limits world session (call.Link old new) (2 * limits.inode_charge + limits.block_charge) (AddLink p.directory (last_name n.0) p.number) refl tt tt (λ h. cc h) (λ h. omega (arith, h)) (λ whole. link_applies limits world.live n.0 o p (last_is n.0 p.new.first p.new.more p.new.some_names (path_names new n.0 n.1))))
+      subst (IsDecided limits world session (call.Link old new)) (sym p.made) (done limits world session (call.Link old new) refl (2 * limits.inode_charge + limits.block_charge) (AddLink p.directory (last_name n.0) p.number) refl tt tt (λ h. cc h) (λ h. omega (arith, h)) (λ whole. link_applies limits world.live n.0 o p (last_is n.0 p.new.first p.new.more p.new.some_names (path_names new n.0 n.1))))
 
   -- a name is moved, or both are of one thing
   rename_comes : (old new : List ℕ) (caller : Session) (names others : List (List ℕ)) (o : Outcome) → path_argument new ≡ Ok others
       → ((o ≡ tells reply.Done) × IsOne world caller names others) ⊎ IsRenaming limits world caller names others o → IsDecided limits world session (call.Rename old new) o
-  rename_comes old new caller names others o read (inl one) = tells_decided (call.Rename old new) o reply.Done (λ refusal e. cc e) one.0
+  rename_comes old new caller names others o read (inl one) = tells_decided (call.Rename old new) refl o reply.Done (λ refusal e. cc e) one.0
   rename_comes old new caller names others o read (inr p) =
       let m = p.moving in
       let t = has_passed limits world caller names others m o p.moved in
@@ -340,6 +360,7 @@ module _ (limits : Limits) (world : World) (session : ℕ) where
         opens = λ f. cc f;
         applies = λ number some_links whole free. rename_applies limits world caller names others o some_links whole.live p (λ first more e. last_is others first more e (path_names new others read));
         fits = λ k w. tt;
+        points = record { asks = refl; alone = tt; fits = tt };
       })
 
   rename_decided : (old new : List ℕ) (o : Outcome) → ReadyTo (call.Rename old new) o → IsDecided limits world session (call.Rename old new) o
@@ -352,7 +373,7 @@ module _ (limits : Limits) (world : World) (session : ℕ) where
   readdir_decided path o r =
       let k = called world session path (λ s names. found.ok (calls.Readdir s names)) r.0 r.1 in
       let t = readdir_tells limits world k.caller k.names o (goes_on (calls.Readdir k.caller k.names) r.0 o k.passed r.2) in
-      tells_decided (call.Readdir path) o (reply.Names t.0) (λ refusal e. cc e) t.1
+      tells_decided (call.Readdir path) refl o (reply.Names t.0) (λ refusal e. cc e) t.1
 
   logout_decided : (o : Outcome) → ReadyTo call.Logout o → IsDecided limits world session call.Logout o
   logout_decided o r =
@@ -401,7 +422,26 @@ module _ (limits : Limits) (world : World) (session : ℕ) where
   sync_decided : (o : Outcome) → ReadyTo call.Sync o → IsDecided limits world session call.Sync o
   sync_decided o r =
       let k = seated (λ _. found.ok calls.Sync) r.0 r.1 in
-      tells_decided call.Sync o reply.Done (λ refusal e. cc e) (sym (same_ok _ o (goes_on calls.Sync r.0 o k.2 r.2)))
+      asked call.Sync o Plain refl (refl, refl) tt tt (same_ok _ o (goes_on calls.Sync r.0 o k.2 r.2))
+
+  snap_create_decided : (name : List ℕ) (o : Outcome) → ReadyTo (call.SnapCreate name) o → IsDecided limits world session (call.SnapCreate name) o
+  snap_create_decided name o r =
+      let p = bind_ok (logged_in world session) (λ s. snapshot_argument name >>= (λ new. found.ok (calls.SnapCreate s new))) r.0 r.1 in
+      let n = bind_ok (snapshot_argument name) (λ new. found.ok (calls.SnapCreate p.0 new)) r.0 p.2 in
+      let is = create_is limits world p.0 n.0 o (goes_on (calls.SnapCreate p.0 n.0) r.0 o n.2 r.2) in
+      asked (call.SnapCreate name) o (Freezes n.0) refl (refl, refl) (argument_is name n.0 n.1, is.1, is.2) tt is.0
+
+  snap_delete_decided : (name : List ℕ) (o : Outcome) → ReadyTo (call.SnapDelete name) o → IsDecided limits world session (call.SnapDelete name) o
+  snap_delete_decided name o r =
+      let p = bind_ok (logged_in world session) (λ s. snapshot_argument name >>= (λ old. found.ok (calls.SnapDelete s old))) r.0 r.1 in
+      let n = bind_ok (snapshot_argument name) (λ old. found.ok (calls.SnapDelete p.0 old)) r.0 p.2 in
+      let is = delete_is world p.0 n.0 o (goes_on (calls.SnapDelete p.0 n.0) r.0 o n.2 r.2) in
+      asked (call.SnapDelete name) o (Thaws n.0) refl (refl, refl) is.1 tt is.0
+
+  snap_list_decided : (o : Outcome) → ReadyTo call.SnapList o → IsDecided limits world session call.SnapList o
+  snap_list_decided o r =
+      let k = seated (λ _. found.ok calls.SnapList) r.0 r.1 in
+      tells_decided call.SnapList refl o (reply.Names (map.keys world.frozen)) (λ refusal e. cc e) (sym (same_ok _ o (goes_on calls.SnapList r.0 o k.2 r.2)))
 
   by_call : (c : Call) (o : Outcome) → ReadyTo c o → IsDecided limits world session c o
   by_call (call.Login uid gid groups) o r = login_decided uid gid groups o r
@@ -426,6 +466,9 @@ module _ (limits : Limits) (world : World) (session : ℕ) where
   by_call (call.Seek fd offset) o r = seek_decided fd offset o r
   by_call (call.Ftruncate fd size) o r = ftruncate_decided fd size o r
   by_call call.Sync o r = sync_decided o r
+  by_call (call.SnapCreate name) o r = snap_create_decided name o r
+  by_call (call.SnapDelete name) o r = snap_delete_decided name o r
+  by_call call.SnapList o r = snap_list_decided o r
 
   pub decided_is : (c : Call) (o : Outcome) → decision limits world session c ≡ Ok o → IsDecided limits world session c o
   decided_is c o e = by_call c o (bind_ok (ready world session c) (outcome_of limits world) o e)

@@ -131,20 +131,20 @@ module _ (limits : Limits) (world : World) (session : ℕ) where
 
   -- a session ends
   pub logout_is : (o : Outcome) → ok logout_outcome ≡ Ok o → Decides call.Logout o
-  logout_is o e = subst (Decides call.Logout) (same_ok _ o e) (turned limits world session call.Logout LogsOut reply.Done (λ r f. cc f) (λ f. cc f) (λ k w. tt))
+  logout_is o e = subst (Decides call.Logout) (same_ok _ o e) (turned limits world session call.Logout refl LogsOut reply.Done (λ r f. cc f) (λ f. cc f) (λ k w. tt))
 
   pub close_is : (fd : ℕ) (o : Outcome) → close_outcome world.descriptors session fd ≡ Ok o → Decides (call.Close fd) o
   unfolding close_outcome
   close_is fd o e =
       let p = bind_ok (descriptor_at world.descriptors session fd) (λ _. ok (asks (Closes fd) reply.Done)) o e in
-      subst (Decides (call.Close fd)) (same_ok _ o p.2) (turned limits world session (call.Close fd) (Closes fd) reply.Done (λ r f. cc f) (λ f. cc f) (λ k w. tt))
+      subst (Decides (call.Close fd)) (same_ok _ o p.2) (turned limits world session (call.Close fd) refl (Closes fd) reply.Done (λ r f. cc f) (λ f. cc f) (λ k w. tt))
 
   pub seek_is : (fd offset : ℕ) (o : Outcome) → seek_outcome limits world.descriptors session fd offset ≡ Ok o → Decides (call.Seek fd offset) o
   unfolding seek_outcome
   seek_is fd offset o e =
       let p = bind_ok (descriptor_at world.descriptors session fd) (λ _. is_offset limits offset >>= (λ to. ok (asks (Moves fd to) (reply.Number to)))) o e in
       let q = bind_ok (is_offset limits offset) (λ to. ok (asks (Moves fd to) (reply.Number to))) o p.2 in
-      subst (Decides (call.Seek fd offset)) (same_ok _ o q.2) (turned limits world session (call.Seek fd offset) (Moves fd q.0) (reply.Number q.0) (λ r f. cc f) (λ f. cc f) (λ k w. offset_is limits offset q.0 q.1))
+      subst (Decides (call.Seek fd offset)) (same_ok _ o q.2) (turned limits world session (call.Seek fd offset) refl (Moves fd q.0) (reply.Number q.0) (λ r f. cc f) (λ f. cc f) (λ k w. offset_is limits offset q.0 q.1))
 
   pub reads_is : (fd argument count : ℕ) (o : Outcome) → read_outcome world session fd count ≡ Ok o → Decides (call.Read fd argument) o
   unfolding read_outcome
@@ -152,7 +152,7 @@ module _ (limits : Limits) (world : World) (session : ℕ) where
       let bytes = λ (d : Descriptor). take count (drop d.offset (open_bytes world d)) in
       let p = bind_ok (readable_at world.descriptors session fd) (λ d. ok (reads fd d (bytes d))) o e in
       let at = readable_is world.descriptors session fd p.0 p.1 in
-      subst (Decides (call.Read fd argument)) (same_ok _ o p.2) (turned limits world session (call.Read fd argument) (Moves fd (p.0.offset + length (bytes p.0))) (reply.Content (bytes p.0)) (λ r f. cc f) (λ f. cc f)
+      subst (Decides (call.Read fd argument)) (same_ok _ o p.2) (turned limits world session (call.Read fd argument) refl (Moves fd (p.0.offset + length (bytes p.0))) (reply.Content (bytes p.0)) (λ r f. cc f) (λ f. cc f)
       (λ k w. read_few count p.0.offset (open_bytes world p.0) limits.largest_file (w.open_files session fd p.0 at).offset (open_size limits world w p.0)))
 
   write_applies : (d : Descriptor) (fd offset : ℕ) (bytes : List ℕ) → AreBytes bytes → (length bytes == 0) ≡ false → nat_le (offset + length bytes) limits.largest_file ≡ true → map.get world.descriptors (session, fd) ≡ Some d → d.writable ≡ true → IsWorld limits world → is_some (written limits world.live d.number offset bytes) ≡ true
@@ -186,6 +186,7 @@ module _ (limits : Limits) (world : World) (session : ℕ) where
         opens = λ f. cc f;
         applies = λ n l w f. write_applies d fd offset bytes are some few at is w;
         fits = λ k w. leb-true (offset + length bytes) limits.largest_file few;
+        points = record { asks = refl; alone = tt; fits = tt };
       })
 
   pub write_is : (fd : ℕ) (word bytes : List ℕ) (o : Outcome) → AreBytes bytes → write_outcome limits world session fd bytes ≡ Ok o → Decides (call.Write fd word) o
@@ -200,7 +201,7 @@ module _ (limits : Limits) (world : World) (session : ℕ) where
       told d at is true t f = subst (Decides (call.Write fd word)) (same_ok _ o f) (told_number)
         where
           told_number : Decides (call.Write fd word) (tells (reply.Number 0))
-          told_number = turned limits world session (call.Write fd word) _ (reply.Number 0) (λ r f. cc f) (λ f. cc f) (λ k w. tt)
+          told_number = turned limits world session (call.Write fd word) refl _ (reply.Number 0) (λ r f. cc f) (λ f. cc f) (λ k w. tt)
       told d at is false t f = some_written d fd word bytes o are t at is f
 
   pub ftruncate_is : (fd size : ℕ) (o : Outcome) → ftruncate_outcome limits world.descriptors session fd size ≡ Ok o → Decides (call.Ftruncate fd size) o
@@ -209,7 +210,7 @@ module _ (limits : Limits) (world : World) (session : ℕ) where
       let p = bind_ok (writable_at world.descriptors session fd) (λ d. is_size limits size >>= (λ _. ok (cuts limits d.number size))) o e in
       let q = bind_ok (is_size limits size) (λ _. ok (cuts limits p.0.number size)) o p.2 in
       let at = writable_is world.descriptors session fd p.0 p.1 in
-      subst (Decides (call.Ftruncate fd size)) (same_ok _ o q.2) (done limits world session (call.Ftruncate fd size) (file_charge limits 1) (SetSize p.0.number size) (omega arith) tt tt (λ _. tt) (λ h. omega (arith, h)) (λ w. applies p.0 at.0 at.1 (size_is limits size q.0 q.1) w))
+      subst (Decides (call.Ftruncate fd size)) (same_ok _ o q.2) (done limits world session (call.Ftruncate fd size) refl (file_charge limits 1) (SetSize p.0.number size) (omega arith) tt tt (λ _. tt) (λ h. omega (arith, h)) (λ w. applies p.0 at.0 at.1 (size_is limits size q.0 q.1) w))
     where
       applies : (d : Descriptor) → map.get world.descriptors (session, fd) ≡ Some d → d.writable ≡ true → nat_le size limits.largest_file ≡ true → IsWorld limits world → is_some (cut limits world.live d.number size) ≡ true
       applies d at is few w =

@@ -25,6 +25,8 @@ pub mod DecisionLemmas
 pub mod DenialLemmas
 pub mod ChargeLemmas
 pub mod OutcomeLemmas
+pub mod SnapshotLemmas
+pub mod PointedLemmas
 pub mod SeatLemmas
 pub mod OpenLemmas
 pub mod FileDecidedLemmas

@@ -162,7 +162,7 @@ module _ (limits : Limits) (world : World) (session : ℕ) (s : Session) (names 
       let found = there_is (found_at trees w.0) f.0 f.1 in
       let n = named_at world names w.0 Eperm at.0 f.0 l.0 ends at.1 found is in
       let a = ap (attributes_at trees) (sym is) ∙ found_has trees w.0 f.0 found in
-      subst (Decides (call.Unlink path)) (same_ok _ o t.2) (done limits world session (call.Unlink path) (3 * limits.inode_charge + limits.block_charge) (Remove (number_of at.0.0) (last_name names)) (name_pays at.0.0 f.0 l.0 n a (none_directory f.0 d.0 d.1)) tt tt (λ h. cc h) (λ h. omega (arith, h))
+      subst (Decides (call.Unlink path)) (same_ok _ o t.2) (done limits world session (call.Unlink path) refl (3 * limits.inode_charge + limits.block_charge) (Remove (number_of at.0.0) (last_name names)) (name_pays at.0.0 f.0 l.0 n a (none_directory f.0 d.0 d.1)) tt tt (λ h. cc h) (λ h. omega (arith, h))
       (λ whole. name_goes at.0.0 f.0 l.0 n a (none_directory f.0 d.0 d.1)))
 
   -- ---- open
@@ -244,7 +244,7 @@ module _ (limits : Limits) (world : World) (session : ℕ) (s : Session) (names 
           ap is_some (cut_of limits world.live at.1 0 _ (record { node = x.0; file = is_file_at world.live at.1 x.0 x.1 (ap is_file x.2); fits = le-leb 0 limits.largest_file (omega arith); gives = refl }))
 
       told : (at : Home × ℕ) → IsOpened found at → (flags.write ≡ true → at.0 ≡ Live) → (b : Bool) → flags.truncate ≡ b → Decides (call.Open path asked mode) (opens_there limits (record flags { truncate = b }) fd at.0 at.1)
-      told at is writes false t = turned limits world session (call.Open path asked mode) (Opens fd at.0 at.1 (record flags { truncate = false })) (reply.Number fd) (λ r f. cc f) (λ _. tt) (λ k w. (opening, there_file at is, writes))
+      told at is writes false t = turned limits world session (call.Open path asked mode) refl (Opens fd at.0 at.1 (record flags { truncate = false })) (reply.Number fd) (λ r f. cc f) (λ _. tt) (λ k w. (opening, there_file at is, writes))
       told at is writes true t = record {
         answers = λ r f. cc f;
         left = tt;
@@ -256,6 +256,7 @@ module _ (limits : Limits) (world : World) (session : ℕ) (s : Session) (names 
         opens = λ _. tt;
         applies = λ n l w f. cut_applies at is (writes (truncates flags are t));
         fits = λ k w. (opening, there_file at is, writes);
+        points = record { asks = refl; alone = tt; fits = tt };
       }
 
   -- a place for the new file
@@ -322,6 +323,7 @@ module _ (limits : Limits) (world : World) (session : ℕ) (s : Session) (names 
             let place = place_is w at.0 d.0 p.0 r.0 ends none at.1 d.1 p.1 r.1 whole in
             same_new d.0 p.0 number place (seen_node world.live d.0 (map.get world.live.nodes d.0) p.0 (granted_at world s at.0.1 at.0.0 d.0 p.0 (live_node at.0.0 d.0 d.1) p.1)) (applies d.0 number links whole place free);
         fits = λ k whole. (opening, refl);
+        points = record { asks = refl; alone = tt; fits = tt };
       })
     where
       -- the directory as it was seen is the node that is there

@@ -10,7 +10,9 @@ use Rattle.sn_model.specs.declared.reply.Reply.{Reply}
 use Rattle.sn_model.specs.Changes.{apply}
 use Rattle.sn_model.specs.NameLaws.{changes_names}
 use Rattle.sn_model.specs.Outcomes.{Pending, Nothing, Makes, Does, Caller, Stays, LogsIn, SetsUmask, LogsOut, Opens, OpensNew, Closes, Moves, Outcome}
-use Rattle.sn_model.specs.Steps.{Becomes, Step, changed, decision, with_caller, with_live}
+use Rattle.sn_model.specs.Steps.{Becomes, Step, changed, decision, filled, with_caller, with_live}
+use Rattle.sn_model.specs.Settling.{dropped}
+use Rattle.sn_model.proofs.PointedLemmas.{pointed_live}
 use Rattle.sn_model.specs.Tree.{Tree, link_cmp}
 use Rattle.sn_model.specs.World.{World}
 use Rattle.sn_model.proofs.DecidedLemmas.{decided_is}
@@ -58,5 +60,6 @@ others_keep_names limits old new session c answer other (inl becomes) = told (de
     told (Ok o) e b =
         let k = b.1 in
         ap (λ (w : World). w.live.links) k.world
+        ∙ ap (λ (t : Tree). t.links) (pointed_live o.point (dropped (with_caller (with_live old k.tree) session (filled k.number o.caller))))
         ∙ ap links_in (caller_live (with_live old k.tree) session _)
         ∙ names_kept limits k.number o.change old.live k.tree ((decided_is limits old session c o e).keeps other) k.applied

@@ -1,7 +1,9 @@
 -- What is so of whatever a call comes to.
-use Rattle.std.proofs.Common.{◌≡◌, ℕ, ◌<◌, ◌≤◌, true, false, Ok, length, refl}
-use Rattle.std.specs.Prelude.{IsSomeAnd, is_none, is_some}
+use Rattle.std.proofs.Common.{◌≡◌, ℕ, ◌<◌, ◌≤◌, Bool, true, false, Ok, length, refl, sym}
+use Rattle.std.specs.FinMap as map
+use Rattle.std.specs.Prelude.{IsSomeAnd, IsTrue, is_none, is_some}
 use Rattle.sn_limits.specs.declared.kind.Kind.TheVariants.{File}
+use Rattle.sn_limits.specs.SnapshotName.{is_snapshot_name}
 use Rattle.sn_limits.specs.declared.limits.Limits.{Limits}
 use Rattle.sn_walk.specs.declared.object.Home.TheVariants.{Live}
 use Rattle.sn_model.specs.declared.call.Call.{Call}
@@ -15,8 +17,9 @@ use Rattle.sn_model.specs.Charges.{IsPaidFor, charge_for}
 use Rattle.sn_model.specs.Descriptors.{next_descriptor}
 use Rattle.sn_model.specs.NameLaws.{changes_names}
 use Rattle.sn_model.specs.NameTree.{HasKind}
-use Rattle.sn_model.specs.Outcomes.{Pending, Nothing, Makes, Does, Caller, Stays, LogsIn, SetsUmask, LogsOut, Opens, OpensNew, Closes, Moves, Outcome, does, is_opening, tells, asks}
-use Rattle.sn_model.specs.Steps.{IsNumberFor, TakesMemory, changed}
+use Rattle.sn_model.specs.Outcomes.{Pending, Nothing, Makes, Does, Caller, Stays, LogsIn, SetsUmask, LogsOut, Opens, OpensNew, Closes, Moves, AskedPoint, Unasked, Plain, Freezes, Thaws, Outcome, does, is_opening, tells, asks}
+use Rattle.sn_model.specs.SnapshotCalls.{has_open_in}
+use Rattle.sn_model.specs.Steps.{IsNumberFor, TakesMemory, asks_for_point, changed}
 use Rattle.sn_model.specs.Tree.{Tree, least_unused}
 use Rattle.sn_model.specs.World.{World, tree_in, trees_of}
 use Rattle.sn_model.specs.Worlds.{IsCall, IsCaller, IsLoggedIn, IsWorld}
@@ -89,7 +92,34 @@ FitsCaller limits world session change (OpensNew fd flags) = IsOpening world ses
 FitsCaller limits world session change (Closes fd) = Unit {0}
 FitsCaller limits world session change (Moves fd offset) = offset ≤ limits.largest_file
 
--- What a call comes to: an answer; a change that can be applied, is charged for and may take memory; and what a session can come to.
+-- a point is asked for
+abbrev pub is_asked : AskedPoint → Bool
+is_asked Unasked = false
+is_asked Plain = true
+is_asked (Freezes name) = true
+is_asked (Thaws name) = true
+
+-- then nothing else changes
+abbrev pub IsAlone : AskedPoint → Pending → Caller → Type 0
+IsAlone Unasked change caller = Unit {0}
+IsAlone Plain change caller = (change ≡ Nothing) × (caller ≡ Stays)
+IsAlone (Freezes name) change caller = (change ≡ Nothing) × (caller ≡ Stays)
+IsAlone (Thaws name) change caller = (change ≡ Nothing) × (caller ≡ Stays)
+
+-- what it makes of the snapshots keeps a world
+abbrev pub FitsPoint : Limits → World → AskedPoint → Type 0
+FitsPoint limits world Unasked = Unit {0}
+FitsPoint limits world Plain = Unit {0}
+FitsPoint limits world (Freezes name) = IsTrue (is_snapshot_name name) × (map.contains_key world.frozen name ≡ false) × (map.len world.frozen < limits.snapshots)
+FitsPoint limits world (Thaws name) = has_open_in world.descriptors name ≡ false
+
+-- the point that a call asks for
+pub record IsPointing (limits : Limits) (world : World) (c : Call) (o : Outcome) : Type 0 where
+  pub asks : is_asked o.point ≡ asks_for_point c
+  pub alone : IsAlone o.point o.change o.caller
+  pub fits : FitsPoint limits world o.point
+
+-- What a call comes to: an answer; a change that can be applied, is charged for and may take memory; what a session can come to; and the point that it asks for.
 pub record IsDecided (limits : Limits) (world : World) (session : ℕ) (c : Call) (o : Outcome) : Type 0 where
   pub answers : IsAnswer o.told
   pub left : HasLeft limits world.live o.change
@@ -101,11 +131,12 @@ pub record IsDecided (limits : Limits) (world : World) (session : ℕ) (c : Call
   pub opens : is_opening o.caller ≡ true → TakesMemory c
   pub applies : (number : ℕ) → 0 < limits.links → IsWorld limits world → IsNumberFor limits world.live number o.change → is_some (changed limits number o.change world.live) ≡ true
   pub fits : IsCall c → IsWorld limits world → FitsCaller limits world session o.change o.caller
+  pub points : IsPointing limits world c o
 
-module _ (limits : Limits) (world : World) (session : ℕ) (c : Call) where
+module _ (limits : Limits) (world : World) (session : ℕ) (c : Call) (alone : asks_for_point c ≡ false) where
   -- a session or its descriptors change, and nothing else
   pub turned : (caller : Caller) (answer : Reply) → IsAnswer answer → (is_opening caller ≡ true → TakesMemory c) → (IsCall c → IsWorld limits world → FitsCaller limits world session Nothing caller) → IsDecided limits world session c (asks caller answer)
-  turned caller answer is opens fits = record { answers = is; left = tt; of_old = tt; keeps = λ h. tt; charged = λ h. tt; pays = refl; takes = tt; opens = opens; applies = λ n l w f. refl; fits = fits }
+  turned caller answer is opens fits = record { answers = is; left = tt; of_old = tt; keeps = λ h. tt; charged = λ h. tt; pays = refl; takes = tt; opens = opens; applies = λ n l w f. refl; fits = fits; points = record { asks = sym alone; alone = tt; fits = tt } }
 
   -- nothing changes
   pub told : (answer : Reply) → IsAnswer answer → IsDecided limits world session c (tells answer)
@@ -124,4 +155,5 @@ module _ (limits : Limits) (world : World) (session : ℕ) (c : Call) where
     opens = λ f. cc f;
     applies = λ n l w f. applies w;
     fits = λ k w. tt;
+    points = record { asks = sym alone; alone = tt; fits = tt };
   }

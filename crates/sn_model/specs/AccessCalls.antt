@@ -21,7 +21,7 @@ use Rattle.sn_model.specs.declared.reply.Refusal.{Refusal}
 use Rattle.sn_model.specs.declared.reply.Reply.TheVariants as reply
 use Rattle.sn_model.specs.declared.reply.Rule.TheVariants as rule
 use Rattle.sn_model.specs.declared.session.Session.{Session}
-use Rattle.sn_model.specs.Outcomes.{Outcome, Nothing, Does, Stays, SetsUmask, tells}
+use Rattle.sn_model.specs.Outcomes.{Outcome, Nothing, Does, Stays, SetsUmask, Unasked, tells}
 use Rattle.sn_model.specs.Tests.{plain, mode_from_bits, full, live, granted, forbidden}
 pub use Rattle.sn_model.specs.declared.argument.AclKind.{AclKind}
 pub use Rattle.sn_model.specs.declared.argument.AclKind.TheVariants.{Access as OfAccess, Default as OfDefault}
@@ -121,13 +121,13 @@ with_acl (NewDefault acl) o = record o { default_acl = acl }
 
 -- owner, group, S bits and ACLs are set at once, at this charge
 abbrev pub sets : ℕ → ℕ → Ownership → Outcome
-sets charge number o = record { charge = charge; change = Does (SetAttributes number o); caller = Stays; told = reply.Done }
+sets charge number o = record { charge = charge; change = Does (SetAttributes number o); caller = Stays; told = reply.Done; point = Unasked }
 
 -- ---- the calls
 
 -- umask: it is told what it was
 abbrev pub umask_outcome : Session → Mode → Outcome
-umask_outcome session mask = record { charge = 0; change = Nothing; caller = SetsUmask mask; told = reply.Mode session.umask }
+umask_outcome session mask = record { charge = 0; change = Nothing; caller = SetsUmask mask; told = reply.Mode session.umask; point = Unasked }
 
 -- chmod: Full; live; not-owner
 unfoldable pub chmod_outcome : Limits → ViewedTrees → Session → List (List ℕ) → ModeBits → Result Outcome Refusal

@@ -12,11 +12,11 @@ use Rattle.sn_model.specs.declared.call.Call.{Call}
 use Rattle.sn_model.specs.declared.call.Call.TheVariants as call
 use Rattle.sn_model.specs.declared.reply.Access as access
 use Rattle.sn_model.specs.declared.reply.Refusal.{Refusal}
-use Rattle.sn_model.specs.declared.reply.Reply.TheVariants.{Done, Status}
+use Rattle.sn_model.specs.declared.reply.Reply.TheVariants.{Status}
 use Rattle.sn_model.specs.declared.reply.FileStatus as status
 use Rattle.sn_limits.specs.declared.limits.Limits.{Limits}
 use Rattle.sn_model.specs.declared.change.Ownership.{Ownership}
-use Rattle.sn_model.specs.Outcomes.{Outcome, tells, opens, makes}
+use Rattle.sn_model.specs.Outcomes.{Outcome, Plain, tells, opens, makes, points}
 use Rattle.sn_model.specs.AccessCalls.{AclKind, ModeBits, NewAcl, access_outcome, acl_argument, chmod_outcome, chown_outcome, getacl_outcome, id_argument, mode_bits_argument, setacl_outcome, umask_outcome}
 use Rattle.sn_model.specs.Tree.{link_to}
 use Rattle.sn_model.specs.declared.session.Session.{Session}
@@ -24,6 +24,7 @@ use Rattle.sn_model.specs.World.{World, trees_of, viewed_trees}
 use Rattle.sn_walk.specs.Views.{ViewedTrees}
 use Rattle.sn_model.specs.FileCalls.{OpenFlags, bytes_argument, close_outcome, count_argument, flags_argument, ftruncate_outcome, logout_outcome, open_outcome, read_outcome, seek_outcome, unlink_outcome, write_outcome}
 use Rattle.sn_model.specs.NameCalls.{link_outcome, readdir_outcome, rename_outcome, rmdir_outcome}
+use Rattle.sn_model.specs.SnapshotCalls.{snap_create_outcome, snap_delete_outcome, snap_list_outcome, snapshot_argument}
 pub use Rattle.sn_model.specs.Seen.{Seen, last_name, seen}
 use Rattle.sn_walk.specs.Chains.{◌>>=◌}
 use Rattle.sn_model.specs.Tests.{logged_in, logged_out, path_argument, new_mode_argument, prefix, full, not_present, live, writable_parent}
@@ -53,6 +54,9 @@ pub data Ready : Type 0 where
   Seek : ℕ → ℕ → ℕ → Ready
   Ftruncate : ℕ → ℕ → ℕ → Ready
   Sync : Ready
+  SnapCreate : Session → List ℕ → Ready
+  SnapDelete : Session → List ℕ → Ready
+  SnapList : Ready
 
 -- the umask of a new session, 0022
 abbrev pub first_umask : Mode
@@ -85,6 +89,9 @@ ready world session (call.Write fd bytes) = logged_in world session >>= (λ _. b
 ready world session (call.Seek fd offset) = logged_in world session >>= (λ _. Ok (Seek session fd offset))
 ready world session (call.Ftruncate fd size) = logged_in world session >>= (λ _. Ok (Ftruncate session fd size))
 ready world session call.Sync = logged_in world session >>= (λ _. Ok Sync)
+ready world session (call.SnapCreate name) = logged_in world session >>= (λ s. snapshot_argument name >>= (λ new. Ok (SnapCreate s new)))
+ready world session (call.SnapDelete name) = logged_in world session >>= (λ s. snapshot_argument name >>= (λ old. Ok (SnapDelete s old)))
+ready world session call.SnapList = logged_in world session >>= (λ _. Ok SnapList)
 
 -- a new directory: its owner is the caller's; its group and S_ISGID are a set-gid parent's, else the group is the caller's; its ACLs are inherited
 abbrev pub new_directory : Session → Mode → Attributes → Option (List Entry) → Ownership
@@ -148,4 +155,7 @@ outcome_of limits world (Read session fd count) = read_outcome world session fd 
 outcome_of limits world (Write session fd bytes) = write_outcome limits world session fd bytes
 outcome_of limits world (Seek session fd offset) = seek_outcome limits world.descriptors session fd offset
 outcome_of limits world (Ftruncate session fd size) = ftruncate_outcome limits world.descriptors session fd size
-outcome_of limits world Sync = Ok (tells Done)
+outcome_of limits world Sync = Ok (points Plain)
+outcome_of limits world (SnapCreate session name) = snap_create_outcome limits world session name
+outcome_of limits world (SnapDelete session name) = snap_delete_outcome world session name
+outcome_of limits world SnapList = Ok (snap_list_outcome world)

@@ -54,6 +54,9 @@ path_of (call.Write fd bytes) which = None
 path_of (call.Seek fd offset) which = None
 path_of (call.Ftruncate fd size) which = None
 path_of call.Sync which = None
+path_of (call.SnapCreate name) which = None
+path_of (call.SnapDelete name) which = None
+path_of call.SnapList which = None
 
 -- the object at the denial's place has an ACL whose entry denies what was wanted
 pub record IsByRule (trees : ViewedTrees) (cred : Credential) (names : List (List ℕ)) (denial : Denial) : Type 0 where

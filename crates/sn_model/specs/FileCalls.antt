@@ -29,7 +29,7 @@ use Rattle.sn_model.specs.declared.reply.Reply.TheVariants.{Content, Done, Numbe
 use Rattle.sn_model.specs.declared.session.Session.{Session}
 use Rattle.sn_model.specs.AccessCalls.{live_if}
 use Rattle.sn_model.specs.Descriptors.{Descriptors, descriptor_at, is_offset, next_descriptor, readable_at, writable_at}
-use Rattle.sn_model.specs.Outcomes.{Outcome, Makes, Does, Closes, LogsOut, Moves, Opens, OpensNew, does, tells, asks}
+use Rattle.sn_model.specs.Outcomes.{Outcome, Makes, Does, Closes, LogsOut, Moves, Opens, OpensNew, Unasked, does, tells, asks}
 use Rattle.sn_model.specs.Seen.{Seen, last_name, parent_of}
 use Rattle.sn_model.specs.Tests.{plain, prefix, there, live, granted, writable_parent, sticky}
 use Rattle.sn_model.specs.Tree.{Node as TreeNode}
@@ -93,7 +93,7 @@ file_charge limits blocks = limits.inode_charge + limits.block_charge * blocks
 abbrev pub opens_there : Limits → OpenFlags → ℕ → Home → ℕ → Outcome
 opens_there limits flags fd home number =
     if flags.truncate
-    then record { charge = file_charge limits 1; change = Does (SetSize number 0); caller = Opens fd home number flags; told = Number fd }
+    then record { charge = file_charge limits 1; change = Does (SetSize number 0); caller = Opens fd home number flags; told = Number fd; point = Unasked }
     else asks (Opens fd home number flags) (Number fd)
 
 -- a new file: its owner is the caller's; its group is a set-gid parent's, else the caller's; its ACL is inherited
@@ -113,6 +113,7 @@ opens_new limits flags fd directory name o = record {
   change = Makes directory name File o;
   caller = OpensNew fd flags;
   told = Number fd;
+  point = Unasked;
 }
 
 -- the bytes of an open file
@@ -140,6 +141,7 @@ writes limits fd number offset bytes = record {
   change = Does (Write number offset bytes);
   caller = Moves fd (offset + length bytes);
   told = Number (length bytes);
+  point = Unasked;
 }
 
 abbrev pub cuts : Limits → ℕ → ℕ → Outcome

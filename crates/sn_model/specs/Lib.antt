@@ -25,4 +25,5 @@ pub mod FileCalls
 pub mod Charges
 pub mod FileLaws
 pub mod NameCalls
+pub mod SnapshotCalls
 pub mod NameLaws

@@ -11,6 +11,8 @@ pub use Rattle.sn_model.specs.declared.outcome.Pending.{Pending}
 pub use Rattle.sn_model.specs.declared.outcome.Pending.TheVariants.{Nothing, Makes, Does}
 pub use Rattle.sn_model.specs.declared.outcome.Caller.{Caller}
 pub use Rattle.sn_model.specs.declared.outcome.Caller.TheVariants.{Stays, LogsIn, SetsUmask, LogsOut, Opens, OpensNew, Closes, Moves}
+pub use Rattle.sn_model.specs.declared.outcome.AskedPoint.{AskedPoint}
+pub use Rattle.sn_model.specs.declared.outcome.AskedPoint.TheVariants.{Unasked, Plain, Freezes, Thaws}
 pub use Rattle.sn_model.specs.declared.outcome.Outcome.{Outcome}
 
 -- a descriptor is opened
@@ -26,20 +28,24 @@ is_opening (Moves fd offset) = false
 
 -- nothing changes
 abbrev pub tells : Reply → Outcome
-tells answer = record { charge = 0; change = Nothing; caller = Stays; told = answer }
+tells answer = record { charge = 0; change = Nothing; caller = Stays; told = answer; point = Unasked }
 
 -- the session or its descriptors change, and nothing else
 abbrev pub asks : Caller → Reply → Outcome
-asks caller answer = record { charge = 0; change = Nothing; caller = caller; told = answer }
+asks caller answer = record { charge = 0; change = Nothing; caller = caller; told = answer; point = Unasked }
 
 -- the live tree changes, at this charge, and nothing else
 abbrev pub does : ℕ → Change → Outcome
-does charge c = record { charge = charge; change = Does c; caller = Stays; told = reply.Done }
+does charge c = record { charge = charge; change = Does c; caller = Stays; told = reply.Done; point = Unasked }
 
 -- the session is opened
 abbrev pub opens : Session → Outcome
-opens session = record { charge = 0; change = Nothing; caller = LogsIn session; told = reply.Done }
+opens session = record { charge = 0; change = Nothing; caller = LogsIn session; told = reply.Done; point = Unasked }
 
 -- a new node, at this charge
 abbrev pub makes : ℕ → Link → Kind → Ownership → Outcome
-makes charge link kind o = record { charge = charge; change = Makes link.directory link.name kind o; caller = Stays; told = reply.Done }
+makes charge link kind o = record { charge = charge; change = Makes link.directory link.name kind o; caller = Stays; told = reply.Done; point = Unasked }
+
+-- a whole point is made, and nothing else changes but what it makes of the snapshots
+abbrev pub points : AskedPoint → Outcome
+points asked = record { charge = 0; change = Nothing; caller = Stays; told = reply.Done; point = asked }

@@ -16,7 +16,7 @@ use Rattle.sn_model.specs.Tree.{Tree}
 use Rattle.sn_model.specs.World.{World}
 use Rattle.sn_model.specs.Changes.{apply}
 use Rattle.sn_model.specs.Descriptors.{Descriptors, closed, descriptor_for, moved_to, opened, without_session}
-use Rattle.sn_model.specs.Outcomes.{Pending, Nothing, Makes, Does, Caller, Stays, LogsIn, SetsUmask, LogsOut, Opens, OpensNew, Closes, Moves, Outcome}
+use Rattle.sn_model.specs.Outcomes.{Pending, Nothing, Makes, Does, Caller, Stays, LogsIn, SetsUmask, LogsOut, Opens, OpensNew, Closes, Moves, AskedPoint, Unasked, Plain, Freezes, Thaws, Outcome}
 use Rattle.sn_model.specs.Settling.{dropped}
 use Rattle.sn_walk.specs.declared.object.Home.TheVariants.{Live}
 use Rattle.sn_walk.specs.Chains.{◌>>=◌}
@@ -78,13 +78,20 @@ changed limits number Nothing tree = Some tree
 changed limits number (Makes directory name kind o) tree = apply limits (Make directory name number kind o) tree
 changed limits number (Does c) tree = apply limits c tree
 
+-- what a point that is asked for makes of the snapshots: a new one has the live tree as it stands, files without names among it
+abbrev pub pointed : AskedPoint → World → World
+pointed Unasked world = world
+pointed Plain world = world
+pointed (Freezes name) world = record world { frozen = map.insert world.frozen name world.live }
+pointed (Thaws name) world = record world { frozen = map.remove world.frozen name }
+
 -- an outcome becomes a world; the machine chooses a new node's number, and a file that no name stands for and nobody has open goes
 pub record Comes (limits : Limits) (old : World) (session : ℕ) (o : Outcome) (new : World) : Type 0 where
   pub number : ℕ
   pub free : IsNumberFor limits old.live number o.change
   pub tree : Tree
   pub applied : changed limits number o.change old.live ≡ Some tree
-  pub world : new ≡ dropped (with_caller (with_live old tree) session (filled number o.caller))
+  pub world : new ≡ pointed o.point (dropped (with_caller (with_live old tree) session (filled number o.caller)))
 
 -- a decision becomes this reply and this world
 abbrev pub Becomes : Limits → World → ℕ → Result Outcome Refusal → Reply → World → Type 0
@@ -115,6 +122,9 @@ TakesMemory (call.Write fd bytes) = Unit {0}
 TakesMemory (call.Seek fd offset) = ⊥
 TakesMemory (call.Ftruncate fd size) = Unit {0}
 TakesMemory call.Sync = Unit {0}
+TakesMemory (call.SnapCreate name) = Unit {0}
+TakesMemory (call.SnapDelete name) = Unit {0}
+TakesMemory call.SnapList = Unit {0}
 
 -- the calls that ask for a whole consistency point; they are charged for nothing
 abbrev pub asks_for_point : Call → Bool
@@ -140,6 +150,9 @@ asks_for_point (call.Write fd bytes) = false
 asks_for_point (call.Seek fd offset) = false
 asks_for_point (call.Ftruncate fd size) = false
 asks_for_point call.Sync = true
+asks_for_point (call.SnapCreate name) = true
+asks_for_point (call.SnapDelete name) = true
+asks_for_point call.SnapList = false
 
 abbrev pub AsksForPoint : Call → Type 0
 AsksForPoint c = IsTrue (asks_for_point c)

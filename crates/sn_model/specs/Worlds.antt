@@ -87,6 +87,9 @@ IsCall (call.Write fd bytes) = Unit {0}
 IsCall (call.Seek fd offset) = Unit {0}
 IsCall (call.Ftruncate fd size) = Unit {0}
 IsCall call.Sync = Unit {0}
+IsCall (call.SnapCreate name) = Unit {0}
+IsCall (call.SnapDelete name) = Unit {0}
+IsCall call.SnapList = Unit {0}
 
 abbrev pub IsEvent : Event → Type 0
 IsEvent (event.Call session c) = IsCall c

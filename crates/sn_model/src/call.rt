@@ -108,17 +108,32 @@ pub enum Call {
     /// POSIX.1-2017 sync(), which here waits: makes a whole consistency point, so that the tree that was
     /// live is the durable one.
     Sync,
+    /// Makes a snapshot of the live tree, under a name of 1 to 31 letters, digits, dots, underscores and dashes that is
+    /// neither `.` nor `..`: a whole consistency point freezes the tree. The user 0 alone may do it.
+    SnapCreate {
+        name: Word,
+    },
+    /// Lets a snapshot go, with a whole consistency point. The user 0 alone may do it, and while nobody has a file of the
+    /// snapshot open.
+    SnapDelete {
+        name: Word,
+    },
+    /// The names of the snapshots, in the order of their bytes.
+    SnapList,
 }
 
 impl Call {
     ghost use Rattle.std.specs.Prelude.{◌≡◌};
     ghost use Rattle.sn_model.specs.Steps.{asks_for_point};
 
-    /// Whether the call asks for a whole consistency point, as `sync` does.
+    /// Whether the call asks for a whole consistency point, as `sync` does, and those that make a snapshot or let one go.
     pub fn asks_for_point(&self) -> bool
         ensures { result ≡ asks_for_point self.now }
     {
-        matches!(self, Call::Sync)
+        matches!(
+            self,
+            Call::Sync | Call::SnapCreate { .. } | Call::SnapDelete { .. }
+        )
     }
 }
 

@@ -14,7 +14,7 @@
 //! 8. `Outcomes` and `Calls`: each call as the list of its tests, and what it comes to where all of
 //!    them pass: a charge, a change, what becomes of the session, and what is told. `AccessCalls` has
 //!    those that ask for rights and set them, `NameCalls` those on names and listings, `FileCalls` those on
-//!    files and `Descriptors`.
+//!    files and `Descriptors`, `SnapshotCalls` those on snapshots.
 //! 9. `Steps`: what a call may answer and the world that it leaves, while nothing fails.
 //! 10. `Machine`: a mount that runs, or one that a failure has stopped; what it answers to an event and
 //!     the mishap that the event met with; runs, their ends, and lives of many crashes.
@@ -64,7 +64,7 @@ pub use link::Link;
 pub use lists::{FileData, Names, StoredAcl};
 pub use mount::{Damage, End, MountFault};
 pub use moving::Moving;
-pub use outcome::{Caller, Outcome, Pending};
+pub use outcome::{AskedPoint, Caller, Outcome, Pending};
 pub use reply::{Access, Denial, Errno, FileStatus, PathNumber, Progress, Refusal, Reply, Rule};
 pub use session::Session;
 pub use word::Word;

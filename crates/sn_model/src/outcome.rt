@@ -1,6 +1,6 @@
 use crate::{Bytes, Change, OpenFlags, Ownership, Reply, Session};
 use sn_acl::Mode;
-use sn_limits::Kind;
+use sn_limits::{Kind, SnapshotName};
 use sn_walk::Home;
 
 /// What changes in the live tree.
@@ -47,6 +47,19 @@ pub enum Caller {
     },
 }
 
+/// The whole consistency point that a call asks for.
+#[derive(Drop)]
+pub enum AskedPoint {
+    /// None. A call makes one all the same where it lacks what one gives.
+    Unasked,
+    /// One that changes no tree.
+    Plain,
+    /// One that freezes the live tree in a snapshot with this name.
+    Freezes(SnapshotName),
+    /// One with which the snapshot with this name goes.
+    Thaws(SnapshotName),
+}
+
 /// What a call comes to once its tests have passed: fields that don't depend on one another.
 #[derive(Drop)]
 pub struct Outcome<'a> {
@@ -55,4 +68,5 @@ pub struct Outcome<'a> {
     pub change: Pending<'a>,
     pub caller: Caller,
     pub told: Reply,
+    pub point: AskedPoint,
 }

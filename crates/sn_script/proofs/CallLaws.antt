@@ -11,7 +11,7 @@ use Rattle.sn_model.specs.Texts.{access_text}
 use Rattle.sn_words.specs.Fields.{octal, id_word, numbers_word, is_word, kind_word, flags_word, content_word, mode_words}
 use Rattle.sn_script.specs.Lines.{name_of, arguments_of, IsCall}
 use Rattle.sn_words.specs.Reading.{number_below, octal_of, groups_of, id_of, word_of, want_of, kind_named, flags_of, file_mode_of, content_of}
-use Rattle.sn_script.specs.Reading.{path_of, paths_of, path_mode_of, descriptor_of, descriptor_number_of, login_of, bare_of, umask_of, chown_of, access_of, getacl_of, setacl_of, open_of, write_of, file_call_of, access_call_of, path_call_of, name_call_of, call_of}
+use Rattle.sn_script.specs.Reading.{path_of, paths_of, path_mode_of, descriptor_of, descriptor_number_of, login_of, bare_of, umask_of, chown_of, access_of, getacl_of, setacl_of, open_of, write_of, file_call_of, access_call_of, path_call_of, name_call_of, point_call_of, call_of}
 use Rattle.sn_words.proofs.Options.{chosen}
 use Rattle.sn_words.proofs.Numbers.{number_again, number_takes}
 use Rattle.sn_words.proofs.FieldLaws.{octal_takes, octal_again, word_takes, word_again, groups_take, groups_again, id_takes, id_again, want_takes, want_again, kind_takes, kind_again}
@@ -262,19 +262,29 @@ module _ (name : List ℕ) (arguments : List (List ℕ)) (c : Call) where
       (picked (codes "link") _ _ (made (codes "link") (paths_of arguments) (λ p. call.Link p.0 p.1) (λ p e. let t = paths_take arguments p e in (refl, t.0, (t.1, t.2))))
       (picked (codes "rename") _ (path_call_of name arguments) (made (codes "rename") (paths_of arguments) (λ p. call.Rename p.0 p.1) (λ p e. let t = paths_take arguments p e in (refl, t.0, (t.1, t.2)))) path_call_takes))
 
+  point_call_takes : point_call_of name arguments ≡ Some c → Reads name arguments c
+  unfolding point_call_of
+  point_call_takes =
+      picked (codes "sync") (bare_of call.Sync arguments) _ (bare_takes call.Sync arguments c refl tt)
+      (picked (codes "snap-create") _ _ (made (codes "snap-create") (path_of arguments) (λ p. call.SnapCreate p) (λ p e. let t = path_takes arguments p e in (refl, t.0, t.1)))
+      (picked (codes "snap-delete") _ _ (made (codes "snap-delete") (path_of arguments) (λ p. call.SnapDelete p) (λ p e. let t = path_takes arguments p e in (refl, t.0, t.1)))
+      (picked (codes "snap-list") (bare_of call.SnapList arguments) (name_call_of name arguments) (bare_takes call.SnapList arguments c refl tt) name_call_takes)))
+
   pub call_takes : call_of name arguments ≡ Some c → Reads name arguments c
   unfolding call_of
   call_takes =
       picked (codes "login") (login_of arguments) _ (login_takes arguments c)
       (picked (codes "logout") (bare_of call.Logout arguments) _ (bare_takes call.Logout arguments c refl tt)
-      (picked (codes "sync") (bare_of call.Sync arguments) _ (bare_takes call.Sync arguments c refl tt)
-      (picked (codes "umask") (umask_of arguments) (name_call_of name arguments) (umask_takes arguments c) name_call_takes)))
+      (picked (codes "umask") (umask_of arguments) (point_call_of name arguments) (umask_takes arguments c) point_call_takes))
 
 pub call_again : (c : Call) → IsCall c → call_of (name_of c) (arguments_of c) ≡ Some c
-unfolding call_of name_call_of path_call_of access_call_of file_call_of path_of paths_of path_mode_of descriptor_of descriptor_number_of login_of bare_of umask_of chown_of access_of getacl_of setacl_of open_of write_of
+unfolding call_of point_call_of name_call_of path_call_of access_call_of file_call_of path_of paths_of path_mode_of descriptor_of descriptor_number_of login_of bare_of umask_of chown_of access_of getacl_of setacl_of open_of write_of
 call_again (call.Login uid gid groups) h = rw (number_again (2 ^ 32) uid (lit≤ tt) h.0, number_again (2 ^ 32) gid (lit≤ tt) h.1, groups_again groups h.2 h.3) refl
 call_again call.Logout h = refl
 call_again call.Sync h = refl
+call_again (call.SnapCreate name) h = rw (word_again name h) refl
+call_again (call.SnapDelete name) h = rw (word_again name h) refl
+call_again call.SnapList h = refl
 call_again (call.Umask mask) h = rw (octal_again mask h) refl
 call_again (call.Mkdir path mode) h = rw (word_again path h.0, octal_again mode h.1) refl
 call_again (call.Chmod path mode) h = rw (word_again path h.0, octal_again mode h.1) refl

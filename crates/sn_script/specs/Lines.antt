@@ -32,6 +32,9 @@ name_of (call.Write fd bytes) = codes "write"
 name_of (call.Seek fd offset) = codes "seek"
 name_of (call.Ftruncate fd size) = codes "ftruncate"
 name_of call.Sync = codes "sync"
+name_of (call.SnapCreate name) = codes "snap-create"
+name_of (call.SnapDelete name) = codes "snap-delete"
+name_of call.SnapList = codes "snap-list"
 
 abbrev pub arguments_of : Call → List (List ℕ)
 arguments_of (call.Login uid gid groups) = decimal uid ∷ decimal gid ∷ numbers_word groups ∷ []
@@ -56,6 +59,9 @@ arguments_of (call.Write fd bytes) = decimal fd ∷ content_word bytes ∷ []
 arguments_of (call.Seek fd offset) = decimal fd ∷ decimal offset ∷ []
 arguments_of (call.Ftruncate fd size) = decimal fd ∷ decimal size ∷ []
 arguments_of call.Sync = []
+arguments_of (call.SnapCreate name) = name ∷ []
+arguments_of (call.SnapDelete name) = name ∷ []
+arguments_of call.SnapList = []
 
 abbrev pub words_of : Event → List (List ℕ)
 words_of (event.Call session c) = decimal session ∷ name_of c ∷ arguments_of c
@@ -66,7 +72,7 @@ abbrev pub line_of : Event → List ℕ
 line_of e = join_with_byte 32 (words_of e) ++ 10 ∷ []
 
 -- the calls that have a line: numbers of users, groups and descriptors have 32 bits, counts, offsets and sizes 64, modes four octal
--- digits, and a path and an ACL are any words
+-- digits, and a path, an ACL and the name of a snapshot are any words
 abbrev pub IsCall : Call → Type 0
 IsCall (call.Login uid gid groups) = (uid < 2 ^ 32) × (gid < 2 ^ 32) × AllByRecursion (λ n. n < 2 ^ 32) groups × (length groups ≤ 32)
 IsCall call.Logout = Unit {0}
@@ -90,6 +96,9 @@ IsCall (call.Write fd bytes) = (fd < 2 ^ 32) × IsBytes bytes
 IsCall (call.Seek fd offset) = (fd < 2 ^ 32) × (offset < 2 ^ 64)
 IsCall (call.Ftruncate fd size) = (fd < 2 ^ 32) × (size < 2 ^ 64)
 IsCall call.Sync = Unit {0}
+IsCall (call.SnapCreate name) = IsTrue (is_word name)
+IsCall (call.SnapDelete name) = IsTrue (is_word name)
+IsCall call.SnapList = Unit {0}
 
 -- the events that have a line
 abbrev pub IsEvent : Event → Type 0

@@ -140,12 +140,19 @@ name_call_of name arguments =
     if bytes_eq name (codes "link") then (paths_of arguments >>= (λ p. Some (call.Link p.0 p.1))) else
     if bytes_eq name (codes "rename") then (paths_of arguments >>= (λ p. Some (call.Rename p.0 p.1))) else path_call_of name arguments
 
+-- the calls for a whole point and on snapshots, or on names
+unfoldable pub point_call_of : List ℕ → List (List ℕ) → Option Call
+point_call_of name arguments =
+    if bytes_eq name (codes "sync") then bare_of call.Sync arguments else
+    if bytes_eq name (codes "snap-create") then (path_of arguments >>= (λ p. Some (call.SnapCreate p))) else
+    if bytes_eq name (codes "snap-delete") then (path_of arguments >>= (λ p. Some (call.SnapDelete p))) else
+    if bytes_eq name (codes "snap-list") then bare_of call.SnapList arguments else name_call_of name arguments
+
 unfoldable pub call_of : List ℕ → List (List ℕ) → Option Call
 call_of name arguments =
     if bytes_eq name (codes "login") then login_of arguments else
     if bytes_eq name (codes "logout") then bare_of call.Logout arguments else
-    if bytes_eq name (codes "sync") then bare_of call.Sync arguments else
-    if bytes_eq name (codes "umask") then umask_of arguments else name_call_of name arguments
+    if bytes_eq name (codes "umask") then umask_of arguments else point_call_of name arguments
 
 -- the events that are no calls of a session
 unfoldable pub lone_event_of : List ℕ → Option Event

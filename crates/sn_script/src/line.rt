@@ -1,6 +1,6 @@
 ghost use Rattle.std.specs.Prelude.{map};
 ghost use Rattle.sn_words.specs.Reading.{IsRead};
-ghost use Rattle.sn_script.specs.Reading.{login_of, bare_of, umask_of, chown_of, access_of, getacl_of, setacl_of, open_of, write_of, file_call_of, access_call_of, path_call_of, name_call_of, call_of, event_of, line_event, lone_event_of};
+ghost use Rattle.sn_script.specs.Reading.{login_of, bare_of, umask_of, chown_of, access_of, getacl_of, setacl_of, open_of, write_of, file_call_of, access_call_of, path_call_of, name_call_of, point_call_of, call_of, event_of, line_event, lone_event_of};
 
 use crate::arguments::{descriptor, descriptor_and_number, path, path_and_mode, paths};
 use sn_model::{Call, Event};
@@ -56,6 +56,12 @@ const SEEK: &[u8] = b"seek";
 const FTRUNCATE: &[u8] = b"ftruncate";
 
 const SYNC: &[u8] = b"sync";
+
+const SNAP_CREATE: &[u8] = b"snap-create";
+
+const SNAP_DELETE: &[u8] = b"snap-delete";
+
+const SNAP_LIST: &[u8] = b"snap-list";
 
 const STEP: &[u8] = b"step";
 
@@ -270,6 +276,28 @@ fn name_call(alloc: Global, name: &[u8], arguments: &[&[u8]]) -> Result<Call, Sp
     path_call(alloc, name, arguments)
 }
 
+/// A call for a whole point or on snapshots, or on names.
+#[tactic(auto, unfolding(crate::specs::Reading::point_call_of))]
+fn point_call(alloc: Global, name: &[u8], arguments: &[&[u8]]) -> Result<Call, SpellingFault>
+    ensures { IsRead (λ c. c) result (point_call_of name.now (map (λ w. w.now) arguments.now)) }
+{
+    if name == SYNC {
+        return bare(Call::Sync, arguments);
+    }
+    if name == SNAP_CREATE {
+        let name = path(alloc, arguments)?;
+        return Ok(Call::SnapCreate { name });
+    }
+    if name == SNAP_DELETE {
+        let name = path(alloc, arguments)?;
+        return Ok(Call::SnapDelete { name });
+    }
+    if name == SNAP_LIST {
+        return bare(Call::SnapList, arguments);
+    }
+    name_call(alloc, name, arguments)
+}
+
 #[tactic(auto, unfolding(crate::specs::Reading::call_of))]
 fn call(alloc: Global, name: &[u8], arguments: &[&[u8]]) -> Result<Call, SpellingFault>
     ensures { IsRead (λ c. c) result (call_of name.now (map (λ w. w.now) arguments.now)) }
@@ -280,13 +308,10 @@ fn call(alloc: Global, name: &[u8], arguments: &[&[u8]]) -> Result<Call, Spellin
     if name == LOGOUT {
         return bare(Call::Logout, arguments);
     }
-    if name == SYNC {
-        return bare(Call::Sync, arguments);
-    }
     if name == UMASK {
         return umask(arguments);
     }
-    name_call(alloc, name, arguments)
+    point_call(alloc, name, arguments)
 }
 
 /// The events that are no calls of a session.

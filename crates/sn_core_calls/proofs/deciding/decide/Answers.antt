@@ -1,7 +1,7 @@
 use Rattle.std.proofs.Common.{subst}
 use Rattle.sn_model.specs.World.{World}
-use Rattle.sn_core_calls.specs.Decided.{Decides}
-use Rattle.sn_core_calls.proofs.DecidedLemmas.{shown_world}
+use Rattle.sn_core_files.specs.Decided.{Decides}
+use Rattle.sn_core_files.proofs.DecidedLemmas.{shown_world}
 use Rattle.sn_core_calls.proofs.deciding.decide.Goals as goal
 
 pub returns-clause-decided : goal.returns-clause-decided

@@ -3,7 +3,7 @@ use Rattle.std.proofs.lemmas.Result.{err_from_is_err_and}
 use Rattle.sn_model.specs.declared.call.Call.TheVariants as call
 use Rattle.sn_desc.specs.InUse.{in_world}
 use Rattle.sn_desc.specs.Sessions.{in_use_of}
-use Rattle.sn_core_calls.proofs.DecidedLemmas.{gives_decided, view_if}
+use Rattle.sn_core_files.proofs.DecidedLemmas.{gives_decided, view_if}
 use Rattle.sn_core_calls.proofs.deciding.decide_stat.Goals as goal
 
 pub returns-in_err-caller : goal.returns-in_err-caller

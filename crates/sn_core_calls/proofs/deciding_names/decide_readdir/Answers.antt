@@ -6,7 +6,7 @@ use Rattle.sn_model.specs.Outcomes.{tells}
 use Rattle.sn_model.specs.Seen.{SeenNames}
 use Rattle.sn_desc.specs.InUse.{in_world}
 use Rattle.sn_desc.specs.Sessions.{in_use_of}
-use Rattle.sn_core_calls.proofs.DecidedLemmas.{failed, lacking, shown_seen, view_later, view_of}
+use Rattle.sn_core_files.proofs.DecidedLemmas.{failed, lacking, shown_seen, view_later, view_of}
 use Rattle.sn_core_calls.proofs.deciding_names.decide_readdir.Goals as goal
 
 pub returns-in_err-caller : goal.returns-in_err-caller

@@ -6,8 +6,8 @@ use Rattle.sn_model.specs.declared.outcome.Outcome.{Outcome}
 use Rattle.sn_model.specs.FileCalls.{read_outcome, reads}
 use Rattle.sn_desc.specs.InUse.{descriptor_of, in_world}
 use Rattle.sn_desc.specs.Sessions.{in_use_of}
-use Rattle.sn_core_calls.proofs.DecidedLemmas.{lacking, view_looked_up}
-use Rattle.sn_core_calls.proofs.deciding_files.decide_read.Goals as goal
+use Rattle.sn_core_files.proofs.DecidedLemmas.{lacking, view_looked_up}
+use Rattle.sn_core_files.proofs.deciding_files.decide_read.Goals as goal
 
 pub returns-in_err-logged_in : goal.returns-in_err-logged_in
 returns-in_err-logged_in g c =

@@ -9,7 +9,7 @@ use std::alloc::Global;
 pub trait FileView: MoveView {
     ghost use Rattle.std.specs.Prelude.{◌≡◌, ℕ, IsTrue, IfOk, IfErr, List, length, take, drop};
     ghost use Rattle.sn_walk.specs.declared.object.Home.{Home};
-    ghost use Rattle.sn_core_calls.specs.Faults.{IfLookUp};
+    ghost use Rattle.sn_core_files.specs.Faults.{IfLookUp};
 
     // the bytes of the nodes of the trees; what isn't there has none
     ghost bytes: { Self → Home → ℕ → List ℕ };

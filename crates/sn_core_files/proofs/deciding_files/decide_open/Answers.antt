@@ -8,8 +8,8 @@ use Rattle.sn_model.specs.FileCalls.{open_as, open_outcome}
 use Rattle.sn_model.specs.Seen.{Seen}
 use Rattle.sn_desc.specs.InUse.{in_world}
 use Rattle.sn_desc.specs.Sessions.{in_use_of}
-use Rattle.sn_core_calls.proofs.DecidedLemmas.{gives_decided, shown_seen, view_if}
-use Rattle.sn_core_calls.proofs.deciding_files.decide_open.Goals as goal
+use Rattle.sn_core_files.proofs.DecidedLemmas.{gives_decided, shown_seen, view_if}
+use Rattle.sn_core_files.proofs.deciding_files.decide_open.Goals as goal
 
 pub returns-in_err-caller : goal.returns-in_err-caller
 returns-in_err-caller g c =

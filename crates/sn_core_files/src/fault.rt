@@ -1,7 +1,7 @@
 //! Why a look-up that takes memory has no answer, and why a call has no outcome.
 ghost use Rattle.std.specs.Prelude.{◌≡◌};
-ghost use Rattle.sn_core_calls.specs.declared.fault.CallError.TheVariants as error;
-ghost use Rattle.sn_core_calls.specs.declared.fault.FileFault.TheVariants as fault;
+ghost use Rattle.sn_core_files.specs.declared.fault.CallError.TheVariants as error;
+ghost use Rattle.sn_core_files.specs.declared.fault.FileFault.TheVariants as fault;
 
 use sn_model::Refusal;
 use sn_walk::Failure;
@@ -45,7 +45,7 @@ impl<F> From<Refusal> for CallError<F> {
 
 impl<F> From<Failure<Refusal, F>> for CallError<F> {
     ghost use Rattle.std.specs.Prelude.{◌≡◌};
-    ghost use Rattle.sn_core_calls.specs.Faults.{as_error};
+    ghost use Rattle.sn_core_files.specs.Faults.{as_error};
 
     ghost from_gives = { λ failure e. e ≡ as_error failure };
 
@@ -59,7 +59,7 @@ impl<F> From<Failure<Refusal, F>> for CallError<F> {
 
 impl<F> From<FileFault<F>> for CallError<F> {
     ghost use Rattle.std.specs.Prelude.{◌≡◌};
-    ghost use Rattle.sn_core_calls.specs.Faults.{error_of};
+    ghost use Rattle.sn_core_files.specs.Faults.{error_of};
 
     ghost from_gives = { λ found e. e ≡ error_of found };
 

@@ -15,11 +15,11 @@ use Rattle.sn_model.specs.Steps.{decision}
 use Rattle.sn_model.specs.World.{World}
 use Rattle.sn_desc.specs.InUse.{InUse, in_world}
 use Rattle.sn_core_decide.specs.Views.{seen_by}
-use Rattle.sn_core_calls.specs.declared.fault.FileFault.{FileFault}
-use Rattle.sn_core_calls.specs.declared.fault.FileFault.TheVariants as fault
-use Rattle.sn_core_calls.specs.Decided.{Decides, HasNone, MayLack}
-use Rattle.sn_core_calls.specs.Faults.{IfView, OfLookUp, OfView, answer_of, as_error, error_of}
-use Rattle.sn_core_calls.specs.Shown.{Shows}
+use Rattle.sn_core_files.specs.declared.fault.FileFault.{FileFault}
+use Rattle.sn_core_files.specs.declared.fault.FileFault.TheVariants as fault
+use Rattle.sn_core_files.specs.Decided.{Decides, HasNone, MayLack}
+use Rattle.sn_core_files.specs.Faults.{IfView, OfLookUp, OfView, answer_of, as_error, error_of}
+use Rattle.sn_core_files.specs.Shown.{Shows}
 
 -- ---- what sessions and a view show
 

@@ -11,9 +11,9 @@ use Rattle.sn_model.specs.Seen.{SeenNames}
 use Rattle.sn_model.specs.Steps.{TakesMemory, decision}
 use Rattle.sn_model.specs.World.{World}
 use Rattle.sn_desc.specs.InUse.{InUse, in_world}
-use Rattle.sn_core_calls.specs.declared.fault.CallError.{CallError}
-use Rattle.sn_core_calls.specs.declared.fault.CallError.TheVariants.{Refused, Memory, View}
-use Rattle.sn_core_calls.specs.Shown.{Shows}
+use Rattle.sn_core_files.specs.declared.fault.CallError.{CallError}
+use Rattle.sn_core_files.specs.declared.fault.CallError.TheVariants.{Refused, Memory, View}
+use Rattle.sn_core_files.specs.Shown.{Shows}
 
 -- a call may find no memory, and its session and arguments have passed
 abbrev pub MayLack : World → ℕ → Call → Type 0

@@ -5,7 +5,7 @@ use Rattle.sn_walk.specs.declared.object.Home.{Home}
 use Rattle.sn_model.specs.declared.outcome.Caller.TheVariants.{Moves}
 use Rattle.sn_model.specs.declared.reply.Reply.TheVariants.{Content}
 use Rattle.sn_model.specs.Outcomes.{asks}
-use Rattle.sn_core_calls.proofs.deciding_files.reads.Goals as goal
+use Rattle.sn_core_files.proofs.deciding_files.reads.Goals as goal
 
 -- where a file stands behind what was read of it
 behind : (offset size most count at : ℕ) (bytes : List ℕ) → size ≡ length bytes → count ≡ length (take most (drop offset bytes)) → (offset + count ≤ size → at ≡ offset + count) → (size ≤ offset → at ≡ offset) → at ≡ offset + count

@@ -3,10 +3,10 @@ use Rattle.std.specs.Prelude.{Result, Ok, Err}
 use Rattle.sn_walk.specs.declared.failure.Failure.{Failure}
 use Rattle.sn_walk.specs.declared.failure.Failure.TheVariants as failure
 use Rattle.sn_model.specs.declared.reply.Refusal.{Refusal}
-use Rattle.sn_core_calls.specs.declared.fault.CallError.{CallError}
-use Rattle.sn_core_calls.specs.declared.fault.CallError.TheVariants.{Refused, Memory, View}
-use Rattle.sn_core_calls.specs.declared.fault.FileFault.{FileFault}
-use Rattle.sn_core_calls.specs.declared.fault.FileFault.TheVariants as fault
+use Rattle.sn_core_files.specs.declared.fault.CallError.{CallError}
+use Rattle.sn_core_files.specs.declared.fault.CallError.TheVariants.{Refused, Memory, View}
+use Rattle.sn_core_files.specs.declared.fault.FileFault.{FileFault}
+use Rattle.sn_core_files.specs.declared.fault.FileFault.TheVariants as fault
 
 -- what a decision failed with
 abbrev pub as_error : {F : Type 0} → Failure Refusal F → CallError F

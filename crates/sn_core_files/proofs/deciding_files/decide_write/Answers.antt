@@ -4,7 +4,7 @@ use Rattle.sn_limits.specs.Versions.{version_1}
 use Rattle.sn_walk.specs.declared.object.Home.{Home}
 use Rattle.sn_model.specs.FileCalls.{bytes_argument, write_offset, write_outcome, write_some}
 use Rattle.sn_desc.specs.InUse.{descriptor_of}
-use Rattle.sn_core_calls.proofs.deciding_files.decide_write.Goals as goal
+use Rattle.sn_core_files.proofs.deciding_files.decide_write.Goals as goal
 
 pub returns-in_err-logged_in : goal.returns-in_err-logged_in
 returns-in_err-logged_in g c =

@@ -10,10 +10,10 @@ ghost use Rattle.sn_model.specs.World.{World};
 ghost use Rattle.sn_desc.specs.InUse.{descriptor_of, in_world};
 ghost use Rattle.sn_desc.specs.Sessions.{in_use_of};
 ghost use Rattle.sn_walk.specs.Gives.{Answers};
-ghost use Rattle.sn_core_calls.specs.Decided.{DecidesShown};
-ghost use Rattle.sn_core_calls.specs.Faults.{IfLookUp, IfView};
+ghost use Rattle.sn_core_files.specs.Decided.{DecidesShown};
+ghost use Rattle.sn_core_files.specs.Faults.{IfLookUp, IfView};
 
-use crate::deciding::{decided, logged_in};
+use crate::callers::{decided, logged_in};
 use crate::fault::{CallError, FileFault};
 use crate::view::FileView;
 use sn_core_decide as decide;
@@ -23,7 +23,8 @@ use sn_core_decide::{
 use sn_desc::{OpenFile, Sessions};
 use sn_limits::Limits;
 use sn_model::{
-    Bytes, Caller, Change, Errno, FileData, OpenFlags, Outcome, Pending, Refusal, Reply, Word,
+    AskedPoint, Bytes, Caller, Change, Errno, FileData, OpenFlags, Outcome, Pending, Refusal,
+    Reply, Word,
 };
 use std::alloc::Global;
 
@@ -36,6 +37,7 @@ fn asks(caller: Caller, told: Reply) -> Outcome<'static>
         change: Pending::Nothing,
         caller,
         told,
+        point: AskedPoint::Unasked,
     }
 }
 
@@ -92,24 +94,18 @@ fn write_some<'a>(
         }),
         caller: Caller::Moves { fd, offset: end },
         told: Reply::Number(count),
+        point: AskedPoint::Unasked,
     })
 }
 
-pub(crate) fn decide_logout(sessions: &Sessions, session: u32) -> Result<Outcome<'static>, Refusal>
+pub fn decide_logout(sessions: &Sessions, session: u32) -> Result<Outcome<'static>, Refusal>
     ensures { (world : World) → Answers (λ o. o) result (decision version_1 (in_world (in_use_of sessions.now) world) session call.Logout) }
 {
     logged_in(sessions, session)?;
     Ok(asks(Caller::LogsOut, Reply::Done))
 }
 
-pub(crate) fn decide_sync(sessions: &Sessions, session: u32) -> Result<Outcome<'static>, Refusal>
-    ensures { (world : World) → Answers (λ o. o) result (decision version_1 (in_world (in_use_of sessions.now) world) session call.Sync) }
-{
-    logged_in(sessions, session)?;
-    Ok(asks(Caller::Stays, Reply::Done))
-}
-
-pub(crate) fn decide_unlink<'a, V: FileView>(
+pub fn decide_unlink<'a, V: FileView>(
     view: &mut V,
     sessions: &Sessions,
     session: u32,
@@ -128,7 +124,7 @@ pub(crate) fn decide_unlink<'a, V: FileView>(
 }
 
 #[tactic(auto, unfolding(sn_model::specs::FileCalls::open_outcome))]
-pub(crate) fn decide_open<'a, V: FileView>(
+pub fn decide_open<'a, V: FileView>(
     view: &mut V,
     sessions: &Sessions,
     session: u32,
@@ -152,11 +148,7 @@ pub(crate) fn decide_open<'a, V: FileView>(
 }
 
 #[tactic(auto, unfolding(sn_model::specs::FileCalls::close_outcome))]
-pub(crate) fn decide_close(
-    sessions: &Sessions,
-    session: u32,
-    fd: u32,
-) -> Result<Outcome<'static>, Refusal>
+pub fn decide_close(sessions: &Sessions, session: u32, fd: u32) -> Result<Outcome<'static>, Refusal>
     ensures { (world : World) → Answers (λ o. o) result (decision version_1 (in_world (in_use_of sessions.now) world) session (call.Close fd)) }
 {
     logged_in(sessions, session)?;
@@ -206,7 +198,7 @@ fn reads<V: FileView>(
 }
 
 #[tactic(auto, unfolding(sn_model::specs::FileCalls::read_outcome))]
-pub(crate) fn decide_read<V: FileView>(
+pub fn decide_read<V: FileView>(
     alloc: Global,
     view: &mut V,
     sessions: &Sessions,
@@ -244,7 +236,7 @@ fn write_offset<V: FileView>(view: &mut V, file: &OpenFile) -> Result<u64, V::Fa
 }
 
 #[tactic(auto, unfolding(sn_model::specs::FileCalls::write_outcome))]
-pub(crate) fn decide_write<'a, V: FileView>(
+pub fn decide_write<'a, V: FileView>(
     view: &mut V,
     sessions: &Sessions,
     session: u32,
@@ -272,7 +264,7 @@ pub(crate) fn decide_write<'a, V: FileView>(
 }
 
 #[tactic(auto, unfolding(sn_model::specs::FileCalls::seek_outcome))]
-pub(crate) fn decide_seek(
+pub fn decide_seek(
     sessions: &Sessions,
     session: u32,
     fd: u32,
@@ -289,7 +281,7 @@ pub(crate) fn decide_seek(
 }
 
 #[tactic(auto, unfolding(sn_model::specs::FileCalls::ftruncate_outcome))]
-pub(crate) fn decide_ftruncate(
+pub fn decide_ftruncate(
     sessions: &Sessions,
     session: u32,
     fd: u32,
@@ -308,5 +300,6 @@ pub(crate) fn decide_ftruncate(
         }),
         caller: Caller::Stays,
         told: Reply::Done,
+        point: AskedPoint::Unasked,
     })
 }

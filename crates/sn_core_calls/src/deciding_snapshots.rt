@@ -1,0 +1,184 @@
+//! What the calls come to that ask for a whole consistency point, and that which lists the snapshots.
+ghost use Rattle.std.specs.Prelude.{◌≡◌, IsTrue};
+ghost use Rattle.sn_limits.specs.Versions.{version_1};
+ghost use Rattle.sn_walk.specs.Gives.{Answers, Gives, IfFault};
+ghost use Rattle.sn_model.specs.declared.call.Call.TheVariants as call;
+ghost use Rattle.sn_model.specs.Outcomes.{points};
+ghost use Rattle.sn_model.specs.SnapshotCalls as calls;
+ghost use Rattle.sn_model.specs.Steps.{decision};
+ghost use Rattle.sn_model.specs.World.{World};
+ghost use Rattle.sn_desc.specs.InUse.{in_world};
+ghost use Rattle.sn_desc.specs.Sessions.{in_use_of};
+ghost use Rattle.sn_core_files.specs.Decided.{DecidesShown};
+ghost use Rattle.sn_core_files.specs.Faults.{IfView};
+
+use sn_acl::Cred;
+use sn_core_decide::forbidden;
+use sn_core_files::{CallError, FileView, logged_in};
+use sn_desc::Sessions;
+use sn_limits::{Limits, SnapshotName};
+use sn_model::{
+    AskedPoint, Caller, Errno, Outcome, PathNumber, Pending, Refusal, Reply, Rule, Word,
+};
+use sn_walk::{Failure, Home, Object};
+use std::alloc::Global;
+
+/// What a call comes to that asks for a whole consistency point, and changes nothing else.
+fn points(asked: AskedPoint) -> Outcome<'static>
+    ensures { result ≡ points asked }
+{
+    Outcome {
+        charge: 0,
+        change: Pending::Nothing,
+        caller: Caller::Stays,
+        told: Reply::Done,
+        point: asked,
+    }
+}
+
+/// An argument that is the name of a snapshot: EINVAL where it is misspelt.
+fn snapshot_argument(word: &Word) -> Result<SnapshotName, Refusal>
+    ensures { result ≡ calls.snapshot_argument word.now }
+{
+    match SnapshotName::parse(word.as_bytes()) {
+        Some(name) => Ok(name),
+        None => Err(Refusal::plain(Errno::Einval)),
+    }
+}
+
+/// Whether the caller is the user 0.
+fn user_0(cred: &Cred) -> Result<(), Refusal>
+    ensures { result ≡ calls.user_0 cred.now }
+{
+    if cred.uid() == 0 {
+        return Ok(());
+    }
+    Err(forbidden(PathNumber::NONE, 0, Rule::NotRoot))
+}
+
+/// Whether no snapshot has the name.
+fn vacant<V: FileView>(view: &mut V, name: &SnapshotName) -> Result<(), Failure<Refusal, V::Fault>>
+    requires { V.holds view.old }
+    ensures kept { V.holds view.new }
+    ensures follows { V.follows view.old view.new }
+    ensures same { IsTrue V.is_told → V.shows view.new ≡ V.shows view.old }
+    ensures exact { IsTrue V.is_told → Gives (λ u. u) result (calls.vacant_snapshot (V.shows view.old) name.now) }
+    ensures cause { IfFault result (λ f. V.causes view.old view.new f) }
+{
+    match view.has_snapshot(name) {
+        Ok(true) => Err(Failure::Refused(Refusal::plain(Errno::Eexist))),
+        Ok(false) => Ok(()),
+        Err(fault) => Err(Failure::Fault(fault)),
+    }
+}
+
+/// Whether a snapshot has the name.
+fn present<V: FileView>(view: &mut V, name: &SnapshotName) -> Result<(), Failure<Refusal, V::Fault>>
+    requires { V.holds view.old }
+    ensures kept { V.holds view.new }
+    ensures follows { V.follows view.old view.new }
+    ensures same { IsTrue V.is_told → V.shows view.new ≡ V.shows view.old }
+    ensures exact { IsTrue V.is_told → Gives (λ u. u) result (calls.present_snapshot (V.shows view.old) name.now) }
+    ensures cause { IfFault result (λ f. V.causes view.old view.new f) }
+{
+    match view.has_snapshot(name) {
+        Ok(true) => Ok(()),
+        Ok(false) => Err(Failure::Refused(Refusal::plain(Errno::Enoent))),
+        Err(fault) => Err(Failure::Fault(fault)),
+    }
+}
+
+/// Whether there may be one more beside so many snapshots.
+fn room_beside(limits: &Limits, count: usize) -> Result<(), Refusal>
+    ensures { result ≡ calls.room_for_snapshot limits.now count }
+{
+    if count >= limits.snapshots as usize {
+        return Err(Refusal::plain(Errno::Elimit));
+    }
+    Ok(())
+}
+
+/// Whether nobody has a file of a snapshot open.
+fn closed(sessions: &Sessions, name: &SnapshotName) -> Result<(), Refusal>
+    ensures { (world : World) → result ≡ calls.closed_snapshot (in_world (in_use_of sessions.now) world) name.now }
+{
+    if sessions.has_open(&Home::Frozen(name.copy())) {
+        return Err(Refusal::plain(Errno::Ebusy));
+    }
+    Ok(())
+}
+
+pub(crate) fn decide_sync(sessions: &Sessions, session: u32) -> Result<Outcome<'static>, Refusal>
+    ensures { (world : World) → Answers (λ o. o) result (decision version_1 (in_world (in_use_of sessions.now) world) session call.Sync) }
+{
+    logged_in(sessions, session)?;
+    Ok(points(AskedPoint::Plain))
+}
+
+pub(crate) fn decide_snap_create<V: FileView>(
+    alloc: Global,
+    view: &mut V,
+    sessions: &Sessions,
+    session: u32,
+    name: &Word,
+) -> Result<Outcome<'static>, CallError<V::Fault>>
+    requires { V.holds view.old }
+    ensures kept { V.holds view.new }
+    ensures follows { V.follows view.old view.new }
+    ensures same { IsTrue V.is_told → V.shows view.new ≡ V.shows view.old }
+    ensures decided { IsTrue V.is_told → DecidesShown (in_use_of sessions.now) (V.shows view.old) (V.room view.old) (V.names view.old) (V.bytes view.old) session (call.SnapCreate name.now) result }
+    ensures cause { IfView result (λ f. V.causes view.old view.new f) }
+{
+    let caller = logged_in(sessions, session)?;
+    let name = snapshot_argument(name)?;
+    user_0(&caller.cred)?;
+    vacant(view, &name)?;
+    let there = view.listed(alloc, &Object::Snapshots)?;
+    room_beside(&Limits::VERSION_1, there.as_slice().len())?;
+    Ok(points(AskedPoint::Freezes(name)))
+}
+
+pub(crate) fn decide_snap_delete<V: FileView>(
+    view: &mut V,
+    sessions: &Sessions,
+    session: u32,
+    name: &Word,
+) -> Result<Outcome<'static>, CallError<V::Fault>>
+    requires { V.holds view.old }
+    ensures kept { V.holds view.new }
+    ensures follows { V.follows view.old view.new }
+    ensures same { IsTrue V.is_told → V.shows view.new ≡ V.shows view.old }
+    ensures decided { IsTrue V.is_told → DecidesShown (in_use_of sessions.now) (V.shows view.old) (V.room view.old) (V.names view.old) (V.bytes view.old) session (call.SnapDelete name.now) result }
+    ensures cause { IfView result (λ f. V.causes view.old view.new f) }
+{
+    let caller = logged_in(sessions, session)?;
+    let name = snapshot_argument(name)?;
+    user_0(&caller.cred)?;
+    present(view, &name)?;
+    closed(sessions, &name)?;
+    Ok(points(AskedPoint::Thaws(name)))
+}
+
+pub(crate) fn decide_snap_list<V: FileView>(
+    alloc: Global,
+    view: &mut V,
+    sessions: &Sessions,
+    session: u32,
+) -> Result<Outcome<'static>, CallError<V::Fault>>
+    requires { V.holds view.old }
+    ensures kept { V.holds view.new }
+    ensures follows { V.follows view.old view.new }
+    ensures same { IsTrue V.is_told → V.shows view.new ≡ V.shows view.old }
+    ensures decided { IsTrue V.is_told → DecidesShown (in_use_of sessions.now) (V.shows view.old) (V.room view.old) (V.names view.old) (V.bytes view.old) session call.SnapList result }
+    ensures cause { IfView result (λ f. V.causes view.old view.new f) }
+{
+    logged_in(sessions, session)?;
+    let names = view.listed(alloc, &Object::Snapshots)?;
+    Ok(Outcome {
+        charge: 0,
+        change: Pending::Nothing,
+        caller: Caller::Stays,
+        told: Reply::Names(names),
+        point: AskedPoint::Unasked,
+    })
+}

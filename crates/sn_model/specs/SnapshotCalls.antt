@@ -1,0 +1,70 @@
+-- The calls on snapshots, each as the list of its tests, in their order, with what it comes to where all pass. They are this project's own; snapshots are those of Hitz, Lau and Malcolm 1994.
+use Rattle.std.specs.Prelude.{ℕ, ◌==◌, Bool, nat_le, List, Result, Ok, Err, if◌then◌else◌}
+use Rattle.std.specs.FinMap as map
+use Rattle.std.specs.List.{list_any}
+use Rattle.sn_acl.specs.Credential.{Credential}
+use Rattle.sn_limits.specs.SnapshotName.{is_snapshot_name}
+use Rattle.sn_limits.specs.declared.limits.Limits.{Limits}
+use Rattle.sn_walk.specs.Chains.{◌>>=◌}
+use Rattle.sn_walk.specs.Objects.{is_same}
+use Rattle.sn_walk.specs.Views.{ViewedTrees}
+use Rattle.sn_walk.specs.declared.object.Home.TheVariants.{Frozen}
+use Rattle.sn_model.specs.declared.reply.Errno.TheVariants.{Ebusy, Eexist, Einval, Elimit, Enoent}
+use Rattle.sn_model.specs.declared.reply.Refusal.{Refusal}
+use Rattle.sn_model.specs.declared.reply.Reply.TheVariants as reply
+use Rattle.sn_model.specs.declared.reply.Rule.TheVariants as rule
+use Rattle.sn_model.specs.declared.session.Session.{Session}
+use Rattle.sn_model.specs.Descriptors.{Descriptors}
+use Rattle.sn_model.specs.Outcomes.{Outcome, Freezes, Thaws, points, tells}
+use Rattle.sn_model.specs.Tests.{forbidden, plain}
+use Rattle.sn_model.specs.World.{World, trees_of, viewed_trees}
+
+-- an argument that is the name of a snapshot
+abbrev pub snapshot_argument : List ℕ → Result (List ℕ) Refusal
+snapshot_argument word = if is_snapshot_name word then Ok word else Err (plain Einval)
+
+-- the user 0 alone; there is no path, so that path and place are 0
+abbrev pub user_0 : Credential → Result (Unit {0}) Refusal
+user_0 cred = if cred.uid == 0 then Ok tt else Err (forbidden 0 0 rule.NotRoot)
+
+-- no snapshot has the name
+abbrev pub vacant_snapshot : ViewedTrees → List ℕ → Result (Unit {0}) Refusal
+vacant_snapshot trees name = if trees.has_snapshot name then Err (plain Eexist) else Ok tt
+
+-- beside so many one more is allowed
+abbrev pub room_for_snapshot : Limits → ℕ → Result (Unit {0}) Refusal
+room_for_snapshot limits count = if nat_le limits.snapshots count then Err (plain Elimit) else Ok tt
+
+-- a snapshot has the name
+abbrev pub present_snapshot : ViewedTrees → List ℕ → Result (Unit {0}) Refusal
+present_snapshot trees name = if trees.has_snapshot name then Ok tt else Err (plain Enoent)
+
+-- whether any descriptor has a file of the snapshot's tree
+abbrev pub has_open_in : Descriptors → List ℕ → Bool
+has_open_in table name = list_any (λ e. is_same (Frozen name) e.1.home) (map.entries table)
+
+-- nobody has a file of it open
+abbrev pub closed_snapshot : World → List ℕ → Result (Unit {0}) Refusal
+closed_snapshot world name = if has_open_in world.descriptors name then Err (plain Ebusy) else Ok tt
+
+-- ---- the calls
+
+-- snap-create: user 0; vacant; room
+unfoldable pub snap_create_outcome : Limits → World → Session → List ℕ → Result Outcome Refusal
+snap_create_outcome limits world session name = do
+  _ ← user_0 session.cred
+  _ ← vacant_snapshot (viewed_trees (trees_of world)) name
+  _ ← room_for_snapshot limits (map.len world.frozen)
+  Ok (points (Freezes name))
+
+-- snap-delete: user 0; present; closed
+unfoldable pub snap_delete_outcome : World → Session → List ℕ → Result Outcome Refusal
+snap_delete_outcome world session name = do
+  _ ← user_0 session.cred
+  _ ← present_snapshot (viewed_trees (trees_of world)) name
+  _ ← closed_snapshot world name
+  Ok (points (Thaws name))
+
+-- snap-list: the names of the snapshots, in the order of their bytes
+abbrev pub snap_list_outcome : World → Outcome
+snap_list_outcome world = tells (reply.Names (map.keys world.frozen))
