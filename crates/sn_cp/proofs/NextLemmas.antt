@@ -6,7 +6,7 @@ use Rattle.sn_layout.specs.declared.root.RootBody.{RootBody}
 use Rattle.sn_model.specs.declared.change.Change.{Change}
 use Rattle.sn_model.specs.Changes.{apply_all}
 use Rattle.sn_model.specs.Tree.{Tree}
-use Rattle.sn_model.specs.World.{World}
+use Rattle.sn_model.specs.World.{Trees, World}
 use Rattle.sn_ondisk.specs.TreeLaws.{SameIn}
 use Rattle.sn_ondisk.specs.Trees.{Store, store_of}
 use Rattle.sn_image.specs.Image.{image}
@@ -30,13 +30,12 @@ frozen_stay s r root same =
     let there = standing_depends s r root same [] (found tree (frozen_of s root.snapshots)) (record { tree = tree; applied = refl; settles = refl }) in
     ap (λ (w : World). w.frozen) there.settles
 
-pub next_opens : (w : Work) (s : Store) (root : RootBody) (frozen tree : Tree) (third fourth : List Change) (c : Contents)
-    → IsBuilt w.blocks s root frozen w.plan → AreSpelled third → AreSpelled fourth
-    → apply_all root.limits (third ++ fourth) frozen ≡ Some tree
-    → ShowsNext w s root third fourth c → Opens w.blocks c (found tree (frozen_of s root.snapshots))
-next_opens w s root frozen tree third fourth c built third_spelled fourth_spelled applied next =
+pub next_opens : (w : Work) (s : Store) (root : RootBody) (trees : Trees) (tree : Tree) (third fourth : List Change) (c : Contents)
+    → IsBuilt w.blocks s root trees w.plan → AreSpelled third → AreSpelled fourth
+    → apply_all root.limits (third ++ fourth) trees.live ≡ Some tree
+    → ShowsNext w s root third fourth c → Opens w.blocks c (found tree trees.frozen)
+next_opens w s root trees tree third fourth c built third_spelled fourth_spelled applied next =
     let live = built.tree (store_of c) next.same next.blocks in
-    let trees : frozen_of s root.snapshots ≡ frozen_of (store_of c) w.plan.next.snapshots = frozen_stay s (store_of c) root next.same ∙ ap (frozen_of (store_of c)) (sym built.snapshots) in
     record {
       slot = w.slot;
       root = w.plan.next;
@@ -48,12 +47,12 @@ next_opens w s root frozen tree third fourth c built third_spelled fourth_spelle
       stands = record {
         tree = tree;
         applied = (λ i. apply_all (built.limits i) (third ++ fourth) (live i)) ∙ applied;
-        settles = ap (found tree) trees;
+        settles = ap (found tree) (sym (built.frozen (store_of c) next.same next.blocks));
       };
     }
 
-pub done_points_stand : (w : Work) (s : Store) (root : RootBody) (frozen : Tree) (newer : List Change) (d : Disk) → AreSectors (reads d)
-    → IsBuilt w.blocks s root frozen w.plan → StandsAtStage w Done d → Always d (ShowsNext w s root newer [])
-    → NextStands w.blocks w.slot root.limits w.plan.next newer frozen d
-done_points_stand w s root frozen newer d sectors built stands next =
-    done_stands w.blocks s w.slot root newer frozen w.plan d sectors stands.reached.1 built stands.reached.0 (λ c crash. (next c crash).same) (λ c crash. (next c crash).shown)
+pub done_points_stand : (w : Work) (s : Store) (root : RootBody) (trees : Trees) (newer : List Change) (d : Disk) → AreSectors (reads d)
+    → IsBuilt w.blocks s root trees w.plan → StandsAtStage w Done d → Always d (ShowsNext w s root newer [])
+    → NextStands w.blocks w.slot root.limits w.plan.next newer trees.live d
+done_points_stand w s root trees newer d sectors built stands next =
+    done_stands w.blocks s w.slot root newer trees w.plan d sectors stands.reached.1 built stands.reached.0 (λ c crash. (next c crash).same) (λ c crash. (next c crash).shown)

@@ -10,6 +10,7 @@ use Rattle.sn_layout.specs.Geometry.{other_slot}
 use Rattle.sn_model.specs.declared.change.Change.{Change}
 use Rattle.sn_model.specs.Changes.{apply_all}
 use Rattle.sn_model.specs.Tree.{Tree}
+use Rattle.sn_model.specs.World.{Trees}
 use Rattle.sn_ondisk.specs.Blocks.{InBlock}
 use Rattle.sn_ondisk.specs.LogHalf.{HasNoLater, InHalf, Replays, base_of}
 use Rattle.sn_ondisk.specs.MapCopy.{HasMap, InMap}
@@ -22,7 +23,7 @@ use Rattle.sn_opening.specs.Opens.{LieInData, Opens, Shows}
 use Rattle.sn_opening.specs.PointLaws.{NextStands}
 use Rattle.sn_opening.specs.Points.{HoldsAll, IsBuilt, Written}
 use Rattle.sn_opening.specs.Spelled.{AreSpelled}
-use Rattle.sn_opening.specs.Worlds.{all_reach, found, frozen_of}
+use Rattle.sn_opening.specs.Worlds.{all_reach, found}
 use Rattle.sn_cp.specs.Points.{Work}
 use Rattle.sn_cp.specs.Steps.{IsWhole, IsWithin, InStep, StandsAtStage, StepsTo}
 use Rattle.sn_cp.specs.declared.stage.Stage.{Stage}
@@ -93,16 +94,16 @@ LogKeepsTheStage = (w : Work) (stage : Stage) (epoch : ℕ) (old new : Disk) →
 
 -- What was built denotes the tree that was frozen, and with the records of its two epochs the next root stands for a world: contents that show it open to that.
 abbrev pub NextRootsOpen : Type 0
-NextRootsOpen = (w : Work) (s : Store) (root : RootBody) (frozen tree : Tree) (third fourth : List Change) (c : Contents)
-    → IsBuilt w.blocks s root frozen w.plan → AreSpelled third → AreSpelled fourth
-    → apply_all root.limits (third ++ fourth) frozen ≡ Some tree
-    → ShowsNext w s root third fourth c → Opens w.blocks c (found tree (frozen_of s root.snapshots))
+NextRootsOpen = (w : Work) (s : Store) (root : RootBody) (trees : Trees) (tree : Tree) (third fourth : List Change) (c : Contents)
+    → IsBuilt w.blocks s root trees w.plan → AreSpelled third → AreSpelled fourth
+    → apply_all root.limits (third ++ fourth) trees.live ≡ Some tree
+    → ShowsNext w s root third fourth c → Opens w.blocks c (found tree trees.frozen)
 
 -- Once the point is done, the store in which the next root was made is what is read, and what was built is sound there.
 abbrev pub DonePointsStand : Type 0
-DonePointsStand = (w : Work) (s : Store) (root : RootBody) (frozen : Tree) (newer : List Change) (d : Disk) → AreSectors (reads d)
-    → IsBuilt w.blocks s root frozen w.plan → StandsAtStage w Done d → Always d (ShowsNext w s root newer [])
-    → NextStands w.blocks w.slot root.limits w.plan.next newer frozen d
+DonePointsStand = (w : Work) (s : Store) (root : RootBody) (trees : Trees) (newer : List Change) (d : Disk) → AreSectors (reads d)
+    → IsBuilt w.blocks s root trees w.plan → StandsAtStage w Done d → Always d (ShowsNext w s root newer [])
+    → NextStands w.blocks w.slot root.limits w.plan.next newer trees.live d
 
 -- ---- all steps in a row
 

@@ -19,9 +19,3 @@ use Rattle.sn_cp_held.specs.Wholes.{HasBegun, IsOfLive, behind_point, kept_behin
 abbrev pub BeginningsLeaveTheWorld : Type 0
 BeginningsLeaveTheWorld = (h : Held) (world : World) (r : Runs h world) (result : Result (Unit {0}) ReadFault) (d : Disk) → IsBetween h world r → Begins h.at result h.disk d
     → LeavesOnly h.disk d (λ c. IsImage c (settle world)) × OnOk result (HasBegun h world r d)
-
--- It makes its steps, all in a row: whatever the answer, a crash at any moment leaves an image of the settled world. At `Ok` the mount runs on over the next root, ready for another point.
-abbrev pub PointsLeaveTheWorld : Type 0
-PointsLeaveTheWorld = (h : Held) (world : World) (k : Kept) (r : RunsReady h world k) (w : Work) (room : RoomCounts) (result : Result (Unit {0}) Fault) (begun d : Disk) → IsOfLive h world r.runs w room → AreSectors (reads begun) → AreSectors (reads d)
-    → HasBegun h world r.runs begun → Finishes w result begun d
-    → LeavesOnly begun d (λ c. IsImage c (settle world)) × OnOk result (RunsReady (behind_point h room r.runs.root.epoch d) world (kept_behind w))

@@ -10,6 +10,7 @@ use Rattle.sn_layout.specs.declared.gate.Gate.{Gate}
 use Rattle.sn_layout.specs.declared.root.RootBody.{RootBody}
 use Rattle.sn_limits.specs.Versions.{version_1}
 use Rattle.sn_model.specs.NameTree.{IsTree}
+use Rattle.sn_model.specs.Outcomes.{Plain}
 use Rattle.sn_model.specs.World.{World}
 use Rattle.sn_ondisk.specs.Trees.{store_of}
 use Rattle.sn_root.specs.declared.following.PointKind.TheVariants.{Recovery}
@@ -45,5 +46,5 @@ pub record IsRecovered (d : Disk) (world : World) (w : Work) : Type 0 where
 -- A point two epochs on is made of it, which begins with no clearing: whatever the answer, a crash at any moment leaves an image of the world. At `Ok` the next root counts, and replay finds nothing.
 abbrev pub RecoveriesLeaveTheWorld : Type 0
 RecoveriesLeaveTheWorld = (old new : Disk) (world : World) (im : IsImage (reads old) world) (k : Kept) (gate : Gate) (built : Built) (next : RootBody) (result : Result (Unit {0}) Fault) → HasReplayed old world im k
-    → IsBuiltOf im.blocks (reads old) Recovery k built next → AreSectors (reads new) → Finishes (work_for im.blocks k gate built next) result old new
+    → IsBuiltOf im.blocks (reads old) Recovery k Plain 0 built next → AreSectors (reads new) → Finishes (work_for im.blocks k gate built next) result old new
     → LeavesOnly old new (λ c. IsImage c world) × OnOk result (IsRecovered new world (work_for im.blocks k gate built next))

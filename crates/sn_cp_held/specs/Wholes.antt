@@ -11,7 +11,8 @@ use Rattle.sn_limits.specs.Versions.{version_1}
 use Rattle.sn_log.specs.Positions.{IsReadyAt, first_of}
 use Rattle.sn_model.specs.declared.change.Change.{Change}
 use Rattle.sn_model.specs.NameTree.{IsTree}
-use Rattle.sn_model.specs.World.{World}
+use Rattle.sn_model.specs.Outcomes.{AskedPoint}
+use Rattle.sn_model.specs.World.{World, trees_of}
 use Rattle.sn_ondisk.specs.Blocks.{block_at}
 use Rattle.sn_ondisk.specs.LogHalf.{HasNoLater, base_of}
 use Rattle.sn_ondisk.specs.MapCopy.{HasMap}
@@ -29,14 +30,15 @@ use Rattle.sn_held.specs.Held.{Held, Kept, Runs}
 use Rattle.sn_held.specs.Room.{IsCharged}
 use Rattle.sn_cp.specs.Points.{Work}
 use Rattle.sn_cp.specs.Steps.{IsWhole}
+use Rattle.sn_cp_held.specs.Snapshots.{trees_behind}
 
--- The point was built of the live tree, for the slot that doesn't count: wherever its blocks stand beside what the root reaches, its root is sound with its snapshots and its map, and what is kept of the room is charged of it. It has an age left.
-pub record IsOfLive (h : Held) (world : World) (r : Runs h world) (w : Work) (room : RoomCounts) : Type 0 where
+-- The point was built of the live tree, with the snapshots that are asked for, for the slot that doesn't count: wherever its blocks stand beside what the root reaches, its root is sound with its snapshots and its map, and what is kept of the room is charged of it. It has an age left.
+pub record IsOfLive (h : Held) (world : World) (r : Runs h world) (asked : AskedPoint) (w : Work) (room : RoomCounts) : Type 0 where
   pub whole : IsWhole w
   pub blocks : w.blocks ≡ h.at.blocks
   pub slot : other_slot r.slot ≡ w.slot
   pub epoch : w.plan.next.epoch ≡ r.root.epoch + 1
-  pub built : IsBuilt h.at.blocks r.store r.root world.live w.plan
+  pub built : IsBuilt h.at.blocks r.store r.root (trees_behind asked (trees_of world)) w.plan
   pub sound : (s : Store) → SameIn (all_reach r.store r.root) r.store s → HoldsAll s w.plan.blocks → IsSoundRoot h.at.blocks s w.plan.next (slice_index w.plan.words)
   pub charged : (s : Store) → SameIn (all_reach r.store r.root) r.store s → HoldsAll s w.plan.blocks → IsCharged room h.at.blocks s w.plan.next [] world.live
   pub age : HasAgeLeft w.plan.next
@@ -72,7 +74,3 @@ pub record StandsKept (n : ℕ) (c : Contents) (world : World) (k : Kept) : Type
 -- what is kept once the point is done: its root counts, and nothing has changed
 abbrev pub kept_behind : Work → Kept
 kept_behind w = record { slot = w.slot; root = w.plan.next; words = w.plan.words; changed = no_changes }
-
--- what is held behind the point: the log is empty
-abbrev pub behind_point : Held → RoomCounts → ℕ → Disk → Held
-behind_point h room epoch d = record h { room = room; at = first_of h.at.blocks (epoch + 1); disk = d }

@@ -1,6 +1,6 @@
 //! The laws that the definitions of `specs/` keep.
 ghost use Rattle.sn_cp_held.specs.Builds.{BuildsAreBuilt, BuildsAreOfLive, BuildsAreSound, BuildsHaveRoom, BuildsLeaveRoom};
-ghost use Rattle.sn_cp_held.specs.Laws.{BeginningsLeaveTheWorld, PointsLeaveTheWorld};
+ghost use Rattle.sn_cp_held.specs.Laws.{BeginningsLeaveTheWorld};
 ghost use Rattle.sn_cp_held.specs.Recovering.{RecoveriesLeaveTheWorld};
 
 /// What a build gives is what a point needs, and what it leaves free; and a mount's live tree is built so, with room for it.
@@ -12,10 +12,9 @@ pub fn build_laws()
     ensures fit { BuildsHaveRoom }
 {}
 
-/// What a whole point leaves of the world, in its beginning and in its steps.
-pub fn whole_laws()
-    ensures begins { BeginningsLeaveTheWorld }
-    ensures steps { PointsLeaveTheWorld }
+/// What the beginning of a point leaves of the world. What its steps leave says `sn_cp_progress`.
+pub fn begin_laws()
+    ensures { BeginningsLeaveTheWorld }
 {}
 
 /// What a point leaves of a disk on which a mount has replayed something: the same world, with an empty log.

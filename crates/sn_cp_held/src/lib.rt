@@ -1,17 +1,18 @@
-//! What a whole consistency point makes of what a mounted file system holds: definitions and laws alone.
+//! What a consistency point is built of, for what a mounted file system holds: definitions and laws alone.
 //!
-//! A point that was built of the live tree is begun, and then makes all its steps in a row. Nothing that can be seen
-//! changes by that: at each moment a crash leaves an image of the settled world, by the root that counted or by the
-//! next one. Once it is done the mount runs on over the next root, whose log is empty.
+//! A point is built of the live tree, and makes of the snapshots what is asked for: nothing, one more, which has the
+//! live tree as it stands, or one less. Wherever its new blocks stand beside what the root reaches, its root is sound with
+//! its snapshots and its map, and denotes the live tree and those frozen trees. While it begins nothing that can be seen
+//! changes: at each moment a crash leaves an image of the settled world.
 //!
-//! The way through: `specs/Builds.antt` says what a build gives a point; `Wholes.antt` when a mount is between two
-//! points, what a point of its live tree is, and what stands once it has begun; `Laws.antt` what a whole point
-//! leaves, and `Recovering.antt` one that a mount makes of what it replayed; and `laws` has the functions that prove
-//! them.
+//! The way through: `specs/Snapshots.antt` says what becomes of the snapshots; `Builds.antt` what a build gives a point;
+//! `Wholes.antt` what a point of the live tree is, and what stands once it has begun; `Laws.antt` what its beginning
+//! leaves, and `Recovering.antt` a whole point that a mount makes of what it replayed; and `laws` has the functions that
+//! prove them. What the steps of a point leave says `sn_cp_progress`.
 //!
 //! What the sources leave open is decided in `docs/DECISIONS.md`, under "Steps of a consistency point".
 #![tactic(auto)]
 
 mod laws;
 
-pub use laws::{build_laws, recovery_laws, whole_laws};
+pub use laws::{begin_laws, build_laws, recovery_laws};

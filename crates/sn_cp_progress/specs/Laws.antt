@@ -12,7 +12,8 @@ use Rattle.sn_model.specs.Charges.{charge_for}
 use Rattle.sn_model.specs.NameTree.{IsHierarchy, IsTree}
 use Rattle.sn_model.specs.Settling.{settle}
 use Rattle.sn_model.specs.Tree.{Tree}
-use Rattle.sn_model.specs.World.{World}
+use Rattle.sn_model.specs.Outcomes.{AskedPoint}
+use Rattle.sn_model.specs.World.{World, trees_of}
 use Rattle.sn_ondisk.specs.LogHalf.{InHalf}
 use Rattle.sn_overlay.specs.Needs.{nameless_in}
 use Rattle.sn_overlay.specs.Overlays.{no_changes}
@@ -22,35 +23,37 @@ use Rattle.sn_sound.specs.Logs.{HasAgeLeft}
 use Rattle.sn_held.specs.Events.{IsOfTree, LeavesEither, LeavesMore}
 use Rattle.sn_held.specs.Held.{CarriesOn, Held, Kept, RunsReady}
 use Rattle.sn_held.specs.Images.{IsImage}
+use Rattle.sn_cp_progress.specs.Meaning.{EitherImage}
 use Rattle.sn_held.specs.Room.{HasRoomFor}
 use Rattle.sn_cp.specs.Points.{Work}
 use Rattle.sn_cp.specs.Showing.{Finishes, IsBeforeOpening}
 use Rattle.sn_cp.specs.Steps.{IsWithin, StandsAtStage, StepsTo, next_stage}
 use Rattle.sn_cp.specs.declared.stage.Stage.{Stage}
 use Rattle.sn_cp.specs.declared.stage.Stage.TheVariants.{Bodied}
+use Rattle.sn_cp_held.specs.Snapshots.{trees_behind}
 use Rattle.sn_cp_held.specs.Wholes.{HasBegun, IsOfLive}
-use Rattle.sn_cp_progress.specs.Progress.{Progress, RunsOn, kept_behind}
+use Rattle.sn_cp_progress.specs.Progress.{Progress, RunsOn, kept_behind, world_behind}
 
--- Once a point of the live tree has begun, the mount runs on with it in progress: the live tree is frozen in it, and nothing has changed since.
+-- Once a point of the live tree has begun, the mount runs on with it in progress: it is built of the live tree, with the snapshots that were asked for, and nothing has changed since.
 abbrev pub PointsBegin : Type 0
-PointsBegin = (h : Held) (world : World) (k : Kept) (r : RunsReady h world k) (w : Work) (free : ℕ) (stage : Stage) (d : Disk) → IsOfLive h world r.runs w (fresh free) → AreSectors (reads d)
+PointsBegin = (h : Held) (world : World) (k : Kept) (r : RunsReady h world k) (asked : AskedPoint) (w : Work) (free : ℕ) (stage : Stage) (d : Disk) → IsOfLive h world r.runs asked w (fresh free) → AreSectors (reads d)
     → HasBegun h world r.runs d → IsWithin w stage → StandsAtStage w stage d
-    → RunsOn (record h { room = begun h.room; at = first_of h.at.blocks (r.runs.root.epoch + 1); base = record k { changed = no_changes }; disk = d }) world (record { work = w; stage = stage; frozen = world.live; free = free })
+    → RunsOn (record h { room = begun h.room; at = first_of h.at.blocks (r.runs.root.epoch + 1); base = record k { changed = no_changes }; disk = d }) world (record { work = w; stage = stage; trees = trees_behind asked (trees_of world); free = free })
 
 -- A step before the last: a crash at any moment leaves an image of the settled world, and at `Ok` the mount runs on with the point at its next stage.
 abbrev pub StepsGoOn : Type 0
 StepsGoOn = (h : Held) (world : World) (p : Progress) (result : Result (Unit {0}) Fault) (d : Disk) → RunsOn h world p → AreSectors (reads d) → IsBeforeOpening p.stage → StepsTo p.work p.stage result h.disk d
     → LeavesOnly h.disk d (λ c. IsImage c (settle world)) × OnOk result (RunsOn (record h { disk = d }) world (record p { stage = next_stage p.work p.stage }))
 
--- The last step: a crash at any moment leaves an image of the settled world. At `Ok` the next root counts with all that was logged since on top of it, and the mount is ready for another point.
+-- The last step: a crash at any moment leaves an image of the settled world, or of that with the point's snapshots. At `Ok` the next root counts with all that was logged since on top of it, and the mount is ready for another point.
 abbrev pub PointsEnd : Type 0
 PointsEnd = (h : Held) (world : World) (p : Progress) (result : Result (Unit {0}) Fault) (d : Disk) → RunsOn h world p → AreSectors (reads d) → p.stage ≡ Bodied → StepsTo p.work p.stage result h.disk d
-    → LeavesOnly h.disk d (λ c. IsImage c (settle world)) × OnOk result (RunsReady (record h { room = done p.free h.room; disk = d }) world (kept_behind h p))
+    → LeavesOnly h.disk d (EitherImage world (world_behind p world)) × OnOk result (RunsReady (record h { world = world_behind p world; room = done p.free h.room; disk = d }) (world_behind p world) (kept_behind h p))
 
--- The steps that are left, all in a row: whatever the answer, a crash at any moment leaves an image of the settled world, and at `Ok` the mount is ready for another point.
+-- The steps that are left, all in a row: whatever the answer, a crash at any moment leaves an image of the settled world, or of that with the point's snapshots, and at `Ok` the mount is ready for another point.
 abbrev pub PointsFinish : Type 0
 PointsFinish = (h : Held) (world : World) (p : Progress) (result : Result (Unit {0}) Fault) (d : Disk) → RunsOn h world p → AreSectors (reads d) → Finishes p.work result h.disk d
-    → LeavesOnly h.disk d (λ c. IsImage c (settle world)) × OnOk result (RunsReady (record h { room = done p.free h.room; disk = d }) world (kept_behind h p))
+    → LeavesOnly h.disk d (EitherImage world (world_behind p world)) × OnOk result (RunsReady (record h { world = world_behind p world; room = done p.free h.room; disk = d }) (world_behind p world) (kept_behind h p))
 
 -- A change of the live tree that has room on both roots is appended between two steps: a crash in its course leaves an image of the settled world from before it, or of the one after it.
 abbrev pub AppendsLeaveEither : Type 0

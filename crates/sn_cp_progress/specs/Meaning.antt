@@ -1,24 +1,31 @@
 -- What a mounted file system means: a state of the machine, between two points or with one in progress.
-use Rattle.std.specs.Prelude.{◌≡◌, Bool, true, false, Option, None, Some}
+use Rattle.std.specs.Prelude.{◌≡◌, ◌⊎◌, Bool, true, false, Option, None, Some}
 use Rattle.sn_device.specs.Disk.{Always}
+use Rattle.sn_device.specs.Sectors.{Contents}
 use Rattle.sn_model.specs.declared.change.Change.{Change}
 use Rattle.sn_model.specs.Machine.{State, Running, Stopped}
+use Rattle.sn_model.specs.Settling.{settle}
 use Rattle.sn_model.specs.Tree.{Tree}
-use Rattle.sn_model.specs.World.{World}
+use Rattle.sn_model.specs.World.{Trees, World}
 use Rattle.sn_room.specs.Rooms.{RoomCounts, done}
 use Rattle.sn_held.specs.Held.{Going, Held, RunsReady}
+use Rattle.sn_held.specs.Images.{IsImage}
 use Rattle.sn_held.specs.Moments.{ShowsState}
 use Rattle.sn_held.specs.Room.{HasRoomFor}
 use Rattle.sn_cp_progress.specs.Progress.{Progress, RunsOn}
 
--- a point in progress, over the tree that was frozen when it began
-abbrev pub progress_over : Going → Tree → Progress
-progress_over going frozen = record { work = going.work; stage = going.stage; frozen = frozen; free = going.free }
+-- contents are an image of one settled world or of another
+abbrev pub EitherImage : World → World → Contents → Type 0
+EitherImage world after c = IsImage c (settle world) ⊎ IsImage c (settle after)
 
--- a mount runs over this world, ready for a point, or with this one in progress
+-- a point in progress, of the trees that it was built of
+abbrev pub progress_over : Going → Trees → Progress
+progress_over going trees = record { work = going.work; stage = going.stage; trees = trees; free = going.free }
+
+-- a mount runs over this world, ready for a point, or with this one in progress, which leaves the snapshots as they are
 abbrev pub RunsWith : Option Going → Held → World → Type 0
 RunsWith None h world = RunsReady h world h.base
-RunsWith (Some going) h world = (frozen : Tree) × RunsOn h world (progress_over going frozen)
+RunsWith (Some going) h world = (built : Tree) × RunsOn h world (progress_over going (record { live = built; frozen = world.frozen }))
 
 -- One that runs does so over this world. One that a failure has stopped knows of its disk alone, that the next mount finds one of two worlds there.
 abbrev pub Means : Held → Bool → State → Type 0

@@ -8,8 +8,7 @@ use Rattle.sn_layout.specs.declared.root.RootBody.{RootBody}
 use Rattle.sn_limits.specs.Versions.{version_1}
 use Rattle.sn_log.specs.Positions.{IsReadyAt}
 use Rattle.sn_model.specs.NameTree.{IsTree}
-use Rattle.sn_model.specs.Tree.{Tree}
-use Rattle.sn_model.specs.World.{World}
+use Rattle.sn_model.specs.World.{Trees, World}
 use Rattle.sn_ondisk.specs.LogHalf.{HasNoLater, base_of}
 use Rattle.sn_ondisk.specs.TreeLaws.{SameIn}
 use Rattle.sn_ondisk.specs.Trees.{Store}
@@ -25,36 +24,36 @@ use Rattle.sn_cp.specs.Points.{Work}
 use Rattle.sn_cp.specs.Steps.{IsWhole, IsWithin, StandsAtStage}
 use Rattle.sn_cp.specs.declared.stage.Stage.{Stage}
 
--- A point was built of this tree over this root, for the slot that doesn't count: wherever its blocks stand beside what the root reaches, its root is sound with its snapshots and its map. It has an age left.
-pub record IsOfFrozen (n : ℕ) (s : Store) (counts : Slot) (root : RootBody) (frozen : Tree) (w : Work) : Type 0 where
+-- A point was built of these trees over this root, for the slot that doesn't count: wherever its blocks stand beside what the root reaches, its root is sound with its snapshots and its map. It has an age left.
+pub record IsOfTrees (n : ℕ) (s : Store) (counts : Slot) (root : RootBody) (trees : Trees) (w : Work) : Type 0 where
   pub whole : IsWhole w
   pub blocks : w.blocks ≡ n
   pub slot : other_slot counts ≡ w.slot
   pub epoch : w.plan.next.epoch ≡ root.epoch + 1
-  pub built : IsBuilt n s root frozen w.plan
+  pub built : IsBuilt n s root trees w.plan
   pub sound : (t : Store) → SameIn (all_reach s root) s t → HoldsAll t w.plan.blocks → IsSoundRoot n t w.plan.next (slice_index w.plan.words)
   pub age : HasAgeLeft w.plan.next
 
--- A point in progress: what it writes, how far it is, the tree that was frozen when it began, and the blocks that its root leaves free.
+-- A point in progress: what it writes, how far it is, the live tree as it was when it began with the frozen trees that its root is to have, and the blocks that this leaves free.
 pub record Progress : Type 0 where
   pub work : Work
   pub stage : Stage
-  pub frozen : Tree
+  pub trees : Trees
   pub free : ℕ
 
--- The point is in progress in a mount that runs. What is logged is logged under the next epoch, from its first record on: those changes make of the frozen tree one that covers the live one, and what they were charged, with a charge for each file without names, is no more than the next root leaves free. What is kept is of the root that counts, but that the live tree is seen through what changed over the frozen one.
+-- The point is in progress in a mount that runs. What is logged is logged under the next epoch, from its first record on: those changes make of the tree that it was built of one that covers the live one, and what they were charged, with a charge for each file without names, is no more than the next root leaves free. What is kept is of the root that counts, but that the live tree is seen through what changed over that tree.
 pub record InProgress (h : Held) (world : World) (r : Runs h world) (p : Progress) : Type 0 where
-  pub of : IsOfFrozen h.at.blocks r.store r.slot r.root p.frozen p.work
+  pub of : IsOfTrees h.at.blocks r.store r.slot r.root p.trees p.work
   pub within : IsWithin p.work p.stage
   pub stands : StandsAtStage p.work p.stage h.disk
   pub epoch : h.at.epoch ≡ r.root.epoch + 1
   pub ready : Always h.disk (IsReadyAt h.at r.newer)
   pub none_later : Always h.disk (λ c. HasNoLater c (base_of h.at.blocks r.root.epoch) r.root.epoch)
-  pub cover : MakesCover version_1 r.newer p.frozen world.live
+  pub cover : MakesCover version_1 r.newer p.trees.live world.live
   pub charged : (t : Store) → SameIn (all_reach r.store r.root) r.store t → HoldsAll t p.work.plan.blocks → IsCharged (done p.free h.room) h.at.blocks t p.work.plan.next r.newer world.live
   pub slot : h.base.slot ≡ r.slot
   pub root : h.base.root ≡ r.root
-  pub changed : HasChanged version_1 h.base.changed p.frozen world.live h.room.charged_since
+  pub changed : HasChanged version_1 h.base.changed p.trees.live world.live h.room.charged_since
   pub tree : IsTree version_1 world.live
 
 -- A mount runs over this world, with a point in progress.
@@ -62,6 +61,10 @@ pub record RunsOn (h : Held) (world : World) (p : Progress) : Type 0 where
   pub runs : Runs h world
   pub point : InProgress h world runs p
 
--- what is kept once the point is done: its root counts, and what changed since it was frozen is on top of it
+-- the world once the point is done: its frozen trees are those of the point's root
+abbrev pub world_behind : Progress → World → World
+world_behind p world = record world { frozen = p.trees.frozen }
+
+-- what is kept once the point is done: its root counts, and what changed since it began is on top of it
 abbrev pub kept_behind : Held → Progress → Kept
 kept_behind h p = record { slot = p.work.slot; root = p.work.plan.next; words = p.work.plan.words; changed = h.base.changed }

@@ -12,9 +12,10 @@ use Rattle.sn_layout.specs.declared.root.RootBody.{RootBody}
 use Rattle.sn_layout.specs.Geometry.{other_slot, start_of}
 use Rattle.sn_log.specs.Positions.{LogPosition}
 use Rattle.sn_model.specs.Settling.{settle}
-use Rattle.sn_model.specs.Tree.{Tree}
-use Rattle.sn_model.specs.World.{World}
+use Rattle.sn_model.specs.Outcomes.{AskedPoint}
+use Rattle.sn_model.specs.World.{Trees, World, trees_of}
 use Rattle.sn_ondisk.specs.Trees.{store_of}
+use Rattle.sn_opening.specs.Worlds.{FrozenTrees}
 use Rattle.sn_overlay.specs.Layers.{Layer}
 use Rattle.sn_overlay.specs.Needs.{need}
 use Rattle.sn_overlay.specs.Overlays.{layer_of}
@@ -24,7 +25,8 @@ use Rattle.sn_held.specs.Held.{Going, Held, Kept, RunsReady}
 use Rattle.sn_held.specs.Images.{IsImage}
 use Rattle.sn_cp.specs.Points.{first_stage, stage_of, work_of}
 use Rattle.sn_cp.specs.Steps.{IsWhole, IsWithin}
-use Rattle.sn_cp_progress.specs.Meaning.{progress_over}
+use Rattle.sn_cp_held.specs.Snapshots.{trees_behind}
+use Rattle.sn_cp_progress.specs.Meaning.{EitherImage, progress_over}
 use Rattle.sn_cp_progress.specs.Progress.{RunsOn}
 use Rattle.sn_cp_whole.specs.Making.{HasCauseFor}
 use Rattle.sn_cp_whole.specs.declared.base.PointBase.{PointBase}
@@ -52,23 +54,27 @@ with_disk h disk = record h { disk = disk }
 abbrev pub KeepsTree : RootBody → Disk → Disk → Type 0
 KeepsTree root old new = image (store_of (reads new)) root.inode_file ≡ image (store_of (reads old)) root.inode_file
 
--- At `Ok` the mount runs on with the point in progress, in which the live tree is frozen, and a crash at any moment on the way leaves an image of the settled world; so it does where the device failed. Otherwise nothing was written. What is read can always be used, and is never too much for what is free.
-abbrev pub BeginsPoint : Result Begun PointFault → World → Held → Kept → LogPosition → Disk → Disk → Type 0
-BeginsPoint (Ok begins) world h k at old new = LeavesOnly old new (λ c. IsImage c (settle world))
-    × RunsOn (record h { room = begun h.room; at = at; base = record k { changed = layer_of begins.since }; disk = new }) world (progress_over (going_of begins.going) world.live)
-BeginsPoint (Err Memory) world h k at old new = new ≡ old
-BeginsPoint (Err Age) world h k at old new = new ≡ old
-BeginsPoint (Err Read) world h k at old new = new ≡ old
-BeginsPoint (Err Damaged) world h k at old new = ⊥
-BeginsPoint (Err Device) world h k at old new = LeavesOnly old new (λ c. IsImage c (settle world))
+-- At `Ok` the mount runs on with the point in progress, which is built of the live tree with the snapshots that are asked for, and a crash at any moment on the way leaves an image of the settled world; so it does where the device failed. Otherwise nothing was written. What is read can always be used, and is never too much for what is free.
+abbrev pub BeginsPoint : Result Begun PointFault → AskedPoint → World → Held → Kept → LogPosition → Disk → Disk → Type 0
+BeginsPoint (Ok begins) asked world h k at old new = LeavesOnly old new (λ c. IsImage c (settle world))
+    × RunsOn (record h { room = begun h.room; at = at; base = record k { changed = layer_of begins.since }; disk = new }) world (progress_over (going_of begins.going) (trees_behind asked (trees_of world)))
+BeginsPoint (Err Memory) asked world h k at old new = new ≡ old
+BeginsPoint (Err Age) asked world h k at old new = new ≡ old
+BeginsPoint (Err Read) asked world h k at old new = new ≡ old
+BeginsPoint (Err Damaged) asked world h k at old new = ⊥
+BeginsPoint (Err Device) asked world h k at old new = LeavesOnly old new (λ c. IsImage c (settle world))
 
 -- A step leaves an image of the settled world to a crash at any moment, whatever the answer, and at `Ok` the mount runs on with the point at its next stage.
-abbrev pub StepsOn : Result (Unit {0}) Fault → World → Held → GoingPoint → Tree → Disk → Disk → Type 0
-StepsOn result world h going frozen old new = LeavesOnly old new (λ c. IsImage c (settle world)) × OnOk result (RunsOn (record h { disk = new }) world (progress_over (going_of going) frozen))
+abbrev pub StepsOn : Result (Unit {0}) Fault → World → Held → GoingPoint → Trees → Disk → Disk → Type 0
+StepsOn result world h going trees old new = LeavesOnly old new (λ c. IsImage c (settle world)) × OnOk result (RunsOn (record h { disk = new }) world (progress_over (going_of going) trees))
 
--- Whatever the answer, a crash at any moment leaves an image of the settled world. At `Ok` the mount is ready for another point, and what was charged since this one began is charged on its root.
-abbrev pub FinishesPoint : Result (Unit {0}) Fault → World → Held → ℕ → Kept → Disk → Disk → Type 0
-FinishesPoint result world h free kept old new = LeavesOnly old new (λ c. IsImage c (settle world)) × OnOk result (RunsReady (record h { room = done free h.room; disk = new }) world kept)
+-- the world with these frozen trees
+abbrev pub with_frozen : World → FrozenTrees → World
+with_frozen world frozen = record world { frozen = frozen }
+
+-- Whatever the answer, a crash at any moment leaves an image of the settled world, or of that with the point's frozen trees. At `Ok` the mount runs on with these, ready for another point, and what was charged since this one began is charged on its root.
+abbrev pub FinishesPoint : Result (Unit {0}) Fault → World → FrozenTrees → Held → ℕ → Kept → Disk → Disk → Type 0
+FinishesPoint result world frozen h free kept old new = LeavesOnly old new (EitherImage world (with_frozen world frozen)) × OnOk result (RunsReady (record h { world = with_frozen world frozen; room = done free h.room; disk = new }) (with_frozen world frozen) kept)
 
 -- A point of what changed begins over a root, on a disk of so many blocks: it writes the slot that doesn't count, of the next epoch, no more new blocks than what changed needs.
 pub record IsGoing (n : ℕ) (base : PointBase) (changed : Layer) (going : GoingPoint) : Type 0 where

@@ -1,5 +1,6 @@
 -- What a whole point makes of a mount.
-use Rattle.std.specs.Prelude.{◌≡◌, ◌⊎◌, ℕ, ◌+◌, ◌*◌, ◌<◌, ◌≤◌, Result, Ok, Err, IfErr, IsTrue, OnOk}
+use Rattle.std.specs.FinMap as map
+use Rattle.std.specs.Prelude.{◌≡◌, ◌⊎◌, ℕ, ◌+◌, ◌*◌, ◌<◌, ◌≤◌, true, false, Result, Ok, Err, IfErr, IsTrue, OnOk}
 use Rattle.sn_alloc.specs.Taking.{free_data}
 use Rattle.sn_block.specs.Counts.{FailsRead, IsLater, called}
 use Rattle.sn_device.specs.Disk.{Disk}
@@ -11,14 +12,16 @@ use Rattle.sn_layout.specs.declared.gate.Gate.TheVariants.{Open}
 use Rattle.sn_layout.specs.declared.geometry.Area.TheVariants.{Data}
 use Rattle.sn_layout.specs.Geometry.{map_blocks, start_of}
 use Rattle.sn_log.specs.Positions.{LogPosition}
-use Rattle.sn_model.specs.Settling.{settle}
+use Rattle.sn_limits.specs.Versions.{version_1}
+use Rattle.sn_model.specs.Outcomes.{AskedPoint, Unasked, Plain, Freezes, Thaws}
+use Rattle.sn_model.specs.Steps.{pointed}
 use Rattle.sn_model.specs.World.{World}
 use Rattle.sn_overlay.specs.declared.overlay.Overlay.{Overlay}
 use Rattle.sn_room.specs.Rooms.{RoomCounts, fresh}
 use Rattle.sn_root.specs.Replacing.{closing_writes}
 use Rattle.sn_held.specs.Held.{Held, Kept, RunsReady}
-use Rattle.sn_held.specs.Images.{IsImage}
 use Rattle.sn_cp.specs.Counting.{root_steps}
+use Rattle.sn_cp_progress.specs.Meaning.{EitherImage}
 use Rattle.sn_cp_whole.specs.declared.fault.PointFault.{PointFault}
 use Rattle.sn_cp_whole.specs.declared.fault.PointFault.TheVariants.{Memory, Age, Read, Damaged, Device}
 
@@ -26,14 +29,25 @@ use Rattle.sn_cp_whole.specs.declared.fault.PointFault.TheVariants.{Memory, Age,
 abbrev pub with_parts : Held → LogPosition → RoomCounts → Disk → Held
 with_parts h at room disk = record h { at = at; room = room; disk = disk }
 
--- At `Ok` the mount runs on over the next root, and a crash at any moment on the way leaves an image of the settled world; so it does where the device failed. Otherwise nothing was written. What is read can always be used, and is never too much for what is free.
-abbrev pub MakesPoint : Result Overlay PointFault → World → Disk → Held → Kept → Type 0
-MakesPoint (Ok _) world old new kept = LeavesOnly old new.disk (λ c. IsImage c (settle world)) × RunsReady new world kept
-MakesPoint (Err Memory) world old new kept = new.disk ≡ old
-MakesPoint (Err Age) world old new kept = new.disk ≡ old
-MakesPoint (Err Read) world old new kept = new.disk ≡ old
-MakesPoint (Err Damaged) world old new kept = ⊥
-MakesPoint (Err Device) world old new kept = LeavesOnly old new.disk (λ c. IsImage c (settle world))
+-- over this world
+abbrev pub over_world : World → Held → Held
+over_world world h = record h { world = world }
+
+-- what is asked for can be made of the snapshots: the name of a new one is free, and there may be one more; the one that goes is there
+abbrev pub CanBeAsked : AskedPoint → World → Type 0
+CanBeAsked Unasked world = Unit {0}
+CanBeAsked Plain world = Unit {0}
+CanBeAsked (Freezes name) world = (map.contains_key world.frozen name ≡ false) × (map.len world.frozen < version_1.snapshots)
+CanBeAsked (Thaws name) world = map.contains_key world.frozen name ≡ true
+
+-- At `Ok` the mount runs on over the next root, with the snapshots that were asked for, and a crash at any moment on the way leaves an image of the settled world from before or of the one from after; so it does where the device failed. Otherwise nothing was written. What is read can always be used, and is never too much for what is free.
+abbrev pub MakesPoint : Result Overlay PointFault → AskedPoint → World → Disk → Held → Kept → Type 0
+MakesPoint (Ok _) asked world old new kept = LeavesOnly old new.disk (EitherImage world (pointed asked world)) × RunsReady (over_world (pointed asked world) new) (pointed asked world) kept
+MakesPoint (Err Memory) asked world old new kept = new.disk ≡ old
+MakesPoint (Err Age) asked world old new kept = new.disk ≡ old
+MakesPoint (Err Read) asked world old new kept = new.disk ≡ old
+MakesPoint (Err Damaged) asked world old new kept = ⊥
+MakesPoint (Err Device) asked world old new kept = LeavesOnly old new.disk (EitherImage world (pointed asked world))
 
 -- the room behind a point: what is free by the new map, with nothing charged and nothing dropped
 abbrev pub room_over : ℕ → Kept → RoomCounts

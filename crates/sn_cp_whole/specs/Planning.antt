@@ -1,16 +1,18 @@
 -- What a point is built of, and what is planned for it.
-use Rattle.std.specs.Prelude.{◌≡◌, ◌+◌, ◌^◌, ◌≤◌, length, All}
+use Rattle.std.specs.Prelude.{◌≡◌, ℕ, ◌+◌, ◌^◌, ◌≤◌, length, All}
 use Rattle.sn_device.specs.declared.status.Status.{Status}
 use Rattle.sn_layout.specs.Bytes.{AreNumbers}
 use Rattle.sn_layout.specs.RootBody.{IsRootBody}
 use Rattle.sn_layout.specs.declared.root.RootBody.{RootBody}
 use Rattle.sn_log.specs.Positions.{LogPosition}
+use Rattle.sn_model.specs.Outcomes.{AskedPoint}
 use Rattle.sn_overlay.specs.Layers.{Layer}
 use Rattle.sn_root.specs.Following.{epochs_of, following}
 use Rattle.sn_root.specs.declared.following.PointKind.{PointKind}
 use Rattle.sn_held.specs.Held.{Kept}
 use Rattle.sn_cp_build.specs.declared.building.Built.{Built}
 use Rattle.sn_cp_held.specs.Builds.{LeavesAge}
+use Rattle.sn_cp_held.specs.Snapshots.{FollowsBy}
 use Rattle.sn_block.specs.Counts.{FailsRead}
 use Rattle.sn_block.specs.declared.fault.ReadFault.{ReadFault}
 use Rattle.sn_block.specs.declared.fault.ReadFault.TheVariants as read
@@ -36,9 +38,10 @@ pub record IsBaseAt (at : LogPosition) (base : PointBase) : Type 0 where
 abbrev pub HasAgeFor : PointKind → RootBody → Type 0
 HasAgeFor kind root = (root.generation + 1 ≤ 2 ^ 62) × (root.epoch + epochs_of kind ≤ 2 ^ 62) × LeavesAge kind (following kind root.limits root)
 
--- The root that follows by a point of this kind, with the inode file that was built: it can be written, and leaves such an age.
-pub record IsNextRoot (kind : PointKind) (root : RootBody) (built : Built) (next : RootBody) : Type 0 where
-  pub is : next ≡ record (following kind root.limits root) { inode_file = built.inode_file }
+-- The root that follows by a point of this kind, with the inode file that was built and the snapshots that are asked for: it can be written, and leaves such an age.
+pub record IsNextRoot (kind : PointKind) (root : RootBody) (asked : AskedPoint) (bit : ℕ) (built : Built) (next : RootBody) : Type 0 where
+  pub is : next ≡ record (following kind root.limits root) { inode_file = built.inode_file; snapshots = next.snapshots }
+  pub snapshots : FollowsBy asked bit root next
   pub body : IsRootBody next
   pub age : LeavesAge kind next
 

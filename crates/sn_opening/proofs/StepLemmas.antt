@@ -21,7 +21,7 @@ use Rattle.sn_ondisk.proofs.MapBlockLemmas.{blocks_make}
 use Rattle.sn_layout.specs.declared.root.RootBody.{RootBody}
 use Rattle.sn_log.specs.Positions.{payloads_of}
 use Rattle.sn_model.specs.declared.change.Change.{Change}
-use Rattle.sn_model.specs.Tree.{Tree}
+use Rattle.sn_model.specs.World.{Trees}
 use Rattle.sn_ondisk.specs.Shown.{Shown}
 use Rattle.sn_ondisk.specs.TreeLaws.{SameIn}
 use Rattle.sn_opening.specs.Worlds.{all_reach}
@@ -85,11 +85,11 @@ sync_stores n slot plan d synced count fits (few, holds, has) = record {
 
 -- ---- done
 
-pub done_stands : (n : ℕ) (s : Store) (slot : Slot) (root : RootBody) (newer : List Change) (frozen : Tree) (plan : Plan) (d : Disk) → AreSectors (reads d) → IsSynced d
-    → IsBuilt n s root frozen plan → IsStored n d slot plan → Always d (λ c. SameIn (all_reach s root) s (store_of c))
+pub done_stands : (n : ℕ) (s : Store) (slot : Slot) (root : RootBody) (newer : List Change) (trees : Trees) (plan : Plan) (d : Disk) → AreSectors (reads d) → IsSynced d
+    → IsBuilt n s root trees plan → IsStored n d slot plan → Always d (λ c. SameIn (all_reach s root) s (store_of c))
     → Always d (λ c. Shown n c slot plan.next (payloads_of newer) [])
-    → NextStands n slot root.limits plan.next newer frozen d
-done_stands n s slot root newer frozen plan d whole synced built stored same shown =
+    → NextStands n slot root.limits plan.next newer trees.live d
+done_stands n s slot root newer trees plan d whole synced built stored same shown =
     let now = Always-reads d (λ c. SameIn (all_reach s root) s (store_of c)) whole same in
     let blocks = Always-reads d (λ c. HoldsAll (store_of c) plan.blocks) whole stored.blocks in
     let here = Always-reads d (λ c. Shown n c slot plan.next (payloads_of newer) []) whole shown in

@@ -13,7 +13,7 @@ use Rattle.sn_layout.specs.declared.root.RootBody.{RootBody}
 use Rattle.sn_limits.specs.declared.limits.Limits.{Limits}
 use Rattle.sn_model.specs.declared.change.Change.{Change}
 use Rattle.sn_model.specs.Tree.{Tree}
-use Rattle.sn_model.specs.World.{World}
+use Rattle.sn_model.specs.World.{Trees, World}
 use Rattle.sn_log.specs.Positions.{payloads_of}
 use Rattle.sn_ondisk.specs.LogHalf.{ReplaysTo, InHalf, base_of}
 use Rattle.sn_ondisk.specs.Blocks.{InBlock, block_at}
@@ -53,8 +53,8 @@ OpeningOpensEither = (n : ℕ) (s r : Store) (slot : Slot) (root next : RootBody
 
 -- A call that is logged between two steps leaves what the point has on the disk.
 abbrev pub LogKeepsThePoint : Type 0
-LogKeepsThePoint = (n : ℕ) (s : Store) (slot : Slot) (root : RootBody) (frozen : Tree) (plan : Plan) (stage : Stage) (epoch : ℕ) (old new : Disk)
-    → AreSectors (reads old) → IsBuilt n s root frozen plan → Touches (InHalf (base_of n epoch)) old new
+LogKeepsThePoint = (n : ℕ) (s : Store) (slot : Slot) (root : RootBody) (trees : Trees) (plan : Plan) (stage : Stage) (epoch : ℕ) (old new : Disk)
+    → AreSectors (reads old) → IsBuilt n s root trees plan → Touches (InHalf (base_of n epoch)) old new
     → HasReached n old slot plan stage → HasReached n new slot plan stage
 
 -- A point begins: the first place of the other half is cleared, in which replay of the next epoch found nothing. At each moment the disk shows the same, and nothing newer.
@@ -91,7 +91,7 @@ pub record NextStands (n : ℕ) (slot : Slot) (limits : Limits) (next : RootBody
 
 -- The point is done: the next root stands, it denotes what was frozen, and the newer records are its own.
 abbrev pub DoneStands : Type 0
-DoneStands = (n : ℕ) (s : Store) (slot : Slot) (root : RootBody) (newer : List Change) (frozen : Tree) (plan : Plan) (d : Disk) → AreSectors (reads d) → IsSynced d
-    → IsBuilt n s root frozen plan → IsStored n d slot plan → Always d (λ c. SameIn (all_reach s root) s (store_of c))
+DoneStands = (n : ℕ) (s : Store) (slot : Slot) (root : RootBody) (newer : List Change) (trees : Trees) (plan : Plan) (d : Disk) → AreSectors (reads d) → IsSynced d
+    → IsBuilt n s root trees plan → IsStored n d slot plan → Always d (λ c. SameIn (all_reach s root) s (store_of c))
     → Always d (λ c. Shown n c slot plan.next (payloads_of newer) [])
-    → NextStands n slot root.limits plan.next newer frozen d
+    → NextStands n slot root.limits plan.next newer trees.live d

@@ -10,7 +10,7 @@ use Rattle.sn_layout.specs.declared.geometry.Area.TheVariants.{Data, MapCopy}
 use Rattle.sn_layout.specs.declared.geometry.Slot.{Slot}
 use Rattle.sn_layout.specs.declared.root.RootBody.{RootBody}
 use Rattle.sn_layout.specs.RootBody.{IsRootBody}
-use Rattle.sn_model.specs.Tree.{Tree}
+use Rattle.sn_model.specs.World.{Trees}
 use Rattle.sn_ondisk.specs.Blocks.{block_at}
 use Rattle.sn_ondisk.specs.Gates.{IsClosed}
 use Rattle.sn_ondisk.specs.MapCopy.{HasMap}
@@ -20,7 +20,7 @@ use Rattle.sn_ondisk.specs.TreeLaws.{SameIn}
 use Rattle.sn_ondisk.specs.Trees.{Store, store_of}
 use Rattle.sn_image.specs.Image.{image}
 use Rattle.sn_image.specs.Sound.{IsSound}
-use Rattle.sn_opening.specs.Worlds.{all_reach}
+use Rattle.sn_opening.specs.Worlds.{all_reach, frozen_of}
 
 -- a block and what is to stand in it
 abbrev pub Written : Type 0
@@ -42,17 +42,17 @@ HoldsAll s blocks = AllByRecursion (λ (b : Written). s b.0 ≡ b.1) blocks
 abbrev pub numbers_written : List Written → List ℕ
 numbers_written blocks = map (λ (b : Written). b.0) blocks
 
--- What `build` gives: in every store that has the new blocks and agrees with the old root in what that reaches, the next root is sound and denotes the tree that was frozen, and its snapshots are those of the old root.
-pub record IsBuilt (n : ℕ) (s : Store) (root : RootBody) (frozen : Tree) (plan : Plan) : Type 0 where
+-- What `build` gives: in every store that has the new blocks and agrees with the old root in what that reaches, the next root is sound and denotes the tree that was frozen, and its snapshots the frozen trees that are wanted.
+pub record IsBuilt (n : ℕ) (s : Store) (root : RootBody) (trees : Trees) (plan : Plan) : Type 0 where
   pub fits : IsRootBody plan.next
   pub limits : plan.next.limits ≡ root.limits
   pub later : root.generation < plan.next.generation
-  pub snapshots : plan.next.snapshots ≡ root.snapshots
   pub place : AllByRecursion (λ (b : Written). IsIn n Data b.0) plan.blocks
   pub apart : (b : Written) → Contains plan.blocks b → Contains (all_reach s root) b.0 → ⊥
   pub once : IsStrictlyIncreasing (numbers_written plan.blocks)
   pub whole : (b : Written) → Contains plan.blocks b → length b.1 ≡ 4096
-  pub tree : (r : Store) → SameIn (all_reach s root) s r → HoldsAll r plan.blocks → image r plan.next.inode_file ≡ frozen
+  pub tree : (r : Store) → SameIn (all_reach s root) s r → HoldsAll r plan.blocks → image r plan.next.inode_file ≡ trees.live
+  pub frozen : (r : Store) → SameIn (all_reach s root) s r → HoldsAll r plan.blocks → frozen_of r plan.next.snapshots ≡ trees.frozen
   pub sound : (r : Store) → SameIn (all_reach s root) s r → HoldsAll r plan.blocks → IsSound root.limits n r plan.next.inode_file
   -- it reaches nothing but new blocks and those of the old root
   pub reach : (r : Store) → SameIn (all_reach s root) s r → HoldsAll r plan.blocks → (block : ℕ) → Contains (all_reach r plan.next) block → Contains (all_reach s root) block ⊎ Contains (numbers_written plan.blocks) block
