@@ -1,10 +1,80 @@
--- A test that fails is why what it stands before fails.
-use Rattle.std.proofs.Common.{Result, ap}
+-- A test that fails is why what it stands before fails; how many snapshots are listed; and whether a file of a snapshot is open, as sessions tell it.
+use Rattle.std.proofs.Common.{◌≡◌, ◌↔◌, ℕ, Bool, true, false, if◌then◌else◌, IsTrue, List, Option, Some, None, Result, Ok, Err, length, refl, sym, ap, ◌∙◌}
+use Rattle.std.specs.Prelude.{IsSomeAnd}
+use Rattle.std.specs.FinMap as map
+use Rattle.std.specs.Cmp.Lexicographic.{same_text}
+use Rattle.std.specs.declared.cmp.Ordering.{Ordering}
+use Rattle.std.proofs.lemmas.Bool.{ltb-true}
+use Rattle.std.proofs.lemmas.Map.Entries.{length-keys_of}
+use Rattle.sn_limits.specs.Versions.{version_1}
 use Rattle.sn_walk.specs.declared.failure.Failure.{Failure}
 use Rattle.sn_walk.specs.declared.failure.Failure.TheVariants as failure
+use Rattle.sn_walk.specs.declared.object.Home.{Home}
+use Rattle.sn_walk.specs.declared.object.Home.TheVariants.{Live, Frozen}
+use Rattle.sn_walk.specs.declared.object.Object.TheVariants.{Snapshots}
 use Rattle.sn_walk.specs.Chains.{◌>>=◌}
 use Rattle.sn_walk.specs.Gives.{Fails}
+use Rattle.sn_walk.specs.Objects.{is_same}
+use Rattle.sn_model.specs.declared.reply.Errno.TheVariants.{Ebusy}
+use Rattle.sn_model.specs.declared.reply.Refusal.{Refusal}
+use Rattle.sn_model.specs.Descriptors.{Descriptors}
+use Rattle.sn_model.specs.Seen.{SeenNames, seen_names}
+use Rattle.sn_model.specs.SnapshotCalls.{closed_snapshot, has_open_in}
+use Rattle.sn_model.specs.Tests.{plain}
+use Rattle.sn_model.specs.World.{Descriptor, World, trees_of}
+use Rattle.sn_model.proofs.CountLemmas.{count, count_found}
+use Rattle.sn_model.proofs.HeldLemmas.{any_counts, descriptors_total, exact_descriptors}
+use Rattle.sn_model.proofs.PointedLemmas.{open_at}
+use Rattle.sn_desc.specs.InUse.{HasOpen}
 
 pub fails_on : {X Y R F : Type 0} (e : Failure R F) (test : Result X R) (more : X → Result Y R) → Fails e test → Fails e (test >>= more)
 fails_on (failure.Refused r) test more h = ap (λ t. t >>= more) h
 fails_on (failure.Fault f) test more h = tt
+
+-- a map has as many keys as entries
+keys_count : {K X : Type 0} {R : K → K → Ordering} (m : map.FinMap R X) → length (map.keys m) ≡ map.len m
+keys_count m = length-keys_of (map.entries m) ∙ sym (map.len-entries m)
+
+pub listed_count : (world : World) (names : SeenNames) (listed told : List (List ℕ)) → told ≡ listed → listed ≡ names.listed Snapshots → names ≡ seen_names version_1 (trees_of world) → length told ≡ map.len world.frozen
+listed_count world names listed told same is seen = ap length (same ∙ is ∙ ap (λ (s : SeenNames). s.listed Snapshots) seen) ∙ keys_count world.frozen
+
+-- ---- an open file of a snapshot
+
+is_frozen : (name : List ℕ) (home : Home) → is_same (Frozen name) home ≡ true → home ≡ Frozen name
+is_frozen name Live e = cc
+is_frozen name (Frozen other) e = ap Frozen (sym (same_text name other (sym e)))
+
+-- what the test finds has a descriptor
+open_by : (table : Descriptors) (name : List ℕ) → has_open_in table name ≡ true → HasOpen table (Frozen name)
+open_by table name e =
+    let w = count_found descriptors_total exact_descriptors is_there table (ltb-true 0 (count is_there table) (sym (any_counts is_there (map.entries table)) ∙ e)) in
+    (w.0.0, w.0.1, there (map.get table (w.0.0, w.0.1)) w.1 w.2 (is_frozen name w.1.home w.3))
+  where
+    is_there : (ℕ × ℕ) × Descriptor → Bool
+    is_there = λ e. is_same (Frozen name) e.1.home
+
+    there : (o : Option Descriptor) (d : Descriptor) → o ≡ Some d → d.home ≡ Frozen name → IsSomeAnd o (λ d. d.home ≡ Frozen name)
+    there None d f h = cc
+    there (Some x) d f h = let same : d ≡ x = cc in ap (λ (y : Descriptor). y.home) (sym same) ∙ h
+
+open_of : (table : Descriptors) (name : List ℕ) → HasOpen table (Frozen name) → has_open_in table name ≡ true
+open_of table name (session, fd, is) = told (map.get table (session, fd)) refl is
+  where
+    told : (o : Option Descriptor) → map.get table (session, fd) ≡ o → IsSomeAnd o (λ d. d.home ≡ Frozen name) → has_open_in table name ≡ true
+    told None e h = absurd h
+    told (Some d) e h = open_at table name session fd d e h
+
+open_is : (table : Descriptors) (name : List ℕ) (b : Bool) → (IsTrue b ↔ HasOpen table (Frozen name)) → has_open_in table name ≡ b
+open_is table name true is = open_of table name (is.0 refl)
+open_is table name false is = told (has_open_in table name) refl
+  where
+    told : (b : Bool) → has_open_in table name ≡ b → b ≡ false
+    told true e = sym (is.1 (open_by table name e))
+    told false e = refl
+
+-- what sessions tell is what the model tests
+abbrev pub busy_if : Bool → Result (Unit {0}) Refusal
+busy_if b = if b then Err (plain Ebusy) else Ok tt
+
+pub closed_is : (world : World) (name copy : List ℕ) (b : Bool) → copy ≡ name → (IsTrue b ↔ HasOpen world.descriptors (Frozen copy)) → closed_snapshot world name ≡ busy_if b
+closed_is world name copy b same is = ap busy_if (ap (has_open_in world.descriptors) (sym same) ∙ open_is world.descriptors copy b is)
