@@ -1,97 +1,184 @@
 -- What a call answers that asks for a whole point.
-use Rattle.std.proofs.Common.{◌≡◌, ◌⊎◌, inl, inr, ℕ, Bool, true, false, None, Result, Ok, Err, refl, sym, ap, subst, ◌∙◌}
+use Rattle.std.proofs.Common.{◌≡◌, ◌⊎◌, inl, inr, ℕ, Bool, true, false, cond, List, None, Result, Ok, Err, refl, sym, ap, subst, ◌∙◌}
+use Rattle.std.specs.FinMap as map
 use Rattle.std.specs.Prelude.{◌-◌, IsOk}
 use Rattle.std.proofs.lemmas.Bool.{true≢false}
 use Rattle.sn_limits.specs.Versions.{version_1}
+use Rattle.sn_walk.specs.Chains.{◌>>=◌}
 use Rattle.sn_walk.proofs.ChainLemmas.{bind_ok}
 use Rattle.sn_model.specs.declared.call.Call.{Call}
 use Rattle.sn_model.specs.declared.call.Call.TheVariants as call
 use Rattle.sn_model.specs.declared.call.Event.TheVariants as event
-use Rattle.sn_model.specs.declared.outcome.Outcome.{Outcome}
-use Rattle.sn_model.specs.declared.reply.Reply.TheVariants as answer
+use Rattle.sn_model.specs.declared.reply.Errno.TheVariants.{Enoent}
+use Rattle.sn_model.specs.declared.reply.Refusal.{Refusal}
 use Rattle.sn_model.specs.Calls as calls
 use Rattle.sn_model.specs.Calls.{outcome_of, ready}
 use Rattle.sn_model.specs.Machine.{Running, refused}
-use Rattle.sn_model.specs.declared.outcome.Caller.TheVariants.{Stays}
-use Rattle.sn_model.specs.declared.reply.Refusal.{Refusal}
-use Rattle.sn_model.specs.Outcomes.{tells}
-use Rattle.sn_overlay.specs.Needs.{nameless_in}
-use Rattle.sn_room.specs.Rooms.{dropping}
-use Rattle.sn_model.specs.Settling.{settle}
-use Rattle.sn_model.specs.Steps.{Becomes, Comes, TakesMemory, asks_for_point, decision}
-use Rattle.sn_model.specs.Tests.{logged_in}
-use Rattle.sn_model.specs.World.{World}
+use Rattle.sn_model.specs.Outcomes.{AskedPoint, Unasked, Plain, Freezes, Thaws, Caller, Stays, Outcome, Pending, Nothing, points}
+use Rattle.sn_model.specs.Settling.{dropped, settle}
+use Rattle.sn_model.specs.SnapshotCalls.{closed_snapshot, present_snapshot, snap_delete_outcome, snapshot_argument, user_0}
+use Rattle.sn_model.specs.Steps.{Becomes, Comes, IsNumberFor, TakesMemory, asks_for_point, changed, decision, filled, pointed, with_caller}
+use Rattle.sn_model.specs.Tests.{logged_in, plain}
+use Rattle.sn_model.specs.World.{World, trees_of, viewed_trees}
 use Rattle.sn_model.specs.Worlds.{IsWorld}
+use Rattle.sn_model.proofs.DecidedLemmas.{decided_is}
 use Rattle.sn_model.proofs.DecisionLemmas.{ok, same_ok}
 use Rattle.sn_model.proofs.DroppedLemmas.{all_held, dropped_same}
+use Rattle.sn_model.proofs.OutcomeLemmas.{IsAlone, IsDecided, is_asked}
+use Rattle.sn_model.proofs.PointedLemmas.{pointed_world}
+use Rattle.sn_model.proofs.SnapshotLemmas.{create_is, delete_is}
+use Rattle.sn_overlay.specs.Needs.{nameless_in}
+use Rattle.sn_room.specs.Rooms.{dropping}
+use Rattle.sn_core.specs.Numbering.{Numbers}
+use Rattle.sn_core.specs.Served.{Chooses}
 use Rattle.sn_core.proofs.NumberLemmas.{same_numbers}
 use Rattle.sn_block.proofs.CountLemmas.{later-is}
-use Rattle.sn_device.proofs.CrashLemmas.{LeavesOnly-weaker}
 use Rattle.sn_device.specs.declared.status.Status.{Status}
+use Rattle.sn_opening.specs.Worlds.{FrozenTrees}
 use Rattle.sn_held.specs.Held.{Held}
-use Rattle.sn_held.specs.Images.{IsImage}
-use Rattle.sn_held.specs.Moments.{ShowsState}
 use Rattle.sn_held.proofs.EventLemmas.{runs_show}
+use Rattle.sn_cp_progress.specs.Meaning.{RunsWith}
+use Rattle.sn_cp_whole.specs.Making.{CanBeAsked}
 use Rattle.sn_cp_whole.specs.declared.fault.PointFault.{PointFault}
-use Rattle.sn_events.specs.Answers.{Answers, AnswersFrom, AsksFirst, HasMadePoint, HasNoChange}
-use Rattle.sn_events.specs.Pointing.{Finishes, IsPointed, Points, errno_of_point, stops_for}
+use Rattle.sn_events.specs.Answers.{Answers, AnswersFrom, AsksFirst, HasMadePoint, HasNoChange, SinceIn}
+use Rattle.sn_events.specs.Pointing.{CanPoint, Finishes, IsPointed, Points, errno_of_point, stops_for}
 use Rattle.sn_events.proofs.CallLemmas.{nothing_dropped, stays_since}
 use Rattle.sn_events.proofs.DecisionLemmas.{has_no_change}
 use Rattle.sn_events.proofs.FinishLemmas.{behind_finish, cut_finish, is_fin}
-use Rattle.sn_events.proofs.PointLemmas.{PointEvent, in_any_world, made_point, refused_costs, running_between, settled_all, unmade_in_call, unpointed_answers}
+use Rattle.sn_events.proofs.PointLemmas.{PointEvent, in_any_world, made_point, refused_costs, running_between, unmade_in_call, unpointed_answers}
 
-is_sync : (c : Call) → asks_for_point c ≡ true → c ≡ call.Sync
-is_sync (call.Login uid gid groups) e = absurd (true≢false (sym e))
-is_sync (call.Umask mask) e = absurd (true≢false (sym e))
-is_sync (call.Mkdir path mode) e = absurd (true≢false (sym e))
-is_sync (call.Chmod path mode) e = absurd (true≢false (sym e))
-is_sync (call.Chown path uid gid) e = absurd (true≢false (sym e))
-is_sync (call.Stat path) e = absurd (true≢false (sym e))
-is_sync (call.Access path want) e = absurd (true≢false (sym e))
-is_sync (call.GetAcl path kind) e = absurd (true≢false (sym e))
-is_sync (call.SetAcl path kind acl) e = absurd (true≢false (sym e))
-is_sync (call.Rmdir path) e = absurd (true≢false (sym e))
-is_sync (call.Unlink path) e = absurd (true≢false (sym e))
-is_sync (call.Link old new) e = absurd (true≢false (sym e))
-is_sync (call.Rename old new) e = absurd (true≢false (sym e))
-is_sync (call.Readdir path) e = absurd (true≢false (sym e))
-is_sync call.Logout e = absurd (true≢false (sym e))
-is_sync (call.Open path flags mode) e = absurd (true≢false (sym e))
-is_sync (call.Close fd) e = absurd (true≢false (sym e))
-is_sync (call.Read fd count) e = absurd (true≢false (sym e))
-is_sync (call.Write fd bytes) e = absurd (true≢false (sym e))
-is_sync (call.Seek fd offset) e = absurd (true≢false (sym e))
-is_sync (call.Ftruncate fd size) e = absurd (true≢false (sym e))
-is_sync call.Sync e = refl
+-- a call whose tests pass may take memory, and what it asks for can be made of the snapshots
+abbrev CanAsk : World → Call → Outcome → Type 0
+CanAsk w c o = TakesMemory c × CanBeAsked o.point w
+
+ok_point : {w : World} (p : AskedPoint) (o : Outcome) → points p ≡ o → CanBeAsked p w → CanBeAsked o.point w
+ok_point {w} p o is can = subst (λ (x : Outcome). CanBeAsked x.point w) is can
+
+module _ (w : World) (session : ℕ) where
+  sync_asks : (o : Outcome) → decision version_1 w session call.Sync ≡ Ok o → CanAsk w call.Sync o
+  sync_asks o e =
+      let r = bind_ok (ready w session call.Sync) (outcome_of version_1 w) o e in
+      let s = bind_ok (logged_in w session) (λ _. ok calls.Sync) r.0 r.1 in
+      (tt, ok_point Plain o (same_ok (points Plain) o (subst (λ (x : calls.Ready). outcome_of version_1 w x ≡ Ok o) (sym (same_ok calls.Sync r.0 s.2)) r.2)) tt)
+
+  create_asks : (name : List ℕ) (o : Outcome) → decision version_1 w session (call.SnapCreate name) ≡ Ok o → CanAsk w (call.SnapCreate name) o
+  create_asks name o e =
+      let r = bind_ok (ready w session (call.SnapCreate name)) (outcome_of version_1 w) o e in
+      let s = bind_ok (logged_in w session) (λ s. snapshot_argument name >>= (λ new. ok (calls.SnapCreate s new))) r.0 r.1 in
+      let n = bind_ok (snapshot_argument name) (λ new. ok (calls.SnapCreate s.0 new)) r.0 s.2 in
+      let is = create_is version_1 w s.0 n.0 o (subst (λ (x : calls.Ready). outcome_of version_1 w x ≡ Ok o) (sym (same_ok (calls.SnapCreate s.0 n.0) r.0 n.2)) r.2) in
+      (tt, ok_point (Freezes n.0) o is.0 (is.1, is.2))
+
+  present_is : (name : List ℕ) (u : Unit {0}) (there : Bool) → cond there (Ok (tt {0})) (Err (plain Enoent)) ≡ Ok u → there ≡ true
+  present_is name u true e = refl
+  present_is name u false e = cc
+
+  delete_asks : (name : List ℕ) (o : Outcome) → decision version_1 w session (call.SnapDelete name) ≡ Ok o → CanAsk w (call.SnapDelete name) o
+  unfolding snap_delete_outcome
+  delete_asks name o e =
+      let r = bind_ok (ready w session (call.SnapDelete name)) (outcome_of version_1 w) o e in
+      let s = bind_ok (logged_in w session) (λ s. snapshot_argument name >>= (λ old. ok (calls.SnapDelete s old))) r.0 r.1 in
+      let n = bind_ok (snapshot_argument name) (λ old. ok (calls.SnapDelete s.0 old)) r.0 s.2 in
+      let came = subst (λ (x : calls.Ready). outcome_of version_1 w x ≡ Ok o) (sym (same_ok (calls.SnapDelete s.0 n.0) r.0 n.2)) r.2 in
+      let user = bind_ok (user_0 s.0.cred) (λ _. present_snapshot (viewed_trees (trees_of w)) n.0 >>= (λ _. closed_snapshot w n.0 >>= (λ _. ok (points (Thaws n.0))))) o came in
+      let there = bind_ok (present_snapshot (viewed_trees (trees_of w)) n.0) (λ _. closed_snapshot w n.0 >>= (λ _. ok (points (Thaws n.0)))) o user.2 in
+      (tt, ok_point (Thaws n.0) o (delete_is w s.0 n.0 o came).0 (present_is n.0 there.0 (map.contains_key w.frozen n.0) there.1))
+
+  can_ask : (c : Call) (o : Outcome) → asks_for_point c ≡ true → decision version_1 w session c ≡ Ok o → CanAsk w c o
+  can_ask (call.Login uid gid groups) o e decided = absurd (true≢false (sym e))
+  can_ask (call.Umask mask) o e decided = absurd (true≢false (sym e))
+  can_ask (call.Mkdir path mode) o e decided = absurd (true≢false (sym e))
+  can_ask (call.Chmod path mode) o e decided = absurd (true≢false (sym e))
+  can_ask (call.Chown path uid gid) o e decided = absurd (true≢false (sym e))
+  can_ask (call.Stat path) o e decided = absurd (true≢false (sym e))
+  can_ask (call.Access path want) o e decided = absurd (true≢false (sym e))
+  can_ask (call.GetAcl path kind) o e decided = absurd (true≢false (sym e))
+  can_ask (call.SetAcl path kind acl) o e decided = absurd (true≢false (sym e))
+  can_ask (call.Rmdir path) o e decided = absurd (true≢false (sym e))
+  can_ask (call.Unlink path) o e decided = absurd (true≢false (sym e))
+  can_ask (call.Link old new) o e decided = absurd (true≢false (sym e))
+  can_ask (call.Rename old new) o e decided = absurd (true≢false (sym e))
+  can_ask (call.Readdir path) o e decided = absurd (true≢false (sym e))
+  can_ask call.Logout o e decided = absurd (true≢false (sym e))
+  can_ask (call.Open path flags mode) o e decided = absurd (true≢false (sym e))
+  can_ask (call.Close fd) o e decided = absurd (true≢false (sym e))
+  can_ask (call.Read fd count) o e decided = absurd (true≢false (sym e))
+  can_ask (call.Write fd bytes) o e decided = absurd (true≢false (sym e))
+  can_ask (call.Seek fd offset) o e decided = absurd (true≢false (sym e))
+  can_ask (call.Ftruncate fd size) o e decided = absurd (true≢false (sym e))
+  can_ask call.Sync o e decided = sync_asks o decided
+  can_ask (call.SnapCreate name) o e decided = create_asks name o decided
+  can_ask (call.SnapDelete name) o e decided = delete_asks name o decided
+  can_ask call.SnapList o e decided = absurd (true≢false (sym e))
+
+-- nothing else is done but the point
+alone : (p : AskedPoint) (change : Pending) (caller : Caller) → is_asked p ≡ true → IsAlone p change caller → (change ≡ Nothing) × (caller ≡ Stays)
+alone Unasked change caller e is = absurd (true≢false (sym e))
+alone Plain change caller e is = is
+alone (Freezes name) change caller e is = is
+alone (Thaws name) change caller e is = is
 
 module _ (w : World) (session : ℕ) (c : Call) (asks : asks_for_point c ≡ true) (o : Outcome) (decided : decision version_1 w session c ≡ Ok o) where
-  for_sync : decision version_1 w session call.Sync ≡ Ok o
-  for_sync = subst (λ (x : Call). decision version_1 w session x ≡ Ok o) (is_sync c asks) decided
+  so : IsDecided version_1 w session c o
+  so = decided_is version_1 w session c o decided
 
-  -- nothing is done but the point
-  outcome_is : tells answer.Done ≡ o
-  outcome_is =
-      let r = bind_ok (ready w session call.Sync) (outcome_of version_1 w) o for_sync in
-      let s = bind_ok (logged_in w session) (λ _. ok calls.Sync) r.0 r.1 in
-      same_ok (tells answer.Done) o (subst (λ (x : calls.Ready). outcome_of version_1 w x ≡ Ok o) (sym (same_ok calls.Sync r.0 s.2)) r.2)
-
-  decided_is : decision version_1 w session c ≡ Ok (tells answer.Done)
-  decided_is = subst (λ (x : Outcome). decision version_1 w session c ≡ Ok x) (sym outcome_is) decided
+  nothing : (o.change ≡ Nothing) × (o.caller ≡ Stays)
+  nothing = alone o.point o.change o.caller (so.points.asks ∙ asks) so.points.alone
 
   takes : TakesMemory c × IsOk (ready w session c)
-  takes = let r = bind_ok (ready w session c) (outcome_of version_1 w) o decided in (subst TakesMemory (sym (is_sync c asks)) tt, subst (λ (x : Result calls.Ready Refusal). IsOk x) (sym r.1) refl)
+  takes = let r = bind_ok (ready w session c) (outcome_of version_1 w) o decided in ((can_ask w session c o asks decided).0, subst (λ (x : Result calls.Ready Refusal). IsOk x) (sym r.1) refl)
 
-  comes_to : IsWorld version_1 w → Comes version_1 w session o w
-  comes_to whole = subst (λ (x : Outcome). Comes version_1 w session x w) outcome_is (record { number = 0; free = tt; tree = w.live; applied = refl; world = sym (dropped_same version_1 w (all_held version_1 w whole)) })
+  -- what is left of the world is what the point makes of it
+  comes_to : IsWorld version_1 w → Comes version_1 w session o (pointed o.point w)
+  comes_to whole = record {
+    number = 0;
+    free = subst (IsNumberFor version_1 w.live 0) (sym nothing.0) tt;
+    tree = w.live;
+    applied = ap (λ (p : Pending). changed version_1 0 p w.live) nothing.0;
+    world = ap (pointed o.point) (sym (dropped_same version_1 w (all_held version_1 w whole)) ∙ ap (λ (k : Caller). dropped (with_caller w session (filled 0 k))) (sym nothing.1));
+  }
 
-  becomes : IsWorld version_1 w → Becomes version_1 w session (decision version_1 w session c) o.told w
-  becomes whole = subst (λ (d : Result Outcome Refusal). Becomes version_1 w session d o.told w) (sym decided) (refl, comes_to whole)
+  becomes : IsWorld version_1 w → Becomes version_1 w session (decision version_1 w session c) o.told (pointed o.point w)
+  becomes whole = subst (λ (d : Result Outcome Refusal). Becomes version_1 w session d o.told (pointed o.point w)) (sym decided) (refl, comes_to whole)
 
-  no_change : (kept : ℕ → Bool) → HasNoChange w kept session c
-  no_change kept = has_no_change w kept session c (tells answer.Done) (record { change = None; caller = Stays; lost = None }) decided_is refl refl
+  whole_pointed : IsWorld version_1 w → IsWorld version_1 (pointed o.point w)
+  whole_pointed whole = pointed_world version_1 w o.point whole so.points.fits
+
+-- it comes to no change, in any world
+no_change : (w : World) (kept : ℕ → Bool) (session : ℕ) (c : Call) → asks_for_point c ≡ true → HasNoChange w kept session c
+no_change w kept session c asks change is =
+    let none = nothing w session c asks is.outcome is.decided in
+    has_no_change w kept session c is.outcome (record { change = None; caller = is.outcome.caller; lost = None }) is.decided (subst (λ (p : Pending). Chooses w.live kept p is.outcome.caller (record { change = None; caller = is.outcome.caller; lost = None })) (sym none.0) refl) refl change is
+
+-- ---- numbers, where only frozen trees change
+
+with_frozen : (session : ℕ) (c : Call) (w : World) (frozen : FrozenTrees) (kept : ℕ → Bool) → Numbers (event.Call session c) w kept (record w { frozen = frozen }) kept
+with_frozen session c w frozen kept =
+    let same = same_numbers session c w w kept kept refl refl in
+    record {
+      next = λ n g. same.next n (record { unused = g.unused; used = g.used });
+      keeps = record {
+        goes_on = λ none n. same.keeps.goes_on (λ given g. none given (record { unused = g.unused; used = g.used })) n;
+        begins_anew = λ given g back n. same.keeps.begins_anew given (record { unused = g.unused; used = g.used }) back n;
+      };
+    }
+
+numbers_pointed : (session : ℕ) (c : Call) (w : World) (p : AskedPoint) (kept : ℕ → Bool) → Numbers (event.Call session c) w kept (pointed p w) kept
+numbers_pointed session c w Unasked kept = same_numbers session c w w kept kept refl refl
+numbers_pointed session c w Plain kept = same_numbers session c w w kept kept refl refl
+numbers_pointed session c w (Freezes name) kept = with_frozen session c w (map.insert w.frozen name w.live) kept
+numbers_pointed session c w (Thaws name) kept = with_frozen session c w (map.remove w.frozen name) kept
+
+since_pointed : (session : ℕ) (c : Call) (w : World) (p : AskedPoint) (since : ℕ → Bool) → SinceIn (event.Call session c) None (Running w) since (Running (pointed p w)) since
+since_pointed session c w Unasked since = stays_since session c None (Running w) since
+since_pointed session c w Plain since = stays_since session c None (Running w) since
+since_pointed session c w (Freezes name) since = stays_since session c None (Running w) since
+since_pointed session c w (Thaws name) since = stays_since session c None (Running w) since
+
+-- ---- what is answered
 
 -- it is made, and the call is answered
-asked_answers : (old new : Held) (session : ℕ) (c : Call) (asked : AsksFirst old session c) → IsWorld version_1 old.world → IsPointed (event.Call session c) old new → AnswersFrom (Running old.world) (event.Call session c) asked.outcome.told old new false
+asked_answers : (old new : Held) (session : ℕ) (c : Call) (asked : AsksFirst old session c) → IsWorld version_1 old.world → IsPointed (event.Call session c) asked.outcome.point old new → AnswersFrom (Running old.world) (event.Call session c) asked.outcome.told old new false
 asked_answers old new session c asked whole p = record {
   met = None;
   fin = old;
@@ -99,17 +186,14 @@ asked_answers old new session c asked whole p = record {
   mid = new;
   point = inr made;
   may = ap (λ (s : Status). s.failures) p.costs;
-  next = Running old.world;
-  step = record { next = old.world; becomes = becomes old.world session c asked.asks asked.outcome asked.decided whole; runs = refl };
-  means = (refl, running_between new old.world p.point p.runs);
-  lasts = record {
-    moments = LeavesOnly-weaker old.disk new.disk (λ d. IsImage d (settle old.world)) (λ d. ShowsState (Running old.world) d ⊎ ShowsState (Running old.world) d) (λ d h. inl h) (settled_all (event.Call session c) old new p);
-    answered = runs_show new old.world p.runs.runs;
-  };
+  next = Running after;
+  step = record { next = after; becomes = becomes old.world session c asked.asks asked.outcome asked.decided whole; runs = refl };
+  means = (refl, running_between new after p.point p.runs);
+  lasts = record { moments = p.moments; answered = runs_show new after p.runs.runs };
   writes = inr (inr asked, p.touched);
   begins = tt;
-  numbers = same_numbers session c old.world old.world new.kept new.kept refl refl;
-  since = stays_since session c None (Running old.world) new.kept_since;
+  numbers = numbers_pointed session c old.world asked.outcome.point new.kept;
+  since = since_pointed session c old.world asked.outcome.point new.kept_since;
   room = inl (none, nothing_left);
   later = later-is _ _ old.status new.status p.costs;
   costs = (λ _. made, inl (none, refl));
@@ -117,13 +201,16 @@ asked_answers old new session c asked whole p = record {
   works = tt;
 }
   where
+    after : World
+    after = pointed asked.outcome.point old.world
+
     made : HasMadePoint (event.Call session c) old new
     made = made_point (event.Call session c) old new (inr asked) p
 
     none : HasNoChange new.world new.kept session c
-    none = subst (λ (w : World). HasNoChange w new.kept session c) (sym p.world) (no_change old.world session c asked.asks asked.outcome asked.decided new.kept)
+    none = no_change new.world new.kept session c asked.asks
 
-    nothing_left : new.room ≡ dropping (nameless_in new.world.live - nameless_in old.world.live) new.room
+    nothing_left : new.room ≡ dropping (nameless_in new.world.live - nameless_in after.live) new.room
     nothing_left = subst (λ (w : World). new.room ≡ dropping (nameless_in new.world.live - nameless_in w.live) new.room) p.world (nothing_dropped (nameless_in new.world.live) new.room)
 
 -- it isn't made
@@ -133,8 +220,8 @@ asked_point old session c whole asked = record {
   memory = (takes_some, record { told = refl; same = refl });
   read = (takes_some, record { told = refl; same = refl });
   age = ((asked.outcome, asked.decided, inr asked.asks), record { told = refl; same = refl });
-  after = settle old.world;
-  cut = record { outcome = asked.outcome; decided = asked.decided; writes = inr asked.asks; next = old.world; comes = comes_to old.world session c asked.asks asked.outcome asked.decided whole; stops = record { told = refl; left = refl } };
+  after = settle after;
+  cut = record { outcome = asked.outcome; decided = asked.decided; writes = inr asked.asks; next = after; comes = comes_to old.world session c asked.asks asked.outcome asked.decided whole; stops = record { told = refl; left = refl } };
   writes = λ d touched. inr (inr asked, touched);
   begins = λ m s d. tt;
   numbers = λ m. same_numbers session c old.world old.world old.kept old.kept refl refl;
@@ -148,6 +235,9 @@ asked_point old session c whole asked = record {
   costs_cut = λ new cut. inr cut;
 }
   where
+    after : World
+    after = pointed asked.outcome.point old.world
+
     takes_some : TakesMemory c × IsOk (ready old.world session c)
     takes_some = takes old.world session c asked.asks asked.outcome asked.decided
 
@@ -155,22 +245,35 @@ asked_point old session c whole asked = record {
 pub asks_still : (old fin : Held) (session : ℕ) (c : Call) → fin.world ≡ old.world → AsksFirst old session c → AsksFirst fin session c
 asks_still old fin session c same asked = record { asks = asked.asks; outcome = asked.outcome; decided = subst (λ (w : World). decision version_1 w session c ≡ Ok asked.outcome) (sym same) asked.decided }
 
+-- what is asked for can be made of the world
+can_be_asked : (old : Held) (session : ℕ) (c : Call) (asked : AsksFirst old session c) → CanBeAsked asked.outcome.point old.world
+can_be_asked old session c asked = (can_ask old.world session c asked.outcome asked.asks asked.decided).1
+
+-- behind the point in progress too
+pub can_point : (old fin : Held) (session : ℕ) (c : Call) (asked : AsksFirst old session c) → IsWorld version_1 old.world → RunsWith old.point old old.world → Finishes (Ok tt) old fin → CanPoint asked.outcome.point fin.world
+can_point old fin session c asked whole r finishes =
+    subst (CanPoint asked.outcome.point) (sym (is_fin old fin (finishes r) r).world)
+    (record { can = can_be_asked old session c asked; whole = whole_pointed old.world session c asked.asks asked.outcome asked.decided whole })
+
 -- so it is in each world that is meant
-pub asked_behind : (old fin new : Held) (session : ℕ) (c : Call) (asked : AsksFirst old session c) → IsWorld version_1 old.world → Finishes (Ok tt) old fin → Points (Ok tt) fin new → Answers (event.Call session c) asked.outcome.told old false new false
+pub asked_behind : (old fin new : Held) (session : ℕ) (c : Call) (asked : AsksFirst old session c) → IsWorld version_1 old.world → Finishes (Ok tt) old fin → Points (Ok tt) asked.outcome.point fin new → Answers (event.Call session c) asked.outcome.told old false new false
 unfolding asks_still
 asked_behind old fin new session c asked whole finishes points =
     in_any_world (event.Call session c) old new asked.outcome.told false (λ r.
     let f = is_fin old fin (finishes r) r in
+    let still = asks_still old fin session c f.world asked in
     behind_finish (event.Call session c) old fin new f (inr asked) asked.outcome.told false tt tt
-    (asked_answers fin new session c (asks_still old fin session c f.world asked) (subst (IsWorld version_1) (sym f.world) whole) (points f.ready)))
+    (asked_answers fin new session c still (subst (IsWorld version_1) (sym f.world) whole) (points f.ready (can_be_asked fin session c still))))
 
-pub asked_unpointed : (old fin new : Held) (session : ℕ) (c : Call) (fault : PointFault) → AsksFirst old session c → IsWorld version_1 old.world → Finishes (Ok tt) old fin → Points (Err fault) fin new → Answers (event.Call session c) (refused (errno_of_point fault)) old false new (stops_for fault)
+pub asked_unpointed : (old fin new : Held) (session : ℕ) (c : Call) (fault : PointFault) (asked : AsksFirst old session c) → IsWorld version_1 old.world → Finishes (Ok tt) old fin → Points (Err fault) asked.outcome.point fin new → Answers (event.Call session c) (refused (errno_of_point fault)) old false new (stops_for fault)
+unfolding asks_still asked_point
 asked_unpointed old fin new session c fault asked whole finishes points =
     in_any_world (event.Call session c) old new (refused (errno_of_point fault)) (stops_for fault) (λ r.
     let f = is_fin old fin (finishes r) r in
+    let still = asks_still old fin session c f.world asked in
     behind_finish (event.Call session c) old fin new f (inr asked) (refused (errno_of_point fault)) (stops_for fault) tt tt
-    (unpointed_answers (event.Call session c) fin (asked_point fin session c (subst (IsWorld version_1) (sym f.world) whole) (asks_still old fin session c f.world asked)) f.between f.ready fault new
-    (unmade_in_call fault session c fin new (points f.ready))))
+    (unpointed_answers (event.Call session c) fin (asked_point fin session c (subst (IsWorld version_1) (sym f.world) whole) still) f.between f.ready asked.outcome.point (λ d either. either) fault new
+    (unmade_in_call fault session c asked.outcome.point fin new (points f.ready (can_be_asked fin session c still)))))
 
 -- the point in progress was cut off
 pub asked_cut : (old new : Held) (session : ℕ) (c : Call) (fault : PointFault) → AsksFirst old session c → IsWorld version_1 old.world → Finishes (Err fault) old new → Answers (event.Call session c) (refused (errno_of_point fault)) old false new (stops_for fault)

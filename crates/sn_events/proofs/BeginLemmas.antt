@@ -16,6 +16,7 @@ use Rattle.sn_cp_whole.specs.Making.{HasCauseFor}
 use Rattle.sn_cp_whole.specs.declared.fault.PointFault.{PointFault}
 use Rattle.sn_cp_whole.specs.declared.fault.PointFault.TheVariants as point
 use Rattle.sn_held.specs.Held.{Going, Held}
+use Rattle.sn_model.specs.Outcomes.{Plain}
 use Rattle.sn_model.specs.World.{World}
 use Rattle.sn_model.specs.declared.reply.Progress.TheVariants as progress
 use Rattle.sn_cp.specs.Counting.{syncs_left, writes_left}
@@ -24,7 +25,7 @@ use Rattle.sn_events.specs.Answers.{IsBesideRoot, IsLastRoot}
 use Rattle.sn_events.specs.Pointing.{Advances, Begins, Finishes, FinishesSo, GoesOn, IsUnbegun}
 
 -- It wasn't begun. The world is the same where the disk is.
-pub unbegun : (old : Held) (next : World) (at : LogPosition) (d : Disk) (status : Status) (fault : PointFault) → (d ≡ old.disk → next ≡ old.world) → BeginsPoint (Err fault) old.world old old.base at old.disk d → at ≡ old.at → HasCauseFor fault old.status status → IsLater old.status status → status.writes ≤ old.status.writes + 1 → status.syncs ≤ old.status.syncs + 1
+pub unbegun : (old : Held) (next : World) (at : LogPosition) (d : Disk) (status : Status) (fault : PointFault) → (d ≡ old.disk → next ≡ old.world) → BeginsPoint (Err fault) Plain old.world old old.base at old.disk d → at ≡ old.at → HasCauseFor fault old.status status → IsLater old.status status → status.writes ≤ old.status.writes + 1 → status.syncs ≤ old.status.syncs + 1
     → Touches (IsBesideRoot old) old.disk d → (fault ≡ point.Age → IsLastRoot old.base.root) → IsUnbegun fault old (record old { world = next; at = at; disk = d; status = status })
 unbegun old next at d status point.Memory world made same cause later writes syncs touched aged = λ i. record old { world = world made i; at = same i; disk = made i; status = cause i }
 unbegun old next at d status point.Age world made same cause later writes syncs touched aged = (λ i. record old { world = world made i; at = same i; disk = made i; status = cause i }, aged refl)

@@ -113,7 +113,7 @@ cut_finish e old x new fault so = told old.point so
     told : (at : Option Going) → FinishesSo (Err fault) at old new → AnswersFrom (Running old.world) e (refused (errno_of_point fault)) old new (stops_for fault)
     told None never = absurd never
     told (Some going) (is, cut) = subst (λ (f : PointFault). AnswersFrom (Running old.world) e (refused (errno_of_point f)) old new (stops_for f)) (sym is)
-        (is_cut e old x new cut.touched cut.moments cut.failed cut.later (inr (record { needed = x.needed; going = cut.going; is = cut.is; costs = cut.costs })))
+        (is_cut e old x new cut.touched (LeavesOnly-weaker old.disk new.disk (λ d. IsImage d (settle old.world)) (λ d. IsImage d (settle old.world) ⊎ IsImage d x.after) (λ d im. inl im) cut.moments) cut.failed cut.later (inr (record { needed = x.needed; going = cut.going; is = cut.is; costs = cut.costs })))
 
 -- ---- a call that lacked something
 

@@ -16,8 +16,9 @@ use Rattle.sn_model.specs.declared.reply.Reply.{Reply}
 use Rattle.sn_model.specs.declared.reply.Reply.TheVariants as answer
 use Rattle.sn_model.specs.Calls.{ready}
 use Rattle.sn_model.specs.Machine.{State, Running, Stopped, Mishap, Memory, Read, Write, Space, Age, EventStep, IsCharged, errno_of, refused}
+use Rattle.sn_model.specs.Outcomes.{AskedPoint, Plain}
 use Rattle.sn_model.specs.Settling.{settle}
-use Rattle.sn_model.specs.Steps.{TakesMemory}
+use Rattle.sn_model.specs.Steps.{TakesMemory, pointed}
 use Rattle.sn_model.specs.World.{World}
 use Rattle.sn_model.specs.Worlds.{IsCall, IsWorld}
 use Rattle.sn_block.specs.Counts.{FailsRead, IsLater}
@@ -27,6 +28,7 @@ use Rattle.sn_core.proofs.NumberLemmas.{same_numbers}
 use Rattle.sn_core.proofs.StepLemmas.{change_takes}
 use Rattle.sn_device.specs.declared.status.Status.{Status}
 use Rattle.sn_device.specs.Disk.{Disk}
+use Rattle.sn_device.specs.Sectors.{Contents}
 use Rattle.sn_device.specs.Crash.{LeavesOnly, Touches}
 use Rattle.sn_device.proofs.CrashLemmas.{LeavesOnly-join, LeavesOnly-now, LeavesOnly-weaker, Touches-join, Touches-start, Touches-within}
 use Rattle.sn_record.specs.Payload.{IsSpelled, PayloadsFit}
@@ -34,7 +36,7 @@ use Rattle.sn_ondisk.specs.LogHalf.{InHalf}
 use Rattle.sn_log.specs.Positions.{HasRoom, LogPosition, base_at, first_of}
 use Rattle.sn_room.specs.Rooms.{RoomCounts}
 use Rattle.sn_held.specs.Held.{Going, Held, Kept, RunsReady}
-use Rattle.sn_cp_progress.specs.Meaning.{RunsWith}
+use Rattle.sn_cp_progress.specs.Meaning.{EitherImage, RunsWith}
 use Rattle.sn_cp_progress.proofs.MeaningLemmas.{runs_with, stays_lasts}
 use Rattle.sn_held.specs.Images.{IsImage}
 use Rattle.sn_held.specs.Moments.{ShowsState}
@@ -46,12 +48,13 @@ use Rattle.sn_cp_whole.specs.declared.fault.PointFault.{PointFault}
 use Rattle.sn_cp_whole.specs.declared.fault.PointFault.TheVariants as point
 use Rattle.sn_cp_whole.proofs.RecoverLemmas.{half_apart}
 use Rattle.sn_examine.specs.Failing.{CostsAtMost, HasFailed, HasNotFailed}
-use Rattle.sn_events.specs.Answers.{Answers, AnswersFrom, Begins, BuildsOf, Costs, CostsCall, DoesNotFit, HasMadePoint, IsBesideRoot, IsChangeOf, IsLastRoot, Lacks, LacksFirst, MayMeet, HasNoChange, IsCutAtPoint, IsRecorded, NeedsPoint, NumbersIn, RoomIn, RoomOfCall, SinceIn, StepsIn, Works, Writes, is_fitting}
+use Rattle.sn_events.specs.Answers.{Answers, AnswersFrom, Begins, BuildsOf, Costs, CostsCall, DoesNotFit, HasMadePoint, IsBesideRoot, IsChangeOf, IsLastRoot, Lacks, LacksFirst, MayMeet, HasNoChange, IsCutAtPoint, IsRecorded, NeedsPoint, NumbersIn, RoomIn, RoomOfCall, SinceIn, StepsIn, Works, Writes, asked_in, is_fitting, world_behind}
 use Rattle.sn_events.specs.Pointing.{IsPointed, IsUnpointed, Points, errno_of_point, stops_for}
 use Rattle.sn_events.specs.Serving.{Serves, ServesFrom, ServesTo}
 use Rattle.sn_events.proofs.CallLemmas.{comes, next_with}
 use Rattle.sn_events.proofs.ReadLemmas.{fails_read}
 use Rattle.sn_events.proofs.DecisionLemmas.{CanBeMade, can_be_made, is_charged}
+use Rattle.sn_events.proofs.UnmountLemmas.{settles_twice}
 
 -- what is so of the world that is held is so of the one that is meant
 pub in_any_world : (e : Event) (old new : Held) (reply : Reply) (has_stopped : Bool) → (RunsWith old.point old old.world → AnswersFrom (Running old.world) e reply old new has_stopped) → Answers e reply old false new has_stopped
@@ -70,7 +73,16 @@ running_between h world between ready = subst (λ (p : Option Going). RunsWith p
 
 -- ---- a point that was made
 
-pub made_point : (e : Event) (old mid : Held) → NeedsPoint old e → IsPointed e old mid → HasMadePoint e old mid
+-- of a world and the same one, or it settled twice
+pub either_same : {A : Type 0} → A ⊎ A → A
+either_same (inl a) = a
+either_same (inr a) = a
+
+pub settles_same : {d : Contents} (w : World) → EitherImage w (settle w) d → IsImage d (settle w)
+settles_same w (inl im) = im
+settles_same {d} w (inr im) = subst (IsImage d) (settles_twice w) im
+
+pub made_point : (e : Event) (old mid : Held) (needed : NeedsPoint old e) → IsPointed e (asked_in old e needed) old mid → HasMadePoint e old mid
 made_point e old mid needed p = record {
   needed = needed;
   between = p.between;
@@ -91,9 +103,9 @@ made_point e old mid needed p = record {
   costs = p.costs;
 }
 
--- it shows the settled world all the time
-pub settled_all : (e : Event) (old mid : Held) → IsPointed e old mid → LeavesOnly old.disk mid.disk (λ c. IsImage c (settle old.world))
-settled_all e old mid p = p.moments
+-- a plain one of a call shows the settled world all the time
+settled_all : (session : ℕ) (c : Call) (old mid : Held) → IsPointed (event.Call session c) Plain old mid → LeavesOnly old.disk mid.disk (λ d. IsImage d (settle old.world))
+settled_all session c old mid p = LeavesOnly-weaker old.disk mid.disk (EitherImage old.world old.world) (λ d. IsImage d (settle old.world)) (λ d either. either_same either) p.moments
 
 pub none_failed : (old mid new : Status) → mid.failures ≡ old.failures → HasNotFailed mid new → HasNotFailed old new
 none_failed old mid new same none = none ∙ same
@@ -104,12 +116,12 @@ some_failed old mid new same (inr ended) = inr ended
 
 -- ---- a call that is served behind it
 
-module _ (old mid new : Held) (session : ℕ) (c : Call) (needed : NeedsPoint old (event.Call session c)) (p : IsPointed (event.Call session c) old mid) where
+module _ (old mid new : Held) (session : ℕ) (c : Call) (needed : LacksFirst old session c) (p : IsPointed (event.Call session c) Plain old mid) where
   abbrev e : Event
   e = event.Call session c
 
   made : HasMadePoint e old mid
-  made = made_point e old mid needed p
+  made = made_point e old mid (inl needed) p
 
   no_failures : mid.status.failures ≡ old.status.failures
   no_failures = ap (λ (s : Status). s.failures) p.costs
@@ -159,10 +171,10 @@ module _ (old mid new : Held) (session : ℕ) (c : Call) (needed : NeedsPoint ol
         means = a.means;
         lasts = record {
           moments = LeavesOnly-join old.disk mid.disk new.disk (λ d. ShowsState (Running old.world) d ⊎ ShowsState a.next d)
-              (LeavesOnly-weaker old.disk mid.disk (λ d. IsImage d (settle old.world)) (λ d. ShowsState (Running old.world) d ⊎ ShowsState a.next d) (λ d h. inl h) (settled_all e old mid p)) a.lasts.moments;
+              (LeavesOnly-weaker old.disk mid.disk (λ d. IsImage d (settle old.world)) (λ d. ShowsState (Running old.world) d ⊎ ShowsState a.next d) (λ d h. inl h) (settled_all session c old mid p)) a.lasts.moments;
           answered = a.lasts.answered;
         };
-        writes = inr (needed, beside served.wrote);
+        writes = inr (inl needed, beside served.wrote);
         begins = tt;
         numbers = subst (λ (x : Held). NumbersIn e a.met (Running old.world) x.kept a.next new.kept) served.at_once.1 a.numbers;
         since = subst (λ (x : Held). SinceIn e a.met (Running old.world) x.kept_since a.next new.kept_since) served.at_once.1 a.since;
@@ -207,7 +219,7 @@ still_lacks fit e old mid session c whole made lacks = record { change = change;
     told (inr (inr (inl kept))) = absurd (true≢false (sym kept ∙ gives_none change mid.kept made.none_kept))
     told (inr (inr (inr over))) = absurd (over made.age)
 
-space_answers : PayloadsFit → (old mid : Held) (session : ℕ) (c : Call) → IsWorld version_1 mid.world → LacksFirst old session c → IsPointed (event.Call session c) old mid → LacksFirst mid session c → AnswersFrom (Running old.world) (event.Call session c) (refused Enospc) old mid false
+space_answers : PayloadsFit → (old mid : Held) (session : ℕ) (c : Call) → IsWorld version_1 mid.world → LacksFirst old session c → IsPointed (event.Call session c) Plain old mid → LacksFirst mid session c → AnswersFrom (Running old.world) (event.Call session c) (refused Enospc) old mid false
 space_answers fit old mid session c whole needed p lacks = record {
   met = Some Space;
   fin = old;
@@ -219,7 +231,7 @@ space_answers fit old mid session c whole needed p lacks = record {
   step = (subst (λ (w : World). IsCharged version_1 w session c) p.world (lacks.is.outcome, lacks.is.decided, is_charged mid.world mid.kept session c lacks.is.outcome lacks.is.picked lacks.change lacks.is.decided lacks.is.chosen lacks.is.is), record { told = refl; same = refl });
   means = (refl, running_between mid old.world p.point p.runs);
   lasts = record {
-    moments = LeavesOnly-weaker old.disk mid.disk (λ d. IsImage d (settle old.world)) (λ d. ShowsState (Running old.world) d ⊎ ShowsState (Running old.world) d) (λ d h. inl h) (settled_all (event.Call session c) old mid p);
+    moments = LeavesOnly-weaker old.disk mid.disk (λ d. IsImage d (settle old.world)) (λ d. ShowsState (Running old.world) d ⊎ ShowsState (Running old.world) d) (λ d h. inl h) (settled_all session c old mid p);
     answered = runs_show mid old.world p.runs.runs;
   };
   writes = inr (inl needed, p.touched);
@@ -243,18 +255,19 @@ not_device fault runs is = true≢false (subst (λ (f : PointFault). stops_for f
 
 -- what is left of what is held, in which the world is the same where the disk is
 module _ (e : Event) (old new : Held) (world : new.disk ≡ old.disk → new.world ≡ old.world) (kept : new.kept ≡ old.kept) (since : new.kept_since ≡ old.kept_since) (going : new.point ≡ old.point) (room : new.room ≡ old.room) (base : new.base ≡ old.base) (built : Layer) (builds : BuildsOf e old built) where
-  pub point_unmade : (fault : PointFault) (of : World) (settled_is : settle of ≡ settle old.world) (h : Held) (k : Kept) → h.disk ≡ new.disk → (fault ≢ point.Device → new.at ≡ old.at) → MakesPoint (Err fault) of old.disk h k
+  pub point_unmade : (fault : PointFault) (asked : AskedPoint) (of : World) (settled_is : settle of ≡ settle old.world) → pointed asked of ≡ pointed asked (world_behind e old.world) → (h : Held) (k : Kept) → h.disk ≡ new.disk → (fault ≢ point.Device → new.at ≡ old.at) → MakesPoint (Err fault) asked of old.disk h k
       → Touches (IsBesideRoot old) old.disk new.disk → HasCauseFor fault old.status new.status → IsLater old.status new.status
-      → CostsAtMost (most_writes old.at.blocks (need old.base.root.limits built)) most_syncs old.status new.status → (fault ≡ point.Age → IsLastRoot old.base.root) → IsUnpointed fault e old new
-  point_unmade point.Memory of settled_is h k disk at made touched cause later costs aged = λ i. record { world = world (sym disk ∙ made) i; kept = kept i; kept_since = since i; point = going i; room = room i; at = at (not_device point.Memory refl) i; base = base i; disk = (sym disk ∙ made) i; status = cause i }
-  point_unmade point.Age of settled_is h k disk at made touched cause later costs aged = (λ i. record { world = world (sym disk ∙ made) i; kept = kept i; kept_since = since i; point = going i; room = room i; at = at (not_device point.Age refl) i; base = base i; disk = (sym disk ∙ made) i; status = cause i }, aged refl)
-  point_unmade point.Read of settled_is h k disk at made touched cause later costs aged = (λ i. record { world = world (sym disk ∙ made) i; kept = kept i; kept_since = since i; point = going i; room = room i; at = at (not_device point.Read refl) i; base = base i; disk = (sym disk ∙ made) i; status = new.status }, cause)
-  point_unmade point.Damaged of settled_is h k disk at made touched cause later costs aged = absurd made
-  point_unmade point.Device of settled_is h k disk at made touched cause later costs aged = record {
+      → CostsAtMost (most_writes old.at.blocks (need old.base.root.limits built)) most_syncs old.status new.status → (fault ≡ point.Age → IsLastRoot old.base.root) → IsUnpointed fault e asked old new
+  point_unmade point.Memory asked of settled_is after_is h k disk at made touched cause later costs aged = λ i. record { world = world (sym disk ∙ made) i; kept = kept i; kept_since = since i; point = going i; room = room i; at = at (not_device point.Memory refl) i; base = base i; disk = (sym disk ∙ made) i; status = cause i }
+  point_unmade point.Age asked of settled_is after_is h k disk at made touched cause later costs aged = (λ i. record { world = world (sym disk ∙ made) i; kept = kept i; kept_since = since i; point = going i; room = room i; at = at (not_device point.Age refl) i; base = base i; disk = (sym disk ∙ made) i; status = cause i }, aged refl)
+  point_unmade point.Read asked of settled_is after_is h k disk at made touched cause later costs aged = (λ i. record { world = world (sym disk ∙ made) i; kept = kept i; kept_since = since i; point = going i; room = room i; at = at (not_device point.Read refl) i; base = base i; disk = (sym disk ∙ made) i; status = new.status }, cause)
+  point_unmade point.Damaged asked of settled_is after_is h k disk at made touched cause later costs aged = absurd made
+  point_unmade point.Device asked of settled_is after_is h k disk at made touched cause later costs aged = record {
     touched = touched;
     built = built;
     builds = builds;
-    moments = subst (λ (d : Disk). LeavesOnly old.disk d (λ c. IsImage c (settle old.world))) disk (subst (λ (w : World). LeavesOnly old.disk h.disk (λ c. IsImage c w)) settled_is made);
+    moments = subst (λ (d : Disk). LeavesOnly old.disk d (EitherImage old.world (pointed asked (world_behind e old.world)))) disk
+        (subst (λ (w : World). LeavesOnly old.disk h.disk (λ c. IsImage c (settle old.world) ⊎ IsImage c (settle w))) after_is (subst (λ (w : World). LeavesOnly old.disk h.disk (λ c. IsImage c w ⊎ IsImage c (settle (pointed asked of)))) settled_is made));
     failed = cause;
     later = later;
     costs = costs;
@@ -299,11 +312,10 @@ pub record PointEvent (e : Event) (old : Held) (w : World) : Type 0 where
   pub costs_read : (new : Status) → CostsAtMost 0 0 old.status new → Costs (Running w) old old e (Some Read) new
   pub costs_cut : (new : Status) → IsCutAtPoint old e new → Costs (Running w) old old e (Some Write) new
 
--- it was cut off, and either world may be there, of which the first is
-pub is_cut : (e : Event) (old : Held) (x : PointEvent e old old.world) (new : Held) → Touches (IsBesideRoot old) old.disk new.disk → LeavesOnly old.disk new.disk (λ c. IsImage c (settle old.world)) → HasFailed old.status new.status
+-- it was cut off, and either world may be there
+pub is_cut : (e : Event) (old : Held) (x : PointEvent e old old.world) (new : Held) → Touches (IsBesideRoot old) old.disk new.disk → LeavesOnly old.disk new.disk (λ c. IsImage c (settle old.world) ⊎ IsImage c x.after) → HasFailed old.status new.status
     → IsLater old.status new.status → IsCutAtPoint old e new.status → AnswersFrom (Running old.world) e (refused Eio) old new true
-is_cut e old x new touched settled_always failed later cut =
-    let moments = LeavesOnly-weaker old.disk new.disk (λ d. IsImage d (settle old.world)) (λ d. IsImage d (settle old.world) ⊎ IsImage d x.after) (λ d im. inl im) settled_always in
+is_cut e old x new touched moments failed later cut =
     let now = LeavesOnly-now old.disk new.disk (λ d. IsImage d (settle old.world) ⊎ IsImage d x.after) moments in
     record {
       met = Some Write;
@@ -384,12 +396,12 @@ module _ (e : Event) (old : Held) (x : PointEvent e old old.world) (between : ol
         works = x.works Read new.status;
       })
 
-  pub unpointed_answers : (fault : PointFault) (new : Held) → IsUnpointed fault e old new → AnswersFrom (Running old.world) e (refused (errno_of_point fault)) old new (stops_for fault)
-  unpointed_answers point.Memory new is = subst (λ (h : Held). AnswersFrom (Running old.world) e (refused Enomem) old h false) (sym is) (refuses Memory tt refl x.memory)
-  unpointed_answers point.Age new is = subst (λ (h : Held). AnswersFrom (Running old.world) e (refused Elimit) old h false) (sym is.0) (refuses Age tt (x.needed, is.1, refl) x.age)
-  unpointed_answers point.Read new is = cannot_read new is.0 is.1
-  unpointed_answers point.Damaged new is = absurd is
-  unpointed_answers point.Device new is = is_cut e old x new is.touched is.moments is.failed is.later (inl (record { needed = x.needed; built = is.built; builds = is.builds; costs = is.costs }))
+  pub unpointed_answers : (asked : AskedPoint) → ((d : Contents) → EitherImage old.world (pointed asked (world_behind e old.world)) d → IsImage d (settle old.world) ⊎ IsImage d x.after) → (fault : PointFault) (new : Held) → IsUnpointed fault e asked old new → AnswersFrom (Running old.world) e (refused (errno_of_point fault)) old new (stops_for fault)
+  unpointed_answers asked shows point.Memory new is = subst (λ (h : Held). AnswersFrom (Running old.world) e (refused Enomem) old h false) (sym is) (refuses Memory tt refl x.memory)
+  unpointed_answers asked shows point.Age new is = subst (λ (h : Held). AnswersFrom (Running old.world) e (refused Elimit) old h false) (sym is.0) (refuses Age tt (x.needed, is.1, refl) x.age)
+  unpointed_answers asked shows point.Read new is = cannot_read new is.0 is.1
+  unpointed_answers asked shows point.Damaged new is = absurd is
+  unpointed_answers asked shows point.Device new is = is_cut e old x new is.touched (LeavesOnly-weaker old.disk new.disk (EitherImage old.world (pointed asked (world_behind e old.world))) (λ d. IsImage d (settle old.world) ⊎ IsImage d x.after) shows is.moments) is.failed is.later (inl (record { needed = x.needed; built = is.built; builds = is.builds; costs = is.costs }))
 
 -- ---- a call
 
@@ -443,31 +455,31 @@ call_point old session c numbers whole needed = record {
     takes : TakesMemory c × IsOk (ready old.world session c)
     takes = change_takes old.world old.kept session c o is.picked needed.change is.decided is.chosen is.is
 
-unpointed_call : (old new : Held) (session : ℕ) (c : Call) (fault : PointFault) → IsCall c → IsWorld version_1 old.world → LacksFirst old session c → old.point ≡ None → RunsReady old old.world old.base → IsUnpointed fault (event.Call session c) old new
+unpointed_call : (old new : Held) (session : ℕ) (c : Call) (fault : PointFault) → IsCall c → IsWorld version_1 old.world → LacksFirst old session c → old.point ≡ None → RunsReady old old.world old.base → IsUnpointed fault (event.Call session c) Plain old new
     → AnswersFrom (Running old.world) (event.Call session c) (refused (errno_of_point fault)) old new (stops_for fault)
-unpointed_call old new session c fault numbers whole needed between r is = unpointed_answers (event.Call session c) old (call_point old session c numbers whole needed) between r fault new is
+unpointed_call old new session c fault numbers whole needed between r is = unpointed_answers (event.Call session c) old (call_point old session c numbers whole needed) between r Plain (λ d either. inl (either_same either)) fault new is
 
 -- a point that isn't made in a call is as one in a step
-pub unmade_in_call : (fault : PointFault) (session : ℕ) (c : Call) (old new : Held) → IsUnpointed fault event.Step old new → IsUnpointed fault (event.Call session c) old new
-unmade_in_call point.Memory session c old new is = is
-unmade_in_call point.Age session c old new is = is
-unmade_in_call point.Read session c old new is = is
-unmade_in_call point.Damaged session c old new is = is
-unmade_in_call point.Device session c old new is = is
+pub unmade_in_call : (fault : PointFault) (session : ℕ) (c : Call) (asked : AskedPoint) (old new : Held) → IsUnpointed fault event.Step asked old new → IsUnpointed fault (event.Call session c) asked old new
+unmade_in_call point.Memory session c asked old new is = is
+unmade_in_call point.Age session c asked old new is = is
+unmade_in_call point.Read session c asked old new is = is
+unmade_in_call point.Damaged session c asked old new is = is
+unmade_in_call point.Device session c asked old new is = is
 
 -- the same in each world that is meant
-pub call_behind : (old mid new : Held) (session : ℕ) (c : Call) (reply : Reply) (has_stopped : Bool) → old.point ≡ None → LacksFirst old session c → Points (Ok tt) old mid → Serves (Some reply) mid session c new has_stopped → Answers (event.Call session c) reply old false new has_stopped
+pub call_behind : (old mid new : Held) (session : ℕ) (c : Call) (reply : Reply) (has_stopped : Bool) → old.point ≡ None → LacksFirst old session c → Points (Ok tt) Plain old mid → Serves (Some reply) mid session c new has_stopped → Answers (event.Call session c) reply old false new has_stopped
 call_behind old mid new session c reply has_stopped between needed points serves =
-    in_its_world (event.Call session c) old new reply has_stopped between (λ r. let p = points r in behind_point old mid new session c (inl needed) p (serves (Running old.world) (refl, running_between mid old.world p.point p.runs)))
+    in_its_world (event.Call session c) old new reply has_stopped between (λ r. let p = points r tt in behind_point old mid new session c needed p (serves (Running old.world) (refl, running_between mid old.world p.point p.runs)))
 
-pub call_without_room : PayloadsFit → (old mid new : Held) (session : ℕ) (c : Call) → IsWorld version_1 mid.world → old.point ≡ None → LacksFirst old session c → Points (Ok tt) old mid → Serves None mid session c new false → Answers (event.Call session c) (refused Enospc) old false new false
+pub call_without_room : PayloadsFit → (old mid new : Held) (session : ℕ) (c : Call) → IsWorld version_1 mid.world → old.point ≡ None → LacksFirst old session c → Points (Ok tt) Plain old mid → Serves None mid session c new false → Answers (event.Call session c) (refused Enospc) old false new false
 call_without_room fit old mid new session c whole between needed points serves =
     subst (λ (h : Held). Answers (event.Call session c) (refused Enospc) old false h false) (sym serves.1)
-    (in_its_world (event.Call session c) old mid (refused Enospc) false between (λ r. space_answers fit old mid session c whole needed (points r) serves.0))
+    (in_its_world (event.Call session c) old mid (refused Enospc) false between (λ r. space_answers fit old mid session c whole needed (points r tt) serves.0))
 
-pub call_unpointed : (old new : Held) (session : ℕ) (c : Call) (fault : PointFault) → IsCall c → IsWorld version_1 old.world → old.point ≡ None → LacksFirst old session c → Points (Err fault) old new → Answers (event.Call session c) (refused (errno_of_point fault)) old false new (stops_for fault)
+pub call_unpointed : (old new : Held) (session : ℕ) (c : Call) (fault : PointFault) → IsCall c → IsWorld version_1 old.world → old.point ≡ None → LacksFirst old session c → Points (Err fault) Plain old new → Answers (event.Call session c) (refused (errno_of_point fault)) old false new (stops_for fault)
 call_unpointed old new session c fault numbers whole between needed points =
-    in_its_world (event.Call session c) old new (refused (errno_of_point fault)) (stops_for fault) between (λ r. unpointed_call old new session c fault numbers whole needed between r (unmade_in_call fault session c old new (points r)))
+    in_its_world (event.Call session c) old new (refused (errno_of_point fault)) (stops_for fault) between (λ r. unpointed_call old new session c fault numbers whole needed between r (unmade_in_call fault session c Plain old new (points r tt)))
 
 -- ---- a restart whose unmount is refused
 
@@ -499,6 +511,6 @@ unmount_point old = record {
     none Space is = absurd is
     none Age is = refl
 
-pub unpointed_restart : (old new : Held) (fault : PointFault) → old.point ≡ None → RunsReady old old.world old.base → IsUnpointed fault event.Restart old new
+pub unpointed_restart : (old new : Held) (fault : PointFault) → old.point ≡ None → RunsReady old old.world old.base → IsUnpointed fault event.Restart Plain old new
     → AnswersFrom (Running old.world) event.Restart (refused (errno_of_point fault)) old new (stops_for fault)
-unpointed_restart old new fault between r is = unpointed_answers event.Restart old (unmount_point old) between r fault new is
+unpointed_restart old new fault between r is = unpointed_answers event.Restart old (unmount_point old) between r Plain (λ d either. inl (settles_same old.world either)) fault new is

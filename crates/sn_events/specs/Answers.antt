@@ -1,5 +1,5 @@
 -- What an event leads a mounted file system to, on its disk too.
-use Rattle.std.specs.Prelude.{◌≡◌, ◌≢◌, ◌⊎◌, ℕ, ◌+◌, ◌-◌, ◌*◌, ◌<◌, ◌≤◌, Bool, false, true, ◌&&◌, ◌||◌, Option, None, Some, Ok, length}
+use Rattle.std.specs.Prelude.{◌≡◌, ◌≢◌, ◌⊎◌, inl, inr, ℕ, ◌+◌, ◌-◌, ◌*◌, ◌<◌, ◌≤◌, Bool, false, true, ◌&&◌, ◌||◌, Option, None, Some, Ok, length}
 use Rattle.sn_device.specs.Crash.{Touches}
 use Rattle.sn_device.specs.Disk.{Disk, reads}
 use Rattle.sn_device.specs.declared.status.Status.{Status}
@@ -10,13 +10,14 @@ use Rattle.sn_model.specs.declared.call.Call.{Call}
 use Rattle.sn_model.specs.declared.call.Event.{Event}
 use Rattle.sn_model.specs.declared.call.Event.TheVariants as event
 use Rattle.sn_model.specs.declared.change.Change.{Change}
+use Rattle.sn_model.specs.Outcomes.{AskedPoint, Plain}
 use Rattle.sn_model.specs.declared.outcome.Outcome.{Outcome}
 use Rattle.sn_model.specs.declared.reply.Progress.TheVariants as progress
 use Rattle.sn_model.specs.declared.reply.Reply.{Reply}
 use Rattle.sn_model.specs.declared.reply.Reply.TheVariants as answer
 use Rattle.sn_model.specs.Machine.{State, Running, Stopped, Mishap, Memory, Read, Write, Space, Age, EventStep}
 use Rattle.sn_model.specs.Settling.{settle}
-use Rattle.sn_model.specs.Steps.{AsksForPoint, decision}
+use Rattle.sn_model.specs.Steps.{AsksForPoint, decision, pointed}
 use Rattle.sn_model.specs.World.{World}
 use Rattle.sn_block.specs.Counts.{IsLater, called}
 use Rattle.sn_block.specs.Effects.{Nowhere}
@@ -94,6 +95,13 @@ NeedsPoint h (event.Call session c) = LacksFirst h session c ⊎ AsksFirst h ses
 NeedsPoint h event.Step = Unit {0}
 NeedsPoint h event.Restart = Unit {0}
 
+-- which point it is: a plain one, but that of a call on snapshots
+abbrev pub asked_in : (h : Held) (e : Event) → NeedsPoint h e → AskedPoint
+asked_in h (event.Call session c) (inl lacks) = Plain
+asked_in h (event.Call session c) (inr asked) = asked.outcome.point
+asked_in h event.Step needed = Plain
+asked_in h event.Restart needed = Plain
+
 -- The world that a point is made of: an unmount drops the files that no name stands for.
 abbrev pub world_behind : Event → World → World
 world_behind (event.Call session c) world = world
@@ -110,12 +118,12 @@ BuildsOf event.Restart old built = DropsFiles old.base old.world.live (record ol
 abbrev pub IsBesideRoot : Held → ℕ → Type 0
 IsBesideRoot h = IsApart h.at.blocks h.base.slot
 
--- A whole point was made first, where none was in progress, with its writes and syncs, beside the root that counted: the log is empty, nothing is charged or has changed, and no number is kept back.
+-- A whole point was made first, where none was in progress, with its writes and syncs, beside the root that counted: the log is empty, nothing is charged or has changed, no number is kept back, and the snapshots are those that were asked for.
 pub record HasMadePoint (e : Event) (old mid : Held) : Type 0 where
   pub needed : NeedsPoint old e
   pub between : old.point ≡ None
   pub point : mid.point ≡ None
-  pub world : mid.world ≡ world_behind e old.world
+  pub world : mid.world ≡ pointed (asked_in old e needed) (world_behind e old.world)
   pub none_kept : (number : ℕ) → mid.kept number ≡ false
   pub none_since : (number : ℕ) → mid.kept_since number ≡ false
   pub log : mid.at ≡ first_of old.at.blocks (old.at.epoch + 1)

@@ -3,12 +3,16 @@ use Rattle.std.specs.Prelude.{◌≡◌, ◌⊎◌, ℕ, ◌+◌, ◌<◌, ◌�
 use Rattle.sn_device.specs.Crash.{LeavesOnly, Touches}
 use Rattle.sn_layout.specs.declared.gate.Gate.{Gate}
 use Rattle.sn_log.specs.Positions.{first_of}
+use Rattle.sn_limits.specs.Versions.{version_1}
 use Rattle.sn_model.specs.declared.reply.Errno.{Errno}
 use Rattle.sn_model.specs.declared.reply.Progress.{Progress}
 use Rattle.sn_model.specs.declared.reply.Progress.TheVariants as progress
 use Rattle.sn_model.specs.declared.reply.Errno.TheVariants.{Elimit, Enomem, Eio}
 use Rattle.sn_model.specs.Settling.{settle}
+use Rattle.sn_model.specs.Outcomes.{AskedPoint}
+use Rattle.sn_model.specs.Steps.{pointed}
 use Rattle.sn_model.specs.World.{World}
+use Rattle.sn_model.specs.Worlds.{IsWorld}
 use Rattle.sn_block.specs.Counts.{FailsRead, IsLater, called}
 use Rattle.sn_model.specs.declared.call.Event.{Event}
 use Rattle.sn_model.specs.declared.call.Event.TheVariants as event
@@ -19,16 +23,16 @@ use Rattle.sn_room.specs.Rooms.{fresh}
 use Rattle.sn_held.specs.Held.{Going, Held, RunsReady}
 use Rattle.sn_cp.specs.Counting.{syncs_left, writes_left}
 use Rattle.sn_cp.specs.declared.stage.Stage.TheVariants.{Bodied}
-use Rattle.sn_cp_progress.specs.Meaning.{RunsWith}
+use Rattle.sn_cp_progress.specs.Meaning.{EitherImage, RunsWith}
 use Rattle.sn_held.specs.Images.{IsImage}
 use Rattle.sn_sound.specs.Logs.{HasAgeLeft}
-use Rattle.sn_cp_whole.specs.Making.{most_syncs, most_writes, syncs_of_point, writes_of_point}
+use Rattle.sn_cp_whole.specs.Making.{CanBeAsked, most_syncs, most_writes, syncs_of_point, writes_of_point}
 use Rattle.sn_cp_whole.specs.declared.fault.PointFault.{PointFault}
 use Rattle.sn_cp_whole.specs.declared.fault.PointFault.TheVariants.{Memory, Age, Read, Damaged, Device}
 use Rattle.sn_examine.specs.Failing.{CostsAtMost, HasFailed}
 use Rattle.sn_events.specs.Answers.{BuildsOf, HasBegun, HasFinished, HasGoneOn, IsBesideRoot, IsLastRoot, world_behind}
 
--- A point was made of what runs, beside the root that counted: a crash at any moment leaves the settled world. This world runs on over the next root.
+-- A point was made of what runs, beside the root that counted: a crash at any moment leaves the settled world from before, or this one, settled, which runs on over the next root.
 pub record IsPointedTo (world_after : World) (Builds : Layer → Type 0) (old new : Held) : Type 0 where
   pub between : old.point ≡ None
   pub point : new.point ≡ None
@@ -39,7 +43,7 @@ pub record IsPointedTo (world_after : World) (Builds : Layer → Type 0) (old ne
   pub room : new.room ≡ fresh new.room.free
   pub changed : new.base.changed ≡ no_changes
   pub age : HasAgeLeft new.base.root
-  pub moments : LeavesOnly old.disk new.disk (λ c. IsImage c (settle old.world))
+  pub moments : LeavesOnly old.disk new.disk (EitherImage old.world world_after)
   pub runs : RunsReady new world_after new.base
   pub touched : Touches (IsBesideRoot old) old.disk new.disk
   pub built : Layer
@@ -49,30 +53,30 @@ pub record IsPointedTo (world_after : World) (Builds : Layer → Type 0) (old ne
   pub gate : Gate
   pub costs : new.status ≡ called (writes_of_point old.at.blocks gate count) (syncs_of_point gate) old.status
 
--- the point of an event
-abbrev pub IsPointed : Event → Held → Held → Type 0
-IsPointed e old new = IsPointedTo (world_behind e old.world) (λ built. BuildsOf e old built) old new
+-- the point of an event, with the snapshots that it asks for
+abbrev pub IsPointed : Event → AskedPoint → Held → Held → Type 0
+IsPointed e asked old new = IsPointedTo (pointed asked (world_behind e old.world)) (λ built. BuildsOf e old built) old new
 
--- It was cut off, and a crash leaves the settled world still.
-pub record IsCutOffIn (Builds : Layer → Type 0) (old new : Held) : Type 0 where
+-- It was cut off, and a crash leaves the settled world from before, or this one.
+pub record IsCutOffIn (world_after : World) (Builds : Layer → Type 0) (old new : Held) : Type 0 where
   pub touched : Touches (IsBesideRoot old) old.disk new.disk
   pub built : Layer
   pub builds : Builds built
-  pub moments : LeavesOnly old.disk new.disk (λ c. IsImage c (settle old.world))
+  pub moments : LeavesOnly old.disk new.disk (EitherImage old.world world_after)
   pub failed : HasFailed old.status new.status
   pub later : IsLater old.status new.status
   pub costs : CostsAtMost (most_writes old.at.blocks (need old.base.root.limits built)) most_syncs old.status new.status
 
-abbrev pub IsCutOff : Event → Held → Held → Type 0
-IsCutOff e old new = IsCutOffIn (λ built. BuildsOf e old built) old new
+abbrev pub IsCutOff : Event → AskedPoint → Held → Held → Type 0
+IsCutOff e asked old new = IsCutOffIn (pointed asked (world_behind e old.world)) (λ built. BuildsOf e old built) old new
 
 -- It wasn't begun: nothing has changed but what the device counts.
-abbrev pub IsUnpointed : PointFault → Event → Held → Held → Type 0
-IsUnpointed Memory e old new = new ≡ old
-IsUnpointed Age e old new = (new ≡ old) × IsLastRoot old.base.root
-IsUnpointed Read e old new = (new ≡ record old { status = new.status }) × FailsRead old.status new.status
-IsUnpointed Damaged e old new = ⊥
-IsUnpointed Device e old new = IsCutOff e old new
+abbrev pub IsUnpointed : PointFault → Event → AskedPoint → Held → Held → Type 0
+IsUnpointed Memory e asked old new = new ≡ old
+IsUnpointed Age e asked old new = (new ≡ old) × IsLastRoot old.base.root
+IsUnpointed Read e asked old new = (new ≡ record old { status = new.status }) × FailsRead old.status new.status
+IsUnpointed Damaged e asked old new = ⊥
+IsUnpointed Device e asked old new = IsCutOff e asked old new
 
 -- A step was cut off, and a crash leaves the settled world still.
 pub record IsCutStep (old new : Held) : Type 0 where
@@ -117,13 +121,18 @@ FinishesSo (Err fault) (Some going) old new = (fault ≡ Device) × IsCutFinishO
 abbrev pub Finishes : Result (Unit {0}) PointFault → Held → Held → Type 0
 Finishes result old new = RunsWith old.point old old.world → FinishesSo result old.point old new
 
--- of what runs, where no point is in progress, and is ready for one
-abbrev pub PointsSo : Result (Unit {0}) PointFault → Held → Held → Type 0
-PointsSo (Ok _) old new = IsPointed event.Step old new
-PointsSo (Err fault) old new = IsUnpointed fault event.Step old new
+-- What is asked for can be made of the snapshots, and leaves a world.
+pub record CanPoint (asked : AskedPoint) (world : World) : Type 0 where
+  pub can : CanBeAsked asked world
+  pub whole : IsWorld version_1 (pointed asked world)
 
-abbrev pub Points : Result (Unit {0}) PointFault → Held → Held → Type 0
-Points result old new = RunsReady old old.world old.base → PointsSo result old new
+-- of what runs, where no point is in progress, and is ready for one that can be asked for
+abbrev pub PointsSo : Result (Unit {0}) PointFault → AskedPoint → Held → Held → Type 0
+PointsSo (Ok _) asked old new = IsPointed event.Step asked old new
+PointsSo (Err fault) asked old new = IsUnpointed fault event.Step asked old new
+
+abbrev pub Points : Result (Unit {0}) PointFault → AskedPoint → Held → Held → Type 0
+Points result asked old new = RunsReady old old.world old.base → CanBeAsked asked old.world → PointsSo result asked old new
 
 -- A point has begun: a crash at any moment leaves the settled world, which runs on with it in progress.
 pub record IsBegunTo (old new : Held) : Type 0 where

@@ -20,6 +20,7 @@ use Rattle.sn_log.specs.Appending.{Appends}
 use Rattle.sn_log.specs.Positions.{LogPosition}
 use Rattle.sn_model.specs.Changes.{apply}
 use Rattle.sn_model.specs.Tree.{Tree}
+use Rattle.sn_model.specs.Outcomes.{AskedPoint}
 use Rattle.sn_model.specs.Settling.{dropped}
 use Rattle.sn_model.specs.Steps.{with_caller}
 use Rattle.sn_model.specs.World.{Trees, World}
@@ -89,19 +90,19 @@ turned_frozen w trees session (Moves fd offset) = refl
 -- ---- a point that isn't made
 
 -- where the device hasn't failed the disk is as it was
-pub unmade_same : (fault : PointFault) → fault ≢ point.Device → (world : World) (old : Disk) (new : Held) (k : Kept) → MakesPoint (Err fault) world old new k → new.disk ≡ old
-unmade_same point.Memory goes_on world old new k made = made
-unmade_same point.Age goes_on world old new k made = made
-unmade_same point.Read goes_on world old new k made = made
-unmade_same point.Damaged goes_on world old new k made = absurd made
-unmade_same point.Device goes_on world old new k made = absurd (goes_on refl)
+pub unmade_same : (fault : PointFault) → fault ≢ point.Device → (asked : AskedPoint) (world : World) (old : Disk) (new : Held) (k : Kept) → MakesPoint (Err fault) asked world old new k → new.disk ≡ old
+unmade_same point.Memory goes_on asked world old new k made = made
+unmade_same point.Age goes_on asked world old new k made = made
+unmade_same point.Read goes_on asked world old new k made = made
+unmade_same point.Damaged goes_on asked world old new k made = absurd made
+unmade_same point.Device goes_on asked world old new k made = absurd (goes_on refl)
 
-pub unbegun_same : (fault : PointFault) → fault ≢ point.Device → (world : World) (h : Held) (k : Kept) (at : LogPosition) (old new : Disk) → BeginsPoint (Err fault) world h k at old new → new ≡ old
-unbegun_same point.Memory goes_on world h k at old new made = made
-unbegun_same point.Age goes_on world h k at old new made = made
-unbegun_same point.Read goes_on world h k at old new made = made
-unbegun_same point.Damaged goes_on world h k at old new made = absurd made
-unbegun_same point.Device goes_on world h k at old new made = absurd (goes_on refl)
+pub unbegun_same : (fault : PointFault) → fault ≢ point.Device → (asked : AskedPoint) (world : World) (h : Held) (k : Kept) (at : LogPosition) (old new : Disk) → BeginsPoint (Err fault) asked world h k at old new → new ≡ old
+unbegun_same point.Memory goes_on asked world h k at old new made = made
+unbegun_same point.Age goes_on asked world h k at old new made = made
+unbegun_same point.Read goes_on asked world h k at old new made = made
+unbegun_same point.Damaged goes_on asked world h k at old new made = absurd made
+unbegun_same point.Device goes_on asked world h k at old new made = absurd (goes_on refl)
 
 -- what is kept is the same, and so is the disk where it goes on
 pub kept_mounted : (told : Bool) (disk now : Disk) (status after : Status) (at at1 : LogPosition) (world : LiveWorld) (room room1 : RoomCounts) (base base1 : PointBase) (going : Option GoingPoint) (was stops : Bool) → was ≡ false → base1 ≡ base → room1 ≡ room → (stops ≡ false → at1 ≡ at) → after.sectors ≡ status.sectors

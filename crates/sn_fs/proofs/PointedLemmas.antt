@@ -1,15 +1,16 @@
 -- What a point makes of a live tree that is read: what is shown over its root is what was shown.
 use Rattle.std.proofs.Common.{◌≡◌, Option, None, Some, refl, sym, ap, subst, ◌∙◌}
 use Rattle.sn_changed.specs.Changed.{HasChanged}
-use Rattle.sn_cp_progress.specs.Meaning.{RunsWith, progress_over}
+use Rattle.sn_cp_progress.specs.Meaning.{EitherImage, RunsWith, progress_over}
 use Rattle.sn_cp_progress.specs.Progress.{RunsOn}
 use Rattle.sn_cp_progress.proofs.MeaningLemmas.{on_with}
-use Rattle.sn_cp_whole.specs.Going.{going_of, with_disk, with_log}
-use Rattle.sn_cp_whole.specs.Making.{with_parts}
+use Rattle.sn_cp_whole.specs.Going.{going_of, with_disk, with_frozen, with_log}
+use Rattle.sn_cp_whole.specs.Making.{CanBeAsked, over_world, with_parts}
 use Rattle.sn_cp_whole.specs.Planning.{kept_in}
 use Rattle.sn_cp_whole.specs.declared.base.PointBase.{PointBase}
 use Rattle.sn_cp_whole.specs.declared.going.GoingPoint.{GoingPoint}
 use Rattle.sn_device.specs.Crash.{LeavesOnly}
+use Rattle.sn_device.proofs.CrashLemmas.{LeavesOnly-weaker}
 use Rattle.sn_device.specs.Disk.{Disk, reads}
 use Rattle.sn_device.specs.Sectors.{AreSectors}
 use Rattle.sn_device.specs.declared.status.Status.{Status}
@@ -21,15 +22,18 @@ use Rattle.sn_live.proofs.LiveLemmas.{none_shows}
 use Rattle.sn_live_world.specs.World.{changes_of, tree_over, world_in, world_over}
 use Rattle.sn_live_world.specs.declared.world.LiveWorld.{LiveWorld}
 use Rattle.sn_log.specs.Positions.{LogPosition}
+use Rattle.sn_model.specs.Outcomes.{AskedPoint, Unasked, Plain, Freezes, Thaws}
 use Rattle.sn_model.specs.Settling.{settle}
+use Rattle.sn_model.specs.Steps.{pointed}
 use Rattle.sn_model.specs.Tree.{Tree}
-use Rattle.sn_model.specs.World.{Trees, World}
+use Rattle.sn_model.specs.World.{Trees, World, trees_of}
+use Rattle.sn_model.proofs.PointedLemmas.{pointed_live}
 use Rattle.sn_overlay.specs.Layers.{through}
 use Rattle.sn_overlay.specs.Overlays.{no_changes}
 use Rattle.sn_room.specs.Rooms.{RoomCounts, begun, done}
 use Rattle.sn_events.specs.Mounted.{RunsNow, going_in, holding_on, tree_at, trees_there}
 use Rattle.sn_events.proofs.MeantLemmas.{frozen_read, tree_ready}
-use Rattle.sn_events.proofs.PointLemmas.{running_between}
+use Rattle.sn_events.proofs.PointLemmas.{either_same, running_between}
 
 -- a root on which nothing has changed shows what runs over it
 bare_root : (h : Held) (w : World) (k : Kept) → AreSectors (reads h.disk) → k.changed ≡ no_changes → RunsReady h w k → tree_at h.disk k.root ≡ w.live
@@ -41,8 +45,15 @@ same_world w0 w1 old new frozen live = λ i. record (live i) { frozen = frozen i
 
 -- ---- a whole point was made
 
-module _ (d0 d1 : Disk) (s0 s1 : Status) (at0 at1 : LogPosition) (w0 w1 : LiveWorld) (room0 room1 : RoomCounts) (base0 base1 : PointBase) (going : Option GoingPoint) (none : going_in going ≡ None) (whole : AreSectors (reads d1))
-    (point : (h : Held) (world : World) → RunsReady (with_parts h at0 room0 d0) world (kept_in base0 (changes_of w0)) → LeavesOnly d0 d1 (λ c. IsImage c (settle world)) × RunsReady (with_parts h at1 room1 d1) world (kept_in base1 no_changes))
+-- it makes no difference of the live tree
+pointed_is : (p : AskedPoint) (w : World) → pointed p w ≡ record w { frozen = (pointed p w).frozen }
+pointed_is Unasked w = refl
+pointed_is Plain w = refl
+pointed_is (Freezes name) w = refl
+pointed_is (Thaws name) w = refl
+
+module _ (d0 d1 : Disk) (s0 s1 : Status) (at0 at1 : LogPosition) (w0 w1 : LiveWorld) (room0 room1 : RoomCounts) (base0 base1 : PointBase) (going : Option GoingPoint) (none : going_in going ≡ None) (whole : AreSectors (reads d1)) (asked : AskedPoint) (can : CanBeAsked asked (world_in w0 (trees_there d0 base0.root)))
+    (point : (h : Held) (world : World) → RunsReady (with_parts h at0 room0 d0) world (kept_in base0 (changes_of w0)) → CanBeAsked asked world → LeavesOnly d0 d1 (EitherImage world (pointed asked world)) × RunsReady (over_world (pointed asked world) (with_parts h at1 room1 d1)) (pointed asked world) (kept_in base1 no_changes))
     (shown : (old new : Tree) → new ≡ tree_over w0 old → world_over w1 new ≡ world_over w0 old) (empty : changes_of w1 ≡ no_changes) where
   abbrev old : Held
   old = holding_on d0 s0 at0 w0 room0 base0 going
@@ -50,26 +61,30 @@ module _ (d0 d1 : Disk) (s0 s1 : Status) (at0 at1 : LogPosition) (w0 w1 : LiveWo
   abbrev new : Held
   new = holding_on d1 s1 at1 w1 room1 base1 going
 
-  module _ (r : RunsReady old old.world old.base) where
-    made : LeavesOnly d0 d1 (λ c. IsImage c (settle old.world)) × RunsReady (with_parts old at1 room1 d1) old.world (kept_in base1 no_changes)
-    made = point old old.world r
+  abbrev after : World
+  after = pointed asked old.world
 
-    pub moments_pointed : LeavesOnly d0 d1 (λ c. IsImage c (settle old.world))
+  module _ (r : RunsReady old old.world old.base) where
+    made : LeavesOnly d0 d1 (EitherImage old.world after) × RunsReady (over_world after (with_parts old at1 room1 d1)) after (kept_in base1 no_changes)
+    made = point old old.world r can
+
+    pub moments_pointed : LeavesOnly d0 d1 (EitherImage old.world after)
     moments_pointed = made.0
 
     tree_pointed : tree_at d1 base1.root ≡ tree_over w0 (tree_at d0 base0.root)
-    tree_pointed = bare_root (with_parts old at1 room1 d1) old.world (kept_in base1 no_changes) whole refl made.1
+    tree_pointed = bare_root (over_world after (with_parts old at1 room1 d1)) after (kept_in base1 no_changes) whole refl made.1 ∙ pointed_live asked old.world
 
-    pub world_pointed : new.world ≡ old.world
-    world_pointed =
-        same_world w0 w1 (trees_there d0 base0.root) (trees_there d1 base1.root)
-        (frozen_read (with_parts old at1 room1 d1) old.world made.1.runs whole base1.root made.1.ready.root) (shown (tree_at d0 base0.root) (tree_at d1 base1.root) tree_pointed)
+    frozen_pointed : (trees_there d1 base1.root).frozen ≡ after.frozen
+    frozen_pointed = frozen_read (over_world after (with_parts old at1 room1 d1)) after made.1.runs whole base1.root made.1.ready.root
 
-    pub ready_pointed : RunsReady new old.world new.base
+    pub world_pointed : new.world ≡ after
+    world_pointed = (λ i. record (shown (tree_at d0 base0.root) (tree_at d1 base1.root) tree_pointed i) { frozen = frozen_pointed i }) ∙ sym (pointed_is asked old.world)
+
+    pub ready_pointed : RunsReady new after new.base
     ready_pointed =
-        subst (λ (k : Kept). RunsReady (record new { base = k }) old.world k) (λ i. kept_in base1 (sym empty i))
-        (subst (λ (w : World). RunsReady (record new { world = w; base = kept_in base1 no_changes }) old.world (kept_in base1 no_changes)) (sym world_pointed)
-        (ready_with (with_parts old at1 room1 d1) old.world (kept_in base1 no_changes) new.kept new.kept_since (kept_in base1 no_changes) old.point s1 made.1))
+        subst (λ (k : Kept). RunsReady (record new { base = k }) after k) (λ i. kept_in base1 (sym empty i))
+        (subst (λ (w : World). RunsReady (record new { world = w; base = kept_in base1 no_changes }) after (kept_in base1 no_changes)) (sym world_pointed)
+        (ready_with (over_world after (with_parts old at1 room1 d1)) after (kept_in base1 no_changes) new.kept new.kept_since (kept_in base1 no_changes) old.point s1 made.1))
 
   module _ (r : RunsNow old) where
     ready : RunsReady old old.world old.base
@@ -78,16 +93,16 @@ module _ (d0 d1 : Disk) (s0 s1 : Status) (at0 at1 : LogPosition) (w0 w1 : LiveWo
     pub tree_made : tree_at d1 base1.root ≡ tree_over w0 (tree_at d0 base0.root)
     tree_made = tree_pointed ready
 
-    pub world_made : new.world ≡ old.world
+    pub world_made : new.world ≡ after
     world_made = world_pointed ready
 
     pub runs_made : RunsNow new
-    runs_made = subst (RunsWith (going_in going) new) (sym world_made) (running_between new old.world none (ready_pointed ready))
+    runs_made = subst (RunsWith (going_in going) new) (sym world_made) (running_between new after none (ready_pointed ready))
 
 -- ---- a point has begun
 
 module _ (d0 d1 : Disk) (s0 s1 : Status) (at0 at1 : LogPosition) (w0 w1 : LiveWorld) (room0 room1 : RoomCounts) (base : PointBase) (going : Option GoingPoint) (none : going_in going ≡ None) (point : GoingPoint)
-    (begins : (h : Held) (world : World) → RunsReady (with_log h at0 d0) world (kept_in base (changes_of w0)) → LeavesOnly d0 d1 (λ c. IsImage c (settle world)) × RunsOn (record h { room = begun h.room; at = at1; base = kept_in base no_changes; disk = d1 }) world (progress_over (going_of point) world.live))
+    (begins : (h : Held) (world : World) → RunsReady (with_log h at0 d0) world (kept_in base (changes_of w0)) → LeavesOnly d0 d1 (λ c. IsImage c (settle world)) × RunsOn (record h { room = begun h.room; at = at1; base = kept_in base no_changes; disk = d1 }) world (progress_over (going_of point) (trees_of world)))
     (trees : trees_there d1 base.root ≡ trees_there d0 base.root) (shown : (below : Tree) → world_over w1 below ≡ world_over w0 below) (empty : changes_of w1 ≡ no_changes) (room : room1 ≡ begun room0) where
   abbrev before : Held
   before = holding_on d0 s0 at0 w0 room0 base going
@@ -99,7 +114,7 @@ module _ (d0 d1 : Disk) (s0 s1 : Status) (at0 at1 : LogPosition) (w0 w1 : LiveWo
   world_begun = ap (world_in w1) trees ∙ same_world w0 w1 (trees_there d0 base.root) (trees_there d0 base.root) refl (shown (tree_at d0 base.root))
 
   module _ (r : RunsReady before before.world before.base) where
-    first : LeavesOnly d0 d1 (λ c. IsImage c (settle before.world)) × RunsOn (record before { room = begun room0; at = at1; base = kept_in base no_changes; disk = d1 }) before.world (progress_over (going_of point) before.world.live)
+    first : LeavesOnly d0 d1 (λ c. IsImage c (settle before.world)) × RunsOn (record before { room = begun room0; at = at1; base = kept_in base no_changes; disk = d1 }) before.world (progress_over (going_of point) (trees_of before.world))
     first = begins before before.world r
 
     pub moments_begun : LeavesOnly d0 d1 (λ c. IsImage c (settle before.world))
@@ -108,9 +123,9 @@ module _ (d0 d1 : Disk) (s0 s1 : Status) (at0 at1 : LogPosition) (w0 w1 : LiveWo
     pub on_begun : RunsWith (Some (going_of point)) under_way before.world
     on_begun = (
       before.world.live,
-      subst (λ (h : Held). RunsOn h before.world (progress_over (going_of point) before.world.live))
+      subst (λ (h : Held). RunsOn h before.world (progress_over (going_of point) (trees_of before.world)))
           (λ i. record under_way { world = sym world_begun i; room = sym room i; base = kept_in base (sym empty i) })
-          (on_with (record before { room = begun room0; at = at1; base = kept_in base no_changes; disk = d1 }) before.world (progress_over (going_of point) before.world.live) under_way.kept under_way.kept_since under_way.point s1 first.1),
+          (on_with (record before { room = begun room0; at = at1; base = kept_in base no_changes; disk = d1 }) before.world (progress_over (going_of point) (trees_of before.world)) under_way.kept under_way.kept_since under_way.point s1 first.1),
     )
 
   pub runs_begun : RunsNow before → RunsNow under_way
@@ -119,8 +134,8 @@ module _ (d0 d1 : Disk) (s0 s1 : Status) (at0 at1 : LogPosition) (w0 w1 : LiveWo
 -- ---- a step was made that isn't the last
 
 module _ (d0 d1 : Disk) (s0 s1 : Status) (at : LogPosition) (w : LiveWorld) (room : RoomCounts) (base : PointBase) (point next : GoingPoint) (whole : AreSectors (reads d1))
-    (goes : (h : Held) (world : World) (frozen : Tree) → RunsOn (with_disk h d0) world (progress_over (going_of point) frozen) → LeavesOnly d0 d1 (λ c. IsImage c (settle world)) × RunsOn (record h { disk = d1 }) world (progress_over (going_of next) frozen))
-    (keeps : (h : Held) (world : World) (frozen : Tree) → RunsOn (with_disk h d0) world (progress_over (going_of point) frozen) → tree_at d1 h.base.root ≡ tree_at d0 h.base.root) where
+    (goes : (h : Held) (world : World) (trees : Trees) → RunsOn (with_disk h d0) world (progress_over (going_of point) trees) → LeavesOnly d0 d1 (λ c. IsImage c (settle world)) × RunsOn (record h { disk = d1 }) world (progress_over (going_of next) trees))
+    (keeps : (h : Held) (world : World) (trees : Trees) → RunsOn (with_disk h d0) world (progress_over (going_of point) trees) → tree_at d1 h.base.root ≡ tree_at d0 h.base.root) where
   abbrev here : Held
   here = holding_on d0 s0 at w room base (Some point)
 
@@ -128,23 +143,26 @@ module _ (d0 d1 : Disk) (s0 s1 : Status) (at : LogPosition) (w : LiveWorld) (roo
   there = holding_on d1 s1 at w room base (Some next)
 
   module _ (r : RunsNow here) where
-    on : RunsOn (record here { disk = d1 }) here.world (progress_over (going_of next) r.0)
-    on = (goes here here.world r.0 r.1).1
+    abbrev built : Trees
+    built = record { live = r.0; frozen = here.world.frozen }
+
+    on : RunsOn (record here { disk = d1 }) here.world (progress_over (going_of next) built)
+    on = (goes here here.world built r.1).1
 
     pub tree_gone : tree_at d1 base.root ≡ tree_at d0 base.root
-    tree_gone = keeps here here.world r.0 r.1
+    tree_gone = keeps here here.world built r.1
 
     pub world_gone : there.world ≡ here.world
     world_gone = same_world w w (trees_there d0 base.root) (trees_there d1 base.root) (frozen_read (record here { disk = d1 }) here.world on.runs whole base.root on.point.root) (ap (world_over w) tree_gone)
 
     pub moments_gone : LeavesOnly d0 d1 (λ c. IsImage c (settle here.world))
-    moments_gone = (goes here here.world r.0 r.1).0
+    moments_gone = (goes here here.world built r.1).0
 
     pub on_gone : RunsWith there.point there here.world
     on_gone = (
       r.0,
-      subst (λ (h : Held). RunsOn h here.world (progress_over (going_of next) r.0)) (λ i. record there { world = sym world_gone i })
-          (on_with (record here { disk = d1 }) here.world (progress_over (going_of next) r.0) here.kept here.kept_since there.point s1 on),
+      subst (λ (h : Held). RunsOn h here.world (progress_over (going_of next) built)) (λ i. record there { world = sym world_gone i })
+          (on_with (record here { disk = d1 }) here.world (progress_over (going_of next) built) here.kept here.kept_since there.point s1 on),
     )
 
     pub runs_gone : RunsNow there
@@ -153,7 +171,7 @@ module _ (d0 d1 : Disk) (s0 s1 : Status) (at : LogPosition) (w : LiveWorld) (roo
 -- ---- the last one was made
 
 module _ (d0 d1 : Disk) (s0 s1 : Status) (at : LogPosition) (w0 w1 : LiveWorld) (room0 room1 : RoomCounts) (base0 base1 : PointBase) (point : GoingPoint) (going : Option GoingPoint) (none : going_in going ≡ None) (whole : AreSectors (reads d1))
-    (finish : (h : Held) (world : World) (frozen : Tree) → RunsOn (with_disk h d0) world (progress_over (going_of point) frozen) → LeavesOnly d0 d1 (λ c. IsImage c (settle world)) × RunsReady (record h { room = done point.free h.room; disk = d1 }) world (kept_in base1 h.base.changed))
+    (finish : (h : Held) (world : World) (trees : Trees) → RunsOn (with_disk h d0) world (progress_over (going_of point) trees) → LeavesOnly d0 d1 (EitherImage world (with_frozen world trees.frozen)) × RunsReady (record h { world = with_frozen world trees.frozen; room = done point.free h.room; disk = d1 }) (with_frozen world trees.frozen) (kept_in base1 h.base.changed))
     (shown : (old new : Tree) → through (changes_of w0) new ≡ tree_over w0 old → world_over w1 new ≡ world_over w0 old) (same : changes_of w1 ≡ changes_of w0) (room : room1 ≡ done point.free room0) where
   abbrev last : Held
   last = holding_on d0 s0 at w0 room0 base0 (Some point)
@@ -162,11 +180,11 @@ module _ (d0 d1 : Disk) (s0 s1 : Status) (at : LogPosition) (w0 w1 : LiveWorld) 
   ended = holding_on d1 s1 at w1 room1 base1 going
 
   module _ (r : RunsNow last) where
-    ends : LeavesOnly d0 d1 (λ c. IsImage c (settle last.world)) × RunsReady (record last { room = done point.free room0; disk = d1 }) last.world (kept_in base1 (changes_of w0))
-    ends = finish last last.world r.0 r.1
+    ends : LeavesOnly d0 d1 (EitherImage last.world last.world) × RunsReady (record last { room = done point.free room0; disk = d1 }) last.world (kept_in base1 (changes_of w0))
+    ends = finish last last.world (record { live = r.0; frozen = last.world.frozen }) r.1
 
     pub moments_ended : LeavesOnly d0 d1 (λ c. IsImage c (settle last.world))
-    moments_ended = ends.0
+    moments_ended = LeavesOnly-weaker d0 d1 (EitherImage last.world last.world) (λ c. IsImage c (settle last.world)) (λ c either. either_same either) ends.0
 
     pub changed_ended : HasChanged version_1 (changes_of w0) (tree_at d1 base1.root) last.world.live (done point.free room0).charged
     changed_ended = tree_ready (record last { room = done point.free room0; disk = d1 }) last.world (kept_in base1 (changes_of w0)) whole ends.1

@@ -12,7 +12,7 @@ use crate::Fs;
 use crate::pointing::errno_of;
 use crate::serving::{refused, reply_of};
 use sn_device::Device;
-use sn_model::{Call, Errno, Outcome, Reply};
+use sn_model::{AskedPoint, Call, Errno, Outcome, Reply};
 use sn_record::payloads_fit;
 
 impl<D: Device> Fs<D> {
@@ -33,8 +33,8 @@ impl<D: Device> Fs<D> {
     }
 
     /// Answers a call that asks for a whole consistency point. It is made once the call's tests have passed, behind the one
-    /// in progress.
-    fn sync(&mut self, session: u32, call: &Call) -> Reply
+    /// in progress, and makes of the snapshots what the call asks for.
+    fn ask(&mut self, session: u32, call: &Call) -> Reply
         requires running { has_stopped self.old ≡ false }
         requires sound { IsFs self.old }
         requires asks { asks_for_point call.now ≡ true }
@@ -46,11 +46,11 @@ impl<D: Device> Fs<D> {
             Ok(outcome) => outcome,
             Err(fault) => return reply_of(fault),
         };
-        let Outcome { told, .. } = outcome;
+        let Outcome { told, point, .. } = outcome;
         if let Err(fault) = self.finish() {
             return refused(errno_of(fault));
         }
-        match self.make_point() {
+        match self.make_point(&point) {
             Ok(()) => told,
             Err(fault) => refused(errno_of(fault)),
         }
@@ -77,7 +77,7 @@ impl<D: Device> Fs<D> {
         if let Some(reply) = self.serve(session, call) {
             return reply;
         }
-        if let Err(fault) = self.make_point() {
+        if let Err(fault) = self.make_point(&AskedPoint::Plain) {
             return refused(errno_of(fault));
         }
         match self.serve(session, call) {
@@ -101,7 +101,7 @@ impl<D: Device> Fs<D> {
             return refused(Errno::Estopped);
         }
         if call.asks_for_point() {
-            return self.sync(session, call);
+            return self.ask(session, call);
         }
         if self.is_between() {
             return self.serve_between(session, call);

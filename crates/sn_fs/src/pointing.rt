@@ -5,13 +5,13 @@ ghost use Rattle.sn_cp.specs.declared.stage.Stage.TheVariants.{Bodied};
 ghost use Rattle.sn_model.specs.declared.call.Event.TheVariants as event;
 ghost use Rattle.sn_events.specs.Answers.{Answers, left_of};
 ghost use Rattle.sn_fs.specs.Filesystem.{IsFs, has_stopped, held, with_point};
-ghost use Rattle.sn_events.specs.Pointing.{Advances, Begins, Finishes, GoesOn, Points, errno_of_point, stops_for, stops_point};
+ghost use Rattle.sn_events.specs.Pointing.{Advances, Begins, CanPoint, Finishes, GoesOn, Points, errno_of_point, stops_for, stops_point};
 
 use crate::Fs;
 use crate::serving::refused;
 use sn_cp_whole::{Begun, GoingPoint, PointFault, begin_point, make_point};
 use sn_device::Device;
-use sn_model::{Errno, Progress, Reply};
+use sn_model::{AskedPoint, Errno, Progress, Reply};
 
 /// What an event is refused with whose point isn't made.
 pub(crate) fn errno_of(fault: PointFault) -> Errno
@@ -32,13 +32,14 @@ pub(crate) fn stops(fault: PointFault) -> bool
 }
 
 impl<D: Device> Fs<D> {
-    /// Makes a whole consistency point, where none is in progress: then the log is empty, nothing is charged, and no
-    /// number is kept back. A failure of the device while it is written stops the mount.
-    pub(crate) fn make_point(&mut self) -> Result<(), PointFault>
+    /// Makes a whole consistency point, where none is in progress, and of the snapshots what is asked for: then the log is
+    /// empty, nothing is charged, and no number is kept back. A failure of the device while it is written stops the mount.
+    pub(crate) fn make_point(&mut self, asked: &AskedPoint) -> Result<(), PointFault>
         requires running { has_stopped self.old ≡ false }
         requires sound { IsFs self.old }
         requires between { (held self.old).point ≡ None }
-        ensures points { IsTrue D.tells_bytes → Points result (held self.old) (held self.new) }
+        requires asked { IsTrue D.tells_bytes → CanPoint asked.now (held self.old).world }
+        ensures points { IsTrue D.tells_bytes → Points result asked.now (held self.old) (held self.new) }
         ensures stopped { has_stopped self.new ≡ stops_point result }
         ensures sound { IsFs self.new }
     {
@@ -51,6 +52,7 @@ impl<D: Device> Fs<D> {
             &mut self.log,
             &mut self.room,
             drops,
+            asked,
         ) {
             Ok(since) => {
                 self.world.replace_root(self.alloc, since);
@@ -81,6 +83,7 @@ impl<D: Device> Fs<D> {
             self.world.changes(),
             &mut self.log,
             drops,
+            &AskedPoint::Plain,
         ) {
             Ok(begun) => {
                 let Begun { going, since } = begun;

@@ -142,6 +142,7 @@ impl<D: Device> Fs<D> {
             caller,
             told,
             charge,
+            ..
         } = outcome;
         let Ok(()) = self.prepare(&caller) else {
             return Some(refused(Errno::Enomem));

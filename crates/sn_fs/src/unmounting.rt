@@ -12,7 +12,7 @@ use crate::Fs;
 use crate::pointing::{errno_of, stops};
 use sn_cp_whole::{PointFault, make_point};
 use sn_device::Device;
-use sn_model::Errno;
+use sn_model::{AskedPoint, Errno};
 use sn_overlay::Overlay;
 
 /// A file system whose unmount was refused, with the cause.
@@ -44,6 +44,7 @@ impl<D: Device> Fs<D> {
             &mut self.log,
             &mut room,
             0,
+            &AskedPoint::Plain,
         ) {
             Ok(since) => {
                 drop(since);

@@ -17,11 +17,12 @@ use Rattle.sn_model.specs.declared.mount.MountFault.TheVariants as fault
 use Rattle.sn_model.specs.declared.reply.Reply.{Reply}
 use Rattle.sn_model.specs.declared.reply.Reply.TheVariants as answer
 use Rattle.sn_model.specs.Machine.{State, Running, Stopped, Mishap, Memory, Read, mount_fault_of}
+use Rattle.sn_model.specs.Outcomes.{Plain}
 use Rattle.sn_model.specs.Settling.{settle}
 use Rattle.sn_model.specs.World.{World}
 use Rattle.sn_core.proofs.RestartLemmas.{restart_numbers}
 use Rattle.sn_held.specs.Held.{Held}
-use Rattle.sn_cp_progress.specs.Meaning.{RunsWith}
+use Rattle.sn_cp_progress.specs.Meaning.{EitherImage, RunsWith}
 use Rattle.sn_held.specs.Images.{IsImage}
 use Rattle.sn_held.specs.Moments.{LastsOver, ShowsState}
 use Rattle.sn_examine.specs.Failing.{IsSoOf}
@@ -37,7 +38,7 @@ use Rattle.sn_events.specs.Mounting.{IsLeft, WritesToMount}
 use Rattle.sn_events.specs.Pointing.{IsPointed}
 use Rattle.sn_events.specs.Unmounting.{HasUnmounted, IsUnmountedTo}
 use Rattle.sn_events.proofs.FinishLemmas.{IsFin, behind_finish, is_fin}
-use Rattle.sn_events.proofs.PointLemmas.{in_any_world, made_point, none_failed, some_failed}
+use Rattle.sn_events.proofs.PointLemmas.{in_any_world, made_point, none_failed, settles_same, some_failed}
 use Rattle.sn_run.specs.Restarting.{IsNotRemounted, IsRemounted, IsWholeDisk, Remounts}
 use Rattle.sn_run.specs.Runs.{LacksRoot}
 use Rattle.sn_run.proofs.CutLemmas.{found_settled}
@@ -121,9 +122,9 @@ module _ (old new : Held) (whole : AreSectors (reads old.disk)) where
 
 -- ---- mounts behind the point of an unmount
 
-module _ (old mid new : Held) (whole : AreSectors (reads mid.disk)) (p : IsPointed event.Restart old mid) where
+module _ (old mid new : Held) (whole : AreSectors (reads mid.disk)) (p : IsPointed event.Restart Plain old mid) where
   settled_here : LeavesOnly old.disk mid.disk (λ c. IsImage c (settle old.world))
-  settled_here = p.moments
+  settled_here = LeavesOnly-weaker old.disk mid.disk (EitherImage old.world (settle old.world)) (λ c. IsImage c (settle old.world)) (λ c either. settles_same old.world either) p.moments
 
   settled_now : Always mid.disk (λ c. IsImage c (settle old.world))
   settled_now = LeavesOnly-now old.disk mid.disk (λ c. IsImage c (settle old.world)) settled_here
@@ -252,7 +253,7 @@ module _ (old new : Held) (f : MountFault) (disk : IsWholeDisk old.status old.di
       told (inl h) = from before h (λ c k. inl k)
       told (inr h) = from after h (λ c k. inr k)
 
-module _ (old mid new : Held) (disk : IsWholeDisk mid.status mid.disk) (p : IsPointed event.Restart old mid) (f : MountFault) (has : Bool) (n : IsNotRemounted f mid.status mid.disk new has) where
+module _ (old mid new : Held) (disk : IsWholeDisk mid.status mid.disk) (p : IsPointed event.Restart Plain old mid) (f : MountFault) (has : Bool) (n : IsNotRemounted f mid.status mid.disk new has) where
   unmounted_behind : AnswersFrom (Running old.world) event.Restart (answer.Unmounted f) old new true
   unmounted_behind =
       let w = settle old.world in

@@ -12,8 +12,9 @@ use Rattle.sn_held.specs.Images.{IsImage}
 use Rattle.sn_limits.specs.Versions.{version_1}
 use Rattle.sn_live_world.specs.World.{HasDrops, IsOver, changes_of, world_in}
 use Rattle.sn_log.specs.Positions.{LogPosition}
+use Rattle.sn_model.specs.Outcomes.{Plain}
 use Rattle.sn_model.specs.Settling.{settle}
-use Rattle.sn_model.specs.World.{Trees, World}
+use Rattle.sn_model.specs.World.{Trees, World, trees_of}
 use Rattle.sn_model.specs.Worlds.{IsWorld}
 use Rattle.sn_overlay.specs.Layers.{Layer}
 use Rattle.sn_overlay.specs.Needs.{need}
@@ -43,9 +44,9 @@ returns-in-Ok-clause-begins g c told r =
     let point = c.in-Ok.begun.going in
     let next = c.begin_point-in-Ok.ensures in
     let room = c.begin_point-in-Ok-2.ensures in
-    let begins : (h : Held) (world : World) → RunsReady (with_log h fs.log d0) world (kept_in fs.base (changes_of fs.world)) → LeavesOnly d0 d1 (λ x. IsImage x (settle world)) × RunsOn (record h { room = begun h.room; at = c.begin_point.new.log; base = kept_in fs.base no_changes; disk = d1 }) world (progress_over (going_of point) world.live) =
-    λ h world ready. let made = e.begins told h world (subst (λ (l : Layer). RunsReady (with_log h fs.log d0) world (kept_in fs.base l)) (sym c.changes.ensures) ready) in
-    (made.0, subst (λ (l : Layer). RunsOn (record h { room = begun h.room; at = c.begin_point.new.log; base = kept_in fs.base l; disk = d1 }) world (progress_over (going_of point) world.live)) e.empty made.1) in
+    let begins : (h : Held) (world : World) → RunsReady (with_log h fs.log d0) world (kept_in fs.base (changes_of fs.world)) → LeavesOnly d0 d1 (λ x. IsImage x (settle world)) × RunsOn (record h { room = begun h.room; at = c.begin_point.new.log; base = kept_in fs.base no_changes; disk = d1 }) world (progress_over (going_of point) (trees_of world)) =
+    λ h world ready. let made = e.begins told h world (subst (λ (l : Layer). RunsReady (with_log h fs.log d0) world (kept_in fs.base l)) (sym c.changes.ensures) ready) tt in
+    (made.0, subst (λ (l : Layer). RunsOn (record h { room = begun h.room; at = c.begin_point.new.log; base = kept_in fs.base l; disk = d1 }) world (progress_over (going_of point) (trees_of world))) e.empty made.1) in
     let trees = trees_logged (held fs) (running_between (held fs) (held fs).world c.requires.between r) (g.met.D.Device.whole (device_of fs.blocks) told) (fs.log.epoch + 1) d1 (g.met.D.Device.whole (device_of c.begin_point.new.blocks) told) (e.wrote told) in
     record {
       begun = record {
@@ -97,9 +98,9 @@ returns-in-Ok-clause-sound g c =
           let d1 = g.D.Device.disk (device_of c.begin_point.new.blocks) in
           let s0 = g.D.Device.status (device_of fs.blocks) in
           let s1 = g.D.Device.status (device_of c.begin_point.new.blocks) in
-          let begins : (h : Held) (world : World) → RunsReady (with_log h fs.log d0) world (kept_in fs.base (changes_of fs.world)) → LeavesOnly d0 d1 (λ x. IsImage x (settle world)) × RunsOn (record h { room = begun h.room; at = c.begin_point.new.log; base = kept_in fs.base no_changes; disk = d1 }) world (progress_over (going_of point) world.live) =
-          λ h world ready. let made = e.begins told h world (subst (λ (l : Layer). RunsReady (with_log h fs.log d0) world (kept_in fs.base l)) (sym c.changes.ensures) ready) in
-          (made.0, subst (λ (l : Layer). RunsOn (record h { room = begun h.room; at = c.begin_point.new.log; base = kept_in fs.base l; disk = d1 }) world (progress_over (going_of point) world.live)) e.empty made.1) in
+          let begins : (h : Held) (world : World) → RunsReady (with_log h fs.log d0) world (kept_in fs.base (changes_of fs.world)) → LeavesOnly d0 d1 (λ x. IsImage x (settle world)) × RunsOn (record h { room = begun h.room; at = c.begin_point.new.log; base = kept_in fs.base no_changes; disk = d1 }) world (progress_over (going_of point) (trees_of world)) =
+          λ h world ready. let made = e.begins told h world (subst (λ (l : Layer). RunsReady (with_log h fs.log d0) world (kept_in fs.base l)) (sym c.changes.ensures) ready) tt in
+          (made.0, subst (λ (l : Layer). RunsOn (record h { room = begun h.room; at = c.begin_point.new.log; base = kept_in fs.base l; disk = d1 }) world (progress_over (going_of point) (trees_of world))) e.empty made.1) in
           let trees = trees_logged (held fs) m.runs (g.met.D.Device.whole (device_of fs.blocks) told) (fs.log.epoch + 1) d1 (g.met.D.Device.whole (device_of c.begin_point.new.blocks) told) (e.wrote told) in
           record {
             over = subst (λ (t : Trees). IsOver c.begin_point-in-Ok.new.self t.live) (sym trees) (next.over (tree_of fs) m.over);
@@ -116,7 +117,7 @@ returns-in-Err-clause-begins g c told r =
     let e = c.in-Err.ensures in
     let d1 = g.D.Device.disk (device_of c.begin_point.new.blocks) in
     let ready = subst (λ (l : Layer). RunsReady old old.world (kept_in fs.base l)) (sym c.changes.ensures) r in
-    unbegun old (world_in fs.world (trees_there d1 fs.base.root)) c.begin_point.new.log _ _ c.in-Err.fault (λ same. λ i. world_in fs.world (trees_there (same i) fs.base.root)) (subst (λ (l : Layer). BeginsPoint (Err c.in-Err.fault) old.world old (kept_in fs.base l) c.begin_point.new.log old.disk d1) c.changes.ensures (e.begins told old old.world ready)) e.stays e.costs.cause e.costs.later e.costs.writes e.costs.syncs (e.touched told) (λ is. e.aged (ap Err is))
+    unbegun old (world_in fs.world (trees_there d1 fs.base.root)) c.begin_point.new.log _ _ c.in-Err.fault (λ same. λ i. world_in fs.world (trees_there (same i) fs.base.root)) (subst (λ (l : Layer). BeginsPoint (Err c.in-Err.fault) Plain old.world old (kept_in fs.base l) c.begin_point.new.log old.disk d1) c.changes.ensures (e.begins told old old.world ready tt)) e.stays e.costs.cause e.costs.later e.costs.writes e.costs.syncs (e.touched told) (λ is. e.aged (ap Err is))
 
 pub returns-in-Err-clause-sound : goal.returns-in-Err-clause-sound
 returns-in-Err-clause-sound g c =
@@ -129,4 +130,4 @@ returns-in-Err-clause-sound g c =
     let old = held fs in
     let r = subst (λ (p : Option Going). RunsWith p old old.world) c.requires.between m.runs in
     let ready = subst (λ (l : Layer). RunsReady old old.world (kept_in fs.base l)) (sym c.changes.ensures) r in
-    unbegun_same c.in-Err.fault (not_device c.in-Err.fault (sym c.stops-self.ensures ∙ goes_on)) old.world old _ _ d0 _ (e.begins told old old.world ready)) c.requires.sound
+    unbegun_same c.in-Err.fault (not_device c.in-Err.fault (sym c.stops-self.ensures ∙ goes_on)) Plain old.world old _ _ d0 _ (e.begins told old old.world ready tt)) c.requires.sound

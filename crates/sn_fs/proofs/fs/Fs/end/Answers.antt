@@ -2,28 +2,28 @@ use Rattle.std.proofs.Common.{refl, sym, ap, subst, ◌∙◌, arith}
 use Rattle.sn_block.specs.Lending.{device_of}
 use Rattle.sn_block.proofs.CountLemmas.{later-calls}
 use Rattle.sn_cp.specs.Points.{work_of}
-use Rattle.sn_cp_progress.specs.Meaning.{progress_over}
+use Rattle.sn_cp_progress.specs.Meaning.{EitherImage, progress_over}
 use Rattle.sn_cp_progress.specs.Progress.{RunsOn}
-use Rattle.sn_cp_whole.specs.Going.{going_of, with_disk}
+use Rattle.sn_cp_whole.specs.Going.{going_of, with_disk, with_frozen}
 use Rattle.sn_cp_whole.specs.Planning.{IsBaseAt, kept_in}
 use Rattle.sn_cp_whole.specs.declared.base.PointBase.{PointBase}
 use Rattle.sn_cp_whole.proofs.RecoverLemmas.{point_apart}
 use Rattle.sn_desc.specs.InUse.{InUse, live_in}
-use Rattle.sn_device.proofs.CrashLemmas.{Touches-start}
+use Rattle.sn_device.proofs.CrashLemmas.{LeavesOnly-weaker, Touches-start}
 use Rattle.sn_device.specs.Crash.{LeavesOnly}
 use Rattle.sn_held.specs.Held.{Held, RunsReady}
 use Rattle.sn_held.specs.Images.{IsImage}
 use Rattle.sn_limits.specs.Versions.{version_1}
 use Rattle.sn_live_world.specs.World.{HasDrops, changes_of}
 use Rattle.sn_model.specs.Settling.{settle}
-use Rattle.sn_model.specs.Tree.{Tree}
-use Rattle.sn_model.specs.World.{World}
+use Rattle.sn_model.specs.World.{Trees, World}
 use Rattle.sn_model.specs.Worlds.{IsWorld}
 use Rattle.sn_overlay.specs.Layers.{Layer}
 use Rattle.sn_room.specs.Rooms.{done as done_room}
 use Rattle.sn_events.specs.Answers.{IsBesideRoot}
 use Rattle.sn_events.specs.Mounted.{tree_at}
 use Rattle.sn_events.proofs.BasedLemmas.{based_none, stands_none}
+use Rattle.sn_events.proofs.PointLemmas.{either_same}
 use Rattle.sn_fs.specs.Filesystem.{held, tree_of, with_point}
 use Rattle.sn_fs.proofs.PointedLemmas.{changed_ended, moments_ended, ready_ended, runs_ended, world_ended}
 use Rattle.sn_fs.proofs.fs.Fs.end.Goals as goal
@@ -53,7 +53,7 @@ returns-in_default-clause-finishes g c told r =
         going = going_of c.args.going;
         is = refl;
         touched = point_apart (work_of c.args.going.point) is.whole c.args.self.now.base.slot is.slot c.args.self.now.log.blocks old.disk old.disk _ is.blocks (Touches-start (IsBesideRoot old) old.disk) (e.touched told);
-        moments = (e.finishes told old old.world r.0 r.1).0;
+        moments = LeavesOnly-weaker old.disk _ (EitherImage old.world old.world) (λ x. IsImage x (settle old.world)) (λ x either. either_same either) (e.finishes told old old.world (record { live = r.0; frozen = old.world.frozen }) r.1).0;
         failed = e.counts.cause;
         later = later-calls _ _ _ _ _ e.counts;
         costs = record { writes = e.counts.writes.1; syncs = e.counts.syncs.1 };
@@ -74,7 +74,7 @@ returns-clause-finishes g c told r =
     let e = c.in-Ok.ensures in
     let next = c.end_point-2.ensures in
     let room = c.end_point.ensures.counts in
-    let finish : (h : Held) (world : World) (frozen : Tree) → RunsOn (with_disk h d0) world (progress_over (going_of point) frozen) → LeavesOnly d0 d1 (λ x. IsImage x (settle world)) × RunsReady (record h { room = done_room point.free h.room; disk = d1 }) world (kept_in c.finish.new.base h.base.changed) =
+    let finish : (h : Held) (world : World) (trees : Trees) → RunsOn (with_disk h d0) world (progress_over (going_of point) trees) → LeavesOnly d0 d1 (EitherImage world (with_frozen world trees.frozen)) × RunsReady (record h { world = with_frozen world trees.frozen; room = done_room point.free h.room; disk = d1 }) (with_frozen world trees.frozen) (kept_in c.finish.new.base h.base.changed) =
     e.finishes told in
     let base = λ (l : Layer). ap (λ (b : PointBase). kept_in b l) e.base in
     record {
@@ -118,7 +118,7 @@ returns-clause-sound g c =
           let s0 = g.D.Device.status (device_of fs.blocks) in
           let s1 = g.D.Device.status (device_of c.finish.new.blocks) in
           let whole = g.met.D.Device.whole (device_of c.finish.new.blocks) told in
-          let finish : (h : Held) (world : World) (frozen : Tree) → RunsOn (with_disk h d0) world (progress_over (going_of point) frozen) → LeavesOnly d0 d1 (λ x. IsImage x (settle world)) × RunsReady (record h { room = done_room point.free h.room; disk = d1 }) world (kept_in c.finish.new.base h.base.changed) =
+          let finish : (h : Held) (world : World) (trees : Trees) → RunsOn (with_disk h d0) world (progress_over (going_of point) trees) → LeavesOnly d0 d1 (EitherImage world (with_frozen world trees.frozen)) × RunsReady (record h { world = with_frozen world trees.frozen; room = done_room point.free h.room; disk = d1 }) (with_frozen world trees.frozen) (kept_in c.finish.new.base h.base.changed) =
           e.finishes told in
           let changed = changed_ended d0 d1 s0 s1 fs.log fs.world c.end_point-2.new.self fs.room c.end_point.new.self fs.base c.finish.new.base point fs.going c.requires.alone whole finish next.world next.changes room m.runs in
           record {

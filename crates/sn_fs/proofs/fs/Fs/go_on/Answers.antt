@@ -15,8 +15,7 @@ use Rattle.sn_held.specs.Images.{IsImage}
 use Rattle.sn_limits.specs.Versions.{version_1}
 use Rattle.sn_live_world.specs.World.{IsOver}
 use Rattle.sn_model.specs.Settling.{settle}
-use Rattle.sn_model.specs.Tree.{Tree}
-use Rattle.sn_model.specs.World.{World}
+use Rattle.sn_model.specs.World.{Trees, World}
 use Rattle.sn_model.specs.Worlds.{IsWorld}
 use Rattle.sn_events.specs.Answers.{IsBesideRoot}
 use Rattle.sn_events.proofs.BeginLemmas.{step_writes}
@@ -49,7 +48,7 @@ returns-in-Ok-clause-goes_on g c told r =
     let some = step_writes (work_of c.args.going.point) (stage_of c.args.going.point) is.within in
     let e = c.in-Ok.ensures in
     let whole = g.met.D.Device.whole (device_of c.advance.new.blocks) told in
-    let goes : (h : Held) (world : World) (frozen : Tree) → RunsOn (with_disk h d0) world (progress_over (going_of c.args.going) frozen) → LeavesOnly d0 d1 (λ x. IsImage x (settle world)) × RunsOn (record h { disk = d1 }) world (progress_over (going_of after) frozen) =
+    let goes : (h : Held) (world : World) (trees : Trees) → RunsOn (with_disk h d0) world (progress_over (going_of c.args.going) trees) → LeavesOnly d0 d1 (λ x. IsImage x (settle world)) × RunsOn (record h { disk = d1 }) world (progress_over (going_of after) trees) =
     e.goes_on told in
     let world = world_gone d0 d1 s0 status fs.log fs.world fs.room fs.base c.args.going after whole goes (e.tree told) r in
     let writes = ap (λ (s : Status). s.writes) e.counts.done in
@@ -95,7 +94,7 @@ returns-in-Ok-clause-sound g c =
           let s0 = g.D.Device.status (device_of fs.blocks) in
           let status = g.D.Device.status (device_of c.advance.new.blocks) in
           let whole = g.met.D.Device.whole (device_of c.advance.new.blocks) told in
-          let goes : (h : Held) (world : World) (frozen : Tree) → RunsOn (with_disk h d0) world (progress_over (going_of c.args.going) frozen) → LeavesOnly d0 d1 (λ x. IsImage x (settle world)) × RunsOn (record h { disk = d1 }) world (progress_over (going_of after) frozen) =
+          let goes : (h : Held) (world : World) (trees : Trees) → RunsOn (with_disk h d0) world (progress_over (going_of c.args.going) trees) → LeavesOnly d0 d1 (λ x. IsImage x (settle world)) × RunsOn (record h { disk = d1 }) world (progress_over (going_of after) trees) =
           e.goes_on told in
           record {
             over = subst (IsOver fs.world) (sym (tree_gone d0 d1 s0 status fs.log fs.world fs.room fs.base c.args.going after whole goes (e.tree told) m.runs)) m.over;
@@ -114,7 +113,7 @@ returns-in-Err-clause-goes_on g c told r =
       refl,
       record {
         touched = point_apart (work_of c.args.going.point) is.whole c.args.self.now.base.slot is.slot c.args.self.now.log.blocks old.disk old.disk _ is.blocks (Touches-start (IsBesideRoot old) old.disk) (e.touched told);
-        moments = (e.goes_on told old old.world r.0 r.1).0;
+        moments = (e.goes_on told old old.world (record { live = r.0; frozen = old.world.frozen }) r.1).0;
         failed = e.counts.cause;
         later = later-calls _ _ _ _ _ e.counts;
         costs = record { writes = let most = e.counts.writes.1 in omega (arith, most, some.1); syncs = let most = e.counts.syncs.1 in omega (arith, most, some.2) };

@@ -1,4 +1,4 @@
-use Rattle.std.proofs.Common.{◌≡◌, ℕ, Err, Option, false, refl, sym, ap, subst, ◌∙◌}
+use Rattle.std.proofs.Common.{◌≡◌, ◌⊎◌, ℕ, Err, Option, false, refl, sym, ap, subst, ◌∙◌}
 use Rattle.sn_block.specs.Lending.{device_of}
 use Rattle.sn_cp_progress.specs.Meaning.{RunsWith}
 use Rattle.sn_cp_whole.specs.Making.{with_parts}
@@ -10,6 +10,7 @@ use Rattle.sn_held.specs.Images.{IsImage}
 use Rattle.sn_held.proofs.EventLemmas.{ready_with}
 use Rattle.sn_live_world.specs.World.{changes_of, world_in}
 use Rattle.sn_model.specs.declared.call.Event.TheVariants.{Restart}
+use Rattle.sn_model.specs.Outcomes.{Plain}
 use Rattle.sn_model.specs.Settling.{settle, settled}
 use Rattle.sn_model.specs.World.{World}
 use Rattle.sn_overlay.specs.Overlays.{layer_of, no_changes}
@@ -39,7 +40,7 @@ returns-in-Ok-clause-points g c told r =
     let room_is = c.drop_files.ensures ∙ ap (λ (n : ℕ). dropping n old.room) (c.nameless.ensures.tells (tree_of fs) m.over) in
     let ready = ready_as old built drops whole r room room_is in
     let from = record (last old built drops whole r) { room = room } in
-    let made = c.in-Ok.ensures.point told from (settle old.world) ready in
+    let made = c.in-Ok.ensures.point told from (settle old.world) ready tt in
     let base = kept_in c.make_point.new.base no_changes in
     let disk = g.D.Device.disk (device_of c.make_point.new.blocks) in
     let status = g.D.Device.status (device_of c.make_point.new.blocks) in
@@ -56,7 +57,7 @@ returns-in-Ok-clause-points g c told r =
         room = c.in-Ok.ensures.room ∙ ap fresh (sym (ap (λ (x : RoomCounts). x.free) c.in-Ok.ensures.room));
         changed = refl;
         age = c.in-Ok.ensures.age;
-        moments = subst (λ (w : World). LeavesOnly old.disk disk (λ d. IsImage d w)) (settles_twice old.world) made.0;
+        moments = subst (λ (w : World). LeavesOnly old.disk disk (λ d. IsImage d w ⊎ IsImage d (settle (settle old.world)))) (settles_twice old.world) made.0;
         runs = ready_with parts (settle old.world) base (λ n. false) (λ n. false) base old.point status made.1;
         touched = c.in-Ok.ensures.touched told;
         built = built;
@@ -88,7 +89,7 @@ returns-in-Err-clause-points g c told r =
     let new = held (record fs { blocks = c.make_point.new.blocks; base = c.make_point.new.base; log = c.make_point.new.log }) in
     let base_is = ap (λ (b : PointBase). kept_in b (changes_of fs.world)) e.keeps.0 in
     let parts = with_parts from c.make_point.new.log c.make_point.new.room disk in
-    point_unmade Restart old new (λ same. λ i. world_in fs.world (trees_there (same i) (e.keeps.0 i).root)) refl refl refl refl base_is built drops c.in-Err.fault (settle old.world) (settles_twice old.world) parts (kept_in c.make_point.new.base no_changes) refl e.stays (e.point told from (settle old.world) ready) (e.touched told) e.costs.cause e.costs.later
+    point_unmade Restart old new (λ same. λ i. world_in fs.world (trees_there (same i) (e.keeps.0 i).root)) refl refl refl refl base_is built drops c.in-Err.fault Plain (settle old.world) (settles_twice old.world) refl parts (kept_in c.make_point.new.base no_changes) refl e.stays (e.point told from (settle old.world) ready tt) (e.touched told) e.costs.cause e.costs.later
     (record { writes = e.costs.writes; syncs = e.costs.syncs }) (λ is. e.aged (ap Err is))
 
 pub returns-in-Err-clause-sound : goal.returns-in-Err-clause-sound
@@ -110,4 +111,4 @@ returns-in-Err-clause-sound g c =
     let room_is = c.drop_files.ensures ∙ ap (λ (n : ℕ). dropping n old.room) (c.nameless.ensures.tells (tree_of fs) m.over) in
     let ready = ready_as old built drops whole r room room_is in
     let from = record (last old built drops whole r) { room = room } in
-    unmade_same c.in-Err.fault (not_cut goes_on) (settle old.world) d0 _ _ (e.point told from (settle old.world) ready)) c.requires.sound
+    unmade_same c.in-Err.fault (not_cut goes_on) Plain (settle old.world) d0 _ _ (e.point told from (settle old.world) ready tt)) c.requires.sound

@@ -1,17 +1,16 @@
 use Rattle.std.proofs.Common.{◌≡◌, ◌≤◌, Err, Option, false, refl, sym, ap, subst, ◌∙◌, arith}
 use Rattle.sn_block.specs.Lending.{device_of}
-use Rattle.sn_cp_progress.specs.Meaning.{RunsWith}
-use Rattle.sn_cp_whole.specs.Making.{CostsPoint, with_parts}
+use Rattle.sn_cp_progress.specs.Meaning.{EitherImage, RunsWith}
+use Rattle.sn_cp_whole.specs.Making.{CanBeAsked, CostsPoint, over_world, with_parts}
 use Rattle.sn_cp_whole.specs.Planning.{kept_in}
 use Rattle.sn_cp_whole.specs.declared.base.PointBase.{PointBase}
 use Rattle.sn_desc.specs.InUse.{InUse, live_in}
 use Rattle.sn_device.specs.Crash.{LeavesOnly}
 use Rattle.sn_held.specs.Held.{Going, Held, RunsReady}
-use Rattle.sn_held.specs.Images.{IsImage}
 use Rattle.sn_limits.specs.Versions.{version_1}
 use Rattle.sn_live_world.specs.World.{HasDrops, changes_of, world_in}
 use Rattle.sn_log.specs.Positions.{LogPosition}
-use Rattle.sn_model.specs.Settling.{settle}
+use Rattle.sn_model.specs.Steps.{pointed}
 use Rattle.sn_model.specs.World.{World}
 use Rattle.sn_model.specs.Worlds.{IsWorld}
 use Rattle.sn_model.specs.declared.call.Event.TheVariants.{Step}
@@ -31,15 +30,16 @@ pub make_point-requires-clause-base : goal.make_point-requires-clause-base
 make_point-requires-clause-base g c = base_none c.args.self.now.going c.args.self.now.log c.args.self.now.base c.requires.between (c.requires.sound.based c.requires.running)
 
 pub returns-in-Ok-clause-points : goal.returns-in-Ok-clause-points
-returns-in-Ok-clause-points g c told r =
+returns-in-Ok-clause-points g c told r can =
     let fs = c.args.self.now in
+    let asked = c.args.asked.now in
     let d0 = g.D.Device.disk (device_of fs.blocks) in
     let d1 = g.D.Device.disk (device_of c.make_point.new.blocks) in
     let whole = g.met.D.Device.whole (device_of c.make_point.new.blocks) told in
     let e = c.in-Ok.ensures in
     let next = c.replace_root.ensures in
-    let point : (h : Held) (world : World) → RunsReady (with_parts h fs.log fs.room d0) world (kept_in fs.base (changes_of fs.world)) → LeavesOnly d0 d1 (λ x. IsImage x (settle world)) × RunsReady (with_parts h c.make_point.new.log c.make_point.new.room d1) world (kept_in c.make_point.new.base no_changes) =
-    λ h world ready. e.point told h world (subst (λ (l : Layer). RunsReady (with_parts h fs.log fs.room d0) world (kept_in fs.base l)) (sym c.changes.ensures) ready) in
+    let point : (h : Held) (world : World) → RunsReady (with_parts h fs.log fs.room d0) world (kept_in fs.base (changes_of fs.world)) → CanBeAsked asked world → LeavesOnly d0 d1 (EitherImage world (pointed asked world)) × RunsReady (over_world (pointed asked world) (with_parts h c.make_point.new.log c.make_point.new.room d1)) (pointed asked world) (kept_in c.make_point.new.base no_changes) =
+    λ h world ready can. e.point told h world (subst (λ (l : Layer). RunsReady (with_parts h fs.log fs.room d0) world (kept_in fs.base l)) (sym c.changes.ensures) ready) can in
     let s0 = g.D.Device.status (device_of fs.blocks) in
     let s1 = g.D.Device.status (device_of c.make_point.new.blocks) in
     let done = e.costs.done in
@@ -47,18 +47,18 @@ returns-in-Ok-clause-points g c told r =
     record {
       between = c.requires.between;
       point = c.requires.between;
-      world = world_pointed d0 d1 s0 s1 fs.log c.make_point.new.log fs.world c.replace_root.new.self fs.room c.make_point.new.room fs.base c.make_point.new.base fs.going c.requires.between whole point next.world next.changes r;
+      world = world_pointed d0 d1 s0 s1 fs.log c.make_point.new.log fs.world c.replace_root.new.self fs.room c.make_point.new.room fs.base c.make_point.new.base fs.going c.requires.between whole asked can point next.world next.changes r;
       none_kept = next.kept;
       none_since = next.since;
       log = e.log;
       room = e.room ∙ ap fresh (sym (ap (λ (x : RoomCounts). x.free) e.room));
       changed = next.changes;
       age = e.age;
-      moments = moments_pointed d0 d1 s0 s1 fs.log c.make_point.new.log fs.world c.replace_root.new.self fs.room c.make_point.new.room fs.base c.make_point.new.base fs.going c.requires.between whole point next.world next.changes r;
+      moments = moments_pointed d0 d1 s0 s1 fs.log c.make_point.new.log fs.world c.replace_root.new.self fs.room c.make_point.new.room fs.base c.make_point.new.base fs.going c.requires.between whole asked can point next.world next.changes r;
       touched = e.touched told;
       built = changes_of fs.world;
       builds = refl;
-      runs = ready_pointed d0 d1 s0 s1 fs.log c.make_point.new.log fs.world c.replace_root.new.self fs.room c.make_point.new.room fs.base c.make_point.new.base fs.going c.requires.between whole point next.world next.changes r;
+      runs = ready_pointed d0 d1 s0 s1 fs.log c.make_point.new.log fs.world c.replace_root.new.self fs.room c.make_point.new.room fs.base c.make_point.new.base fs.going c.requires.between whole asked can point next.world next.changes r;
       count = done.0;
       few = subst (λ (l : Layer). done.0 ≤ need fs.base.root.limits l) of_changes done.1;
       gate = done.2;
@@ -80,23 +80,25 @@ returns-in-Ok-clause-sound g c =
       drops = λ _. subst (HasDrops c.replace_root.new.self) (c.open_files-drops.ensures ∙ ap (λ (u : InUse). live_in u.descriptors) (sym next.sessions)) (next.drops c.open_files-drops.result e.drops);
       meant = λ _ told.
           let m = sound.meant running told in
+          let asked = c.args.asked.now in
+          let can = (c.requires.asked told).can in
           let d0 = g.D.Device.disk (device_of fs.blocks) in
           let d1 = g.D.Device.disk (device_of c.make_point.new.blocks) in
           let whole = g.met.D.Device.whole (device_of c.make_point.new.blocks) told in
-          let point : (h : Held) (world : World) → RunsReady (with_parts h fs.log fs.room d0) world (kept_in fs.base (changes_of fs.world)) → LeavesOnly d0 d1 (λ x. IsImage x (settle world)) × RunsReady (with_parts h c.make_point.new.log c.make_point.new.room d1) world (kept_in c.make_point.new.base no_changes) =
-          λ h world ready. e.point told h world (subst (λ (l : Layer). RunsReady (with_parts h fs.log fs.room d0) world (kept_in fs.base l)) (sym c.changes.ensures) ready) in
+          let point : (h : Held) (world : World) → RunsReady (with_parts h fs.log fs.room d0) world (kept_in fs.base (changes_of fs.world)) → CanBeAsked asked world → LeavesOnly d0 d1 (EitherImage world (pointed asked world)) × RunsReady (over_world (pointed asked world) (with_parts h c.make_point.new.log c.make_point.new.room d1)) (pointed asked world) (kept_in c.make_point.new.base no_changes) =
+          λ h world ready can. e.point told h world (subst (λ (l : Layer). RunsReady (with_parts h fs.log fs.room d0) world (kept_in fs.base l)) (sym c.changes.ensures) ready) can in
           let s0 = g.D.Device.status (device_of fs.blocks) in
           let s1 = g.D.Device.status (device_of c.make_point.new.blocks) in
           record {
-            over = next.over (tree_of fs) (tree_at d1 c.make_point.new.base.root) (tree_made d0 d1 s0 s1 fs.log c.make_point.new.log fs.world c.replace_root.new.self fs.room c.make_point.new.room fs.base c.make_point.new.base fs.going c.requires.between whole point next.world next.changes m.runs) m.over;
-            whole = subst (IsWorld version_1) (sym (world_made d0 d1 s0 s1 fs.log c.make_point.new.log fs.world c.replace_root.new.self fs.room c.make_point.new.room fs.base c.make_point.new.base fs.going c.requires.between whole point next.world next.changes m.runs)) m.whole;
-            runs = runs_made d0 d1 s0 s1 fs.log c.make_point.new.log fs.world c.replace_root.new.self fs.room c.make_point.new.room fs.base c.make_point.new.base fs.going c.requires.between whole point next.world next.changes m.runs;
+            over = next.over (tree_of fs) (tree_at d1 c.make_point.new.base.root) (tree_made d0 d1 s0 s1 fs.log c.make_point.new.log fs.world c.replace_root.new.self fs.room c.make_point.new.room fs.base c.make_point.new.base fs.going c.requires.between whole asked can point next.world next.changes m.runs) m.over;
+            whole = subst (IsWorld version_1) (sym (world_made d0 d1 s0 s1 fs.log c.make_point.new.log fs.world c.replace_root.new.self fs.room c.make_point.new.room fs.base c.make_point.new.base fs.going c.requires.between whole asked can point next.world next.changes m.runs)) (c.requires.asked told).whole;
+            runs = runs_made d0 d1 s0 s1 fs.log c.make_point.new.log fs.world c.replace_root.new.self fs.room c.make_point.new.room fs.base c.make_point.new.base fs.going c.requires.between whole asked can point next.world next.changes m.runs;
             stands = stands_none fs.going _ c.requires.between;
           };
     }
 
 pub returns-in-Err-clause-points : goal.returns-in-Err-clause-points
-returns-in-Err-clause-points g c told r =
+returns-in-Err-clause-points g c told r can =
     let fs = c.args.self.now in
     let old = held fs in
     let e = c.in-Err.ensures in
@@ -105,7 +107,7 @@ returns-in-Err-clause-points g c told r =
     let parts = with_parts old c.make_point.new.log c.make_point.new.room d1 in
     let ready = subst (λ (l : Layer). RunsReady old old.world (kept_in fs.base l)) (sym c.changes.ensures) r in
     let costs = subst (λ (l : Layer). CostsPoint c.make_point.result fs.log.blocks (need fs.base.root.limits l) old.status new.status) c.changes.ensures c.make_point.ensures.costs in
-    point_unmade Step old new (λ same. λ i. world_in fs.world (trees_there (same i) (e.keeps.0 i).root)) refl refl refl e.keeps.1 (ap (λ (b : PointBase). kept_in b (changes_of fs.world)) e.keeps.0) (changes_of fs.world) refl c.in-Err.fault old.world refl parts (kept_in c.make_point.new.base no_changes) refl e.stays (e.point told old old.world ready) (e.touched told) e.costs.cause e.costs.later
+    point_unmade Step old new (λ same. λ i. world_in fs.world (trees_there (same i) (e.keeps.0 i).root)) refl refl refl e.keeps.1 (ap (λ (b : PointBase). kept_in b (changes_of fs.world)) e.keeps.0) (changes_of fs.world) refl c.in-Err.fault c.args.asked.now old.world refl refl parts (kept_in c.make_point.new.base no_changes) refl e.stays (e.point told old old.world ready can) (e.touched told) e.costs.cause e.costs.later
     (record { writes = costs.writes; syncs = costs.syncs }) (λ is. e.aged (ap Err is))
 
 pub returns-in-Err-clause-sound : goal.returns-in-Err-clause-sound
@@ -120,4 +122,4 @@ returns-in-Err-clause-sound g c =
     let old = held fs in
     let r = subst (λ (p : Option Going). RunsWith p old old.world) c.requires.between m.runs in
     let ready = subst (λ (l : Layer). RunsReady old old.world (kept_in fs.base l)) (sym c.changes.ensures) r in
-    unmade_same c.in-Err.fault (not_cut goes_on) old.world d0 _ _ (e.point told old old.world ready)) c.requires.sound
+    unmade_same c.in-Err.fault (not_cut goes_on) c.args.asked.now old.world d0 _ _ (e.point told old old.world ready (c.requires.asked told).can)) c.requires.sound

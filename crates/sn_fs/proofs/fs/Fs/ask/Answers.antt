@@ -6,10 +6,10 @@ use Rattle.sn_model.specs.Machine.{refused}
 use Rattle.sn_events.specs.Answers.{Answers, AsksFirst}
 use Rattle.sn_events.specs.Pointing.{Finishes, errno_of_point}
 use Rattle.sn_events.specs.Serving.{reply_to}
-use Rattle.sn_events.proofs.AskLemmas.{asked_behind, asked_cut, asked_unpointed}
+use Rattle.sn_events.proofs.AskLemmas.{asked_behind, asked_cut, asked_unpointed, can_point}
 use Rattle.sn_events.proofs.CallLemmas.{undecided_serves}
 use Rattle.sn_fs.specs.Filesystem.{has_stopped, held}
-use Rattle.sn_fs.proofs.fs.Fs.sync.Goals as goal
+use Rattle.sn_fs.proofs.fs.Fs.ask.Goals as goal
 
 pub returns-in-Err-clause-answered : goal.returns-in-Err-clause-answered
 returns-in-Err-clause-answered g c told =
@@ -36,6 +36,15 @@ returns-in-Err-finish-clause-answered g c told =
     (subst (λ (b : Bool). Answers e (refused (errno_of_point fault)) h b new stopped) (sym c.requires.running)
     (subst (λ (b : Bool). Answers e (refused (errno_of_point fault)) h false new b) (sym c.in-Err-finish.ensures.stopped)
     (asked_cut h new c.args.session c.args.call.now fault asked (c.requires.sound.meant c.requires.running told).whole finishes)))
+
+pub make_point-requires-clause-asked : goal.make_point-requires-clause-asked
+make_point-requires-clause-asked g c told =
+    let h = held c.args.self.now in
+    let fin = held c.finish.new.self in
+    let m = c.requires.sound.meant c.requires.running told in
+    let asked : AsksFirst h c.args.session c.args.call.now = record { asks = c.requires.asks; outcome = c.in-Ok.outcome; decided = c.in-Ok.ensures.decided told } in
+    let finishes = subst (λ (x : Held). Finishes (Ok tt) x fin) (c.in-Ok.ensures.quiet told) (c.in_default.ensures.finishes told) in
+    can_point h fin c.args.session c.args.call.now asked m.whole m.runs finishes
 
 pub returns-in-Ok-make_point-clause-answered : goal.returns-in-Ok-make_point-clause-answered
 returns-in-Ok-make_point-clause-answered g c told =
