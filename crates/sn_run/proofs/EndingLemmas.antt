@@ -15,11 +15,12 @@ use Rattle.sn_model.specs.declared.reply.Errno.TheVariants.{Eio, Elimit, Enomem,
 use Rattle.sn_model.specs.declared.reply.Refusal.{Refusal}
 use Rattle.sn_model.specs.declared.reply.Reply.TheVariants as answer
 use Rattle.sn_model.specs.Machine.{Running, Stopped, Memory, Read, Write, Age, refused}
+use Rattle.sn_model.specs.Outcomes.{Plain}
 use Rattle.sn_model.specs.Settling.{settle}
 use Rattle.sn_model.specs.Tests.{plain}
 use Rattle.sn_model.specs.World.{World}
 use Rattle.sn_held.specs.Held.{Going, Held, RunsReady}
-use Rattle.sn_cp_progress.specs.Meaning.{RunsWith}
+use Rattle.sn_cp_progress.specs.Meaning.{EitherImage, RunsWith}
 use Rattle.sn_cp_progress.proofs.MeaningLemmas.{runs_with}
 use Rattle.sn_held.specs.Images.{IsImage}
 use Rattle.sn_held.specs.Moments.{ShowsState}
@@ -30,7 +31,7 @@ use Rattle.sn_events.specs.Answers.{HasMadePoint, IsCutAtPoint, MayMeet}
 use Rattle.sn_events.specs.Pointing.{FinishesSo, IsUnpointed, errno_of_point}
 use Rattle.sn_events.proofs.FinishLemmas.{IsFin, is_fin, one_finish}
 use Rattle.sn_events.specs.Unmounting.{HasUnmounted, IsRefusedFor, IsRefusedTo, IsUnmountedTo}
-use Rattle.sn_events.proofs.PointLemmas.{made_point}
+use Rattle.sn_events.proofs.PointLemmas.{made_point, settles_same}
 use Rattle.sn_events.proofs.ReadLemmas.{fails_read}
 use Rattle.sn_run.specs.Ending.{EndsSo, IsEnded, end_for}
 
@@ -83,6 +84,10 @@ ends_stopped last (Stopped before after) m = record {
   costs = refl;
 }
 
+-- at no moment of its point a crash leaves another world
+settled_last : (old new : Held) → LeavesOnly old.disk new.disk (EitherImage old.world (settle old.world)) → LeavesOnly old.disk new.disk (λ c. IsImage c (settle old.world))
+settled_last old new moments = LeavesOnly-weaker old.disk new.disk (EitherImage old.world (settle old.world)) (λ c. IsImage c (settle old.world)) (λ c either. settles_same old.world either) moments
+
 -- one that is made
 pub ends_clean : (last : Held) (disk : Disk) (status : Status) → HasUnmounted last disk status → EndsSo ending.Clean last false disk status
 ends_clean last disk status unmounts = in_its_world last ending.Clean disk status (λ r. let u = unmounts r in ended_behind last u.fin (is_fin last u.fin u.finish r) ending.Clean disk status (at u))
@@ -99,7 +104,7 @@ ends_clean last disk status unmounts = in_its_world last ending.Clean disk statu
           mid = u.mid;
           point = inr made;
           may = ap (λ (s : Status). s.failures) p.costs;
-          lasts = p.moments;
+          lasts = settled_last u.fin u.mid p.moments;
           later = later-is _ _ u.fin.status u.mid.status p.costs;
           costs = (made, refl);
         } in
@@ -129,7 +134,7 @@ module _ (last : Held) (r : RunsReady last last.world last.base) where
   shows_still : LeavesOnly last.disk last.disk (ShowsState (Running last.world))
   shows_still = LeavesOnly-start last.disk (ShowsState (Running last.world)) (runs_show last last.world r.runs)
 
-  ends_refused : (fault : PointFault) (new : Held) → IsUnpointed fault event.Restart last new → IsEnded (Running last.world) last (end_for (errno_of_point fault)) new.disk new.status
+  ends_refused : (fault : PointFault) (new : Held) → IsUnpointed fault event.Restart Plain last new → IsEnded (Running last.world) last (end_for (errno_of_point fault)) new.disk new.status
   ends_refused point.Memory new is = subst (λ (h : Held). IsEnded (Running last.world) last ending.Memory h.disk h.status) (sym is) (record {
     met = Some Memory;
     ends = record { reply = refused Enomem; unmounts = refl; ends = refl };
@@ -169,7 +174,7 @@ module _ (last : Held) (r : RunsReady last last.world last.base) where
         costs = told.2;
       })
   ends_refused point.Damaged new is = absurd is
-  ends_refused point.Device new cut = ends_cut_off last new cut.failed cut.moments cut.later (inl (record { needed = tt; built = cut.built; builds = cut.builds; costs = cut.costs }))
+  ends_refused point.Device new cut = ends_cut_off last new cut.failed (settled_last last new cut.moments) cut.later (inl (record { needed = tt; built = cut.built; builds = cut.builds; costs = cut.costs }))
 
 -- the point in progress was cut off
 ends_cut : (last : Held) (fault : PointFault) (new : Held) → FinishesSo (Err fault) last.point last new → IsEnded (Running last.world) last (end_for (errno_of_point fault)) new.disk new.status
