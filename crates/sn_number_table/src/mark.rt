@@ -17,12 +17,14 @@ pub(crate) enum Mark {
 impl Mark {
     ghost use Rattle.sn_number_table.specs.Marks.{aged, forgotten, has_node, is_kept, is_used, released, without_node};
 
+    /// Whether a node has it.
     pub fn has_node(self) -> bool
         ensures { result ≡ has_node self }
     {
         self == Mark::Taken
     }
 
+    /// Whether it is kept back.
     pub fn is_kept(self) -> bool
         ensures { result ≡ is_kept self }
     {
@@ -39,6 +41,7 @@ impl Mark {
         self != Mark::Free
     }
 
+    /// What it is once its node has gone.
     pub fn without_node(self) -> Mark
         ensures { result ≡ without_node self }
     {

@@ -28,24 +28,28 @@ impl Marks {
         })
     }
 
+    /// What is known of a number.
     pub fn get(&self, number: u16) -> Mark
         ensures { result ≡ mark_at self.now number }
     {
         self.marks[number as usize]
     }
 
+    /// Sets what is known of a number.
     pub fn set(&mut self, number: u16, mark: Mark)
         ensures { Sets number mark self.old self.new }
     {
         self.marks[number as usize] = mark;
     }
 
+    /// Whether a node has the number.
     pub fn has_node(&self, number: u16) -> bool
         ensures { result ≡ has_node (mark_at self.now number) }
     {
         self.get(number).has_node()
     }
 
+    /// Whether the number is kept back.
     pub fn is_kept(&self, number: u16) -> bool
         ensures { result ≡ is_kept (mark_at self.now number) }
     {
