@@ -47,12 +47,15 @@ const CALLS: &str = "0 mkdir /a 0755\n\
     0 rename /c /a/b\n\
     0 chmod /a 0700\n\
     0 setacl /a a u::rwx,u:1001:r-x,g::r-x,m::rwx,o::---\n\
+    0 snap-create s\n\
+    0 snap-create t\n\
+    0 snap-delete s\n\
     0 sync";
 
 /// How many these are.
-const CALL_COUNT: u32 = 24;
+const CALL_COUNT: u32 = 27;
 
-/// What is asked behind a crash: names, attributes, lists of entries and bytes.
+/// What is asked behind a crash: names, attributes, lists of entries and bytes, of the live tree and of snapshots.
 const ASKED: &str = "0 login 0 0 -\n\
     0 readdir /\n\
     0 readdir /a\n\
@@ -68,6 +71,16 @@ const ASKED: &str = "0 login 0 0 -\n\
     0 read 0 65536\n\
     0 open /a/g r\n\
     0 read 1 65536\n\
+    0 snap-list\n\
+    0 readdir /.snapshot/s\n\
+    0 readdir /.snapshot/s/a\n\
+    0 getacl /.snapshot/s/a a\n\
+    0 stat /.snapshot/s/f\n\
+    0 open /.snapshot/s/f r\n\
+    0 read 2 65536\n\
+    0 stat /.snapshot/t/a/g\n\
+    0 open /.snapshot/t/a/g r\n\
+    0 read 3 65536\n\
     0 mkdir /z 0700";
 
 /// How many schedules the gate tries, and behind how many numbers of writes it cuts each short.
